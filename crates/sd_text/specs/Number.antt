@@ -1,0 +1,26 @@
+use Rattle.std.specs.Prelude.{ℕ, ◌==◌, ◌&&◌, ◌||◌, ◌^◌, Bool, not, nat_lt, List, take, drop, length, slice_index, bytes_eq, if◌then◌else◌, Option, Some, None, Result, Ok, Err, option_and_then}
+use Rattle.std.specs.Str.{all_ascii_digits}
+use Rattle.std.specs.Str.Parse.{digits_value}
+use Rattle.sd_text.specs.declared.number.NumberFault.{NumberFault}
+use Rattle.sd_text.specs.declared.number.NumberFault.TheVariants.{Malformed, TooLarge}
+
+-- one or more digits, the first of which is no 0 unless it is the only one [this project, docs/FORMATS.md, Text files]
+abbrev pub is_decimal : List ℕ → Bool
+is_decimal text = nat_lt 0 (length text) && (all_ascii_digits text && (not (slice_index text 0 == 48) || length text == 1))
+
+-- the number that a decimal says, however large
+unfoldable pub number_of : List ℕ → Option ℕ
+number_of text = if is_decimal text then Some (digits_value 10 text) else None
+
+-- what stands behind the word on a line that begins with it
+unfoldable pub behind : List ℕ → List ℕ → Option (List ℕ)
+behind word line = if bytes_eq (take (length word) line) word then Some (drop (length word) line) else None
+
+-- the number on a line that is the word and a decimal
+abbrev pub number_behind : List ℕ → List ℕ → Option ℕ
+number_behind word line = option_and_then number_of (behind word line)
+
+-- that number as a reader of 32 bits gives it
+abbrev pub fitting : Option ℕ → Result ℕ NumberFault
+fitting None = Err Malformed
+fitting (Some n) = if nat_lt n (2 ^ 32) then Ok n else Err TooLarge

@@ -1,0 +1,6 @@
+pub mod Powers
+pub mod Counting
+pub mod Levels
+pub mod Ancestors
+pub mod Meeting
+pub mod Members

@@ -1,0 +1,89 @@
+-- The leaves of a set, and how many they are.
+use Rattle.std.proofs.Common.{ℕ, ◌+◌, ◌-◌, ◌*◌, ◌^◌, ◌<◌, ◌≤◌, ◌≡◌, Bool, true, false, not, ◌&&◌, cond, ltb, length, sym, refl, ◌∙◌, ⊎_elim, arith}
+use Rattle.std.specs.Prelude.{◌↔◌}
+use Rattle.std.specs.List.{filter}
+use Rattle.std.proofs.lemmas.List.Sums.{length-filter}
+use Rattle.std.proofs.lemmas.Bool.{false≢true, and_parts, and_from, not-true, not_from_false, cases_Bool, lt-ltb, le-ltb, false_from_ne_true}
+use Rattle.std.proofs.lemmas.Bool.Decides.{same_from_decides}
+use Rattle.sd_tree.specs.declared.set.SetName.TheVariants.{Whole, Diff}
+use Rattle.sd_tree.specs.Node.{depth, IsAbove}
+use Rattle.sd_tree.specs.Leaves.{leaves, is_below, is_member, members}
+use Rattle.sd_tree.specs.SetNames.{IsPair}
+use Rattle.sd_tree.proofs.Levels.{add-one-mul}
+use Rattle.sd_tree.proofs.Counting.{count_interval, count_split}
+use Rattle.sd_tree.proofs.Ancestors.{above_le, below_is_above, within_from_below, below_from_within, interval_within, leaves_from_above}
+
+-- the lower node of a pair is a node of the tree
+pub lower_is_node : {d i j : ℕ} → IsPair d i j → 1 ≤ j
+lower_is_node {d} {i} {j} p = let le = above_le i j p.above.0 in omega (arith, p.inner.0)
+
+-- the upper node of a pair is a node of the tree
+pub upper_is_node : {d i j : ℕ} → IsPair d i j → i < 2 ^ (d + 1)
+upper_is_node {d} {i} {j} p = let le = above_le i j p.above.0 in omega (arith, p.node)
+
+-- a test for a node above a leaf's node is the test for the leaf below the node
+below_by_test : (d v u : ℕ) (b : Bool) → d ≤ 20 → 1 ≤ v → v < 2 ^ (d + 1) → u < 2 ^ d → ((b ≡ true) ↔ IsAbove v (2 ^ d + u)) → is_below d v u ≡ b
+below_by_test d v u b h low high leaf test = same_from_decides (is_below d v u) b (below_is_above d v u h low high leaf) test
+
+-- membership by tests for the two nodes
+pub member_by_tests : (d i j u node : ℕ) (a b : Bool) → d ≤ 20 → IsPair d i j → u < 2 ^ d → node ≡ 2 ^ d + u → ((a ≡ true) ↔ IsAbove i node) → ((b ≡ true) ↔ IsAbove j node) → (a && not b) ≡ is_member d (Diff i j) u
+member_by_tests d i j u node a b h pair leaf is upper lower =
+    let in_i = below_by_test d i u a h pair.inner.0 (upper_is_node pair) leaf (rw is at upper) in
+    let in_j = below_by_test d j u b h (lower_is_node pair) pair.node leaf (rw is at lower) in
+    rw (lt-ltb u (2 ^ d) leaf, in_i, in_j) refl
+
+-- a leaf that isn't below i isn't in S(i,j)
+pub no_member_beside : (d i j u node : ℕ) (a : Bool) → d ≤ 20 → IsPair d i j → u < 2 ^ d → node ≡ 2 ^ d + u → ((a ≡ true) ↔ IsAbove i node) → a ≡ false → false ≡ is_member d (Diff i j) u
+no_member_beside d i j u node a h pair leaf is upper e =
+    let in_i = below_by_test d i u a h pair.inner.0 (upper_is_node pair) leaf (rw is at upper) in
+    rw (lt-ltb u (2 ^ d) leaf, in_i, e) refl
+
+-- the leaves of S(i,j) are those below i that aren't below j
+pub member_of_pair : (d i j u : ℕ) → d ≤ 20 → IsPair d i j → u < 2 ^ d → (is_member d (Diff i j) u ≡ true) ↔ (IsAbove i (2 ^ d + u) × ¬ IsAbove j (2 ^ d + u))
+member_of_pair d i j u h pair leaf =
+    let in_i = below_is_above d i u h pair.inner.0 (upper_is_node pair) leaf in
+    let in_j = below_is_above d j u h (lower_is_node pair) pair.node leaf in
+    rw (lt-ltb u (2 ^ d) leaf) (
+      (λ e. let both = and_parts (is_below d i u) (not (is_below d j u)) e in (in_i.0 both.0, λ p. false≢true (sym (not-true _ both.1) ∙ in_j.1 p))),
+      λ p. and_from (is_below d i u) (not (is_below d j u)) (in_i.1 p.0) (not_from_false _ (false_from_ne_true _ (λ e. p.1 (in_j.0 e)))),
+    )
+
+-- below a node k levels above the leaves are 2^k leaves
+pub count_below : (d v : ℕ) → d ≤ 20 → 1 ≤ v → v < 2 ^ (d + 1) → length (filter (is_below d v) (leaves d)) ≡ 2 ^ (d - depth v)
+count_below d v h low high =
+    let e : ℕ = d - depth v in
+    let all = interval_within d v h low high in
+    let more : (v + 1) * 2 ^ e ≡ v * 2 ^ e + 2 ^ e = add-one-mul v (2 ^ e) in
+    let first : 2 ^ d ≤ v * 2 ^ e = all.0 in
+    let last : (v + 1) * 2 ^ e ≤ 2 ^ d + 2 ^ d = all.1 in
+    length-filter (is_below d v) (leaves d) ∙
+    (count_interval (is_below d v) (v * 2 ^ e - 2 ^ d) ((v + 1) * 2 ^ e - 2 ^ d) 0 (2 ^ d) (omega arith)
+    (λ u from to. below_from_within d v u (omega arith) (omega arith))
+    (λ u before. false_from_ne_true _ (λ below. let w = within_from_below d v u below in omega (arith, w.0)))
+    (λ u behind. false_from_ne_true _ (λ below. let w = within_from_below d v u below in omega (arith, w.1)))
+    ∙ omega arith)
+
+-- the whole set has all leaves
+pub count_whole : (d : ℕ) → length (members d Whole) ≡ 2 ^ d
+count_whole d =
+    length-filter (is_member d Whole) (leaves d) ∙
+    (count_interval (λ u. ltb u (2 ^ d)) 0 (2 ^ d) 0 (2 ^ d) (omega arith)
+    (λ u _ to. lt-ltb u (2 ^ d) to) (λ u before. absurd (omega arith)) (λ u behind. le-ltb u (2 ^ d) behind)
+    ∙ omega arith)
+
+bool_of_and : (b : Bool) → cond b 1 0 ≡ 0 + cond (b && true) 1 0
+bool_of_and true = refl
+bool_of_and false = refl
+
+-- S(i,j) and the leaves below j are the leaves below i
+pub count_pair : (d i j : ℕ) → d ≤ 20 → IsPair d i j → length (filter (is_below d i) (leaves d)) ≡ length (filter (is_below d j) (leaves d)) + length (members d (Diff i j))
+count_pair d i j h pair =
+    let split = count_split (is_below d i) (is_below d j) (is_member d (Diff i j)) 0 (2 ^ d)
+    (λ u near. let leaf : u < 2 ^ d = omega arith in ⊎_elim
+    (λ (below : is_below d j u ≡ true).
+    let above = leaves_from_above d i j h pair.inner.0 (upper_is_node pair) pair.above.0 u leaf below in
+    rw (lt-ltb u (2 ^ d) leaf, below, above) refl)
+    (λ (beside : is_below d j u ≡ false).
+    rw (lt-ltb u (2 ^ d) leaf, beside) (bool_of_and (is_below d i u)))
+    (cases_Bool (is_below d j u))) in
+    omega (arith, split, length-filter (is_below d i) (leaves d), length-filter (is_below d j) (leaves d), length-filter (is_member d (Diff i j)) (leaves d))

@@ -1,0 +1,90 @@
+ghost use Rattle.std.specs.Prelude.{◌≡◌, ℕ, ◌+◌, ◌/◌, ◌^◌, ◌<◌, ◌≤◌, ◌↔◌, IsTrue};
+ghost use Rattle.sd_tree.specs.Node.{depth as depth_of, IsAbove, IsProperlyAbove};
+ghost use Rattle.sd_tree.specs.Leaves.{HoldsLeavesOf};
+
+/// How far below the root the node stands.
+#[tactic(auto, using(crate::proofs::Levels::depth_of_bounds))]
+pub fn depth(v: u32) -> u32
+    requires { 1 ≤ v }
+    ensures value { result ≡ depth_of v }
+    ensures low { 2 ^ result ≤ v }
+    ensures high { v < 2 ^ (result + 1) }
+    ensures bits { result < 32 }
+{
+    v.ilog2()
+}
+
+/// Whether node i is j or an ancestor of j (Naor, Naor and Lotspiech, 2001, 3.2).
+pub fn is_above(i: u32, j: u32) -> bool
+    requires i { 1 ≤ i }
+    requires j { 1 ≤ j }
+    ensures ancestor { IsTrue result ↔ IsAbove i j }
+    // In each tree that has both nodes, all leaves below j are below i.
+    ensures leaves { (d : ℕ) → d ≤ 20 → i < 2 ^ (d + 1) → j < 2 ^ (d + 1) →
+        (IsTrue result ↔ HoldsLeavesOf d i j) }
+{
+    let below = depth(j).saturating_sub(depth(i));
+    j >> below == i
+}
+
+/// The child of node i that is j or an ancestor of j.
+pub fn child_towards(i: u32, j: u32) -> u32
+    requires i { 1 ≤ i }
+    requires j { IsProperlyAbove i j }
+    ensures child { result / 2 ≡ i }
+    ensures above { IsAbove result j }
+{
+    j >> (depth(j) - depth(i) - 1)
+}
+
+/// The deepest node that is both nodes or an ancestor of them.
+pub fn lowest_common(a: u32, b: u32) -> u32
+    requires a { 1 ≤ a }
+    requires b { 1 ≤ b }
+    ensures node { 1 ≤ result }
+    ensures above { IsAbove result a × IsAbove result b }
+    ensures deepest { (v : ℕ) → IsAbove v a → IsAbove v b → IsAbove v result }
+{
+    let (deep, high) = (a.max(b), a.min(b));
+    let level = deep >> (depth(deep) - depth(high));
+    let apart = u32::BITS - (level ^ high).leading_zeros();
+    high >> apart
+}
+
+#[cfg(test)]
+mod tests {
+    use super::*;
+
+    fn child(i: u32, j: u32) -> Option<u32> {
+        if 1 <= i && i < j && is_above(i, j) {
+            Some(child_towards(i, j))
+        } else {
+            None
+        }
+    }
+
+    #[test]
+    fn nodes_and_ancestors(rt: HostRuntime) {
+        for (v, level) in [(1, 0), (2, 1), (3, 1), (13, 3), (1_048_581, 20)] {
+            assert!(rt; 1 <= v);
+            assert_eq!(rt; depth(v), level, "depth of {v}");
+        }
+        for (i, j, above, towards) in [
+            (1, 13, true, Some(3)),
+            (3, 13, true, Some(6)),
+            (6, 13, true, Some(13)),
+            (13, 13, true, None),
+            (2, 13, false, None),
+            (12, 13, false, None),
+            (13, 6, false, None),
+        ] {
+            assert!(rt; 1 <= i && 1 <= j);
+            assert_eq!(rt; is_above(i, j), above, "{i} above {j}");
+            assert_eq!(rt; child(i, j), towards, "child of {i} towards {j}");
+        }
+        for (a, b, common) in [(8, 10, 2), (8, 15, 1), (12, 13, 6), (5, 5, 5), (13, 3, 3)] {
+            assert!(rt; 1 <= a && 1 <= b);
+            assert_eq!(rt; lowest_common(a, b), common, "{a} and {b}");
+        }
+    }
+}
