@@ -1,0 +1,269 @@
+-- Lines tell one thing alone.
+use Rattle.std.proofs.Common.{arith, ◌≡◌, ℕ, zero, suc, ◌+◌, ◌<◌, ◌≤◌, Bool, true, false, cond, eqb, List, [], length, Option, Some, None, Result, Ok, Err, refl, ◌∙◌, sym, ap, subst, inl, inr, eq-eqb}
+use Rattle.std.proofs.lemmas.Bool.{cases_lt, ne_eqb}
+use Rattle.std.proofs.lemmas.Option.{none-some, same_Some, slice_get_past, slice_get-get_or, option_and_then_some}
+use Rattle.std.specs.Prelude.{slice_get, codes, option_and_then, is_some, unwrap_or, IsErrOf, IfOk, MatchResult, ◌↔◌}
+use Rattle.std.specs.Int.{w16, from_be_bytes}
+use Rattle.sd_text.specs.Number.{number_behind}
+use Rattle.sd_site.specs.declared.fault.SiteFault.{SiteFault}
+use Rattle.sd_site.specs.declared.fault.SiteFault.TheVariants.{Line, Range, SamePid, Extra, Short}
+use Rattle.sd_site.specs.Fields.{SiteFields, AreInRange, fields_of}
+use Rattle.sd_text.specs.Lines.{lines_of}
+use Rattle.sd_site.specs.declared.site.Site.{Site}
+use Rattle.sd_site.specs.Text.{bytes_behind, SpellsSite, IsSite, site_on, site_of}
+use Rattle.sd_site.specs.Faults.{Form, number, bytes, forms, IsInForm, IsGood, IsMalformed, IsOutOfRange, NextIs, AreGood, IsCauseOf}
+use Rattle.sd_site.proofs.Walk.{Tells, told}
+
+-- ---- what lines tell that are good up to line n and no further
+
+-- whether the line is in its form
+abbrev in_form : Form → List ℕ → Bool
+in_form (number word low high) line = is_some (number_behind word line)
+in_form (bytes word count) line = is_some (bytes_behind word count line)
+
+-- the decimal on a line
+abbrev number_on : List ℕ → Option (List ℕ) → ℕ
+number_on word line = unwrap_or (option_and_then (number_behind word) line) 0
+
+-- the bytes on a line
+abbrev bytes_on : List ℕ → ℕ → Option (List ℕ) → List ℕ
+bytes_on word count line = unwrap_or (option_and_then (bytes_behind word count) line) []
+
+-- what the eight lines say
+abbrev fields_on : List (List ℕ) → SiteFields
+fields_on lines = record {
+  height = number_on (codes "height ") (slice_get lines 0);
+  master = bytes_on (codes "master ") 32 (slice_get lines 1);
+  ca = from_be_bytes w16 (bytes_on (codes "ca ") 2 (slice_get lines 2));
+  emm = number_on (codes "emm ") (slice_get lines 3);
+  ecm = number_on (codes "ecm ") (slice_get lines 4);
+  every = number_on (codes "ecm-every ") (slice_get lines 5);
+  cryptos = number_on (codes "crypto-ecms ") (slice_get lines 6);
+  span = number_on (codes "period-cryptos ") (slice_get lines 7);
+}
+
+-- the answer by the form and the line behind n good ones
+abbrev answer : ℕ → List (List ℕ) → Option Form → Option (List ℕ) → Result SiteFields SiteFault
+answer n lines (Some form) (Some line) = cond (in_form form line) (Err (Range (n + 1))) (Err (Line (n + 1)))
+answer n lines (Some form) None = Err Short
+answer n lines None (Some line) = Err (Extra 9)
+answer n lines None None = cond (eqb (number_on (codes "emm ") (slice_get lines 3)) (number_on (codes "ecm ") (slice_get lines 4))) (Err SamePid) (Ok (fields_on lines))
+
+-- n lines are good, line n + 1 is not, and the answer is what follows from that
+record Stops (lines : List (List ℕ)) (r : Result SiteFields SiteFault) : Type 0 where
+  n : ℕ
+  good : AreGood n lines
+  stop : NextIs IsGood n lines → ⊥
+  is : r ≡ answer n lines (slice_get forms n) (slice_get lines n)
+
+-- ---- each answer is that
+
+-- a line can't be two things of which one excludes the other
+apart : (P Q : Form → List ℕ → Type 0) → ((form : Form) (line : List ℕ) → P form line → Q form line → ⊥) → (n : ℕ) (lines : List (List ℕ)) → NextIs P n lines → NextIs Q n lines → ⊥
+apart P Q either n lines p q =
+    let same_form = same_Some _ _ (sym p.2 ∙ q.2) in
+    let same_line = same_Some _ _ (sym p.3 ∙ q.3) in
+    either q.0 q.1 (subst (λ (line : List ℕ). P q.0 line) same_line (subst (λ (form : Form). P form p.1) same_form p.4)) q.4
+
+-- a good line is in its form
+good_in_form : (form : Form) (line : List ℕ) → IsGood form line → IsInForm form line
+good_in_form (number word low high) line good = (good.0, good.1)
+good_in_form (bytes word count) line good = good
+
+nothing : {A : Type 0} (o : Option A) → ((x : A) × (o ≡ Some x) → ⊥) → is_some o ≡ false
+nothing None never = refl
+nothing (Some x) never = absurd (never (x, refl))
+
+in_form_false : (form : Form) (line : List ℕ) → IsMalformed form line → in_form form line ≡ false
+in_form_false (number word low high) line never = nothing (number_behind word line) never
+in_form_false (bytes word count) line never = nothing (bytes_behind word count line) never
+
+in_form_true : (form : Form) (line : List ℕ) → IsInForm form line → in_form form line ≡ true
+in_form_true (number word low high) line holds = ap is_some holds.1
+in_form_true (bytes word count) line holds = ap is_some holds.1
+
+line_stops : (lines : List (List ℕ)) (k : ℕ) → IsCauseOf lines (Line k) → Stops lines (Err (Line k))
+line_stops lines k (n, is, good, (form, line, form_is, line_is, bad)) = record {
+  n = n;
+  good = good;
+  stop = λ next. apart IsMalformed IsGood (λ form line never holds. never (good_in_form form line holds)) n lines (form, line, form_is, line_is, bad) next;
+  is = rw (is, form_is, line_is, in_form_false form line bad) refl;
+}
+
+range_stops : (lines : List (List ℕ)) (k : ℕ) → IsCauseOf lines (Range k) → Stops lines (Err (Range k))
+range_stops lines k (n, is, good, (form, line, form_is, line_is, bad)) = record {
+  n = n;
+  good = good;
+  stop = λ next. apart IsOutOfRange IsGood (λ form line never holds. never.1 holds) n lines (form, line, form_is, line_is, bad) next;
+  is = rw (is, form_is, line_is, in_form_true form line bad.0) refl;
+}
+
+-- no line is there
+ended : (P : Form → List ℕ → Type 0) (lines : List (List ℕ)) (n : ℕ) → length lines ≤ n → NextIs P n lines → ⊥
+ended P lines n past next = none-some _ (sym (slice_get_past lines n past) ∙ next.3)
+
+-- no form is left
+all_forms : (P : Form → List ℕ → Type 0) (lines : List (List ℕ)) (n : ℕ) → 8 ≤ n → NextIs P n lines → ⊥
+unfolding forms
+all_forms P lines n past next = none-some _ (sym (slice_get_past forms n past) ∙ next.2)
+
+-- each of the eight lines has a form
+form_there : (n : ℕ) → n < 8 → (form : Form) × (slice_get forms n ≡ Some form)
+unfolding forms
+form_there n lt = (_, slice_get-get_or forms n (bytes [] 0) lt)
+
+no_form : slice_get forms 8 ≡ None
+unfolding forms
+no_form = refl
+
+short_stops : (lines : List (List ℕ)) → IsCauseOf lines Short → Stops lines (Err Short)
+short_stops lines (few, good) = record {
+  n = length lines;
+  good = good;
+  stop = λ next. ended IsGood lines (length lines) (omega arith) next;
+  is = rw ((form_there (length lines) few).1, slice_get_past lines (length lines) (omega arith)) refl;
+}
+
+extra_stops : (lines : List (List ℕ)) (k : ℕ) → IsCauseOf lines (Extra k) → Stops lines (Err (Extra k))
+extra_stops lines k (nine, many, good) = record {
+  n = 8;
+  good = good;
+  stop = λ next. all_forms IsGood lines 8 (omega arith) next;
+  is = rw (nine, no_form, slice_get-get_or lines 8 [] many) refl;
+}
+
+-- eight lines end where the forms do
+eight : (lines : List (List ℕ)) → length lines ≡ 8 → (r : Result SiteFields SiteFault) → cond (eqb (number_on (codes "emm ") (slice_get lines 3)) (number_on (codes "ecm ") (slice_get lines 4))) (Err SamePid) (Ok (fields_on lines)) ≡ r
+    → r ≡ answer 8 lines (slice_get forms 8) (slice_get lines 8)
+eight lines count r e = rw (no_form, slice_get_past lines 8 (omega arith)) (sym e)
+
+same_pid_stops : (lines : List (List ℕ)) → IsCauseOf lines SamePid → Stops lines (Err SamePid)
+same_pid_stops lines (count, good, same) =
+    let equal : eqb (number_on (codes "emm ") (slice_get lines 3)) (number_on (codes "ecm ") (slice_get lines 4)) ≡ true = eq-eqb _ _ (ap (λ (o : Option ℕ). unwrap_or o 0) same) in
+    record {
+      n = 8;
+      good = good;
+      stop = λ next. all_forms IsGood lines 8 (omega arith) next;
+      is = eight lines count (Err SamePid) (ap (λ (b : Bool). cond b (Err SamePid) (Ok (fields_on lines))) equal);
+    }
+
+-- the lines of a site say its fields
+spelled : (lines : List (List ℕ)) (site : SiteFields) → SpellsSite lines site → fields_on lines ≡ site
+spelled lines site spells = rw (spells.height, spells.master, spells.ca.1, spells.emm, spells.ecm, spells.every, spells.cryptos, spells.span, ← spells.ca.2) refl
+
+-- a line whose number is in range is good
+good_number : (n low high value : ℕ) (word : List ℕ) (lines : List (List ℕ)) → slice_get forms n ≡ Some (number word low high) → option_and_then (number_behind word) (slice_get lines n) ≡ Some value → (low ≤ value) × (value ≤ high) → NextIs IsGood n lines
+good_number n low high value word lines form reads within =
+    option_and_then_some (number_behind word) (slice_get lines n) value reads (λ line is says. (number word low high, line, form, is, (value, says, within.0, within.1)))
+
+-- a line of bytes is good
+good_bytes : (n count : ℕ) (value word : List ℕ) (lines : List (List ℕ)) → slice_get forms n ≡ Some (bytes word count) → option_and_then (bytes_behind word count) (slice_get lines n) ≡ Some value → NextIs IsGood n lines
+good_bytes n count value word lines form reads =
+    option_and_then_some (bytes_behind word count) (slice_get lines n) value reads (λ line is says. (bytes word count, line, form, is, (value, says)))
+
+-- the lines of a site are good
+spelled_good : (lines : List (List ℕ)) (site : SiteFields) → SpellsSite lines site → AreInRange site → AreGood 8 lines
+unfolding forms
+spelled_good lines site spells ranges zero lt = good_number 0 1 20 _ (codes "height ") lines refl spells.height ranges.height
+spelled_good lines site spells ranges (suc zero) lt = good_bytes 1 32 _ (codes "master ") lines refl spells.master
+spelled_good lines site spells ranges (suc (suc zero)) lt = good_bytes 2 2 _ (codes "ca ") lines refl spells.ca.1
+spelled_good lines site spells ranges (suc (suc (suc zero))) lt = good_number 3 32 8175 _ (codes "emm ") lines refl spells.emm ranges.emm
+spelled_good lines site spells ranges (suc (suc (suc (suc zero)))) lt = good_number 4 32 8175 _ (codes "ecm ") lines refl spells.ecm ranges.ecm
+spelled_good lines site spells ranges (suc (suc (suc (suc (suc zero))))) lt = good_number 5 1 4096 _ (codes "ecm-every ") lines refl spells.every ranges.every
+spelled_good lines site spells ranges (suc (suc (suc (suc (suc (suc zero)))))) lt = good_number 6 1 256 _ (codes "crypto-ecms ") lines refl spells.cryptos ranges.cryptos
+spelled_good lines site spells ranges (suc (suc (suc (suc (suc (suc (suc zero))))))) lt = good_number 7 1 65535 _ (codes "period-cryptos ") lines refl spells.span ranges.span
+spelled_good lines site spells ranges (suc (suc (suc (suc (suc (suc (suc (suc i)))))))) lt = absurd (omega arith)
+
+site_stops : (lines : List (List ℕ)) (site : SiteFields) → SpellsSite lines site → AreInRange site → Stops lines (Ok site)
+site_stops lines site spells ranges =
+    let differ : eqb (number_on (codes "emm ") (slice_get lines 3)) (number_on (codes "ecm ") (slice_get lines 4)) ≡ false = rw (spells.emm, spells.ecm) (ne_eqb _ _ ranges.apart) in
+    record {
+      n = 8;
+      good = spelled_good lines site spells ranges;
+      stop = λ next. all_forms IsGood lines 8 (omega arith) next;
+      is = eight lines spells.count (Ok site) (ap (λ (b : Bool). cond b (Err SamePid) (Ok (fields_on lines))) differ ∙ ap Ok (spelled lines site spells));
+    }
+
+-- whatever lines tell follows from how far they are good
+stops : (lines : List (List ℕ)) (r : Result SiteFields SiteFault) → Tells lines r → Stops lines r
+stops lines (Ok site) tells = site_stops lines site tells.0 tells.1
+stops lines (Err (Line k)) tells = line_stops lines k tells
+stops lines (Err (Range k)) tells = range_stops lines k tells
+stops lines (Err SamePid) tells = same_pid_stops lines tells
+stops lines (Err (Extra k)) tells = extra_stops lines k tells
+stops lines (Err Short) tells = short_stops lines tells
+
+-- lines that are good up to line n and no further are so for one n
+one_end : (m n : ℕ) (lines : List (List ℕ)) → AreGood m lines → (NextIs IsGood m lines → ⊥) → AreGood n lines → (NextIs IsGood n lines → ⊥) → m ≡ n
+one_end m n lines good_m stop_m good_n stop_n =
+    elim (cases_lt m n) [
+      | inl lt ↦ absurd (stop_m (good_n m lt))
+      | inr le ↦ elim (cases_lt n m) [
+        | inl lt ↦ absurd (stop_n (good_m n lt))
+        | inr ge ↦ omega arith
+      ]
+    ]
+
+-- lines tell one thing alone
+pub one_answer : (lines : List (List ℕ)) (q r : Result SiteFields SiteFault) → Tells lines q → Tells lines r → q ≡ r
+one_answer lines q r tells_q tells_r =
+    let a = stops lines q tells_q in
+    let b = stops lines r tells_r in
+    let same = one_end a.n b.n lines a.good a.stop b.good b.stop in
+    a.is ∙ ap (λ (n : ℕ). answer n lines (slice_get forms n) (slice_get lines n)) same ∙ sym b.is
+
+-- what lines tell is the answer on them
+pub answered : (lines : List (List ℕ)) (r : Result SiteFields SiteFault) → Tells lines r → site_on lines ≡ r
+answered lines r tells = one_answer lines (site_on lines) r (told lines) tells
+
+-- ---- the same of a function's answer
+
+-- answers with their types, for equations between them
+abbrev done : SiteFields → Result SiteFields SiteFault
+done x = Ok x
+
+abbrev failed : SiteFault → Result SiteFields SiteFault
+failed fault = Err fault
+
+abbrev refused : SiteFault → Result Site SiteFault
+refused fault = Err fault
+
+ok_is : (x y : SiteFields) → done x ≡ done y → x ≡ y
+ok_is x y e = cc
+
+err_is : (x y : SiteFault) → failed x ≡ failed y → x ≡ y
+err_is x y e = cc
+
+refusal_is : (x y : SiteFault) → refused x ≡ refused y → x ≡ y
+refusal_is x y e = cc
+
+not_err : (fault : SiteFault) (x : SiteFields) → failed fault ≡ done x → ⊥
+not_err fault x e = absurd cc
+
+accepts : (site : Site) (fault : SiteFault) → Ok site ≡ refused fault → ⊥
+accepts site fault e = absurd cc
+
+-- the function answers what the lines say
+abbrev pub Gives : Result Site SiteFault → List ℕ → Type 0
+Gives r text = MatchResult r (λ site. site_of text ≡ Ok (fields_of site)) (λ fault. site_of text ≡ Err fault)
+
+tells : (text : List ℕ) (r : Result SiteFields SiteFault) → site_of text ≡ r → Tells (lines_of text) r
+tells text r e = subst (λ (r : Result SiteFields SiteFault). Tells (lines_of text) r) e (told (lines_of text))
+
+-- what is read is a site file that says this
+pub is_site : (text : List ℕ) (r : Result Site SiteFault) → Gives r text → IfOk r (λ site. IsSite text (fields_of site))
+is_site text (Ok site) gives = let h = tells text (Ok (fields_of site)) gives in record { text = h.0; ranges = h.1 }
+is_site text (Err fault) gives = tt
+
+-- what is a site file is read
+pub is_read : (text : List ℕ) (r : Result Site SiteFault) → Gives r text → (fields : SiteFields) → IsSite text fields → MatchResult r (λ site. fields_of site ≡ fields) (λ _. ⊥)
+is_read text (Ok site) gives fields is = ok_is _ _ (sym gives ∙ answered (lines_of text) (Ok fields) (is.text, is.ranges))
+is_read text (Err fault) gives fields is = not_err _ _ (sym gives ∙ answered (lines_of text) (Ok fields) (is.text, is.ranges))
+
+-- each fault comes exactly where the lines have it
+pub is_cause : (text : List ℕ) (r : Result Site SiteFault) → Gives r text → (fault : SiteFault) → IsErrOf r fault ↔ IsCauseOf (lines_of text) fault
+is_cause text (Ok site) gives fault = (λ err. absurd (accepts site fault err), λ cause. absurd (not_err _ _ (sym (answered (lines_of text) (Err fault) cause) ∙ gives)))
+is_cause text (Err other) gives fault = (
+  λ err. tells text (Err fault) (gives ∙ ap (λ (f : SiteFault). failed f) (refusal_is _ _ err)),
+  λ cause. ap (λ (f : SiteFault). Err f) (err_is _ _ (sym gives ∙ answered (lines_of text) (Err fault) cause)),
+)

@@ -1,0 +1,13 @@
+//! The site file: what a head end's operator sets once for a tree of receivers.
+#![tactic(auto)]
+
+mod fault;
+mod reader;
+mod site;
+
+pub use fault::SiteFault;
+pub use reader::read;
+pub use site::Site;
+
+#[cfg(test)]
+mod tests;

@@ -1,0 +1,80 @@
+use super::*;
+use std::alloc::{AllocError, Global};
+use std::test::*;
+
+const LINES: [&str; 8] = [
+    "height 3",
+    "master 000102030405060708090a0b0c0d0e0f101112131415161718191a1b1c1d1e1f",
+    "ca 1234",
+    "emm 496",
+    "ecm 497",
+    "ecm-every 200",
+    "crypto-ecms 2",
+    "period-cryptos 1",
+];
+
+const UPPER: &str = "master 000102030405060708090A0B0C0D0E0F101112131415161718191A1B1C1D1E1F";
+
+// The lines, the first `count` of them, with another in the place of line k.
+fn text(alloc: Global, count: usize, k: usize, other: &str) -> Result<String, AllocError> {
+    let mut text = String::new(alloc);
+    for i in 0..count.min(LINES.len()) {
+        if i + 1 == k {
+            text.push_str(other)?;
+        } else {
+            text.push_str(LINES[i])?;
+        }
+        text.push('\n')?;
+    }
+    Ok(text)
+}
+
+#[test]
+fn a_site_is_read(rt: HostRuntime) -> Result<(), Fail> {
+    let lower = text(rt.alloc(), 8, 0, "")?;
+    let upper = text(rt.alloc(), 8, 2, UPPER)?;
+    let bytes = lower.as_bytes();
+    for bytes in [
+        bytes,
+        &bytes[..bytes.len().saturating_sub(1)],
+        upper.as_bytes(),
+    ] {
+        let site = read(bytes).ok().ok_or("the text is a site file")?;
+        assert_eq!(rt; site.height.get(), 3);
+        for (i, byte) in site.master.iter().enumerate() {
+            assert_eq!(rt; usize::from(*byte), i);
+        }
+        assert_eq!(rt; (site.ca, site.emm, site.ecm), (0x1234, 496, 497));
+        assert_eq!(rt; (site.every, site.cryptos, site.span), (200, 2, 1));
+    }
+    Ok(())
+}
+
+#[test]
+fn the_first_bad_line_decides(rt: HostRuntime) -> Result<(), Fail> {
+    let table = [
+        (0, 0, "", SiteFault::Short),
+        (7, 0, "", SiteFault::Short),
+        (8, 1, "height 21", SiteFault::Range(1)),
+        (8, 1, "height 0", SiteFault::Range(1)),
+        (8, 1, "height 03", SiteFault::Line(1)),
+        (8, 1, "height 99999999999999999999", SiteFault::Range(1)),
+        (8, 1, "height 3\r", SiteFault::Line(1)),
+        (8, 3, "ca 123", SiteFault::Line(3)),
+        (8, 3, "ca 12g4", SiteFault::Line(3)),
+        (8, 4, "ecm 497", SiteFault::Line(4)),
+        (8, 4, "emm 31", SiteFault::Range(4)),
+        (8, 4, "emm 8176", SiteFault::Range(4)),
+        (8, 5, "ecm 496", SiteFault::SamePid),
+        (8, 6, "ecm-every 4097", SiteFault::Range(6)),
+        (8, 7, "crypto-ecms 257", SiteFault::Range(7)),
+        (8, 8, "period-cryptos 65536", SiteFault::Range(8)),
+        (8, 8, "period-cryptos 1\n", SiteFault::Extra(9)),
+        (8, 8, "period-cryptos 1\nheight 3", SiteFault::Extra(9)),
+    ];
+    for (count, k, line, fault) in table {
+        let text = text(rt.alloc(), count, k, line)?;
+        assert!(rt; read(text.as_bytes()) == Err(fault), "at {line}");
+    }
+    Ok(())
+}
