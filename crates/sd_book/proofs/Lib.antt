@@ -1,0 +1,4 @@
+pub mod Cuts
+pub mod Judged
+pub mod Revocations
+pub mod Tallies

@@ -1,0 +1,6 @@
+pub mod Commands
+pub mod Limits
+pub mod Line
+pub mod Tally
+pub mod Text
+pub mod Value

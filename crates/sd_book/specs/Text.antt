@@ -1,0 +1,61 @@
+-- The book file: one command a line [this project, docs/FORMATS.md, Book].
+use Rattle.std.specs.Prelude.{◌≡◌, ℕ, ◌+◌, nat_lt, nat_le, List, [], ◌∷◌, ◌++◌, map, length, codes, bytes_eq, if◌then◌else◌, Option, Some, None, Result, Ok, Err, option_map}
+use Rattle.sd_text.specs.Lines.{lines_of}
+use Rattle.sd_text.specs.Number.{number_behind}
+use Rattle.sd_book.specs.declared.command.Command.{Command}
+use Rattle.sd_book.specs.declared.command.Command.TheVariants.{Subscribe, Revoke, Period}
+use Rattle.sd_book.specs.declared.fault.BookFault.{BookFault}
+use Rattle.sd_book.specs.declared.fault.BookFault.TheVariants.{Line, Leaf, Limit}
+use Rattle.sd_book.specs.declared.fault.BookLimit.TheVariants.{Lines, Periods, Revoked}
+use Rattle.sd_book.specs.Commands.{is_within, is_period, last_period, revoked_after}
+
+-- the first of two that is there
+abbrev pub first_there : Option Command → Option Command → Option Command
+first_there (Some command) other = Some command
+first_there None other = other
+
+-- the command of a line in the grammar, whose leaf is any number
+unfoldable pub command_of : List ℕ → Option Command
+command_of line =
+    if bytes_eq line (codes "period") then Some Period
+    else first_there (option_map Subscribe (number_behind (codes "subscribe ") line)) (option_map Revoke (number_behind (codes "revoke ") line))
+
+-- the lines are these commands
+abbrev pub SpellsBook : List (List ℕ) → List Command → Type 0
+SpellsBook lines commands = map command_of lines ≡ map Some commands
+
+-- a step that is taken where the one before found no fault
+infixl 10 ◌>>=◌
+abbrev pub ◌>>=◌ : {A B : Type 0} → Result A BookFault → (A → Result B BookFault) → Result B BookFault
+(Ok x) >>= f = f x
+(Err fault) >>= f = Err fault
+
+-- the command of line k, which is to be of the tree
+abbrev pub in_tree : ℕ → ℕ → Option Command → Result Command BookFault
+in_tree d k None = Err (Line k)
+in_tree d k (Some command) = if is_within d command then Ok command else Err (Leaf k)
+
+-- the period that these commands end with has no more revoked leaves than a period may have
+abbrev pub ended : {A : Type 0} → ℕ → List Command → A → Result A BookFault
+ended d commands value = if nat_lt 4096 (length (revoked_after d commands)) then Err (Limit (Revoked (last_period commands))) else Ok value
+
+-- a Period is to be within the limits on periods behind these commands
+abbrev pub period_fits : ℕ → List Command → Command → Result Command BookFault
+period_fits d before command =
+    if is_period command then (if nat_le 1023 (last_period before) then Err (Limit Periods) else ended d before command) else Ok command
+
+-- The command on a line behind those commands, or what is wrong with it. On one line the number of lines comes first, and then the
+-- form, the leaf and the limits on periods [this project, docs/FORMATS.md, Book]
+abbrev pub judged_line : ℕ → List Command → List ℕ → Result Command BookFault
+judged_line d before line =
+    if nat_le 1048576 (length before) then Err (Limit Lines)
+    else (in_tree d (length before + 1) (command_of line) >>= λ command. period_fits d before command)
+
+-- the commands with those of the lines behind them: the first bad line decides, and what is judged after the last line comes last
+abbrev pub judged : ℕ → List Command → List (List ℕ) → Result (List Command) BookFault
+judged d before [] = ended d before before
+judged d before (line ∷ lines) = judged_line d before line >>= λ command. judged d (before ++ command ∷ []) lines
+
+-- the commands of a book file for a tree of height d, or its first fault
+unfoldable pub book_of : ℕ → List ℕ → Result (List Command) BookFault
+book_of d bytes = judged d [] (lines_of bytes)

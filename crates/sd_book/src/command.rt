@@ -1,0 +1,12 @@
+use sd_tree::Leaf;
+
+/// A line of a book.
+#[derive(Clone, Copy, Debug, PartialEq, Eq)]
+pub enum Command {
+    /// The leaf is no longer revoked.
+    Subscribe(Leaf),
+    /// The leaf is revoked.
+    Revoke(Leaf),
+    /// The next period begins.
+    Period,
+}

@@ -1,0 +1,44 @@
+ghost use Rattle.std.specs.Prelude.{◌≡◌};
+ghost use Rattle.sd_book.specs.declared.fault.BookFault.TheVariants.{NoMemory};
+
+use std::alloc::{AllocError, AllocFailed};
+
+/// A limit of a book.
+#[derive(Clone, Copy, Debug, PartialEq, Eq)]
+pub enum BookLimit {
+    /// It has at most 1,048,576 commands.
+    Lines,
+    /// It has at most 1,023 Period commands, so 1,024 periods.
+    Periods,
+    /// At most 4,096 leaves are revoked at the end of this period.
+    Revoked(u32),
+}
+
+/// Why bytes are no book. Lines are counted from 1 and judged in order; the first bad line decides.
+#[derive(Clone, Copy, Debug, PartialEq, Eq)]
+pub enum BookFault {
+    /// The line is no command.
+    Line(u32),
+    /// The line's leaf is not in the tree.
+    Leaf(u32),
+    /// The book breaks a limit.
+    Limit(BookLimit),
+    /// Memory is wanting.
+    NoMemory,
+}
+
+impl From<AllocError> for BookFault {
+    ghost from_gives = { λ _ e. e ≡ NoMemory };
+
+    fn from(_error: AllocError) -> BookFault {
+        BookFault::NoMemory
+    }
+}
+
+impl<T: Drop> From<AllocFailed<T>> for BookFault {
+    ghost from_gives = { λ _ e. e ≡ NoMemory };
+
+    fn from(_error: AllocFailed<T>) -> BookFault {
+        BookFault::NoMemory
+    }
+}

@@ -1,0 +1,47 @@
+-- What was written or read in portions is what was written or read in one.
+use Rattle.std.proofs.Common.{◌≡◌, ℕ, ◌+◌, ◌-◌, List, ◌++◌, length, take, drop, arith, subst, append-nil, sym, ◌∙◌, ap, length-drop}
+use Rattle.std.proofs.lemmas.List.{take_all, take-append-drop}
+use Rattle.std.proofs.Math.Seq.{take-add}
+use Rattle.std.specs.Prelude.{Option, None, Some}
+use Rattle.std.specs.Io.KnownBytes.{Appends, Consumes, Keeps}
+use Rattle.std.proofs.KnownBytes.{Appends-trans, Appends-kept, Consumes-trans, Keeps-trans}
+use Rattle.sd_ports.specs.Bytes.{AppendsFront, LosesFront}
+
+-- the next `more` bytes were written behind the first `done`
+pub appends_more : (a b c : Option (List ℕ)) (bs : List ℕ) (done more : ℕ) → Appends a b (take done bs) → Appends b c (take more (take (length bs - done) (drop done bs))) → Appends a c (take (done + more) bs)
+appends_more a b c bs done more p q =
+    let all : take (length bs - done) (drop done bs) ≡ drop done bs = take_all _ _ (omega (arith, length-drop done bs)) in
+    let joined : take done bs ++ take more (take (length bs - done) (drop done bs)) ≡ take (done + more) bs = ap (λ (r : List ℕ). take done bs ++ take more r) all ∙ sym (take-add done more bs) in
+    subst (Appends a c) joined (Appends-trans a b c _ _ p q)
+
+-- after a write that failed, the first `done` bytes stay written
+pub appends_front : (a b c : Option (List ℕ)) (bs : List ℕ) (done : ℕ) → Appends a b (take done bs) → Keeps b c → AppendsFront a c bs
+appends_front a b c bs done p q = (take done bs, (drop done bs, take-append-drop done bs), Appends-kept a b c _ p q)
+
+-- bytes were read behind those that were read before
+pub loses_more : (a b c : Option (List ℕ)) (bs cs : List ℕ) → Consumes a b bs → Consumes b c cs → LosesFront a c
+loses_more a b c bs cs p q = (bs ++ cs, Consumes-trans a b c bs cs p q)
+
+-- what is left stayed twice
+pub kept_twice : (a b c : Option (List ℕ)) → Keeps a b → Keeps b c → Keeps a c
+kept_twice a b c p q = Keeps-trans a b c p q
+
+-- what is left stayed, and then lost these bytes
+pub kept_consumes : (a b c : Option (List ℕ)) (bs : List ℕ) → Keeps a b → Consumes b c bs → Consumes a c bs
+kept_consumes None b c bs p q = tt
+kept_consumes (Some x) None c bs p q = absurd p
+kept_consumes (Some x) (Some y) None bs p q = absurd q
+kept_consumes (Some x) (Some y) (Some z) bs p q = sym p ∙ q
+
+-- what is held stayed, and then grew by these bytes
+pub kept_appends : (a b c : Option (List ℕ)) (bs : List ℕ) → Keeps a b → Appends b c bs → Appends a c bs
+kept_appends None b c bs p q = tt
+kept_appends (Some x) None c bs p q = absurd p
+kept_appends (Some x) (Some y) None bs p q = absurd q
+kept_appends (Some x) (Some y) (Some z) bs p q = q ∙ ap (λ (xs : List ℕ). xs ++ bs) p
+
+-- what is held stayed where it grew by none
+pub kept_none : (a b : Option (List ℕ)) (bs : List ℕ) → Appends a b (take 0 bs) → Keeps a b
+kept_none None b bs p = tt
+kept_none (Some x) None bs p = absurd p
+kept_none (Some x) (Some y) bs p = p ∙ append-nil x

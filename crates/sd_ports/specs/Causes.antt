@@ -1,0 +1,24 @@
+use Rattle.std.specs.Prelude.{◌≡◌, ℕ, ◌≤◌, Result, IsErrOf}
+use Rattle.sd_cause.specs.Count.{Rose}
+use Rattle.sd_ports.specs.declared.fault.DepotFault.{DepotFault}
+use Rattle.sd_ports.specs.declared.fault.DepotFault.TheVariants.{Missing, Failed}
+use Rattle.sd_ports.specs.declared.file.FileFault.{FileFault}
+use Rattle.sd_ports.specs.declared.file.FileFault.TheVariants as file
+
+-- Why a depot refused: `Missing` where its misses rose, `Failed` where its faults rose. Else they stand as before.
+pub record HasDepotCause {T : Type 0} (faults_before faults_now misses_before misses_now : ℕ) (result : Result T DepotFault) : Type 0 where
+  pub faults_later : faults_before ≤ faults_now
+  pub misses_later : misses_before ≤ misses_now
+  pub missing : IsErrOf result Missing → Rose misses_before misses_now
+  pub failed : IsErrOf result Failed → Rose faults_before faults_now
+  pub no_miss : ¬ IsErrOf result Missing → misses_now ≡ misses_before
+  pub no_fault : ¬ IsErrOf result Failed → faults_now ≡ faults_before
+
+-- Why a whole file wasn't read: `Missing` where the depot's misses rose, `Failed` where its faults rose. Else they stand as before.
+pub record HasFileCause {T : Type 0} (faults_before faults_now misses_before misses_now : ℕ) (result : Result T FileFault) : Type 0 where
+  pub faults_later : faults_before ≤ faults_now
+  pub misses_later : misses_before ≤ misses_now
+  pub missing : IsErrOf result file.Missing → Rose misses_before misses_now
+  pub failed : IsErrOf result file.Failed → Rose faults_before faults_now
+  pub no_miss : ¬ IsErrOf result file.Missing → misses_now ≡ misses_before
+  pub no_fault : ¬ IsErrOf result file.Failed → faults_now ≡ faults_before

@@ -1,0 +1,4 @@
+pub mod Files
+pub mod Bytes
+pub mod Causes
+pub mod Memory

@@ -1,0 +1,83 @@
+use Rattle.std.specs.Prelude.{refl, ℕ, map, string_bytes, String, Vec, ◌-◌, Bool, ◌||◌, if◌then◌else◌, nat_eq, nat_lt, not, min, List, ◌++◌, length, take, drop}
+use Rattle.std.specs.List.{list_any}
+use Rattle.std.specs.FinMap.{from_entries, code, insert}
+use Rattle.std.specs.Coded.{Coded, code_by, coded×, coded_ℕ, coded_list}
+use Rattle.std.specs.BTreeMap.{BTreeMap}
+use Rattle.std.specs.declared.alloc.Global.{Global}
+use Rattle.sd_cause.specs.Count.{with_added}
+use Rattle.sd_ports.specs.Files.{Files}
+
+-- a source in memory: the bytes to come, the most bytes of a read, which reads fail, and how many reads there were and failed
+pub record Supply : Type 0 where
+  pub left : List ℕ
+  pub most : ℕ
+  pub fails : List ℕ
+  pub reads : ℕ
+  pub faults : ℕ
+
+-- a sink in memory: the bytes taken, how many it has room for, the most bytes of a write, which writes fail, and how many writes there were and failed
+pub record Store : Type 0 where
+  pub held : List ℕ
+  pub room : ℕ
+  pub most : ℕ
+  pub fails : List ℕ
+  pub writes : ℕ
+  pub faults : ℕ
+
+-- a depot in memory: its files, the room of a sink, the most bytes of a read or a write, and the counts
+pub record Shelf : Type 0 where
+  pub files : Files
+  pub room : ℕ
+  pub most : ℕ
+  pub faults : ℕ
+  pub misses : ℕ
+
+-- a depot in memory is stored as the pairs of its parts
+abbrev pub shelf_code : Coded Shelf
+shelf_code =
+    code_by (Files × (ℕ × (ℕ × (ℕ × ℕ)))) (coded× (code (coded_list coded_ℕ) (coded_list coded_ℕ)) (coded× coded_ℕ (coded× coded_ℕ (coded× coded_ℕ coded_ℕ))))
+    (λ s. (s.files, (s.room, (s.most, (s.faults, s.misses))))) (λ p. record { files = p.0; room = p.1.0; most = p.1.1.0; faults = p.1.1.1.0; misses = p.1.1.1.1 }) (λ _. refl)
+
+-- the files that a map of texts tells
+unfoldable pub told_files : BTreeMap (String Global) (Vec ℕ Global) → Files
+told_files m = from_entries (map (λ e. (string_bytes e.0, e.1.items)) m.entries)
+
+-- the depot with a file of these bytes, in place of one that had the name
+abbrev pub with_file : Shelf → List ℕ → List ℕ → Shelf
+with_file s name bytes = record { files = insert s.files name bytes; room = s.room; most = s.most; faults = s.faults; misses = s.misses }
+
+-- the depot with other counts of faults and of misses
+abbrev pub with_counts : Shelf → ℕ → ℕ → Shelf
+with_counts s faults misses = record { files = s.files; room = s.room; most = s.most; faults = faults; misses = misses }
+
+-- whether a call's number stands in the list of those that fail
+abbrev pub is_listed : List ℕ → ℕ → Bool
+is_listed fails number = list_any (λ n. nat_eq n number) fails
+
+-- whether the next read fails
+abbrev pub read_fails : Supply → Bool
+read_fails s = is_listed s.fails s.reads
+
+-- how many bytes a read gives into so much space
+abbrev pub given : Supply → ℕ → ℕ
+given s space = min s.most (min space (length s.left))
+
+-- a source after a read into so much space
+abbrev pub after_read : Supply → ℕ → Supply
+after_read s space =
+    if read_fails s then record { left = s.left; most = s.most; fails = s.fails; reads = with_added s.reads 1; faults = with_added s.faults 1 }
+    else record { left = drop (given s space) s.left; most = s.most; fails = s.fails; reads = with_added s.reads 1; faults = s.faults }
+
+-- whether the next write fails: by its number, or since there is no room
+abbrev pub write_fails : Store → Bool
+write_fails s = is_listed s.fails s.writes || not (nat_lt (length s.held) s.room)
+
+-- how many bytes of so many a write takes
+abbrev pub taken : Store → ℕ → ℕ
+taken s count = min s.most (min count (s.room - length s.held))
+
+-- a sink after a write of a piece
+abbrev pub after_write : Store → List ℕ → Store
+after_write s piece =
+    if write_fails s then record { held = s.held; room = s.room; most = s.most; fails = s.fails; writes = with_added s.writes 1; faults = with_added s.faults 1 }
+    else record { held = s.held ++ take (taken s (length piece)) piece; room = s.room; most = s.most; fails = s.fails; writes = with_added s.writes 1; faults = s.faults }

@@ -1,0 +1,18 @@
+/// Memory is wanting.
+#[derive(Clone, Copy, Debug, PartialEq, Eq)]
+pub struct NoMemory;
+
+/// A read or a write failed.
+#[derive(Clone, Copy, Debug, PartialEq, Eq)]
+pub struct PortFault;
+
+/// Why a depot gave no port.
+#[derive(Clone, Copy, Debug, PartialEq, Eq)]
+pub enum DepotFault {
+    /// There is no such file.
+    Missing = 1,
+    /// The device failed.
+    Failed = 2,
+    /// Memory is wanting.
+    NoMemory = 3,
+}

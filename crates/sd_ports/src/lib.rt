@@ -1,0 +1,26 @@
+//! The outside as traits: sources, sinks and depots of files, in memory and on the host.
+#![tactic(auto)]
+
+mod depot;
+mod fault;
+mod file;
+mod host;
+mod shelf;
+mod sink;
+mod source;
+mod store;
+mod supply;
+#[cfg(test)]
+mod tests;
+mod whole;
+
+pub use depot::Depot;
+pub use fault::{DepotFault, NoMemory, PortFault};
+pub use file::{FileFault, read_file};
+pub use host::{HostDepot, HostInlet, StdPrint};
+pub use shelf::MemDepot;
+pub use sink::Sink;
+pub use source::Source;
+pub use store::MemSink;
+pub use supply::MemSource;
+pub use whole::{ReadAllFault, read_all, write_all};

@@ -1,0 +1,159 @@
+ghost use Rattle.std.specs.Prelude.{◌≡◌, ◌≤◌, ◌<◌, ◌^◌, ◌↔◌, IfOk, OnOk, OnErr, IsErrOf, Some, None, []};
+ghost use Rattle.std.specs.Option.{option_map};
+ghost use Rattle.std.specs.FinMap as map;
+ghost use Rattle.sd_cause.specs.Count.{with_added};
+ghost use Rattle.sd_ports.specs.Causes.{HasDepotCause};
+ghost use Rattle.sd_ports.specs.Files.{IsNotThere, Opens};
+ghost use Rattle.sd_ports.specs.Memory.{told_files, with_counts, with_file};
+
+use crate::depot::Depot;
+use crate::fault::{DepotFault, NoMemory};
+use crate::supply::MemSource;
+use std::alloc::Global;
+use std::collections::BTreeMap;
+use std::marker::Model;
+
+/// A depot in memory.
+#[derive(Drop)]
+pub struct MemDepot {
+    alloc: Global,
+    files: BTreeMap<String, Vec<u8>>,
+    room: usize,
+    most: usize,
+    faults: u64,
+    misses: u64,
+}
+
+impl Model for MemDepot {
+    ghost use Rattle.std.specs.Prelude.{◌<◌};
+    ghost use Rattle.sd_ports.specs.Memory.{Shelf, shelf_code, told_files};
+
+    ghost Value = { Shelf };
+
+    ghost coded = { shelf_code };
+
+    ghost view = { λ d. record { files = told_files d.files; room = d.room; most = d.most; faults = d.faults; misses = d.misses } };
+
+    ghost invariant = { λ d. 0 < d.most };
+}
+
+impl MemDepot {
+    /// A depot with no file. Its ports give or take at most `most` bytes a call, and its sinks have room for `room`.
+    #[tactic(auto, using(crate::proofs::Shelves::told_none))]
+    pub fn new(alloc: Global, room: usize, most: usize) -> Result<MemDepot, NoMemory>
+        requires { 1 ≤ most }
+        ensures { IfOk result (λ d. d ≡ record { files = map.empty; room = room; most = most; faults = 0; misses = 0 }) }
+    {
+        Ok(MemDepot {
+            alloc,
+            files: BTreeMap::new(alloc),
+            room,
+            most,
+            faults: 0,
+            misses: 0,
+        })
+    }
+
+    /// Adds a file, or replaces the one of that name.
+    pub fn put(&mut self, name: &str, bytes: Vec<u8>) -> Result<(), NoMemory>
+        ensures ok { OnOk result (self.new ≡ with_file self.old name.now bytes.items) }
+        ensures err { OnErr result (self.new ≡ self.old) }
+    {
+        set(self.alloc, &mut self.files, name, bytes)
+    }
+
+    /// The bytes of a file, and `None` where no file has the name.
+    pub fn get(&self, name: &str) -> Option<&[u8]>
+        ensures { option_map (λ bytes. bytes.now) result ≡ map.get self.now.files name.now }
+    {
+        look_up(&self.files, name)
+    }
+
+    /// How often the device failed, in the ports that were closed.
+    pub fn faults(&self) -> u64
+        ensures { result ≡ self.now.faults }
+    {
+        self.faults
+    }
+
+    /// How often a file was asked for that isn't there.
+    pub fn misses(&self) -> u64
+        ensures { result ≡ self.now.misses }
+    {
+        self.misses
+    }
+}
+
+impl Depot for MemDepot {
+    type Inlet = MemSource;
+
+    ghost files = { λ d. Some d.files };
+
+    ghost faults = { λ d. d.faults };
+
+    ghost misses = { λ d. d.misses };
+
+    /// Opens a copy of the file's bytes.
+    fn open_in(&mut self, alloc: Global, name: &str) -> Result<MemSource, DepotFault>
+        ensures files { Some self.new.files ≡ Some self.old.files }
+        ensures opened { IfOk result (λ port. Opens (Some self.old.files) name.now (Some port.left)) }
+        ensures fresh { IfOk result (λ port. port.faults ≡ 0) }
+        ensures not_there { IsErrOf result DepotFault.Missing → IsNotThere (Some self.old.files) name.now }
+        ensures cause { HasDepotCause self.old.faults self.new.faults self.old.misses self.new.misses result }
+        ensures missing { IsErrOf result DepotFault.Missing ↔ (map.get self.old.files name.now ≡ None) }
+        ensures unchanged { self.new ≡ with_counts self.old self.old.faults self.new.misses }
+        ensures miss { IsErrOf result DepotFault.Missing → self.new.misses ≡ with_added self.old.misses 1 }
+        ensures works { ¬ IsErrOf result DepotFault.Failed }
+        ensures port { IfOk result (λ port. port ≡ record { left = port.left; most = self.old.most; fails = []; reads = 0; faults = 0 }) }
+    {
+        let Some(file) = look_up(&self.files, name) else {
+            self.misses = self.misses.saturating_add(1);
+            return Err(DepotFault::Missing);
+        };
+        match Vec::from_slice(alloc, file) {
+            Ok(bytes) => Ok(MemSource::new(bytes, self.most, Vec::new(alloc))),
+            Err(_) => Err(DepotFault::NoMemory),
+        }
+    }
+
+    fn close_in(&mut self, port: MemSource)
+        ensures files { Some self.new.files ≡ Some self.old.files }
+        ensures faults { self.new.faults ≡ with_added self.old.faults port.faults }
+        ensures misses { self.new.misses ≡ self.old.misses }
+        ensures within { self.old.faults < 2 ^ 64 }
+        ensures unchanged { self.new ≡ with_counts self.old self.new.faults self.old.misses }
+    {
+        self.faults = self.faults.saturating_add(port.faults());
+    }
+}
+
+/// The bytes that stand under a name.
+#[tactic(auto, using(crate::proofs::Shelves::told_at))]
+fn look_up<'a>(files: &'a BTreeMap<String, Vec<u8>>, name: &str) -> Option<&'a [u8]>
+    ensures { option_map (λ bytes. bytes.now) result ≡ map.get (told_files files.now) name.now }
+{
+    match files.get(name) {
+        Some(bytes) => Some(bytes),
+        None => None,
+    }
+}
+
+/// Puts the bytes under a name, in place of those that stand there.
+#[tactic(auto, using(crate::proofs::Shelves::told_after, crate::proofs::Shelves::told_same))]
+fn set(
+    alloc: Global,
+    files: &mut BTreeMap<String, Vec<u8>>,
+    name: &str,
+    bytes: Vec<u8>,
+) -> Result<(), NoMemory>
+    ensures set { OnOk result (told_files files.new ≡ map.insert (told_files files.old) name.now bytes.items) }
+    ensures refused { OnErr result (told_files files.new ≡ told_files files.old) }
+{
+    let Ok(key) = String::from_str(alloc, name) else {
+        return Err(NoMemory);
+    };
+    match files.insert(key, bytes) {
+        Ok(_) => Ok(()),
+        Err(_) => Err(NoMemory),
+    }
+}

@@ -1,0 +1,23 @@
+ghost use Rattle.std.specs.Prelude.{◌<◌, ℕ, List, Option, length, IfOk};
+ghost use Rattle.std.specs.Io.{WritesAtMost};
+ghost use Rattle.std.specs.Io.KnownBytes.{WriteAppends};
+ghost use Rattle.sd_cause.specs.Count.{HasCause};
+
+use crate::fault::PortFault;
+
+/// Where bytes go.
+pub trait Sink: Drop {
+    /// The bytes taken so far, where the sink tells them.
+    ghost held: { Self → Option (List ℕ) };
+
+    /// How many writes failed.
+    ghost faults: { Self → ℕ };
+
+    /// Takes at least one byte of the front of `piece`, and answers how many.
+    fn write(&mut self, piece: &[u8]) -> Result<usize, PortFault>
+        requires { 0 < length piece.now }
+        ensures some { IfOk result (λ k. 0 < k) }
+        ensures bound { WritesAtMost result piece.now }
+        ensures bytes { WriteAppends (held self.old) (held self.new) result piece.now }
+        ensures cause { HasCause (faults self.old) (faults self.new) result };
+}

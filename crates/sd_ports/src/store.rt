@@ -1,0 +1,109 @@
+ghost use Rattle.std.specs.Prelude.{◌≡◌, ◌<◌, ◌≤◌, ◌↔◌, IfOk, IsErr, Some, [], length, true};
+ghost use Rattle.std.specs.Io.{WritesAtMost};
+ghost use Rattle.std.specs.Io.KnownBytes.{WriteAppends};
+ghost use Rattle.sd_cause.specs.Count.{HasCause};
+ghost use Rattle.sd_ports.specs.Memory.{after_write, taken, write_fails};
+
+use crate::fault::{NoMemory, PortFault};
+use crate::sink::Sink;
+use crate::supply::is_listed;
+use std::alloc::Global;
+use std::marker::Model;
+
+/// A sink in memory. It takes at most `most` bytes a write, and its writes can be made to fail by their numbers.
+#[derive(Drop)]
+pub struct MemSink {
+    bytes: Vec<u8>,
+    room: usize,
+    most: usize,
+    fails: Vec<u32>,
+    writes: u64,
+    faults: u64,
+}
+
+impl Model for MemSink {
+    ghost use Rattle.std.specs.Prelude.{◌≤◌, ◌<◌, vec_len, vec_capacity};
+    ghost use Rattle.sd_ports.specs.Memory.{Store};
+
+    ghost Value = { Store };
+
+    ghost view = { λ s. record { held = s.bytes.items; room = s.room; most = s.most; fails = s.fails.items; writes = s.writes; faults = s.faults } };
+
+    ghost invariant = { λ s. (vec_len s.bytes ≤ s.room) × (s.room ≤ vec_capacity s.bytes) × (0 < s.most) };
+}
+
+impl MemSink {
+    /// An empty sink with room for `room` bytes, which it takes at once. Writes are numbered from 0, and those whose
+    /// numbers stand in `fails` fail.
+    pub fn new(
+        alloc: Global,
+        room: usize,
+        most: usize,
+        fails: Vec<u32>,
+    ) -> Result<MemSink, NoMemory>
+        requires { 1 ≤ most }
+        ensures { IfOk result (λ s. s ≡ record { held = []; room = room; most = most; fails = fails.items; writes = 0; faults = 0 }) }
+    {
+        match Vec::with_capacity(alloc, room) {
+            Ok(bytes) => Ok(MemSink {
+                bytes,
+                room,
+                most,
+                fails,
+                writes: 0,
+                faults: 0,
+            }),
+            Err(_) => Err(NoMemory),
+        }
+    }
+
+    /// The bytes taken so far.
+    pub fn bytes(&self) -> &[u8]
+        ensures { result.now ≡ self.now.held }
+    {
+        &self.bytes
+    }
+
+    /// The bytes taken so far, without memory.
+    pub fn into_bytes(self) -> Vec<u8>
+        ensures { result.items ≡ self.held }
+    {
+        self.bytes
+    }
+
+    /// How many writes failed.
+    pub fn faults(&self) -> u64
+        ensures { result ≡ self.now.faults }
+    {
+        self.faults
+    }
+}
+
+impl Sink for MemSink {
+    ghost held = { λ s. Some s.held };
+
+    ghost faults = { λ s. s.faults };
+
+    /// A piece that doesn't fit is cut to what fits, and a write with no room left fails. It takes no memory.
+    fn write(&mut self, piece: &[u8]) -> Result<usize, PortFault>
+        requires { 0 < length piece.now }
+        ensures some { IfOk result (λ k. 0 < k) }
+        ensures bound { WritesAtMost result piece.now }
+        ensures bytes { WriteAppends (Some self.old.held) (Some self.new.held) result piece.now }
+        ensures cause { HasCause self.old.faults self.new.faults result }
+        ensures fails { IsErr result ↔ (write_fails self.old ≡ true) }
+        ensures count { IfOk result (λ k. k ≡ taken self.old (length piece.now)) }
+        ensures after { self.new ≡ after_write self.old piece.now }
+    {
+        let number = self.writes;
+        self.writes = number.saturating_add(1);
+        let free = self.room - self.bytes.len();
+        if is_listed(&self.fails, number) || free == 0 {
+            self.faults = self.faults.saturating_add(1);
+            return Err(PortFault);
+        }
+        let count = self.most.min(piece.len()).min(free);
+        self.bytes.extend_from_slice(&piece[..count]).unwrap();
+        Ok(count)
+    }
+}

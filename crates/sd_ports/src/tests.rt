@@ -1,0 +1,135 @@
+use crate::{
+    Depot, FileFault, HostDepot, MemDepot, MemSink, MemSource, PortFault, ReadAllFault, Source,
+    StdPrint, read_all, read_file, write_all,
+};
+use std::alloc::{AllocError, Global};
+
+const TEXT: &[u8] = b"abcdefg";
+
+// Whether a source of TEXT, of which one read fails, is read so, and counts a fault where it failed.
+fn reads(
+    alloc: Global,
+    (part, failing, most): (usize, u32, usize),
+    want: Result<&[u8], ReadAllFault>,
+) -> Result<bool, AllocError> {
+    let bytes = Vec::from_slice(alloc, TEXT)?;
+    let fails = Vec::from_slice(alloc, &[failing])?;
+    let mut source = MemSource::new(bytes, part.max(1), fails);
+    let same = match read_all(alloc, &mut source, most) {
+        Ok(bytes) => want == Ok(bytes.as_slice()),
+        Err(fault) => want == Err(fault),
+    };
+    let faults = u64::from(want == Err(ReadAllFault::Failed));
+    Ok(same && source.faults() == faults)
+}
+
+// Whether a sink, of which one write fails, takes this much of TEXT, and counts a fault where that isn't all.
+fn takes(
+    alloc: Global,
+    (part, failing, room): (usize, u32, usize),
+    held: &str,
+) -> Result<bool, AllocError> {
+    let fails = Vec::from_slice(alloc, &[failing])?;
+    let Ok(mut sink) = MemSink::new(alloc, room, part.max(1), fails) else {
+        return Err(AllocError);
+    };
+    let all = write_all(&mut sink, TEXT).is_ok();
+    let faults = u64::from(!all);
+    Ok(
+        all == (held.as_bytes() == TEXT)
+            && sink.faults() == faults
+            && sink.bytes() == held.as_bytes()
+            && sink.into_bytes().as_slice() == held.as_bytes(),
+    )
+}
+
+// Whether a file is read so.
+fn gives<D: Depot>(
+    alloc: Global,
+    depot: &mut D,
+    name: &str,
+    most: usize,
+    want: Result<&str, FileFault>,
+) -> bool {
+    match read_file(alloc, depot, name, most) {
+        Ok(bytes) => want.map(|text| text.as_bytes()) == Ok(bytes.as_slice()),
+        Err(fault) => want == Err(fault),
+    }
+}
+
+fn shelf(alloc: Global) -> Result<MemDepot, AllocError> {
+    let Ok(mut depot) = MemDepot::new(alloc, 8, 2) else {
+        return Err(AllocError);
+    };
+    for (name, text) in [("a", "old"), ("b", "other"), ("a", "new")] {
+        let bytes = Vec::from_slice(alloc, text.as_bytes())?;
+        if depot.put(name, bytes).is_err() {
+            return Err(AllocError);
+        }
+    }
+    Ok(depot)
+}
+
+#[test]
+fn bytes_go_through_in_portions(rt: HostRuntime) -> Result<(), AllocError> {
+    let alloc = rt.alloc();
+    for (case, want) in [
+        ((1, 9, 7), Ok(TEXT)),
+        ((2, 9, 7), Ok(TEXT)),
+        ((3, 9, 8), Ok(TEXT)),
+        ((1000, 9, 7), Ok(TEXT)),
+        ((1, 9, 6), Err(ReadAllFault::TooBig)),
+        ((1000, 9, 6), Err(ReadAllFault::TooBig)),
+        ((3, 1, 7), Err(ReadAllFault::Failed)),
+    ] {
+        assert!(rt; reads(alloc, case, want)?);
+    }
+    for (case, held) in [
+        ((1, 9, 7), "abcdefg"),
+        ((2, 9, 7), "abcdefg"),
+        ((3, 9, 8), "abcdefg"),
+        ((3, 9, 5), "abcde"),
+        ((3, 9, 0), ""),
+        ((3, 1, 7), "abc"),
+    ] {
+        assert!(rt; takes(alloc, case, held)?);
+    }
+    let mut paper = [0u8; 3];
+    let printed = write_all(&mut StdPrint::new(&mut paper[..]), TEXT);
+    assert!(rt; printed == Err(PortFault) && &paper == b"abc");
+    Ok(())
+}
+
+#[test]
+fn depots_keep_files_apart(rt: HostRuntime) -> Result<(), AllocError> {
+    let alloc = rt.alloc();
+    let mut depot = shelf(alloc)?;
+    for (name, most, want) in [
+        ("a", 3, Ok("new")),
+        ("b", 5, Ok("other")),
+        ("b", 4, Err(FileFault::TooBig)),
+        ("c", 9, Err(FileFault::Missing)),
+    ] {
+        assert!(rt; gives(alloc, &mut depot, name, most, want));
+    }
+    assert!(rt; depot.get("b") == Some(b"other") && depot.get("c").is_none());
+    let fails = Vec::from_slice(alloc, &[0])?;
+    let mut failing = MemSource::new(Vec::new(alloc), 1, fails);
+    assert!(rt; failing.read(&mut [0]) == Err(PortFault));
+    depot.close_in(failing);
+    assert!(rt; depot.misses() == 1 && depot.faults() == 1);
+    Ok(())
+}
+
+#[test]
+fn the_host_opens_files(rt: HostRuntime) {
+    let mut depot = HostDepot::new(&rt);
+    for (name, want) in [
+        ("/dev/null", Ok("")),
+        ("/dev/zero", Err(FileFault::TooBig)),
+        ("/dev", Err(FileFault::Failed)),
+        ("no such file", Err(FileFault::Missing)),
+    ] {
+        assert!(rt; gives(rt.alloc(), &mut depot, name, 200000, want));
+    }
+}

@@ -1,0 +1,4 @@
+pub mod Finds
+pub mod Printed
+pub mod Refusals
+pub mod Completeness

@@ -1,0 +1,7 @@
+pub mod Texts
+pub mod Work
+pub mod Meaning
+pub mod Answers
+pub mod Orders
+pub mod Exits
+pub mod Complete
