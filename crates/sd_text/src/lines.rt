@@ -1,6 +1,8 @@
 ghost use Rattle.std.specs.Prelude.{◌≡◌, ◌<◌, ◌↔◌, [], ◌∷◌, length, IsNone, IfSome};
 ghost use Rattle.sd_text.specs.Lines.{lines_of};
 
+use memchr::memchr;
+
 const LINE_FEED: u8 = b'\n';
 
 /// The first line and what stands behind its line feed, or `None` where no byte is left.
@@ -13,7 +15,7 @@ pub fn next_line(bytes: &[u8]) -> Option<(&[u8], &[u8])>
     if bytes.is_empty() {
         return None;
     }
-    match bytes.iter().position(|byte| *byte == LINE_FEED) {
+    match memchr(LINE_FEED, bytes) {
         Some(end) => Some((&bytes[..end], &bytes[end + 1..])),
         None => Some((bytes, &[])),
     }

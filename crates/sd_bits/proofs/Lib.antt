@@ -1,0 +1,5 @@
+pub mod Fields
+pub mod Same
+pub mod Words
+pub mod Changes
+pub mod Writes

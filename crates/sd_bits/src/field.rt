@@ -1,0 +1,126 @@
+ghost use Rattle.std.specs.Prelude.{◌≡◌, ◌+◌, ◌*◌, ◌/◌, ◌%◌, ◌^◌, ◌<◌, ◌≤◌, length};
+ghost use Rattle.sd_bits.specs.Bits.{field, KeepsOthers};
+ghost use Rattle.sd_bits.specs.Places.{IsPlace};
+
+use crate::word;
+
+/// The N bits from bit AT on, where bit 0 is the top bit of the first byte (ISO/IEC 13818-1, 2.2.6).
+#[inline]
+#[tactic(auto, using(crate::proofs::Words::field_of_word))]
+pub fn get<const AT: usize, const N: usize>(bytes: &[u8]) -> u64
+    requires low { 1 ≤ N }
+    requires high { N ≤ 32 }
+    requires within { AT + N ≤ 8 * length bytes.now }
+    ensures value { result ≡ field bytes.now AT N }
+    ensures fits { result < 2 ^ N }
+{
+    let place = Span::of::<AT, N>();
+    let word = word::read(bytes, place.first, place.count);
+    word >> place.behind & ((1 << N) - 1)
+}
+
+/// Writes the value into the N bits from bit AT on. Every other bit stays.
+#[inline]
+#[tactic(auto, using(crate::proofs::Changes::shifted_fits, crate::proofs::Changes::field_is_set, crate::proofs::Changes::others_stay, crate::proofs::Same::same_is_kept))]
+pub fn set<const AT: usize, const N: usize>(bytes: &mut [u8], value: u64)
+    requires low { 1 ≤ N }
+    requires high { N ≤ 32 }
+    requires within { AT + N ≤ 8 * length bytes.old }
+    requires fits { value < 2 ^ N }
+    ensures value { field bytes.new AT N ≡ value }
+    ensures others { KeepsOthers AT N bytes.old bytes.new }
+    ensures same { field bytes.old AT N ≡ value → bytes.new ≡ bytes.old }
+    ensures length { length bytes.new ≡ length bytes.old }
+{
+    let place = Span::of::<AT, N>();
+    let word = word::read(bytes, place.first, place.count);
+    let before = word >> (place.behind + N);
+    let behind = word & ((1 << place.behind) - 1);
+    let changed = (before << N | value) << place.behind | behind;
+    word::write(bytes, place.first, place.count, changed);
+}
+
+/// A row of fields of some bytes, each named by its place and its width in bits. It is read by
+/// `fields! { bytes; pid: 11, 13; counter: 28, 4; }`, which gives a variable for each name, and written by
+/// `fields! { &mut bytes; pid: 11, 13 = value; counter: 28, 4 = 0; }`.
+#[macro_export]
+macro_rules! fields {
+    ($bytes:expr; $($name:ident: $at:literal, $width:literal;)+) => {
+        $(let $name = $crate::get::<$at, $width>($bytes);)+
+    };
+    ($bytes:expr; $($name:ident: $at:literal, $width:literal = $value:expr;)+) => {
+        $($crate::set::<$at, $width>($bytes, $value);)+
+    };
+}
+
+// The bytes that a field touches, and how many bits of the last stand behind it.
+#[derive(Drop)]
+struct Span {
+    first: usize,
+    count: usize,
+    behind: usize,
+}
+
+impl Span {
+    #[inline]
+    fn of<const AT: usize, const N: usize>() -> Span
+        requires low { 1 ≤ N }
+        requires high { N ≤ 32 }
+        ensures { IsPlace AT N result.first result.count result.behind }
+    {
+        let count = (AT % 8 + N).div_ceil(8);
+        Span {
+            first: AT / 8,
+            count,
+            behind: 8 * count - AT % 8 - N,
+        }
+    }
+}
+
+#[cfg(test)]
+mod tests {
+    use super::*;
+    use crate::laws::{get_after_set, set_of_get};
+
+    #[test]
+    fn a_header_is_read(rt: HostRuntime) {
+        let header = [0x47, 0x41, 0x23, 0x9A];
+        fields! {
+            &header;
+            sync_byte: 0, 8;
+            error: 8, 1;
+            unit_start: 9, 1;
+            priority: 10, 1;
+            pid: 11, 13;
+            scrambling: 24, 2;
+            adaptation: 26, 2;
+            counter: 28, 4;
+        }
+        let read = [
+            sync_byte, error, unit_start, priority, pid, scrambling, adaptation, counter,
+        ];
+        assert_eq!(rt; read, [0x47, 0, 1, 0, 0x123, 2, 1, 10]);
+        // 32 bits that touch five bytes
+        let bytes = [0x12, 0x34, 0x56, 0x78, 0x9A];
+        assert_eq!(rt; get::<4, 32>(&bytes), 0x2345_6789);
+    }
+
+    #[test]
+    fn a_header_is_written(rt: HostRuntime) {
+        // Each field among ones and among zeros: no other bit is changed.
+        let mut among_ones = [0xFF; 4];
+        fields! { &mut among_ones; pid: 11, 13 = 0x123; scrambling: 24, 2 = 2; }
+        assert_eq!(rt; among_ones, [0xFF, 0xE1, 0x23, 0xBF]);
+        let mut among_zeros = [0; 4];
+        fields! { &mut among_zeros; pid: 11, 13 = 0x1FFF; counter: 28, 4 = 10; }
+        assert_eq!(rt; among_zeros, [0x00, 0x1F, 0xFF, 0x0A]);
+        let mut five = [0xF0, 0, 0, 0, 0x0F];
+        set::<4, 32>(&mut five, 0x2345_6789);
+        assert_eq!(rt; five, [0xF2, 0x34, 0x56, 0x78, 0x9F]);
+        // What is written is read, and what is read may be written.
+        assert_eq!(rt; get_after_set::<9, 5>(&mut five, 21), 21);
+        let before = five;
+        set_of_get::<7, 13>(&mut five);
+        assert_eq!(rt; five, before);
+    }
+}

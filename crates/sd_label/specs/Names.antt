@@ -1,0 +1,30 @@
+-- What a receiver is given. Leaf u of a tree of height d has the node 2^d + u.
+use Rattle.std.specs.Prelude.{◌≡◌, ℕ, ◌≤◌, ◌+◌, ◌-◌, ◌/◌, ◌%◌, ◌^◌, ◌==◌, if◌then◌else◌, List, ◌∷◌, map}
+use Rattle.std.specs.List.{range_with_len, flat_map}
+use Rattle.sd_tree.specs.Node.{IsAbove, IsProperlyAbove}
+use Rattle.sd_label.specs.declared.name.Name.{Name}
+use Rattle.sd_label.specs.declared.name.Name.TheVariants.{Whole, Pair}
+
+-- the other child of the node's parent
+abbrev pub sibling_of : ℕ → ℕ
+sibling_of v = if v % 2 == 0 then v + 1 else v - 1
+
+-- the node at depth k on the path from the root to leaf u
+abbrev pub path_node : ℕ → ℕ → ℕ → ℕ
+path_node d u k = (2 ^ d + u) / 2 ^ (d - k)
+
+-- the pairs of leaf u's ancestor at depth a: with the sibling of each path node below it, from the highest down [Naor, Naor, Lotspiech 2001, 3.2]
+unfoldable pub given_under : ℕ → ℕ → ℕ → List Name
+given_under d u a = map (λ b. Pair (path_node d u a) (sibling_of (path_node d u b))) (range_with_len (a + 1) (d - a))
+
+-- what leaf u is given secrets of: the whole set, and the pairs of each of its ancestors, from the root down [Naor, Naor, Lotspiech 2001, 3.2]
+unfoldable pub given : ℕ → ℕ → List Name
+given d u = Whole ∷ flat_map (given_under d u) (range_with_len 0 d)
+
+-- the pair is of an ancestor i of a path node and of that node's sibling w [Naor, Naor, Lotspiech 2001, 3.2]
+pub record IsGivenPair (d u i w : ℕ) : Type 0 where
+  pub node : ℕ
+  pub inner : 1 ≤ i
+  pub ancestor : IsProperlyAbove i node
+  pub path : IsAbove node (2 ^ d + u)
+  pub hanging : w ≡ sibling_of node

@@ -1,0 +1,26 @@
+ghost use Rattle.std.specs.Prelude.{◌≡◌, ◌++◌, ◌∷◌, []};
+ghost use Rattle.std.specs.Int.{w32, to_be_bytes};
+ghost use Rattle.sha2.specs.Sha256.{sha256};
+
+use sha2::{Digest, Sha256};
+
+// The hash of the bytes and one byte that says what they are hashed for.
+pub fn tagged(bytes: &[u8; 32], tag: u8) -> [u8; 32]
+    ensures { result ≡ sha256 (bytes.now ++ tag ∷ []) }
+{
+    let mut hasher = Sha256::new();
+    hasher.update(bytes);
+    hasher.update(&[tag]);
+    hasher.finalize()
+}
+
+// The same with a number behind the byte.
+pub fn numbered(bytes: &[u8; 32], tag: u8, number: u32) -> [u8; 32]
+    ensures { result ≡ sha256 (bytes.now ++ tag ∷ to_be_bytes w32 number) }
+{
+    let mut hasher = Sha256::new();
+    hasher.update(bytes);
+    hasher.update(&[tag]);
+    hasher.update(&number.to_be_bytes());
+    hasher.finalize()
+}

@@ -1,0 +1,3 @@
+pub mod Headers
+pub mod Positions
+pub mod Packets

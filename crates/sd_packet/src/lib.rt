@@ -1,0 +1,11 @@
+//! Transport packets: their header, their payload, and the positions that their counters give.
+#![tactic(auto)]
+
+pub mod laws;
+mod packet;
+mod position;
+mod section;
+
+pub use packet::Packet;
+pub use position::{advance, is_positional};
+pub use section::pack_section;

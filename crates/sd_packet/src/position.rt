@@ -1,0 +1,46 @@
+ghost use Rattle.std.specs.Prelude.{◌≡◌, ◌^◌, ◌<◌};
+ghost use Rattle.sd_packet.specs.Positions.{is_positional as is_positional_pid, advanced, IsNext};
+
+/// Whether packets of the PID have positions.
+pub fn is_positional(pid: u16) -> bool
+    ensures { result ≡ is_positional_pid pid }
+{
+    (0x0020..=0x1FEF).contains(&pid)
+}
+
+/// The position that a packet with this counter leads to: the next number that equals the counter mod 16.
+#[tactic(auto, using(crate::proofs::Positions::advanced_is_next), unfolding(crate::specs::Positions::advanced))]
+pub fn advance(position: u64, counter: u8) -> u64
+    requires counter { counter < 16 }
+    requires position { position < 2 ^ 63 }
+    ensures value { result ≡ advanced position counter }
+    ensures next { IsNext position counter result }
+{
+    let next = position + 1;
+    next + u64::from(counter).wrapping_sub(next) % 16
+}
+
+#[cfg(test)]
+mod tests {
+    use super::*;
+
+    #[test]
+    fn counters_lead_to_positions(rt: HostRuntime) {
+        let mut position = 15;
+        for (counter, next) in [(14, 30), (15, 31), (0, 32), (0, 48)] {
+            assert!(rt; counter < 16 && position < 1 << 63);
+            position = advance(position, counter);
+            assert_eq!(rt; position, next);
+        }
+        for (pid, known) in [
+            (0x0000, false),
+            (0x001F, false),
+            (0x0020, true),
+            (0x1FEF, true),
+            (0x1FF0, false),
+            (0x1FFF, false),
+        ] {
+            assert_eq!(rt; is_positional(pid), known, "PID {pid}");
+        }
+    }
+}
