@@ -1,5 +1,15 @@
+pub mod Lists
+pub mod Names
 pub mod Ancestry
+pub mod Ends
 pub mod Paths
 pub mod Partitions
-pub mod Names
 pub mod Single
+pub mod Levels
+pub mod Steps
+pub mod Counts
+pub mod Walks
+pub mod Covers
+pub mod Cuts
+pub mod Added
+pub mod Sorting

@@ -1,28 +1,12 @@
 -- Ascending lists of names are told by their members.
-use Rattle.std.proofs.Common.{◌≡◌, ◌≢◌, ℕ, suc, zero, ◌⊎◌, inl, inr, List, [], ◌∷◌, Contains, arith, refl, sym, subst}
+use Rattle.std.proofs.Common.{◌≡◌, ◌≢◌, ℕ, suc, inl, inr, List, [], ◌∷◌, Contains, AllPairs, get_or, arith, refl, sym, subst}
 use Rattle.std.specs.declared.cmp.Ordering.TheVariants.{Less}
 use Rattle.std.proofs.lemmas.Bool.Decides.{nat_tests}
 use Rattle.sd_tree.specs.declared.set.SetName.{SetName}
 use Rattle.sd_tree.specs.declared.set.SetName.TheVariants.{Whole, Diff}
 use Rattle.sd_tree.specs.SetNames.{set_cmp, AreAscending}
 use Rattle.sd_steiner.specs.Chains.{IsChainCover}
-
--- a member of a list is its first element or one of the rest
-pub member_cases : {X : Type 0} (y : X) (ys : List X) (x : X) → Contains (y ∷ ys) x → (y ≡ x) ⊎ Contains ys x
-member_cases y ys x (zero, h, e) = inl e
-member_cases y ys x (suc k, h, e) = inr (k, omega arith, e)
-
--- the first element is a member
-pub member_first : {X : Type 0} (x : X) (xs : List X) → Contains (x ∷ xs) x
-member_first x xs = (0, omega arith, refl)
-
--- each of the rest is one
-pub member_later : {X : Type 0} (y : X) (ys : List X) (x : X) → Contains ys x → Contains (y ∷ ys) x
-member_later y ys x (k, h, e) = (suc k, omega arith, e)
-
--- an empty list has none
-pub no_member : {X : Type 0} (x : X) → Contains {X = X} [] x → ⊥
-no_member x (k, h, e) = omega arith
+use Rattle.sd_steiner.proofs.Lists.{member_cases, member_first, member_later, no_member}
 
 -- no name stands before itself, nor before one that stands before it
 not_both : (a b : SetName) → set_cmp a b ≡ Less → set_cmp b a ≡ Less → ⊥
@@ -39,11 +23,18 @@ first_before x xs a y (k, h, e) = subst (λ (z : SetName). set_cmp x z ≡ Less)
 rest_ascending : (x : SetName) (xs : List SetName) → AreAscending (x ∷ xs) → AreAscending xs
 rest_ascending x xs a i j d below within = a (suc i) (suc j) d (omega arith) (omega arith)
 
+-- in an ascending list none stands twice
+pub ascending_once : (sets : List SetName) → AreAscending sets → AllPairs (λ a b. a ≢ b) sets
+ascending_once sets a i j d below within same =
+    let less = a i j d below within in
+    let itself = subst (λ (x : SetName). set_cmp x (get_or sets j d) ≡ Less) same less in
+    not_both (get_or sets j d) (get_or sets j d) itself itself
+
 -- each name of b is in a
 abbrev HasAllOf : List SetName → List SetName → Type 0
 HasAllOf a b = (name : SetName) → Contains b name → Contains a name
 
--- two such lists begin alike
+-- two ascending lists with the same members begin alike
 same_first : (x y : SetName) (xs ys : List SetName) → AreAscending (x ∷ xs) → AreAscending (y ∷ ys) → HasAllOf (y ∷ ys) (x ∷ xs) → HasAllOf (x ∷ xs) (y ∷ ys) → y ≡ x
 same_first x y xs ys a b all back = elim (member_cases y ys x (all x (member_first x xs))) [
   | inl same ↦ same
@@ -53,7 +44,7 @@ same_first x y xs ys a b all back = elim (member_cases y ys x (all x (member_fir
   ]
 ]
 
--- what follows a first name that both have
+-- behind a first name that both have, what one has the other has
 rest_has : (x : SetName) (xs ys : List SetName) → AreAscending (x ∷ xs) → HasAllOf (x ∷ ys) (x ∷ xs) → HasAllOf ys xs
 rest_has x xs ys a all name m = elim (member_cases x ys name (all name (member_later x xs name m))) [
   | inl same ↦
@@ -64,7 +55,7 @@ rest_has x xs ys a all name m = elim (member_cases x ys name (all name (member_l
 ]
 
 -- two ascending lists with the same members are equal
-pub same_ascending : (a b : List SetName) → AreAscending a → AreAscending b → HasAllOf b a → HasAllOf a b → a ≡ b
+same_ascending : (a b : List SetName) → AreAscending a → AreAscending b → HasAllOf b a → HasAllOf a b → a ≡ b
 same_ascending [] [] a b all back = refl
 same_ascending [] (y ∷ ys) a b all back = absurd (no_member y (back y (member_first y ys)))
 same_ascending (x ∷ xs) [] a b all back = absurd (no_member x (all x (member_first x xs)))

@@ -1,5 +1,5 @@
 -- The leaves of the sets of a cover.
-use Rattle.std.proofs.Common.{◌≡◌, ℕ, cond, ◌+◌, ◌^◌, ◌<◌, true, false, not, ◌&&◌, ◌||◌, ◌≤◌, lt-ltb, nat_eq, List, [], ◌∷◌, length, arith, refl, ap, sym, ◌∙◌, eq-eqb, eqb-true}
+use Rattle.std.proofs.Common.{◌≡◌, ℕ, cond, ◌+◌, ◌^◌, ◌<◌, true, false, not, ◌&&◌, ◌||◌, lt-ltb, nat_eq, List, [], ◌∷◌, length, arith, refl, ap, sym, ◌∙◌, eq-eqb, eqb-true}
 use Rattle.std.specs.List.{list_any}
 use Rattle.std.proofs.lemmas.Map.Views.{any-filter_same}
 use Rattle.std.proofs.lemmas.List.Folds.{list_any_at}
@@ -10,7 +10,7 @@ use Rattle.sd_steiner.specs.Partition.{IsPartition, unrevoked}
 use Rattle.sd_steiner.proofs.Ancestry.{below_root, below_leaf}
 
 -- a leaf is among all leaves
-pub among_leaves : (d u : ℕ) → u < 2 ^ d → list_any (nat_eq u) (leaves d) ≡ true
+among_leaves : (d u : ℕ) → u < 2 ^ d → list_any (nat_eq u) (leaves d) ≡ true
 among_leaves d u h =
     let within : u < length (leaves d) = rw (length-range_with_len 0 (2 ^ d)) h in
     list_any_at (nat_eq u) (leaves d) u 0 within (eq-eqb u _ (rw (get_or-range_with_len 0 (2 ^ d) u 0 h) (omega arith)))
@@ -28,7 +28,7 @@ pub whole_alone : (d : ℕ) → IsPartition d (Whole ∷ []) (unrevoked d [])
 whole_alone d u h = rw (among_unrevoked d [] u h, lt-ltb u (2 ^ d) h) refl
 
 -- the set of the root and one leaf's node has all leaves but that one
-pub all_but_one : (d w : ℕ) → d ≤ 32 → w < 2 ^ d → IsPartition d (Diff 1 (2 ^ d + w) ∷ []) (unrevoked d (w ∷ []))
+pub all_but_one : (d w : ℕ) → d < 32 → w < 2 ^ d → IsPartition d (Diff 1 (2 ^ d + w) ∷ []) (unrevoked d (w ∷ []))
 all_but_one d w small within u h =
     rw (among_unrevoked d (w ∷ []) u h, lt-ltb u (2 ^ d) h, below_root d u h, below_leaf d w u small within)
     (elim (nat_eq u w) as (λ b. 0 + cond (not b) 1 0 ≡ cond (not (b || false)) 1 0) [ true ↦ refl | false ↦ refl ])

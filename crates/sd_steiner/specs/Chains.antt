@@ -6,10 +6,11 @@ use Rattle.sd_tree.specs.SetNames.{AreAscending}
 use Rattle.sd_tree.specs.declared.set.SetName.{SetName}
 use Rattle.sd_tree.specs.declared.set.SetName.TheVariants.{Whole, Diff}
 
--- a node of the Steiner tree T: it is at or above a revoked leaf's node
+-- a node of the Steiner tree T: it is at or above a revoked leaf's node [Naor, Naor, Lotspiech 2001, 3.2]
 abbrev pub IsInTree : ℕ → List ℕ → ℕ → Type 0
 IsInTree d revoked v = (1 ≤ v) × ((u : ℕ) × Contains revoked u × IsAbove v (2 ^ d + u))
 
+-- the other child of a node's parent
 abbrev pub sibling : ℕ → ℕ
 sibling v = if v % 2 == 0 then v + 1 else v - 1
 
@@ -22,15 +23,15 @@ HasOneChild d revoked v =
 abbrev pub HasTwoChildren : ℕ → List ℕ → ℕ → Type 0
 HasTwoChildren d revoked v = IsInTree d revoked (2 * v) × IsInTree d revoked (2 * v + 1)
 
--- where a chain may begin: at the root, or beside a sibling in T
+-- where a chain may begin: at the root, or beside a sibling in T [Naor, Naor, Lotspiech 2001, 3.2]
 abbrev pub IsChainHead : ℕ → List ℕ → ℕ → Type 0
 IsChainHead d revoked v = (v ≡ 1) ⊎ IsInTree d revoked (sibling v)
 
--- where it ends: at a revoked leaf's node, or above two children in T
+-- where a chain ends: at a revoked leaf's node, or above two children in T [Naor, Naor, Lotspiech 2001, 3.2]
 abbrev pub IsChainEnd : ℕ → List ℕ → ℕ → Type 0
 IsChainEnd d revoked v = ((u : ℕ) × Contains revoked u × (v ≡ 2 ^ d + u)) ⊎ HasTwoChildren d revoked v
 
--- nodes of T, each the child of the one before, of which each but the last has one child in T
+-- nodes of T, each the child of the one before, of which each but the last has one child in T and the last ends a chain
 abbrev pub AreLinked : ℕ → List ℕ → List ℕ → Type 0
 AreLinked d revoked [] = Unit {0}
 AreLinked d revoked (v ∷ []) = IsInTree d revoked v × IsChainEnd d revoked v
@@ -50,12 +51,12 @@ pub record EndsChain (d : ℕ) (revoked : List ℕ) (i j : ℕ) : Type 0 where
   pub linked : AreLinked d revoked (i ∷ nodes)
   pub last : last_of i nodes ≡ j
 
--- a set of the cover: S(i,j) for a chain of more than one node from i to j
+-- a set of the cover: S(i,j) for a chain of more than one node from i to j [Naor, Naor, Lotspiech 2001, 3.2]
 abbrev pub IsOfChain : ℕ → List ℕ → SetName → Type 0
 IsOfChain d revoked Whole = ⊥
 IsOfChain d revoked (Diff i j) = EndsChain d revoked i j
 
--- the cover, ascending: the whole set alone where no leaf is revoked, else a set for each chain of more than one node
+-- the cover, ascending: the whole set alone where no leaf is revoked, else a set for each chain of more than one node [Naor, Naor, Lotspiech 2001, 3.2]
 pub record IsChainCover (d : ℕ) (revoked : List ℕ) (sets : List SetName) : Type 0 where
   pub ascending : AreAscending sets
   pub none_revoked : revoked ≡ [] → sets ≡ Whole ∷ []

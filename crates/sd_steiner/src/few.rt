@@ -4,7 +4,7 @@ ghost use Rattle.sd_steiner.specs.Chains.{IsChainCover};
 
 use sd_tree::{Height, Leaf, SetName};
 
-/// The one set that is the cover where at most one leaf is revoked.
+/// The one set of the chain cover where at most one leaf is revoked [Naor, Naor, Lotspiech 2001, 3.2].
 pub fn cover_of_few(h: Height, revoked: Option<Leaf>) -> SetName
     requires { IfSome revoked (λ u. u < 2 ^ h) }
     ensures chains { IsChainCover h (option_to_list revoked) (result ∷ []) }

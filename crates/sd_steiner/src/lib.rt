@@ -3,6 +3,8 @@
 
 mod few;
 mod laws;
+mod walk;
 
 pub use few::cover_of_few;
-pub use laws::one_cover;
+pub use laws::{cover_is_small, cover_unites, one_cover};
+pub use walk::{CoverFault, MOST_REVOKED, cover};
