@@ -12,17 +12,17 @@ use Rattle.sd_book.specs.declared.fault.BookFault.TheVariants.{Limit}
 use Rattle.sd_book.specs.declared.fault.BookLimit.TheVariants.{Lines, Periods, Revoked}
 use Rattle.sd_book.specs.Commands.{is_within, is_period, last_period, revoked, revoked_after}
 use Rattle.sd_book.specs.Limits.{IsWithinLimits}
-use Rattle.sd_book.specs.Text.{command_of, SpellsBook, ◌>>=◌, in_tree, ended, period_fits, judged_line, judged, book_of}
+use Rattle.sd_book.specs.Text.{command_of, SpellsBook, ◌>>=◌, in_tree, ended, period_fits, command_fits, judged_line, judged, book_of}
 use Rattle.sd_book.proofs.Tallies.{period_more, tally_of_none}
 use Rattle.sd_book.proofs.Cuts.{period_none, period_period, period_append, until_behind, until_period, until_end}
 
 -- the value of a step that did not fail
-bind_ok : {A B : Type 0} (r : Result A BookFault) (f : A → Result B BookFault) (y : B) → (r >>= f) ≡ Ok y → (x : A) × (r ≡ Ok x) × (f x ≡ Ok y)
+pub bind_ok : {A B : Type 0} (r : Result A BookFault) (f : A → Result B BookFault) (y : B) → (r >>= f) ≡ Ok y → (x : A) × (r ≡ Ok x) × (f x ≡ Ok y)
 bind_ok (Ok x) f y e = (x, refl, e)
 bind_ok (Err d) f y e = absurd cc
 
 -- a test that did not fail
-guard_ok : {A : Type 0} (b : Bool) (d : BookFault) (r : Result A BookFault) (y : A) → cond b (Err d) r ≡ Ok y → (b ≡ false) × (r ≡ Ok y)
+pub guard_ok : {A : Type 0} (b : Bool) (d : BookFault) (r : Result A BookFault) (y : A) → cond b (Err d) r ≡ Ok y → (b ≡ false) × (r ≡ Ok y)
 guard_ok true d r y e = absurd cc
 guard_ok false d r y e = (refl, e)
 
@@ -33,9 +33,8 @@ pub record AreJudged (d : ℕ) (commands : List Command) : Type 0 where
   pub periods : last_period commands ≤ 1023
   pub few : (q : ℕ) → q < last_period commands → length (revoked d commands q) ≤ 4096
 
--- what a judged line says of its command and of what stands before it
-record IsJudged (d : ℕ) (before : List Command) (line : List ℕ) (command : Command) : Type 0 where
-  form : command_of line ≡ Some command
+-- what a command that fits says of what stands before it
+record IsJudged (d : ℕ) (before : List Command) (command : Command) : Type 0 where
   leaf : is_within d command ≡ true
   lines : length before < 1048576
   periods : is_period command ≡ true → last_period before < 1023
@@ -47,7 +46,7 @@ tree_ok d k None command e = absurd cc
 tree_ok d k (Some c) command e = grind (arith, common_steps)
 
 -- what the commands end with is few
-ended_ok : {A : Type 0} (d : ℕ) (commands : List Command) (value got : A) → ended d commands value ≡ Ok got → (length (revoked_after d commands) ≤ 4096) × (value ≡ got)
+pub ended_ok : {A : Type 0} (d : ℕ) (commands : List Command) (value got : A) → ended d commands value ≡ Ok got → (length (revoked_after d commands) ≤ 4096) × (value ≡ got)
 ended_ok d commands value got e =
     let g = guard_ok (nat_lt 4096 (length (revoked_after d commands))) (Limit (Revoked (last_period commands))) (Ok value) got e in
     (grind (arith, common_steps, g.0), cc)
@@ -61,20 +60,41 @@ fits_ok d before Period got e =
     let few = ended_ok d before Period got g.1 in
     (few.1, λ h. grind (arith, common_steps, g.0), λ h. few.0)
 
+-- what a command that fits says
+pub command_ok : (d : ℕ) (before : List Command) (command got : Command) → command_fits d before command ≡ Ok got → (length before < 1048576) × (period_fits d before command ≡ Ok got)
+command_ok d before command got e =
+    let g = guard_ok (nat_le 1048576 (length before)) (Limit Lines) (period_fits d before command) got e in
+    (grind (arith, common_steps, g.0), g.1)
+
+-- a command that fits is what is answered
+pub fits_same : (d : ℕ) (before : List Command) (command got : Command) → command_fits d before command ≡ Ok got → command ≡ got
+fits_same d before command got e = (fits_ok d before command got (command_ok d before command got e).1).0
+
+-- and of the commands before it
+newest_ok : (d : ℕ) (before : List Command) (command : Command) → is_within d command ≡ true → command_fits d before command ≡ Ok command → IsJudged d before command
+newest_ok d before command leaf e =
+    let parts = command_ok d before command command e in
+    let fits = fits_ok d before command command parts.1 in
+    record {
+      leaf = leaf;
+      lines = parts.0;
+      periods = fits.1;
+      few = fits.2;
+    }
+
+-- a command within the limits on lines and on periods fits
+both_fit : (d : ℕ) (before : List Command) (command got : Command) → nat_le 1048576 (length before) ≡ false → period_fits d before command ≡ Ok got → command_fits d before command ≡ Ok got
+both_fit d before command got long fits = rw long fits
+
 -- what a judged line says
-line_ok : (d : ℕ) (before : List Command) (line : List ℕ) (command : Command) → judged_line d before line ≡ Ok command → IsJudged d before line command
+line_ok : (d : ℕ) (before : List Command) (line : List ℕ) (command : Command) → judged_line d before line ≡ Ok command → (command_of line ≡ Some command) × (is_within d command ≡ true) × (command_fits d before command ≡ Ok command)
 line_ok d before line command e =
     let g = guard_ok (nat_le 1048576 (length before)) (Limit Lines) (in_tree d (length before + 1) (command_of line) >>= λ c. period_fits d before c) command e in
     let t = bind_ok (in_tree d (length before + 1) (command_of line)) (λ c. period_fits d before c) command g.1 in
     let form = tree_ok d (length before + 1) (command_of line) t.0 t.1 in
     let fits = fits_ok d before t.0 command t.2 in
-    subst (λ (c : Command). IsJudged d before line c) fits.0 (record {
-      form = form.0;
-      leaf = form.1;
-      lines = grind (arith, common_steps, g.0);
-      periods = fits.1;
-      few = fits.2;
-    })
+    let fitted : command_fits d before t.0 ≡ Ok command = both_fit d before t.0 command g.0 t.2 in
+    subst (λ (c : Command). (command_of line ≡ Some c) × (is_within d c ≡ true) × (command_fits d before c ≡ Ok command)) fits.0 (form.0, form.1, fitted)
 
 -- no command was judged
 pub judged_none : (d : ℕ) → AreJudged d []
@@ -86,14 +106,14 @@ judged_none d = record {
 }
 
 -- a period that ended before the newest command, or by it
-few_more : (d : ℕ) (before : List Command) (line : List ℕ) (command : Command) → AreJudged d before → IsJudged d before line command → (q : ℕ) → q < last_period (before ++ command ∷ []) → length (revoked d (before ++ command ∷ []) q) ≤ 4096
-few_more d before line (Subscribe u) all newest q h =
+few_more : (d : ℕ) (before : List Command) (command : Command) → AreJudged d before → IsJudged d before command → (q : ℕ) → q < last_period (before ++ command ∷ []) → length (revoked d (before ++ command ∷ []) q) ≤ 4096
+few_more d before (Subscribe u) all newest q h =
     let lt : q < last_period before = grind (arith, common_steps, period_more before (Subscribe u)) in
     rw (until_behind q before (Subscribe u ∷ []) lt) (all.few q lt)
-few_more d before line (Revoke u) all newest q h =
+few_more d before (Revoke u) all newest q h =
     let lt : q < last_period before = grind (arith, common_steps, period_more before (Revoke u)) in
     rw (until_behind q before (Revoke u ∷ []) lt) (all.few q lt)
-few_more d before line Period all newest q h =
+few_more d before Period all newest q h =
     elim (cases_lt q (last_period before)) [
       | inl lt ↦ rw (until_behind q before (Period ∷ []) lt) (all.few q lt)
       | inr le ↦
@@ -102,24 +122,30 @@ few_more d before line Period all newest q h =
     ]
 
 -- the newest period
-periods_more : (d : ℕ) (before : List Command) (line : List ℕ) (command : Command) → AreJudged d before → IsJudged d before line command → last_period (before ++ command ∷ []) ≤ 1023
-periods_more d before line (Subscribe u) all newest = grind (arith, common_steps, period_more before (Subscribe u), all.periods)
-periods_more d before line (Revoke u) all newest = grind (arith, common_steps, period_more before (Revoke u), all.periods)
-periods_more d before line Period all newest = grind (arith, common_steps, period_more before Period, newest.periods refl)
+periods_more : (d : ℕ) (before : List Command) (command : Command) → AreJudged d before → IsJudged d before command → last_period (before ++ command ∷ []) ≤ 1023
+periods_more d before (Subscribe u) all newest = grind (arith, common_steps, period_more before (Subscribe u), all.periods)
+periods_more d before (Revoke u) all newest = grind (arith, common_steps, period_more before (Revoke u), all.periods)
+periods_more d before Period all newest = grind (arith, common_steps, period_more before Period, newest.periods refl)
+
+-- with a command that fits they are judged
+pub judged_one_more : (d : ℕ) (before : List Command) (command : Command) → AreJudged d before → is_within d command ≡ true → command_fits d before command ≡ Ok command → AreJudged d (before ++ command ∷ [])
+judged_one_more d before command all leaf e =
+    let newest = newest_ok d before command leaf e in
+    record {
+      within = All-push (λ c. is_within d c ≡ true) before command all.within leaf;
+      lines = omega (arith, length-append before (command ∷ []), newest.lines);
+      periods = periods_more d before command all newest;
+      few = few_more d before command all newest;
+    }
 
 -- with the command of a judged line they are judged
 pub judged_more : (d : ℕ) (before : List Command) (line : List ℕ) (command : Command) → AreJudged d before → judged_line d before line ≡ Ok command → AreJudged d (before ++ command ∷ [])
 judged_more d before line command all e =
     let newest = line_ok d before line command e in
-    record {
-      within = All-push (λ c. is_within d c ≡ true) before command all.within newest.leaf;
-      lines = omega (arith, length-append before (command ∷ []), newest.lines);
-      periods = periods_more d before line command all newest;
-      few = few_more d before line command all newest;
-    }
+    judged_one_more d before command all newest.1 newest.2
 
 -- judged commands that end with few revoked leaves are within the limits
-within_at_end : (d : ℕ) (commands : List Command) → AreJudged d commands → length (revoked_after d commands) ≤ 4096 → IsWithinLimits d commands
+pub within_at_end : (d : ℕ) (commands : List Command) → AreJudged d commands → length (revoked_after d commands) ≤ 4096 → IsWithinLimits d commands
 within_at_end d commands all few = record {
   leaves = all.within;
   lines = all.lines;
@@ -145,7 +171,7 @@ spelled_judged d before [] commands e =
     ([], sym (ended_ok d before before commands e).1 ∙ sym (append-nil before), refl)
 spelled_judged d before (line ∷ lines) commands e =
     let step = bind_ok (judged_line d before line) (λ command. judged d (before ++ command ∷ []) lines) commands e in
-    let form = (line_ok d before line step.0 step.1).form in
+    let form = (line_ok d before line step.0 step.1).0 in
     let rest = spelled_judged d (before ++ step.0 ∷ []) lines commands step.2 in
     let spelled : map command_of lines ≡ map Some rest.0 = rest.2 in
     (step.0 ∷ rest.0, rest.1 ∙ append_assoc before (step.0 ∷ []) rest.0, cc)
@@ -177,16 +203,21 @@ fits_again d before Period more all =
     let ends : nat_lt 4096 (length (revoked_after d before)) ≡ false = grind (arith, common_steps) in
     rw fits (rw ends refl)
 
--- the line of a command within the limits gives it
-line_again : (d : ℕ) (before : List Command) (line : List ℕ) (command : Command) (more : List Command) → IsWithinLimits d (before ++ command ∷ more) → command_of line ≡ Some command → judged_line d before line ≡ Ok command
-line_again d before line command more all form =
+-- and breaks no limit
+pub command_again : (d : ℕ) (before : List Command) (command : Command) (more : List Command) → IsWithinLimits d (before ++ command ∷ more) → command_fits d before command ≡ Ok command
+command_again d before command more all =
     let long : nat_le 1048576 (length before) ≡ false = grind (arith, common_steps, all.lines, length-append before (command ∷ more)) in
+    rw long (fits_again d before command more all)
+
+-- the line of a command within the limits gives it
+pub line_again : (d : ℕ) (before : List Command) (line : List ℕ) (command : Command) (more : List Command) → IsWithinLimits d (before ++ command ∷ more) → command_of line ≡ Some command → judged_line d before line ≡ Ok command
+line_again d before line command more all form =
     let rest : All (λ c. is_within d c ≡ true) (command ∷ more) = All-same (λ c. is_within d c ≡ true) _ _ (sym (drop_at before (command ∷ more) (length before) refl)) (All-drop (λ c. is_within d c ≡ true) (length before) (before ++ command ∷ more) all.leaves) in
     let leaf : is_within d command ≡ true = All-head (λ c. is_within d c ≡ true) command more rest in
-    rw (long, form, leaf) (fits_again d before command more all)
+    rw (form, leaf) (command_again d before command more all)
 
 -- commands that end within the limits
-end_again : (d : ℕ) (commands : List Command) → IsWithinLimits d commands → ended d commands commands ≡ Ok commands
+pub end_again : (d : ℕ) (commands : List Command) → IsWithinLimits d commands → ended d commands commands ≡ Ok commands
 end_again d commands all =
     let few : length (revoked_after d commands) ≤ 4096 = rw (until_end (last_period commands) commands (omega arith)) at (all.revoked (last_period commands) (omega arith)) in
     let ends : nat_lt 4096 (length (revoked_after d commands)) ≡ false = grind (arith, common_steps) in

@@ -1,4 +1,6 @@
 pub mod Cuts
 pub mod Judged
+pub mod Longer
 pub mod Revocations
 pub mod Tallies
+pub mod Written

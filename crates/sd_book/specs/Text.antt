@@ -1,11 +1,14 @@
 -- The book file: one command a line [this project, docs/FORMATS.md, Book].
 use Rattle.std.specs.Prelude.{◌≡◌, ℕ, ◌+◌, nat_lt, nat_le, List, [], ◌∷◌, ◌++◌, map, length, codes, bytes_eq, if◌then◌else◌, Option, Some, None, Result, Ok, Err, option_map}
+use Rattle.std.specs.Fmt.{decimal}
+use Rattle.std.specs.List.{flat_map}
 use Rattle.sd_text.specs.Lines.{lines_of}
 use Rattle.sd_text.specs.Number.{number_behind}
 use Rattle.sd_book.specs.declared.command.Command.{Command}
 use Rattle.sd_book.specs.declared.command.Command.TheVariants.{Subscribe, Revoke, Period}
 use Rattle.sd_book.specs.declared.fault.BookFault.{BookFault}
 use Rattle.sd_book.specs.declared.fault.BookFault.TheVariants.{Line, Leaf, Limit}
+use Rattle.sd_book.specs.declared.fault.BookLimit.{BookLimit}
 use Rattle.sd_book.specs.declared.fault.BookLimit.TheVariants.{Lines, Periods, Revoked}
 use Rattle.sd_book.specs.Commands.{is_within, is_period, last_period, revoked_after}
 
@@ -44,6 +47,11 @@ abbrev pub period_fits : ℕ → List Command → Command → Result Command Boo
 period_fits d before command =
     if is_period command then (if nat_le 1023 (last_period before) then Err (Limit Periods) else ended d before command) else Ok command
 
+-- a command behind those commands, or the limit that it breaks: the number of lines comes first, and then the limits on periods
+-- [this project, docs/FORMATS.md, Book]
+abbrev pub command_fits : ℕ → List Command → Command → Result Command BookFault
+command_fits d before command = if nat_le 1048576 (length before) then Err (Limit Lines) else period_fits d before command
+
 -- The command on a line behind those commands, or what is wrong with it. On one line the number of lines comes first, and then the
 -- form, the leaf and the limits on periods [this project, docs/FORMATS.md, Book]
 abbrev pub judged_line : ℕ → List Command → List ℕ → Result Command BookFault
@@ -55,6 +63,25 @@ judged_line d before line =
 abbrev pub judged : ℕ → List Command → List (List ℕ) → Result (List Command) BookFault
 judged d before [] = ended d before before
 judged d before (line ∷ lines) = judged_line d before line >>= λ command. judged d (before ++ command ∷ []) lines
+
+-- the commands with more behind them, or the limit that a text of them breaks first [this project, docs/FORMATS.md, Book]
+abbrev pub appended : ℕ → List Command → List Command → Result (List Command) BookFault
+appended d before [] = ended d before before
+appended d before (command ∷ more) = command_fits d before command >>= λ fitting. appended d (before ++ fitting ∷ []) more
+
+-- the fault is a broken limit
+abbrev pub IsLimit : BookFault → Type 0
+IsLimit fault = (limit : BookLimit) × (fault ≡ Limit limit)
+
+-- the line that says a command [this project, docs/FORMATS.md, Book]
+unfoldable pub line_of : Command → List ℕ
+line_of (Subscribe u) = codes "subscribe " ++ decimal u
+line_of (Revoke u) = codes "revoke " ++ decimal u
+line_of Period = codes "period"
+
+-- the book file of these commands, a line feed behind each line [this project, docs/FORMATS.md, Book]
+unfoldable pub text_of : List Command → List ℕ
+text_of commands = flat_map (λ command. line_of command ++ 10 ∷ []) commands
 
 -- the commands of a book file for a tree of height d, or its first fault
 unfoldable pub book_of : ℕ → List ℕ → Result (List Command) BookFault

@@ -1,16 +1,18 @@
-ghost use Rattle.std.specs.Prelude.{◌≡◌, ◌⊎◌, ◌<◌, ◌≤◌, ◌^◌, [], List, All, length, Ok, Err, IfOk, MatchResult};
+ghost use Rattle.std.specs.Prelude.{◌≡◌, ◌⊎◌, ◌<◌, ◌≤◌, ◌^◌, ◌++◌, [], true, List, All, length, Ok, Err, IfOk, IfErr, OnOk, OnErr, MatchResult};
 ghost use Rattle.std.specs.List.Sorted.{IsStrictlyIncreasing};
 ghost use Rattle.sd_text.specs.Lines.{lines_of};
 ghost use Rattle.sd_book.specs.declared.command.Command.{Command as Commands};
-ghost use Rattle.sd_book.specs.Commands.{last_period as last_of, revoked as revoked_in};
+ghost use Rattle.sd_book.specs.Commands.{is_within, last_period as last_of, revoked as revoked_in};
 ghost use Rattle.sd_book.specs.Limits.{IsWithinLimits};
-ghost use Rattle.sd_book.specs.Text.{SpellsBook, book_of};
+ghost use Rattle.sd_book.specs.Text.{SpellsBook, IsLimit, appended, book_of, text_of};
 
+use crate::appending::fits_behind;
 use crate::command::Command;
 use crate::fault::BookFault;
 use crate::periods::{last_period, until};
 use crate::reading::commands_of;
 use crate::tally::revoked_after;
+use crate::writing::text_of;
 use sd_ports::NoMemory;
 use sd_tree::{Height, Leaf};
 use std::alloc::Global;
@@ -28,11 +30,12 @@ impl Model for Book {
 
     ghost Value = { BookValue };
 
+    ghost use Rattle.std.specs.Prelude.{◌≤◌};
     ghost use Rattle.sd_book.specs.Limits.{IsWithinLimits};
 
     ghost view = { λ book. record { height = book.height; commands = book.list.items } };
 
-    ghost invariant = { λ book. IsWithinLimits book.height book.list.items };
+    ghost invariant = { λ book. (book.height ≤ 20) × IsWithinLimits book.height book.list.items };
 }
 
 impl Book {
@@ -69,6 +72,29 @@ impl Book {
         Ok(Book { height: h, list })
     }
 
+    /// Appends these commands, all or none.
+    ///
+    /// The one fault beside `NoMemory` is the limit that a file of the longer book would break first.
+    #[tactic(auto, using(crate::proofs::Longer::longer_within, crate::proofs::Longer::appended_again, crate::proofs::Longer::limits_alone))]
+    pub fn apply(&mut self, commands: &[Command]) -> Result<(), BookFault>
+        requires leaves { All (λ command. is_within self.old.height command ≡ true) commands.now }
+        ensures height { self.new.height ≡ self.old.height }
+        ensures commands { OnOk result (self.new.commands ≡ self.old.commands ++ commands.now) }
+        ensures unchanged { OnErr result (self.new ≡ self.old) }
+        // What is within the limits is appended.
+        ensures only { IsWithinLimits self.old.height (self.old.commands ++ commands.now) →
+            IfErr result (λ fault. fault ≡ BookFault.NoMemory) }
+        // Which limit it is.
+        ensures exact { MatchResult result (λ _. appended self.old.height self.old.commands commands.now ≡ Ok (self.old.commands ++ commands.now))
+            (λ fault. (fault ≡ BookFault.NoMemory) ⊎ (appended self.old.height self.old.commands commands.now ≡ Err fault)) }
+        ensures limit { IfErr result (λ fault. (fault ≡ BookFault.NoMemory) ⊎ IsLimit fault) }
+    {
+        let alloc = *self.list.allocator();
+        fits_behind(alloc, self.height, &self.list, commands)?;
+        self.list.extend_from_slice(commands)?;
+        Ok(())
+    }
+
     /// The commands, in their order.
     pub fn commands(&self) -> &[Command]
         ensures value { result.now ≡ self.now.commands }
@@ -102,5 +128,15 @@ impl Book {
         ensures ascending { IfOk result (λ leaves. IsStrictlyIncreasing leaves.items) }
     {
         revoked_after(alloc, self.height, until(&self.list, q)).map_err(|_| NoMemory)
+    }
+
+    /// The file of the book: a line for each command, and a line feed behind each.
+    #[tactic(auto, using(crate::proofs::Written::read_again))]
+    pub fn write(&self, alloc: Global) -> Result<Vec<u8>, NoMemory>
+        ensures value { IfOk result (λ text. text.items ≡ text_of self.now.commands) }
+        // It is read again.
+        ensures again { book_of self.now.height (text_of self.now.commands) ≡ Ok self.now.commands }
+    {
+        text_of(alloc, &self.list).map_err(|_| NoMemory)
     }
 }

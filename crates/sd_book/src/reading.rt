@@ -3,14 +3,12 @@ ghost use Rattle.sd_book.specs.Tally.{IsTally};
 ghost use Rattle.sd_book.specs.Text.{book_of, command_of, in_tree, judged_line};
 
 use crate::command::Command;
-use crate::fault::{BookFault, BookLimit};
+use crate::fault::BookFault;
 use crate::line::{LineFault, command_on};
-use crate::tally::Tally;
+use crate::tally::{Tally, line_fits};
 use sd_text::next_line;
 use sd_tree::Height;
 use std::alloc::Global;
-
-const MOST_COMMANDS: usize = 1_048_576;
 
 /// The commands of a book's text.
 #[tactic(auto, using(crate::proofs::Judged::judged_none, crate::proofs::Judged::judged_more), unfolding(crate::specs::Text::book_of))]
@@ -41,13 +39,9 @@ fn judged_line(
     requires { IsTally h before.now tally.now.marks.items tally.now.revoked tally.now.period }
     ensures { result ≡ judged_line h before.now line.now }
 {
-    if before.len() >= MOST_COMMANDS {
-        return Err(BookFault::Limit(BookLimit::Lines));
-    }
+    line_fits(before.len())?;
     let command = in_tree(line, h, before.len() as u32 + 1)?;
-    if command == Command::Period {
-        tally.period_fits()?;
-    }
+    tally.follows(&command)?;
     Ok(command)
 }
 

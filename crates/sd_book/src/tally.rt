@@ -1,12 +1,14 @@
-ghost use Rattle.std.specs.Prelude.{◌≡◌, ◌<◌, ◌≤◌, ◌^◌, ℕ, true, [], ◌∷◌, ◌++◌, List, All, IfOk, slice_set, vec_len, count_by};
+ghost use Rattle.std.specs.Prelude.{◌≡◌, ◌<◌, ◌≤◌, ◌^◌, ℕ, true, [], ◌∷◌, ◌++◌, List, All, IfOk, slice_set, vec_len, count_by, nat_le, if◌then◌else◌, Ok, Err};
 ghost use Rattle.sd_book.specs.declared.command.Command.{Command as Commands};
-ghost use Rattle.sd_book.specs.Commands.{is_within, last_period, revoked_after};
+ghost use Rattle.sd_book.specs.Commands.{is_period, is_within, last_period, revoked_after};
 ghost use Rattle.sd_book.specs.Tally.{IsTally, marked_from, limited, followed};
 
 use crate::command::Command;
 use crate::fault::{BookFault, BookLimit};
 use sd_tree::{Height, Leaf};
 use std::alloc::{AllocError, Global};
+
+const MOST_COMMANDS: usize = 1_048_576;
 
 const MOST_PERIODS: u32 = 1023;
 
@@ -37,6 +39,21 @@ impl Tally {
             revoked: 0,
             period: 0,
         })
+    }
+
+    /// The tally of these commands.
+    #[tactic(auto, using(crate::proofs::Cuts::period_front))]
+    pub(crate) fn of(alloc: Global, h: Height, commands: &[Command]) -> Result<Tally, AllocError>
+        requires leaves { All (λ command. is_within h command ≡ true) commands.now }
+        requires periods { last_period commands.now ≤ 1023 }
+        ensures height { IfOk result (λ tally. tally.height ≡ h) }
+        ensures tally { IfOk result (λ tally. IsTally h commands.now tally.marks.items tally.revoked tally.period) }
+    {
+        let mut tally = Tally::new(alloc, h)?;
+        for command in commands {
+            tally.take(command);
+        }
+        Ok(tally)
     }
 
     /// Takes one more command.
@@ -78,6 +95,16 @@ impl Tally {
         self.ended()
     }
 
+    /// Whether this command may come next.
+    pub(crate) fn follows(&self, command: &Command) -> Result<(), BookFault>
+        ensures { result ≡ (if is_period command.now then followed self.now.revoked self.now.period else Ok tt) }
+    {
+        if *command == Command::Period {
+            self.period_fits()?;
+        }
+        Ok(())
+    }
+
     /// Whether the period may end here.
     pub(crate) fn ended(&self) -> Result<(), BookFault>
         ensures { result ≡ limited self.now.revoked self.now.period }
@@ -103,8 +130,18 @@ impl Tally {
     }
 }
 
+/// Whether a line may stand behind this number of lines.
+pub(crate) fn line_fits(count: usize) -> Result<(), BookFault>
+    ensures { result ≡ (if nat_le 1048576 count then Err (BookFault.Limit BookLimit.Lines) else Ok tt) }
+{
+    if count >= MOST_COMMANDS {
+        return Err(BookFault::Limit(BookLimit::Lines));
+    }
+    Ok(())
+}
+
 /// The leaves that are revoked after these commands, ascending.
-#[tactic(auto, using(crate::proofs::Cuts::period_front, crate::proofs::Tallies::tally_leaves))]
+#[tactic(auto, using(crate::proofs::Tallies::tally_leaves))]
 pub(crate) fn revoked_after(
     alloc: Global,
     h: Height,
@@ -114,9 +151,5 @@ pub(crate) fn revoked_after(
     requires periods { last_period commands.now ≤ 1023 }
     ensures { IfOk result (λ leaves. leaves.items ≡ revoked_after h commands.now) }
 {
-    let mut tally = Tally::new(alloc, h)?;
-    for command in commands {
-        tally.take(command);
-    }
-    tally.leaves(alloc)
+    Tally::of(alloc, h, commands)?.leaves(alloc)
 }

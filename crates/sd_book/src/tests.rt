@@ -113,3 +113,32 @@ fn limits(rt: HostRuntime) -> Result<(), Fail> {
     }
     Ok(())
 }
+
+#[test]
+fn longer_books(rt: HostRuntime) -> Result<(), Fail> {
+    let alloc = rt.alloc();
+    let h = height(3)?;
+    let five = Leaf::new(h, 5).ok_or("a leaf")?;
+    let mut book = Book::new(alloc, h);
+    assert_eq!(rt; book.write(alloc)?.as_slice(), b"".as_slice());
+    assert_eq!(rt; book.apply(&[Command::Revoke(five)]), Ok(()));
+    assert_eq!(rt;
+        book.apply(&[Command::Period, Command::Subscribe(five)]),
+        Ok(())
+    );
+    let text = book.write(alloc)?;
+    assert_eq!(rt;
+        text.as_slice(),
+        b"revoke 5\nperiod\nsubscribe 5\n".as_slice()
+    );
+    let again = Book::read(alloc, &text, h).ok().ok_or("a book")?;
+    assert_eq!(rt; again.commands(), book.commands());
+    assert_eq!(rt; again.commands().len(), 3);
+    let too_many = vec![in alloc; Command::Period; 1023]?;
+    assert_eq!(rt;
+        book.apply(&too_many),
+        Err(BookFault::Limit(BookLimit::Periods))
+    );
+    assert_eq!(rt; book.commands(), again.commands());
+    Ok(())
+}

@@ -1,2 +1,4 @@
+pub mod Numbers
+pub mod Outlets
 pub mod Portions
 pub mod Shelves

@@ -1,10 +1,10 @@
 -- What was written or read in portions is what was written or read in one.
-use Rattle.std.proofs.Common.{◌≡◌, ℕ, ◌+◌, ◌-◌, List, ◌++◌, length, take, drop, arith, subst, append-nil, sym, ◌∙◌, ap, length-drop}
-use Rattle.std.proofs.lemmas.List.{take_all, take-append-drop}
+use Rattle.std.proofs.Common.{◌≡◌, ◌≤◌, ℕ, ◌+◌, ◌-◌, List, ◌++◌, length, take, drop, arith, subst, append-nil, sym, ◌∙◌, ap, length-drop}
+use Rattle.std.proofs.lemmas.List.{take_all, take-append-drop, drop-append-le, drop-drop}
 use Rattle.std.proofs.Math.Seq.{take-add}
 use Rattle.std.specs.Prelude.{Option, None, Some}
-use Rattle.std.specs.Io.KnownBytes.{Appends, Consumes, Keeps}
-use Rattle.std.proofs.KnownBytes.{Appends-trans, Appends-kept, Consumes-trans, Keeps-trans}
+use Rattle.std.specs.Io.KnownBytes.{Appends, Consumes, Keeps, append_known}
+use Rattle.std.proofs.KnownBytes.{Appends-trans, Appends-kept, Consumes-trans, Keeps-refl, Keeps-trans, append_known-grown, append_known-moved}
 use Rattle.sd_ports.specs.Bytes.{AppendsFront, LosesFront}
 
 -- the next `more` bytes were written behind the first `done`
@@ -45,3 +45,19 @@ pub kept_none : (a b : Option (List ℕ)) (bs : List ℕ) → Appends a b (take 
 kept_none None b bs p = tt
 kept_none (Some x) None bs p = absurd p
 kept_none (Some x) (Some y) bs p = p ∙ append-nil x
+
+-- what stands stays
+pub kept_same : (a : Option (List ℕ)) → Keeps a a
+kept_same a = Keeps-refl a
+
+-- a writer took the next `more` bytes of what waited behind the first `done`
+pub kept_moved : (a b c : Option (List ℕ)) (xs bs : List ℕ) (done more : ℕ) → xs ≡ bs → Keeps a (append_known b (drop done bs)) → Appends b c (take more (take (length xs - done) (drop done xs))) → Keeps a (append_known c (drop (done + more) bs))
+kept_moved a b c xs bs done more e p q =
+    let all : take (length xs - done) (drop done xs) ≡ drop done xs = take_all _ _ (omega (arith, length-drop done xs)) in
+    let moved : Appends b c (take more (drop done bs)) = subst (λ (ys : List ℕ). Appends b c (take more ys)) (all ∙ ap (drop done) e) q in
+    let halves : drop done bs ≡ take more (drop done bs) ++ drop (done + more) bs = sym (take-append-drop more (drop done bs)) ∙ ap (λ (r : List ℕ). take more (drop done bs) ++ r) (drop-drop more done bs) in
+    Keeps-trans a _ _ p (append_known-moved b c _ _ _ moved halves)
+
+-- more bytes wait behind those that wait behind the first `done`
+pub kept_grown : (a b : Option (List ℕ)) (old new more : List ℕ) (done : ℕ) → Keeps a (append_known b (drop done old)) → done ≤ length old → new ≡ old ++ more → Appends a (append_known b (drop done new)) more
+kept_grown a b old new more done p h e = append_known-grown a b (drop done old) (drop done new) more p (ap (drop done) e ∙ drop-append-le done old more h)

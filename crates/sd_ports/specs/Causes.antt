@@ -1,5 +1,5 @@
-use Rattle.std.specs.Prelude.{◌≡◌, ℕ, ◌≤◌, Result, IsErrOf}
-use Rattle.sd_cause.specs.Count.{Rose}
+use Rattle.std.specs.Prelude.{◌≡◌, ℕ, ◌≤◌, Result, OnOk, OnErr, IsErrOf}
+use Rattle.sd_cause.specs.Count.{Rose, with_added}
 use Rattle.sd_ports.specs.declared.fault.DepotFault.{DepotFault}
 use Rattle.sd_ports.specs.declared.fault.DepotFault.TheVariants.{Missing, Failed}
 use Rattle.sd_ports.specs.declared.file.FileFault.{FileFault}
@@ -14,7 +14,7 @@ pub record HasDepotCause {T : Type 0} (faults_before faults_now misses_before mi
   pub no_miss : ¬ IsErrOf result Missing → misses_now ≡ misses_before
   pub no_fault : ¬ IsErrOf result Failed → faults_now ≡ faults_before
 
--- Why a whole file wasn't read: `Missing` where the depot's misses rose, `Failed` where its faults rose. Else they stand as before.
+-- Why a whole file wasn't read or written: `Missing` where the depot's misses rose, `Failed` where its faults rose. Else they stand as before.
 pub record HasFileCause {T : Type 0} (faults_before faults_now misses_before misses_now : ℕ) (result : Result T FileFault) : Type 0 where
   pub faults_later : faults_before ≤ faults_now
   pub misses_later : misses_before ≤ misses_now
@@ -22,3 +22,9 @@ pub record HasFileCause {T : Type 0} (faults_before faults_now misses_before mis
   pub failed : IsErrOf result file.Failed → Rose faults_before faults_now
   pub no_miss : ¬ IsErrOf result file.Missing → misses_now ≡ misses_before
   pub no_fault : ¬ IsErrOf result file.Failed → faults_now ≡ faults_before
+
+-- The count of the ports that were made rises by one with each port, up to its last value, and stands where none is given.
+pub record CountsMade {T E : Type 0} (made_before made_now : ℕ) (result : Result T E) : Type 0 where
+  pub later : made_before ≤ made_now
+  pub given : OnOk result (made_now ≡ with_added made_before 1)
+  pub refused : OnErr result (made_now ≡ made_before)

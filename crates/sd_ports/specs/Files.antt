@@ -1,7 +1,11 @@
-use Rattle.std.specs.Prelude.{◌≡◌, ℕ, ◌<◌, List, length, Option, None, Some, IsSome, IfSome}
+use Rattle.std.specs.Prelude.{◌≡◌, ℕ, ◌<◌, ◌≤◌, ◌⊎◌, List, [], length, Option, None, Some, IsSome, IfSome, Result, OnOk, IsErrOf}
 use Rattle.std.specs.Ordering.{nat_cmp}
 use Rattle.std.specs.Cmp.Lexicographic.{slice_cmp}
-use Rattle.std.specs.FinMap.{FinMap, get}
+use Rattle.std.specs.FinMap.{FinMap, get, insert}
+use Rattle.sd_cause.specs.Count.{with_added}
+use Rattle.sd_ports.specs.Bytes.{IsFront}
+use Rattle.sd_ports.specs.declared.file.FileFault.{FileFault}
+use Rattle.sd_ports.specs.declared.file.FileFault.TheVariants.{Missing, TooBig, Failed, NoMemory}
 
 -- files by their names, each name once
 abbrev pub Files : Type 0
@@ -26,3 +30,53 @@ IsFile (Some files) name bytes = get files name ≡ Some bytes
 abbrev pub IsLongFile : Option Files → List ℕ → ℕ → Type 0
 IsLongFile None name most = Unit {0}
 IsLongFile (Some files) name most = IsSome (get files name) × IfSome (get files name) (λ bytes. most < length bytes)
+
+-- a file has the name, where files are told
+abbrev pub IsThere : Option Files → List ℕ → Type 0
+IsThere None name = Unit {0}
+IsThere (Some files) name = IsSome (get files name)
+
+-- the files, where they are told, once a file of that name has these bytes: the other files stay
+abbrev pub with_bytes : Option Files → List ℕ → List ℕ → Option Files
+with_bytes None name bytes = None
+with_bytes (Some files) name bytes = Some (insert files name bytes)
+
+-- a port took nothing so far, and tells what it takes where files are told
+abbrev pub IsFresh : Option Files → Option (List ℕ) → Type 0
+IsFresh None None = Unit {0}
+IsFresh None (Some held) = held ≡ []
+IsFresh (Some files) held = held ≡ Some []
+
+-- the file of that name has what its port held, where files are told, and the other files stay
+abbrev pub Closes : Option Files → Option Files → List ℕ → Option (List ℕ) → Type 0
+Closes None now name held = now ≡ None
+Closes (Some files) now name None = (bytes : List ℕ) × (now ≡ Some (insert files name bytes))
+Closes (Some files) now name (Some held) = now ≡ Some (insert files name held)
+
+-- the file of that name has a front of what its port held, where files are told, and the other files stay
+abbrev pub LeavesFront : Option Files → Option Files → List ℕ → Option (List ℕ) → Type 0
+LeavesFront None now name held = now ≡ None
+LeavesFront (Some files) now name None = (bytes : List ℕ) × (now ≡ Some (insert files name bytes))
+LeavesFront (Some files) now name (Some held) = (front : List ℕ) × IsFront front held × (now ≡ Some (insert files name front))
+
+-- the file was made with these bytes: the other files stay, and the count of those made rose by one
+abbrev pub IsMade : Option Files → Option Files → ℕ → ℕ → List ℕ → List ℕ → Type 0
+IsMade files_before files_now made_before made_now name bytes = (files_now ≡ with_bytes files_before name bytes) × (made_now ≡ with_added made_before 1)
+
+-- no file was made: the files and the count of those made stand as before
+abbrev pub IsUnmade : Option Files → Option Files → ℕ → ℕ → Type 0
+IsUnmade files_before files_now made_before made_now = (files_now ≡ files_before) × (made_now ≡ made_before)
+
+-- the file was made with a front of these bytes
+abbrev pub IsMadeShort : Option Files → Option Files → ℕ → ℕ → List ℕ → List ℕ → Type 0
+IsMadeShort files_before files_now made_before made_now name bytes = (front : List ℕ) × IsFront front bytes × IsMade files_before files_now made_before made_now name front
+
+-- What writing a whole file did: `Ok` made it with these bytes, `Failed` may have made it with a front of them, and other faults made none.
+-- Where files are told, `Missing` never comes, and `TooBig` never does.
+pub record WritesFile {T : Type 0} (files_before files_now : Option Files) (made_before made_now : ℕ) (name bytes : List ℕ) (result : Result T FileFault) : Type 0 where
+  pub later : made_before ≤ made_now
+  pub made : OnOk result (IsMade files_before files_now made_before made_now name bytes)
+  pub failed : IsErrOf result Failed → IsUnmade files_before files_now made_before made_now ⊎ IsMadeShort files_before files_now made_before made_now name bytes
+  pub missing : IsErrOf result Missing → IsUnmade files_before files_now made_before made_now × (files_before ≡ None)
+  pub no_memory : IsErrOf result NoMemory → IsUnmade files_before files_now made_before made_now
+  pub fits : ¬ IsErrOf result TooBig

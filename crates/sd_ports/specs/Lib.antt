@@ -1,4 +1,4 @@
-pub mod Files
 pub mod Bytes
+pub mod Files
 pub mod Causes
 pub mod Memory

@@ -1,4 +1,4 @@
-use Rattle.std.specs.Prelude.{refl, ℕ, map, string_bytes, String, Vec, ◌-◌, Bool, ◌||◌, if◌then◌else◌, nat_eq, nat_lt, not, min, List, ◌++◌, length, take, drop}
+use Rattle.std.specs.Prelude.{refl, ℕ, map, string_bytes, String, Vec, ◌-◌, Bool, ◌||◌, if◌then◌else◌, nat_eq, nat_lt, not, min, List, [], ◌++◌, length, take, drop}
 use Rattle.std.specs.List.{list_any}
 use Rattle.std.specs.FinMap.{from_entries, code, insert}
 use Rattle.std.specs.Coded.{Coded, code_by, coded×, coded_ℕ, coded_list}
@@ -24,19 +24,20 @@ pub record Store : Type 0 where
   pub writes : ℕ
   pub faults : ℕ
 
--- a depot in memory: its files, the room of a sink, the most bytes of a read or a write, and the counts
+-- a depot in memory: its files, the room of a sink, the most bytes of a read or a write, and the counts of faults, of misses and of sinks made
 pub record Shelf : Type 0 where
   pub files : Files
   pub room : ℕ
   pub most : ℕ
   pub faults : ℕ
   pub misses : ℕ
+  pub made : ℕ
 
 -- a depot in memory is stored as the pairs of its parts
 abbrev pub shelf_code : Coded Shelf
 shelf_code =
-    code_by (Files × (ℕ × (ℕ × (ℕ × ℕ)))) (coded× (code (coded_list coded_ℕ) (coded_list coded_ℕ)) (coded× coded_ℕ (coded× coded_ℕ (coded× coded_ℕ coded_ℕ))))
-    (λ s. (s.files, (s.room, (s.most, (s.faults, s.misses))))) (λ p. record { files = p.0; room = p.1.0; most = p.1.1.0; faults = p.1.1.1.0; misses = p.1.1.1.1 }) (λ _. refl)
+    code_by (Files × (ℕ × (ℕ × (ℕ × (ℕ × ℕ))))) (coded× (code (coded_list coded_ℕ) (coded_list coded_ℕ)) (coded× coded_ℕ (coded× coded_ℕ (coded× coded_ℕ (coded× coded_ℕ coded_ℕ)))))
+    (λ s. (s.files, (s.room, (s.most, (s.faults, (s.misses, s.made)))))) (λ p. record { files = p.0; room = p.1.0; most = p.1.1.0; faults = p.1.1.1.0; misses = p.1.1.1.1.0; made = p.1.1.1.1.1 }) (λ _. refl)
 
 -- the files that a map of texts tells
 unfoldable pub told_files : BTreeMap (String Global) (Vec ℕ Global) → Files
@@ -44,11 +45,19 @@ told_files m = from_entries (map (λ e. (string_bytes e.0, e.1.items)) m.entries
 
 -- the depot with a file of these bytes, in place of one that had the name
 abbrev pub with_file : Shelf → List ℕ → List ℕ → Shelf
-with_file s name bytes = record { files = insert s.files name bytes; room = s.room; most = s.most; faults = s.faults; misses = s.misses }
+with_file s name bytes = record { files = insert s.files name bytes; room = s.room; most = s.most; faults = s.faults; misses = s.misses; made = s.made }
 
 -- the depot with other counts of faults and of misses
 abbrev pub with_counts : Shelf → ℕ → ℕ → Shelf
-with_counts s faults misses = record { files = s.files; room = s.room; most = s.most; faults = faults; misses = misses }
+with_counts s faults misses = record { files = s.files; room = s.room; most = s.most; faults = faults; misses = misses; made = s.made }
+
+-- the depot once it made an empty file
+abbrev pub with_outlet : Shelf → List ℕ → Shelf
+with_outlet s name = record { files = insert s.files name []; room = s.room; most = s.most; faults = s.faults; misses = s.misses; made = with_added s.made 1 }
+
+-- the depot once a file's port was closed
+abbrev pub with_closed : Shelf → List ℕ → Store → Shelf
+with_closed s name port = record { files = insert s.files name port.held; room = s.room; most = s.most; faults = with_added s.faults port.faults; misses = s.misses; made = s.made }
 
 -- whether a call's number stands in the list of those that fail
 abbrev pub is_listed : List ℕ → ℕ → Bool

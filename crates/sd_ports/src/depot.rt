@@ -1,15 +1,18 @@
-ghost use Rattle.std.specs.Prelude.{◌≡◌, ◌<◌, ◌^◌, ℕ, Option, IfOk, IsErrOf};
-ghost use Rattle.sd_cause.specs.Count.{with_added};
-ghost use Rattle.sd_ports.specs.Files.{Files, Opens, IsNotThere};
-ghost use Rattle.sd_ports.specs.Causes.{HasDepotCause};
+ghost use Rattle.std.specs.Prelude.{◌≡◌, ◌<◌, ◌^◌, ℕ, Option, None, IfOk, OnOk, OnErr, IsErrOf, []};
+ghost use Rattle.sd_cause.specs.Count.{HasCause, with_added};
+ghost use Rattle.sd_ports.specs.Files.{Closes, Files, IsFresh, IsNotThere, IsThere, LeavesFront, Opens, with_bytes};
+ghost use Rattle.sd_ports.specs.Causes.{CountsMade, HasDepotCause};
 
 use crate::fault::DepotFault;
+use crate::sink::Sink;
 use crate::source::Source;
 use std::alloc::Global;
 
 /// Where files are.
 pub trait Depot {
     type Inlet: Source;
+
+    type Outlet: Sink;
 
     /// The files, where the depot tells them.
     ghost files: { Self → Option Files };
@@ -20,18 +23,46 @@ pub trait Depot {
     /// How often a file was asked for that isn't there.
     ghost misses: { Self → ℕ };
 
+    /// How many files were made.
+    ghost made: { Self → ℕ };
+
     /// Opens a file for reading.
     fn open_in(&mut self, alloc: Global, name: &str) -> Result<Self::Inlet, DepotFault>
         ensures files { files self.new ≡ files self.old }
         ensures opened { IfOk result (λ port. Opens (files self.old) name.now (Self.Inlet.left port)) }
         ensures fresh { IfOk result (λ port. Self.Inlet.faults port ≡ 0) }
         ensures not_there { IsErrOf result DepotFault.Missing → IsNotThere (files self.old) name.now }
-        ensures cause { HasDepotCause (faults self.old) (faults self.new) (misses self.old) (misses self.new) result };
+        ensures cause { HasDepotCause (faults self.old) (faults self.new) (misses self.old) (misses self.new) result }
+        ensures made { made self.new ≡ made self.old };
+
+    /// Makes an empty file, in place of one that had the name, and opens it for writing. `Missing` is a folder that
+    /// isn't there.
+    fn create_out(&mut self, alloc: Global, name: &str) -> Result<Self::Outlet, DepotFault>
+        ensures created { OnOk result (files self.new ≡ with_bytes (files self.old) name.now []) }
+        ensures refused { OnErr result (files self.new ≡ files self.old) }
+        ensures empty { IfOk result (λ port. IsFresh (files self.old) (Self.Outlet.held port)) }
+        ensures fresh { IfOk result (λ port. Self.Outlet.faults port ≡ 0) }
+        ensures missing { IsErrOf result DepotFault.Missing → files self.old ≡ None }
+        ensures cause { HasDepotCause (faults self.old) (faults self.new) (misses self.old) (misses self.new) result }
+        ensures made { CountsMade (made self.old) (made self.new) result };
 
     /// Closes a file, and takes over the port's count of faults.
     fn close_in(&mut self, port: Self::Inlet)
         ensures files { files self.new ≡ files self.old }
         ensures faults { faults self.new ≡ with_added (faults self.old) (Self.Inlet.faults port) }
         ensures misses { misses self.new ≡ misses self.old }
-        ensures within { faults self.old < 2 ^ 64 };
+        ensures within { faults self.old < 2 ^ 64 }
+        ensures made { made self.new ≡ made self.old };
+
+    /// Closes a file that was made under this name, and takes over the port's count of faults. The only fault is
+    /// `Failed`, for which the depot counts a fault of its own.
+    fn close_out(&mut self, name: &str, port: Self::Outlet) -> Result<(), DepotFault>
+        requires { IsThere (files self.old) name.now }
+        ensures closed { OnOk result (Closes (files self.old) (files self.new) name.now (Self.Outlet.held port)) }
+        ensures front { LeavesFront (files self.old) (files self.new) name.now (Self.Outlet.held port) }
+        ensures failed { OnErr result (IsErrOf result DepotFault.Failed) }
+        ensures cause { HasCause (with_added (faults self.old) (Self.Outlet.faults port)) (faults self.new) result }
+        ensures within { faults self.old < 2 ^ 64 }
+        ensures misses { misses self.new ≡ misses self.old }
+        ensures made { made self.new ≡ made self.old };
 }

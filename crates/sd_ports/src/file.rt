@@ -1,13 +1,13 @@
 ghost use Rattle.std.specs.Prelude.{◌≡◌, ◌≤◌, IfOk, IsErrOf, length};
 ghost use Rattle.sd_ports.specs.Causes.{HasFileCause};
-ghost use Rattle.sd_ports.specs.Files.{IsFile, IsLongFile, IsNotThere};
+ghost use Rattle.sd_ports.specs.Files.{IsFile, IsLongFile, IsNotThere, WritesFile};
 
 use crate::depot::Depot;
 use crate::fault::DepotFault;
-use crate::whole::{ReadAllFault, read_all};
+use crate::whole::{ReadAllFault, read_all, write_all};
 use std::alloc::Global;
 
-/// Why a whole file wasn't read.
+/// Why a whole file wasn't read or written.
 #[derive(Clone, Copy, Debug, PartialEq, Eq)]
 pub enum FileFault {
     /// There is no such file.
@@ -28,6 +28,7 @@ pub fn read_file<D: Depot>(
     most: usize,
 ) -> Result<Vec<u8>, FileFault>
     ensures files { D.files depot.new ≡ D.files depot.old }
+    ensures made { D.made depot.new ≡ D.made depot.old }
     ensures read { IfOk result (λ bytes. IsFile (D.files depot.old) name.now bytes.items) }
     ensures within { IfOk result (λ bytes. length bytes.items ≤ most) }
     ensures too_big { IsErrOf result FileFault.TooBig → IsLongFile (D.files depot.old) name.now most }
@@ -47,5 +48,34 @@ pub fn read_file<D: Depot>(
         Err(ReadAllFault::TooBig) => Err(FileFault::TooBig),
         Err(ReadAllFault::Failed) => Err(FileFault::Failed),
         Err(ReadAllFault::NoMemory) => Err(FileFault::NoMemory),
+    }
+}
+
+/// Makes a file with these bytes, in place of one that had the name: it makes, writes and closes it, and only then
+/// answers. `Failed` may leave a front of them.
+#[tactic(auto, using(crate::proofs::Outlets::there_after))]
+pub fn write_file<D: Depot>(
+    alloc: Global,
+    depot: &mut D,
+    name: &str,
+    bytes: &[u8],
+) -> Result<(), FileFault>
+    ensures file { WritesFile (D.files depot.old) (D.files depot.new) (D.made depot.old) (D.made depot.new) name.now bytes.now result }
+    ensures cause { HasFileCause (D.faults depot.old) (D.faults depot.new) (D.misses depot.old) (D.misses depot.new) result }
+{
+    let mut port = match depot.create_out(alloc, name) {
+        Ok(port) => port,
+        Err(DepotFault::Missing) => return Err(FileFault::Missing),
+        Err(DepotFault::Failed) => return Err(FileFault::Failed),
+        Err(DepotFault::NoMemory) => return Err(FileFault::NoMemory),
+    };
+    let written = write_all(&mut port, bytes);
+    let closed = depot.close_out(name, port);
+    match written {
+        Ok(()) => match closed {
+            Ok(()) => Ok(()),
+            Err(_) => Err(FileFault::Failed),
+        },
+        Err(_) => Err(FileFault::Failed),
     }
 }

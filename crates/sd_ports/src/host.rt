@@ -1,7 +1,8 @@
-ghost use Rattle.std.specs.Prelude.{◌≡◌, ◌<◌, None, IfOk, OnErr, length};
+ghost use Rattle.std.specs.Prelude.{◌≡◌, ◌<◌, ◌≤◌, None, [], drop, vec_len, vec_capacity, IfOk, IsErr, OnOk, OnErr, length};
 ghost use Rattle.std.specs.Io.{ReadsAtMost, WritesAtMost};
-ghost use Rattle.std.specs.Io.KnownBytes.{ReadConsumes, WriteAppends};
+ghost use Rattle.std.specs.Io.KnownBytes.{Keeps, ReadConsumes, WriteAppends, append_known};
 ghost use Rattle.sd_cause.specs.Count.{HasCause, with_added};
+ghost use Rattle.sd_ports.specs.Causes.{HasDepotCause};
 
 use crate::depot::Depot;
 use crate::fault::{DepotFault, PortFault};
@@ -18,6 +19,7 @@ pub struct HostDepot<'a, R> {
     files: &'a R,
     faults: u64,
     misses: u64,
+    made: u64,
 }
 
 impl<'a, R: Files> HostDepot<'a, R> {
@@ -25,30 +27,23 @@ impl<'a, R: Files> HostDepot<'a, R> {
     pub fn new(files: &'a R) -> HostDepot<'a, R>
         ensures faults { result.faults ≡ 0 }
         ensures misses { result.misses ≡ 0 }
+        ensures made { result.made ≡ 0 }
     {
         HostDepot {
             files,
             faults: 0,
             misses: 0,
+            made: 0,
         }
     }
-}
 
-impl<'a, R: Files> Depot for HostDepot<'a, R> {
-    type Inlet = HostInlet<R::File>;
-
-    ghost files = { λ d. None };
-
-    ghost faults = { λ d. d.faults };
-
-    ghost misses = { λ d. d.misses };
-
-    fn open_in(&mut self, _alloc: Global, name: &str) -> Result<HostInlet<R::File>, DepotFault> {
-        let error = match fs::open(self.files, name) {
-            Ok(file) => return Ok(HostInlet { file, faults: 0 }),
-            Err(error) => error,
-        };
-        match error.kind() {
+    /// Counts why a file wasn't opened, and says it.
+    fn refuse<T>(&mut self, kind: ErrorKind) -> Result<T, DepotFault>
+        ensures cause { HasDepotCause self.old.faults self.new.faults self.old.misses self.new.misses result }
+        ensures refused { IsErr result }
+        ensures made { self.new.made ≡ self.old.made }
+    {
+        match kind {
             ErrorKind::NotFound => {
                 self.misses = self.misses.saturating_add(1);
                 Err(DepotFault::Missing)
@@ -60,9 +55,56 @@ impl<'a, R: Files> Depot for HostDepot<'a, R> {
             }
         }
     }
+}
+
+impl<'a, R: Files> Depot for HostDepot<'a, R> {
+    type Inlet = HostInlet<R::File>;
+
+    type Outlet = HostOutlet<R::File>;
+
+    ghost files = { λ d. None };
+
+    ghost faults = { λ d. d.faults };
+
+    ghost misses = { λ d. d.misses };
+
+    ghost made = { λ d. d.made };
+
+    fn open_in(&mut self, _alloc: Global, name: &str) -> Result<HostInlet<R::File>, DepotFault> {
+        match fs::open(self.files, name) {
+            Ok(file) => Ok(HostInlet { file, faults: 0 }),
+            Err(error) => self.refuse(error.kind()),
+        }
+    }
+
+    /// The memory is taken before the file is made.
+    fn create_out(&mut self, alloc: Global, name: &str) -> Result<HostOutlet<R::File>, DepotFault> {
+        let Ok(buffer) = Vec::with_capacity(alloc, BUFFER) else {
+            return Err(DepotFault::NoMemory);
+        };
+        match fs::create(self.files, name) {
+            Ok(file) => {
+                self.made = self.made.saturating_add(1);
+                Ok(HostOutlet::new(file, buffer))
+            }
+            Err(error) => self.refuse(error.kind()),
+        }
+    }
 
     fn close_in(&mut self, port: HostInlet<R::File>) {
         self.faults = self.faults.saturating_add(port.faults);
+    }
+
+    /// Writes what still waits.
+    fn close_out(&mut self, _name: &str, mut port: HostOutlet<R::File>) -> Result<(), DepotFault> {
+        self.faults = self.faults.saturating_add(port.file.faults);
+        match port.send() {
+            Ok(()) => Ok(()),
+            Err(_) => {
+                self.faults = self.faults.saturating_add(1);
+                Err(DepotFault::Failed)
+            }
+        }
     }
 }
 
@@ -97,6 +139,90 @@ impl<F: Read + Drop> Source for HostInlet<F> {
         }
         self.faults = self.faults.saturating_add(1);
         Err(PortFault)
+    }
+}
+
+/// How many bytes wait before they are written to a file.
+const BUFFER: usize = 65536;
+
+/// A file of the machine that is open for writing.
+#[derive(Drop)]
+pub struct HostOutlet<F> {
+    file: StdPrint<F>,
+    waiting: Vec<u8>,
+    sent: usize,
+    ghost begun: { sent ≤ vec_len waiting },
+    ghost within: { vec_len waiting ≤ 65536 },
+    ghost room: { 65536 ≤ vec_capacity waiting },
+}
+
+impl<F: Write + Drop> HostOutlet<F> {
+    /// A port to an empty file, with an empty buffer.
+    fn new(file: F, buffer: Vec<u8>) -> HostOutlet<F>
+        requires empty { vec_len buffer ≡ 0 }
+        requires room { BUFFER ≤ vec_capacity buffer }
+        ensures faults { result.file.faults ≡ 0 }
+    {
+        HostOutlet {
+            file: StdPrint::new(file),
+            waiting: buffer,
+            sent: 0,
+        }
+    }
+
+    /// Writes what waits. After a fault, what wasn't written waits still.
+    fn send(&mut self) -> Result<(), PortFault>
+        ensures passed { Keeps (append_known (F.Write.contents self.old.file.writer) (drop self.old.sent self.old.waiting.items)) (append_known (F.Write.contents self.new.file.writer) (drop self.new.sent self.new.waiting.items)) }
+        ensures all { OnOk result (self.new.waiting.items ≡ []) }
+        ensures cause { HasCause self.old.file.faults self.new.file.faults result }
+        ensures one { OnErr result (self.new.file.faults ≡ with_added self.old.file.faults 1) }
+    {
+        while self.sent < self.waiting.len() {
+            match self.file.write(&self.waiting[self.sent..]) {
+                Ok(count) => self.sent += count,
+                Err(fault) => return Err(fault),
+            }
+        }
+        self.sent = 0;
+        self.waiting.clear();
+        Ok(())
+    }
+
+    /// Sees to it that the buffer has room for a byte.
+    #[tactic(auto, using(crate::proofs::Portions::kept_same))]
+    fn make_room(&mut self) -> Result<(), PortFault>
+        ensures passed { Keeps (append_known (F.Write.contents self.old.file.writer) (drop self.old.sent self.old.waiting.items)) (append_known (F.Write.contents self.new.file.writer) (drop self.new.sent self.new.waiting.items)) }
+        ensures room { OnOk result (vec_len self.new.waiting < BUFFER) }
+        ensures cause { HasCause self.old.file.faults self.new.file.faults result }
+        ensures one { OnErr result (self.new.file.faults ≡ with_added self.old.file.faults 1) }
+    {
+        if self.waiting.len() < BUFFER {
+            return Ok(());
+        }
+        self.send()
+    }
+}
+
+impl<F: Write + Drop> Sink for HostOutlet<F> {
+    ghost held = { λ s. None };
+
+    ghost faults = { λ s. s.file.faults };
+
+    /// Once the buffer is full, what waits there is written first. It takes no memory.
+    #[tactic(auto, using(crate::proofs::Portions::kept_grown))]
+    fn write(&mut self, piece: &[u8]) -> Result<usize, PortFault>
+        requires { 0 < length piece.now }
+        ensures some { IfOk result (λ k. 0 < k) }
+        ensures bound { WritesAtMost result piece.now }
+        ensures bytes { WriteAppends None None result piece.now }
+        ensures cause { HasCause self.old.file.faults self.new.file.faults result }
+        ensures passed { WriteAppends (append_known (F.Write.contents self.old.file.writer) (drop self.old.sent self.old.waiting.items)) (append_known (F.Write.contents self.new.file.writer) (drop self.new.sent self.new.waiting.items)) result piece.now }
+        ensures one { OnErr result (self.new.file.faults ≡ with_added self.old.file.faults 1) }
+    {
+        self.make_room()?;
+        let count = piece.len().min(BUFFER - self.waiting.len());
+        self.waiting.extend_from_slice(&piece[..count]).unwrap();
+        Ok(count)
     }
 }
 

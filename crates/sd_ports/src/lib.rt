@@ -5,6 +5,7 @@ mod depot;
 mod fault;
 mod file;
 mod host;
+pub mod laws;
 mod shelf;
 mod sink;
 mod source;
@@ -16,8 +17,8 @@ mod whole;
 
 pub use depot::Depot;
 pub use fault::{DepotFault, NoMemory, PortFault};
-pub use file::{FileFault, read_file};
-pub use host::{HostDepot, HostInlet, StdPrint};
+pub use file::{FileFault, read_file, write_file};
+pub use host::{HostDepot, HostInlet, HostOutlet, StdPrint};
 pub use shelf::MemDepot;
 pub use sink::Sink;
 pub use source::Source;

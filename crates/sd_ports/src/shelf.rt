@@ -1,13 +1,14 @@
-ghost use Rattle.std.specs.Prelude.{◌≡◌, ◌≤◌, ◌<◌, ◌^◌, ◌↔◌, IfOk, OnOk, OnErr, IsErrOf, Some, None, []};
+ghost use Rattle.std.specs.Prelude.{◌≡◌, ◌≤◌, ◌<◌, ◌^◌, ◌↔◌, IfOk, IsOk, IsSome, OnOk, OnErr, IsErrOf, Some, None, []};
 ghost use Rattle.std.specs.Option.{option_map};
 ghost use Rattle.std.specs.FinMap as map;
-ghost use Rattle.sd_cause.specs.Count.{with_added};
-ghost use Rattle.sd_ports.specs.Causes.{HasDepotCause};
-ghost use Rattle.sd_ports.specs.Files.{IsNotThere, Opens};
-ghost use Rattle.sd_ports.specs.Memory.{told_files, with_counts, with_file};
+ghost use Rattle.sd_cause.specs.Count.{HasCause, with_added};
+ghost use Rattle.sd_ports.specs.Causes.{CountsMade, HasDepotCause};
+ghost use Rattle.sd_ports.specs.Files.{Closes, IsFresh, IsNotThere, IsThere, LeavesFront, Opens, with_bytes};
+ghost use Rattle.sd_ports.specs.Memory.{told_files, with_closed, with_counts, with_file, with_outlet};
 
 use crate::depot::Depot;
 use crate::fault::{DepotFault, NoMemory};
+use crate::store::MemSink;
 use crate::supply::MemSource;
 use std::alloc::Global;
 use std::collections::BTreeMap;
@@ -22,6 +23,7 @@ pub struct MemDepot {
     most: usize,
     faults: u64,
     misses: u64,
+    made: u64,
 }
 
 impl Model for MemDepot {
@@ -32,7 +34,7 @@ impl Model for MemDepot {
 
     ghost coded = { shelf_code };
 
-    ghost view = { λ d. record { files = told_files d.files; room = d.room; most = d.most; faults = d.faults; misses = d.misses } };
+    ghost view = { λ d. record { files = told_files d.files; room = d.room; most = d.most; faults = d.faults; misses = d.misses; made = d.made } };
 
     ghost invariant = { λ d. 0 < d.most };
 }
@@ -42,7 +44,7 @@ impl MemDepot {
     #[tactic(auto, using(crate::proofs::Shelves::told_none))]
     pub fn new(alloc: Global, room: usize, most: usize) -> Result<MemDepot, NoMemory>
         requires { 1 ≤ most }
-        ensures { IfOk result (λ d. d ≡ record { files = map.empty; room = room; most = most; faults = 0; misses = 0 }) }
+        ensures { IfOk result (λ d. d ≡ record { files = map.empty; room = room; most = most; faults = 0; misses = 0; made = 0 }) }
     {
         Ok(MemDepot {
             alloc,
@@ -51,6 +53,7 @@ impl MemDepot {
             most,
             faults: 0,
             misses: 0,
+            made: 0,
         })
     }
 
@@ -82,16 +85,27 @@ impl MemDepot {
     {
         self.misses
     }
+
+    /// How many files were made.
+    pub fn made(&self) -> u64
+        ensures { result ≡ self.now.made }
+    {
+        self.made
+    }
 }
 
 impl Depot for MemDepot {
     type Inlet = MemSource;
+
+    type Outlet = MemSink;
 
     ghost files = { λ d. Some d.files };
 
     ghost faults = { λ d. d.faults };
 
     ghost misses = { λ d. d.misses };
+
+    ghost made = { λ d. d.made };
 
     /// Opens a copy of the file's bytes.
     fn open_in(&mut self, alloc: Global, name: &str) -> Result<MemSource, DepotFault>
@@ -100,6 +114,7 @@ impl Depot for MemDepot {
         ensures fresh { IfOk result (λ port. port.faults ≡ 0) }
         ensures not_there { IsErrOf result DepotFault.Missing → IsNotThere (Some self.old.files) name.now }
         ensures cause { HasDepotCause self.old.faults self.new.faults self.old.misses self.new.misses result }
+        ensures made { self.new.made ≡ self.old.made }
         ensures missing { IsErrOf result DepotFault.Missing ↔ (map.get self.old.files name.now ≡ None) }
         ensures unchanged { self.new ≡ with_counts self.old self.old.faults self.new.misses }
         ensures miss { IsErrOf result DepotFault.Missing → self.new.misses ≡ with_added self.old.misses 1 }
@@ -116,14 +131,61 @@ impl Depot for MemDepot {
         }
     }
 
+    /// The empty file and the sink's room are taken at once.
+    fn create_out(&mut self, alloc: Global, name: &str) -> Result<MemSink, DepotFault>
+        ensures created { OnOk result (Some self.new.files ≡ with_bytes (Some self.old.files) name.now []) }
+        ensures refused { OnErr result (Some self.new.files ≡ Some self.old.files) }
+        ensures empty { IfOk result (λ port. IsFresh (Some self.old.files) (Some port.held)) }
+        ensures fresh { IfOk result (λ port. port.faults ≡ 0) }
+        ensures missing { IsErrOf result DepotFault.Missing → Some self.old.files ≡ None }
+        ensures cause { HasDepotCause self.old.faults self.new.faults self.old.misses self.new.misses result }
+        ensures made { CountsMade self.old.made self.new.made result }
+        ensures ok { OnOk result (self.new ≡ with_outlet self.old name.now) }
+        ensures err { OnErr result (self.new ≡ self.old) }
+        ensures works { OnErr result (IsErrOf result DepotFault.NoMemory) }
+        ensures port { IfOk result (λ port. port ≡ record { held = []; room = self.old.room; most = self.old.most; fails = []; writes = 0; faults = 0 }) }
+    {
+        let Ok(port) = MemSink::new(alloc, self.room, self.most, Vec::new(alloc)) else {
+            return Err(DepotFault::NoMemory);
+        };
+        match set(alloc, &mut self.files, name, Vec::new(alloc)) {
+            Ok(()) => {
+                self.made = self.made.saturating_add(1);
+                Ok(port)
+            }
+            Err(_) => Err(DepotFault::NoMemory),
+        }
+    }
+
     fn close_in(&mut self, port: MemSource)
         ensures files { Some self.new.files ≡ Some self.old.files }
         ensures faults { self.new.faults ≡ with_added self.old.faults port.faults }
         ensures misses { self.new.misses ≡ self.old.misses }
         ensures within { self.old.faults < 2 ^ 64 }
+        ensures made { self.new.made ≡ self.old.made }
         ensures unchanged { self.new ≡ with_counts self.old self.new.faults self.old.misses }
     {
         self.faults = self.faults.saturating_add(port.faults());
+    }
+
+    /// It takes no memory, and never fails.
+    #[tactic(auto, using(crate::proofs::Outlets::closes_front))]
+    fn close_out(&mut self, name: &str, port: MemSink) -> Result<(), DepotFault>
+        requires { IsThere (Some self.old.files) name.now }
+        ensures closed { OnOk result (Closes (Some self.old.files) (Some self.new.files) name.now (Some port.held)) }
+        ensures front { LeavesFront (Some self.old.files) (Some self.new.files) name.now (Some port.held) }
+        ensures failed { OnErr result (IsErrOf result DepotFault.Failed) }
+        ensures cause { HasCause (with_added self.old.faults port.faults) self.new.faults result }
+        ensures within { self.old.faults < 2 ^ 64 }
+        ensures misses { self.new.misses ≡ self.old.misses }
+        ensures made { self.new.made ≡ self.old.made }
+        ensures works { IsOk result }
+        ensures after { self.new ≡ with_closed self.old name.now port }
+    {
+        let faults = port.faults();
+        replace(&mut self.files, name, port.into_bytes());
+        self.faults = self.faults.saturating_add(faults);
+        Ok(())
     }
 }
 
@@ -156,4 +218,14 @@ fn set(
         Ok(_) => Ok(()),
         Err(_) => Err(NoMemory),
     }
+}
+
+/// Puts the bytes in place of those that stand under a name, without memory.
+#[tactic(auto, using(crate::proofs::Shelves::told_there, crate::proofs::Shelves::told_written))]
+fn replace(files: &mut BTreeMap<String, Vec<u8>>, name: &str, bytes: Vec<u8>)
+    requires { IsSome (map.get (told_files files.old) name.now) }
+    ensures { told_files files.new ≡ map.insert (told_files files.old) name.now bytes.items }
+{
+    let file = files.get_mut(name).unwrap();
+    *file = bytes;
 }

@@ -1,8 +1,9 @@
 use crate::{
     Depot, FileFault, HostDepot, MemDepot, MemSink, MemSource, PortFault, ReadAllFault, Source,
-    StdPrint, read_all, read_file, write_all,
+    StdPrint, read_all, read_file, write_all, write_file,
 };
 use std::alloc::{AllocError, Global};
+use std::fs;
 
 const TEXT: &[u8] = b"abcdefg";
 
@@ -132,4 +133,39 @@ fn the_host_opens_files(rt: HostRuntime) {
     ] {
         assert!(rt; gives(rt.alloc(), &mut depot, name, 200000, want));
     }
+}
+
+#[test]
+fn files_are_made_and_replaced(rt: HostRuntime) -> Result<(), AllocError> {
+    let alloc = rt.alloc();
+    let mut depot = shelf(alloc)?;
+    for (name, text, want, left) in [
+        ("a", "abcdefg", Ok(()), "abcdefg"),
+        ("c", "", Ok(()), ""),
+        ("b", "abcdefghij", Err(FileFault::Failed), "abcdefgh"),
+    ] {
+        assert!(rt; write_file(alloc, &mut depot, name, text.as_bytes()) == want);
+        assert!(rt; depot.get(name) == Some(left.as_bytes()));
+    }
+    assert!(rt; depot.get("a") == Some(TEXT) && depot.made() == 3);
+    assert!(rt; depot.faults() == 1 && depot.misses() == 0);
+    Ok(())
+}
+
+#[test]
+fn the_host_writes_files(rt: HostRuntime) {
+    let alloc = rt.alloc();
+    let mut depot = HostDepot::new(&rt);
+    let bytes = [7; 70000];
+    for (name, size, want) in [
+        ("sd_ports_written", 70000, Ok(())),
+        ("/dev/full", 1, Err(FileFault::Failed)),
+        ("/dev/full", 70000, Err(FileFault::Failed)),
+        ("no such folder/file", 1, Err(FileFault::Missing)),
+    ] {
+        assert!(rt; write_file(alloc, &mut depot, name, &bytes[..size]) == want);
+    }
+    let read = read_file(alloc, &mut depot, "sd_ports_written", 70000);
+    assert!(rt; read.is_ok_and(|read| read.as_slice() == bytes.as_slice()));
+    assert!(rt; fs::remove_file(&rt, "sd_ports_written").is_ok());
 }

@@ -1,6 +1,6 @@
 use Rattle.std.proofs.Common.{◌≡◌, take}
 use Rattle.sd_book.specs.Tally.{IsTally}
-use Rattle.sd_book.proofs.tally.revoked_after.Given as goal
+use Rattle.sd_book.proofs.tally.Tally.of.Given as goal
 
 abbrev pub invariant-loop-command : goal.invariant-loop-command
 invariant-loop-command l = record {

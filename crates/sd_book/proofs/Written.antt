@@ -1,0 +1,66 @@
+use Rattle.std.proofs.Common.{arith, ◌≡◌, ℕ, ◌<◌, ◌≤◌, ◌^◌, true, List, [], ◌∷◌, ◌++◌, map, Some, None, Ok, refl, ap, ◌∙◌, append_assoc, codes}
+use Rattle.std.specs.Prelude.{All}
+use Rattle.std.specs.Fmt.{decimal}
+use Rattle.std.proofs.lemmas.Grind.{common_steps}
+use Rattle.std.proofs.lemmas.List.Elements.{All-head, All-tail}
+use Rattle.std.proofs.Math.Pow.{pow_mono}
+use Rattle.sd_text.specs.Lines.{lines_of, is_line}
+use Rattle.sd_text.specs.Number.{behind, number_behind}
+use Rattle.sd_text.proofs.Cuts.{line_cut}
+use Rattle.sd_text.proofs.Numbers.{decimal_in_line, number_behind_decimal}
+use Rattle.sd_book.specs.declared.command.Command.{Command}
+use Rattle.sd_book.specs.declared.command.Command.TheVariants.{Subscribe, Revoke, Period}
+use Rattle.sd_book.specs.Commands.{is_within}
+use Rattle.sd_book.specs.Limits.{IsWithinLimits}
+use Rattle.sd_book.specs.Text.{command_of, SpellsBook, line_of, text_of, book_of}
+use Rattle.sd_book.proofs.Judged.{book_again}
+
+-- a leaf of a tree is a number of 64 bits
+leaf_small : (d u : ℕ) → d ≤ 20 → u < 2 ^ d → u < 2 ^ 64
+leaf_small d u small h =
+    let within : 2 ^ d ≤ 2 ^ 20 = pow_mono small in
+    omega arith
+
+-- the line of a Revoke doesn't begin as that of a Subscribe does
+other_word : (u : ℕ) → number_behind (codes "subscribe ") (codes "revoke " ++ decimal u) ≡ None
+unfolding behind
+other_word u = refl
+
+-- a command's line says it
+says : (d : ℕ) (command : Command) → d ≤ 20 → is_within d command ≡ true → command_of (line_of command) ≡ Some command
+unfolding command_of line_of
+says d (Subscribe u) small h =
+    let below : u < 2 ^ 64 = leaf_small d u small (grind (arith, common_steps)) in
+    rw (number_behind_decimal (codes "subscribe ") u below) refl
+says d (Revoke u) small h =
+    let below : u < 2 ^ 64 = leaf_small d u small (grind (arith, common_steps)) in
+    rw (other_word u, number_behind_decimal (codes "revoke ") u below) refl
+says d Period small h = refl
+
+-- and stands on one line
+alone : (d : ℕ) (command : Command) → d ≤ 20 → is_within d command ≡ true → is_line (line_of command) ≡ true
+unfolding line_of
+alone d (Subscribe u) small h = decimal_in_line u (leaf_small d u small (grind (arith, common_steps)))
+alone d (Revoke u) small h = decimal_in_line u (leaf_small d u small (grind (arith, common_steps)))
+alone d Period small h = refl
+
+-- the lines of a book's text are those of its commands
+lines_written : (d : ℕ) (commands : List Command) → d ≤ 20 → All (λ command. is_within d command ≡ true) commands → lines_of (text_of commands) ≡ map line_of commands
+unfolding text_of
+lines_written d [] small leaves = refl
+lines_written d (command ∷ commands) small leaves =
+    let line = alone d command small (All-head (λ c. is_within d c ≡ true) command commands leaves) in
+    let rest = lines_written d commands small (All-tail (λ c. is_within d c ≡ true) command commands leaves) in
+    rw (append_assoc (line_of command) (10 ∷ []) (text_of commands)) (line_cut (line_of command) (text_of commands) line ∙ ap (λ (lines : List (List ℕ)). line_of command ∷ lines) rest)
+
+-- and spell them
+spelled : (d : ℕ) (commands : List Command) → d ≤ 20 → All (λ command. is_within d command ≡ true) commands → SpellsBook (map line_of commands) commands
+spelled d [] small leaves = refl
+spelled d (command ∷ commands) small leaves =
+    let first = says d command small (All-head (λ c. is_within d c ≡ true) command commands leaves) in
+    let rest = spelled d commands small (All-tail (λ c. is_within d c ≡ true) command commands leaves) in
+    rw (first, rest) refl
+
+-- the text of commands within the limits is read as these commands
+pub read_again : (d : ℕ) (commands : List Command) → d ≤ 20 → IsWithinLimits d commands → book_of d (text_of commands) ≡ Ok commands
+read_again d commands small all = book_again d (text_of commands) commands (rw (lines_written d commands small all.leaves) (spelled d commands small all.leaves)) all

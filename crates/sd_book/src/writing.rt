@@ -1,0 +1,30 @@
+ghost use Rattle.std.specs.Prelude.{◌≡◌, ◌++◌, [], ◌∷◌, IfOk, OnOk, string_bytes};
+ghost use Rattle.sd_book.specs.Text.{line_of, text_of};
+
+use crate::command::Command;
+use std::alloc::{AllocError, Global};
+use std::fmt::Write;
+
+/// The text of these commands, one a line.
+#[tactic(auto, unfolding(crate::specs::Text::line_of, crate::specs::Text::text_of))]
+pub(crate) fn text_of(alloc: Global, commands: &[Command]) -> Result<Vec<u8>, AllocError>
+    ensures { IfOk result (λ text. text.items ≡ text_of commands.now) }
+{
+    let mut text = String::new(alloc);
+    for command in commands {
+        write_line(&mut text, command)?;
+    }
+    Ok(text.into_bytes())
+}
+
+/// Writes a command's line and its line feed.
+#[tactic(auto, unfolding(crate::specs::Text::line_of))]
+fn write_line(text: &mut String, command: &Command) -> Result<(), AllocError>
+    ensures { OnOk result (string_bytes text.new ≡ string_bytes text.old ++ (line_of command.now ++ 10 ∷ [])) }
+{
+    match *command {
+        Command::Subscribe(leaf) => writeln!(text, "subscribe {}", leaf.get()),
+        Command::Revoke(leaf) => writeln!(text, "revoke {}", leaf.get()),
+        Command::Period => text.push_str("period\n"),
+    }
+}
