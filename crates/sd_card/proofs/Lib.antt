@@ -1,0 +1,5 @@
+pub mod Paths
+pub mod Places
+pub mod Keys
+pub mod Made
+pub mod Spellings

@@ -1,0 +1,139 @@
+ghost use Rattle.std.specs.Prelude.{◌≡◌, ◌<◌};
+
+use super::*;
+use hex::FromHex;
+use sd_site::Site;
+use sd_steps::Steps;
+use sd_tree::{Height, Leaf, SetName};
+use std::alloc::{AllocError, Global};
+use std::marker::Brand;
+use std::sync::ledger::{Blank, Ledger};
+use std::test::*;
+
+// The cards of leaf 0 at height 1 and of leaf 5 at height 3.
+const LEAF_0: &str =
+    "5344434401010000000012349a9aea255b8e54be50fc2cb5d0b83ebf64120b12e68d82699face4ee860511dc0938f5db1e2e38332732e7da82f1ad3e4ce6cfe09cd3dfda4ac268d6eabfa59acd2c720852888ed655d22a5c8a4d7d2f";
+
+const LEAF_5: &str =
+    "5344434401030000000512349a9aea255b8e54be50fc2cb5d0b83ebf64120b12e68d82699face4ee860511dc0957476ca37572a1dcc65a3f00d57deed46e69c2e91426478f712417fb92a56bb3b4a9ec141e3e6c5f7f1d34c7932d34ee14f724fd68a98b2f9fdcb508de0f48aa94e29d22fc6666b24e1ad2794a4f1f1519d5126f9de69bdeaf722cfee0075900407c5f5709ab0b475c92082dca33bfd94d089bfb1948a03cae4d5b75ad14e548954a872ea73ecca7c88349a7d5558ea323dfebd65bf59142ace49371da03b064c53490a01b870e7120925ffd7ce8b20d840d83d052c5668db762ab8dbdeede813ac7b7ad90ee38b89d1475ba747af7";
+
+// The card of a leaf at this height, and its key for a set.
+fn counted<L: Ledger>(
+    alloc: Global,
+    d: u8,
+    u: u32,
+    set: (u32, u32),
+    blank: Blank,
+) -> Option<(Card, Option<[u8; 32]>)>
+    requires name { blank.name ≡ L.name }
+    requires parts { blank.parts ≡ L.parts }
+    requires some { 0 < blank.parts }
+{
+    let mut master = [0; 32];
+    for i in 0..32u8 {
+        master[usize::from(i)] = i;
+    }
+    let height = Height::new(d)?;
+    let leaf = Leaf::new(height, u)?;
+    let site = Site {
+        height,
+        master,
+        ca: 0x1234,
+        emm: 496,
+        ecm: 497,
+        every: 200,
+        cryptos: 2,
+        span: 1,
+    };
+    let mut steps = Steps::<L>::new(blank);
+    let card = Card::make(alloc, &site, leaf, &mut steps).ok()?;
+    let name = SetName::new(card.height(), set.0, set.1)?;
+    let key = card.key_for(name, &mut steps);
+    Some((card, key))
+}
+
+fn made(alloc: Global, d: u8, u: u32, set: (u32, u32)) -> Option<(Card, Option<[u8; 32]>)> {
+    counted::<Brand>(alloc, d, u, set, Blank::new(1))
+}
+
+#[test]
+fn cards_are_written_and_read_again(rt: HostRuntime) -> Result<(), Fail> {
+    for (d, u, text) in [(1, 0, LEAF_0), (3, 5, LEAF_5)] {
+        let (card, _) = made(rt.alloc(), d, u, (0, 0)).ok_or("the leaf has a card")?;
+        let bytes = card.write(rt.alloc()).ok().ok_or("memory is left")?;
+        assert_eq!(rt; hex::encode(rt.alloc(), &bytes)?.as_str(), text);
+        let again = Card::read(rt.alloc(), &bytes).ok().ok_or("it is a card")?;
+        assert_eq!(rt; (again.height().get(), again.leaf().get()), (d, u));
+        assert_eq!(rt; again.ca(), 0x1234);
+        let bytes = again.write(rt.alloc()).ok().ok_or("memory is left")?;
+        assert_eq!(rt; hex::encode(rt.alloc(), &bytes)?.as_str(), text);
+    }
+    Ok(())
+}
+
+#[test]
+fn keys_of_leaf_5(rt: HostRuntime) -> Result<(), Fail> {
+    for (set, key) in [
+        (
+            (1, 8),
+            Some("59e5e3230efc287d9ebd5ba455d48d75626cbdfe63c4742b3a727a098df50ed8"),
+        ),
+        (
+            (1, 2),
+            Some("fb3c0871556cfbf6382e48a5ec01f4d2616380b1b4cafdfc2679399c1d9b5769"),
+        ),
+        ((1, 6), None),
+        (
+            (0, 0),
+            Some("9a9aea255b8e54be50fc2cb5d0b83ebf64120b12e68d82699face4ee860511dc"),
+        ),
+    ] {
+        let (_, found) = made(rt.alloc(), 3, 5, set).ok_or("the leaf has a card")?;
+        let due = key.and_then(|text| <[u8; 32] as FromHex>::from_hex(text).ok());
+        assert!(rt; found == due, "the key of {} and {}", set.0, set.1);
+    }
+    Ok(())
+}
+
+// The card of leaf 5 with one byte replaced, and cut or lengthened by zeros to so many bytes.
+fn altered(alloc: Global, at: usize, byte: u8, len: usize) -> Result<Vec<u8>, Fail> {
+    let mut bytes = hex::decode(alloc, LEAF_5).ok().ok_or("it is hexadecimal")?;
+    if at < bytes.len() {
+        bytes[at] = byte;
+    }
+    bytes.resize(len, 0)?;
+    Ok(bytes)
+}
+
+#[test]
+fn the_first_bad_field_decides(rt: HostRuntime) -> Result<(), Fail> {
+    let check = CardFault::Check {
+        found: [
+            0x81, 0x3a, 0xc7, 0xb7, 0xad, 0x90, 0xee, 0x38, 0xb8, 0x9d, 0x14, 0x75, 0xba, 0x74,
+            0x7a, 0xf7,
+        ],
+        due: [
+            0x6c, 0xcf, 0xa5, 0xc4, 0xa2, 0x56, 0x81, 0xcd, 0x5d, 0x8b, 0xc4, 0xce, 0x0f, 0xae,
+            0x3a, 0x13,
+        ],
+    };
+    // The byte at a place, the length, and the fault.
+    let table = [
+        (235, 0xdf, 252, check),
+        (252, 0, 251, CardFault::Length),
+        (252, 0, 253, CardFault::Length),
+        (252, 0, 0, CardFault::Magic),
+        (4, 2, 252, CardFault::Version),
+        (5, 0, 252, CardFault::Height),
+        (5, 21, 252, CardFault::Height),
+        (9, 8, 252, CardFault::Leaf),
+    ];
+    for (at, byte, len, fault) in table {
+        let bytes = altered(rt.alloc(), at, byte, len)?;
+        assert!(rt;
+            Card::read(rt.alloc(), &bytes).err() == Some(fault),
+            "byte {at} of {len}"
+        );
+    }
+    Ok(())
+}
