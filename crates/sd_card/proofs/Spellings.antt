@@ -64,22 +64,23 @@ joined_once (s ∷ ss) (t ∷ ts) long_s long_t count e =
     let rest : ss ≡ ts = joined_once ss ts long_s.1 long_t.1 (omega arith) others in
     rw (first, rest) refl
 
--- ---- what a file says
-
 -- n bytes from place k on
 abbrev bytes_from : List ℕ → ℕ → ℕ → List ℕ
 bytes_from bytes k zero = []
 bytes_from bytes k (suc n) = get_or bytes k 0 ∷ bytes_from bytes (suc k) n
 
+-- cut bytes are those from that place on
 cut_bytes : (bytes : List ℕ) (k n : ℕ) → k + n ≤ length bytes → take n (drop k bytes) ≡ bytes_from bytes k n
 cut_bytes bytes k zero le = refl
 cut_bytes bytes k (suc n) le = rw (drop-cons bytes k 0 (omega arith)) (ap (λ (r : List ℕ). get_or bytes k 0 ∷ r) (cut_bytes bytes (suc k) n (omega arith)))
 
+-- two numbers below 256
 two_bytes : (a b : ℕ) → a < 256 → b < 256 → AreBytes (a ∷ b ∷ [])
 two_bytes a b at bt zero = at
 two_bytes a b at bt (suc zero) = bt
 two_bytes a b at bt (suc (suc i)) = omega arith
 
+-- and four
 four_bytes : (a b c d : ℕ) → a < 256 → b < 256 → c < 256 → d < 256 → AreBytes (a ∷ b ∷ c ∷ d ∷ [])
 four_bytes a b c d at bt ct dt zero = at
 four_bytes a b c d at bt ct dt (suc zero) = bt
@@ -94,10 +95,12 @@ pub record IsGood (bytes : List ℕ) : Type 0 where
   pub size : length bytes ≡ length_at (byte_at bytes 5)
   pub check : check_in bytes ≡ check_due bytes
 
+-- where no fault is behind, the field is good
 passed : (good : Bool) (fault : CardFault) (behind : Option CardFault) → unless good fault behind ≡ None → (good ≡ true) × (behind ≡ None)
 passed true fault behind e = (refl, e)
 passed false fault behind e = absurd cc
 
+-- where there is no fault, each field is good
 pub good_parts : (bytes : List ℕ) → fault_in bytes ≡ None → IsGood bytes
 unfolding fault_in
 good_parts bytes e =
@@ -145,6 +148,7 @@ bytes_said bytes secrets n fits good size all =
     ∙ (ap (λ (r : List ℕ). take (length bytes - 16) bytes ++ r) good.check
     ∙ ap (λ (r : List ℕ). r ++ take 16 (sha256 r)) (body_said bytes secrets n fits good.magic good.version size all))
 
+-- the system's number has two bytes
 ca_within : (bytes : List ℕ) → AreBytes bytes → ca_in bytes < 2 ^ 16
 unfolding ca_in
 ca_within bytes fits = omega (arith, fits 10, fits 11)
@@ -173,8 +177,6 @@ read_is_spelled bytes inner d u ca secrets fits none height leaf system is count
       bytes_said bytes secrets n fits good size whole,
     )
 
--- ---- what is written
-
 -- a file's check has 16 bytes
 check_length : (bytes : List ℕ) → length (take 16 (sha256 bytes)) ≡ 16
 check_length bytes = length-take-le 16 (sha256 bytes) (omega (arith, length-sha256 bytes))
@@ -184,52 +186,64 @@ body_length : (card : CardFields) → IsCard card → length (card_body card) �
 unfolding card_body
 body_length card is = omega (arith, length_joined card.secrets is.secrets)
 
+-- the height that a card's file names is the card's
 height_written : (card : CardFields) → byte_at (card_bytes card) 5 ≡ card.height
 unfolding card_bytes card_body
 height_written card = refl
 
+-- so is the leaf
 leaf_written : (card : CardFields) → IsCard card → leaf_in (card_bytes card) ≡ card.leaf
 unfolding card_bytes card_body leaf_in
 leaf_written card is = from_be_bytes-to_be_bytes_4 card.leaf (omega (arith, is.leaf, pow_mono {i = card.height} {j = 32} (omega (arith, is.height.1))))
 
+-- and the system
 ca_written : (card : CardFields) → IsCard card → ca_in (card_bytes card) ≡ card.ca
 unfolding card_bytes card_body ca_in
 ca_written card is = from_be_bytes-to_be_bytes_2 card.ca is.ca
 
+-- its secrets are the card's, joined
 secrets_written : (card : CardFields) → IsCard card → take (32 * length card.secrets) (drop 12 (card_bytes card)) ≡ concat card.secrets
 unfolding card_bytes card_body
 secrets_written card is = take_at (concat card.secrets) (take 16 (sha256 (card_body card))) (32 * length card.secrets) (length_joined card.secrets is.secrets)
 
+-- it has the length of its height
 size_written : (card : CardFields) → IsCard card → length (card_bytes card) ≡ length_at card.height
 unfolding card_bytes length_at
 size_written card is = length-append (card_body card) (take 16 (sha256 (card_body card))) ∙ omega (arith, body_length card is, check_length (card_body card), is.count)
 
+-- without the check it is as long as its body
 before_check : (card : CardFields) → length (card_bytes card) - 16 ≡ length (card_body card)
 unfolding card_bytes
 before_check card = omega (arith, length-append (card_body card) (take 16 (sha256 (card_body card))), check_length (card_body card))
 
+-- its front is the body
 split_take : (card : CardFields) → take (length (card_body card)) (card_bytes card) ≡ card_body card
 unfolding card_bytes
 split_take card = take_at (card_body card) (take 16 (sha256 (card_body card))) (length (card_body card)) refl
 
+-- its end is the check of the body
 split_drop : (card : CardFields) → drop (length (card_body card)) (card_bytes card) ≡ take 16 (sha256 (card_body card))
 unfolding card_bytes
 split_drop card = drop_at (card_body card) (take 16 (sha256 (card_body card))) (length (card_body card)) refl
 
+-- so its check is the one that is due
 check_written : (card : CardFields) → check_in (card_bytes card) ≡ check_due (card_bytes card)
 unfolding check_in check_due
 check_written card =
     rw (before_check card) (
     split_drop card ∙ sym (ap (λ (r : List ℕ). take 16 (sha256 r)) (split_take card)))
 
+-- it begins as a card does
 magic_written : (card : CardFields) → bytes_eq (codes "SDCD") (take 4 (card_bytes card)) ≡ true
 unfolding card_bytes card_body
 magic_written card = refl
 
+-- its version is 1
 version_written : (card : CardFields) → eqb (byte_at (card_bytes card) 4) 1 ≡ true
 unfolding card_bytes card_body
 version_written card = refl
 
+-- a field that is good has no fault of its own
 goes : (good : Bool) (fault : CardFault) (behind : Option CardFault) → good ≡ true → behind ≡ None → unless good fault behind ≡ None
 goes true fault behind is none = none
 goes false fault behind is none = absurd cc
@@ -248,6 +262,7 @@ written_is_good card is =
     (goes _ _ _ ((Decides-eqb _ _).1 size)
     (goes _ _ _ ((bytes_eq-Decides _ _).1 (check_written card)) refl)))))
 
+-- cards with the same fields are the same
 same_card : (a b : CardFields) → a.height ≡ b.height → a.leaf ≡ b.leaf → a.ca ≡ b.ca → a.secrets ≡ b.secrets → a ≡ b
 same_card a b height leaf ca secrets = rw (← height, ← leaf, ← ca, ← secrets) (ap (λ (d : ℕ). saying d a.leaf a.ca a.secrets) refl)
 

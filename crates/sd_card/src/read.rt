@@ -1,4 +1,4 @@
-ghost use Rattle.std.specs.Prelude.{◌≡◌, ◌≢◌, ◌+◌, ◌*◌, ◌/◌, ◌≤◌, ◌↔◌, Some, None, length, take, drop, IfOk, IsErrOf, MatchResult};
+ghost use Rattle.std.specs.Prelude.{◌≡◌, ◌*◌, ◌/◌, ◌≤◌, Some, None, length, take, IfOk, MatchResult};
 ghost use Rattle.std.specs.List.{AllByRecursion, concat};
 ghost use Rattle.sd_card.specs.Fields.{CardFields, fields_of, card_bytes};
 ghost use Rattle.sd_card.specs.Faults.{IsCard, byte_at as byte_of, leaf_in, ca_in, length_at as length_of, fault_in, IsFaultOf};
@@ -53,7 +53,7 @@ fn ca_at(bytes: &[u8]) -> u16
 fn judge(bytes: &[u8]) -> Result<(Height, Leaf), CardFault>
     ensures fault { MatchResult result (λ _. fault_in bytes.now ≡ None) (λ fault. fault_in bytes.now ≡ Some fault) }
     ensures value { IfOk result (λ named. (named.0 ≡ byte_of bytes.now 5) × (named.1 ≡ leaf_in bytes.now)) }
-    ensures length { IfOk result (λ named. 28 ≤ length bytes.now) }
+    ensures length { IfOk result (λ _. 28 ≤ length bytes.now) }
 {
     if !bytes.starts_with(b"SDCD") {
         return Err(CardFault::Magic);
