@@ -1,0 +1,7 @@
+//! Keys wrapped under keys.
+#![tactic(auto)]
+
+mod key;
+pub mod laws;
+
+pub use key::wrap;
