@@ -69,7 +69,6 @@ fn lay_under(packet: &mut Packet, word: &[u8; 32], position: u64, control: u8)
 }
 
 // Writes transport_scrambling_control and lays the stream over what is from the start on.
-#[tactic(auto, using(crate::proofs::Scramblings::laid_behind))]
 fn change(bytes: &mut [u8; 188], start: usize, control: u8, stream: &[u8; 184])
     requires low { 4 ≤ start }
     requires high { start ≤ 188 }
