@@ -1,0 +1,229 @@
+-- What is kept behind some packets is enough to go on with the next.
+use Rattle.std.proofs.Common.{ℕ, ◌+◌, ◌-◌, ◌≤◌, ◌≡◌, Bool, true, false, not, ◌==◌, ◌&&◌, List, [], ◌∷◌, ◌++◌, length, take, drop, append-nil, refl, sym, ap, ◌∙◌, arith}
+use Rattle.std.specs.Prelude.{if◌then◌else◌, Option, Some, None, slice_range, slice_get}
+use Rattle.std.proofs.lemmas.List.{drop_at, take-take, drop-drop, drop-take}
+use Rattle.std.proofs.lemmas.Bool.{eqb-true, and_parts}
+use Rattle.sd_section.specs.Assembled.{Fed, Run, Cut, cut_of, is_last, is_next, has_payload, is_taken, last_counter, tail_of, fresh_of, kept_run, longer_run, run_behind, newly, completed_in, completed_by, Assembling, behind, all_lent, with_section, next_of, one_lent}
+use Rattle.sd_section.specs.Steps.{added, held, kept, holds_of, is_section, tail_with, fresh_with, still_making, going_on, fed}
+use Rattle.sd_section.specs.declared.holds.Holds.{Holds}
+use Rattle.sd_section.specs.declared.holds.Holds.TheVariants.{Making, Section, Lent}
+use Rattle.sd_section.proofs.Cutting.{longer, cut_none}
+
+-- the section in the making of a run
+abbrev pub making_of : Run → List ℕ
+making_of run = (cut_of run.first run.more).making
+
+-- bytes behind a run complete what they complete of the section in the making
+newly_is : (run : Run) (bytes : List ℕ) → newly run bytes ≡ (added (making_of run) bytes).sections
+newly_is run bytes =
+    let sections : List (List ℕ) = (cut_of run.first run.more).sections in
+    ap (λ (c : Cut). drop (length sections) c.sections) (longer (length run.first) run.first run.more bytes)
+    ∙ drop_at sections (added (making_of run) bytes).sections (length sections) refl
+
+-- a payload with unit start or without, behind a run
+completed_is : (unit_start : Bool) (counter : ℕ) (payload : List ℕ) (run : Run) →
+    completed_in (record { unit_start = unit_start; counter = counter; payload = payload }) run
+    ≡ (going_on (record { unit_start = unit_start; counter = counter; payload = payload }) (making_of run)).waiting
+completed_is true counter payload run =
+    ap (λ (l : List (List ℕ)). l ++ (cut_of (fresh_of payload) []).sections) (newly_is run (tail_of payload))
+completed_is false counter payload run =
+    let none : (cut_of [] []).sections ≡ [] = ap (λ (c : Cut). c.sections) (cut_none 0 []) in
+    newly_is run payload ∙ (sym (append-nil (added (making_of run) payload).sections) ∙ ap (λ (l : List (List ℕ)). (added (making_of run) payload).sections ++ l) (sym none))
+
+making_is : (unit_start : Bool) (counter : ℕ) (payload : List ℕ) (run : Run) →
+    making_of (longer_run (record { unit_start = unit_start; counter = counter; payload = payload }) run)
+    ≡ (going_on (record { unit_start = unit_start; counter = counter; payload = payload }) (making_of run)).making
+making_is true counter payload run = refl
+making_is false counter payload run =
+    let none : (cut_of [] []).making ≡ [] = ap (λ (c : Cut). c.making) (cut_none 0 []) in
+    ap (λ (c : Cut). c.making) (longer (length run.first) run.first run.more payload)
+    ∙ (sym (append-nil (added (making_of run) payload).making) ∙ ap (λ (l : List ℕ). (added (making_of run) payload).making ++ l) (sym none))
+
+is_true : (v : Bool) → not v ≡ false → v ≡ true
+is_true true h = refl
+is_true false h = absurd (cc)
+
+-- a state by its parts
+abbrev assembling : Option ℕ → List ℕ → List (List ℕ) → Assembling
+assembling counter making waiting = record { counter = counter; making = making; waiting = waiting }
+
+state_is : (a c : Option ℕ) (m n : List ℕ) (v w : List (List ℕ)) → a ≡ c → m ≡ n → v ≡ w → assembling a m v ≡ assembling c n w
+state_is a c m n v w e f g =
+    ap (λ (k : Option ℕ). assembling k m v) e ∙ (ap (λ (k : List ℕ). assembling c k v) f ∙ ap (λ (k : List (List ℕ)). assembling c n k) g)
+
+-- a packet that is passed over leaves the last counter, the run, and completes nothing
+counter_by : (has : Bool) (counter : ℕ) (last : Option ℕ) → (has && not (is_last counter last)) ≡ false →
+    (if has then Some counter else last) ≡ last
+counter_by false counter last h = refl
+counter_by true counter None h = absurd (cc)
+counter_by true counter (Some last) h = ap (λ (n : ℕ). Some n) (sym (eqb-true last counter (is_true (last == counter) h)))
+
+counter_passed : (packet : Fed) (before : List Fed) → is_taken packet (last_counter before) ≡ false →
+    last_counter (packet ∷ before) ≡ last_counter before
+unfolding last_counter
+counter_passed packet before e = counter_by (has_payload packet) packet.counter (last_counter before) e
+
+run_passed : (packet : Fed) (before : List Fed) → is_taken packet (last_counter before) ≡ false →
+    run_behind (packet ∷ before) ≡ run_behind before
+unfolding run_behind
+run_passed packet before e = rw e refl
+
+completed_passed : (packet : Fed) (before : List Fed) → is_taken packet (last_counter before) ≡ false →
+    completed_by (packet ∷ before) ≡ []
+unfolding completed_by
+completed_passed packet before e = rw e refl
+
+fed_passed : (state : Assembling) (packet : Fed) → is_taken packet state.counter ≡ false → fed state packet ≡ state
+unfolding fed
+fed_passed state packet e = rw e refl
+
+passed_over : (packet : Fed) (before : List Fed) → is_taken packet (last_counter before) ≡ false →
+    behind (packet ∷ before) ≡ fed (all_lent (behind before)) packet
+unfolding behind
+passed_over packet before e =
+    state_is _ _ _ _ _ _ (counter_passed packet before e) (ap making_of (run_passed packet before e)) (completed_passed packet before e)
+    ∙ sym (fed_passed (all_lent (behind before)) packet e)
+
+-- a packet that is taken
+counter_taken : (packet : Fed) (before : List Fed) → is_taken packet (last_counter before) ≡ true →
+    last_counter (packet ∷ before) ≡ Some packet.counter
+unfolding last_counter
+counter_taken packet before e = let has =
+    (and_parts (has_payload packet) (not (is_last packet.counter (last_counter before))) e).0 in rw has refl
+
+run_taken : (packet : Fed) (before : List Fed) → is_taken packet (last_counter before) ≡ true →
+    run_behind (packet ∷ before) ≡ longer_run packet (kept_run packet (last_counter before) (run_behind before))
+unfolding run_behind
+run_taken packet before e = rw e refl
+
+completed_taken : (packet : Fed) (before : List Fed) → is_taken packet (last_counter before) ≡ true →
+    completed_by (packet ∷ before) ≡ completed_in packet (kept_run packet (last_counter before) (run_behind before))
+unfolding completed_by
+completed_taken packet before e = rw e refl
+
+fed_taken : (state : Assembling) (packet : Fed) → is_taken packet state.counter ≡ true →
+    fed state packet ≡ going_on packet (if is_next packet.counter state.counter then state.making else [])
+unfolding fed
+fed_taken state packet e = rw e refl
+
+kept_making : (next : Bool) (run : Run) →
+    making_of (if next then run else record { first = []; more = [] }) ≡ (if next then making_of run else [])
+kept_making true run = refl
+kept_making false run = ap (λ (c : Cut). c.making) (cut_none 0 [])
+
+taken : (packet : Fed) (before : List Fed) → is_taken packet (last_counter before) ≡ true →
+    behind (packet ∷ before) ≡ fed (all_lent (behind before)) packet
+unfolding behind
+taken packet before e =
+    let run : Run = kept_run packet (last_counter before) (run_behind before) in
+    let making : making_of run ≡ (if is_next packet.counter (last_counter before) then making_of (run_behind before) else []) =
+    kept_making (is_next packet.counter (last_counter before)) (run_behind before) in
+    state_is _ _ _ _ _ _ (counter_taken packet before e)
+    (ap making_of (run_taken packet before e) ∙ making_is packet.unit_start packet.counter packet.payload run)
+    (completed_taken packet before e ∙ completed_is packet.unit_start packet.counter packet.payload run)
+    ∙ (ap (going_on packet) making ∙ sym (fed_taken (all_lent (behind before)) packet e))
+
+-- what is kept behind the packets and the next one is what the next one makes of what was kept before
+pub behind_fed : (packet : Fed) (before : List Fed) → behind (packet ∷ before) ≡ fed (all_lent (behind before)) packet
+behind_fed packet before = by_test (is_taken packet (last_counter before)) refl where
+  by_test : (test : Bool) → is_taken packet (last_counter before) ≡ test →
+      behind (packet ∷ before) ≡ fed (all_lent (behind before)) packet
+  by_test true e = taken packet before e
+  by_test false e = passed_over packet before e
+
+-- so too from what equals it
+pub fed_behind : (old new : Assembling) (packet : Fed) (before : List Fed) → new ≡ fed old packet → old ≡ all_lent (behind before) →
+    new ≡ behind (packet ∷ before)
+fed_behind old new packet before e f = e ∙ (ap (λ (s : Assembling). fed s packet) f ∙ sym (behind_fed packet before))
+
+-- what is kept, by its fields: the counter, and what the others come to whatever the counter is
+kept_counter : (holds : Holds) (bytes : List ℕ) (cut : Cut) (counter : Option ℕ) → (kept holds bytes cut counter).counter ≡ counter
+kept_counter Making bytes cut counter = refl
+kept_counter Section bytes cut counter = refl
+kept_counter Lent bytes cut counter = refl
+
+kept_same : (holds : Holds) (bytes : List ℕ) (cut : Cut) (counter other : Option ℕ) →
+    (kept holds bytes cut counter).making ≡ (kept holds bytes cut other).making
+kept_same Making bytes cut counter other = refl
+kept_same Section bytes cut counter other = refl
+kept_same Lent bytes cut counter other = refl
+
+kept_held : (whole : Bool) (bytes : List ℕ) (cut : Cut) (counter : Option ℕ) →
+    kept (holds_of whole) bytes cut counter ≡
+    assembling counter ((held whole bytes).making ++ cut.making) ((held whole bytes).sections ++ cut.sections)
+kept_held true bytes cut counter = refl
+kept_held false bytes cut counter = refl
+
+-- a packet that is passed over leaves what is kept
+pub nothing_taken : (holds : Holds) (bytes : List ℕ) (cut : Cut) (last : Option ℕ) (packet : Fed) (state : Assembling) →
+    kept holds bytes cut last ≡ state → is_taken packet last ≡ false → state ≡ fed state packet
+nothing_taken holds bytes cut last packet state is e =
+    let counter : state.counter ≡ last = ap (λ (s : Assembling). s.counter) (sym is) ∙ kept_counter holds bytes cut last in
+    sym (fed_passed state packet (ap (is_taken packet) counter ∙ e))
+
+-- what the steps of taking a packet come to
+pub all_taken : (holds : Holds) (bytes gathered before after stored : List ℕ) (cut : Cut) (last : Option ℕ) (unit_start next whole : Bool) (now : Holds) (counter : ℕ) (payload : List ℕ) (state : Assembling) →
+    kept holds bytes cut last ≡ state → now ≡ holds_of whole →
+    is_taken (record { unit_start = unit_start; counter = counter; payload = payload }) last ≡ true →
+    gathered ≡ (kept holds bytes cut None).making → next ≡ is_next counter last → before ≡ (if next then gathered else []) →
+    (held whole after).sections ≡ (added before (tail_with unit_start payload)).sections →
+    (held whole after).making ≡ still_making unit_start before payload → stored ≡ fresh_with unit_start payload →
+    kept now after (cut_of stored []) (Some counter) ≡
+    fed state (record { unit_start = unit_start; counter = counter; payload = payload })
+all_taken holds bytes gathered before after stored cut last unit_start next whole now counter payload state is is_now e is_gathered is_next' is_before sections making is_stored =
+    let packet : Fed = record { unit_start = unit_start; counter = counter; payload = payload } in
+    let same_counter : state.counter ≡ last = ap (λ (s : Assembling). s.counter) (sym is) ∙ kept_counter holds bytes cut last in
+    let same_making : gathered ≡ state.making =
+    is_gathered ∙ (kept_same holds bytes cut None last ∙ ap (λ (s : Assembling). s.making) is) in
+    let start : before ≡ (if is_next counter state.counter then state.making else []) =
+    is_before ∙ (ap (λ (b : Bool). if b then gathered else []) (is_next' ∙ ap (is_next counter) (sym same_counter))
+    ∙ ap (λ (l : List ℕ). if is_next counter state.counter then l else []) same_making) in
+    let result : kept now after (cut_of stored []) (Some counter) ≡ going_on packet before =
+    ap (λ (h : Holds). kept h after (cut_of stored []) (Some counter)) is_now
+    ∙ (kept_held whole after (cut_of stored []) (Some counter)
+    ∙ state_is _ _ _ _ _ _ refl
+    (ap (λ (l : List ℕ). l ++ (cut_of stored []).making) making ∙ ap (λ (l : List ℕ). still_making unit_start before payload ++ (cut_of l []).making) is_stored)
+    (ap (λ (l : List (List ℕ)). l ++ (cut_of stored []).sections) sections
+    ∙ ap (λ (l : List ℕ). (added before (tail_with unit_start payload)).sections ++ (cut_of l []).sections) is_stored)) in
+    result ∙ (ap (going_on packet) start ∙ sym (fed_taken state packet (ap (is_taken packet) same_counter ∙ e)))
+
+-- with a section more in front of what is cut, that one is lent next
+pub lent_next : (holds : Holds) (bytes section : List ℕ) (cut : Cut) (counter : Option ℕ) → is_section holds ≡ false →
+    (next_of (kept holds bytes (with_section section cut) counter) ≡ Some section) × (kept holds bytes cut counter ≡ one_lent (kept holds bytes (with_section section cut) counter))
+lent_next Making bytes section cut counter h = (refl, refl)
+lent_next Section bytes section cut counter h = absurd (cc)
+lent_next Lent bytes section cut counter h = (refl, refl)
+
+-- a part of a payload, cut in two
+part_front : (payload : List ℕ) (at n end : ℕ) → at + n ≤ end → slice_range payload at (at + n) ≡ take n (slice_range payload at end)
+part_front payload at n end h =
+    let count : at + n - at ≡ n = omega arith in
+    ap (λ (k : ℕ). take k (drop at payload)) count ∙ sym (take-take n (end - at) (drop at payload) (omega arith))
+
+part_back : (payload : List ℕ) (at n end : ℕ) → at + n ≤ end → slice_range payload (at + n) end ≡ drop n (slice_range payload at end)
+part_back payload at n end h =
+    let count : n + (end - (at + n)) ≡ end - at = omega arith in
+    ap (take (end - (at + n))) (sym (drop-drop n at payload))
+    ∙ (sym (drop-take n (end - (at + n)) (drop at payload)) ∙ ap (λ (k : ℕ). drop n (take k (drop at payload))) count)
+
+-- what lending a section of the payload comes to
+pub part_lent : (holds : Holds) (bytes payload rest : List ℕ) (at n end : ℕ) (counter : Option ℕ) (state : Assembling) →
+    is_section holds ≡ false → at + n ≤ end →
+    kept holds bytes (cut_of (slice_range payload at end) []) counter ≡ state → rest ≡ slice_range payload at end →
+    cut_of rest [] ≡ with_section (take n rest) (cut_of (drop n rest) []) →
+    (kept holds bytes (cut_of (slice_range payload (at + n) end) []) counter ≡ one_lent state) × (Some (slice_range payload at (at + n)) ≡ next_of state)
+part_lent holds bytes payload rest at n end counter state h fits is is_rest cut =
+    let next = lent_next holds bytes (take n rest) (cut_of (drop n rest) []) counter h in
+    let whole : state ≡ kept holds bytes (with_section (take n rest) (cut_of (drop n rest) [])) counter =
+    sym is ∙ (ap (λ (l : List ℕ). kept holds bytes (cut_of l []) counter) (sym is_rest) ∙ ap (λ (c : Cut). kept holds bytes c counter) cut) in
+    let front : slice_range payload at (at + n) ≡ take n rest = part_front payload at n end fits ∙ ap (take n) (sym is_rest) in
+    let back : slice_range payload (at + n) end ≡ drop n rest = part_back payload at n end fits ∙ ap (drop n) (sym is_rest) in (
+      ap (λ (l : List ℕ). kept holds bytes (cut_of l []) counter) back ∙ (next.1 ∙ ap one_lent (sym whole)),
+      ap (λ (l : List ℕ). Some l) front ∙ (sym next.0 ∙ ap next_of (sym whole)),
+    )
+
+-- where a section is lent next, some are left
+pub some_left : (state : Assembling) (section : List ℕ) → Some section ≡ next_of state → state.waiting ≡ [] → ⊥
+some_left state section e h =
+    let none : next_of state ≡ None = ap (λ (l : List (List ℕ)). slice_get l 0) h in
+    absurd (cc)

@@ -1,0 +1,6 @@
+pub mod Judging
+pub mod Writing
+pub mod Spelling
+pub mod Cutting
+pub mod Adding
+pub mod Behind

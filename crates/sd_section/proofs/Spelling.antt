@@ -1,0 +1,188 @@
+-- Sections that this project writes are read as they were written.
+use Rattle.std.proofs.Common.{ℕ, ◌+◌, ◌-◌, ◌*◌, ◌/◌, ◌%◌, ◌^◌, ◌<◌, ◌≤◌, ◌≡◌, Bool, true, List, [], ◌++◌, length, take, drop, length-append, append-nil, append_assoc, eq-eqb, refl, sym, ap, subst, ◌∙◌, arith}
+use Rattle.std.specs.Prelude.{None, slice_index, ◌==◌}
+use Rattle.std.specs.Int.{w32, to_be_bytes}
+use Rattle.std.proofs.lemmas.Bool.{le-leb}
+use Rattle.std.proofs.lemmas.List.{take_at, drop_at}
+use Rattle.sd_bits.specs.Bits.{field}
+use Rattle.sd_bits.proofs.Fields.{field_below, field_split}
+use Rattle.sd_bits.proofs.Words.{byte_field}
+use Rattle.sd_crc.specs.Crc.{crc_of}
+use Rattle.sd_crc.proofs.Words.{crc_below}
+use Rattle.sd_section.specs.Header.{syntax_of, private_of, section_length_of, extension_of, version_of, current_of, whole_of, body_of, crc_in, crc_due}
+use Rattle.sd_section.specs.Judged.{unless, crc_fault, section_fault}
+use Rattle.sd_section.specs.Written.{header_bytes, sealed, section_bytes, Fits, IsWritten}
+use Rattle.sd_section.specs.declared.fault.SectionFault.TheVariants.{Crc}
+use Rattle.sd_section.specs.declared.write.Header.{Header}
+
+-- a list of four bytes as a number
+four_field : (xs : List ℕ) → slice_index xs 0 < 256 → slice_index xs 1 < 256 → slice_index xs 2 < 256 → slice_index xs 3 < 256 →
+    field xs 0 32 ≡ ((slice_index xs 0 * 256 + slice_index xs 1) * 256 + slice_index xs 2) * 256 + slice_index xs 3
+four_field xs h0 h1 h2 h3 =
+    let b0 = byte_field xs 0 h0 in
+    let b1 = byte_field xs 1 h1 in
+    let b2 = byte_field xs 2 h2 in
+    let b3 = byte_field xs 3 h3 in
+    omega (arith, field_split xs 0 24 8, field_split xs 0 16 8, field_split xs 0 8 8)
+
+-- a number of four bytes is read from them
+number_again : (n : ℕ) → n < 2 ^ 32 → field (to_be_bytes w32 n) 0 32 ≡ n
+number_again n h = four_field (to_be_bytes w32 n) (omega arith) (omega arith) (omega arith) (omega arith) ∙ omega arith
+
+-- the CRC of sealed bytes
+sealed_front : (front : List ℕ) → length (sealed front) - 4 ≡ length front
+sealed_front front = omega (arith, length-append front (to_be_bytes w32 (crc_of front)))
+
+crc_is_read : (front : List ℕ) → crc_in (sealed front) ≡ crc_of front
+unfolding crc_in
+crc_is_read front =
+    ap (λ (n : ℕ). field (drop n (sealed front)) 0 32) (sealed_front front)
+    ∙ (ap (λ (l : List ℕ). field l 0 32) (drop_at front (to_be_bytes w32 (crc_of front)) (length front) refl) ∙ number_again (crc_of front) (crc_below front))
+
+crc_is_due : (front : List ℕ) → crc_due (sealed front) ≡ crc_of front
+unfolding crc_due
+crc_is_due front =
+    ap (λ (n : ℕ). crc_of (take n (sealed front))) (sealed_front front) ∙
+    ap crc_of (take_at front (to_be_bytes w32 (crc_of front)) (length front) refl)
+
+-- the fields of bytes that begin with a header
+record HasHeader (header : Header) (body : ℕ) (section : List ℕ) : Type 0 where
+  table_id : field section 0 8 ≡ header.table_id
+  syntax : syntax_of section ≡ 1
+  private : private_of section ≡ 0
+  section_length : section_length_of section ≡ body + 9
+  extension : extension_of section ≡ header.extension
+  version : version_of section ≡ 0
+  current : current_of section ≡ 1
+  number : field section 48 8 ≡ header.number
+  last_number : field section 56 8 ≡ header.last_number
+
+header_is_read : (header : Header) (body : ℕ) (rest : List ℕ) → Fits header → body ≤ 4084 →
+    HasHeader header body (header_bytes header body ++ rest)
+header_is_read header body rest fits few =
+    let section : List ℕ = header_bytes header body ++ rest in
+    let h0 = fits.table_id in
+    let h3 = fits.extension in
+    let h6 = fits.number in
+    let h7 = fits.last_number in
+    let b0 : field section 0 8 ≡ header.table_id = byte_field section 0 (omega arith) in
+    let b1 : field section 8 8 ≡ 0xB0 + (body + 9) / 256 = byte_field section 1 (omega arith) in
+    let b2 : field section 16 8 ≡ (body + 9) % 256 = byte_field section 2 (omega arith) in
+    let b3 : field section 24 8 ≡ header.extension / 256 = byte_field section 3 (omega arith) in
+    let b4 : field section 32 8 ≡ header.extension % 256 = byte_field section 4 (omega arith) in
+    let b5 : field section 40 8 ≡ 0xC1 = byte_field section 5 (omega arith) in
+    let b6 : field section 48 8 ≡ header.number = byte_field section 6 (omega arith) in
+    let b7 : field section 56 8 ≡ header.last_number = byte_field section 7 (omega arith) in
+    let flags = field_split section 8 4 4 in
+    let first_flags = field_split section 8 2 2 in
+    let two_flags = field_split section 8 1 1 in
+    let lengths = field_split section 12 4 8 in
+    let extensions = field_split section 24 8 8 in
+    let versions = field_split section 40 2 6 in
+    let version_and_current = field_split section 42 5 1 in
+    let f0 = field_below section 8 1 in
+    let f1 = field_below section 9 1 in
+    let f2 = field_below section 10 2 in
+    let f3 = field_below section 12 4 in
+    let f4 = field_below section 40 2 in
+    let f5 = field_below section 42 5 in
+    let f6 = field_below section 47 1 in
+    record {
+      table_id = b0;
+      syntax = omega arith;
+      private = omega arith;
+      section_length = omega arith;
+      extension = omega arith;
+      version = omega arith;
+      current = omega arith;
+      number = b6;
+      last_number = b7;
+    }
+
+-- a section, and what stands behind it, begin with the header
+parts_are : (header : Header) (body rest : List ℕ) →
+    section_bytes header body ++ rest ≡
+    header_bytes header (length body) ++ ((body ++ to_be_bytes w32 (crc_of (header_bytes header (length body) ++ body))) ++ rest)
+unfolding section_bytes
+parts_are header body rest = refl
+
+all_headed : (header : Header) (body rest : List ℕ) → Fits header → length body ≤ 4084 →
+    HasHeader header (length body) (section_bytes header body ++ rest)
+all_headed header body rest fits few =
+    subst (HasHeader header (length body)) (sym (parts_are header body rest))
+    (header_is_read header (length body) ((body ++ to_be_bytes w32 (crc_of (header_bytes header (length body) ++ body))) ++ rest) fits few)
+
+section_headed : (header : Header) (body : List ℕ) → Fits header → length body ≤ 4084 →
+    HasHeader header (length body) (section_bytes header body)
+section_headed header body fits few = rw append-nil at (all_headed header body [] fits few)
+
+-- how long the section is
+section_long : (header : Header) (body : List ℕ) → length (section_bytes header body) ≡ length body + 12
+unfolding section_bytes
+section_long header body = omega (arith, length-append body (to_be_bytes w32 (crc_of (header_bytes header (length body) ++ body))))
+
+-- the whole section is read
+pub whole_is_read : (header : Header) (body rest : List ℕ) → Fits header → length body ≤ 4084 →
+    whole_of (section_bytes header body ++ rest) ≡ section_bytes header body
+whole_is_read header body rest fits few =
+    let head = all_headed header body rest fits few in
+    take_at (section_bytes header body) rest (3 + section_length_of (section_bytes header body ++ rest)) (omega (arith, section_long header body, head.section_length))
+
+-- its CRC is the one due
+crc_is_right : (header : Header) (body : List ℕ) → crc_fault (section_bytes header body) ≡ None
+unfolding section_bytes
+crc_is_right header body =
+    let front : List ℕ = header_bytes header (length body) ++ body in
+    let right : (crc_in (sealed front) == crc_due (sealed front)) ≡ true =
+    eq-eqb (crc_in (sealed front)) (crc_due (sealed front)) (crc_is_read front ∙ sym (crc_is_due front)) in
+    ap (λ (b : Bool). unless b (Crc (crc_in (sealed front)) (crc_due (sealed front))) None) right
+
+-- nothing is wrong with it
+all_good : (bytes section : List ℕ) → 3 ≤ length bytes → syntax_of bytes ≡ 1 → 9 ≤ section_length_of bytes →
+    section_length_of bytes ≤ 4093 →
+    3 + section_length_of bytes ≤ length bytes → whole_of bytes ≡ section → crc_fault section ≡ None → section_fault bytes ≡ None
+unfolding section_fault
+all_good bytes section three long low high there is right =
+    rw (le-leb 3 (length bytes) three) (rw long (rw (le-leb 9 (section_length_of bytes) low) (rw (le-leb (section_length_of bytes) 4093 high)
+    (rw (le-leb (3 + section_length_of bytes) (length bytes) there) (ap crc_fault is ∙ right)))))
+
+pub none_is_wrong : (header : Header) (body rest : List ℕ) → Fits header → length body ≤ 4084 →
+    section_fault (section_bytes header body ++ rest) ≡ None
+none_is_wrong header body rest fits few =
+    let head = all_headed header body rest fits few in
+    let all = length-append (section_bytes header body) rest in
+    let long = section_long header body in
+    all_good (section_bytes header body ++ rest) (section_bytes header body) (omega arith) head.syntax (omega arith) (omega arith) (omega arith)
+    (whole_is_read header body rest fits few) (crc_is_right header body)
+
+-- what stands between eight bytes and four
+between : (front body back : List ℕ) → length front ≡ 8 → length back ≡ 4 → body_of ((front ++ body) ++ back) ≡ body
+between front body back h k =
+    let all : List ℕ = (front ++ body) ++ back in
+    let count : length all - 4 - 8 ≡ length body = omega (arith, length-append (front ++ body) back, length-append front body) in
+    let behind : drop 8 all ≡ body ++ back = ap (drop 8) (append_assoc front body back) ∙ drop_at front (body ++ back) 8 h in
+    ap (λ (n : ℕ). take n (drop 8 all)) count ∙ (ap (take (length body)) behind ∙ take_at body back (length body) refl)
+
+-- its body is what was written
+body_is_read : (header : Header) (body : List ℕ) → body_of (section_bytes header body) ≡ body
+unfolding section_bytes
+body_is_read header body =
+    let front : List ℕ = header_bytes header (length body) in
+    between front body (to_be_bytes w32 (crc_of (front ++ body))) refl refl
+
+pub fields_are_read : (header : Header) (body : List ℕ) → Fits header → length body ≤ 4084 →
+    IsWritten header body (section_bytes header body)
+fields_are_read header body fits few =
+    let head = section_headed header body fits few in
+    record {
+      table_id = head.table_id;
+      syntax = head.syntax;
+      private = head.private;
+      section_length = head.section_length;
+      extension = head.extension;
+      version = head.version;
+      current = head.current;
+      number = head.number;
+      last_number = head.last_number;
+      inner = body_is_read header body;
+    }

@@ -1,0 +1,5 @@
+pub mod Header
+pub mod Judged
+pub mod Written
+pub mod Assembled
+pub mod Steps

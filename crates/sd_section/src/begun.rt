@@ -1,0 +1,34 @@
+ghost use Rattle.std.specs.Prelude.{◌≡◌, ◌+◌, ◌≤◌, length};
+ghost use Rattle.sd_section.specs.Steps.{begun_of};
+
+use sd_bits::fields;
+
+/// What is there of a section.
+#[derive(Clone, Copy)]
+pub enum Begun {
+    /// section_length is above 4,093.
+    Overlong,
+    /// So many bytes are the section.
+    Whole(usize),
+    /// There are fewer than that.
+    Part,
+}
+
+/// What is there of the section with which the bytes begin.
+#[tactic(auto, unfolding(crate::specs::Assembled::is_overlong, crate::specs::Assembled::is_whole))]
+pub fn judge(bytes: &[u8]) -> Begun
+    ensures { result ≡ begun_of bytes.now }
+{
+    if bytes.len() < 3 {
+        return Begun::Part;
+    }
+    fields! { bytes; section_length: 12, 12; }
+    let whole = 3 + section_length as usize;
+    if section_length > 4093 {
+        Begun::Overlong
+    } else if whole <= bytes.len() {
+        Begun::Whole(whole)
+    } else {
+        Begun::Part
+    }
+}

@@ -1,0 +1,20 @@
+//! Sections: read, written, and assembled from the packets of a PID.
+#![tactic(auto)]
+
+mod assembler;
+mod begun;
+mod fault;
+mod holds;
+pub mod laws;
+mod making;
+mod read;
+mod section;
+#[cfg(test)]
+mod tests;
+mod write;
+
+pub use assembler::Assembler;
+pub use fault::SectionFault;
+pub use read::read_one;
+pub use section::Section;
+pub use write::{Header, seal};

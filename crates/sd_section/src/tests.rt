@@ -1,0 +1,203 @@
+use super::*;
+use std::alloc::Global;
+use std::test::Fail;
+
+const PAT: [u8; 16] = [
+    0x00, 0xB0, 0x0D, 0x00, 0x01, 0xC1, 0x00, 0x00, 0x00, 0x01, 0xF0, 0x00, 0x2A, 0xB1, 0x04, 0xB2,
+];
+
+#[test]
+fn sections_are_read(rt: HostRuntime) {
+    let mut stuffed = [0xFF; 20];
+    stuffed[..16].copy_from_slice(&PAT);
+    for bytes in [PAT.as_slice(), stuffed.as_slice()] {
+        let read = read_one(bytes);
+        assert!(rt; read.is_ok());
+        if let Ok(section) = read {
+            assert_eq!(rt; section.table_id(), 0);
+            assert_eq!(rt; section.extension(), 1);
+            assert_eq!(rt; section.version(), 0);
+            assert!(rt; section.current());
+            assert_eq!(rt; section.number(), 0);
+            assert_eq!(rt; section.last_number(), 0);
+            assert_eq!(rt; section.body(), [0x00, 0x01, 0xF0, 0x00].as_slice());
+            assert_eq!(rt; section.whole(), PAT.as_slice());
+        }
+    }
+    // A place of the section, the byte there, and how many bytes are read: what is wrong first.
+    let table = [
+        (0, 0x00, 2, SectionFault::Short),
+        (1, 0x30, 2, SectionFault::Short),
+        (1, 0x30, 3, SectionFault::Length),
+        (2, 0x08, 3, SectionFault::Length),
+        (1, 0xBF, 3, SectionFault::Short),
+        (2, 0x09, 11, SectionFault::Short),
+        (0, 0x00, 15, SectionFault::Short),
+        (
+            12,
+            0x2B,
+            16,
+            SectionFault::Crc {
+                found: 0x2BB1_04B2,
+                due: 0x2AB1_04B2,
+            },
+        ),
+    ];
+    for (place, byte, count, fault) in table {
+        let mut bytes = PAT;
+        assert!(rt; place < 16 && count <= 16);
+        bytes[place] = byte;
+        assert_eq!(rt; read_one(&bytes[..count]).err(), Some(fault));
+    }
+}
+
+#[test]
+fn long_sections(rt: HostRuntime) -> Result<(), Fail> {
+    // How many bytes the body has, and section_length.
+    for (body, length) in [(4084usize, 4093u16), (4085, 4094)] {
+        let mut bytes = vec![in rt.alloc(); 0; body + 12]?;
+        let [high, low] = length.to_be_bytes();
+        bytes[1] = 0xB0 | high;
+        bytes[2] = low;
+        seal(&mut bytes);
+        let fault = read_one(&bytes).err();
+        assert_eq!(rt;
+            fault,
+            if length == 4093 {
+                None
+            } else {
+                Some(SectionFault::Length)
+            }
+        );
+    }
+    Ok(())
+}
+
+#[test]
+fn sections_are_written(rt: HostRuntime) {
+    let header = Header {
+        table_id: 0,
+        extension: 1,
+        number: 0,
+        last_number: 0,
+    };
+    let mut section = [0; 16];
+    section[..8].copy_from_slice(&header.bytes(4));
+    section[8..12].copy_from_slice(&[0x00, 0x01, 0xF0, 0x00]);
+    seal(&mut section);
+    assert_eq!(rt; section, PAT);
+    let other = Header {
+        table_id: 0x82,
+        extension: 0x1234,
+        number: 5,
+        last_number: 6,
+    };
+    assert_eq!(rt;
+        other.bytes(147),
+        [0x82, 0xB0, 0x9C, 0x12, 0x34, 0xC1, 0x05, 0x06]
+    );
+}
+
+#[derive(Clone, Copy)]
+struct Fed {
+    unit_start: bool,
+    counter: u8,
+    payload: &'static [u8],
+}
+
+// How many sections each packet completes, and the bytes of all of them.
+fn assembled(alloc: Global, packets: &[Fed]) -> Result<(Vec<usize>, Vec<u8>), Fail> {
+    let mut counts = Vec::new(alloc);
+    let mut bytes = Vec::new(alloc);
+    let mut assembler = Assembler::new(alloc).ok().ok_or("no memory")?;
+    for packet in packets {
+        if packet.counter >= 16 || packet.payload.len() > 184 {
+            return Err("no packet".into());
+        }
+        assembler.feed(packet.unit_start, packet.counter, packet.payload);
+        let mut count = 0usize;
+        while let Some(section) = assembler.next() {
+            bytes.extend_from_slice(section)?;
+            count = count.saturating_add(1);
+        }
+        counts.push(count)?;
+    }
+    Ok((counts, bytes))
+}
+
+// Two sections behind pointer 0, and stuffing.
+static TWO: [u8; 36] = [
+    0x00, 0x00, 0xB0, 0x0D, 0x00, 0x01, 0xC1, 0x00, 0x00, 0x00, 0x01, 0xF0, 0x00, 0x2A, 0xB1, 0x04,
+    0xB2, 0x00, 0xB0, 0x0D, 0x00, 0x01, 0xC1, 0x00, 0x00, 0x00, 0x01, 0xF0, 0x00, 0x2A, 0xB1, 0x04,
+    0xB2, 0xFF, 0xFF, 0xFF,
+];
+
+// Seven bytes of the section behind pointer 0; the other nine; these behind a pointer, and stuffing.
+static FRONT: [u8; 8] = [0x00, 0x00, 0xB0, 0x0D, 0x00, 0x01, 0xC1, 0x00];
+
+static REST: [u8; 9] = [0x00, 0x00, 0x01, 0xF0, 0x00, 0x2A, 0xB1, 0x04, 0xB2];
+
+static TAIL: [u8; 12] = [
+    0x09, 0x00, 0x00, 0x01, 0xF0, 0x00, 0x2A, 0xB1, 0x04, 0xB2, 0xFF, 0xFF,
+];
+
+static PAST: [u8; 3] = [3, 0, 0];
+
+static OVERLONG: [u8; 5] = [0x00, 0x00, 0xBF, 0xFE, 0x00];
+
+static SECTION: [u8; 16] = PAT;
+
+fn packet(unit_start: bool, counter: u8, payload: &'static [u8]) -> Fed {
+    Fed {
+        unit_start,
+        counter,
+        payload,
+    }
+}
+
+#[test]
+fn sections_are_assembled(rt: HostRuntime) -> Result<(), Fail> {
+    let front = packet(true, 1, &FRONT);
+    let table: [(&[Fed], &[usize]); 9] = [
+        // Two in one payload; the duplicate is passed over.
+        (&[packet(true, 5, &TWO), packet(true, 5, &TWO)], &[2, 0]),
+        // In two packets, with no unit start in the second, and with one.
+        (
+            &[packet(true, 15, &FRONT), packet(false, 0, &REST)],
+            &[0, 1],
+        ),
+        (&[front, packet(true, 2, &TAIL)], &[0, 1]),
+        // A packet without payload and a duplicate between them.
+        (
+            &[front, packet(false, 7, &[]), front, packet(false, 2, &REST)],
+            &[0, 0, 0, 1],
+        ),
+        // A counter is missing.
+        (&[front, packet(false, 3, &REST)], &[0, 0]),
+        // A pointer that passes the payload, whose counter is still the last one.
+        (
+            &[front, packet(true, 2, &PAST), packet(false, 3, &REST)],
+            &[0, 0, 0],
+        ),
+        // No section is in the making.
+        (&[packet(false, 1, &SECTION)], &[0]),
+        // Bytes that are left over without unit start are passed over.
+        (
+            &[front, packet(false, 2, &REST), packet(false, 3, &SECTION)],
+            &[0, 1, 0],
+        ),
+        // section_length is above 4,093.
+        (
+            &[packet(true, 1, &OVERLONG), packet(false, 2, &SECTION)],
+            &[0, 0],
+        ),
+    ];
+    for (packets, counts) in table {
+        let (each, bytes) = assembled(rt.alloc(), packets)?;
+        assert_eq!(rt; each.as_slice(), counts);
+        for section in bytes.as_slice().chunks(16) {
+            assert_eq!(rt; section, PAT.as_slice());
+        }
+    }
+    Ok(())
+}

@@ -1,0 +1,63 @@
+ghost use Rattle.std.specs.Prelude.{◌≡◌, ◌-◌, ◌≤◌, length, take};
+ghost use Rattle.sd_section.specs.Written.{header_bytes, sealed};
+
+use sd_bits::fields;
+use sd_crc::crc32;
+
+/// What tells the sections that this project writes from one another. They are current, and their version is 0.
+#[derive(Clone, Copy)]
+pub struct Header {
+    /// table_id.
+    pub table_id: u8,
+    /// The 16 bits that each table names in its own way.
+    pub extension: u16,
+    /// section_number.
+    pub number: u8,
+    /// last_section_number.
+    pub last_number: u8,
+}
+
+impl Header {
+    /// The header in front of a body of so many bytes (ISO/IEC 13818-1, 2.4.4).
+    pub fn bytes(&self, body: usize) -> [u8; 8]
+        requires { body ≤ 4084 }
+        ensures { result ≡ header_bytes self.now body }
+    {
+        let mut bytes = [0; 8];
+        self.write(&mut bytes, body);
+        bytes
+    }
+
+    // Writes the header into eight bytes.
+    fn write(&self, bytes: &mut [u8], body: usize)
+        requires room { length bytes.old ≡ 8 }
+        requires body { body ≤ 4084 }
+        ensures { bytes.new ≡ header_bytes self.now body }
+    {
+        fields! {
+            bytes;
+            table_id: 0, 8 = u64::from(self.table_id);
+            section_syntax_indicator: 8, 1 = 1;
+            zero: 9, 1 = 0;
+            reserved: 10, 2 = 0b11;
+            section_length: 12, 12 = body as u64 + 9;
+            extension: 24, 16 = u64::from(self.extension);
+            reserved: 40, 2 = 0b11;
+            version_number: 42, 5 = 0;
+            current_next_indicator: 47, 1 = 1;
+            section_number: 48, 8 = u64::from(self.number);
+            last_section_number: 56, 8 = u64::from(self.last_number);
+        }
+    }
+}
+
+/// Writes the CRC of all bytes but the last four into the last four.
+pub fn seal(section: &mut [u8])
+    requires { 4 ≤ length section.old }
+    ensures value { section.new ≡ sealed (take (length section.old - 4) section.old) }
+    ensures length { length section.new ≡ length section.old }
+{
+    let front = section.len() - 4;
+    let crc = crc32(&section[..front]);
+    section[front..].copy_from_slice(&crc.to_be_bytes());
+}
