@@ -19,8 +19,8 @@ pub enum ReadAllFault {
     NoMemory,
 }
 
-/// The most bytes of one read.
-const BUFFER: usize = 65536;
+/// The most bytes of one read, which are on the stack.
+const BUFFER: usize = 16384;
 
 /// Reads all that is left, at most `most` bytes, and stops as soon as more were read. After a fault a front of what was
 /// left is gone.
