@@ -88,9 +88,27 @@ mod tests {
 
     #[test]
     fn packets_are_scrambled_and_descrambled(rt: HostRuntime) {
-        // Packets, control words, positions, parities, and the scrambled packets: one without an adaptation field at
-        // the greatest PID and position, and two with one.
+        // An adaptation field of 182 bytes leaves one byte of payload.
+        let mut clear = [0xFF; 188];
+        clear[..6].copy_from_slice(&[0x47, 0x02, 0x00, 0x33, 0xB6, 0x00]);
+        clear[187] = 0xCF;
+        let mut due = clear;
+        due[3] = 0xB3;
+        due[187] = 0xD6;
+        // Packets, control words, positions, parities, and the scrambled packets: that of one byte, one without an
+        // adaptation field at the greatest PID and position, and two with one.
         let table = [
+            (
+                clear,
+                [
+                    0x46, 0x7D, 0x7D, 0xF6, 0xB5, 0xA2, 0xEC, 0x89, 0xFC, 0x9C, 0x98, 0x0F, 0xAB,
+                    0x43, 0x83, 0x97, 0xF8, 0x94, 0x85, 0x7F, 0x6E, 0x27, 0x6C, 0x6C, 0xF3, 0xC8,
+                    0xC5, 0x9C, 0x09, 0x43, 0xD6, 0x79,
+                ],
+                1000003,
+                Parity::Even,
+                due,
+            ),
             (
                 [
                     0x47, 0x5F, 0xEF, 0x1F, 0x41, 0x2E, 0xBE, 0xF9, 0x11, 0x20, 0x3C, 0x2F, 0x28,
