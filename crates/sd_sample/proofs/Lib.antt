@@ -1,0 +1,4 @@
+pub mod Rounds
+pub mod Generator
+pub mod Packets
+pub mod Streams
