@@ -23,7 +23,7 @@ none_marked zero = refl
 none_marked (suc n) = none_marked n
 
 -- tests that agree from a on give the same marks there
-same_marks : (f g : ℕ → Bool) (a n : ℕ) → ((x : ℕ) → a ≤ x → f x ≡ g x) → map f (range_with_len a n) ≡ map g (range_with_len a n)
+pub same_marks : (f g : ℕ → Bool) (a n : ℕ) → ((x : ℕ) → a ≤ x → f x ≡ g x) → map f (range_with_len a n) ≡ map g (range_with_len a n)
 same_marks f g a zero h = refl
 same_marks f g a (suc n) h =
     let here : f a ≡ g a = h a (omega arith) in
@@ -72,7 +72,7 @@ newest_decides true command before = refl
 newest_decides false command before = refl
 
 -- the newest command decides, where it is on the leaf
-revoked_more : (commands : List Command) (command : Command) (leaf : ℕ) → is_revoked (commands ++ command ∷ []) leaf ≡ cond (is_on leaf command) (is_revoke command) (is_revoked commands leaf)
+pub revoked_more : (commands : List Command) (command : Command) (leaf : ℕ) → is_revoked (commands ++ command ∷ []) leaf ≡ cond (is_on leaf command) (is_revoke command) (is_revoked commands leaf)
 unfolding last_on
 revoked_more commands command leaf =
     rw (reverse-append commands (command ∷ [])) (newest_decides (is_on leaf command) command (find (is_on leaf) (reverse commands)))
@@ -119,7 +119,7 @@ tally_with_period d commands marks revoked period tally =
     }
 
 -- the marked leaves are those that pass
-marked_leaves : (p : ℕ → Bool) (a n : ℕ) → marked_from a (map p (range_with_len a n)) ≡ filter p (range_with_len a n)
+pub marked_leaves : (p : ℕ → Bool) (a n : ℕ) → marked_from a (map p (range_with_len a n)) ≡ filter p (range_with_len a n)
 marked_leaves p a zero = refl
 marked_leaves p a (suc n) = ap (λ (rest : List ℕ). cond (p a) (a ∷ rest) rest) (marked_leaves p (a + 1) n)
 

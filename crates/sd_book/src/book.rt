@@ -11,6 +11,7 @@ use crate::command::Command;
 use crate::fault::BookFault;
 use crate::periods::{last_period, until};
 use crate::reading::commands_of;
+use crate::replay::Periods;
 use crate::tally::revoked_after;
 use crate::writing::text_of;
 use sd_ports::NoMemory;
@@ -128,6 +129,16 @@ impl Book {
         ensures ascending { IfOk result (λ leaves. IsStrictlyIncreasing leaves.items) }
     {
         revoked_after(alloc, self.height, until(&self.list, q)).map_err(|_| NoMemory)
+    }
+
+    /// A replay of all periods, which has taken no command. Nothing is allocated.
+    pub fn periods(&self, alloc: Global) -> Periods<'_>
+        ensures height { result.height ≡ self.now.height }
+        ensures commands { result.commands ≡ self.now.commands }
+        ensures limits { IsWithinLimits self.now.height self.now.commands }
+        ensures next { result.next ≡ 0 }
+    {
+        Periods::new(alloc, self.height, &self.list)
     }
 
     /// The file of the book: a line for each command, and a line feed behind each.

@@ -2,28 +2,36 @@ ghost use Rattle.std.specs.Prelude.{◌≡◌};
 ghost use Rattle.sd_book.specs.declared.fault.BookFault.TheVariants.{NoMemory};
 
 use std::alloc::{AllocError, AllocFailed};
+use thiserror::Error;
 
 /// A limit of a book.
-#[derive(Clone, Copy, Debug, PartialEq, Eq)]
+#[derive(Clone, Copy, Debug, PartialEq, Eq, Error)]
 pub enum BookLimit {
     /// It has at most 1,048,576 commands.
+    #[error("it has more than 1048576 commands")]
     Lines,
     /// It has at most 1,023 Period commands, so 1,024 periods.
+    #[error("it has more than 1024 periods")]
     Periods,
     /// At most 4,096 leaves are revoked at the end of this period.
+    #[error("more than 4096 leaves are revoked in period {0}")]
     Revoked(u32),
 }
 
 /// Why bytes are no book. Lines are counted from 1 and judged in order; the first bad line decides.
-#[derive(Clone, Copy, Debug, PartialEq, Eq)]
+#[derive(Clone, Copy, Debug, PartialEq, Eq, Error)]
 pub enum BookFault {
     /// The line is no command.
+    #[error("line {0} is no command")]
     Line(u32),
     /// The line's leaf is not in the tree.
+    #[error("the leaf on line {0} is not in the tree")]
     Leaf(u32),
     /// The book breaks a limit.
+    #[error("the book breaks a limit: {0}")]
     Limit(BookLimit),
     /// Memory is wanting.
+    #[error("memory is wanting")]
     NoMemory,
 }
 

@@ -9,12 +9,14 @@ pub mod laws;
 mod line;
 mod periods;
 mod reading;
+mod replay;
 mod tally;
 mod writing;
 
 pub use book::Book;
 pub use command::Command;
 pub use fault::{BookFault, BookLimit};
+pub use replay::Periods;
 
 #[cfg(test)]
 mod tests;

@@ -11,37 +11,48 @@ fn height(d: u8) -> Result<Height, Fail> {
 #[test]
 fn revoked_leaves(rt: HostRuntime) -> Result<(), Fail> {
     let alloc = rt.alloc();
-    let h = height(3)?;
-    let rows: [(&str, u32, u32, &[u32]); 10] = [
-        ("revoke 5\n", 0, 0, &[5]),
-        ("revoke 5", 0, 0, &[5]),
-        ("revoke 5\nrevoke 5\nsubscribe 5\n", 0, 0, &[]),
-        ("revoke 0\nrevoke 1\n", 0, 0, &[0, 1]),
-        ("revoke 5\nperiod\nsubscribe 5\n", 1, 0, &[5]),
-        ("revoke 5\nperiod\nsubscribe 5\n", 1, 1, &[]),
-        ("period\nrevoke 5\n", 1, 0, &[]),
-        ("period\nrevoke 5\n", 1, 1, &[5]),
+    let rows: [(&str, &[&[u32]]); 10] = [
+        ("", &[&[]]),
+        ("revoke 5\n", &[&[5]]),
+        ("revoke 5", &[&[5]]),
+        ("revoke 5\nrevoke 5\nsubscribe 5\n", &[&[]]),
+        ("revoke 0\nrevoke 1\n", &[&[0, 1]]),
+        ("revoke 5\nperiod\nsubscribe 5\n", &[&[5], &[]]),
+        ("period\nrevoke 5\n", &[&[], &[5]]),
+        ("period\n", &[&[], &[]]),
+        ("revoke 7\nrevoke 2\nsubscribe 4\nrevoke 4", &[&[2, 4, 7]]),
         (
-            "revoke 7\nrevoke 2\nsubscribe 4\nrevoke 4",
-            0,
-            0,
-            &[2, 4, 7],
+            "revoke 6\nperiod\nperiod\nrevoke 1\nsubscribe 6\nrevoke 3\nperiod\nsubscribe 3\nrevoke 0",
+            &[&[6], &[6], &[1, 3], &[0, 1]],
         ),
-        ("", 0, 0, &[]),
     ];
-    for (text, last, q, leaves) in rows {
-        let book = Book::read(alloc, text.as_bytes(), h).ok().ok_or("a book")?;
-        assert_eq!(rt; book.last_period(), last, "{text}");
-        assert!(rt; q <= book.last_period());
-        let found = book.revoked(alloc, q).ok().ok_or("leaves")?;
-        assert!(rt;
-            found
-                .iter()
-                .map(|leaf| leaf.get())
-                .eq(leaves.iter().copied()),
-            "{text}"
-        );
+    for (text, periods) in rows {
+        let book = Book::read(alloc, text.as_bytes(), height(3)?)
+            .ok()
+            .ok_or("a book")?;
+        assert_eq!(rt; book.last_period() as usize + 1, periods.len(), "{text}");
+        let mut replay = book.periods(alloc);
+        for (q, leaves) in periods.iter().enumerate() {
+            assert!(rt; q as u32 <= book.last_period());
+            let found = book.revoked(alloc, q as u32)?;
+            assert_eq!(rt; numbers(alloc, &found)?.as_slice(), *leaves, "{text}");
+            let next = replay.next(alloc)?.ok_or("a period")?;
+            assert_eq!(rt; next, found, "{text}");
+        }
+        assert!(rt; replay.next(alloc)?.is_none(), "{text}");
+        assert!(rt; replay.next(alloc)?.is_none(), "{text}");
     }
+    Ok(())
+}
+
+fn numbers(alloc: Global, leaves: &[Leaf]) -> Result<Vec<u32>, AllocError> {
+    leaves.iter().map(|leaf| leaf.get()).collect(alloc)
+}
+
+#[test]
+fn commands_in_order(rt: HostRuntime) -> Result<(), Fail> {
+    let alloc = rt.alloc();
+    let h = height(3)?;
     let book = Book::read(alloc, b"revoke 5\nperiod\nsubscribe 2\n", h)
         .ok()
         .ok_or("a book")?;
