@@ -68,11 +68,15 @@ fn give<L: Ledger>(
 {
     let mut parent = path_node(h, u, depth);
     let mut label = root_label(master, parent);
-    for below in 0..u32::from(h.get()) - depth {
+    let levels = u32::from(h.get()) - depth;
+    for below in 0..levels {
         let node = path_node(h, u, depth + below + 1);
         secrets.push(descend(&label, parent, sibling(node), steps).0)?;
-        label = descend(&label, parent, node, steps);
-        parent = node;
+        // Nothing hangs below the leaf's own node.
+        if below + 1 < levels {
+            label = descend(&label, parent, node, steps);
+            parent = node;
+        }
     }
     Ok(())
 }

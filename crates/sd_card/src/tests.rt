@@ -5,6 +5,7 @@ use hex::FromHex;
 use sd_site::Site;
 use sd_steps::Steps;
 use sd_tree::{Height, Leaf, SetName};
+use sha2::{Digest, Sha256};
 use std::alloc::{AllocError, Global};
 use std::marker::Brand;
 use std::sync::ledger::{Blank, Ledger};
@@ -67,6 +68,29 @@ fn cards_are_written_and_read_again(rt: HostRuntime) -> Result<(), Fail> {
         assert_eq!(rt; again.ca(), 0x1234);
         let bytes = again.write(rt.alloc()).ok().ok_or("memory is left")?;
         assert_eq!(rt; hex::encode(rt.alloc(), &bytes)?.as_str(), text);
+    }
+    Ok(())
+}
+
+#[test]
+fn cards_of_a_tall_tree(rt: HostRuntime) -> Result<(), Fail> {
+    for (u, sum) in [
+        (
+            12345,
+            "33f8db1f7633b12de2b8976fe46d7a73e9537dd24e04137cfe070f05aec66e94",
+        ),
+        (
+            1048575,
+            "bfcbc774a9f50e0917519d412c998ec26d8d7a84e5ad4da24446ab561b63d50e",
+        ),
+    ] {
+        let (card, _) = made(rt.alloc(), 20, u, (0, 0)).ok_or("the leaf has a card")?;
+        let bytes = card.write(rt.alloc()).ok().ok_or("memory is left")?;
+        assert_eq!(rt; bytes.len(), 6780);
+        assert_eq!(rt;
+            hex::encode(rt.alloc(), &Sha256::digest(&bytes))?.as_str(),
+            sum
+        );
     }
     Ok(())
 }
