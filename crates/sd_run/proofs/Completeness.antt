@@ -1,77 +1,110 @@
--- Good words over good files mean the cover, or what is not built yet.
-use Rattle.std.proofs.Common.{◌≡◌, ℕ, ◌≤◌, Bool, true, false, cond, List, length, nat_lt, Some, Result, Ok, Err, refl, sym, ap, subst, ◌∙◌, arith, le-ltb}
+-- Good words over good files mean work, and so they are not refused.
+use Rattle.std.proofs.Common.{◌≡◌, ◌≢◌, ◌⊎◌, ℕ, ◌≤◌, ◌^◌, cond, List, length, Some, Result, Ok, Err, refl, sym, ap, subst, ◌∙◌, inl, inr, ⊎_elim, arith, le-ltb, lt-ltb}
 use Rattle.std.specs.FinMap.{get}
 use Rattle.sd_cause.specs.Count.{Rose, IsCalm}
 use Rattle.sd_ports.specs.Files.{Files}
 use Rattle.sd_site.specs.Fields.{SiteFields}
 use Rattle.sd_site.specs.Text.{site_of}
 use Rattle.sd_site.proofs.Alone.{answered}
-use Rattle.sd_book.specs.declared.command.Command.{Command}
-use Rattle.sd_book.specs.Commands.{revoked}
+use Rattle.sd_card.specs.Fields.{card_of, card_bytes}
+use Rattle.sd_sample.specs.Sample.{sample_of}
 use Rattle.sd_book.specs.Text.{book_of}
 use Rattle.sd_book.proofs.Judged.{book_again}
 use Rattle.sd_text.specs.Lines.{lines_of}
 use Rattle.sd_run.specs.declared.status.Status.{Status}
-use Rattle.sd_run.specs.declared.status.Status.TheVariants.{Done, Usage, Missing, DepotFault, PrintFault, BadSite, BadBook, Limit, NoMemory, NotYet}
+use Rattle.sd_run.specs.declared.status.Status.TheVariants.{Done, Usage, Missing, DepotFault, PrintFault, BadSite, BadBook, Limit, NoMemory, BadWord}
 use Rattle.sd_run.specs.declared.status.LimitKind.{LimitKind}
 use Rattle.sd_run.specs.declared.status.LimitKind.TheVariants.{SiteBytes, BookBytes}
-use Rattle.sd_run.specs.Work.{Work, Cover}
-use Rattle.sd_run.specs.Meaning.{◌>>=◌, within, file_in, told_site, told_book, site_in, begins_period, one_period, book_in, few_revoked, cover_in}
-use Rattle.sd_run.specs.Answers.{IsRefusedAs, IsRefusal}
-use Rattle.sd_run.specs.Complete.{IsGoodCover, IsGoodAnswer}
+use Rattle.sd_run.specs.Work.{Work, Cover, Make}
+use Rattle.sd_run.specs.Meaning.{◌>>=◌, Order, CoverOf, CardOf, SampleOf, within, file_in, told_site, told_book, told_card, site_in, book_in, cover_in, card_in, card_work, order_of, order_meaning, meaning}
+use Rattle.sd_run.specs.Answers.{IsRefusedAs, IsTellable}
+use Rattle.sd_run.specs.Complete.{IsGoodSite, IsGoodCover, IsGoodCard, IsGoodOrder, IsGoodAnswer}
 
--- the work is meant, or the refusal of what is not built yet
-abbrev pub IsCovered : Result Work Status → Type 0
-IsCovered (Ok work) = Unit {0}
-IsCovered (Err status) = status ≡ NotYet
+-- some work is meant
+abbrev pub IsWorkMeant : Result Work Status → Type 0
+IsWorkMeant meant = (work : Work) × (meant ≡ Ok work)
 
 -- a file that is there and not too long
 file_read : (files : Files) (word most : ℕ) (kind : LimitKind) (name bytes : List ℕ) → get files name ≡ Some bytes → length bytes ≤ most → file_in files word most kind name ≡ Ok bytes
 file_read files word most kind name bytes there short =
     ap (within word most kind) there ∙ ap (λ b. cond b (Err (Limit kind)) (Ok bytes)) (le-ltb most (length bytes) short)
 
-site_good : (words : List (List ℕ)) (files : Files) (good : IsGoodCover words files) → site_in files good.site_name ≡ Ok good.fields
+site_good : (files : Files) (name : List ℕ) (fields : SiteFields) → IsGoodSite files name fields → site_in files name ≡ Ok fields
 unfolding site_in
-site_good words files good =
-    ap (λ r. r >>= λ bytes. told_site (site_of bytes)) (file_read files 1 4096 SiteBytes good.site_name good.site good.site_there good.site_bytes)
-    ∙ ap told_site (answered (lines_of good.site) (Ok good.fields) (good.is_site.text, good.is_site.ranges))
+site_good files name fields good =
+    ap (λ r. r >>= λ bytes. told_site (site_of bytes)) (file_read files 1 4096 SiteBytes name good.bytes good.there good.short)
+    ∙ ap told_site (answered (lines_of good.bytes) (Ok fields) (good.is_site.text, good.is_site.ranges))
 
-few_covered : (d : ℕ) (commands : List Command) (b : Bool) → IsCovered (cond b (Err NotYet) (Ok (Cover d commands)))
-few_covered d commands true = refl
-few_covered d commands false = tt
+book_good : (words : List (List ℕ)) (files : Files) (good : IsGoodCover words files) → book_in files good.fields.height good.book_name ≡ Ok good.commands
+unfolding book_in
+book_good words files good =
+    ap (λ r. r >>= λ bytes. told_book (book_of good.fields.height bytes)) (file_read files 2 33554432 BookBytes good.book_name good.book good.book_there good.book_bytes)
+    ∙ ap told_book (book_again good.fields.height good.book good.commands good.is_book good.within)
 
--- a book that is read is covered, or has more than is built
-period_covered : (d : ℕ) (commands : List Command) (b : Bool) (read : Result (List Command) Status) → read ≡ Ok commands
-    → IsCovered (cond b (Err NotYet) read >>= few_revoked d)
-period_covered d commands true read e = refl
-period_covered d commands false read e = subst (λ (r : Result (List Command) Status). IsCovered (r >>= few_revoked d)) (sym e) (few_covered d commands (nat_lt 1 (length (revoked d commands 0))))
+cover_good : (words : List (List ℕ)) (files : Files) (good : IsGoodCover words files) → cover_in files good.site_name good.book_name ≡ Ok (Cover good.fields.height good.commands)
+unfolding cover_in
+cover_good words files good =
+    ap (λ r. r >>= λ f. book_in files f.height good.book_name >>= λ cs. Ok (Cover f.height cs)) (site_good files good.site_name good.fields good.site)
+    ∙ ap (λ r. r >>= λ cs. Ok (Cover good.fields.height cs)) (book_good words files good)
 
-pub good_is_covered : (words : List (List ℕ)) (files : Files) (good : IsGoodCover words files) → IsCovered (cover_in files good.site_name good.book_name)
-unfolding cover_in book_in one_period
-good_is_covered words files good =
-    let d = good.fields.height in
-    let book : told_book (book_of d good.book) ≡ Ok good.commands = ap told_book (book_again d good.book good.commands good.is_book good.within) in
-    subst (λ (r : Result SiteFields Status). IsCovered (r >>= λ fields. book_in files fields.height good.book_name >>= few_revoked fields.height)) (sym (site_good words files good))
-    (subst (λ (r : Result (List ℕ) Status). IsCovered ((r >>= one_period d) >>= few_revoked d)) (sym (file_read files 2 33554432 BookBytes good.book_name good.book good.book_there good.book_bytes))
-    (period_covered d good.commands (begins_period d good.book) (told_book (book_of d good.book)) book))
+card_good : (words : List (List ℕ)) (files : Files) (good : IsGoodCard words files) → IsWorkMeant (card_work files good.site_name good.leaf good.out)
+unfolding card_in
+card_good words files good =
+    let fields = good.fields in
+    let bytes = card_bytes (card_of fields.master fields.ca fields.height good.leaf) in (
+      Make good.out bytes,
+      ap (λ r. (r >>= λ f. told_card f good.leaf) >>= λ b. Ok (Make good.out b)) (site_good files good.site_name fields good.site)
+          ∙ ap (λ b. cond b (Ok bytes) (Err (BadWord 2)) >>= λ b. Ok (Make good.out b)) (lt-ltb good.leaf (2 ^ fields.height) good.of_tree),
+    )
 
--- no other refusal is meant
-not_meant : (status : Status) (meant : Result Work Status) → IsCovered meant → meant ≡ Err status → (status ≡ NotYet → ⊥) → ⊥
-not_meant status meant covered meets other = other (subst IsCovered meets covered)
+-- an order that means work is the words'
+ordered : (words : List (List ℕ)) (files : Files) (order : Order) → order_of words ≡ Ok order → IsWorkMeant (order_meaning order files) → IsWorkMeant (meaning words files)
+ordered words files order read work = subst (λ (r : Result Order Status). IsWorkMeant (r >>= λ o. order_meaning o files)) (sym read) work
 
--- a refusal of what is covered is of what is not built yet, or the outside's
-pub covered_answer : (status : Status) (meant : Result Work Status) → IsCovered meant → IsRefusedAs status meant → IsRefusal status → (status ≡ DepotFault → ⊥) → IsGoodAnswer status
-covered_answer Done meant covered meets refusal calm = tt
-covered_answer Usage meant covered meets refusal calm = refusal
-covered_answer (Missing word) meant covered meets refusal calm = absurd (not_meant (Missing word) meant covered meets (λ e. cc))
-covered_answer DepotFault meant covered meets refusal calm = calm refl
-covered_answer PrintFault meant covered meets refusal calm = refusal
-covered_answer (BadSite fault) meant covered meets refusal calm = absurd (not_meant (BadSite fault) meant covered meets (λ e. cc))
-covered_answer (BadBook word line) meant covered meets refusal calm = absurd (not_meant (BadBook word line) meant covered meets (λ e. cc))
-covered_answer (Limit kind) meant covered meets refusal calm = absurd (not_meant (Limit kind) meant covered meets (λ e. cc))
-covered_answer NoMemory meant covered meets refusal calm = tt
-covered_answer NotYet meant covered meets refusal calm = tt
+pub good_means_work : (words : List (List ℕ)) (files : Files) → IsGoodOrder words files → IsWorkMeant (meaning words files)
+good_means_work words files (inl good) =
+    ordered words files (CoverOf good.site_name good.book_name) good.order (Cover good.fields.height good.commands, cover_good words files good)
+good_means_work words files (inr (inl good)) =
+    ordered words files (CardOf good.site_name good.leaf good.out) good.order (card_good words files good)
+good_means_work words files (inr (inr good)) =
+    ordered words files (SampleOf good.number good.packets good.out) good.order (Make good.out (sample_of good.number good.packets), refl)
+
+both_ways : {work : Work} {status : Status} (meant : Result Work Status) → meant ≡ Ok work → meant ≡ Err status → ⊥
+both_ways meant h k = absurd (cc)
+
+-- where work is meant only the outside refuses
+pub outside_alone : (status : Status) (meant : Result Work Status) → IsWorkMeant meant → IsRefusedAs status meant → (status ≡ NoMemory) ⊎ (status ≡ DepotFault)
+outside_alone Done meant work refused = absurd refused
+outside_alone Usage meant work refused = absurd (both_ways meant work.1 refused)
+outside_alone (Missing word) meant work refused = absurd (both_ways meant work.1 refused)
+outside_alone DepotFault meant work refused = inr refl
+outside_alone PrintFault meant work refused = absurd refused
+outside_alone (BadSite fault) meant work refused = absurd (both_ways meant work.1 refused)
+outside_alone (BadBook word line) meant work refused = absurd (both_ways meant work.1 refused)
+outside_alone (Limit kind) meant work refused = absurd (both_ways meant work.1 refused)
+outside_alone NoMemory meant work refused = inl refl
+outside_alone (BadWord word) meant work refused = absurd (both_ways meant work.1 refused)
 
 -- a count that is calm didn't rise
 pub not_calm : (before now : ℕ) → IsCalm before now → Rose before now → ⊥
 not_calm before now calm rose = absurd (omega arith)
+
+-- a status is the end of a failed print, or not
+pub cut_or_not : (status : Status) → (status ≡ PrintFault) ⊎ (status ≢ PrintFault)
+cut_or_not Done = inr (λ e. cc)
+cut_or_not Usage = inr (λ e. cc)
+cut_or_not (Missing word) = inr (λ e. cc)
+cut_or_not DepotFault = inr (λ e. cc)
+cut_or_not PrintFault = inl refl
+cut_or_not (BadSite fault) = inr (λ e. cc)
+cut_or_not (BadBook word line) = inr (λ e. cc)
+cut_or_not (Limit kind) = inr (λ e. cc)
+cut_or_not NoMemory = inr (λ e. cc)
+cut_or_not (BadWord word) = inr (λ e. cc)
+
+-- what is told where work is meant and the device didn't fail
+pub good_answer : (meant : Result Work Status) (status told answer : Status) → IsWorkMeant meant → IsRefusedAs status meant → status ≢ DepotFault
+    → IsTellable status told → answer ≡ told → IsGoodAnswer answer
+good_answer meant status told answer work refused calm (inl same) e =
+    ⊎_elim (λ (wanting : status ≡ NoMemory). inr (e ∙ same ∙ wanting)) (λ (failed : status ≡ DepotFault). absurd (calm failed)) (outside_alone status meant work refused)
+good_answer meant status told answer work refused calm (inr wanting) e = inr (e ∙ wanting.0)

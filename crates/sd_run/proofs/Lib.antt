@@ -1,4 +1,7 @@
-pub mod Finds
-pub mod Printed
+pub mod Words
+pub mod Covers
 pub mod Refusals
+pub mod Told
+pub mod Outs
+pub mod Ordered
 pub mod Completeness

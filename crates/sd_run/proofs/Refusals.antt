@@ -1,15 +1,13 @@
--- How a refusal of one step is the refusal of the whole, and how the steps make the whole.
-use Rattle.std.proofs.Common.{◌≡◌, ℕ, ◌<◌, false, cond, List, length, nat_lt, Option, Some, None, Result, Ok, Err, refl, sym, ap, subst, ◌∙◌, lt-ltb}
-use Rattle.std.specs.Prelude.{option_to_list}
-use Rattle.sd_ports.specs.Files.{Files}
-use Rattle.sd_site.specs.Fields.{SiteFields}
-use Rattle.sd_book.specs.declared.command.Command.{Command}
-use Rattle.sd_book.specs.Commands.{revoked}
+-- How a refusal of one step is the refusal of the whole, and what it leaves behind it.
+use Rattle.std.proofs.Common.{◌≡◌, ◌≢◌, ◌⊎◌, ℕ, List, [], Option, Some, None, Result, Ok, Err, refl, sym, ap, subst, inl, inr}
+use Rattle.std.proofs.KnownBytes.{Appends-nil}
+use Rattle.sd_ports.specs.Files.{Files, with_bytes}
+use Rattle.sd_ports.specs.Bytes.{IsFront}
 use Rattle.sd_run.specs.declared.status.Status.{Status}
-use Rattle.sd_run.specs.declared.status.Status.TheVariants.{Done, Usage, Missing, DepotFault, PrintFault, BadSite, BadBook, Limit, NoMemory, NotYet}
-use Rattle.sd_run.specs.Work.{Cover}
-use Rattle.sd_run.specs.Meaning.{◌>>=◌, site_in, book_in, few_revoked, cover_in}
-use Rattle.sd_run.specs.Answers.{IsRefusedAs, ForTold}
+use Rattle.sd_run.specs.declared.status.Status.TheVariants.{Done, Usage, Missing, DepotFault, PrintFault, BadSite, BadBook, Limit, NoMemory, BadWord}
+use Rattle.sd_run.specs.Work.{Work, Make}
+use Rattle.sd_run.specs.Meaning.{◌>>=◌}
+use Rattle.sd_run.specs.Answers.{IsRefusedAs, IsRefusal, ForTold, IsWork, IsDone, LeavesFrontOut, StopsAt, Obeys, MakesFile}
 
 pub told_weaker : (files : Option Files) (P Q : Files → Type 0) → ((fs : Files) → P fs → Q fs) → ForTold files P → ForTold files Q
 told_weaker None P Q step h = tt
@@ -20,7 +18,7 @@ told_both None P Q R step h k = tt
 told_both (Some fs) P Q R step h k = step fs h k
 
 -- the refusal of a first step is that of all
-refused_first : {A B : Type 0} (status : Status) (first : Result A Status) (next : A → Result B Status) → IsRefusedAs status first → IsRefusedAs status (first >>= next)
+pub refused_first : {A B : Type 0} (status : Status) (first : Result A Status) (next : A → Result B Status) → IsRefusedAs status first → IsRefusedAs status (first >>= next)
 refused_first Done first next h = h
 refused_first Usage first next h = ap (λ r. r >>= next) h
 refused_first (Missing word) first next h = ap (λ r. r >>= next) h
@@ -30,43 +28,131 @@ refused_first (BadSite fault) first next h = ap (λ r. r >>= next) h
 refused_first (BadBook word line) first next h = ap (λ r. r >>= next) h
 refused_first (Limit kind) first next h = ap (λ r. r >>= next) h
 refused_first NoMemory first next h = tt
-refused_first NotYet first next h = ap (λ r. r >>= next) h
+refused_first (BadWord word) first next h = ap (λ r. r >>= next) h
 
 -- the refusal of a next step is that of all
-refused_next : {A B : Type 0} (status : Status) (first : Result A Status) (x : A) (next : A → Result B Status) → first ≡ Ok x → IsRefusedAs status (next x) → IsRefusedAs status (first >>= next)
+pub refused_next : {A B : Type 0} (status : Status) (first : Result A Status) (x : A) (next : A → Result B Status) → first ≡ Ok x → IsRefusedAs status (next x) → IsRefusedAs status (first >>= next)
 refused_next {B = B} status first x next done h = subst (λ r. IsRefusedAs {V = B} status (r >>= next)) (sym done) h
 
-pub cover_site_refused : (files : Files) (site book : List ℕ) (status : Status) → IsRefusedAs status (site_in files site) → IsRefusedAs status (cover_in files site book)
-unfolding cover_in
-cover_site_refused files site book status h = refused_first status (site_in files site) _ h
+-- a refusal is neither of the two ends of printing
+pub not_an_end : (status : Status) → IsRefusal status → (status ≢ Done) × (status ≢ PrintFault)
+not_an_end Done h = absurd h
+not_an_end Usage h = absurd h
+not_an_end (Missing word) h = (λ e. cc, λ e. cc)
+not_an_end DepotFault h = (λ e. cc, λ e. cc)
+not_an_end PrintFault h = absurd h
+not_an_end (BadSite fault) h = (λ e. cc, λ e. cc)
+not_an_end (BadBook word line) h = (λ e. cc, λ e. cc)
+not_an_end (Limit kind) h = (λ e. cc, λ e. cc)
+not_an_end NoMemory h = (λ e. cc, λ e. cc)
+not_an_end (BadWord word) h = (λ e. cc, λ e. cc)
 
-pub cover_book_refused : (files : Files) (site book : List ℕ) (status : Status) (fields : SiteFields)
-    → site_in files site ≡ Ok fields → IsRefusedAs status (book_in files fields.height book) → IsRefusedAs status (cover_in files site book)
-unfolding cover_in
-cover_book_refused files site book status fields read h =
-    refused_next status (site_in files site) fields _ read (refused_first status (book_in files fields.height book) _ h)
+-- a refusal before anything was printed or made
+at_once : (meant : Files → Result Work Status) (files : Option Files) (held : Option (List ℕ)) (status : Status)
+    → ForTold files (λ told. IsRefusedAs status (meant told)) → (status ≢ Done) × (status ≢ PrintFault) → StopsAt meant files files held held status
+at_once meant files held status refused end = record {
+  lines = [];
+  stopped = record {
+    refused = refused;
+    is_refusal = end;
+    begun = inl refl;
+    none = λ _. refl;
+    files_stay = λ _. refl;
+    out = inl refl;
+  };
+  printed = Appends-nil held;
+}
 
--- where both files are read the rest depends on how many leaves are revoked
-cover_is : (files : Files) (site book : List ℕ) (fields : SiteFields) (commands : List Command)
-    → site_in files site ≡ Ok fields → book_in files fields.height book ≡ Ok commands → cover_in files site book ≡ few_revoked fields.height commands
-unfolding cover_in
-cover_is files site book fields commands read told =
-    ap (λ r. r >>= λ f. book_in files f.height book >>= λ cs. few_revoked f.height cs) read
-    ∙ ap (λ r. r >>= λ cs. few_revoked fields.height cs) told
+-- a refusal, of which no value says more than the status
+abbrev pub refused_by : Status → Result (Unit {0}) Status
+refused_by status = Err status
 
-pub cover_more_revoked : (files : Files) (site book : List ℕ) (fields : SiteFields) (commands : List Command)
-    → site_in files site ≡ Ok fields → book_in files fields.height book ≡ Ok commands → 1 < length (revoked fields.height commands 0) → cover_in files site book ≡ Err NotYet
-cover_more_revoked files site book fields commands read told more =
-    cover_is files site book fields commands read told ∙ ap (λ b. cond b (Err NotYet) (Ok (Cover fields.height commands))) (lt-ltb 1 _ more)
+-- refusals that are equal are of equal statuses
+pub err_is : {a b : Status} → refused_by a ≡ refused_by b → a ≡ b
+err_is e = cc
 
-few : (leaf : Option ℕ) → nat_lt 1 (length (option_to_list leaf)) ≡ false
-few None = refl
-few (Some u) = refl
+pub refusal_obeys : (meant : Files → Result Work Status) (files : Option Files) (held : Option (List ℕ)) (status : Status)
+    → ForTold files (λ told. IsRefusedAs status (meant told)) → (status ≢ Done) × (status ≢ PrintFault) → Obeys meant files files held held (Err status)
+refusal_obeys meant files held status refused end = record {
+  done = tt;
+  cut_off = λ e. absurd (end.1 (err_is e));
+  stops = λ s e n. subst (λ (s : Status). StopsAt meant files files held held s) (err_is e) (at_once meant files held status refused end);
+}
 
-pub cover_few_revoked : (files : Files) (site book : List ℕ) (fields : SiteFields) (commands : List Command) (leaf : Option ℕ)
-    → site_in files site ≡ Ok fields → book_in files fields.height book ≡ Ok commands → revoked fields.height commands 0 ≡ option_to_list leaf
-    → cover_in files site book ≡ Ok (Cover fields.height commands)
-cover_few_revoked files site book fields commands leaf read told one =
-    cover_is files site book fields commands read told
-    ∙ ap (λ (r : List ℕ). cond (nat_lt 1 (length r)) (Err NotYet) (Ok (Cover fields.height commands))) one
-    ∙ ap (λ b. cond b (Err NotYet) (Ok (Cover fields.height commands))) (few leaf)
+-- the file was made
+made : (meant : Files → Result Work Status) (files now : Option Files) (held : Option (List ℕ)) (name bytes : List ℕ)
+    → IsWork meant files (Make name bytes) → now ≡ with_bytes files name bytes → IsDone meant files now held held
+made meant files now held name bytes work e = record {
+  work = Make name bytes;
+  is_meant = work;
+  text = [];
+  prints = refl;
+  printed = Appends-nil held;
+  made = e;
+}
+
+-- no file was made, or a front of it
+left : (meant : Files → Result Work Status) (files now : Option Files) (held : Option (List ℕ)) (status : Status)
+    → ForTold files (λ told. IsRefusedAs status (meant told)) → (status ≢ Done) × (status ≢ PrintFault)
+    → (status ≢ DepotFault → now ≡ files) → ((now ≡ files) ⊎ LeavesFrontOut meant files now) → StopsAt meant files now held held status
+left meant files now held status refused end stay out = record {
+  lines = [];
+  stopped = record {
+    refused = refused;
+    is_refusal = end;
+    begun = inl refl;
+    none = λ _. refl;
+    files_stay = stay;
+    out = out;
+  };
+  printed = Appends-nil held;
+}
+
+-- what a device fault leaves is the file with a front of its bytes, or none
+front_out : (meant : Files → Result Work Status) (files now : Option Files) (name bytes : List ℕ) → IsWork meant files (Make name bytes)
+    → ((now ≡ files) ⊎ ((front : List ℕ) × IsFront front bytes × (now ≡ with_bytes files name front))) → (now ≡ files) ⊎ LeavesFrontOut meant files now
+front_out meant files now name bytes work (inl same) = inl same
+front_out meant files now name bytes work (inr cut) = inr (record {
+  name = name;
+  bytes = bytes;
+  work = work;
+  front = cut.0;
+  short = cut.1;
+  made = cut.2;
+})
+
+making_stops : (meant : Files → Result Work Status) (files now : Option Files) (held : Option (List ℕ)) (name bytes : List ℕ) (status : Status)
+    → IsWork meant files (Make name bytes) → MakesFile files now name bytes (Err status) → ((status ≡ DepotFault) ⊎ ((status ≡ NoMemory) ⊎ (status ≡ Missing 3)))
+    → StopsAt meant files now held held status
+making_stops meant files now held name bytes status work file (inl e) =
+    subst (λ (s : Status). StopsAt meant files now held held s) (sym e)
+    (left meant files now held DepotFault (told_weaker files _ _ (λ fs h. tt) work) (λ e. cc, λ e. cc) (λ other. absurd (other refl))
+    (front_out meant files now name bytes work (file.failed (ap Err e))))
+making_stops meant files now held name bytes status work file (inr (inl e)) =
+    let same : now ≡ files = file.no_memory (ap Err e) in
+    subst (λ (s : Status). StopsAt meant files now held held s) (sym e)
+    (left meant files now held NoMemory (told_weaker files _ _ (λ fs h. tt) work) (λ e. cc, λ e. cc) (λ other. same) (inl same))
+making_stops meant files now held name bytes status work file (inr (inr e)) =
+    let missing = file.missing 3 (ap Err e) in
+    subst (λ (s : Status). StopsAt meant files now held held s) (sym e)
+    (left meant files now held (Missing 3) (subst (λ (fs : Option Files). ForTold fs (λ told. IsRefusedAs (Missing 3) (meant told))) (sym missing.1) tt)
+    (λ e. cc, λ e. cc) (λ other. missing.0) (inl missing.0))
+
+made_so_far : (status : Status) → ((status ≡ DepotFault) ⊎ ((status ≡ NoMemory) ⊎ (status ≡ Missing 3))) → status ≢ PrintFault
+made_so_far status (inl e) f = cc
+made_so_far status (inr (inl e)) f = cc
+made_so_far status (inr (inr e)) f = cc
+
+-- making the file that is meant obeys
+pub making_obeys : (meant : Files → Result Work Status) (files now : Option Files) (held : Option (List ℕ)) (name bytes : List ℕ) (result : Result (Unit {0}) Status)
+    → IsWork meant files (Make name bytes) → MakesFile files now name bytes result → Obeys meant files now held held result
+making_obeys meant files now held name bytes (Ok done) work file = record {
+  done = made meant files now held name bytes work file.done;
+  cut_off = λ e. absurd (cc);
+  stops = λ s e n. absurd (cc);
+}
+making_obeys meant files now held name bytes (Err status) work file = record {
+  done = tt;
+  cut_off = λ e. absurd (made_so_far status file.only (err_is e));
+  stops = λ s e n. subst (λ (s : Status). StopsAt meant files now held held s) (err_is e) (making_stops meant files now held name bytes status work file file.only);
+}

@@ -1,5 +1,5 @@
 -- What the program is for: good words over good files.
-use Rattle.std.specs.Prelude.{◌≡◌, ℕ, ◌≤◌, List, length, Some}
+use Rattle.std.specs.Prelude.{◌≡◌, ◌⊎◌, ℕ, ◌≤◌, ◌<◌, ◌^◌, List, length, Some, Ok}
 use Rattle.std.specs.FinMap.{get}
 use Rattle.sd_text.specs.Lines.{lines_of}
 use Rattle.sd_ports.specs.Files.{Files}
@@ -9,19 +9,23 @@ use Rattle.sd_book.specs.declared.command.Command.{Command}
 use Rattle.sd_book.specs.Text.{SpellsBook}
 use Rattle.sd_book.specs.Limits.{IsWithinLimits}
 use Rattle.sd_run.specs.declared.status.Status.{Status}
-use Rattle.sd_run.specs.declared.status.Status.TheVariants.{Done, Usage, Missing, DepotFault, PrintFault, BadSite, BadBook, Limit, NoMemory, NotYet}
-use Rattle.sd_run.specs.Meaning.{CoverOf, order_of}
+use Rattle.sd_run.specs.declared.status.Status.TheVariants.{Done, NoMemory}
+use Rattle.sd_run.specs.Meaning.{CoverOf, CardOf, SampleOf, order_of}
+
+-- the file of this name is there, in the grammar of sites and within the limit, and says this site
+pub record IsGoodSite (files : Files) (name : List ℕ) (fields : SiteFields) : Type 0 where
+  pub bytes : List ℕ
+  pub there : get files name ≡ Some bytes
+  pub short : length bytes ≤ 4096
+  pub is_site : IsSite bytes fields
 
 -- the words are `cover SITE BOOK`, and the two files are there, in their grammars and within their limits
 pub record IsGoodCover (words : List (List ℕ)) (files : Files) : Type 0 where
   pub site_name : List ℕ
   pub book_name : List ℕ
-  pub order : order_of words ≡ Some (CoverOf site_name book_name)
-  pub site : List ℕ
-  pub site_there : get files site_name ≡ Some site
-  pub site_bytes : length site ≤ 4096
+  pub order : order_of words ≡ Ok (CoverOf site_name book_name)
   pub fields : SiteFields
-  pub is_site : IsSite site fields
+  pub site : IsGoodSite files site_name fields
   pub book : List ℕ
   pub book_there : get files book_name ≡ Some book
   pub book_bytes : length book ≤ 33554432
@@ -29,15 +33,27 @@ pub record IsGoodCover (words : List (List ℕ)) (files : Files) : Type 0 where
   pub is_book : SpellsBook (lines_of book) commands
   pub within : IsWithinLimits fields.height commands
 
--- the answers to good words over good files, where no device fails
+-- the words are `card SITE LEAF OUT`, the file is there and a site, and its tree has the leaf
+pub record IsGoodCard (words : List (List ℕ)) (files : Files) : Type 0 where
+  pub site_name : List ℕ
+  pub leaf : ℕ
+  pub out : List ℕ
+  pub order : order_of words ≡ Ok (CardOf site_name leaf out)
+  pub fields : SiteFields
+  pub site : IsGoodSite files site_name fields
+  pub of_tree : leaf < 2 ^ fields.height
+
+-- the words are `sample NUMBER PACKETS OUT`
+pub record IsGoodSample (words : List (List ℕ)) : Type 0 where
+  pub number : ℕ
+  pub packets : ℕ
+  pub out : List ℕ
+  pub order : order_of words ≡ Ok (SampleOf number packets out)
+
+-- good words over good files
+abbrev pub IsGoodOrder : List (List ℕ) → Files → Type 0
+IsGoodOrder words files = IsGoodCover words files ⊎ (IsGoodCard words files ⊎ IsGoodSample words)
+
+-- the answers to them, where no device fails
 abbrev pub IsGoodAnswer : Status → Type 0
-IsGoodAnswer Done = Unit {0}
-IsGoodAnswer NotYet = Unit {0}
-IsGoodAnswer NoMemory = Unit {0}
-IsGoodAnswer Usage = ⊥
-IsGoodAnswer (Missing word) = ⊥
-IsGoodAnswer DepotFault = ⊥
-IsGoodAnswer PrintFault = ⊥
-IsGoodAnswer (BadSite fault) = ⊥
-IsGoodAnswer (BadBook word line) = ⊥
-IsGoodAnswer (Limit kind) = ⊥
+IsGoodAnswer status = (status ≡ Done) ⊎ (status ≡ NoMemory)

@@ -1,25 +1,22 @@
 -- What the program means: what is answered for its words and the files, where no device fails and memory is not wanting.
-use Rattle.std.specs.Prelude.{ℕ, Bool, false, not, ◌||◌, ◌^◌, nat_lt, List, [], ◌∷◌, length, take, find, codes, bytes_eq, if◌then◌else◌, Option, Some, None, Result, Ok, Err}
-use Rattle.std.specs.Option.{option_map_or}
+use Rattle.std.specs.Prelude.{ℕ, ◌-◌, ◌^◌, nat_lt, List, [], ◌∷◌, length, codes, bytes_eq, if◌then◌else◌, Option, Some, None, Result, Ok, Err}
 use Rattle.std.specs.FinMap.{get}
-use Rattle.sd_text.specs.Lines.{lines_of}
-use Rattle.sd_text.specs.Number.{number_behind}
+use Rattle.sd_text.specs.Number.{number_of}
 use Rattle.sd_ports.specs.Files.{Files}
+use Rattle.sd_sample.specs.Sample.{sample_of}
 use Rattle.sd_site.specs.Fields.{SiteFields}
 use Rattle.sd_site.specs.Text.{site_of}
 use Rattle.sd_site.specs.declared.fault.SiteFault.{SiteFault}
+use Rattle.sd_card.specs.Fields.{card_of, card_bytes}
 use Rattle.sd_book.specs.declared.command.Command.{Command}
 use Rattle.sd_book.specs.declared.fault.BookFault.{BookFault}
 use Rattle.sd_book.specs.declared.fault.BookFault.TheVariants as book
-use Rattle.sd_book.specs.declared.fault.BookLimit.{BookLimit}
-use Rattle.sd_book.specs.declared.fault.BookLimit.TheVariants as limit
-use Rattle.sd_book.specs.Commands.{revoked}
 use Rattle.sd_book.specs.Text.{book_of}
 use Rattle.sd_run.specs.declared.status.Status.{Status}
-use Rattle.sd_run.specs.declared.status.Status.TheVariants.{Usage, Missing, BadSite, BadBook, Limit, NoMemory, NotYet}
+use Rattle.sd_run.specs.declared.status.Status.TheVariants.{Usage, Missing, BadSite, BadBook, Limit, NoMemory, BadWord}
 use Rattle.sd_run.specs.declared.status.LimitKind.{LimitKind}
 use Rattle.sd_run.specs.declared.status.LimitKind.TheVariants.{SiteBytes, BookBytes, Book}
-use Rattle.sd_run.specs.Work.{Work, Cover}
+use Rattle.sd_run.specs.Work.{Work, Cover, Make}
 
 -- a step that is taken where the one before was not refused
 infixl 10 ◌>>=◌
@@ -43,68 +40,88 @@ told_site (Err fault) = Err (BadSite fault)
 unfoldable pub site_in : Files → List ℕ → Result SiteFields Status
 site_in files name = file_in files 1 4096 SiteBytes name >>= λ bytes. told_site (site_of bytes)
 
--- the number is of a leaf
-abbrev pub is_leaf : ℕ → Option ℕ → Bool
-is_leaf d None = false
-is_leaf d (Some u) = nat_lt u (2 ^ d)
-
--- a good line of a leaf's subscribing or revoking
-unfoldable pub is_plain : ℕ → List ℕ → Bool
-is_plain d line = is_leaf d (number_behind (codes "subscribe ") line) || is_leaf d (number_behind (codes "revoke ") line)
-
--- the first line that isn't plain, among as many as a book may have, is a good period line
-unfoldable pub begins_period : ℕ → List ℕ → Bool
-begins_period d bytes = option_map_or (λ line. bytes_eq line (codes "period")) (find (λ line. not (is_plain d line)) (take 1048576 (lines_of bytes))) false
-
--- Where all lines are plain, a book that is over the limit on revoked leaves has more than one.
-abbrev pub refused_limit : BookLimit → Status
-refused_limit limit.Lines = Limit (Book limit.Lines)
-refused_limit limit.Periods = Limit (Book limit.Periods)
-refused_limit (limit.Revoked q) = NotYet
-
 abbrev pub refused_book : BookFault → Status
 refused_book (book.Line k) = BadBook 2 k
 refused_book (book.Leaf k) = BadBook 2 k
-refused_book (book.Limit kind) = refused_limit kind
+refused_book (book.Limit limit) = Limit (Book limit)
 refused_book book.NoMemory = NoMemory
 
+-- the commands that a file's bytes say
 abbrev pub told_book : Result (List Command) BookFault → Result (List Command) Status
 told_book (Ok commands) = Ok commands
 told_book (Err fault) = Err (refused_book fault)
 
--- the commands that a file's bytes say, so far of one period
-unfoldable pub one_period : ℕ → List ℕ → Result (List Command) Status
-one_period d bytes = if begins_period d bytes then Err NotYet else told_book (book_of d bytes)
-
 unfoldable pub book_in : Files → ℕ → List ℕ → Result (List Command) Status
-book_in files d name = file_in files 2 33554432 BookBytes name >>= one_period d
+book_in files d name = file_in files 2 33554432 BookBytes name >>= λ bytes. told_book (book_of d bytes)
 
--- the cover of a book, so far with at most one revoked leaf
-abbrev pub few_revoked : ℕ → List Command → Result Work Status
-few_revoked d commands = if nat_lt 1 (length (revoked d commands 0)) then Err NotYet else Ok (Cover d commands)
-
+-- the cover of a book
 unfoldable pub cover_in : Files → List ℕ → List ℕ → Result Work Status
 cover_in files site book = do
   fields ← site_in files site
   commands ← book_in files fields.height book
-  few_revoked fields.height commands
+  Ok (Cover fields.height commands)
 
--- a command and its words
+-- the bytes of the card of a site's leaf, which is to be one of its tree
+abbrev pub told_card : SiteFields → ℕ → Result (List ℕ) Status
+told_card site u =
+    if nat_lt u (2 ^ site.height) then Ok (card_bytes (card_of site.master site.ca site.height u)) else Err (BadWord 2)
+
+unfoldable pub card_in : Files → List ℕ → ℕ → Result (List ℕ) Status
+card_in files site u = site_in files site >>= λ fields. told_card fields u
+
+-- the card, made as a file
+abbrev pub card_work : Files → List ℕ → ℕ → List ℕ → Result Work Status
+card_work files site u out = card_in files site u >>= λ bytes. Ok (Make out bytes)
+
+-- the sample stream of a number, made as a file
+abbrev pub sample_work : ℕ → ℕ → List ℕ → Result Work Status
+sample_work number packets out = Ok (Make out (sample_of number packets))
+
+-- a command and what its words say
 pub data Order : Type 0 where
   CoverOf : (site book : List ℕ) → Order
+  CardOf : (site : List ℕ) (leaf : ℕ) (out : List ℕ) → Order
+  SampleOf : (number packets : ℕ) (out : List ℕ) → Order
 
--- what the words say, if they are a command with as many words as it takes
-abbrev pub order_of : List (List ℕ) → Option Order
-order_of [] = None
-order_of (command ∷ []) = None
-order_of (command ∷ site ∷ []) = None
-order_of (command ∷ site ∷ book ∷ []) = if bytes_eq command (codes "cover") then Some (CoverOf site book) else None
-order_of (command ∷ site ∷ book ∷ more ∷ words) = None
+-- the number of a word, which is to be a decimal and at most so large
+abbrev pub at_most : ℕ → ℕ → Option ℕ → Result ℕ Status
+at_most word most None = Err (BadWord word)
+at_most word most (Some n) = if nat_lt most n then Err (BadWord word) else Ok n
 
-abbrev pub order_meaning : Option Order → Files → Result Work Status
-order_meaning None files = Err Usage
-order_meaning (Some (CoverOf site book)) files = cover_in files site book
+abbrev pub number_in : ℕ → ℕ → List ℕ → Result ℕ Status
+number_in word most text = at_most word most (number_of text)
+
+-- `card SITE LEAF OUT`, where the two files are to differ; LEAF is a number of 32 bits before the site is known
+unfoldable pub card_words : List ℕ → List ℕ → List ℕ → Result Order Status
+card_words site leaf out =
+    if bytes_eq site out then Err Usage else (number_in 2 (2 ^ 32 - 1) leaf >>= λ u. Ok (CardOf site u out))
+
+-- `sample NUMBER PACKETS OUT`
+unfoldable pub sample_words : List ℕ → List ℕ → List ℕ → Result Order Status
+sample_words number packets out = do
+  n ← number_in 1 (2 ^ 32 - 1) number
+  k ← number_in 2 1000000 packets
+  Ok (SampleOf n k out)
+
+-- What the words say. Whether they are a command with as many words as it takes comes first, and then the numbers
+-- [this project, docs/FORMATS.md, Commands]
+abbrev pub order_of : List (List ℕ) → Result Order Status
+order_of [] = Err Usage
+order_of (command ∷ []) = Err Usage
+order_of (command ∷ a ∷ []) = Err Usage
+order_of (command ∷ a ∷ b ∷ []) = if bytes_eq command (codes "cover") then Ok (CoverOf a b) else Err Usage
+order_of (command ∷ a ∷ b ∷ c ∷ []) =
+    if bytes_eq command (codes "card") then card_words a b c
+    else if bytes_eq command (codes "sample") then sample_words a b c
+    else Err Usage
+order_of (command ∷ a ∷ b ∷ c ∷ e ∷ words) = Err Usage
+
+-- the work of an order
+abbrev pub order_meaning : Order → Files → Result Work Status
+order_meaning (CoverOf site book) files = cover_in files site book
+order_meaning (CardOf site leaf out) files = card_work files site leaf out
+order_meaning (SampleOf number packets out) files = sample_work number packets out
 
 -- the work that the words ask for, or the status of their refusal
 abbrev pub meaning : List (List ℕ) → Files → Result Work Status
-meaning words files = order_meaning (order_of words) files
+meaning words files = order_of words >>= λ order. order_meaning order files

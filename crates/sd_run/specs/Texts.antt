@@ -1,9 +1,17 @@
--- The printed lines [this project, docs/FORMATS.md, Cover].
-use Rattle.std.specs.Prelude.{ℕ, List, ◌++◌, length, codes}
+-- The printed lines [this project, docs/FORMATS.md, Cover and Exits].
+use Rattle.std.specs.Prelude.{ℕ, List, [], ◌++◌, length, codes}
 use Rattle.std.specs.List.{flat_map}
 use Rattle.std.specs.Fmt.{decimal}
 use Rattle.sd_tree.specs.declared.set.SetName.{SetName}
 use Rattle.sd_tree.specs.declared.set.SetName.TheVariants.{Whole, Diff}
+use Rattle.sd_site.specs.declared.fault.SiteFault.{SiteFault}
+use Rattle.sd_site.specs.declared.fault.SiteFault.TheVariants as site
+use Rattle.sd_book.specs.declared.fault.BookLimit.{BookLimit}
+use Rattle.sd_book.specs.declared.fault.BookLimit.TheVariants as limit
+use Rattle.sd_run.specs.declared.status.Status.{Status}
+use Rattle.sd_run.specs.declared.status.Status.TheVariants.{Done, Usage, Missing, DepotFault, PrintFault, BadSite, BadBook, Limit, NoMemory, BadWord}
+use Rattle.sd_run.specs.declared.status.LimitKind.{LimitKind}
+use Rattle.sd_run.specs.declared.status.LimitKind.TheVariants.{SiteBytes, BookBytes, Book}
 
 -- the line of a set
 unfoldable pub set_line : SetName → List ℕ
@@ -18,3 +26,36 @@ period_line q revoked sets =
 -- what is printed of a period: its line, and then a line for each of its sets
 abbrev pub period_text : ℕ → ℕ → List SetName → List ℕ
 period_text q revoked sets = period_line q revoked (length sets) ++ flat_map set_line sets
+
+-- the line of a refused site
+unfoldable pub site_line : SiteFault → List ℕ
+site_line (site.Line k) = codes "site line " ++ (decimal k ++ codes " is malformed\n")
+site_line (site.Range k) = codes "site line " ++ (decimal k ++ codes " is out of range\n")
+site_line site.SamePid = codes "site names one pid twice\n"
+site_line (site.Extra k) = codes "site has extra line " ++ (decimal k ++ codes "\n")
+site_line site.Short = codes "site is short\n"
+
+-- the line of a book that is over a limit
+unfoldable pub book_limit_line : BookLimit → List ℕ
+book_limit_line limit.Lines = codes "limit: book lines\n"
+book_limit_line limit.Periods = codes "limit: periods\n"
+book_limit_line (limit.Revoked q) = codes "limit: revoked in period " ++ (decimal q ++ codes "\n")
+
+-- the line of what is over its limit
+unfoldable pub limit_line : LimitKind → List ℕ
+limit_line SiteBytes = codes "limit: site bytes\n"
+limit_line BookBytes = codes "limit: book bytes\n"
+limit_line (Book limit) = book_limit_line limit
+
+-- the line that a status prints; none where the work is done, or where printing failed
+unfoldable pub line_of : Status → List ℕ
+line_of Done = []
+line_of Usage = codes "usage\n"
+line_of (Missing word) = codes "missing file word " ++ (decimal word ++ codes "\n")
+line_of DepotFault = codes "device fault\n"
+line_of PrintFault = []
+line_of (BadSite fault) = site_line fault
+line_of (BadBook word line) = codes "word " ++ (decimal word ++ (codes " line " ++ (decimal line ++ codes " is refused\n")))
+line_of (Limit kind) = limit_line kind
+line_of NoMemory = codes "no memory\n"
+line_of (BadWord word) = codes "word " ++ (decimal word ++ codes " is out of range\n")

@@ -1,35 +1,52 @@
-use Rattle.std.specs.Prelude.{◌≡◌, ℕ, ◌+◌, ◌^◌, ◌⊎◌, List, [], ◌∷◌, length}
+-- What the commands do when they are done.
+use Rattle.std.specs.Prelude.{◌≡◌, ℕ, zero, suc, ◌+◌, ◌≤◌, List, [], ◌++◌, length, Option}
 use Rattle.sd_tree.specs.declared.set.SetName.{SetName}
-use Rattle.sd_tree.specs.declared.set.SetName.TheVariants.{Whole, Diff}
+use Rattle.sd_ports.specs.Files.{Files, with_bytes}
 use Rattle.sd_book.specs.declared.command.Command.{Command}
-use Rattle.sd_book.specs.Commands.{revoked}
+use Rattle.sd_book.specs.Commands.{last_period, revoked}
 use Rattle.sd_steiner.specs.Partition.{IsPartition, IsSmall, unrevoked}
 use Rattle.sd_steiner.specs.Chains.{IsChainCover}
 use Rattle.sd_run.specs.Texts.{period_text}
 
 -- what a command does when it is done
 pub data Work : Type 0 where
-  -- prints the sets of a book for a tree of this height
+  -- prints the sets of each period of a book for a tree of this height
   Cover : (height : ℕ) (commands : List Command) → Work
+  -- makes a file of this name with these bytes
+  Make : (name bytes : List ℕ) → Work
 
--- the leaves that are entitled in a period: all that aren't revoked
-abbrev pub entitled : ℕ → List Command → ℕ → List ℕ
-entitled d commands q = unrevoked d (revoked d commands q)
-
--- the text names the sets of period 0
-pub record PrintsCover (d : ℕ) (commands : List Command) (text : List ℕ) : Type 0 where
+-- the text of a period names the sets of a cover where these leaves are revoked
+pub record IsCoverText (d q : ℕ) (revoked : List ℕ) (text : List ℕ) : Type 0 where
   pub sets : List SetName
   -- they are those of the chains of the Steiner tree of the revoked leaves
-  pub chains : IsChainCover d (revoked d commands 0) sets
-  -- they are disjoint and unite to just the entitled leaves
-  pub partition : IsPartition d sets (entitled d commands 0)
+  pub chains : IsChainCover d revoked sets
+  -- they are disjoint and unite to just the leaves that are not revoked
+  pub partition : IsPartition d sets (unrevoked d revoked)
   -- they are as few as Naor, Naor and Lotspiech promise
-  pub small : IsSmall sets (length (revoked d commands 0))
-  -- the whole set alone, or the one set that leaves out the one revoked leaf
-  pub few : (sets ≡ Whole ∷ []) ⊎ ((u : ℕ) × (revoked d commands 0 ≡ u ∷ []) × (sets ≡ Diff 1 (2 ^ d + u) ∷ []))
+  pub small : IsSmall sets (length revoked)
   -- and this is their text
-  pub printed : text ≡ period_text 0 (length (revoked d commands 0)) sets
+  pub printed : text ≡ period_text q (length revoked) sets
+
+-- the text names the sets of the first n periods, one period behind the other
+abbrev pub PrintsPeriods : ℕ → List Command → ℕ → List ℕ → Type 0
+PrintsPeriods d commands zero text = text ≡ []
+PrintsPeriods d commands (suc n) text = (before last : List ℕ) × PrintsPeriods d commands n before × IsCoverText d n (revoked d commands n) last × (text ≡ before ++ last)
+
+-- the text of some first periods
+abbrev pub BeginsCover : ℕ → List Command → List ℕ → Type 0
+BeginsCover d commands text = (n : ℕ) × (n ≤ last_period commands + 1) × PrintsPeriods d commands n text
 
 -- what is printed when the work is done
 abbrev pub Prints : Work → List ℕ → Type 0
-Prints (Cover d commands) text = PrintsCover d commands text
+Prints (Cover d commands) text = PrintsPeriods d commands (last_period commands + 1) text
+Prints (Make name bytes) text = text ≡ []
+
+-- what may be printed before the work is done: the text of some first periods
+abbrev pub BeginsToPrint : Work → List ℕ → Type 0
+BeginsToPrint (Cover d commands) text = BeginsCover d commands text
+BeginsToPrint (Make name bytes) text = text ≡ []
+
+-- the files when the work is done, where they are told
+abbrev pub made_by : Work → Option Files → Option Files
+made_by (Cover d commands) files = files
+made_by (Make name bytes) files = with_bytes files name bytes

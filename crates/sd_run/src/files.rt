@@ -1,11 +1,10 @@
 ghost use Rattle.std.specs.Prelude.{◌≡◌, ◌≢◌, ℕ, IfOk, IfErr, IsErrOf};
 ghost use Rattle.sd_site.specs.Fields.{fields_of};
-ghost use Rattle.sd_run.specs.Meaning.{file_in, site_in, book_in, one_period as one_period_of, refused_book};
+ghost use Rattle.sd_run.specs.Meaning.{file_in, site_in, book_in, refused_book};
 ghost use Rattle.sd_run.specs.Answers.{Gives, ForTold, IsRefusal, HasOutsideCause};
 
-use crate::plain::begins_period;
 use crate::status::{LimitKind, Status};
-use sd_book::{Book, BookFault, BookLimit};
+use sd_book::{Book, BookFault};
 use sd_ports::{Depot, FileFault, read_file};
 use sd_site::Site;
 use sd_tree::Height;
@@ -19,6 +18,7 @@ const MOST_BOOK_BYTES: usize = 33_554_432;
 #[tactic(auto, unfolding(crate::specs::Meaning::site_in))]
 pub fn read_site<D: Depot>(alloc: Global, depot: &mut D, name: &str) -> Result<Site, Status>
     ensures files { D.files depot.new ≡ D.files depot.old }
+    ensures made { D.made depot.new ≡ D.made depot.old }
     ensures meant { ForTold (D.files depot.old) (λ files. Gives fields_of result (site_in files name.now)) }
     ensures refusal { IfErr result IsRefusal }
     ensures cause { HasOutsideCause (D.faults depot.old) (D.faults depot.new) (D.misses depot.old) (D.misses depot.new) result }
@@ -39,33 +39,20 @@ pub fn read_book<D: Depot>(
     h: Height,
 ) -> Result<Book, Status>
     ensures files { D.files depot.new ≡ D.files depot.old }
+    ensures made { D.made depot.new ≡ D.made depot.old }
     ensures height { IfOk result (λ book. book.height ≡ h) }
     ensures meant { ForTold (D.files depot.old) (λ files. Gives (λ book. book.commands) result (book_in files h name.now)) }
     ensures refusal { IfErr result IsRefusal }
     ensures cause { HasOutsideCause (D.faults depot.old) (D.faults depot.new) (D.misses depot.old) (D.misses depot.new) result }
 {
     let bytes = read_bytes(alloc, depot, name, 2, MOST_BOOK_BYTES, LimitKind::BookBytes)?;
-    one_period(alloc, &bytes, h)
-}
-
-/// The book of these bytes, so far of one period.
-#[tactic(auto, unfolding(crate::specs::Meaning::one_period))]
-fn one_period(alloc: Global, bytes: &[u8], h: Height) -> Result<Book, Status>
-    ensures height { IfOk result (λ book. book.height ≡ h) }
-    ensures meant { Gives (λ book. book.commands) result (one_period_of h bytes.now) }
-    ensures refusal { IfErr result IsRefusal }
-    ensures outside { ¬ IsErrOf result Status.DepotFault × ((word : ℕ) → ¬ IsErrOf result (Status.Missing word)) }
-{
-    if begins_period(h, bytes) {
-        return Err(Status::NotYet);
-    }
-    match Book::read(alloc, bytes, h) {
+    match Book::read(alloc, &bytes, h) {
         Ok(book) => Ok(book),
         Err(fault) => Err(refused(fault)),
     }
 }
 
-/// What the program answers to a book without a period line that is refused.
+/// What the program answers to a book that is refused.
 fn refused(fault: BookFault) -> Status
     ensures meant { result ≡ refused_book fault }
     ensures refusal { IsRefusal result }
@@ -73,7 +60,6 @@ fn refused(fault: BookFault) -> Status
 {
     match fault {
         BookFault::Line(line) | BookFault::Leaf(line) => Status::BadBook { word: 2, line },
-        BookFault::Limit(BookLimit::Revoked(_)) => Status::NotYet,
         BookFault::Limit(limit) => Status::Limit(LimitKind::Book(limit)),
         BookFault::NoMemory => Status::NoMemory,
     }
@@ -89,6 +75,7 @@ fn read_bytes<D: Depot>(
     kind: LimitKind,
 ) -> Result<Vec<u8>, Status>
     ensures files { D.files depot.new ≡ D.files depot.old }
+    ensures made { D.made depot.new ≡ D.made depot.old }
     ensures meant { ForTold (D.files depot.old) (λ files.
         Gives (λ bytes. bytes.items) result (file_in files word most kind name.now)) }
     ensures refusal { IfErr result IsRefusal }

@@ -1,15 +1,19 @@
-//! The one call that the program makes: words in, files read, text printed, a status answered.
+//! The one call that the program makes: words in, files read and made, text printed, a status answered.
 #![tactic(auto)]
 
+mod card;
 mod cover;
 mod files;
 mod order;
-mod plain;
+mod out;
+mod sample;
 mod status;
+mod telling;
 mod text;
 mod top;
 
 pub use status::{LimitKind, Status};
+pub use telling::tell;
 pub use top::run;
 
 #[cfg(test)]

@@ -1,22 +1,91 @@
-ghost use Rattle.std.specs.Prelude.{◌≡◌, map, string_bytes};
-ghost use Rattle.sd_run.specs.Meaning.{order_of};
-ghost use Rattle.sd_run.specs.Orders.{shown};
+ghost use Rattle.std.specs.Prelude.{◌≡◌, ◌≤◌, ◌⊎◌, ℕ, IfOk, IfErr, map, string_bytes};
+ghost use Rattle.sd_run.specs.Meaning.{order_of, card_words, sample_words, number_in};
+ghost use Rattle.sd_run.specs.Orders.{shown, IsWithin};
 
-/// A command and its words.
+use crate::status::Status;
+use sd_text::number_after;
+
+/// As many packets as a sample stream may have.
+const MOST_PACKETS: u32 = 1_000_000;
+
+/// A command and what its words say.
 #[derive(Clone, Copy)]
 pub enum Order<'a> {
-    Cover { site: &'a str, book: &'a str },
+    Cover {
+        site: &'a str,
+        book: &'a str,
+    },
+    Card {
+        site: &'a str,
+        leaf: u32,
+        out: &'a str,
+    },
+    Sample {
+        number: u32,
+        packets: u32,
+        out: &'a str,
+    },
 }
 
-/// What the words say, if they are a command with as many words as it takes.
-pub fn read_words(words: &[String]) -> Option<Order<'_>>
-    ensures { shown result ≡ order_of (map string_bytes words.now) }
+/// What the words say, or the status of their refusal.
+pub fn read_words(words: &[String]) -> Result<Order<'_>, Status>
+    ensures value { shown result ≡ order_of (map string_bytes words.now) }
+    ensures within { IfOk result IsWithin }
+    ensures refusal { IfErr result (λ status. (status ≡ Status.Usage) ⊎ ((word : ℕ) × (status ≡ Status.BadWord word))) }
 {
     match words {
-        [command, site, book] if command.as_str() == "cover" => Some(Order::Cover {
+        [command, site, book] if command.as_str() == "cover" => Ok(Order::Cover {
             site: site.as_str(),
             book: book.as_str(),
         }),
-        _ => None,
+        [command, site, leaf, out] if command.as_str() == "card" => {
+            read_card(site.as_str(), leaf.as_str(), out.as_str())
+        }
+        [command, number, packets, out] if command.as_str() == "sample" => {
+            read_sample(number.as_str(), packets.as_str(), out.as_str())
+        }
+        _ => Err(Status::Usage),
+    }
+}
+
+/// What the words of `card` say.
+#[tactic(auto, unfolding(crate::specs::Meaning::card_words))]
+fn read_card<'a>(site: &'a str, leaf: &str, out: &'a str) -> Result<Order<'a>, Status>
+    ensures value { shown result ≡ card_words site.now leaf.now out.now }
+    ensures within { IfOk result IsWithin }
+    ensures refusal { IfErr result (λ status. (status ≡ Status.Usage) ⊎ ((word : ℕ) × (status ≡ Status.BadWord word))) }
+{
+    if site == out {
+        return Err(Status::Usage);
+    }
+    let leaf = read_number(2, leaf, u32::MAX)?;
+    Ok(Order::Card { site, leaf, out })
+}
+
+/// What the words of `sample` say.
+#[tactic(auto, unfolding(crate::specs::Meaning::sample_words))]
+fn read_sample<'a>(number: &str, packets: &str, out: &'a str) -> Result<Order<'a>, Status>
+    ensures value { shown result ≡ sample_words number.now packets.now out.now }
+    ensures within { IfOk result IsWithin }
+    ensures refusal { IfErr result (λ status. (status ≡ Status.Usage) ⊎ ((word : ℕ) × (status ≡ Status.BadWord word))) }
+{
+    let number = read_number(1, number, u32::MAX)?;
+    let packets = read_number(2, packets, MOST_PACKETS)?;
+    Ok(Order::Sample {
+        number,
+        packets,
+        out,
+    })
+}
+
+/// The number of this word, which is to be at most so large.
+fn read_number(word: u8, text: &str, most: u32) -> Result<u32, Status>
+    ensures value { result ≡ number_in word most text.now }
+    ensures within { IfOk result (λ number. number ≤ most) }
+    ensures refusal { IfErr result (λ status. status ≡ Status.BadWord word) }
+{
+    match number_after(b"", text.as_bytes()) {
+        Ok(number) if number <= most => Ok(number),
+        _ => Err(Status::BadWord(word)),
     }
 }

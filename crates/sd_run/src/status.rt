@@ -9,11 +9,11 @@ use std::alloc::AllocError;
 /// What a run of the program answers. Words are numbered from 0, behind the program's name.
 #[derive(Clone, Copy, Debug, PartialEq, Eq)]
 pub enum Status {
-    /// The work is done, and its text is printed.
+    /// The work is done: its text is printed, and its file made.
     Done,
-    /// The words are no command, or not as many as it takes.
+    /// The words are no command, or not as many as it takes, or the file to be made is one that is read.
     Usage,
-    /// There is no file of the name that this word is.
+    /// There is no file of the name that this word is, or no folder for a file to be made.
     Missing(u8),
     /// The device failed at a file.
     DepotFault,
@@ -27,8 +27,8 @@ pub enum Status {
     Limit(LimitKind),
     /// Memory is wanting.
     NoMemory,
-    /// The book asks for more than is built: a second period, or a second revoked leaf.
-    NotYet,
+    /// This word is no decimal, or its number is out of its range.
+    BadWord(u8),
 }
 
 impl Status {
@@ -46,7 +46,7 @@ impl Status {
             Status::BadBook { .. } => 7,
             Status::Limit(_) => 11,
             Status::NoMemory => 12,
-            Status::NotYet => 18,
+            Status::BadWord(_) => 17,
         }
     }
 }

@@ -1,23 +1,24 @@
-ghost use Rattle.std.specs.Prelude.{◌≡◌, ◌≢◌, ◌↔◌, ◌⊎◌, ℕ, None, Some, Ok, IfOk, IfErr, map, string_bytes};
-ghost use Rattle.std.specs.Io.KnownBytes.{Appends};
+ghost use Rattle.std.specs.Prelude.{◌≡◌, ◌≢◌, ◌↔◌, ◌⊎◌, ◌≤◌, ℕ, Some, Ok, Err, IfErr, IsErrOf, map, string_bytes};
 ghost use Rattle.sd_cause.specs.Count.{Rose, IsCalm};
-ghost use Rattle.sd_ports.specs.Bytes.{AppendsFront};
 ghost use Rattle.sd_ports.specs.Files.{Files};
-ghost use Rattle.sd_run.specs.Meaning.{order_of, order_meaning};
-ghost use Rattle.sd_run.specs.Orders.{shown};
-ghost use Rattle.sd_run.specs.Work.{Work, Prints};
-ghost use Rattle.sd_run.specs.Answers.{Answers, ForTold, IsRefusedAs, IsRefusal, HasOutsideCause};
-ghost use Rattle.sd_run.specs.Complete.{IsGoodCover, IsGoodAnswer};
+ghost use Rattle.sd_run.specs.Meaning.{order_of, order_meaning, meaning};
+ghost use Rattle.sd_run.specs.Orders.{told, IsWithin, MakesFor, StepsFor};
+ghost use Rattle.sd_run.specs.Answers.{Answers, Obeys, HasOutsideCause, HasPrintCause};
+ghost use Rattle.sd_run.specs.Complete.{IsGoodOrder, IsGoodAnswer};
 
+use crate::card::card;
 use crate::cover::cover;
 use crate::order::{Order, read_words};
+use crate::sample::sample;
 use crate::status::Status;
-use sd_ports::{Depot, Sink, write_all};
+use crate::telling::tell;
+use sd_ports::{Depot, Sink};
 use sd_steps::Steps;
 use std::alloc::Global;
 use std::sync::ledger::Ledger;
 
-/// Does what the words say. Words are those behind the program's name, numbered from 0.
+/// Does what the words say, and prints the line of the status that it answers. Words are those behind the program's
+/// name, numbered from 0.
 pub fn run<D: Depot, P: Sink, L: Ledger>(
     alloc: Global,
     words: &[String],
@@ -25,58 +26,75 @@ pub fn run<D: Depot, P: Sink, L: Ledger>(
     print: &mut P,
     steps: &mut Steps<L>,
 ) -> Status
-    // What the words mean is answered and printed.
-    ensures meaning { Answers (D.files depot.old) (map string_bytes words.now) (P.held print.old) (P.held print.new) result }
-    ensures usage { (result ≡ Status.Usage) ↔ (order_of (map string_bytes words.now) ≡ None) }
+    // What the words and files mean is answered, printed and made.
+    ensures meaning { Answers (λ files. meaning (map string_bytes words.now) files)
+        (D.files depot.old) (D.files depot.new) (P.held print.old) (P.held print.new) result }
+    ensures usage { result ≡ Status.Usage → order_of (map string_bytes words.now) ≡ Err Status.Usage }
+    ensures no_order { order_of (map string_bytes words.now) ≡ Err Status.Usage → (result ≡ Status.Usage) ⊎ (result ≡ Status.PrintFault) }
     // Each answer of the outside has its cause, and without one the counts stand.
     ensures missing { (word : ℕ) → result ≡ Status.Missing word → Rose (D.misses depot.old) (D.misses depot.new) }
     ensures depot_fault { result ≡ Status.DepotFault → Rose (D.faults depot.old) (D.faults depot.new) }
     ensures print_fault { result ≡ Status.PrintFault → Rose (P.faults print.old) (P.faults print.new) }
-    ensures depot_calm { result ≢ Status.DepotFault → D.faults depot.new ≡ D.faults depot.old }
+    ensures depot_calm { result ≢ Status.DepotFault → result ≢ Status.PrintFault → D.faults depot.new ≡ D.faults depot.old }
     ensures print_calm { result ≢ Status.PrintFault → P.faults print.new ≡ P.faults print.old }
-    ensures no_miss { ((word : ℕ) → result ≢ Status.Missing word) → D.misses depot.new ≡ D.misses depot.old }
-    // Good words over good files are done, unless they ask for what is not built yet, or memory is wanting.
-    ensures complete { (files : Files) → D.files depot.old ≡ Some files → IsGoodCover (map string_bytes words.now) files →
+    // Good words over good files are done, unless memory is wanting.
+    ensures complete { (files : Files) → D.files depot.old ≡ Some files → IsGoodOrder (map string_bytes words.now) files →
         IsCalm (D.faults depot.old) (D.faults depot.new) → IsCalm (P.faults print.old) (P.faults print.new) → IsGoodAnswer result }
-    // No file changes, and no step of the generator is taken.
-    ensures files { D.files depot.new ≡ D.files depot.old }
-    ensures steps { steps.new ≡ steps.old }
+    // At most one file is made, and steps of the generator are taken for a card alone.
+    ensures made { MakesFor (order_of (map string_bytes words.now)) (D.made depot.old) (D.made depot.new) }
+    ensures steps { StepsFor (order_of (map string_bytes words.now)) steps.old steps.new }
 {
-    let _ = steps;
-    let Some(order) = read_words(words) else {
-        return Status::Usage;
-    };
-    match text_of(alloc, depot, order) {
-        Ok(text) => print_text(print, text.as_bytes()),
-        Err(status) => status,
+    match obey(alloc, words, depot, print, steps) {
+        Ok(()) => Status::Done,
+        Err(status) if status == Status::PrintFault => status,
+        Err(status) => tell(alloc, print, status),
     }
 }
 
-/// The text of the work that is ordered.
-fn text_of<D: Depot>(alloc: Global, depot: &mut D, order: Order<'_>) -> Result<String, Status>
-    ensures files { D.files depot.new ≡ D.files depot.old }
-    ensures text { IfOk result (λ text. (work : Work) × Prints work (string_bytes text)
-        × ForTold (D.files depot.old) (λ files. order_meaning (shown (Some order.entry)) files ≡ Ok work)) }
-    ensures refused { IfErr result (λ status.
-        ForTold (D.files depot.old) (λ files. IsRefusedAs status (order_meaning (shown (Some order.entry)) files))) }
-    ensures refusal { IfErr result IsRefusal }
+/// Does what the words say.
+fn obey<D: Depot, P: Sink, L: Ledger>(
+    alloc: Global,
+    words: &[String],
+    depot: &mut D,
+    print: &mut P,
+    steps: &mut Steps<L>,
+) -> Result<(), Status>
+    ensures obeys { Obeys (λ files. meaning (map string_bytes words.now) files)
+        (D.files depot.old) (D.files depot.new) (P.held print.old) (P.held print.new) result }
+    ensures usage { IsErrOf result Status.Usage ↔ (order_of (map string_bytes words.now) ≡ Err Status.Usage) }
+    ensures made { MakesFor (order_of (map string_bytes words.now)) (D.made depot.old) (D.made depot.new) }
+    ensures steps { StepsFor (order_of (map string_bytes words.now)) steps.old steps.new }
     ensures cause { HasOutsideCause (D.faults depot.old) (D.faults depot.new) (D.misses depot.old) (D.misses depot.new) result }
+    ensures print_cause { HasPrintCause (P.faults print.old) (P.faults print.new) result }
+{
+    let order = read_words(words)?;
+    work(alloc, order, depot, print, steps)
+}
+
+/// Does what is ordered.
+fn work<D: Depot, P: Sink, L: Ledger>(
+    alloc: Global,
+    order: Order<'_>,
+    depot: &mut D,
+    print: &mut P,
+    steps: &mut Steps<L>,
+) -> Result<(), Status>
+    requires { IsWithin order }
+    ensures obeys { Obeys (λ files. order_meaning (told order.entry) files)
+        (D.files depot.old) (D.files depot.new) (P.held print.old) (P.held print.new) result }
+    ensures refusal { IfErr result (λ status. status ≢ Status.Usage) }
+    ensures made { MakesFor (Ok (told order.entry)) (D.made depot.old) (D.made depot.new) }
+    ensures steps { StepsFor (Ok (told order.entry)) steps.old steps.new }
+    ensures cause { HasOutsideCause (D.faults depot.old) (D.faults depot.new) (D.misses depot.old) (D.misses depot.new) result }
+    ensures print_cause { HasPrintCause (P.faults print.old) (P.faults print.new) result }
 {
     match order {
-        Order::Cover { site, book } => cover(alloc, depot, site, book),
-    }
-}
-
-/// Prints the whole text, or answers that print failed.
-fn print_text<P: Sink>(print: &mut P, text: &[u8]) -> Status
-    ensures only { (result ≡ Status.Done) ⊎ (result ≡ Status.PrintFault) }
-    ensures done { result ≡ Status.Done → Appends (P.held print.old) (P.held print.new) text.now }
-    ensures front { result ≡ Status.PrintFault → AppendsFront (P.held print.old) (P.held print.new) text.now }
-    ensures fault { result ≡ Status.PrintFault → Rose (P.faults print.old) (P.faults print.new) }
-    ensures calm { result ≢ Status.PrintFault → P.faults print.new ≡ P.faults print.old }
-{
-    match write_all(print, text) {
-        Ok(()) => Status::Done,
-        Err(_) => Status::PrintFault,
+        Order::Cover { site, book } => cover(alloc, depot, print, site, book),
+        Order::Card { site, leaf, out } => card(alloc, depot, site, leaf, out, steps),
+        Order::Sample {
+            number,
+            packets,
+            out,
+        } => sample(alloc, depot, number, packets, out),
     }
 }

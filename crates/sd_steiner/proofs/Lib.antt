@@ -4,7 +4,6 @@ pub mod Ancestry
 pub mod Ends
 pub mod Paths
 pub mod Partitions
-pub mod Single
 pub mod Levels
 pub mod Steps
 pub mod Counts

@@ -1,10 +1,8 @@
 //! The cover of the leaves that are not revoked: chains of the Steiner tree.
 #![tactic(auto)]
 
-mod few;
 mod laws;
 mod walk;
 
-pub use few::cover_of_few;
 pub use laws::{cover_is_small, cover_unites, one_cover};
 pub use walk::{CoverFault, MOST_REVOKED, cover};

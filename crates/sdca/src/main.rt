@@ -4,7 +4,7 @@
 ghost use Rattle.std.specs.Prelude.{◌≡◌, ◌<◌};
 
 use sd_ports::{HostDepot, StdPrint};
-use sd_run::{Status, run};
+use sd_run::{Status, run, tell};
 use sd_steps::Steps;
 use std::fs::Files;
 use std::io::ErrorKind;
@@ -17,7 +17,7 @@ use std::{env, io};
 fn main(rt: HostRuntime) -> ExitCode {
     let status = match words(&rt) {
         Ok(words) => counted::<Brand, _>(&rt, &words, Blank::new(1)),
-        Err(status) => status,
+        Err(status) => tell(rt.alloc(), &mut StdPrint::new(io::writer(&rt)), status),
     };
     ExitCode::from(status.code())
 }

@@ -1,20 +1,34 @@
-use Rattle.std.proofs.Common.{Option, Some, Err, ap, subst, ◌∙◌}
+use Rattle.std.proofs.Common.{rules, ◌≡◌, ◌≢◌, Option, refl, ap, subst, ⊎_elim}
+use Rattle.std.specs.Prelude.{map, string_bytes}
+use Rattle.sd_cause.specs.Count.{Rose}
 use Rattle.sd_ports.specs.Files.{Files}
-use Rattle.sd_run.specs.Work.{Work}
-use Rattle.sd_run.specs.Meaning.{Order, order_meaning, cover_in}
-use Rattle.sd_run.specs.Orders.{shown}
+use Rattle.sd_run.specs.declared.status.Status.TheVariants.{DepotFault, PrintFault}
+use Rattle.sd_run.specs.Meaning.{meaning}
 use Rattle.sd_run.specs.Answers.{ForTold, IsRefusedAs}
-use Rattle.sd_run.proofs.Completeness.{good_is_covered, covered_answer, not_calm}
+use Rattle.sd_run.proofs.Refusals.{refused_by, err_is}
+use Rattle.sd_run.proofs.Told.{told_answers}
+use Rattle.sd_run.proofs.Completeness.{good_means_work, good_answer, not_calm, cut_or_not}
 use Rattle.sd_run.proofs.top.run.Goals as goal
 
--- good words over good files are refused only for what is not built yet, or for want of memory
-pub returns-in-Err-clause-complete : goal.returns-in-Err-clause-complete
-returns-in-Err-clause-complete g c files told good depot_calm print_calm =
+pub returns-in-Err-2-clause-meaning : goal.returns-in-Err-2-clause-meaning
+returns-in-Err-2-clause-meaning g c =
     let status = c.in-Err.status in
-    let order = c.in-Some.order in
-    let Refused : Option Files → Type 0 = λ o. ForTold o (λ fs. IsRefusedAs status (order_meaning (shown (Some order)) fs)) in
-    let refused : IsRefusedAs status (order_meaning (shown (Some order)) files) = subst Refused told c.in-Err.ensures.refused in
-    let Meant : Option Order → Type 0 = λ o. IsRefusedAs {V = Work} status (order_meaning o files) in
-    covered_answer status (cover_in files good.site_name good.book_name) (good_is_covered _ files good)
-    (subst Meant (c.in-Some.ensures ∙ good.order) refused) c.in-Err.ensures.refusal
-    (λ fault. not_calm _ _ depot_calm (c.in-Err.ensures.cause.failed (ap Err fault)))
+    let not_cut : status ≢ PrintFault = search rules in
+    told_answers (meaning (map string_bytes c.args.words.now)) _ _ _ _ _ status c.tell.result (c.in-Err.ensures.obeys.stops status refl not_cut) c.tell.ensures.told
+
+pub returns-in-Err-2-clause-complete : goal.returns-in-Err-2-clause-complete
+returns-in-Err-2-clause-complete g c files told good depot_calm print_calm =
+    let status = c.in-Err.status in
+    let words = map string_bytes c.args.words.now in
+    let not_cut : status ≢ PrintFault = search rules in
+    let stops = c.in-Err.ensures.obeys.stops status refl not_cut in
+    let Refused : Option Files → Type 0 = λ o. ForTold o (λ fs. IsRefusedAs status (meaning words fs)) in
+    let refused : IsRefusedAs status (meaning words files) = subst Refused told stops.stopped.refused in
+    let not_failed : status ≢ DepotFault = λ e. absurd (not_calm _ _ depot_calm (c.in-Err.ensures.cause.failed (ap refused_by e))) in
+    let calm = c.in-Err.ensures.print_cause.calm (λ e. not_cut (err_is e)) in
+    ⊎_elim
+    (λ (cut : c.tell.result ≡ PrintFault). absurd (⊎_elim not_cut (λ (rose : Rose (g.P.Sink.faults c.obey.new.print) (g.P.Sink.faults c.tell.new.print)).
+    not_calm _ _ print_calm (rw calm at rose)) (c.tell.ensures.fault cut)))
+    (λ (whole : c.tell.result ≢ PrintFault). good_answer (meaning words files) status c.tell.ensures.told.told c.tell.result (good_means_work words files good) refused not_failed
+    c.tell.ensures.told.tellable (c.tell.ensures.told.whole whole).0)
+    (cut_or_not c.tell.result)
