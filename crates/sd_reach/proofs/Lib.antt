@@ -1,0 +1,5 @@
+pub mod Reached
+pub mod Hanging
+pub mod Own
+pub mod Covers
+pub mod Given

@@ -1,0 +1,68 @@
+ghost use Rattle.std.specs.Prelude.{◌≡◌, ◌+◌, ◌^◌, ◌<◌, ◌≤◌, ◌++◌, IfOk, OnOk};
+ghost use Rattle.sd_label.specs.Names.{given, given_under, path_node as path_node_of, sibling_of};
+ghost use Rattle.sd_reach.specs.Reach.{ReachesItsSets};
+
+use sd_label::Name;
+use sd_ports::NoMemory;
+use sd_tree::{Height, Leaf};
+use std::alloc::{AllocError, Global};
+
+/// What the leaf's card holds secrets of, in the card's order: the whole set, and then the pairs of each ancestor
+/// [Naor, Naor, Lotspiech 2001, 3.2].
+#[tactic(auto, using(crate::proofs::Own::reaches_its_sets))]
+pub fn names_of(alloc: Global, h: Height, u: Leaf) -> Result<Vec<Name>, NoMemory>
+    requires { u < 2 ^ h }
+    ensures value { IfOk result (λ names. names.items ≡ given h u) }
+    ensures reach { IfOk result (λ names. ReachesItsSets h u names.items) }
+{
+    prove!(h.get() <= 20);
+    given_names(alloc, h, u).map_err(|_| NoMemory)
+}
+
+// The names, or the allocator's own error.
+#[tactic(auto, using(crate::proofs::Given::ancestor_more, crate::proofs::Given::ancestors_all))]
+fn given_names(alloc: Global, h: Height, u: Leaf) -> Result<Vec<Name>, AllocError>
+    requires { u < 2 ^ h }
+    ensures { IfOk result (λ names. names.items ≡ given h u) }
+{
+    let mut names = Vec::new(alloc);
+    names.push(Name::Whole)?;
+    for depth in 0..u32::from(h.get()) {
+        give(&mut names, h, u, depth)?;
+    }
+    Ok(names)
+}
+
+// Adds the pairs of the leaf's ancestor at this depth, from the highest hanging node down.
+#[tactic(auto, using(crate::proofs::Given::pair_more, crate::proofs::Given::pairs_all))]
+fn give(names: &mut Vec<Name>, h: Height, u: Leaf, depth: u32) -> Result<(), AllocError>
+    requires leaf { u < 2 ^ h }
+    requires depth { depth < h }
+    ensures { OnOk result (names.new.items ≡ names.old.items ++ given_under h u depth) }
+{
+    let i = path_node(h, u, depth);
+    for below in 0..u32::from(h.get()) - depth {
+        let w = sibling(path_node(h, u, depth + below + 1));
+        names.push(Name::Pair { i, w })?;
+    }
+    Ok(())
+}
+
+// The node at this depth on the path to the leaf.
+#[tactic(auto, using(crate::proofs::Hanging::path_is_node))]
+fn path_node(h: Height, u: Leaf, depth: u32) -> u32
+    requires leaf { u < 2 ^ h }
+    requires depth { depth ≤ h }
+    ensures value { result ≡ path_node_of h u depth }
+    ensures node { 1 ≤ result }
+{
+    (h.leaves() + u.get()) >> (u32::from(h.get()) - depth)
+}
+
+// The other child of the node's parent.
+fn sibling(node: u32) -> u32
+    requires { 1 ≤ node }
+    ensures { result ≡ sibling_of node }
+{
+    if node % 2 == 0 { node + 1 } else { node - 1 }
+}
