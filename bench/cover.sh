@@ -1,21 +1,22 @@
 #!/bin/sh
-# Measures `cover` on books of plain lines beside awk, which replays them, in one run. To be run by hand, from any folder.
-# It prints times, their ratio, the peak memory, and how time grows with the lines.
+# Measures `cover` in one run beside awk, which replays books of plain lines, and beside bench/cover.c, which prints the same covers.
+# To be run by hand, from any folder: `bench/cover.sh`, or `SDCA=PROGRAM bench/cover.sh` with a program that is built already.
+#
+# A time is that of a whole run with its start, the least of some rounds; what is printed is thrown away. Plain books have one period
+# and one revoked leaf at its end. The others have 4,096 revoked leaves, drawn at random from 1,048,576, at the end of each period:
+# period 0 revokes them, and each later period has 1,000 commands, which change 500 of them for others. The baseline in C (`cc -O2`) is
+# straightforward: fgets and strtoul, a sorted array, a recursion over it, qsort and printf. What both print is compared byte for byte.
+#
+# It prints for each plain book the times of sdca and awk and their ratio; for each other book the times of sdca and C, their ratio,
+# which is to be at most 3, and the time of sdca for each period; and for the greatest book of each kind the peak memory of sdca, less
+# the book's file, which is to be at most 64 MiB.
 set -eu
-
-top=$(CDPATH='' cd "$(dirname "$0")/.." && pwd -P)
-work=$(mktemp -d)
-trap 'rm -rf "$work"' EXIT
+. "$(dirname "$0")/shared.sh"
+compile cover
 rounds=5
 
-# Builds the program where that is due. What is timed is the program itself, without the launcher's look at the sources.
-"$top/sdca" cover "$top/examples/site.txt" "$top/examples/book.txt" >"$work/output"
-program=$top/crates/sdca/out/sdca
-
-sed 's/^height .*/height 20/' "$top/examples/site.txt" >"$work/site"
-
 # LINES lines: random leaves revoked and subscribed again, but for the last one.
-make_book() {
+make_plain_book() {
     awk -v lines="$1" 'BEGIN {
         srand(7)
         for (i = 2; i < lines; i += 2) {
@@ -25,42 +26,84 @@ make_book() {
         }
         print "subscribe 5"
         print "revoke 5"
-    }' >"$work/book.$1"
+    }' >book
 }
 
-by_sdca() { "$program" cover "$work/site" "$work/book.$1"; }
-
-by_awk() {
-    awk '$1 == "revoke" { revoked[$2] = 1 }
-         $1 == "subscribe" { delete revoked[$2] }
-         END { count = 0; for (leaf in revoked) count++; print count }' "$work/book.$1"
+# PERIODS periods with 4,096 revoked leaves at the end of each.
+make_full_book() {
+    awk -v periods="$1" '
+        function revoke(place, leaf) {
+            do leaf = int(rand() * 1048576); while (leaf in revoked)
+            revoked[leaf]
+            leaf_at[place] = leaf
+            print "revoke " leaf
+        }
+        function subscribe(place) {
+            print "subscribe " leaf_at[place]
+            delete revoked[leaf_at[place]]
+        }
+        BEGIN {
+            srand(7)
+            for (place = 0; place < 4096; place++) revoke(place)
+            for (period = 1; period < periods; period++) {
+                print "period"
+                for (pair = 0; pair < 500; pair++) {
+                    place = int(rand() * 4096)
+                    subscribe(place)
+                    revoke(place)
+                }
+            }
+        }' >book
 }
 
-# The least of some rounds, in milliseconds.
-least_time() {
-    least=
-    for _ in $(seq $rounds); do
-        start=$(date +%s%N)
-        "$@" >"$work/output"
-        time=$((($(date +%s%N) - start) / 10000))
-        if [ -z "$least" ] || [ "$time" -lt "$least" ]; then least=$time; fi
+cat >replay.awk <<'SCRIPT'
+$1 == "revoke" { revoked[$2] = 1 }
+$1 == "subscribe" { delete revoked[$2] }
+END { count = 0; for (leaf in revoked) count++; print count }
+SCRIPT
+
+# OTHER COUNT: the mean microseconds of a run of sdca and of the other program with its words, which take turns, each so often.
+time_both() {
+    for _ in $(seq "$2"); do
+        echo "0 ./sdca cover site book"
+        echo "0 $1"
+    done >list
+    for round in $(seq $rounds); do
+        ./runs <list >"times.$round" || fail "a run failed"
     done
-    awk -v t="$least" 'BEGIN { printf "%.2f", t / 100 }'
+    least_means 2 times.*
+}
+
+show_peak() {
+    peak=$(/usr/bin/time -f %M ./sdca cover site book 2>&1 >/dev/null | tail -n 1)
+    bytes=$(wc -c <book)
+    awk -v peak="$peak" -v bytes="$bytes" 'BEGIN {
+        printf "peak memory %.1f MiB, the book file %.1f MiB, the difference %.1f MiB (to reach: 64)\n",
+            peak / 1024, bytes / 1048576, peak / 1024 - bytes / 1048576
+    }'
 }
 
 for lines in 65536 131072 262144 524288 1048576; do
-    make_book $lines
-    ours=$(least_time by_sdca $lines)
-    head -n 1 "$work/output" | grep -q 'revoked 1 sets 1' || { echo "wrong answer of sdca" >&2; exit 1; }
-    theirs=$(least_time by_awk $lines)
-    grep -qx 1 "$work/output" || { echo "wrong answer of awk" >&2; exit 1; }
-    awk -v n=$lines -v a="$ours" -v b="$theirs" 'BEGIN {
-        printf "%8d lines: sdca %8.2f ms (%.0f ns a line), awk %8.2f ms, ratio %.2f\n", n, a, a * 1e6 / n, b, a / b
+    make_plain_book $lines
+    ./sdca cover site book | head -n 1 | grep -q 'revoked 1 sets 1' || fail "wrong answer of sdca"
+    awk -f replay.awk book | grep -qx 1 || fail "wrong answer of awk"
+    means=$(time_both "awk -f replay.awk book" 1)
+    echo "$means" | awk -v n=$lines '{
+        printf "%8d lines: sdca %8.2f ms (%.0f ns a line), awk %8.2f ms, ratio %.2f\n", n, $1 / 1000, $1 * 1000 / n, $2 / 1000, $1 / $2
     }'
 done
+show_peak
 
-peak=$(/usr/bin/time -f %M "$program" cover "$work/site" "$work/book.1048576" 2>&1 >/dev/null | tail -n 1)
-bytes=$(wc -c <"$work/book.1048576")
-awk -v peak="$peak" -v bytes="$bytes" 'BEGIN {
-    printf "peak memory %.1f MiB, the book file %.1f MiB, the difference %.1f MiB\n", peak / 1024, bytes / 1048576, peak / 1024 - bytes / 1048576
-}'
+for periods in 1 64 256 1024; do
+    make_full_book $periods
+    ./sdca cover site book >sdca.output || fail "sdca refuses the book"
+    ./cover cover site book >c.output || fail "C refuses the book"
+    cmp sdca.output c.output || fail "the covers differ"
+    rm sdca.output c.output
+    means=$(time_both "./cover cover site book" $((periods < 20 ? 20 : 1)))
+    echo "$means" | awk -v n=$periods -v lines="$(wc -l <book)" '{
+        printf "%5d periods, %7d lines: sdca %8.2f ms (%.3f ms a period), C %8.2f ms, ratio %.2f (to reach: 3)\n",
+            n, lines, $1 / 1000, $1 / 1000 / n, $2 / 1000, $1 / $2
+    }'
+done
+show_peak
