@@ -1,0 +1,11 @@
+pub mod Cutting
+pub mod Grammar
+pub mod Listing
+pub mod Judging
+pub mod Writing
+pub mod Moving
+pub mod Packets
+pub mod Heads
+pub mod Undoing
+pub mod Shapes
+pub mod Inverse

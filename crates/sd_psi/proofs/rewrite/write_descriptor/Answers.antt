@@ -1,0 +1,14 @@
+use Rattle.std.proofs.Common.{rules}
+use Rattle.sd_psi.proofs.Writing.{descriptor_written}
+use Rattle.sd_psi.proofs.rewrite.write_descriptor.Goals as goal
+
+pub returns : goal.returns
+returns c =
+    let s1 = c.fields-set.ensures in
+    let s2 = c.fields-set-2.ensures in
+    let s3 = c.fields-set-3.ensures in
+    let s4 = c.fields-set-4.ensures in
+    let s5 = c.fields-set-5.ensures in
+    descriptor_written c.args.ca c.args.pid _ _ _ _ _ _ _ _ (search rules) c.requires.six
+    s1.others s1.value s1.length s2.others s2.value s2.length s3.others s3.value c.from.ensures s3.length
+    s4.others s4.value s4.length s5.others s5.value c.from-2.ensures s5.length

@@ -1,0 +1,5 @@
+pub mod Items
+pub mod Tables
+pub mod Forms
+pub mod Rewriting
+pub mod Undone

@@ -1,0 +1,41 @@
+//! The items of tables spell bytes in one way, and rewriting and restoring a PMT undo each other.
+
+ghost use Rattle.std.specs.Prelude.{◌≡◌, ◌%◌, ◌↔◌, true, None, List, ℕ, length};
+ghost use Rattle.std.specs.List.{list_all};
+ghost use Rattle.sd_psi.specs.declared.items.Kind.{Kind};
+ghost use Rattle.sd_psi.specs.declared.items.Kind.TheVariants.{Program};
+ghost use Rattle.sd_psi.specs.Items.{items_of, is_whole, are_whole, joined};
+ghost use Rattle.sd_psi.specs.Rewriting.{rewritten, restored, rewrite_fault, restore_fault};
+ghost use Rattle.sd_psi.specs.Undone.{IsPacket};
+
+/// Bytes are their items one behind the other, and items that are as long as they say are those of the bytes that they are.
+#[tactic(auto, using(crate::proofs::Grammar::items_spell, crate::proofs::Grammar::spelled_items, crate::proofs::Grammar::spelled_whole))]
+pub fn items_are_spelled()
+    ensures bytes { (kind : Kind) (bytes : List ℕ) → joined (items_of kind bytes) ≡ bytes }
+    ensures items { (kind : Kind) (items : List (List ℕ)) → list_all (is_whole kind) items ≡ true → items_of kind (joined items) ≡ items }
+    ensures whole { (kind : Kind) (items : List (List ℕ)) → list_all (is_whole kind) items ≡ true → are_whole kind (joined items) ≡ true }
+{}
+
+/// Programs fill bytes exactly where their number is a multiple of 4.
+#[tactic(auto, using(crate::proofs::Grammar::fours_are_programs, crate::proofs::Grammar::programs_are_fours))]
+pub fn programs_have_four_bytes()
+    ensures { (bytes : List ℕ) → (are_whole Program bytes ≡ true) ↔ (length bytes % 4 ≡ 0) }
+{}
+
+/// A packet that was rewritten may be restored, and is then as it was before.
+#[tactic(auto, using(crate::proofs::Inverse::restorable, crate::proofs::Inverse::restored_again))]
+pub fn rewriting_is_undone()
+    ensures good { (ca pid : ℕ) (packet : List ℕ) → IsPacket packet → rewrite_fault packet ≡ None →
+        restore_fault ca pid (rewritten ca pid packet) ≡ None }
+    ensures same { (ca pid : ℕ) (packet : List ℕ) → IsPacket packet → rewrite_fault packet ≡ None →
+        restored (rewritten ca pid packet) ≡ packet }
+{}
+
+/// A packet that was restored may be rewritten, and is then as it was before.
+#[tactic(auto, using(crate::proofs::Inverse::rewritable, crate::proofs::Inverse::rewritten_again))]
+pub fn restoring_is_undone()
+    ensures good { (ca pid : ℕ) (packet : List ℕ) → IsPacket packet → restore_fault ca pid packet ≡ None →
+        rewrite_fault (restored packet) ≡ None }
+    ensures same { (ca pid : ℕ) (packet : List ℕ) → IsPacket packet → restore_fault ca pid packet ≡ None →
+        rewritten ca pid (restored packet) ≡ packet }
+{}

@@ -1,0 +1,21 @@
+//! PAT, CAT and PMT as views of sections and packets, and the PMT with the project's CA_descriptor.
+#![tactic(auto)]
+
+mod cat;
+mod descriptor;
+mod fault;
+mod form;
+mod items;
+pub mod laws;
+mod pat;
+mod pmt;
+mod rewrite;
+#[cfg(test)]
+mod tests;
+
+pub use cat::{Cat, cat_in, cat_of};
+pub use descriptor::Descriptor;
+pub use fault::FormFault;
+pub use pat::{Pat, pat_in, pat_of};
+pub use pmt::{Pmt, pmt_in, pmt_of};
+pub use rewrite::{restore_pmt, rewrite_pmt};

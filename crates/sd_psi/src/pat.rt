@@ -1,0 +1,84 @@
+ghost use Rattle.std.specs.Prelude.{◌≡◌, ◌<◌, ◌↔◌, true, false, Some, None, IfOk, MatchResult, IsNone, IsSome, IfSome, IsTrue, length, slice_get};
+ghost use Rattle.sd_section.specs.Header.{extension_of, version_of, current_of};
+ghost use Rattle.sd_packet.specs.Header.{payload_start_of};
+ghost use Rattle.sd_psi.specs.Forms.{section_in, pat_fault};
+ghost use Rattle.sd_psi.specs.Tables.{programs_of, is_pat};
+
+use crate::fault::FormFault;
+use crate::form::{Table, read};
+use crate::items::{Kind, count, item};
+use sd_bits::fields;
+use sd_packet::Packet;
+use sd_section::Section;
+
+/// A section of the program association table (ISO/IEC 13818-1, 2.4.4.3).
+#[derive(Clone, Copy)]
+pub struct Pat<'a> {
+    section: Section<'a>,
+    pub ghost form: { is_pat section.bytes.now ≡ true },
+}
+
+/// The PAT that this section is.
+pub fn pat_in<'a>(section: &Section<'a>) -> Option<Pat<'a>>
+    ensures none { IsNone result ↔ (is_pat section.now.bytes.now ≡ false) }
+    ensures value { IfSome result (λ pat. pat.section.bytes.now ≡ section.now.bytes.now) }
+{
+    if section.table_id() == Table::Pat.id() && count(Kind::Program, section.body()).is_some() {
+        Some(Pat { section: *section })
+    } else {
+        None
+    }
+}
+
+/// The PAT that the packet is by itself.
+#[tactic(auto, using(crate::proofs::Judging::front_first, crate::proofs::Judging::then_good, crate::proofs::Judging::then_loops))]
+pub fn pat_of<'a>(packet: &'a Packet) -> Result<Pat<'a>, FormFault>
+    requires { payload_start_of packet.now < 188 }
+    ensures value { IfOk result (λ pat. pat.section.bytes.now ≡ section_in packet.now) }
+    ensures fault { MatchResult result (λ _. pat_fault packet.now ≡ None) (λ fault. pat_fault packet.now ≡ Some fault) }
+{
+    let section = read(Table::Pat, packet)?;
+    pat_in(&section).ok_or(FormFault::Descriptor)
+}
+
+impl<'a> Pat<'a> {
+    /// version_number.
+    pub fn version(&self) -> u8
+        ensures { result ≡ version_of self.now.section.bytes.now }
+    {
+        self.section.version()
+    }
+
+    /// Whether current_next_indicator is set.
+    pub fn current(&self) -> bool
+        ensures { IsTrue result ↔ (current_of self.now.section.bytes.now ≡ 1) }
+    {
+        self.section.current()
+    }
+
+    /// transport_stream_id.
+    pub fn stream_id(&self) -> u16
+        ensures { result ≡ extension_of self.now.section.bytes.now }
+    {
+        self.section.extension()
+    }
+
+    /// How many programs there are.
+    #[tactic(auto, using(crate::proofs::Listing::programs_counted, crate::proofs::Listing::pat_body))]
+    pub fn len(&self) -> usize
+        ensures { result ≡ length (programs_of self.now.section.bytes.now) }
+    {
+        count(Kind::Program, self.section.body()).unwrap()
+    }
+
+    /// The number of a program, and the PID of its map, or of the network for number 0.
+    #[tactic(auto, using(crate::proofs::Listing::programs_counted, crate::proofs::Listing::pat_body, crate::proofs::Listing::program_listed), unfolding(crate::specs::Items::size_of))]
+    pub fn program(&self, k: usize) -> (u16, u16)
+        requires { k < length (programs_of self.now.section.bytes.now) }
+        ensures { slice_get (programs_of self.now.section.bytes.now) k ≡ Some result }
+    {
+        let program = item(Kind::Program, self.section.body(), k);
+        fields! { program; program_number: 0, 16; program_map_pid: 19, 13; }
+        (program_number as u16, program_map_pid as u16)
+    }
+}

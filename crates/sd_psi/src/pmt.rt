@@ -1,0 +1,206 @@
+ghost use Rattle.std.specs.Prelude.{◌≡◌, ◌+◌, ◌<◌, ◌≤◌, ◌↔◌, true, false, Some, None, IfOk, MatchResult, IsNone, IfSome, IsTrue, length, drop, slice_get};
+ghost use Rattle.sd_section.specs.Header.{extension_of, version_of, current_of};
+ghost use Rattle.sd_packet.specs.Header.{payload_start_of};
+ghost use Rattle.sd_psi.specs.Forms.{section_in, pmt_fault};
+ghost use Rattle.sd_psi.specs.Rewriting.{is_first};
+ghost use Rattle.sd_psi.specs.Tables.{descriptors_of, are_descriptors, pcr_of, has_info, info_of, loop_of, stream_of, streams_of, stream_at, are_streams as are_streams_of, is_pmt};
+
+use crate::descriptor::Descriptor;
+use crate::fault::FormFault;
+use crate::form::{Table, read};
+use crate::items::{Kind, count, item, size};
+use sd_bits::fields;
+use sd_packet::Packet;
+use sd_section::Section;
+
+/// A section of a program map table (ISO/IEC 13818-1, 2.4.4.8).
+#[derive(Clone, Copy)]
+pub struct Pmt<'a> {
+    section: Section<'a>,
+    pub ghost form: { is_pmt section.bytes.now ≡ true },
+}
+
+/// The PMT that this section is.
+#[tactic(auto, using(crate::proofs::Listing::pmt_by_parts, crate::proofs::Listing::no_pmt))]
+pub fn pmt_in<'a>(section: &Section<'a>) -> Option<Pmt<'a>>
+    ensures none { IsNone result ↔ (is_pmt section.now.bytes.now ≡ false) }
+    ensures value { IfSome result (λ pmt. pmt.section.bytes.now ≡ section.now.bytes.now) }
+{
+    let (info, streams) = loops(section)?;
+    if section.table_id() == Table::Pmt.id()
+        && count(Kind::Descriptor, info).is_some()
+        && are_streams(streams)
+    {
+        Some(Pmt { section: *section })
+    } else {
+        None
+    }
+}
+
+// The bytes that program_info_length counts, and those behind them, where all of them are there.
+#[tactic(auto, unfolding(crate::specs::Tables::has_info, crate::specs::Tables::info_of, crate::specs::Tables::loop_of))]
+fn loops<'a>(section: &Section<'a>) -> Option<(&'a [u8], &'a [u8])>
+    ensures none { IsNone result ↔ (has_info section.now.bytes.now ≡ false) }
+    ensures info { IfSome result (λ loops. loops.0.now ≡ info_of section.now.bytes.now) }
+    ensures streams { IfSome result (λ loops. loops.1.now ≡ loop_of section.now.bytes.now) }
+{
+    let body = section.body();
+    let bytes = section.whole();
+    fields! { bytes; program_info_length: 84, 12; }
+    let end = 4 + program_info_length as usize;
+    if end <= body.len() {
+        Some((&body[4..end], &body[end..]))
+    } else {
+        None
+    }
+}
+
+// Whether streams fill the bytes, and descriptors the part of each that ES_info_length counts.
+#[tactic(auto, using(crate::proofs::Listing::streams_on, crate::proofs::Listing::streams_bad, crate::proofs::Listing::streams_off, crate::proofs::Listing::no_streams, crate::proofs::Listing::stream_head))]
+fn are_streams(bytes: &[u8]) -> bool
+    ensures { result ≡ are_streams_of bytes.now }
+{
+    let mut at = 0;
+    while at < bytes.len() {
+        let Some(size) = size(Kind::Stream, &bytes[at..]) else {
+            return false;
+        };
+        if count(Kind::Descriptor, &bytes[at + 5..at + size]).is_none() {
+            return false;
+        }
+        at += size;
+    }
+    true
+}
+
+/// The PMT that the packet is by itself.
+#[tactic(auto, using(crate::proofs::Judging::front_first, crate::proofs::Judging::then_good, crate::proofs::Judging::then_loops))]
+pub fn pmt_of<'a>(packet: &'a Packet) -> Result<Pmt<'a>, FormFault>
+    requires { payload_start_of packet.now < 188 }
+    ensures value { IfOk result (λ pmt. pmt.section.bytes.now ≡ section_in packet.now) }
+    ensures fault { MatchResult result (λ _. pmt_fault packet.now ≡ None) (λ fault. pmt_fault packet.now ≡ Some fault) }
+{
+    let section = read(Table::Pmt, packet)?;
+    pmt_in(&section).ok_or(FormFault::Descriptor)
+}
+
+impl<'a> Pmt<'a> {
+    /// version_number.
+    pub fn version(&self) -> u8
+        ensures { result ≡ version_of self.now.section.bytes.now }
+    {
+        self.section.version()
+    }
+
+    /// Whether current_next_indicator is set.
+    pub fn current(&self) -> bool
+        ensures { IsTrue result ↔ (current_of self.now.section.bytes.now ≡ 1) }
+    {
+        self.section.current()
+    }
+
+    /// program_number.
+    pub fn program(&self) -> u16
+        ensures { result ≡ extension_of self.now.section.bytes.now }
+    {
+        self.section.extension()
+    }
+
+    /// PCR_PID.
+    pub fn pcr(&self) -> u16
+        ensures { result ≡ pcr_of self.now.section.bytes.now }
+    {
+        let bytes = self.section.whole();
+        fields! { bytes; pcr_pid: 67, 13; }
+        pcr_pid as u16
+    }
+
+    // The bytes that program_info_length counts.
+    #[tactic(auto, using(crate::proofs::Listing::pmt_has, crate::proofs::Listing::pmt_info))]
+    fn info_bytes(&self) -> &'a [u8]
+        ensures value { result.now ≡ info_of self.now.section.bytes.now }
+        ensures whole { are_descriptors result.now ≡ true }
+    {
+        loops(&self.section).unwrap().0
+    }
+
+    /// How many descriptors the program has.
+    pub fn info_len(&self) -> usize
+        ensures { result ≡ length (descriptors_of (info_of self.now.section.bytes.now)) }
+    {
+        count(Kind::Descriptor, self.info_bytes()).unwrap()
+    }
+
+    /// The program's descriptor with this number.
+    pub fn info(&self, k: usize) -> Descriptor<'a>
+        requires { k < length (descriptors_of (info_of self.now.section.bytes.now)) }
+        ensures { slice_get (descriptors_of (info_of self.now.section.bytes.now)) k ≡ Some result.bytes.now }
+    {
+        Descriptor::at(self.info_bytes(), k)
+    }
+
+    // Whether the program's first descriptor is this one.
+    #[tactic(auto, using(crate::proofs::Packets::first_is, crate::proofs::Packets::none_is_first))]
+    pub(crate) fn begins_with(&self, descriptor: &[u8]) -> bool
+        requires { 0 < length descriptor.now }
+        ensures { result ≡ is_first descriptor.now self.now.section.bytes.now }
+    {
+        self.info_len() > 0 && self.info(0).bytes == descriptor
+    }
+
+    // The bytes of the streams.
+    #[tactic(auto, using(crate::proofs::Listing::pmt_has, crate::proofs::Listing::pmt_streams))]
+    fn stream_bytes(&self) -> &'a [u8]
+        ensures value { result.now ≡ loop_of self.now.section.bytes.now }
+        ensures whole { are_streams_of result.now ≡ true }
+    {
+        loops(&self.section).unwrap().1
+    }
+
+    /// How many streams there are.
+    #[tactic(auto, using(crate::proofs::Listing::streams_counted, crate::proofs::Listing::streams_whole))]
+    pub fn len(&self) -> usize
+        ensures { result ≡ length (streams_of self.now.section.bytes.now) }
+    {
+        count(Kind::Stream, self.stream_bytes()).unwrap()
+    }
+
+    // The stream with this number.
+    #[tactic(auto, using(crate::proofs::Listing::streams_counted, crate::proofs::Listing::streams_whole, crate::proofs::Listing::stream_listed, crate::proofs::Listing::info_whole, crate::proofs::Listing::stream_head))]
+    fn stream_item(&self, k: usize) -> &'a [u8]
+        requires { k < length (streams_of self.now.section.bytes.now) }
+        ensures value { stream_at self.now.section.bytes.now k ≡ stream_of result.now }
+        ensures head { 5 ≤ length result.now }
+        ensures whole { are_descriptors (drop 5 result.now) ≡ true }
+    {
+        item(Kind::Stream, self.stream_bytes(), k)
+    }
+
+    /// The stream_type and the elementary_PID of a stream.
+    pub fn stream(&self, k: usize) -> (u8, u16)
+        requires { k < length (streams_of self.now.section.bytes.now) }
+        ensures stream_type { result.0 ≡ (stream_at self.now.section.bytes.now k).stream_type }
+        ensures pid { result.1 ≡ (stream_at self.now.section.bytes.now k).pid }
+    {
+        let stream = self.stream_item(k);
+        fields! { stream; stream_type: 0, 8; elementary_pid: 11, 13; }
+        (stream_type as u8, elementary_pid as u16)
+    }
+
+    /// How many descriptors a stream has.
+    pub fn stream_len(&self, k: usize) -> usize
+        requires { k < length (streams_of self.now.section.bytes.now) }
+        ensures { result ≡ length (descriptors_of (stream_at self.now.section.bytes.now k).info) }
+    {
+        count(Kind::Descriptor, &self.stream_item(k)[5..]).unwrap()
+    }
+
+    /// A stream's descriptor with this number.
+    pub fn stream_info(&self, k: usize, x: usize) -> Descriptor<'a>
+        requires stream { k < length (streams_of self.now.section.bytes.now) }
+        requires descriptor { x < length (descriptors_of (stream_at self.now.section.bytes.now k).info) }
+        ensures { slice_get (descriptors_of (stream_at self.now.section.bytes.now k).info) x ≡ Some result.bytes.now }
+    {
+        Descriptor::at(&self.stream_item(k)[5..], x)
+    }
+}
