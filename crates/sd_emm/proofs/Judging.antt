@@ -1,0 +1,133 @@
+-- What is wrong with a section of entitlements, by what was read of it.
+use Rattle.std.proofs.Common.{◌≡◌, ℕ, ◌-◌, List, length, take, drop, refl, sym, ap, ◌∙◌, subst}
+use Rattle.std.specs.Prelude.{replicate, ◌↔◌}
+use Rattle.std.proofs.lemmas.List.{take_at, drop_at}
+use Rattle.sd_tree.specs.SetNames.{AreAscending}
+use Rattle.sd_emm.specs.Spelled.{listed, names_of}
+use Rattle.sd_emm.specs.Form.{nothing, AreSets, IsEmm}
+use Rattle.sd_emm.specs.Fields.{entries_in, padded, emm_in, with_entries, HasCount, IsGoodIn, BreaksIn}
+use Rattle.sd_emm.specs.declared.emm.Entry.{Entry}
+use Rattle.sd_emm.specs.declared.emm.Emm.{Emm}
+use Rattle.sd_emm.specs.declared.fault.EmmFault.{EmmFault}
+use Rattle.sd_emm.specs.declared.fault.EmmFault.TheVariants.{Count, Order, Node, Mixed}
+use Rattle.sd_emm.proofs.Entries.{length_entries}
+
+-- what stands before the entries was read
+abbrev pub IsFront : ℕ → List ℕ → Emm → Type 0
+IsFront index body front = front ≡ with_entries (emm_in index body) (replicate 3 nothing)
+
+-- the entries that a section has are those in its body
+pub listed_in : (index : ℕ) (body : List ℕ) → listed (emm_in index body) ≡ entries_in (emm_in index body).count (drop 27 body)
+unfolding emm_in
+listed_in index body =
+    let count : ℕ = (emm_in index body).count in
+    take_at (entries_in count (drop 27 body)) (replicate (3 - length (entries_in count (drop 27 body))) nothing) count (length_entries count (drop 27 body))
+
+entries_are : (index : ℕ) (body : List ℕ) → (emm_in index body).entries ≡ padded (entries_in (emm_in index body).count (drop 27 body))
+unfolding emm_in
+entries_are index body = refl
+
+-- the same entries by the count that was read
+same_entries : (index : ℕ) (body : List ℕ) (front : Emm) (count : ℕ) → IsFront index body front → count ≡ front.count →
+    entries_in count (drop 27 body) ≡ listed (emm_in index body)
+same_entries index body front count is counted =
+    ap (λ (n : ℕ). entries_in n (drop 27 body)) (counted ∙ ap (λ (e : Emm). e.count) is) ∙ sym (listed_in index body)
+
+-- the numbers don't come to one another
+pub count_breaks : (h index : ℕ) (body : List ℕ) (front : Emm) → IsFront index body front → ¬ HasCount (length body) front →
+    BreaksIn h (length body) (emm_in index body) Count
+count_breaks h index body front is unless has = unless (subst (HasCount (length body)) (sym is) has)
+
+-- they do
+has_count : (index : ℕ) (body : List ℕ) (front : Emm) → IsFront index body front → HasCount (length body) front →
+    HasCount (length body) (emm_in index body)
+has_count index body front is has = subst (HasCount (length body)) is has
+
+-- the entries are sets by the number that was read where they are
+same_sets : (h index : ℕ) (body : List ℕ) (front : Emm) (count : ℕ) → IsFront index body front → count ≡ front.count →
+    AreSets h front.sets (entries_in count (drop 27 body)) ↔ AreSets h (emm_in index body).sets (listed (emm_in index body))
+same_sets h index body front count is counted =
+    let entries = same_entries index body front count is counted in
+    let sets : front.sets ≡ (emm_in index body).sets = ap (λ (e : Emm). e.sets) is in (
+      λ all. subst (λ (n : ℕ). AreSets h n (listed (emm_in index body))) sets (subst (λ (es : List Entry). AreSets h front.sets es) entries all),
+      λ all. subst (λ (es : List Entry). AreSets h front.sets es) (sym entries) (subst (λ (n : ℕ). AreSets h n (listed (emm_in index body))) (sym sets) all),
+    )
+
+-- an entry is no set that may stand there
+pub node_breaks : (h index : ℕ) (body : List ℕ) (front : Emm) (count : ℕ) → IsFront index body front → HasCount (length body) front →
+    count ≡ front.count → ¬ AreSets h front.sets (entries_in count (drop 27 body)) → BreaksIn h (length body) (emm_in index body) Node
+node_breaks h index body front count is has counted unless =
+    (has_count index body front is has, λ all. unless ((same_sets h index body front count is counted).1 all))
+
+-- what was read is what the section says
+pub is_whole : (index : ℕ) (body : List ℕ) (front : Emm) (count : ℕ) (entries : List Entry) → IsFront index body front →
+    count ≡ front.count → entries ≡ padded (entries_in count (drop 27 body)) → with_entries front entries ≡ emm_in index body
+is_whole index body front count entries is counted read =
+    let same : entries ≡ (emm_in index body).entries =
+    read ∙ (ap (λ (n : ℕ). padded (entries_in n (drop 27 body))) (counted ∙ ap (λ (e : Emm). e.count) is) ∙ sym (entries_are index body)) in
+    ap (λ (f : Emm). with_entries f entries) is ∙ ap (with_entries (emm_in index body)) same
+
+-- the entries that were read are those that the section has
+same_listed : (index : ℕ) (body : List ℕ) (front : Emm) (count : ℕ) (entries : List Entry) → IsFront index body front →
+    count ≡ front.count → entries ≡ padded (entries_in count (drop 27 body)) → take count entries ≡ listed (emm_in index body)
+same_listed index body front count entries is counted read =
+    ap (λ (n : ℕ). take n entries) counted ∙ ap listed (is_whole index body front count entries is counted read)
+
+-- the entries don't ascend
+pub order_breaks : (h index : ℕ) (body : List ℕ) (front : Emm) (count : ℕ) (entries : List Entry) → IsFront index body front →
+    HasCount (length body) front → count ≡ front.count → AreSets h front.sets (entries_in count (drop 27 body)) →
+    entries ≡ padded (entries_in count (drop 27 body)) → ¬ AreAscending (names_of (take count entries)) →
+    BreaksIn h (length body) (emm_in index body) Order
+order_breaks h index body front count entries is has counted sets read unless = (
+  has_count index body front is has,
+  (
+    (same_sets h index body front count is counted).0 sets,
+    λ up. unless (subst (λ (es : List Entry). AreAscending (names_of es)) (sym (same_listed index body front count entries is counted read)) up),
+  ),
+)
+
+-- nothing is wrong
+pub is_good : (h index : ℕ) (body : List ℕ) (front : Emm) (count : ℕ) (entries : List Entry) → IsFront index body front →
+    HasCount (length body) front → count ≡ front.count → AreSets h front.sets (entries_in count (drop 27 body)) →
+    entries ≡ padded (entries_in count (drop 27 body)) → AreAscending (names_of (take count entries)) →
+    IsGoodIn h (length body) (emm_in index body)
+is_good h index body front count entries is has counted sets read up = record {
+  has_count = has_count index body front is has;
+  are_sets = (same_sets h index body front count is counted).0 sets;
+  ascending = subst (λ (es : List Entry). AreAscending (names_of es)) (same_listed index body front count entries is counted read) up;
+}
+
+-- what follows the entries is as it is to be
+past_entries : (index : ℕ) (body : List ℕ) →
+    drop (emm_in index body).count (emm_in index body).entries ≡ replicate (3 - (emm_in index body).count) nothing
+past_entries index body =
+    let count : ℕ = (emm_in index body).count in
+    let entries : List Entry = entries_in count (drop 27 body) in
+    ap (drop count) (entries_are index body)
+    ∙ (drop_at entries (replicate (3 - length entries) nothing) count (length_entries count (drop 27 body))
+    ∙ ap (λ (n : ℕ). replicate (3 - n) nothing) (length_entries count (drop 27 body)))
+
+-- what breaks no rule is in its form
+pub good_is_emm : (h index : ℕ) (body : List ℕ) → IsGoodIn h (length body) (emm_in index body) → IsEmm (emm_in index body)
+good_is_emm h index body good = record { counted = good.has_count.1; ascending = good.ascending; rest = past_entries index body }
+
+-- one rule alone is broken first
+pub breaks_once : (h length : ℕ) (emm : Emm) (f g : EmmFault) → BreaksIn h length emm f → BreaksIn h length emm g → f ≡ g
+breaks_once h length emm Count Count a b = refl
+breaks_once h length emm Count Node a b = absurd (a b.0)
+breaks_once h length emm Count Order a b = absurd (a b.0)
+breaks_once h length emm Node Count a b = absurd (b a.0)
+breaks_once h length emm Node Node a b = refl
+breaks_once h length emm Node Order a b = absurd (a.1 b.1.0)
+breaks_once h length emm Order Count a b = absurd (b a.0)
+breaks_once h length emm Order Node a b = absurd (b.1 a.1.0)
+breaks_once h length emm Order Order a b = refl
+breaks_once h length emm Mixed g a b = absurd a
+breaks_once h length emm f Mixed a b = absurd b
+
+-- and none where nothing is wrong
+pub good_never : (h length : ℕ) (emm : Emm) (f : EmmFault) → IsGoodIn h length emm → ¬ BreaksIn h length emm f
+good_never h length emm Count good b = b good.has_count
+good_never h length emm Node good b = b.1 good.are_sets
+good_never h length emm Order good b = b.1.1 good.ascending
+good_never h length emm Mixed good b = b

@@ -1,0 +1,7 @@
+pub mod Ascending
+pub mod Names
+pub mod Entries
+pub mod Spelling
+pub mod Again
+pub mod Judging
+pub mod Reading

@@ -1,0 +1,135 @@
+-- What is read from a section's body spells it.
+use Rattle.std.proofs.Common.{◌≡◌, ℕ, zero, suc, ◌+◌, ◌*◌, ◌<◌, ◌≤◌, List, [], ◌∷◌, ◌++◌, length, take, drop, take-add, drop-drop, length-drop, length-take-le, get_or-drop, get_or-take, get_or, append_assoc, append-nil, inl, inr, arith, refl, sym, ap, ◌∙◌}
+use Rattle.std.specs.Prelude.{slice_index, slice_range}
+use Rattle.std.specs.Int.{w16, w32, to_be_bytes}
+use Rattle.std.proofs.lemmas.Bool.{cases_lt}
+use Rattle.std.proofs.lemmas.List.{get_or_default, take_more, drop_more, take_all, get_or_past, length-take, take-append-drop, nil_from_length}
+use Rattle.sd_bits.specs.Bits.{field}
+use Rattle.sd_message.proofs.Numbers.{IsBytes, word_spelled, half_spelled}
+use Rattle.sd_emm.proofs.Names.{name_cases}
+use Rattle.sd_emm.proofs.Judging.{listed_in}
+use Rattle.sd_section.specs.Header.{extension_of, body_of}
+use Rattle.sd_section.specs.Written.{section_bytes}
+use Rattle.sd_message.specs.Framed.{header_of}
+use Rattle.sd_emm.specs.Spelled.{listed, emm_body, name_bytes, front_bytes, entry_bytes, entries_bytes, emm_header}
+use Rattle.sd_emm.specs.Form.{AreWrapped}
+use Rattle.sd_emm.specs.Fields.{name_of, entry_of, entries_in, emm_in, IsEmmSection}
+use Rattle.sd_emm.specs.declared.emm.Entry.{Entry}
+
+-- what is put behind something in three pieces
+pub put_behind : (old a b c : List ℕ) → ((old ++ a) ++ b) ++ c ≡ old ++ ((a ++ b) ++ c)
+put_behind old a b c = ap (λ (l : List ℕ). l ++ c) (append_assoc old a b) ∙ append_assoc old (a ++ b) c
+
+-- one entry behind others
+entries_more : (xs : List Entry) (x : Entry) → entries_bytes (xs ++ x ∷ []) ≡ entries_bytes xs ++ entry_bytes x
+unfolding entries_bytes
+entries_more [] x = append-nil (entry_bytes x)
+entries_more (y ∷ ys) x =
+    ap (λ (l : List ℕ). entry_bytes y ++ l) (entries_more ys x) ∙ sym (append_assoc (entry_bytes y) (entries_bytes ys) (entry_bytes x))
+
+-- no entry is put
+pub none_put : (front : List ℕ) (entries : List Entry) → front ≡ front ++ entries_bytes (take 0 entries)
+unfolding entries_bytes
+none_put front entries = sym (append-nil front)
+
+-- one more is
+pub one_put : (front body : List ℕ) (entries : List Entry) (k : ℕ) (d : Entry) → k < length entries →
+    body ≡ front ++ entries_bytes (take k entries) →
+    body ++ entry_bytes (get_or entries k d) ≡ front ++ entries_bytes (take (k + 1) entries)
+one_put front body entries k d within is =
+    ap (λ (l : List ℕ). l ++ entry_bytes (get_or entries k d)) is
+    ∙ (append_assoc front (entries_bytes (take k entries)) (entry_bytes (get_or entries k d))
+    ∙ ap (λ (l : List ℕ). front ++ l) (sym (entries_more (take k entries) (get_or entries k d)) ∙ ap entries_bytes (sym (take_more entries k d within))))
+
+-- no key is wrapped yet
+pub none_wrapped : (entries : List Entry) → AreWrapped (take 0 entries)
+none_wrapped entries k d below = absurd (omega arith)
+
+-- one more is
+pub one_wrapped : (entries : List Entry) (k : ℕ) (e : Entry) → k < length entries → AreWrapped (take k entries) →
+    length (get_or entries k e).wrapped ≡ 32 →
+    AreWrapped (take (k + 1) entries)
+one_wrapped entries k e within all one m d below =
+    let long = length-take-le (k + 1) entries (omega arith) in
+    let short = length-take-le k entries (omega arith) in
+    rw (get_or-take (k + 1) entries m d (omega arith)) (elim (cases_lt m k) [
+      | inl h ↦ rw (get_or-take k entries m d h) at (all m d (omega arith))
+      | inr g ↦ let f : m ≡ k = omega arith in rw f (rw (get_or_default entries k e d within) at one)
+    ])
+
+-- a section of entitlements has their header
+pub emm_headed : (section : List ℕ) → IsEmmSection section → section ≡ section_bytes (header_of section) (body_of section) →
+    section ≡ section_bytes (emm_header (extension_of section)) (body_of section)
+unfolding header_of
+emm_headed section emm is = rw (emm.table_id, emm.number, emm.last_number) at is
+
+-- a name is spelled as the pair that it was read from
+name_spelled : (i j : ℕ) → name_bytes (name_of i j) ≡ to_be_bytes w32 i ++ to_be_bytes w32 j
+name_spelled i j = elim (name_cases i j) [
+  | inl whole ↦ ap name_bytes whole.1 ∙ sym (ap (λ (n : ℕ). to_be_bytes w32 n ++ to_be_bytes w32 j) whole.0.0 ∙ ap (λ (n : ℕ). to_be_bytes w32 0 ++ to_be_bytes w32 n) whole.0.1)
+  | inr diff ↦ ap name_bytes diff.1
+]
+
+-- an entry is spelled as it was read
+entry_spelled : (bytes : List ℕ) → IsBytes bytes → length bytes ≡ 40 → entry_bytes (entry_of bytes) ≡ bytes
+unfolding entry_bytes entry_of
+entry_spelled bytes each long =
+    let first : to_be_bytes w32 (field bytes 0 32) ≡ take 4 bytes = word_spelled bytes 0 each (omega arith) in
+    let second : to_be_bytes w32 (field bytes 32 32) ≡ take 4 (drop 4 bytes) = word_spelled bytes 4 each (omega arith) in
+    let name : name_bytes (name_of (field bytes 0 32) (field bytes 32 32)) ≡ take 8 bytes =
+    name_spelled (field bytes 0 32) (field bytes 32 32)
+    ∙ (ap (λ (l : List ℕ). l ++ to_be_bytes w32 (field bytes 32 32)) first
+    ∙ (ap (λ (l : List ℕ). take 4 bytes ++ l) second ∙ sym (take-add 4 4 bytes))) in
+    let behind : take 32 (drop 8 bytes) ≡ drop 8 bytes = take_all 32 (drop 8 bytes) (omega (arith, length-drop 8 bytes)) in
+    rw (name, behind) (take-append-drop 8 bytes)
+
+-- the bytes of a part are bytes
+bytes_drop : (n : ℕ) (bytes : List ℕ) → IsBytes bytes → IsBytes (drop n bytes)
+bytes_drop n bytes each i = omega (arith, get_or-drop n bytes i 0, each (n + i))
+
+bytes_take : (n : ℕ) (bytes : List ℕ) → IsBytes bytes → IsBytes (take n bytes)
+bytes_take n bytes each i = elim (cases_lt i n) [
+  | inl h ↦ omega (arith, get_or-take n bytes i 0 h, each i)
+  | inr g ↦ omega (arith, get_or_past (take n bytes) i 0 (omega (arith, length-take n bytes)))
+]
+
+-- entries are spelled as they were read
+entries_spelled : (n : ℕ) (bytes : List ℕ) → IsBytes bytes → length bytes ≡ 40 * n → entries_bytes (entries_in n bytes) ≡ bytes
+unfolding entries_bytes entries_in
+entries_spelled zero bytes each long = sym (nil_from_length bytes (omega arith))
+entries_spelled (suc n) bytes each long =
+    let first = entry_spelled (take 40 bytes) (bytes_take 40 bytes each) (length-take-le 40 bytes (omega arith)) in
+    let rest = entries_spelled n (drop 40 bytes) (bytes_drop 40 bytes each) (omega (arith, length-drop 40 bytes)) in
+    rw (first, rest) (take-append-drop 40 bytes)
+
+-- five pieces are as four of them are
+same_five : (a a' b b' c c' k d d' : List ℕ) → a ≡ a' → b ≡ b' → c ≡ c' → d ≡ d' →
+    a ++ (b ++ (c ++ (k ++ d))) ≡ a' ++ (b' ++ (c' ++ (k ++ d')))
+same_five a a' b b' c c' k d d' p q r s = rw (p, q, r, s) refl
+
+-- so is the body before its entries
+front_spelled : (index : ℕ) (body : List ℕ) → IsBytes body → 27 ≤ length body → front_bytes (emm_in index body) ≡ take 27 body
+unfolding front_bytes emm_in
+front_spelled index body each long =
+    let period : to_be_bytes w32 (field body 0 32) ≡ take 4 body = word_spelled body 0 each (omega arith) in
+    let sets : to_be_bytes w32 (field body 32 32) ≡ take 4 (drop 4 body) = word_spelled body 4 each (omega arith) in
+    let sections : to_be_bytes w16 (field body 64 16) ≡ take 2 (drop 8 body) = half_spelled body 8 each (omega arith) in
+    let count : slice_index body 26 ∷ [] ≡ take 1 (drop 26 body) = sym (ap (take 1) (drop_more body 26 0 (omega arith))) in
+    same_five _ _ _ _ _ _ (slice_range body 10 26) _ _ period sets sections count
+    ∙ (sym (take-add 4 23 body
+    ∙ ap (λ (l : List ℕ). take 4 body ++ l) (take-add 4 19 (drop 4 body)
+    ∙ ap (λ (l : List ℕ). take 4 (drop 4 body) ++ l) (ap (take 19) (drop-drop 4 4 body) ∙ (take-add 2 17 (drop 8 body)
+    ∙ ap (λ (l : List ℕ). take 2 (drop 8 body) ++ l) (ap (take 17) (drop-drop 2 8 body) ∙ (take-add 16 1 (drop 10 body)
+    ∙ ap (λ (l : List ℕ). take 16 (drop 10 body) ++ take 1 l) (drop-drop 16 10 body))))))))
+
+-- so is the whole body
+pub body_spelled : (index : ℕ) (body : List ℕ) → IsBytes body → length body ≡ 27 + 40 * (emm_in index body).count →
+    emm_body (emm_in index body) ≡ body
+unfolding emm_body
+body_spelled index body each long =
+    let count : ℕ = (emm_in index body).count in
+    let entries : entries_bytes (listed (emm_in index body)) ≡ drop 27 body =
+    ap entries_bytes (listed_in index body)
+    ∙ entries_spelled count (drop 27 body) (bytes_drop 27 body each) (omega (arith, length-drop 27 body)) in
+    ap (λ (l : List ℕ). l ++ entries_bytes (listed (emm_in index body))) (front_spelled index body each (omega arith))
+    ∙ (ap (λ (l : List ℕ). take 27 body ++ l) entries ∙ take-append-drop 27 body)

@@ -1,0 +1,42 @@
+ghost use Rattle.std.specs.Prelude.{◌≡◌, ◌≤◌};
+ghost use Rattle.sd_emm.specs.Spelled.{listed};
+
+use sd_tree::SetName;
+
+/// A set of receivers, and the period key wrapped under the set's key.
+#[derive(Clone, Copy, Debug, PartialEq, Eq)]
+pub struct Entry {
+    /// The set.
+    pub name: SetName,
+    /// The wrapped period key.
+    pub wrapped: [u8; 32],
+}
+
+/// What one section says of a period's sets (docs/FORMATS.md, Messages).
+#[derive(Clone, Copy, Debug, PartialEq, Eq)]
+pub struct Emm {
+    /// The period.
+    pub period: u32,
+    /// How many sets the period has, in all of its sections.
+    pub sets: u32,
+    /// How many sections the period has.
+    pub sections: u16,
+    /// Which of them this is, from 0 on.
+    pub index: u16,
+    /// The check value of the period key.
+    pub check: [u8; 16],
+    /// How many entries this section has.
+    pub count: u8,
+    /// The entries. Those past `count` are the whole set with zeros.
+    pub entries: [Entry; 3],
+}
+
+impl Emm {
+    /// The entries that the section has.
+    pub fn listed(&self) -> &[Entry]
+        requires { self.now.count ≤ 3 }
+        ensures { result.now ≡ listed self.now }
+    {
+        &self.entries[..usize::from(self.count)]
+    }
+}

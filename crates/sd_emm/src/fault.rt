@@ -1,0 +1,12 @@
+/// Why a section of entitlements isn't one that this project writes.
+#[derive(Clone, Copy, Debug, PartialEq, Eq)]
+pub enum EmmFault {
+    /// The count of entries, the number of sections or the index isn't what the number of sets and the length come to.
+    Count,
+    /// The entries aren't strictly ascending.
+    Order,
+    /// An entry is no set of the height, or it is the whole set beside others.
+    Node,
+    /// Sections of one period say different things of it. It isn't a fault of one section, so reading one never gives it.
+    Mixed,
+}

@@ -1,0 +1,16 @@
+//! Entitlement management messages: which sets of receivers a period names, each with the period key wrapped for it.
+#![tactic(auto)]
+
+mod emm;
+mod fault;
+pub mod laws;
+mod order;
+mod read;
+#[cfg(test)]
+mod tests;
+mod write;
+
+pub use emm::{Emm, Entry};
+pub use fault::EmmFault;
+pub use read::read_emm;
+pub use write::write_emm;

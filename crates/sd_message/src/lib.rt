@@ -1,0 +1,9 @@
+//! What this project's messages share: each is one section, alone in its packet behind pointer 0.
+#![tactic(auto)]
+
+mod body;
+mod frame;
+pub mod laws;
+
+pub use body::Body;
+pub use frame::{pack, section_in};
