@@ -1,0 +1,7 @@
+pub mod Ascending
+pub mod Numbers
+pub mod Places
+pub mod Spelling
+pub mod Again
+pub mod Judging
+pub mod Reading

@@ -1,0 +1,15 @@
+/// Why a section isn't a part of a control message that this project writes.
+#[derive(Clone, Copy, Debug, PartialEq, Eq)]
+pub enum EcmFault {
+    /// The count of positions isn't what the length comes to, or what the part is to have.
+    Count,
+    /// The PIDs aren't strictly ascending.
+    Order,
+    /// A PID is one that has no positions.
+    Pid,
+    /// The flags are above 1, or the table_id isn't that of the control word's number. Parts of one message that say
+    /// different things of it are this too.
+    Mixed,
+    /// Messages go back. It isn't a fault of one section, so reading one never gives it.
+    Back,
+}

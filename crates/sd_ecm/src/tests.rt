@@ -1,0 +1,346 @@
+use super::*;
+use hex::FromHex;
+use sd_packet::Packet;
+use sd_section::seal;
+use std::test::Fail;
+
+// A part that an independent implementation wrote, and its packet up to its stuffing.
+struct Row {
+    number: u32,
+    period: u32,
+    word: u32,
+    clear: u32,
+    closing: bool,
+    part: u8,
+    last_part: u8,
+    wrapped: &'static str,
+    check: &'static str,
+    positions: &'static [(u16, u64)],
+    packet: &'static str,
+}
+
+static ROWS: [Row; 9] = [
+    Row {
+        number: 0,
+        period: 0,
+        word: 0,
+        clear: 0,
+        closing: false,
+        part: 0,
+        last_part: 0,
+        wrapped: "02eef1dce9a97720b765ee814bfd192c23861ff0f1deeff10f7afb1e7bd5a849",
+        check: "c11797519f5f8e11a9080b9ed6607272",
+        positions: &[],
+        packet: "4741f1140080b04b0000c10000000000000000000000000000000000000002eef1dce9a97720b765ee814bfd192c23861ff0\
+                f1deeff10f7afb1e7bd5a849c11797519f5f8e11a9080b9ed660727200367490ac",
+    },
+    Row {
+        number: 1,
+        period: 0,
+        word: 0,
+        clear: 200,
+        closing: false,
+        part: 0,
+        last_part: 0,
+        wrapped: "6682bbbb66a6e9b949b2d21a30e2641c265e6eb1f4430b125468c6302b38b757",
+        check: "3085294b1e2d9a320ffe227acf4837b3",
+        positions: &[(256, 159), (257, 65), (4096, 17)],
+        packet: "4741f11a0080b0630000c10000000000010000000000000000000000c8006682bbbb66a6e9b949b2d21a30e2641c265e6eb1\
+                f4430b125468c6302b38b7573085294b1e2d9a320ffe227acf4837b303010000000000009f01010000000000411000000000\
+                0000119e493e13",
+    },
+    Row {
+        number: 3,
+        period: 1,
+        word: 1,
+        clear: 600,
+        closing: true,
+        part: 0,
+        last_part: 0,
+        wrapped: "b4a2f094a951a7ae403bc06e531e90215e49bf45ada2c76b00b84d792f900e8b",
+        check: "4f7b67895a45d6f3e0f1643b90256e48",
+        positions: &[(256, 281474976710655)],
+        packet: "4741f1100081b0530000c100000000000300000001000000010000025801b4a2f094a951a7ae403bc06e531e90215e49bf45\
+                ada2c76b00b84d792f900e8b4f7b67895a45d6f3e0f1643b90256e48010100ffffffffffff26362082",
+    },
+    Row {
+        number: 1013,
+        period: 9,
+        word: 27,
+        clear: 200000,
+        closing: false,
+        part: 0,
+        last_part: 0,
+        wrapped: "c8b8a92d0ce8e22411cbbde8f1bc4d182de3b01c9f8cb0ef6e325f5df19d9980",
+        check: "5313889c4c04d762cf43660911930195",
+        positions: &[
+            (597, 798504419324),
+            (652, 213015765935),
+            (1405, 406964225645),
+            (1734, 458738682031),
+            (2009, 492498882413),
+            (2023, 157333129824),
+            (2247, 329068568053),
+            (2777, 723813207947),
+            (2938, 172068352485),
+            (3561, 325881963265),
+            (4244, 281022784659),
+            (4576, 3430653209),
+            (5990, 576498223104),
+        ],
+        packet: "4741f11c0081b0b30000c10000000003f5000000090000001b00030d4000c8b8a92d0ce8e22411cbbde8f1bc4d182de3b01c\
+                9f8cb0ef6e325f5df19d99805313889c4c04d762cf436609119301950d025500b9ea927ffc028c003198baa3af057d005ec0\
+                f5466d06c6006acef4c8af07d90072ab388f6d07e70024a1c90a6008c7004c9e03ddf50ad900a886a10f8b0b7a00281012b1\
+                e50de9004be0142301109400416e43649311e00000cc7b9d191766008639f8c8007e87a66c",
+    },
+    Row {
+        number: 1014,
+        period: 9,
+        word: 29,
+        clear: 200000,
+        closing: false,
+        part: 0,
+        last_part: 1,
+        wrapped: "8fdac453c8c8cbf4729ec8fd90ce1e2529cf41c7257a1f16ddcb7562aad6fafb",
+        check: "c882e2a41f76bd11f8e94eed67ccbc9f",
+        positions: &[
+            (1182, 352821089354),
+            (1451, 1078253369948),
+            (1954, 275335460963),
+            (2376, 1094884033069),
+            (3013, 587923387337),
+            (3173, 1004299465597),
+            (3600, 534650754710),
+            (3713, 69536326824),
+            (3815, 213364145886),
+            (4012, 286889944154),
+            (5470, 199778114072),
+            (5982, 1059283342755),
+            (6353, 392361087815),
+        ],
+        packet: "4741f11e0081b0b30000c10001000003f6000000090000001d00030d40008fdac453c8c8cbf4729ec8fd90ce1e2529cf41c7\
+                257a1f16ddcb7562aad6fafbc882e2a41f76bd11f8e94eed67ccbc9f0d049e005225c6944a05ab00fb0ce8ba5c07a200401b\
+                45b863094800feec2c822d0bc50088e2f6f3c90c6500e9d4e9b37d0e10007c7bab16960e81001030b024a80ee70031ad7e7e\
+                de0fac0042cbf9245a155e002e83b41a18175e00f6a23515a318d1005b5a8b13477337e24e",
+    },
+    Row {
+        number: 1014,
+        period: 9,
+        word: 29,
+        clear: 200000,
+        closing: false,
+        part: 1,
+        last_part: 1,
+        wrapped: "8fdac453c8c8cbf4729ec8fd90ce1e2529cf41c7257a1f16ddcb7562aad6fafb",
+        check: "c882e2a41f76bd11f8e94eed67ccbc9f",
+        positions: &[(8041, 132564198584)],
+        packet: "4741f1150081b0530000c10101000003f6000000090000001d00030d40008fdac453c8c8cbf4729ec8fd90ce1e2529cf41c7\
+                257a1f16ddcb7562aad6fafbc882e2a41f76bd11f8e94eed67ccbc9f011f69001edd7124b87db89aa8",
+    },
+    Row {
+        number: 1030,
+        period: 9,
+        word: 61,
+        clear: 200000,
+        closing: false,
+        part: 0,
+        last_part: 2,
+        wrapped: "863c21734259242e0151703c47090a817530e24f7fc117efa71c4548d4c8015b",
+        check: "02e5dc63036fd9385b071da31e4c9483",
+        positions: &[
+            (295, 543399325861),
+            (342, 408884786562),
+            (663, 155507401692),
+            (758, 400625257146),
+            (1109, 957799869149),
+            (1173, 999244846649),
+            (2428, 479259905102),
+            (2559, 102416871556),
+            (2769, 312174809646),
+            (2974, 554055923427),
+            (3033, 71595363809),
+            (3035, 517234271876),
+            (3163, 1086620328187),
+        ],
+        packet: "4741f1110081b0b30000c1000200000406000000090000003d00030d4000863c21734259242e0151703c47090a817530e24f\
+                7fc117efa71c4548d4c8015b02e5dc63036fd9385b071da31e4c94830d0127007e851fb0a50156005f336eb5820297002434\
+                f6a3dc02f6005d47204aba045500df01522add049500e8a7a25639097c006f961dcc4e09ff0017d88570840ad10048af1192\
+                2e0b9e0081004e76e30bd90010ab6a8de10bdb00786d90a6840c5b00fcff9e60fb706d895d",
+    },
+    Row {
+        number: 1030,
+        period: 9,
+        word: 61,
+        clear: 200000,
+        closing: false,
+        part: 1,
+        last_part: 2,
+        wrapped: "863c21734259242e0151703c47090a817530e24f7fc117efa71c4548d4c8015b",
+        check: "02e5dc63036fd9385b071da31e4c9483",
+        positions: &[
+            (3719, 703120620747),
+            (3763, 1060388374149),
+            (3774, 476598879635),
+            (3926, 271162225928),
+            (4048, 321722359409),
+            (4495, 670360214763),
+            (4823, 1063176217283),
+            (4865, 992944599764),
+            (5069, 651137639079),
+            (5150, 279553007491),
+            (5610, 260523695293),
+            (6134, 566488027360),
+            (6297, 313737546326),
+        ],
+        packet: "4741f1190081b0b30000c1010200000406000000090000003d00030d4000863c21734259242e0151703c47090a817530e24f\
+                7fc117efa71c4548d4c8015b02e5dc63036fd9385b071da31e4c94830d0e8700a3b5413ccb0eb300f6e41286850ebe006ef7\
+                81c5930f56003f228735080fd0004ae8259e71118f009c14951ceb12d700f78a3da2c3130100e7301c32d413cd00979ad3e2\
+                a7141e004116a85f8315ea003ca86c1cbd17f60083e55150e0189900490c370a567ce72dec",
+    },
+    Row {
+        number: 1030,
+        period: 9,
+        word: 61,
+        clear: 200000,
+        closing: false,
+        part: 2,
+        last_part: 2,
+        wrapped: "863c21734259242e0151703c47090a817530e24f7fc117efa71c4548d4c8015b",
+        check: "02e5dc63036fd9385b071da31e4c9483",
+        positions: &[
+            (6329, 451923595333),
+            (6793, 690230123156),
+            (6889, 125919489579),
+            (7169, 206353884269),
+        ],
+        packet: "4741f1110081b06b0000c1020200000406000000090000003d00030d4000863c21734259242e0151703c47090a817530e24f\
+                7fc117efa71c4548d4c8015b02e5dc63036fd9385b071da31e4c94830418b9006938bed0451a8900a0b4ebda941ae9001d51\
+                62ee2b1c0100300ba6646d6fc1505c",
+    },
+];
+
+fn packet_of(front: &str) -> Option<Packet> {
+    let mut bytes = [0xFF; 188];
+    hex::decode_to_slice(front, bytes.get_mut(..front.len() / 2)?).ok()?;
+    Packet::new(bytes)
+}
+
+fn part_of(row: &Row) -> Option<EcmPart> {
+    let nothing = Place {
+        pid: 0,
+        position: 0,
+    };
+    let mut positions = [nothing; 13];
+    for (k, (pid, position)) in row.positions.iter().enumerate() {
+        *positions.get_mut(k)? = Place {
+            pid: *pid,
+            position: *position,
+        };
+    }
+    Some(EcmPart {
+        number: row.number,
+        period: row.period,
+        word: row.word,
+        clear: row.clear,
+        closing: row.closing,
+        part: row.part,
+        last_part: row.last_part,
+        wrapped: <[u8; 32] as FromHex>::from_hex(row.wrapped).ok()?,
+        check: <[u8; 16] as FromHex>::from_hex(row.check).ok()?,
+        count: u8::try_from(row.positions.len()).ok()?,
+        positions,
+    })
+}
+
+#[test]
+fn messages_both_ways(rt: HostRuntime) -> Result<(), Fail> {
+    for row in &ROWS {
+        let packet = packet_of(row.packet).ok_or("no packet")?;
+        let read = read_ecm(&packet);
+        assert!(rt; part_of(row).is_some());
+        assert_eq!(rt; read, Ok(part_of(row)));
+        if let Ok(Some(part)) = read {
+            let written = write_ecm(&part, packet.pid(), packet.counter());
+            assert_eq!(rt; written.bytes(), packet.bytes());
+        }
+    }
+    Ok(())
+}
+
+// The packet of a row with these bytes changed, and the CRC made right.
+fn changed(row: &Row, changes: &[(usize, u8)]) -> Option<Packet> {
+    let mut bytes = *packet_of(row.packet)?.bytes();
+    for (place, byte) in changes {
+        *bytes.get_mut(*place)? = *byte;
+    }
+    let length = usize::from(u16::from_be_bytes([bytes[6], bytes[7]]) % 4096);
+    let section = bytes.get_mut(5..8 + length)?;
+    if section.len() >= 4 {
+        seal(section);
+    }
+    Packet::new(bytes)
+}
+
+#[test]
+fn faults_in_order(rt: HostRuntime) -> Result<(), Fail> {
+    // The row, the bytes that are changed, what is read.
+    let table: [(usize, &[(usize, u8)], Result<Option<EcmPart>, EcmFault>); 22] = [
+        // A count, a length, a part that isn't the last with 3 positions, and with 12, a last part with none.
+        (1, &[(78, 4)], Err(EcmFault::Count)),
+        (1, &[(7, 0x64)], Err(EcmFault::Count)),
+        (1, &[(12, 1)], Err(EcmFault::Count)),
+        (6, &[(7, 0xAB), (78, 12)], Err(EcmFault::Count)),
+        (0, &[(11, 1), (12, 1)], Err(EcmFault::Count)),
+        // PIDs below 0x0020 and above 0x1FEF.
+        (1, &[(79, 0x00), (80, 0x1F)], Err(EcmFault::Pid)),
+        (1, &[(95, 0x1F), (96, 0xF0)], Err(EcmFault::Pid)),
+        // 0x0101 before 0x0100, and twice.
+        (1, &[(80, 1), (88, 0)], Err(EcmFault::Order)),
+        (1, &[(80, 1)], Err(EcmFault::Order)),
+        // Flags 2; table_id 0x81 for an even control word.
+        (1, &[(29, 2)], Err(EcmFault::Mixed)),
+        (1, &[(5, 0x81)], Err(EcmFault::Mixed)),
+        // The first rule that is broken counts.
+        (1, &[(12, 1), (79, 0x20), (29, 2)], Err(EcmFault::Count)),
+        (1, &[(80, 1), (95, 0x1F), (96, 0xF0)], Err(EcmFault::Pid)),
+        (1, &[(80, 1), (5, 0x81)], Err(EcmFault::Order)),
+        // Other kinds: table_id, the bit behind the syntax indicator, version, extension, part above the last, pointer,
+        // unit start, length.
+        (1, &[(5, 0x82)], Ok(None)),
+        (1, &[(6, 0xF0)], Ok(None)),
+        (1, &[(10, 0xC3)], Ok(None)),
+        (1, &[(9, 1)], Ok(None)),
+        (1, &[(11, 1)], Ok(None)),
+        (1, &[(4, 1)], Ok(None)),
+        (1, &[(1, 0x01)], Ok(None)),
+        (0, &[(7, 0x4A)], Ok(None)),
+    ];
+    for (row, changes, due) in table {
+        let row = ROWS.get(row).ok_or("no row")?;
+        let packet = changed(row, changes).ok_or("no packet")?;
+        assert_eq!(rt; read_ecm(&packet), due);
+    }
+    Ok(())
+}
+
+#[test]
+fn no_bit_makes_another_message(rt: HostRuntime) -> Result<(), Fail> {
+    let row = ROWS.get(1).ok_or("no row")?;
+    let packet = packet_of(row.packet).ok_or("no packet")?;
+    for place in 0..188usize {
+        let mut bytes = *packet.bytes();
+        bytes[place] ^= 1;
+        if let Some(packet) = Packet::new(bytes) {
+            match read_ecm(&packet) {
+                // The header's PID, the counter and what stands behind the section aren't read.
+                Ok(Some(part)) => {
+                    assert!(rt; place < 4 || place >= 107);
+                    assert_eq!(rt; Some(part), part_of(row));
+                }
+                Ok(None) => assert!(rt; place < 107),
+                Err(_) => assert!(rt; false),
+            }
+        }
+    }
+    Ok(())
+}
