@@ -12,6 +12,12 @@ pub struct Entry {
     pub wrapped: [u8; 32],
 }
 
+// What stands past a section's entries.
+pub const NOTHING: Entry = Entry {
+    name: SetName::Whole,
+    wrapped: [0; 32],
+};
+
 /// What one section says of a period's sets (docs/FORMATS.md, Messages).
 #[derive(Clone, Copy, Debug, PartialEq, Eq)]
 pub struct Emm {

@@ -1,9 +1,10 @@
 //! What writing and reading come to.
 
-ghost use Rattle.std.specs.Prelude.{◌≡◌, ◌<◌, ℕ, Ok, Some};
+ghost use Rattle.std.specs.Prelude.{◌≡◌, ◌<◌, ◌/◌, ◌%◌, ℕ, Ok, Some, All, length, flat_map, slice_get};
 ghost use Rattle.sd_packet.specs.Packing.{packed};
 ghost use Rattle.sd_emm.specs.Spelled.{listed, emm_section, Spells};
-ghost use Rattle.sd_emm.specs.Form.{AreSets, IsEmm};
+ghost use Rattle.sd_emm.specs.Form.{AreSets, IsEmm, Fits, sections_for};
+ghost use Rattle.sd_emm.specs.Period.{Period, emm_at, emms_of, IsPeriod, IsOfPeriod};
 ghost use Rattle.sd_emm.specs.declared.emm.Emm.{Emm};
 
 use crate::emm::Emm;
@@ -27,4 +28,21 @@ pub fn written_is_read(h: Height, emm: &Emm, pid: u16, counter: u8) -> Result<Op
 #[tactic(auto, using(crate::proofs::Reading::written_spells))]
 pub fn written_packets_spell()
     ensures { (emm : Emm) (pid counter : ℕ) → pid < 8192 → counter < 16 → Spells emm (packed (emm_section emm) pid counter) }
+{}
+
+/// A period's sections share out its sets: there are as many as have room for them, each stands at its index and says the same of the
+/// period, set k stands in section k / 3, and joined they have all sets. Of a period with ascending sets each section is one that is
+/// written, and that is read at each height at which the period's sets may stand.
+#[tactic(auto, using(crate::proofs::Sharing::as_many, crate::proofs::Sharing::stands_at, crate::proofs::Sharing::set_stands, crate::proofs::Sharing::joined_are_all, crate::proofs::Sharing::all_are_of, crate::proofs::Sharing::all_are_emms))]
+pub fn periods_are_shared_out()
+    ensures sections { (period : Period) → length (emms_of period) ≡ sections_for (length period.entries) }
+    ensures at { (period : Period) (x : ℕ) → x < sections_for (length period.entries) →
+        slice_get (emms_of period) x ≡ Some (emm_at period x) }
+    ensures set { (period : Period) (k : ℕ) → k < length period.entries →
+        slice_get (listed (emm_at period (k / 3))) (k % 3) ≡ slice_get period.entries k }
+    ensures entries { (period : Period) → flat_map listed (emms_of period) ≡ period.entries }
+    ensures says { (period : Period) → All (IsOfPeriod period) (emms_of period) }
+    ensures form { (period : Period) → IsPeriod period → All (λ emm. IsEmm emm × Fits emm) (emms_of period) }
+    ensures sets { (h : ℕ) (period : Period) → AreSets h (length period.entries) period.entries →
+        All (λ emm. AreSets h emm.sets (listed emm)) (emms_of period) }
 {}

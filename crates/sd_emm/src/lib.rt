@@ -5,6 +5,7 @@ mod emm;
 mod fault;
 pub mod laws;
 mod order;
+mod period;
 mod read;
 #[cfg(test)]
 mod tests;
@@ -12,5 +13,7 @@ mod write;
 
 pub use emm::{Emm, Entry};
 pub use fault::EmmFault;
+pub use order::are_ascending;
+pub use period::section_count;
 pub use read::read_emm;
 pub use write::write_emm;

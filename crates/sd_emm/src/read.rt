@@ -7,7 +7,7 @@ ghost use Rattle.sd_emm.specs.Form.{Fits, IsCounted, IsSetBeside, AreSets, IsEmm
 ghost use Rattle.sd_emm.specs.Fields.{IsEmmSection, IsEmmPacket, name_of, entry_of, entries_in, padded, emm_in, with_entries, IsGoodIn, BreaksIn, BreaksFirst};
 ghost use Rattle.sd_emm.specs.declared.emm.Emm.{Emm};
 
-use crate::emm::{Emm, Entry};
+use crate::emm::{Emm, Entry, NOTHING};
 use crate::fault::EmmFault;
 use crate::order::are_ascending;
 use crate::write::TABLE_ID;
@@ -16,11 +16,6 @@ use sd_message::section_in;
 use sd_packet::Packet;
 use sd_section::Section;
 use sd_tree::{Height, SetName};
-
-const NOTHING: Entry = Entry {
-    name: SetName::Whole,
-    wrapped: [0; 32],
-};
 
 /// The entitlements that a packet's section says, or `None` where the packet is of another kind. What stands behind the
 /// section isn't read.

@@ -226,6 +226,29 @@ fn messages_both_ways(rt: HostRuntime) -> Result<(), Fail> {
     Ok(())
 }
 
+#[test]
+fn sections_of_periods(rt: HostRuntime) -> Result<(), Fail> {
+    // The first row of each period, and how many rows it has.
+    for (first, count) in [(0, 1), (1, 1), (3, 1), (5, 2)] {
+        let mut entries = Vec::new(rt.alloc());
+        for row in first..first + count {
+            let emm = ROWS.get(row).and_then(emm_of).ok_or("no row")?;
+            for k in 0..usize::from(emm.count) {
+                entries.push(*emm.entries.get(k).ok_or("no entry")?)?;
+            }
+        }
+        assert!(rt; entries.len() <= 6);
+        assert_eq!(rt; usize::from(section_count(entries.len())), count);
+        for index in 0..section_count(entries.len()) {
+            let row = ROWS.get(first + usize::from(index)).ok_or("no row")?;
+            let due = emm_of(row).ok_or("no emm")?;
+            let emm = Emm::of_period(row.period, &due.check, &entries, index);
+            assert_eq!(rt; emm, due);
+        }
+    }
+    Ok(())
+}
+
 // The packet of a row with these bytes changed, and the CRC made right.
 fn changed(row: &Row, changes: &[(usize, u8)]) -> Option<Packet> {
     let mut bytes = *packet_of(row.packet)?.bytes();

@@ -1,0 +1,51 @@
+-- All sections of a period's entitlements.
+use Rattle.std.specs.Prelude.{◌≡◌, ℕ, ◌*◌, ◌^◌, ◌<◌, ◌≤◌, List, length, take, drop, map}
+use Rattle.std.specs.List.{range_with_len}
+use Rattle.sd_tree.specs.SetNames.{AreAscending}
+use Rattle.sd_emm.specs.Spelled.{names_of}
+use Rattle.sd_emm.specs.Form.{sections_for, AreWrapped}
+use Rattle.sd_emm.specs.Fields.{padded}
+use Rattle.sd_emm.specs.declared.emm.Entry.{Entry}
+use Rattle.sd_emm.specs.declared.emm.Emm.{Emm}
+
+-- what a period's sections say: its number, the check value of its key, and all of its sets, each with the wrapped key
+pub record Period : Type 0 where
+  pub number : ℕ
+  pub check : List ℕ
+  pub entries : List Entry
+
+-- the entries of section x: the sets 3x, 3x + 1 and 3x + 2, as far as they are there [this project, docs/FORMATS.md, Messages]
+abbrev pub entries_at : List Entry → ℕ → List Entry
+entries_at entries x = take 3 (drop (3 * x) entries)
+
+-- section x of the period [this project, docs/FORMATS.md, Messages]
+unfoldable pub emm_at : Period → ℕ → Emm
+emm_at period x = record {
+  period = period.number;
+  sets = length period.entries;
+  sections = sections_for (length period.entries);
+  index = x;
+  check = period.check;
+  count = length (entries_at period.entries x);
+  entries = padded (entries_at period.entries x);
+}
+
+-- all sections of the period, section 0 first [this project, docs/FORMATS.md, Messages]
+unfoldable pub emms_of : Period → List Emm
+emms_of period = map (emm_at period) (range_with_len 0 (sections_for (length period.entries)))
+
+-- the sets are strictly ascending, and what the period says fits the fields of its sections: 65,535 of them hold 196,605 sets
+-- [this project, docs/FORMATS.md, Messages]
+pub record IsPeriod (period : Period) : Type 0 where
+  pub ascending : AreAscending (names_of period.entries)
+  pub number : period.number < 2 ^ 32
+  pub check : length period.check ≡ 16
+  pub sets : length period.entries ≤ 196605
+  pub wrapped : AreWrapped period.entries
+
+-- the section says of the period what each of its sections does
+pub record IsOfPeriod (period : Period) (emm : Emm) : Type 0 where
+  pub number : emm.period ≡ period.number
+  pub sets : emm.sets ≡ length period.entries
+  pub sections : emm.sections ≡ sections_for (length period.entries)
+  pub check : emm.check ≡ period.check

@@ -1,0 +1,58 @@
+ghost use Rattle.std.specs.Prelude.{◌≡◌, ◌*◌, ◌<◌, ◌≤◌, Some, length, slice_get};
+ghost use Rattle.sd_emm.specs.Spelled.{names_of};
+ghost use Rattle.sd_emm.specs.Form.{IsEmm, sections_for};
+ghost use Rattle.sd_emm.specs.Fields.{padded};
+ghost use Rattle.sd_emm.specs.Period.{entries_at, emms_of};
+ghost use Rattle.sd_tree.specs.SetNames.{AreAscending};
+
+use crate::emm::{Emm, Entry, NOTHING};
+
+/// How many sections a period with so many sets has: as many as have room for three in each, and at least one.
+pub fn section_count(sets: usize) -> u16
+    requires { sets ≤ 196605 }
+    ensures { result ≡ sections_for sets }
+{
+    sets.div_ceil(3).max(1) as u16
+}
+
+impl Emm {
+    /// The section of this index, below `section_count`, of the period that has this number, this check value of its key and
+    /// these sets: all of them, ascending, at most 196,605 (docs/FORMATS.md, Messages).
+    #[tactic(auto, using(crate::proofs::Sharing::stands_at, crate::proofs::Sharing::is_emm), unfolding(crate::specs::Period::emm_at))]
+    pub fn of_period(period: u32, check: &[u8; 16], entries: &[Entry], index: u16) -> Emm
+        requires sets { length entries.now ≤ 196605 }
+        requires index { index < sections_for (length entries.now) }
+        ensures value { slice_get (emms_of (record { number = period; check = check.now; entries = entries.now })) index ≡ Some result }
+        ensures form { AreAscending (names_of entries.now) → IsEmm result }
+    {
+        let own = entries_of(entries, index);
+        Emm {
+            period,
+            sets: entries.len() as u32,
+            sections: section_count(entries.len()),
+            index,
+            check: *check,
+            count: own.len() as u8,
+            entries: filled_up(own),
+        }
+    }
+}
+
+// The entries of the section of this index.
+fn entries_of(entries: &[Entry], index: u16) -> &[Entry]
+    ensures value { result.now ≡ entries_at entries.now index }
+    ensures few { length result.now ≤ 3 }
+{
+    let behind = &entries[entries.len().min(3 * usize::from(index))..];
+    &behind[..behind.len().min(3)]
+}
+
+// Filled up to three.
+fn filled_up(own: &[Entry]) -> [Entry; 3]
+    requires { length own.now ≤ 3 }
+    ensures { result ≡ padded own.now }
+{
+    let mut entries = [NOTHING; 3];
+    entries[..own.len()].copy_from_slice(own);
+    entries
+}
