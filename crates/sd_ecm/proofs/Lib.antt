@@ -5,3 +5,4 @@ pub mod Spelling
 pub mod Again
 pub mod Judging
 pub mod Reading
+pub mod Sharing

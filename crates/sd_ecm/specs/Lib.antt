@@ -1,3 +1,4 @@
 pub mod Spelled
 pub mod Form
 pub mod Fields
+pub mod Parts

@@ -3,6 +3,7 @@
 
 mod fault;
 pub mod laws;
+mod message;
 mod order;
 mod part;
 mod read;
@@ -11,6 +12,7 @@ mod tests;
 mod write;
 
 pub use fault::EcmFault;
+pub use message::{EcmFront, part_count};
 pub use part::{EcmPart, Place};
 pub use read::read_ecm;
 pub use write::write_ecm;

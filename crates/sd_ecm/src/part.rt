@@ -10,6 +10,12 @@ pub struct Place {
     pub position: u64,
 }
 
+// What stands past a part's positions.
+pub const NOTHING: Place = Place {
+    pid: 0,
+    position: 0,
+};
+
 /// One section of a control message (docs/FORMATS.md, Messages).
 #[derive(Clone, Copy, Debug, PartialEq, Eq)]
 pub struct EcmPart {

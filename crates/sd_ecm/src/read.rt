@@ -9,17 +9,12 @@ ghost use Rattle.sd_ecm.specs.declared.part.EcmPart.{EcmPart};
 
 use crate::fault::EcmFault;
 use crate::order::are_ascending;
-use crate::part::{EcmPart, Place};
+use crate::part::{EcmPart, NOTHING, Place};
 use crate::write::EVEN_TABLE_ID;
 use sd_bits::fields;
 use sd_message::section_in;
 use sd_packet::{Packet, is_positional};
 use sd_section::Section;
-
-const NOTHING: Place = Place {
-    pid: 0,
-    position: 0,
-};
 
 /// The part of a control message that a packet's section is, or `None` where the packet is of another kind. What stands
 /// behind the section isn't read.

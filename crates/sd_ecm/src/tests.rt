@@ -267,6 +267,37 @@ fn messages_both_ways(rt: HostRuntime) -> Result<(), Fail> {
     Ok(())
 }
 
+#[test]
+fn parts_of_messages(rt: HostRuntime) -> Result<(), Fail> {
+    // The first row of each message, and how many rows it has.
+    for (first, count) in [(0, 1), (1, 1), (4, 2), (6, 3)] {
+        let mut places = Vec::new(rt.alloc());
+        for row in first..first + count {
+            let part = ROWS.get(row).and_then(part_of).ok_or("no row")?;
+            for k in 0..usize::from(part.count) {
+                places.push(*part.positions.get(k).ok_or("no position")?)?;
+            }
+        }
+        assert!(rt; places.len() <= 30);
+        assert_eq!(rt; usize::from(part_count(places.len())), count);
+        for part in 0..part_count(places.len()) {
+            let row = ROWS.get(first + usize::from(part)).ok_or("no row")?;
+            let due = part_of(row).ok_or("no part")?;
+            let front = EcmFront {
+                number: row.number,
+                period: row.period,
+                word: row.word,
+                clear: row.clear,
+                closing: row.closing,
+                wrapped: due.wrapped,
+                check: due.check,
+            };
+            assert_eq!(rt; EcmPart::of_message(&front, &places, part), due);
+        }
+    }
+    Ok(())
+}
+
 // The packet of a row with these bytes changed, and the CRC made right.
 fn changed(row: &Row, changes: &[(usize, u8)]) -> Option<Packet> {
     let mut bytes = *packet_of(row.packet)?.bytes();
