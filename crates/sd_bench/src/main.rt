@@ -1,7 +1,9 @@
-//! `sd_bench`: reads headers and scrambles payloads as often as is asked, to be timed from outside.
+//! `sd_bench`: reads headers, scrambles payloads, and writes and searches entitlements, as often as is asked, to be timed from outside.
 #![tactic(auto)]
 
 ghost use Rattle.std.specs.Prelude.{◌≡◌, length};
+
+mod emms;
 
 use sd_bits::fields;
 use sd_packet::{Packet, is_positional};
@@ -37,6 +39,9 @@ fn measured(alloc: Global, words: &[String]) -> Result<Option<u64>, AllocError> 
     let Ok(count) = count.as_str().parse::<u32>() else {
         return Ok(None);
     };
+    if work.as_str() == "emms" {
+        return emms::searched(alloc, count);
+    }
     let Ok(mut sink) = MemSink::new(alloc, PACKETS * 188, PACKETS * 188, Vec::new(alloc)) else {
         return Err(AllocError);
     };
