@@ -1,0 +1,184 @@
+-- One step over a stream, by what stands in front.
+use Rattle.std.proofs.Common.{ℕ, zero, suc, ◌+◌, ◌-◌, ◌*◌, ◌/◌, ◌%◌, ◌<◌, ◌≤◌, ◌≡◌, ◌≢◌, false, ◌==◌, List, [], ◌∷◌, length, take, drop, length-drop, cond, refl, sym, ap, ◌∙◌, arith, inl, inr}
+use Rattle.std.specs.Prelude.{nat_lt, slice_index, if◌then◌else◌, Option, Some, None}
+use Rattle.std.specs.List.{take_while}
+use Rattle.std.proofs.lemmas.Bool.{eq-eqb, ne_eqb, eqb-false, lt-ltb, le-ltb, cond-true, cond-false, cases_lt, cases_eq}
+use Rattle.std.proofs.lemmas.List.{get_or-take, get_or-drop, drop-drop, take_rest, nil_from_length}
+use Rattle.std.proofs.lemmas.List.Sums.{take_while-cons}
+use Rattle.sd_stream.specs.Stream.{pieces, is_packet, packets_of, break_behind, break_of, ArePackets}
+use Rattle.sd_stream.specs.Walk.{Walk, TakesOne, IsAtBreak}
+use Rattle.sd_stream.specs.declared.fault.StreamBreak.{StreamBreak}
+use Rattle.sd_stream.specs.declared.fault.StreamBreak.TheVariants.{Torn, NoSync}
+
+-- why bytes break, by how many packets and whole packets' bytes there are, and how many bytes are left over
+abbrev break_by : ℕ → ℕ → ℕ → ℕ → Option StreamBreak
+break_by k packets whole left =
+    if nat_lt packets whole then Some (NoSync (k + packets)) else if left == 0 then None else Some (Torn (k + whole))
+
+break_is : (k : ℕ) (bytes : List ℕ) → break_behind k bytes ≡ break_by k (length (packets_of bytes)) (length bytes / 188) (length bytes % 188)
+unfolding break_behind
+break_is k bytes = refl
+
+-- no whole packet's bytes are there
+no_piece : (bytes : List ℕ) → length bytes < 188 → packets_of bytes ≡ []
+unfolding packets_of pieces
+no_piece bytes h = let none : length bytes / 188 ≡ 0 = omega arith in ap (λ (n : ℕ). take_while is_packet (pieces n bytes)) none
+
+-- those of one are there
+one_piece : (bytes : List ℕ) → 188 ≤ length bytes →
+    packets_of bytes ≡ cond (slice_index bytes 0 == 0x47) (take 188 bytes ∷ packets_of (drop 188 bytes)) []
+unfolding packets_of pieces
+one_piece bytes h =
+    let count : length bytes / 188 ≡ suc (length (drop 188 bytes) / 188) = omega (arith, length-drop 188 bytes) in
+    let first : slice_index (take 188 bytes) 0 ≡ slice_index bytes 0 = get_or-take 188 bytes 0 0 (omega arith) in
+    ap (λ (n : ℕ). take_while is_packet (pieces n bytes)) count
+    ∙ take_while-cons is_packet (take 188 bytes) (pieces (length (drop 188 bytes) / 188) (drop 188 bytes))
+    ∙ ap (λ (b : ℕ). cond (b == 0x47) (take 188 bytes ∷ packets_of (drop 188 bytes)) []) first
+
+-- a packet more in front changes only the numbers
+break_more : (k packets whole left : ℕ) → break_by k (suc packets) (suc whole) left ≡ break_by (k + 1) packets whole left
+break_more k packets whole left =
+    let p : k + suc packets ≡ k + 1 + packets = omega arith in
+    let w : k + suc whole ≡ k + 1 + whole = omega arith in
+    elim (cases_lt packets whole) [
+      | inl few ↦
+          cond-true (nat_lt (suc packets) (suc whole)) _ _ (lt-ltb (suc packets) (suc whole) (omega arith))
+          ∙ ap (λ (n : ℕ). Some (NoSync n)) p ∙ sym (cond-true (nat_lt packets whole) _ _ (lt-ltb packets whole few))
+      | inr all ↦
+          cond-false (nat_lt (suc packets) (suc whole)) _ _ (le-ltb (suc packets) (suc whole) (omega arith))
+          ∙ ap (λ (n : ℕ). if left == 0 then None else Some (Torn n)) w ∙ sym (cond-false (nat_lt packets whole) _ _ (le-ltb packets whole all))
+    ]
+
+-- at the end there is no packet, and no break
+pub none_at_end : (k : ℕ) → break_behind k [] ≡ None
+unfolding break_behind packets_of pieces
+none_at_end k = refl
+
+-- fewer bytes than a packet has
+pub torn_here : (w : Walk) (rest : List ℕ) (number : ℕ) → rest ≡ w.rest → number ≡ w.taken → 0 < length rest → length rest < 188 →
+    IsAtBreak w w (Torn number)
+torn_here w rest number is numbered some few =
+    let none : packets_of rest ≡ [] = no_piece rest few in
+    let whole : length rest / 188 ≡ 0 = omega arith in
+    let left : (length rest % 188 == 0) ≡ false = ne_eqb (length rest % 188) 0 (λ e. omega arith) in
+    let here : break_behind number rest ≡ Some (Torn number) =
+    break_is number rest
+    ∙ ap (λ (p : List (List ℕ)). break_by number (length p) (length rest / 188) (length rest % 188)) none
+    ∙ ap (λ (n : ℕ). break_by number 0 n (length rest % 188)) whole
+    ∙ cond-false (length rest % 188 == 0) _ _ left
+    ∙ ap (λ (n : ℕ). Some (Torn n)) (omega arith) in
+    record {
+      none = ap packets_of (sym is) ∙ none;
+      break = ap (λ (k : ℕ). break_behind k w.rest) (sym numbered) ∙ ap (break_behind number) (sym is) ∙ here;
+      unchanged = refl;
+    }
+
+-- bytes of a packet that don't begin with the sync byte
+pub no_sync_here : (w : Walk) (rest piece : List ℕ) (number : ℕ) → rest ≡ w.rest → number ≡ w.taken → 188 ≤ length rest →
+    piece ≡ take 188 rest → slice_index piece 0 ≢ 0x47 → IsAtBreak w w (NoSync number)
+no_sync_here w rest piece number is numbered long front no_sync =
+    let same : slice_index piece 0 ≡ slice_index rest 0 = ap (λ (p : List ℕ). slice_index p 0) front ∙ get_or-take 188 rest 0 0 (omega arith) in
+    let other : (slice_index rest 0 == 0x47) ≡ false = ne_eqb (slice_index rest 0) 0x47 (λ e. no_sync (same ∙ e)) in
+    let none : packets_of rest ≡ [] = one_piece rest long ∙ cond-false (slice_index rest 0 == 0x47) _ _ other in
+    let here : break_behind number rest ≡ Some (NoSync number) =
+    break_is number rest
+    ∙ ap (λ (p : List (List ℕ)). break_by number (length p) (length rest / 188) (length rest % 188)) none
+    ∙ cond-true (nat_lt 0 (length rest / 188)) _ _ (lt-ltb 0 (length rest / 188) (omega arith))
+    ∙ ap (λ (n : ℕ). Some (NoSync n)) (omega arith) in
+    record {
+      none = ap packets_of (sym is) ∙ none;
+      break = ap (λ (k : ℕ). break_behind k w.rest) (sym numbered) ∙ ap (break_behind number) (sym is) ∙ here;
+      unchanged = refl;
+    }
+
+-- the packets and the break, where a packet stands in front
+packets_more : (bytes : List ℕ) → 188 ≤ length bytes → slice_index bytes 0 ≡ 0x47 → packets_of bytes ≡ take 188 bytes ∷ packets_of (drop 188 bytes)
+packets_more bytes long sync = one_piece bytes long ∙ cond-true (slice_index bytes 0 == 0x47) _ _ (eq-eqb (slice_index bytes 0) 0x47 sync)
+
+break_behind_more : (k : ℕ) (bytes : List ℕ) → 188 ≤ length bytes → slice_index bytes 0 ≡ 0x47 →
+    break_behind k bytes ≡ break_behind (k + 1) (drop 188 bytes)
+break_behind_more k bytes long sync =
+    let behind : List ℕ = drop 188 bytes in
+    let whole : length bytes / 188 ≡ suc (length behind / 188) = omega (arith, length-drop 188 bytes) in
+    let left : length bytes % 188 ≡ length behind % 188 = omega (arith, length-drop 188 bytes) in
+    break_is k bytes
+    ∙ ap (λ (p : List (List ℕ)). break_by k (length p) (length bytes / 188) (length bytes % 188)) (packets_more bytes long sync)
+    ∙ ap (λ (n : ℕ). break_by k (suc (length (packets_of behind))) n (length bytes % 188)) whole
+    ∙ ap (λ (n : ℕ). break_by k (suc (length (packets_of behind))) (suc (length behind / 188)) n) left
+    ∙ break_more k (length (packets_of behind)) (length behind / 188) (length behind % 188)
+    ∙ sym (break_is (k + 1) behind)
+
+-- it is the sync byte where it isn't another
+sync_byte : (byte : ℕ) → (byte ≢ 0x47 → ⊥) → byte ≡ 0x47
+sync_byte byte sure = elim (cases_eq byte 0x47) [ inl is ↦ is | inr isnt ↦ absurd (sure isnt) ]
+
+-- a packet
+pub packet_here : (w v : Walk) (rest piece packet : List ℕ) → rest ≡ w.rest → piece ≡ take 188 rest → packet ≡ piece → 188 ≤ length rest →
+    (slice_index piece 0 ≢ 0x47 → ⊥) → v.rest ≡ drop 188 w.rest → v.taken ≡ w.taken + 1 → TakesOne w v packet
+packet_here w v rest piece packet is cut made long sync behind counted =
+    let front : packet ≡ take 188 rest = made ∙ cut in
+    let room : 188 ≤ length w.rest = omega (arith, ap length is) in
+    let same : slice_index piece 0 ≡ slice_index w.rest 0 =
+    ap (λ (p : List ℕ). slice_index p 0) (cut ∙ ap (take 188) is) ∙ get_or-take 188 w.rest 0 0 (omega arith) in
+    let begins : slice_index w.rest 0 ≡ 0x47 = sym same ∙ sync_byte (slice_index piece 0) sync in
+    record {
+      first =
+          packets_more w.rest room begins
+          ∙ ap (λ (p : List ℕ). p ∷ packets_of (drop 188 w.rest)) (sym (front ∙ ap (take 188) is))
+          ∙ ap (λ (r : List ℕ). packet ∷ packets_of r) (sym behind);
+      counted = counted;
+      same_break =
+          break_behind_more w.taken w.rest room begins
+          ∙ ap (λ (k : ℕ). break_behind k (drop 188 w.rest)) (sym counted)
+          ∙ ap (break_behind v.taken) (sym behind);
+    }
+
+-- behind the first of some packets stand the others
+others : (n : ℕ) (bytes : List ℕ) → ArePackets (suc n) bytes → ArePackets n (drop 188 bytes)
+others n bytes are = record {
+  long = omega (arith, are.long, length-drop 188 bytes);
+  sync = λ k h. get_or-drop 188 bytes (188 * k) 0 ∙ ap (λ (i : ℕ). slice_index bytes i) (omega arith) ∙ are.sync (suc k) (omega arith);
+}
+
+-- all of them are taken
+pub all_taken : (n : ℕ) (bytes : List ℕ) → ArePackets n bytes → packets_of bytes ≡ pieces n bytes
+unfolding pieces
+all_taken zero bytes are = no_piece bytes (omega (arith, are.long))
+all_taken (suc n) bytes are =
+    packets_more bytes (omega (arith, are.long)) (are.sync 0 (omega arith))
+    ∙ ap (λ (p : List (List ℕ)). take 188 bytes ∷ p) (all_taken n (drop 188 bytes) (others n bytes are))
+
+-- no break stands behind them
+all_unbroken : (n k : ℕ) (bytes : List ℕ) → ArePackets n bytes → break_behind k bytes ≡ None
+all_unbroken zero k bytes are =
+    let nothing : bytes ≡ [] = nil_from_length bytes (omega (arith, are.long)) in ap (break_behind k) nothing ∙ none_at_end k
+all_unbroken (suc n) k bytes are =
+    break_behind_more k bytes (omega (arith, are.long)) (are.sync 0 (omega arith)) ∙ all_unbroken n (k + 1) (drop 188 bytes) (others n bytes are)
+
+pub none_broken : (n : ℕ) (bytes : List ℕ) → ArePackets n bytes → break_of bytes ≡ None
+none_broken n bytes are = all_unbroken n 0 bytes are
+
+-- there are as many as were cut
+pub all_counted : (n : ℕ) (bytes : List ℕ) → length (pieces n bytes) ≡ n
+unfolding pieces
+all_counted zero bytes = refl
+all_counted (suc n) bytes = ap suc (all_counted n (drop 188 bytes))
+
+-- bytes that aren't none are some
+pub some_left : (n : ℕ) → false ≡ (n == 0) → 0 < n
+some_left n h = elim (cases_lt 0 n) [ inl some ↦ some | inr none ↦ absurd (eqb-false n 0 (sym h) (omega arith)) ]
+
+-- the bytes from a place on are those to come
+pub rest_is : (w : Walk) (bytes : List ℕ) (at : ℕ) → record { rest = drop at bytes; taken = at / 188 } ≡ w →
+    take (length bytes - at) (drop at bytes) ≡ w.rest
+rest_is w bytes at is = take_rest bytes at ∙ ap (λ (v : Walk). v.rest) is
+
+-- those behind the next packet
+pub behind_is : (w : Walk) (bytes : List ℕ) (at : ℕ) → record { rest = drop at bytes; taken = at / 188 } ≡ w →
+    drop (at + 188) bytes ≡ drop 188 w.rest
+behind_is w bytes at is = sym (drop-drop 188 at bytes) ∙ ap (λ (v : Walk). drop 188 v.rest) is
+
+-- and the count of those that were taken
+pub counted_is : (w : Walk) (bytes : List ℕ) (at : ℕ) → record { rest = drop at bytes; taken = at / 188 } ≡ w →
+    (at + 188) / 188 ≡ w.taken + 1
+counted_is w bytes at is = let was : at / 188 ≡ w.taken = ap (λ (v : Walk). v.taken) is in omega arith
