@@ -1,0 +1,12 @@
+//! The inspector's line of a section: what stands in it, as compact JSON.
+#![tactic(auto)]
+
+mod cat;
+mod descriptor;
+mod line;
+mod pat;
+mod pmt;
+#[cfg(test)]
+mod tests;
+
+pub use line::push_line;
