@@ -1,0 +1,4 @@
+pub mod Inspected
+pub mod Watching
+pub mod Whole
+pub mod Progress

@@ -1,0 +1,12 @@
+//! The inspector: a line for each section that a stream of packets completes on a PID that is watched.
+#![tactic(auto)]
+
+mod fault;
+mod inspector;
+mod stream;
+#[cfg(test)]
+mod tests;
+mod watched;
+
+pub use fault::WholeTablesFault;
+pub use stream::whole;
