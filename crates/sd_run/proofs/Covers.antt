@@ -81,14 +81,14 @@ covering_stops meant files d commands old new status s work (inl wanting) printe
     let same : s ≡ NoMemory = sym (err_is e) ∙ wanting in
     subst (λ (s : Status). StopsAt meant files files old new s) (sym same) (record {
       lines = lines.0;
-      stopped = record {
+      halted = inl (record {
         refused = told_weaker files _ _ (λ fs h. tt) work;
         is_refusal = (λ e. cc, λ e. cc);
         begun = inr (Cover d commands, work, lines.1);
         none = λ other. absurd (other refl);
         files_stay = λ _. refl;
         out = inl refl;
-      };
+      });
       printed = lines.2;
     })
 covering_stops meant files d commands old new status s work (inr failed) printed e n = absurd (n (sym (err_is e) ∙ failed))
@@ -101,6 +101,7 @@ covering_obeys meant files d commands old new (Ok done) work only printed = reco
   done = record {
     work = Cover d commands;
     is_meant = work;
+    ends = refl;
     text = printed.done.0;
     prints = printed.done.1;
     printed = printed.done.2;

@@ -1,5 +1,6 @@
 pub mod Words
 pub mod Covers
+pub mod Inspected
 pub mod Refusals
 pub mod Told
 pub mod Outs

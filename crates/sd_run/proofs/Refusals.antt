@@ -4,7 +4,7 @@ use Rattle.std.proofs.KnownBytes.{Appends-nil}
 use Rattle.sd_ports.specs.Files.{Files, with_bytes}
 use Rattle.sd_ports.specs.Bytes.{IsFront}
 use Rattle.sd_run.specs.declared.status.Status.{Status}
-use Rattle.sd_run.specs.declared.status.Status.TheVariants.{Done, Usage, Missing, DepotFault, PrintFault, BadSite, BadBook, Limit, NoMemory, BadWord}
+use Rattle.sd_run.specs.declared.status.Status.TheVariants.{Done, Usage, Missing, DepotFault, PrintFault, BadSite, BadBook, BadStream, Limit, NoMemory, BadWord}
 use Rattle.sd_run.specs.Work.{Work, Make}
 use Rattle.sd_run.specs.Meaning.{◌>>=◌}
 use Rattle.sd_run.specs.Answers.{IsRefusedAs, IsRefusal, ForTold, IsWork, IsDone, LeavesFrontOut, StopsAt, Obeys, MakesFile}
@@ -26,6 +26,7 @@ refused_first DepotFault first next h = tt
 refused_first PrintFault first next h = h
 refused_first (BadSite fault) first next h = ap (λ r. r >>= next) h
 refused_first (BadBook word line) first next h = ap (λ r. r >>= next) h
+refused_first (BadStream packet cause) first next h = h
 refused_first (Limit kind) first next h = ap (λ r. r >>= next) h
 refused_first NoMemory first next h = tt
 refused_first (BadWord word) first next h = ap (λ r. r >>= next) h
@@ -43,6 +44,7 @@ not_an_end DepotFault h = (λ e. cc, λ e. cc)
 not_an_end PrintFault h = absurd h
 not_an_end (BadSite fault) h = (λ e. cc, λ e. cc)
 not_an_end (BadBook word line) h = (λ e. cc, λ e. cc)
+not_an_end (BadStream packet cause) h = absurd h
 not_an_end (Limit kind) h = (λ e. cc, λ e. cc)
 not_an_end NoMemory h = (λ e. cc, λ e. cc)
 not_an_end (BadWord word) h = (λ e. cc, λ e. cc)
@@ -52,14 +54,14 @@ at_once : (meant : Files → Result Work Status) (files : Option Files) (held : 
     → ForTold files (λ told. IsRefusedAs status (meant told)) → (status ≢ Done) × (status ≢ PrintFault) → StopsAt meant files files held held status
 at_once meant files held status refused end = record {
   lines = [];
-  stopped = record {
+  halted = inl (record {
     refused = refused;
     is_refusal = end;
     begun = inl refl;
     none = λ _. refl;
     files_stay = λ _. refl;
     out = inl refl;
-  };
+  });
   printed = Appends-nil held;
 }
 
@@ -85,6 +87,7 @@ made : (meant : Files → Result Work Status) (files now : Option Files) (held :
 made meant files now held name bytes work e = record {
   work = Make name bytes;
   is_meant = work;
+  ends = refl;
   text = [];
   prints = refl;
   printed = Appends-nil held;
@@ -97,14 +100,14 @@ left : (meant : Files → Result Work Status) (files now : Option Files) (held :
     → (status ≢ DepotFault → now ≡ files) → ((now ≡ files) ⊎ LeavesFrontOut meant files now) → StopsAt meant files now held held status
 left meant files now held status refused end stay out = record {
   lines = [];
-  stopped = record {
+  halted = inl (record {
     refused = refused;
     is_refusal = end;
     begun = inl refl;
     none = λ _. refl;
     files_stay = stay;
     out = out;
-  };
+  });
   printed = Appends-nil held;
 }
 

@@ -7,10 +7,13 @@ use Rattle.sd_ports.specs.declared.file.FileFault.{FileFault}
 use Rattle.sd_ports.specs.declared.file.FileFault.TheVariants as file
 use Rattle.sd_ports.specs.Bytes.{IsFront, AppendsFront}
 use Rattle.sd_run.specs.declared.status.Status.{Status}
-use Rattle.sd_run.specs.declared.status.Status.TheVariants.{Done, Usage, Missing, DepotFault, PrintFault, BadSite, BadBook, Limit, NoMemory, BadWord}
+use Rattle.sd_run.specs.declared.status.Status.TheVariants.{Done, Usage, Missing, DepotFault, PrintFault, BadSite, BadBook, BadStream, Limit, NoMemory, BadWord}
+use Rattle.sd_run.specs.declared.status.StreamCause.{StreamCause}
 use Rattle.sd_book.specs.declared.command.Command.{Command}
 use Rattle.sd_book.specs.Commands.{last_period}
-use Rattle.sd_run.specs.Work.{Work, Make, Prints, IsCoverText, PrintsPeriods, BeginsCover, BeginsToPrint, made_by}
+use Rattle.sd_stream.specs.Stream.{break_of}
+use Rattle.sd_tables.specs.Whole.{lines_of, lines_up_to}
+use Rattle.sd_run.specs.Work.{Work, Make, Prints, IsCoverText, PrintsPeriods, BeginsCover, BeginsToPrint, made_by, ending, stream_status}
 use Rattle.sd_run.specs.Texts.{line_of}
 
 -- a fact of the files, where they are told
@@ -28,6 +31,7 @@ IsRefusedAs Usage meant = meant ≡ Err Usage
 IsRefusedAs (Missing word) meant = meant ≡ Err (Missing word)
 IsRefusedAs (BadSite fault) meant = meant ≡ Err (BadSite fault)
 IsRefusedAs (BadBook word line) meant = meant ≡ Err (BadBook word line)
+IsRefusedAs (BadStream packet cause) meant = ⊥
 IsRefusedAs (Limit kind) meant = meant ≡ Err (Limit kind)
 IsRefusedAs (BadWord word) meant = meant ≡ Err (BadWord word)
 
@@ -43,6 +47,18 @@ pub record PrintsCover (d : ℕ) (commands : List Command) (old new : Option (Li
   pub no_memory : IsErrOf result NoMemory → (text : List ℕ) × BeginsCover d commands text × Appends old new text
   pub cut_off : IsErrOf result PrintFault → (text : List ℕ) × BeginsCover d commands text × AppendsFront old new text
 
+-- what printing the lines of a stream's tables left behind it
+pub record PrintsLines (bytes : List ℕ) (old new : Option (List ℕ)) (result : Result (Unit {0}) Status) : Type 0 where
+  pub done : OnOk result ((stream_status (break_of bytes) ≡ Done) × Appends old new (lines_of bytes))
+  pub broken : (packet : ℕ) (cause : StreamCause) → IsErrOf result (BadStream packet cause) →
+      (stream_status (break_of bytes) ≡ BadStream packet cause) × Appends old new (lines_of bytes)
+  pub no_memory : IsErrOf result NoMemory → (k : ℕ) × Appends old new (lines_up_to k bytes)
+  pub cut_off : IsErrOf result PrintFault → AppendsFront old new (lines_of bytes)
+
+-- the statuses that may come of it
+abbrev pub IsOfLines : Status → Type 0
+IsOfLines status = (status ≡ NoMemory) ⊎ ((status ≡ PrintFault) ⊎ ((packet : ℕ) × (cause : StreamCause) × (status ≡ BadStream packet cause)))
+
 -- the status refuses what is in the files or the words, before anything is printed
 abbrev pub IsRefusal : Status → Type 0
 IsRefusal Done = ⊥
@@ -52,6 +68,7 @@ IsRefusal DepotFault = Unit {0}
 IsRefusal PrintFault = ⊥
 IsRefusal (BadSite fault) = Unit {0}
 IsRefusal (BadBook word line) = Unit {0}
+IsRefusal (BadStream packet cause) = ⊥
 IsRefusal (Limit kind) = Unit {0}
 IsRefusal NoMemory = Unit {0}
 IsRefusal (BadWord word) = Unit {0}
@@ -82,12 +99,13 @@ pub record LeavesFrontOut (meant : Files → Result Work Status) (files now : Op
 pub record IsDone (meant : Files → Result Work Status) (files now : Option Files) (old new : Option (List ℕ)) : Type 0 where
   pub work : Work
   pub is_meant : IsWork meant files work
+  pub ends : ending work ≡ Done
   pub text : List ℕ
   pub prints : Prints work text
   pub printed : Appends old new text
   pub made : now ≡ made_by work files
 
--- Work ended with this status when these lines were printed. The status is the refusal that is meant, or memory was wanting, or the device
+-- Work was stopped with this status when these lines were printed. The status is the refusal that is meant, or memory was wanting, or the device
 -- failed; only in front of want of memory may lines stand, and only a device fault may leave a front of a file.
 pub record Stopped (meant : Files → Result Work Status) (files now : Option Files) (status : Status) (lines : List ℕ) : Type 0 where
   pub refused : ForTold files (λ told. IsRefusedAs status (meant told))
@@ -97,10 +115,24 @@ pub record Stopped (meant : Files → Result Work Status) (files now : Option Fi
   pub files_stay : status ≢ DepotFault → now ≡ files
   pub out : (now ≡ files) ⊎ LeavesFrontOut meant files now
 
+-- Work came to its end when these lines were printed: they are its whole text, its file is made, and this status is the one that it ends with,
+-- which is not that it is done.
+pub record Ended (meant : Files → Result Work Status) (files now : Option Files) (status : Status) (lines : List ℕ) : Type 0 where
+  pub work : Work
+  pub is_meant : IsWork meant files work
+  pub ends : ending work ≡ status
+  pub not_done : status ≢ Done
+  pub prints : Prints work lines
+  pub made : now ≡ made_by work files
+
+-- one or the other
+abbrev pub Halted : (Files → Result Work Status) → Option Files → Option Files → Status → List ℕ → Type 0
+Halted meant files now status lines = Stopped meant files now status lines ⊎ Ended meant files now status lines
+
 -- the same, and its lines are what was printed
 pub record StopsAt (meant : Files → Result Work Status) (files now : Option Files) (old new : Option (List ℕ)) (status : Status) : Type 0 where
   pub lines : List ℕ
-  pub stopped : Stopped meant files now status lines
+  pub halted : Halted meant files now status lines
   pub printed : Appends old new lines
 
 -- print failed at the work's own text: a front of it was printed, and no file was made
@@ -136,14 +168,14 @@ pub record Obeys (meant : Files → Result Work Status) (files now : Option File
 -- work ended with this status, and the line of the status stands behind what was printed
 pub record IsTold (meant : Files → Result Work Status) (files now : Option Files) (old new : Option (List ℕ)) (status : Status) : Type 0 where
   pub lines : List ℕ
-  pub stopped : Stopped meant files now status lines
+  pub halted : Halted meant files now status lines
   pub printed : Appends old new (lines ++ line_of status)
 
 -- print failed at the line of a status with which work ended: a front of all was printed
 pub record IsCutOffTelling (meant : Files → Result Work Status) (files now : Option Files) (old new : Option (List ℕ)) : Type 0 where
   pub status : Status
   pub lines : List ℕ
-  pub stopped : Stopped meant files now status lines
+  pub halted : Halted meant files now status lines
   pub front : AppendsFront old new (lines ++ line_of status)
 
 -- What a run answers: `Done` where the work is done; `PrintFault` with a front of what was to be printed; and every other status with its
@@ -163,6 +195,7 @@ TakesMemory NoMemory = ⊥
 TakesMemory (Missing word) = Unit {0}
 TakesMemory (BadSite fault) = Unit {0}
 TakesMemory (BadBook word line) = Unit {0}
+TakesMemory (BadStream packet cause) = Unit {0}
 TakesMemory (Limit kind) = Unit {0}
 TakesMemory (BadWord word) = Unit {0}
 

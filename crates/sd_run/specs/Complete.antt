@@ -1,5 +1,5 @@
 -- What the program is for: good words over good files.
-use Rattle.std.specs.Prelude.{◌≡◌, ◌⊎◌, ℕ, ◌≤◌, ◌<◌, ◌^◌, List, length, Some, Ok}
+use Rattle.std.specs.Prelude.{◌≡◌, ◌⊎◌, ℕ, ◌≤◌, ◌<◌, ◌^◌, List, length, Some, None, Ok}
 use Rattle.std.specs.FinMap.{get}
 use Rattle.sd_text.specs.Lines.{lines_of}
 use Rattle.sd_ports.specs.Files.{Files}
@@ -10,7 +10,8 @@ use Rattle.sd_book.specs.Text.{SpellsBook}
 use Rattle.sd_book.specs.Limits.{IsWithinLimits}
 use Rattle.sd_run.specs.declared.status.Status.{Status}
 use Rattle.sd_run.specs.declared.status.Status.TheVariants.{Done, NoMemory}
-use Rattle.sd_run.specs.Meaning.{CoverOf, CardOf, SampleOf, order_of}
+use Rattle.sd_stream.specs.Stream.{break_of}
+use Rattle.sd_run.specs.Meaning.{CoverOf, CardOf, SampleOf, TablesOf, order_of}
 
 -- the file of this name is there, in the grammar of sites and within the limit, and says this site
 pub record IsGoodSite (files : Files) (name : List ℕ) (fields : SiteFields) : Type 0 where
@@ -50,9 +51,18 @@ pub record IsGoodSample (words : List (List ℕ)) : Type 0 where
   pub out : List ℕ
   pub order : order_of words ≡ Ok (SampleOf number packets out)
 
+-- the words are `tables STREAM`, and the file is there, within the limit and nothing but packets
+pub record IsGoodTables (words : List (List ℕ)) (files : Files) : Type 0 where
+  pub stream_name : List ℕ
+  pub order : order_of words ≡ Ok (TablesOf stream_name)
+  pub bytes : List ℕ
+  pub there : get files stream_name ≡ Some bytes
+  pub short : length bytes ≤ 67108864
+  pub unbroken : break_of bytes ≡ None
+
 -- good words over good files
 abbrev pub IsGoodOrder : List (List ℕ) → Files → Type 0
-IsGoodOrder words files = IsGoodCover words files ⊎ (IsGoodCard words files ⊎ IsGoodSample words)
+IsGoodOrder words files = IsGoodCover words files ⊎ (IsGoodCard words files ⊎ (IsGoodSample words ⊎ IsGoodTables words files))
 
 -- the answers to them, where no device fails
 abbrev pub IsGoodAnswer : Status → Type 0

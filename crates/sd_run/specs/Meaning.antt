@@ -15,8 +15,8 @@ use Rattle.sd_book.specs.Text.{book_of}
 use Rattle.sd_run.specs.declared.status.Status.{Status}
 use Rattle.sd_run.specs.declared.status.Status.TheVariants.{Usage, Missing, BadSite, BadBook, Limit, NoMemory, BadWord}
 use Rattle.sd_run.specs.declared.status.LimitKind.{LimitKind}
-use Rattle.sd_run.specs.declared.status.LimitKind.TheVariants.{SiteBytes, BookBytes, Book}
-use Rattle.sd_run.specs.Work.{Work, Cover, Make}
+use Rattle.sd_run.specs.declared.status.LimitKind.TheVariants.{SiteBytes, BookBytes, StreamBytes, Book}
+use Rattle.sd_run.specs.Work.{Work, Cover, Make, Inspect}
 
 -- a step that is taken where the one before was not refused
 infixl 10 ◌>>=◌
@@ -77,11 +77,16 @@ card_work files site u out = card_in files site u >>= λ bytes. Ok (Make out byt
 abbrev pub sample_work : ℕ → ℕ → List ℕ → Result Work Status
 sample_work number packets out = Ok (Make out (sample_of number packets))
 
+-- the tables in a stream
+unfoldable pub tables_work : Files → List ℕ → Result Work Status
+tables_work files stream = file_in files 1 67108864 StreamBytes stream >>= λ bytes. Ok (Inspect bytes)
+
 -- a command and what its words say
 pub data Order : Type 0 where
   CoverOf : (site book : List ℕ) → Order
   CardOf : (site : List ℕ) (leaf : ℕ) (out : List ℕ) → Order
   SampleOf : (number packets : ℕ) (out : List ℕ) → Order
+  TablesOf : (stream : List ℕ) → Order
 
 -- the number of a word, which is to be a decimal and at most so large
 abbrev pub at_most : ℕ → ℕ → Option ℕ → Result ℕ Status
@@ -108,7 +113,7 @@ sample_words number packets out = do
 abbrev pub order_of : List (List ℕ) → Result Order Status
 order_of [] = Err Usage
 order_of (command ∷ []) = Err Usage
-order_of (command ∷ a ∷ []) = Err Usage
+order_of (command ∷ a ∷ []) = if bytes_eq command (codes "tables") then Ok (TablesOf a) else Err Usage
 order_of (command ∷ a ∷ b ∷ []) = if bytes_eq command (codes "cover") then Ok (CoverOf a b) else Err Usage
 order_of (command ∷ a ∷ b ∷ c ∷ []) =
     if bytes_eq command (codes "card") then card_words a b c
@@ -121,6 +126,7 @@ abbrev pub order_meaning : Order → Files → Result Work Status
 order_meaning (CoverOf site book) files = cover_in files site book
 order_meaning (CardOf site leaf out) files = card_work files site leaf out
 order_meaning (SampleOf number packets out) files = sample_work number packets out
+order_meaning (TablesOf stream) files = tables_work files stream
 
 -- the work that the words ask for, or the status of their refusal
 abbrev pub meaning : List (List ℕ) → Files → Result Work Status

@@ -1,5 +1,6 @@
 ghost use Rattle.std.specs.Prelude.{◌≡◌, ◌≢◌, ℕ, IfOk, IfErr, IsErrOf};
 ghost use Rattle.sd_site.specs.Fields.{fields_of};
+ghost use Rattle.sd_run.specs.declared.status.LimitKind.TheVariants.{StreamBytes};
 ghost use Rattle.sd_run.specs.Meaning.{file_in, site_in, book_in, refused_book};
 ghost use Rattle.sd_run.specs.Answers.{Gives, ForTold, IsRefusal, HasOutsideCause};
 
@@ -13,6 +14,8 @@ use std::alloc::Global;
 const MOST_SITE_BYTES: usize = 4_096;
 
 const MOST_BOOK_BYTES: usize = 33_554_432;
+
+const MOST_STREAM_BYTES: usize = 67_108_864;
 
 /// The site of the file that word 1 names.
 #[tactic(auto, unfolding(crate::specs::Meaning::site_in))]
@@ -63,6 +66,25 @@ fn refused(fault: BookFault) -> Status
         BookFault::Limit(limit) => Status::Limit(LimitKind::Book(limit)),
         BookFault::NoMemory => Status::NoMemory,
     }
+}
+
+/// The bytes of the stream file that word 1 names.
+pub fn read_stream<D: Depot>(alloc: Global, depot: &mut D, name: &str) -> Result<Vec<u8>, Status>
+    ensures files { D.files depot.new ≡ D.files depot.old }
+    ensures made { D.made depot.new ≡ D.made depot.old }
+    ensures meant { ForTold (D.files depot.old) (λ files.
+        Gives (λ bytes. bytes.items) result (file_in files 1 67108864 StreamBytes name.now)) }
+    ensures refusal { IfErr result IsRefusal }
+    ensures cause { HasOutsideCause (D.faults depot.old) (D.faults depot.new) (D.misses depot.old) (D.misses depot.new) result }
+{
+    read_bytes(
+        alloc,
+        depot,
+        name,
+        1,
+        MOST_STREAM_BYTES,
+        LimitKind::StreamBytes,
+    )
 }
 
 /// The bytes of the file that a word names, at most `most`.

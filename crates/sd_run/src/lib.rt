@@ -8,11 +8,12 @@ mod order;
 mod out;
 mod sample;
 mod status;
+mod tables;
 mod telling;
 mod text;
 mod top;
 
-pub use status::{LimitKind, Status};
+pub use status::{LimitKind, Status, StreamCause};
 pub use telling::tell;
 pub use top::run;
 

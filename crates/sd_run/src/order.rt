@@ -25,6 +25,9 @@ pub enum Order<'a> {
         packets: u32,
         out: &'a str,
     },
+    Tables {
+        stream: &'a str,
+    },
 }
 
 /// What the words say, or the status of their refusal.
@@ -44,6 +47,9 @@ pub fn read_words(words: &[String]) -> Result<Order<'_>, Status>
         [command, number, packets, out] if command.as_str() == "sample" => {
             read_sample(number.as_str(), packets.as_str(), out.as_str())
         }
+        [command, stream] if command.as_str() == "tables" => Ok(Order::Tables {
+            stream: stream.as_str(),
+        }),
         _ => Err(Status::Usage),
     }
 }

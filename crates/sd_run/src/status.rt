@@ -23,6 +23,8 @@ pub enum Status {
     BadSite(SiteFault),
     /// This line of the file that this word names is the first refused one.
     BadBook { word: u8, line: u32 },
+    /// This packet of the stream is the first that breaks a rule.
+    BadStream { packet: u64, cause: StreamCause },
     /// Something is over its limit.
     Limit(LimitKind),
     /// Memory is wanting.
@@ -44,11 +46,21 @@ impl Status {
             Status::PrintFault => 5,
             Status::BadSite(_) => 6,
             Status::BadBook { .. } => 7,
+            Status::BadStream { .. } => 10,
             Status::Limit(_) => 11,
             Status::NoMemory => 12,
             Status::BadWord(_) => 17,
         }
     }
+}
+
+/// Why a packet of a stream is refused.
+#[derive(Clone, Copy, Debug, PartialEq, Eq)]
+pub enum StreamCause {
+    /// The stream ends within it: fewer than 188 bytes are left.
+    Torn,
+    /// It does not begin with the sync byte.
+    NoSync,
 }
 
 /// What is over its limit.
@@ -58,6 +70,8 @@ pub enum LimitKind {
     SiteBytes,
     /// A book file has at most 33,554,432 bytes.
     BookBytes,
+    /// A stream file has at most 67,108,864 bytes.
+    StreamBytes,
     /// A limit of a book.
     Book(BookLimit),
 }

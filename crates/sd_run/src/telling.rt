@@ -2,11 +2,11 @@ ghost use Rattle.std.specs.Prelude.{◌≡◌, ◌≢◌, ◌⊎◌, IfOk, OnErr
 ghost use Rattle.std.specs.Io.KnownBytes.{Appends};
 ghost use Rattle.sd_cause.specs.Count.{Rose};
 ghost use Rattle.sd_ports.specs.Bytes.{AppendsFront};
-ghost use Rattle.sd_run.specs.Texts.{line_of, site_line as site_line_of, limit_line as limit_line_of};
+ghost use Rattle.sd_run.specs.Texts.{line_of, site_line as site_line_of, stream_line as stream_line_of, limit_line as limit_line_of};
 ghost use Rattle.sd_run.specs.Lines.{bytes_of};
 ghost use Rattle.sd_run.specs.Answers.{Tells, TakesMemory};
 
-use crate::status::{LimitKind, Status};
+use crate::status::{LimitKind, Status, StreamCause};
 use sd_book::BookLimit;
 use sd_ports::{Sink, write_all};
 use sd_site::SiteFault;
@@ -72,6 +72,7 @@ fn status_line(alloc: Global, status: Status) -> Result<Line, AllocError>
         Status::BadBook { word, line } => {
             Line::Made(format!(in alloc; "word {word} line {line} is refused\n")?)
         }
+        Status::BadStream { packet, cause } => stream_line(alloc, packet, cause)?,
         Status::Limit(kind) => limit_line(alloc, kind)?,
         Status::NoMemory => Line::Fixed("no memory\n"),
         Status::BadWord(word) => Line::Made(format!(in alloc; "word {word} is out of range\n")?),
@@ -92,6 +93,17 @@ fn site_line(alloc: Global, fault: SiteFault) -> Result<Line, AllocError>
     })
 }
 
+/// The line of a packet that breaks a rule.
+#[tactic(auto, unfolding(crate::specs::Texts::stream_line))]
+fn stream_line(alloc: Global, packet: u64, cause: StreamCause) -> Result<Line, AllocError>
+    ensures { IfOk result (λ line. bytes_of line ≡ stream_line_of packet cause) }
+{
+    Ok(Line::Made(match cause {
+        StreamCause::Torn => format!(in alloc; "stream packet {packet}: torn\n")?,
+        StreamCause::NoSync => format!(in alloc; "stream packet {packet}: no sync\n")?,
+    }))
+}
+
 /// The line of what is over its limit.
 #[tactic(auto, unfolding(crate::specs::Texts::limit_line, crate::specs::Texts::book_limit_line))]
 fn limit_line(alloc: Global, kind: LimitKind) -> Result<Line, AllocError>
@@ -100,6 +112,7 @@ fn limit_line(alloc: Global, kind: LimitKind) -> Result<Line, AllocError>
     Ok(match kind {
         LimitKind::SiteBytes => Line::Fixed("limit: site bytes\n"),
         LimitKind::BookBytes => Line::Fixed("limit: book bytes\n"),
+        LimitKind::StreamBytes => Line::Fixed("limit: stream bytes\n"),
         LimitKind::Book(BookLimit::Lines) => Line::Fixed("limit: book lines\n"),
         LimitKind::Book(BookLimit::Periods) => Line::Fixed("limit: periods\n"),
         LimitKind::Book(BookLimit::Revoked(q)) => {

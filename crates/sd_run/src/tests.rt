@@ -1,8 +1,9 @@
 ghost use Rattle.std.specs.Prelude.{◌≡◌, ◌<◌, ◌≤◌};
 
-use crate::{LimitKind, Status, run, tell};
+use crate::{LimitKind, Status, StreamCause, run, tell};
 use sd_book::BookLimit;
 use sd_ports::{Depot, MemDepot, MemSink, Sink};
+use sd_sample::sample;
 use sd_site::SiteFault;
 use sd_steps::Steps;
 use std::alloc::{AllocError, Global};
@@ -22,6 +23,14 @@ period-cryptos 1
 /// The card of leaf 5 of this site.
 const CARD_5: &str =
     "5344434401030000000512349a9aea255b8e54be50fc2cb5d0b83ebf64120b12e68d82699face4ee860511dc0957476ca37572a1dcc65a3f00d57deed46e69c2e91426478f712417fb92a56bb3b4a9ec141e3e6c5f7f1d34c7932d34ee14f724fd68a98b2f9fdcb508de0f48aa94e29d22fc6666b24e1ad2794a4f1f1519d5126f9de69bdeaf722cfee0075900407c5f5709ab0b475c92082dca33bfd94d089bfb1948a03cae4d5b75ad14e548954a872ea73ecca7c88349a7d5558ea323dfebd65bf59142ace49371da03b064c53490a01b870e7120925ffd7ce8b20d840d83d052c5668db762ab8dbdeede813ac7b7ad90ee38b89d1475ba747af7";
+
+/// The lines of the tables in a sample stream of three packets, and how long the first is.
+const TABLES: &str =
+    r#"{"packet":0,"pid":0,"programs":[{"number":1,"pid":4096}],"stream":1,"table":"pat","version":0}
+{"ca":[],"packet":1,"pcr":256,"pid":4096,"program":1,"streams":[{"ca":[],"pid":256,"type":27},{"ca":[],"pid":257,"type":15}],"table":"pmt","version":0}
+"#;
+
+const PAT_LINE: usize = 95;
 
 const ALL: &str = "period 0 revoked 0 sets 1\nall\n";
 
@@ -189,7 +198,7 @@ fn books_are_covered_or_refused(rt: HostRuntime) -> Result<(), AllocError> {
 #[test]
 fn words_and_sites_are_judged(rt: HostRuntime) -> Result<(), AllocError> {
     let long = [0x20; 4097];
-    let cases: [(&[&str], &[u8], Status, &str); 19] = [
+    let cases: [(&[&str], &[u8], Status, &str); 21] = [
         (&[], SITE, Status::Usage, "usage\n"),
         (&["cover", "S"], SITE, Status::Usage, "usage\n"),
         (
@@ -205,6 +214,13 @@ fn words_and_sites_are_judged(rt: HostRuntime) -> Result<(), AllocError> {
             SITE,
             Status::Missing(2),
             "missing file word 2\n",
+        ),
+        (&["tables", "S", "B"], SITE, Status::Usage, "usage\n"),
+        (
+            &["tables", "C"],
+            SITE,
+            Status::Missing(1),
+            "missing file word 1\n",
         ),
         (
             &["cover", "C", "C"],
@@ -329,6 +345,46 @@ fn files_are_made(rt: HostRuntime) -> Result<(), AllocError> {
 }
 
 #[test]
+fn tables_are_printed(rt: HostRuntime) -> Result<(), AllocError> {
+    let alloc = rt.alloc();
+    let broken = |packet, cause| Status::BadStream { packet, cause };
+    let mut sink = MemSink::new(alloc, 564, 564, Vec::new(alloc)).map_err(|_| AllocError)?;
+    sample(0, 3, &mut sink).map_err(|_| AllocError)?;
+    let whole = Vec::from_slice(alloc, sink.bytes())?;
+    let mut torn = Vec::from_slice(alloc, sink.bytes())?;
+    torn.push(0x47)?;
+    let mut shifted = Vec::from_slice(alloc, sink.bytes())?;
+    shifted.insert(188, 0xFF)?;
+    let cases: [(&[u8], Status, &str, &str); 4] = [
+        (b"", Status::Done, "", ""),
+        (&whole, Status::Done, TABLES, ""),
+        (
+            &torn,
+            broken(3, StreamCause::Torn),
+            TABLES,
+            "stream packet 3: torn\n",
+        ),
+        (
+            &shifted,
+            broken(1, StreamCause::NoSync),
+            &TABLES[..PAT_LINE],
+            "stream packet 1: no sync\n",
+        ),
+    ];
+    for (stream, status, lines, last) in cases {
+        let left = left(alloc, &["tables", "S"], (stream, b""), 100, 0, &[])?;
+        assert_eq!(rt; left.status, status);
+        assert!(rt; left.printed.as_slice().starts_with(lines.as_bytes()));
+        assert_eq!(rt; left.printed.len(), lines.len() + last.len());
+        assert!(rt; left.printed.as_slice().ends_with(last.as_bytes()));
+    }
+    let left = left(alloc, &["tables", "S"], (&whole, b""), 100, 0, &[1])?;
+    assert_eq!(rt; left.status, Status::PrintFault);
+    assert_eq!(rt; left.printed.as_slice(), &TABLES.as_bytes()[..100]);
+    Ok(())
+}
+
+#[test]
 fn a_failed_print_is_told(rt: HostRuntime) -> Result<(), AllocError> {
     for (book, failing, front) in [
         (b"revoke 5\n".as_slice(), 0, ""),
@@ -373,6 +429,11 @@ fn each_status_has_its_line(rt: HostRuntime) -> Result<(), AllocError> {
             Status::Limit(LimitKind::BookBytes),
             11,
             "limit: book bytes\n",
+        ),
+        (
+            Status::Limit(LimitKind::StreamBytes),
+            11,
+            "limit: stream bytes\n",
         ),
         (limit(BookLimit::Lines), 11, "limit: book lines\n"),
         (limit(BookLimit::Periods), 11, "limit: periods\n"),

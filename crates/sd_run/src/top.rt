@@ -11,6 +11,7 @@ use crate::cover::cover;
 use crate::order::{Order, read_words};
 use crate::sample::sample;
 use crate::status::Status;
+use crate::tables::tables;
 use crate::telling::tell;
 use sd_ports::{Depot, Sink};
 use sd_steps::Steps;
@@ -37,6 +38,8 @@ pub fn run<D: Depot, P: Sink, L: Ledger>(
     ensures print_fault { result ≡ Status.PrintFault → Rose (P.faults print.old) (P.faults print.new) }
     ensures depot_calm { result ≢ Status.DepotFault → result ≢ Status.PrintFault → D.faults depot.new ≡ D.faults depot.old }
     ensures print_calm { result ≢ Status.PrintFault → P.faults print.new ≡ P.faults print.old }
+    ensures no_miss { ((word : ℕ) → result ≢ Status.Missing word) → result ≢ Status.PrintFault → result ≢ Status.NoMemory →
+        D.misses depot.new ≡ D.misses depot.old }
     // Good words over good files are done, unless memory is wanting.
     ensures complete { (files : Files) → D.files depot.old ≡ Some files → IsGoodOrder (map string_bytes words.now) files →
         IsCalm (D.faults depot.old) (D.faults depot.new) → IsCalm (P.faults print.old) (P.faults print.new) → IsGoodAnswer result }
@@ -96,5 +99,6 @@ fn work<D: Depot, P: Sink, L: Ledger>(
             packets,
             out,
         } => sample(alloc, depot, number, packets, out),
+        Order::Tables { stream } => tables(alloc, depot, print, stream),
     }
 }

@@ -6,8 +6,8 @@ use Rattle.sd_run.specs.declared.status.Status.TheVariants.{DepotFault, PrintFau
 use Rattle.sd_run.specs.Meaning.{meaning}
 use Rattle.sd_run.specs.Answers.{ForTold, IsRefusedAs}
 use Rattle.sd_run.proofs.Refusals.{refused_by, err_is}
-use Rattle.sd_run.proofs.Told.{told_answers}
-use Rattle.sd_run.proofs.Completeness.{good_means_work, good_answer, not_calm, cut_or_not}
+use Rattle.sd_run.proofs.Told.{told_answers, not_missing}
+use Rattle.sd_run.proofs.Completeness.{good_means_work, halted_refused, good_answer, not_calm, cut_or_not}
 use Rattle.sd_run.proofs.top.run.Goals as goal
 
 pub returns-in-Err-2-clause-meaning : goal.returns-in-Err-2-clause-meaning
@@ -22,8 +22,8 @@ returns-in-Err-2-clause-complete g c files told good depot_calm print_calm =
     let words = map string_bytes c.args.words.now in
     let not_cut : status ≢ PrintFault = search rules in
     let stops = c.in-Err.ensures.obeys.stops status refl not_cut in
-    let Refused : Option Files → Type 0 = λ o. ForTold o (λ fs. IsRefusedAs status (meaning words fs)) in
-    let refused : IsRefusedAs status (meaning words files) = subst Refused told stops.stopped.refused in
+    let refused : IsRefusedAs status (meaning words files) =
+    halted_refused (meaning words) files _ _ status stops.lines told (good_means_work words files good) stops.halted in
     let not_failed : status ≢ DepotFault = λ e. absurd (not_calm _ _ depot_calm (c.in-Err.ensures.cause.failed (ap refused_by e))) in
     let calm = c.in-Err.ensures.print_cause.calm (λ e. not_cut (err_is e)) in
     ⊎_elim
@@ -32,3 +32,7 @@ returns-in-Err-2-clause-complete g c files told good depot_calm print_calm =
     (λ (whole : c.tell.result ≢ PrintFault). good_answer (meaning words files) status c.tell.ensures.told.told c.tell.result (good_means_work words files good) refused not_failed
     c.tell.ensures.told.tellable (c.tell.ensures.told.whole whole).0)
     (cut_or_not c.tell.result)
+
+pub returns-in-Err-2-clause-no_miss : goal.returns-in-Err-2-clause-no_miss
+returns-in-Err-2-clause-no_miss g c others not_cut memory =
+    c.in-Err.ensures.cause.no_miss (λ word e. not_missing _ _ c.in-Err.status c.tell.result c.tell.ensures.told others not_cut memory word e)
