@@ -1,8 +1,9 @@
-//! `sd_bench`: reads headers, scrambles payloads, and writes and searches entitlements, as often as is asked, to be timed from outside.
+//! `sd_bench`: the work of the lower crates, done as often as is asked, to be timed from outside.
 #![tactic(auto)]
 
 ghost use Rattle.std.specs.Prelude.{◌≡◌, length};
 
+mod crcs;
 mod emms;
 
 use sd_bits::fields;
@@ -39,8 +40,10 @@ fn measured(alloc: Global, words: &[String]) -> Result<Option<u64>, AllocError> 
     let Ok(count) = count.as_str().parse::<u32>() else {
         return Ok(None);
     };
-    if work.as_str() == "emms" {
-        return emms::searched(alloc, count);
+    match work.as_str() {
+        "crcs" => return Ok(Some(crcs::summed(count))),
+        "emms" => return emms::searched(alloc, count),
+        _ => {}
     }
     let Ok(mut sink) = MemSink::new(alloc, PACKETS * 188, PACKETS * 188, Vec::new(alloc)) else {
         return Err(AllocError);

@@ -1,0 +1,82 @@
+#!/bin/sh
+# Measures `tables` on a sample stream of 60 MB beside cat, a C program that copies each packet, and (where they are installed) tsinfo and
+# dvbinfo; the CRC of sections beside a C program with a table of 256 entries; and compares the lines of the streams in a folder with those
+# that an independent program printed. To be run by hand, from any folder: bench/tables.sh [FOLDER]. FOLDER has NAME.ts, and beside it
+# NAME.ts.exit-N.stdout, what `tables` is to print for it, and its exit status N.
+set -eu
+
+folder=${1:+$(CDPATH='' cd "$1" && pwd -P)}
+here=$(CDPATH='' cd "$(dirname "$0")" && pwd -P)
+. "$here/shared.sh"
+rounds=5
+packets=320000
+sections=50000
+
+(cd "$top/crates/sd_bench" && rt run -- scramble 1000) >build 2>&1 || { cat build >&2; exit 1; }
+bench=$top/crates/sd_bench/out/sd_bench
+compile tables
+
+./sdca sample 1 $packets stream.ts
+bytes=$((packets * 188))
+
+tables_ours() { ./sdca tables stream.ts >lines; }
+packets_c() { ./tables packets stream.ts >count; }
+cat_it() { cat stream.ts >copy; }
+tsinfo_it() { tsinfo stream.ts >info 2>&1 || true; }
+dvbinfo_it() { dvbinfo <stream.ts >info 2>&1 || true; }
+crcs_ours() { "$bench" crcs $sections >ours; }
+crcs_c() { ./tables crcs $sections >theirs; }
+
+# The time of a command in microseconds.
+timed() {
+    start=$(date +%s%N)
+    "$1"
+    echo $((($(date +%s%N) - start) / 1000))
+}
+
+# A file of times for each command, the rounds in turn.
+measure() {
+    for _ in $(seq $rounds); do
+        for work in "$@"; do timed "$work" >>"times.$work"; done
+    done
+}
+
+median() { sort -n "times.$1" | sed -n $(((rounds + 1) / 2))p; }
+
+# COMMAND BYTES TEXT: its rate.
+rate() { awk -v n="$2" -v t="$(median "$1")" -v text="$3" 'BEGIN { printf "%-32s %8.1f ms %8.1f MB/s\n", text, t / 1000, n / t }'; }
+
+others=
+for other in tsinfo dvbinfo; do
+    command -v $other >which 2>&1 && others="$others ${other}_it"
+done
+measure tables_ours packets_c cat_it $others crcs_ours crcs_c
+cmp -s ours theirs || fail "the CRCs differ"
+[ "$(cat count)" = $packets ] || fail "the C program read other packets"
+[ "$(wc -l <lines)" = $((packets / 50)) ] || fail "the lines are not those of all tables"
+
+rate tables_ours $bytes "tables of $packets packets"
+rate packets_c $bytes "C: read, 188 bytes a memcpy"
+rate cat_it $bytes "cat to a file"
+for other in $others; do rate "$other" $bytes "${other%_it}"; done
+rate crcs_ours $((sections * 4096)) "CRC of $sections sections"
+rate crcs_c $((sections * 4096)) "C: CRC by a table of 256"
+awk -v t="$(median tables_ours)" -v c="$(median packets_c)" -v n=$bytes -v a="$(median crcs_ours)" -v b="$(median crcs_c)" 'BEGIN {
+    least = n / c / 2 < 400 ? n / c / 2 : 400
+    printf "tables: %.2f of what is to be reached (%.0f MB/s); CRC: %.2f times the speed of C\n", n / t / least, least, b / a
+}'
+if [ -x /usr/bin/time ]; then
+    /usr/bin/time -f %M ./sdca tables stream.ts >lines 2>peak
+    echo "peak memory of tables: $(($(cat peak) / 1024)) MiB for a file of $((bytes / 1048576)) MiB"
+fi
+
+[ -n "$folder" ] || exit 0
+same=0
+for stream in "$folder"/*.ts; do
+    due=$(echo "$stream".exit-*.stdout)
+    status=0
+    ./sdca tables "$stream" >lines || status=$?
+    cmp -s lines "$due" && [ "$due" = "$stream.exit-$status.stdout" ] || fail "$(basename "$stream") prints other lines"
+    same=$((same + 1))
+done
+echo "$same streams of $folder print the lines beside them"
