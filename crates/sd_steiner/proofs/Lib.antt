@@ -12,3 +12,4 @@ pub mod Covers
 pub mod Cuts
 pub mod Added
 pub mod Sorting
+pub mod There

@@ -16,11 +16,11 @@ not_both (Diff i j) Whole p q = cc
 not_both (Diff i j) (Diff k l) p q = grind (arith, nat_tests)
 
 -- the first name stands before all others
-first_before : (x : SetName) (xs : List SetName) → AreAscending (x ∷ xs) → (y : SetName) → Contains xs y → set_cmp x y ≡ Less
+pub first_before : (x : SetName) (xs : List SetName) → AreAscending (x ∷ xs) → (y : SetName) → Contains xs y → set_cmp x y ≡ Less
 first_before x xs a y (k, h, e) = subst (λ (z : SetName). set_cmp x z ≡ Less) e (a 0 (suc k) y (omega arith) (omega arith))
 
 -- the rest ascends too
-rest_ascending : (x : SetName) (xs : List SetName) → AreAscending (x ∷ xs) → AreAscending xs
+pub rest_ascending : (x : SetName) (xs : List SetName) → AreAscending (x ∷ xs) → AreAscending xs
 rest_ascending x xs a i j d below within = a (suc i) (suc j) d (omega arith) (omega arith)
 
 -- in an ascending list none stands twice
