@@ -1,5 +1,5 @@
 -- The texts of covers, one period behind the other.
-use Rattle.std.proofs.Common.{arith, ◌≡◌, ℕ, suc, ◌+◌, ◌≤◌, List, ◌++◌, Option, refl, ap, sym, subst, ◌∙◌, Result, Ok, Err, IfErr, IsNone, Some, ◌↔◌, ◌<◌, append_assoc, inl, inr, ◌⊎◌, ◌≢◌}
+use Rattle.std.proofs.Common.{arith, ◌≡◌, ℕ, suc, zero, ◌+◌, ◌-◌, ◌≤◌, List, [], ◌++◌, append-nil, Option, refl, ap, sym, subst, ◌∙◌, Result, Ok, Err, IfErr, IsNone, Some, ◌↔◌, ◌<◌, append_assoc, inl, inr, ◌⊎◌, ◌≢◌}
 use Rattle.std.proofs.lemmas.Bool.{cases_lt}
 use Rattle.std.specs.Io.KnownBytes.{Appends}
 use Rattle.std.proofs.KnownBytes.{Appends-trans}
@@ -7,6 +7,12 @@ use Rattle.sd_ports.specs.Files.{Files}
 use Rattle.sd_ports.specs.Bytes.{AppendsFront}
 use Rattle.sd_book.specs.declared.command.Command.{Command}
 use Rattle.sd_book.specs.Commands.{last_period, revoked}
+use Rattle.sd_book.proofs.Revocations.{below}
+use Rattle.sd_steiner.proofs.Covers.{cover_partition, cover_small}
+use Rattle.sd_steiner.proofs.There.{cover_there}
+use Rattle.std.proofs.lemmas.List.Elements.{All-contains}
+use Rattle.std.specs.Prelude.{Contains, ◌^◌, length}
+use Rattle.sd_run.specs.Texts.{period_text}
 use Rattle.sd_run.specs.declared.status.Status.{Status}
 use Rattle.sd_run.specs.declared.status.Status.TheVariants.{NoMemory, PrintFault}
 use Rattle.sd_run.specs.Answers.{IsWork, StopsAt, Obeys, PrintsCover, PrintsCoverOf}
@@ -56,20 +62,67 @@ pub begun : (d : ℕ) (commands : List Command) (n : ℕ) (old new : Option (Lis
     → (text : List ℕ) × BeginsCover d commands text × Appends old new text
 begun d commands n old new before within = (before.text, (n, within, before.periods), before.printed)
 
+-- each period has a text
+text_there : (d : ℕ) (commands : List Command) (q : ℕ) → d ≤ 20 → (text : List ℕ) × IsCoverText d q (revoked d commands q) text
+text_there d commands q low =
+    let leaves = revoked d commands q in
+    let inside : (u : ℕ) → Contains leaves u → u < 2 ^ d = λ u m. All-contains (λ w. w < 2 ^ d) leaves u (below d commands q) m in
+    let there = cover_there d leaves (omega (arith, low)) inside in (
+      period_text q (length leaves) there.0,
+      record {
+        sets = there.0;
+        chains = there.1;
+        partition = cover_partition d leaves there.0 (omega (arith, low)) inside there.1;
+        small = cover_small d leaves there.0 (omega (arith, low)) inside there.1;
+        printed = refl;
+      },
+    )
+
+-- behind the text of n periods stands that of m more
+periods_on : (d : ℕ) (commands : List Command) (n m : ℕ) (text : List ℕ) → d ≤ 20 → PrintsPeriods d commands n text
+    → (rest : List ℕ) × PrintsPeriods d commands (n + m) (text ++ rest)
+periods_on d commands n zero text low periods =
+    let same : n ≡ n + 0 = omega arith in
+    ([], subst (λ (k : ℕ). PrintsPeriods d commands k (text ++ [])) same (subst (λ (xs : List ℕ). PrintsPeriods d commands n xs) (sym (append-nil text)) periods))
+periods_on d commands n (suc m) text low periods =
+    let before = periods_on d commands n m text low periods in
+    let last = text_there d commands (n + m) low in
+    let more : suc (n + m) ≡ n + suc m = omega arith in (
+      before.0 ++ last.0,
+      subst (λ (k : ℕ). PrintsPeriods d commands k (text ++ (before.0 ++ last.0))) more
+          (subst (λ (xs : List ℕ). PrintsPeriods d commands (suc (n + m)) xs) (append_assoc text before.0 last.0)
+          (another d commands (n + m) (text ++ before.0) last.0 before.1 last.1)),
+    )
+
+-- a front of a first text is a front of that with more behind it
+front_longer : (a b : Option (List ℕ)) (first more : List ℕ) → AppendsFront a b first → AppendsFront a b (first ++ more)
+front_longer a b first more cut =
+    (cut.0, (cut.1.0 ++ more, sym (append_assoc cut.0 cut.1.0 more) ∙ ap (λ (xs : List ℕ). xs ++ more) cut.1.1), cut.2)
+
+-- a front of the text of some first periods is a front of that of all
+front_of_all : (d : ℕ) (commands : List Command) (n : ℕ) (old new : Option (List ℕ)) (text : List ℕ) → d ≤ 20 → n ≤ last_period commands + 1
+    → PrintsPeriods d commands n text → AppendsFront old new text
+    → (whole : List ℕ) × PrintsPeriods d commands (last_period commands + 1) whole × AppendsFront old new whole
+front_of_all d commands n old new text low within periods front =
+    let rest = periods_on d commands n (last_period commands + 1 - n) text low periods in
+    let all : n + (last_period commands + 1 - n) ≡ last_period commands + 1 = omega (arith, within) in
+    (text ++ rest.0, subst (λ (k : ℕ). PrintsPeriods d commands k (text ++ rest.0)) all rest.1, front_longer old new text rest.0 front)
+
 -- a period that was cut off
-pub cut_off : (d : ℕ) (commands : List Command) (n : ℕ) (old mid new : Option (List ℕ)) → ArePrinted d commands n old mid → n ≤ last_period commands
-    → ((text : List ℕ) × IsCoverText d n (revoked d commands n) text × AppendsFront mid new text)
-    → (text : List ℕ) × BeginsCover d commands text × AppendsFront old new text
-cut_off d commands n old mid new before within last =
-    (before.text ++ last.0, (n + 1, omega (arith, within), the_next d commands n before.text last.0 before.periods last.1), front_behind old mid new before.text last.0 before.printed last.2)
+cut_off : (d : ℕ) (commands : List Command) (n : ℕ) (old mid new : Option (List ℕ)) → d ≤ 20 → ArePrinted d commands n old mid
+    → n ≤ last_period commands → ((text : List ℕ) × IsCoverText d n (revoked d commands n) text × AppendsFront mid new text)
+    → (whole : List ℕ) × PrintsPeriods d commands (last_period commands + 1) whole × AppendsFront old new whole
+cut_off d commands n old mid new low before within last =
+    front_of_all d commands (n + 1) old new (before.text ++ last.0) low (omega (arith, within))
+    (the_next d commands n before.text last.0 before.periods last.1) (front_behind old mid new before.text last.0 before.printed last.2)
 
 -- a period that was not printed whole
-pub period_failed : (d : ℕ) (commands : List Command) (n : ℕ) (old mid new : Option (List ℕ)) (status : Status) → ArePrinted d commands n old mid
+pub period_failed : (d : ℕ) (commands : List Command) (n : ℕ) (old mid new : Option (List ℕ)) (status : Status) → d ≤ 20 → ArePrinted d commands n old mid
     → n ≤ last_period commands → PrintsCoverOf d n (revoked d commands n) mid new (Err status) → PrintsCover d commands old new (Err status)
-period_failed d commands n old mid new status before within period = record {
+period_failed d commands n old mid new status low before within period = record {
   done = tt;
   no_memory = λ wanting. begun d commands n old new (subst (ArePrinted d commands n old) (sym (period.no_memory wanting)) before) (omega (arith, within));
-  cut_off = λ failed. cut_off d commands n old mid new before within (period.cut_off failed);
+  cut_off = λ failed. cut_off d commands n old mid new low before within (period.cut_off failed);
 }
 
 -- memory was wanting behind some first periods
@@ -113,8 +166,10 @@ covering_obeys meant files d commands old new (Ok done) work only printed = reco
 covering_obeys meant files d commands old new (Err status) work only printed = record {
   done = tt;
   cut_off = λ e. let cut = printed.cut_off e in record {
+    work = Cover d commands;
+    is_meant = work;
     text = cut.0;
-    begun = inr (Cover d commands, work, cut.1);
+    prints = cut.1;
     front = cut.2;
     files_stay = refl;
   };

@@ -1,15 +1,14 @@
 -- The lines of the tables in a stream.
-use Rattle.std.proofs.Common.{◌≡◌, ◌≢◌, ◌⊎◌, ℕ, List, length, take, reverse, Option, Result, Ok, Err, IfErr, refl, sym, ap, subst, ◌∙◌, inl, inr, take_all, arith}
+use Rattle.std.proofs.Common.{◌≡◌, ◌≢◌, ℕ, List, length, reverse, Option, Result, Ok, Err, IfErr, refl, sym, ap, subst, ◌∙◌, inl, inr, take_all, arith}
 use Rattle.sd_ports.specs.Files.{Files}
 use Rattle.sd_stream.specs.Stream.{packets_of}
 use Rattle.sd_tables.specs.Inspected.{lines_in}
 use Rattle.sd_tables.specs.Whole.{lines_of, lines_up_to}
 use Rattle.sd_run.specs.declared.status.Status.{Status}
-use Rattle.sd_run.specs.declared.status.Status.TheVariants.{PrintFault, BadStream, NoMemory}
-use Rattle.sd_run.specs.declared.status.StreamCause.{StreamCause}
+use Rattle.sd_run.specs.declared.status.Status.TheVariants.{PrintFault}
 use Rattle.sd_run.specs.Work.{Work, Inspect, BeginsToPrint}
 use Rattle.sd_run.specs.Answers.{IsWork, StopsAt, Obeys, PrintsLines, IsOfLines}
-use Rattle.sd_run.proofs.Refusals.{told_weaker, refused_by, err_is}
+use Rattle.sd_run.proofs.Refusals.{told_weaker, err_is}
 
 -- the lines of all packets are those of as many as there are
 all_lines : (stream : List ℕ) → lines_of stream ≡ lines_up_to (length (packets_of stream)) stream
@@ -73,8 +72,10 @@ inspecting_obeys meant files stream old new (Ok done) work only printed = record
 inspecting_obeys meant files stream old new (Err status) work only printed = record {
   done = tt;
   cut_off = λ e. record {
+    work = Inspect stream;
+    is_meant = work;
     text = lines_of stream;
-    begun = inr (Inspect stream, work, whole_begins stream (lines_of stream) refl);
+    prints = refl;
     front = printed.cut_off e;
     files_stay = refl;
   };

@@ -41,11 +41,11 @@ pub record PrintsCoverOf (d q : ℕ) (revoked : List ℕ) (old new : Option (Lis
   pub no_memory : IsErrOf result NoMemory → new ≡ old
   pub cut_off : IsErrOf result PrintFault → (text : List ℕ) × IsCoverText d q revoked text × AppendsFront old new text
 
--- printing the covers of all periods printed them, or the text of some first periods before memory was wanting, or a front of that where print failed
+-- printing the covers of all periods printed them, or those of some first periods before memory was wanting, or a front of all where print failed
 pub record PrintsCover (d : ℕ) (commands : List Command) (old new : Option (List ℕ)) (result : Result (Unit {0}) Status) : Type 0 where
   pub done : OnOk result ((text : List ℕ) × PrintsPeriods d commands (last_period commands + 1) text × Appends old new text)
   pub no_memory : IsErrOf result NoMemory → (text : List ℕ) × BeginsCover d commands text × Appends old new text
-  pub cut_off : IsErrOf result PrintFault → (text : List ℕ) × BeginsCover d commands text × AppendsFront old new text
+  pub cut_off : IsErrOf result PrintFault → (text : List ℕ) × PrintsPeriods d commands (last_period commands + 1) text × AppendsFront old new text
 
 -- what printing the lines of a stream's tables left behind it
 pub record PrintsLines (bytes : List ℕ) (old new : Option (List ℕ)) (result : Result (Unit {0}) Status) : Type 0 where
@@ -135,10 +135,12 @@ pub record StopsAt (meant : Files → Result Work Status) (files now : Option Fi
   pub halted : Halted meant files now status lines
   pub printed : Appends old new lines
 
--- print failed at the work's own text: a front of it was printed, and no file was made
+-- print failed at the text of the work that is meant: a front of it was printed, and no file was made
 pub record IsCutOff (meant : Files → Result Work Status) (files now : Option Files) (old new : Option (List ℕ)) : Type 0 where
+  pub work : Work
+  pub is_meant : IsWork meant files work
   pub text : List ℕ
-  pub begun : IsBegun meant files text
+  pub prints : Prints work text
   pub front : AppendsFront old new text
   pub files_stay : now ≡ files
 

@@ -354,6 +354,7 @@ fn tables_are_printed(rt: HostRuntime) -> Result<(), AllocError> {
     let mut torn = Vec::from_slice(alloc, sink.bytes())?;
     torn.push(0x47)?;
     let mut shifted = Vec::from_slice(alloc, sink.bytes())?;
+    assert_eq!(rt; shifted.len(), 564);
     shifted.insert(188, 0xFF)?;
     let cases: [(&[u8], Status, &str, &str); 4] = [
         (b"", Status::Done, "", ""),

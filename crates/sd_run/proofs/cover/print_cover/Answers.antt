@@ -14,7 +14,7 @@ returns-in_err-print_period-clause-printed g c =
     let end = rw (turn.commands, turn.next, c.in-Some.is) at c.in_ok-revoked.ensures.end in
     let value = rw (turn.height, turn.commands, turn.next, c.in-Some.is) at c.in_ok-revoked.ensures.value in
     let period = rw (c.height-h.ensures, c.deref.ensures.value, value) at c.in_err-print_period.ensures.printed in
-    rw (p.1, p.2) (period_failed d commands q _ _ _ c.in_err-print_period.field-0.0 turn.text (is_inside commands q end) period)
+    rw (p.1, p.2) (period_failed d commands q _ _ _ c.in_err-print_period.field-0.0 turn.low turn.text (is_inside commands q end) period)
 
 pub loop-periods-preserved : goal.loop-periods-preserved
 loop-periods-preserved g c =
@@ -34,6 +34,7 @@ loop-periods-preserved g c =
       next = next ∙ ap (λ n. n + 1) turn.next;
       within = omega (arith, inside);
       most = turn.most;
+      low = turn.low;
       tree = turn.tree;
       calm = c.in_ok-print_period.ensures.print_cause.calm (λ e. cc) ∙ turn.calm;
     }

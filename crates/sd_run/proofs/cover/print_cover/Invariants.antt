@@ -10,6 +10,7 @@ pub record Printed (g : goal.Over) (l : goal.Live-loop-periods g) : Type 0 where
   pub commands : l.periods.commands ≡ l.fn.book.commands
   pub next : l.periods.next ≡ l.q
   pub within : l.q ≤ last_period l.fn.book.commands + 1
+  pub low : l.fn.book.height ≤ 20
   pub most : last_period l.fn.book.commands ≤ 1023
   pub tree : l.h ≡ l.fn.book.height
   pub calm : g.P.Sink.faults l.print ≡ g.P.Sink.faults l.fn.print

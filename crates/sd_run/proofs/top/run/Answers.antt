@@ -1,10 +1,9 @@
-use Rattle.std.proofs.Common.{rules, ◌≡◌, ◌≢◌, Option, refl, ap, subst, ⊎_elim}
+use Rattle.std.proofs.Common.{rules, ◌≡◌, ◌≢◌, refl, ap, ⊎_elim}
 use Rattle.std.specs.Prelude.{map, string_bytes}
 use Rattle.sd_cause.specs.Count.{Rose}
-use Rattle.sd_ports.specs.Files.{Files}
 use Rattle.sd_run.specs.declared.status.Status.TheVariants.{DepotFault, PrintFault}
 use Rattle.sd_run.specs.Meaning.{meaning}
-use Rattle.sd_run.specs.Answers.{ForTold, IsRefusedAs}
+use Rattle.sd_run.specs.Answers.{IsRefusedAs}
 use Rattle.sd_run.proofs.Refusals.{refused_by, err_is}
 use Rattle.sd_run.proofs.Told.{told_answers, not_missing}
 use Rattle.sd_run.proofs.Completeness.{good_means_work, halted_refused, good_answer, not_calm, cut_or_not}
