@@ -5,7 +5,7 @@ use Rattle.std.specs.List.{range_with_len}
 use Rattle.std.proofs.lemmas.Bool.{cases_lt}
 use Rattle.std.proofs.lemmas.List.{length-take, length-drop, length-replicate, take_at, drop_at, take_all}
 use Rattle.std.proofs.lemmas.List.FromFn.{length-map-range_with_len, get_or-map-range_with_len}
-use Rattle.std.proofs.lemmas.Option.{slice_get-get_or}
+use Rattle.std.proofs.lemmas.Option.{slice_get-get_or, slice_get_within, get_or_from_slice_get}
 use Rattle.sd_ecm.specs.Spelled.{listed}
 use Rattle.sd_ecm.specs.Form.{IsCounted, IsPlace, ArePlaces, AreAscending, IsEcm, Fits, nothing}
 use Rattle.sd_ecm.specs.Fields.{padded}
@@ -84,6 +84,15 @@ pub stands_at : (message : Message) (x : ℕ) → x < parts_for (length message.
 stands_at message x within =
     slice_get-get_or (parts_of message) x (part_at message x) (omega (arith, as_many message))
     ∙ ap (λ (part : EcmPart). Some part) (part_there message x (part_at message x) within)
+
+-- what stands at a number has it
+pub number_is : (message : Message) (x : ℕ) (part : EcmPart) → slice_get (parts_of message) x ≡ Some part → part.part ≡ x
+unfolding part_at
+number_is message x part there =
+    let within : x < parts_for (length message.places) =
+    omega (arith, slice_get_within (parts_of message) x part there, as_many message) in
+    ap (λ (p : EcmPart). p.part) (sym (get_or_from_slice_get (parts_of message) x part (part_at message x) there)
+    ∙ part_there message x (part_at message x) within)
 
 -- how many positions a part has
 long_at : (places : List Place) (x : ℕ) → length (places_at places x) ≡ min 13 (length places - 13 * x)

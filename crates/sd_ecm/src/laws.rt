@@ -30,11 +30,12 @@ pub fn written_packets_spell()
 /// A message's parts share out its positions: there are as many as have room for them, each stands at its number and says the same of
 /// the message, position k stands in part k / 13, and joined they have all positions. Of a message with ascending PIDs each part is one
 /// that is written, and that is read.
-#[tactic(auto, using(crate::proofs::Sharing::as_many, crate::proofs::Sharing::stands_at, crate::proofs::Sharing::place_stands, crate::proofs::Sharing::joined_are_all, crate::proofs::Sharing::all_are_of, crate::proofs::Sharing::all_are_ecms))]
+#[tactic(auto, using(crate::proofs::Sharing::as_many, crate::proofs::Sharing::stands_at, crate::proofs::Sharing::number_is, crate::proofs::Sharing::place_stands, crate::proofs::Sharing::joined_are_all, crate::proofs::Sharing::all_are_of, crate::proofs::Sharing::all_are_ecms))]
 pub fn messages_are_shared_out()
     ensures parts { (message : Message) → length (parts_of message) ≡ parts_for (length message.places) }
     ensures at { (message : Message) (x : ℕ) → x < parts_for (length message.places) →
         slice_get (parts_of message) x ≡ Some (part_at message x) }
+    ensures number { (message : Message) (x : ℕ) (part : EcmPart) → slice_get (parts_of message) x ≡ Some part → part.part ≡ x }
     ensures place { (message : Message) (k : ℕ) → k < length message.places →
         slice_get (listed (part_at message (k / 13))) (k % 13) ≡ slice_get message.places k }
     ensures places { (message : Message) → flat_map listed (parts_of message) ≡ message.places }

@@ -3,7 +3,7 @@ use Rattle.std.proofs.Common.{◌≡◌, ℕ, zero, suc, ◌+◌, ◌-◌, ◌*�
 use Rattle.std.specs.Prelude.{All, Some, slice_get, replicate, min, map, flat_map}
 use Rattle.std.specs.List.{range_with_len}
 use Rattle.std.proofs.lemmas.List.{length-take, length-drop, length-append, length-replicate, take_at, drop_at, take_all, drop-map, take-map}
-use Rattle.std.proofs.lemmas.Option.{slice_get-get_or}
+use Rattle.std.proofs.lemmas.Option.{slice_get-get_or, slice_get_within, get_or_from_slice_get}
 use Rattle.std.proofs.lemmas.List.FromFn.{length-map-range_with_len, get_or-map-range_with_len}
 use Rattle.sd_tree.specs.declared.set.SetName.{SetName}
 use Rattle.sd_tree.specs.SetNames.{AreAscending}
@@ -79,6 +79,15 @@ pub stands_at : (period : Period) (x : ℕ) → x < sections_for (length period.
 stands_at period x within =
     slice_get-get_or (emms_of period) x (emm_at period x) (omega (arith, as_many period))
     ∙ ap (λ (emm : Emm). Some emm) (emm_there period x (emm_at period x) within)
+
+-- what stands at an index has it
+pub index_is : (period : Period) (x : ℕ) (emm : Emm) → slice_get (emms_of period) x ≡ Some emm → emm.index ≡ x
+unfolding emm_at
+index_is period x emm there =
+    let within : x < sections_for (length period.entries) =
+    omega (arith, slice_get_within (emms_of period) x emm there, as_many period) in
+    ap (λ (e : Emm). e.index) (sym (get_or_from_slice_get (emms_of period) x emm (emm_at period x) there)
+    ∙ emm_there period x (emm_at period x) within)
 
 -- how many entries a section has
 long_at : (entries : List Entry) (x : ℕ) → length (entries_at entries x) ≡ min 3 (length entries - 3 * x)

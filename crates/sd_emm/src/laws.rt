@@ -33,11 +33,12 @@ pub fn written_packets_spell()
 /// A period's sections share out its sets: there are as many as have room for them, each stands at its index and says the same of the
 /// period, set k stands in section k / 3, and joined they have all sets. Of a period with ascending sets each section is one that is
 /// written, and that is read at each height at which the period's sets may stand.
-#[tactic(auto, using(crate::proofs::Sharing::as_many, crate::proofs::Sharing::stands_at, crate::proofs::Sharing::set_stands, crate::proofs::Sharing::joined_are_all, crate::proofs::Sharing::all_are_of, crate::proofs::Sharing::all_are_emms))]
+#[tactic(auto, using(crate::proofs::Sharing::as_many, crate::proofs::Sharing::stands_at, crate::proofs::Sharing::index_is, crate::proofs::Sharing::set_stands, crate::proofs::Sharing::joined_are_all, crate::proofs::Sharing::all_are_of, crate::proofs::Sharing::all_are_emms))]
 pub fn periods_are_shared_out()
     ensures sections { (period : Period) → length (emms_of period) ≡ sections_for (length period.entries) }
     ensures at { (period : Period) (x : ℕ) → x < sections_for (length period.entries) →
         slice_get (emms_of period) x ≡ Some (emm_at period x) }
+    ensures index { (period : Period) (x : ℕ) (emm : Emm) → slice_get (emms_of period) x ≡ Some emm → emm.index ≡ x }
     ensures set { (period : Period) (k : ℕ) → k < length period.entries →
         slice_get (listed (emm_at period (k / 3))) (k % 3) ≡ slice_get period.entries k }
     ensures entries { (period : Period) → flat_map listed (emms_of period) ≡ period.entries }
