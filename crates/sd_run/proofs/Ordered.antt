@@ -1,11 +1,11 @@
 -- What words that are an order, or none, come to.
-use Rattle.std.proofs.Common.{◌≡◌, ◌≢◌, ◌⊎◌, ℕ, List, Option, Some, None, Result, Ok, Err, refl, sym, subst, inl, inr}
+use Rattle.std.proofs.Common.{◌≡◌, ◌⊎◌, ℕ, List, Option, Some, None, Result, Ok, Err, refl, sym, subst, inl, inr}
 use Rattle.sd_ports.specs.Files.{Files}
 use Rattle.sd_run.specs.declared.status.Status.{Status}
-use Rattle.sd_run.specs.declared.status.Status.TheVariants.{Done, Usage, PrintFault, BadWord}
+use Rattle.sd_run.specs.declared.status.Status.TheVariants.{Usage, BadWord}
 use Rattle.sd_run.specs.Work.{Work}
 use Rattle.sd_run.specs.Meaning.{◌>>=◌, Order, order_of, order_meaning, meaning}
-use Rattle.sd_run.specs.Answers.{ForTold, IsRefusedAs, Obeys}
+use Rattle.sd_run.specs.Answers.{ForTold, IsRefusedAs, StopsWork, Obeys}
 use Rattle.sd_run.proofs.Refusals.{refusal_obeys}
 
 -- the meaning of words that were read so
@@ -27,15 +27,9 @@ refused_words status None refuses = tt
 refused_words status (Some fs) (inl e) = subst (λ (s : Status). IsRefusedAs s (read_meaning (Err s) fs)) (sym e) refl
 refused_words status (Some fs) (inr e) = subst (λ (s : Status). IsRefusedAs s (read_meaning (Err s) fs)) (sym e.1) refl
 
-not_done : {status : Status} (word : ℕ) → status ≡ BadWord word → status ≢ Done
-not_done word e f = cc
-
-not_cut : {status : Status} (word : ℕ) → status ≡ BadWord word → status ≢ PrintFault
-not_cut word e f = cc
-
-no_end : (status : Status) → RefusesWords status → (status ≢ Done) × (status ≢ PrintFault)
-no_end status (inl e) = (λ f. cc, λ f. cc)
-no_end status (inr e) = (λ f. absurd (not_done e.0 e.1 f), λ f. absurd (not_cut e.0 e.1 f))
+no_end : (status : Status) → RefusesWords status → StopsWork status
+no_end status (inl e) = subst StopsWork (sym e) tt
+no_end status (inr e) = subst StopsWork (sym e.1) tt
 
 -- words that are refused are obeyed by the refusal
 pub words_refused : (words : List (List ℕ)) (status : Status) (files : Option Files) (held : Option (List ℕ))

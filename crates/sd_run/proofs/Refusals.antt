@@ -7,7 +7,7 @@ use Rattle.sd_run.specs.declared.status.Status.{Status}
 use Rattle.sd_run.specs.declared.status.Status.TheVariants.{Done, Usage, Missing, DepotFault, PrintFault, BadSite, BadBook, BadStream, Limit, NoMemory, BadWord}
 use Rattle.sd_run.specs.Work.{Work, Make}
 use Rattle.sd_run.specs.Meaning.{◌>>=◌}
-use Rattle.sd_run.specs.Answers.{IsRefusedAs, IsRefusal, ForTold, IsWork, IsDone, LeavesFrontOut, StopsAt, Obeys, MakesFile}
+use Rattle.sd_run.specs.Answers.{IsRefusedAs, IsRefusal, StopsWork, ForTold, IsWork, IsDone, LeavesFrontOut, StopsAt, Obeys, MakesFile}
 
 pub told_weaker : (files : Option Files) (P Q : Files → Type 0) → ((fs : Files) → P fs → Q fs) → ForTold files P → ForTold files Q
 told_weaker None P Q step h = tt
@@ -35,28 +35,28 @@ refused_first (BadWord word) first next h = ap (λ r. r >>= next) h
 pub refused_next : {A B : Type 0} (status : Status) (first : Result A Status) (x : A) (next : A → Result B Status) → first ≡ Ok x → IsRefusedAs status (next x) → IsRefusedAs status (first >>= next)
 refused_next {B = B} status first x next done h = subst (λ r. IsRefusedAs {V = B} status (r >>= next)) (sym done) h
 
--- a refusal is neither of the two ends of printing
-pub not_an_end : (status : Status) → IsRefusal status → (status ≢ Done) × (status ≢ PrintFault)
-not_an_end Done h = absurd h
-not_an_end Usage h = absurd h
-not_an_end (Missing word) h = (λ e. cc, λ e. cc)
-not_an_end DepotFault h = (λ e. cc, λ e. cc)
-not_an_end PrintFault h = absurd h
-not_an_end (BadSite fault) h = (λ e. cc, λ e. cc)
-not_an_end (BadBook word line) h = (λ e. cc, λ e. cc)
-not_an_end (BadStream packet cause) h = absurd h
-not_an_end (Limit kind) h = (λ e. cc, λ e. cc)
-not_an_end NoMemory h = (λ e. cc, λ e. cc)
-not_an_end (BadWord word) h = (λ e. cc, λ e. cc)
+-- a refusal stops work
+pub not_an_end : (status : Status) → IsRefusal status → StopsWork status
+not_an_end Done h = h
+not_an_end Usage h = tt
+not_an_end (Missing word) h = h
+not_an_end DepotFault h = h
+not_an_end PrintFault h = h
+not_an_end (BadSite fault) h = h
+not_an_end (BadBook word line) h = h
+not_an_end (BadStream packet cause) h = h
+not_an_end (Limit kind) h = h
+not_an_end NoMemory h = h
+not_an_end (BadWord word) h = h
 
 -- a refusal before anything was printed or made
 at_once : (meant : Files → Result Work Status) (files : Option Files) (held : Option (List ℕ)) (status : Status)
-    → ForTold files (λ told. IsRefusedAs status (meant told)) → (status ≢ Done) × (status ≢ PrintFault) → StopsAt meant files files held held status
+    → ForTold files (λ told. IsRefusedAs status (meant told)) → StopsWork status → StopsAt meant files files held held status
 at_once meant files held status refused end = record {
   lines = [];
   halted = inl (record {
     refused = refused;
-    is_refusal = end;
+    stops = end;
     begun = inl refl;
     none = λ _. refl;
     files_stay = λ _. refl;
@@ -74,10 +74,10 @@ pub err_is : {a b : Status} → refused_by a ≡ refused_by b → a ≡ b
 err_is e = cc
 
 pub refusal_obeys : (meant : Files → Result Work Status) (files : Option Files) (held : Option (List ℕ)) (status : Status)
-    → ForTold files (λ told. IsRefusedAs status (meant told)) → (status ≢ Done) × (status ≢ PrintFault) → Obeys meant files files held held (Err status)
+    → ForTold files (λ told. IsRefusedAs status (meant told)) → StopsWork status → Obeys meant files files held held (Err status)
 refusal_obeys meant files held status refused end = record {
   done = tt;
-  cut_off = λ e. absurd (end.1 (err_is e));
+  cut_off = λ e. absurd (subst StopsWork (err_is e) end);
   stops = λ s e n. subst (λ (s : Status). StopsAt meant files files held held s) (err_is e) (at_once meant files held status refused end);
 }
 
@@ -96,13 +96,13 @@ made meant files now held name bytes work e = record {
 
 -- no file was made, or a front of it
 left : (meant : Files → Result Work Status) (files now : Option Files) (held : Option (List ℕ)) (status : Status)
-    → ForTold files (λ told. IsRefusedAs status (meant told)) → (status ≢ Done) × (status ≢ PrintFault)
+    → ForTold files (λ told. IsRefusedAs status (meant told)) → StopsWork status
     → (status ≢ DepotFault → now ≡ files) → ((now ≡ files) ⊎ LeavesFrontOut meant files now) → StopsAt meant files now held held status
 left meant files now held status refused end stay out = record {
   lines = [];
   halted = inl (record {
     refused = refused;
-    is_refusal = end;
+    stops = end;
     begun = inl refl;
     none = λ _. refl;
     files_stay = stay;
@@ -129,17 +129,17 @@ making_stops : (meant : Files → Result Work Status) (files now : Option Files)
     → StopsAt meant files now held held status
 making_stops meant files now held name bytes status work file (inl e) =
     subst (λ (s : Status). StopsAt meant files now held held s) (sym e)
-    (left meant files now held DepotFault (told_weaker files _ _ (λ fs h. tt) work) (λ e. cc, λ e. cc) (λ other. absurd (other refl))
+    (left meant files now held DepotFault (told_weaker files _ _ (λ fs h. tt) work) tt (λ other. absurd (other refl))
     (front_out meant files now name bytes work (file.failed (ap Err e))))
 making_stops meant files now held name bytes status work file (inr (inl e)) =
     let same : now ≡ files = file.no_memory (ap Err e) in
     subst (λ (s : Status). StopsAt meant files now held held s) (sym e)
-    (left meant files now held NoMemory (told_weaker files _ _ (λ fs h. tt) work) (λ e. cc, λ e. cc) (λ other. same) (inl same))
+    (left meant files now held NoMemory (told_weaker files _ _ (λ fs h. tt) work) tt (λ other. same) (inl same))
 making_stops meant files now held name bytes status work file (inr (inr e)) =
     let missing = file.missing 3 (ap Err e) in
     subst (λ (s : Status). StopsAt meant files now held held s) (sym e)
     (left meant files now held (Missing 3) (subst (λ (fs : Option Files). ForTold fs (λ told. IsRefusedAs (Missing 3) (meant told))) (sym missing.1) tt)
-    (λ e. cc, λ e. cc) (λ other. missing.0) (inl missing.0))
+    tt (λ other. missing.0) (inl missing.0))
 
 made_so_far : (status : Status) → ((status ≡ DepotFault) ⊎ ((status ≡ NoMemory) ⊎ (status ≡ Missing 3))) → status ≢ PrintFault
 made_so_far status (inl e) f = cc

@@ -73,6 +73,20 @@ IsRefusal (Limit kind) = Unit {0}
 IsRefusal NoMemory = Unit {0}
 IsRefusal (BadWord word) = Unit {0}
 
+-- the status stops work before its end: it isn't that work is done, that print failed, or one that work ends with
+abbrev pub StopsWork : Status → Type 0
+StopsWork Done = ⊥
+StopsWork Usage = Unit {0}
+StopsWork (Missing word) = Unit {0}
+StopsWork DepotFault = Unit {0}
+StopsWork PrintFault = ⊥
+StopsWork (BadSite fault) = Unit {0}
+StopsWork (BadBook word line) = Unit {0}
+StopsWork (BadStream packet cause) = ⊥
+StopsWork (Limit kind) = Unit {0}
+StopsWork NoMemory = Unit {0}
+StopsWork (BadWord word) = Unit {0}
+
 -- a step gives what is meant, seen so, or its refusal
 abbrev pub Gives : {X Y : Type 0} → (X → Y) → Result X Status → Result Y Status → Type 0
 Gives view (Ok x) meant = meant ≡ Ok (view x)
@@ -109,7 +123,7 @@ pub record IsDone (meant : Files → Result Work Status) (files now : Option Fil
 -- failed; only in front of want of memory may lines stand, and only a device fault may leave a front of a file.
 pub record Stopped (meant : Files → Result Work Status) (files now : Option Files) (status : Status) (lines : List ℕ) : Type 0 where
   pub refused : ForTold files (λ told. IsRefusedAs status (meant told))
-  pub is_refusal : (status ≢ Done) × (status ≢ PrintFault)
+  pub stops : StopsWork status
   pub begun : IsBegun meant files lines
   pub none : status ≢ NoMemory → lines ≡ []
   pub files_stay : status ≢ DepotFault → now ≡ files
