@@ -1,23 +1,13 @@
 -- The node beside the path to a leaf that another node stands below.
-use Rattle.std.proofs.Common.{ℕ, ◌+◌, ◌-◌, ◌/◌, ◌%◌, ◌^◌, ◌<◌, ◌≤◌, ◌≡◌, ◌≢◌, sym, ap, ◌∙◌, ⊎_elim, arith}
+use Rattle.std.proofs.Common.{ℕ, ◌+◌, ◌-◌, ◌/◌, ◌^◌, ◌<◌, ◌≤◌, ◌≡◌, ◌≢◌, sym, ap, ◌∙◌, arith}
 use Rattle.std.proofs.Math.Pow.{pow_mono, shr-shr}
-use Rattle.std.proofs.lemmas.Bool.{cases_lt}
 use Rattle.sd_tree.specs.Node.{depth, IsAbove, IsProperlyAbove}
 use Rattle.sd_tree.proofs.Levels.{doubled}
 use Rattle.sd_tree.proofs.Ancestors.{depth_within, leaf_level, above_le, above_trans, above_parent, above_by_levels}
 use Rattle.sd_label.specs.Names.{path_node, sibling_of}
-use Rattle.std.proofs.lemmas.Nat.{pow_pos}
 use Rattle.sd_label.proofs.Descents.{level_of, child_level}
-use Rattle.sd_label.proofs.Pairs.{path_level}
+use Rattle.sd_label.proofs.Paths.{sibling_half, other_child}
 use Rattle.sd_card.specs.Hanging.{IsHanging}
-
--- of the two children of a node each is the other's sibling
-pub other_child : (v w : ℕ) → w / 2 ≡ v / 2 → w ≢ v → w ≡ sibling_of v
-other_child v w half apart =
-    ⊎_elim
-    (λ (h : v % 2 < 1). let e : v % 2 ≡ 0 = omega arith in rw e (omega arith))
-    (λ (h : 1 ≤ v % 2). let e : v % 2 ≡ 1 = omega arith in rw e (omega arith))
-    (cases_lt (v % 2) 1)
 
 -- a node of the tree has 32 bits
 pub node_within : (d j : ℕ) → d ≤ 20 → j < 2 ^ (d + 1) → j < 2 ^ 32
@@ -55,14 +45,6 @@ child_is_hanging d u j c w low leaf some high is_node over deepest half above =
           omega (arith, by.0, child);
     }
 
--- a node's sibling has the same parent
-pub sibling_half : (v : ℕ) → sibling_of v / 2 ≡ v / 2
-sibling_half v =
-    ⊎_elim
-    (λ (h : v % 2 < 1). let e : v % 2 ≡ 0 = omega arith in rw e (omega arith))
-    (λ (h : 1 ≤ v % 2). let e : v % 2 ≡ 1 = omega arith in rw e (omega arith))
-    (cases_lt (v % 2) 1)
-
 -- what is properly above a node is above its sibling
 pub above_sibling : (i v : ℕ) → IsProperlyAbove i v → IsAbove i (sibling_of v)
 above_sibling i v over = above_trans i (v / 2) (sibling_of v) (above_parent i v over) (1, sibling_half v)
@@ -74,7 +56,3 @@ ancestor_on_path d u i low leaf inner over =
     let word = node_within d (2 ^ d + u) low (omega (arith, doubled d)) in
     let by = above_by_levels i (2 ^ d + u) (depth i) d (level_of i inner (omega arith)) (leaf_level d u leaf) over in
     by.1
-
--- a path node is a node
-pub path_is_node : (d u k : ℕ) → u < 2 ^ d → k ≤ d → 1 ≤ path_node d u k
-path_is_node d u k leaf le = let at = path_level d u k leaf le in omega (arith, at.low, pow_pos k)

@@ -1,9 +1,9 @@
 ghost use Rattle.std.specs.Prelude.{◌≡◌, ◌+◌, ◌/◌, ◌^◌, ◌<◌, ◌≤◌, ◌++◌, ◌*◌, length, IfOk, OnOk, map};
-ghost use Rattle.sd_label.specs.Names.{given, given_under, path_node as path_node_of, sibling_of};
+ghost use Rattle.sd_label.specs.Names.{given, given_under};
 ghost use Rattle.sd_card.specs.Fields.{fields_of, card_of, secret_of};
 
 use crate::card::Card;
-use sd_label::{descend, root_label, whole_key};
+use sd_label::{descend, path_node, root_label, sibling, whole_key};
 use sd_ports::NoMemory;
 use sd_site::Site;
 use sd_steps::Steps;
@@ -79,23 +79,4 @@ fn give<L: Ledger>(
         }
     }
     Ok(())
-}
-
-// The node at this depth on the path to the leaf.
-#[tactic(auto, using(crate::proofs::Paths::path_is_node))]
-fn path_node(h: Height, u: Leaf, depth: u32) -> u32
-    requires leaf { u < 2 ^ h }
-    requires depth { depth ≤ h }
-    ensures value { result ≡ path_node_of h u depth }
-    ensures node { 1 ≤ result }
-{
-    (h.leaves() + u.get()) >> (u32::from(h.get()) - depth)
-}
-
-// The other child of the node's parent.
-fn sibling(node: u32) -> u32
-    requires { 1 ≤ node }
-    ensures value { result ≡ sibling_of node }
-{
-    if node % 2 == 0 { node + 1 } else { node - 1 }
 }

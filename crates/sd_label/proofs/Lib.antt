@@ -1,3 +1,4 @@
 pub mod Descents
 pub mod Counts
+pub mod Paths
 pub mod Pairs

@@ -1,19 +1,16 @@
 -- Which pairs a leaf is given.
-use Rattle.std.proofs.Common.{ℕ, suc, zero, ◌+◌, ◌-◌, ◌/◌, ◌^◌, ◌<◌, ◌≤◌, ◌≡◌, List, [], ◌∷◌, map, refl, sym, ap, ◌∙◌, inl, inr, ⊎_elim, arith}
+use Rattle.std.proofs.Common.{ℕ, suc, zero, ◌+◌, ◌-◌, ◌^◌, ◌<◌, ◌≤◌, ◌≡◌, List, [], ◌∷◌, map, refl, sym, ◌∙◌, inl, inr, ⊎_elim, arith}
 use Rattle.std.specs.Prelude.{◌↔◌, Contains}
 use Rattle.std.specs.List.{range_with_len, flat_map}
-use Rattle.std.proofs.Math.Pow.{shr-shr}
-use Rattle.std.proofs.lemmas.Nat.{pow_pos}
 use Rattle.std.proofs.lemmas.Bool.{cases_lt}
 use Rattle.std.proofs.lemmas.List.Concat.{flat_map-cons}
 use Rattle.std.proofs.lemmas.List.Elements.{Contains-append_left, Contains-append_right, Contains-append_cases}
 use Rattle.std.proofs.lemmas.List.FromFn.{length-map-range_with_len, get_or-map-range_with_len}
-use Rattle.sd_tree.specs.Node.{IsProperlyAbove}
-use Rattle.sd_tree.proofs.Levels.{IsAtLevel, same_level, halved_level}
 use Rattle.sd_tree.proofs.Ancestors.{node_level, leaf_level, above_le, above_trans, above_by_levels, properly_above_by_levels}
 use Rattle.sd_label.specs.declared.name.Name.{Name}
 use Rattle.sd_label.specs.declared.name.Name.TheVariants.{Whole, Pair}
 use Rattle.sd_label.specs.Names.{IsGivenPair, given, given_under, path_node, sibling_of}
+use Rattle.sd_label.proofs.Paths.{path_is_node, path_over_leaf, path_above}
 
 -- what is in the lists of some numbers in a row is in one of them
 pub from_lists : {X : Type 0} (f : ℕ → List X) (a n : ℕ) (x : X) → Contains (flat_map f (range_with_len a n)) x → (k : ℕ) × (a ≤ k) × (k < a + n) × Contains (f k) x
@@ -45,27 +42,13 @@ pub to_values : {X : Type 0} (f : ℕ → X) (a n : ℕ) (x : X) (k : ℕ) → a
 to_values f a n x k low high is =
     (k - a, omega (arith, length-map-range_with_len f a n), get_or-map-range_with_len f a n (k - a) k x (omega arith) (omega arith) ∙ is)
 
--- the path node at depth k stands at depth k
-pub path_level : (d u k : ℕ) → u < 2 ^ d → k ≤ d → IsAtLevel (path_node d u k) k
-path_level d u k leaf le =
-    let e : d - (d - k) ≡ k = omega arith in
-    rw e at (halved_level (2 ^ d + u) d (d - k) (omega arith) (leaf_level d u leaf))
-
--- a path node is properly above those at greater depths
-pub path_above : (d u a b : ℕ) → u < 2 ^ d → a < b → b ≤ d → IsProperlyAbove (path_node d u a) (path_node d u b)
-path_above d u a b leaf less le =
-    let s : d - b + (b - a) ≡ d - a = omega arith in (
-      (b - a, shr-shr (2 ^ d + u) (d - b) (b - a) ∙ ap (λ (n : ℕ). (2 ^ d + u) / 2 ^ n) s),
-      λ e. let same = same_level (path_node d u b) a b (rw e at (path_level d u a leaf (omega arith))) (path_level d u b leaf le) in omega arith,
-    )
-
 -- a path node's sibling hangs below each path node above it
 pub path_pair : (d u a b : ℕ) → u < 2 ^ d → a < b → b ≤ d → IsGivenPair d u (path_node d u a) (sibling_of (path_node d u b))
 path_pair d u a b leaf less le = record {
   node = path_node d u b;
-  inner = (let at = path_level d u a leaf (omega arith) in omega (arith, at.low, pow_pos a));
+  inner = path_is_node d u a leaf (omega arith);
   ancestor = path_above d u a b leaf less le;
-  path = (d - b, refl);
+  path = path_over_leaf d u b;
   hanging = refl;
 }
 

@@ -1,41 +1,12 @@
 -- The node beside a leaf's path that another node stands below.
-use Rattle.std.proofs.Common.{ℕ, suc, zero, ◌+◌, ◌*◌, ◌/◌, ◌%◌, ◌^◌, ◌<◌, ◌≤◌, ◌≡◌, ◌≢◌, sym, subst, ap, ◌∙◌, ⊎_elim, arith}
+use Rattle.std.proofs.Common.{ℕ, suc, zero, ◌+◌, ◌*◌, ◌/◌, ◌^◌, ◌<◌, ◌≤◌, ◌≡◌, ◌≢◌, sym, subst, ap, ◌∙◌, ⊎_elim, arith}
 use Rattle.std.proofs.Math.Nat.{div-one}
 use Rattle.std.proofs.Math.Pow.{shr-shr}
 use Rattle.std.proofs.lemmas.Nat.{pow_pos}
-use Rattle.std.proofs.lemmas.Bool.{cases_lt}
 use Rattle.sd_tree.specs.Node.{IsAbove, IsProperlyAbove}
 use Rattle.sd_tree.proofs.Ancestors.{above_le, above_self, above_trans, above_or_not, above_parent, above_comparable, above_through_child, parent_above, properly_above_from_parent}
-use Rattle.sd_label.specs.Names.{IsGivenPair, path_node, sibling_of}
-use Rattle.sd_label.proofs.Pairs.{path_level}
-
--- a path node is a node
-pub path_is_node : (d u k : ℕ) → u < 2 ^ d → k ≤ d → 1 ≤ path_node d u k
-path_is_node d u k leaf le = let at = path_level d u k leaf le in omega (arith, at.low, pow_pos k)
-
--- a node and its sibling have one parent
-pub sibling_half : (v : ℕ) → sibling_of v / 2 ≡ v / 2
-sibling_half v =
-    ⊎_elim
-    (λ (h : v % 2 < 1). let e : v % 2 ≡ 0 = omega arith in rw e (omega arith))
-    (λ (h : 1 ≤ v % 2). let e : v % 2 ≡ 1 = omega arith in rw e (omega arith))
-    (cases_lt (v % 2) 1)
-
--- a node isn't its own sibling
-pub sibling_apart : (v : ℕ) → sibling_of v ≢ v
-sibling_apart v =
-    ⊎_elim
-    (λ (h : v % 2 < 1). let e : v % 2 ≡ 0 = omega arith in rw e (λ same. omega arith))
-    (λ (h : 1 ≤ v % 2). let e : v % 2 ≡ 1 = omega arith in rw e (λ same. omega arith))
-    (cases_lt (v % 2) 1)
-
--- of two nodes with one parent each is the other's sibling
-other_child : (v w : ℕ) → w / 2 ≡ v / 2 → w ≢ v → w ≡ sibling_of v
-other_child v w half apart =
-    ⊎_elim
-    (λ (h : v % 2 < 1). let e : v % 2 ≡ 0 = omega arith in rw e (omega arith))
-    (λ (h : 1 ≤ v % 2). let e : v % 2 ≡ 1 = omega arith in rw e (omega arith))
-    (cases_lt (v % 2) 1)
+use Rattle.sd_label.specs.Names.{IsGivenPair}
+use Rattle.sd_label.proofs.Paths.{other_child}
 
 -- of two nodes with one parent, not both are above a node
 pub one_child_above : (v w n : ℕ) → 1 ≤ w → 1 ≤ v → w / 2 ≡ v / 2 → w ≢ v → IsAbove v n → IsAbove w n → ⊥

@@ -1,8 +1,8 @@
 ghost use Rattle.std.specs.Prelude.{◌≡◌, ◌+◌, ◌^◌, ◌<◌, ◌≤◌, ◌++◌, IfOk, OnOk};
-ghost use Rattle.sd_label.specs.Names.{given, given_under, path_node as path_node_of, sibling_of};
+ghost use Rattle.sd_label.specs.Names.{given, given_under};
 ghost use Rattle.sd_reach.specs.Reach.{ReachesItsSets};
 
-use sd_label::Name;
+use sd_label::{Name, path_node, sibling};
 use sd_ports::NoMemory;
 use sd_tree::{Height, Leaf};
 use std::alloc::{AllocError, Global};
@@ -46,23 +46,4 @@ fn give(names: &mut Vec<Name>, h: Height, u: Leaf, depth: u32) -> Result<(), All
         names.push(Name::Pair { i, w })?;
     }
     Ok(())
-}
-
-// The node at this depth on the path to the leaf.
-#[tactic(auto, using(crate::proofs::Hanging::path_is_node))]
-fn path_node(h: Height, u: Leaf, depth: u32) -> u32
-    requires leaf { u < 2 ^ h }
-    requires depth { depth ≤ h }
-    ensures value { result ≡ path_node_of h u depth }
-    ensures node { 1 ≤ result }
-{
-    (h.leaves() + u.get()) >> (u32::from(h.get()) - depth)
-}
-
-// The other child of the node's parent.
-fn sibling(node: u32) -> u32
-    requires { 1 ≤ node }
-    ensures { result ≡ sibling_of node }
-{
-    if node % 2 == 0 { node + 1 } else { node - 1 }
 }

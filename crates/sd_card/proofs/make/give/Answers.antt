@@ -3,7 +3,7 @@ use Rattle.std.proofs.lemmas.Grind.{common_steps}
 use Rattle.sd_label.specs.Labels.{label_of, descended}
 use Rattle.sd_label.specs.Names.{path_node as path_node_of, sibling_of}
 use Rattle.sd_label.proofs.Descents.{label_of_itself}
-use Rattle.sd_card.proofs.Paths.{path_is_node, sibling_half}
+use Rattle.sd_label.proofs.Paths.{path_is_node}
 use Rattle.sd_card.proofs.Made.{path_half, child_label, one_more, labels_given}
 use Rattle.sd_card.proofs.make.give.Goals.{then-below-levels, else-below-levels}
 use Rattle.sd_card.proofs.make.give.Goals as goal
@@ -27,7 +27,7 @@ pub descend-label-requires-clause-node : goal.descend-label-requires-clause-node
 descend-label-requires-clause-node g c = rw (c.loop-below.invariant.parent (omega (arith, c.get.ensures.value, c.from.ensures))) (path_is_node c.args.h c.args.u (c.args.depth + c.loop-below.below) c.requires.leaf (omega (arith, c.get.ensures.value, c.from.ensures)))
 
 pub descend-requires-clause-above : goal.descend-requires-clause-above
-descend-requires-clause-above g c = (1, ap (λ (n : ℕ). n / 2) c.sibling.ensures.value ∙ (sibling_half c.path_node-node.result ∙ half_of c.args.h c.args.u c.args.depth c.loop-below.below c.path_node-node.result c.loop-below.parent (omega (arith, c.get.ensures.value, c.from.ensures)) (c.loop-below.invariant.parent (omega (arith, c.get.ensures.value, c.from.ensures))) c.path_node-node.ensures.value))
+descend-requires-clause-above g c = (1, c.sibling.ensures.parent ∙ half_of c.args.h c.args.u c.args.depth c.loop-below.below c.path_node-node.result c.loop-below.parent (omega (arith, c.get.ensures.value, c.from.ensures)) (c.loop-below.invariant.parent (omega (arith, c.get.ensures.value, c.from.ensures))) c.path_node-node.ensures.value)
 
 pub descend-label-requires-clause-above : goal.descend-label-requires-clause-above
 descend-label-requires-clause-above g c = (1, half_of c.args.h c.args.u c.args.depth c.loop-below.below c.path_node-node.result c.loop-below.parent (omega (arith, c.get.ensures.value, c.from.ensures)) (c.loop-below.invariant.parent (omega (arith, c.get.ensures.value, c.from.ensures))) c.path_node-node.ensures.value)
@@ -43,7 +43,7 @@ loop-below-preserved g c =
     let parent = c.loop-below.invariant.parent here in
     let label = c.loop-below.invariant.label here in
     let half : c.path_node-node.result / 2 ≡ c.loop-below.parent = half_of c.args.h c.args.u c.args.depth c.loop-below.below c.path_node-node.result c.loop-below.parent (omega (arith, c.get.ensures.value, c.from.ensures)) parent c.path_node-node.ensures.value in
-    let aside : c.sibling.result / 2 ≡ c.loop-below.parent = ap (λ (n : ℕ). n / 2) c.sibling.ensures.value ∙ (sibling_half c.path_node-node.result ∙ half) in
+    let aside : c.sibling.result / 2 ≡ c.loop-below.parent = c.sibling.ensures.parent ∙ half in
     let pushed = c.descend.ensures.value ∙ below_label c.args.master.now c.loop-below.label.0 c.args.h c.args.u c.args.depth c.loop-below.below c.loop-below.parent c.sibling.result c.requires.leaf (omega arith) c.sibling.type_inv parent label aside in
     let at : c.args.depth + 1 + c.loop-below.below ≡ c.args.depth + c.loop-below.below + 1 = omega arith in
     let next : c.args.depth + c.loop-below.below + 1 ≡ c.args.depth + (c.loop-below.below + 1) = omega arith in
