@@ -136,7 +136,7 @@ covering_stops meant files d commands old new status s work (inl wanting) printe
       lines = lines.0;
       halted = inl (record {
         refused = told_weaker files _ _ (λ fs h. tt) work;
-        stops = tt;
+        stops = inr tt;
         begun = inr (Cover d commands, work, lines.1);
         none = λ other. absurd (other refl);
         files_stay = λ _. refl;

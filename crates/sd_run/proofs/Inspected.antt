@@ -29,7 +29,7 @@ inspecting_stops meant files stream old new status work (inl wanting) printed wh
       lines = lines_up_to lines.0 stream;
       halted = inl (record {
         refused = told_weaker files _ _ (λ fs h. tt) work;
-        stops = tt;
+        stops = inr tt;
         begun = inr (Inspect stream, work, (lines.0, refl));
         none = λ other. absurd (other refl);
         files_stay = λ _. refl;

@@ -5,7 +5,7 @@ use Rattle.sd_run.specs.declared.status.Status.{Status}
 use Rattle.sd_run.specs.declared.status.Status.TheVariants.{Usage, BadWord}
 use Rattle.sd_run.specs.Work.{Work}
 use Rattle.sd_run.specs.Meaning.{◌>>=◌, Order, order_of, order_meaning, meaning}
-use Rattle.sd_run.specs.Answers.{ForTold, IsRefusedAs, StopsWork, Obeys}
+use Rattle.sd_run.specs.Answers.{ForTold, IsRefusedAs, IsRefusal, StopsWork, Obeys}
 use Rattle.sd_run.proofs.Refusals.{refusal_obeys}
 
 -- the meaning of words that were read so
@@ -28,8 +28,8 @@ refused_words status (Some fs) (inl e) = subst (λ (s : Status). IsRefusedAs s (
 refused_words status (Some fs) (inr e) = subst (λ (s : Status). IsRefusedAs s (read_meaning (Err s) fs)) (sym e.1) refl
 
 no_end : (status : Status) → RefusesWords status → StopsWork status
-no_end status (inl e) = subst StopsWork (sym e) tt
-no_end status (inr e) = subst StopsWork (sym e.1) tt
+no_end status (inl e) = inl e
+no_end status (inr e) = inr (subst IsRefusal (sym e.1) tt)
 
 -- words that are refused are obeyed by the refusal
 pub words_refused : (words : List (List ℕ)) (status : Status) (files : Option Files) (held : Option (List ℕ))

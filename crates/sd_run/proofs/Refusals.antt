@@ -35,19 +35,14 @@ refused_first (BadWord word) first next h = ap (λ r. r >>= next) h
 pub refused_next : {A B : Type 0} (status : Status) (first : Result A Status) (x : A) (next : A → Result B Status) → first ≡ Ok x → IsRefusedAs status (next x) → IsRefusedAs status (first >>= next)
 refused_next {B = B} status first x next done h = subst (λ r. IsRefusedAs {V = B} status (r >>= next)) (sym done) h
 
--- a refusal stops work
-pub not_an_end : (status : Status) → IsRefusal status → StopsWork status
-not_an_end Done h = h
-not_an_end Usage h = tt
-not_an_end (Missing word) h = h
-not_an_end DepotFault h = h
-not_an_end PrintFault h = h
-not_an_end (BadSite fault) h = h
-not_an_end (BadBook word line) h = h
-not_an_end (BadStream packet cause) h = h
-not_an_end (Limit kind) h = h
-not_an_end NoMemory h = h
-not_an_end (BadWord word) h = h
+-- what stops work isn't that work is done, nor that print failed
+pub stop_is_not_done : (status : Status) → StopsWork status → status ≢ Done
+stop_is_not_done status (inl usage) e = cc
+stop_is_not_done status (inr refusal) e = subst IsRefusal e refusal
+
+stop_is_not_cut_off : (status : Status) → StopsWork status → status ≢ PrintFault
+stop_is_not_cut_off status (inl usage) e = cc
+stop_is_not_cut_off status (inr refusal) e = subst IsRefusal e refusal
 
 -- a refusal before anything was printed or made
 at_once : (meant : Files → Result Work Status) (files : Option Files) (held : Option (List ℕ)) (status : Status)
@@ -77,7 +72,7 @@ pub refusal_obeys : (meant : Files → Result Work Status) (files : Option Files
     → ForTold files (λ told. IsRefusedAs status (meant told)) → StopsWork status → Obeys meant files files held held (Err status)
 refusal_obeys meant files held status refused end = record {
   done = tt;
-  cut_off = λ e. absurd (subst StopsWork (err_is e) end);
+  cut_off = λ e. absurd (stop_is_not_cut_off status end (err_is e));
   stops = λ s e n. subst (λ (s : Status). StopsAt meant files files held held s) (err_is e) (at_once meant files held status refused end);
 }
 
@@ -129,17 +124,17 @@ making_stops : (meant : Files → Result Work Status) (files now : Option Files)
     → StopsAt meant files now held held status
 making_stops meant files now held name bytes status work file (inl e) =
     subst (λ (s : Status). StopsAt meant files now held held s) (sym e)
-    (left meant files now held DepotFault (told_weaker files _ _ (λ fs h. tt) work) tt (λ other. absurd (other refl))
+    (left meant files now held DepotFault (told_weaker files _ _ (λ fs h. tt) work) (inr tt) (λ other. absurd (other refl))
     (front_out meant files now name bytes work (file.failed (ap Err e))))
 making_stops meant files now held name bytes status work file (inr (inl e)) =
     let same : now ≡ files = file.no_memory (ap Err e) in
     subst (λ (s : Status). StopsAt meant files now held held s) (sym e)
-    (left meant files now held NoMemory (told_weaker files _ _ (λ fs h. tt) work) tt (λ other. same) (inl same))
+    (left meant files now held NoMemory (told_weaker files _ _ (λ fs h. tt) work) (inr tt) (λ other. same) (inl same))
 making_stops meant files now held name bytes status work file (inr (inr e)) =
     let missing = file.missing 3 (ap Err e) in
     subst (λ (s : Status). StopsAt meant files now held held s) (sym e)
     (left meant files now held (Missing 3) (subst (λ (fs : Option Files). ForTold fs (λ told. IsRefusedAs (Missing 3) (meant told))) (sym missing.1) tt)
-    tt (λ other. missing.0) (inl missing.0))
+    (inr tt) (λ other. missing.0) (inl missing.0))
 
 made_so_far : (status : Status) → ((status ≡ DepotFault) ⊎ ((status ≡ NoMemory) ⊎ (status ≡ Missing 3))) → status ≢ PrintFault
 made_so_far status (inl e) f = cc

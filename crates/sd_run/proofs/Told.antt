@@ -6,8 +6,8 @@ use Rattle.sd_run.specs.declared.status.Status.{Status}
 use Rattle.sd_run.specs.declared.status.Status.TheVariants.{Done, Usage, Missing, DepotFault, PrintFault, BadSite, BadBook, BadStream, Limit, NoMemory, BadWord}
 use Rattle.sd_run.specs.Work.{Work, Cover, Make, Inspect, Prints, ending, made_by}
 use Rattle.sd_run.specs.Texts.{line_of}
-use Rattle.sd_run.specs.Answers.{ForTold, IsWork, IsRefusedAs, StopsWork, Stopped, Ended, Halted, StopsAt, IsTold, IsCutOff, IsDone, Answers, Tells, TakesMemory, IsTellable}
-use Rattle.sd_run.proofs.Refusals.{refused_by, err_is}
+use Rattle.sd_run.specs.Answers.{ForTold, IsWork, IsRefusedAs, Stopped, Ended, Halted, StopsAt, IsTold, IsCutOff, IsDone, Answers, Tells, TakesMemory, IsTellable}
+use Rattle.sd_run.proofs.Refusals.{refused_by, err_is, stop_is_not_done}
 use Rattle.sd_run.proofs.Covers.{front_behind}
 use Rattle.sd_run.proofs.Inspected.{whole_begins}
 
@@ -37,7 +37,7 @@ stopped_told meant files now status told lines stopped (inr wanting) =
     let other = made_line status wanting.1 in
     subst (λ (s : Status). Stopped meant files now s lines) (sym wanting.0) (record {
       refused = nothing_meant meant files;
-      stops = tt;
+      stops = inr tt;
       begun = stopped.begun;
       none = λ no. absurd (no refl);
       files_stay = λ _. stopped.files_stay other.1;
@@ -51,7 +51,7 @@ ended_untold meant files now status lines ended made (Cover d commands) e = absu
 ended_untold meant files now status lines ended made (Make name bytes) e = absurd (subst TakesMemory (sym ended.ends ∙ ap ending e) made)
 ended_untold meant files now status lines ended made (Inspect stream) e = record {
   refused = nothing_meant meant files;
-  stops = tt;
+  stops = inr tt;
   begun = inr (Inspect stream, subst (IsWork meant files) e ended.is_meant, whole_begins stream lines (subst (λ (w : Work). Prints w lines) e ended.prints));
   none = λ no. absurd (no refl);
   files_stay = λ _. ended.made ∙ ap (λ (w : Work). made_by w files) e;
@@ -67,7 +67,7 @@ halted_told meant files now status told lines (inr ended) (inr wanting) =
     (ended_untold meant files now status lines ended wanting.1 ended.work refl))
 
 not_done : (meant : Files → Result Work Status) (files now : Option Files) (status : Status) (lines : List ℕ) → Halted meant files now status lines → status ≢ Done
-not_done meant files now status lines (inl stopped) = λ e. absurd (subst StopsWork e stopped.stops)
+not_done meant files now status lines (inl stopped) = stop_is_not_done status stopped.stops
 not_done meant files now status lines (inr ended) = ended.not_done
 
 -- work halted, and the line of its status was told

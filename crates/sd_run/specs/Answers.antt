@@ -59,7 +59,7 @@ pub record PrintsLines (bytes : List ℕ) (old new : Option (List ℕ)) (result 
 abbrev pub IsOfLines : Status → Type 0
 IsOfLines status = (status ≡ NoMemory) ⊎ ((status ≡ PrintFault) ⊎ ((packet : ℕ) × (cause : StreamCause) × (status ≡ BadStream packet cause)))
 
--- the status refuses what is in the files or the words, before anything is printed
+-- the status refuses a number word or what is in the files, before work is at its end
 abbrev pub IsRefusal : Status → Type 0
 IsRefusal Done = ⊥
 IsRefusal Usage = ⊥
@@ -73,19 +73,10 @@ IsRefusal (Limit kind) = Unit {0}
 IsRefusal NoMemory = Unit {0}
 IsRefusal (BadWord word) = Unit {0}
 
--- the status stops work before its end: it isn't that work is done, that print failed, or one that work ends with
+-- The status stops work before its end: it refuses the words, or what is in the files. So it isn't that work is done, that print failed, or
+-- one that work ends with.
 abbrev pub StopsWork : Status → Type 0
-StopsWork Done = ⊥
-StopsWork Usage = Unit {0}
-StopsWork (Missing word) = Unit {0}
-StopsWork DepotFault = Unit {0}
-StopsWork PrintFault = ⊥
-StopsWork (BadSite fault) = Unit {0}
-StopsWork (BadBook word line) = Unit {0}
-StopsWork (BadStream packet cause) = ⊥
-StopsWork (Limit kind) = Unit {0}
-StopsWork NoMemory = Unit {0}
-StopsWork (BadWord word) = Unit {0}
+StopsWork status = (status ≡ Usage) ⊎ IsRefusal status
 
 -- a step gives what is meant, seen so, or its refusal
 abbrev pub Gives : {X Y : Type 0} → (X → Y) → Result X Status → Result Y Status → Type 0
@@ -96,7 +87,7 @@ Gives view (Err status) meant = IsRefusedAs status meant
 abbrev pub IsWork : (Files → Result Work Status) → Option Files → Work → Type 0
 IsWork meant files work = ForTold files (λ told. meant told ≡ Ok work)
 
--- nothing, or the text of the first periods of the work that is meant
+-- nothing, or what the work that is meant may begin to print with
 abbrev pub IsBegun : (Files → Result Work Status) → Option Files → List ℕ → Type 0
 IsBegun meant files text = (text ≡ []) ⊎ ((work : Work) × IsWork meant files work × BeginsToPrint work text)
 

@@ -1,9 +1,9 @@
-use Rattle.std.proofs.Common.{◌≡◌, Ok, ap}
+use Rattle.std.proofs.Common.{◌≡◌, Ok, ap, inr}
 use Rattle.std.proofs.lemmas.Result.{err_from_is_err_and}
 use Rattle.sd_run.specs.Work.{Make}
 use Rattle.sd_run.specs.Meaning.{◌>>=◌, card_in, card_work}
 use Rattle.sd_run.specs.Answers.{IsRefusedAs}
-use Rattle.sd_run.proofs.Refusals.{told_weaker, refused_first, not_an_end, refusal_obeys, making_obeys}
+use Rattle.sd_run.proofs.Refusals.{told_weaker, refused_first, refusal_obeys, making_obeys}
 use Rattle.sd_run.proofs.card.card.Goals as goal
 
 pub returns-in_err-bytes-clause-obeys : goal.returns-in_err-bytes-clause-obeys
@@ -15,7 +15,7 @@ returns-in_err-bytes-clause-obeys g c held =
     let out = c.args.out.now in
     rw (p.1, p.2, c.in_err-bytes.ensures.files) (refusal_obeys (λ files. card_work files site leaf out) _ held e
     (told_weaker _ (λ files. IsRefusedAs e (card_in files site leaf)) (λ files. IsRefusedAs e (card_work files site leaf out))
-    (λ files h. refused_first e (card_in files site leaf) _ h) c.in_err-bytes.ensures.meant) (not_an_end e c.in_err-bytes.ensures.refusal))
+    (λ files h. refused_first e (card_in files site leaf) _ h) c.in_err-bytes.ensures.meant) (inr c.in_err-bytes.ensures.refusal))
 
 pub returns-clause-obeys : goal.returns-clause-obeys
 returns-clause-obeys g c held =

@@ -1,10 +1,10 @@
-use Rattle.std.proofs.Common.{◌≡◌, Ok, ap}
+use Rattle.std.proofs.Common.{◌≡◌, Ok, ap, inr}
 use Rattle.std.proofs.lemmas.Result.{err_from_is_err_and}
 use Rattle.sd_run.specs.declared.status.LimitKind.TheVariants.{StreamBytes}
 use Rattle.sd_run.specs.Work.{Inspect}
 use Rattle.sd_run.specs.Meaning.{◌>>=◌, file_in, tables_work}
 use Rattle.sd_run.specs.Answers.{IsRefusedAs}
-use Rattle.sd_run.proofs.Refusals.{told_weaker, refused_first, not_an_end, refusal_obeys}
+use Rattle.sd_run.proofs.Refusals.{told_weaker, refused_first, refusal_obeys}
 use Rattle.sd_run.proofs.Inspected.{inspecting_obeys}
 use Rattle.sd_run.proofs.tables.tables.Goals as goal
 
@@ -16,7 +16,7 @@ returns-in_err-bytes-clause-obeys g c =
     let stream = c.args.stream.now in
     rw (p.1, p.2, c.in_err-bytes.ensures.files) (refusal_obeys (λ files. tables_work files stream) _ _ e
     (told_weaker _ (λ files. IsRefusedAs e (file_in files 1 67108864 StreamBytes stream)) (λ files. IsRefusedAs e (tables_work files stream))
-    (λ files h. refused_first e (file_in files 1 67108864 StreamBytes stream) _ h) c.in_err-bytes.ensures.meant) (not_an_end e c.in_err-bytes.ensures.refusal))
+    (λ files h. refused_first e (file_in files 1 67108864 StreamBytes stream) _ h) c.in_err-bytes.ensures.meant) (inr c.in_err-bytes.ensures.refusal))
 
 pub returns-clause-obeys : goal.returns-clause-obeys
 unfolding tables_work
