@@ -30,6 +30,22 @@ compile() {
 
 compile runs
 
+# COMMAND: the microseconds that it takes from its start to its end.
+timed() {
+    start=$(date +%s%N)
+    "$@"
+    echo $((($(date +%s%N) - start) / 1000))
+}
+
+# LIST: the median of the times in it, one for each of the rounds.
+median() { sort -n "$1" | sed -n $(((rounds + 1) / 2))p; }
+
+# The program of the lower crates' work, as `bench`: proved and built where that is due, and not timed.
+build_bench() {
+    (cd "$top/crates/sd_bench" && rt run -- scramble 1000) >build 2>&1 || { cat build >&2; exit 1; }
+    bench=$top/crates/sd_bench/out/sd_bench
+}
+
 # KINDS LISTS..: each list has the microseconds of the same runs, of so many kinds in turn. The mean of each kind's runs, a run's time
 # being its least of all lists.
 least_means() {

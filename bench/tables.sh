@@ -6,14 +6,12 @@
 set -eu
 
 folder=${1:+$(CDPATH='' cd "$1" && pwd -P)}
-here=$(CDPATH='' cd "$(dirname "$0")" && pwd -P)
-. "$here/shared.sh"
+. "$(dirname "$0")/shared.sh"
 rounds=5
 packets=320000
 sections=50000
 
-(cd "$top/crates/sd_bench" && rt run -- scramble 1000) >build 2>&1 || { cat build >&2; exit 1; }
-bench=$top/crates/sd_bench/out/sd_bench
+build_bench
 compile tables
 
 ./sdca sample 1 $packets stream.ts
@@ -27,24 +25,15 @@ dvbinfo_it() { dvbinfo <stream.ts >info 2>&1 || true; }
 crcs_ours() { "$bench" crcs $sections >ours; }
 crcs_c() { ./tables crcs $sections >theirs; }
 
-# The time of a command in microseconds.
-timed() {
-    start=$(date +%s%N)
-    "$1"
-    echo $((($(date +%s%N) - start) / 1000))
-}
-
 # A file of times for each command, the rounds in turn.
 measure() {
     for _ in $(seq $rounds); do
-        for work in "$@"; do timed "$work" >>"times.$work"; done
+        for each in "$@"; do timed "$each" >>"times.$each"; done
     done
 }
 
-median() { sort -n "times.$1" | sed -n $(((rounds + 1) / 2))p; }
-
 # COMMAND BYTES TEXT: its rate.
-rate() { awk -v n="$2" -v t="$(median "$1")" -v text="$3" 'BEGIN { printf "%-32s %8.1f ms %8.1f MB/s\n", text, t / 1000, n / t }'; }
+rate() { awk -v n="$2" -v t="$(median "times.$1")" -v text="$3" 'BEGIN { printf "%-32s %8.1f ms %8.1f MB/s\n", text, t / 1000, n / t }'; }
 
 others=
 for other in tsinfo dvbinfo; do
@@ -61,7 +50,7 @@ rate cat_it $bytes "cat to a file"
 for other in $others; do rate "$other" $bytes "${other%_it}"; done
 rate crcs_ours $((sections * 4096)) "CRC of $sections sections"
 rate crcs_c $((sections * 4096)) "C: CRC by a table of 256"
-awk -v t="$(median tables_ours)" -v c="$(median packets_c)" -v n=$bytes -v a="$(median crcs_ours)" -v b="$(median crcs_c)" 'BEGIN {
+awk -v t="$(median times.tables_ours)" -v c="$(median times.packets_c)" -v n=$bytes -v a="$(median times.crcs_ours)" -v b="$(median times.crcs_c)" 'BEGIN {
     least = n / c / 2 < 400 ? n / c / 2 : 400
     printf "tables: %.2f of what is to be reached (%.0f MB/s); CRC: %.2f times the speed of C\n", n / t / least, least, b / a
 }'
