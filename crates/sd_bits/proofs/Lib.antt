@@ -3,3 +3,4 @@ pub mod Same
 pub mod Words
 pub mod Changes
 pub mod Writes
+pub mod Endian

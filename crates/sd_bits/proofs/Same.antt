@@ -22,6 +22,6 @@ same_bytes old new at n long was is same keeps =
     same_number_lists new old long (λ p h. sym (byte_field new p (is p)) ∙ (same_by_bits new old (8 * p) 8 (λ j g. bits (8 * p + j)) ∙ byte_field old p (was p)))
 
 -- to write into a field what it held changes nothing
-pub same_is_kept : (at n first count behind : ℕ) → IsPlace at n first count behind → (old new : List ℕ) (word value : ℕ) → word ≡ field old (8 * first) (8 * count) → value < 2 ^ n → KeepsOthers (8 * first) (8 * count) old new → field new (8 * first) (8 * count) ≡ shifted word value n behind → length new ≡ length old → ((i : ℕ) → get_or old i 0 < 256) → ((i : ℕ) → get_or new i 0 < 256) → field old at n ≡ value → new ≡ old
-same_is_kept at n first count behind place old new word value is_word fits keeps e long was is same =
-    same_bytes old new at n long was is (field_is_set at n first count behind place old new word value is_word fits e ∙ sym same) (others_stay at n first count behind place old new word value is_word fits keeps e)
+pub same_is_kept : (at n first count after : ℕ) → IsPlace at n first count after → (old new : List ℕ) (word value : ℕ) → word ≡ field old (8 * first) (8 * count) → value < 2 ^ n → KeepsOthers (8 * first) (8 * count) old new → field new (8 * first) (8 * count) ≡ shifted word value n after → length new ≡ length old → ((i : ℕ) → get_or old i 0 < 256) → ((i : ℕ) → get_or new i 0 < 256) → field old at n ≡ value → new ≡ old
+same_is_kept at n first count after place old new word value is_word fits keeps e long was is same =
+    same_bytes old new at n long was is (field_is_set at n first count after place old new word value is_word fits e ∙ sym same) (others_stay at n first count after place old new word value is_word fits keeps e)

@@ -43,9 +43,9 @@ byte_pushed bytes first i word byte few fits so_far next =
     rw whole (or_shifted word 8 byte (omega arith) ∙ omega (arith, byte_more bytes first i (omega arith)))
 
 -- what shifts and a mask leave of the bytes that a field touches is the field
-pub field_of_word : (bytes : List ℕ) (at n first count behind word : ℕ) → n ≤ 32 → first ≡ at / 8 → at % 8 + n + behind ≡ 8 * count → word ≡ field bytes (8 * first) (8 * count) → bit_and (word / 2 ^ behind) (1 * 2 ^ n % 18446744073709551616 - 1) ≡ field bytes at n
-field_of_word bytes at n first count behind word high is_first bits is_word =
+pub field_of_word : (bytes : List ℕ) (at n first count after word : ℕ) → n ≤ 32 → first ≡ at / 8 → at % 8 + n + after ≡ 8 * count → word ≡ field bytes (8 * first) (8 * count) → bit_and (word / 2 ^ after) (1 * 2 ^ n % 18446744073709551616 - 1) ≡ field bytes at n
+field_of_word bytes at n first count after word high is_first bits is_word =
     let place : 8 * first + at % 8 ≡ at = omega arith in
     rw (one_shl n 64 (omega arith)) (
-    and_mask (word / 2 ^ behind) n
-    ∙ (rw is_word (rw (sym bits) (field_within bytes (8 * first) (at % 8) n behind)) ∙ ap (λ (k : ℕ). field bytes k n) place))
+    and_mask (word / 2 ^ after) n
+    ∙ (rw is_word (rw (sym bits) (field_within bytes (8 * first) (at % 8) n after)) ∙ ap (λ (k : ℕ). field bytes k n) place))

@@ -22,7 +22,7 @@ bytes_down word n i h =
     let down = shr-shr word (8 * (n - 1 - i)) 8 in
     rw less (omega (arith, rw more at down))
 
--- the next byte of a number behind those that are written
+-- the next byte of a number after those that are written
 pub byte_of_word : (bytes : List ℕ) (first n i word : ℕ) → i < n → first + n ≤ length bytes → field bytes (8 * first) (8 * i) ≡ word / 2 ^ (8 * (n - i)) → field (slice_set bytes (first + i) (bit_and (word / 2 ^ (8 * (n - 1 - i))) 255)) (8 * first) (8 * (i + 1)) ≡ word / 2 ^ (8 * (n - (i + 1)))
 byte_of_word bytes first n i word h within so_far =
     let byte : ℕ = bit_and (word / 2 ^ (8 * (n - 1 - i))) 255 in

@@ -1,9 +1,9 @@
 -- The bytes that a field touches.
 use Rattle.std.specs.Prelude.{◌≡◌, ℕ, ◌+◌, ◌*◌, ◌/◌, ◌%◌, ◌<◌, ◌≤◌}
 
--- from byte `first` on `count` bytes hold the field, and behind it stand so many bits of the last
-pub record IsPlace (at n first count behind : ℕ) : Type 0 where
+-- from byte `first` on `count` bytes hold the field, and after it stand so many bits of the last
+pub record IsPlace (at n first count after : ℕ) : Type 0 where
   pub first_byte : first ≡ at / 8
-  pub bits : at % 8 + n + behind ≡ 8 * count
-  pub near : behind < 8
+  pub bits : at % 8 + n + after ≡ 8 * count
+  pub near : after < 8
   pub few : count ≤ 5

@@ -16,7 +16,7 @@ pub fn get<const AT: usize, const N: usize>(bytes: &[u8]) -> u64
 {
     let place = Span::of::<AT, N>();
     let word = word::read(bytes, place.first, place.count);
-    word >> place.behind & ((1 << N) - 1)
+    word >> place.after & ((1 << N) - 1)
 }
 
 /// Writes the value into the N bits from bit AT on. Every other bit stays.
@@ -34,9 +34,9 @@ pub fn set<const AT: usize, const N: usize>(bytes: &mut [u8], value: u64)
 {
     let place = Span::of::<AT, N>();
     let word = word::read(bytes, place.first, place.count);
-    let before = word >> (place.behind + N);
-    let behind = word & ((1 << place.behind) - 1);
-    let changed = (before << N | value) << place.behind | behind;
+    let before = word >> (place.after + N);
+    let after = word & ((1 << place.after) - 1);
+    let changed = (before << N | value) << place.after | after;
     word::write(bytes, place.first, place.count, changed);
 }
 
@@ -53,12 +53,12 @@ macro_rules! fields {
     };
 }
 
-// The bytes that a field touches, and how many bits of the last stand behind it.
+// The bytes that a field touches, and how many bits of the last stand after it.
 #[derive(Drop)]
 struct Span {
     first: usize,
     count: usize,
-    behind: usize,
+    after: usize,
 }
 
 impl Span {
@@ -66,13 +66,13 @@ impl Span {
     fn of<const AT: usize, const N: usize>() -> Span
         requires low { 1 ≤ N }
         requires high { N ≤ 32 }
-        ensures { IsPlace AT N result.first result.count result.behind }
+        ensures { IsPlace AT N result.first result.count result.after }
     {
         let count = (AT % 8 + N).div_ceil(8);
         Span {
             first: AT / 8,
             count,
-            behind: 8 * count - AT % 8 - N,
+            after: 8 * count - AT % 8 - N,
         }
     }
 }

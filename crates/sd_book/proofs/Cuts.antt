@@ -23,24 +23,24 @@ period_period commands = grind (arith, common_steps)
 pub period_none : last_period [] ≡ 0
 period_none = grind (arith, common_steps)
 
--- the periods of two lists, one behind the other
+-- the periods of two lists, one after the other
 pub period_append : (commands more : List Command) → last_period (commands ++ more) ≡ last_period commands + last_period more
 period_append [] more = omega (arith, period_none)
 period_append (Subscribe u ∷ commands) more = omega (arith, period_append commands more, period_subscribe u commands, period_subscribe u (commands ++ more))
 period_append (Revoke u ∷ commands) more = omega (arith, period_append commands more, period_revoke u commands, period_revoke u (commands ++ more))
 period_append (Period ∷ commands) more = omega (arith, period_append commands more, period_period commands, period_period (commands ++ more))
 
--- what comes behind the Period that ends a period doesn't decide it
-pub until_behind : (q : ℕ) (commands more : List Command) → q < last_period commands → commands_until q (commands ++ more) ≡ commands_until q commands
-until_behind q [] more h = absurd (omega (arith, period_none))
-until_behind zero (Subscribe u ∷ commands) more h = ap (λ (r : List Command). Subscribe u ∷ r) (until_behind zero commands more (omega (arith, period_subscribe u commands)))
-until_behind zero (Revoke u ∷ commands) more h = ap (λ (r : List Command). Revoke u ∷ r) (until_behind zero commands more (omega (arith, period_revoke u commands)))
-until_behind zero (Period ∷ commands) more h = refl
-until_behind (suc q) (Subscribe u ∷ commands) more h = ap (λ (r : List Command). Subscribe u ∷ r) (until_behind (suc q) commands more (omega (arith, period_subscribe u commands)))
-until_behind (suc q) (Revoke u ∷ commands) more h = ap (λ (r : List Command). Revoke u ∷ r) (until_behind (suc q) commands more (omega (arith, period_revoke u commands)))
-until_behind (suc q) (Period ∷ commands) more h = ap (λ (r : List Command). Period ∷ r) (until_behind q commands more (omega (arith, period_period commands)))
+-- what comes after the Period that ends a period doesn't decide it
+pub until_after : (q : ℕ) (commands more : List Command) → q < last_period commands → commands_until q (commands ++ more) ≡ commands_until q commands
+until_after q [] more h = absurd (omega (arith, period_none))
+until_after zero (Subscribe u ∷ commands) more h = ap (λ (r : List Command). Subscribe u ∷ r) (until_after zero commands more (omega (arith, period_subscribe u commands)))
+until_after zero (Revoke u ∷ commands) more h = ap (λ (r : List Command). Revoke u ∷ r) (until_after zero commands more (omega (arith, period_revoke u commands)))
+until_after zero (Period ∷ commands) more h = refl
+until_after (suc q) (Subscribe u ∷ commands) more h = ap (λ (r : List Command). Subscribe u ∷ r) (until_after (suc q) commands more (omega (arith, period_subscribe u commands)))
+until_after (suc q) (Revoke u ∷ commands) more h = ap (λ (r : List Command). Revoke u ∷ r) (until_after (suc q) commands more (omega (arith, period_revoke u commands)))
+until_after (suc q) (Period ∷ commands) more h = ap (λ (r : List Command). Period ∷ r) (until_after q commands more (omega (arith, period_period commands)))
 
--- the Period behind these commands ends the period that they end in
+-- the Period after these commands ends the period that they end in
 pub until_period : (q : ℕ) (commands more : List Command) → q ≡ last_period commands → commands_until q (commands ++ Period ∷ more) ≡ commands
 until_period zero [] more h = refl
 until_period (suc q) [] more h = absurd (omega (arith, period_none))

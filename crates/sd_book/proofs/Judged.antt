@@ -14,7 +14,7 @@ use Rattle.sd_book.specs.Commands.{is_within, is_period, last_period, revoked, r
 use Rattle.sd_book.specs.Limits.{IsWithinLimits}
 use Rattle.sd_book.specs.Text.{command_of, SpellsBook, ◌>>=◌, in_tree, ended, period_fits, command_fits, judged_line, judged, book_of}
 use Rattle.sd_book.proofs.Tallies.{period_more, tally_of_none}
-use Rattle.sd_book.proofs.Cuts.{period_none, period_period, period_append, until_behind, until_period, until_end}
+use Rattle.sd_book.proofs.Cuts.{period_none, period_period, period_append, until_after, until_period, until_end}
 
 -- the value of a step that did not fail
 pub bind_ok : {A B : Type 0} (r : Result A BookFault) (f : A → Result B BookFault) (y : B) → (r >>= f) ≡ Ok y → (x : A) × (r ≡ Ok x) × (f x ≡ Ok y)
@@ -109,13 +109,13 @@ judged_none d = record {
 few_more : (d : ℕ) (before : List Command) (command : Command) → AreJudged d before → IsJudged d before command → (q : ℕ) → q < last_period (before ++ command ∷ []) → length (revoked d (before ++ command ∷ []) q) ≤ 4096
 few_more d before (Subscribe u) all newest q h =
     let lt : q < last_period before = grind (arith, common_steps, period_more before (Subscribe u)) in
-    rw (until_behind q before (Subscribe u ∷ []) lt) (all.few q lt)
+    rw (until_after q before (Subscribe u ∷ []) lt) (all.few q lt)
 few_more d before (Revoke u) all newest q h =
     let lt : q < last_period before = grind (arith, common_steps, period_more before (Revoke u)) in
-    rw (until_behind q before (Revoke u ∷ []) lt) (all.few q lt)
+    rw (until_after q before (Revoke u ∷ []) lt) (all.few q lt)
 few_more d before Period all newest q h =
     elim (cases_lt q (last_period before)) [
-      | inl lt ↦ rw (until_behind q before (Period ∷ []) lt) (all.few q lt)
+      | inl lt ↦ rw (until_after q before (Period ∷ []) lt) (all.few q lt)
       | inr le ↦
           let last : q ≡ last_period before = grind (arith, common_steps, period_more before Period) in
           rw (until_period q before [] last) (newest.few refl)

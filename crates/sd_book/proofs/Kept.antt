@@ -28,13 +28,13 @@ insert_front : (p : ℕ → Bool) (u a n : ℕ) → u < a → insert_key nat_cmp
 insert_front p u a zero h = refl
 insert_front p u a (suc n) h = front_of (p a) u a (filter p (range_with_len (a + 1) n)) h (insert_front p u (a + 1) n (omega arith))
 
--- a number above another goes behind it
-behind_it : (b : Bool) (u a : ℕ) (xs ys : List ℕ) → a < u → insert_key nat_cmp xs u ≡ ys → insert_key nat_cmp (cond b (a ∷ xs) xs) u ≡ cond b (a ∷ ys) ys
-behind_it true u a xs ys h e =
+-- a number above another goes after it
+after_it : (b : Bool) (u a : ℕ) (xs ys : List ℕ) → a < u → insert_key nat_cmp xs u ≡ ys → insert_key nat_cmp (cond b (a ∷ xs) xs) u ≡ cond b (a ∷ ys) ys
+after_it true u a xs ys h e =
     let more : nat_lt u a ≡ false = grind (arith, common_steps) in
     let other : (u == a) ≡ false = grind (arith, common_steps) in
     rw more (rw other (ap (λ (zs : List ℕ). a ∷ zs) e))
-behind_it false u a xs ys h e = e
+after_it false u a xs ys h e = e
 
 -- a number goes to its place, where it may stand already
 at_place : (b : Bool) (u a : ℕ) (xs : List ℕ) → u ≡ a → insert_key nat_cmp xs u ≡ u ∷ xs → insert_key nat_cmp (cond b (a ∷ xs) xs) u ≡ a ∷ xs
@@ -51,7 +51,7 @@ inserted f g u h a (suc n) low high =
     elim (cases_lt a u) [
       | inl lt ↦
           let here : f a ≡ g a = grind (arith, common_steps, h a) in
-          rw here (behind_it (g a) u a (filter g (range_with_len (a + 1) n)) (filter f (range_with_len (a + 1) n)) lt (inserted f g u h (a + 1) n (omega arith) (omega arith)))
+          rw here (after_it (g a) u a (filter g (range_with_len (a + 1) n)) (filter f (range_with_len (a + 1) n)) lt (inserted f g u h (a + 1) n (omega arith) (omega arith)))
       | inr le ↦
           let here : f a ≡ true = grind (arith, common_steps, h a) in
           let rest : filter g (range_with_len (a + 1) n) ≡ filter f (range_with_len (a + 1) n) = same_kept g f (a + 1) n (λ x m. grind (arith, common_steps, h x)) in

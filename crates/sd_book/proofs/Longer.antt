@@ -42,7 +42,7 @@ appended_within d before (command ∷ more) commands all leaves e =
 pub longer_within : (d : ℕ) (before more commands : List Command) → IsWithinLimits d before → All (λ command. is_within d command ≡ true) more → appended d before more ≡ Ok commands → IsWithinLimits d commands
 longer_within d before more commands all leaves e = (appended_within d before more commands (judged_within d before all) leaves e).1
 
--- a broken limit, or what comes behind its test
+-- a broken limit, or what comes after its test
 guard_limit : {A : Type 0} (b : Bool) (limit : BookLimit) (r : Result A BookFault) (fault : BookFault) → cond b (Err (Limit limit)) r ≡ Err fault → (r ≡ Err fault → IsLimit fault) → IsLimit fault
 guard_limit true limit r fault e other = (limit, cc)
 guard_limit false limit r fault e other = other e
@@ -89,7 +89,7 @@ same_steps : {A B : Type 0} (r : Result A BookFault) (f g : A → Result B BookF
 same_steps (Ok x) f g same = same x
 same_steps (Err fault) f g same = refl
 
--- lines that spell the commands behind these are judged as the commands are
+-- lines that spell the commands after these are judged as the commands are
 judged_as_appended : (d : ℕ) (before : List Command) (lines : List (List ℕ)) (more : List Command) → SpellsBook lines more → All (λ command. is_within d command ≡ true) more → judged d before lines ≡ appended d before more
 judged_as_appended d before [] [] spelled leaves = refl
 judged_as_appended d before [] (command ∷ more) spelled leaves = absurd cc
@@ -101,31 +101,31 @@ judged_as_appended d before (line ∷ lines) (command ∷ more) spelled leaves =
     let first : judged_line d before line ≡ command_fits d before command = rw (form, leaf) refl in
     rw first (same_steps (command_fits d before command) (λ c. judged d (before ++ c ∷ []) lines) (λ c. appended d (before ++ c ∷ []) more) (λ c. judged_as_appended d (before ++ c ∷ []) lines more rest (All-tail (λ c. is_within d c ≡ true) command more leaves)))
 
--- lines that spell commands within the limits, and more behind them
-judged_behind : (d : ℕ) (before : List Command) (lines : List (List ℕ)) (new more : List Command) → SpellsBook lines (new ++ more) → IsWithinLimits d (before ++ new) → All (λ command. is_within d command ≡ true) more → judged d before lines ≡ appended d (before ++ new) more
-judged_behind d before lines [] more spelled all leaves = judged_as_appended d before lines more spelled leaves ∙ ap (λ (cs : List Command). appended d cs more) (sym (append-nil before))
-judged_behind d before [] (command ∷ new) more spelled all leaves = absurd cc
-judged_behind d before (line ∷ lines) (command ∷ new) more spelled all leaves =
+-- lines that spell commands within the limits, and more after them
+judged_after : (d : ℕ) (before : List Command) (lines : List (List ℕ)) (new more : List Command) → SpellsBook lines (new ++ more) → IsWithinLimits d (before ++ new) → All (λ command. is_within d command ≡ true) more → judged d before lines ≡ appended d (before ++ new) more
+judged_after d before lines [] more spelled all leaves = judged_as_appended d before lines more spelled leaves ∙ ap (λ (cs : List Command). appended d cs more) (sym (append-nil before))
+judged_after d before [] (command ∷ new) more spelled all leaves = absurd cc
+judged_after d before (line ∷ lines) (command ∷ new) more spelled all leaves =
     let form : command_of line ≡ Some command = cc in
     let rest : map command_of lines ≡ map Some (new ++ more) = cc in
     let same : (before ++ command ∷ []) ++ new ≡ before ++ command ∷ new = append_assoc before (command ∷ []) new in
-    let others = judged_behind d (before ++ command ∷ []) lines new more rest (subst (λ (cs : List Command). IsWithinLimits d cs) (sym same) all) leaves in
+    let others = judged_after d (before ++ command ∷ []) lines new more rest (subst (λ (cs : List Command). IsWithinLimits d cs) (sym same) all) leaves in
     rw (line_again d before line command new all form) (others ∙ ap (λ (cs : List Command). appended d cs more) same)
 
--- a text of a book and of more commands is judged as they are behind the book
+-- a text of a book and of more commands is judged as they are after the book
 pub book_longer : (d : ℕ) (bytes : List ℕ) (before more : List Command) → IsWithinLimits d before → All (λ command. is_within d command ≡ true) more → SpellsBook (lines_of bytes) (before ++ more) → book_of d bytes ≡ appended d before more
 unfolding book_of
-book_longer d bytes before more all leaves spelled = judged_behind d [] (lines_of bytes) before more spelled all leaves
+book_longer d bytes before more all leaves spelled = judged_after d [] (lines_of bytes) before more spelled all leaves
 
--- the number of some commands and of the first i behind them
+-- the number of some commands and of the first i after them
 pub length_front : (before more : List Command) (i : ℕ) → i ≤ length more → length (before ++ take i more) ≡ length before + i
 length_front before more i h = omega (arith, length-append before (take i more), length-take-le i more h)
 
--- a line fits behind them by their number
+-- a line fits after them by their number
 long_by_count : (before : List Command) (count : ℕ) (u : Unit {0}) → count ≡ length before → cond (nat_le 1048576 count) (Err (Limit Lines)) (Ok tt) ≡ Ok u → nat_le 1048576 (length before) ≡ false
 long_by_count before count u all line = ap (nat_le 1048576) (sym all) ∙ (guard_ok (nat_le 1048576 count) (Limit Lines) (Ok tt) u line).0
 
--- a command that passes the tests of a tally fits behind its commands
+-- a command that passes the tests of a tally fits after its commands
 pub fits_by_tally : (d : ℕ) (before : List Command) (command : Command) (count : ℕ) (marks : List Bool) (revoked period : ℕ) (u v : Unit {0}) → count ≡ length before → IsTally d before marks revoked period → cond (nat_le 1048576 count) (Err (Limit Lines)) (Ok tt) ≡ Ok u → cond (is_period command) (followed revoked period) (Ok tt) ≡ Ok v → command_fits d before command ≡ Ok command
 fits_by_tally d before (Subscribe x) count marks revoked period u v all tally line follows = rw (long_by_count before count u all line) refl
 fits_by_tally d before (Revoke x) count marks revoked period u v all tally line follows = rw (long_by_count before count u all line) refl

@@ -61,13 +61,13 @@ period_kept d commands taken number kept replay h at =
     let here : number ≡ last_period (take taken commands) = omega (arith, replay.period) in
     replay.revoked ∙ ap (revoked_after d) (sym (ap (λ (q : ℕ). commands_until q commands) here ∙ cut_here commands taken h at))
 
--- a period is not behind the last one while the end isn't taken
+-- a period is not after the last one while the end isn't taken
 pub period_within : (d : ℕ) (commands : List Command) (taken number : ℕ) (kept : List ℕ) → IsReplay d commands taken number kept → taken ≤ length commands → number ≤ last_period commands
 period_within d commands taken number kept replay h = omega (arith, replay.period, period_front taken commands)
 
--- and behind the last one when it is
-pub period_behind : (d : ℕ) (commands : List Command) (taken number : ℕ) (kept : List ℕ) → IsReplay d commands taken number kept → length commands < taken → last_period commands < number
-period_behind d commands taken number kept replay h =
+-- and after the last one when it is
+pub period_after : (d : ℕ) (commands : List Command) (taken number : ℕ) (kept : List ℕ) → IsReplay d commands taken number kept → length commands < taken → last_period commands < number
+period_after d commands taken number kept replay h =
     let all : last_period (take taken commands) ≡ last_period commands = ap last_period (take_all taken commands (omega arith)) in
     omega (arith, replay.period)
 

@@ -5,9 +5,9 @@ use Rattle.std.proofs.lemmas.Grind.{common_steps}
 use Rattle.std.proofs.lemmas.List.Elements.{All-head, All-tail}
 use Rattle.std.proofs.Math.Pow.{pow_mono}
 use Rattle.sd_text.specs.Lines.{lines_of, is_line}
-use Rattle.sd_text.specs.Number.{behind, number_behind}
+use Rattle.sd_text.specs.Number.{after, decimal_after}
 use Rattle.sd_text.proofs.Cuts.{line_cut}
-use Rattle.sd_text.proofs.Numbers.{decimal_in_line, number_behind_decimal}
+use Rattle.sd_text.proofs.Numbers.{decimal_in_line, decimal_after_decimal}
 use Rattle.sd_book.specs.declared.command.Command.{Command}
 use Rattle.sd_book.specs.declared.command.Command.TheVariants.{Subscribe, Revoke, Period}
 use Rattle.sd_book.specs.Commands.{is_within}
@@ -22,8 +22,8 @@ leaf_small d u small h =
     omega arith
 
 -- the line of a Revoke doesn't begin as that of a Subscribe does
-other_word : (u : ℕ) → number_behind (codes "subscribe ") (codes "revoke " ++ decimal u) ≡ None
-unfolding behind
+other_word : (u : ℕ) → decimal_after (codes "subscribe ") (codes "revoke " ++ decimal u) ≡ None
+unfolding after
 other_word u = refl
 
 -- a command's line says it
@@ -31,10 +31,10 @@ says : (d : ℕ) (command : Command) → d ≤ 20 → is_within d command ≡ tr
 unfolding command_of line_of
 says d (Subscribe u) small h =
     let below : u < 2 ^ 64 = leaf_small d u small (grind (arith, common_steps)) in
-    rw (number_behind_decimal (codes "subscribe ") u below) refl
+    rw (decimal_after_decimal (codes "subscribe ") u below) refl
 says d (Revoke u) small h =
     let below : u < 2 ^ 64 = leaf_small d u small (grind (arith, common_steps)) in
-    rw (other_word u, number_behind_decimal (codes "revoke ") u below) refl
+    rw (other_word u, decimal_after_decimal (codes "revoke ") u below) refl
 says d Period small h = refl
 
 -- and stands on one line

@@ -1,4 +1,4 @@
--- A replay of a book, which stands between two of its commands or behind its end.
+-- A replay of a book, which stands between two of its commands or after its end.
 use Rattle.std.specs.Prelude.{◌≡◌, ℕ, ◌+◌, ◌-◌, ◌≤◌, List, take, length}
 use Rattle.sd_book.specs.declared.command.Command.{Command}
 use Rattle.sd_book.specs.Commands.{last_period, revoked_after}
@@ -10,7 +10,7 @@ pub record ReplayValue : Type 0 where
   pub next : ℕ
 
 -- what is kept when some of a book's commands are taken: the leaves that are revoked after them, and the period that they end in,
--- which is the one behind the last where the end of the book is taken too
+-- which is the one after the last where the end of the book is taken too
 pub record IsReplay (d : ℕ) (commands : List Command) (taken number : ℕ) (kept : List ℕ) : Type 0 where
   pub within : taken ≤ length commands + 1
   pub period : number ≡ last_period (take taken commands) + (taken - length commands)

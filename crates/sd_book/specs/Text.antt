@@ -3,7 +3,7 @@ use Rattle.std.specs.Prelude.{◌≡◌, ℕ, ◌+◌, nat_lt, nat_le, List, [],
 use Rattle.std.specs.Fmt.{decimal}
 use Rattle.std.specs.List.{flat_map}
 use Rattle.sd_text.specs.Lines.{lines_of}
-use Rattle.sd_text.specs.Number.{number_behind}
+use Rattle.sd_text.specs.Number.{decimal_after}
 use Rattle.sd_book.specs.declared.command.Command.{Command}
 use Rattle.sd_book.specs.declared.command.Command.TheVariants.{Subscribe, Revoke, Period}
 use Rattle.sd_book.specs.declared.fault.BookFault.{BookFault}
@@ -21,7 +21,7 @@ first_there None other = other
 unfoldable pub command_of : List ℕ → Option Command
 command_of line =
     if bytes_eq line (codes "period") then Some Period
-    else first_there (option_map Subscribe (number_behind (codes "subscribe ") line)) (option_map Revoke (number_behind (codes "revoke ") line))
+    else first_there (option_map Subscribe (decimal_after (codes "subscribe ") line)) (option_map Revoke (decimal_after (codes "revoke ") line))
 
 -- the lines are these commands
 abbrev pub SpellsBook : List (List ℕ) → List Command → Type 0
@@ -42,29 +42,29 @@ in_tree d k (Some command) = if is_within d command then Ok command else Err (Le
 abbrev pub ended : {A : Type 0} → ℕ → List Command → A → Result A BookFault
 ended d commands value = if nat_lt 4096 (length (revoked_after d commands)) then Err (Limit (Revoked (last_period commands))) else Ok value
 
--- a Period is to be within the limits on periods behind these commands
+-- a Period is to be within the limits on periods after these commands
 abbrev pub period_fits : ℕ → List Command → Command → Result Command BookFault
 period_fits d before command =
     if is_period command then (if nat_le 1023 (last_period before) then Err (Limit Periods) else ended d before command) else Ok command
 
--- a command behind those commands, or the limit that it breaks: the number of lines comes first, and then the limits on periods
+-- a command after those commands, or the limit that it breaks: the number of lines comes first, and then the limits on periods
 -- [this project, docs/FORMATS.md, Book]
 abbrev pub command_fits : ℕ → List Command → Command → Result Command BookFault
 command_fits d before command = if nat_le 1048576 (length before) then Err (Limit Lines) else period_fits d before command
 
--- The command on a line behind those commands, or what is wrong with it. On one line the number of lines comes first, and then the
+-- The command on a line after those commands, or what is wrong with it. On one line the number of lines comes first, and then the
 -- form, the leaf and the limits on periods [this project, docs/FORMATS.md, Book]
 abbrev pub judged_line : ℕ → List Command → List ℕ → Result Command BookFault
 judged_line d before line =
     if nat_le 1048576 (length before) then Err (Limit Lines)
     else (in_tree d (length before + 1) (command_of line) >>= λ command. period_fits d before command)
 
--- the commands with those of the lines behind them: the first bad line decides, and what is judged after the last line comes last
+-- the commands with those of the lines after them: the first bad line decides, and what is judged after the last line comes last
 abbrev pub judged : ℕ → List Command → List (List ℕ) → Result (List Command) BookFault
 judged d before [] = ended d before before
 judged d before (line ∷ lines) = judged_line d before line >>= λ command. judged d (before ++ command ∷ []) lines
 
--- the commands with more behind them, or the limit that a text of them breaks first [this project, docs/FORMATS.md, Book]
+-- the commands with more after them, or the limit that a text of them breaks first [this project, docs/FORMATS.md, Book]
 abbrev pub appended : ℕ → List Command → List Command → Result (List Command) BookFault
 appended d before [] = ended d before before
 appended d before (command ∷ more) = command_fits d before command >>= λ fitting. appended d (before ++ fitting ∷ []) more
@@ -79,7 +79,7 @@ line_of (Subscribe u) = codes "subscribe " ++ decimal u
 line_of (Revoke u) = codes "revoke " ++ decimal u
 line_of Period = codes "period"
 
--- the book file of these commands, a line feed behind each line [this project, docs/FORMATS.md, Book]
+-- the book file of these commands, a line feed after each line [this project, docs/FORMATS.md, Book]
 unfoldable pub text_of : List Command → List ℕ
 text_of commands = flat_map (λ command. line_of command ++ 10 ∷ []) commands
 

@@ -9,9 +9,9 @@ use crate::tally::{Tally, line_fits};
 use sd_tree::Height;
 use std::alloc::Global;
 
-/// Whether commands within the limits of a book stay within them with more behind.
+/// Whether commands within the limits of a book stay within them with more after.
 #[tactic(auto, using(crate::proofs::Longer::judged_within, crate::proofs::Judged::judged_one_more))]
-pub(crate) fn fits_behind(
+pub(crate) fn fits_after(
     alloc: Global,
     h: Height,
     before: &[Command],

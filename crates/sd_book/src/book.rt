@@ -6,7 +6,7 @@ ghost use Rattle.sd_book.specs.Commands.{is_within, last_period as last_of, revo
 ghost use Rattle.sd_book.specs.Limits.{IsWithinLimits};
 ghost use Rattle.sd_book.specs.Text.{SpellsBook, IsLimit, appended, book_of, text_of};
 
-use crate::appending::fits_behind;
+use crate::appending::fits_after;
 use crate::command::Command;
 use crate::fault::BookFault;
 use crate::periods::{last_period, until};
@@ -14,7 +14,7 @@ use crate::reading::commands_of;
 use crate::replay::Periods;
 use crate::tally::revoked_after;
 use crate::writing::text_of;
-use sd_ports::NoMemory;
+use sd_cause::NoMemory;
 use sd_tree::{Height, Leaf};
 use std::alloc::Global;
 use std::marker::Model;
@@ -91,7 +91,7 @@ impl Book {
         ensures limit { IfErr result (λ fault. (fault ≡ BookFault.NoMemory) ⊎ IsLimit fault) }
     {
         let alloc = *self.list.allocator();
-        fits_behind(alloc, self.height, &self.list, commands)?;
+        fits_after(alloc, self.height, &self.list, commands)?;
         self.list.extend_from_slice(commands)?;
         Ok(())
     }
@@ -141,7 +141,7 @@ impl Book {
         Periods::new(alloc, self.height, &self.list)
     }
 
-    /// The file of the book: a line for each command, and a line feed behind each.
+    /// The file of the book: a line for each command, and a line feed after each.
     #[tactic(auto, using(crate::proofs::Written::read_again))]
     pub fn write(&self, alloc: Global) -> Result<Vec<u8>, NoMemory>
         ensures value { IfOk result (λ text. text.items ≡ text_of self.now.commands) }

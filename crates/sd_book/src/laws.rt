@@ -7,7 +7,7 @@ ghost use Rattle.sd_book.specs.Commands.{is_within};
 ghost use Rattle.sd_book.specs.Limits.{IsWithinLimits};
 ghost use Rattle.sd_book.specs.Text.{SpellsBook, appended, book_of, text_of};
 
-/// A text of a book and of more commands is judged as these commands are behind the book.
+/// A text of a book and of more commands is judged as these commands are after the book.
 #[tactic(auto, using(crate::proofs::Longer::book_longer))]
 pub fn appended_is_read()
     ensures { (d : ℕ) (bytes : List ℕ) (before more : List Commands) → IsWithinLimits d before → All (λ command. is_within d command ≡ true) more →

@@ -1,5 +1,5 @@
 ghost use Rattle.std.specs.Prelude.{◌≡◌};
-ghost use Rattle.sd_text.specs.Number.{number_behind};
+ghost use Rattle.sd_text.specs.Number.{decimal_after};
 ghost use Rattle.sd_book.specs.Line.{leaf_in, command_in};
 ghost use Rattle.sd_book.specs.Text.{command_of};
 
@@ -24,16 +24,16 @@ pub(crate) fn command_on(line: &[u8], h: Height) -> Result<Command, LineFault>
     if line == b"period".as_slice() {
         return Ok(Command::Period);
     }
-    match leaf_behind(b"subscribe ", line, h) {
+    match leaf_after(b"subscribe ", line, h) {
         Ok(leaf) => Ok(Command::Subscribe(leaf)),
         Err(LineFault::Leaf) => Err(LineFault::Leaf),
-        Err(LineFault::Form) => Ok(Command::Revoke(leaf_behind(b"revoke ", line, h)?)),
+        Err(LineFault::Form) => Ok(Command::Revoke(leaf_after(b"revoke ", line, h)?)),
     }
 }
 
-/// The leaf behind a word.
-fn leaf_behind(word: &[u8], line: &[u8], h: Height) -> Result<Leaf, LineFault>
-    ensures { result ≡ leaf_in h (number_behind word.now line.now) }
+/// The leaf after a word.
+fn leaf_after(word: &[u8], line: &[u8], h: Height) -> Result<Leaf, LineFault>
+    ensures { result ≡ leaf_in h (decimal_after word.now line.now) }
 {
     match number_after(word, line) {
         Ok(u) => Leaf::new(h, u).ok_or(LineFault::Leaf),

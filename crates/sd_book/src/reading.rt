@@ -19,17 +19,17 @@ pub(crate) fn commands_of(alloc: Global, bytes: &[u8], h: Height) -> Result<Vec<
     let mut list = Vec::new(alloc);
     let mut tally = Tally::new(alloc, h)?;
     let mut rest = bytes;
-    while let Some((line, behind)) = next_line(rest) {
+    while let Some((line, after)) = next_line(rest) {
         let command = judged_line(line, h, &list, &tally)?;
         tally.take(&command);
         list.push(command)?;
-        rest = behind;
+        rest = after;
     }
     tally.ended()?;
     Ok(list)
 }
 
-/// The command on the line behind these commands, whose tally this is.
+/// The command on the line after these commands, whose tally this is.
 fn judged_line(
     line: &[u8],
     h: Height,

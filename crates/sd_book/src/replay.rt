@@ -6,7 +6,7 @@ ghost use Rattle.sd_book.specs.Limits.{IsWithinLimits};
 ghost use Rattle.sd_book.specs.Replay.{IsReplay};
 
 use crate::command::Command;
-use sd_ports::NoMemory;
+use sd_cause::NoMemory;
 use sd_tree::{Height, Leaf};
 use std::alloc::Global;
 use std::collections::BTreeSet;
@@ -53,10 +53,10 @@ impl<'a> Periods<'a> {
         }
     }
 
-    /// The leaves that are revoked in the next period, ascending, each once, or `None` behind the last period.
+    /// The leaves that are revoked in the next period, ascending, each once, or `None` after the last period.
     ///
     /// After a fault the period is still the next one.
-    #[tactic(auto, using(crate::proofs::Replays::period_within, crate::proofs::Replays::period_behind))]
+    #[tactic(auto, using(crate::proofs::Replays::period_within, crate::proofs::Replays::period_after))]
     pub fn next(&mut self, alloc: Global) -> Result<Option<Vec<Leaf>>, NoMemory>
         ensures height { self.new.height ≡ self.old.height }
         ensures commands { self.new.commands ≡ self.old.commands }

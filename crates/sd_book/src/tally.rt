@@ -130,7 +130,7 @@ impl Tally {
     }
 }
 
-/// Whether a line may stand behind this number of lines.
+/// Whether a line may stand after this number of lines.
 pub(crate) fn line_fits(count: usize) -> Result<(), BookFault>
     ensures { result ≡ (if nat_le 1048576 count then Err (BookFault.Limit BookLimit.Lines) else Ok tt) }
 {

@@ -36,7 +36,7 @@ pub child_label : (master : List ℕ) (d u a k node : ℕ) → u < 2 ^ d → a +
 child_label master d u a k node leaf le word half =
     held_gives_label master (path_node d u a) (path_node d u (a + k)) node (path_is_node d u a leaf (omega arith)) word (path_over d u a k le) (1, half)
 
--- one more label behind those that were given
+-- one more label after those that were given
 pub one_more : (master : List ℕ) (d u a n b : ℕ) (before secrets : List (List ℕ)) → a + 1 + n ≡ b → secrets ≡ before ++ labels_under master d u a n → secrets ++ label_of master (path_node d u a) (sibling_of (path_node d u b)) ∷ [] ≡ before ++ labels_under master d u a (n + 1)
 one_more master d u a n b before secrets at is =
     rw is (append_assoc before (labels_under master d u a n) (label_of master (path_node d u a) (sibling_of (path_node d u b)) ∷ [])

@@ -18,10 +18,10 @@ get_front (x ∷ xs) ys zero h = refl
 get_front (x ∷ xs) ys (suc k) h = get_front xs ys k (omega arith)
 
 -- an element of the second
-pub get_behind : {X : Type 0} (xs ys : List X) (k n : ℕ) → n ≡ length xs + k → slice_get (xs ++ ys) n ≡ slice_get ys k
-get_behind [] ys k n e = let s : n ≡ k = omega arith in rw s refl
-get_behind (x ∷ xs) ys k zero e = absurd (omega arith)
-get_behind (x ∷ xs) ys k (suc n) e = get_behind xs ys k n (omega arith)
+pub get_after : {X : Type 0} (xs ys : List X) (k n : ℕ) → n ≡ length xs + k → slice_get (xs ++ ys) n ≡ slice_get ys k
+get_after [] ys k n e = let s : n ≡ k = omega arith in rw s refl
+get_after (x ∷ xs) ys k zero e = absurd (omega arith)
+get_after (x ∷ xs) ys k (suc n) e = get_after xs ys k n (omega arith)
 
 -- a pair among those of its ancestor
 pub pair_under : (d u a b r : ℕ) → a + 1 + r ≡ b → b ≤ d → slice_get (given_under d u a) r ≡ Some (Pair (path_node d u a) (sibling_of (path_node d u b)))
@@ -32,7 +32,7 @@ pair_under d u a b r e le =
     slice_get-get_or (map f (range_with_len (a + 1) (d - a))) r Whole within
     ∙ ap Some (get_or-map-range_with_len f (a + 1) (d - a) r b Whole (omega arith) e)
 
--- a pair among those of the n lowest ancestors, from depth s on: behind those of m of them and r of its own
+-- a pair among those of the n lowest ancestors, from depth s on: after those of m of them and r of its own
 pub pair_from : (d u s n m p r k a b : ℕ) → s + n ≡ d → m + p + 1 ≡ n → r ≤ p → 2 * k ≡ m * (m + 2 * p + 3) + 2 * r → s + m ≡ a → a + 1 + r ≡ b → slice_get (flat_map (given_under d u) (range_with_len s n)) k ≡ Some (Pair (path_node d u a) (sibling_of (path_node d u b)))
 pair_from d u s zero m p r k a b whole parts own place from to = absurd (omega arith)
 pair_from d u s (suc n) zero p r k a b whole parts own place from to =
@@ -43,7 +43,7 @@ pair_from d u s (suc n) zero p r k a b whole parts own place from to =
     ∙ rw (first, at) (pair_under d u a b r to (omega arith)))
 pair_from d u s (suc n) (suc m) p r k a b whole parts own place from to =
     rw (flat_map-cons (given_under d u) s (range_with_len (s + 1) n))
-    (get_behind (given_under d u s) (flat_map (given_under d u) (range_with_len (s + 1) n)) (k - (m + p + 2)) k (omega (arith, length_given_under d u s))
+    (get_after (given_under d u s) (flat_map (given_under d u) (range_with_len (s + 1) n)) (k - (m + p + 2)) k (omega (arith, length_given_under d u s))
     ∙ pair_from d u (s + 1) n m p r (k - (m + p + 2)) a b (omega arith) (omega arith) own (omega arith) (omega arith) to)
 
 -- a(a + 3) is even

@@ -28,7 +28,7 @@ AreBytes bytes = (i : ℕ) → get_or bytes i 0 < 256
 abbrev pub AreLong : List (List ℕ) → Type 0
 AreLong secrets = AllByRecursion (λ secret. length secret ≡ 32) secrets
 
--- one secret more behind those that are joined
+-- one secret more after those that are joined
 pub concat_more : (secrets : List (List ℕ)) (secret : List ℕ) → concat secrets ++ secret ≡ concat (secrets ++ secret ∷ [])
 concat_more secrets secret = sym (concat-append secrets (secret ∷ []) ∙ ap (λ (r : List ℕ). concat secrets ++ r) (append-nil secret))
 
@@ -95,10 +95,10 @@ pub record IsGood (bytes : List ℕ) : Type 0 where
   pub size : length bytes ≡ length_at (byte_at bytes 5)
   pub check : check_in bytes ≡ check_due bytes
 
--- where no fault is behind, the field is good
-passed : (good : Bool) (fault : CardFault) (behind : Option CardFault) → unless good fault behind ≡ None → (good ≡ true) × (behind ≡ None)
-passed true fault behind e = (refl, e)
-passed false fault behind e = absurd cc
+-- where no fault is after, the field is good
+passed : (good : Bool) (fault : CardFault) (after : Option CardFault) → unless good fault after ≡ None → (good ≡ true) × (after ≡ None)
+passed true fault after e = (refl, e)
+passed false fault after e = absurd cc
 
 -- where there is no fault, each field is good
 pub good_parts : (bytes : List ℕ) → fault_in bytes ≡ None → IsGood bytes
@@ -244,9 +244,9 @@ unfolding card_bytes card_body
 version_written card = refl
 
 -- a field that is good has no fault of its own
-goes : (good : Bool) (fault : CardFault) (behind : Option CardFault) → good ≡ true → behind ≡ None → unless good fault behind ≡ None
-goes true fault behind is none = none
-goes false fault behind is none = absurd cc
+goes : (good : Bool) (fault : CardFault) (after : Option CardFault) → good ≡ true → after ≡ None → unless good fault after ≡ None
+goes true fault after is none = none
+goes false fault after is none = absurd cc
 
 -- nothing is wrong with a card's file
 pub written_is_good : (card : CardFields) → IsCard card → fault_in (card_bytes card) ≡ None

@@ -39,10 +39,10 @@ check_in bytes = drop (length bytes - 16) bytes
 unfoldable pub check_due : List ℕ → List ℕ
 check_due bytes = take 16 (sha256 (take (length bytes - 16) bytes))
 
--- this fault where a field isn't good, and else what is wrong behind the field
+-- this fault where a field isn't good, and else what is wrong after the field
 abbrev pub unless : Bool → CardFault → Option CardFault → Option CardFault
-unless true fault behind = behind
-unless false fault behind = Some fault
+unless true fault after = after
+unless false fault after = Some fault
 
 -- what is wrong with the bytes, by the first field that isn't good [this project, docs/FORMATS.md, Card]
 unfoldable pub fault_in : List ℕ → Option CardFault

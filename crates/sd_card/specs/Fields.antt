@@ -38,6 +38,6 @@ card_of master ca d u = record { height = d; leaf = u; ca = ca; secrets = map (s
 unfoldable pub card_body : CardFields → List ℕ
 card_body card = codes "SDCD" ++ (1 ∷ card.height ∷ (to_be_bytes w32 card.leaf ++ (to_be_bytes w16 card.ca ++ concat card.secrets)))
 
--- a card's file: the check behind it is 16 bytes of its hash [this project, docs/FORMATS.md, Card]
+-- a card's file: the check after it is 16 bytes of its hash [this project, docs/FORMATS.md, Card]
 unfoldable pub card_bytes : CardFields → List ℕ
 card_bytes card = card_body card ++ take 16 (sha256 (card_body card))

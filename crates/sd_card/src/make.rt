@@ -4,7 +4,7 @@ ghost use Rattle.sd_card.specs.Fields.{fields_of, card_of, secret_of};
 
 use crate::card::Card;
 use sd_label::{descend, path_node, root_label, sibling, whole_key};
-use sd_ports::NoMemory;
+use sd_cause::NoMemory;
 use sd_site::Site;
 use sd_steps::Steps;
 use sd_tree::{Height, Leaf};

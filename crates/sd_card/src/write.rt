@@ -4,7 +4,7 @@ ghost use Rattle.sd_card.specs.Fields.{saying, fields_of, card_body, card_bytes}
 ghost use Rattle.sd_card.specs.Faults.{IsCard};
 
 use crate::card::Card;
-use sd_ports::NoMemory;
+use sd_cause::NoMemory;
 use sha2::{Digest, Sha256};
 use std::alloc::{AllocError, Global};
 

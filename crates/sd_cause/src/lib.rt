@@ -1,2 +1,6 @@
-//! Words on counts of faults and misses, by which a contract says what an answer was caused by.
+//! What an answer was caused by: words on counts of faults and misses, and the answer for want of memory.
 #![tactic(auto)]
+
+mod memory;
+
+pub use memory::NoMemory;

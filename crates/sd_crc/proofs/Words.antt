@@ -1,4 +1,4 @@
--- Four and eight bytes at a time, and a CRC behind its bytes.
+-- Four and eight bytes at a time, and a CRC after its bytes.
 use Rattle.std.proofs.Common.{ℕ, suc, ◌+◌, ◌*◌, ◌/◌, ◌%◌, ◌^◌, ◌<◌, ◌≡◌, List, [], ◌∷◌, ◌++◌, length, get_or, drop, drop-cons, refl, sym, ap, ◌∙◌, arith}
 use Rattle.std.specs.Prelude.{bit_xor}
 use Rattle.std.specs.Int.{w32, to_be_bytes, from_be_bytes}
@@ -49,7 +49,7 @@ four_bytes x a b c d word h w ea eb ec ed =
     ∙ (bits_at_top 32 0 x word refl h
     ∙ ap (λ (y : ℕ). steps 32 (bit_xor x y)) all)))))
 
--- behind some bytes and the register that they led to, the register is 0
+-- after some bytes and the register that they led to, the register is 0
 pub own_register : (x : ℕ) → x < 2 ^ 32 → after_bytes x (to_be_bytes w32 x) ≡ 0
 own_register x h =
     four_bytes x (x / 256 ^ 3 % 256) (x / 256 ^ 2 % 256) (x / 256 ^ 1 % 256) (x % 256) x h h (omega arith) (omega arith) (omega arith) (omega arith)
@@ -60,7 +60,7 @@ pub crc_below : (bytes : List ℕ) → crc_of bytes < 2 ^ 32
 unfolding crc_of
 crc_below bytes = bytes_below 0xFFFFFFFF bytes (omega arith)
 
--- the CRC of bytes with their own CRC behind them is 0
+-- the CRC of bytes with their own CRC after them is 0
 pub crc_of_sealed : (bytes : List ℕ) → crc_of (bytes ++ to_be_bytes w32 (crc_of bytes)) ≡ 0
 unfolding crc_of
 crc_of_sealed bytes =
@@ -84,11 +84,11 @@ moved_first : (m n byte : ℕ) → byte * 2 ^ m < 2 ^ 32 → steps (m + n) byte 
 moved_first m n byte h = steps_more m n byte ∙ ap (steps n) (steps_move m byte h)
 
 -- the register of a number under bits 0 is the sum of those of its bytes
-pub of_bytes : (behind word : ℕ) → word < 2 ^ 32 →
-    bit_xor (bit_xor (bit_xor (alone (behind + 3) (word / 256 ^ 3 % 256)) (alone (behind + 2) (word / 256 ^ 2 % 256))) (alone (behind + 1) (word / 256 ^ 1 % 256))) (alone behind (word % 256)) ≡ steps (8 * behind + 32) word
+pub of_bytes : (after word : ℕ) → word < 2 ^ 32 →
+    bit_xor (bit_xor (bit_xor (alone (after + 3) (word / 256 ^ 3 % 256)) (alone (after + 2) (word / 256 ^ 2 % 256))) (alone (after + 1) (word / 256 ^ 1 % 256))) (alone after (word % 256)) ≡ steps (8 * after + 32) word
 unfolding alone
-of_bytes behind word h =
-    let n : ℕ = 8 * behind + 32 in
+of_bytes after word h =
+    let n : ℕ = 8 * after + 32 in
     let a : ℕ = word / 256 ^ 3 % 256 * 2 ^ 24 in
     let b : ℕ = word / 256 ^ 2 % 256 * 2 ^ 16 in
     let c : ℕ = word / 256 ^ 1 % 256 * 2 ^ 8 in
@@ -99,28 +99,28 @@ of_bytes behind word h =
     let hd : d < 2 ^ 32 = omega arith in
     let hab : bit_xor a b < 2 ^ 32 = xor_of_32 a b ha hb in
     let habc : bit_xor (bit_xor a b) c < 2 ^ 32 = xor_of_32 (bit_xor a b) c hab hc in
-    let na : 8 * (behind + 3) + 8 ≡ n = omega arith in
-    let nb : 8 + (8 * (behind + 2) + 8) ≡ n = omega arith in
-    let nc : 16 + (8 * (behind + 1) + 8) ≡ n = omega arith in
-    let nd : 24 + (8 * behind + 8) ≡ n = omega arith in
-    let ea : steps (8 * (behind + 3) + 8) a ≡ steps n a = ap (λ (k : ℕ). steps k a) na in
+    let na : 8 * (after + 3) + 8 ≡ n = omega arith in
+    let nb : 8 + (8 * (after + 2) + 8) ≡ n = omega arith in
+    let nc : 16 + (8 * (after + 1) + 8) ≡ n = omega arith in
+    let nd : 24 + (8 * after + 8) ≡ n = omega arith in
+    let ea : steps (8 * (after + 3) + 8) a ≡ steps n a = ap (λ (k : ℕ). steps k a) na in
     let tb : b * 2 ^ 8 ≡ word / 256 ^ 2 % 256 * 2 ^ 24 = omega arith in
     let tc : c * 2 ^ 16 ≡ word / 256 ^ 1 % 256 * 2 ^ 24 = omega arith in
-    let eb : steps (8 * (behind + 2) + 8) (word / 256 ^ 2 % 256 * 2 ^ 24) ≡ steps n b =
-    ap (steps (8 * (behind + 2) + 8)) (sym tb) ∙ (sym (moved_first 8 (8 * (behind + 2) + 8) b (omega arith)) ∙ ap (λ (k : ℕ). steps k b) nb) in
-    let ec : steps (8 * (behind + 1) + 8) (word / 256 ^ 1 % 256 * 2 ^ 24) ≡ steps n c =
-    ap (steps (8 * (behind + 1) + 8)) (sym tc) ∙ (sym (moved_first 16 (8 * (behind + 1) + 8) c (omega arith)) ∙ ap (λ (k : ℕ). steps k c) nc) in
-    let ed : steps (8 * behind + 8) (d * 2 ^ 24) ≡ steps n d =
-    sym (moved_first 24 (8 * behind + 8) d (omega arith)) ∙ ap (λ (k : ℕ). steps k d) nd in
+    let eb : steps (8 * (after + 2) + 8) (word / 256 ^ 2 % 256 * 2 ^ 24) ≡ steps n b =
+    ap (steps (8 * (after + 2) + 8)) (sym tb) ∙ (sym (moved_first 8 (8 * (after + 2) + 8) b (omega arith)) ∙ ap (λ (k : ℕ). steps k b) nb) in
+    let ec : steps (8 * (after + 1) + 8) (word / 256 ^ 1 % 256 * 2 ^ 24) ≡ steps n c =
+    ap (steps (8 * (after + 1) + 8)) (sym tc) ∙ (sym (moved_first 16 (8 * (after + 1) + 8) c (omega arith)) ∙ ap (λ (k : ℕ). steps k c) nc) in
+    let ed : steps (8 * after + 8) (d * 2 ^ 24) ≡ steps n d =
+    sym (moved_first 24 (8 * after + 8) d (omega arith)) ∙ ap (λ (k : ℕ). steps k d) nd in
     let whole : steps n word ≡ steps n (bit_xor (bit_xor (bit_xor a b) c) d) = ap (steps n) (sym (four_parts word h)) in
     let split : steps n (bit_xor (bit_xor (bit_xor a b) c) d) ≡
     bit_xor (bit_xor (bit_xor (steps n a) (steps n b)) (steps n c)) (steps n d) =
     steps_xor n (bit_xor (bit_xor a b) c) d habc hd
     ∙ ap (λ (k : ℕ). bit_xor k (steps n d)) (steps_xor n (bit_xor a b) c hab hc
     ∙ ap (λ (k : ℕ). bit_xor k (steps n c)) (steps_xor n a b ha hb)) in
-    ap (λ (k : ℕ). bit_xor (bit_xor (bit_xor k (steps (8 * (behind + 2) + 8) (word / 256 ^ 2 % 256 * 2 ^ 24))) (steps (8 * (behind + 1) + 8) (word / 256 ^ 1 % 256 * 2 ^ 24))) (steps (8 * behind + 8) (d * 2 ^ 24))) ea
-    ∙ (ap (λ (k : ℕ). bit_xor (bit_xor (bit_xor (steps n a) k) (steps (8 * (behind + 1) + 8) (word / 256 ^ 1 % 256 * 2 ^ 24))) (steps (8 * behind + 8) (d * 2 ^ 24))) eb
-    ∙ (ap (λ (k : ℕ). bit_xor (bit_xor (bit_xor (steps n a) (steps n b)) k) (steps (8 * behind + 8) (d * 2 ^ 24))) ec
+    ap (λ (k : ℕ). bit_xor (bit_xor (bit_xor k (steps (8 * (after + 2) + 8) (word / 256 ^ 2 % 256 * 2 ^ 24))) (steps (8 * (after + 1) + 8) (word / 256 ^ 1 % 256 * 2 ^ 24))) (steps (8 * after + 8) (d * 2 ^ 24))) ea
+    ∙ (ap (λ (k : ℕ). bit_xor (bit_xor (bit_xor (steps n a) k) (steps (8 * (after + 1) + 8) (word / 256 ^ 1 % 256 * 2 ^ 24))) (steps (8 * after + 8) (d * 2 ^ 24))) eb
+    ∙ (ap (λ (k : ℕ). bit_xor (bit_xor (bit_xor (steps n a) (steps n b)) k) (steps (8 * after + 8) (d * 2 ^ 24))) ec
     ∙ (ap (λ (k : ℕ). bit_xor (bit_xor (bit_xor (steps n a) (steps n b)) (steps n c)) k) ed
     ∙ (sym split ∙ sym whole))))
 

@@ -2,11 +2,11 @@
 use Rattle.std.specs.Prelude.{ℕ, zero, suc, ◌+◌, ◌*◌, ◌^◌}
 use Rattle.sd_crc.specs.Crc.{after_bit}
 
--- behind n bits 0 [ISO/IEC 13818-1, annex A]
+-- after n bits 0 [ISO/IEC 13818-1, annex A]
 unfoldable pub steps : ℕ → ℕ → ℕ
 steps zero register = register
 steps (suc n) register = steps n (after_bit register 0)
 
--- the register that a byte at its top leads to, with so many bytes of zeros behind it [ISO/IEC 13818-1, annex A]
+-- the register that a byte at its top leads to, with so many bytes of zeros after it [ISO/IEC 13818-1, annex A]
 unfoldable pub alone : ℕ → ℕ → ℕ
-alone behind byte = steps (8 * behind + 8) (byte * 2 ^ 24)
+alone after byte = steps (8 * after + 8) (byte * 2 ^ 24)

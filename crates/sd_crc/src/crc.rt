@@ -12,9 +12,9 @@ pub fn crc32(bytes: &[u8]) -> u32
 {
     let mut register = START;
     let mut rest = bytes;
-    while let Some((eight, behind)) = rest.split_first_chunk::<8>() {
+    while let Some((eight, after)) = rest.split_first_chunk::<8>() {
         register = after_eight(register, *eight);
-        rest = behind;
+        rest = after;
     }
     for byte in rest {
         register = after_one(register, *byte);
@@ -22,7 +22,7 @@ pub fn crc32(bytes: &[u8]) -> u32
     register
 }
 
-// The register behind eight bytes more.
+// The register after eight bytes more.
 #[inline]
 #[tactic(auto, using(crate::proofs::Words::eight_bytes))]
 fn after_eight(register: u32, bytes: [u8; 8]) -> u32
@@ -34,7 +34,7 @@ fn after_eight(register: u32, bytes: [u8; 8]) -> u32
     of_word(register ^ first, 4) ^ of_word(second, 0)
 }
 
-// The register behind a byte more.
+// The register after a byte more.
 #[inline]
 #[tactic(auto, using(crate::proofs::Words::byte_out))]
 fn after_one(register: u32, byte: u8) -> u32

@@ -4,7 +4,7 @@ ghost use Rattle.std.specs.Prelude.{◌≡◌, ◌<◌, ◌^◌, ◌++◌, ℕ, 
 ghost use Rattle.std.specs.Int.{w32, to_be_bytes};
 ghost use Rattle.sd_crc.specs.Crc.{crc_of};
 
-/// A CRC has 32 bits, and bytes with their own CRC behind them, its highest byte first, have CRC 0.
+/// A CRC has 32 bits, and bytes with their own CRC after them, its highest byte first, have CRC 0.
 #[tactic(auto, using(crate::proofs::Words::crc_below, crate::proofs::Words::crc_of_sealed))]
 pub fn sealed_bytes_give_0()
     ensures fits { (bytes : List ℕ) → crc_of bytes < 2 ^ 32 }

@@ -20,26 +20,26 @@ static REGISTERS: [[u32; 256]; 8] = [
     of_bits!([0] 0x5BA1_DCCA 0xB743_B994 0x6A46_6E9F 0xD48C_DD3E 0xADD8_A7CB 0x5F70_5221 0xBEE0_A442 0x7900_5533),
 ];
 
-// The register that a byte leads to by itself, with so many bytes of zeros behind it.
+// The register that a byte leads to by itself, with so many bytes of zeros after it.
 #[inline]
 #[tactic(auto, using(crate::proofs::Rows::entry))]
-pub fn of_byte(byte: u8, behind: usize) -> u32
-    requires { behind < 8 }
-    ensures { result ≡ alone behind byte }
+pub fn of_byte(byte: u8, after: usize) -> u32
+    requires { after < 8 }
+    ensures { result ≡ alone after byte }
 {
-    REGISTERS[behind][usize::from(byte)]
+    REGISTERS[after][usize::from(byte)]
 }
 
-/// The register that four bytes lead to by themselves, with so many bytes of zeros behind them.
+/// The register that four bytes lead to by themselves, with so many bytes of zeros after them.
 #[inline]
 #[tactic(auto, using(crate::proofs::Words::of_bytes))]
-pub fn of_word(word: u32, behind: usize) -> u32
-    requires { behind ≤ 4 }
-    ensures { result ≡ steps (8 * behind + 32) word }
+pub fn of_word(word: u32, after: usize) -> u32
+    requires { after ≤ 4 }
+    ensures { result ≡ steps (8 * after + 32) word }
 {
     let [first, second, third, fourth] = word.to_be_bytes();
-    of_byte(first, behind + 3)
-        ^ of_byte(second, behind + 2)
-        ^ of_byte(third, behind + 1)
-        ^ of_byte(fourth, behind)
+    of_byte(first, after + 3)
+        ^ of_byte(second, after + 2)
+        ^ of_byte(third, after + 1)
+        ^ of_byte(fourth, after)
 }

@@ -99,13 +99,13 @@ body_again part fits form =
     let xs : List ℕ = ecm_body part in
     let ps : List ℕ = places_bytes (listed part) in
     let end : List ℕ = part.check ++ part.count ∷ [] in
-    let behind : drop 17 xs ≡ part.wrapped ++ (part.check ++ part.count ∷ ps) =
+    let after : drop 17 xs ≡ part.wrapped ++ (part.check ++ part.count ∷ ps) =
     append_assoc part.wrapped end ps ∙ ap (λ (l : List ℕ). part.wrapped ++ l) (append_assoc part.check (part.count ∷ []) ps) in
     let tail : drop 49 xs ≡ part.check ++ part.count ∷ ps =
-    ap (drop 32) behind ∙ drop_at part.wrapped (part.check ++ part.count ∷ ps) 32 fits.front.wrapped in
+    ap (drop 32) after ∙ drop_at part.wrapped (part.check ++ part.count ∷ ps) 32 fits.front.wrapped in
     let long_end : length end ≡ 17 = omega (arith, length-append part.check (part.count ∷ []), fits.front.check) in
     let count : slice_index xs 65 ≡ part.count =
-    ap (λ (l : List ℕ). get_or l 48 0) (behind ∙ sym (append_assoc part.wrapped part.check (part.count ∷ ps)))
+    ap (λ (l : List ℕ). get_or l 48 0) (after ∙ sym (append_assoc part.wrapped part.check (part.count ∷ ps)))
     ∙ get_or_at (part.wrapped ++ part.check) part.count ps 0 48 (omega (arith, length-append part.wrapped part.check, fits.front.wrapped, fits.front.check)) in
     let rest : drop 66 xs ≡ ps =
     drop_at (part.wrapped ++ end) ps 49 (omega (arith, length-append part.wrapped end, fits.front.wrapped, long_end)) in
@@ -119,7 +119,7 @@ body_again part fits form =
     (word_again xs 8 part.word fits.front.word refl refl refl refl)
     (word_again xs 12 part.clear fits.front.clear refl refl refl refl)
     (flags_again part.closing)
-    (ap (take 32) behind ∙ take_at part.wrapped (part.check ++ part.count ∷ ps) 32 fits.front.wrapped)
+    (ap (take 32) after ∙ take_at part.wrapped (part.check ++ part.count ∷ ps) 32 fits.front.wrapped)
     (ap (take 16) tail ∙ take_at part.check (part.count ∷ ps) 16 fits.front.check)
     count
     (ap padded places ∙ padded_again part fits form)

@@ -32,9 +32,9 @@ next_place places k d e some within up less i j f below j_within =
     ])
 
 -- they don't ascend where one isn't above the one before
-pub not_behind : (places : List Place) (k : ℕ) (d e : Place) → 1 ≤ k → k < length places →
+pub not_after : (places : List Place) (k : ℕ) (d e : Place) → 1 ≤ k → k < length places →
     ¬ ((get_or places (k - 1) d).pid < (get_or places k e).pid) → ¬ AreAscending places
-not_behind places k d e some within unless up =
+not_after places k d e some within unless up =
     unless (rw (get_or_default places k d e within) at (up (k - 1) k d (omega arith) within))
 
 -- all of them

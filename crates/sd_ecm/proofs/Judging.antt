@@ -12,8 +12,8 @@ use Rattle.sd_ecm.specs.declared.fault.EcmFault.TheVariants.{Count, Order, Pid, 
 use Rattle.sd_ecm.proofs.Places.{length_places, positions_fit}
 
 -- what stands before the positions was read
-abbrev pub IsFront : EcmPart → EcmPart → Type 0
-IsFront part front = front ≡ with_places part (replicate 13 nothing)
+abbrev pub IsPrefix : EcmPart → EcmPart → Type 0
+IsPrefix part front = front ≡ with_places part (replicate 13 nothing)
 
 -- the positions that a part has are those in its body
 pub listed_in : (number last : ℕ) (body : List ℕ) →
@@ -29,23 +29,23 @@ unfolding ecm_in
 positions_are number last body = refl
 
 -- the same positions by the count that was read
-same_places : (number last : ℕ) (body : List ℕ) (front : EcmPart) (count : ℕ) → IsFront (ecm_in number last body) front →
+same_places : (number last : ℕ) (body : List ℕ) (front : EcmPart) (count : ℕ) → IsPrefix (ecm_in number last body) front →
     count ≡ front.count →
     places_in count (drop 66 body) ≡ listed (ecm_in number last body)
 same_places number last body front count is counted =
     ap (λ (n : ℕ). places_in n (drop 66 body)) (counted ∙ ap (λ (p : EcmPart). p.count) is) ∙ sym (listed_in number last body)
 
 -- the count isn't what it is to be
-pub count_breaks : (table_id : ℕ) (body : List ℕ) (part front : EcmPart) → IsFront part front → ¬ HasCount (length body) front →
+pub count_breaks : (table_id : ℕ) (body : List ℕ) (part front : EcmPart) → IsPrefix part front → ¬ HasCount (length body) front →
     BreaksIn table_id body part Count
 count_breaks table_id body part front is unless has = unless (subst (HasCount (length body)) (sym is) has)
 
 -- it is
-has_count : (body : List ℕ) (part front : EcmPart) → IsFront part front → HasCount (length body) front → HasCount (length body) part
+has_count : (body : List ℕ) (part front : EcmPart) → IsPrefix part front → HasCount (length body) front → HasCount (length body) part
 has_count body part front is has = subst (HasCount (length body)) is has
 
 -- a PID has no positions
-pub pid_breaks : (table_id number last : ℕ) (body : List ℕ) (front : EcmPart) (count : ℕ) → IsFront (ecm_in number last body) front →
+pub pid_breaks : (table_id number last : ℕ) (body : List ℕ) (front : EcmPart) (count : ℕ) → IsPrefix (ecm_in number last body) front →
     HasCount (length body) front → count ≡ front.count → ¬ ArePlaces (places_in count (drop 66 body)) →
     BreaksIn table_id body (ecm_in number last body) Pid
 pid_breaks table_id number last body front count is has counted unless = (
@@ -55,7 +55,7 @@ pid_breaks table_id number last body front count is has counted unless = (
 
 -- what was read is what the section says
 pub is_whole : (number last : ℕ) (body : List ℕ) (front : EcmPart) (count : ℕ) (places : List Place) →
-    IsFront (ecm_in number last body) front →
+    IsPrefix (ecm_in number last body) front →
     count ≡ front.count → places ≡ padded (places_in count (drop 66 body)) → with_places front places ≡ ecm_in number last body
 is_whole number last body front count places is counted read =
     let same : places ≡ (ecm_in number last body).positions =
@@ -64,14 +64,14 @@ is_whole number last body front count places is counted read =
 
 -- the positions that were read are those that the part has
 same_listed : (number last : ℕ) (body : List ℕ) (front : EcmPart) (count : ℕ) (places : List Place) →
-    IsFront (ecm_in number last body) front →
+    IsPrefix (ecm_in number last body) front →
     count ≡ front.count → places ≡ padded (places_in count (drop 66 body)) → take count places ≡ listed (ecm_in number last body)
 same_listed number last body front count places is counted read =
     ap (λ (n : ℕ). take n places) counted ∙ ap listed (is_whole number last body front count places is counted read)
 
 -- the PIDs don't ascend
 pub order_breaks : (table_id number last : ℕ) (body : List ℕ) (front : EcmPart) (count : ℕ) (places : List Place) →
-    IsFront (ecm_in number last body) front → HasCount (length body) front → count ≡ front.count →
+    IsPrefix (ecm_in number last body) front → HasCount (length body) front → count ≡ front.count →
     ArePlaces (places_in count (drop 66 body)) →
     places ≡ padded (places_in count (drop 66 body)) → ¬ AreAscending (take count places) →
     BreaksIn table_id body (ecm_in number last body) Order
@@ -85,7 +85,7 @@ order_breaks table_id number last body front count places is has counted all rea
 
 -- the flags or the table_id don't match
 pub mixed_breaks : (table_id number last : ℕ) (body : List ℕ) (front : EcmPart) (count : ℕ) (places : List Place) →
-    IsFront (ecm_in number last body) front → HasCount (length body) front → count ≡ front.count →
+    IsPrefix (ecm_in number last body) front → HasCount (length body) front → count ≡ front.count →
     ArePlaces (places_in count (drop 66 body)) →
     places ≡ padded (places_in count (drop 66 body)) → AreAscending (take count places) →
     ¬ IsMatched table_id (flags_of body) front.word →
@@ -103,7 +103,7 @@ mixed_breaks table_id number last body front count places is has counted all rea
 
 -- nothing is wrong
 pub is_good : (table_id number last : ℕ) (body : List ℕ) (front : EcmPart) (count : ℕ) (places : List Place) →
-    IsFront (ecm_in number last body) front → HasCount (length body) front → count ≡ front.count →
+    IsPrefix (ecm_in number last body) front → HasCount (length body) front → count ≡ front.count →
     ArePlaces (places_in count (drop 66 body)) →
     places ≡ padded (places_in count (drop 66 body)) → AreAscending (take count places) → IsMatched table_id (flags_of body) front.word →
     IsGoodIn table_id body (ecm_in number last body)

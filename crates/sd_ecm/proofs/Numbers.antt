@@ -61,7 +61,7 @@ long_spelled xs p bytes h =
     let e5 : n % 256 ≡ get_or xs (p + 5) 0 = omega arith in
     rw (e0, e1, e2, e3, e4, e5) (six_at xs p h)
 
--- what six bytes spell is read from them, whatever stands before and behind
+-- what six bytes spell is read from them, whatever stands before and after
 pub long_again : (xs : List ℕ) (p n : ℕ) → n < 2 ^ 48 → get_or xs (p + 0) 0 ≡ n / 1099511627776 % 256 →
     get_or xs (p + 1) 0 ≡ n / 4294967296 % 256 → get_or xs (p + 2) 0 ≡ n / 16777216 % 256 → get_or xs (p + 3) 0 ≡ n / 65536 % 256 →
     get_or xs (p + 4) 0 ≡ n / 256 % 256 → get_or xs (p + 5) 0 ≡ n % 256 → field xs (8 * p) 48 ≡ n

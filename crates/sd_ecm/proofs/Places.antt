@@ -1,4 +1,4 @@
--- Positions one behind the other.
+-- Positions one after the other.
 use Rattle.std.proofs.Common.{inl, inr, ℕ, zero, suc, ◌+◌, ◌-◌, ◌*◌, ◌<◌, ◌≡◌, List, [], ◌∷◌, ◌++◌, length, take, drop, set, get_or, drop-drop, append_assoc, ◌^◌, arith, refl, sym, ap, ◌∙◌, subst}
 use Rattle.std.specs.Prelude.{replicate, All}
 use Rattle.std.proofs.lemmas.Bool.{cases_lt}

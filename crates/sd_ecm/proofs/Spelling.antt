@@ -12,7 +12,7 @@ use Rattle.sd_ecm.specs.declared.part.Place.{Place}
 use Rattle.sd_ecm.proofs.Numbers.{long_spelled}
 use Rattle.sd_ecm.proofs.Judging.{listed_in}
 
--- one position behind others
+-- one position after others
 places_more : (xs : List Place) (x : Place) → places_bytes (xs ++ x ∷ []) ≡ places_bytes xs ++ place_bytes x
 unfolding places_bytes
 places_more [] x = append-nil (place_bytes x)
@@ -38,9 +38,9 @@ unfolding place_bytes place_of
 place_spelled bytes each long =
     let pid : to_be_bytes w16 (field bytes 0 16) ≡ take 2 bytes = half_spelled bytes 0 each (omega arith) in
     let position : drop 2 (to_be_bytes w64 (field bytes 16 48)) ≡ take 6 (drop 2 bytes) = long_spelled bytes 2 each (omega arith) in
-    let behind : take 6 (drop 2 bytes) ≡ drop 2 bytes = take_all 6 (drop 2 bytes) (omega (arith, length-drop 2 bytes)) in
+    let after : take 6 (drop 2 bytes) ≡ drop 2 bytes = take_all 6 (drop 2 bytes) (omega (arith, length-drop 2 bytes)) in
     ap (λ (l : List ℕ). l ++ drop 2 (to_be_bytes w64 (field bytes 16 48))) pid
-    ∙ (ap (λ (l : List ℕ). take 2 bytes ++ l) (position ∙ behind) ∙ take-append-drop 2 bytes)
+    ∙ (ap (λ (l : List ℕ). take 2 bytes ++ l) (position ∙ after) ∙ take-append-drop 2 bytes)
 
 -- the bytes of a part are bytes
 bytes_drop : (n : ℕ) (bytes : List ℕ) → IsBytes bytes → IsBytes (drop n bytes)

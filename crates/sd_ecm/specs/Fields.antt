@@ -27,7 +27,7 @@ pub record IsEcmPacket (packet : List ℕ) : Type 0 where
 unfoldable pub place_of : List ℕ → Place
 place_of bytes = record { pid = field bytes 0 16; position = field bytes 16 48 }
 
--- so many positions, one behind the other
+-- so many positions, one after the other
 unfoldable pub places_in : ℕ → List ℕ → List Place
 places_in zero bytes = []
 places_in (suc n) bytes = place_of (take 8 bytes) ∷ places_in n (drop 8 bytes)

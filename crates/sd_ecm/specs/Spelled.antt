@@ -15,7 +15,7 @@ listed part = take part.count part.positions
 unfoldable pub place_bytes : Place → List ℕ
 place_bytes place = to_be_bytes w16 place.pid ++ drop 2 (to_be_bytes w64 place.position)
 
--- one position behind the other
+-- one position after the other
 unfoldable pub places_bytes : List Place → List ℕ
 places_bytes [] = []
 places_bytes (place ∷ places) = place_bytes place ++ places_bytes places

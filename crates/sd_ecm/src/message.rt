@@ -65,8 +65,8 @@ fn places_of(places: &[Place], part: u8) -> &[Place]
     ensures value { result.now ≡ places_at places.now part }
     ensures few { length result.now ≤ 13 }
 {
-    let behind = &places[places.len().min(13 * usize::from(part))..];
-    &behind[..behind.len().min(13)]
+    let after = &places[places.len().min(13 * usize::from(part))..];
+    &after[..after.len().min(13)]
 }
 
 // Filled up to 13.

@@ -17,7 +17,7 @@ use sd_packet::{Packet, is_positional};
 use sd_section::Section;
 
 /// The part of a control message that a packet's section is, or `None` where the packet is of another kind. What stands
-/// behind the section isn't read.
+/// after the section isn't read.
 pub fn read_ecm(packet: &Packet) -> Result<Option<EcmPart>, EcmFault>
     ensures none { (result ≡ Ok None) ↔ ¬ IsEcmPacket packet.now }
     ensures fault { (fault : EcmFault) →

@@ -335,7 +335,7 @@ fn faults_in_order(rt: HostRuntime) -> Result<(), Fail> {
         (1, &[(12, 1), (79, 0x20), (29, 2)], Err(EcmFault::Count)),
         (1, &[(80, 1), (95, 0x1F), (96, 0xF0)], Err(EcmFault::Pid)),
         (1, &[(80, 1), (5, 0x81)], Err(EcmFault::Order)),
-        // Other kinds: table_id, the bit behind the syntax indicator, version, extension, part above the last, pointer,
+        // Other kinds: table_id, the bit after the syntax indicator, version, extension, part above the last, pointer,
         // unit start, length.
         (1, &[(5, 0x82)], Ok(None)),
         (1, &[(6, 0xF0)], Ok(None)),
@@ -363,7 +363,7 @@ fn no_bit_makes_another_message(rt: HostRuntime) -> Result<(), Fail> {
         bytes[place] ^= 1;
         if let Some(packet) = Packet::new(bytes) {
             match read_ecm(&packet) {
-                // The header's PID, the counter and what stands behind the section aren't read.
+                // The header's PID, the counter and what stands after the section aren't read.
                 Ok(Some(part)) => {
                     assert!(rt; place < 4 || place >= 107);
                     assert_eq!(rt; Some(part), part_of(row));

@@ -72,7 +72,7 @@ fn front_of(part: &EcmPart) -> Body
     body
 }
 
-// Puts a position behind the body.
+// Puts a position after the body.
 #[tactic(auto, unfolding(crate::specs::Spelled::place_bytes))]
 fn put_place(body: &mut Body, place: &Place)
     requires { length body.old + 8 ≤ 171 }

@@ -30,9 +30,9 @@ long_entry entry fits = omega (arith, length-append (name_bytes entry.name) entr
 entry_alone : (entry : Entry) → IsSpellable entry → entry_of (entry_bytes entry) ≡ entry
 unfolding entry_of entry_bytes
 entry_alone entry fits =
-    let behind : drop 8 (name_bytes entry.name ++ entry.wrapped) ≡ entry.wrapped =
+    let after : drop 8 (name_bytes entry.name ++ entry.wrapped) ≡ entry.wrapped =
     drop_at (name_bytes entry.name) entry.wrapped 8 (long_name entry.name) in
-    rw (fits.name entry.wrapped, behind, take_all 32 entry.wrapped (omega (arith, fits.wrapped))) refl
+    rw (fits.name entry.wrapped, after, take_all 32 entry.wrapped (omega (arith, fits.wrapped))) refl
 
 -- all entries
 entries_again : (es : List Entry) → All IsSpellable es → entries_in (length es) (entries_bytes es) ≡ es
@@ -81,9 +81,9 @@ body_again h emm high fits form sets =
     let xs : List ℕ = emm_body emm in
     let es : List ℕ = entries_bytes (listed emm) in
     let few = few_entries emm form in
-    let behind : drop 10 xs ≡ emm.check ++ emm.count ∷ es = append_assoc emm.check (emm.count ∷ []) es in
+    let after : drop 10 xs ≡ emm.check ++ emm.count ∷ es = append_assoc emm.check (emm.count ∷ []) es in
     let count : slice_index xs 26 ≡ emm.count =
-    ap (λ (l : List ℕ). get_or l 16 0) behind ∙ get_or_at emm.check emm.count es 0 16 fits.front.check in
+    ap (λ (l : List ℕ). get_or l 16 0) after ∙ get_or_at emm.check emm.count es 0 16 fits.front.check in
     let rest : drop 27 xs ≡ es =
     drop_at (emm.check ++ emm.count ∷ []) es 17 (omega (arith, length-append emm.check (emm.count ∷ []), fits.front.check)) in
     let long : emm.count ≡ length (listed emm) = sym (length-take-le emm.count emm.entries (omega (arith, fits.entries))) in
@@ -94,7 +94,7 @@ body_again h emm high fits form sets =
     (word_again xs 0 emm.period fits.front.period refl refl refl refl)
     (word_again xs 4 emm.sets fits.front.sets refl refl refl refl)
     (half_again xs 8 emm.sections fits.front.sections refl refl)
-    (ap (take 16) behind ∙ take_at emm.check (emm.count ∷ es) 16 fits.front.check)
+    (ap (take 16) after ∙ take_at emm.check (emm.count ∷ es) 16 fits.front.check)
     count
     (ap padded entries ∙ padded_again emm fits form)
 

@@ -10,7 +10,7 @@ use Rattle.sd_tree.specs.SetNames.{set_cmp, AreAscending}
 use Rattle.sd_emm.specs.Spelled.{names_of}
 use Rattle.sd_emm.specs.declared.emm.Entry.{Entry}
 
--- what stands before a set stands before all behind it
+-- what stands before a set stands before all after it
 less_chain : (a b c : SetName) → set_cmp a b ≡ Less → set_cmp b c ≡ Less → set_cmp a c ≡ Less
 less_chain a Whole Whole p q = absurd (cc)
 less_chain a (Diff k l) Whole p q = absurd (cc)
@@ -22,7 +22,7 @@ less_chain (Diff i j) (Diff k l) (Diff m n) p q = grind (arith, nat_tests)
 pub first_ascends : (names : List SetName) (k : ℕ) → k ≤ 1 → AreAscending (take k names)
 first_ascends names k h i j d below within = absurd (omega (arith, length-take k names))
 
--- with one more that stands behind the last
+-- with one more that stands after the last
 pub next_ascends : (names : List SetName) (k : ℕ) (e : SetName) → 1 ≤ k → k < length names → AreAscending (take k names) →
     set_cmp (get_or names (k - 1) e) (get_or names k e) ≡ Less → AreAscending (take (k + 1) names)
 next_ascends names k e some within up less i j d below j_within =
@@ -51,7 +51,7 @@ named_at [] i d e h = absurd (omega arith)
 named_at (x ∷ xs) zero d e h = refl
 named_at (x ∷ xs) (suc i) d e h = named_at xs i d e (omega arith)
 
--- the sets of entries ascend with one more that stands behind the last
+-- the sets of entries ascend with one more that stands after the last
 pub next_entry : (entries : List Entry) (k : ℕ) (d e : Entry) → 1 ≤ k → k < length entries → AreAscending (take k (names_of entries)) →
     set_cmp (get_or entries (k - 1) d).name (get_or entries k e).name ≡ Less → AreAscending (take (k + 1) (names_of entries))
 next_entry entries k d e some within up less =
@@ -59,10 +59,10 @@ next_entry entries k d e some within up less =
     next_ascends (names_of entries) k Whole some (omega arith) up
     (rw (named_at entries (k - 1) Whole d (omega arith), named_at entries k Whole e within) less)
 
--- they don't ascend where one doesn't stand behind the one before
-pub not_behind : (entries : List Entry) (k : ℕ) (d e : Entry) → 1 ≤ k → k < length entries →
+-- they don't ascend where one doesn't stand after the one before
+pub not_after : (entries : List Entry) (k : ℕ) (d e : Entry) → 1 ≤ k → k < length entries →
     ¬ (set_cmp (get_or entries (k - 1) d).name (get_or entries k e).name ≡ Less) → ¬ AreAscending (names_of entries)
-not_behind entries k d e some within unless up =
+not_after entries k d e some within unless up =
     let long = length-map entries (λ (entry : Entry). entry.name) in
     unless (rw (named_at entries (k - 1) Whole d (omega arith), named_at entries k Whole e within) at (up (k - 1) k Whole (omega arith) (omega arith)))
 

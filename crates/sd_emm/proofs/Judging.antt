@@ -13,8 +13,8 @@ use Rattle.sd_emm.specs.declared.fault.EmmFault.TheVariants.{Count, Order, Node,
 use Rattle.sd_emm.proofs.Entries.{length_entries}
 
 -- what stands before the entries was read
-abbrev pub IsFront : ℕ → List ℕ → Emm → Type 0
-IsFront index body front = front ≡ with_entries (emm_in index body) (replicate 3 nothing)
+abbrev pub IsPrefix : ℕ → List ℕ → Emm → Type 0
+IsPrefix index body front = front ≡ with_entries (emm_in index body) (replicate 3 nothing)
 
 -- the entries that a section has are those in its body
 pub listed_in : (index : ℕ) (body : List ℕ) → listed (emm_in index body) ≡ entries_in (emm_in index body).count (drop 27 body)
@@ -28,23 +28,23 @@ unfolding emm_in
 entries_are index body = refl
 
 -- the same entries by the count that was read
-same_entries : (index : ℕ) (body : List ℕ) (front : Emm) (count : ℕ) → IsFront index body front → count ≡ front.count →
+same_entries : (index : ℕ) (body : List ℕ) (front : Emm) (count : ℕ) → IsPrefix index body front → count ≡ front.count →
     entries_in count (drop 27 body) ≡ listed (emm_in index body)
 same_entries index body front count is counted =
     ap (λ (n : ℕ). entries_in n (drop 27 body)) (counted ∙ ap (λ (e : Emm). e.count) is) ∙ sym (listed_in index body)
 
 -- the numbers don't come to one another
-pub count_breaks : (h index : ℕ) (body : List ℕ) (front : Emm) → IsFront index body front → ¬ HasCount (length body) front →
+pub count_breaks : (h index : ℕ) (body : List ℕ) (front : Emm) → IsPrefix index body front → ¬ HasCount (length body) front →
     BreaksIn h (length body) (emm_in index body) Count
 count_breaks h index body front is unless has = unless (subst (HasCount (length body)) (sym is) has)
 
 -- they do
-has_count : (index : ℕ) (body : List ℕ) (front : Emm) → IsFront index body front → HasCount (length body) front →
+has_count : (index : ℕ) (body : List ℕ) (front : Emm) → IsPrefix index body front → HasCount (length body) front →
     HasCount (length body) (emm_in index body)
 has_count index body front is has = subst (HasCount (length body)) is has
 
 -- the entries are sets by the number that was read where they are
-same_sets : (h index : ℕ) (body : List ℕ) (front : Emm) (count : ℕ) → IsFront index body front → count ≡ front.count →
+same_sets : (h index : ℕ) (body : List ℕ) (front : Emm) (count : ℕ) → IsPrefix index body front → count ≡ front.count →
     AreSets h front.sets (entries_in count (drop 27 body)) ↔ AreSets h (emm_in index body).sets (listed (emm_in index body))
 same_sets h index body front count is counted =
     let entries = same_entries index body front count is counted in
@@ -54,13 +54,13 @@ same_sets h index body front count is counted =
     )
 
 -- an entry is no set that may stand there
-pub node_breaks : (h index : ℕ) (body : List ℕ) (front : Emm) (count : ℕ) → IsFront index body front → HasCount (length body) front →
+pub node_breaks : (h index : ℕ) (body : List ℕ) (front : Emm) (count : ℕ) → IsPrefix index body front → HasCount (length body) front →
     count ≡ front.count → ¬ AreSets h front.sets (entries_in count (drop 27 body)) → BreaksIn h (length body) (emm_in index body) Node
 node_breaks h index body front count is has counted unless =
     (has_count index body front is has, λ all. unless ((same_sets h index body front count is counted).1 all))
 
 -- what was read is what the section says
-pub is_whole : (index : ℕ) (body : List ℕ) (front : Emm) (count : ℕ) (entries : List Entry) → IsFront index body front →
+pub is_whole : (index : ℕ) (body : List ℕ) (front : Emm) (count : ℕ) (entries : List Entry) → IsPrefix index body front →
     count ≡ front.count → entries ≡ padded (entries_in count (drop 27 body)) → with_entries front entries ≡ emm_in index body
 is_whole index body front count entries is counted read =
     let same : entries ≡ (emm_in index body).entries =
@@ -68,13 +68,13 @@ is_whole index body front count entries is counted read =
     ap (λ (f : Emm). with_entries f entries) is ∙ ap (with_entries (emm_in index body)) same
 
 -- the entries that were read are those that the section has
-same_listed : (index : ℕ) (body : List ℕ) (front : Emm) (count : ℕ) (entries : List Entry) → IsFront index body front →
+same_listed : (index : ℕ) (body : List ℕ) (front : Emm) (count : ℕ) (entries : List Entry) → IsPrefix index body front →
     count ≡ front.count → entries ≡ padded (entries_in count (drop 27 body)) → take count entries ≡ listed (emm_in index body)
 same_listed index body front count entries is counted read =
     ap (λ (n : ℕ). take n entries) counted ∙ ap listed (is_whole index body front count entries is counted read)
 
 -- the entries don't ascend
-pub order_breaks : (h index : ℕ) (body : List ℕ) (front : Emm) (count : ℕ) (entries : List Entry) → IsFront index body front →
+pub order_breaks : (h index : ℕ) (body : List ℕ) (front : Emm) (count : ℕ) (entries : List Entry) → IsPrefix index body front →
     HasCount (length body) front → count ≡ front.count → AreSets h front.sets (entries_in count (drop 27 body)) →
     entries ≡ padded (entries_in count (drop 27 body)) → ¬ AreAscending (names_of (take count entries)) →
     BreaksIn h (length body) (emm_in index body) Order
@@ -87,7 +87,7 @@ order_breaks h index body front count entries is has counted sets read unless = 
 )
 
 -- nothing is wrong
-pub is_good : (h index : ℕ) (body : List ℕ) (front : Emm) (count : ℕ) (entries : List Entry) → IsFront index body front →
+pub is_good : (h index : ℕ) (body : List ℕ) (front : Emm) (count : ℕ) (entries : List Entry) → IsPrefix index body front →
     HasCount (length body) front → count ≡ front.count → AreSets h front.sets (entries_in count (drop 27 body)) →
     entries ≡ padded (entries_in count (drop 27 body)) → AreAscending (names_of (take count entries)) →
     IsGoodIn h (length body) (emm_in index body)

@@ -16,11 +16,11 @@ use Rattle.sd_emm.specs.Form.{AreWrapped}
 use Rattle.sd_emm.specs.Fields.{name_of, entry_of, entries_in, emm_in, IsEmmSection}
 use Rattle.sd_emm.specs.declared.emm.Entry.{Entry}
 
--- what is put behind something in three pieces
-pub put_behind : (old a b c : List ℕ) → ((old ++ a) ++ b) ++ c ≡ old ++ ((a ++ b) ++ c)
-put_behind old a b c = ap (λ (l : List ℕ). l ++ c) (append_assoc old a b) ∙ append_assoc old (a ++ b) c
+-- what is put after something in three pieces
+pub put_after : (old a b c : List ℕ) → ((old ++ a) ++ b) ++ c ≡ old ++ ((a ++ b) ++ c)
+put_after old a b c = ap (λ (l : List ℕ). l ++ c) (append_assoc old a b) ∙ append_assoc old (a ++ b) c
 
--- one entry behind others
+-- one entry after others
 entries_more : (xs : List Entry) (x : Entry) → entries_bytes (xs ++ x ∷ []) ≡ entries_bytes xs ++ entry_bytes x
 unfolding entries_bytes
 entries_more [] x = append-nil (entry_bytes x)
@@ -80,8 +80,8 @@ entry_spelled bytes each long =
     name_spelled (field bytes 0 32) (field bytes 32 32)
     ∙ (ap (λ (l : List ℕ). l ++ to_be_bytes w32 (field bytes 32 32)) first
     ∙ (ap (λ (l : List ℕ). take 4 bytes ++ l) second ∙ sym (take-add 4 4 bytes))) in
-    let behind : take 32 (drop 8 bytes) ≡ drop 8 bytes = take_all 32 (drop 8 bytes) (omega (arith, length-drop 8 bytes)) in
-    rw (name, behind) (take-append-drop 8 bytes)
+    let after : take 32 (drop 8 bytes) ≡ drop 8 bytes = take_all 32 (drop 8 bytes) (omega (arith, length-drop 8 bytes)) in
+    rw (name, after) (take-append-drop 8 bytes)
 
 -- the bytes of a part are bytes
 bytes_drop : (n : ℕ) (bytes : List ℕ) → IsBytes bytes → IsBytes (drop n bytes)

@@ -33,7 +33,7 @@ name_of i j = if (i == 0) && (j == 0) then Whole else Diff i j
 unfoldable pub entry_of : List ℕ → Entry
 entry_of bytes = record { name = name_of (field bytes 0 32) (field bytes 32 32); wrapped = slice_range bytes 8 40 }
 
--- so many entries, one behind the other
+-- so many entries, one after the other
 unfoldable pub entries_in : ℕ → List ℕ → List Entry
 entries_in zero bytes = []
 entries_in (suc n) bytes = entry_of (take 40 bytes) ∷ entries_in n (drop 40 bytes)

@@ -26,7 +26,7 @@ name_bytes (Diff i j) = to_be_bytes w32 i ++ to_be_bytes w32 j
 unfoldable pub entry_bytes : Entry → List ℕ
 entry_bytes entry = name_bytes entry.name ++ entry.wrapped
 
--- one entry behind the other
+-- one entry after the other
 unfoldable pub entries_bytes : List Entry → List ℕ
 entries_bytes [] = []
 entries_bytes (entry ∷ entries) = entry_bytes entry ++ entries_bytes entries

@@ -7,7 +7,7 @@ use crate::emm::Entry;
 use sd_tree::compare_names;
 use std::cmp::Ordering;
 
-/// Whether each entry's set stands behind all before it.
+/// Whether each entry's set stands after all before it.
 #[tactic(auto, using(crate::proofs::Ascending::first_ascends))]
 pub fn are_ascending(entries: &[Entry]) -> bool
     ensures { IsTrue result ↔ AreAscending (names_of entries.now) }
@@ -20,7 +20,7 @@ pub fn are_ascending(entries: &[Entry]) -> bool
     true
 }
 
-// Whether the second entry's set stands behind that of the first.
+// Whether the second entry's set stands after that of the first.
 fn is_before(first: &Entry, second: &Entry) -> bool
     ensures { IsTrue result ↔ (set_cmp first.now.name second.now.name ≡ Less) }
 {

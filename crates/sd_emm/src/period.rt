@@ -43,8 +43,8 @@ fn entries_of(entries: &[Entry], index: u16) -> &[Entry]
     ensures value { result.now ≡ entries_at entries.now index }
     ensures few { length result.now ≤ 3 }
 {
-    let behind = &entries[entries.len().min(3 * usize::from(index))..];
-    &behind[..behind.len().min(3)]
+    let after = &entries[entries.len().min(3 * usize::from(index))..];
+    &after[..after.len().min(3)]
 }
 
 // Filled up to three.

@@ -280,7 +280,7 @@ fn faults_in_order(rt: HostRuntime) -> Result<(), Fail> {
         (2, &[(43, 2), (47, 3)], Err(EmmFault::Node)),
         (3, &[(43, 0), (47, 0)], Err(EmmFault::Node)),
         (3, &[(127, 20)], Err(EmmFault::Node)),
-        // Behind a greater one, and twice.
+        // After a greater one, and twice.
         (3, &[(43, 5), (47, 11)], Err(EmmFault::Order)),
         (3, &[(123, 4), (127, 8)], Err(EmmFault::Order)),
         // The first rule that is broken counts.
@@ -290,7 +290,7 @@ fn faults_in_order(rt: HostRuntime) -> Result<(), Fail> {
             Err(EmmFault::Count),
         ),
         (3, &[(43, 6), (47, 13), (127, 20)], Err(EmmFault::Node)),
-        // Other kinds: table_id, the bit behind the syntax indicator, version, section numbers, pointer, unit start.
+        // Other kinds: table_id, the bit after the syntax indicator, version, section numbers, pointer, unit start.
         (3, &[(5, 0x80)], Ok(None)),
         (3, &[(6, 0xF0)], Ok(None)),
         (3, &[(10, 0xC3)], Ok(None)),
@@ -318,7 +318,7 @@ fn no_bit_makes_another_message(rt: HostRuntime) -> Result<(), Fail> {
         bytes[place] ^= 1;
         if let Some(packet) = Packet::new(bytes) {
             match read_emm(h, &packet) {
-                // The header's PID, the counter and what stands behind the section aren't read.
+                // The header's PID, the counter and what stands after the section aren't read.
                 Ok(Some(emm)) => {
                     assert!(rt; place < 4 || place >= 164);
                     assert_eq!(rt; Some(emm), emm_of(row));

@@ -63,8 +63,8 @@ fn front_of(emm: &Emm) -> Body
     body
 }
 
-// Puts an entry behind the body.
-#[tactic(auto, using(crate::proofs::Spelling::put_behind), unfolding(crate::specs::Spelled::entry_bytes))]
+// Puts an entry after the body.
+#[tactic(auto, using(crate::proofs::Spelling::put_after), unfolding(crate::specs::Spelled::entry_bytes))]
 fn put_entry(body: &mut Body, entry: &Entry)
     requires { length body.old + 40 ≤ 171 }
     ensures value { body.new ≡ body.old ++ entry_bytes entry.now }

@@ -91,7 +91,7 @@ pub below_none : (label : List ℕ) (j : ℕ) → label_below label 0 j ≡ labe
 unfolding label_below
 below_none label j = refl
 
--- of n levels to a node, one more behind the first k
+-- of n levels to a node, one more after the first k
 pub below_more : (label : List ℕ) (j k n : ℕ) → k < n → third_of (side_of (j / 2 ^ (n - k - 1))) (label_below label k (j / 2 ^ (n - k))) ≡ label_below label (k + 1) (j / 2 ^ (n - (k + 1)))
 unfolding label_below
 below_more label j k n h =

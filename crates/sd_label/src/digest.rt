@@ -14,7 +14,7 @@ pub fn tagged(bytes: &[u8; 32], tag: u8) -> [u8; 32]
     hasher.finalize()
 }
 
-// The same with a number behind the byte.
+// The same with a number after the byte.
 pub fn numbered(bytes: &[u8; 32], tag: u8, number: u32) -> [u8; 32]
     ensures { result ≡ sha256 (bytes.now ++ tag ∷ to_be_bytes w32 number) }
 {

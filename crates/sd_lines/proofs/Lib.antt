@@ -1,3 +1,3 @@
-pub mod Behind
+pub mod After
 pub mod Growing
 pub mod Plain

@@ -9,7 +9,7 @@ use std::alloc::{AllocError, Global};
 
 const CA_DESCRIPTOR: u8 = 9;
 
-// Puts what is shown of a descriptor behind the others, where it is a CA_descriptor.
+// Puts what is shown of a descriptor after the others, where it is a CA_descriptor.
 #[tactic(auto, using(crate::proofs::Growing::ca_shown, crate::proofs::Growing::other_hidden, std::proofs::lemmas::List::map_push))]
 pub(crate) fn push_ca(
     alloc: Global,
@@ -33,7 +33,7 @@ fn has_ca(descriptor: &Descriptor) -> bool
 }
 
 // What is shown of it.
-#[tactic(auto, using(crate::proofs::Behind::ca_is_long))]
+#[tactic(auto, using(crate::proofs::After::ca_is_long))]
 fn ca_value(alloc: Global, descriptor: &Descriptor) -> Result<Value, AllocError>
     requires { is_ca descriptor.now.bytes.now ≡ true }
     ensures { IfOk result (λ value. view value ≡ ca_data descriptor.now.bytes.now) }

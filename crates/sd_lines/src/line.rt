@@ -5,13 +5,13 @@ ghost use Rattle.sd_lines.specs.Lines.{fault_data, table_data, section_data, lin
 use crate::cat::cat_value;
 use crate::pat::pat_value;
 use crate::pmt::pmt_value;
-use sd_ports::NoMemory;
+use sd_cause::NoMemory;
 use sd_psi::{cat_in, pat_in, pmt_in};
 use sd_section::{Section, SectionFault, read_one};
 use serde_json::{Value, json};
 use std::alloc::{AllocError, Global};
 
-/// Puts the line of a section behind the text: of these bytes on this PID, completed by the packet of this number.
+/// Puts the line of a section after the text: of these bytes on this PID, completed by the packet of this number.
 ///
 /// The line is compact JSON with the keys in ascending order, and a line feed. Of a PAT, a CAT and a PMT it names what they list, and of
 /// anything else which fault it has.

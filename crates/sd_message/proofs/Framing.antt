@@ -35,16 +35,16 @@ payload_split section packet begins =
     sym (take-append-drop (length section + 1) (payload_of packet))
     ∙ ap (λ (l : List ℕ). l ++ drop (length section + 1) (payload_of packet)) begins.payload
 
--- what stands in the payload behind the pointer
-behind_split : (section packet : List ℕ) → Begins section packet →
+-- what stands in the payload after the pointer
+after_split : (section packet : List ℕ) → Begins section packet →
     drop 1 (payload_of packet) ≡ section ++ drop (length section + 1) (payload_of packet)
-behind_split section packet begins = ap (drop 1) (payload_split section packet begins)
+after_split section packet begins = ap (drop 1) (payload_split section packet begins)
 
 -- the section is what a packet that begins with it is read as
 pub begun_is_read : (header : Header) (body packet : List ℕ) → Fits header → length body ≤ 4084 →
     Begins (section_bytes header body) packet → section_of packet ≡ section_bytes header body
 begun_is_read header body packet fits few begins =
-    ap whole_of (behind_split (section_bytes header body) packet begins) ∙ whole_is_read header body _ fits few
+    ap whole_of (after_split (section_bytes header body) packet begins) ∙ whole_is_read header body _ fits few
 
 -- what is read from the header of a section is what was written
 pub header_again : (header : Header) (body : List ℕ) → Fits header → length body ≤ 4084 → header_of (section_bytes header body) ≡ header
@@ -72,6 +72,6 @@ pub begun_is_there : (header : Header) (body packet : List ℕ) → Fits header 
 begun_is_there header body packet fits few begins =
     record {
       starts = record { unit_start = begins.unit_start; pointer = ap (λ (l : List ℕ). slice_get l 0) (payload_split _ packet begins) };
-      good = ap section_fault (behind_split _ packet begins) ∙ none_is_wrong header body _ fits few;
+      good = ap section_fault (after_split _ packet begins) ∙ none_is_wrong header body _ fits few;
       plain = subst IsPlain (sym (begun_is_read header body packet fits few begins)) (written_is_plain header body fits few);
     }

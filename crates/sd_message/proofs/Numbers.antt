@@ -63,7 +63,7 @@ word_spelled xs p bytes h =
     let e3 : n % 256 ≡ get_or xs (p + 3) 0 = omega arith in
     rw (e0, e1, e2, e3) (four_at xs p h)
 
--- what two bytes spell is read from them, whatever stands before and behind
+-- what two bytes spell is read from them, whatever stands before and after
 pub half_again : (xs : List ℕ) (p n : ℕ) → n < 2 ^ 16 → get_or xs (p + 0) 0 ≡ n / 256 % 256 → get_or xs (p + 1) 0 ≡ n % 256 →
     field xs (8 * p) 16 ≡ n
 half_again xs p n h e0 e1 = omega (arith, no_byte xs (8 * p), byte_more xs p 0 (omega arith), byte_more xs p 1 (omega arith))

@@ -41,10 +41,10 @@ unfolding section_bytes crc_due
 plain_spelled section bytes whole low plain right =
     let front : List ℕ = header_bytes (header_of section) (length (body_of section)) ++ body_of section in
     let in_front : take (length section - 4) section ≡ front = front_spelled section (omega arith) plain in
-    let behind : to_be_bytes w32 (crc_of front) ≡ drop (length section - 4) section =
+    let after : to_be_bytes w32 (crc_of front) ≡ drop (length section - 4) section =
     ap (λ (l : List ℕ). to_be_bytes w32 (crc_of l)) (sym in_front)
     ∙ (ap (λ (n : ℕ). to_be_bytes w32 n) (sym right) ∙ back_spelled section bytes (omega arith)) in
-    sym (ap (λ (l : List ℕ). front ++ l) behind ∙ (ap (λ (l : List ℕ). l ++ drop (length section - 4) section) (sym in_front)
+    sym (ap (λ (l : List ℕ). front ++ l) after ∙ (ap (λ (l : List ℕ). l ++ drop (length section - 4) section) (sym in_front)
     ∙ take-append-drop (length section - 4) section))
 
 -- the header and the body laid into as many bytes, and sealed

@@ -6,7 +6,7 @@ use Rattle.sd_section.specs.Judged.{section_fault}
 use Rattle.sd_section.specs.Written.{header_bytes}
 use Rattle.sd_section.specs.declared.write.Header.{Header}
 
--- a section starts with the payload, behind pointer 0 [ISO/IEC 13818-1, 2.4.4]
+-- a section starts with the payload, after pointer 0 [ISO/IEC 13818-1, 2.4.4]
 pub record HasPointer (packet : List ℕ) : Type 0 where
   pub unit_start : unit_start_of packet ≡ 1
   pub pointer : slice_get (payload_of packet) 0 ≡ Some 0
@@ -24,7 +24,7 @@ header_of section = record {
   last_number = last_number_of section;
 }
 
--- each other bit of the header is as this project writes it: the syntax indicator is 1, the bit behind it 0, reserved bits are 1, the
+-- each other bit of the header is as this project writes it: the syntax indicator is 1, the bit after it 0, reserved bits are 1, the
 -- version is 0, the section is current [ISO/IEC 13818-1, 2.4.4; this project, docs/FORMATS.md, Sections]
 abbrev pub IsPlain : List ℕ → Type 0
 IsPlain section = take 8 section ≡ header_bytes (header_of section) (length section - 12)
@@ -35,7 +35,7 @@ pub record HasSection (packet : List ℕ) : Type 0 where
   pub good : section_fault (drop 1 (payload_of packet)) ≡ None
   pub plain : IsPlain (section_of packet)
 
--- the packet begins with this section, behind pointer 0, whatever stands behind it [ISO/IEC 13818-1, 2.4.4]
+-- the packet begins with this section, after pointer 0, whatever stands after it [ISO/IEC 13818-1, 2.4.4]
 pub record Begins (section packet : List ℕ) : Type 0 where
   pub unit_start : unit_start_of packet ≡ 1
   pub payload : take (length section + 1) (payload_of packet) ≡ 0 ∷ section

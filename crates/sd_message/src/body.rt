@@ -27,7 +27,7 @@ impl Body {
         }
     }
 
-    /// Puts these bytes behind the others.
+    /// Puts these bytes after the others.
     pub fn put(&mut self, piece: &[u8])
         requires { length self.old + length piece.now ≤ 171 }
         ensures { self.new ≡ self.old ++ piece.now }

@@ -8,8 +8,8 @@ ghost use Rattle.sd_message.specs.Framed.{HasPointer, IsPlain, HasSection, Begin
 use sd_packet::{Packet, pack_section};
 use sd_section::{Header, Section, read_one, seal};
 
-/// The section behind pointer 0 with which the payload begins, or `None` where there is none whose CRC is right and
-/// whose header has each bit as this project writes it. What stands behind the section isn't read.
+/// The section after pointer 0 with which the payload begins, or `None` where there is none whose CRC is right and
+/// whose header has each bit as this project writes it. What stands after the section isn't read.
 pub fn section_in(packet: &Packet) -> Option<Section<'_>>
     ensures none { IsNone result ↔ ¬ HasSection packet.now }
     ensures some { IsSome result ↔ HasSection packet.now }
@@ -18,7 +18,7 @@ pub fn section_in(packet: &Packet) -> Option<Section<'_>>
     ensures spelled { IfSome result (λ section.
         section.bytes.now ≡ section_bytes (header_of_bytes section.bytes.now) (body_of section.bytes.now)) }
 {
-    let section = read_one(behind_pointer(packet)?).ok()?;
+    let section = read_one(after_pointer(packet)?).ok()?;
     if is_plain(&section) {
         Some(section)
     } else {
@@ -26,8 +26,8 @@ pub fn section_in(packet: &Packet) -> Option<Section<'_>>
     }
 }
 
-// The bytes behind pointer 0, where a section starts in the packet.
-fn behind_pointer(packet: &Packet) -> Option<&[u8]>
+// The bytes after pointer 0, where a section starts in the packet.
+fn after_pointer(packet: &Packet) -> Option<&[u8]>
     ensures some { IsSome result ↔ HasPointer packet.now }
     ensures value { IfSome result (λ bytes. bytes.now ≡ drop 1 (payload_of packet.now)) }
 {

@@ -1,4 +1,4 @@
-//! What this project's messages share: each is one section, alone in its packet behind pointer 0.
+//! What this project's messages share: each is one section, alone in its packet after pointer 0.
 #![tactic(auto)]
 
 mod body;

@@ -66,7 +66,7 @@ start_by true both n h = (omega arith, omega arith)
 start_by false true n h = let few = h refl in (omega arith, omega arith)
 start_by false false n h = (omega arith, omega arith)
 
--- a payload starts behind the header, and at most at the packet's end
+-- a payload starts after the header, and at most at the packet's end
 pub start_within : (packet : List ℕ) → (4 ≤ payload_start_of packet) × (payload_start_of packet ≤ 188)
 unfolding payload_start_of
 start_within packet = start_by (adaptation_of packet == 1) ((adaptation_of packet == 3) && nat_le (slice_index packet 4) 182) (slice_index packet 4) (λ e. leb-true (slice_index packet 4) 182 (and_parts (adaptation_of packet == 3) (nat_le (slice_index packet 4) 182) e).1)

@@ -30,7 +30,7 @@ adaptation_of packet = field packet 26 2
 abbrev pub counter_of : List ℕ → ℕ
 counter_of packet = field packet 28 4
 
--- where the payload starts: behind the header, or behind an adaptation field that leaves room, else at the end
+-- where the payload starts: after the header, or after an adaptation field that leaves room, else at the end
 -- [ISO/IEC 13818-1, 2.4.3.3 and 2.4.3.5]
 unfoldable pub payload_start_of : List ℕ → ℕ
 payload_start_of packet =

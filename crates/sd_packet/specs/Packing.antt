@@ -6,7 +6,7 @@ use Rattle.sd_packet.specs.Header.{error_of, unit_start_of, priority_of, pid_of,
 abbrev pub section_header : ℕ → ℕ → List ℕ
 section_header pid counter = 0x47 ∷ (0x40 + pid / 256) ∷ (pid % 256) ∷ (0x10 + counter) ∷ []
 
--- the payload: pointer_field 0, the section, and stuffing behind it [ISO/IEC 13818-1, 2.4.4]
+-- the payload: pointer_field 0, the section, and stuffing after it [ISO/IEC 13818-1, 2.4.4]
 abbrev pub section_payload : List ℕ → List ℕ
 section_payload section = 0 ∷ (section ++ replicate (183 - length section) 0xFF)
 

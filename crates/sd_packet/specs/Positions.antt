@@ -22,15 +22,15 @@ pub record IsNext (position counter next : ℕ) : Type 0 where
 abbrev pub is_moving : ℕ → List ℕ → Bool
 is_moving pid packet = (pid_of packet == pid) && nat_lt (payload_start_of packet) 188
 
--- the PID's position behind a packet, from that before it [this project, docs/FORMATS.md, Positions]
+-- the PID's position after a packet, from that before it [this project, docs/FORMATS.md, Positions]
 abbrev pub moved : ℕ → ℕ → List ℕ → ℕ
 moved pid position packet = if is_moving pid packet then advanced position (counter_of packet) else position
 
--- and behind several packets
+-- and after several packets
 unfoldable pub moved_by : ℕ → ℕ → List (List ℕ) → ℕ
 moved_by pid position [] = position
 moved_by pid position (packet ∷ packets) = moved_by pid (moved pid position packet) packets
 
--- the PID's position behind these packets of a stream, which starts at 15 [this project, docs/FORMATS.md, Positions]
+-- the PID's position after these packets of a stream, which starts at 15 [this project, docs/FORMATS.md, Positions]
 abbrev pub position_of : ℕ → List (List ℕ) → ℕ
 position_of pid packets = moved_by pid 15 packets

@@ -13,10 +13,10 @@ pub fn a_step_rises()
         next ≡ advanced position counter }
 {}
 
-/// A position behind one packet more is that before it, moved by the packet.
+/// A position after one packet more is that before it, moved by the packet.
 #[tactic(auto, using(crate::proofs::Positions::one_more, crate::proofs::Positions::next_position))]
 pub fn one_packet_more()
-    ensures behind { (pid : ℕ) (packets : List (List ℕ)) (packet : List ℕ) →
+    ensures after { (pid : ℕ) (packets : List (List ℕ)) (packet : List ℕ) →
         position_of pid (packets ++ packet ∷ []) ≡ moved pid (position_of pid packets) packet }
     ensures at { (pid n : ℕ) (packets : List (List ℕ)) → n < length packets →
         position_of pid (take (n + 1) packets) ≡ moved pid (position_of pid (take n packets)) (slice_index_or packets n []) }
@@ -36,7 +36,7 @@ pub fn positions_stay_near()
     ensures high { (pid : ℕ) (packets : List (List ℕ)) → position_of pid packets ≤ 15 + 16 * length packets }
 {}
 
-/// A payload starts behind the header, and at most at the packet's end.
+/// A payload starts after the header, and at most at the packet's end.
 #[tactic(auto, using(crate::proofs::Packets::start_within))]
 pub fn payloads_start_within()
     ensures { (packet : List ℕ) → (4 ≤ payload_start_of packet) × (payload_start_of packet ≤ 188) }

@@ -150,8 +150,8 @@ mod tests {
     }
 
     #[test]
-    fn payloads_start_behind_adaptation_fields(rt: HostRuntime) {
-        // The last header byte, the byte behind it, where the payload starts, how long it is.
+    fn payloads_start_after_adaptation_fields(rt: HostRuntime) {
+        // The last header byte, the byte after it, where the payload starts, how long it is.
         let table = [
             (0x10, 0xFF, 4, 184),
             (0x30, 0, 5, 183),

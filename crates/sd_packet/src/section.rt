@@ -6,7 +6,7 @@ use sd_bits::fields;
 
 const STUFFING: u8 = 0xFF;
 
-/// A packet that is this section by itself: unit start, pointer 0, the section, stuffing behind it
+/// A packet that is this section by itself: unit start, pointer 0, the section, stuffing after it
 /// (ISO/IEC 13818-1, 2.4.4).
 #[tactic(auto, using(crate::proofs::Packets::packet_laid, crate::proofs::Packets::packed_reads))]
 pub fn pack_section(section: &[u8], pid: u16, counter: u8) -> Packet

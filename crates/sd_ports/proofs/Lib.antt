@@ -1,4 +1,3 @@
-pub mod Numbers
 pub mod Outlets
 pub mod Portions
 pub mod Shelves

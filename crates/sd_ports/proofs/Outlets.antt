@@ -6,8 +6,8 @@ use Rattle.std.specs.Cmp.Lexicographic.{slice_cmp}
 use Rattle.std.specs.FinMap.{get, insert, get-insert, same_map, nat_cmp-IsAntisymmetric, slice_cmp-IsAntisymmetric}
 use Rattle.std.specs.Io.KnownBytes.{Appends}
 use Rattle.std.proofs.lemmas.Cmp.{nat_list_cmp_total, eq_by_cmp_equiv}
-use Rattle.sd_ports.specs.Bytes.{IsFront, AppendsFront}
-use Rattle.sd_ports.specs.Files.{Files, Closes, LeavesFront, IsFresh, IsThere, WritesFile, with_bytes}
+use Rattle.sd_ports.specs.Bytes.{IsPrefix, AppendsPrefix}
+use Rattle.sd_ports.specs.Files.{Files, Closes, LeavesPrefix, IsFresh, IsThere, WritesFile, with_bytes}
 use Rattle.sd_ports.specs.declared.file.FileFault.TheVariants.{Failed}
 use Rattle.sd_cause.specs.Count.{with_added}
 
@@ -42,24 +42,24 @@ closed_whole None b c name bytes h k e f w p = subst (λ (b : Option Files). Clo
 closed_whole (Some m) b c name bytes h k e f w p = told_whole m c name bytes k (subst (λ (h : Option (List ℕ)). Appends h k bytes) f w) (subst (λ (b : Option Files). Closes b c name k) e p)
 
 -- all is a front, too
-pub closes_front : (b c : Option Files) (name : List ℕ) (k : Option (List ℕ)) → Closes b c name k → LeavesFront b c name k
+pub closes_front : (b c : Option Files) (name : List ℕ) (k : Option (List ℕ)) → Closes b c name k → LeavesPrefix b c name k
 closes_front None c name k p = p
 closes_front (Some m) c name None p = p
 closes_front (Some m) c name (Some y) p = (y, ([], append-nil y), p)
 
 -- a front of a front is a front
-front_of_front : (a b c : List ℕ) → IsFront a b → IsFront b c → IsFront a c
+front_of_front : (a b c : List ℕ) → IsPrefix a b → IsPrefix b c → IsPrefix a c
 front_of_front a b c p q = (p.0 ++ q.0, sym (append_assoc a p.0 q.0) ∙ ap (λ (r : List ℕ). r ++ q.0) p.1 ∙ q.1)
 
 -- a front of what a port of told files took is what its file has
-told_short : (m : Files) (c : Option Files) (name bytes : List ℕ) (k : Option (List ℕ)) → AppendsFront (Some []) k bytes → LeavesFront (Some (insert m name [])) c name k → (front : List ℕ) × IsFront front bytes × (c ≡ Some (insert m name front))
+told_short : (m : Files) (c : Option Files) (name bytes : List ℕ) (k : Option (List ℕ)) → AppendsPrefix (Some []) k bytes → LeavesPrefix (Some (insert m name [])) c name k → (front : List ℕ) × IsPrefix front bytes × (c ≡ Some (insert m name front))
 told_short m c name bytes None w p = absurd w.2
-told_short m c name bytes (Some y) w p = (p.0, front_of_front p.0 w.0 bytes (subst (λ (r : List ℕ). IsFront p.0 r) w.2 p.1) w.1, p.2 ∙ ap (λ (r : Files). Some r) (insert_twice m name [] p.0))
+told_short m c name bytes (Some y) w p = (p.0, front_of_front p.0 w.0 bytes (subst (λ (r : List ℕ). IsPrefix p.0 r) w.2 p.1) w.1, p.2 ∙ ap (λ (r : Files). Some r) (insert_twice m name [] p.0))
 
 -- a port that took a front of these bytes and was closed leaves a front of them, and so does one that was cut off
-pub cut_short : (a b c : Option Files) (name bytes : List ℕ) (h k : Option (List ℕ)) → b ≡ with_bytes a name [] → IsFresh a h → AppendsFront h k bytes → LeavesFront b c name k → (front : List ℕ) × IsFront front bytes × (c ≡ with_bytes a name front)
-cut_short None b c name bytes h k e f w p = ([], (bytes, refl), subst (λ (b : Option Files). LeavesFront b c name k) e p)
-cut_short (Some m) b c name bytes h k e f w p = told_short m c name bytes k (subst (λ (h : Option (List ℕ)). AppendsFront h k bytes) f w) (subst (λ (b : Option Files). LeavesFront b c name k) e p)
+pub cut_short : (a b c : Option Files) (name bytes : List ℕ) (h k : Option (List ℕ)) → b ≡ with_bytes a name [] → IsFresh a h → AppendsPrefix h k bytes → LeavesPrefix b c name k → (front : List ℕ) × IsPrefix front bytes × (c ≡ with_bytes a name front)
+cut_short None b c name bytes h k e f w p = ([], (bytes, refl), subst (λ (b : Option Files). LeavesPrefix b c name k) e p)
+cut_short (Some m) b c name bytes h k e f w p = told_short m c name bytes k (subst (λ (h : Option (List ℕ)). AppendsPrefix h k bytes) f w) (subst (λ (b : Option Files). LeavesPrefix b c name k) e p)
 
 -- a port that took all of these bytes and was closed has written the file
 pub written_whole : (a b c : Option Files) (i j k : ℕ) (name bytes : List ℕ) (h held : Option (List ℕ)) → b ≡ with_bytes a name [] → IsFresh a h → Appends h held bytes → Closes b c name held → j ≡ with_added i 1 → i ≤ j → k ≡ j → WritesFile {T = Unit {0}} a c i k name bytes (Ok tt)
@@ -73,7 +73,7 @@ written_whole a b c i j k name bytes h held e f w p m l n = record {
 }
 
 -- a port that took a front of these bytes and was closed leaves a front of them in a file that was made
-pub written_front : (a b c : Option Files) (i j k : ℕ) (name bytes : List ℕ) (h held : Option (List ℕ)) → b ≡ with_bytes a name [] → IsFresh a h → AppendsFront h held bytes → LeavesFront b c name held → j ≡ with_added i 1 → i ≤ j → k ≡ j → WritesFile {T = Unit {0}} a c i k name bytes (Err Failed)
+pub written_front : (a b c : Option Files) (i j k : ℕ) (name bytes : List ℕ) (h held : Option (List ℕ)) → b ≡ with_bytes a name [] → IsFresh a h → AppendsPrefix h held bytes → LeavesPrefix b c name held → j ≡ with_added i 1 → i ≤ j → k ≡ j → WritesFile {T = Unit {0}} a c i k name bytes (Err Failed)
 written_front a b c i j k name bytes h held e f w p m l n =
     let q = cut_short a b c name bytes h held e f w p in
     record {
@@ -86,5 +86,5 @@ written_front a b c i j k name bytes h held e f w p m l n =
     }
 
 -- a port that took all of them and whose closing failed does, too
-pub written_cut : (a b c : Option Files) (i j k : ℕ) (name bytes : List ℕ) (h held : Option (List ℕ)) → b ≡ with_bytes a name [] → IsFresh a h → Appends h held bytes → LeavesFront b c name held → j ≡ with_added i 1 → i ≤ j → k ≡ j → WritesFile {T = Unit {0}} a c i k name bytes (Err Failed)
+pub written_cut : (a b c : Option Files) (i j k : ℕ) (name bytes : List ℕ) (h held : Option (List ℕ)) → b ≡ with_bytes a name [] → IsFresh a h → Appends h held bytes → LeavesPrefix b c name held → j ≡ with_added i 1 → i ≤ j → k ≡ j → WritesFile {T = Unit {0}} a c i k name bytes (Err Failed)
 written_cut a b c i j k name bytes h held e f w p m l n = written_front a b c i j k name bytes h held e f (bytes, ([], append-nil bytes), w) p m l n

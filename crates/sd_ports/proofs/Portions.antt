@@ -5,9 +5,9 @@ use Rattle.std.proofs.Math.Seq.{take-add}
 use Rattle.std.specs.Prelude.{Option, None, Some}
 use Rattle.std.specs.Io.KnownBytes.{Appends, Consumes, Keeps, append_known}
 use Rattle.std.proofs.KnownBytes.{Appends-trans, Appends-kept, Consumes-trans, Keeps-refl, Keeps-trans, append_known-grown, append_known-moved}
-use Rattle.sd_ports.specs.Bytes.{AppendsFront, LosesFront}
+use Rattle.sd_ports.specs.Bytes.{AppendsPrefix, LosesPrefix}
 
--- the next `more` bytes were written behind the first `done`
+-- the next `more` bytes were written after the first `done`
 pub appends_more : (a b c : Option (List ℕ)) (bs : List ℕ) (done more : ℕ) → Appends a b (take done bs) → Appends b c (take more (take (length bs - done) (drop done bs))) → Appends a c (take (done + more) bs)
 appends_more a b c bs done more p q =
     let all : take (length bs - done) (drop done bs) ≡ drop done bs = take_all _ _ (omega (arith, length-drop done bs)) in
@@ -15,11 +15,11 @@ appends_more a b c bs done more p q =
     subst (Appends a c) joined (Appends-trans a b c _ _ p q)
 
 -- after a write that failed, the first `done` bytes stay written
-pub appends_front : (a b c : Option (List ℕ)) (bs : List ℕ) (done : ℕ) → Appends a b (take done bs) → Keeps b c → AppendsFront a c bs
+pub appends_front : (a b c : Option (List ℕ)) (bs : List ℕ) (done : ℕ) → Appends a b (take done bs) → Keeps b c → AppendsPrefix a c bs
 appends_front a b c bs done p q = (take done bs, (drop done bs, take-append-drop done bs), Appends-kept a b c _ p q)
 
--- bytes were read behind those that were read before
-pub loses_more : (a b c : Option (List ℕ)) (bs cs : List ℕ) → Consumes a b bs → Consumes b c cs → LosesFront a c
+-- bytes were read after those that were read before
+pub loses_more : (a b c : Option (List ℕ)) (bs cs : List ℕ) → Consumes a b bs → Consumes b c cs → LosesPrefix a c
 loses_more a b c bs cs p q = (bs ++ cs, Consumes-trans a b c bs cs p q)
 
 -- what is left stayed twice
@@ -50,7 +50,7 @@ kept_none (Some x) (Some y) bs p = p ∙ append-nil x
 pub kept_same : (a : Option (List ℕ)) → Keeps a a
 kept_same a = Keeps-refl a
 
--- a writer took the next `more` bytes of what waited behind the first `done`
+-- a writer took the next `more` bytes of what waited after the first `done`
 pub kept_moved : (a b c : Option (List ℕ)) (xs bs : List ℕ) (done more : ℕ) → xs ≡ bs → Keeps a (append_known b (drop done bs)) → Appends b c (take more (take (length xs - done) (drop done xs))) → Keeps a (append_known c (drop (done + more) bs))
 kept_moved a b c xs bs done more e p q =
     let all : take (length xs - done) (drop done xs) ≡ drop done xs = take_all _ _ (omega (arith, length-drop done xs)) in
@@ -58,6 +58,6 @@ kept_moved a b c xs bs done more e p q =
     let halves : drop done bs ≡ take more (drop done bs) ++ drop (done + more) bs = sym (take-append-drop more (drop done bs)) ∙ ap (λ (r : List ℕ). take more (drop done bs) ++ r) (drop-drop more done bs) in
     Keeps-trans a _ _ p (append_known-moved b c _ _ _ moved halves)
 
--- more bytes wait behind those that wait behind the first `done`
+-- more bytes wait after those that wait after the first `done`
 pub kept_grown : (a b : Option (List ℕ)) (old new more : List ℕ) (done : ℕ) → Keeps a (append_known b (drop done old)) → done ≤ length old → new ≡ old ++ more → Appends a (append_known b (drop done new)) more
 kept_grown a b old new more done p h e = append_known-grown a b (drop done old) (drop done new) more p (ap (drop done) e ∙ drop-append-le done old more h)

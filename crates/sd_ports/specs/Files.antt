@@ -3,7 +3,7 @@ use Rattle.std.specs.Ordering.{nat_cmp}
 use Rattle.std.specs.Cmp.Lexicographic.{slice_cmp}
 use Rattle.std.specs.FinMap.{FinMap, get, insert}
 use Rattle.sd_cause.specs.Count.{with_added}
-use Rattle.sd_ports.specs.Bytes.{IsFront}
+use Rattle.sd_ports.specs.Bytes.{IsPrefix}
 use Rattle.sd_ports.specs.declared.file.FileFault.{FileFault}
 use Rattle.sd_ports.specs.declared.file.FileFault.TheVariants.{Missing, TooBig, Failed, NoMemory}
 
@@ -54,10 +54,10 @@ Closes (Some files) now name None = (bytes : List ℕ) × (now ≡ Some (insert 
 Closes (Some files) now name (Some held) = now ≡ Some (insert files name held)
 
 -- the file of that name has a front of what its port held, where files are told, and the other files stay
-abbrev pub LeavesFront : Option Files → Option Files → List ℕ → Option (List ℕ) → Type 0
-LeavesFront None now name held = now ≡ None
-LeavesFront (Some files) now name None = (bytes : List ℕ) × (now ≡ Some (insert files name bytes))
-LeavesFront (Some files) now name (Some held) = (front : List ℕ) × IsFront front held × (now ≡ Some (insert files name front))
+abbrev pub LeavesPrefix : Option Files → Option Files → List ℕ → Option (List ℕ) → Type 0
+LeavesPrefix None now name held = now ≡ None
+LeavesPrefix (Some files) now name None = (bytes : List ℕ) × (now ≡ Some (insert files name bytes))
+LeavesPrefix (Some files) now name (Some held) = (front : List ℕ) × IsPrefix front held × (now ≡ Some (insert files name front))
 
 -- the file was made with these bytes: the other files stay, and the count of those made rose by one
 abbrev pub IsMade : Option Files → Option Files → ℕ → ℕ → List ℕ → List ℕ → Type 0
@@ -69,7 +69,7 @@ IsUnmade files_before files_now made_before made_now = (files_now ≡ files_befo
 
 -- the file was made with a front of these bytes
 abbrev pub IsMadeShort : Option Files → Option Files → ℕ → ℕ → List ℕ → List ℕ → Type 0
-IsMadeShort files_before files_now made_before made_now name bytes = (front : List ℕ) × IsFront front bytes × IsMade files_before files_now made_before made_now name front
+IsMadeShort files_before files_now made_before made_now name bytes = (front : List ℕ) × IsPrefix front bytes × IsMade files_before files_now made_before made_now name front
 
 -- What writing a whole file did: `Ok` made it with these bytes, `Failed` may have made it with a front of them, and other faults made none.
 -- Where files are told, `Missing` never comes, and `TooBig` never does.

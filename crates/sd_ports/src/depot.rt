@@ -1,6 +1,6 @@
 ghost use Rattle.std.specs.Prelude.{◌≡◌, ◌<◌, ◌^◌, ℕ, Option, None, IfOk, OnOk, OnErr, IsErrOf, []};
 ghost use Rattle.sd_cause.specs.Count.{HasCause, with_added};
-ghost use Rattle.sd_ports.specs.Files.{Closes, Files, IsFresh, IsNotThere, IsThere, LeavesFront, Opens, with_bytes};
+ghost use Rattle.sd_ports.specs.Files.{Closes, Files, IsFresh, IsNotThere, IsThere, LeavesPrefix, Opens, with_bytes};
 ghost use Rattle.sd_ports.specs.Causes.{CountsMade, HasDepotCause};
 
 use crate::fault::DepotFault;
@@ -59,7 +59,7 @@ pub trait Depot {
     fn close_out(&mut self, name: &str, port: Self::Outlet) -> Result<(), DepotFault>
         requires { IsThere (files self.old) name.now }
         ensures closed { OnOk result (Closes (files self.old) (files self.new) name.now (Self.Outlet.held port)) }
-        ensures front { LeavesFront (files self.old) (files self.new) name.now (Self.Outlet.held port) }
+        ensures front { LeavesPrefix (files self.old) (files self.new) name.now (Self.Outlet.held port) }
         ensures failed { OnErr result (IsErrOf result DepotFault.Failed) }
         ensures cause { HasCause (with_added (faults self.old) (Self.Outlet.faults port)) (faults self.new) result }
         ensures within { faults self.old < 2 ^ 64 }

@@ -5,7 +5,6 @@ mod depot;
 mod fault;
 mod file;
 mod host;
-pub mod laws;
 mod shelf;
 mod sink;
 mod source;
@@ -16,7 +15,7 @@ mod tests;
 mod whole;
 
 pub use depot::Depot;
-pub use fault::{DepotFault, NoMemory, PortFault};
+pub use fault::{DepotFault, PortFault};
 pub use file::{FileFault, read_file, write_file};
 pub use host::{HostDepot, HostInlet, HostOutlet, StdPrint};
 pub use shelf::MemDepot;

@@ -3,13 +3,14 @@ ghost use Rattle.std.specs.Option.{option_map};
 ghost use Rattle.std.specs.FinMap as map;
 ghost use Rattle.sd_cause.specs.Count.{HasCause, with_added};
 ghost use Rattle.sd_ports.specs.Causes.{CountsMade, HasDepotCause};
-ghost use Rattle.sd_ports.specs.Files.{Closes, IsFresh, IsNotThere, IsThere, LeavesFront, Opens, with_bytes};
+ghost use Rattle.sd_ports.specs.Files.{Closes, IsFresh, IsNotThere, IsThere, LeavesPrefix, Opens, with_bytes};
 ghost use Rattle.sd_ports.specs.Memory.{told_files, with_closed, with_counts, with_file, with_outlet};
 
 use crate::depot::Depot;
-use crate::fault::{DepotFault, NoMemory};
+use crate::fault::DepotFault;
 use crate::store::MemSink;
 use crate::supply::MemSource;
+use sd_cause::NoMemory;
 use std::alloc::Global;
 use std::collections::BTreeMap;
 use std::marker::Model;
@@ -173,7 +174,7 @@ impl Depot for MemDepot {
     fn close_out(&mut self, name: &str, port: MemSink) -> Result<(), DepotFault>
         requires { IsThere (Some self.old.files) name.now }
         ensures closed { OnOk result (Closes (Some self.old.files) (Some self.new.files) name.now (Some port.held)) }
-        ensures front { LeavesFront (Some self.old.files) (Some self.new.files) name.now (Some port.held) }
+        ensures front { LeavesPrefix (Some self.old.files) (Some self.new.files) name.now (Some port.held) }
         ensures failed { OnErr result (IsErrOf result DepotFault.Failed) }
         ensures cause { HasCause (with_added self.old.faults port.faults) self.new.faults result }
         ensures within { self.old.faults < 2 ^ 64 }

@@ -4,9 +4,10 @@ ghost use Rattle.std.specs.Io.KnownBytes.{WriteAppends};
 ghost use Rattle.sd_cause.specs.Count.{HasCause};
 ghost use Rattle.sd_ports.specs.Memory.{after_write, taken, write_fails};
 
-use crate::fault::{NoMemory, PortFault};
+use crate::fault::PortFault;
 use crate::sink::Sink;
 use crate::supply::is_listed;
+use sd_cause::NoMemory;
 use std::alloc::Global;
 use std::marker::Model;
 

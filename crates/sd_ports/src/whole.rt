@@ -1,7 +1,7 @@
 ghost use Rattle.std.specs.Prelude.{◌≡◌, ◌<◌, ◌≤◌, ◌++◌, vec_len, IfOk, OnOk, OnErr, IsErrOf, length};
 ghost use Rattle.std.specs.Io.KnownBytes.{Appends};
 ghost use Rattle.sd_cause.specs.Count.{HasCause, Rose};
-ghost use Rattle.sd_ports.specs.Bytes.{AppendsFront, LosesFront, GivesAll, IsLonger};
+ghost use Rattle.sd_ports.specs.Bytes.{AppendsPrefix, LosesPrefix, GivesAll, IsLonger};
 
 use crate::fault::PortFault;
 use crate::sink::Sink;
@@ -36,7 +36,7 @@ pub fn read_all<S: Source>(
     ensures failed { IsErrOf result ReadAllFault.Failed → Rose (S.faults source.old) (S.faults source.new) }
     ensures later { S.faults source.old ≤ S.faults source.new }
     ensures calm { ¬ IsErrOf result ReadAllFault.Failed → S.faults source.new ≡ S.faults source.old }
-    ensures lost { OnErr result (LosesFront (S.left source.old) (S.left source.new)) }
+    ensures lost { OnErr result (LosesPrefix (S.left source.old) (S.left source.new)) }
 {
     let mut bytes = Vec::new(alloc);
     let mut buffer = [0u8; BUFFER];
@@ -50,7 +50,7 @@ pub fn read_all<S: Source>(
     unreachable!()
 }
 
-/// Puts more bytes behind those that were read, where there may be so many.
+/// Puts more bytes after those that were read, where there may be so many.
 fn keep(bytes: &mut Vec<u8>, more: &[u8], most: usize) -> Result<(), ReadAllFault>
     requires { vec_len bytes.old ≤ most }
     ensures kept { OnOk result (bytes.new.items ≡ bytes.old.items ++ more.now) }
@@ -71,7 +71,7 @@ fn keep(bytes: &mut Vec<u8>, more: &[u8], most: usize) -> Result<(), ReadAllFaul
 #[tactic(auto, using(crate::proofs::Portions::appends_more))]
 pub fn write_all<K: Sink>(sink: &mut K, bytes: &[u8]) -> Result<(), PortFault>
     ensures all { OnOk result (Appends (K.held sink.old) (K.held sink.new) bytes.now) }
-    ensures front { OnErr result (AppendsFront (K.held sink.old) (K.held sink.new) bytes.now) }
+    ensures front { OnErr result (AppendsPrefix (K.held sink.old) (K.held sink.new) bytes.now) }
     ensures cause { HasCause (K.faults sink.old) (K.faults sink.new) result }
 {
     let mut done = 0;

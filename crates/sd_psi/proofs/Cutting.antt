@@ -24,7 +24,7 @@ same_size Program bytes = refl
 same_size Descriptor bytes = ap (λ (n : ℕ). 2 + n) (field_take bytes (2 + field bytes 8 8) 8 8 (omega arith))
 same_size Stream bytes = ap (λ (n : ℕ). 5 + n) (field_take bytes (5 + field bytes 28 12) 28 12 (omega arith))
 
--- what is left behind an item is shorter
+-- what is left after an item is shorter
 pub left_less : (kind : Kind) (b : ℕ) (bs : List ℕ) → length (drop (size_of kind (b ∷ bs)) (b ∷ bs)) ≤ length bs
 left_less kind b bs = omega (arith, length-drop (size_of kind (b ∷ bs)) (b ∷ bs), some_size kind (b ∷ bs))
 
@@ -47,7 +47,7 @@ unfolding items_of cut
 none_cut kind [] h = refl
 none_cut kind (b ∷ bs) h = absurd (omega arith)
 
--- the first item, and those behind it
+-- the first item, and those after it
 pub first_cut : (kind : Kind) (bytes : List ℕ) → 0 < length bytes →
     items_of kind bytes ≡ take (size_of kind bytes) bytes ∷ items_of kind (drop (size_of kind bytes) bytes)
 unfolding items_of cut
@@ -66,7 +66,7 @@ first_test : (kind : Kind) (bytes : List ℕ) → 0 < length bytes →
 unfolding are_whole
 first_test kind bytes h = ap (list_all (is_whole kind)) (first_cut kind bytes h)
 
--- where the first item is there, it is as with those behind it
+-- where the first item is there, it is as with those after it
 pub first_whole : (kind : Kind) (bytes : List ℕ) → 0 < length bytes → size_of kind bytes ≤ length bytes →
     are_whole kind bytes ≡ are_whole kind (drop (size_of kind bytes) bytes)
 first_whole kind bytes some there =
@@ -85,42 +85,42 @@ first_off kind bytes some off =
     let wrong : is_whole kind (take (size_of kind bytes) bytes) ≡ false = rw every (not_equal (length bytes) (size_of kind bytes) _ refl off) in
     first_test kind bytes some ∙ ap (λ (b : Bool). b && are_whole kind (drop (size_of kind bytes) bytes)) wrong
 
--- the items behind a place where an item of so many bytes stands
-pub items_behind : (kind : Kind) (bytes : List ℕ) (at size : ℕ) → at < length bytes →
+-- the items after a place where an item of so many bytes stands
+pub items_after : (kind : Kind) (bytes : List ℕ) (at size : ℕ) → at < length bytes →
     size ≡ size_of kind (take (length bytes - at) (drop at bytes)) →
     items_of kind (drop at bytes) ≡ take size (drop at bytes) ∷ items_of kind (drop (at + size) bytes)
-items_behind kind bytes at size within is =
+items_after kind bytes at size within is =
     let here : size ≡ size_of kind (drop at bytes) = is ∙ ap (size_of kind) (take_rest bytes at) in
     first_cut kind (drop at bytes) (omega (arith, length-drop at bytes))
     ∙ (ap (λ (n : ℕ). take n (drop at bytes) ∷ items_of kind (drop n (drop at bytes))) (sym here)
     ∙ ap (λ (l : List ℕ). take size (drop at bytes) ∷ items_of kind l) (drop-drop size at bytes))
 
--- they fill what is behind that place as those behind the item do
-pub whole_behind : (kind : Kind) (bytes : List ℕ) (at size : ℕ) → at < length bytes →
+-- they fill what is after that place as those after the item do
+pub whole_after : (kind : Kind) (bytes : List ℕ) (at size : ℕ) → at < length bytes →
     size ≡ size_of kind (take (length bytes - at) (drop at bytes)) → size ≤ length bytes - at →
     are_whole kind (drop at bytes) ≡ are_whole kind (drop (at + size) bytes)
-whole_behind kind bytes at size within is there =
+whole_after kind bytes at size within is there =
     let here : size ≡ size_of kind (drop at bytes) = is ∙ ap (size_of kind) (take_rest bytes at) in
     first_whole kind (drop at bytes) (omega (arith, length-drop at bytes)) (omega (arith, length-drop at bytes))
     ∙ (ap (λ (n : ℕ). are_whole kind (drop n (drop at bytes))) (sym here) ∙ ap (are_whole kind) (drop-drop size at bytes))
 
 -- where it is cut off, they don't
-pub off_behind : (kind : Kind) (bytes : List ℕ) (at : ℕ) → at < length bytes →
+pub off_after : (kind : Kind) (bytes : List ℕ) (at : ℕ) → at < length bytes →
     length bytes - at < size_of kind (take (length bytes - at) (drop at bytes)) → are_whole kind (drop at bytes) ≡ false
-off_behind kind bytes at within off =
+off_after kind bytes at within off =
     let here = ap (size_of kind) (take_rest bytes at) in
     first_off kind (drop at bytes) (omega (arith, length-drop at bytes)) (omega (arith, length-drop at bytes, here))
 
--- one item more is behind the place
+-- one item more is after the place
 pub one_more : (kind : Kind) (bytes : List ℕ) (at size : ℕ) → at < length bytes →
     size ≡ size_of kind (take (length bytes - at) (drop at bytes)) →
     length (items_of kind (drop at bytes)) ≡ 1 + length (items_of kind (drop (at + size) bytes))
-one_more kind bytes at size within is = omega (arith, ap (λ (l : List (List ℕ)). length l) (items_behind kind bytes at size within is))
+one_more kind bytes at size within is = omega (arith, ap (λ (l : List (List ℕ)). length l) (items_after kind bytes at size within is))
 
--- behind the end there is nothing
-pub none_behind : (kind : Kind) (bytes : List ℕ) (at : ℕ) → length bytes ≤ at →
+-- after the end there is nothing
+pub none_after : (kind : Kind) (bytes : List ℕ) (at : ℕ) → length bytes ≤ at →
     (length (items_of kind (drop at bytes)) ≡ 0) × (are_whole kind (drop at bytes) ≡ true)
-none_behind kind bytes at past =
+none_after kind bytes at past =
     let none : length (drop at bytes) ≡ 0 = omega (arith, length-drop at bytes) in
     (ap (λ (l : List (List ℕ)). length l) (none_cut kind (drop at bytes) none), none_off kind (drop at bytes) none)
 
@@ -128,10 +128,10 @@ none_behind kind bytes at past =
 pub some_bytes : (kind : Kind) (bytes : List ℕ) (at : ℕ) → 0 < length (items_of kind (drop at bytes)) → at < length bytes
 some_bytes kind bytes at some = elim (cases_lt at (length bytes)) [
   | inl within ↦ within
-  | inr past ↦ absurd (omega (arith, (none_behind kind bytes at past).0))
+  | inr past ↦ absurd (omega (arith, (none_after kind bytes at past).0))
 ]
 
--- a list behind its first elements, by the element there
+-- a list after its first elements, by the element there
 pub rest_more : (xs : List (List ℕ)) (i : ℕ) (y : List ℕ) (ys : List (List ℕ)) → drop i xs ≡ y ∷ ys → drop (i + 1) xs ≡ ys
 rest_more xs i y ys h = sym (drop-drop 1 i xs) ∙ ap (drop 1) h
 

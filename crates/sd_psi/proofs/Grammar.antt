@@ -25,7 +25,7 @@ pub items_spell : (kind : Kind) (bytes : List ℕ) → joined (items_of kind byt
 unfolding items_of
 items_spell kind bytes = cut_spells kind (length bytes) bytes (le_refl (length bytes))
 
--- what stands behind an item doesn't change how long it says that it is
+-- what stands after an item doesn't change how long it says that it is
 pub front_field : (item rest : List ℕ) (at width : ℕ) → at + width ≤ 8 * length item → field (item ++ rest) at width ≡ field item at width
 front_field item rest at width h =
     sym (field_take (item ++ rest) (length item) at width h) ∙ ap (λ (l : List ℕ). field l at width) (take_at item rest (length item) refl)
@@ -63,9 +63,9 @@ fours (suc n) (b ∷ bs) h = elim (cases_lt (length (b ∷ bs)) 4) [
       (λ is. absurd (cc), λ is. absurd (omega arith))
   | inr enough ↦
       let left = length-drop 4 (b ∷ bs) in
-      let behind = fours n (drop 4 (b ∷ bs)) (omega arith) in
+      let after = fours n (drop 4 (b ∷ bs)) (omega arith) in
       let whole : are_whole Program (b ∷ bs) ≡ are_whole Program (drop 4 (b ∷ bs)) = first_whole Program (b ∷ bs) (omega arith) enough in
-      (λ is. omega (arith, behind.0 (sym whole ∙ is)), λ is. whole ∙ behind.1 (omega arith))
+      (λ is. omega (arith, after.0 (sym whole ∙ is)), λ is. whole ∙ after.1 (omega arith))
 ]
 
 pub programs_are_fours : (bytes : List ℕ) → are_whole Program bytes ≡ true → length bytes % 4 ≡ 0

@@ -1,4 +1,4 @@
--- The first twelve bytes of a PMT, in which its lengths are changed, and the CRC behind it.
+-- The first twelve bytes of a PMT, in which its lengths are changed, and the CRC after it.
 use Rattle.std.proofs.Common.{ℕ, zero, suc, ◌+◌, ◌-◌, ◌*◌, ◌/◌, ◌%◌, ◌<◌, ◌≤◌, ◌≡◌, List, [], ◌∷◌, ◌++◌, length, take, drop, get_or, get_or-take, get_or-drop, drop-cons, length-take, length-drop, take-append-drop, inl, inr, refl, sym, ap, subst, ◌∙◌, arith}
 use Rattle.std.specs.Prelude.{slice_set}
 use Rattle.std.specs.Int.{w32, to_be_bytes}
@@ -15,8 +15,8 @@ use Rattle.sd_psi.specs.Rewriting.{with_twelve, with_lengths}
 abbrev pub AreBytes : List ℕ → Type 0
 AreBytes bytes = (i : ℕ) → get_or bytes i 0 < 256
 
-pub bytes_behind : (bytes : List ℕ) (n : ℕ) → AreBytes bytes → AreBytes (drop n bytes)
-bytes_behind bytes n h = λ i. rw (get_or-drop n bytes i 0) (h (n + i))
+pub bytes_after : (bytes : List ℕ) (n : ℕ) → AreBytes bytes → AreBytes (drop n bytes)
+bytes_after bytes n h = λ i. rw (get_or-drop n bytes i 0) (h (n + i))
 
 pub bytes_in_front : (bytes : List ℕ) (n : ℕ) → AreBytes bytes → AreBytes (take n bytes)
 bytes_in_front bytes n h = λ i. elim (cases_lt i n) [
@@ -79,9 +79,9 @@ set_first : (xs : List ℕ) (byte k : ℕ) → AreBytes xs → byte < 256 → ge
 set_first xs byte zero h b = b
 set_first xs byte (suc k) h b = h k
 
-set_behind : (x : ℕ) (xs : List ℕ) (k : ℕ) → x < 256 → AreBytes xs → get_or (x ∷ xs) k 0 < 256
-set_behind x xs zero b h = b
-set_behind x xs (suc k) b h = h k
+set_after : (x : ℕ) (xs : List ℕ) (k : ℕ) → x < 256 → AreBytes xs → get_or (x ∷ xs) k 0 < 256
+set_after x xs zero b h = b
+set_after x xs (suc k) b h = h k
 
 -- what a head with other lengths is like
 pub record IsHead (a b : ℕ) (old new : List ℕ) : Type 0 where
@@ -97,7 +97,7 @@ pub record IsHead (a b : ℕ) (old new : List ℕ) : Type 0 where
 bytes_set : (bytes : List ℕ) (i byte : ℕ) → AreBytes bytes → byte < 256 → AreBytes (slice_set bytes i byte)
 bytes_set [] i byte h b = h
 bytes_set (x ∷ xs) zero byte h b = λ k. set_first xs byte k (λ j. h (suc j)) b
-bytes_set (x ∷ xs) (suc i) byte h b = λ k. set_behind x (slice_set xs i byte) k (h zero) (bytes_set xs i byte (λ j. h (suc j)) b)
+bytes_set (x ∷ xs) (suc i) byte h b = λ k. set_after x (slice_set xs i byte) k (h zero) (bytes_set xs i byte (λ j. h (suc j)) b)
 
 bytes_twelve : (bytes : List ℕ) (p number : ℕ) → AreBytes bytes → number < 4096 → AreBytes (with_twelve p number bytes)
 bytes_twelve bytes p number h few =
@@ -174,5 +174,5 @@ unfolding crc_in crc_due
 sealed_again section long h right =
     let four : length (drop (length section - 4) section) ≡ 4 = omega (arith, length-drop (length section - 4) section) in
     ap (λ (l : List ℕ). take (length section - 4) section ++ l)
-    (ap (to_be_bytes w32) (sym right) ∙ four_again (drop (length section - 4) section) four (bytes_behind section (length section - 4) h))
+    (ap (to_be_bytes w32) (sym right) ∙ four_again (drop (length section - 4) section) four (bytes_after section (length section - 4) h))
     ∙ take-append-drop (length section - 4) section

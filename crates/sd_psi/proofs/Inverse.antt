@@ -13,13 +13,13 @@ use Rattle.sd_psi.specs.declared.fault.FormFault.{FormFault}
 use Rattle.sd_psi.specs.declared.fault.FormFault.TheVariants as Fault
 use Rattle.sd_psi.specs.declared.form.Table.TheVariants.{Pmt}
 use Rattle.sd_psi.specs.Tables.{info_length_of, has_info, is_pmt}
-use Rattle.sd_psi.specs.Forms.{fault_unless, or_next, behind_pointer, section_in, behind_section, has_pointer, has_table, has_body, has_length, crc_fault, is_stuffing, bytes_fault, front_fault}
+use Rattle.sd_psi.specs.Forms.{fault_unless, or_next, after_pointer, section_in, after_section, has_pointer, has_table, has_body, has_length, crc_fault, is_stuffing, bytes_fault, front_fault}
 use Rattle.sd_psi.specs.Rewriting.{ca_descriptor, inserted, removed, in_front, rewritten, restored, loops_fault, has_room, is_first, rewrite_fault, removal_fault}
 use Rattle.sd_psi.specs.Undone.{IsPacket}
 use Rattle.sd_psi.proofs.Grammar.{front_field}
 use Rattle.sd_psi.proofs.Judging.{body_long}
 use Rattle.sd_psi.proofs.Listing.{pmt_has, pmt_info}
-use Rattle.sd_psi.proofs.Heads.{bytes_behind, bytes_in_front}
+use Rattle.sd_psi.proofs.Heads.{bytes_after, bytes_in_front}
 use Rattle.sd_psi.proofs.Shapes.{IsShaped, shaped_has, IsInserted, inserted_shape, IsSix, first_six, removed_shape}
 use Rattle.sd_psi.proofs.Undoing.{IsMap, removed_inserted, inserted_removed}
 
@@ -33,7 +33,7 @@ same_start p q n h e =
     sym (get_or-take n p 4 0 (omega arith)) ∙ (ap (λ (l : List ℕ). get_or l 4 0) e ∙ get_or-take n q 4 0 (omega arith)) in
     rw (control, count) refl
 
--- the front of a packet with another section and other bytes behind it
+-- the front of a packet with another section and other bytes after it
 module _ (packet : List ℕ) (is : IsPacket packet) (section rest : List ℕ) (long : length section ≡ 3 + section_length_of section) (some : 12 ≤ length section) where
   front_long : length (in_front packet) ≡ payload_start_of packet + 1
   front_long = length-take-le (payload_start_of packet + 1) packet (omega (arith, is.long, is.payload))
@@ -47,8 +47,8 @@ module _ (packet : List ℕ) (is : IsPacket packet) (section rest : List ℕ) (l
   pub front_of : in_front (in_front packet ++ (section ++ rest)) ≡ in_front packet
   front_of = ap (λ (n : ℕ). take (n + 1) (in_front packet ++ (section ++ rest))) start_of ∙ front_at
 
-  pub behind_of : behind_pointer (in_front packet ++ (section ++ rest)) ≡ section ++ rest
-  behind_of =
+  pub after_of : after_pointer (in_front packet ++ (section ++ rest)) ≡ section ++ rest
+  after_of =
       ap (λ (n : ℕ). drop 1 (drop n (in_front packet ++ (section ++ rest)))) start_of
       ∙ (drop-drop 1 (payload_start_of packet) (in_front packet ++ (section ++ rest)) ∙ drop_at (in_front packet) (section ++ rest) (payload_start_of packet + 1) front_long)
 
@@ -57,18 +57,18 @@ module _ (packet : List ℕ) (is : IsPacket packet) (section rest : List ℕ) (l
 
   pub section_of : section_in (in_front packet ++ (section ++ rest)) ≡ section
   section_of =
-      ap whole_of behind_of
+      ap whole_of after_of
       ∙ (ap (λ (n : ℕ). take (3 + n) (section ++ rest)) length_of ∙ take_at section rest (3 + section_length_of section) long)
 
-  pub rest_of : behind_section (in_front packet ++ (section ++ rest)) ≡ rest
+  pub rest_of : after_section (in_front packet ++ (section ++ rest)) ≡ rest
   rest_of =
-      ap (λ (l : List ℕ). drop (3 + section_length_of l) l) behind_of
+      ap (λ (l : List ℕ). drop (3 + section_length_of l) l) after_of
       ∙ (ap (λ (n : ℕ). drop (3 + n) (section ++ rest)) length_of ∙ drop_at section rest (3 + section_length_of section) long)
 
--- a packet is its front, its section, and what stands behind it
-pub packet_parts : (packet : List ℕ) → in_front packet ++ (section_in packet ++ behind_section packet) ≡ packet
+-- a packet is its front, its section, and what stands after it
+pub packet_parts : (packet : List ℕ) → in_front packet ++ (section_in packet ++ after_section packet) ≡ packet
 packet_parts packet =
-    ap (λ (l : List ℕ). in_front packet ++ l) (take-append-drop (3 + section_length_of (behind_pointer packet)) (behind_pointer packet))
+    ap (λ (l : List ℕ). in_front packet ++ l) (take-append-drop (3 + section_length_of (after_pointer packet)) (after_pointer packet))
     ∙ (ap (λ (l : List ℕ). in_front packet ++ l) (drop-drop 1 (payload_start_of packet) packet) ∙ take-append-drop (payload_start_of packet + 1) packet)
 
 -- where nothing is wrong, each test holds
@@ -82,47 +82,47 @@ none_true false fault h = absurd (cc)
 
 pub record IsGood (packet : List ℕ) : Type 0 where
   pub pointer : has_pointer packet ≡ true
-  pub table : has_table Pmt (behind_pointer packet) ≡ true
-  pub lengths : has_length Pmt (behind_pointer packet) ≡ true
+  pub table : has_table Pmt (after_pointer packet) ≡ true
+  pub lengths : has_length Pmt (after_pointer packet) ≡ true
   pub right : crc_in (section_in packet) ≡ crc_due (section_in packet)
-  pub stuffing : is_stuffing (behind_section packet) ≡ true
+  pub stuffing : is_stuffing (after_section packet) ≡ true
 
 front_good : (packet : List ℕ) → front_fault Pmt packet ≡ None → IsGood packet
 unfolding front_fault
 front_good packet h =
-    let pointers = none_parts (fault_unless (has_pointer packet) Fault.Pointer) (bytes_fault Pmt (behind_pointer packet)) h in
-    let tables = none_parts (fault_unless (has_table Pmt (behind_pointer packet)) Fault.Table)
-    (or_next (fault_unless (has_length Pmt (behind_pointer packet)) Fault.Length) (or_next (crc_fault (section_in packet)) (fault_unless (is_stuffing (behind_section packet)) Fault.Trailing))) pointers.1 in
-    let lengths = none_parts (fault_unless (has_length Pmt (behind_pointer packet)) Fault.Length)
-    (or_next (crc_fault (section_in packet)) (fault_unless (is_stuffing (behind_section packet)) Fault.Trailing)) tables.1 in
-    let crcs = none_parts (crc_fault (section_in packet)) (fault_unless (is_stuffing (behind_section packet)) Fault.Trailing) lengths.1 in
+    let pointers = none_parts (fault_unless (has_pointer packet) Fault.Pointer) (bytes_fault Pmt (after_pointer packet)) h in
+    let tables = none_parts (fault_unless (has_table Pmt (after_pointer packet)) Fault.Table)
+    (or_next (fault_unless (has_length Pmt (after_pointer packet)) Fault.Length) (or_next (crc_fault (section_in packet)) (fault_unless (is_stuffing (after_section packet)) Fault.Trailing))) pointers.1 in
+    let lengths = none_parts (fault_unless (has_length Pmt (after_pointer packet)) Fault.Length)
+    (or_next (crc_fault (section_in packet)) (fault_unless (is_stuffing (after_section packet)) Fault.Trailing)) tables.1 in
+    let crcs = none_parts (crc_fault (section_in packet)) (fault_unless (is_stuffing (after_section packet)) Fault.Trailing) lengths.1 in
     record {
       pointer = none_true (has_pointer packet) Fault.Pointer pointers.0;
-      table = none_true (has_table Pmt (behind_pointer packet)) Fault.Table tables.0;
-      lengths = none_true (has_length Pmt (behind_pointer packet)) Fault.Length lengths.0;
+      table = none_true (has_table Pmt (after_pointer packet)) Fault.Table tables.0;
+      lengths = none_true (has_length Pmt (after_pointer packet)) Fault.Length lengths.0;
       right = eqb-true (crc_in (section_in packet)) (crc_due (section_in packet)) (none_true (crc_in (section_in packet) == crc_due (section_in packet)) _ crcs.0);
-      stuffing = none_true (is_stuffing (behind_section packet)) Fault.Trailing crcs.1;
+      stuffing = none_true (is_stuffing (after_section packet)) Fault.Trailing crcs.1;
     }
 
 -- a good packet's section is that of a map
 good_map : (packet : List ℕ) → IsPacket packet → IsGood packet → is_pmt (section_in packet) ≡ true → IsMap (section_in packet)
 unfolding has_info
 good_map packet is good pmt =
-    let behind : List ℕ = behind_pointer packet in
+    let after : List ℕ = after_pointer packet in
     let section : List ℕ = section_in packet in
-    let threes = and_parts (nat_le 3 (length behind)) (nat_le (3 + section_length_of behind) (length behind) && (nat_le 13 (section_length_of behind) && has_body Pmt section)) good.lengths in
-    let wholes = and_parts (nat_le (3 + section_length_of behind) (length behind)) (nat_le 13 (section_length_of behind) && has_body Pmt section) threes.1 in
-    let lows = and_parts (nat_le 13 (section_length_of behind)) (has_body Pmt section) wholes.1 in
-    let there : 3 + section_length_of behind ≤ length behind = leb-true (3 + section_length_of behind) (length behind) wholes.0 in
-    let low : 13 ≤ section_length_of behind = leb-true 13 (section_length_of behind) lows.0 in
-    let count : length section ≡ 3 + section_length_of behind = length-take-le (3 + section_length_of behind) behind there in
-    let same : section_length_of section ≡ section_length_of behind = field_take behind (3 + section_length_of behind) 12 12 (omega arith) in
+    let threes = and_parts (nat_le 3 (length after)) (nat_le (3 + section_length_of after) (length after) && (nat_le 13 (section_length_of after) && has_body Pmt section)) good.lengths in
+    let wholes = and_parts (nat_le (3 + section_length_of after) (length after)) (nat_le 13 (section_length_of after) && has_body Pmt section) threes.1 in
+    let lows = and_parts (nat_le 13 (section_length_of after)) (has_body Pmt section) wholes.1 in
+    let there : 3 + section_length_of after ≤ length after = leb-true (3 + section_length_of after) (length after) wholes.0 in
+    let low : 13 ≤ section_length_of after = leb-true 13 (section_length_of after) lows.0 in
+    let count : length section ≡ 3 + section_length_of after = length-take-le (3 + section_length_of after) after there in
+    let same : section_length_of section ≡ section_length_of after = field_take after (3 + section_length_of after) 12 12 (omega arith) in
     let has = and_parts (nat_le 4 (length (body_of section))) (nat_le (4 + info_length_of section) (length (body_of section))) (pmt_has section pmt) in
     let fits : 4 + info_length_of section ≤ length (body_of section) = leb-true (4 + info_length_of section) (length (body_of section)) has.1 in
     record {
       long = omega arith;
       few = omega (arith, length-drop 1 (payload_of packet), length-drop (payload_start_of packet) packet, is.long, (start_within packet).0);
-      bytes = bytes_in_front behind (3 + section_length_of behind) (bytes_behind (payload_of packet) 1 (bytes_behind packet (payload_start_of packet) is.bytes));
+      bytes = bytes_in_front after (3 + section_length_of after) (bytes_after (payload_of packet) 1 (bytes_after packet (payload_start_of packet) is.bytes));
       right = good.right;
       info = omega (arith, body_long section);
     }
@@ -140,7 +140,7 @@ stuffed (suc n) (b ∷ bs) h all =
 pub record MayRewrite (packet : List ℕ) : Type 0 where
   pub good : IsGood packet
   pub map : IsMap (section_in packet)
-  pub room : 6 ≤ length (behind_section packet)
+  pub room : 6 ≤ length (after_section packet)
   pub form : is_pmt (section_in packet) ≡ true
 
 pub may_rewrite : (packet : List ℕ) → IsPacket packet → rewrite_fault packet ≡ None → MayRewrite packet
@@ -153,7 +153,7 @@ may_rewrite packet is h =
     record {
       good = good;
       map = good_map packet is good form;
-      room = leb-true 6 (length (behind_section packet)) (none_true (has_room packet) Fault.NoRoom rooms.0);
+      room = leb-true 6 (length (after_section packet)) (none_true (has_room packet) Fault.NoRoom rooms.0);
       form = form;
     }
 
@@ -195,21 +195,21 @@ bytes_good bytes table lengths right stuffing =
 table_kept : (packet section rest : List ℕ) → IsGood packet → IsMap (section_in packet) → IsShaped (section_in packet) section →
     has_table Pmt (section ++ rest) ≡ true
 table_kept packet section rest good map shape =
-    let behind : List ℕ = behind_pointer packet in
-    let n : ℕ = 3 + section_length_of behind in
-    let taken : length (section_in packet) ≤ n = omega (arith, length-take n behind) in
-    let kept : (at width : ℕ) → at + width ≤ 96 → field (section_in packet) at width ≡ field behind at width =
-    λ at width h. field_take behind n at width (omega (arith, map.info)) in
+    let after : List ℕ = after_pointer packet in
+    let n : ℕ = 3 + section_length_of after in
+    let taken : length (section_in packet) ≤ n = omega (arith, length-take n after) in
+    let kept : (at width : ℕ) → at + width ≤ 96 → field (section_in packet) at width ≡ field after at width =
+    λ at width h. field_take after n at width (omega (arith, map.info)) in
     let front : (at width : ℕ) → at + width ≤ 96 → field (section ++ rest) at width ≡ field section at width =
     λ at width h. front_field section rest at width (omega (arith, shape.low)) in
-    let ids = and_parts (nat_le 2 (length behind)) ((table_id_of behind == 2) && ((syntax_of behind == 1) && ((number_of behind == 0) && (last_number_of behind == 0)))) good.table in
-    let forms = and_parts (table_id_of behind == 2) ((syntax_of behind == 1) && ((number_of behind == 0) && (last_number_of behind == 0))) ids.1 in
-    let syntax = and_parts (syntax_of behind == 1) ((number_of behind == 0) && (last_number_of behind == 0)) forms.1 in
-    let numbers = and_parts (number_of behind == 0) (last_number_of behind == 0) syntax.1 in
-    let e0 : table_id_of (section ++ rest) ≡ 2 = front 0 8 (omega arith) ∙ (shape.id ∙ (kept 0 8 (omega arith) ∙ eqb-true (table_id_of behind) 2 forms.0)) in
-    let e1 : syntax_of (section ++ rest) ≡ 1 = front 8 1 (omega arith) ∙ (shape.syntax ∙ (kept 8 1 (omega arith) ∙ eqb-true (syntax_of behind) 1 syntax.0)) in
-    let e2 : number_of (section ++ rest) ≡ 0 = front 48 8 (omega arith) ∙ (shape.number ∙ (kept 48 8 (omega arith) ∙ eqb-true (number_of behind) 0 numbers.0)) in
-    let e3 : last_number_of (section ++ rest) ≡ 0 = front 56 8 (omega arith) ∙ (shape.last_number ∙ (kept 56 8 (omega arith) ∙ eqb-true (last_number_of behind) 0 numbers.1)) in
+    let ids = and_parts (nat_le 2 (length after)) ((table_id_of after == 2) && ((syntax_of after == 1) && ((number_of after == 0) && (last_number_of after == 0)))) good.table in
+    let forms = and_parts (table_id_of after == 2) ((syntax_of after == 1) && ((number_of after == 0) && (last_number_of after == 0))) ids.1 in
+    let syntax = and_parts (syntax_of after == 1) ((number_of after == 0) && (last_number_of after == 0)) forms.1 in
+    let numbers = and_parts (number_of after == 0) (last_number_of after == 0) syntax.1 in
+    let e0 : table_id_of (section ++ rest) ≡ 2 = front 0 8 (omega arith) ∙ (shape.id ∙ (kept 0 8 (omega arith) ∙ eqb-true (table_id_of after) 2 forms.0)) in
+    let e1 : syntax_of (section ++ rest) ≡ 1 = front 8 1 (omega arith) ∙ (shape.syntax ∙ (kept 8 1 (omega arith) ∙ eqb-true (syntax_of after) 1 syntax.0)) in
+    let e2 : number_of (section ++ rest) ≡ 0 = front 48 8 (omega arith) ∙ (shape.number ∙ (kept 48 8 (omega arith) ∙ eqb-true (number_of after) 0 numbers.0)) in
+    let e3 : last_number_of (section ++ rest) ≡ 0 = front 56 8 (omega arith) ∙ (shape.last_number ∙ (kept 56 8 (omega arith) ∙ eqb-true (last_number_of after) 0 numbers.1)) in
     let two : nat_le 2 (length (section ++ rest)) ≡ true = le-leb 2 (length (section ++ rest)) (omega (arith, shape.low, length-append section rest)) in
     rw (two, e0, e1, e2, e3) refl
 
@@ -228,14 +228,14 @@ front_kept : (packet : List ℕ) (is : IsPacket packet) (section rest : List ℕ
 unfolding front_fault
 front_kept packet is section rest good map shape stuffing =
     let some : 12 ≤ length section = omega (arith, shape.low) in
-    let behind : behind_pointer (in_front packet ++ (section ++ rest)) ≡ section ++ rest = behind_of packet is section rest shape.long some in
+    let after : after_pointer (in_front packet ++ (section ++ rest)) ≡ section ++ rest = after_of packet is section rest shape.long some in
     let lengths : section_length_of (section ++ rest) ≡ section_length_of section = front_field section rest 12 12 (omega arith) in
     let count : length section ≡ 3 + section_length_of (section ++ rest) = shape.long ∙ omega arith in
     let whole : whole_of (section ++ rest) ≡ section = take_at section rest (3 + section_length_of (section ++ rest)) count in
     let left : drop (3 + section_length_of (section ++ rest)) (section ++ rest) ≡ rest = drop_at section rest (3 + section_length_of (section ++ rest)) count in
     let right : crc_in (whole_of (section ++ rest)) ≡ crc_due (whole_of (section ++ rest)) = ap crc_in whole ∙ (shape.right ∙ ap crc_due (sym whole)) in
-    ap (λ (t : Bool). or_next (fault_unless t Fault.Pointer) (bytes_fault Pmt (behind_pointer (in_front packet ++ (section ++ rest))))) (pointer_kept packet is section rest shape.long some ∙ good.pointer)
-    ∙ (ap (bytes_fault Pmt) behind
+    ap (λ (t : Bool). or_next (fault_unless t Fault.Pointer) (bytes_fault Pmt (after_pointer (in_front packet ++ (section ++ rest))))) (pointer_kept packet is section rest shape.long some ∙ good.pointer)
+    ∙ (ap (bytes_fault Pmt) after
     ∙ bytes_good (section ++ rest) (table_kept packet section rest good map shape) (lengths_kept (section_in packet) section rest shape) right (ap is_stuffing left ∙ stuffing))
 
 -- a packet that was rewritten may be restored, and is then as it was
@@ -245,12 +245,12 @@ less_stuffing (suc n) [] h = h
 less_stuffing (suc n) (b ∷ bs) h = less_stuffing n bs (and_parts (b == 255) (list_all (λ byte. byte == 255) bs) h).1
 
 -- how long a packet's parts are
-parts_long : (packet : List ℕ) → IsPacket packet → length (section_in packet) + length (behind_section packet) ≤ 183
+parts_long : (packet : List ℕ) → IsPacket packet → length (section_in packet) + length (after_section packet) ≤ 183
 parts_long packet is =
     omega (
       arith,
-      ap (λ (l : List ℕ). length l) (take-append-drop (3 + section_length_of (behind_pointer packet)) (behind_pointer packet)),
-      length-append (section_in packet) (behind_section packet),
+      ap (λ (l : List ℕ). length l) (take-append-drop (3 + section_length_of (after_pointer packet)) (after_pointer packet)),
+      length-append (section_in packet) (after_section packet),
       length-drop 1 (payload_of packet),
       length-drop (payload_start_of packet) packet,
       is.long,
@@ -268,9 +268,9 @@ restorable ca pid packet is h =
     let may = may_rewrite packet is h in
     let section : List ℕ = inserted (ca_descriptor ca pid) (section_in packet) in
     let new = rewritten_section ca pid packet is may in
-    let rest : List ℕ = drop 6 (behind_section packet) in
+    let rest : List ℕ = drop 6 (after_section packet) in
     let some : 12 ≤ length section = omega (arith, new.shape.low) in
-    let front = front_kept packet is section rest may.good may.map new.shape (less_stuffing 6 (behind_section packet) may.good.stuffing) in
+    let front = front_kept packet is section rest may.good may.map new.shape (less_stuffing 6 (after_section packet) may.good.stuffing) in
     let there : section_in (in_front packet ++ (section ++ rest)) ≡ section = section_of packet is section rest new.shape.long some in
     let form : is_pmt (section_in (in_front packet ++ (section ++ rest))) ≡ true = ap is_pmt there ∙ new.form in
     let first : is_first (ca_descriptor ca pid) (section_in (in_front packet ++ (section ++ rest))) ≡ true = ap (is_first (ca_descriptor ca pid)) there ∙ new.first in
@@ -282,13 +282,13 @@ restored_again ca pid packet is h =
     let may = may_rewrite packet is h in
     let section : List ℕ = inserted (ca_descriptor ca pid) (section_in packet) in
     let new = rewritten_section ca pid packet is may in
-    let rest : List ℕ = drop 6 (behind_section packet) in
+    let rest : List ℕ = drop 6 (after_section packet) in
     let some : 12 ≤ length section = omega (arith, new.shape.low) in
-    ap (λ (l : List ℕ). l ++ (removed (section_in (in_front packet ++ (section ++ rest))) ++ (replicate 6 255 ++ behind_section (in_front packet ++ (section ++ rest))))) (front_of packet is section rest new.shape.long some)
-    ∙ (ap (λ (l : List ℕ). in_front packet ++ (removed l ++ (replicate 6 255 ++ behind_section (in_front packet ++ (section ++ rest))))) (section_of packet is section rest new.shape.long some)
+    ap (λ (l : List ℕ). l ++ (removed (section_in (in_front packet ++ (section ++ rest))) ++ (replicate 6 255 ++ after_section (in_front packet ++ (section ++ rest))))) (front_of packet is section rest new.shape.long some)
+    ∙ (ap (λ (l : List ℕ). in_front packet ++ (removed l ++ (replicate 6 255 ++ after_section (in_front packet ++ (section ++ rest))))) (section_of packet is section rest new.shape.long some)
     ∙ (ap (λ (l : List ℕ). in_front packet ++ (removed section ++ (replicate 6 255 ++ l))) (rest_of packet is section rest new.shape.long some)
     ∙ (ap (λ (l : List ℕ). in_front packet ++ (l ++ (replicate 6 255 ++ rest))) (removed_inserted (section_in packet) may.map (ca_descriptor ca pid) (six ca pid))
-    ∙ (ap (λ (l : List ℕ). in_front packet ++ (section_in packet ++ l)) (stuffed 6 (behind_section packet) may.room may.good.stuffing) ∙ packet_parts packet))))
+    ∙ (ap (λ (l : List ℕ). in_front packet ++ (section_in packet ++ l)) (stuffed 6 (after_section packet) may.room may.good.stuffing) ∙ packet_parts packet))))
 
 -- a packet that may be restored
 pub record MayRestore (descriptor packet : List ℕ) : Type 0 where
@@ -328,11 +328,11 @@ rewritable ca pid packet is h =
     let may = may_restore (ca_descriptor ca pid) packet is h in
     let section : List ℕ = removed (section_in packet) in
     let new = removed_shape (ca_descriptor ca pid) (section_in packet) may.map may.form (ours_six ca pid packet may) in
-    let rest : List ℕ = replicate 6 255 ++ behind_section packet in
+    let rest : List ℕ = replicate 6 255 ++ after_section packet in
     let some : 12 ≤ length section = omega (arith, new.shape.low) in
-    let front = front_kept packet is section rest may.good may.map new.shape (more_stuffing 6 (behind_section packet) may.good.stuffing) in
-    let left : behind_section (in_front packet ++ (section ++ rest)) ≡ rest = rest_of packet is section rest new.shape.long some in
-    let room : has_room (in_front packet ++ (section ++ rest)) ≡ true = ap (λ (l : List ℕ). nat_le 6 (length l)) left ∙ le-leb 6 (length rest) (omega (arith, length-append (replicate 6 255) (behind_section packet))) in
+    let front = front_kept packet is section rest may.good may.map new.shape (more_stuffing 6 (after_section packet) may.good.stuffing) in
+    let left : after_section (in_front packet ++ (section ++ rest)) ≡ rest = rest_of packet is section rest new.shape.long some in
+    let room : has_room (in_front packet ++ (section ++ rest)) ≡ true = ap (λ (l : List ℕ). nat_le 6 (length l)) left ∙ le-leb 6 (length rest) (omega (arith, length-append (replicate 6 255) (after_section packet))) in
     let form : is_pmt (section_in (in_front packet ++ (section ++ rest))) ≡ true = ap is_pmt (section_of packet is section rest new.shape.long some) ∙ new.form in
     rw (front, room, form) refl
 
@@ -344,11 +344,11 @@ rewritten_again ca pid packet is h =
     let ours = ours_six ca pid packet may in
     let section : List ℕ = removed (section_in packet) in
     let new = removed_shape (ca_descriptor ca pid) (section_in packet) may.map may.form ours in
-    let rest : List ℕ = replicate 6 255 ++ behind_section packet in
+    let rest : List ℕ = replicate 6 255 ++ after_section packet in
     let some : 12 ≤ length section = omega (arith, new.shape.low) in
     let descriptor : List ℕ = ca_descriptor ca pid in
-    ap (λ (l : List ℕ). l ++ (inserted descriptor (section_in (in_front packet ++ (section ++ rest))) ++ drop 6 (behind_section (in_front packet ++ (section ++ rest))))) (front_of packet is section rest new.shape.long some)
-    ∙ (ap (λ (l : List ℕ). in_front packet ++ (inserted descriptor l ++ drop 6 (behind_section (in_front packet ++ (section ++ rest))))) (section_of packet is section rest new.shape.long some)
+    ap (λ (l : List ℕ). l ++ (inserted descriptor (section_in (in_front packet ++ (section ++ rest))) ++ drop 6 (after_section (in_front packet ++ (section ++ rest))))) (front_of packet is section rest new.shape.long some)
+    ∙ (ap (λ (l : List ℕ). in_front packet ++ (inserted descriptor l ++ drop 6 (after_section (in_front packet ++ (section ++ rest))))) (section_of packet is section rest new.shape.long some)
     ∙ (ap (λ (l : List ℕ). in_front packet ++ (inserted descriptor section ++ drop 6 l)) (rest_of packet is section rest new.shape.long some)
-    ∙ (ap (λ (l : List ℕ). in_front packet ++ (l ++ behind_section packet)) (inserted_removed (section_in packet) may.map descriptor ours.is ours.counted)
+    ∙ (ap (λ (l : List ℕ). in_front packet ++ (l ++ after_section packet)) (inserted_removed (section_in packet) may.map descriptor ours.is ours.counted)
     ∙ packet_parts packet)))

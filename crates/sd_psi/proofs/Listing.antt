@@ -9,7 +9,7 @@ use Rattle.sd_section.specs.Header.{table_id_of, body_of}
 use Rattle.sd_psi.specs.declared.items.Kind.TheVariants.{Program, Descriptor, Stream}
 use Rattle.sd_psi.specs.Items.{size_of, items_of, is_whole, are_whole}
 use Rattle.sd_psi.specs.Tables.{are_descriptors, program_of, programs_of, is_pat, is_cat, has_info, info_of, loop_of, stream_of, streams_of, stream_at, is_stream, are_streams, is_pmt}
-use Rattle.sd_psi.proofs.Cutting.{items_behind, size_itself, off_behind, none_cut}
+use Rattle.sd_psi.proofs.Cutting.{items_after, size_itself, off_after, none_cut}
 
 -- an element of a list is made of that of another
 pub made_of : {X Y : Type 0} (f : X → Y) (xs : List X) (k : ℕ) (x : X) → slice_get xs k ≡ Some x → slice_get (map f xs) k ≡ Some (f x)
@@ -112,7 +112,7 @@ pub stream_listed : (section stream : List ℕ) (k : ℕ) → slice_get (items_o
 unfolding stream_at streams_of
 stream_listed section stream k h = here_is (streams_of section) k (stream_of stream) _ (made_of stream_of (items_of Stream (loop_of section)) k stream h)
 
--- the streams behind a place where one of so many bytes stands
+-- the streams after a place where one of so many bytes stands
 streams_first : (bytes : List ℕ) (at size : ℕ) → at < length bytes → size ≡ size_of Stream (take (length bytes - at) (drop at bytes)) →
     size ≤ length bytes - at →
     are_streams (drop at bytes) ≡ (are_descriptors (drop 5 (take size (drop at bytes))) && are_streams (drop (at + size) bytes))
@@ -120,7 +120,7 @@ unfolding are_streams
 streams_first bytes at size within is there =
     let long : length (take size (drop at bytes)) ≡ size_of Stream (take size (drop at bytes)) =
     length-take-le size (drop at bytes) (omega (arith, length-drop at bytes)) ∙ sym (size_itself Stream bytes at size is) in
-    ap (list_all is_stream) (items_behind Stream bytes at size within is)
+    ap (list_all is_stream) (items_after Stream bytes at size within is)
     ∙ ap (λ (b : Bool). (b && are_descriptors (drop 5 (take size (drop at bytes)))) && list_all is_stream (items_of Stream (drop (at + size) bytes))) (eq-eqb _ _ long)
 
 -- the part of it that its descriptors are to fill
@@ -131,11 +131,11 @@ stream_part bytes at size h =
     ap (λ (n : ℕ). drop 5 (take n (drop at bytes))) count
     ∙ (drop-take 5 (size - 5) (drop at bytes) ∙ (ap (take (size - 5)) (drop-drop 5 at bytes) ∙ ap (λ (n : ℕ). take n (drop (at + 5) bytes)) (sym same)))
 
-streams_behind : (bytes : List ℕ) (at size : ℕ) (test : Bool) → at < length bytes →
+streams_after : (bytes : List ℕ) (at size : ℕ) (test : Bool) → at < length bytes →
     size ≡ size_of Stream (take (length bytes - at) (drop at bytes)) →
     size ≤ length bytes - at → are_descriptors (take (at + size - (at + 5)) (drop (at + 5) bytes)) ≡ test →
     are_streams (drop at bytes) ≡ (test && are_streams (drop (at + size) bytes))
-streams_behind bytes at size test within is there filled =
+streams_after bytes at size test within is there filled =
     let head : 5 ≤ size = omega (arith, stream_head (take (length bytes - at) (drop at bytes))) in
     streams_first bytes at size within is there
     ∙ ap (λ (b : Bool). b && are_streams (drop (at + size) bytes)) (ap are_descriptors (stream_part bytes at size head) ∙ filled)
@@ -143,12 +143,12 @@ streams_behind bytes at size test within is there filled =
 pub streams_on : (bytes : List ℕ) (at size : ℕ) → at < length bytes → size ≡ size_of Stream (take (length bytes - at) (drop at bytes)) →
     size ≤ length bytes - at → are_descriptors (take (at + size - (at + 5)) (drop (at + 5) bytes)) ≡ true →
     are_streams (drop at bytes) ≡ are_streams (drop (at + size) bytes)
-streams_on bytes at size within is there filled = streams_behind bytes at size true within is there filled
+streams_on bytes at size within is there filled = streams_after bytes at size true within is there filled
 
 pub streams_bad : (bytes : List ℕ) (at size : ℕ) → at < length bytes → size ≡ size_of Stream (take (length bytes - at) (drop at bytes)) →
     size ≤ length bytes - at → are_descriptors (take (at + size - (at + 5)) (drop (at + 5) bytes)) ≡ false →
     are_streams (drop at bytes) ≡ false
-streams_bad bytes at size within is there filled = streams_behind bytes at size false within is there filled
+streams_bad bytes at size within is there filled = streams_after bytes at size false within is there filled
 
 -- where a stream is cut off, they don't fill the bytes
 untrue : (test : Bool) → test ≡ true → (test ≡ false) → ⊥
@@ -158,7 +158,7 @@ untrue false h e = absurd (cc)
 pub streams_off : (bytes : List ℕ) (at : ℕ) → at < length bytes → length bytes - at < size_of Stream (take (length bytes - at) (drop at bytes)) →
     are_streams (drop at bytes) ≡ false
 streams_off bytes at within off =
-    isnt (are_streams (drop at bytes)) (λ is. untrue (are_whole Stream (drop at bytes)) (streams_whole (drop at bytes) is) (off_behind Stream bytes at within off))
+    isnt (are_streams (drop at bytes)) (λ is. untrue (are_whole Stream (drop at bytes)) (streams_whole (drop at bytes) is) (off_after Stream bytes at within off))
 
 -- no bytes have no stream
 pub no_streams : (bytes : List ℕ) (at : ℕ) → length bytes ≤ at → are_streams (drop at bytes) ≡ true

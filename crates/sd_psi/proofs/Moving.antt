@@ -9,13 +9,13 @@ use Rattle.sd_section.specs.Written.{sealed}
 use Rattle.sd_psi.specs.Tables.{info_length_of}
 use Rattle.sd_psi.specs.Rewriting.{with_lengths, inserted, removed}
 
--- what is taken of a list goes on behind its front
-pub take_behind : (p q : List ℕ) (k : ℕ) → length p ≤ k → take k (p ++ q) ≡ p ++ take (k - length p) q
-take_behind [] q k h = let e : k ≡ k - 0 = omega arith in ap (λ (n : ℕ). take n q) e
-take_behind (x ∷ p) q zero h = absurd (omega arith)
-take_behind (x ∷ p) q (suc k) h =
+-- what is taken of a list goes on after its front
+pub take_after : (p q : List ℕ) (k : ℕ) → length p ≤ k → take k (p ++ q) ≡ p ++ take (k - length p) q
+take_after [] q k h = let e : k ≡ k - 0 = omega arith in ap (λ (n : ℕ). take n q) e
+take_after (x ∷ p) q zero h = absurd (omega arith)
+take_after (x ∷ p) q (suc k) h =
     let e : k - length p ≡ suc k - suc (length p) = omega arith in
-    ap (λ (l : List ℕ). x ∷ l) (take_behind p q k (omega arith) ∙ ap (λ (n : ℕ). p ++ take n q) e)
+    ap (λ (l : List ℕ). x ∷ l) (take_after p q k (omega arith) ∙ ap (λ (n : ℕ). p ++ take n q) e)
 
 -- a head in place of the first twelve bytes
 module _ (old head : List ℕ) (twelve : length head ≡ 12) (long : 22 ≤ length old) where
@@ -31,10 +31,10 @@ module _ (old head : List ℕ) (twelve : length head ≡ 12) (long : 22 ≤ leng
   pub turned_is : (turned : List ℕ) →
       take 12 (head ++ drop 12 old) ++ (turned ++ drop (length (head ++ drop 12 old) - 12) (drop 12 (head ++ drop 12 old))) ≡ head ++ turned
   turned_is turned =
-      let behind : drop (length (head ++ drop 12 old) - 12) (drop 12 (head ++ drop 12 old)) ≡ [] =
+      let after : drop (length (head ++ drop 12 old) - 12) (drop 12 (head ++ drop 12 old)) ≡ [] =
       drop_all _ (drop 12 (head ++ drop 12 old)) (omega (arith, length-drop 12 (head ++ drop 12 old))) in
       ap (λ (l : List ℕ). l ++ (turned ++ drop (length (head ++ drop 12 old) - 12) (drop 12 (head ++ drop 12 old)))) (take_at head (drop 12 old) 12 twelve)
-      ∙ (ap (λ (l : List ℕ). head ++ (turned ++ l)) behind ∙ ap (λ (l : List ℕ). head ++ l) (append-nil turned))
+      ∙ (ap (λ (l : List ℕ). head ++ (turned ++ l)) after ∙ ap (λ (l : List ℕ). head ++ l) (append-nil turned))
 
   -- turned to the right
   pub right_is : (turned : List ℕ) →
@@ -56,15 +56,15 @@ module _ (old head : List ℕ) (twelve : length head ≡ 12) (long : 22 ≤ leng
 -- the descriptor over the six bytes that were turned to the front
 module _ (old head descriptor turned : List ℕ) (twelve : length head ≡ 12) (long : 22 ≤ length old) (six : length descriptor ≡ 6)
     (turn : turned ≡ drop (length old - 18) (drop 12 old) ++ take (length old - 18) (drop 12 old)) where
-  behind_six : drop 6 turned ≡ take (length old - 18) (drop 12 old)
-  behind_six = ap (drop 6) turn ∙ drop_at (drop (length old - 18) (drop 12 old)) (take (length old - 18) (drop 12 old)) 6
+  after_six : drop 6 turned ≡ take (length old - 18) (drop 12 old)
+  after_six = ap (drop 6) turn ∙ drop_at (drop (length old - 18) (drop 12 old)) (take (length old - 18) (drop 12 old)) 6
       (omega (arith, length-drop (length old - 18) (drop 12 old), length-drop 12 old))
 
   pub laid_is : take 12 (head ++ turned) ++ (descriptor ++ drop 6 (drop 12 (head ++ turned)))
       ≡ head ++ (descriptor ++ take (length old - 18) (drop 12 old))
   laid_is =
       ap (λ (l : List ℕ). l ++ (descriptor ++ drop 6 (drop 12 (head ++ turned)))) (take_at head turned 12 twelve)
-      ∙ (ap (λ (l : List ℕ). head ++ (descriptor ++ drop 6 l)) (drop_at head turned 12 twelve) ∙ ap (λ (l : List ℕ). head ++ (descriptor ++ l)) behind_six)
+      ∙ (ap (λ (l : List ℕ). head ++ (descriptor ++ drop 6 l)) (drop_at head turned 12 twelve) ∙ ap (λ (l : List ℕ). head ++ (descriptor ++ l)) after_six)
 
   pub laid_long : length (head ++ (descriptor ++ take (length old - 18) (drop 12 old))) ≡ length old
   laid_long = omega (arith, length-append head (descriptor ++ take (length old - 18) (drop 12 old)), length-append descriptor (take (length old - 18) (drop 12 old)), length-take-le (length old - 18) (drop 12 old) (omega (arith, length-drop 12 old)))
@@ -74,9 +74,9 @@ module _ (old head descriptor turned : List ℕ) (twelve : length head ≡ 12) (
   sealed_part =
       let first : length old - 4 - length head ≡ length old - 16 = omega arith in
       let second : length old - 16 - length descriptor ≡ length old - 22 = omega arith in
-      take_behind head (descriptor ++ take (length old - 18) (drop 12 old)) (length old - 4) (omega arith)
+      take_after head (descriptor ++ take (length old - 18) (drop 12 old)) (length old - 4) (omega arith)
       ∙ (ap (λ (k : ℕ). head ++ take k (descriptor ++ take (length old - 18) (drop 12 old))) first
-      ∙ ap (λ (l : List ℕ). head ++ l) (take_behind descriptor (take (length old - 18) (drop 12 old)) (length old - 16) (omega arith)
+      ∙ ap (λ (l : List ℕ). head ++ l) (take_after descriptor (take (length old - 18) (drop 12 old)) (length old - 16) (omega arith)
       ∙ (ap (λ (k : ℕ). descriptor ++ take k (take (length old - 18) (drop 12 old))) second
       ∙ ap (λ (l : List ℕ). descriptor ++ l) (take-take (length old - 22) (length old - 18) (drop 12 old) (omega arith)))))
 
@@ -93,10 +93,10 @@ inserted_is old descriptor long =
     let front : take 12 section ≡ take 12 old = take-take 12 (length old - 6) old (omega arith) in
     let part : length section - 4 - 12 ≡ length old - 22 = omega arith in
     let split : length old - 6 ≡ 12 + (length old - 18) = omega arith in
-    let behind : drop 12 section ≡ take (length old - 18) (drop 12 old) = ap (λ (k : ℕ). drop 12 (take k old)) split ∙ drop-take 12 (length old - 18) old in
+    let after : drop 12 section ≡ take (length old - 18) (drop 12 old) = ap (λ (k : ℕ). drop 12 (take k old)) split ∙ drop-take 12 (length old - 18) old in
     let inner : slice_range section 12 (length section - 4) ≡ take (length old - 22) (drop 12 old) =
     ap (λ (k : ℕ). take k (drop 12 section)) part
-    ∙ (ap (take (length old - 22)) behind ∙ take-take (length old - 22) (length old - 18) (drop 12 old) (omega arith)) in
+    ∙ (ap (take (length old - 22)) after ∙ take-take (length old - 22) (length old - 18) (drop 12 old) (omega arith)) in
     rw (lengths, infos, front, inner) refl
 
 -- so what is sealed is the section with the descriptor
@@ -144,7 +144,7 @@ remove_laid old head turned closed section_length info_length long twelve is_len
     let first : length old - 10 - length head ≡ length old - 22 = omega arith in
     let second : length old - 4 - 18 ≡ length old - 22 = omega arith in
     let part : take (length old - 10) (head ++ (drop 18 old ++ take 6 (drop 12 old))) ≡ head ++ take (length old - 4 - 18) (drop 18 old) =
-    take_behind head (drop 18 old ++ take 6 (drop 12 old)) (length old - 10) (omega arith)
+    take_after head (drop 18 old ++ take 6 (drop 12 old)) (length old - 10) (omega arith)
     ∙ (ap (λ (k : ℕ). head ++ take k (drop 18 old ++ take 6 (drop 12 old))) first
     ∙ (ap (λ (l : List ℕ). head ++ l) (take-append-le (length old - 22) (drop 18 old) (take 6 (drop 12 old)) (omega (arith, length-drop 18 old)))
     ∙ ap (λ (k : ℕ). head ++ take k (drop 18 old)) (sym second))) in

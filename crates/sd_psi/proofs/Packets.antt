@@ -14,7 +14,7 @@ use Rattle.sd_psi.specs.declared.form.Table.TheVariants.{Pmt}
 use Rattle.sd_psi.specs.declared.items.Kind.TheVariants.{Descriptor}
 use Rattle.sd_psi.specs.Items.{size_of, items_of}
 use Rattle.sd_psi.specs.Tables.{descriptors_of, info_length_of, info_of, has_info, is_pmt}
-use Rattle.sd_psi.specs.Forms.{fault_unless, behind_pointer, section_in, behind_section, front_fault}
+use Rattle.sd_psi.specs.Forms.{fault_unless, after_pointer, section_in, after_section, front_fault}
 use Rattle.sd_psi.specs.Rewriting.{ca_descriptor, inserted, removed, rewritten, restored, has_room, is_first, rewrite_fault, removal_fault}
 use Rattle.sd_psi.proofs.Judging.{body_long}
 use Rattle.sd_psi.proofs.Listing.{pmt_has}
@@ -49,39 +49,39 @@ pub rewrite_front : (packet : List ℕ) (fault : FormFault) → front_fault Pmt 
 unfolding rewrite_fault
 rewrite_front packet fault h = rw h refl
 
-room_is : (packet section : List ℕ) → section ≡ section_in packet → length section ≡ 3 + section_length_of (behind_pointer packet) →
-    length (behind_section packet) ≡ length (payload_of packet) - (1 + length section)
+room_is : (packet section : List ℕ) → section ≡ section_in packet → length section ≡ 3 + section_length_of (after_pointer packet) →
+    length (after_section packet) ≡ length (payload_of packet) - (1 + length section)
 room_is packet section is long =
-    omega (arith, length-drop (3 + section_length_of (behind_pointer packet)) (behind_pointer packet), length-drop 1 (payload_of packet))
+    omega (arith, length-drop (3 + section_length_of (after_pointer packet)) (after_pointer packet), length-drop 1 (payload_of packet))
 
 past : (a b : ℕ) (test : Bool) → nat_le a b ≡ test → b < a → test ≡ false
 past a b false e h = refl
 past a b true e h = absurd (omega (arith, leb-true a b e))
 
 pub rewrite_room : (packet section : List ℕ) → front_fault Pmt packet ≡ None → section ≡ section_in packet →
-    length section ≡ 3 + section_length_of (behind_pointer packet) →
+    length section ≡ 3 + section_length_of (after_pointer packet) →
     length (payload_of packet) < 1 + length section + 6 → rewrite_fault packet ≡ Some Fault.NoRoom
 unfolding rewrite_fault
 rewrite_room packet section h is long over =
-    let room : has_room packet ≡ false = past 6 (length (behind_section packet)) _ refl (omega (arith, room_is packet section is long)) in
+    let room : has_room packet ≡ false = past 6 (length (after_section packet)) _ refl (omega (arith, room_is packet section is long)) in
     rw (h, room) refl
 
 rewrite_is : (packet section : List ℕ) (test : Bool) → front_fault Pmt packet ≡ None → section ≡ section_in packet →
-    length section ≡ 3 + section_length_of (behind_pointer packet) →
+    length section ≡ 3 + section_length_of (after_pointer packet) →
     1 + length section + 6 ≤ length (payload_of packet) → is_pmt section ≡ test → rewrite_fault packet ≡ fault_unless test Fault.Descriptor
 unfolding rewrite_fault
 rewrite_is packet section test h is long under pmt =
-    let room : has_room packet ≡ true = le-leb 6 (length (behind_section packet)) (omega (arith, room_is packet section is long)) in
+    let room : has_room packet ≡ true = le-leb 6 (length (after_section packet)) (omega (arith, room_is packet section is long)) in
     let form : is_pmt (section_in packet) ≡ test = ap is_pmt (sym is) ∙ pmt in
     rw (h, room, form) refl
 
 pub rewrite_loops : (packet section : List ℕ) → front_fault Pmt packet ≡ None → section ≡ section_in packet →
-    length section ≡ 3 + section_length_of (behind_pointer packet) →
+    length section ≡ 3 + section_length_of (after_pointer packet) →
     1 + length section + 6 ≤ length (payload_of packet) → is_pmt section ≡ false → rewrite_fault packet ≡ Some Fault.Descriptor
 rewrite_loops packet section h is long under pmt = rewrite_is packet section false h is long under pmt
 
 pub rewrite_good : (packet section : List ℕ) → front_fault Pmt packet ≡ None → section ≡ section_in packet →
-    length section ≡ 3 + section_length_of (behind_pointer packet) →
+    length section ≡ 3 + section_length_of (after_pointer packet) →
     1 + length section + 6 ≤ length (payload_of packet) → is_pmt section ≡ true → rewrite_fault packet ≡ None
 rewrite_good packet section h is long under pmt = rewrite_is packet section true h is long under pmt
 
@@ -169,11 +169,11 @@ first_within descriptor bytes section h six is long =
     let same : info_length_of section ≡ info_length_of bytes = ap info_length_of is ∙ field_take bytes (3 + section_length_of bytes) 84 12 (omega arith) in
     omega arith
 
--- the bytes behind the pointer, by their place
-pub behind_is : (packet : List ℕ) (start : ℕ) → start ≡ payload_start_of packet + 1 → behind_pointer packet ≡ drop start packet
-behind_is packet start is = drop-drop 1 (payload_start_of packet) packet ∙ ap (λ (n : ℕ). drop n packet) (sym is)
+-- the bytes after the pointer, by their place
+pub after_is : (packet : List ℕ) (start : ℕ) → start ≡ payload_start_of packet + 1 → after_pointer packet ≡ drop start packet
+after_is packet start is = drop-drop 1 (payload_start_of packet) packet ∙ ap (λ (n : ℕ). drop n packet) (sym is)
 
--- bytes that are written behind the first don't change it
+-- bytes that are written after the first don't change it
 pub sync_stays : (packet piece : List ℕ) (start k : ℕ) → 0 < start → 0 < length packet → get_or (put_mid start k packet piece) 0 0 ≡ get_or packet 0 0
 sync_stays [] piece start k h l = absurd (omega arith)
 sync_stays (x ∷ xs) piece zero k h l = absurd (omega arith)
@@ -181,59 +181,59 @@ sync_stays (x ∷ xs) piece (suc start) k h l = refl
 
 -- the packet with the section that was written
 pub rewritten_laid : (packet piece : List ℕ) (ca pid start count : ℕ) → start ≡ payload_start_of packet + 1 →
-    count ≡ 3 + section_length_of (behind_pointer packet) → start + count + 6 ≤ length packet →
+    count ≡ 3 + section_length_of (after_pointer packet) → start + count + 6 ≤ length packet →
     piece ≡ inserted (ca_descriptor ca pid) (take (length (take (start + count + 6 - start) (drop start packet)) - 6) (take (start + count + 6 - start) (drop start packet))) →
     put_mid start (start + count + 6 - start) packet piece ≡ rewritten ca pid packet
 unfolding rewritten
 rewritten_laid packet piece ca pid start count is_start is_count within is_piece =
-    let behind = behind_is packet start is_start in
+    let after = after_is packet start is_start in
     let width : start + count + 6 - start ≡ count + 6 = omega arith in
     let long : length (take (start + count + 6 - start) (drop start packet)) - 6 ≡ count =
     omega (arith, length-take-le (start + count + 6 - start) (drop start packet) (omega (arith, length-drop start packet))) in
     let section : take (length (take (start + count + 6 - start) (drop start packet)) - 6) (take (start + count + 6 - start) (drop start packet)) ≡ section_in packet =
     ap (λ (n : ℕ). take n (take (start + count + 6 - start) (drop start packet))) long
     ∙ (take-take count (start + count + 6 - start) (drop start packet) (omega arith)
-    ∙ (ap (λ (n : ℕ). take n (drop start packet)) is_count ∙ ap (take (3 + section_length_of (behind_pointer packet))) (sym behind))) in
-    let rest : drop (start + count + 6 - start) (drop start packet) ≡ drop 6 (behind_section packet) =
+    ∙ (ap (λ (n : ℕ). take n (drop start packet)) is_count ∙ ap (take (3 + section_length_of (after_pointer packet))) (sym after))) in
+    let rest : drop (start + count + 6 - start) (drop start packet) ≡ drop 6 (after_section packet) =
     ap (λ (n : ℕ). drop n (drop start packet)) width
     ∙ (sym (drop-drop 6 count (drop start packet))
-    ∙ (ap (λ (n : ℕ). drop 6 (drop n (drop start packet))) is_count ∙ ap (λ (l : List ℕ). drop 6 (drop (3 + section_length_of (behind_pointer packet)) l)) (sym behind))) in
+    ∙ (ap (λ (n : ℕ). drop 6 (drop n (drop start packet))) is_count ∙ ap (λ (l : List ℕ). drop 6 (drop (3 + section_length_of (after_pointer packet)) l)) (sym after))) in
     ap (λ (l : List ℕ). take start packet ++ (l ++ drop (start + count + 6 - start) (drop start packet))) (is_piece ∙ ap (inserted (ca_descriptor ca pid)) section)
     ∙ (ap (λ (l : List ℕ). take start packet ++ (inserted (ca_descriptor ca pid) (section_in packet) ++ l)) rest
-    ∙ ap (λ (n : ℕ). take n packet ++ (inserted (ca_descriptor ca pid) (section_in packet) ++ drop 6 (behind_section packet))) is_start)
+    ∙ ap (λ (n : ℕ). take n packet ++ (inserted (ca_descriptor ca pid) (section_in packet) ++ drop 6 (after_section packet))) is_start)
 
 pub restored_laid : (packet piece : List ℕ) (start count : ℕ) → start ≡ payload_start_of packet + 1 →
-    count ≡ 3 + section_length_of (behind_pointer packet) → start + count ≤ length packet →
+    count ≡ 3 + section_length_of (after_pointer packet) → start + count ≤ length packet →
     piece ≡ removed (take (start + count - start) (drop start packet)) ++ replicate 6 255 →
     put_mid start (start + count - start) packet piece ≡ restored packet
 unfolding restored
 restored_laid packet piece start count is_start is_count within is_piece =
-    let behind = behind_is packet start is_start in
+    let after = after_is packet start is_start in
     let width : start + count - start ≡ count = omega arith in
     let section : take (start + count - start) (drop start packet) ≡ section_in packet =
-    ap (λ (n : ℕ). take n (drop start packet)) (width ∙ is_count) ∙ ap (take (3 + section_length_of (behind_pointer packet))) (sym behind) in
-    let rest : drop (start + count - start) (drop start packet) ≡ behind_section packet =
-    ap (λ (n : ℕ). drop n (drop start packet)) (width ∙ is_count) ∙ ap (drop (3 + section_length_of (behind_pointer packet))) (sym behind) in
+    ap (λ (n : ℕ). take n (drop start packet)) (width ∙ is_count) ∙ ap (take (3 + section_length_of (after_pointer packet))) (sym after) in
+    let rest : drop (start + count - start) (drop start packet) ≡ after_section packet =
+    ap (λ (n : ℕ). drop n (drop start packet)) (width ∙ is_count) ∙ ap (drop (3 + section_length_of (after_pointer packet))) (sym after) in
     ap (λ (l : List ℕ). take start packet ++ (l ++ drop (start + count - start) (drop start packet))) (is_piece ∙ ap (λ (l : List ℕ). removed l ++ replicate 6 255) section)
     ∙ (ap (λ (l : List ℕ). take start packet ++ ((removed (section_in packet) ++ replicate 6 255) ++ l)) rest
-    ∙ (ap (λ (l : List ℕ). take start packet ++ l) (append_assoc (removed (section_in packet)) (replicate 6 255) (behind_section packet))
-    ∙ ap (λ (n : ℕ). take n packet ++ (removed (section_in packet) ++ (replicate 6 255 ++ behind_section packet))) is_start))
+    ∙ (ap (λ (l : List ℕ). take start packet ++ l) (append_assoc (removed (section_in packet)) (replicate 6 255) (after_section packet))
+    ∙ ap (λ (n : ℕ). take n packet ++ (removed (section_in packet) ++ (replicate 6 255 ++ after_section packet))) is_start))
 
--- the lengths are read behind the pointer
+-- the lengths are read after the pointer
 pub piece_section : (packet : List ℕ) (start k : ℕ) → start ≡ payload_start_of packet + 1 → 12 ≤ k →
-    section_length_of (take k (drop start packet)) ≡ section_length_of (behind_pointer packet)
+    section_length_of (take k (drop start packet)) ≡ section_length_of (after_pointer packet)
 piece_section packet start k is long =
-    field_take (drop start packet) k 12 12 (omega arith) ∙ ap section_length_of (sym (behind_is packet start is))
+    field_take (drop start packet) k 12 12 (omega arith) ∙ ap section_length_of (sym (after_is packet start is))
 
 pub piece_info : (packet : List ℕ) (start k : ℕ) → start ≡ payload_start_of packet + 1 → 12 ≤ k →
-    info_length_of (take k (drop start packet)) ≡ info_length_of (behind_pointer packet)
+    info_length_of (take k (drop start packet)) ≡ info_length_of (after_pointer packet)
 piece_info packet start k is long =
-    field_take (drop start packet) k 84 12 (omega arith) ∙ ap info_length_of (sym (behind_is packet start is))
+    field_take (drop start packet) k 84 12 (omega arith) ∙ ap info_length_of (sym (after_is packet start is))
 
 -- a payload goes to the packet's end
 pub payload_long : (packet : List ℕ) → length (payload_of packet) ≡ length packet - payload_start_of packet
 payload_long packet = length-drop (payload_start_of packet) packet
 
--- a section is shorter than the payload in which it stands behind the pointer
+-- a section is shorter than the payload in which it stands after the pointer
 pub section_within : (packet section : List ℕ) → section ≡ section_in packet → 0 < length section → length section < length (payload_of packet)
-section_within packet section is some = omega (arith, whole_within (behind_pointer packet) section is, length-drop 1 (payload_of packet))
+section_within packet section is some = omega (arith, whole_within (after_pointer packet) section is, length-drop 1 (payload_of packet))

@@ -21,7 +21,7 @@ use Rattle.sd_psi.proofs.Cutting.{first_cut, first_whole, first_off}
 use Rattle.sd_psi.proofs.Judging.{body_long}
 use Rattle.sd_psi.proofs.Listing.{pmt_by_parts, pmt_parts, IsPmt}
 use Rattle.sd_psi.proofs.Packets.{first_in_front}
-use Rattle.sd_psi.proofs.Moving.{take_behind}
+use Rattle.sd_psi.proofs.Moving.{take_after}
 use Rattle.sd_psi.proofs.Heads.{IsHead}
 use Rattle.sd_psi.proofs.Undoing.{sealed_field, sealed_long, sealed_between, IsMap, other_head}
 
@@ -51,20 +51,20 @@ sealed_right front =
 abbrev pub loops_of : List ℕ → List ℕ
 loops_of section = slice_range section 12 (length section - 4)
 
-behind_lengths : (section : List ℕ) → 16 ≤ length section → drop 4 (body_of section) ≡ loops_of section
-behind_lengths section long =
+after_lengths : (section : List ℕ) → 16 ≤ length section → drop 4 (body_of section) ≡ loops_of section
+after_lengths section long =
     let count : length section - 4 - 8 ≡ 4 + (length section - 4 - 12) = omega arith in
     ap (λ (n : ℕ). drop 4 (take n (drop 8 section))) count
     ∙ (drop-take 4 (length section - 4 - 12) (drop 8 section) ∙ ap (take (length section - 4 - 12)) (drop-drop 4 8 section))
 
 pub info_is : (section : List ℕ) → 16 ≤ length section → info_of section ≡ take (info_length_of section) (loops_of section)
 unfolding info_of
-info_is section long = ap (take (info_length_of section)) (behind_lengths section long)
+info_is section long = ap (take (info_length_of section)) (after_lengths section long)
 
 pub loop_is : (section : List ℕ) → 16 ≤ length section → loop_of section ≡ drop (info_length_of section) (loops_of section)
 unfolding loop_of
 loop_is section long =
-    sym (drop-drop (info_length_of section) 4 (body_of section)) ∙ ap (drop (info_length_of section)) (behind_lengths section long)
+    sym (drop-drop (info_length_of section) 4 (body_of section)) ∙ ap (drop (info_length_of section)) (after_lengths section long)
 
 loops_long : (section : List ℕ) → 16 ≤ length section → length (loops_of section) ≡ length section - 16
 loops_long section long = length-take-le (length section - 4 - 12) (drop 12 section) (omega (arith, length-drop 12 section)) ∙ omega arith
@@ -161,7 +161,7 @@ inserted_shape ca pid section map pmt room =
     let less : b - length descriptor ≡ info_length_of section = omega arith in
     let info : info_of new ≡ descriptor ++ info_of section =
     shape.info ∙ (ap (λ (n : ℕ). take n (loops_of new)) infos ∙ (ap (take b) loops
-    ∙ (take_behind descriptor (loops_of section) b (omega arith)
+    ∙ (take_after descriptor (loops_of section) b (omega arith)
     ∙ (ap (λ (n : ℕ). descriptor ++ take n (loops_of section)) less ∙ ap (λ (l : List ℕ). descriptor ++ l) (sym (info_is section (omega (arith, map.info)))))))) in
     let split : drop b rest ≡ drop (info_length_of section) (drop 6 rest) = sym (drop-drop (info_length_of section) 6 rest ∙ ap (λ (n : ℕ). drop n rest) (omega arith)) in
     let streams : loop_of new ≡ loop_of section =
@@ -231,7 +231,7 @@ removed_shape descriptor section map pmt six =
     let b : ℕ = info_length_of section - 6 in
     let new : List ℕ = sealed (with_lengths a b (take 12 section) ++ rest) in
     let width : length section - 4 - 12 ≡ 6 + (length section - 4 - 18) = omega (arith, map.info, six.counted) in
-    let behind : drop 6 (loops_of section) ≡ rest =
+    let after : drop 6 (loops_of section) ≡ rest =
     ap (λ (n : ℕ). drop 6 (take n (drop 12 section))) width
     ∙ (drop-take 6 (length section - 4 - 18) (drop 12 section) ∙ ap (take (length section - 4 - 18)) (drop-drop 6 12 section)) in
     let count : length rest ≡ length section - 22 =
@@ -244,10 +244,10 @@ removed_shape descriptor section map pmt six =
     let loops : loops_of new ≡ rest = other_loops section rest a b map long few low in
     let more : info_length_of section ≡ 6 + b = omega (arith, six.counted) in
     let info : info_of new ≡ drop 6 (info_of section) =
-    shape.info ∙ (ap (λ (n : ℕ). take n (loops_of new)) infos ∙ (ap (take b) (loops ∙ sym behind)
+    shape.info ∙ (ap (λ (n : ℕ). take n (loops_of new)) infos ∙ (ap (take b) (loops ∙ sym after)
     ∙ (sym (drop-take 6 b (loops_of section)) ∙ (ap (λ (n : ℕ). drop 6 (take n (loops_of section))) (sym more) ∙ ap (drop 6) (sym (info_is section (omega (arith, map.info)))))))) in
     let streams : loop_of new ≡ loop_of section =
-    shape.streams ∙ (ap (λ (n : ℕ). drop n (loops_of new)) infos ∙ (ap (drop b) (loops ∙ sym behind)
+    shape.streams ∙ (ap (λ (n : ℕ). drop n (loops_of new)) infos ∙ (ap (drop b) (loops ∙ sym after)
     ∙ (drop-drop b 6 (loops_of section) ∙ (ap (λ (n : ℕ). drop n (loops_of section)) (sym more) ∙ sym (loop_is section (omega (arith, map.info))))))) in
     let parts = pmt_parts section pmt in
     let whole = first_whole Descriptor (info_of section) (omega (arith, six.some)) (omega (arith, six.size, six.some)) in

@@ -16,10 +16,10 @@ between : (front middle tail : List ℕ) (k : ℕ) → length front ≡ k → le
 between front middle tail k h four =
     let all : List ℕ = (front ++ middle) ++ tail in
     let count : length all - 4 - k ≡ length middle = omega (arith, length-append (front ++ middle) tail, length-append front middle) in
-    let behind : drop k all ≡ middle ++ tail = ap (drop k) (append_assoc front middle tail) ∙ drop_at front (middle ++ tail) k h in
-    ap (λ (n : ℕ). take n (drop k all)) count ∙ (ap (take (length middle)) behind ∙ take_at middle tail (length middle) refl)
+    let after : drop k all ≡ middle ++ tail = ap (drop k) (append_assoc front middle tail) ∙ drop_at front (middle ++ tail) k h in
+    ap (λ (n : ℕ). take n (drop k all)) count ∙ (ap (take (length middle)) after ∙ take_at middle tail (length middle) refl)
 
--- a head of twelve bytes, the bytes behind it, and four bytes
+-- a head of twelve bytes, the bytes after it, and four bytes
 module _ (head rest tail : List ℕ) (twelve : length head ≡ 12) (four : length tail ≡ 4) where
   pub all_long : length ((head ++ rest) ++ tail) ≡ 16 + length rest
   all_long = omega (arith, length-append (head ++ rest) tail, length-append head rest)
@@ -77,7 +77,7 @@ module _ (section : List ℕ) (map : IsMap section) where
       ∙ (ap (λ (n : ℕ). with_lengths (field (take 12 section) 12 12) n (with_lengths a b (take 12 section))) (sym info_there)
       ∙ lengths_back (take 12 section) a b head_long (bytes_in_front section 12 map.bytes) ha hb)
 
-  -- the head and what stands behind it up to the CRC are the section again
+  -- the head and what stands after it up to the CRC are the section again
   whole_again : sealed (take 12 section ++ take (length section - 16) (drop 12 section)) ≡ section
   whole_again =
       let count : 12 + (length section - 16) ≡ length section - 4 = omega (arith, sixteen) in

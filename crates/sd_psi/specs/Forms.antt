@@ -25,24 +25,24 @@ id_of Pat = 0
 id_of Cat = 1
 id_of Pmt = 2
 
--- section_length of an empty table: what stands behind it up to the body and behind the body, and for a PMT up to program_info_length
+-- section_length of an empty table: what stands after it up to the body and after the body, and for a PMT up to program_info_length
 -- [ISO/IEC 13818-1, 2.4.4.3, 2.4.4.6 and 2.4.4.8]
 abbrev pub least_of : Table → ℕ
 least_of Pat = 9
 least_of Cat = 9
 least_of Pmt = 13
 
--- the bytes behind the pointer [ISO/IEC 13818-1, 2.4.4]
-abbrev pub behind_pointer : List ℕ → List ℕ
-behind_pointer packet = drop 1 (payload_of packet)
+-- the bytes after the pointer [ISO/IEC 13818-1, 2.4.4]
+abbrev pub after_pointer : List ℕ → List ℕ
+after_pointer packet = drop 1 (payload_of packet)
 
 -- the section with which they begin
 abbrev pub section_in : List ℕ → List ℕ
-section_in packet = whole_of (behind_pointer packet)
+section_in packet = whole_of (after_pointer packet)
 
--- the bytes behind the section
-abbrev pub behind_section : List ℕ → List ℕ
-behind_section packet = drop (3 + section_length_of (behind_pointer packet)) (behind_pointer packet)
+-- the bytes after the section
+abbrev pub after_section : List ℕ → List ℕ
+after_section packet = drop (3 + section_length_of (after_pointer packet)) (after_pointer packet)
 
 -- a section starts with the payload: unit start is set, and the pointer is 0 [ISO/IEC 13818-1, 2.4.4]
 abbrev pub has_pointer : List ℕ → Bool
@@ -76,7 +76,7 @@ crc_fault section = fault_unless (crc_in section == crc_due section) (Fault.Crc 
 abbrev pub is_stuffing : List ℕ → Bool
 is_stuffing bytes = list_all (λ byte. byte == 255) bytes
 
--- the first thing that is wrong with the bytes behind the pointer, up to those behind the section
+-- the first thing that is wrong with the bytes after the pointer, up to those after the section
 -- [this project, docs/FORMATS.md, Tables]
 abbrev pub bytes_fault : Table → List ℕ → Option FormFault
 bytes_fault table bytes =
@@ -87,7 +87,7 @@ bytes_fault table bytes =
 
 -- the first thing that is wrong with the packet but its loops [this project, docs/FORMATS.md, Tables]
 unfoldable pub front_fault : Table → List ℕ → Option FormFault
-front_fault table packet = or_next (fault_unless (has_pointer packet) Fault.Pointer) (bytes_fault table (behind_pointer packet))
+front_fault table packet = or_next (fault_unless (has_pointer packet) Fault.Pointer) (bytes_fault table (after_pointer packet))
 
 -- the section is one of the table
 abbrev pub has_form : Table → List ℕ → Bool

@@ -1,4 +1,4 @@
--- Items that stand one behind the other, each of which says in its first bytes how long it is.
+-- Items that stand one after the other, each of which says in its first bytes how long it is.
 use Rattle.std.specs.Prelude.{ℕ, zero, suc, ◌+◌, ◌==◌, Bool, List, [], ◌∷◌, ◌++◌, length, take, drop}
 use Rattle.std.specs.List.{list_all}
 use Rattle.sd_bits.specs.Bits.{field}
@@ -30,7 +30,7 @@ is_whole kind item = length item == size_of kind item
 unfoldable pub are_whole : Kind → List ℕ → Bool
 are_whole kind bytes = list_all (is_whole kind) (items_of kind bytes)
 
--- the bytes of items that stand one behind the other
+-- the bytes of items that stand one after the other
 abbrev pub joined : List (List ℕ) → List ℕ
 joined [] = []
 joined (item ∷ items) = item ++ joined items

@@ -7,7 +7,7 @@ use Rattle.sd_psi.specs.declared.fault.FormFault.{FormFault}
 use Rattle.sd_psi.specs.declared.fault.FormFault.TheVariants as Fault
 use Rattle.sd_psi.specs.declared.form.Table.TheVariants.{Pmt}
 use Rattle.sd_psi.specs.Tables.{descriptors_of, info_length_of, info_of, is_pmt}
-use Rattle.sd_psi.specs.Forms.{fault_unless, or_next, section_in, behind_section, front_fault}
+use Rattle.sd_psi.specs.Forms.{fault_unless, or_next, section_in, after_section, front_fault}
 
 -- the project's CA_descriptor: tag 9, four bytes, CA_system_ID, reserved bits 1, CA_PID
 -- [ISO/IEC 13818-1, 2.6.16; this project, docs/FORMATS.md, Tables]
@@ -41,19 +41,19 @@ in_front packet = take (payload_start_of packet + 1) packet
 
 -- the packet with the project's CA_descriptor, and six bytes fewer of stuffing [this project, docs/FORMATS.md, Tables]
 unfoldable pub rewritten : ℕ → ℕ → List ℕ → List ℕ
-rewritten ca pid packet = in_front packet ++ (inserted (ca_descriptor ca pid) (section_in packet) ++ drop 6 (behind_section packet))
+rewritten ca pid packet = in_front packet ++ (inserted (ca_descriptor ca pid) (section_in packet) ++ drop 6 (after_section packet))
 
 -- the packet without it, and six bytes more of stuffing [this project, docs/FORMATS.md, Tables]
 unfoldable pub restored : List ℕ → List ℕ
-restored packet = in_front packet ++ (removed (section_in packet) ++ (replicate 6 255 ++ behind_section packet))
+restored packet = in_front packet ++ (removed (section_in packet) ++ (replicate 6 255 ++ after_section packet))
 
 -- what is wrong with the loops of a section that is to be a PMT
 abbrev pub loops_fault : List ℕ → Option FormFault
 loops_fault section = fault_unless (is_pmt section) Fault.Descriptor
 
--- six bytes stand behind the section
+-- six bytes stand after the section
 abbrev pub has_room : List ℕ → Bool
-has_room packet = nat_le 6 (length (behind_section packet))
+has_room packet = nat_le 6 (length (after_section packet))
 
 -- the first descriptor of program_info is this one
 abbrev pub is_first : List ℕ → List ℕ → Bool

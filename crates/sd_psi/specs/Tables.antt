@@ -19,7 +19,7 @@ are_descriptors bytes = are_whole Descriptor bytes
 abbrev pub tag_of : List ℕ → ℕ
 tag_of descriptor = field descriptor 0 8
 
--- what stands behind descriptor_length [ISO/IEC 13818-1, 2.6]
+-- what stands after descriptor_length [ISO/IEC 13818-1, 2.6]
 abbrev pub content_of : List ℕ → List ℕ
 content_of descriptor = drop 2 descriptor
 
@@ -55,7 +55,7 @@ info_length_of section = field section 84 12
 unfoldable pub info_of : List ℕ → List ℕ
 info_of section = take (info_length_of section) (drop 4 (body_of section))
 
--- the bytes behind those, up to the CRC [ISO/IEC 13818-1, 2.4.4.8]
+-- the bytes after those, up to the CRC [ISO/IEC 13818-1, 2.4.4.8]
 unfoldable pub loop_of : List ℕ → List ℕ
 loop_of section = drop (4 + info_length_of section) (body_of section)
 

@@ -32,7 +32,7 @@ impl<'a> Descriptor<'a> {
         descriptor_tag as u8
     }
 
-    /// The bytes behind descriptor_length.
+    /// The bytes after descriptor_length.
     #[tactic(auto, unfolding(crate::specs::Items::size_of))]
     pub fn body(&self) -> &'a [u8]
         ensures { result.now ≡ content_of self.now.bytes.now }

@@ -9,9 +9,9 @@ pub enum FormFault {
     Length,
     /// The CRC that the section ends with isn't that of the bytes before it.
     Crc { found: u32, due: u32 },
-    /// A byte behind the section is no stuffing.
+    /// A byte after the section is no stuffing.
     Trailing,
-    /// Fewer than six bytes stand behind the section.
+    /// Fewer than six bytes stand after the section.
     NoRoom,
     /// Descriptors or streams don't fill their loops, or the first descriptor isn't the project's.
     Descriptor,

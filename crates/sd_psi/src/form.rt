@@ -55,7 +55,7 @@ pub fn read<'a>(table: Table, packet: &'a Packet) -> Result<Section<'a>, FormFau
     read_bytes(table, &payload[1..])
 }
 
-// The section with which the bytes behind the pointer begin.
+// The section with which the bytes after the pointer begin.
 fn read_bytes<'a>(table: Table, bytes: &'a [u8]) -> Result<Section<'a>, FormFault>
     requires { length bytes.now ≤ 183 }
     ensures section { IfOk result (λ section. section.bytes.now ≡ whole_of bytes.now) }

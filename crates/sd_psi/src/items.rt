@@ -3,7 +3,7 @@ ghost use Rattle.sd_psi.specs.Items.{size_of, items_of, are_whole};
 
 use sd_bits::fields;
 
-/// What stands one behind the other in tables.
+/// What stands one after the other in tables.
 #[derive(Clone, Copy)]
 pub enum Kind {
     /// A program of a PAT.
@@ -45,7 +45,7 @@ fn stated(kind: Kind, bytes: &[u8]) -> Option<usize>
 }
 
 /// How many items fill the bytes exactly, or `None` where one is cut off.
-#[tactic(auto, using(crate::proofs::Cutting::one_more, crate::proofs::Cutting::whole_behind, crate::proofs::Cutting::off_behind, crate::proofs::Cutting::none_behind, crate::proofs::Cutting::some_size))]
+#[tactic(auto, using(crate::proofs::Cutting::one_more, crate::proofs::Cutting::whole_after, crate::proofs::Cutting::off_after, crate::proofs::Cutting::none_after, crate::proofs::Cutting::some_size))]
 pub fn count(kind: Kind, bytes: &[u8]) -> Option<usize>
     ensures none { IsNone result ↔ (are_whole kind bytes.now ≡ false) }
     ensures value { IfSome result (λ count. count ≡ length (items_of kind bytes.now)) }
@@ -75,7 +75,7 @@ pub fn item<'a>(kind: Kind, bytes: &'a [u8], number: usize) -> &'a [u8]
 }
 
 // How long the item is that stands at this place.
-#[tactic(auto, using(crate::proofs::Cutting::some_bytes, crate::proofs::Cutting::items_behind, crate::proofs::Cutting::whole_behind, crate::proofs::Cutting::off_behind, crate::proofs::Cutting::size_itself))]
+#[tactic(auto, using(crate::proofs::Cutting::some_bytes, crate::proofs::Cutting::items_after, crate::proofs::Cutting::whole_after, crate::proofs::Cutting::off_after, crate::proofs::Cutting::size_itself))]
 fn size_at(kind: Kind, bytes: &[u8], at: usize) -> usize
     requires some { 0 < length (items_of kind (drop at bytes.now)) }
     requires whole { are_whole kind (drop at bytes.now) ≡ true }

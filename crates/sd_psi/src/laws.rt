@@ -8,7 +8,7 @@ ghost use Rattle.sd_psi.specs.Items.{items_of, is_whole, are_whole, joined};
 ghost use Rattle.sd_psi.specs.Rewriting.{rewritten, restored, rewrite_fault, restore_fault};
 ghost use Rattle.sd_psi.specs.Undone.{IsPacket};
 
-/// Bytes are their items one behind the other, and items that are as long as they say are those of the bytes that they are.
+/// Bytes are their items one after the other, and items that are as long as they say are those of the bytes that they are.
 #[tactic(auto, using(crate::proofs::Grammar::items_spell, crate::proofs::Grammar::spelled_items, crate::proofs::Grammar::spelled_whole))]
 pub fn items_are_spelled()
     ensures bytes { (kind : Kind) (bytes : List ℕ) → joined (items_of kind bytes) ≡ bytes }

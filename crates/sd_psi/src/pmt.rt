@@ -37,7 +37,7 @@ pub fn pmt_in<'a>(section: &Section<'a>) -> Option<Pmt<'a>>
     }
 }
 
-// The bytes that program_info_length counts, and those behind them, where all of them are there.
+// The bytes that program_info_length counts, and those after them, where all of them are there.
 #[tactic(auto, unfolding(crate::specs::Tables::has_info, crate::specs::Tables::info_of, crate::specs::Tables::loop_of))]
 fn loops<'a>(section: &Section<'a>) -> Option<(&'a [u8], &'a [u8])>
     ensures none { IsNone result ↔ (has_info section.now.bytes.now ≡ false) }

@@ -4,7 +4,7 @@ ghost use Rattle.sd_packet.specs.Header.{payload_start_of, payload_of};
 ghost use Rattle.sd_section.specs.Header.{section_length_of};
 ghost use Rattle.sd_section.specs.Written.{sealed};
 ghost use Rattle.sd_psi.specs.Tables.{info_length_of};
-ghost use Rattle.sd_psi.specs.Forms.{behind_pointer};
+ghost use Rattle.sd_psi.specs.Forms.{after_pointer};
 ghost use Rattle.sd_psi.specs.Rewriting.{ca_descriptor as ca_descriptor_of, with_lengths, inserted, removed, rewritten, restored, rewrite_fault, restore_fault, removal_fault};
 
 use crate::fault::FormFault;
@@ -61,8 +61,8 @@ pub fn restore_pmt(packet: &mut Packet, ca: u16, pid: u16) -> Result<(), FormFau
 fn judge_rewrite(packet: &Packet) -> Result<usize, FormFault>
     requires { payload_start_of packet.now < 188 }
     ensures fault { MatchResult result (λ _. rewrite_fault packet.now ≡ None) (λ fault. rewrite_fault packet.now ≡ Some fault) }
-    ensures long { IfOk result (λ count. count ≡ 3 + section_length_of (behind_pointer packet.now)) }
-    ensures info { IfOk result (λ count. 16 + info_length_of (behind_pointer packet.now) ≤ count) }
+    ensures long { IfOk result (λ count. count ≡ 3 + section_length_of (after_pointer packet.now)) }
+    ensures info { IfOk result (λ count. 16 + info_length_of (after_pointer packet.now) ≤ count) }
     ensures room { IfOk result (λ count. count + 6 < length (payload_of packet.now)) }
 {
     let section = read(Table::Pmt, packet)?;
@@ -82,9 +82,9 @@ fn judge_restore(packet: &Packet, descriptor: &[u8; SIZE]) -> Result<usize, Form
     requires payload { payload_start_of packet.now < 188 }
     requires six { length descriptor.now ≡ 6 }
     ensures fault { MatchResult result (λ _. removal_fault descriptor.now packet.now ≡ None) (λ fault. removal_fault descriptor.now packet.now ≡ Some fault) }
-    ensures long { IfOk result (λ count. count ≡ 3 + section_length_of (behind_pointer packet.now)) }
-    ensures info { IfOk result (λ count. 16 + info_length_of (behind_pointer packet.now) ≤ count) }
-    ensures first { IfOk result (λ count. 6 ≤ info_length_of (behind_pointer packet.now)) }
+    ensures long { IfOk result (λ count. count ≡ 3 + section_length_of (after_pointer packet.now)) }
+    ensures info { IfOk result (λ count. 16 + info_length_of (after_pointer packet.now) ≤ count) }
+    ensures first { IfOk result (λ count. 6 ≤ info_length_of (after_pointer packet.now)) }
     ensures within { IfOk result (λ count. count < length (payload_of packet.now)) }
 {
     let section = read(Table::Pmt, packet)?;
@@ -137,7 +137,7 @@ fn set_lengths(head: &mut [u8], section_length: u64, info_length: u64)
     }
 }
 
-// Puts the descriptor in front of the first one of program_info. Six bytes stand behind the section, for which there is to be room.
+// Puts the descriptor in front of the first one of program_info. Six bytes stand after the section, for which there is to be room.
 fn insert(bytes: &mut [u8], descriptor: &[u8; SIZE])
     requires long { 22 ≤ length bytes.old }
     requires section { section_length_of bytes.old < 4090 }
@@ -156,7 +156,7 @@ fn insert(bytes: &mut [u8], descriptor: &[u8; SIZE])
     seal(bytes);
 }
 
-// Removes the first descriptor of program_info, which has six bytes, and writes stuffing behind the section.
+// Removes the first descriptor of program_info, which has six bytes, and writes stuffing after the section.
 fn remove(bytes: &mut [u8])
     requires long { 22 ≤ length bytes.old }
     requires section { 6 ≤ section_length_of bytes.old }
@@ -178,7 +178,7 @@ fn close(bytes: &mut [u8])
     requires { 10 ≤ length bytes.old }
     ensures { bytes.new ≡ sealed (take (length bytes.old - 10) bytes.old) ++ replicate 6 255 }
 {
-    let (section, behind) = bytes.split_at_mut(bytes.len() - SIZE);
+    let (section, after) = bytes.split_at_mut(bytes.len() - SIZE);
     seal(section);
-    behind.fill(STUFFING);
+    after.fill(STUFFING);
 }

@@ -11,7 +11,7 @@ use Rattle.sd_label.specs.Names.{given, given_under, path_node, sibling_of}
 abbrev pub first_pairs : ℕ → ℕ → ℕ → ℕ → List Name
 first_pairs d u a n = map (λ b. Pair (path_node d u a) (sibling_of (path_node d u b))) (range_with_len (a + 1) n)
 
--- one pair more behind some names
+-- one pair more after some names
 pub pair_more : (d u a n b : ℕ) (before : List Name) → a + 1 + n ≡ b → (before ++ first_pairs d u a n) ++ Pair (path_node d u a) (sibling_of (path_node d u b)) ∷ [] ≡ before ++ first_pairs d u a (n + 1)
 pair_more d u a n b before at =
     append_assoc before (first_pairs d u a n) (Pair (path_node d u a) (sibling_of (path_node d u b)) ∷ [])
@@ -22,7 +22,7 @@ pub pairs_all : (d u a n : ℕ) → n ≡ d - a → first_pairs d u a n ≡ give
 unfolding given_under
 pairs_all d u a n all = rw all refl
 
--- what is given under a leaf's first k ancestors, behind the whole set
+-- what is given under a leaf's first k ancestors, after the whole set
 abbrev pub first_given : ℕ → ℕ → ℕ → List Name
 first_given d u k = Whole ∷ [] ++ flat_map (given_under d u) (range_with_len 0 k)
 

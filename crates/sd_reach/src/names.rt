@@ -3,7 +3,7 @@ ghost use Rattle.sd_label.specs.Names.{given, given_under};
 ghost use Rattle.sd_reach.specs.Reach.{ReachesItsSets};
 
 use sd_label::{Name, path_node, sibling};
-use sd_ports::NoMemory;
+use sd_cause::NoMemory;
 use sd_tree::{Height, Leaf};
 use std::alloc::{AllocError, Global};
 

@@ -1,10 +1,10 @@
--- The texts of covers, one period behind the other.
+-- The texts of covers, one period after the other.
 use Rattle.std.proofs.Common.{arith, ◌≡◌, ℕ, suc, zero, ◌+◌, ◌-◌, ◌≤◌, List, [], ◌++◌, append-nil, Option, refl, ap, sym, subst, ◌∙◌, Result, Ok, Err, IfErr, IsNone, Some, ◌↔◌, ◌<◌, append_assoc, inl, inr, ◌⊎◌, ◌≢◌}
 use Rattle.std.proofs.lemmas.Bool.{cases_lt}
 use Rattle.std.specs.Io.KnownBytes.{Appends}
 use Rattle.std.proofs.KnownBytes.{Appends-trans}
 use Rattle.sd_ports.specs.Files.{Files}
-use Rattle.sd_ports.specs.Bytes.{AppendsFront}
+use Rattle.sd_ports.specs.Bytes.{AppendsPrefix}
 use Rattle.sd_book.specs.declared.command.Command.{Command}
 use Rattle.sd_book.specs.Commands.{last_period, revoked}
 use Rattle.sd_book.proofs.Revocations.{below}
@@ -19,7 +19,7 @@ use Rattle.sd_run.specs.Answers.{IsWork, StopsAt, Obeys, PrintsCover, PrintsCove
 use Rattle.sd_run.proofs.Refusals.{told_weaker, refused_by, err_is}
 use Rattle.sd_run.specs.Work.{Work, Cover, IsCoverText, PrintsPeriods, BeginsCover}
 
--- a period that is found is none behind the last
+-- a period that is found is none after the last
 pub is_inside : (commands : List Command) (q : ℕ) → IsNone {T = ℕ} (Some 0) ↔ (last_period commands < q) → q ≤ last_period commands
 is_inside commands q end =
     elim (cases_lt (last_period commands) q) [
@@ -27,9 +27,9 @@ is_inside commands q end =
       | inr le ↦ le
     ]
 
--- a front behind all of a first text is a front of both
-pub front_behind : (a b c : Option (List ℕ)) (first last : List ℕ) → Appends a b first → AppendsFront b c last → AppendsFront a c (first ++ last)
-front_behind a b c first last whole cut =
+-- a front after all of a first text is a front of both
+pub front_after : (a b c : Option (List ℕ)) (first last : List ℕ) → Appends a b first → AppendsPrefix b c last → AppendsPrefix a c (first ++ last)
+front_after a b c first last whole cut =
     (first ++ cut.0, (cut.1.0, append_assoc first cut.0 cut.1.0 ∙ ap (λ (xs : List ℕ). first ++ xs) cut.1.1), Appends-trans a b c first cut.0 whole cut.2)
 
 -- what was printed of the first n periods
@@ -78,7 +78,7 @@ text_there d commands q low =
       },
     )
 
--- behind the text of n periods stands that of m more
+-- after the text of n periods stands that of m more
 periods_on : (d : ℕ) (commands : List Command) (n m : ℕ) (text : List ℕ) → d ≤ 20 → PrintsPeriods d commands n text
     → (rest : List ℕ) × PrintsPeriods d commands (n + m) (text ++ rest)
 periods_on d commands n zero text low periods =
@@ -94,15 +94,15 @@ periods_on d commands n (suc m) text low periods =
           (another d commands (n + m) (text ++ before.0) last.0 before.1 last.1)),
     )
 
--- a front of a first text is a front of that with more behind it
-front_longer : (a b : Option (List ℕ)) (first more : List ℕ) → AppendsFront a b first → AppendsFront a b (first ++ more)
+-- a front of a first text is a front of that with more after it
+front_longer : (a b : Option (List ℕ)) (first more : List ℕ) → AppendsPrefix a b first → AppendsPrefix a b (first ++ more)
 front_longer a b first more cut =
     (cut.0, (cut.1.0 ++ more, sym (append_assoc cut.0 cut.1.0 more) ∙ ap (λ (xs : List ℕ). xs ++ more) cut.1.1), cut.2)
 
 -- a front of the text of some first periods is a front of that of all
 front_of_all : (d : ℕ) (commands : List Command) (n : ℕ) (old new : Option (List ℕ)) (text : List ℕ) → d ≤ 20 → n ≤ last_period commands + 1
-    → PrintsPeriods d commands n text → AppendsFront old new text
-    → (whole : List ℕ) × PrintsPeriods d commands (last_period commands + 1) whole × AppendsFront old new whole
+    → PrintsPeriods d commands n text → AppendsPrefix old new text
+    → (whole : List ℕ) × PrintsPeriods d commands (last_period commands + 1) whole × AppendsPrefix old new whole
 front_of_all d commands n old new text low within periods front =
     let rest = periods_on d commands n (last_period commands + 1 - n) text low periods in
     let all : n + (last_period commands + 1 - n) ≡ last_period commands + 1 = omega (arith, within) in
@@ -110,11 +110,11 @@ front_of_all d commands n old new text low within periods front =
 
 -- a period that was cut off
 cut_off : (d : ℕ) (commands : List Command) (n : ℕ) (old mid new : Option (List ℕ)) → d ≤ 20 → ArePrinted d commands n old mid
-    → n ≤ last_period commands → ((text : List ℕ) × IsCoverText d n (revoked d commands n) text × AppendsFront mid new text)
-    → (whole : List ℕ) × PrintsPeriods d commands (last_period commands + 1) whole × AppendsFront old new whole
+    → n ≤ last_period commands → ((text : List ℕ) × IsCoverText d n (revoked d commands n) text × AppendsPrefix mid new text)
+    → (whole : List ℕ) × PrintsPeriods d commands (last_period commands + 1) whole × AppendsPrefix old new whole
 cut_off d commands n old mid new low before within last =
     front_of_all d commands (n + 1) old new (before.text ++ last.0) low (omega (arith, within))
-    (the_next d commands n before.text last.0 before.periods last.1) (front_behind old mid new before.text last.0 before.printed last.2)
+    (the_next d commands n before.text last.0 before.periods last.1) (front_after old mid new before.text last.0 before.printed last.2)
 
 -- a period that was not printed whole
 pub period_failed : (d : ℕ) (commands : List Command) (n : ℕ) (old mid new : Option (List ℕ)) (status : Status) → d ≤ 20 → ArePrinted d commands n old mid
@@ -125,7 +125,7 @@ period_failed d commands n old mid new status low before within period = record 
   cut_off = λ failed. cut_off d commands n old mid new low before within (period.cut_off failed);
 }
 
--- memory was wanting behind some first periods
+-- memory was wanting after some first periods
 covering_stops : (meant : Files → Result Work Status) (files : Option Files) (d : ℕ) (commands : List Command) (old new : Option (List ℕ)) (status s : Status)
     → IsWork meant files (Cover d commands) → ((status ≡ NoMemory) ⊎ (status ≡ PrintFault)) → PrintsCover d commands old new (Err status)
     → refused_by status ≡ refused_by s → s ≢ PrintFault → StopsAt meant files files old new s

@@ -1,7 +1,7 @@
 -- The lines of the tables in a stream.
 use Rattle.std.proofs.Common.{◌≡◌, ◌≢◌, ℕ, List, length, reverse, Option, Result, Ok, Err, IfErr, refl, sym, ap, subst, ◌∙◌, inl, inr, take_all, arith}
 use Rattle.sd_ports.specs.Files.{Files}
-use Rattle.sd_stream.specs.Stream.{packets_of}
+use Rattle.sd_engine.specs.Stream.{packets_of}
 use Rattle.sd_tables.specs.Inspected.{lines_in}
 use Rattle.sd_tables.specs.Whole.{lines_of, lines_up_to}
 use Rattle.sd_run.specs.declared.status.Status.{Status}

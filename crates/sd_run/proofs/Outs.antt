@@ -1,7 +1,7 @@
--- What a file that was to be made leaves behind it.
+-- What a file that was to be made leaves after it.
 use Rattle.std.proofs.Common.{◌≡◌, ◌⊎◌, ℕ, List, Option, Result, Ok, Err, IfErr, refl, sym, subst, inl, inr}
 use Rattle.sd_ports.specs.Files.{Files, with_bytes, IsThere, IsUnmade, IsMadeShort, WritesFile}
-use Rattle.sd_ports.specs.Bytes.{IsFront}
+use Rattle.sd_ports.specs.Bytes.{IsPrefix}
 use Rattle.sd_ports.specs.Causes.{HasFileCause}
 use Rattle.sd_ports.specs.declared.file.FileFault.{FileFault}
 use Rattle.sd_ports.specs.declared.file.FileFault.TheVariants as file
@@ -14,7 +14,7 @@ pub there_after : (a b : Option Files) (name bytes : List ℕ) → b ≡ with_by
 there_after = outlets.there_after
 
 made_or_not : (a b : Option Files) (i k : ℕ) (name bytes : List ℕ) → (IsUnmade a b i k ⊎ IsMadeShort a b i k name bytes)
-    → (b ≡ a) ⊎ ((front : List ℕ) × IsFront front bytes × (b ≡ with_bytes a name front))
+    → (b ≡ a) ⊎ ((front : List ℕ) × IsPrefix front bytes × (b ≡ with_bytes a name front))
 made_or_not a b i k name bytes (inl none) = inl none.0
 made_or_not a b i k name bytes (inr short) = inr (short.0, short.1, short.2.0)
 

@@ -1,8 +1,8 @@
--- How a refusal of one step is the refusal of the whole, and what it leaves behind it.
+-- How a refusal of one step is the refusal of the whole, and what it leaves after it.
 use Rattle.std.proofs.Common.{◌≡◌, ◌≢◌, ◌⊎◌, ℕ, List, [], Option, Some, None, Result, Ok, Err, refl, sym, ap, subst, inl, inr}
 use Rattle.std.proofs.KnownBytes.{Appends-nil}
 use Rattle.sd_ports.specs.Files.{Files, with_bytes}
-use Rattle.sd_ports.specs.Bytes.{IsFront}
+use Rattle.sd_ports.specs.Bytes.{IsPrefix}
 use Rattle.sd_run.specs.declared.status.Status.{Status}
 use Rattle.sd_run.specs.declared.status.Status.TheVariants.{Done, Usage, Missing, DepotFault, PrintFault, BadSite, BadBook, BadStream, Limit, NoMemory, BadWord}
 use Rattle.sd_run.specs.Work.{Work, Make}
@@ -108,7 +108,7 @@ left meant files now held status refused end stay out = record {
 
 -- what a device fault leaves is the file with a front of its bytes, or none
 front_out : (meant : Files → Result Work Status) (files now : Option Files) (name bytes : List ℕ) → IsWork meant files (Make name bytes)
-    → ((now ≡ files) ⊎ ((front : List ℕ) × IsFront front bytes × (now ≡ with_bytes files name front))) → (now ≡ files) ⊎ LeavesFrontOut meant files now
+    → ((now ≡ files) ⊎ ((front : List ℕ) × IsPrefix front bytes × (now ≡ with_bytes files name front))) → (now ≡ files) ⊎ LeavesFrontOut meant files now
 front_out meant files now name bytes work (inl same) = inl same
 front_out meant files now name bytes work (inr cut) = inr (record {
   name = name;

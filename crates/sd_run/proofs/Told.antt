@@ -1,4 +1,4 @@
--- How the line of a status stands behind what a command printed.
+-- How the line of a status stands after what a command printed.
 use Rattle.std.proofs.Common.{◌≡◌, ◌≢◌, ℕ, List, Option, Some, None, Result, refl, sym, ap, subst, ◌∙◌, inl, inr}
 use Rattle.std.proofs.KnownBytes.{Appends-trans}
 use Rattle.sd_ports.specs.Files.{Files}
@@ -8,7 +8,7 @@ use Rattle.sd_run.specs.Work.{Work, Cover, Make, Inspect, Prints, ending, made_b
 use Rattle.sd_run.specs.Texts.{line_of}
 use Rattle.sd_run.specs.Answers.{ForTold, IsWork, IsRefusedAs, Stopped, Ended, Halted, StopsAt, IsTold, IsCutOff, IsDone, Answers, Tells, TakesMemory, IsTellable}
 use Rattle.sd_run.proofs.Refusals.{refused_by, err_is, stop_is_not_done}
-use Rattle.sd_run.proofs.Covers.{front_behind}
+use Rattle.sd_run.proofs.Covers.{front_after}
 use Rattle.sd_run.proofs.Inspected.{whole_begins}
 
 -- a status whose line is made in memory is no want of memory and no device fault
@@ -81,7 +81,7 @@ told_answers meant files now old mid new status answer stops tells =
         status = tells.told;
         lines = stops.lines;
         halted = halted;
-        front = front_behind old mid new stops.lines (line_of tells.told) stops.printed (tells.front cut);
+        front = front_after old mid new stops.lines (line_of tells.told) stops.printed (tells.front cut);
       });
       told = λ not_done not_cut.
           let told = tells.whole not_cut in

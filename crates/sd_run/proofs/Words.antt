@@ -1,16 +1,16 @@
 -- The numbers of words.
 use Rattle.std.proofs.Common.{◌≡◌, ℕ, ◌<◌, ◌≤◌, ◌^◌, Bool, true, false, cond, nat_lt, List, [], Option, Some, None, Result, Ok, Err, refl, sym, ap, ◌∙◌, arith, le-ltb, lt-ltb, inl, inr}
 use Rattle.std.proofs.lemmas.Bool.{cases_lt}
-use Rattle.sd_text.specs.Number.{number_of, number_behind, behind, fitting}
+use Rattle.sd_text.specs.Number.{number_of, decimal_after, after, fitting}
 use Rattle.sd_text.specs.declared.number.NumberFault.{NumberFault}
 use Rattle.sd_text.specs.declared.number.NumberFault.TheVariants.{TooLarge}
 use Rattle.sd_run.specs.declared.status.Status.TheVariants.{BadWord}
 use Rattle.sd_run.specs.Meaning.{at_most, number_in}
 
--- behind no word stands the whole text
-behind_nothing : (text : List ℕ) → number_behind [] text ≡ number_of text
-unfolding behind
-behind_nothing text = refl
+-- after no word stands the whole text
+after_nothing : (text : List ℕ) → decimal_after [] text ≡ number_of text
+unfolding after
+after_nothing text = refl
 
 -- a number, where it is one of 32 bits
 abbrev chosen : Bool → ℕ → Result ℕ NumberFault
@@ -34,17 +34,17 @@ not_chosen m fault h =
     ]
 
 -- a number of 32 bits that is not above the most
-pub number_taken : (word most n : ℕ) (text other : List ℕ) → text ≡ other → fitting (number_behind [] text) ≡ Ok n → n ≤ most → Ok n ≡ number_in word most other
+pub number_taken : (word most n : ℕ) (text other : List ℕ) → text ≡ other → fitting (decimal_after [] text) ≡ Ok n → n ≤ most → Ok n ≡ number_in word most other
 number_taken word most n text other same h le =
     sym (ap (λ (t : List ℕ). number_in word most t) (sym same)
-    ∙ ap (at_most word most) (sym (behind_nothing text) ∙ found (number_behind [] text) n h)
+    ∙ ap (at_most word most) (sym (after_nothing text) ∙ found (decimal_after [] text) n h)
     ∙ ap (λ (b : Bool). cond b (Err (BadWord word)) (Ok n)) (le-ltb most n le))
 
 -- a number that is above it
-pub number_above : (word most n : ℕ) (text other : List ℕ) → text ≡ other → fitting (number_behind [] text) ≡ Ok n → most < n → Err (BadWord word) ≡ number_in word most other
+pub number_above : (word most n : ℕ) (text other : List ℕ) → text ≡ other → fitting (decimal_after [] text) ≡ Ok n → most < n → Err (BadWord word) ≡ number_in word most other
 number_above word most n text other same h lt =
     sym (ap (λ (t : List ℕ). number_in word most t) (sym same)
-    ∙ ap (at_most word most) (sym (behind_nothing text) ∙ found (number_behind [] text) n h)
+    ∙ ap (at_most word most) (sym (after_nothing text) ∙ found (decimal_after [] text) n h)
     ∙ ap (λ (b : Bool). cond b (Err (BadWord word)) (Ok n)) (lt-ltb most n lt))
 
 refused_number : (word most : ℕ) (number : Option ℕ) (fault : NumberFault) → most < 2 ^ 32 → fitting number ≡ Err fault → Err (BadWord word) ≡ at_most word most number
@@ -53,7 +53,7 @@ refused_number word most (Some m) fault fits h =
     sym (ap (λ (b : Bool). cond b (Err (BadWord word)) (Ok m)) (lt-ltb most m (omega (arith, not_chosen m fault h, fits))))
 
 -- a word that has no number of 32 bits
-pub number_refused : (word most : ℕ) (text other : List ℕ) (fault : NumberFault) → most < 2 ^ 32 → text ≡ other → fitting (number_behind [] text) ≡ Err fault
+pub number_refused : (word most : ℕ) (text other : List ℕ) (fault : NumberFault) → most < 2 ^ 32 → text ≡ other → fitting (decimal_after [] text) ≡ Err fault
     → Err (BadWord word) ≡ number_in word most other
 number_refused word most text other fault fits same h =
-    refused_number word most (number_behind [] text) fault fits h ∙ ap (at_most word most) (behind_nothing text) ∙ ap (λ (t : List ℕ). number_in word most t) same
+    refused_number word most (decimal_after [] text) fault fits h ∙ ap (at_most word most) (after_nothing text) ∙ ap (λ (t : List ℕ). number_in word most t) same

@@ -1,17 +1,17 @@
--- What a run leaves behind it: its answer, what it printed, and the files.
+-- What a run leaves after it: its answer, what it printed, and the files.
 use Rattle.std.specs.Prelude.{◌≡◌, ◌≢◌, ◌⊎◌, ℕ, ◌+◌, ◌≤◌, List, [], ◌++◌, Option, Some, None, Result, Ok, Err, OnOk, IsErrOf, IfErr}
 use Rattle.std.specs.Io.KnownBytes.{Appends}
 use Rattle.sd_cause.specs.Count.{Rose, with_added}
 use Rattle.sd_ports.specs.Files.{Files, with_bytes}
 use Rattle.sd_ports.specs.declared.file.FileFault.{FileFault}
 use Rattle.sd_ports.specs.declared.file.FileFault.TheVariants as file
-use Rattle.sd_ports.specs.Bytes.{IsFront, AppendsFront}
+use Rattle.sd_ports.specs.Bytes.{IsPrefix, AppendsPrefix}
 use Rattle.sd_run.specs.declared.status.Status.{Status}
 use Rattle.sd_run.specs.declared.status.Status.TheVariants.{Done, Usage, Missing, DepotFault, PrintFault, BadSite, BadBook, BadStream, Limit, NoMemory, BadWord}
 use Rattle.sd_run.specs.declared.status.StreamCause.{StreamCause}
 use Rattle.sd_book.specs.declared.command.Command.{Command}
 use Rattle.sd_book.specs.Commands.{last_period}
-use Rattle.sd_stream.specs.Stream.{break_of}
+use Rattle.sd_engine.specs.Stream.{break_of}
 use Rattle.sd_tables.specs.Whole.{lines_of, lines_up_to}
 use Rattle.sd_run.specs.Work.{Work, Make, Prints, IsCoverText, PrintsPeriods, BeginsCover, BeginsToPrint, made_by, ending, stream_status}
 use Rattle.sd_run.specs.Texts.{line_of}
@@ -39,21 +39,21 @@ IsRefusedAs (BadWord word) meant = meant ≡ Err (BadWord word)
 pub record PrintsCoverOf (d q : ℕ) (revoked : List ℕ) (old new : Option (List ℕ)) (result : Result (Unit {0}) Status) : Type 0 where
   pub done : OnOk result ((text : List ℕ) × IsCoverText d q revoked text × Appends old new text)
   pub no_memory : IsErrOf result NoMemory → new ≡ old
-  pub cut_off : IsErrOf result PrintFault → (text : List ℕ) × IsCoverText d q revoked text × AppendsFront old new text
+  pub cut_off : IsErrOf result PrintFault → (text : List ℕ) × IsCoverText d q revoked text × AppendsPrefix old new text
 
 -- printing the covers of all periods printed them, or those of some first periods before memory was wanting, or a front of all where print failed
 pub record PrintsCover (d : ℕ) (commands : List Command) (old new : Option (List ℕ)) (result : Result (Unit {0}) Status) : Type 0 where
   pub done : OnOk result ((text : List ℕ) × PrintsPeriods d commands (last_period commands + 1) text × Appends old new text)
   pub no_memory : IsErrOf result NoMemory → (text : List ℕ) × BeginsCover d commands text × Appends old new text
-  pub cut_off : IsErrOf result PrintFault → (text : List ℕ) × PrintsPeriods d commands (last_period commands + 1) text × AppendsFront old new text
+  pub cut_off : IsErrOf result PrintFault → (text : List ℕ) × PrintsPeriods d commands (last_period commands + 1) text × AppendsPrefix old new text
 
--- what printing the lines of a stream's tables left behind it
+-- what printing the lines of a stream's tables left after it
 pub record PrintsLines (bytes : List ℕ) (old new : Option (List ℕ)) (result : Result (Unit {0}) Status) : Type 0 where
   pub done : OnOk result ((stream_status (break_of bytes) ≡ Done) × Appends old new (lines_of bytes))
   pub broken : (packet : ℕ) (cause : StreamCause) → IsErrOf result (BadStream packet cause) →
       (stream_status (break_of bytes) ≡ BadStream packet cause) × Appends old new (lines_of bytes)
   pub no_memory : IsErrOf result NoMemory → (k : ℕ) × Appends old new (lines_up_to k bytes)
-  pub cut_off : IsErrOf result PrintFault → AppendsFront old new (lines_of bytes)
+  pub cut_off : IsErrOf result PrintFault → AppendsPrefix old new (lines_of bytes)
 
 -- the statuses that may come of it
 abbrev pub IsOfLines : Status → Type 0
@@ -97,7 +97,7 @@ pub record LeavesFrontOut (meant : Files → Result Work Status) (files now : Op
   pub bytes : List ℕ
   pub work : IsWork meant files (Make name bytes)
   pub front : List ℕ
-  pub short : IsFront front bytes
+  pub short : IsPrefix front bytes
   pub made : now ≡ with_bytes files name front
 
 -- the work that is meant is done: its text is printed, and its file made
@@ -146,7 +146,7 @@ pub record IsCutOff (meant : Files → Result Work Status) (files now : Option F
   pub is_meant : IsWork meant files work
   pub text : List ℕ
   pub prints : Prints work text
-  pub front : AppendsFront old new text
+  pub front : AppendsPrefix old new text
   pub files_stay : now ≡ files
 
 -- the answer of making the file that word 3 names. No file to be made is too big.
@@ -157,22 +157,22 @@ making_told (Err file.TooBig) = Err DepotFault
 making_told (Err file.Failed) = Err DepotFault
 making_told (Err file.NoMemory) = Err NoMemory
 
--- What making a file left behind it: the file with these bytes, or a front of them after a device fault, or no file. Where files are
+-- What making a file left after it: the file with these bytes, or a front of them after a device fault, or no file. Where files are
 -- told, the folder is there.
 pub record MakesFile (files now : Option Files) (name bytes : List ℕ) (result : Result (Unit {0}) Status) : Type 0 where
   pub done : OnOk result (now ≡ with_bytes files name bytes)
-  pub failed : IsErrOf result DepotFault → (now ≡ files) ⊎ ((front : List ℕ) × IsFront front bytes × (now ≡ with_bytes files name front))
+  pub failed : IsErrOf result DepotFault → (now ≡ files) ⊎ ((front : List ℕ) × IsPrefix front bytes × (now ≡ with_bytes files name front))
   pub no_memory : IsErrOf result NoMemory → now ≡ files
   pub missing : (word : ℕ) → IsErrOf result (Missing word) → (now ≡ files) × (files ≡ None)
   pub only : IfErr result (λ status. (status ≡ DepotFault) ⊎ ((status ≡ NoMemory) ⊎ (status ≡ Missing 3)))
 
--- what a command left behind it, before its status was printed
+-- what a command left after it, before its status was printed
 pub record Obeys (meant : Files → Result Work Status) (files now : Option Files) (old new : Option (List ℕ)) (result : Result (Unit {0}) Status) : Type 0 where
   pub done : OnOk result (IsDone meant files now old new)
   pub cut_off : IsErrOf result PrintFault → IsCutOff meant files now old new
   pub stops : (status : Status) → result ≡ Err status → status ≢ PrintFault → StopsAt meant files now old new status
 
--- work ended with this status, and the line of the status stands behind what was printed
+-- work ended with this status, and the line of the status stands after what was printed
 pub record IsTold (meant : Files → Result Work Status) (files now : Option Files) (old new : Option (List ℕ)) (status : Status) : Type 0 where
   pub lines : List ℕ
   pub halted : Halted meant files now status lines
@@ -183,10 +183,10 @@ pub record IsCutOffTelling (meant : Files → Result Work Status) (files now : O
   pub status : Status
   pub lines : List ℕ
   pub halted : Halted meant files now status lines
-  pub front : AppendsFront old new (lines ++ line_of status)
+  pub front : AppendsPrefix old new (lines ++ line_of status)
 
 -- What a run answers: `Done` where the work is done; `PrintFault` with a front of what was to be printed; and every other status with its
--- own line behind what was printed.
+-- own line after what was printed.
 pub record Answers (meant : Files → Result Work Status) (files now : Option Files) (old new : Option (List ℕ)) (status : Status) : Type 0 where
   pub done : status ≡ Done → IsDone meant files now old new
   pub cut_off : status ≡ PrintFault → IsCutOff meant files now old new ⊎ IsCutOffTelling meant files now old new
@@ -215,7 +215,7 @@ pub record Tells (old new : Option (List ℕ)) (status answer : Status) : Type 0
   pub told : Status
   pub tellable : IsTellable status told
   pub whole : answer ≢ PrintFault → (answer ≡ told) × Appends old new (line_of told)
-  pub front : answer ≡ PrintFault → AppendsFront old new (line_of told)
+  pub front : answer ≡ PrintFault → AppendsPrefix old new (line_of told)
 
 -- Why a command was refused by the outside: a missing file where the depot's misses rose, a device fault where its faults did. Else
 -- the counts stand as before.

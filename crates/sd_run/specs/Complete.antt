@@ -10,7 +10,7 @@ use Rattle.sd_book.specs.Text.{SpellsBook}
 use Rattle.sd_book.specs.Limits.{IsWithinLimits}
 use Rattle.sd_run.specs.declared.status.Status.{Status}
 use Rattle.sd_run.specs.declared.status.Status.TheVariants.{Done, NoMemory}
-use Rattle.sd_stream.specs.Stream.{break_of}
+use Rattle.sd_engine.specs.Stream.{break_of}
 use Rattle.sd_run.specs.Meaning.{CoverOf, CardOf, SampleOf, TablesOf, order_of}
 
 -- the file of this name is there, in the grammar of sites and within the limit, and says this site

@@ -6,9 +6,9 @@ use Rattle.sd_book.specs.declared.command.Command.{Command}
 use Rattle.sd_book.specs.Commands.{last_period, revoked}
 use Rattle.sd_steiner.specs.Partition.{IsPartition, IsSmall, unrevoked}
 use Rattle.sd_steiner.specs.Chains.{IsChainCover}
-use Rattle.sd_stream.specs.Stream.{break_of}
-use Rattle.sd_stream.specs.declared.fault.StreamBreak.{StreamBreak}
-use Rattle.sd_stream.specs.declared.fault.StreamBreak.TheVariants as stream
+use Rattle.sd_engine.specs.Stream.{break_of}
+use Rattle.sd_engine.specs.declared.fault.StreamBreak.{StreamBreak}
+use Rattle.sd_engine.specs.declared.fault.StreamBreak.TheVariants as stream
 use Rattle.sd_tables.specs.Whole.{lines_of, lines_up_to}
 use Rattle.sd_run.specs.declared.status.Status.{Status}
 use Rattle.sd_run.specs.declared.status.Status.TheVariants.{Done, BadStream}
@@ -48,7 +48,7 @@ pub record IsCoverText (d q : ℕ) (revoked : List ℕ) (text : List ℕ) : Type
   -- and this is their text
   pub printed : text ≡ period_text q (length revoked) sets
 
--- the text names the sets of the first n periods, one period behind the other
+-- the text names the sets of the first n periods, one period after the other
 abbrev pub PrintsPeriods : ℕ → List Command → ℕ → List ℕ → Type 0
 PrintsPeriods d commands zero text = text ≡ []
 PrintsPeriods d commands (suc n) text = (before last : List ℕ) × PrintsPeriods d commands n before × IsCoverText d n (revoked d commands n) last × (text ≡ before ++ last)

@@ -2,7 +2,7 @@ ghost use Rattle.std.specs.Prelude.{◌≡◌, ◌≢◌, ◌⊎◌, ◌^◌, �
 ghost use Rattle.std.specs.List.Sorted.{IsStrictlyIncreasing};
 ghost use Rattle.sd_book.specs.Commands.{last_period, revoked as revoked_in};
 ghost use Rattle.std.specs.Io.KnownBytes.{Appends};
-ghost use Rattle.sd_ports.specs.Bytes.{AppendsFront};
+ghost use Rattle.sd_ports.specs.Bytes.{AppendsPrefix};
 ghost use Rattle.sd_run.specs.Work.{Cover, IsCoverText};
 ghost use Rattle.sd_run.specs.Meaning.{cover_in};
 ghost use Rattle.sd_run.specs.Answers.{Obeys, Gives, ForTold, PrintsCover, PrintsCoverOf, IsRefusal, HasOutsideCause, HasPrintCause};
@@ -107,7 +107,7 @@ fn cover_text(alloc: Global, h: Height, q: u32, revoked: &[Leaf]) -> Result<Stri
 /// Prints the whole text, or answers that print failed.
 fn print_text<P: Sink>(print: &mut P, text: &[u8]) -> Result<(), Status>
     ensures done { OnOk result (Appends (P.held print.old) (P.held print.new) text.now) }
-    ensures front { OnErr result (AppendsFront (P.held print.old) (P.held print.new) text.now) }
+    ensures front { OnErr result (AppendsPrefix (P.held print.old) (P.held print.new) text.now) }
     ensures only { IfErr result (λ status. status ≡ Status.PrintFault) }
     ensures print_cause { HasPrintCause (P.faults print.old) (P.faults print.new) result }
 {

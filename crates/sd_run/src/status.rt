@@ -2,11 +2,11 @@ ghost use Rattle.std.specs.Prelude.{◌≡◌};
 ghost use Rattle.sd_run.specs.Exits.{code_of};
 
 use sd_book::BookLimit;
-use sd_ports::NoMemory;
+use sd_cause::NoMemory;
 use sd_site::SiteFault;
 use std::alloc::AllocError;
 
-/// What a run of the program answers. Words are numbered from 0, behind the program's name.
+/// What a run of the program answers. Words are numbered from 0, after the program's name.
 #[derive(Clone, Copy, Debug, PartialEq, Eq)]
 pub enum Status {
     /// The work is done: its text is printed, and its file made.

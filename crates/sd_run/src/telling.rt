@@ -1,7 +1,7 @@
 ghost use Rattle.std.specs.Prelude.{◌≡◌, ◌≢◌, ◌⊎◌, IfOk, OnErr, string_bytes};
 ghost use Rattle.std.specs.Io.KnownBytes.{Appends};
 ghost use Rattle.sd_cause.specs.Count.{Rose};
-ghost use Rattle.sd_ports.specs.Bytes.{AppendsFront};
+ghost use Rattle.sd_ports.specs.Bytes.{AppendsPrefix};
 ghost use Rattle.sd_run.specs.Texts.{line_of, site_line as site_line_of, stream_line as stream_line_of, limit_line as limit_line_of};
 ghost use Rattle.sd_run.specs.Lines.{bytes_of};
 ghost use Rattle.sd_run.specs.Answers.{Tells, TakesMemory};
@@ -47,7 +47,7 @@ pub fn tell<P: Sink>(alloc: Global, print: &mut P, status: Status) -> Status
 fn say<P: Sink>(print: &mut P, status: Status, line: &[u8]) -> Status
     ensures whole { result ≢ Status.PrintFault → (result ≡ status) }
     ensures printed { result ≢ Status.PrintFault → Appends (P.held print.old) (P.held print.new) line.now }
-    ensures front { result ≡ Status.PrintFault → AppendsFront (P.held print.old) (P.held print.new) line.now }
+    ensures front { result ≡ Status.PrintFault → AppendsPrefix (P.held print.old) (P.held print.new) line.now }
     ensures fault { result ≡ Status.PrintFault → (status ≡ Status.PrintFault) ⊎ Rose (P.faults print.old) (P.faults print.new) }
     ensures calm { result ≢ Status.PrintFault → P.faults print.new ≡ P.faults print.old }
 {

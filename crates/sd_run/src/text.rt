@@ -23,7 +23,7 @@ pub fn period_text(
     Ok(text)
 }
 
-/// The line of a set, behind the text.
+/// The line of a set, after the text.
 #[tactic(auto, unfolding(crate::specs::Texts::set_line))]
 fn push_set(text: &mut String, name: SetName) -> Result<(), AllocError>
     ensures { OnOk result (string_bytes text.new ≡ string_bytes text.old ++ set_line name) }

@@ -18,7 +18,7 @@ use sd_steps::Steps;
 use std::alloc::Global;
 use std::sync::ledger::Ledger;
 
-/// Does what the words say, and prints the line of the status that it answers. Words are those behind the program's
+/// Does what the words say, and prints the line of the status that it answers. Words are those after the program's
 /// name, numbered from 0.
 pub fn run<D: Depot, P: Sink, L: Ledger>(
     alloc: Global,

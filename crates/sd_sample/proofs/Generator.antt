@@ -5,7 +5,7 @@ use Rattle.std.proofs.lemmas.List.{take_more_set, take_all}
 use Rattle.std.proofs.lemmas.List.FromFn.{map-range_with_len_more}
 use Rattle.sd_sample.specs.Sample.{next_state, state_at, generated}
 
--- a state behind a state is the state behind both
+-- a state after a state is the state after both
 pub state_more : (x m n : ℕ) → state_at (state_at x m) n ≡ state_at x (m + n)
 unfolding state_at
 state_more x m zero = let e : m ≡ m + 0 = omega arith in ap (state_at x) e
@@ -30,7 +30,7 @@ pub none_passed : (x start : ℕ) → x ≡ state_at x (start - start)
 unfolding state_at
 none_passed x start = let e : start - start ≡ 0 = omega arith in rw e refl
 
--- the state behind a byte more
+-- the state after a byte more
 pub state_generated : (x start i s t : ℕ) → start ≤ i → s ≡ state_at x (i - start) → t ≡ next_state s → t ≡ state_at x (i + 1 - start)
 state_generated x start i s t h e f =
     let m : i - start + 1 ≡ i + 1 - start = omega arith in
@@ -48,7 +48,7 @@ byte_generated x start i t old bytes h within is so_far =
     ∙ append_assoc (take start old) (generated x (i - start)) ((state_at x (i - start + 1) / 2 ^ 56) ∷ [])
     ∙ ap (λ (r : List ℕ). take start old ++ r) (sym (ap (generated x) m ∙ next_generated x (i - start)))
 
--- behind the last byte
+-- after the last byte
 pub all_generated : (x start i : ℕ) (old bytes : List ℕ) → length bytes ≡ 188 → 188 ≤ i → i ≤ 188 → take i bytes ≡ take start old ++ generated x (i - start) →
     bytes ≡ take start old ++ generated x (188 - start)
 all_generated x start i old bytes long low high e =

@@ -7,18 +7,18 @@ use Rattle.std.proofs.lemmas.Bool.Decides.{nat_tests}
 use Rattle.std.proofs.lemmas.List.Sums.{sum_by_push}
 use Rattle.sd_sample.specs.Sample.{pid_at, counter_at, generated_in, generated_before}
 
--- the next number of a range stands behind it
+-- the next number of a range stands after it
 pub range_more : (a n : ℕ) → range_with_len a (suc n) ≡ range_with_len a n ++ (a + n) ∷ []
 range_more a zero = let e : a ≡ a + 0 = omega arith in ap (λ (m : ℕ). m ∷ []) e
 range_more a (suc n) =
     let e : a + 1 + n ≡ a + suc n = omega arith in
     ap (λ (r : List ℕ). a ∷ r) (range_more (a + 1) n ∙ ap (λ (m : ℕ). range_with_len (a + 1) n ++ m ∷ []) e)
 
--- behind the numbers below k stands k
+-- after the numbers below k stands k
 pub below_more : (k : ℕ) → range_with_len 0 (suc k) ≡ range_with_len 0 k ++ k ∷ []
 below_more k = let e : 0 + k ≡ k = omega arith in range_more 0 k ∙ ap (λ (m : ℕ). range_with_len 0 k ++ m ∷ []) e
 
--- a packet's bytes are generated behind those of the packets before it
+-- a packet's bytes are generated after those of the packets before it
 pub generated_more : (k : ℕ) → generated_before (suc k) ≡ generated_before k + generated_in k
 unfolding generated_before
 generated_more k = ap (sum_by generated_in) (below_more k) ∙ sum_by_push generated_in (range_with_len 0 k) k

@@ -8,12 +8,12 @@ use Rattle.std.proofs.lemmas.List.{take_more_set}
 use Rattle.std.proofs.lemmas.List.Concat.{flat_map-append}
 use Rattle.std.proofs.lemmas.List.Folds.{flat_map-map}
 use Rattle.std.proofs.lemmas.List.FromFn.{map-range_with_len_more}
-use Rattle.sd_ports.specs.Bytes.{AppendsFront}
+use Rattle.sd_ports.specs.Bytes.{AppendsPrefix}
 use Rattle.sd_sample.specs.Sample.{state_at, generated_in, generated_before, packet_at, packet_of, sample_of}
 use Rattle.sd_sample.proofs.Rounds.{generated_more}
 use Rattle.sd_sample.proofs.Generator.{state_more}
 
--- a range and the range behind it
+-- a range and the range after it
 range_append : (a m n : ℕ) → range_with_len a m ++ range_with_len (a + m) n ≡ range_with_len a (m + n)
 range_append a zero n =
     let e : a + 0 ≡ a = omega arith in
@@ -25,7 +25,7 @@ range_append a (suc m) n =
     ap (λ (r : List ℕ). a ∷ r) (ap (λ (b : ℕ). range_with_len (a + 1) m ++ range_with_len b n) e ∙ range_append (a + 1) m n)
     ∙ ap (range_with_len a) f
 
--- a stream and the packets behind it
+-- a stream and the packets after it
 pub sample_more : (number done count : ℕ) → sample_of number done ++ flat_map (packet_of number) (range_with_len done count) ≡ sample_of number (done + count)
 unfolding sample_of
 sample_more number done count =
@@ -85,16 +85,16 @@ written_more a b c number done count bytes p e q =
 
 -- a stream of whose next piece a front was written
 pub written_front : (a b c : Option (List ℕ)) (number done count packets : ℕ) (bytes : List ℕ) → done + count ≤ packets → Appends a b (sample_of number done) →
-    bytes ≡ flat_map (packet_of number) (range_with_len done count) → AppendsFront b c bytes → AppendsFront a c (sample_of number packets)
+    bytes ≡ flat_map (packet_of number) (range_with_len done count) → AppendsPrefix b c bytes → AppendsPrefix a c (sample_of number packets)
 written_front a b c number done count packets bytes within p e w =
     let piece : List ℕ = flat_map (packet_of number) (range_with_len done count) in
-    let behind : List ℕ = flat_map (packet_of number) (range_with_len (done + count) (packets - (done + count))) in
+    let after : List ℕ = flat_map (packet_of number) (range_with_len (done + count) (packets - (done + count))) in
     let all : done + count + (packets - (done + count)) ≡ packets = omega arith in
-    let joined : (sample_of number done ++ w.0) ++ (w.1.0 ++ behind) ≡ sample_of number packets =
-    append_assoc (sample_of number done) w.0 (w.1.0 ++ behind)
-    ∙ ap (λ (r : List ℕ). sample_of number done ++ r) (sym (append_assoc w.0 w.1.0 behind) ∙ ap (λ (r : List ℕ). r ++ behind) (w.1.1 ∙ e))
-    ∙ sym (append_assoc (sample_of number done) piece behind)
-    ∙ ap (λ (r : List ℕ). r ++ behind) (sample_more number done count)
+    let joined : (sample_of number done ++ w.0) ++ (w.1.0 ++ after) ≡ sample_of number packets =
+    append_assoc (sample_of number done) w.0 (w.1.0 ++ after)
+    ∙ ap (λ (r : List ℕ). sample_of number done ++ r) (sym (append_assoc w.0 w.1.0 after) ∙ ap (λ (r : List ℕ). r ++ after) (w.1.1 ∙ e))
+    ∙ sym (append_assoc (sample_of number done) piece after)
+    ∙ ap (λ (r : List ℕ). r ++ after) (sample_more number done count)
     ∙ sample_more number (done + count) (packets - (done + count))
     ∙ ap (sample_of number) all in
-    (sample_of number done ++ w.0, (w.1.0 ++ behind, joined), Appends-trans a b c _ _ p w.2)
+    (sample_of number done ++ w.0, (w.1.0 ++ after, joined), Appends-trans a b c _ _ p w.2)

@@ -17,12 +17,12 @@ pmt_section =
 abbrev pub next_state : ℕ → ℕ
 next_state x = (6364136223846793005 * x + 1442695040888963407) % 2 ^ 64
 
--- its state behind n bytes, from one state on [this project, docs/FORMATS.md, Sample]
+-- its state after n bytes, from one state on [this project, docs/FORMATS.md, Sample]
 unfoldable pub state_at : ℕ → ℕ → ℕ
 state_at x zero = x
 state_at x (suc n) = next_state (state_at x n)
 
--- the n bytes that are generated from a state on: each is the highest byte of the state behind it
+-- the n bytes that are generated from a state on: each is the highest byte of the state after it
 -- [this project, docs/FORMATS.md, Sample]
 unfoldable pub generated : ℕ → ℕ → List ℕ
 generated x n = map (λ i. state_at x (i + 1) / 2 ^ 56) (range_with_len 0 n)

@@ -14,7 +14,7 @@ const PMT: [u8; 26] = [
     0x00, 0x0F, 0xE1, 0x01, 0xF0, 0x00, 0x2F, 0x44, 0xB9, 0x9B,
 ];
 
-/// Packet k, from the generator's state before it, which becomes the state behind it.
+/// Packet k, from the generator's state before it, which becomes the state after it.
 #[tactic(auto, using(crate::proofs::Packets::pat_packet, crate::proofs::Packets::pmt_packet, crate::proofs::Packets::null_packet, crate::proofs::Packets::adapted_packet, crate::proofs::Packets::plain_packet, crate::proofs::Packets::no_bytes, crate::proofs::Packets::adapted_bytes, crate::proofs::Packets::plain_bytes))]
 pub fn packet(k: u32, state: &mut u64) -> [u8; 188]
     requires { k < 1000000 }
@@ -66,7 +66,7 @@ fn plain(k: u32, state: &mut u64) -> [u8; 188]
     bytes
 }
 
-// The header of packet k and stuffing behind it.
+// The header of packet k and stuffing after it.
 fn stuffed(k: u32, control: u8) -> [u8; 188]
     requires number { k < 1000000 }
     requires control { control < 4 }
@@ -119,7 +119,7 @@ fn earlier(k: u32) -> u32
     }
 }
 
-// Fills the packet from this place on, and answers the generator's state behind that.
+// Fills the packet from this place on, and answers the generator's state after that.
 #[tactic(auto, using(crate::proofs::Generator::none_passed, crate::proofs::Generator::none_generated, crate::proofs::Generator::all_generated))]
 fn generate(mut state: u64, bytes: &mut [u8; 188], start: usize) -> u64
     requires { start ≤ 188 }

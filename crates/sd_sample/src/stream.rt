@@ -2,7 +2,7 @@ ghost use Rattle.std.specs.Prelude.{◌≡◌, ◌+◌, ◌≤◌, ◌<◌, ℕ,
 ghost use Rattle.std.specs.List.{range_with_len};
 ghost use Rattle.std.specs.Io.KnownBytes.{Appends};
 ghost use Rattle.sd_cause.specs.Count.{HasCause};
-ghost use Rattle.sd_ports.specs.Bytes.{AppendsFront};
+ghost use Rattle.sd_ports.specs.Bytes.{AppendsPrefix};
 ghost use Rattle.sd_sample.specs.Sample.{state_at, generated_before, packet_of, sample_of};
 
 use crate::packet::packet;
@@ -17,7 +17,7 @@ const PIECE: usize = 64;
 pub fn sample<K: Sink>(number: u32, packets: u32, out: &mut K) -> Result<(), PortFault>
     requires { packets ≤ 1000000 }
     ensures ok { OnOk result (Appends (K.held out.old) (K.held out.new) (sample_of number packets)) }
-    ensures front { OnErr result (AppendsFront (K.held out.old) (K.held out.new) (sample_of number packets)) }
+    ensures front { OnErr result (AppendsPrefix (K.held out.old) (K.held out.new) (sample_of number packets)) }
     ensures cause { HasCause (K.faults out.old) (K.faults out.new) result }
 {
     let mut state = u64::from(number);
@@ -34,7 +34,7 @@ pub fn sample<K: Sink>(number: u32, packets: u32, out: &mut K) -> Result<(), Por
     Ok(())
 }
 
-// Fills the piece with the packets from this one on, and brings the generator behind them.
+// Fills the piece with the packets from this one on, and brings the generator after them.
 fn fill(first: u32, state: &mut u64, piece: &mut [[u8; 188]])
     requires { first + length piece.old ≤ 1000000 }
     ensures packets { (number : ℕ) → state.old ≡ state_at number (generated_before first) →

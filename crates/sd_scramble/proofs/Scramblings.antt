@@ -22,27 +22,27 @@ part_is_enough (x ∷ text) [] (suc n) h = refl
 part_is_enough (x ∷ text) (y ∷ stream) zero h = absurd (omega arith)
 part_is_enough (x ∷ text) (y ∷ stream) (suc n) h = ap (λ (r : List ℕ). bit_xor x y ∷ r) (part_is_enough text stream n (omega arith))
 
--- what stands behind a changed byte stays
-pub behind_stays : (bytes : List ℕ) (n y : ℕ) → 4 ≤ n → drop n (slice_set bytes 3 y) ≡ drop n bytes
-behind_stays bytes n y h = drop-set-lt n bytes 3 y (omega arith)
+-- what stands after a changed byte stays
+pub after_stays : (bytes : List ℕ) (n y : ℕ) → 4 ≤ n → drop n (slice_set bytes 3 y) ≡ drop n bytes
+after_stays bytes n y h = drop-set-lt n bytes 3 y (omega arith)
 
 -- a changed byte and a stream laid over all that stands from a place on
-pub laid_behind : (bytes stream text : List ℕ) (start y : ℕ) → 4 ≤ start → length bytes ≡ 188 → text ≡ xored (mid_of start (188 - start) (slice_set bytes 3 y)) (take (188 - start) stream) → put_mid start (188 - start) (slice_set bytes 3 y) text ≡ take start (slice_set bytes 3 y) ++ xored (drop start bytes) stream
-laid_behind bytes stream text start y low long e =
+pub laid_after : (bytes stream text : List ℕ) (start y : ℕ) → 4 ≤ start → length bytes ≡ 188 → text ≡ xored (mid_of start (188 - start) (slice_set bytes 3 y)) (take (188 - start) stream) → put_mid start (188 - start) (slice_set bytes 3 y) text ≡ take start (slice_set bytes 3 y) ++ xored (drop start bytes) stream
+laid_after bytes stream text start y low long e =
     let held : List ℕ = slice_set bytes 3 y in
     let here : length (drop start held) ≡ 188 - start = omega (arith, length-drop start held, length-set bytes 3 y) in
     let none : drop (188 - start) (drop start held) ≡ [] = drop_all (188 - start) (drop start held) (omega arith) in
     let all : mid_of start (188 - start) held ≡ drop start held = take_all (188 - start) (drop start held) (omega arith) in
-    let part : text ≡ xored (drop start bytes) stream = e ∙ (ap (λ (r : List ℕ). xored r (take (188 - start) stream)) all ∙ (part_is_enough (drop start held) stream (188 - start) (sym here) ∙ ap (λ (r : List ℕ). xored r stream) (behind_stays bytes start y low))) in
+    let part : text ≡ xored (drop start bytes) stream = e ∙ (ap (λ (r : List ℕ). xored r (take (188 - start) stream)) all ∙ (part_is_enough (drop start held) stream (188 - start) (sym here) ∙ ap (λ (r : List ℕ). xored r stream) (after_stays bytes start y low))) in
     rw none (ap (λ (r : List ℕ). take start held ++ r) (append-nil text ∙ part))
 
--- the bytes of a header whose fourth byte is changed, and the byte behind it where the front reaches it
+-- the bytes of a header whose fourth byte is changed, and the byte after it where the front reaches it
 pub record HasFront (old new : List ℕ) (start fourth : ℕ) : Type 0 where
   pub first : slice_index new 0 ≡ slice_index old 0
   pub second : slice_index new 1 ≡ slice_index old 1
   pub third : slice_index new 2 ≡ slice_index old 2
   pub fourth_is : slice_index new 3 ≡ fourth
-  pub behind : 4 < start → slice_index new 4 ≡ slice_index old 4
+  pub after : 4 < start → slice_index new 4 ≡ slice_index old 4
 
 -- they are so where the front is kept but for the fourth byte
 pub front_is : (packet payload : List ℕ) (start fourth : ℕ) → 4 ≤ start → 5 ≤ length packet → HasFront packet (take start (slice_set packet 3 fourth) ++ payload) start fourth
@@ -56,11 +56,11 @@ front_is (a ∷ (b ∷ (c ∷ (d ∷ (e ∷ rest))))) payload (suc zero) y h lon
 front_is (a ∷ (b ∷ (c ∷ (d ∷ (e ∷ rest))))) payload (suc (suc zero)) y h long = absurd (omega arith)
 front_is (a ∷ (b ∷ (c ∷ (d ∷ (e ∷ rest))))) payload (suc (suc (suc zero))) y h long = absurd (omega arith)
 front_is (a ∷ (b ∷ (c ∷ (d ∷ (e ∷ rest))))) payload (suc (suc (suc (suc zero)))) y h long =
-    record { first = refl; second = refl; third = refl; fourth_is = refl; behind = λ g. absurd (omega arith) }
+    record { first = refl; second = refl; third = refl; fourth_is = refl; after = λ g. absurd (omega arith) }
 front_is (a ∷ (b ∷ (c ∷ (d ∷ (e ∷ rest))))) payload (suc (suc (suc (suc (suc k))))) y h long =
-    record { first = refl; second = refl; third = refl; fourth_is = refl; behind = λ g. refl }
+    record { first = refl; second = refl; third = refl; fourth_is = refl; after = λ g. refl }
 
--- a text laid twice behind a front that stays is the whole
+-- a text laid twice after a front that stays is the whole
 rest_back : (rest stream : List ℕ) (k : ℕ) → k ≤ length rest → length rest ≤ k + length stream →
     take k (take k rest ++ xored (drop k rest) stream) ++ xored (drop k (take k rest ++ xored (drop k rest) stream)) stream ≡ rest
 rest_back rest stream zero h long = xored_twice rest stream (omega arith)
@@ -98,7 +98,7 @@ start_by : (alone both : Bool) (m n : ℕ) → ((4 < (if alone then 4 else if bo
 start_by true both m n h = refl
 start_by false both m n h = let e = h (above (both && nat_le n 182) n) in rw e refl
 
--- where a payload starts, by the adaptation control and the byte behind the header
+-- where a payload starts, by the adaptation control and the byte after the header
 start_by_bytes : (x y : List ℕ) → adaptation_of x ≡ adaptation_of y → ((4 < payload_start_of y) → slice_index x 4 ≡ slice_index y 4) → payload_start_of x ≡ payload_start_of y
 unfolding payload_start_of
 start_by_bytes x y e h = rw e (start_by (adaptation_of y == 1) (adaptation_of y == 3) (slice_index x 4) (slice_index y 4) h)
@@ -117,7 +117,7 @@ fields_of packet payload control long byte low =
     let below_na = field_below new 26 2 in
     let below_nc = field_below new 28 4 in
     let same : adaptation_of new ≡ adaptation_of packet = omega arith in
-    let start : payload_start_of new ≡ payload_start_of packet = start_by_bytes new packet same front.behind in
+    let start : payload_start_of new ≡ payload_start_of packet = start_by_bytes new packet same front.after in
     record {
       unit_start = unit_start_by_byte new packet front.second;
       pid = pid_by_bytes new packet front.second front.third;
@@ -128,7 +128,7 @@ fields_of packet payload control long byte low =
       payload_is = rw start (drop_at (take (payload_start_of packet) (controlled packet control)) payload (payload_start_of packet) front_long);
     }
 
--- what is read from a packet behind scrambling or descrambling
+-- what is read from a packet after scrambling or descrambling
 pub laid_reads : (packet word : List ℕ) (position control : ℕ) → length packet ≡ 188 → slice_index packet 3 < 256 → control < 4 →
     IsLaidUnder packet control (payload_under packet word position) (laid_under packet word position control)
 unfolding laid_under

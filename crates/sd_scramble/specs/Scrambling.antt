@@ -36,7 +36,7 @@ scrambled packet word position parity = laid_under packet word position (control
 abbrev pub descrambled : List ℕ → List ℕ → ℕ → List ℕ
 descrambled packet word position = laid_under packet word position 0
 
--- what is read from a packet behind scrambling or descrambling: it has this control and this payload, and the rest as before
+-- what is read from a packet after scrambling or descrambling: it has this control and this payload, and the rest as before
 -- [this project, docs/FORMATS.md, Keystream]
 pub record IsLaidUnder (old : List ℕ) (control : ℕ) (payload new : List ℕ) : Type 0 where
   pub unit_start : unit_start_of new ≡ unit_start_of old

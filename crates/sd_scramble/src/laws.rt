@@ -12,7 +12,7 @@ pub fn scrambled_and_descrambled()
         scrambling_of packet ≡ 0 → descrambled (scrambled packet word position parity) word position ≡ packet }
 {}
 
-/// From a packet behind scrambling, and behind descrambling, all is read as before but its control and its payload.
+/// From a packet after scrambling, and after descrambling, all is read as before but its control and its payload.
 pub fn the_rest_is_read_as_before()
     ensures scrambled { (packet word : List ℕ) (position : ℕ) (parity : Parity) → length packet ≡ 188 → slice_index packet 3 < 256 →
         IsLaidUnder packet (control_of parity) (payload_under packet word position) (scrambled packet word position parity) }

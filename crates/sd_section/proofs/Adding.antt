@@ -106,17 +106,17 @@ add_part (b ∷ bs) bytes taken k is some few short judged =
     let whole : is_whole (b ∷ bs ++ bytes) ≡ false = ap is_whole (sym all) ∙ judgement.1 in
     ap (λ (l : List ℕ). record { sections = []; making = l }) (is ∙ all) ∙ sym (added_part b bs bytes over whole)
 
--- turns that aren't needed change nothing, where they change nothing behind the first
+-- turns that aren't needed change nothing, where they change nothing after the first
 same_turn : (m n b : ℕ) (bs more : List ℕ) → ((left : List ℕ) → length left ≤ length bs → cut_from m left more ≡ cut_from n left more) →
     (stuffed over whole : Bool) → (b == 255) ≡ stuffed → is_overlong (b ∷ bs ++ more) ≡ over → is_whole (b ∷ bs ++ more) ≡ whole →
     cut_from (suc m) (b ∷ bs) more ≡ cut_from (suc n) (b ∷ bs) more
-same_turn m n b bs more behind true over whole s o w = cut_stuffed m b bs more s ∙ sym (cut_stuffed n b bs more s)
-same_turn m n b bs more behind false true whole s o w = cut_over m b bs more s o ∙ sym (cut_over n b bs more s o)
-same_turn m n b bs more behind false false true s o w =
+same_turn m n b bs more after true over whole s o w = cut_stuffed m b bs more s ∙ sym (cut_stuffed n b bs more s)
+same_turn m n b bs more after false true whole s o w = cut_over m b bs more s o ∙ sym (cut_over n b bs more s o)
+same_turn m n b bs more after false false true s o w =
     let left : List ℕ = drop (3 + section_length_of (b ∷ bs ++ more)) (b ∷ bs) in
     let less : length left ≤ length bs = omega (arith, length-drop (3 + section_length_of (b ∷ bs ++ more)) (b ∷ bs)) in
-    cut_whole m b bs more s o w ∙ (ap (with_section (whole_of (b ∷ bs ++ more))) (behind left less) ∙ sym (cut_whole n b bs more s o w))
-same_turn m n b bs more behind false false false s o w = cut_part m b bs more s o w ∙ sym (cut_part n b bs more s o w)
+    cut_whole m b bs more s o w ∙ (ap (with_section (whole_of (b ∷ bs ++ more))) (after left less) ∙ sym (cut_whole n b bs more s o w))
+same_turn m n b bs more after false false false s o w = cut_part m b bs more s o w ∙ sym (cut_part n b bs more s o w)
 
 -- so any number of turns does that isn't below the length
 same_turns : (m n : ℕ) (first more : List ℕ) → length first ≤ m → length first ≤ n → cut_from m first more ≡ cut_from n first more

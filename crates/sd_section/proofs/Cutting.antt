@@ -1,4 +1,4 @@
--- Bytes that are cut into sections, with more bytes behind them.
+-- Bytes that are cut into sections, with more bytes after them.
 use Rattle.std.proofs.Common.{ℕ, zero, suc, ◌+◌, ◌-◌, ◌*◌, ◌/◌, ◌%◌, ◌^◌, ◌<◌, ◌≤◌, ◌≡◌, Bool, true, false, ◌==◌, List, [], ◌∷◌, ◌++◌, length, take, drop, append_assoc, length-append, inl, inr, refl, sym, ap, ◌∙◌, arith}
 use Rattle.std.specs.Prelude.{nat_le, nat_lt}
 use Rattle.std.proofs.lemmas.Bool.{and_parts, leb-true, le-leb, lt-ltb, cases_lt}
@@ -9,7 +9,7 @@ use Rattle.sd_section.specs.Header.{section_length_of, whole_of}
 use Rattle.sd_section.specs.Assembled.{is_overlong, is_whole, Cut, no_cut, with_section, cut_from}
 use Rattle.sd_section.specs.Steps.{added}
 
--- a field within the first bytes stays with more bytes behind
+-- a field within the first bytes stays with more bytes after
 pub field_append : (front back : List ℕ) (at width : ℕ) → at + width ≤ 8 * length front →
     field (front ++ back) at width ≡ field front at width
 field_append front back at width h =
@@ -52,7 +52,7 @@ whole_stays run more h =
     let same = length_stays run more all.0 in
     all_is_whole (run ++ more) (omega (arith, length-append run more)) (omega (arith, length-append run more, same, all.1))
 
--- where a run isn't whole and is with more behind it, its length passes the run
+-- where a run isn't whole and is with more after it, its length passes the run
 passes : (run more : List ℕ) → is_whole run ≡ false → is_whole (run ++ more) ≡ true → length run ≤ 3 + section_length_of (run ++ more)
 passes run more part whole = elim (cases_lt (3 + section_length_of (run ++ more)) (length run)) [
   | inl short ↦
@@ -91,7 +91,7 @@ pub cut_part : (n b : ℕ) (bs more : List ℕ) → (b == 255) ≡ false → is_
 unfolding cut_from
 cut_part n b bs more e o w = rw (e, o, w) refl
 
--- a section in the making with more behind it: too long, whole, or still in the making
+-- a section in the making with more after it: too long, whole, or still in the making
 pub added_over : (b : ℕ) (bs more : List ℕ) → is_overlong (b ∷ bs ++ more) ≡ true → added (b ∷ bs) more ≡ no_cut
 unfolding added
 added_over b bs more o = rw o refl
@@ -118,7 +118,7 @@ gone_on cut bytes = record { sections = cut.sections ++ (added cut.making bytes)
 run_is : (b : ℕ) (bs more bytes : List ℕ) → b ∷ bs ++ (more ++ bytes) ≡ (b ∷ bs ++ more) ++ bytes
 run_is b bs more bytes = sym (append_assoc (b ∷ bs) more bytes)
 
--- one turn of the cut with more bytes behind the run, where the turns behind it are so
+-- one turn of the cut with more bytes after the run, where the turns after it are so
 longer_turn : (n b : ℕ) (bs more bytes : List ℕ) → ((first : List ℕ) →
     cut_from n first (more ++ bytes) ≡ gone_on (cut_from n first more) bytes) →
     (stuffed over whole over' whole' : Bool) → (b == 255) ≡ stuffed →
@@ -126,14 +126,14 @@ longer_turn : (n b : ℕ) (bs more bytes : List ℕ) → ((first : List ℕ) →
     is_overlong ((b ∷ bs ++ more) ++ bytes) ≡ over' → is_whole ((b ∷ bs ++ more) ++ bytes) ≡ whole' →
     cut_from (suc n) (b ∷ bs) (more ++ bytes) ≡ gone_on (cut_from (suc n) (b ∷ bs) more) bytes
 unfolding added
-longer_turn n b bs more bytes behind true over whole over' whole' s o w o' w' =
+longer_turn n b bs more bytes after true over whole over' whole' s o w o' w' =
     cut_stuffed n b bs (more ++ bytes) s ∙ ap (λ (c : Cut). gone_on c bytes) (sym (cut_stuffed n b bs more s))
-longer_turn n b bs more bytes behind false true whole over' whole' s o w o' w' =
+longer_turn n b bs more bytes after false true whole over' whole' s o w o' w' =
     let run : List ℕ = b ∷ bs ++ more in
     let still : is_overlong (b ∷ bs ++ (more ++ bytes)) ≡ true =
     rw (run_is b bs more bytes) (over_stays run bytes (over_has_three run o) ∙ o) in
     cut_over n b bs (more ++ bytes) s still ∙ ap (λ (c : Cut). gone_on c bytes) (sym (cut_over n b bs more s o))
-longer_turn n b bs more bytes behind false false true over' whole' s o w o' w' =
+longer_turn n b bs more bytes after false false true over' whole' s o w o' w' =
     let run : List ℕ = b ∷ bs ++ more in
     let all : List ℕ = b ∷ bs ++ (more ++ bytes) in
     let is : all ≡ run ++ bytes = run_is b bs more bytes in
@@ -145,12 +145,12 @@ longer_turn n b bs more bytes behind false false true over' whole' s o w o' w' =
     cut_whole n b bs (more ++ bytes) s (ap is_overlong is ∙ (over_stays run bytes there.0 ∙ o)) (ap is_whole is ∙ whole_stays run bytes w)
     ∙ (ap (λ (l : List ℕ). with_section l (cut_from n (drop (3 + section_length_of all) (b ∷ bs)) (more ++ bytes))) front
     ∙ (ap (λ (k : ℕ). with_section (whole_of run) (cut_from n (drop (3 + k) (b ∷ bs)) (more ++ bytes))) same
-    ∙ (ap (with_section (whole_of run)) (behind left)
+    ∙ (ap (with_section (whole_of run)) (after left)
     ∙ ap (λ (c : Cut). gone_on c bytes) (sym (cut_whole n b bs more s o w)))))
-longer_turn n b bs more bytes behind false false false true whole' s o w o' w' =
+longer_turn n b bs more bytes after false false false true whole' s o w o' w' =
     cut_over n b bs (more ++ bytes) s (ap is_overlong (run_is b bs more bytes) ∙ o')
     ∙ (sym (added_over b (bs ++ more) bytes o') ∙ ap (λ (c : Cut). gone_on c bytes) (sym (cut_part n b bs more s o w)))
-longer_turn n b bs more bytes behind false false false false true s o w o' w' =
+longer_turn n b bs more bytes after false false false false true s o w o' w' =
     let run : List ℕ = b ∷ bs ++ more in
     let all : List ℕ = b ∷ bs ++ (more ++ bytes) in
     let is : all ≡ run ++ bytes = run_is b bs more bytes in
@@ -162,7 +162,7 @@ longer_turn n b bs more bytes behind false false false false true s o w o' w' =
     ∙ (ap (with_section (whole_of all)) none
     ∙ (ap (λ (l : List ℕ). with_section (whole_of l) no_cut) is
     ∙ (sym (added_whole b (bs ++ more) bytes o' w') ∙ ap (λ (c : Cut). gone_on c bytes) (sym (cut_part n b bs more s o w)))))
-longer_turn n b bs more bytes behind false false false false false s o w o' w' =
+longer_turn n b bs more bytes after false false false false false s o w o' w' =
     cut_part n b bs (more ++ bytes) s (ap is_overlong (run_is b bs more bytes) ∙ o') (ap is_whole (run_is b bs more bytes) ∙ w')
     ∙ (ap (λ (l : List ℕ). record { sections = []; making = l }) (run_is b bs more bytes)
     ∙ (sym (added_part b (bs ++ more) bytes o' w') ∙ ap (λ (c : Cut). gone_on c bytes) (sym (cut_part n b bs more s o w))))

@@ -23,7 +23,7 @@ front_first true true s l rest fault h = absurd (cc)
 front_first true false s l rest fault h = h
 front_first false b s l rest fault h = h
 
--- where nothing is wrong in front, it is what is wrong behind
+-- where nothing is wrong in front, it is what is wrong after
 front_good : (a b : Bool) (s l : SectionFault) (rest : Option SectionFault) →
     unless a s (unless b l None) ≡ None → (a ≡ true) × (b ≡ true) × (unless a s (unless b l rest) ≡ rest)
 front_good true true s l rest h = (refl, refl, refl)
@@ -35,13 +35,13 @@ pub head_is_first : (bytes : List ℕ) (fault : SectionFault) → head_fault byt
 unfolding section_fault
 head_is_first bytes fault h = front_first (nat_le 3 (length bytes)) (has_long_form bytes) Short Length _ fault h
 
--- behind three good bytes
+-- after three good bytes
 pub record IsHeadGood (bytes : List ℕ) : Type 0 where
   pub three : 3 ≤ length bytes
   pub long : syntax_of bytes ≡ 1
   pub low : 9 ≤ section_length_of bytes
   pub high : section_length_of bytes ≤ 4093
-  pub behind : section_fault bytes ≡ unless (nat_le (3 + section_length_of bytes) (length bytes)) Short (crc_fault (whole_of bytes))
+  pub after : section_fault bytes ≡ unless (nat_le (3 + section_length_of bytes) (length bytes)) Short (crc_fault (whole_of bytes))
 
 pub head_good : (bytes : List ℕ) → head_fault bytes ≡ None → IsHeadGood bytes
 unfolding section_fault
@@ -55,7 +55,7 @@ head_good bytes h =
       long = eqb-true (syntax_of bytes) 1 form.0;
       low = leb-true 9 (section_length_of bytes) bounds.0;
       high = leb-true (section_length_of bytes) 4093 bounds.1;
-      behind = front.2;
+      after = front.2;
     }
 
 -- a test that holds is true, so one that can't hold is false
@@ -69,7 +69,7 @@ pub short_first : (bytes : List ℕ) (n : ℕ) → head_fault bytes ≡ None →
 short_first bytes n h e short =
     let few : nat_le (3 + section_length_of bytes) (length bytes) ≡ false =
     untrue (3 + section_length_of bytes) (length bytes) _ refl (omega arith) in
-    (head_good bytes h).behind ∙ ap (λ (b : Bool). unless b Short (crc_fault (whole_of bytes))) few
+    (head_good bytes h).after ∙ ap (λ (b : Bool). unless b Short (crc_fault (whole_of bytes))) few
 
 -- all of them
 all_there : (bytes : List ℕ) (n : ℕ) → head_fault bytes ≡ None → n ≡ section_length_of bytes → 3 + n ≤ length bytes →
@@ -77,7 +77,7 @@ all_there : (bytes : List ℕ) (n : ℕ) → head_fault bytes ≡ None → n ≡
 all_there bytes n h e enough =
     let there : nat_le (3 + section_length_of bytes) (length bytes) ≡ true =
     le-leb (3 + section_length_of bytes) (length bytes) (omega arith) in
-    (head_good bytes h).behind ∙ (ap (λ (b : Bool). unless b Short (crc_fault (whole_of bytes))) there ∙ ap (λ (k : ℕ). crc_fault (take (3 + k) bytes)) (sym e))
+    (head_good bytes h).after ∙ (ap (λ (b : Bool). unless b Short (crc_fault (whole_of bytes))) there ∙ ap (λ (k : ℕ). crc_fault (take (3 + k) bytes)) (sym e))
 
 -- a wrong CRC is the first fault where all else is good
 pub crc_first : (bytes section : List ℕ) (n : ℕ) (fault : SectionFault) → head_fault bytes ≡ None → n ≡ section_length_of bytes →

@@ -3,4 +3,4 @@ pub mod Writing
 pub mod Spelling
 pub mod Cutting
 pub mod Adding
-pub mod Behind
+pub mod After

@@ -99,7 +99,7 @@ header_is_read header body rest fits few =
       last_number = b7;
     }
 
--- a section, and what stands behind it, begin with the header
+-- a section, and what stands after it, begin with the header
 parts_are : (header : Header) (body rest : List ℕ) →
     section_bytes header body ++ rest ≡
     header_bytes header (length body) ++ ((body ++ to_be_bytes w32 (crc_of (header_bytes header (length body) ++ body))) ++ rest)
@@ -160,8 +160,8 @@ between : (front body back : List ℕ) → length front ≡ 8 → length back �
 between front body back h k =
     let all : List ℕ = (front ++ body) ++ back in
     let count : length all - 4 - 8 ≡ length body = omega (arith, length-append (front ++ body) back, length-append front body) in
-    let behind : drop 8 all ≡ body ++ back = ap (drop 8) (append_assoc front body back) ∙ drop_at front (body ++ back) 8 h in
-    ap (λ (n : ℕ). take n (drop 8 all)) count ∙ (ap (take (length body)) behind ∙ take_at body back (length body) refl)
+    let after : drop 8 all ≡ body ++ back = ap (drop 8) (append_assoc front body back) ∙ drop_at front (body ++ back) 8 h in
+    ap (λ (n : ℕ). take n (drop 8 all)) count ∙ (ap (take (length body)) after ∙ take_at body back (length body) refl)
 
 -- its body is what was written
 body_is_read : (header : Header) (body : List ℕ) → body_of (section_bytes header body) ≡ body

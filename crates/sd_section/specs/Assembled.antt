@@ -54,7 +54,7 @@ abbrev pub is_last : ℕ → Option ℕ → Bool
 is_last counter None = false
 is_last counter (Some last) = last == counter
 
--- the counter is the one behind the last [ISO/IEC 13818-1, 2.4.3.3]
+-- the counter is the one after the last [ISO/IEC 13818-1, 2.4.3.3]
 abbrev pub is_next : ℕ → Option ℕ → Bool
 is_next counter None = false
 is_next counter (Some last) = (last + 1) % 16 == counter
@@ -77,11 +77,11 @@ is_taken packet last = has_payload packet && not (is_last packet.counter last)
 abbrev pub tail_of : List ℕ → List ℕ
 tail_of payload = if nat_lt (slice_index payload 0) (length payload) then take (slice_index payload 0) (drop 1 payload) else []
 
--- the bytes behind those, in which sections start [ISO/IEC 13818-1, 2.4.4]
+-- the bytes after those, in which sections start [ISO/IEC 13818-1, 2.4.4]
 abbrev pub fresh_of : List ℕ → List ℕ
 fresh_of payload = drop (slice_index payload 0 + 1) payload
 
--- bytes without a gap: those in which sections start, and those of the packets behind them
+-- bytes without a gap: those in which sections start, and those of the packets after them
 pub record Run : Type 0 where
   pub first : List ℕ
   pub more : List ℕ
@@ -96,12 +96,12 @@ longer_run packet run =
     if packet.unit_start then record { first = fresh_of packet.payload; more = [] } else
     record { first = run.first; more = run.more ++ packet.payload }
 
--- the bytes since the last unit start, behind these packets [ISO/IEC 13818-1, 2.4.4; this project, docs/FORMATS.md, Assembler]
-unfoldable pub run_behind : List Fed → Run
-run_behind [] = record { first = []; more = [] }
-run_behind (packet ∷ before) =
-    if is_taken packet (last_counter before) then longer_run packet (kept_run packet (last_counter before) (run_behind before)) else
-    run_behind before
+-- the bytes since the last unit start, after these packets [ISO/IEC 13818-1, 2.4.4; this project, docs/FORMATS.md, Assembler]
+unfoldable pub run_after : List Fed → Run
+run_after [] = record { first = []; more = [] }
+run_after (packet ∷ before) =
+    if is_taken packet (last_counter before) then longer_run packet (kept_run packet (last_counter before) (run_after before)) else
+    run_after before
 
 -- the sections that bytes complete with which a run goes on
 abbrev pub newly : Run → List ℕ → List (List ℕ)
@@ -117,7 +117,7 @@ completed_in packet run =
 unfoldable pub completed_by : List Fed → List (List ℕ)
 completed_by [] = []
 completed_by (packet ∷ before) =
-    if is_taken packet (last_counter before) then completed_in packet (kept_run packet (last_counter before) (run_behind before)) else []
+    if is_taken packet (last_counter before) then completed_in packet (kept_run packet (last_counter before) (run_after before)) else []
 
 -- what an assembler keeps: the last counter, the section in the making, the completed sections that it has still to lend
 pub record Assembling : Type 0 where
@@ -130,11 +130,11 @@ abbrev pub assembling_code : Coded Assembling
 assembling_code = code_by (Option ℕ × (List ℕ × List (List ℕ))) (coded× (coded_option coded_ℕ) (coded× (coded_list coded_ℕ) (coded_list (coded_list coded_ℕ))))
     (λ s. (s.counter, (s.making, s.waiting))) (λ p. record { counter = p.0; making = p.1.0; waiting = p.1.1 }) (λ _. refl)
 
--- as it stands behind these packets, of which the last comes first
-unfoldable pub behind : List Fed → Assembling
-behind packets = record {
+-- as it stands after these packets, of which the last comes first
+unfoldable pub after : List Fed → Assembling
+after packets = record {
   counter = last_counter packets;
-  making = (cut_of (run_behind packets).first (run_behind packets).more).making;
+  making = (cut_of (run_after packets).first (run_after packets).more).making;
   waiting = completed_by packets;
 }
 

@@ -11,15 +11,15 @@ table_id_of section = field section 0 8
 abbrev pub syntax_of : List ℕ → ℕ
 syntax_of section = field section 8 1
 
--- the bit behind it: 0 in the standard's own tables, and else private_indicator [ISO/IEC 13818-1, 2.4.4]
+-- the bit after it: 0 in the standard's own tables, and else private_indicator [ISO/IEC 13818-1, 2.4.4]
 abbrev pub private_of : List ℕ → ℕ
 private_of section = field section 9 1
 
--- section_length: how many bytes stand behind it [ISO/IEC 13818-1, 2.4.4]
+-- section_length: how many bytes stand after it [ISO/IEC 13818-1, 2.4.4]
 abbrev pub section_length_of : List ℕ → ℕ
 section_length_of section = field section 12 12
 
--- the two bytes behind section_length, which each table names in its own way [ISO/IEC 13818-1, 2.4.4]
+-- the two bytes after section_length, which each table names in its own way [ISO/IEC 13818-1, 2.4.4]
 abbrev pub extension_of : List ℕ → ℕ
 extension_of section = field section 24 16
 

@@ -4,10 +4,10 @@ use Rattle.sd_section.specs.Header.{syntax_of, section_length_of, whole_of, crc_
 use Rattle.sd_section.specs.declared.fault.SectionFault.{SectionFault}
 use Rattle.sd_section.specs.declared.fault.SectionFault.TheVariants.{Short, Length, Crc}
 
--- this fault where something doesn't hold, and else what is wrong behind it
+-- this fault where something doesn't hold, and else what is wrong after it
 abbrev pub unless : Bool → SectionFault → Option SectionFault → Option SectionFault
-unless true fault behind = behind
-unless false fault behind = Some fault
+unless true fault after = after
+unless false fault after = Some fault
 
 -- the first three bytes begin a section in the long form, which has room for a header and a CRC, and at most 4,096 bytes
 -- [ISO/IEC 13818-1, 2.4.4]

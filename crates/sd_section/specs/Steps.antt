@@ -11,7 +11,7 @@ use Rattle.sd_section.specs.declared.holds.Holds.TheVariants.{Making, Section, L
 abbrev pub begun_of : List ℕ → Begun
 begun_of bytes = if is_overlong bytes then Overlong else if is_whole bytes then Whole (3 + section_length_of bytes) else Part
 
--- what comes of a section in the making with more bytes behind it
+-- what comes of a section in the making with more bytes after it
 unfoldable pub added : List ℕ → List ℕ → Cut
 added [] bytes = no_cut
 added (byte ∷ making) bytes =
@@ -32,7 +32,7 @@ tail_with unit_start payload = if unit_start then tail_of payload else payload
 abbrev pub fresh_with : Bool → List ℕ → List ℕ
 fresh_with unit_start payload = if unit_start then fresh_of payload else []
 
--- what is still in the making behind these bytes of a payload: nothing where others start
+-- what is still in the making after these bytes of a payload: nothing where others start
 abbrev pub still_making : Bool → List ℕ → List ℕ → List ℕ
 still_making unit_start making payload = if unit_start then [] else (added making payload).making
 

@@ -5,14 +5,14 @@ use Rattle.sd_crc.specs.Crc.{crc_of}
 use Rattle.sd_section.specs.Header.{table_id_of, syntax_of, private_of, section_length_of, extension_of, version_of, current_of, number_of, last_number_of, body_of}
 use Rattle.sd_section.specs.declared.write.Header.{Header}
 
--- the header in front of a body of so many bytes: the syntax indicator is 1, the bit behind it 0, reserved bits are 1, the version is 0,
+-- the header in front of a body of so many bytes: the syntax indicator is 1, the bit after it 0, reserved bits are 1, the version is 0,
 -- the section is current [ISO/IEC 13818-1, 2.4.4; this project, docs/FORMATS.md, Sections]
 abbrev pub header_bytes : Header → ℕ → List ℕ
 header_bytes header body =
     header.table_id ∷ (0xB0 + (body + 9) / 256) ∷ ((body + 9) % 256) ∷ (header.extension / 256) ∷ (header.extension % 256)
     ∷ 0xC1 ∷ header.number ∷ header.last_number ∷ []
 
--- bytes with their CRC behind them [ISO/IEC 13818-1, 2.4.4 and annex A]
+-- bytes with their CRC after them [ISO/IEC 13818-1, 2.4.4 and annex A]
 abbrev pub sealed : List ℕ → List ℕ
 sealed front = front ++ to_be_bytes w32 (crc_of front)
 

@@ -2,7 +2,7 @@ ghost use Rattle.std.specs.Prelude.{◌≡◌, ◌<◌, ◌≤◌, ◌↔◌, Li
 ghost use Rattle.std.specs.Option.{option_map};
 ghost use Rattle.std.specs.Borrow.{sem};
 ghost use Rattle.std.specs.Io.BufRead.{Rests};
-ghost use Rattle.sd_section.specs.Assembled.{Fed, behind, all_lent, next_of, one_lent};
+ghost use Rattle.sd_section.specs.Assembled.{Fed, after, all_lent, next_of, one_lent};
 ghost use Rattle.sd_section.specs.Steps.{fed};
 ghost use Rattle.sd_section.specs.contracts.assembler.Assembler.{the_row};
 
@@ -10,7 +10,7 @@ use crate::holds::Holds;
 use crate::making::{
     LONGEST, fresh_in, gather, go_on, is_next, is_taken, keep_if, part, store, whole_in,
 };
-use sd_ports::NoMemory;
+use sd_cause::NoMemory;
 use std::alloc::Global;
 use std::marker::Model;
 
@@ -42,9 +42,9 @@ impl Model for Assembler {
 
 impl Assembler {
     /// An assembler that was fed nothing. It takes 4,096 bytes.
-    #[tactic(auto, unfolding(crate::specs::Assembled::behind, crate::specs::Assembled::run_behind, crate::specs::Assembled::completed_by, crate::specs::Assembled::last_counter, crate::specs::Assembled::cut_from))]
+    #[tactic(auto, unfolding(crate::specs::Assembled::after, crate::specs::Assembled::run_after, crate::specs::Assembled::completed_by, crate::specs::Assembled::last_counter, crate::specs::Assembled::cut_from))]
     pub fn new(alloc: Global) -> Result<Assembler, NoMemory>
-        ensures behind { IfOk result (λ assembler. assembler ≡ behind []) }
+        ensures after { IfOk result (λ assembler. assembler ≡ after []) }
         ensures lent { IfOk result (λ assembler. assembler.waiting ≡ []) }
     {
         Ok(Assembler {
@@ -63,8 +63,8 @@ impl Assembler {
         requires counter { counter < 16 }
         requires payload { length payload.now ≤ 184 }
         requires lent { self.old.waiting ≡ [] }
-        ensures { (packets : List Fed) → self.old ≡ all_lent (behind packets) →
-            self.new ≡ behind (record { unit_start = unit_start; counter = counter; payload = payload.now } ∷ packets) }
+        ensures { (packets : List Fed) → self.old ≡ all_lent (after packets) →
+            self.new ≡ after (record { unit_start = unit_start; counter = counter; payload = payload.now } ∷ packets) }
     {
         self.take(unit_start, counter, payload);
     }

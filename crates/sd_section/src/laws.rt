@@ -6,7 +6,7 @@ ghost use Rattle.sd_section.specs.Judged.{section_fault};
 ghost use Rattle.sd_section.specs.Written.{section_bytes, Fits, IsWritten};
 ghost use Rattle.sd_section.specs.declared.write.Header.{Header};
 
-/// A written section is read whole whatever stands behind it, and what is read is what was written.
+/// A written section is read whole whatever stands after it, and what is read is what was written.
 #[tactic(auto, using(crate::proofs::Spelling::none_is_wrong, crate::proofs::Spelling::whole_is_read))]
 pub fn written_sections_are_read()
     ensures good { (header : Header) (body rest : List ℕ) → Fits header → length body ≤ 4084 →

@@ -167,7 +167,7 @@ pub fn is_taken(counter: u8, payload: &[u8], last: Option<u8>) -> bool
     }
 }
 
-/// Whether the counter is the one behind the last.
+/// Whether the counter is the one after the last.
 pub fn is_next(counter: u8, last: Option<u8>) -> bool
     ensures { result ≡ is_next_of counter last }
 {

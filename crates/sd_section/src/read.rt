@@ -22,7 +22,7 @@ pub fn read_one<'a>(bytes: &'a [u8]) -> Result<Section<'a>, SectionFault>
     Ok(Section { bytes: whole })
 }
 
-// How many bytes stand behind section_length.
+// How many bytes stand after section_length.
 fn length_in(bytes: &[u8]) -> Result<usize, SectionFault>
     ensures value { IfOk result (λ length. length ≡ section_length_of bytes.now) }
     ensures fault { MatchResult result (λ _. head_fault bytes.now ≡ None) (λ fault. head_fault bytes.now ≡ Some fault) }

@@ -4,13 +4,13 @@ use Rattle.std.proofs.lemmas.Bool.{cases_lt, ne_eqb}
 use Rattle.std.proofs.lemmas.Option.{none-some, same_Some, slice_get_past, slice_get-get_or, option_and_then_some}
 use Rattle.std.specs.Prelude.{slice_get, codes, option_and_then, is_some, unwrap_or, IsErrOf, IfOk, MatchResult, ◌↔◌}
 use Rattle.std.specs.Int.{w16, from_be_bytes}
-use Rattle.sd_text.specs.Number.{number_behind}
+use Rattle.sd_text.specs.Number.{decimal_after}
 use Rattle.sd_site.specs.declared.fault.SiteFault.{SiteFault}
 use Rattle.sd_site.specs.declared.fault.SiteFault.TheVariants.{Line, Range, SamePid, Extra, Short}
 use Rattle.sd_site.specs.Fields.{SiteFields, AreInRange, fields_of}
 use Rattle.sd_text.specs.Lines.{lines_of}
 use Rattle.sd_site.specs.declared.site.Site.{Site}
-use Rattle.sd_site.specs.Text.{bytes_behind, SpellsSite, IsSite, site_on, site_of}
+use Rattle.sd_site.specs.Text.{bytes_after, SpellsSite, IsSite, site_on, site_of}
 use Rattle.sd_site.specs.Faults.{Form, number, bytes, forms, IsInForm, IsGood, IsMalformed, IsOutOfRange, NextIs, AreGood, IsCauseOf}
 use Rattle.sd_site.proofs.Walk.{Tells, told}
 
@@ -18,16 +18,16 @@ use Rattle.sd_site.proofs.Walk.{Tells, told}
 
 -- whether the line is in its form
 abbrev in_form : Form → List ℕ → Bool
-in_form (number word low high) line = is_some (number_behind word line)
-in_form (bytes word count) line = is_some (bytes_behind word count line)
+in_form (number word low high) line = is_some (decimal_after word line)
+in_form (bytes word count) line = is_some (bytes_after word count line)
 
 -- the decimal on a line
 abbrev number_on : List ℕ → Option (List ℕ) → ℕ
-number_on word line = unwrap_or (option_and_then (number_behind word) line) 0
+number_on word line = unwrap_or (option_and_then (decimal_after word) line) 0
 
 -- the bytes on a line
 abbrev bytes_on : List ℕ → ℕ → Option (List ℕ) → List ℕ
-bytes_on word count line = unwrap_or (option_and_then (bytes_behind word count) line) []
+bytes_on word count line = unwrap_or (option_and_then (bytes_after word count) line) []
 
 -- what the eight lines say
 abbrev fields_on : List (List ℕ) → SiteFields
@@ -42,7 +42,7 @@ fields_on lines = record {
   span = number_on (codes "period-cryptos ") (slice_get lines 7);
 }
 
--- the answer by the form and the line behind n good ones
+-- the answer by the form and the line after n good ones
 abbrev answer : ℕ → List (List ℕ) → Option Form → Option (List ℕ) → Result SiteFields SiteFault
 answer n lines (Some form) (Some line) = cond (in_form form line) (Err (Range (n + 1))) (Err (Line (n + 1)))
 answer n lines (Some form) None = Err Short
@@ -75,8 +75,8 @@ nothing None never = refl
 nothing (Some x) never = absurd (never (x, refl))
 
 in_form_false : (form : Form) (line : List ℕ) → IsMalformed form line → in_form form line ≡ false
-in_form_false (number word low high) line never = nothing (number_behind word line) never
-in_form_false (bytes word count) line never = nothing (bytes_behind word count line) never
+in_form_false (number word low high) line never = nothing (decimal_after word line) never
+in_form_false (bytes word count) line never = nothing (bytes_after word count line) never
 
 in_form_true : (form : Form) (line : List ℕ) → IsInForm form line → in_form form line ≡ true
 in_form_true (number word low high) line holds = ap is_some holds.1
@@ -152,14 +152,14 @@ spelled : (lines : List (List ℕ)) (site : SiteFields) → SpellsSite lines sit
 spelled lines site spells = rw (spells.height, spells.master, spells.ca.1, spells.emm, spells.ecm, spells.every, spells.cryptos, spells.span, ← spells.ca.2) refl
 
 -- a line whose number is in range is good
-good_number : (n low high value : ℕ) (word : List ℕ) (lines : List (List ℕ)) → slice_get forms n ≡ Some (number word low high) → option_and_then (number_behind word) (slice_get lines n) ≡ Some value → (low ≤ value) × (value ≤ high) → NextIs IsGood n lines
+good_number : (n low high value : ℕ) (word : List ℕ) (lines : List (List ℕ)) → slice_get forms n ≡ Some (number word low high) → option_and_then (decimal_after word) (slice_get lines n) ≡ Some value → (low ≤ value) × (value ≤ high) → NextIs IsGood n lines
 good_number n low high value word lines form reads within =
-    option_and_then_some (number_behind word) (slice_get lines n) value reads (λ line is says. (number word low high, line, form, is, (value, says, within.0, within.1)))
+    option_and_then_some (decimal_after word) (slice_get lines n) value reads (λ line is says. (number word low high, line, form, is, (value, says, within.0, within.1)))
 
 -- a line of bytes is good
-good_bytes : (n count : ℕ) (value word : List ℕ) (lines : List (List ℕ)) → slice_get forms n ≡ Some (bytes word count) → option_and_then (bytes_behind word count) (slice_get lines n) ≡ Some value → NextIs IsGood n lines
+good_bytes : (n count : ℕ) (value word : List ℕ) (lines : List (List ℕ)) → slice_get forms n ≡ Some (bytes word count) → option_and_then (bytes_after word count) (slice_get lines n) ≡ Some value → NextIs IsGood n lines
 good_bytes n count value word lines form reads =
-    option_and_then_some (bytes_behind word count) (slice_get lines n) value reads (λ line is says. (bytes word count, line, form, is, (value, says)))
+    option_and_then_some (bytes_after word count) (slice_get lines n) value reads (λ line is says. (bytes word count, line, form, is, (value, says)))
 
 -- the lines of a site are good
 spelled_good : (lines : List (List ℕ)) (site : SiteFields) → SpellsSite lines site → AreInRange site → AreGood 8 lines

@@ -1,7 +1,7 @@
 -- When each fault comes.
 use Rattle.std.specs.Prelude.{◌≡◌, ℕ, ◌+◌, ◌<◌, ◌≤◌, List, [], ◌∷◌, length, slice_get, codes, Some, option_and_then}
-use Rattle.sd_text.specs.Number.{number_behind}
-use Rattle.sd_site.specs.Text.{bytes_behind}
+use Rattle.sd_text.specs.Number.{decimal_after}
+use Rattle.sd_site.specs.Text.{bytes_after}
 use Rattle.sd_site.specs.declared.fault.SiteFault.{SiteFault}
 use Rattle.sd_site.specs.declared.fault.SiteFault.TheVariants.{Line, Range, SamePid, Extra, Short}
 
@@ -25,12 +25,12 @@ forms =
 
 -- the line is in its form
 abbrev pub IsInForm : Form → List ℕ → Type 0
-IsInForm (number word low high) line = (n : ℕ) × (number_behind word line ≡ Some n)
-IsInForm (bytes word count) line = (value : List ℕ) × (bytes_behind word count line ≡ Some value)
+IsInForm (number word low high) line = (n : ℕ) × (decimal_after word line ≡ Some n)
+IsInForm (bytes word count) line = (value : List ℕ) × (bytes_after word count line ≡ Some value)
 
 -- the line is in its form, and its number is in its range
 abbrev pub IsGood : Form → List ℕ → Type 0
-IsGood (number word low high) line = (n : ℕ) × (number_behind word line ≡ Some n) × (low ≤ n) × (n ≤ high)
+IsGood (number word low high) line = (n : ℕ) × (decimal_after word line ≡ Some n) × (low ≤ n) × (n ≤ high)
 IsGood (bytes word count) line = IsInForm (bytes word count) line
 
 -- the line is not in its form
@@ -41,7 +41,7 @@ IsMalformed form line = IsInForm form line → ⊥
 abbrev pub IsOutOfRange : Form → List ℕ → Type 0
 IsOutOfRange form line = IsInForm form line × (IsGood form line → ⊥)
 
--- behind the first n lines another of the eight is there, and it is so
+-- after the first n lines another of the eight is there, and it is so
 abbrev pub NextIs : (Form → List ℕ → Type 0) → ℕ → List (List ℕ) → Type 0
 NextIs IsSo n lines = (form : Form) × (line : List ℕ) × (slice_get forms n ≡ Some form) × (slice_get lines n ≡ Some line) × IsSo form line
 
@@ -51,17 +51,17 @@ AreGood n lines = (i : ℕ) → i < n → NextIs IsGood i lines
 
 -- lines 4 and 5 name the same PID
 abbrev pub NameOnePid : List (List ℕ) → Type 0
-NameOnePid lines = option_and_then (number_behind (codes "emm ")) (slice_get lines 3) ≡ option_and_then (number_behind (codes "ecm ")) (slice_get lines 4)
+NameOnePid lines = option_and_then (decimal_after (codes "emm ")) (slice_get lines 3) ≡ option_and_then (decimal_after (codes "ecm ")) (slice_get lines 4)
 
 -- The fault that these lines have. Lines are counted from 1 [this project, docs/FORMATS.md, Site]
 abbrev pub IsCauseOf : List (List ℕ) → SiteFault → Type 0
--- behind good lines stands one that is not in its form
+-- after good lines stands one that is not in its form
 IsCauseOf lines (Line k) = (n : ℕ) × (k ≡ n + 1) × AreGood n lines × NextIs IsMalformed n lines
--- behind good lines stands one whose number is out of range
+-- after good lines stands one whose number is out of range
 IsCauseOf lines (Range k) = (n : ℕ) × (k ≡ n + 1) × AreGood n lines × NextIs IsOutOfRange n lines
 -- the lines are eight good ones, and the PIDs are equal
 IsCauseOf lines SamePid = (length lines ≡ 8) × AreGood 8 lines × NameOnePid lines
--- behind eight good lines stands another
+-- after eight good lines stands another
 IsCauseOf lines (Extra k) = (k ≡ 9) × (8 < length lines) × AreGood 8 lines
 -- the lines are good, and fewer than eight
 IsCauseOf lines Short = (length lines < 8) × AreGood (length lines) lines

@@ -4,27 +4,27 @@ use Rattle.std.specs.Result.{result_ok}
 use Rattle.std.specs.Int.{w16, from_be_bytes}
 use Rattle.hex.specs.Hex.{decode_of}
 use Rattle.sd_text.specs.Lines.{lines_of}
-use Rattle.sd_text.specs.Number.{behind, number_behind}
+use Rattle.sd_text.specs.Number.{after, decimal_after}
 use Rattle.sd_site.specs.Fields.{SiteFields, AreInRange}
 use Rattle.sd_site.specs.declared.fault.SiteFault.{SiteFault}
 use Rattle.sd_site.specs.declared.fault.SiteFault.TheVariants.{Line, Range, SamePid, Extra, Short}
 
 -- the bytes on a line that is the word and two hexadecimal digits for each of them, of either case
-unfoldable pub bytes_behind : List ℕ → ℕ → List ℕ → Option (List ℕ)
-bytes_behind word count line =
-    option_and_then (λ digits. if length digits == 2 * count then result_ok (decode_of digits) else None) (behind word line)
+unfoldable pub bytes_after : List ℕ → ℕ → List ℕ → Option (List ℕ)
+bytes_after word count line =
+    option_and_then (λ digits. if length digits == 2 * count then result_ok (decode_of digits) else None) (after word line)
 
 -- the text has just these eight lines
 pub record SpellsSite (lines : List (List ℕ)) (site : SiteFields) : Type 0 where
   pub count : length lines ≡ 8
-  pub height : option_and_then (number_behind (codes "height ")) (slice_get lines 0) ≡ Some site.height
-  pub master : option_and_then (bytes_behind (codes "master ") 32) (slice_get lines 1) ≡ Some site.master
-  pub ca : (bytes : List ℕ) × (option_and_then (bytes_behind (codes "ca ") 2) (slice_get lines 2) ≡ Some bytes) × (site.ca ≡ from_be_bytes w16 bytes)
-  pub emm : option_and_then (number_behind (codes "emm ")) (slice_get lines 3) ≡ Some site.emm
-  pub ecm : option_and_then (number_behind (codes "ecm ")) (slice_get lines 4) ≡ Some site.ecm
-  pub every : option_and_then (number_behind (codes "ecm-every ")) (slice_get lines 5) ≡ Some site.every
-  pub cryptos : option_and_then (number_behind (codes "crypto-ecms ")) (slice_get lines 6) ≡ Some site.cryptos
-  pub span : option_and_then (number_behind (codes "period-cryptos ")) (slice_get lines 7) ≡ Some site.span
+  pub height : option_and_then (decimal_after (codes "height ")) (slice_get lines 0) ≡ Some site.height
+  pub master : option_and_then (bytes_after (codes "master ") 32) (slice_get lines 1) ≡ Some site.master
+  pub ca : (bytes : List ℕ) × (option_and_then (bytes_after (codes "ca ") 2) (slice_get lines 2) ≡ Some bytes) × (site.ca ≡ from_be_bytes w16 bytes)
+  pub emm : option_and_then (decimal_after (codes "emm ")) (slice_get lines 3) ≡ Some site.emm
+  pub ecm : option_and_then (decimal_after (codes "ecm ")) (slice_get lines 4) ≡ Some site.ecm
+  pub every : option_and_then (decimal_after (codes "ecm-every ")) (slice_get lines 5) ≡ Some site.every
+  pub cryptos : option_and_then (decimal_after (codes "crypto-ecms ")) (slice_get lines 6) ≡ Some site.cryptos
+  pub span : option_and_then (decimal_after (codes "period-cryptos ")) (slice_get lines 7) ≡ Some site.span
 
 -- the bytes are a site file that says this
 pub record IsSite (bytes : List ℕ) (site : SiteFields) : Type 0 where
@@ -47,17 +47,17 @@ abbrev pub well_formed : ℕ → Option (List ℕ) → Result (List ℕ) SiteFau
 well_formed k None = Err (Line k)
 well_formed k (Some bytes) = Ok bytes
 
--- the decimal on line k and the lines behind it, where line k is the first of these lines
+-- the decimal on line k and the lines after it, where line k is the first of these lines
 abbrev pub number_at : ℕ → List ℕ → ℕ → ℕ → List (List ℕ) → Result (ℕ × List (List ℕ)) SiteFault
 number_at k word low high [] = Err Short
-number_at k word low high (line ∷ lines) = in_range k low high (number_behind word line) >>= λ n. Ok (n, lines)
+number_at k word low high (line ∷ lines) = in_range k low high (decimal_after word line) >>= λ n. Ok (n, lines)
 
--- the bytes on line k and the lines behind it
+-- the bytes on line k and the lines after it
 abbrev pub bytes_at : ℕ → List ℕ → ℕ → List (List ℕ) → Result (List ℕ × List (List ℕ)) SiteFault
 bytes_at k word count [] = Err Short
-bytes_at k word count (line ∷ lines) = well_formed k (bytes_behind word count line) >>= λ bytes. Ok (bytes, lines)
+bytes_at k word count (line ∷ lines) = well_formed k (bytes_after word count line) >>= λ bytes. Ok (bytes, lines)
 
--- what is judged once the eight lines are good: those behind them, and the two PIDs
+-- what is judged once the eight lines are good: those after them, and the two PIDs
 abbrev pub judged_whole : List (List ℕ) → SiteFields → Result SiteFields SiteFault
 judged_whole (line ∷ lines) site = Err (Extra 9)
 judged_whole [] site = if site.emm == site.ecm then Err SamePid else Ok site

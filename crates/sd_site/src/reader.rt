@@ -10,7 +10,7 @@ use hex::FromHex;
 use sd_text::{NumberFault, next_line, number_after};
 use sd_tree::Height;
 
-// The number on line k, which is the first of these bytes, and the bytes behind the line.
+// The number on line k, which is the first of these bytes, and the bytes after the line.
 fn number_line<'a>(
     bytes: &'a [u8],
     k: u32,
@@ -42,7 +42,7 @@ fn pid_line<'a>(bytes: &'a [u8], k: u32, word: &[u8]) -> Result<(u16, &'a [u8]),
 }
 
 // The same of a line of N bytes in hexadecimal digits.
-#[tactic(auto, using(crate::proofs::Digits::bytes_of_digits), unfolding(crate::specs::Text::bytes_behind, sd_text::specs::Number::behind))]
+#[tactic(auto, using(crate::proofs::Digits::bytes_of_digits), unfolding(crate::specs::Text::bytes_after, sd_text::specs::Number::after))]
 fn bytes_line<'a, const N: usize>(
     bytes: &'a [u8],
     k: u32,

@@ -49,7 +49,7 @@ cut_left d level v mid leaves below within point = record {
         let half : node_at d level u / 2 ≡ v = sym (halved_once_more (2 ^ d + u) level) ∙ all.1 in
         (all.0, omega arith)
 
--- the leaves behind the cut are below the right child
+-- the leaves after the cut are below the right child
 cut_right : (d level v mid : ℕ) (leaves : List ℕ) → AreBelowNode d (suc level) v leaves → mid ≤ length leaves → IsCut d level (2 * v + 1) mid leaves → AreBelowNode d level (2 * v + 1) (drop mid leaves)
 cut_right d level v mid leaves below within point = record {
   within = (let h = below.within in omega arith);
@@ -96,6 +96,6 @@ lower d level v leaves some below =
 pub left_part : (d level v mid : ℕ) (leaves : List ℕ) → 0 < level → AreBelowNode d level v leaves → mid ≤ length leaves → IsCut d (level - 1) (2 * v + 1) mid leaves → AreBelowNode d (level - 1) (2 * v) (take mid leaves)
 left_part d level v mid leaves some below within point = cut_left d (level - 1) v mid leaves (lower d level v leaves some below) within point
 
--- the part behind the cut, with the level as the code has it
+-- the part after the cut, with the level as the code has it
 pub right_part : (d level v mid : ℕ) (leaves : List ℕ) → 0 < level → AreBelowNode d level v leaves → mid ≤ length leaves → IsCut d (level - 1) (2 * v + 1) mid leaves → AreBelowNode d (level - 1) (2 * v + 1) (drop mid leaves)
 right_part d level v mid leaves some below within point = cut_right d (level - 1) v mid leaves (lower d level v leaves some below) within point

@@ -44,7 +44,7 @@ same_first x y xs ys a b all back = elim (member_cases y ys x (all x (member_fir
   ]
 ]
 
--- behind a first name that both have, what one has the other has
+-- after a first name that both have, what one has the other has
 rest_has : (x : SetName) (xs ys : List SetName) → AreAscending (x ∷ xs) → HasAllOf (x ∷ ys) (x ∷ xs) → HasAllOf ys xs
 rest_has x xs ys a all name m = elim (member_cases x ys name (all name (member_later x xs name m))) [
   | inl same ↦

@@ -89,12 +89,12 @@ chain (Diff i j) (Diff k l) (Diff m n) p q = pair_chain i j k l m n p q
 names_ordered : IsStrictWeakOrder before
 names_ordered = record { one_way = one_way; chain = chain }
 
--- a name that doesn't stand before another one stands behind it or is it
-behind_or_same : (a b : SetName) → before b a ≡ false → (set_cmp a b ≡ Less) ⊎ (a ≡ b)
-behind_or_same Whole Whole p = inr refl
-behind_or_same Whole (Diff k l) p = inl refl
-behind_or_same (Diff i j) Whole p = absurd (cc)
-behind_or_same (Diff i j) (Diff k l) p = elim (pair_cases i j k l p) [
+-- a name that doesn't stand before another one stands after it or is it
+after_or_same : (a b : SetName) → before b a ≡ false → (set_cmp a b ≡ Less) ⊎ (a ≡ b)
+after_or_same Whole Whole p = inr refl
+after_or_same Whole (Diff k l) p = inl refl
+after_or_same (Diff i j) Whole p = absurd (cc)
+after_or_same (Diff i j) (Diff k l) p = elim (pair_cases i j k l p) [
   | inl less ↦ inl less
   | inr same ↦ inr (let e = same.0 in let f = same.1 in cc)
 ]
@@ -102,7 +102,7 @@ behind_or_same (Diff i j) (Diff k l) p = elim (pair_cases i j k l p) [
 -- a sorted list in which no name stands twice ascends
 sorted_ascends : (sets : List SetName) → IsSorted set_cmp sets → AllPairs (λ a b. a ≢ b) sets → AreAscending sets
 sorted_ascends sets up once i j d below within =
-    elim (behind_or_same (get_or sets i d) (get_or sets j d) (sorted_far before names_ordered sets up i j d (omega arith) within)) [
+    elim (after_or_same (get_or sets i d) (get_or sets j d) (sorted_far before names_ordered sets up i j d (omega arith) within)) [
       | inl less ↦ less
       | inr same ↦ absurd (once i j d below within same)
     ]

@@ -30,7 +30,7 @@ three_ways (Diff i j) (Diff k l) = elim (pair_ways i j k l) [
   | inr (inr more) ↦ inr (inr more)
 ]
 
--- a name stands before what the ones behind it stand before
+-- a name stands before what the ones after it stand before
 less_chain : (a b c : SetName) → set_cmp a b ≡ Less → set_cmp b c ≡ Less → set_cmp a c ≡ Less
 less_chain Whole Whole Whole p q = p
 less_chain Whole (Diff k l) Whole p q = absurd (cc)
@@ -39,7 +39,7 @@ less_chain (Diff i j) Whole c p q = absurd (cc)
 less_chain (Diff i j) (Diff k l) Whole p q = absurd (cc)
 less_chain (Diff i j) (Diff k l) (Diff m n) p q = grind (arith, nat_tests)
 
--- ascending names behind one that stands before each of them ascend with it
+-- ascending names after one that stands before each of them ascend with it
 begins_ascending : (x : SetName) (xs : List SetName) →
     ((y : SetName) → Contains xs y → set_cmp x y ≡ Less) → AreAscending xs → AreAscending (x ∷ xs)
 begins_ascending x xs first up =
@@ -49,9 +49,9 @@ begins_ascending x xs first up =
 abbrev AreAmong : List SetName → List SetName → Type 0
 AreAmong xs ys = (name : SetName) → Contains xs name → Contains ys name
 
--- names stay among others behind the same first name
-among_behind : (x : SetName) (xs ys : List SetName) → AreAmong xs ys → AreAmong (x ∷ xs) (x ∷ ys)
-among_behind x xs ys all name m = elim (member_cases x xs name m) [
+-- names stay among others after the same first name
+among_after : (x : SetName) (xs ys : List SetName) → AreAmong xs ys → AreAmong (x ∷ xs) (x ∷ ys)
+among_after x xs ys all name m = elim (member_cases x xs name m) [
   | inl same ↦ subst (Contains (x ∷ ys)) same (member_first x ys)
   | inr later ↦ member_later x ys name (all name later)
 ]
@@ -60,7 +60,7 @@ among_behind x xs ys all name m = elim (member_cases x xs name m) [
 among_swapped : (x y : SetName) (xs : List SetName) → AreAmong (x ∷ y ∷ xs) (y ∷ x ∷ xs)
 among_swapped x y xs name m = elim (member_cases x (y ∷ xs) name m) [
   | inl same ↦ member_later y (x ∷ xs) name (subst (Contains (x ∷ xs)) same (member_first x xs))
-  | inr later ↦ among_behind y xs (x ∷ xs) (λ z n. member_later x xs z n) name later
+  | inr later ↦ among_after y xs (x ∷ xs) (λ z n. member_later x xs z n) name later
 ]
 
 -- these names in ascending order, each once
@@ -94,7 +94,7 @@ put_in x (y ∷ ys) up = elim (three_ways x y) [
     ];
     only = λ name m. member_later x (y ∷ ys) name m;
   }
-  | inr (inr more) ↦ behind more (put_in x ys (rest_ascending y ys up))
+  | inr (inr more) ↦ after more (put_in x ys (rest_ascending y ys up))
 ]
   where
     before : set_cmp x y ≡ Less → (z : SetName) → Contains (y ∷ ys) z → set_cmp x z ≡ Less
@@ -103,18 +103,18 @@ put_in x (y ∷ ys) up = elim (three_ways x y) [
       | inr later ↦ less_chain x y z less (first_before y ys up z later)
     ]
 
-    after : set_cmp y x ≡ Less → (z : SetName) → Contains (x ∷ ys) z → set_cmp y z ≡ Less
-    after more z m = elim (member_cases x ys z m) [
+    below : set_cmp y x ≡ Less → (z : SetName) → Contains (x ∷ ys) z → set_cmp y z ≡ Less
+    below more z m = elim (member_cases x ys z m) [
       | inl same ↦ subst (λ (w : SetName). set_cmp y w ≡ Less) same more
       | inr later ↦ first_before y ys up z later
     ]
 
-    behind : set_cmp y x ≡ Less → InOrder (x ∷ ys) → InOrder (x ∷ y ∷ ys)
-    behind more rest = record {
+    after : set_cmp y x ≡ Less → InOrder (x ∷ ys) → InOrder (x ∷ y ∷ ys)
+    after more rest = record {
       ordered = y ∷ rest.ordered;
-      ascending = begins_ascending y rest.ordered (λ z m. after more z (rest.only z m)) rest.ascending;
-      all = λ name m. among_behind y (x ∷ ys) rest.ordered rest.all name (among_swapped x y ys name m);
-      only = λ name m. among_swapped y x ys name (among_behind y rest.ordered (x ∷ ys) rest.only name m);
+      ascending = begins_ascending y rest.ordered (λ z m. below more z (rest.only z m)) rest.ascending;
+      all = λ name m. among_after y (x ∷ ys) rest.ordered rest.all name (among_swapped x y ys name m);
+      only = λ name m. among_swapped y x ys name (among_after y rest.ordered (x ∷ ys) rest.only name m);
     }
 
 -- all names have an ascending order
@@ -131,8 +131,8 @@ in_order (x ∷ xs) =
     record {
       ordered = more.ordered;
       ascending = more.ascending;
-      all = λ name m. more.all name (among_behind x xs rest.ordered rest.all name m);
-      only = λ name m. among_behind x rest.ordered xs rest.only name (more.only name m);
+      all = λ name m. more.all name (among_after x xs rest.ordered rest.all name m);
+      only = λ name m. among_after x rest.ordered xs rest.only name (more.only name m);
     }
 
 -- revoked leaves have a chain cover, in whatever order they stand

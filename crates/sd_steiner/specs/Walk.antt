@@ -48,7 +48,7 @@ pub record AreRevokedBelow (d : ℕ) (revoked : List ℕ) (level v : ℕ) (leave
   pub of_height : (u : ℕ) → Contains revoked u → u < 2 ^ d
   pub below : (u : ℕ) → Contains leaves u ↔ (Contains revoked u × (node_at d level u ≡ v))
 
--- the new list is the old one and behind it the sets of the chain that begins at head and of those that begin below v
+-- the new list is the old one and after it the sets of the chain that begins at head and of those that begin below v
 abbrev pub AddsChains : ℕ → List ℕ → ℕ → ℕ → List SetName → List SetName → Type 0
 AddsChains d revoked head v old new = (added : List SetName) × (new ≡ old ++ added) × AreChainsFrom d revoked head v added
 

@@ -1,4 +1,4 @@
 pub mod Learning
 pub mod Showing
-pub mod Behind
+pub mod After
 pub mod Printing

@@ -6,16 +6,16 @@ use Rattle.std.specs.Io.KnownBytes.{Appends}
 use Rattle.std.proofs.KnownBytes.{Appends-nil, Appends-trans}
 use Rattle.std.proofs.lemmas.List.{length-reverse, take_all, take_more, drop_more, reverse-append, take-append-drop}
 use Rattle.sd_packet.specs.Header.{pid_of}
-use Rattle.sd_ports.specs.Bytes.{IsFront, AppendsFront}
+use Rattle.sd_ports.specs.Bytes.{IsPrefix, AppendsPrefix}
 use Rattle.sd_section.specs.Assembled.{Assembling}
-use Rattle.sd_stream.specs.Stream.{pieces, packets_of, break_behind, break_of}
-use Rattle.sd_stream.specs.Walk.{Walk, TakesOne, IsAtEnd, IsAtBreak}
-use Rattle.sd_stream.specs.declared.fault.StreamBreak.{StreamBreak}
-use Rattle.sd_stream.specs.declared.fault.StreamBreak.TheVariants as stream
-use Rattle.sd_stream.proofs.Walking.{none_at_end}
+use Rattle.sd_engine.specs.Stream.{pieces, packets_of, break_after, break_of}
+use Rattle.sd_engine.specs.Walk.{Walk, TakesOne, IsAtEnd, IsAtBreak}
+use Rattle.sd_engine.specs.declared.fault.StreamBreak.{StreamBreak}
+use Rattle.sd_engine.specs.declared.fault.StreamBreak.TheVariants as stream
+use Rattle.sd_engine.proofs.Walking.{none_at_end}
 use Rattle.sd_lines.specs.Lines.{line_of}
 use Rattle.sd_tables.specs.Inspected.{sections_at, lines_in}
-use Rattle.sd_tables.specs.Watching.{IsBehind}
+use Rattle.sd_tables.specs.Watching.{IsAfter}
 use Rattle.sd_tables.specs.Whole.{lines_up_to, lines_of, PrintsTables}
 use Rattle.sd_tables.specs.Progress.{IsPrinted, IsPrintedOrKept, IsGoneOver, LeavesText, answer_of}
 use Rattle.sd_tables.specs.declared.fault.WholeTablesFault.{WholeTablesFault}
@@ -24,12 +24,12 @@ use Rattle.sd_tables.specs.declared.fault.WholeTablesFault.TheVariants.{Torn, No
 -- before the first packet
 pub none_gone_over : (bytes : List ℕ) (walk : Walk) (marks : List Bool) (places : List (Option Assembling)) → walk.rest ≡ bytes →
     walk.taken ≡ 0 →
-    IsBehind [] marks places → IsGoneOver bytes walk marks places
+    IsAfter [] marks places → IsGoneOver bytes walk marks places
 none_gone_over bytes walk marks places all none first = record {
   within = omega arith;
   rest = ap packets_of all ∙ sym (ap (λ (n : ℕ). drop n (packets_of bytes)) none);
-  same_break = ap (λ (k : ℕ). break_behind k walk.rest) none ∙ ap (break_behind 0) all;
-  behind = subst (λ (n : ℕ). IsBehind (reverse (take n (packets_of bytes))) marks places) (sym none) first;
+  same_break = ap (λ (k : ℕ). break_after k walk.rest) none ∙ ap (break_after 0) all;
+  after = subst (λ (n : ℕ). IsAfter (reverse (take n (packets_of bytes))) marks places) (sym none) first;
 }
 
 -- what stands in front of the rest of a list
@@ -64,17 +64,17 @@ next_packet bytes packet old new marks places gone one =
 -- a packet more
 pub gone_over_more : (bytes packet : List ℕ) (old new : Walk) (marks new_marks : List Bool) (places new_places : List (Option Assembling)) →
     IsGoneOver bytes old marks places → TakesOne old new packet →
-    IsBehind (packet ∷ reverse (take old.taken (packets_of bytes))) new_marks new_places → IsGoneOver bytes new new_marks new_places
-gone_over_more bytes packet old new marks new_marks places new_places gone one behind =
+    IsAfter (packet ∷ reverse (take old.taken (packets_of bytes))) new_marks new_places → IsGoneOver bytes new new_marks new_places
+gone_over_more bytes packet old new marks new_marks places new_places gone one after =
     let next = next_packet bytes packet old new marks places gone one in
     record {
       within = omega (arith, next.0, one.counted);
       rest = sym next.2 ∙ ap (λ (n : ℕ). drop n (packets_of bytes)) (sym one.counted);
       same_break = sym one.same_break ∙ gone.same_break;
-      behind =
-          subst (λ (n : ℕ). IsBehind (reverse (take n (packets_of bytes))) new_marks new_places) (sym one.counted)
-          (subst (λ (before : List (List ℕ)). IsBehind before new_marks new_places)
-          (sym (before_more (packets_of bytes) packet old.taken next.0 next.1)) behind);
+      after =
+          subst (λ (n : ℕ). IsAfter (reverse (take n (packets_of bytes))) new_marks new_places) (sym one.counted)
+          (subst (λ (before : List (List ℕ)). IsAfter before new_marks new_places)
+          (sym (before_more (packets_of bytes) packet old.taken next.0 next.1)) after);
     }
 
 -- the lines of a packet more
@@ -145,21 +145,21 @@ no_packets = refl
 
 end_break : (bytes : List ℕ) (walk : Walk) (marks : List Bool) (places : List (Option Assembling)) → IsGoneOver bytes walk marks places →
     walk.rest ≡ [] → None ≡ break_of bytes
-end_break bytes walk marks places gone none = sym (none_at_end walk.taken) ∙ ap (break_behind walk.taken) (sym none) ∙ gone.same_break
+end_break bytes walk marks places gone none = sym (none_at_end walk.taken) ∙ ap (break_after walk.taken) (sym none) ∙ gone.same_break
 
 -- the lines of packets before others are a front
-lines_front : (behind before : List (List ℕ)) → IsFront (lines_in before) (lines_in (behind ++ before))
+lines_front : (after before : List (List ℕ)) → IsPrefix (lines_in before) (lines_in (after ++ before))
 unfolding lines_in
 lines_front [] before = ([], append-nil (lines_in before))
-lines_front (packet ∷ behind) before =
-    let front = lines_front behind before in
-    let more : List ℕ = flat_map (line_of (length (behind ++ before)) (pid_of packet)) (sections_at packet (behind ++ before)) in
+lines_front (packet ∷ after) before =
+    let front = lines_front after before in
+    let more : List ℕ = flat_map (line_of (length (after ++ before)) (pid_of packet)) (sections_at packet (after ++ before)) in
     (front.0 ++ more, sym (append_assoc (lines_in before) front.0 more) ∙ ap (λ (l : List ℕ). l ++ more) front.1)
 
 all_split : (all : List (List ℕ)) (n : ℕ) → reverse (drop n all) ++ reverse (take n all) ≡ reverse all
 all_split all n = sym (reverse-append (take n all) (drop n all)) ∙ ap reverse (take-append-drop n all)
 
-lines_begin : (bytes : List ℕ) (n : ℕ) → IsFront (lines_up_to n bytes) (lines_of bytes)
+lines_begin : (bytes : List ℕ) (n : ℕ) → IsPrefix (lines_up_to n bytes) (lines_of bytes)
 unfolding lines_up_to lines_of
 lines_begin bytes n =
     let all : List (List ℕ) = packets_of bytes in
@@ -167,9 +167,9 @@ lines_begin bytes n =
     (front.0, front.1 ∙ ap lines_in (all_split all n))
 
 -- where printing a text failed, a front of all lines is printed
-front_printed : (bytes text lines : List ℕ) (before now new : Option (List ℕ)) → IsFront lines (lines_of bytes) →
-    AppendsFront now new text →
-    IsPrinted bytes before now text lines → AppendsFront before new (lines_of bytes)
+front_printed : (bytes text lines : List ℕ) (before now new : Option (List ℕ)) → IsPrefix lines (lines_of bytes) →
+    AppendsPrefix now new text →
+    IsPrinted bytes before now text lines → AppendsPrefix before new (lines_of bytes)
 front_printed bytes text lines before now new begin front printed =
     let sent : List ℕ = lines_up_to printed.0 bytes in
     let joined : (sent ++ front.0) ++ (front.1.0 ++ begin.0) ≡ lines_of bytes =
@@ -201,7 +201,7 @@ of_no_memory None is = cc
 of_no_memory (Some (stream.Torn k)) is = cc
 of_no_memory (Some (stream.NoSync k)) is = cc
 
--- the text that was left is printed behind the others
+-- the text that was left is printed after the others
 all_printed : (bytes text : List ℕ) (before now new : Option (List ℕ)) → Appends now new text →
     IsPrinted bytes before now text (lines_of bytes) →
     Appends before new (lines_of bytes)
@@ -212,7 +212,7 @@ all_printed bytes text before now new rest printed =
 pub finished : (bytes text : List ℕ) (before now new : Option (List ℕ)) (found : Option StreamBreak)
     (result : Result (Unit {0}) WholeTablesFault) →
     found ≡ break_of bytes → IsPrinted bytes before now text (lines_of bytes) → (¬ IsErrOf result Write → Appends now new text) →
-    (IsErrOf result Write → AppendsFront now new text) → (¬ IsErrOf result Write → result ≡ answer_of found) →
+    (IsErrOf result Write → AppendsPrefix now new text) → (¬ IsErrOf result Write → result ≡ answer_of found) →
     PrintsTables bytes before new result
 finished bytes text before now new found (Ok done) is printed rest front answer = record {
   done = (sym is ∙ of_ok found done (answer (λ e. cc)), all_printed bytes text before now new (rest (λ e. cc)) printed);
@@ -272,7 +272,7 @@ wanting bytes text before = record {
 
 -- where printing failed, a front of the lines is printed
 pub failed : (bytes text left : List ℕ) (before now new : Option (List ℕ)) (n : ℕ) (fault : WholeTablesFault) → fault ≡ Write →
-    AppendsFront now new text →
+    AppendsPrefix now new text →
     IsPrinted bytes before now text (lines_up_to n bytes) → LeavesText bytes before new left (Err fault)
 failed bytes text left before now new n fault is front printed = record {
   found = tt;

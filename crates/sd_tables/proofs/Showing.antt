@@ -12,10 +12,10 @@ use Rattle.sd_tables.proofs.Learning.{or_false, or_assoc}
 -- the section that is lent is the first that waits
 pub front_is : (waiting rest : List (List ℕ)) (section : List ℕ) → Some section ≡ slice_get waiting 0 → rest ≡ drop 1 waiting →
     waiting ≡ section ∷ rest
-front_is [] rest section is behind = absurd (cc)
-front_is (first ∷ waiting) rest section is behind =
+front_is [] rest section is after = absurd (cc)
+front_is (first ∷ waiting) rest section is after =
     let same : first ≡ section = cc in
-    ap (λ (s : List ℕ). s ∷ waiting) same ∙ ap (λ (r : List (List ℕ)). section ∷ r) (sym behind)
+    ap (λ (s : List ℕ). s ∷ waiting) same ∙ ap (λ (r : List (List ℕ)). section ∷ r) (sym after)
 
 -- a line more
 pub lines_more : (number pid : ℕ) (all text new section : List ℕ) (waiting rest : List (List ℕ)) → waiting ≡ section ∷ rest →
@@ -34,7 +34,7 @@ pub all_lines : (number pid : ℕ) (all text : List ℕ) (waiting : List (List �
 all_lines number pid all text waiting none so_far =
     sym (ap (λ (w : List (List ℕ)). text ++ flat_map (line_of number pid) w) none ∙ append-nil text) ∙ so_far
 
--- what a section and those behind it name
+-- what a section and those after it name
 named_by : (b : Bool) (q : ℕ) (section : List ℕ) (rest : List (List ℕ)) →
     (is_named q (cond b (section ∷ []) []) || is_named q (cond b rest [])) ≡ is_named q (cond b (section ∷ rest) [])
 unfolding is_named

@@ -1,7 +1,7 @@
 -- What the inspector keeps of packets, of which the last comes first: marks of the PIDs that are watched, and what their assemblers keep.
 use Rattle.std.specs.Prelude.{◌≡◌, ℕ, ◌<◌, ◌==◌, ◌&&◌, ◌||◌, Bool, false, not, List, [], if◌then◌else◌, get_or, Option, Some, None}
 use Rattle.std.specs.List.{flat_map, list_any}
-use Rattle.sd_section.specs.Assembled.{Fed, Assembling, behind, all_lent}
+use Rattle.sd_section.specs.Assembled.{Fed, Assembling, after, all_lent}
 use Rattle.sd_tables.specs.Inspected.{maps_of, is_watched, watched_on}
 
 -- one of these sections names the PID
@@ -29,10 +29,10 @@ pub record IsLearning (pid : ℕ) (all waiting : List (List ℕ)) (old marks : L
   pub at : (q : ℕ) → q < 8192 →
       (get_or marks q false || is_named q (naming pid waiting)) ≡ (get_or old q false || is_named q (naming pid all))
 
--- the assembler of a PID stands behind these packets of it, all sections lent; there is none yet before the first
+-- the assembler of a PID stands after these packets of it, all sections lent; there is none yet before the first
 abbrev pub IsPlace : List Fed → Option Assembling → Type 0
 IsPlace packets None = packets ≡ []
-IsPlace packets (Some state) = state ≡ all_lent (behind packets)
+IsPlace packets (Some state) = state ≡ all_lent (after packets)
 
 -- the assembler of a PID has nothing left to lend
 abbrev pub IsIdle : Option Assembling → Type 0
@@ -43,15 +43,15 @@ IsIdle (Some state) = state.waiting ≡ []
 pub record AreIdle (places : List (Option Assembling)) : Type 0 where
   pub at : (pid : ℕ) → pid < 8192 → IsIdle (get_or places pid None)
 
--- the marks are those of the PIDs that are watched behind these packets
+-- the marks are those of the PIDs that are watched after these packets
 pub record AreMarked (packets : List (List ℕ)) (marks : List Bool) : Type 0 where
   pub at : (pid : ℕ) → pid < 8192 → get_or marks pid false ≡ is_watched pid packets
 
--- the assemblers are those behind these packets
+-- the assemblers are those after these packets
 pub record ArePlaced (packets : List (List ℕ)) (places : List (Option Assembling)) : Type 0 where
   pub at : (pid : ℕ) → pid < 8192 → IsPlace (watched_on pid packets) (get_or places pid None)
 
--- marks and assemblers are those behind these packets
-pub record IsBehind (packets : List (List ℕ)) (marks : List Bool) (places : List (Option Assembling)) : Type 0 where
+-- marks and assemblers are those after these packets
+pub record IsAfter (packets : List (List ℕ)) (marks : List Bool) (places : List (Option Assembling)) : Type 0 where
   pub marked : AreMarked packets marks
   pub placed : ArePlaced packets places

@@ -1,9 +1,9 @@
 -- What is printed of a whole stream.
 use Rattle.std.specs.Prelude.{◌≡◌, ℕ, List, take, reverse, Option, Some, None, Result, OnOk, IsErrOf}
 use Rattle.std.specs.Io.KnownBytes.{Appends}
-use Rattle.sd_ports.specs.Bytes.{AppendsFront}
-use Rattle.sd_stream.specs.Stream.{packets_of, break_of}
-use Rattle.sd_stream.specs.declared.fault.StreamBreak.TheVariants as stream
+use Rattle.sd_ports.specs.Bytes.{AppendsPrefix}
+use Rattle.sd_engine.specs.Stream.{packets_of, break_of}
+use Rattle.sd_engine.specs.declared.fault.StreamBreak.TheVariants as stream
 use Rattle.sd_tables.specs.Inspected.{lines_in}
 use Rattle.sd_tables.specs.declared.fault.WholeTablesFault.{WholeTablesFault}
 use Rattle.sd_tables.specs.declared.fault.WholeTablesFault.TheVariants.{Torn, NoSync, Write, NoMemory}
@@ -23,4 +23,4 @@ pub record PrintsTables (bytes : List ℕ) (old new : Option (List ℕ)) (result
   pub torn : (k : ℕ) → IsErrOf result (Torn k) → (break_of bytes ≡ Some (stream.Torn k)) × Appends old new (lines_of bytes)
   pub no_sync : (k : ℕ) → IsErrOf result (NoSync k) → (break_of bytes ≡ Some (stream.NoSync k)) × Appends old new (lines_of bytes)
   pub no_memory : IsErrOf result NoMemory → (k : ℕ) × Appends old new (lines_up_to k bytes)
-  pub cut_off : IsErrOf result Write → AppendsFront old new (lines_of bytes)
+  pub cut_off : IsErrOf result Write → AppendsPrefix old new (lines_of bytes)

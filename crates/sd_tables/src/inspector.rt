@@ -1,15 +1,15 @@
 ghost use Rattle.std.specs.Prelude.{◌≡◌, ◌<◌, ◌++◌, ◌∷◌, [], ℕ, List, None, IfOk, OnOk, get_or, replicate, slice_set, string_bytes, vec_len};
 ghost use Rattle.std.specs.List.{flat_map};
 ghost use Rattle.sd_packet.specs.Header.{pid_of};
-ghost use Rattle.sd_section.specs.Assembled.{Fed, behind, all_lent};
+ghost use Rattle.sd_section.specs.Assembled.{Fed, after, all_lent};
 ghost use Rattle.sd_lines.specs.Lines.{line_of};
 ghost use Rattle.sd_tables.specs.Inspected.{sections_at};
-ghost use Rattle.sd_tables.specs.Watching.{naming, IsLearned, IsPlace, AreIdle, IsBehind};
+ghost use Rattle.sd_tables.specs.Watching.{naming, IsLearned, IsPlace, AreIdle, IsAfter};
 
 use crate::watched::{PIDS, Watched};
 use sd_lines::push_line;
 use sd_packet::Packet;
-use sd_ports::NoMemory;
+use sd_cause::NoMemory;
 use sd_section::Assembler;
 use std::alloc::Global;
 
@@ -24,7 +24,7 @@ pub struct Inspector {
 impl Inspector {
     /// Before the first packet.
     pub fn new(alloc: Global) -> Result<Inspector, NoMemory>
-        ensures { IfOk result (λ inspector. IsBehind [] inspector.watched.marks.items inspector.assemblers.items) }
+        ensures { IfOk result (λ inspector. IsAfter [] inspector.watched.marks.items inspector.assemblers.items) }
     {
         Ok(Inspector {
             watched: Watched::new(alloc)?,
@@ -32,7 +32,7 @@ impl Inspector {
         })
     }
 
-    /// Puts the lines of the sections that a packet completes behind the text.
+    /// Puts the lines of the sections that a packet completes after the text.
     pub fn take(
         &mut self,
         alloc: Global,
@@ -41,11 +41,11 @@ impl Inspector {
         text: &mut String,
     ) -> Result<(), NoMemory>
         requires { AreIdle self.old.assemblers.items }
-        ensures lines { (before : List (List ℕ)) → IsBehind before self.old.watched.marks.items self.old.assemblers.items →
+        ensures lines { (before : List (List ℕ)) → IsAfter before self.old.watched.marks.items self.old.assemblers.items →
             OnOk result (string_bytes text.new
             ≡ string_bytes text.old ++ flat_map (line_of number (pid_of packet.now)) (sections_at packet.now before)) }
-        ensures behind { (before : List (List ℕ)) → IsBehind before self.old.watched.marks.items self.old.assemblers.items →
-            OnOk result (IsBehind (packet.now ∷ before) self.new.watched.marks.items self.new.assemblers.items) }
+        ensures after { (before : List (List ℕ)) → IsAfter before self.old.watched.marks.items self.old.assemblers.items →
+            OnOk result (IsAfter (packet.now ∷ before) self.new.watched.marks.items self.new.assemblers.items) }
     {
         let pid = packet.pid();
         if !self.watched.has(pid) {
@@ -64,7 +64,7 @@ impl Inspector {
         requires idle { AreIdle self.old.assemblers.items }
         ensures lent { IfOk result (λ assembler. assembler.waiting ≡ []) }
         ensures place { (packets : List Fed) → IsPlace packets (get_or self.old.assemblers.items pid None) →
-            IfOk result (λ assembler. assembler ≡ all_lent (behind packets)) }
+            IfOk result (λ assembler. assembler ≡ all_lent (after packets)) }
         ensures others { self.new.assemblers.items ≡ slice_set self.old.assemblers.items pid None }
         ensures watched { self.new.watched.marks.items ≡ self.old.watched.marks.items }
     {
@@ -88,7 +88,7 @@ fn no_assemblers(alloc: Global) -> Result<Vec<Option<Assembler>>, NoMemory>
     Ok(places)
 }
 
-// Puts the lines of the sections that an assembler lends behind the text, as completed by the packet of this number on this
+// Puts the lines of the sections that an assembler lends after the text, as completed by the packet of this number on this
 // PID, and watches the PIDs that they name.
 fn show(
     alloc: Global,

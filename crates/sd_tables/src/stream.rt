@@ -1,14 +1,14 @@
 ghost use Rattle.std.specs.Prelude.{◌≡◌, ◌≤◌, [], OnOk, OnErr, IfErr, IsErrOf, string_bytes};
 ghost use Rattle.std.specs.Io.KnownBytes.{Appends};
 ghost use Rattle.sd_cause.specs.Count.{Rose};
-ghost use Rattle.sd_ports.specs.Bytes.{AppendsFront};
+ghost use Rattle.sd_ports.specs.Bytes.{AppendsPrefix};
 ghost use Rattle.sd_tables.specs.Whole.{PrintsTables};
 ghost use Rattle.sd_tables.specs.Progress.{IsPrintedOrKept, LeavesText, answer_of};
 
 use crate::fault::WholeTablesFault;
 use crate::inspector::Inspector;
 use sd_ports::{Sink, write_all};
-use sd_stream::{Packets, StreamBreak};
+use sd_engine::{Packets, StreamBreak};
 use std::alloc::Global;
 
 /// How many bytes of lines are gathered before they are printed.
@@ -64,7 +64,7 @@ fn go_over<K: Sink>(
 // Prints the text where enough is gathered.
 fn print_piece<K: Sink>(out: &mut K, text: &mut String) -> Result<(), WholeTablesFault>
     ensures printed { OnOk result (IsPrintedOrKept (K.held out.old) (K.held out.new) (string_bytes text.old) (string_bytes text.new)) }
-    ensures front { OnErr result (AppendsFront (K.held out.old) (K.held out.new) (string_bytes text.old)) }
+    ensures front { OnErr result (AppendsPrefix (K.held out.old) (K.held out.new) (string_bytes text.old)) }
     ensures write { IfErr result (λ fault. fault ≡ WholeTablesFault.Write) }
     ensures later { K.faults out.old ≤ K.faults out.new }
     ensures fault { OnErr result (Rose (K.faults out.old) (K.faults out.new)) }
@@ -85,7 +85,7 @@ fn finish<K: Sink>(
     found: Option<StreamBreak>,
 ) -> Result<(), WholeTablesFault>
     ensures done { ¬ IsErrOf result WholeTablesFault.Write → Appends (K.held out.old) (K.held out.new) text.now }
-    ensures front { IsErrOf result WholeTablesFault.Write → AppendsFront (K.held out.old) (K.held out.new) text.now }
+    ensures front { IsErrOf result WholeTablesFault.Write → AppendsPrefix (K.held out.old) (K.held out.new) text.now }
     ensures answer { ¬ IsErrOf result WholeTablesFault.Write → result ≡ answer_of found }
     ensures later { K.faults out.old ≤ K.faults out.new }
     ensures fault { IsErrOf result WholeTablesFault.Write → Rose (K.faults out.old) (K.faults out.new) }
@@ -102,7 +102,7 @@ fn finish<K: Sink>(
 // Prints a text.
 fn print<K: Sink>(out: &mut K, text: &str) -> Result<(), WholeTablesFault>
     ensures all { OnOk result (Appends (K.held out.old) (K.held out.new) text.now) }
-    ensures front { OnErr result (AppendsFront (K.held out.old) (K.held out.new) text.now) }
+    ensures front { OnErr result (AppendsPrefix (K.held out.old) (K.held out.new) text.now) }
     ensures write { IfErr result (λ fault. fault ≡ WholeTablesFault.Write) }
     ensures later { K.faults out.old ≤ K.faults out.new }
     ensures fault { OnErr result (Rose (K.faults out.old) (K.faults out.new)) }

@@ -2,7 +2,7 @@ ghost use Rattle.std.specs.Prelude.{◌≡◌, ◌<◌, false, IfOk, [], ◌∷�
 ghost use Rattle.sd_psi.specs.Tables.{programs_of};
 ghost use Rattle.sd_tables.specs.Watching.{naming, AreMarked, IsTold, IsLearned};
 
-use sd_ports::NoMemory;
+use sd_cause::NoMemory;
 use sd_psi::{Pat, pat_in};
 use sd_section::read_one;
 use std::alloc::Global;

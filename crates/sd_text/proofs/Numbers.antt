@@ -8,7 +8,7 @@ use Rattle.std.specs.Char.{is_ascii_digit}
 use Rattle.std.specs.Str.{all_ascii_digits, bytes_eq}
 use Rattle.std.specs.Str.Parse.{digits_value}
 use Rattle.sd_text.specs.Lines.{is_line}
-use Rattle.sd_text.specs.Number.{is_decimal, number_of, behind, number_behind}
+use Rattle.sd_text.specs.Number.{is_decimal, number_of, after, decimal_after}
 use Rattle.sd_text.proofs.Digits.{own}
 
 -- what `{}` writes of a number is a decimal
@@ -33,18 +33,18 @@ decimal_of_number text n h e =
     let small : digits_value 10 text < 2 ^ 64 = omega arith in
     sym (decimal-digits_value own text digits some alone small) ∙ ap decimal says
 
--- what stands behind a word is read back
-pub behind_word : (word text : List ℕ) → behind word (word ++ text) ≡ Some text
-unfolding behind
-behind_word word text =
+-- what stands after a word is read back
+pub after_word : (word text : List ℕ) → after word (word ++ text) ≡ Some text
+unfolding after
+after_word word text =
     let front = take_at word text (length word) refl in
     let rest = drop_at word text (length word) refl in
     let same : bytes_eq word word ≡ true = (bytes_eq-Decides word word).1 refl in
     rw front (rw rest (rw same refl))
 
--- a word and a number behind it are read back
-pub number_behind_decimal : (word : List ℕ) (n : ℕ) → n < 2 ^ 64 → number_behind word (word ++ decimal n) ≡ Some n
-number_behind_decimal word n h = rw (behind_word word (decimal n)) (number_of_decimal n h)
+-- a word and a number after it are read back
+pub decimal_after_decimal : (word : List ℕ) (n : ℕ) → n < 2 ^ 64 → decimal_after word (word ++ decimal n) ≡ Some n
+decimal_after_decimal word n h = rw (after_word word (decimal n)) (number_of_decimal n h)
 
 -- no digit is a line feed
 digits_in_line : (text : List ℕ) → all_ascii_digits text ≡ true → is_line text ≡ true

@@ -12,13 +12,13 @@ is_decimal text = nat_lt 0 (length text) && (all_ascii_digits text && (not (slic
 unfoldable pub number_of : List ℕ → Option ℕ
 number_of text = if is_decimal text then Some (digits_value 10 text) else None
 
--- what stands behind the word on a line that begins with it
-unfoldable pub behind : List ℕ → List ℕ → Option (List ℕ)
-behind word line = if bytes_eq (take (length word) line) word then Some (drop (length word) line) else None
+-- what stands after the word on a line that begins with it
+unfoldable pub after : List ℕ → List ℕ → Option (List ℕ)
+after word line = if bytes_eq (take (length word) line) word then Some (drop (length word) line) else None
 
 -- the number on a line that is the word and a decimal
-abbrev pub number_behind : List ℕ → List ℕ → Option ℕ
-number_behind word line = option_and_then number_of (behind word line)
+abbrev pub decimal_after : List ℕ → List ℕ → Option ℕ
+decimal_after word line = option_and_then number_of (after word line)
 
 -- that number as a reader of 32 bits gives it
 abbrev pub fitting : Option ℕ → Result ℕ NumberFault

@@ -3,7 +3,7 @@
 ghost use Rattle.std.specs.Prelude.{◌≡◌, ◌<◌, ◌^◌, ◌++◌, ◌∷◌, ℕ, List, Some, true};
 ghost use Rattle.std.specs.Fmt.{decimal};
 ghost use Rattle.sd_text.specs.Lines.{lines_of, is_line};
-ghost use Rattle.sd_text.specs.Number.{number_of, number_behind};
+ghost use Rattle.sd_text.specs.Number.{number_of, decimal_after};
 
 /// A line and its line feed in front of a text are the first of its lines.
 #[tactic(auto, using(crate::proofs::Cuts::line_cut))]
@@ -18,10 +18,10 @@ pub fn decimals()
     ensures alone { (text : List ℕ) (n : ℕ) → n < 2 ^ 64 → number_of text ≡ Some n → text ≡ decimal n }
 {}
 
-/// A word and what `{}` writes of a number behind it are read back.
-#[tactic(auto, using(crate::proofs::Numbers::number_behind_decimal))]
-pub fn number_behind_word()
-    ensures { (word : List ℕ) (n : ℕ) → n < 2 ^ 64 → number_behind word (word ++ decimal n) ≡ Some n }
+/// A word and what `{}` writes of a number after it are read back.
+#[tactic(auto, using(crate::proofs::Numbers::decimal_after_decimal))]
+pub fn decimal_after_word()
+    ensures { (word : List ℕ) (n : ℕ) → n < 2 ^ 64 → decimal_after word (word ++ decimal n) ≡ Some n }
 {}
 
 /// What `{}` writes of a number stands on one line.

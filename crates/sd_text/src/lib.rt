@@ -1,4 +1,4 @@
-//! Text files as this project reads them: lines that end at line feeds, and decimals behind a word.
+//! Text files as this project reads them: lines that end at line feeds, and decimals after a word.
 #![tactic(auto)]
 
 pub mod laws;

@@ -5,7 +5,7 @@ use memchr::memchr;
 
 const LINE_FEED: u8 = b'\n';
 
-/// The first line and what stands behind its line feed, or `None` where no byte is left.
+/// The first line and what stands after its line feed, or `None` where no byte is left.
 #[tactic(auto, using(crate::proofs::Cuts::cut_at_feed, crate::proofs::Cuts::no_feed, crate::proofs::Cuts::to_the_end))]
 pub fn next_line(bytes: &[u8]) -> Option<(&[u8], &[u8])>
     ensures none { IsNone result ↔ (bytes.now ≡ []) }
@@ -40,9 +40,9 @@ mod tests {
             for line in lines {
                 let cut = next_line(rest);
                 assert!(rt; cut.is_some());
-                if let Some((first, behind)) = cut {
+                if let Some((first, after)) = cut {
                     assert_eq!(rt; first, *line);
-                    rest = behind;
+                    rest = after;
                 }
             }
             assert!(rt; next_line(rest).is_none());

@@ -3,7 +3,7 @@ ghost use Rattle.std.specs.Char.{is_ascii_digit};
 ghost use Rattle.std.specs.List.{list_all};
 ghost use Rattle.std.specs.Str.{all_ascii_digits};
 ghost use Rattle.std.specs.Str.Parse.{digits_value};
-ghost use Rattle.sd_text.specs.Number.{number_behind, number_of, fitting, is_decimal};
+ghost use Rattle.sd_text.specs.Number.{decimal_after, number_of, fitting, is_decimal};
 
 /// Why a line has no number of 32 bits.
 #[derive(Clone, Copy, Debug, PartialEq, Eq)]
@@ -15,9 +15,9 @@ pub enum NumberFault {
 }
 
 /// The number on a line that is the word and a decimal, and nothing else.
-#[tactic(auto, unfolding(crate::specs::Number::behind))]
+#[tactic(auto, unfolding(crate::specs::Number::after))]
 pub fn number_after(word: &[u8], line: &[u8]) -> Result<u32, NumberFault>
-    ensures { result ≡ fitting (number_behind word.now line.now) }
+    ensures { result ≡ fitting (decimal_after word.now line.now) }
 {
     let digits = line.strip_prefix(word).ok_or(NumberFault::Malformed)?;
     decimal(digits)
@@ -68,7 +68,7 @@ mod tests {
     use super::*;
 
     #[test]
-    fn a_number_is_read_behind_its_word(rt: HostRuntime) {
+    fn a_number_is_read_after_its_word(rt: HostRuntime) {
         let table: [(&[u8], Result<u32, NumberFault>); 16] = [
             (b"revoke 5", Ok(5)),
             (b"revoke 0", Ok(0)),

@@ -60,7 +60,7 @@ count_below d v h low high =
     (count_interval (is_below d v) (v * 2 ^ e - 2 ^ d) ((v + 1) * 2 ^ e - 2 ^ d) 0 (2 ^ d) (omega arith)
     (λ u from to. below_from_within d v u (omega arith) (omega arith))
     (λ u before. false_from_ne_true _ (λ below. let w = within_from_below d v u below in omega (arith, w.0)))
-    (λ u behind. false_from_ne_true _ (λ below. let w = within_from_below d v u below in omega (arith, w.1)))
+    (λ u after. false_from_ne_true _ (λ below. let w = within_from_below d v u below in omega (arith, w.1)))
     ∙ omega arith)
 
 -- the whole set has all leaves
@@ -68,7 +68,7 @@ pub count_whole : (d : ℕ) → length (members d Whole) ≡ 2 ^ d
 count_whole d =
     length-filter (is_member d Whole) (leaves d) ∙
     (count_interval (λ u. ltb u (2 ^ d)) 0 (2 ^ d) 0 (2 ^ d) (omega arith)
-    (λ u _ to. lt-ltb u (2 ^ d) to) (λ u before. absurd (omega arith)) (λ u behind. le-ltb u (2 ^ d) behind)
+    (λ u _ to. lt-ltb u (2 ^ d) to) (λ u before. absurd (omega arith)) (λ u after. le-ltb u (2 ^ d) after)
     ∙ omega arith)
 
 bool_of_and : (b : Bool) → cond b 1 0 ≡ 0 + cond (b && true) 1 0

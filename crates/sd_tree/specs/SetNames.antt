@@ -24,6 +24,6 @@ set_cmp Whole (Diff i j) = Less
 set_cmp (Diff i j) Whole = Greater
 set_cmp (Diff i j) (Diff k l) = ordering_then (nat_cmp i k) (nat_cmp j l)
 
--- each name stands behind all that are before it
+-- each name stands after all that are before it
 abbrev pub AreAscending : List SetName → Type 0
 AreAscending names = AllPairs (λ a b. set_cmp a b ≡ Less) names

@@ -1,7 +1,7 @@
 use Rattle.std.proofs.Common.{◌∙◌, reverse, take, string_bytes, refl}
 use Rattle.std.proofs.lemmas.Result.{err_from_is_err_and}
-use Rattle.sd_stream.specs.Stream.{packets_of}
-use Rattle.sd_stream.specs.Walk.{TakesOne}
+use Rattle.sd_engine.specs.Stream.{packets_of}
+use Rattle.sd_engine.specs.Walk.{TakesOne}
 use Rattle.sd_tables.proofs.Printing.{none_gone_over, gone_over_more, none_printed, printed_more, printed_on, wanting, failed, ended, broken}
 use Rattle.sd_tables.proofs.stream.go_over.Goals as goal
 
@@ -21,18 +21,18 @@ loop-packet-preserved g c =
     let bytes = c.args.bytes.now in
     let one : TakesOne l.packets c.next.new.self c.in-Ok-Some.packet = rw c.in-Ok-Some.field-0-is at c.in-Ok-Some.ensures in
     let before = reverse (take l.packets.taken (packets_of bytes)) in
-    let behind = l.invariant.gone.behind in
+    let after = l.invariant.gone.after in
     record {
       gone =
           gone_over_more bytes c.in-Ok-Some.packet l.packets c.next.new.self l.inspector.watched.marks.items
           c.take.new.self.watched.marks.items
-          l.inspector.assemblers.items c.take.new.self.assemblers.items l.invariant.gone one (c.in-Ok-take.ensures.behind before behind);
+          l.inspector.assemblers.items c.take.new.self.assemblers.items l.invariant.gone one (c.in-Ok-take.ensures.after before after);
       printed =
           printed_on bytes (string_bytes c.take.new.text) (string_bytes c.print_piece.new.text) _ _ _ c.next.new.self.taken
           c.in_ok-print_piece-in-Ok-Some.ensures.printed
           (printed_more bytes c.in-Ok-Some.packet (string_bytes l.text) (string_bytes c.take.new.text) _ _ l.packets c.next.new.self
           l.inspector.watched.marks.items l.inspector.assemblers.items c.taken-number.result c.taken-number.ensures l.invariant.gone one
-          (c.in-Ok-take.ensures.lines before behind) l.invariant.printed);
+          (c.in-Ok-take.ensures.lines before after) l.invariant.printed);
       calm = c.in_ok-print_piece-in-Ok-Some.ensures.calm ∙ l.invariant.calm;
     }
 
@@ -50,7 +50,7 @@ returns-in_err-print_piece-in-Ok-Some-clause-told g c =
     c.in_err-print_piece-in-Ok-Some.ensures.write c.in_err-print_piece-in-Ok-Some.ensures.front
     (printed_more bytes c.in-Ok-Some.packet (string_bytes l.text) (string_bytes c.take.new.text) _ _ l.packets c.next.new.self
     l.inspector.watched.marks.items l.inspector.assemblers.items c.taken-number.result c.taken-number.ensures l.invariant.gone one
-    (c.in-Ok-take.ensures.lines before l.invariant.gone.behind) l.invariant.printed))
+    (c.in-Ok-take.ensures.lines before l.invariant.gone.after) l.invariant.printed))
 
 pub returns-in-Ok-None-clause-told : goal.returns-in-Ok-None-clause-told
 returns-in-Ok-None-clause-told g c =

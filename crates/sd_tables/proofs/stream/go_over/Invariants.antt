@@ -1,5 +1,5 @@
 use Rattle.std.proofs.Common.{◌≡◌, length, string_bytes}
-use Rattle.sd_stream.specs.Stream.{packets_of}
+use Rattle.sd_engine.specs.Stream.{packets_of}
 use Rattle.sd_tables.specs.Whole.{lines_up_to}
 use Rattle.sd_tables.specs.Progress.{IsGoneOver, IsPrinted}
 use Rattle.sd_tables.proofs.stream.go_over.Given as goal

@@ -1,6 +1,6 @@
 use Rattle.std.proofs.Common.{◌≡◌, ◌∙◌, sym, refl, ap, List, ℕ, Some, arith}
 use Rattle.sd_section.specs.Assembled.{next_of}
-use Rattle.sd_section.proofs.Behind.{part_lent, some_left}
+use Rattle.sd_section.proofs.After.{part_lent, some_left}
 use Rattle.sd_section.proofs.assembler.Assembler.next.Goals as goal
 
 pub returns : goal.returns

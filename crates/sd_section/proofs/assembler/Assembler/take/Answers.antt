@@ -1,5 +1,5 @@
 use Rattle.std.proofs.Common.{◌∙◌, sym}
-use Rattle.sd_section.proofs.Behind.{nothing_taken, all_taken}
+use Rattle.sd_section.proofs.After.{nothing_taken, all_taken}
 use Rattle.sd_section.proofs.assembler.Assembler.take.Goals as goal
 
 pub returns-then-not-is_taken : goal.returns-then-not-is_taken

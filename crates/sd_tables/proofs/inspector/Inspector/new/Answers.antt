@@ -1,4 +1,4 @@
-use Rattle.sd_tables.proofs.Behind.{first_placed}
+use Rattle.sd_tables.proofs.After.{first_placed}
 use Rattle.sd_tables.proofs.inspector.Inspector.new.Goals as goal
 
 pub returns : goal.returns

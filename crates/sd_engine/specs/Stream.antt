@@ -1,7 +1,7 @@
 -- A stream of bytes, cut into transport packets.
 use Rattle.std.specs.Prelude.{◌≡◌, ℕ, zero, suc, ◌+◌, ◌*◌, ◌/◌, ◌%◌, ◌<◌, ◌==◌, Bool, List, [], ◌∷◌, length, take, drop, take_while, slice_index, nat_lt, if◌then◌else◌, Option, Some, None}
-use Rattle.sd_stream.specs.declared.fault.StreamBreak.{StreamBreak}
-use Rattle.sd_stream.specs.declared.fault.StreamBreak.TheVariants.{Torn, NoSync}
+use Rattle.sd_engine.specs.declared.fault.StreamBreak.{StreamBreak}
+use Rattle.sd_engine.specs.declared.fault.StreamBreak.TheVariants.{Torn, NoSync}
 
 -- how many whole packets' bytes there are [ISO/IEC 13818-1, 2.4.3.2]
 abbrev pub whole_in : List ℕ → ℕ
@@ -20,19 +20,19 @@ is_packet piece = slice_index piece 0 == 0x47
 unfoldable pub packets_of : List ℕ → List (List ℕ)
 packets_of bytes = take_while is_packet (pieces (whole_in bytes) bytes)
 
--- Why what stands behind k packets is no stream: a piece that doesn't begin with the sync byte, or else bytes left over at the end. The
+-- Why what stands after k packets is no stream: a piece that doesn't begin with the sync byte, or else bytes left over at the end. The
 -- number is that of the packet at which it breaks [this project, docs/FORMATS.md, Streams].
-unfoldable pub break_behind : ℕ → List ℕ → Option StreamBreak
-break_behind k bytes =
+unfoldable pub break_after : ℕ → List ℕ → Option StreamBreak
+break_after k bytes =
     if nat_lt (length (packets_of bytes)) (whole_in bytes) then Some (NoSync (k + length (packets_of bytes)))
     else if length bytes % 188 == 0 then None
     else Some (Torn (k + whole_in bytes))
 
 -- why bytes are no stream
 abbrev pub break_of : List ℕ → Option StreamBreak
-break_of bytes = break_behind 0 bytes
+break_of bytes = break_after 0 bytes
 
--- the bytes are n packets, one behind the other [ISO/IEC 13818-1, 2.4.3.2]
+-- the bytes are n packets, one after the other [ISO/IEC 13818-1, 2.4.3.2]
 pub record ArePackets (n : ℕ) (bytes : List ℕ) : Type 0 where
   pub long : length bytes ≡ 188 * n
   pub sync : (k : ℕ) → k < n → slice_index bytes (188 * k) ≡ 0x47

@@ -31,6 +31,6 @@ six_again (x ∷ y ∷ z ∷ w ∷ []) b h = absurd (omega arith)
 six_again (x ∷ y ∷ z ∷ w ∷ u ∷ []) b h = absurd (omega arith)
 six_again (x ∷ y ∷ z ∷ w ∷ u ∷ v ∷ xs) b h = grind (arith, b 0, b 1, b 2, b 3, b 4, b 5)
 
--- a number that was written into so many bytes, with others behind them, is read again
+-- a number that was written into so many bytes, with others after them, is read again
 pub number_again : (n x : ℕ) (rest : List ℕ) → x < 256 ^ n → big_number n (big_bytes n x ++ rest) ≡ x
 number_again n x rest h = big_number-reads_back n x rest h

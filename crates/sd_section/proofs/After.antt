@@ -1,9 +1,9 @@
--- What is kept behind some packets is enough to go on with the next.
+-- What is kept after some packets is enough to go on with the next.
 use Rattle.std.proofs.Common.{ℕ, ◌+◌, ◌-◌, ◌≤◌, ◌≡◌, Bool, true, false, not, ◌==◌, ◌&&◌, List, [], ◌∷◌, ◌++◌, length, take, drop, append-nil, refl, sym, ap, ◌∙◌, arith}
 use Rattle.std.specs.Prelude.{if◌then◌else◌, Option, Some, None, slice_range, slice_get}
 use Rattle.std.proofs.lemmas.List.{drop_at, take-take, drop-drop, drop-take}
 use Rattle.std.proofs.lemmas.Bool.{eqb-true, and_parts}
-use Rattle.sd_section.specs.Assembled.{Fed, Run, Cut, cut_of, is_last, is_next, has_payload, is_taken, last_counter, tail_of, fresh_of, kept_run, longer_run, run_behind, newly, completed_in, completed_by, Assembling, behind, all_lent, with_section, next_of, one_lent}
+use Rattle.sd_section.specs.Assembled.{Fed, Run, Cut, cut_of, is_last, is_next, has_payload, is_taken, last_counter, tail_of, fresh_of, kept_run, longer_run, run_after, newly, completed_in, completed_by, Assembling, after, all_lent, with_section, next_of, one_lent}
 use Rattle.sd_section.specs.Steps.{added, held, kept, holds_of, is_section, tail_with, fresh_with, still_making, going_on, fed}
 use Rattle.sd_section.specs.declared.holds.Holds.{Holds}
 use Rattle.sd_section.specs.declared.holds.Holds.TheVariants.{Making, Section, Lent}
@@ -13,14 +13,14 @@ use Rattle.sd_section.proofs.Cutting.{longer, cut_none}
 abbrev pub making_of : Run → List ℕ
 making_of run = (cut_of run.first run.more).making
 
--- bytes behind a run complete what they complete of the section in the making
+-- bytes after a run complete what they complete of the section in the making
 newly_is : (run : Run) (bytes : List ℕ) → newly run bytes ≡ (added (making_of run) bytes).sections
 newly_is run bytes =
     let sections : List (List ℕ) = (cut_of run.first run.more).sections in
     ap (λ (c : Cut). drop (length sections) c.sections) (longer (length run.first) run.first run.more bytes)
     ∙ drop_at sections (added (making_of run) bytes).sections (length sections) refl
 
--- a payload with unit start or without, behind a run
+-- a payload with unit start or without, after a run
 completed_is : (unit_start : Bool) (counter : ℕ) (payload : List ℕ) (run : Run) →
     completed_in (record { unit_start = unit_start; counter = counter; payload = payload }) run
     ≡ (going_on (record { unit_start = unit_start; counter = counter; payload = payload }) (making_of run)).waiting
@@ -64,8 +64,8 @@ unfolding last_counter
 counter_passed packet before e = counter_by (has_payload packet) packet.counter (last_counter before) e
 
 run_passed : (packet : Fed) (before : List Fed) → is_taken packet (last_counter before) ≡ false →
-    run_behind (packet ∷ before) ≡ run_behind before
-unfolding run_behind
+    run_after (packet ∷ before) ≡ run_after before
+unfolding run_after
 run_passed packet before e = rw e refl
 
 completed_passed : (packet : Fed) (before : List Fed) → is_taken packet (last_counter before) ≡ false →
@@ -78,11 +78,11 @@ unfolding fed
 fed_passed state packet e = rw e refl
 
 passed_over : (packet : Fed) (before : List Fed) → is_taken packet (last_counter before) ≡ false →
-    behind (packet ∷ before) ≡ fed (all_lent (behind before)) packet
-unfolding behind
+    after (packet ∷ before) ≡ fed (all_lent (after before)) packet
+unfolding after
 passed_over packet before e =
     state_is _ _ _ _ _ _ (counter_passed packet before e) (ap making_of (run_passed packet before e)) (completed_passed packet before e)
-    ∙ sym (fed_passed (all_lent (behind before)) packet e)
+    ∙ sym (fed_passed (all_lent (after before)) packet e)
 
 -- a packet that is taken
 counter_taken : (packet : Fed) (before : List Fed) → is_taken packet (last_counter before) ≡ true →
@@ -92,12 +92,12 @@ counter_taken packet before e = let has =
     (and_parts (has_payload packet) (not (is_last packet.counter (last_counter before))) e).0 in rw has refl
 
 run_taken : (packet : Fed) (before : List Fed) → is_taken packet (last_counter before) ≡ true →
-    run_behind (packet ∷ before) ≡ longer_run packet (kept_run packet (last_counter before) (run_behind before))
-unfolding run_behind
+    run_after (packet ∷ before) ≡ longer_run packet (kept_run packet (last_counter before) (run_after before))
+unfolding run_after
 run_taken packet before e = rw e refl
 
 completed_taken : (packet : Fed) (before : List Fed) → is_taken packet (last_counter before) ≡ true →
-    completed_by (packet ∷ before) ≡ completed_in packet (kept_run packet (last_counter before) (run_behind before))
+    completed_by (packet ∷ before) ≡ completed_in packet (kept_run packet (last_counter before) (run_after before))
 unfolding completed_by
 completed_taken packet before e = rw e refl
 
@@ -112,29 +112,29 @@ kept_making true run = refl
 kept_making false run = ap (λ (c : Cut). c.making) (cut_none 0 [])
 
 taken : (packet : Fed) (before : List Fed) → is_taken packet (last_counter before) ≡ true →
-    behind (packet ∷ before) ≡ fed (all_lent (behind before)) packet
-unfolding behind
+    after (packet ∷ before) ≡ fed (all_lent (after before)) packet
+unfolding after
 taken packet before e =
-    let run : Run = kept_run packet (last_counter before) (run_behind before) in
-    let making : making_of run ≡ (if is_next packet.counter (last_counter before) then making_of (run_behind before) else []) =
-    kept_making (is_next packet.counter (last_counter before)) (run_behind before) in
+    let run : Run = kept_run packet (last_counter before) (run_after before) in
+    let making : making_of run ≡ (if is_next packet.counter (last_counter before) then making_of (run_after before) else []) =
+    kept_making (is_next packet.counter (last_counter before)) (run_after before) in
     state_is _ _ _ _ _ _ (counter_taken packet before e)
     (ap making_of (run_taken packet before e) ∙ making_is packet.unit_start packet.counter packet.payload run)
     (completed_taken packet before e ∙ completed_is packet.unit_start packet.counter packet.payload run)
-    ∙ (ap (going_on packet) making ∙ sym (fed_taken (all_lent (behind before)) packet e))
+    ∙ (ap (going_on packet) making ∙ sym (fed_taken (all_lent (after before)) packet e))
 
--- what is kept behind the packets and the next one is what the next one makes of what was kept before
-pub behind_fed : (packet : Fed) (before : List Fed) → behind (packet ∷ before) ≡ fed (all_lent (behind before)) packet
-behind_fed packet before = by_test (is_taken packet (last_counter before)) refl where
+-- what is kept after the packets and the next one is what the next one makes of what was kept before
+pub after_fed : (packet : Fed) (before : List Fed) → after (packet ∷ before) ≡ fed (all_lent (after before)) packet
+after_fed packet before = by_test (is_taken packet (last_counter before)) refl where
   by_test : (test : Bool) → is_taken packet (last_counter before) ≡ test →
-      behind (packet ∷ before) ≡ fed (all_lent (behind before)) packet
+      after (packet ∷ before) ≡ fed (all_lent (after before)) packet
   by_test true e = taken packet before e
   by_test false e = passed_over packet before e
 
 -- so too from what equals it
-pub fed_behind : (old new : Assembling) (packet : Fed) (before : List Fed) → new ≡ fed old packet → old ≡ all_lent (behind before) →
-    new ≡ behind (packet ∷ before)
-fed_behind old new packet before e f = e ∙ (ap (λ (s : Assembling). fed s packet) f ∙ sym (behind_fed packet before))
+pub fed_after : (old new : Assembling) (packet : Fed) (before : List Fed) → new ≡ fed old packet → old ≡ all_lent (after before) →
+    new ≡ after (packet ∷ before)
+fed_after old new packet before e f = e ∙ (ap (λ (s : Assembling). fed s packet) f ∙ sym (after_fed packet before))
 
 -- what is kept, by its fields: the counter, and what the others come to whatever the counter is
 kept_counter : (holds : Holds) (bytes : List ℕ) (cut : Cut) (counter : Option ℕ) → (kept holds bytes cut counter).counter ≡ counter
@@ -162,15 +162,15 @@ nothing_taken holds bytes cut last packet state is e =
     sym (fed_passed state packet (ap (is_taken packet) counter ∙ e))
 
 -- what the steps of taking a packet come to
-pub all_taken : (holds : Holds) (bytes gathered before after stored : List ℕ) (cut : Cut) (last : Option ℕ) (unit_start next whole : Bool) (now : Holds) (counter : ℕ) (payload : List ℕ) (state : Assembling) →
+pub all_taken : (holds : Holds) (bytes gathered before later stored : List ℕ) (cut : Cut) (last : Option ℕ) (unit_start next whole : Bool) (now : Holds) (counter : ℕ) (payload : List ℕ) (state : Assembling) →
     kept holds bytes cut last ≡ state → now ≡ holds_of whole →
     is_taken (record { unit_start = unit_start; counter = counter; payload = payload }) last ≡ true →
     gathered ≡ (kept holds bytes cut None).making → next ≡ is_next counter last → before ≡ (if next then gathered else []) →
-    (held whole after).sections ≡ (added before (tail_with unit_start payload)).sections →
-    (held whole after).making ≡ still_making unit_start before payload → stored ≡ fresh_with unit_start payload →
-    kept now after (cut_of stored []) (Some counter) ≡
+    (held whole later).sections ≡ (added before (tail_with unit_start payload)).sections →
+    (held whole later).making ≡ still_making unit_start before payload → stored ≡ fresh_with unit_start payload →
+    kept now later (cut_of stored []) (Some counter) ≡
     fed state (record { unit_start = unit_start; counter = counter; payload = payload })
-all_taken holds bytes gathered before after stored cut last unit_start next whole now counter payload state is is_now e is_gathered is_next' is_before sections making is_stored =
+all_taken holds bytes gathered before later stored cut last unit_start next whole now counter payload state is is_now e is_gathered is_next' is_before sections making is_stored =
     let packet : Fed = record { unit_start = unit_start; counter = counter; payload = payload } in
     let same_counter : state.counter ≡ last = ap (λ (s : Assembling). s.counter) (sym is) ∙ kept_counter holds bytes cut last in
     let same_making : gathered ≡ state.making =
@@ -178,9 +178,9 @@ all_taken holds bytes gathered before after stored cut last unit_start next whol
     let start : before ≡ (if is_next counter state.counter then state.making else []) =
     is_before ∙ (ap (λ (b : Bool). if b then gathered else []) (is_next' ∙ ap (is_next counter) (sym same_counter))
     ∙ ap (λ (l : List ℕ). if is_next counter state.counter then l else []) same_making) in
-    let result : kept now after (cut_of stored []) (Some counter) ≡ going_on packet before =
-    ap (λ (h : Holds). kept h after (cut_of stored []) (Some counter)) is_now
-    ∙ (kept_held whole after (cut_of stored []) (Some counter)
+    let result : kept now later (cut_of stored []) (Some counter) ≡ going_on packet before =
+    ap (λ (h : Holds). kept h later (cut_of stored []) (Some counter)) is_now
+    ∙ (kept_held whole later (cut_of stored []) (Some counter)
     ∙ state_is _ _ _ _ _ _ refl
     (ap (λ (l : List ℕ). l ++ (cut_of stored []).making) making ∙ ap (λ (l : List ℕ). still_making unit_start before payload ++ (cut_of l []).making) is_stored)
     (ap (λ (l : List (List ℕ)). l ++ (cut_of stored []).sections) sections

@@ -1,4 +1,4 @@
--- What the inspector keeps behind a packet more.
+-- What the inspector keeps after a packet more.
 use Rattle.std.proofs.Common.{ℕ, ◌<◌, ◌≡◌, ◌≢◌, ◌↔◌, Bool, true, false, ◌==◌, ◌&&◌, ◌||◌, List, [], ◌∷◌, ◌++◌, length, map, get_or, set, replicate, cond, refl, sym, ap, subst, ◌∙◌, append-nil, inl, inr, length-set}
 use Rattle.std.specs.Prelude.{Option, Some, None, filter}
 use Rattle.std.specs.List.{flat_map, list_any}
@@ -6,10 +6,10 @@ use Rattle.std.proofs.lemmas.Bool.{false≢true, eqb-true, eq-eqb, ne_eqb, cases
 use Rattle.std.proofs.lemmas.List.{get_or-set_same, get_or-set_other, get_or-replicate}
 use Rattle.std.proofs.lemmas.List.Folds.{list_any-append}
 use Rattle.sd_packet.specs.Header.{pid_of, unit_start_of, counter_of, payload_of}
-use Rattle.sd_section.specs.Assembled.{Fed, Assembling, completed_by, behind, all_lent}
+use Rattle.sd_section.specs.Assembled.{Fed, Assembling, completed_by, after, all_lent}
 use Rattle.sd_lines.specs.Lines.{line_of}
 use Rattle.sd_tables.specs.Inspected.{fed_of, on_pid, pat_sections_at, maps_of, named_in, is_watched, watched_on, sections_at}
-use Rattle.sd_tables.specs.Watching.{is_named, naming, IsLearned, IsPlace, AreMarked, ArePlaced, IsBehind}
+use Rattle.sd_tables.specs.Watching.{is_named, naming, IsLearned, IsPlace, AreMarked, ArePlaced, IsAfter}
 use Rattle.sd_tables.proofs.Learning.{or_stay}
 use Rattle.sd_tables.proofs.Showing.{none_named}
 
@@ -84,7 +84,7 @@ naming_at : (packet : List ℕ) (before : List (List ℕ)) → pat_sections_at p
 unfolding pat_sections_at
 naming_at packet before = naming_by packet before (pid_of packet == 0) refl
 
--- what is watched behind a packet more
+-- what is watched after a packet more
 or_regrouped : (a b c d : Bool) → (a || (b || (c || d))) ≡ ((a || (b || c)) || d)
 or_regrouped true b c d = refl
 or_regrouped false true c d = refl
@@ -109,7 +109,7 @@ marks_more packet before marks new are learned = record {
       ∙ sym (watched_more pid packet before);
 }
 
--- the places behind a packet more
+-- the places after a packet more
 pub places_more : (packet : List ℕ) (before : List (List ℕ)) (places new : List (Option Assembling)) → ArePlaced before places →
     ((pid : ℕ) → pid_of packet ≢ pid → get_or new pid None ≡ get_or places pid None) →
     IsPlace (watched_on (pid_of packet) (packet ∷ before)) (get_or new (pid_of packet) None) → ArePlaced (packet ∷ before) new
@@ -124,16 +124,16 @@ places_more packet before places new are others here = record {
 
 -- the mark of a packet's PID says whether it is watched
 watched_is : (packet : List ℕ) (before : List (List ℕ)) (marks : List Bool) (places : List (Option Assembling)) (pid : ℕ) (mark : Bool) →
-    pid ≡ pid_of packet → pid < 8192 → get_or marks pid false ≡ mark → IsBehind before marks places →
+    pid ≡ pid_of packet → pid < 8192 → get_or marks pid false ≡ mark → IsAfter before marks places →
     is_watched (pid_of packet) before ≡ mark
 watched_is packet before marks places pid mark on h is are =
     ap (λ (p : ℕ). is_watched p before) (sym on) ∙ sym (are.marked.at pid h) ∙ is
 
 -- where the PID isn't watched, all stays
-pub unwatched_behind : (packet : List ℕ) (before : List (List ℕ)) (marks : List Bool) (places : List (Option Assembling)) (pid : ℕ) →
-    pid ≡ pid_of packet → pid < 8192 → get_or marks pid false ≡ false → IsBehind before marks places →
-    IsBehind (packet ∷ before) marks places
-unwatched_behind packet before marks places pid on h mark are =
+pub unwatched_after : (packet : List ℕ) (before : List (List ℕ)) (marks : List Bool) (places : List (Option Assembling)) (pid : ℕ) →
+    pid ≡ pid_of packet → pid < 8192 → get_or marks pid false ≡ false → IsAfter before marks places →
+    IsAfter (packet ∷ before) marks places
+unwatched_after packet before marks places pid on h mark are =
     let unwatched : is_watched (pid_of packet) before ≡ false = watched_is packet before marks places pid false on h mark are in
     let within : pid_of packet < 8192 = subst (λ (p : ℕ). p < 8192) on h in
     let none : sections_at packet before ≡ [] = no_sections packet before unwatched in
@@ -150,7 +150,7 @@ unwatched_behind packet before marks places pid on h mark are =
 
 pub unwatched_lines : (packet text : List ℕ) (before : List (List ℕ)) (marks : List Bool) (places : List (Option Assembling))
     (number pid : ℕ) →
-    pid ≡ pid_of packet → pid < 8192 → get_or marks pid false ≡ false → IsBehind before marks places →
+    pid ≡ pid_of packet → pid < 8192 → get_or marks pid false ≡ false → IsAfter before marks places →
     text ≡ text ++ flat_map (line_of number (pid_of packet)) (sections_at packet before)
 unwatched_lines packet text before marks places number pid on h mark are =
     let unwatched : is_watched (pid_of packet) before ≡ false = watched_is packet before marks places pid false on h mark are in
@@ -171,14 +171,14 @@ fed_is start counter payload packet s c p =
     ∙ ap (λ (x : ℕ). record { unit_start = (fed_of packet).unit_start; counter = x; payload = payload }) c
     ∙ ap (λ (x : List ℕ). record { unit_start = (fed_of packet).unit_start; counter = (fed_of packet).counter; payload = x }) p
 
--- what waits behind packets is what the last completes
-pub waiting_is : (packets : List Fed) → (behind packets).waiting ≡ completed_by packets
-unfolding behind
+-- what waits after packets is what the last completes
+pub waiting_is : (packets : List Fed) → (after packets).waiting ≡ completed_by packets
+unfolding after
 waiting_is packets = refl
 
 -- what its assembler lends, where the PID is watched, is what the packet completes
 shown_is : (packet : List ℕ) (before : List (List ℕ)) (fed : Assembling) → is_watched (pid_of packet) before ≡ true →
-    fed ≡ behind (fed_of packet ∷ watched_on (pid_of packet) before) → fed.waiting ≡ sections_at packet before
+    fed ≡ after (fed_of packet ∷ watched_on (pid_of packet) before) → fed.waiting ≡ sections_at packet before
 shown_is packet before fed watched is =
     ap (λ (a : Assembling). a.waiting) is ∙ waiting_is (fed_of packet ∷ watched_on (pid_of packet) before)
     ∙ sym (sections_watched packet before watched)
@@ -186,7 +186,7 @@ shown_is packet before fed watched is =
 -- the place of a PID, taken out and put back
 put_back : (packet : List ℕ) (before : List (List ℕ)) (places : List (Option Assembling)) (state : Assembling) → pid_of packet < 8192 →
     length places ≡ 8192 →
-    ArePlaced before places → state ≡ all_lent (behind (watched_on (pid_of packet) (packet ∷ before))) →
+    ArePlaced before places → state ≡ all_lent (after (watched_on (pid_of packet) (packet ∷ before))) →
     ArePlaced (packet ∷ before) (set (set places (pid_of packet) None) (pid_of packet) (Some state))
 put_back packet before places state h long are is =
     let out : List (Option Assembling) = set places (pid_of packet) None in
@@ -199,17 +199,17 @@ put_back packet before places state h long are is =
     (sym (get_or-set_same out (pid_of packet) (Some state) None within)) is)
 
 -- where it is watched, its assembler took the packet, and the PIDs that its sections name are learned
-pub watched_behind : (packet : List ℕ) (before : List (List ℕ)) (marks new : List Bool) (places out : List (Option Assembling))
+pub watched_after : (packet : List ℕ) (before : List (List ℕ)) (marks new : List Bool) (places out : List (Option Assembling))
     (fed put : Assembling) (pid place : ℕ) →
     pid ≡ pid_of packet → place ≡ pid → pid < 8192 → length places ≡ 8192 → out ≡ set places pid None → put ≡ all_lent fed →
-    get_or marks pid false ≡ true → IsBehind before marks places →
-    fed ≡ behind (fed_of packet ∷ watched_on (pid_of packet) before) → IsLearned (naming pid fed.waiting) marks new →
-    IsBehind (packet ∷ before) new (set out place (Some put))
-watched_behind packet before marks new places out fed put pid place on at h long taken lent mark are is learned =
+    get_or marks pid false ≡ true → IsAfter before marks places →
+    fed ≡ after (fed_of packet ∷ watched_on (pid_of packet) before) → IsLearned (naming pid fed.waiting) marks new →
+    IsAfter (packet ∷ before) new (set out place (Some put))
+watched_after packet before marks new places out fed put pid place on at h long taken lent mark are is learned =
     let watched : is_watched (pid_of packet) before ≡ true = watched_is packet before marks places pid true on h mark are in
     let within : pid_of packet < 8192 = subst (λ (p : ℕ). p < 8192) on h in
-    let state : put ≡ all_lent (behind (watched_on (pid_of packet) (packet ∷ before))) =
-    lent ∙ ap all_lent is ∙ ap (λ (w : List Fed). all_lent (behind w)) (sym (one_more packet before watched)) in
+    let state : put ≡ all_lent (after (watched_on (pid_of packet) (packet ∷ before))) =
+    lent ∙ ap all_lent is ∙ ap (λ (w : List Fed). all_lent (after w)) (sym (one_more packet before watched)) in
     let same : set (set places (pid_of packet) None) (pid_of packet) (Some put) ≡ set out place (Some put) =
     ap (λ (p : ℕ). set (set places p None) p (Some put)) (sym on)
     ∙ ap (λ (p : ℕ). set (set places pid None) p (Some put)) (sym at)
@@ -224,8 +224,8 @@ watched_behind packet before marks new places out fed put pid place on at h long
 -- and its lines are those of the sections
 pub watched_lines : (packet text new : List ℕ) (before : List (List ℕ)) (marks : List Bool) (places : List (Option Assembling))
     (fed : Assembling) (number pid : ℕ) →
-    pid ≡ pid_of packet → pid < 8192 → get_or marks pid false ≡ true → IsBehind before marks places →
-    fed ≡ behind (fed_of packet ∷ watched_on (pid_of packet) before) → new ≡ text ++ flat_map (line_of number pid) fed.waiting →
+    pid ≡ pid_of packet → pid < 8192 → get_or marks pid false ≡ true → IsAfter before marks places →
+    fed ≡ after (fed_of packet ∷ watched_on (pid_of packet) before) → new ≡ text ++ flat_map (line_of number pid) fed.waiting →
     new ≡ text ++ flat_map (line_of number (pid_of packet)) (sections_at packet before)
 watched_lines packet text new before marks places fed number pid on h mark are is pushed =
     let watched : is_watched (pid_of packet) before ≡ true = watched_is packet before marks places pid true on h mark are in
@@ -233,12 +233,12 @@ watched_lines packet text new before marks places fed number pid on h mark are i
     ∙ ap (λ (p : ℕ). text ++ flat_map (line_of number p) fed.waiting) on
     ∙ ap (λ (s : List (List ℕ)). text ++ flat_map (line_of number (pid_of packet)) s) (shown_is packet before fed watched is)
 
--- what the place of a watched PID is behind a packet more that was fed
-pub fed_behind : (packet : List ℕ) (before : List (List ℕ)) (fed : Assembling) (taken : Fed) (pid : ℕ) → pid ≡ pid_of packet →
+-- what the place of a watched PID is after a packet more that was fed
+pub fed_after : (packet : List ℕ) (before : List (List ℕ)) (fed : Assembling) (taken : Fed) (pid : ℕ) → pid ≡ pid_of packet →
     taken ≡ fed_of packet →
-    fed ≡ behind (taken ∷ watched_on pid before) → fed ≡ behind (fed_of packet ∷ watched_on (pid_of packet) before)
-fed_behind packet before fed taken pid on was is =
-    is ∙ ap (λ (f : Fed). behind (f ∷ watched_on pid before)) was ∙ ap (λ (p : ℕ). behind (fed_of packet ∷ watched_on p before)) on
+    fed ≡ after (taken ∷ watched_on pid before) → fed ≡ after (fed_of packet ∷ watched_on (pid_of packet) before)
+fed_after packet before fed taken pid on was is =
+    is ∙ ap (λ (f : Fed). after (f ∷ watched_on pid before)) was ∙ ap (λ (p : ℕ). after (fed_of packet ∷ watched_on p before)) on
 
 -- before the first packet there is no assembler
 pub first_placed : (places : List (Option Assembling)) → places ≡ replicate 8192 None → ArePlaced [] places

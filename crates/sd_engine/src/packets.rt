@@ -1,5 +1,5 @@
 ghost use Rattle.std.specs.Prelude.{◌≡◌};
-ghost use Rattle.sd_stream.specs.Walk.{Walks};
+ghost use Rattle.sd_engine.specs.Walk.{Walks};
 
 use crate::fault::StreamBreak;
 use sd_packet::Packet;
@@ -16,7 +16,7 @@ pub struct Packets<'a> {
 
 impl<'a> Model for Packets<'a> {
     ghost use Rattle.std.specs.Prelude.{◌≡◌, ◌≤◌, ◌/◌, ◌%◌, length, drop};
-    ghost use Rattle.sd_stream.specs.Walk.{Walk, walk_code};
+    ghost use Rattle.sd_engine.specs.Walk.{Walk, walk_code};
 
     ghost Value = { Walk };
 

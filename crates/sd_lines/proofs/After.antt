@@ -1,4 +1,4 @@
--- Fields of what stands behind some bytes.
+-- Fields of what stands after some bytes.
 use Rattle.std.proofs.Common.{ℕ, zero, suc, ◌+◌, ◌*◌, ◌/◌, ◌%◌, ◌≤◌, ◌≡◌, true, ◌==◌, List, length, drop, get_or-drop, refl, arith}
 use Rattle.std.specs.Prelude.{nat_le}
 use Rattle.std.proofs.lemmas.Bool.{and_parts, leb-true}
@@ -7,27 +7,27 @@ use Rattle.sd_psi.specs.Tables.{tag_of, content_of}
 use Rattle.sd_lines.specs.Lines.{is_ca}
 
 -- a bit
-bit_behind : (bytes : List ℕ) (front k : ℕ) → bit (drop front bytes) k ≡ bit bytes (8 * front + k)
-bit_behind bytes front k =
+bit_after : (bytes : List ℕ) (front k : ℕ) → bit (drop front bytes) k ≡ bit bytes (8 * front + k)
+bit_after bytes front k =
     let place : (8 * front + k) / 8 ≡ front + k / 8 = omega arith in
     let within : (8 * front + k) % 8 ≡ k % 8 = omega arith in
     rw (get_or-drop, place, within) refl
 
 -- a number
-field_behind : (bytes : List ℕ) (front at n : ℕ) → field (drop front bytes) at n ≡ field bytes (8 * front + at) n
+field_after : (bytes : List ℕ) (front at n : ℕ) → field (drop front bytes) at n ≡ field bytes (8 * front + at) n
 unfolding field
-field_behind bytes front at zero = refl
-field_behind bytes front at (suc n) =
+field_after bytes front at zero = refl
+field_after bytes front at (suc n) =
     let place : 8 * front + at + n ≡ 8 * front + (at + n) = omega arith in
-    rw (field_behind bytes front at n, bit_behind bytes front (at + n), place) refl
+    rw (field_after bytes front at n, bit_after bytes front (at + n), place) refl
 
--- CA_system_ID stands behind the tag and the length
-pub system_behind : (descriptor : List ℕ) → field (content_of descriptor) 0 16 ≡ field descriptor 16 16
-system_behind descriptor = field_behind descriptor 2 0 16
+-- CA_system_ID stands after the tag and the length
+pub system_after : (descriptor : List ℕ) → field (content_of descriptor) 0 16 ≡ field descriptor 16 16
+system_after descriptor = field_after descriptor 2 0 16
 
 -- and so does CA_PID
-pub pid_behind : (descriptor : List ℕ) → field (content_of descriptor) 19 13 ≡ field descriptor 35 13
-pid_behind descriptor = field_behind descriptor 2 19 13
+pub pid_after : (descriptor : List ℕ) → field (content_of descriptor) 19 13 ≡ field descriptor 35 13
+pid_after descriptor = field_after descriptor 2 19 13
 
 -- a CA_descriptor that is shown has both
 pub ca_is_long : (descriptor : List ℕ) → is_ca descriptor ≡ true → 4 ≤ length (content_of descriptor)

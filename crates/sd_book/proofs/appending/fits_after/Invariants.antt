@@ -2,7 +2,7 @@ use Rattle.std.proofs.Common.{◌≡◌, ◌++◌, take, drop}
 use Rattle.sd_book.specs.Tally.{IsTally}
 use Rattle.sd_book.specs.Text.{appended}
 use Rattle.sd_book.proofs.Judged.{AreJudged}
-use Rattle.sd_book.proofs.appending.fits_behind.Given as goal
+use Rattle.sd_book.proofs.appending.fits_after.Given as goal
 
 abbrev pub invariant-loop-i : goal.invariant-loop-i
 invariant-loop-i l = record {

@@ -5,18 +5,18 @@ use Rattle.std.specs.List.{take_while}
 use Rattle.std.proofs.lemmas.Bool.{eq-eqb, ne_eqb, eqb-false, lt-ltb, le-ltb, cond-true, cond-false, cases_lt, cases_eq}
 use Rattle.std.proofs.lemmas.List.{get_or-take, get_or-drop, drop-drop, take_rest, nil_from_length}
 use Rattle.std.proofs.lemmas.List.Sums.{take_while-cons}
-use Rattle.sd_stream.specs.Stream.{pieces, is_packet, packets_of, break_behind, break_of, ArePackets}
-use Rattle.sd_stream.specs.Walk.{Walk, TakesOne, IsAtBreak}
-use Rattle.sd_stream.specs.declared.fault.StreamBreak.{StreamBreak}
-use Rattle.sd_stream.specs.declared.fault.StreamBreak.TheVariants.{Torn, NoSync}
+use Rattle.sd_engine.specs.Stream.{pieces, is_packet, packets_of, break_after, break_of, ArePackets}
+use Rattle.sd_engine.specs.Walk.{Walk, TakesOne, IsAtBreak}
+use Rattle.sd_engine.specs.declared.fault.StreamBreak.{StreamBreak}
+use Rattle.sd_engine.specs.declared.fault.StreamBreak.TheVariants.{Torn, NoSync}
 
 -- why bytes break, by how many packets and whole packets' bytes there are, and how many bytes are left over
 abbrev break_by : ℕ → ℕ → ℕ → ℕ → Option StreamBreak
 break_by k packets whole left =
     if nat_lt packets whole then Some (NoSync (k + packets)) else if left == 0 then None else Some (Torn (k + whole))
 
-break_is : (k : ℕ) (bytes : List ℕ) → break_behind k bytes ≡ break_by k (length (packets_of bytes)) (length bytes / 188) (length bytes % 188)
-unfolding break_behind
+break_is : (k : ℕ) (bytes : List ℕ) → break_after k bytes ≡ break_by k (length (packets_of bytes)) (length bytes / 188) (length bytes % 188)
+unfolding break_after
 break_is k bytes = refl
 
 -- no whole packet's bytes are there
@@ -50,8 +50,8 @@ break_more k packets whole left =
     ]
 
 -- at the end there is no packet, and no break
-pub none_at_end : (k : ℕ) → break_behind k [] ≡ None
-unfolding break_behind packets_of pieces
+pub none_at_end : (k : ℕ) → break_after k [] ≡ None
+unfolding break_after packets_of pieces
 none_at_end k = refl
 
 -- fewer bytes than a packet has
@@ -61,7 +61,7 @@ torn_here w rest number is numbered some few =
     let none : packets_of rest ≡ [] = no_piece rest few in
     let whole : length rest / 188 ≡ 0 = omega arith in
     let left : (length rest % 188 == 0) ≡ false = ne_eqb (length rest % 188) 0 (λ e. omega arith) in
-    let here : break_behind number rest ≡ Some (Torn number) =
+    let here : break_after number rest ≡ Some (Torn number) =
     break_is number rest
     ∙ ap (λ (p : List (List ℕ)). break_by number (length p) (length rest / 188) (length rest % 188)) none
     ∙ ap (λ (n : ℕ). break_by number 0 n (length rest % 188)) whole
@@ -69,7 +69,7 @@ torn_here w rest number is numbered some few =
     ∙ ap (λ (n : ℕ). Some (Torn n)) (omega arith) in
     record {
       none = ap packets_of (sym is) ∙ none;
-      break = ap (λ (k : ℕ). break_behind k w.rest) (sym numbered) ∙ ap (break_behind number) (sym is) ∙ here;
+      break = ap (λ (k : ℕ). break_after k w.rest) (sym numbered) ∙ ap (break_after number) (sym is) ∙ here;
       unchanged = refl;
     }
 
@@ -80,14 +80,14 @@ no_sync_here w rest piece number is numbered long front no_sync =
     let same : slice_index piece 0 ≡ slice_index rest 0 = ap (λ (p : List ℕ). slice_index p 0) front ∙ get_or-take 188 rest 0 0 (omega arith) in
     let other : (slice_index rest 0 == 0x47) ≡ false = ne_eqb (slice_index rest 0) 0x47 (λ e. no_sync (same ∙ e)) in
     let none : packets_of rest ≡ [] = one_piece rest long ∙ cond-false (slice_index rest 0 == 0x47) _ _ other in
-    let here : break_behind number rest ≡ Some (NoSync number) =
+    let here : break_after number rest ≡ Some (NoSync number) =
     break_is number rest
     ∙ ap (λ (p : List (List ℕ)). break_by number (length p) (length rest / 188) (length rest % 188)) none
     ∙ cond-true (nat_lt 0 (length rest / 188)) _ _ (lt-ltb 0 (length rest / 188) (omega arith))
     ∙ ap (λ (n : ℕ). Some (NoSync n)) (omega arith) in
     record {
       none = ap packets_of (sym is) ∙ none;
-      break = ap (λ (k : ℕ). break_behind k w.rest) (sym numbered) ∙ ap (break_behind number) (sym is) ∙ here;
+      break = ap (λ (k : ℕ). break_after k w.rest) (sym numbered) ∙ ap (break_after number) (sym is) ∙ here;
       unchanged = refl;
     }
 
@@ -95,18 +95,18 @@ no_sync_here w rest piece number is numbered long front no_sync =
 packets_more : (bytes : List ℕ) → 188 ≤ length bytes → slice_index bytes 0 ≡ 0x47 → packets_of bytes ≡ take 188 bytes ∷ packets_of (drop 188 bytes)
 packets_more bytes long sync = one_piece bytes long ∙ cond-true (slice_index bytes 0 == 0x47) _ _ (eq-eqb (slice_index bytes 0) 0x47 sync)
 
-break_behind_more : (k : ℕ) (bytes : List ℕ) → 188 ≤ length bytes → slice_index bytes 0 ≡ 0x47 →
-    break_behind k bytes ≡ break_behind (k + 1) (drop 188 bytes)
-break_behind_more k bytes long sync =
-    let behind : List ℕ = drop 188 bytes in
-    let whole : length bytes / 188 ≡ suc (length behind / 188) = omega (arith, length-drop 188 bytes) in
-    let left : length bytes % 188 ≡ length behind % 188 = omega (arith, length-drop 188 bytes) in
+break_after_more : (k : ℕ) (bytes : List ℕ) → 188 ≤ length bytes → slice_index bytes 0 ≡ 0x47 →
+    break_after k bytes ≡ break_after (k + 1) (drop 188 bytes)
+break_after_more k bytes long sync =
+    let after : List ℕ = drop 188 bytes in
+    let whole : length bytes / 188 ≡ suc (length after / 188) = omega (arith, length-drop 188 bytes) in
+    let left : length bytes % 188 ≡ length after % 188 = omega (arith, length-drop 188 bytes) in
     break_is k bytes
     ∙ ap (λ (p : List (List ℕ)). break_by k (length p) (length bytes / 188) (length bytes % 188)) (packets_more bytes long sync)
-    ∙ ap (λ (n : ℕ). break_by k (suc (length (packets_of behind))) n (length bytes % 188)) whole
-    ∙ ap (λ (n : ℕ). break_by k (suc (length (packets_of behind))) (suc (length behind / 188)) n) left
-    ∙ break_more k (length (packets_of behind)) (length behind / 188) (length behind % 188)
-    ∙ sym (break_is (k + 1) behind)
+    ∙ ap (λ (n : ℕ). break_by k (suc (length (packets_of after))) n (length bytes % 188)) whole
+    ∙ ap (λ (n : ℕ). break_by k (suc (length (packets_of after))) (suc (length after / 188)) n) left
+    ∙ break_more k (length (packets_of after)) (length after / 188) (length after % 188)
+    ∙ sym (break_is (k + 1) after)
 
 -- it is the sync byte where it isn't another
 sync_byte : (byte : ℕ) → (byte ≢ 0x47 → ⊥) → byte ≡ 0x47
@@ -115,7 +115,7 @@ sync_byte byte sure = elim (cases_eq byte 0x47) [ inl is ↦ is | inr isnt ↦ a
 -- a packet
 pub packet_here : (w v : Walk) (rest piece packet : List ℕ) → rest ≡ w.rest → piece ≡ take 188 rest → packet ≡ piece → 188 ≤ length rest →
     (slice_index piece 0 ≢ 0x47 → ⊥) → v.rest ≡ drop 188 w.rest → v.taken ≡ w.taken + 1 → TakesOne w v packet
-packet_here w v rest piece packet is cut made long sync behind counted =
+packet_here w v rest piece packet is cut made long sync after counted =
     let front : packet ≡ take 188 rest = made ∙ cut in
     let room : 188 ≤ length w.rest = omega (arith, ap length is) in
     let same : slice_index piece 0 ≡ slice_index w.rest 0 =
@@ -125,15 +125,15 @@ packet_here w v rest piece packet is cut made long sync behind counted =
       first =
           packets_more w.rest room begins
           ∙ ap (λ (p : List ℕ). p ∷ packets_of (drop 188 w.rest)) (sym (front ∙ ap (take 188) is))
-          ∙ ap (λ (r : List ℕ). packet ∷ packets_of r) (sym behind);
+          ∙ ap (λ (r : List ℕ). packet ∷ packets_of r) (sym after);
       counted = counted;
       same_break =
-          break_behind_more w.taken w.rest room begins
-          ∙ ap (λ (k : ℕ). break_behind k (drop 188 w.rest)) (sym counted)
-          ∙ ap (break_behind v.taken) (sym behind);
+          break_after_more w.taken w.rest room begins
+          ∙ ap (λ (k : ℕ). break_after k (drop 188 w.rest)) (sym counted)
+          ∙ ap (break_after v.taken) (sym after);
     }
 
--- behind the first of some packets stand the others
+-- after the first of some packets stand the others
 others : (n : ℕ) (bytes : List ℕ) → ArePackets (suc n) bytes → ArePackets n (drop 188 bytes)
 others n bytes are = record {
   long = omega (arith, are.long, length-drop 188 bytes);
@@ -148,12 +148,12 @@ all_taken (suc n) bytes are =
     packets_more bytes (omega (arith, are.long)) (are.sync 0 (omega arith))
     ∙ ap (λ (p : List (List ℕ)). take 188 bytes ∷ p) (all_taken n (drop 188 bytes) (others n bytes are))
 
--- no break stands behind them
-all_unbroken : (n k : ℕ) (bytes : List ℕ) → ArePackets n bytes → break_behind k bytes ≡ None
+-- no break stands after them
+all_unbroken : (n k : ℕ) (bytes : List ℕ) → ArePackets n bytes → break_after k bytes ≡ None
 all_unbroken zero k bytes are =
-    let nothing : bytes ≡ [] = nil_from_length bytes (omega (arith, are.long)) in ap (break_behind k) nothing ∙ none_at_end k
+    let nothing : bytes ≡ [] = nil_from_length bytes (omega (arith, are.long)) in ap (break_after k) nothing ∙ none_at_end k
 all_unbroken (suc n) k bytes are =
-    break_behind_more k bytes (omega (arith, are.long)) (are.sync 0 (omega arith)) ∙ all_unbroken n (k + 1) (drop 188 bytes) (others n bytes are)
+    break_after_more k bytes (omega (arith, are.long)) (are.sync 0 (omega arith)) ∙ all_unbroken n (k + 1) (drop 188 bytes) (others n bytes are)
 
 pub none_broken : (n : ℕ) (bytes : List ℕ) → ArePackets n bytes → break_of bytes ≡ None
 none_broken n bytes are = all_unbroken n 0 bytes are
@@ -173,10 +173,10 @@ pub rest_is : (w : Walk) (bytes : List ℕ) (at : ℕ) → record { rest = drop 
     take (length bytes - at) (drop at bytes) ≡ w.rest
 rest_is w bytes at is = take_rest bytes at ∙ ap (λ (v : Walk). v.rest) is
 
--- those behind the next packet
-pub behind_is : (w : Walk) (bytes : List ℕ) (at : ℕ) → record { rest = drop at bytes; taken = at / 188 } ≡ w →
+-- those after the next packet
+pub after_is : (w : Walk) (bytes : List ℕ) (at : ℕ) → record { rest = drop at bytes; taken = at / 188 } ≡ w →
     drop (at + 188) bytes ≡ drop 188 w.rest
-behind_is w bytes at is = sym (drop-drop 188 at bytes) ∙ ap (λ (v : Walk). drop 188 v.rest) is
+after_is w bytes at is = sym (drop-drop 188 at bytes) ∙ ap (λ (v : Walk). drop 188 v.rest) is
 
 -- and the count of those that were taken
 pub counted_is : (w : Walk) (bytes : List ℕ) (at : ℕ) → record { rest = drop at bytes; taken = at / 188 } ≡ w →

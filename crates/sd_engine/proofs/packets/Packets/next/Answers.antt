@@ -1,7 +1,7 @@
 use Rattle.std.proofs.Common.{refl}
 use Rattle.std.proofs.lemmas.Bool.{true≢false}
-use Rattle.sd_stream.proofs.Walking.{torn_here, no_sync_here, packet_here, some_left, rest_is, behind_is, counted_is}
-use Rattle.sd_stream.proofs.packets.Packets.next.Goals as goal
+use Rattle.sd_engine.proofs.Walking.{torn_here, no_sync_here, packet_here, some_left, rest_is, after_is, counted_is}
+use Rattle.sd_engine.proofs.packets.Packets.next.Goals as goal
 
 pub returns-in_default : goal.returns-in_default
 returns-in_default c =
@@ -22,4 +22,4 @@ returns c =
     let cases = c.in-Some.ensures.cases in
     packet_here c.args.self.now _ _ c.in-Some.piece.now c.in-Some-new.packet (rest_is c.args.self.now i.bytes.now i.at c.self.view_is) cases.same
     c.in-Some-new.ensures.value cases.enough (λ other. true≢false (c.in-Some-new.ensures.none.1 other))
-    (behind_is c.args.self.now i.bytes.now i.at c.self.view_is) (counted_is c.args.self.now i.bytes.now i.at c.self.view_is)
+    (after_is c.args.self.now i.bytes.now i.at c.self.view_is) (counted_is c.args.self.now i.bytes.now i.at c.self.view_is)

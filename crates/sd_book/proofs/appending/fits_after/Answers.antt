@@ -2,7 +2,7 @@ use Rattle.std.proofs.Common.{rules, arith, ◌≡◌, ◌++◌, get_or, take, O
 use Rattle.sd_book.specs.Text.{command_fits}
 use Rattle.sd_book.proofs.Judged.{judged_one_more}
 use Rattle.sd_book.proofs.Longer.{fits_by_tally, front_more, length_front, appended_more}
-use Rattle.sd_book.proofs.appending.fits_behind.Goals as goal
+use Rattle.sd_book.proofs.appending.fits_after.Goals as goal
 
 pub loop-i-preserved : goal.loop-i-preserved
 loop-i-preserved c =

@@ -8,7 +8,7 @@ fn streams_are_walked(rt: HostRuntime) {
     bytes[188] = 0x47;
     bytes[189] = 0x1F;
     let wrong = [0x46; 188];
-    // Bytes, how many packets stand in front, and what comes behind them.
+    // Bytes, how many packets stand in front, and what comes after them.
     let table: [(&[u8], u64, Result<Option<Packet>, StreamBreak>); 6] = [
         (&[], 0, Ok(None)),
         (&bytes, 2, Ok(None)),
