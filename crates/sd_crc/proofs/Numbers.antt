@@ -75,7 +75,8 @@ next_bit n m x bit low e h b hx =
     ∙ ap (bit_xor (after_bit x bit)) (low_moves rest parts.1 ∙ twice))))
 
 -- a number of n bits acts as if it were added at the top
-pub bits_at_top : (n m x number : ℕ) → m + n ≡ 32 → x < 2 ^ 32 → after_bits x number n ≡ steps n (bit_xor x (number % 2 ^ n * 2 ^ m))
+pub bits_at_top : (n m x number : ℕ) → m + n ≡ 32 → x < 2 ^ 32
+    → after_bits x number n ≡ steps n (bit_xor x (number % 2 ^ n * 2 ^ m))
 unfolding steps after_bits
 bits_at_top zero m x number e h =
     let none : number % 1 ≡ 0 = omega arith in
@@ -85,26 +86,31 @@ bits_at_top (suc n) m x number e h =
     let split : number % 2 ^ suc n ≡ number / 2 ^ n % 2 * 2 ^ n + number % 2 ^ n = rw one (mod-pow-add number 1 n) in
     let below : number % 2 ^ n < 2 ^ n = mod_below number (2 ^ n) (pow_pos n) in
     let next = next_bit n m x (number / 2 ^ n % 2) (number % 2 ^ n) (omega arith) below (omega arith) h in
-    bits_at_top n (m + 1) (after_bit x (number / 2 ^ n % 2)) number (omega arith) (bit_below x (number / 2 ^ n % 2) h (omega arith))
+    bits_at_top n (m + 1) (after_bit x (number / 2 ^ n % 2)) number (omega arith)
+    (bit_below x (number / 2 ^ n % 2) h (omega arith))
     ∙ ap (steps n) (sym next ∙ ap (λ (p : ℕ). after_bit (bit_xor x (p * 2 ^ m)) 0) (sym split))
 
 -- the high bits of a number and its low bits
-pub bits_split : (j k x number : ℕ) → after_bits x number (j + k) ≡ after_bits (after_bits x (number / 2 ^ k) j) number k
+pub bits_split : (j k x number : ℕ)
+    → after_bits x number (j + k) ≡ after_bits (after_bits x (number / 2 ^ k) j) number k
 unfolding after_bits
 bits_split zero k x number = let e : zero + k ≡ k = omega arith in rw e refl
 bits_split (suc j) k x number =
     let e : suc j + k ≡ suc (j + k) = omega arith in
     let turned : k + j ≡ j + k = omega arith in
-    let same : number / 2 ^ k / 2 ^ j ≡ number / 2 ^ (j + k) = shr-shr number k j ∙ ap (λ (p : ℕ). number / 2 ^ p) turned in
+    let same : number / 2 ^ k / 2 ^ j ≡ number / 2 ^ (j + k) = shr-shr number k j
+    ∙ ap (λ (p : ℕ). number / 2 ^ p) turned in
     rw (e, same) (bits_split j k (after_bit x (number / 2 ^ (j + k) % 2)) number)
 
 -- a register stays a number of 32 bits
 pub bits_below : (n x number : ℕ) → x < 2 ^ 32 → after_bits x number n < 2 ^ 32
 unfolding after_bits
 bits_below zero x number h = h
-bits_below (suc n) x number h = bits_below n (after_bit x (number / 2 ^ n % 2)) number (bit_below x (number / 2 ^ n % 2) h (omega arith))
+bits_below (suc n) x number h =
+    bits_below n (after_bit x (number / 2 ^ n % 2)) number (bit_below x (number / 2 ^ n % 2) h (omega arith))
 
 -- of a byte the low eight bits count
 pub byte_same : (x byte other : ℕ) → x < 2 ^ 32 → byte % 256 ≡ other % 256 → after_bits x byte 8 ≡ after_bits x other 8
 byte_same x byte other h e =
-    bits_at_top 8 24 x byte refl h ∙ (ap (λ (b : ℕ). steps 8 (bit_xor x (b * 2 ^ 24))) e ∙ sym (bits_at_top 8 24 x other refl h))
+    bits_at_top 8 24 x byte refl h
+    ∙ (ap (λ (b : ℕ). steps 8 (bit_xor x (b * 2 ^ 24))) e ∙ sym (bits_at_top 8 24 x other refl h))

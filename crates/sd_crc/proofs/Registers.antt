@@ -111,7 +111,9 @@ unfolding up
 one_at_top x h =
     let gone : up (bit_xor x (2 ^ 31)) ≡ up x = up_xor x (2 ^ 31) ∙ xor_zero_r (up x) in
     elim (top x h) [
-      | inl low ↦ low_1 x low ∙ (ap (λ (n : ℕ). bit_xor n polynomial) (sym gone) ∙ sym (high_0 (bit_xor x (2 ^ 31)) (tops x (2 ^ 31) 0 1 low refl)))
+      | inl low ↦ low_1 x low
+          ∙ (ap (λ (n : ℕ). bit_xor n polynomial) (sym gone)
+          ∙ sym (high_0 (bit_xor x (2 ^ 31)) (tops x (2 ^ 31) 0 1 low refl)))
       | inr high ↦ high_1 x high ∙ (sym gone ∙ sym (low_0 (bit_xor x (2 ^ 31)) (tops x (2 ^ 31) 1 1 high refl)))
     ]
 

@@ -1,5 +1,6 @@
 -- A table of the registers of all bytes is made from those of eight bits.
-use Rattle.std.proofs.Common.{ℕ, zero, suc, ◌+◌, ◌-◌, ◌*◌, ◌^◌, ◌<◌, ◌≤◌, ◌≡◌, List, [], ◌∷◌, ◌++◌, length, get_or, map, length-append, inl, inr, refl, sym, ap, subst, ◌∙◌, arith}
+use Rattle.std.proofs.Common.{ℕ, zero, suc, ◌+◌, ◌-◌, ◌*◌, ◌^◌, ◌<◌, ◌≤◌, ◌≡◌, List, [], ◌∷◌, ◌++◌, length, get_or, map}
+use Rattle.std.proofs.Common.{length-append, inl, inr, refl, sym, ap, subst, ◌∙◌, arith}
 use Rattle.std.specs.Prelude.{bit_xor}
 use Rattle.std.specs.List.{range_with_len}
 use Rattle.std.proofs.Math.Pow.{pow_mono}
@@ -30,7 +31,8 @@ record IsTable (after m : ℕ) (row : List ℕ) : Type 0 where
   at : (i : ℕ) → i < m → get_or row i 0 ≡ alone after i
 
 -- the register of a bit and of lower bits is the sum of theirs
-bit_and_lower : (after j i : ℕ) → j < 8 → i < 2 ^ j → alone after (2 ^ j + i) ≡ bit_xor (alone after i) (alone after (2 ^ j))
+bit_and_lower : (after j i : ℕ) → j < 8 → i < 2 ^ j
+    → alone after (2 ^ j + i) ≡ bit_xor (alone after i) (alone after (2 ^ j))
 unfolding alone
 bit_and_lower after j i h k =
     let n : ℕ = 8 * after + 8 in
@@ -38,7 +40,8 @@ bit_and_lower after j i h k =
     let power : 2 ^ (j + 24) ≡ 2 ^ j * 2 ^ 24 = pow-add 2 j 24 in
     let bound : 2 ^ j ≤ 2 ^ 7 = pow_mono {i = j} {j = 7} (omega arith) in
     let whole : 1 * 2 ^ (j + 24) + i * 2 ^ 24 ≡ (2 ^ j + i) * 2 ^ 24 = omega arith in
-    let apart : bit_xor (1 * 2 ^ (j + 24)) (i * 2 ^ 24) ≡ (2 ^ j + i) * 2 ^ 24 = xor_apart 1 (j + 24) (i * 2 ^ 24) low ∙ whole in
+    let apart : bit_xor (1 * 2 ^ (j + 24)) (i * 2 ^ 24) ≡ (2 ^ j + i) * 2 ^ 24 = xor_apart 1 (j + 24) (i * 2 ^ 24) low
+    ∙ whole in
     let one : 1 * 2 ^ (j + 24) ≡ 2 ^ j * 2 ^ 24 = omega arith in
     ap (steps n) (sym apart ∙ (ap (λ (p : ℕ). bit_xor p (i * 2 ^ 24)) one ∙ xor_comm (2 ^ j * 2 ^ 24) (i * 2 ^ 24)))
     ∙ steps_xor n (i * 2 ^ 24) (2 ^ j * 2 ^ 24) (omega arith) (omega arith)
@@ -59,7 +62,8 @@ twice after m bit row table more =
             let place : m + k ≡ i = omega arith in
             get_or-append_right row high m i 0 table.long past
             ∙ (get_or-map (λ register. bit_xor register bit) row k 0 0 (omega (arith, table.long))
-            ∙ (ap (λ (r : ℕ). bit_xor r bit) (table.at k (omega arith)) ∙ (sym (more k (omega arith)) ∙ ap (alone after) place)))
+            ∙ (ap (λ (r : ℕ). bit_xor r bit) (table.at k (omega arith))
+            ∙ (sym (more k (omega arith)) ∙ ap (alone after) place)))
       ];
     }
 
@@ -69,10 +73,12 @@ unfolding alone
 next_bit after j h =
     let bound : 2 ^ j ≤ 2 ^ 6 = pow_mono {i = j} {j = 6} (omega arith) in
     let up : 2 ^ j * 2 ^ 24 * 2 ≡ 2 ^ (j + 1) * 2 ^ 24 = rw (pow-add 2 j 1) (omega arith) in
-    steps_turn (8 * after + 8) (2 ^ j * 2 ^ 24) ∙ ap (steps (8 * after + 8)) (low_moves (2 ^ j * 2 ^ 24) (omega arith) ∙ up)
+    steps_turn (8 * after + 8) (2 ^ j * 2 ^ 24)
+    ∙ ap (steps (8 * after + 8)) (low_moves (2 ^ j * 2 ^ 24) (omega arith) ∙ up)
 
 -- all doublings
-all_doubled : (n j after bit : ℕ) (row : List ℕ) → j + n ≡ 8 → (0 < n → bit ≡ alone after (2 ^ j)) → IsTable after (2 ^ j) row →
+all_doubled : (n j after bit : ℕ) (row : List ℕ) → j + n ≡ 8 → (0 < n → bit ≡ alone after (2 ^ j))
+    → IsTable after (2 ^ j) row →
     IsTable after (2 ^ 8) (doubled row (bits_from n bit))
 unfolding doubled bits_from
 all_doubled zero j after bit row e is table = let eight : j ≡ 8 =
@@ -84,7 +90,8 @@ all_doubled (suc n) j after bit row e is table =
     λ (h : 0 < n). ap (λ (b : ℕ). after_bit b 0) here ∙ next_bit after j (omega arith) in
     let sum : 2 ^ j + 2 ^ j ≡ 2 ^ (j + 1) = rw (pow-add 2 j 1) (omega arith) in
     let both =
-    twice after (2 ^ j) bit row table (λ i h. bit_and_lower after j i (omega arith) h ∙ ap (bit_xor (alone after i)) (sym here)) in
+    twice after (2 ^ j) bit row table (λ i h. bit_and_lower after j i (omega arith) h
+    ∙ ap (bit_xor (alone after i)) (sym here)) in
     all_doubled n (j + 1) after (after_bit bit 0) (row ++ map (λ register. bit_xor register bit) row) (omega arith) next
     (subst (λ (m : ℕ). IsTable after m (row ++ map (λ register. bit_xor register bit) row)) sum both)
 

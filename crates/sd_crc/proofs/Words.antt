@@ -1,5 +1,6 @@
 -- Four and eight bytes at a time, and a CRC after its bytes.
-use Rattle.std.proofs.Common.{ℕ, suc, ◌+◌, ◌*◌, ◌/◌, ◌%◌, ◌^◌, ◌<◌, ◌≡◌, List, [], ◌∷◌, ◌++◌, length, get_or, drop, drop-cons, refl, sym, ap, ◌∙◌, arith}
+use Rattle.std.proofs.Common.{ℕ, suc, ◌+◌, ◌*◌, ◌/◌, ◌%◌, ◌^◌, ◌<◌, ◌≡◌, List, [], ◌∷◌, ◌++◌, length, get_or, drop}
+use Rattle.std.proofs.Common.{drop-cons, refl, sym, ap, ◌∙◌, arith}
 use Rattle.std.specs.Prelude.{bit_xor}
 use Rattle.std.specs.Int.{w32, to_be_bytes, from_be_bytes}
 use Rattle.std.proofs.lemmas.List.{drop_all}
@@ -8,7 +9,8 @@ use lib.Bits.{xor_self}
 use Rattle.sd_crc.specs.Crc.{after_bits, after_byte, after_bytes, crc_of}
 use Rattle.sd_crc.specs.Steps.{steps, alone}
 use Rattle.sd_crc.proofs.Xor.{xor_apart, xor_scaled, xor_swap}
-use Rattle.sd_crc.proofs.Numbers.{steps_xor, steps_more, steps_move, steps_zero, bits_at_top, bits_split, bits_below, byte_same}
+use Rattle.sd_crc.proofs.Numbers.{steps_xor, steps_more, steps_move, steps_zero, bits_at_top, bits_split, bits_below}
+use Rattle.sd_crc.proofs.Numbers.{byte_same}
 
 -- some bytes and some more
 pub bytes_more : (x : ℕ) (front back : List ℕ) → after_bytes x (front ++ back) ≡ after_bytes (after_bytes x front) back
@@ -23,7 +25,8 @@ bytes_below x [] h = h
 bytes_below x (byte ∷ bytes) h = bytes_below (after_byte x byte) bytes (bits_below 8 x byte h)
 
 -- four bytes are the number that they make
-pub four_bytes : (x a b c d word : ℕ) → x < 2 ^ 32 → word < 2 ^ 32 → word / 2 ^ 24 % 256 ≡ a % 256 → word / 2 ^ 16 % 256 ≡ b % 256 →
+pub four_bytes : (x a b c d word : ℕ) → x < 2 ^ 32 → word < 2 ^ 32 → word / 2 ^ 24 % 256 ≡ a % 256
+    → word / 2 ^ 16 % 256 ≡ b % 256 →
     word / 2 ^ 8 % 256 ≡ c % 256 → word % 256 ≡ d % 256 →
     after_bytes x (a ∷ b ∷ c ∷ d ∷ []) ≡ steps 32 (bit_xor x word)
 unfolding after_bytes
@@ -52,7 +55,8 @@ four_bytes x a b c d word h w ea eb ec ed =
 -- after some bytes and the register that they led to, the register is 0
 pub own_register : (x : ℕ) → x < 2 ^ 32 → after_bytes x (to_be_bytes w32 x) ≡ 0
 own_register x h =
-    four_bytes x (x / 256 ^ 3 % 256) (x / 256 ^ 2 % 256) (x / 256 ^ 1 % 256) (x % 256) x h h (omega arith) (omega arith) (omega arith) (omega arith)
+    four_bytes x (x / 256 ^ 3 % 256) (x / 256 ^ 2 % 256) (x / 256 ^ 1 % 256) (x % 256) x h h (omega arith) (omega arith)
+    (omega arith) (omega arith)
     ∙ ap (steps 32) (xor_self x) ∙ steps_zero 32
 
 -- a CRC has 32 bits
@@ -69,13 +73,15 @@ crc_of_sealed bytes =
 
 -- a number of four bytes is the sum of those bytes, each in its place
 four_parts : (word : ℕ) → word < 2 ^ 32 →
-    bit_xor (bit_xor (bit_xor (word / 256 ^ 3 % 256 * 2 ^ 24) (word / 256 ^ 2 % 256 * 2 ^ 16)) (word / 256 ^ 1 % 256 * 2 ^ 8)) (word % 256) ≡ word
+    bit_xor (bit_xor (bit_xor (word / 256 ^ 3 % 256 * 2 ^ 24) (word / 256 ^ 2 % 256 * 2 ^ 16))
+    (word / 256 ^ 1 % 256 * 2 ^ 8)) (word % 256) ≡ word
 four_parts word h =
     let two : bit_xor (word / 256 ^ 3 % 256 * 2 ^ 24) (word / 256 ^ 2 % 256 * 2 ^ 16) ≡ word / 2 ^ 16 * 2 ^ 16 =
     xor_apart (word / 256 ^ 3 % 256) 24 (word / 256 ^ 2 % 256 * 2 ^ 16) (omega arith) ∙ omega arith in
     let three : bit_xor (word / 2 ^ 16 * 2 ^ 16) (word / 256 ^ 1 % 256 * 2 ^ 8) ≡ word / 2 ^ 8 * 2 ^ 8 =
     xor_apart (word / 2 ^ 16) 16 (word / 256 ^ 1 % 256 * 2 ^ 8) (omega arith) ∙ omega arith in
-    let four : bit_xor (word / 2 ^ 8 * 2 ^ 8) (word % 256) ≡ word = xor_apart (word / 2 ^ 8) 8 (word % 256) (omega arith) ∙ omega arith in
+    let four : bit_xor (word / 2 ^ 8 * 2 ^ 8) (word % 256) ≡ word =
+    xor_apart (word / 2 ^ 8) 8 (word % 256) (omega arith) ∙ omega arith in
     ap (λ (n : ℕ). bit_xor (bit_xor n (word / 256 ^ 1 % 256 * 2 ^ 8)) (word % 256)) two
     ∙ (ap (λ (n : ℕ). bit_xor n (word % 256)) three ∙ four)
 
@@ -85,7 +91,8 @@ moved_first m n byte h = steps_more m n byte ∙ ap (steps n) (steps_move m byte
 
 -- the register of a number under bits 0 is the sum of those of its bytes
 pub of_bytes : (after word : ℕ) → word < 2 ^ 32 →
-    bit_xor (bit_xor (bit_xor (alone (after + 3) (word / 256 ^ 3 % 256)) (alone (after + 2) (word / 256 ^ 2 % 256))) (alone (after + 1) (word / 256 ^ 1 % 256))) (alone after (word % 256)) ≡ steps (8 * after + 32) word
+    bit_xor (bit_xor (bit_xor (alone (after + 3) (word / 256 ^ 3 % 256)) (alone (after + 2) (word / 256 ^ 2 % 256)))
+    (alone (after + 1) (word / 256 ^ 1 % 256))) (alone after (word % 256)) ≡ steps (8 * after + 32) word
 unfolding alone
 of_bytes after word h =
     let n : ℕ = 8 * after + 32 in
@@ -107,9 +114,11 @@ of_bytes after word h =
     let tb : b * 2 ^ 8 ≡ word / 256 ^ 2 % 256 * 2 ^ 24 = omega arith in
     let tc : c * 2 ^ 16 ≡ word / 256 ^ 1 % 256 * 2 ^ 24 = omega arith in
     let eb : steps (8 * (after + 2) + 8) (word / 256 ^ 2 % 256 * 2 ^ 24) ≡ steps n b =
-    ap (steps (8 * (after + 2) + 8)) (sym tb) ∙ (sym (moved_first 8 (8 * (after + 2) + 8) b (omega arith)) ∙ ap (λ (k : ℕ). steps k b) nb) in
+    ap (steps (8 * (after + 2) + 8)) (sym tb)
+    ∙ (sym (moved_first 8 (8 * (after + 2) + 8) b (omega arith)) ∙ ap (λ (k : ℕ). steps k b) nb) in
     let ec : steps (8 * (after + 1) + 8) (word / 256 ^ 1 % 256 * 2 ^ 24) ≡ steps n c =
-    ap (steps (8 * (after + 1) + 8)) (sym tc) ∙ (sym (moved_first 16 (8 * (after + 1) + 8) c (omega arith)) ∙ ap (λ (k : ℕ). steps k c) nc) in
+    ap (steps (8 * (after + 1) + 8)) (sym tc)
+    ∙ (sym (moved_first 16 (8 * (after + 1) + 8) c (omega arith)) ∙ ap (λ (k : ℕ). steps k c) nc) in
     let ed : steps (8 * after + 8) (d * 2 ^ 24) ≡ steps n d =
     sym (moved_first 24 (8 * after + 8) d (omega arith)) ∙ ap (λ (k : ℕ). steps k d) nd in
     let whole : steps n word ≡ steps n (bit_xor (bit_xor (bit_xor a b) c) d) = ap (steps n) (sym (four_parts word h)) in
@@ -118,8 +127,12 @@ of_bytes after word h =
     steps_xor n (bit_xor (bit_xor a b) c) d habc hd
     ∙ ap (λ (k : ℕ). bit_xor k (steps n d)) (steps_xor n (bit_xor a b) c hab hc
     ∙ ap (λ (k : ℕ). bit_xor k (steps n c)) (steps_xor n a b ha hb)) in
-    ap (λ (k : ℕ). bit_xor (bit_xor (bit_xor k (steps (8 * (after + 2) + 8) (word / 256 ^ 2 % 256 * 2 ^ 24))) (steps (8 * (after + 1) + 8) (word / 256 ^ 1 % 256 * 2 ^ 24))) (steps (8 * after + 8) (d * 2 ^ 24))) ea
-    ∙ (ap (λ (k : ℕ). bit_xor (bit_xor (bit_xor (steps n a) k) (steps (8 * (after + 1) + 8) (word / 256 ^ 1 % 256 * 2 ^ 24))) (steps (8 * after + 8) (d * 2 ^ 24))) eb
+    ap (λ (k : ℕ). bit_xor
+    (bit_xor (bit_xor k (steps (8 * (after + 2) + 8) (word / 256 ^ 2 % 256 * 2 ^ 24)))
+    (steps (8 * (after + 1) + 8) (word / 256 ^ 1 % 256 * 2 ^ 24))) (steps (8 * after + 8) (d * 2 ^ 24))) ea
+    ∙ (ap (λ (k : ℕ). bit_xor
+    (bit_xor (bit_xor (steps n a) k) (steps (8 * (after + 1) + 8) (word / 256 ^ 1 % 256 * 2 ^ 24)))
+    (steps (8 * after + 8) (d * 2 ^ 24))) eb
     ∙ (ap (λ (k : ℕ). bit_xor (bit_xor (bit_xor (steps n a) (steps n b)) k) (steps (8 * after + 8) (d * 2 ^ 24))) ec
     ∙ (ap (λ (k : ℕ). bit_xor (bit_xor (bit_xor (steps n a) (steps n b)) (steps n c)) k) ed
     ∙ (sym split ∙ sym whole))))
@@ -131,14 +144,16 @@ two_words : (x first second : ℕ) (front back : List ℕ) → x < 2 ^ 32 → fi
     bit_xor (steps 64 (bit_xor x first)) (steps 32 second) ≡ after_bytes x (front ++ back)
 two_words x first second front back hx hf hs ef eb =
     let sum : bit_xor x first < 2 ^ 32 = xor_of_32 x first hx hf in
-    let more : steps 64 (bit_xor x first) ≡ steps 32 (steps 32 (bit_xor x first)) = steps_more 32 32 (bit_xor x first) in
+    let more : steps 64 (bit_xor x first) ≡ steps 32 (steps 32 (bit_xor x first)) =
+    steps_more 32 32 (bit_xor x first) in
     ap (λ (k : ℕ). bit_xor k (steps 32 second)) (more ∙ ap (steps 32) (sym ef))
     ∙ (sym (steps_xor 32 (after_bytes x front) second (bytes_below x front hx) hs)
     ∙ (sym eb ∙ sym (bytes_more x front back)))
 
 -- a list of eight, each written out
 pub eight_listed : (bs : List ℕ) → length bs ≡ 8 →
-    bs ≡ get_or bs 0 0 ∷ get_or bs 1 0 ∷ get_or bs 2 0 ∷ get_or bs 3 0 ∷ get_or bs 4 0 ∷ get_or bs 5 0 ∷ get_or bs 6 0 ∷ get_or bs 7 0 ∷ []
+    bs ≡ get_or bs 0 0 ∷ get_or bs 1 0 ∷ get_or bs 2 0 ∷ get_or bs 3 0 ∷ get_or bs 4 0 ∷ get_or bs 5 0 ∷ get_or bs 6 0 ∷
+    get_or bs 7 0 ∷ []
 eight_listed bs long =
     let one : (i : ℕ) → i < 8 → drop i bs ≡ get_or bs i 0 ∷ drop (suc i) bs = λ i h. drop-cons bs i 0 (omega arith) in
     let next : (i : ℕ) (rest : List ℕ) → i < 8 → drop (suc i) bs ≡ rest →
@@ -167,9 +182,11 @@ eight_bytes x first second bs hx long bytes ef es =
     let hs : second < 2 ^ 32 = omega arith in
     let y : ℕ = after_bytes x front in
     let one : y ≡ steps 32 (bit_xor x first) =
-    four_bytes x (get_or bs 0 0) (get_or bs 1 0) (get_or bs 2 0) (get_or bs 3 0) first hx hf (omega arith) (omega arith) (omega arith) (omega arith) in
+    four_bytes x (get_or bs 0 0) (get_or bs 1 0) (get_or bs 2 0) (get_or bs 3 0) first hx hf (omega arith) (omega arith)
+    (omega arith) (omega arith) in
     let two : after_bytes y back ≡ steps 32 (bit_xor y second) =
-    four_bytes y (get_or bs 4 0) (get_or bs 5 0) (get_or bs 6 0) (get_or bs 7 0) second (bytes_below x front hx) hs (omega arith) (omega arith) (omega arith) (omega arith) in
+    four_bytes y (get_or bs 4 0) (get_or bs 5 0) (get_or bs 6 0) (get_or bs 7 0) second (bytes_below x front hx) hs
+    (omega arith) (omega arith) (omega arith) (omega arith) in
     two_words x first second front back hx hf hs one two ∙ ap (after_bytes x) (sym (eight_listed bs long))
 
 -- a byte changes the register's top byte, which leaves, and the other three move up
@@ -187,7 +204,8 @@ byte_out x byte h b =
     let moved : steps 8 low ≡ x * 2 ^ 8 % 2 ^ 32 = steps_move 8 low (omega arith) ∙ omega arith in
     let own : byte % 2 ^ 8 * 2 ^ 24 ≡ byte * 2 ^ 24 = omega arith in
     let order : bit_xor x (byte * 2 ^ 24) ≡ bit_xor (bit_xor top byte * 2 ^ 24) low =
-    ap (λ (n : ℕ). bit_xor n (byte * 2 ^ 24)) (sym parts) ∙ (xor_swap (top * 2 ^ 24) low (byte * 2 ^ 24) ∙ ap (λ (n : ℕ). bit_xor n low) tb) in
+    ap (λ (n : ℕ). bit_xor n (byte * 2 ^ 24)) (sym parts)
+    ∙ (xor_swap (top * 2 ^ 24) low (byte * 2 ^ 24) ∙ ap (λ (n : ℕ). bit_xor n low) tb) in
     let both : bit_xor top byte * 2 ^ 24 < 2 ^ 32 = rw (sym tb) (xor_of_32 (top * 2 ^ 24) (byte * 2 ^ 24) th bh) in
     ap (λ (n : ℕ). bit_xor n (steps 8 (bit_xor top byte * 2 ^ 24))) (sym moved)
     ∙ (xor_comm (steps 8 low) (steps 8 (bit_xor top byte * 2 ^ 24))

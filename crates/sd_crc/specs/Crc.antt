@@ -4,7 +4,8 @@ use Rattle.std.specs.Prelude.{ℕ, zero, suc, ◌*◌, ◌/◌, ◌%◌, ◌^◌
 -- after one more bit: moved up by one, and changed by the polynomial where the bit that leaves isn't the bit that comes
 -- [ISO/IEC 13818-1, annex A]
 unfoldable pub after_bit : ℕ → ℕ → ℕ
-after_bit register bit = if register / 2 ^ 31 == bit then register * 2 % 2 ^ 32 else bit_xor (register * 2 % 2 ^ 32) 0x04C11DB7
+after_bit register bit = if register / 2 ^ 31 == bit then register * 2 % 2 ^ 32
+    else bit_xor (register * 2 % 2 ^ 32) 0x04C11DB7
 
 -- after the low n bits of a number, the highest of them first [ISO/IEC 13818-1, annex A]
 unfoldable pub after_bits : ℕ → ℕ → ℕ → ℕ

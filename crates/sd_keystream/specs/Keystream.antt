@@ -3,7 +3,8 @@ use Rattle.std.specs.Prelude.{ℕ, zero, suc, ◌+◌, ◌/◌, List, [], ◌∷
 use Rattle.std.specs.Int.{w32, to_le_bytes}
 use Rattle.rand_chacha.specs.ChaCha.{word_at, key_of}
 
--- the first k words of the ChaCha20 keystream with this 64-bit stream number from place 0 on, each as four little-endian bytes
+-- the first k words of the ChaCha20 keystream with this 64-bit stream number from place 0 on, each as four
+-- little-endian bytes
 -- [this project, docs/FORMATS.md, Keystream]
 unfoldable pub stream_words : List ℕ → ℕ → ℕ → List ℕ
 stream_words key number zero = []

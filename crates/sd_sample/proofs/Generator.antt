@@ -1,5 +1,6 @@
 -- What the generator gives from one byte to the next.
-use Rattle.std.proofs.Common.{ℕ, zero, suc, ◌+◌, ◌-◌, ◌/◌, ◌^◌, ◌<◌, ◌≤◌, ◌≡◌, List, [], ◌∷◌, ◌++◌, length, take, refl, sym, ap, ◌∙◌, append-nil, append_assoc, arith}
+use Rattle.std.proofs.Common.{ℕ, zero, suc, ◌+◌, ◌-◌, ◌/◌, ◌^◌, ◌<◌, ◌≤◌, ◌≡◌, List, [], ◌∷◌, ◌++◌, length, take, refl}
+use Rattle.std.proofs.Common.{sym, ap, ◌∙◌, append-nil, append_assoc, arith}
 use Rattle.std.specs.Prelude.{slice_set}
 use Rattle.std.proofs.lemmas.List.{take_more_set, take_all}
 use Rattle.std.proofs.lemmas.List.FromFn.{map-range_with_len_more}
@@ -9,7 +10,8 @@ use Rattle.sd_sample.specs.Sample.{next_state, state_at, generated}
 pub state_more : (x m n : ℕ) → state_at (state_at x m) n ≡ state_at x (m + n)
 unfolding state_at
 state_more x m zero = let e : m ≡ m + 0 = omega arith in ap (state_at x) e
-state_more x m (suc n) = let e : suc (m + n) ≡ m + suc n = omega arith in ap next_state (state_more x m n) ∙ ap (state_at x) e
+state_more x m (suc n) = let e : suc (m + n) ≡ m + suc n = omega arith in ap next_state (state_more x m n)
+    ∙ ap (state_at x) e
 
 -- the next state
 next_at : (x n : ℕ) → next_state (state_at x n) ≡ state_at x (n + 1)
@@ -31,14 +33,17 @@ unfolding state_at
 none_passed x start = let e : start - start ≡ 0 = omega arith in rw e refl
 
 -- the state after a byte more
-pub state_generated : (x start i s t : ℕ) → start ≤ i → s ≡ state_at x (i - start) → t ≡ next_state s → t ≡ state_at x (i + 1 - start)
+pub state_generated : (x start i s t : ℕ) → start ≤ i → s ≡ state_at x (i - start) → t ≡ next_state s
+    → t ≡ state_at x (i + 1 - start)
 state_generated x start i s t h e f =
     let m : i - start + 1 ≡ i + 1 - start = omega arith in
     f ∙ ap next_state e ∙ next_at x (i - start) ∙ ap (state_at x) m
 
 -- a byte more
-pub byte_generated : (x start i t : ℕ) (old bytes : List ℕ) → start ≤ i → i < length bytes → t ≡ state_at x (i + 1 - start) →
-    take i bytes ≡ take start old ++ generated x (i - start) → take (i + 1) (slice_set bytes i (t / 2 ^ 56)) ≡ take start old ++ generated x (i + 1 - start)
+pub byte_generated : (x start i t : ℕ) (old bytes : List ℕ) → start ≤ i → i < length bytes
+    → t ≡ state_at x (i + 1 - start) →
+    take i bytes ≡ take start old ++ generated x (i - start)
+    → take (i + 1) (slice_set bytes i (t / 2 ^ 56)) ≡ take start old ++ generated x (i + 1 - start)
 byte_generated x start i t old bytes h within is so_far =
     let m : i + 1 - start ≡ i - start + 1 = omega arith in
     let byte : t / 2 ^ 56 ≡ state_at x (i - start + 1) / 2 ^ 56 = ap (λ (s : ℕ). s / 2 ^ 56) (is ∙ ap (state_at x) m) in
@@ -49,7 +54,8 @@ byte_generated x start i t old bytes h within is so_far =
     ∙ ap (λ (r : List ℕ). take start old ++ r) (sym (ap (generated x) m ∙ next_generated x (i - start)))
 
 -- after the last byte
-pub all_generated : (x start i : ℕ) (old bytes : List ℕ) → length bytes ≡ 188 → 188 ≤ i → i ≤ 188 → take i bytes ≡ take start old ++ generated x (i - start) →
+pub all_generated : (x start i : ℕ) (old bytes : List ℕ) → length bytes ≡ 188 → 188 ≤ i → i ≤ 188
+    → take i bytes ≡ take start old ++ generated x (i - start) →
     bytes ≡ take start old ++ generated x (188 - start)
 all_generated x start i old bytes long low high e =
     let all : i ≡ 188 = omega arith in

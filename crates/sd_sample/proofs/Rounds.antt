@@ -1,5 +1,6 @@
 -- How many packets of each PID stand before a packet.
-use Rattle.std.proofs.Common.{ℕ, zero, suc, ◌+◌, ◌-◌, ◌*◌, ◌/◌, ◌%◌, ◌<◌, ◌≤◌, ◌≡◌, ◌≢◌, List, [], ◌∷◌, ◌++◌, cond, refl, ap, ◌∙◌, ⊎_elim, arith}
+use Rattle.std.proofs.Common.{ℕ, zero, suc, ◌+◌, ◌-◌, ◌*◌, ◌/◌, ◌%◌, ◌<◌, ◌≤◌, ◌≡◌, ◌≢◌, List, [], ◌∷◌, ◌++◌, cond}
+use Rattle.std.proofs.Common.{refl, ap, ◌∙◌, ⊎_elim, arith}
 use Rattle.std.specs.Prelude.{◌==◌}
 use Rattle.std.specs.List.{range_with_len, sum_by, count_by}
 use Rattle.std.proofs.lemmas.Bool.{cases_lt}
@@ -69,7 +70,13 @@ pat_counted k h c =
     let pmts : before 0x1000 (suc k) ≡ before 0x1000 k + 0 = counted 0x1000 k 0x0000 is in
     let seconds : before 0x0101 (suc k) ≡ before 0x0101 k + 0 = counted 0x0101 k 0x0000 is in
     let firsts : before 0x0100 (suc k) ≡ before 0x0100 k + 0 = counted 0x0100 k 0x0000 is in
-    record { pats = omega (arith, c.pats); pmts = omega (arith, c.pmts); seconds = omega (arith, c.seconds); firsts = omega (arith, c.firsts) }
+    record {
+      pats = omega (arith, c.pats);
+      pmts = omega (arith, c.pmts);
+      seconds = omega (arith, c.seconds);
+      firsts =
+          omega (arith, c.firsts);
+    }
 
 pmt_counted : (k : ℕ) → k % 100 ≡ 1 → Counts k → Counts (suc k)
 pmt_counted k h c =
@@ -78,7 +85,13 @@ pmt_counted k h c =
     let pmts : before 0x1000 (suc k) ≡ before 0x1000 k + 1 = counted 0x1000 k 0x1000 is in
     let seconds : before 0x0101 (suc k) ≡ before 0x0101 k + 0 = counted 0x0101 k 0x1000 is in
     let firsts : before 0x0100 (suc k) ≡ before 0x0100 k + 0 = counted 0x0100 k 0x1000 is in
-    record { pats = omega (arith, c.pats); pmts = omega (arith, c.pmts); seconds = omega (arith, c.seconds); firsts = omega (arith, c.firsts) }
+    record {
+      pats = omega (arith, c.pats);
+      pmts = omega (arith, c.pmts);
+      seconds = omega (arith, c.seconds);
+      firsts =
+          omega (arith, c.firsts);
+    }
 
 null_counted : (k : ℕ) → k % 100 ≡ 2 → Counts k → Counts (suc k)
 null_counted k h c =
@@ -87,7 +100,13 @@ null_counted k h c =
     let pmts : before 0x1000 (suc k) ≡ before 0x1000 k + 0 = counted 0x1000 k 0x1FFF is in
     let seconds : before 0x0101 (suc k) ≡ before 0x0101 k + 0 = counted 0x0101 k 0x1FFF is in
     let firsts : before 0x0100 (suc k) ≡ before 0x0100 k + 0 = counted 0x0100 k 0x1FFF is in
-    record { pats = omega (arith, c.pats); pmts = omega (arith, c.pmts); seconds = omega (arith, c.seconds); firsts = omega (arith, c.firsts) }
+    record {
+      pats = omega (arith, c.pats);
+      pmts = omega (arith, c.pmts);
+      seconds = omega (arith, c.seconds);
+      firsts =
+          omega (arith, c.firsts);
+    }
 
 second_counted : (k : ℕ) → 3 ≤ k % 100 → k % 4 ≡ 3 → Counts k → Counts (suc k)
 second_counted k h m c =
@@ -96,7 +115,13 @@ second_counted k h m c =
     let pmts : before 0x1000 (suc k) ≡ before 0x1000 k + 0 = counted 0x1000 k 0x0101 is in
     let seconds : before 0x0101 (suc k) ≡ before 0x0101 k + 1 = counted 0x0101 k 0x0101 is in
     let firsts : before 0x0100 (suc k) ≡ before 0x0100 k + 0 = counted 0x0100 k 0x0101 is in
-    record { pats = omega (arith, c.pats); pmts = omega (arith, c.pmts); seconds = omega (arith, c.seconds); firsts = omega (arith, c.firsts) }
+    record {
+      pats = omega (arith, c.pats);
+      pmts = omega (arith, c.pmts);
+      seconds = omega (arith, c.seconds);
+      firsts =
+          omega (arith, c.firsts);
+    }
 
 first_counted : (k : ℕ) → 3 ≤ k % 100 → k % 4 < 3 → Counts k → Counts (suc k)
 first_counted k h m c =
@@ -105,7 +130,13 @@ first_counted k h m c =
     let pmts : before 0x1000 (suc k) ≡ before 0x1000 k + 0 = counted 0x1000 k 0x0100 is in
     let seconds : before 0x0101 (suc k) ≡ before 0x0101 k + 0 = counted 0x0101 k 0x0100 is in
     let firsts : before 0x0100 (suc k) ≡ before 0x0100 k + 1 = counted 0x0100 k 0x0100 is in
-    record { pats = omega (arith, c.pats); pmts = omega (arith, c.pmts); seconds = omega (arith, c.seconds); firsts = omega (arith, c.firsts) }
+    record {
+      pats = omega (arith, c.pats);
+      pmts = omega (arith, c.pmts);
+      seconds = omega (arith, c.seconds);
+      firsts =
+          omega (arith, c.firsts);
+    }
 
 counts : (k : ℕ) → Counts k
 counts zero = record { pats = refl; pmts = refl; seconds = refl; firsts = refl }
@@ -114,7 +145,9 @@ counts (suc k) =
     ⊎_elim (λ (h : k % 100 < 1). pat_counted k (omega arith) c)
     (λ (h : 1 ≤ k % 100). ⊎_elim (λ (g : k % 100 < 2). pmt_counted k (omega arith) c)
     (λ (g : 2 ≤ k % 100). ⊎_elim (λ (f : k % 100 < 3). null_counted k (omega arith) c)
-    (λ (f : 3 ≤ k % 100). ⊎_elim (λ (m : k % 4 < 3). first_counted k f m c) (λ (m : 3 ≤ k % 4). second_counted k f (omega arith) c) (cases_lt (k % 4) 3)) (cases_lt (k % 100) 3)) (cases_lt (k % 100) 2)) (cases_lt (k % 100) 1)
+    (λ (f : 3 ≤ k % 100). ⊎_elim (λ (m : k % 4 < 3). first_counted k f m c)
+    (λ (m : 3 ≤ k % 4). second_counted k f (omega arith) c) (cases_lt (k % 4) 3)) (cases_lt (k % 100) 3))
+    (cases_lt (k % 100) 2)) (cases_lt (k % 100) 1)
 
 -- the counters, by the places in a round
 pub pat_counter : (k : ℕ) → k % 100 ≡ 0 → counter_at k ≡ k / 100 % 16

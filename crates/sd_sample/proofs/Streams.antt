@@ -1,5 +1,7 @@
 -- Streams of packets, written in pieces.
-use Rattle.std.proofs.Common.{ℕ, zero, suc, ◌+◌, ◌-◌, ◌<◌, ◌≤◌, ◌≡◌, List, [], ◌∷◌, ◌++◌, length, take, drop, map, length-append, length-drop, length-take-le, take_at, refl, sym, ap, subst, ◌∙◌, append_assoc, arith}
+use Rattle.std.proofs.Common.{ℕ, zero, suc, ◌+◌, ◌-◌, ◌<◌, ◌≤◌, ◌≡◌, List, [], ◌∷◌, ◌++◌, length, take, drop, map}
+use Rattle.std.proofs.Common.{length-append, length-drop, length-take-le, take_at, refl, sym, ap, subst, ◌∙◌}
+use Rattle.std.proofs.Common.{append_assoc, arith}
 use Rattle.std.specs.Prelude.{Option, slice_set}
 use Rattle.std.specs.List.{range_with_len, flat_map}
 use Rattle.std.specs.Io.KnownBytes.{Appends}
@@ -22,16 +24,19 @@ range_append a zero n =
 range_append a (suc m) n =
     let e : a + suc m ≡ a + 1 + m = omega arith in
     let f : suc (m + n) ≡ suc m + n = omega arith in
-    ap (λ (r : List ℕ). a ∷ r) (ap (λ (b : ℕ). range_with_len (a + 1) m ++ range_with_len b n) e ∙ range_append (a + 1) m n)
+    ap (λ (r : List ℕ). a ∷ r) (ap (λ (b : ℕ). range_with_len (a + 1) m ++ range_with_len b n) e
+    ∙ range_append (a + 1) m n)
     ∙ ap (range_with_len a) f
 
 -- a stream and the packets after it
-pub sample_more : (number done count : ℕ) → sample_of number done ++ flat_map (packet_of number) (range_with_len done count) ≡ sample_of number (done + count)
+pub sample_more : (number done count : ℕ) → sample_of number done
+    ++ flat_map (packet_of number) (range_with_len done count) ≡ sample_of number (done + count)
 unfolding sample_of
 sample_more number done count =
     let e : done ≡ 0 + done = omega arith in
     sym (flat_map-append (packet_of number) (range_with_len 0 done) (range_with_len done count))
-    ∙ ap (flat_map (packet_of number)) (ap (λ (a : ℕ). range_with_len 0 done ++ range_with_len a count) e ∙ range_append 0 done count)
+    ∙ ap (flat_map (packet_of number)) (ap (λ (a : ℕ). range_with_len 0 done ++ range_with_len a count) e
+    ∙ range_append 0 done count)
 
 -- before the first packet
 pub state_begins : (number s : ℕ) → s ≡ number → s ≡ state_at number (generated_before 0)
@@ -43,19 +48,24 @@ unfolding sample_of
 none_written a number = Appends-nil a
 
 -- the state before the next packet
-pub state_next : (number k s t : ℕ) → s ≡ state_at number (generated_before k) → t ≡ state_at s (generated_in k) → t ≡ state_at number (generated_before (k + 1))
+pub state_next : (number k s t : ℕ) → s ≡ state_at number (generated_before k) → t ≡ state_at s (generated_in k)
+    → t ≡ state_at number (generated_before (k + 1))
 state_next number k s t e f =
     let m : suc k ≡ k + 1 = omega arith in
     f ∙ ap (λ (r : ℕ). state_at r (generated_in k)) e ∙ state_more number (generated_before k) (generated_in k)
     ∙ ap (state_at number) (sym (generated_more k) ∙ ap generated_before m)
 
 -- before the first packet of a piece
-pub state_stays : (number first s : ℕ) → s ≡ state_at number (generated_before first) → s ≡ state_at number (generated_before (first + 0))
-state_stays number first s e = let m : first ≡ first + 0 = omega arith in e ∙ ap (λ (k : ℕ). state_at number (generated_before k)) m
+pub state_stays : (number first s : ℕ) → s ≡ state_at number (generated_before first)
+    → s ≡ state_at number (generated_before (first + 0))
+state_stays number first s e = let m : first ≡ first + 0 = omega arith in e
+    ∙ ap (λ (k : ℕ). state_at number (generated_before k)) m
 
 -- a piece with a packet more
-pub piece_more : (number first i s : ℕ) (piece : List (List ℕ)) (packet : List ℕ) → i < length piece → take i piece ≡ map (packet_of number) (range_with_len first i) →
-    s ≡ state_at number (generated_before (first + i)) → packet ≡ packet_at (first + i) s → take (i + 1) (slice_set piece i packet) ≡ map (packet_of number) (range_with_len first (i + 1))
+pub piece_more : (number first i s : ℕ) (piece : List (List ℕ)) (packet : List ℕ) → i < length piece
+    → take i piece ≡ map (packet_of number) (range_with_len first i) →
+    s ≡ state_at number (generated_before (first + i)) → packet ≡ packet_at (first + i) s
+    → take (i + 1) (slice_set piece i packet) ≡ map (packet_of number) (range_with_len first (i + 1))
 piece_more number first i s piece packet h so_far e is =
     take_more_set piece i packet h
     ∙ ap (λ (r : List (List ℕ)). r ++ packet ∷ []) so_far
@@ -63,12 +73,16 @@ piece_more number first i s piece packet h so_far e is =
     ∙ sym (map-range_with_len_more (packet_of number) first i (first + i) refl)
 
 -- a piece whose front was filled is as long as before
-pub piece_stays_long : (count : ℕ) (new old : List (List ℕ)) → length new ≡ length (take count old) → count ≤ length old → length (new ++ drop count old) ≡ length old
-piece_stays_long count new old e h = omega (arith, length-append new (drop count old), length-drop count old, length-take-le count old h)
+pub piece_stays_long : (count : ℕ) (new old : List (List ℕ)) → length new ≡ length (take count old) → count ≤ length old
+    → length (new ++ drop count old) ≡ length old
+piece_stays_long count new old e h =
+    omega (arith, length-append new (drop count old), length-drop count old, length-take-le count old h)
 
 -- the bytes of that front are those of its packets
-pub piece_bytes : (number done count : ℕ) (new old : List (List ℕ)) (bytes : List ℕ) → count ≤ length old → length new ≡ length (take count old) →
-    new ≡ map (packet_of number) (range_with_len done (length (take count old))) → bytes ≡ flat_map (λ (p : List ℕ). p) (take count (new ++ drop count old)) →
+pub piece_bytes : (number done count : ℕ) (new old : List (List ℕ)) (bytes : List ℕ) → count ≤ length old
+    → length new ≡ length (take count old) →
+    new ≡ map (packet_of number) (range_with_len done (length (take count old)))
+    → bytes ≡ flat_map (λ (p : List ℕ). p) (take count (new ++ drop count old)) →
     bytes ≡ flat_map (packet_of number) (range_with_len done count)
 piece_bytes number done count new old bytes h same made flat =
     let long : length (take count old) ≡ count = length-take-le count old h in
@@ -78,21 +92,27 @@ piece_bytes number done count new old bytes h same made flat =
     ∙ ap (λ (n : ℕ). flat_map (packet_of number) (range_with_len done n)) long
 
 -- a stream whose next piece was written
-pub written_more : (a b c : Option (List ℕ)) (number done count : ℕ) (bytes : List ℕ) → Appends a b (sample_of number done) →
-    bytes ≡ flat_map (packet_of number) (range_with_len done count) → Appends b c bytes → Appends a c (sample_of number (done + count))
+pub written_more : (a b c : Option (List ℕ)) (number done count : ℕ) (bytes : List ℕ)
+    → Appends a b (sample_of number done) →
+    bytes ≡ flat_map (packet_of number) (range_with_len done count) → Appends b c bytes
+    → Appends a c (sample_of number (done + count))
 written_more a b c number done count bytes p e q =
-    subst (Appends a c) (ap (λ (r : List ℕ). sample_of number done ++ r) e ∙ sample_more number done count) (Appends-trans a b c _ _ p q)
+    subst (Appends a c) (ap (λ (r : List ℕ). sample_of number done ++ r) e
+    ∙ sample_more number done count) (Appends-trans a b c _ _ p q)
 
 -- a stream of whose next piece a front was written
-pub written_front : (a b c : Option (List ℕ)) (number done count packets : ℕ) (bytes : List ℕ) → done + count ≤ packets → Appends a b (sample_of number done) →
-    bytes ≡ flat_map (packet_of number) (range_with_len done count) → AppendsPrefix b c bytes → AppendsPrefix a c (sample_of number packets)
+pub written_front : (a b c : Option (List ℕ)) (number done count packets : ℕ) (bytes : List ℕ) → done + count ≤ packets
+    → Appends a b (sample_of number done) →
+    bytes ≡ flat_map (packet_of number) (range_with_len done count) → AppendsPrefix b c bytes
+    → AppendsPrefix a c (sample_of number packets)
 written_front a b c number done count packets bytes within p e w =
     let piece : List ℕ = flat_map (packet_of number) (range_with_len done count) in
     let after : List ℕ = flat_map (packet_of number) (range_with_len (done + count) (packets - (done + count))) in
     let all : done + count + (packets - (done + count)) ≡ packets = omega arith in
     let joined : (sample_of number done ++ w.0) ++ (w.1.0 ++ after) ≡ sample_of number packets =
     append_assoc (sample_of number done) w.0 (w.1.0 ++ after)
-    ∙ ap (λ (r : List ℕ). sample_of number done ++ r) (sym (append_assoc w.0 w.1.0 after) ∙ ap (λ (r : List ℕ). r ++ after) (w.1.1 ∙ e))
+    ∙ ap (λ (r : List ℕ). sample_of number done ++ r) (sym (append_assoc w.0 w.1.0 after)
+    ∙ ap (λ (r : List ℕ). r ++ after) (w.1.1 ∙ e))
     ∙ sym (append_assoc (sample_of number done) piece after)
     ∙ ap (λ (r : List ℕ). r ++ after) (sample_more number done count)
     ∙ sample_more number (done + count) (packets - (done + count))

@@ -1,6 +1,7 @@
 ghost use Rattle.std.specs.Prelude.{◌≡◌, ◌-◌, ◌%◌, ◌<◌, ◌≤◌, ◌++◌, length, replicate, take};
 ghost use Rattle.sd_packet.specs.Packing.{packed};
-ghost use Rattle.sd_sample.specs.Sample.{next_state, state_at, generated, pid_at, counter_at, generated_in, header_at, adaptation_field, packet_at};
+ghost use Rattle.sd_sample.specs.Sample.{next_state, state_at, generated, pid_at, counter_at, generated_in, header_at};
+ghost use Rattle.sd_sample.specs.Sample.{adaptation_field, packet_at};
 
 use sd_packet::pack_section;
 

@@ -1,5 +1,6 @@
 -- What a packet is when its payload is laid under a stream, and again.
-use Rattle.std.proofs.Common.{drop_at, ℕ, zero, suc, ◌+◌, ◌-◌, ◌*◌, ◌%◌, ◌<◌, ◌≤◌, ◌≡◌, Bool, true, false, List, [], ◌∷◌, ◌++◌, length, take, drop, refl, sym, ◌∙◌, ap, arith}
+use Rattle.std.proofs.Common.{drop_at, ℕ, zero, suc, ◌+◌, ◌-◌, ◌*◌, ◌%◌, ◌<◌, ◌≤◌, ◌≡◌, Bool, true, false, List, []}
+use Rattle.std.proofs.Common.{◌∷◌, ◌++◌, length, take, drop, refl, sym, ◌∙◌, ap, arith}
 use Rattle.std.specs.Prelude.{bit_xor, slice_set, slice_index, nat_le, ◌==◌, ◌&&◌, if◌then◌else◌}
 use borrow.Rule.Slice.PartMut.{put_mid, mid_of}
 use Rattle.std.proofs.lemmas.List.{drop-set-lt, drop_all, take_all, length-take-le, length-set, length-drop, append-nil}
@@ -20,20 +21,28 @@ part_is_enough [] stream n h = refl
 part_is_enough (x ∷ text) [] zero h = refl
 part_is_enough (x ∷ text) [] (suc n) h = refl
 part_is_enough (x ∷ text) (y ∷ stream) zero h = absurd (omega arith)
-part_is_enough (x ∷ text) (y ∷ stream) (suc n) h = ap (λ (r : List ℕ). bit_xor x y ∷ r) (part_is_enough text stream n (omega arith))
+part_is_enough (x ∷ text) (y ∷ stream) (suc n) h =
+    ap (λ (r : List ℕ). bit_xor x y ∷ r) (part_is_enough text stream n (omega arith))
 
 -- what stands after a changed byte stays
 pub after_stays : (bytes : List ℕ) (n y : ℕ) → 4 ≤ n → drop n (slice_set bytes 3 y) ≡ drop n bytes
 after_stays bytes n y h = drop-set-lt n bytes 3 y (omega arith)
 
 -- a changed byte and a stream laid over all that stands from a place on
-pub laid_after : (bytes stream text : List ℕ) (start y : ℕ) → 4 ≤ start → length bytes ≡ 188 → text ≡ xored (mid_of start (188 - start) (slice_set bytes 3 y)) (take (188 - start) stream) → put_mid start (188 - start) (slice_set bytes 3 y) text ≡ take start (slice_set bytes 3 y) ++ xored (drop start bytes) stream
+pub laid_after : (bytes stream text : List ℕ) (start y : ℕ) → 4 ≤ start → length bytes ≡ 188
+    → text ≡ xored (mid_of start (188 - start) (slice_set bytes 3 y)) (take (188 - start) stream)
+    → put_mid start (188 - start) (slice_set bytes 3 y) text ≡ take start (slice_set bytes 3 y)
+    ++ xored (drop start bytes) stream
 laid_after bytes stream text start y low long e =
     let held : List ℕ = slice_set bytes 3 y in
     let here : length (drop start held) ≡ 188 - start = omega (arith, length-drop start held, length-set bytes 3 y) in
     let none : drop (188 - start) (drop start held) ≡ [] = drop_all (188 - start) (drop start held) (omega arith) in
-    let all : mid_of start (188 - start) held ≡ drop start held = take_all (188 - start) (drop start held) (omega arith) in
-    let part : text ≡ xored (drop start bytes) stream = e ∙ (ap (λ (r : List ℕ). xored r (take (188 - start) stream)) all ∙ (part_is_enough (drop start held) stream (188 - start) (sym here) ∙ ap (λ (r : List ℕ). xored r stream) (after_stays bytes start y low))) in
+    let all : mid_of start (188 - start) held ≡ drop start held =
+    take_all (188 - start) (drop start held) (omega arith) in
+    let part : text ≡ xored (drop start bytes) stream = e
+    ∙ (ap (λ (r : List ℕ). xored r (take (188 - start) stream)) all
+    ∙ (part_is_enough (drop start held) stream (188 - start) (sym here)
+    ∙ ap (λ (r : List ℕ). xored r stream) (after_stays bytes start y low))) in
     rw none (ap (λ (r : List ℕ). take start held ++ r) (append-nil text ∙ part))
 
 -- the bytes of a header whose fourth byte is changed, and the byte after it where the front reaches it
@@ -45,7 +54,8 @@ pub record HasFront (old new : List ℕ) (start fourth : ℕ) : Type 0 where
   pub after : 4 < start → slice_index new 4 ≡ slice_index old 4
 
 -- they are so where the front is kept but for the fourth byte
-pub front_is : (packet payload : List ℕ) (start fourth : ℕ) → 4 ≤ start → 5 ≤ length packet → HasFront packet (take start (slice_set packet 3 fourth) ++ payload) start fourth
+pub front_is : (packet payload : List ℕ) (start fourth : ℕ) → 4 ≤ start → 5 ≤ length packet
+    → HasFront packet (take start (slice_set packet 3 fourth) ++ payload) start fourth
 front_is [] payload start y h long = absurd (omega arith)
 front_is (a ∷ []) payload start y h long = absurd (omega arith)
 front_is (a ∷ (b ∷ [])) payload start y h long = absurd (omega arith)
@@ -62,14 +72,18 @@ front_is (a ∷ (b ∷ (c ∷ (d ∷ (e ∷ rest))))) payload (suc (suc (suc (su
 
 -- a text laid twice after a front that stays is the whole
 rest_back : (rest stream : List ℕ) (k : ℕ) → k ≤ length rest → length rest ≤ k + length stream →
-    take k (take k rest ++ xored (drop k rest) stream) ++ xored (drop k (take k rest ++ xored (drop k rest) stream)) stream ≡ rest
+    take k (take k rest ++ xored (drop k rest) stream)
+    ++ xored (drop k (take k rest ++ xored (drop k rest) stream)) stream ≡ rest
 rest_back rest stream zero h long = xored_twice rest stream (omega arith)
 rest_back [] stream (suc k) h long = absurd (omega arith)
-rest_back (x ∷ rest) stream (suc k) h long = ap (λ (r : List ℕ). x ∷ r) (rest_back rest stream k (omega arith) (omega arith))
+rest_back (x ∷ rest) stream (suc k) h long =
+    ap (λ (r : List ℕ). x ∷ r) (rest_back rest stream k (omega arith) (omega arith))
 
 -- a packet whose fourth byte is changed and restored, and whose payload is laid twice, is the packet
-whole_back : (packet stream : List ℕ) (start y z : ℕ) → 4 ≤ start → start ≤ length packet → length packet ≤ start + length stream → slice_index packet 3 ≡ z →
-    take start (slice_set (take start (slice_set packet 3 y) ++ xored (drop start packet) stream) 3 z) ++ xored (drop start (take start (slice_set packet 3 y) ++ xored (drop start packet) stream)) stream ≡ packet
+whole_back : (packet stream : List ℕ) (start y z : ℕ) → 4 ≤ start → start ≤ length packet
+    → length packet ≤ start + length stream → slice_index packet 3 ≡ z →
+    take start (slice_set (take start (slice_set packet 3 y) ++ xored (drop start packet) stream) 3 z)
+    ++ xored (drop start (take start (slice_set packet 3 y) ++ xored (drop start packet) stream)) stream ≡ packet
 whole_back packet stream zero y z h high long e = absurd (omega arith)
 whole_back packet stream (suc zero) y z h high long e = absurd (omega arith)
 whole_back packet stream (suc (suc zero)) y z h high long e = absurd (omega arith)
@@ -82,7 +96,8 @@ whole_back (a ∷ (b ∷ (c ∷ (d ∷ rest)))) stream (suc (suc (suc (suc k))))
     rw (sym e) (ap (λ (r : List ℕ). a ∷ (b ∷ (c ∷ (d ∷ r)))) (rest_back rest stream k (omega arith) (omega arith)))
 
 -- a PID is that of its two bytes
-pid_by_bytes : (x y : List ℕ) → slice_index x 1 ≡ slice_index y 1 → slice_index x 2 ≡ slice_index y 2 → pid_of x ≡ pid_of y
+pid_by_bytes : (x y : List ℕ) → slice_index x 1 ≡ slice_index y 1 → slice_index x 2 ≡ slice_index y 2
+    → pid_of x ≡ pid_of y
 unfolding field
 pid_by_bytes x y e f = rw (e, f) refl
 
@@ -94,21 +109,31 @@ above : (both : Bool) (n : ℕ) → 4 < (if both then 5 + n else 188)
 above true n = omega arith
 above false n = omega arith
 
-start_by : (alone both : Bool) (m n : ℕ) → ((4 < (if alone then 4 else if both && nat_le n 182 then 5 + n else 188)) → m ≡ n) → (if alone then 4 else if both && nat_le m 182 then 5 + m else 188) ≡ (if alone then 4 else if both && nat_le n 182 then 5 + n else 188)
+start_by : (alone both : Bool) (m n : ℕ)
+    → ((4 < (if alone then 4 else if both && nat_le n 182 then 5 + n else 188)) → m ≡ n)
+    → (if alone then 4 else if both && nat_le m 182 then 5 + m else 188) ≡ (if alone then 4
+    else if both && nat_le n 182 then 5 + n else 188)
 start_by true both m n h = refl
 start_by false both m n h = let e = h (above (both && nat_le n 182) n) in rw e refl
 
 -- where a payload starts, by the adaptation control and the byte after the header
-start_by_bytes : (x y : List ℕ) → adaptation_of x ≡ adaptation_of y → ((4 < payload_start_of y) → slice_index x 4 ≡ slice_index y 4) → payload_start_of x ≡ payload_start_of y
+start_by_bytes : (x y : List ℕ) → adaptation_of x ≡ adaptation_of y
+    → ((4 < payload_start_of y) → slice_index x 4 ≡ slice_index y 4) → payload_start_of x ≡ payload_start_of y
 unfolding payload_start_of
-start_by_bytes x y e h = rw e (start_by (adaptation_of y == 1) (adaptation_of y == 3) (slice_index x 4) (slice_index y 4) h)
+start_by_bytes x y e h =
+    rw e (start_by (adaptation_of y == 1) (adaptation_of y == 3) (slice_index x 4) (slice_index y 4) h)
 
 -- what is read from a packet that is laid under a stream
-pub fields_of : (packet payload : List ℕ) (control : ℕ) → length packet ≡ 188 → slice_index packet 3 < 256 → control < 4 → IsLaidUnder packet control payload (take (payload_start_of packet) (controlled packet control) ++ payload)
+pub fields_of : (packet payload : List ℕ) (control : ℕ) → length packet ≡ 188 → slice_index packet 3 < 256 → control < 4
+    → IsLaidUnder packet control payload (take (payload_start_of packet) (controlled packet control) ++ payload)
 fields_of packet payload control long byte low =
     let new : List ℕ = take (payload_start_of packet) (controlled packet control) ++ payload in
-    let front = front_is packet payload (payload_start_of packet) (control * 64 + slice_index packet 3 % 64) (start_within packet).0 (omega arith) in
-    let front_long : length (take (payload_start_of packet) (controlled packet control)) ≡ payload_start_of packet = length-take-le (payload_start_of packet) (controlled packet control) (omega (arith, start_within packet, length-set packet 3 (control * 64 + slice_index packet 3 % 64))) in
+    let front =
+    front_is packet payload (payload_start_of packet) (control * 64 + slice_index packet 3 % 64)
+    (start_within packet).0 (omega arith) in
+    let front_long : length (take (payload_start_of packet) (controlled packet control)) ≡ payload_start_of packet =
+    length-take-le (payload_start_of packet) (controlled packet control)
+    (omega (arith, start_within packet, length-set packet 3 (control * 64 + slice_index packet 3 % 64))) in
     let fourth : slice_index new 3 ≡ control * 64 + slice_index packet 3 % 64 = front.fourth_is in
     let before = controls_and_counter packet byte in
     let after = controls_and_counter new (omega (arith, fourth)) in
@@ -125,29 +150,41 @@ fields_of packet payload control long byte low =
       adaptation = same;
       counter = omega arith;
       start = start;
-      payload_is = rw start (drop_at (take (payload_start_of packet) (controlled packet control)) payload (payload_start_of packet) front_long);
+      payload_is =
+          rw start (drop_at (take (payload_start_of packet) (controlled packet control)) payload
+          (payload_start_of packet) front_long);
     }
 
 -- what is read from a packet after scrambling or descrambling
-pub laid_reads : (packet word : List ℕ) (position control : ℕ) → length packet ≡ 188 → slice_index packet 3 < 256 → control < 4 →
+pub laid_reads : (packet word : List ℕ) (position control : ℕ) → length packet ≡ 188 → slice_index packet 3 < 256
+    → control < 4 →
     IsLaidUnder packet control (payload_under packet word position) (laid_under packet word position control)
 unfolding laid_under
 laid_reads packet word position control long byte low =
     fields_of packet (payload_under packet word position) control long byte low
 
 -- a packet laid under a stream, and under it again with the control that it had, is the packet
-pub undone : (packet word : List ℕ) (position control : ℕ) → length packet ≡ 188 → slice_index packet 3 < 256 → scrambling_of packet ≡ 0 → control < 4 → laid_under (laid_under packet word position control) word position 0 ≡ packet
+pub undone : (packet word : List ℕ) (position control : ℕ) → length packet ≡ 188 → slice_index packet 3 < 256
+    → scrambling_of packet ≡ 0 → control < 4
+    → laid_under (laid_under packet word position control) word position 0 ≡ packet
 unfolding laid_under
 undone packet word position control long byte clear low =
     let stream : List ℕ = keystream word (stream_number (pid_of packet) position) 184 in
     let is = fields_of packet (xored (drop (payload_start_of packet) packet) stream) control long byte low in
-    let front = front_is packet (xored (drop (payload_start_of packet) packet) stream) (payload_start_of packet) (control * 64 + slice_index packet 3 % 64) (start_within packet).0 (omega arith) in
+    let front =
+    front_is packet (xored (drop (payload_start_of packet) packet) stream) (payload_start_of packet)
+    (control * 64 + slice_index packet 3 % 64) (start_within packet).0 (omega arith) in
     let here = controls_and_counter packet byte in
     let below_a = field_below packet 26 2 in
     let below_c = field_below packet 28 4 in
     let within = start_within packet in
     let is_fourth = front.fourth_is in
-    rw (is.pid, is.start) (whole_back packet stream (payload_start_of packet) (control * 64 + slice_index packet 3 % 64) _ within.0 (omega arith) (omega (arith, keystream_length word (stream_number (pid_of packet) position) 184)) (omega arith))
+    rw (
+      is.pid,
+      is.start,
+    )
+    (whole_back packet stream (payload_start_of packet) (control * 64 + slice_index packet 3 % 64) _ within.0
+    (omega arith) (omega (arith, keystream_length word (stream_number (pid_of packet) position) 184)) (omega arith))
 
 -- a parity's control is one of two bits
 pub control_fits : (parity : Parity) → control_of parity < 4

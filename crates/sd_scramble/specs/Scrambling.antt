@@ -1,7 +1,8 @@
 -- Packets under control words.
 use Rattle.std.specs.Prelude.{◌≡◌, ℕ, ◌+◌, ◌*◌, ◌%◌, ◌^◌, List, ◌++◌, take, slice_index, slice_set}
 use Rattle.sd_keystream.specs.Keystream.{keystream, xored}
-use Rattle.sd_packet.specs.Header.{unit_start_of, pid_of, scrambling_of, adaptation_of, counter_of, payload_start_of, payload_of}
+use Rattle.sd_packet.specs.Header.{unit_start_of, pid_of, scrambling_of, adaptation_of, counter_of, payload_start_of}
+use Rattle.sd_packet.specs.Header.{payload_of}
 use Rattle.sd_scramble.specs.declared.payload.Parity.{Parity}
 use Rattle.sd_scramble.specs.declared.payload.Parity.TheVariants.{Even, Odd}
 
@@ -15,7 +16,8 @@ controlled packet control = slice_set packet 3 (control * 64 + slice_index packe
 
 -- the payload under the keystream of the packet's PID and position [this project, docs/FORMATS.md, Keystream]
 abbrev pub payload_under : List ℕ → List ℕ → ℕ → List ℕ
-payload_under packet word position = xored (payload_of packet) (keystream word (stream_number (pid_of packet) position) 184)
+payload_under packet word position =
+    xored (payload_of packet) (keystream word (stream_number (pid_of packet) position) 184)
 
 -- the packet with this transport_scrambling_control, its payload under the keystream of its PID and position
 -- [this project, docs/FORMATS.md, Keystream]
@@ -36,7 +38,8 @@ scrambled packet word position parity = laid_under packet word position (control
 abbrev pub descrambled : List ℕ → List ℕ → ℕ → List ℕ
 descrambled packet word position = laid_under packet word position 0
 
--- what is read from a packet after scrambling or descrambling: it has this control and this payload, and the rest as before
+-- what is read from a packet after scrambling or descrambling: it has this control and this payload, and the rest as
+-- before
 -- [this project, docs/FORMATS.md, Keystream]
 pub record IsLaidUnder (old : List ℕ) (control : ℕ) (payload new : List ℕ) : Type 0 where
   pub unit_start : unit_start_of new ≡ unit_start_of old

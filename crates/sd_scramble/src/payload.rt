@@ -2,7 +2,8 @@ ghost use Rattle.std.specs.Prelude.{◌≡◌, ◌+◌, ◌*◌, ◌^◌, ◌<�
 ghost use Rattle.sd_packet.specs.Header.{pid_of, scrambling_of, payload_start_of};
 ghost use Rattle.sd_packet.specs.Positions.{is_positional};
 ghost use Rattle.sd_keystream.specs.Keystream.{keystream, xored};
-ghost use Rattle.sd_scramble.specs.Scrambling.{stream_number, controlled, laid_under, control_of, scrambled, descrambled};
+ghost use Rattle.sd_scramble.specs.Scrambling.{stream_number, controlled, laid_under, control_of, scrambled};
+ghost use Rattle.sd_scramble.specs.Scrambling.{descrambled};
 
 use sd_keystream::{first_bytes, lay};
 use sd_packet::Packet;

@@ -1,6 +1,8 @@
-use Rattle.std.proofs.Common.{arith, ◌≡◌, ℕ, zero, suc, ◌<◌, ◌^◌, List, [], ◌∷◌, ◌++◌, length, get_or, true, refl, ap, sym, Some, ◌∙◌}
+use Rattle.std.proofs.Common.{arith, ◌≡◌, ℕ, zero, suc, ◌<◌, ◌^◌, List, [], ◌∷◌, ◌++◌, length, get_or, true, refl, ap}
+use Rattle.std.proofs.Common.{sym, Some, ◌∙◌}
 use Rattle.std.proofs.lemmas.Grind.{common_steps}
-use Rattle.std.proofs.lemmas.Fmt.{decimal_nonempty, digits_decimal, digits_value-decimal, first_decimal, decimal_digit, decimal-digits_value}
+use Rattle.std.proofs.lemmas.Fmt.{decimal_nonempty, digits_decimal, digits_value-decimal, first_decimal, decimal_digit}
+use Rattle.std.proofs.lemmas.Fmt.{decimal-digits_value}
 use Rattle.std.proofs.lemmas.List.{take_at, drop_at}
 use Rattle.std.proofs.lemmas.Slice.Eq.{bytes_eq-Decides}
 use Rattle.std.specs.Fmt.{decimal}
@@ -14,7 +16,14 @@ use Rattle.sd_text.proofs.Digits.{own}
 -- what `{}` writes of a number is a decimal
 pub decimal_is_decimal : (n : ℕ) → n < 2 ^ 64 → is_decimal (decimal n) ≡ true
 decimal_is_decimal zero h = rw (decimal_digit zero (omega arith)) refl
-decimal_is_decimal (suc n) h = grind (arith, common_steps, decimal_nonempty (suc n) h, digits_decimal own (suc n) h, first_decimal (suc n) (omega arith) h)
+decimal_is_decimal (suc n) h =
+    grind (
+      arith,
+      common_steps,
+      decimal_nonempty (suc n) h,
+      digits_decimal own (suc n) h,
+      first_decimal (suc n) (omega arith) h,
+    )
 
 -- and says that number
 pub number_of_decimal : (n : ℕ) → n < 2 ^ 64 → number_of (decimal n) ≡ Some n

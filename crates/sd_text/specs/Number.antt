@@ -1,4 +1,5 @@
-use Rattle.std.specs.Prelude.{ℕ, ◌==◌, ◌&&◌, ◌||◌, ◌^◌, Bool, not, nat_lt, List, take, drop, length, slice_index, bytes_eq, if◌then◌else◌, Option, Some, None, Result, Ok, Err, option_and_then}
+use Rattle.std.specs.Prelude.{ℕ, ◌==◌, ◌&&◌, ◌||◌, ◌^◌, Bool, not, nat_lt, List, take, drop, length, slice_index}
+use Rattle.std.specs.Prelude.{bytes_eq, if◌then◌else◌, Option, Some, None, Result, Ok, Err, option_and_then}
 use Rattle.std.specs.Str.{all_ascii_digits}
 use Rattle.std.specs.Str.Parse.{digits_value}
 use Rattle.sd_text.specs.declared.number.NumberFault.{NumberFault}
@@ -6,7 +7,8 @@ use Rattle.sd_text.specs.declared.number.NumberFault.TheVariants.{Malformed, Too
 
 -- one or more digits, the first of which is no 0 unless it is the only one [this project, docs/FORMATS.md, Text files]
 abbrev pub is_decimal : List ℕ → Bool
-is_decimal text = nat_lt 0 (length text) && (all_ascii_digits text && (not (slice_index text 0 == 48) || length text == 1))
+is_decimal text =
+    nat_lt 0 (length text) && (all_ascii_digits text && (not (slice_index text 0 == 48) || length text == 1))
 
 -- the number that a decimal says, however large
 unfoldable pub number_of : List ℕ → Option ℕ

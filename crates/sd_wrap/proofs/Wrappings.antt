@@ -10,6 +10,7 @@ unfolding wrapped
 twice key text number long = xored_twice text (keystream key number 32) (omega (arith, keystream_length key number 32))
 
 -- and so is what came of it
-pub back : (key text out : List ℕ) (number : ℕ) → length text ≡ 32 → out ≡ xored text (keystream key number 32) → wrapped key number out ≡ text
+pub back : (key text out : List ℕ) (number : ℕ) → length text ≡ 32 → out ≡ xored text (keystream key number 32)
+    → wrapped key number out ≡ text
 unfolding wrapped
 back key text out number long e = rw e (twice key text number long)

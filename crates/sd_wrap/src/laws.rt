@@ -9,7 +9,8 @@ use crate::key::wrap;
 #[tactic(auto, using(crate::proofs::Wrappings::twice))]
 pub fn wrapped_twice(key: &[u8; 32], number: u64, text: &[u8; 32]) -> [u8; 32]
     ensures result { result ≡ text.now }
-    ensures each { (key text : List ℕ) (number : ℕ) → length text ≡ 32 → wrapped key number (wrapped key number text) ≡ text }
+    ensures each { (key text : List ℕ) (number : ℕ) → length text ≡ 32
+        → wrapped key number (wrapped key number text) ≡ text }
 {
     wrap(key, number, &wrap(key, number, text))
 }

@@ -7,4 +7,5 @@ use Rattle.sd_sample.proofs.stream.fill.Given as goal
 abbrev pub invariant-loop-i : goal.invariant-loop-i
 invariant-loop-i l =
     (number : ℕ) → l.fn.state ≡ state_at number (generated_before l.first) →
-    (l.state ≡ state_at number (generated_before (l.first + l.i))) × (take l.i l.piece ≡ map (packet_of number) (range_with_len l.first l.i))
+    (l.state ≡ state_at number (generated_before (l.first + l.i)))
+    × (take l.i l.piece ≡ map (packet_of number) (range_with_len l.first l.i))
