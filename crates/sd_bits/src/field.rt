@@ -1,6 +1,6 @@
 ghost use Rattle.std.specs.Prelude.{◌≡◌, ◌+◌, ◌*◌, ◌/◌, ◌%◌, ◌^◌, ◌<◌, ◌≤◌, length};
 ghost use Rattle.sd_bits.specs.Bits.{field, KeepsOthers};
-ghost use Rattle.sd_bits.specs.Places.{IsPlace};
+ghost use Rattle.sd_bits.specs.Spans.{IsSpan};
 
 use crate::word;
 
@@ -21,15 +21,14 @@ pub fn get<const AT: usize, const N: usize>(bytes: &[u8]) -> u64
 
 /// Writes the value into the N bits from bit AT on. Every other bit stays.
 #[inline]
-#[tactic(auto, using(crate::proofs::Changes::shifted_fits, crate::proofs::Changes::field_is_set, crate::proofs::Changes::others_stay, crate::proofs::Same::same_is_kept))]
+#[tactic(auto, using(crate::proofs::Changes::shifted_fits, crate::proofs::Changes::field_is_set, crate::proofs::Changes::others_stay))]
 pub fn set<const AT: usize, const N: usize>(bytes: &mut [u8], value: u64)
     requires low { 1 ≤ N }
     requires high { N ≤ 32 }
     requires within { AT + N ≤ 8 * length bytes.old }
     requires fits { value < 2 ^ N }
     ensures value { field bytes.new AT N ≡ value }
-    ensures others { KeepsOthers AT N bytes.old bytes.new }
-    ensures same { field bytes.old AT N ≡ value → bytes.new ≡ bytes.old }
+    ensures unchanged { KeepsOthers AT N bytes.old bytes.new }
     ensures length { length bytes.new ≡ length bytes.old }
 {
     let place = Span::of::<AT, N>();
@@ -66,7 +65,7 @@ impl Span {
     fn of<const AT: usize, const N: usize>() -> Span
         requires low { 1 ≤ N }
         requires high { N ≤ 32 }
-        ensures { IsPlace AT N result.first result.count result.after }
+        ensures { IsSpan AT N result.first result.count result.after }
     {
         let count = (AT % 8 + N).div_ceil(8);
         Span {

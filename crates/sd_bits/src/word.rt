@@ -25,7 +25,7 @@ pub fn write(bytes: &mut [u8], first: usize, count: usize, word: u64)
     requires within { first + count ≤ length bytes.old }
     requires fits { word < 2 ^ (8 * count) }
     ensures value { field bytes.new (8 * first) (8 * count) ≡ word }
-    ensures others { KeepsOthers (8 * first) (8 * count) bytes.old bytes.new }
+    ensures unchanged { KeepsOthers (8 * first) (8 * count) bytes.old bytes.new }
     ensures length { length bytes.new ≡ length bytes.old }
 {
     for i in 0..count {

@@ -1,33 +1,42 @@
 -- Packets that are one section.
-use Rattle.std.proofs.Common.{length-append, ℕ, ◌+◌, ◌-◌, ◌*◌, ◌/◌, ◌%◌, ◌<◌, ◌≤◌, ◌≡◌, List, [], ◌∷◌, ◌++◌, length, take, drop, refl, ◌∙◌, arith}
+use Rattle.std.proofs.Common.{length-append, ℕ, ◌+◌, ◌-◌, ◌*◌, ◌/◌, ◌%◌, ◌<◌, ◌≤◌, ◌≡◌, List, [], ◌∷◌, ◌++◌, length}
+use Rattle.std.proofs.Common.{take, drop, refl, ◌∙◌, arith}
 use Rattle.std.specs.Prelude.{slice_index, slice_set, replicate, Bool, true, false, if◌then◌else◌, ◌==◌, ◌&&◌, nat_le}
 use Rattle.std.proofs.Math.Seq.{drop-append-add}
 use Rattle.std.proofs.lemmas.Bool.{and_parts, leb-true}
 use Rattle.std.proofs.lemmas.List.{drop-replicate, length-replicate}
 use Rattle.sd_bits.proofs.Fields.{field_below}
-use Rattle.sd_packet.specs.Header.{error_of, unit_start_of, priority_of, pid_of, scrambling_of, adaptation_of, counter_of, payload_start_of}
+use Rattle.sd_packet.specs.Header.{error_of, unit_start_of, priority_of, pid_of, scrambling_of, adaptation_of}
+use Rattle.sd_packet.specs.Header.{counter_of, payload_start_of}
 use Rattle.sd_packet.specs.Packing.{section_header, packed, IsSectionPacket}
 use Rattle.sd_packet.proofs.Headers.{flags_and_pid, controls_and_counter}
 
 -- the header, the pointer and the section laid over stuffing are the packet
-pub packet_laid : (section head first second : List ℕ) (pid counter : ℕ) → length section ≤ 183 → head ≡ section_header pid counter →
+pub packet_laid : (section head first second : List ℕ) (pid counter : ℕ) → length section ≤ 183 →
+    head ≡ section_header pid counter →
     first ≡ take 0 (replicate 188 255) ++ (head ++ drop (0 + length head) (replicate 188 255)) →
     second ≡ take 5 (slice_set first 4 0) ++ (section ++ drop (5 + length section) (slice_set first 4 0)) →
     second ≡ packed section pid counter
 unfolding packed
 packet_laid section head first second pid counter h is_head is_first is_second =
-    let start : slice_set first 4 0 ≡ section_header pid counter ++ 0 ∷ replicate 183 255 = rw (is_first, is_head) refl in
-    let rest : drop (5 + length section) (slice_set first 4 0) ≡ replicate (183 - length section) 255 = rw start (drop-append-add (section_header pid counter ++ 0 ∷ []) (replicate 183 255) (length section) ∙ drop-replicate (length section) 183 255) in
-    let front : take 5 (slice_set first 4 0) ≡ section_header pid counter ++ 0 ∷ [] = rw start refl in
-    rw (is_second, front, rest) refl
+    let start : slice_set first 4 0 ≡ section_header pid counter ++ 0 ∷ replicate 183 255 = rw (is_first, is_head)
+    refl in
+    let rest : drop (5 + length section) (slice_set first 4 0) ≡ replicate (183 - length section) 255 = rw start
+    (drop-append-add (section_header pid counter ++ 0 ∷ []) (replicate 183 255) (length section) ∙
+    drop-replicate (length section) 183 255) in
+    let head : take 5 (slice_set first 4 0) ≡ section_header pid counter ++ 0 ∷ [] = rw start refl in
+    rw (is_second, head, rest) refl
 
 -- what is read from the packet
-pub packet_reads : (section : List ℕ) (pid counter : ℕ) → pid < 8192 → counter < 16 → IsSectionPacket section pid counter (packed section pid counter)
+pub packet_reads : (section : List ℕ) (pid counter : ℕ) → pid < 8192 → counter < 16 →
+    IsSectionPacket section pid counter (packed section pid counter)
 unfolding packed payload_start_of
 packet_reads section pid counter h k =
     let packet : List ℕ = packed section pid counter in
-    let pids : (0x40 + pid / 256) * 256 + pid % 256 ≡ ((error_of packet * 2 + unit_start_of packet) * 2 + priority_of packet) * 8192 + pid_of packet = flags_and_pid packet (omega arith) (omega arith) in
-    let controls : 0x10 + counter ≡ (scrambling_of packet * 4 + adaptation_of packet) * 16 + counter_of packet = controls_and_counter packet (omega arith) in
+    let pids : (0x40 + pid / 256) * 256 + pid % 256 ≡ ((error_of packet * 2 + unit_start_of packet) * 2
+    + priority_of packet) * 8192 + pid_of packet = flags_and_pid packet (omega arith) (omega arith) in
+    let controls : 0x10 + counter ≡ (scrambling_of packet * 4 + adaptation_of packet) * 16
+    + counter_of packet = controls_and_counter packet (omega arith) in
     let below_error = field_below packet 8 1 in
     let below_start = field_below packet 9 1 in
     let below_priority = field_below packet 10 1 in
@@ -44,24 +53,39 @@ packet_reads section pid counter h k =
       scrambling = omega arith;
       adaptation = alone;
       counter_is = omega arith;
+      start = rw alone refl;
       payload = rw alone refl;
     }
 
 -- a packet that is the section's is read so
-pub packed_reads : (packet section : List ℕ) (pid counter : ℕ) → packet ≡ packed section pid counter → pid < 8192 → counter < 16 → IsSectionPacket section pid counter packet
+pub packed_reads : (packet section : List ℕ) (pid counter : ℕ) → packet ≡ packed section pid counter → pid < 8192 →
+    counter < 16 → IsSectionPacket section pid counter packet
 packed_reads packet section pid counter e h k = rw e (packet_reads section pid counter h k)
 
 -- a packet of a section has 188 bytes
-pub packet_length : (section : List ℕ) (pid counter : ℕ) → length section ≤ 183 → length (packed section pid counter) ≡ 188
+pub packet_length : (section : List ℕ) (pid counter : ℕ) → length section ≤ 183 → length (packed section pid counter)
+    ≡ 188
 unfolding packed
-packet_length section pid counter h = omega (arith, length-append section (replicate (183 - length section) 255), length-replicate {A = ℕ} (183 - length section) 255)
+packet_length section pid counter h = omega (
+  arith,
+  length-append section (replicate (183 - length section) 255),
+  length-replicate {A = ℕ} (183 - length section) 255,
+)
 
 -- and begins with the sync byte
 pub packet_sync : (section : List ℕ) (pid counter : ℕ) → slice_index (packed section pid counter) 0 ≡ 0x47
 unfolding packed
 packet_sync section pid counter = refl
 
-start_by : (alone both : Bool) (n : ℕ) → (both ≡ true → n ≤ 182) → (4 ≤ (if alone then 4 else if both then 5 + n else 188)) × ((if alone then 4 else if both then 5 + n else 188) ≤ 188)
+-- the counter is the low half of the fourth byte
+pub packet_counted : (section : List ℕ) (pid counter : ℕ) →
+    packed section pid counter ≡ slice_set (packed section pid 0) 3 (0x10 + counter)
+unfolding packed
+packet_counted section pid counter = refl
+
+start_by : (alone both : Bool) (n : ℕ) → (both ≡ true → n ≤ 182) →
+    (4 ≤ (if alone then 4 else if both then 5 + n else 188)) × ((if alone then 4 else if both then 5 + n else 188)
+    ≤ 188)
 start_by true both n h = (omega arith, omega arith)
 start_by false true n h = let few = h refl in (omega arith, omega arith)
 start_by false false n h = (omega arith, omega arith)
@@ -69,4 +93,6 @@ start_by false false n h = (omega arith, omega arith)
 -- a payload starts after the header, and at most at the packet's end
 pub start_within : (packet : List ℕ) → (4 ≤ payload_start_of packet) × (payload_start_of packet ≤ 188)
 unfolding payload_start_of
-start_within packet = start_by (adaptation_of packet == 1) ((adaptation_of packet == 3) && nat_le (slice_index packet 4) 182) (slice_index packet 4) (λ e. leb-true (slice_index packet 4) 182 (and_parts (adaptation_of packet == 3) (nat_le (slice_index packet 4) 182) e).1)
+start_within packet = start_by (adaptation_of packet == 1) ((adaptation_of packet == 3) && nat_le (slice_index packet 4)
+    182) (slice_index packet 4) (λ e. leb-true (slice_index packet 4) 182 (and_parts (adaptation_of packet == 3)
+    (nat_le (slice_index packet 4) 182) e).1)

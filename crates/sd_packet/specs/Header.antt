@@ -1,5 +1,5 @@
 -- The header and the payload of a transport packet of 188 bytes.
-use Rattle.std.specs.Prelude.{ℕ, ◌+◌, ◌==◌, ◌&&◌, List, drop, slice_index, nat_le, if◌then◌else◌}
+use Rattle.std.specs.Prelude.{ℕ, ◌+◌, ◌==◌, ◌&&◌, Bool, List, drop, slice_index, nat_le, nat_lt, if◌then◌else◌}
 use Rattle.sd_bits.specs.Bits.{field}
 
 -- transport_error_indicator [ISO/IEC 13818-1, 2.4.3.2]
@@ -41,3 +41,7 @@ payload_start_of packet =
 -- the payload [ISO/IEC 13818-1, 2.4.3.3]
 abbrev pub payload_of : List ℕ → List ℕ
 payload_of packet = drop (payload_start_of packet) packet
+
+-- the payload is not empty
+abbrev pub has_payload : List ℕ → Bool
+has_payload packet = nat_lt (payload_start_of packet) 188

@@ -1,8 +1,11 @@
 -- Packets that are one section by itself.
 use Rattle.std.specs.Prelude.{◌≡◌, ℕ, ◌+◌, ◌-◌, ◌/◌, ◌%◌, List, [], ◌∷◌, ◌++◌, length, replicate}
-use Rattle.sd_packet.specs.Header.{error_of, unit_start_of, priority_of, pid_of, scrambling_of, adaptation_of, counter_of, payload_of}
+use Rattle.sd_packet.specs.Header.{error_of, unit_start_of, priority_of, pid_of, scrambling_of, adaptation_of}
+use Rattle.sd_packet.specs.Header.{counter_of}
+use Rattle.sd_packet.specs.Header.{payload_start_of, payload_of}
 
--- the four bytes of the header: unit start set, payload alone, no other bit but PID and counter [ISO/IEC 13818-1, 2.4.3.2]
+-- the four bytes of the header: unit start set, payload alone, no other bit but PID and counter
+-- [ISO/IEC 13818-1, 2.4.3.2]
 abbrev pub section_header : ℕ → ℕ → List ℕ
 section_header pid counter = 0x47 ∷ (0x40 + pid / 256) ∷ (pid % 256) ∷ (0x10 + counter) ∷ []
 
@@ -23,4 +26,5 @@ pub record IsSectionPacket (section : List ℕ) (pid counter : ℕ) (packet : Li
   pub scrambling : scrambling_of packet ≡ 0
   pub adaptation : adaptation_of packet ≡ 1
   pub counter_is : counter_of packet ≡ counter
+  pub start : payload_start_of packet ≡ 4
   pub payload : payload_of packet ≡ section_payload section

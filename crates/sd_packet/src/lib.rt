@@ -7,5 +7,5 @@ mod position;
 mod section;
 
 pub use packet::Packet;
-pub use position::{advance, is_positional};
+pub use position::{HIGHEST_POSITIONAL, LOWEST_POSITIONAL, advance, is_positional};
 pub use section::pack_section;

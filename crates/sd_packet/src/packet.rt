@@ -1,8 +1,14 @@
 ghost use Rattle.std.specs.Prelude.{◌≡◌, ◌≢◌, ◌-◌, ◌<◌, ◌≤◌, ◌↔◌, IsTrue, IsNone, IfSome, length, slice_index};
-ghost use Rattle.sd_packet.specs.Header.{unit_start_of, pid_of, scrambling_of, adaptation_of, counter_of, payload_start_of, payload_of};
+ghost use Rattle.sd_packet.specs.Header.{unit_start_of, pid_of, scrambling_of, adaptation_of, counter_of};
+ghost use Rattle.sd_packet.specs.Header.{payload_start_of, payload_of};
+ghost use Rattle.sd_packet.specs.Positions.{is_placed as is_placed_packet};
 
+use crate::position::is_positional;
 use sd_bits::fields;
 use std::marker::Model;
+
+/// A transport packet's bytes.
+const LENGTH: usize = 188;
 
 const SYNC_BYTE: u8 = 0x47;
 
@@ -105,6 +111,13 @@ impl Packet {
         }
     }
 
+    /// Whether the packet has a position: its PID is one of those that have, and its payload is not empty.
+    pub fn is_placed(&self) -> bool
+        ensures { result ≡ is_placed_packet self.now }
+    {
+        is_positional(self.pid()) && self.payload_start() < LENGTH
+    }
+
     /// The payload, which may be empty.
     pub fn payload(&self) -> &[u8]
         ensures value { result.now ≡ payload_of self.now }
@@ -167,6 +180,7 @@ mod tests {
             if let Some(packet) = packet {
                 assert_eq!(rt; packet.payload_start(), start);
                 assert_eq!(rt; packet.payload().len(), left);
+                assert_eq!(rt; packet.is_placed(), left > 0);
             }
         }
     }

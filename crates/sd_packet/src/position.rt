@@ -1,11 +1,17 @@
 ghost use Rattle.std.specs.Prelude.{◌≡◌, ◌^◌, ◌<◌};
 ghost use Rattle.sd_packet.specs.Positions.{is_positional as is_positional_pid, advanced, IsNext};
 
+/// The lowest PID whose packets have positions.
+pub const LOWEST_POSITIONAL: u16 = 0x0020;
+
+/// The highest PID whose packets have positions.
+pub const HIGHEST_POSITIONAL: u16 = 0x1FEF;
+
 /// Whether packets of the PID have positions.
 pub fn is_positional(pid: u16) -> bool
     ensures { result ≡ is_positional_pid pid }
 {
-    (0x0020..=0x1FEF).contains(&pid)
+    (LOWEST_POSITIONAL..=HIGHEST_POSITIONAL).contains(&pid)
 }
 
 /// The position that a packet with this counter leads to: the next number that equals the counter mod 16.

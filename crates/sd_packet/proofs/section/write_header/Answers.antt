@@ -13,5 +13,7 @@ returns c =
     let s7 = c.fields-set-7.ensures in
     let s8 = c.fields-set-8.ensures in
     header_written c.args.pid c.args.counter _ _ _ _ _ _ _ _ _ _ _ (search rules)
-    s8.others s8.value c.from-2.ensures s8.length s7.others s7.value s7.length s6.others s6.value s6.length s5.others s5.value c.from.ensures s5.length
-    s4.others s4.value s4.length s3.others s3.value s3.length s2.others s2.value s2.length s1.others s1.value s1.length c.requires.four
+    s8.unchanged s8.value c.from-2.ensures s8.length s7.unchanged s7.value s7.length s6.unchanged s6.value s6.length
+    s5.unchanged s5.value c.from.ensures s5.length
+    s4.unchanged s4.value s4.length s3.unchanged s3.value s3.length s2.unchanged s2.value s2.length s1.unchanged
+    s1.value s1.length c.requires.four

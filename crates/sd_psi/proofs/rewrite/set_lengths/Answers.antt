@@ -7,4 +7,4 @@ returns-clause-value c =
     let s1 = c.fields-set.ensures in
     let s2 = c.fields-set-2.ensures in
     lengths_written c.args.section_length c.args.info_length _ _ _ (search rules) (search rules) (search rules) c.requires.twelve
-    s1.others s1.value s1.length s2.others s2.value s2.length
+    s1.unchanged s1.value s1.length s2.unchanged s2.value s2.length

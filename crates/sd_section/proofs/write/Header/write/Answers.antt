@@ -17,14 +17,14 @@ returns c =
     let s11 = c.fields-set-11.ensures in
     header_written c.args.self.now.table_id (c.args.body + 9) c.args.self.now.extension c.args.self.now.number c.args.self.now.last_number
     _ _ _ _ _ _ _ _ _ _ _ _ (search rules) c.requires.room
-    s1.others (s1.value ∙ c.from.ensures) s1.length
-    s2.others s2.value s2.length
-    s3.others s3.value s3.length
-    s4.others s4.value s4.length
-    s5.others s5.value s5.length
-    s6.others (s6.value ∙ c.from-2.ensures) s6.length
-    s7.others s7.value s7.length
-    s8.others s8.value s8.length
-    s9.others s9.value s9.length
-    s10.others (s10.value ∙ c.from-3.ensures) s10.length
-    s11.others (s11.value ∙ c.from-4.ensures) s11.length
+    s1.unchanged (s1.value ∙ c.from.ensures) s1.length
+    s2.unchanged s2.value s2.length
+    s3.unchanged s3.value s3.length
+    s4.unchanged s4.value s4.length
+    s5.unchanged s5.value s5.length
+    s6.unchanged (s6.value ∙ c.from-2.ensures) s6.length
+    s7.unchanged s7.value s7.length
+    s8.unchanged s8.value s8.length
+    s9.unchanged s9.value s9.length
+    s10.unchanged (s10.value ∙ c.from-3.ensures) s10.length
+    s11.unchanged (s11.value ∙ c.from-4.ensures) s11.length
