@@ -6,7 +6,7 @@ mod leaf;
 mod node;
 mod set;
 
-pub use height::Height;
+pub use height::{HIGHEST, Height};
 pub use leaf::Leaf;
 pub use node::{child_towards, depth, is_above, lowest_common};
 pub use set::{SetName, compare_names, contains, leaves_of};
