@@ -1,3 +1,4 @@
 pub mod Outlets
 pub mod Portions
 pub mod Shelves
+pub mod Calls

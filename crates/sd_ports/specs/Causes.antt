@@ -1,4 +1,4 @@
-use Rattle.std.specs.Prelude.{◌≡◌, ℕ, ◌≤◌, Result, OnOk, OnErr, IsErrOf}
+use Rattle.std.specs.Prelude.{◌≡◌, ℕ, ◌+◌, ◌%◌, ◌^◌, ◌<◌, ◌≤◌, Result, OnOk, OnErr, IsErrOf}
 use Rattle.sd_cause.specs.Count.{Rose, with_added}
 use Rattle.sd_ports.specs.declared.fault.DepotFault.{DepotFault}
 use Rattle.sd_ports.specs.declared.fault.DepotFault.TheVariants.{Missing, Failed}
@@ -28,3 +28,23 @@ pub record CountsMade {T E : Type 0} (made_before made_now : ℕ) (result : Resu
   pub later : made_before ≤ made_now
   pub given : OnOk result (made_now ≡ with_added made_before 1)
   pub refused : OnErr result (made_now ≡ made_before)
+
+-- how many ports are open once one more is, counted modulo 2^64
+abbrev pub one_more : ℕ → ℕ
+one_more ports = (ports + 1) % 2 ^ 64
+
+-- The number of open ports rises by one with each port that is given.
+pub record CountsOpen {T E : Type 0} (before now : ℕ) (result : Result T E) : Type 0 where
+  pub given : OnOk result ((before < 2 ^ 64) × (now ≡ one_more before))
+  pub refused : OnErr result (now ≡ before)
+
+-- the number of open ports falls by one
+pub record CountsClosed (before now : ℕ) : Type 0 where
+  pub within : now < 2 ^ 64
+  pub fallen : one_more now ≡ before
+
+-- A whole file takes two calls, one to open it and one to close it, and no more than the first where it isn't there.
+pub record CountsCalls {T : Type 0} (before now : ℕ) (result : Result T FileFault) : Type 0 where
+  pub done : OnOk result (now ≡ with_added before 2)
+  pub missing : IsErrOf result file.Missing → now ≡ with_added before 1
+  pub most : now ≤ with_added before 2

@@ -20,6 +20,8 @@ pub struct HostDepot<'a, R> {
     faults: u64,
     misses: u64,
     made: u64,
+    opened: u64,
+    calls: u64,
 }
 
 impl<'a, R: Files> HostDepot<'a, R> {
@@ -28,12 +30,16 @@ impl<'a, R: Files> HostDepot<'a, R> {
         ensures faults { result.faults ≡ 0 }
         ensures misses { result.misses ≡ 0 }
         ensures made { result.made ≡ 0 }
+        ensures ports { result.opened ≡ 0 }
+        ensures calls { result.calls ≡ 0 }
     {
         HostDepot {
             files,
             faults: 0,
             misses: 0,
             made: 0,
+            opened: 0,
+            calls: 0,
         }
     }
 
@@ -42,6 +48,8 @@ impl<'a, R: Files> HostDepot<'a, R> {
         ensures cause { HasDepotCause self.old.faults self.new.faults self.old.misses self.new.misses result }
         ensures refused { IsErr result }
         ensures made { self.new.made ≡ self.old.made }
+        ensures ports { self.new.opened ≡ self.old.opened }
+        ensures calls { self.new.calls ≡ self.old.calls }
     {
         match kind {
             ErrorKind::NotFound => {
@@ -70,21 +78,31 @@ impl<'a, R: Files> Depot for HostDepot<'a, R> {
 
     ghost made = { λ d. d.made };
 
+    ghost opened = { λ d. d.opened };
+
+    ghost calls = { λ d. d.calls };
+
     fn open_in(&mut self, _alloc: Global, name: &str) -> Result<HostInlet<R::File>, DepotFault> {
+        self.calls = self.calls.saturating_add(1);
         match fs::open(self.files, name) {
-            Ok(file) => Ok(HostInlet { file, faults: 0 }),
+            Ok(file) => {
+                self.opened = self.opened.wrapping_add(1);
+                Ok(HostInlet { file, faults: 0 })
+            }
             Err(error) => self.refuse(error.kind()),
         }
     }
 
     /// The memory is taken before the file is made.
     fn create_out(&mut self, alloc: Global, name: &str) -> Result<HostOutlet<R::File>, DepotFault> {
+        self.calls = self.calls.saturating_add(1);
         let Ok(buffer) = Vec::with_capacity(alloc, BUFFER) else {
             return Err(DepotFault::NoMemory);
         };
         match fs::create(self.files, name) {
             Ok(file) => {
                 self.made = self.made.saturating_add(1);
+                self.opened = self.opened.wrapping_add(1);
                 Ok(HostOutlet::new(file, buffer))
             }
             Err(error) => self.refuse(error.kind()),
@@ -92,11 +110,15 @@ impl<'a, R: Files> Depot for HostDepot<'a, R> {
     }
 
     fn close_in(&mut self, port: HostInlet<R::File>) {
+        self.calls = self.calls.saturating_add(1);
+        self.opened = self.opened.wrapping_sub(1);
         self.faults = self.faults.saturating_add(port.faults);
     }
 
     /// Writes what still waits.
     fn close_out(&mut self, _name: &str, mut port: HostOutlet<R::File>) -> Result<(), DepotFault> {
+        self.calls = self.calls.saturating_add(1);
+        self.opened = self.opened.wrapping_sub(1);
         self.faults = self.faults.saturating_add(port.file.faults);
         match port.send() {
             Ok(()) => Ok(()),
