@@ -2,3 +2,4 @@ pub mod Outlets
 pub mod Portions
 pub mod Shelves
 pub mod Calls
+pub mod Rooms

@@ -6,7 +6,8 @@ use Rattle.sd_ports.specs.declared.file.FileFault.{FileFault}
 use Rattle.sd_ports.specs.declared.file.FileFault.TheVariants as file
 
 -- Why a depot refused: `Missing` where its misses rose, `Failed` where its faults rose. Else they stand as before.
-pub record HasDepotCause {T : Type 0} (faults_before faults_now misses_before misses_now : ℕ) (result : Result T DepotFault) : Type 0 where
+pub record HasDepotCause {T : Type 0} (faults_before faults_now misses_before misses_now : ℕ)
+    (result : Result T DepotFault) : Type 0 where
   pub faults_later : faults_before ≤ faults_now
   pub misses_later : misses_before ≤ misses_now
   pub missing : IsErrOf result Missing → Rose misses_before misses_now
@@ -14,8 +15,10 @@ pub record HasDepotCause {T : Type 0} (faults_before faults_now misses_before mi
   pub no_miss : ¬ IsErrOf result Missing → misses_now ≡ misses_before
   pub no_fault : ¬ IsErrOf result Failed → faults_now ≡ faults_before
 
--- Why a whole file wasn't read or written: `Missing` where the depot's misses rose, `Failed` where its faults rose. Else they stand as before.
-pub record HasFileCause {T : Type 0} (faults_before faults_now misses_before misses_now : ℕ) (result : Result T FileFault) : Type 0 where
+-- Why a whole file wasn't read or written: `Missing` where the depot's misses rose, `Failed` where its faults rose.
+-- Else they stand as before.
+pub record HasFileCause {T : Type 0} (faults_before faults_now misses_before misses_now : ℕ)
+    (result : Result T FileFault) : Type 0 where
   pub faults_later : faults_before ≤ faults_now
   pub misses_later : misses_before ≤ misses_now
   pub missing : IsErrOf result file.Missing → Rose misses_before misses_now
@@ -23,7 +26,8 @@ pub record HasFileCause {T : Type 0} (faults_before faults_now misses_before mis
   pub no_miss : ¬ IsErrOf result file.Missing → misses_now ≡ misses_before
   pub no_fault : ¬ IsErrOf result file.Failed → faults_now ≡ faults_before
 
--- The count of the ports that were made rises by one with each port, up to its last value, and stands where none is given.
+-- The count of the ports that were made rises by one with each port, up to its last value, and stands where none is
+-- given.
 pub record CountsMade {T E : Type 0} (made_before made_now : ℕ) (result : Result T E) : Type 0 where
   pub later : made_before ≤ made_now
   pub given : OnOk result (made_now ≡ with_added made_before 1)

@@ -1,4 +1,6 @@
-use Rattle.std.specs.Prelude.{refl, ℕ, map, string_bytes, String, Vec, ◌-◌, Bool, ◌||◌, if◌then◌else◌, nat_eq, nat_lt, not, min, List, [], ◌++◌, length, take, drop}
+use Rattle.std.specs.Prelude.{refl, ℕ, map, string_bytes, String, Vec, ◌-◌, Bool, ◌||◌, if◌then◌else◌}
+use Rattle.std.specs.Prelude.{nat_eq, nat_lt, min, List, [], ◌++◌, length, take, drop, Option, Some, None}
+use Rattle.std.specs.Prelude.{◌∷◌}
 use Rattle.std.specs.List.{list_any}
 use Rattle.std.specs.FinMap.{from_entries, code, empty, insert}
 use Rattle.std.specs.Coded.{Coded, code_by, coded×, coded_ℕ, coded_list}
@@ -8,7 +10,8 @@ use Rattle.sd_cause.specs.Count.{with_added}
 use Rattle.sd_ports.specs.Files.{Files}
 use Rattle.sd_ports.specs.Causes.{one_more}
 
--- a source in memory: the bytes to come, the most bytes of a read, which reads fail, and how many reads there were and failed
+-- a source in memory: the bytes to come, the most bytes of a read, which reads fail, and how many reads there were and
+-- failed
 pub record Supply : Type 0 where
   pub left : List ℕ
   pub most : ℕ
@@ -16,7 +19,8 @@ pub record Supply : Type 0 where
   pub reads : ℕ
   pub faults : ℕ
 
--- a sink in memory: the bytes taken, how many it has room for, the most bytes of a write, which writes fail, and how many writes there were and failed
+-- a sink in memory: the bytes taken, how many it has room for, the most bytes of a write, which writes fail, and how
+-- many writes there were and failed
 pub record Store : Type 0 where
   pub held : List ℕ
   pub room : ℕ
@@ -25,7 +29,8 @@ pub record Store : Type 0 where
   pub writes : ℕ
   pub faults : ℕ
 
--- a depot in memory: its files, the room of a sink, the most bytes of a read or a write, the counts of faults, of misses and
+-- a depot in memory: its files, the room of a sink, the most bytes of a read or a write, the counts of faults, of
+-- misses and
 -- of sinks made, how many ports are open, and how many calls there were
 pub record Shelf : Type 0 where
   pub files : Files
@@ -110,19 +115,30 @@ given s space = min s.most (min space (length s.left))
 -- a source after a read into so much space
 abbrev pub after_read : Supply → ℕ → Supply
 after_read s space =
-    if read_fails s then record { left = s.left; most = s.most; fails = s.fails; reads = with_added s.reads 1; faults = with_added s.faults 1 }
-    else record { left = drop (given s space) s.left; most = s.most; fails = s.fails; reads = with_added s.reads 1; faults = s.faults }
+    if read_fails s then record { left = s.left; most = s.most; fails = s.fails; reads = with_added s.reads 1; faults =
+        with_added s.faults 1 }
+    else record { left = drop (given s space) s.left; most = s.most; fails = s.fails; reads =
+        with_added s.reads 1; faults = s.faults }
 
--- whether the next write fails: by its number, or since there is no room
-abbrev pub write_fails : Store → Bool
-write_fails s = is_listed s.fails s.writes || not (nat_lt (length s.held) s.room)
+-- how many more bytes there is room for, told where no write is to fail by its number
+abbrev pub room_by : List ℕ → ℕ → Option ℕ
+room_by [] room = Some room
+room_by (number ∷ fails) room = None
+
+abbrev pub room_in : Store → Option ℕ
+room_in s = room_by s.fails (s.room - length s.held)
+
+-- whether a write of so many bytes fails: by its number, or since they pass the room
+abbrev pub write_fails : Store → ℕ → Bool
+write_fails s count = is_listed s.fails s.writes || nat_lt (s.room - length s.held) count
 
 -- how many bytes of so many a write takes
 abbrev pub taken : Store → ℕ → ℕ
-taken s count = min s.most (min count (s.room - length s.held))
+taken s count = min s.most count
 
 -- a sink after a write of a piece
 abbrev pub after_write : Store → List ℕ → Store
 after_write s piece =
-    if write_fails s then record { held = s.held; room = s.room; most = s.most; fails = s.fails; writes = with_added s.writes 1; faults = with_added s.faults 1 }
-    else record { held = s.held ++ take (taken s (length piece)) piece; room = s.room; most = s.most; fails = s.fails; writes = with_added s.writes 1; faults = s.faults }
+    if write_fails s (length piece)
+    then record s { writes = with_added s.writes 1; faults = with_added s.faults 1 }
+    else record s { held = s.held ++ take (taken s (length piece)) piece; writes = with_added s.writes 1 }

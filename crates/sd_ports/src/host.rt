@@ -1,7 +1,9 @@
-ghost use Rattle.std.specs.Prelude.{◌≡◌, ◌<◌, ◌≤◌, None, [], drop, vec_len, vec_capacity, IfOk, IsErr, OnOk, OnErr, length};
+ghost use Rattle.std.specs.Prelude.{◌≡◌, ◌<◌, ◌≤◌, None, [], drop, vec_len, vec_capacity, IfOk, IsErr, OnOk, OnErr};
+ghost use Rattle.std.specs.Prelude.{length};
 ghost use Rattle.std.specs.Io.{ReadsAtMost, WritesAtMost};
 ghost use Rattle.std.specs.Io.KnownBytes.{Keeps, ReadConsumes, WriteAppends, append_known};
 ghost use Rattle.sd_cause.specs.Count.{HasCause, with_added};
+ghost use Rattle.sd_ports.specs.Rooms.{TakesRoom};
 ghost use Rattle.sd_ports.specs.Causes.{HasDepotCause};
 
 use crate::depot::Depot;
@@ -194,7 +196,9 @@ impl<F: Write + Drop> HostOutlet<F> {
 
     /// Writes what waits. After a fault, what wasn't written waits still.
     fn send(&mut self) -> Result<(), PortFault>
-        ensures passed { Keeps (append_known (F.Write.contents self.old.file.writer) (drop self.old.sent self.old.waiting.items)) (append_known (F.Write.contents self.new.file.writer) (drop self.new.sent self.new.waiting.items)) }
+        ensures passed
+            { Keeps (append_known (F.Write.contents self.old.file.writer) (drop self.old.sent self.old.waiting.items))
+            (append_known (F.Write.contents self.new.file.writer) (drop self.new.sent self.new.waiting.items)) }
         ensures all { OnOk result (self.new.waiting.items ≡ []) }
         ensures cause { HasCause self.old.file.faults self.new.file.faults result }
         ensures one { OnErr result (self.new.file.faults ≡ with_added self.old.file.faults 1) }
@@ -213,7 +217,9 @@ impl<F: Write + Drop> HostOutlet<F> {
     /// Sees to it that the buffer has room for a byte.
     #[tactic(auto, using(crate::proofs::Portions::kept_same))]
     fn make_room(&mut self) -> Result<(), PortFault>
-        ensures passed { Keeps (append_known (F.Write.contents self.old.file.writer) (drop self.old.sent self.old.waiting.items)) (append_known (F.Write.contents self.new.file.writer) (drop self.new.sent self.new.waiting.items)) }
+        ensures passed
+            { Keeps (append_known (F.Write.contents self.old.file.writer) (drop self.old.sent self.old.waiting.items))
+            (append_known (F.Write.contents self.new.file.writer) (drop self.new.sent self.new.waiting.items)) }
         ensures room { OnOk result (vec_len self.new.waiting < BUFFER) }
         ensures cause { HasCause self.old.file.faults self.new.file.faults result }
         ensures one { OnErr result (self.new.file.faults ≡ with_added self.old.file.faults 1) }
@@ -230,6 +236,8 @@ impl<F: Write + Drop> Sink for HostOutlet<F> {
 
     ghost faults = { λ s. s.file.faults };
 
+    ghost room = { λ s. None };
+
     /// Once the buffer is full, what waits there is written first. It takes no memory.
     #[tactic(auto, using(crate::proofs::Portions::kept_grown))]
     fn write(&mut self, piece: &[u8]) -> Result<usize, PortFault>
@@ -238,7 +246,12 @@ impl<F: Write + Drop> Sink for HostOutlet<F> {
         ensures bound { WritesAtMost result piece.now }
         ensures bytes { WriteAppends None None result piece.now }
         ensures cause { HasCause self.old.file.faults self.new.file.faults result }
-        ensures passed { WriteAppends (append_known (F.Write.contents self.old.file.writer) (drop self.old.sent self.old.waiting.items)) (append_known (F.Write.contents self.new.file.writer) (drop self.new.sent self.new.waiting.items)) result piece.now }
+        ensures room { TakesRoom None None (length piece.now) result }
+        ensures passed
+            { WriteAppends
+            (append_known (F.Write.contents self.old.file.writer) (drop self.old.sent self.old.waiting.items))
+            (append_known (F.Write.contents self.new.file.writer) (drop self.new.sent self.new.waiting.items)) result
+            piece.now }
         ensures one { OnErr result (self.new.file.faults ≡ with_added self.old.file.faults 1) }
     {
         self.make_room()?;
@@ -269,6 +282,8 @@ impl<W: Write + Drop> Sink for StdPrint<W> {
 
     ghost faults = { λ s. s.faults };
 
+    ghost room = { λ s. None };
+
     /// A write that a signal interrupts is tried again, and one that takes nothing is a fault.
     #[tactic(auto, using(crate::proofs::Portions::kept_appends, crate::proofs::Portions::kept_twice, crate::proofs::Portions::kept_none))]
     fn write(&mut self, piece: &[u8]) -> Result<usize, PortFault>
@@ -277,7 +292,9 @@ impl<W: Write + Drop> Sink for StdPrint<W> {
         ensures bound { WritesAtMost result piece.now }
         ensures bytes { WriteAppends None None result piece.now }
         ensures cause { HasCause self.old.faults self.new.faults result }
-        ensures passed { WriteAppends (W.Write.contents self.old.writer) (W.Write.contents self.new.writer) result piece.now }
+        ensures room { TakesRoom None None (length piece.now) result }
+        ensures passed
+            { WriteAppends (W.Write.contents self.old.writer) (W.Write.contents self.new.writer) result piece.now }
         ensures one { OnErr result (self.new.faults ≡ with_added self.old.faults 1) }
     {
         for _turn in 0..u64::MAX {

@@ -4,7 +4,8 @@ ghost use Rattle.std.specs.FinMap as map;
 ghost use Rattle.sd_cause.specs.Count.{HasCause, with_added};
 ghost use Rattle.sd_ports.specs.Causes.{CountsClosed, CountsMade, CountsOpen, HasDepotCause};
 ghost use Rattle.sd_ports.specs.Files.{Closes, IsFresh, IsNotThere, IsThere, LeavesPrefix, Opens, with_bytes};
-ghost use Rattle.sd_ports.specs.Memory.{empty_shelf, told_files, with_call, with_closed, with_file, with_inlet, with_outlet, without_port};
+ghost use Rattle.sd_ports.specs.Memory.{empty_shelf, told_files, with_call, with_closed, with_file, with_inlet};
+ghost use Rattle.sd_ports.specs.Memory.{with_outlet, without_port};
 
 use crate::depot::Depot;
 use crate::fault::DepotFault;
@@ -139,7 +140,8 @@ impl Depot for MemDepot {
         ensures unchanged { self.new ≡ with_inlet self.old self.new.misses self.new.opened }
         ensures miss { IsErrOf result DepotFault.Missing → self.new.misses ≡ with_added self.old.misses 1 }
         ensures works { ¬ IsErrOf result DepotFault.Failed }
-        ensures port { IfOk result (λ port. port ≡ record { left = port.left; most = self.old.most; fails = []; reads = 0; faults = 0 }) }
+        ensures port { IfOk result (λ port. port ≡ record { left = port.left; most = self.old.most; fails = []; reads =
+            0; faults = 0 }) }
     {
         self.calls = self.calls.saturating_add(1);
         let Some(file) = look_up(&self.files, name) else {
@@ -169,7 +171,9 @@ impl Depot for MemDepot {
         ensures ok { OnOk result (self.new ≡ with_outlet self.old name.now) }
         ensures err { OnErr result (self.new ≡ with_call self.old) }
         ensures works { OnErr result (IsErrOf result DepotFault.NoMemory) }
-        ensures port { IfOk result (λ port. port ≡ record { held = []; room = self.old.room; most = self.old.most; fails = []; writes = 0; faults = 0 }) }
+        ensures port
+            { IfOk result (λ port. port ≡ record { held = []; room = self.old.room; most = self.old.most; fails =
+            []; writes = 0; faults = 0 }) }
     {
         self.calls = self.calls.saturating_add(1);
         let Ok(port) = MemSink::new(alloc, self.room, self.most, Vec::new(alloc)) else {
