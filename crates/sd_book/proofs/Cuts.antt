@@ -8,11 +8,11 @@ use Rattle.sd_book.specs.declared.command.Command.TheVariants.{Subscribe, Revoke
 use Rattle.sd_book.specs.Commands.{is_within, last_period, commands_until}
 
 -- a Subscribe begins no period
-period_subscribe : (u : ℕ) (commands : List Command) → last_period (Subscribe u ∷ commands) ≡ last_period commands
+pub period_subscribe : (u : ℕ) (commands : List Command) → last_period (Subscribe u ∷ commands) ≡ last_period commands
 period_subscribe u commands = grind (arith, common_steps)
 
 -- nor does a Revoke
-period_revoke : (u : ℕ) (commands : List Command) → last_period (Revoke u ∷ commands) ≡ last_period commands
+pub period_revoke : (u : ℕ) (commands : List Command) → last_period (Revoke u ∷ commands) ≡ last_period commands
 period_revoke u commands = grind (arith, common_steps)
 
 -- a Period begins one
@@ -61,9 +61,9 @@ until_end (suc q) (Subscribe u ∷ commands) h = ap (λ (r : List Command). Subs
 until_end (suc q) (Revoke u ∷ commands) h = ap (λ (r : List Command). Revoke u ∷ r) (until_end (suc q) commands (omega (arith, period_revoke u commands)))
 until_end (suc q) (Period ∷ commands) h = ap (λ (r : List Command). Period ∷ r) (until_end q commands (omega (arith, period_period commands)))
 
--- a front has no more periods
-pub period_front : (i : ℕ) (commands : List Command) → last_period (take i commands) ≤ last_period commands
-period_front i commands = omega (arith, period_append (take i commands) (drop i commands), ap last_period (take-append-drop i commands))
+-- a prefix has no more periods
+pub period_prefix : (i : ℕ) (commands : List Command) → last_period (take i commands) ≤ last_period commands
+period_prefix i commands = omega (arith, period_append (take i commands) (drop i commands), ap last_period (take-append-drop i commands))
 
 -- the commands that decide period q have at most q Periods
 pub periods_until : (q : ℕ) (commands : List Command) → last_period (commands_until q commands) ≤ q

@@ -16,17 +16,17 @@ use Rattle.sd_book.proofs.Tallies.{same_marks, marked_leaves, revoked_more}
 same_kept : (f g : ℕ → Bool) (a n : ℕ) → ((x : ℕ) → a ≤ x → f x ≡ g x) → filter f (range_with_len a n) ≡ filter g (range_with_len a n)
 same_kept f g a n h = sym (marked_leaves f a n) ∙ (ap (marked_from a) (same_marks f g a n h) ∙ marked_leaves g a n)
 
--- a number below another goes in front of it
-front_of : (b : Bool) (u a : ℕ) (xs : List ℕ) → u < a → insert_key nat_cmp xs u ≡ u ∷ xs → insert_key nat_cmp (cond b (a ∷ xs) xs) u ≡ u ∷ cond b (a ∷ xs) xs
-front_of true u a xs h e =
+-- a number below another goes before it
+before_it : (b : Bool) (u a : ℕ) (xs : List ℕ) → u < a → insert_key nat_cmp xs u ≡ u ∷ xs → insert_key nat_cmp (cond b (a ∷ xs) xs) u ≡ u ∷ cond b (a ∷ xs) xs
+before_it true u a xs h e =
     let less : nat_lt u a ≡ true = grind (arith, common_steps) in
     rw less refl
-front_of false u a xs h e = e
+before_it false u a xs h e = e
 
--- a number below all goes in front
-insert_front : (p : ℕ → Bool) (u a n : ℕ) → u < a → insert_key nat_cmp (filter p (range_with_len a n)) u ≡ u ∷ filter p (range_with_len a n)
-insert_front p u a zero h = refl
-insert_front p u a (suc n) h = front_of (p a) u a (filter p (range_with_len (a + 1) n)) h (insert_front p u (a + 1) n (omega arith))
+-- a number below all goes first
+insert_first : (p : ℕ → Bool) (u a n : ℕ) → u < a → insert_key nat_cmp (filter p (range_with_len a n)) u ≡ u ∷ filter p (range_with_len a n)
+insert_first p u a zero h = refl
+insert_first p u a (suc n) h = before_it (p a) u a (filter p (range_with_len (a + 1) n)) h (insert_first p u (a + 1) n (omega arith))
 
 -- a number above another goes after it
 after_it : (b : Bool) (u a : ℕ) (xs ys : List ℕ) → a < u → insert_key nat_cmp xs u ≡ ys → insert_key nat_cmp (cond b (a ∷ xs) xs) u ≡ cond b (a ∷ ys) ys
@@ -55,7 +55,7 @@ inserted f g u h a (suc n) low high =
       | inr le ↦
           let here : f a ≡ true = grind (arith, common_steps, h a) in
           let rest : filter g (range_with_len (a + 1) n) ≡ filter f (range_with_len (a + 1) n) = same_kept g f (a + 1) n (λ x m. grind (arith, common_steps, h x)) in
-          rw here (at_place (g a) u a (filter g (range_with_len (a + 1) n)) (omega arith) (insert_front g u (a + 1) n (omega arith)) ∙ ap (λ (xs : List ℕ). a ∷ xs) rest)
+          rw here (at_place (g a) u a (filter g (range_with_len (a + 1) n)) (omega arith) (insert_first g u (a + 1) n (omega arith)) ∙ ap (λ (xs : List ℕ). a ∷ xs) rest)
     ]
 
 -- without u, by whether it is the first

@@ -8,13 +8,14 @@ use Rattle.sd_book.specs.declared.command.Command.{Command}
 use Rattle.sd_book.specs.declared.command.Command.TheVariants.{Subscribe, Revoke, Period}
 use Rattle.sd_book.specs.Commands.{is_period, is_within, is_revoked, last_period, commands_until, last_on, revoked, revoked_after}
 use Rattle.sd_book.specs.Limits.{IsWithinLimits}
+use Rattle.sd_tree.specs.declared.leaf.TheConstants.{MOST_REVOKED}
 use Rattle.sd_book.specs.Replay.{IsReplay}
-use Rattle.sd_book.proofs.Cuts.{period_none, period_front, until_period, until_end}
+use Rattle.sd_book.proofs.Cuts.{period_none, period_prefix, until_period, until_end}
 use Rattle.sd_book.proofs.Kept.{kept_period}
 use Rattle.sd_book.proofs.Tallies.{period_more}
 
 -- no leaf is revoked at first
-none_revoked : (a n : ℕ) → filter (is_revoked []) (range_with_len a n) ≡ []
+pub none_revoked : (a n : ℕ) → filter (is_revoked []) (range_with_len a n) ≡ []
 unfolding last_on
 none_revoked a zero = refl
 none_revoked a (suc n) = none_revoked (a + 1) n
@@ -63,7 +64,7 @@ period_kept d commands taken number kept replay h at =
 
 -- a period is not after the last one while the end isn't taken
 pub period_within : (d : ℕ) (commands : List Command) (taken number : ℕ) (kept : List ℕ) → IsReplay d commands taken number kept → taken ≤ length commands → number ≤ last_period commands
-period_within d commands taken number kept replay h = omega (arith, replay.period, period_front taken commands)
+period_within d commands taken number kept replay h = omega (arith, replay.period, period_prefix taken commands)
 
 -- and after the last one when it is
 pub period_after : (d : ℕ) (commands : List Command) (taken number : ℕ) (kept : List ℕ) → IsReplay d commands taken number kept → length commands < taken → last_period commands < number
@@ -72,7 +73,7 @@ period_after d commands taken number kept replay h =
     omega (arith, replay.period)
 
 -- before a Period or the end no more leaves are kept than a period may have
-pub period_few : (d : ℕ) (commands : List Command) (taken number : ℕ) (kept : List ℕ) → IsWithinLimits d commands → IsReplay d commands taken number kept → taken ≤ length commands → get_or commands taken Period ≡ Period → length kept ≤ 4096
+pub period_few : (d : ℕ) (commands : List Command) (taken number : ℕ) (kept : List ℕ) → IsWithinLimits d commands → IsReplay d commands taken number kept → taken ≤ length commands → get_or commands taken Period ≡ Period → length kept ≤ MOST_REVOKED
 period_few d commands taken number kept limits replay h at = rw (period_kept d commands taken number kept replay h at) (limits.revoked number (period_within d commands taken number kept replay h))
 
 -- a Period or the end is taken

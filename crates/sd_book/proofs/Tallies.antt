@@ -1,4 +1,4 @@
-use Rattle.std.proofs.Common.{arith, ◌≡◌, ℕ, zero, suc, ◌+◌, ◌==◌, ◌<◌, ◌≤◌, ◌^◌, List, [], ◌∷◌, ◌++◌, length, get_or, set, replicate, Bool, true, false, cond, refl, ap, sym, ◌∙◌, map, Option, Some, reverse}
+use Rattle.std.proofs.Common.{arith, ◌≡◌, ℕ, zero, suc, ◌+◌, ◌==◌, ◌<◌, ◌≤◌, ◌^◌, List, [], ◌∷◌, ◌++◌, length, get_or, set, replicate, Bool, true, false, cond, refl, ap, sym, ◌∙◌, map, Option, Some, reverse, nat_lt, Ok, Err}
 use Rattle.std.proofs.lemmas.Grind.{common_steps}
 use Rattle.std.proofs.lemmas.List.{reverse-append}
 use Rattle.std.proofs.lemmas.List.Sums.{length-filter, count_by-le-length}
@@ -10,6 +10,10 @@ use Rattle.sd_book.specs.declared.command.Command.{Command}
 use Rattle.sd_book.specs.declared.command.Command.TheVariants.{Subscribe, Revoke, Period}
 use Rattle.sd_book.specs.Commands.{is_on, is_revoke, is_revoked, is_period, last_on, last_period, revoked_after}
 use Rattle.sd_book.specs.Tally.{IsTally, marked_from}
+use Rattle.sd_tree.specs.declared.leaf.TheConstants.{MOST_REVOKED}
+use Rattle.sd_book.specs.declared.fault.BookFault.TheVariants.{Limit}
+use Rattle.sd_book.specs.declared.fault.BookLimit.TheVariants.{Revoked}
+use Rattle.sd_book.specs.Text.{ended}
 
 -- a write changes the number of marks by the mark that comes and the one that goes
 pub counted_at_write : (marks : List Bool) (i : ℕ) (mark : Bool) → i < length marks → count_by (λ b. b) (set marks i mark) + cond (get_or marks i false) 1 0 ≡ count_by (λ b. b) marks + cond mark 1 0
@@ -126,3 +130,17 @@ marked_leaves p a (suc n) = ap (λ (rest : List ℕ). cond (p a) (a ∷ rest) re
 -- the marked leaves of a tally are the revoked ones
 pub tally_leaves : (d : ℕ) (commands : List Command) (marks : List Bool) (revoked period : ℕ) → IsTally d commands marks revoked period → marked_from 0 marks ≡ revoked_after d commands
 tally_leaves d commands marks revoked period tally = ap (marked_from 0) tally.marks ∙ marked_leaves (is_revoked commands) 0 (2 ^ d)
+
+-- a period may end by the number of its tally
+pub end_by_tally : (d : ℕ) (commands : List Command) (marks : List Bool) (revoked period : ℕ) → IsTally d commands marks revoked period → revoked ≤ MOST_REVOKED
+    → ended {A = Unit {0}} d commands tt ≡ Ok tt
+end_by_tally d commands marks revoked period tally few =
+    let ends : nat_lt MOST_REVOKED (length (revoked_after d commands)) ≡ false = grind (arith, common_steps, tally.revoked) in
+    rw ends refl
+
+-- or may not
+pub crowd_by_tally : (d : ℕ) (commands : List Command) (marks : List Bool) (revoked period : ℕ) → IsTally d commands marks revoked period → MOST_REVOKED < revoked
+    → ended {A = Unit {0}} d commands tt ≡ Err (Limit (Revoked period))
+crowd_by_tally d commands marks revoked period tally many =
+    let ends : nat_lt MOST_REVOKED (length (revoked_after d commands)) ≡ true = grind (arith, common_steps, tally.revoked) in
+    rw (ends, tally.period) refl

@@ -12,7 +12,7 @@ use Rattle.sd_book.specs.declared.command.Command.{Command}
 use Rattle.sd_book.specs.declared.command.Command.TheVariants.{Subscribe, Revoke, Period}
 use Rattle.sd_book.specs.Commands.{is_within}
 use Rattle.sd_book.specs.Limits.{IsWithinLimits}
-use Rattle.sd_book.specs.Text.{command_of, SpellsBook, line_of, text_of, book_of}
+use Rattle.sd_book.specs.Text.{command_of, SpellsBook, line_of, text_of, judged, book_of}
 use Rattle.sd_book.proofs.Judged.{book_again}
 
 -- a leaf of a tree is a number of 64 bits
@@ -60,6 +60,13 @@ spelled d (command ∷ commands) small leaves =
     let first = says d command small (All-head (λ c. is_within d c ≡ true) command commands leaves) in
     let rest = spelled d commands small (All-tail (λ c. is_within d c ≡ true) command commands leaves) in
     rw (first, rest) refl
+
+-- the text of commands of the tree is judged as these commands are
+pub judged_again : (d : ℕ) (commands : List Command) → d ≤ 20 → All (λ command. is_within d command ≡ true) commands
+    → book_of d (text_of commands) ≡ judged d [] (map Some commands)
+unfolding book_of
+judged_again d commands small leaves =
+    ap (judged d []) (ap (map command_of) (lines_written d commands small leaves) ∙ spelled d commands small leaves)
 
 -- the text of commands within the limits is read as these commands
 pub read_again : (d : ℕ) (commands : List Command) → d ≤ 20 → IsWithinLimits d commands → book_of d (text_of commands) ≡ Ok commands

@@ -2,6 +2,7 @@ ghost use Rattle.std.specs.Prelude.{◌≡◌, ◌≤◌, ◌<◌, ◌^◌, ◌+
 ghost use Rattle.std.specs.List.Sorted.{IsStrictlyIncreasing};
 ghost use Rattle.sd_book.specs.declared.command.Command.{Command as Commands};
 ghost use Rattle.sd_book.specs.Commands.{is_within, last_period, revoked as revoked_in, revoked_after};
+ghost use Rattle.sd_tree.specs.declared.leaf.TheConstants.{MOST_REVOKED};
 ghost use Rattle.sd_book.specs.Limits.{IsWithinLimits};
 ghost use Rattle.sd_book.specs.Replay.{IsReplay};
 
@@ -63,7 +64,7 @@ impl<'a> Periods<'a> {
         ensures next { IfOk result (λ found. self.new.next ≡ (if is_some found then self.old.next + 1 else self.old.next)) }
         ensures end { IfOk result (λ found. IsNone found ↔ (last_period self.old.commands < self.old.next)) }
         ensures value { IfOk result (λ found. IfSome found (λ leaves. leaves.items ≡ revoked_in self.old.height self.old.commands self.old.next)) }
-        ensures count { IfOk result (λ found. IfSome found (λ leaves. length leaves.items ≤ 4096)) }
+        ensures fits { IfOk result (λ found. IfSome found (λ leaves. length leaves.items ≤ MOST_REVOKED)) }
         ensures below { IfOk result (λ found. IfSome found (λ leaves. All (λ leaf. leaf < 2 ^ self.old.height) leaves.items)) }
         ensures ascending { IfOk result (λ found. IfSome found (λ leaves. IsStrictlyIncreasing leaves.items)) }
         ensures unchanged { OnErr result (self.new ≡ self.old) }

@@ -12,10 +12,10 @@ pub loop-command-preserved : goal.loop-command-preserved
 loop-command-preserved c =
     let commands = c.args.commands.now in
     let command = c.in-Some.command.now in
-    let front : c.loop-command.taken < length commands = search rules in
+    let before_end : c.loop-command.taken < length commands = search rules in
     let at : get_or commands c.loop-command.taken command ≡ command = search rules in
     let same : is_period command ≡ false = search (rules, no_period) in
     record {
       within = omega arith;
-      replay = λ d number limits before. one_taken d commands _ number _ _ command limits (c.loop-command.invariant.replay d number limits before) front at same (λ all. c.in_ok-take.ensures.ok d all);
+      replay = λ d number limits before. one_taken d commands _ number _ _ command limits (c.loop-command.invariant.replay d number limits before) before_end at same (λ all. c.in_ok-take.ensures.ok d all);
     }

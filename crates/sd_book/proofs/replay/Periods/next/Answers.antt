@@ -18,8 +18,8 @@ returns-clause-value c =
     let replay = c.take_period.ensures.replay _ _ c.self.invariant.0 c.self.invariant.1 in
     rw (c.in_ok-leaves.ensures, ← c.self.view_is) (period_kept _ _ _ _ _ replay c.take_period.ensures.within c.in_ok-take_period.ensures.period)
 
-pub returns-clause-count : goal.returns-clause-count
-returns-clause-count c =
+pub returns-clause-fits : goal.returns-clause-fits
+returns-clause-fits c =
     let replay = c.take_period.ensures.replay _ _ c.self.invariant.0 c.self.invariant.1 in
     rw (c.in_ok-leaves.ensures) (period_few _ _ _ _ _ c.self.invariant.0 replay c.take_period.ensures.within c.in_ok-take_period.ensures.period)
 
