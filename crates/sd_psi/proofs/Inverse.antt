@@ -24,7 +24,7 @@ use Rattle.sd_psi.proofs.Shapes.{IsShaped, shaped_has, IsInserted, inserted_shap
 use Rattle.sd_psi.proofs.Undoing.{IsMap, removed_inserted, inserted_removed}
 
 -- where a payload starts is read from the first five bytes
-same_start : (p q : List ℕ) (n : ℕ) → 5 ≤ n → take n p ≡ take n q → payload_start_of p ≡ payload_start_of q
+pub same_start : (p q : List ℕ) (n : ℕ) → 5 ≤ n → take n p ≡ take n q → payload_start_of p ≡ payload_start_of q
 unfolding payload_start_of
 same_start p q n h e =
     let control : adaptation_of p ≡ adaptation_of q =
@@ -72,11 +72,11 @@ packet_parts packet =
     ∙ (ap (λ (l : List ℕ). in_front packet ++ l) (drop-drop 1 (payload_start_of packet) packet) ∙ take-append-drop (payload_start_of packet + 1) packet)
 
 -- where nothing is wrong, each test holds
-none_parts : (a b : Option FormFault) → or_next a b ≡ None → (a ≡ None) × (b ≡ None)
+pub none_parts : (a b : Option FormFault) → or_next a b ≡ None → (a ≡ None) × (b ≡ None)
 none_parts None b h = (refl, h)
 none_parts (Some f) b h = absurd (cc)
 
-none_true : (test : Bool) (fault : FormFault) → fault_unless test fault ≡ None → test ≡ true
+pub none_true : (test : Bool) (fault : FormFault) → fault_unless test fault ≡ None → test ≡ true
 none_true true fault h = refl
 none_true false fault h = absurd (cc)
 

@@ -6,6 +6,7 @@ ghost use Rattle.sd_section.specs.Written.{sealed};
 ghost use Rattle.sd_psi.specs.Tables.{info_length_of};
 ghost use Rattle.sd_psi.specs.Forms.{after_pointer};
 ghost use Rattle.sd_psi.specs.Rewriting.{ca_descriptor as ca_descriptor_of, with_lengths, inserted, removed, rewritten, restored, rewrite_fault, restore_fault, removal_fault};
+ghost use Rattle.sd_psi.specs.Undone.{KeepsHeader};
 
 use crate::fault::FormFault;
 use crate::form::{Table, read};
@@ -27,6 +28,7 @@ pub fn rewrite_pmt(packet: &mut Packet, ca: u16, pid: u16) -> Result<(), FormFau
     ensures value { OnOk result (packet.new ≡ rewritten ca pid packet.old) }
     ensures fault { MatchResult result (λ _. rewrite_fault packet.old ≡ None) (λ fault. rewrite_fault packet.old ≡ Some fault) }
     ensures unchanged { OnErr result (packet.new ≡ packet.old) }
+    ensures header { OnOk result (KeepsHeader packet.old packet.new) }
 {
     let length = judge_rewrite(packet)?;
     let start = packet.payload_start() + 1;
@@ -47,6 +49,7 @@ pub fn restore_pmt(packet: &mut Packet, ca: u16, pid: u16) -> Result<(), FormFau
     ensures value { OnOk result (packet.new ≡ restored packet.old) }
     ensures fault { MatchResult result (λ _. restore_fault ca pid packet.old ≡ None) (λ fault. restore_fault ca pid packet.old ≡ Some fault) }
     ensures unchanged { OnErr result (packet.new ≡ packet.old) }
+    ensures header { OnOk result (KeepsHeader packet.old packet.new) }
 {
     let length = judge_restore(packet, &ca_descriptor(ca, pid))?;
     let start = packet.payload_start() + 1;
