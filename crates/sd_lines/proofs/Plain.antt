@@ -9,7 +9,8 @@ use Rattle.sd_section.specs.Judged.{section_fault}
 use Rattle.sd_section.specs.declared.fault.SectionFault.{SectionFault}
 use Rattle.sd_section.specs.declared.fault.SectionFault.TheVariants.{Short, Length, Crc}
 use Rattle.sd_psi.specs.Tables.{Stream, descriptors_of, programs_of, info_of, streams_of, is_pat, is_cat, is_pmt}
-use Rattle.sd_lines.specs.Lines.{is_ca, ca_data, cas_of, cas_data, program_data, stream_data, pat_data, cat_data, pmt_data, fault_data, table_data, data_by, section_data}
+use Rattle.sd_psi.specs.Access.{is_ca}
+use Rattle.sd_lines.specs.Lines.{ca_data, cas_of, cas_data, program_data, stream_data, pat_data, cat_data, pmt_data, fault_data, table_data, data_by, section_data}
 
 -- some CA_descriptors
 plain_ca : (descriptors : List (List ℕ)) → items_have_float (items_of (map ca_data descriptors)) ≡ false

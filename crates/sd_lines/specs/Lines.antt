@@ -1,14 +1,14 @@
 -- The line of compact JSON that a section is shown by.
-use Rattle.std.specs.Prelude.{ℕ, ◌==◌, ◌&&◌, Bool, List, [], ◌∷◌, ◌++◌, length, map, filter, nat_le, codes, if◌then◌else◌, Option, Some, None}
+use Rattle.std.specs.Prelude.{ℕ, ◌==◌, List, [], ◌∷◌, ◌++◌, map, filter, codes, if◌then◌else◌, Option, Some, None}
 use Rattle.serde_json.specs.Data.{Data, number, unsigned, string, array, object, member, no_members}
 use Rattle.serde_json.specs.View.{items_of}
 use Rattle.serde_json.specs.Written.{compact_text}
-use Rattle.sd_bits.specs.Bits.{field}
 use Rattle.sd_section.specs.Header.{extension_of, version_of, body_of, whole_of}
 use Rattle.sd_section.specs.Judged.{section_fault}
 use Rattle.sd_section.specs.declared.fault.SectionFault.{SectionFault}
 use Rattle.sd_section.specs.declared.fault.SectionFault.TheVariants.{Short, Length, Crc}
-use Rattle.sd_psi.specs.Tables.{Stream, descriptors_of, tag_of, content_of, programs_of, pcr_of, info_of, streams_of, is_pat, is_cat, is_pmt}
+use Rattle.sd_psi.specs.Tables.{Stream, descriptors_of, programs_of, pcr_of, info_of, streams_of, is_pat, is_cat, is_pmt}
+use Rattle.sd_psi.specs.Access.{is_ca, system_of, ca_pid_of}
 
 -- a number
 abbrev pub num : ℕ → Data
@@ -22,15 +22,11 @@ word text = string text
 abbrev pub listed : List Data → Data
 listed items = array (items_of items)
 
--- the descriptor is a CA_descriptor in which CA_system_ID and CA_PID are there [ISO/IEC 13818-1, 2.6.16]
-unfoldable pub is_ca : List ℕ → Bool
-is_ca descriptor = (tag_of descriptor == 9) && nat_le 4 (length (content_of descriptor))
-
--- its CA_PID and CA_system_ID [ISO/IEC 13818-1, 2.6.16]
+-- a CA_descriptor: its CA_PID and CA_system_ID [ISO/IEC 13818-1, 2.6.16]
 unfoldable pub ca_data : List ℕ → Data
 ca_data descriptor = object
-    (member (codes "pid") (num (field descriptor 35 13))
-    (member (codes "system") (num (field descriptor 16 16))
+    (member (codes "pid") (num (ca_pid_of descriptor))
+    (member (codes "system") (num (system_of descriptor))
     no_members))
 
 -- the CA_descriptors among some descriptors, and among those that fill some bytes

@@ -1,9 +1,8 @@
 -- How bytes are cut into items.
-use Rattle.std.proofs.Common.{ℕ, zero, suc, ◌+◌, ◌-◌, ◌<◌, ◌≤◌, ◌≡◌, Bool, true, false, ◌==◌, ◌&&◌, List, [], ◌∷◌, length, take, drop, length-drop, length-take-le, eq-eqb, inl, inr, le_refl, refl, sym, ap, ◌∙◌, arith}
+use Rattle.std.proofs.Common.{ℕ, zero, suc, ◌+◌, ◌-◌, ◌<◌, ◌≤◌, ◌≡◌, Bool, true, false, ◌==◌, ◌&&◌, List, [], ◌∷◌, length, take, drop, length-drop, length-take-le, eq-eqb, le_refl, refl, sym, ap, ◌∙◌, arith}
 use Rattle.std.specs.List.{list_all}
 use Rattle.std.proofs.lemmas.List.{take_all, take_rest, drop-drop}
-use Rattle.std.specs.Prelude.{Some, slice_get}
-use Rattle.std.proofs.lemmas.Bool.{eqb-true, cases_lt}
+use Rattle.std.proofs.lemmas.Bool.{eqb-true}
 use Rattle.sd_bits.specs.Bits.{field}
 use Rattle.sd_section.proofs.Judging.{field_take}
 use Rattle.sd_psi.specs.declared.items.Kind.{Kind}
@@ -18,7 +17,7 @@ some_size Descriptor bytes = omega arith
 some_size Stream bytes = omega arith
 
 -- an item that is there says its own length
-same_size : (kind : Kind) (bytes : List ℕ) → size_of kind (take (size_of kind bytes) bytes) ≡ size_of kind bytes
+pub same_size : (kind : Kind) (bytes : List ℕ) → size_of kind (take (size_of kind bytes) bytes) ≡ size_of kind bytes
 unfolding size_of
 same_size Program bytes = refl
 same_size Descriptor bytes = ap (λ (n : ℕ). 2 + n) (field_take bytes (2 + field bytes 8 8) 8 8 (omega arith))
@@ -111,35 +110,9 @@ off_after kind bytes at within off =
     let here = ap (size_of kind) (take_rest bytes at) in
     first_off kind (drop at bytes) (omega (arith, length-drop at bytes)) (omega (arith, length-drop at bytes, here))
 
--- one item more is after the place
-pub one_more : (kind : Kind) (bytes : List ℕ) (at size : ℕ) → at < length bytes →
-    size ≡ size_of kind (take (length bytes - at) (drop at bytes)) →
-    length (items_of kind (drop at bytes)) ≡ 1 + length (items_of kind (drop (at + size) bytes))
-one_more kind bytes at size within is = omega (arith, ap (λ (l : List (List ℕ)). length l) (items_after kind bytes at size within is))
-
--- after the end there is nothing
-pub none_after : (kind : Kind) (bytes : List ℕ) (at : ℕ) → length bytes ≤ at →
-    (length (items_of kind (drop at bytes)) ≡ 0) × (are_whole kind (drop at bytes) ≡ true)
-none_after kind bytes at past =
-    let none : length (drop at bytes) ≡ 0 = omega (arith, length-drop at bytes) in
-    (ap (λ (l : List (List ℕ)). length l) (none_cut kind (drop at bytes) none), none_off kind (drop at bytes) none)
-
--- an item stands where items do
-pub some_bytes : (kind : Kind) (bytes : List ℕ) (at : ℕ) → 0 < length (items_of kind (drop at bytes)) → at < length bytes
-some_bytes kind bytes at some = elim (cases_lt at (length bytes)) [
-  | inl within ↦ within
-  | inr past ↦ absurd (omega (arith, (none_after kind bytes at past).0))
-]
-
--- a list after its first elements, by the element there
-pub rest_more : (xs : List (List ℕ)) (i : ℕ) (y : List ℕ) (ys : List (List ℕ)) → drop i xs ≡ y ∷ ys → drop (i + 1) xs ≡ ys
-rest_more xs i y ys h = sym (drop-drop 1 i xs) ∙ ap (drop 1) h
-
-pub get_here : (xs : List (List ℕ)) (i : ℕ) (y : List ℕ) (ys : List (List ℕ)) → drop i xs ≡ y ∷ ys → slice_get xs i ≡ Some y
-get_here [] zero y ys h = absurd (cc)
-get_here [] (suc i) y ys h = absurd (cc)
-get_here (x ∷ xs) zero y ys h = (cc)
-get_here (x ∷ xs) (suc i) y ys h = get_here xs i y ys h
+-- nothing is cut off after the end
+pub none_after : (kind : Kind) (bytes : List ℕ) (at : ℕ) → length bytes ≤ at → are_whole kind (drop at bytes) ≡ true
+none_after kind bytes at past = none_off kind (drop at bytes) (omega (arith, length-drop at bytes))
 
 -- an item at a place is as long as it says
 pub size_itself : (kind : Kind) (bytes : List ℕ) (at size : ℕ) → size ≡ size_of kind (take (length bytes - at) (drop at bytes)) →
@@ -147,3 +120,27 @@ pub size_itself : (kind : Kind) (bytes : List ℕ) (at size : ℕ) → size ≡ 
 size_itself kind bytes at size is =
     let here : size ≡ size_of kind (drop at bytes) = is ∙ ap (size_of kind) (take_rest bytes at) in
     ap (λ (n : ℕ). size_of kind (take n (drop at bytes))) here ∙ (same_size kind (drop at bytes) ∙ sym here)
+
+-- the first item of bytes that items fill, and the bytes after it
+pub cut_first : (kind : Kind) (bytes : List ℕ) (size : ℕ) → size ≡ size_of kind bytes → 0 < length bytes →
+    items_of kind bytes ≡ take size bytes ∷ items_of kind (drop size bytes)
+cut_first kind bytes size is some =
+    first_cut kind bytes some ∙ ap (λ (n : ℕ). take n bytes ∷ items_of kind (drop n bytes)) (sym is)
+
+pub cut_long : (kind : Kind) (bytes : List ℕ) (size : ℕ) → size ≡ size_of kind bytes → size ≤ length bytes →
+    length (take size bytes) ≡ size_of kind (take size bytes)
+cut_long kind bytes size is there =
+    length-take-le size bytes there
+    ∙ (is ∙ (sym (same_size kind bytes) ∙ ap (λ (n : ℕ). size_of kind (take n bytes)) (sym is)))
+
+pub cut_rest : (kind : Kind) (bytes : List ℕ) (size : ℕ) → size ≡ size_of kind bytes → 0 < length bytes →
+    size ≤ length bytes → are_whole kind bytes ≡ true → are_whole kind (drop size bytes) ≡ true
+cut_rest kind bytes size is some there whole =
+    ap (λ (n : ℕ). are_whole kind (drop n bytes)) is
+    ∙ (sym (first_whole kind bytes some (omega (arith, is, there))) ∙ whole)
+
+-- bytes have an item
+pub some_items : (kind : Kind) (bytes : List ℕ) → 0 < length bytes → items_of kind bytes ≡ [] → ⊥
+some_items kind bytes some none =
+    let cut = first_cut kind bytes some in
+    absurd (cc)

@@ -1,7 +1,7 @@
 -- The project's CAT is a CAT, and has one descriptor.
-use Rattle.std.proofs.Common.{ℕ, zero, suc, ◌+◌, ◌-◌, ◌^◌, ◌<◌, ◌≤◌, ◌≡◌, true, ◌==◌, List, [], ◌∷◌, ◌++◌, length, drop, length-append, eq-eqb, refl, ap, ◌∙◌, arith}
+use Rattle.std.proofs.Common.{ℕ, zero, suc, ◌+◌, ◌-◌, ◌^◌, ◌<◌, ◌≤◌, ◌≡◌, true, ◌==◌, List, [], ◌∷◌, ◌++◌, length, drop, length-append, length-drop, eq-eqb, refl, ap, ◌∙◌, arith}
 use Rattle.std.specs.Prelude.{None, nat_le, replicate}
-use Rattle.std.proofs.lemmas.Bool.{le-leb}
+use Rattle.std.proofs.lemmas.Bool.{le-leb, leb-true, and_parts}
 use Rattle.std.proofs.lemmas.List.{drop_at}
 use Rattle.sd_bits.specs.Bits.{field}
 use Rattle.sd_bits.proofs.Fields.{field_split, field_below}
@@ -16,7 +16,7 @@ use Rattle.sd_psi.specs.declared.form.Table.{Table}
 use Rattle.sd_psi.specs.declared.form.Table.TheVariants.{Cat}
 use Rattle.sd_psi.specs.declared.items.Kind.TheVariants.{Descriptor}
 use Rattle.sd_psi.specs.Items.{size_of, is_whole, are_whole}
-use Rattle.sd_psi.specs.Tables.{descriptors_of, is_cat}
+use Rattle.sd_psi.specs.Tables.{descriptors_of, tag_of, content_of, is_cat}
 use Rattle.sd_psi.specs.Access.{is_ca, cat_descriptor, cat_header, cat_section, IsCatDescriptor}
 use Rattle.sd_psi.specs.Forms.{after_pointer, section_in, has_body, is_stuffing, bytes_fault, front_fault, cat_fault, form_fault}
 use Rattle.sd_psi.proofs.Grammar.{spelled_items, spelled_whole}
@@ -108,6 +108,15 @@ module _ (ca emm ecm n : ℕ) (few : n < 16) where
 
   pub our_cat_has_one : descriptors_of (body_of (section_in (packed (cat_section ca emm ecm) 1 n))) ≡ cat_descriptor ca emm ecm ∷ []
   our_cat_has_one = ap (λ (l : List ℕ). descriptors_of (body_of l)) found ∙ (ap descriptors_of body_found ∙ cat_descriptors ca emm ecm)
+
+-- CA_system_ID and CA_PID are there in a CA_descriptor
+pub ca_is_long : (descriptor : List ℕ) → is_ca descriptor ≡ true → 6 ≤ length descriptor
+unfolding is_ca
+ca_is_long descriptor h = omega (
+  arith,
+  leb-true 4 (length (content_of descriptor)) (and_parts (tag_of descriptor == 9) (nat_le 4 (length (content_of descriptor))) h).1,
+  length-drop 2 descriptor,
+)
 
 -- what is read from the descriptor
 shown_is : (ca emm ecm : ℕ) → is_ca (cat_descriptor ca emm ecm) ≡ true

@@ -127,13 +127,16 @@ not_nothing [] h = absurd (omega arith)
 not_nothing (x ∷ xs) h = refl
 
 -- the first descriptor of program_info
-pub first_is : (descriptor section first : List ℕ) (test : Bool) → slice_get (descriptors_of (info_of section)) 0 ≡ Some first →
-    test ≡ bytes_eq first descriptor → test ≡ is_first descriptor section
-first_is descriptor section first test h e = e ∙ ap (λ (l : List ℕ). bytes_eq l descriptor) (sym (head_is (descriptors_of (info_of section)) first h))
+pub first_is : (descriptor section first rest : List ℕ) (test : Bool) →
+    descriptors_of (info_of section) ≡ first ∷ descriptors_of rest → test ≡ bytes_eq first descriptor →
+    test ≡ is_first descriptor section
+first_is descriptor section first rest test cut e =
+    e ∙ ap (λ (l : List (List ℕ)). bytes_eq (get_or l 0 []) descriptor) (sym cut)
 
-pub none_is_first : (descriptor section : List ℕ) → 0 < length descriptor → length (descriptors_of (info_of section)) ≡ 0 → is_first descriptor section ≡ false
+pub none_is_first : (descriptor section : List ℕ) → 0 < length descriptor → descriptors_of (info_of section) ≡ [] →
+    is_first descriptor section ≡ false
 none_is_first descriptor section some none =
-    ap (λ (l : List ℕ). bytes_eq l descriptor) (no_head (descriptors_of (info_of section)) none) ∙ not_nothing descriptor some
+    ap (λ (l : List (List ℕ)). bytes_eq (get_or l 0 []) descriptor) none ∙ not_nothing descriptor some
 
 -- it is the first six bytes of them where it has six
 pub record IsInFront (descriptor info : List ℕ) : Type 0 where
