@@ -1,5 +1,6 @@
 -- What stays of a packet's header, and which packets can't be rewritten.
-use Rattle.std.proofs.Common.{ℕ, ◌+◌, ◌<◌, ◌≤◌, ◌≡◌, Bool, true, false, List, ◌++◌, length, drop, length-take-le, refl, ◌∙◌, arith}
+use Rattle.std.proofs.Common.{ℕ, ◌+◌, ◌<◌, ◌≤◌, ◌≡◌, Bool, true, false, List, ◌++◌, length, drop, length-take-le, refl}
+use Rattle.std.proofs.Common.{◌∙◌, arith}
 use Rattle.std.specs.Prelude.{Option, Some, None, ◌≢◌, replicate}
 use Rattle.std.proofs.lemmas.List.{take_at}
 use Rattle.sd_bits.specs.Bits.{field}
@@ -9,28 +10,31 @@ use Rattle.sd_section.proofs.Judging.{field_take}
 use Rattle.sd_psi.specs.declared.fault.FormFault.{FormFault}
 use Rattle.sd_psi.specs.declared.fault.FormFault.TheVariants as Fault
 use Rattle.sd_psi.specs.declared.form.Table.TheVariants.{Pmt}
-use Rattle.sd_psi.specs.Forms.{fault_unless, or_next, section_in, after_section, front_fault}
-use Rattle.sd_psi.specs.Rewriting.{ca_descriptor, inserted, removed, in_front, rewritten, restored, loops_fault, has_room, is_first, rewrite_fault, removal_fault, restore_fault}
+use Rattle.sd_psi.specs.Forms.{fault_unless, or_next, section_in, after_section, outer_fault}
+use Rattle.sd_psi.specs.Rewriting.{ca_descriptor, inserted, removed, before_section, rewritten, restored, loops_fault}
+use Rattle.sd_psi.specs.Rewriting.{has_room, is_first, rewrite_fault, removal_fault, restore_fault}
 use Rattle.sd_psi.specs.Undone.{IsPacket, KeepsHeader}
-use Rattle.sd_psi.proofs.Grammar.{front_field}
+use Rattle.sd_psi.proofs.Grammar.{head_field}
 use Rattle.sd_psi.proofs.Inverse.{same_start, none_parts}
 
 -- a packet with other bytes from its section on has its header
 module _ (packet rest : List ℕ) (long : length packet ≡ 188) (some : payload_start_of packet < 188) where
-  head_long : length (in_front packet) ≡ payload_start_of packet + 1
+  head_long : length (before_section packet) ≡ payload_start_of packet + 1
   head_long = length-take-le (payload_start_of packet + 1) packet (omega (arith, long, some))
 
-  field_stays : (at width : ℕ) → at + width ≤ 32 → field (in_front packet ++ rest) at width ≡ field packet at width
+  field_stays : (at width : ℕ) → at + width ≤ 32 → field (before_section packet ++ rest) at width ≡ field packet at
+      width
   field_stays at width h =
-      front_field (in_front packet) rest at width (omega (arith, head_long, (start_within packet).0, h))
+      head_field (before_section packet) rest at width (omega (arith, head_long, (start_within packet).0, h))
       ∙ field_take packet (payload_start_of packet + 1) at width (omega (arith, (start_within packet).0, h))
 
-  start_stays : payload_start_of (in_front packet ++ rest) ≡ payload_start_of packet
+  start_stays : payload_start_of (before_section packet ++ rest) ≡ payload_start_of packet
   start_stays =
-      same_start (in_front packet ++ rest) packet (payload_start_of packet + 1) (omega (arith, (start_within packet).0))
-      (take_at (in_front packet) rest (payload_start_of packet + 1) head_long)
+      same_start (before_section packet ++ rest) packet (payload_start_of packet + 1)
+      (omega (arith, (start_within packet).0))
+      (take_at (before_section packet) rest (payload_start_of packet + 1) head_long)
 
-  pub head_keeps : KeepsHeader packet (in_front packet ++ rest)
+  pub head_keeps : KeepsHeader packet (before_section packet ++ rest)
   head_keeps = record {
     error = field_stays 8 1 (omega arith);
     unit_start = field_stays 9 1 (omega arith);
@@ -55,7 +59,8 @@ unfolding restored
 restored_keeps packet long some =
     head_keeps packet (removed (section_in packet) ++ (replicate 6 255 ++ after_section packet)) long some
 
-pub rewritten_packet_keeps : (ca pid : ℕ) (packet : List ℕ) → IsPacket packet → KeepsHeader packet (rewritten ca pid packet)
+pub rewritten_packet_keeps : (ca pid : ℕ) (packet : List ℕ) → IsPacket packet →
+    KeepsHeader packet (rewritten ca pid packet)
 rewritten_packet_keeps ca pid packet is = rewritten_keeps packet ca pid is.long is.payload
 
 pub restored_packet_keeps : (packet : List ℕ) → IsPacket packet → KeepsHeader packet (restored packet)
@@ -68,13 +73,15 @@ room_by : (room : Bool) (outer loops : Option FormFault) → outer ≡ None → 
 room_by true outer loops h k isnt = absurd (isnt (rw (h, k) refl))
 room_by false outer loops h k isnt = rw h refl
 
-pub full_is_told_apart : (ca pid : ℕ) (packet : List ℕ) → restore_fault ca pid packet ≡ None → rewrite_fault packet ≢ None →
+pub full_is_told_apart : (ca pid : ℕ) (packet : List ℕ) → restore_fault ca pid packet ≡ None →
+    rewrite_fault packet ≢ None →
     rewrite_fault packet ≡ Some Fault.NoRoom
 unfolding rewrite_fault removal_fault
 full_is_told_apart ca pid packet good isnt =
-    let outer = none_parts (front_fault Pmt packet)
-    (or_next (loops_fault (section_in packet)) (fault_unless (is_first (ca_descriptor ca pid) (section_in packet)) Fault.Descriptor))
+    let outer = none_parts (outer_fault Pmt packet)
+    (or_next (loops_fault (section_in packet)) (fault_unless (is_first (ca_descriptor ca pid) (section_in packet))
+    Fault.Descriptor))
     good in
     let loops = none_parts (loops_fault (section_in packet))
     (fault_unless (is_first (ca_descriptor ca pid) (section_in packet)) Fault.Descriptor) outer.1 in
-    room_by (has_room packet) (front_fault Pmt packet) (loops_fault (section_in packet)) outer.0 loops.0 isnt
+    room_by (has_room packet) (outer_fault Pmt packet) (loops_fault (section_in packet)) outer.0 loops.0 isnt

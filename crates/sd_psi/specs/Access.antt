@@ -29,7 +29,8 @@ private_of descriptor = drop 6 descriptor
 abbrev pub pid_bytes : ℕ → List ℕ
 pid_bytes pid = (0xE0 + pid / 256) ∷ pid % 256 ∷ []
 
--- the descriptor of the project's CAT: CA_system_ID, as CA_PID the PID of entitlement management messages, and as private bytes
+-- the descriptor of the project's CAT: CA_system_ID, as CA_PID the PID of entitlement management messages, and as
+-- private bytes
 -- that of entitlement control messages [ISO/IEC 13818-1, 2.6.16; this project, docs/FORMATS.md, Tables]
 abbrev pub cat_descriptor : ℕ → ℕ → ℕ → List ℕ
 cat_descriptor ca emm ecm =

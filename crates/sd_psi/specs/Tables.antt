@@ -39,7 +39,8 @@ programs_in bytes = map program_of (items_of Program bytes)
 unfoldable pub programs_of : List ℕ → List (ℕ × ℕ)
 programs_of section = programs_in (body_of section)
 
--- the PIDs of the PMTs of some programs: those of all programs but 0, whose PID is the network's [ISO/IEC 13818-1, 2.4.4.3]
+-- the PIDs of the PMTs of some programs: those of all programs but 0, whose PID is the network's [ISO/IEC 13818-1,
+-- 2.4.4.3]
 unfoldable pub pmt_pids_in : List (ℕ × ℕ) → List ℕ
 pmt_pids_in programs = map (λ program. program.1) (filter (λ program. not (program.0 == 0)) programs)
 
@@ -103,4 +104,5 @@ has_info section = nat_le 4 (length (body_of section)) && nat_le (4 + info_lengt
 
 -- the section is a PMT: its loops fill its body exactly [ISO/IEC 13818-1, 2.4.4.8]
 unfoldable pub is_pmt : List ℕ → Bool
-is_pmt section = (table_id_of section == 2) && (has_info section && (are_descriptors (info_of section) && are_streams (loop_of section)))
+is_pmt section = (table_id_of section == 2) &&
+    (has_info section && (are_descriptors (info_of section) && are_streams (loop_of section)))

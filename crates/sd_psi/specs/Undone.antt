@@ -1,6 +1,7 @@
 -- What rewriting and restoring a PMT are to each other.
 use Rattle.std.specs.Prelude.{◌≡◌, ℕ, ◌<◌, List, length, slice_index}
-use Rattle.sd_packet.specs.Header.{error_of, unit_start_of, priority_of, pid_of, scrambling_of, adaptation_of, counter_of}
+use Rattle.sd_packet.specs.Header.{error_of, unit_start_of, priority_of, pid_of, scrambling_of, adaptation_of}
+use Rattle.sd_packet.specs.Header.{counter_of}
 use Rattle.sd_packet.specs.Header.{payload_start_of}
 
 -- a packet's bytes, with a payload that isn't empty [ISO/IEC 13818-1, 2.4.3.2]

@@ -18,8 +18,10 @@ ghost use Rattle.sd_psi.specs.Undone.{IsPacket, KeepsHeader};
 #[tactic(auto, using(crate::proofs::Grammar::items_spell, crate::proofs::Grammar::spelled_items, crate::proofs::Grammar::spelled_whole))]
 pub fn items_are_spelled()
     ensures bytes { (kind : Kind) (bytes : List ℕ) → joined (items_of kind bytes) ≡ bytes }
-    ensures items { (kind : Kind) (items : List (List ℕ)) → list_all (is_whole kind) items ≡ true → items_of kind (joined items) ≡ items }
-    ensures whole { (kind : Kind) (items : List (List ℕ)) → list_all (is_whole kind) items ≡ true → are_whole kind (joined items) ≡ true }
+    ensures items { (kind : Kind) (items : List (List ℕ)) → list_all (is_whole kind) items ≡ true →
+        items_of kind (joined items) ≡ items }
+    ensures whole { (kind : Kind) (items : List (List ℕ)) → list_all (is_whole kind) items ≡ true →
+        are_whole kind (joined items) ≡ true }
 {}
 
 /// Programs fill bytes exactly where their number is a multiple of 4.
@@ -63,7 +65,8 @@ pub fn full_pmts_are_told_apart()
 /// The packet of the project's CAT is one, and its descriptors are the one that names the system and both PIDs.
 #[tactic(auto, using(crate::proofs::OurCat::our_cat_is_good, crate::proofs::OurCat::our_cat_has_one))]
 pub fn our_cat_is_one()
-    ensures fault { (ca emm ecm counter : ℕ) → counter < 16 → cat_fault (packed (cat_section ca emm ecm) 1 counter) ≡ None }
+    ensures fault { (ca emm ecm counter : ℕ) → counter < 16 → cat_fault (packed (cat_section ca emm ecm) 1 counter)
+        ≡ None }
     ensures value { (ca emm ecm counter : ℕ) → counter < 16 →
         descriptors_of (body_of (section_in (packed (cat_section ca emm ecm) 1 counter))) ≡ cat_descriptor ca emm ecm ∷ [] }
     ensures fields { (ca emm ecm : ℕ) → ca < 2 ^ 16 → emm < 8192 → ecm < 8192 →

@@ -1,4 +1,5 @@
-ghost use Rattle.std.specs.Prelude.{◌≡◌, ◌<◌, ◌↔◌, true, false, Some, None, IfOk, MatchResult, IsNone, IsSome, IfSome, IsTrue, length, slice_get};
+ghost use Rattle.std.specs.Prelude.{◌≡◌, ◌<◌, ◌↔◌, true, false, Some, None, IfOk, MatchResult, IsNone, IsSome, IfSome};
+ghost use Rattle.std.specs.Prelude.{IsTrue, length, slice_get};
 ghost use Rattle.sd_section.specs.Header.{extension_of, version_of, current_of};
 ghost use Rattle.sd_packet.specs.Header.{payload_start_of};
 ghost use Rattle.sd_psi.specs.Forms.{section_in, pat_fault};
@@ -31,7 +32,7 @@ pub fn pat_in<'a>(section: &Section<'a>) -> Option<Pat<'a>>
 }
 
 /// The PAT that the packet is by itself.
-#[tactic(auto, using(crate::proofs::Judging::front_first, crate::proofs::Judging::then_good, crate::proofs::Judging::then_loops))]
+#[tactic(auto, using(crate::proofs::Judging::outer_first, crate::proofs::Judging::then_good, crate::proofs::Judging::then_loops))]
 pub fn pat_of<'a>(packet: &'a Packet) -> Result<Pat<'a>, FormFault>
     requires { payload_start_of packet.now < 188 }
     ensures value { IfOk result (λ pat. pat.section.bytes.now ≡ section_in packet.now) }

@@ -1,9 +1,11 @@
-ghost use Rattle.std.specs.Prelude.{◌≡◌, ◌+◌, ◌<◌, ◌≤◌, ◌↔◌, true, false, Some, None, IfOk, MatchResult, IsNone, IfSome, IsTrue, length, drop, slice_get};
+ghost use Rattle.std.specs.Prelude.{◌≡◌, ◌+◌, ◌<◌, ◌≤◌, ◌↔◌, true, false, Some, None, IfOk, MatchResult, IsNone};
+ghost use Rattle.std.specs.Prelude.{IfSome, IsTrue, length, drop, slice_get};
 ghost use Rattle.sd_section.specs.Header.{extension_of, version_of, current_of};
 ghost use Rattle.sd_packet.specs.Header.{payload_start_of};
 ghost use Rattle.sd_psi.specs.Forms.{section_in, pmt_fault};
 ghost use Rattle.sd_psi.specs.Rewriting.{is_first};
-ghost use Rattle.sd_psi.specs.Tables.{descriptors_of, are_descriptors, pcr_of, has_info, info_of, loop_of, streams_in, streams_of, are_streams as are_streams_of, is_pmt};
+ghost use Rattle.sd_psi.specs.Tables.{descriptors_of, are_descriptors, pcr_of, has_info, info_of, loop_of, streams_in};
+ghost use Rattle.sd_psi.specs.Tables.{streams_of, are_streams as are_streams_of, is_pmt};
 
 use crate::descriptor::Descriptors;
 use crate::fault::FormFault;
@@ -75,7 +77,7 @@ fn are_streams(bytes: &[u8]) -> bool
 }
 
 /// The PMT that the packet is by itself.
-#[tactic(auto, using(crate::proofs::Judging::front_first, crate::proofs::Judging::then_good, crate::proofs::Judging::then_loops))]
+#[tactic(auto, using(crate::proofs::Judging::outer_first, crate::proofs::Judging::then_good, crate::proofs::Judging::then_loops))]
 pub fn pmt_of<'a>(packet: &'a Packet) -> Result<Pmt<'a>, FormFault>
     requires { payload_start_of packet.now < 188 }
     ensures value { IfOk result (λ pmt. pmt.section.bytes.now ≡ section_in packet.now) }
