@@ -14,7 +14,8 @@ ghost use Rattle.sd_psi.specs.Forms.{section_in, cat_fault};
 ghost use Rattle.sd_psi.specs.Rewriting.{rewritten, restored, rewrite_fault, restore_fault};
 ghost use Rattle.sd_psi.specs.Undone.{IsPacket, KeepsHeader};
 
-/// Bytes are their items one after the other, and items that are as long as they say are those of the bytes that they are.
+/// Bytes are their items one after the other, and items that are as long as they say are those of the bytes that
+/// they are.
 #[tactic(auto, using(crate::proofs::Grammar::items_spell, crate::proofs::Grammar::spelled_items, crate::proofs::Grammar::spelled_whole))]
 pub fn items_are_spelled()
     ensures bytes { (kind : Kind) (bytes : List ℕ) → joined (items_of kind bytes) ≡ bytes }
@@ -51,7 +52,8 @@ pub fn restoring_is_undone()
 /// A packet that is rewritten, or restored, has its header as it was.
 
 pub fn rewritten_headers_stay()
-    ensures rewritten { (ca pid : ℕ) (packet : List ℕ) → IsPacket packet → KeepsHeader packet (rewritten ca pid packet) }
+    ensures rewritten { (ca pid : ℕ) (packet : List ℕ) → IsPacket packet →
+        KeepsHeader packet (rewritten ca pid packet) }
     ensures restored { (packet : List ℕ) → IsPacket packet → KeepsHeader packet (restored packet) }
 {}
 
@@ -68,7 +70,8 @@ pub fn our_cat_is_one()
     ensures fault { (ca emm ecm counter : ℕ) → counter < 16 → cat_fault (packed (cat_section ca emm ecm) 1 counter)
         ≡ None }
     ensures value { (ca emm ecm counter : ℕ) → counter < 16 →
-        descriptors_of (body_of (section_in (packed (cat_section ca emm ecm) 1 counter))) ≡ cat_descriptor ca emm ecm ∷ [] }
+        descriptors_of (body_of (section_in (packed (cat_section ca emm ecm) 1 counter)))
+        ≡ cat_descriptor ca emm ecm ∷ [] }
     ensures fields { (ca emm ecm : ℕ) → ca < 2 ^ 16 → emm < 8192 → ecm < 8192 →
         IsCatDescriptor ca emm ecm (cat_descriptor ca emm ecm) }
 {}

@@ -146,7 +146,8 @@ fn set_lengths(head: &mut [u8], section_length: u64, info_length: u64)
     }
 }
 
-// Puts the descriptor before the first one of program_info. Six bytes stand after the section, for which there is to be room.
+// Puts the descriptor before the first one of program_info. Six bytes stand after the section, for which there is
+// to be room.
 fn insert(bytes: &mut [u8], descriptor: &[u8; SIZE])
     requires long { 22 ≤ length bytes.old }
     requires section { section_length_of bytes.old < 4090 }
