@@ -1,6 +1,6 @@
 -- The chain cover of the leaves that are not revoked [Naor, Naor, Lotspiech 2001, 3.2].
 -- A leaf u of a tree of height d has the node 2^d + u.
-use Rattle.std.specs.Prelude.{◌≡◌, ◌≢◌, ℕ, ◌+◌, ◌-◌, ◌*◌, ◌/◌, ◌%◌, ◌^◌, ◌≤◌, ◌==◌, ◌↔◌, ◌⊎◌, List, [], ◌∷◌, Contains, if◌then◌else◌}
+use Rattle.std.specs.Prelude.{◌≡◌, ◌≢◌, ℕ, ◌+◌, ◌*◌, ◌/◌, ◌^◌, ◌≤◌, ◌↔◌, ◌⊎◌, List, [], ◌∷◌, Contains}
 use Rattle.sd_tree.specs.Node.{IsAbove}
 use Rattle.sd_tree.specs.Paths.{sibling_of}
 use Rattle.sd_tree.specs.SetNames.{AreAscending}
@@ -14,7 +14,8 @@ IsInTree d revoked v = (1 ≤ v) × ((u : ℕ) × Contains revoked u × IsAbove 
 -- of the node's two children just one is in T
 abbrev pub HasOneChild : ℕ → List ℕ → ℕ → Type 0
 HasOneChild d revoked v =
-    (IsInTree d revoked (2 * v) × ¬ IsInTree d revoked (2 * v + 1)) ⊎ (¬ IsInTree d revoked (2 * v) × IsInTree d revoked (2 * v + 1))
+    (IsInTree d revoked (2 * v) × ¬ IsInTree d revoked (2 * v + 1))
+    ⊎ (¬ IsInTree d revoked (2 * v) × IsInTree d revoked (2 * v + 1))
 
 -- both of its children are in T
 abbrev pub HasTwoChildren : ℕ → List ℕ → ℕ → Type 0
@@ -53,7 +54,8 @@ abbrev pub IsOfChain : ℕ → List ℕ → SetName → Type 0
 IsOfChain d revoked Whole = ⊥
 IsOfChain d revoked (Diff i j) = EndsChain d revoked i j
 
--- the cover, ascending: the whole set alone where no leaf is revoked, else a set for each chain of more than one node [Naor, Naor, Lotspiech 2001, 3.2]
+-- the cover, ascending: the whole set alone where no leaf is revoked, else a set for each chain of more than one node
+-- [Naor, Naor, Lotspiech 2001, 3.2]
 pub record IsChainCover (d : ℕ) (revoked : List ℕ) (sets : List SetName) : Type 0 where
   pub ascending : AreAscending sets
   pub none_revoked : revoked ≡ [] → sets ≡ Whole ∷ []
