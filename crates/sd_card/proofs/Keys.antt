@@ -1,7 +1,7 @@
 -- The keys that a card gives.
-use Rattle.std.proofs.Common.{ℕ, ◌+◌, ◌-◌, ◌*◌, ◌/◌, ◌^◌, ◌<◌, ◌≤◌, ◌≡◌, true, List, length, map, refl, sym, subst, ◌∙◌}
+use Rattle.std.proofs.Common.{ℕ, ◌+◌, ◌-◌, ◌*◌, ◌/◌, ◌^◌, ◌<◌, ◌≤◌, ◌≡◌, true, List, refl, sym, subst, ◌∙◌}
 use Rattle.std.proofs.Common.{arith}
-use Rattle.std.specs.Prelude.{slice_get, get_or, [], Some}
+use Rattle.std.specs.Prelude.{slice_get, [], Some}
 use Rattle.std.proofs.lemmas.Option.{get_or_from_slice_get}
 use Rattle.sd_tree.specs.Node.{depth}
 use Rattle.sd_tree.specs.SetNames.{IsPair, IsOfHeight}
@@ -17,7 +17,7 @@ use Rattle.sd_label.specs.declared.name.Name.TheVariants.{Pair}
 use Rattle.sd_label.proofs.Hanging.{hangs}
 use Rattle.sd_label.proofs.Pairs.{given_is_hanging, hanging_is_given}
 use Rattle.sd_secrets.specs.Hanging.{IsHanging}
-use Rattle.sd_secrets.specs.Secrets.{secret_of, Holds, DerivesPair, key_among, key_held}
+use Rattle.sd_secrets.specs.Secrets.{secret_of, Holds, DerivesPair, key_held}
 use Rattle.sd_secrets.proofs.Held.{AreOfLeaf, derived_is_among, own_among}
 use Rattle.sd_secrets.proofs.Once.{given_once}
 use Rattle.sd_secrets.proofs.Paths.{node_within, ancestor_on_path}

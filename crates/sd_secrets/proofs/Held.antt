@@ -1,11 +1,10 @@
 -- The key of a pair, from the one name of it that leads there.
 use Rattle.std.proofs.Common.{ℕ, zero, suc, ◌+◌, ◌/◌, ◌^◌, ◌<◌, ◌≤◌, ◌≡◌, ◌≢◌, Bool, true, false, eqb, List, [], ◌∷◌}
-use Rattle.std.proofs.Common.{length}
-use Rattle.std.proofs.Common.{get_or, map, cond, refl, sym, ap, subst, ◌∙◌, ⊎_elim, eq-eqb, arith}
+use Rattle.std.proofs.Common.{map, cond, refl, sym, ap, ◌∙◌, ⊎_elim, eq-eqb, arith}
 use Rattle.std.specs.Prelude.{◌↔◌, ◌&&◌, slice_get, Some, Contains, AllPairs}
 use Rattle.std.proofs.Math.Pow.{pow_mono}
 use Rattle.std.proofs.lemmas.Bool.{eqb-true, and_parts, cases_eq}
-use Rattle.std.proofs.lemmas.Option.{none-some, same_Some, slice_get-map, slice_get-get_or, slice_get_within}
+use Rattle.std.proofs.lemmas.Option.{same_Some, slice_get-map, slice_get-get_or, slice_get_within}
 use Rattle.std.proofs.lemmas.Option.{get_or_from_slice_get}
 use Rattle.sd_tree.specs.Node.{depth, IsAbove}
 use Rattle.sd_tree.proofs.Levels.{doubled}
@@ -16,7 +15,7 @@ use Rattle.sd_label.specs.declared.name.Name.{Name}
 use Rattle.sd_label.specs.declared.name.Name.TheVariants.{Whole, Pair}
 use Rattle.sd_label.proofs.Descents.{level_of, held_gives_label}
 use Rattle.sd_label.proofs.Hanging.{one_child_above}
-use Rattle.sd_label.proofs.Paths.{sibling_half, sibling_apart}
+use Rattle.sd_tree.proofs.Paths.{sibling_half, sibling_apart}
 use Rattle.sd_secrets.specs.Secrets.{secret_of, DerivesPair, is_at_or_above, key_among}
 
 -- the halvings between the depths tell which node is above

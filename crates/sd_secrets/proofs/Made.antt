@@ -1,19 +1,16 @@
 -- The secrets of a leaf, as they are made.
 use Rattle.std.proofs.Common.{ℕ, zero, suc, ◌+◌, ◌-◌, ◌/◌, ◌^◌, ◌<◌, ◌≤◌, ◌≡◌, List, [], ◌∷◌, ◌++◌, take, map, sym}
-use Rattle.std.proofs.Common.{refl, ap, ◌∙◌, append_assoc, add-one, arith}
-use Rattle.std.proofs.lemmas.List.{append-nil, map-append}
-use Rattle.std.specs.List.{range_with_len, flat_map}
-use Rattle.std.proofs.lemmas.List.Concat.{flat_map-cons}
-use Rattle.sd_label.specs.Keys.{whole_key_of}
+use Rattle.std.proofs.Common.{refl, ap, ◌∙◌, append_assoc, arith}
+use Rattle.std.specs.List.{range_with_len}
 use Rattle.std.proofs.Math.Pow.{shr-shr}
 use Rattle.std.proofs.lemmas.List.FromFn.{map-range_with_len_more}
 use Rattle.sd_tree.specs.Node.{IsAbove}
 use Rattle.sd_label.specs.Labels.{label_of, descended}
 use Rattle.sd_label.proofs.Descents.{held_gives_label}
-use Rattle.sd_label.proofs.Paths.{path_is_node}
-use Rattle.sd_label.specs.Names.{given, given_under, path_node, sibling_of}
-use Rattle.sd_label.specs.declared.name.Name.{Name}
-use Rattle.sd_label.specs.declared.name.Name.TheVariants.{Whole, Pair}
+use Rattle.sd_tree.proofs.Paths.{path_is_node}
+use Rattle.sd_tree.specs.Paths.{path_node, sibling_of}
+use Rattle.sd_label.specs.Names.{given_under}
+use Rattle.sd_label.specs.declared.name.Name.TheVariants.{Pair}
 use Rattle.sd_secrets.specs.Secrets.{secret_of}
 
 -- the labels of the ancestor at depth a with the first n hanging nodes below it

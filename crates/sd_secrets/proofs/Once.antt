@@ -8,10 +8,11 @@ use Rattle.std.proofs.lemmas.List.Concat.{flat_map-cons}
 use Rattle.std.proofs.lemmas.List.Elements.{All-from_recursion}
 use Rattle.std.proofs.lemmas.List.Kept.{AllPairs-cons}
 use Rattle.sd_tree.proofs.Levels.{same_level}
-use Rattle.sd_label.specs.Names.{given, given_under, path_node, sibling_of}
+use Rattle.sd_tree.specs.Paths.{path_node, sibling_of}
+use Rattle.sd_label.specs.Names.{given, given_under}
 use Rattle.sd_label.specs.declared.name.Name.{Name}
 use Rattle.sd_label.specs.declared.name.Name.TheVariants.{Whole, Pair}
-use Rattle.sd_label.proofs.Paths.{path_level, sibling_half}
+use Rattle.sd_tree.proofs.Paths.{path_level, sibling_half}
 use Rattle.sd_secrets.proofs.Made.{path_half}
 
 -- R is of each element and each later one, by recursion

@@ -2,9 +2,9 @@ ghost use Rattle.std.specs.Prelude.{◌≡◌, ◌+◌, ◌^◌, ◌<◌, ◌≤
 ghost use Rattle.sd_label.specs.Names.{given_under};
 ghost use Rattle.sd_secrets.specs.Secrets.{secret_of};
 
-use sd_label::{descend, path_node, root_label, sibling};
+use sd_label::{descend, root_label};
 use sd_steps::Steps;
-use sd_tree::{Height, Leaf};
+use sd_tree::{Height, Leaf, path_node, sibling};
 use std::alloc::AllocError;
 use std::sync::ledger::Ledger;
 

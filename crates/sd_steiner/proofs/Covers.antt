@@ -6,7 +6,8 @@ use Rattle.std.proofs.lemmas.List.Elements.{Contains-get_or}
 use Rattle.sd_tree.specs.Leaves.{is_below, is_member}
 use Rattle.sd_tree.specs.declared.set.SetName.{SetName}
 use Rattle.sd_tree.specs.declared.set.SetName.TheVariants.{Whole, Diff}
-use Rattle.sd_steiner.specs.Partition.{IsPartition, IsSmall, unrevoked}
+use Rattle.sd_tree.specs.Leaves.{unrevoked}
+use Rattle.sd_steiner.specs.Partition.{IsPartition, IsSmall}
 use Rattle.sd_steiner.specs.Chains.{IsOfChain, IsChainCover}
 use Rattle.sd_steiner.specs.Walk.{BeginsBy}
 use Rattle.sd_tree.proofs.Ancestors.{root_above}

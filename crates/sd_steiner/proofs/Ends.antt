@@ -3,7 +3,8 @@ use Rattle.std.proofs.Common.{◌≡◌, ◌≢◌, ℕ, subst, ◌⊎◌, inl, 
 use Rattle.std.proofs.Math.Decide.{dec_lt}
 use Rattle.std.proofs.lemmas.Bool.Decides.{eqb_tells}
 use Rattle.sd_tree.specs.Node.{IsAbove}
-use Rattle.sd_steiner.specs.Chains.{IsInTree, AreLinked, IsChainEnd, IsChainHead, HasOneChild, EndsChain, last_of, sibling}
+use Rattle.sd_tree.specs.Paths.{sibling_of}
+use Rattle.sd_steiner.specs.Chains.{IsInTree, AreLinked, IsChainEnd, IsChainHead, HasOneChild, EndsChain, last_of}
 use Rattle.sd_steiner.specs.Walk.{LeadsTo}
 use Rattle.sd_tree.proofs.Ancestors.{above_le, above_trans}
 
@@ -53,7 +54,7 @@ child_cases v w e = elim (dec_lt (2 * v) w) [
 ]
 
 -- a node and its sibling are the two children of a node
-pub sibling_cases : (v : ℕ) → ((m : ℕ) × (v ≡ 2 * m) × (sibling v ≡ 2 * m + 1)) ⊎ ((m : ℕ) × (v ≡ 2 * m + 1) × (sibling v ≡ 2 * m))
+pub sibling_cases : (v : ℕ) → ((m : ℕ) × (v ≡ 2 * m) × (sibling_of v ≡ 2 * m + 1)) ⊎ ((m : ℕ) × (v ≡ 2 * m + 1) × (sibling_of v ≡ 2 * m))
 sibling_cases v = elim (eqb_tells (v % 2) 0) [
   | inl h ↦ inl (v / 2, omega arith, rw h.0 (omega arith))
   | inr h ↦ inr (v / 2, omega arith, rw h.0 (omega arith))

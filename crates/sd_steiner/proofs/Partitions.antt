@@ -6,7 +6,8 @@ use Rattle.std.proofs.lemmas.List.Folds.{list_any_at}
 use Rattle.std.proofs.lemmas.List.FromFn.{length-range_with_len, get_or-range_with_len}
 use Rattle.sd_tree.specs.Leaves.{leaves}
 use Rattle.sd_tree.specs.declared.set.SetName.TheVariants.{Whole, Diff}
-use Rattle.sd_steiner.specs.Partition.{IsPartition, unrevoked}
+use Rattle.sd_tree.specs.Leaves.{unrevoked}
+use Rattle.sd_steiner.specs.Partition.{IsPartition}
 use Rattle.sd_steiner.proofs.Ancestry.{below_root, below_leaf}
 
 -- a leaf is among all leaves

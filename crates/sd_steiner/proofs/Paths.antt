@@ -6,7 +6,8 @@ use Rattle.std.proofs.Math.Decide.{dec_lt}
 use Rattle.sd_tree.specs.Node.{IsAbove}
 use Rattle.sd_tree.specs.declared.set.SetName.{SetName}
 use Rattle.sd_tree.specs.declared.set.SetName.TheVariants.{Whole, Diff}
-use Rattle.sd_steiner.specs.Chains.{IsInTree, AreLinked, HasOneChild, HasTwoChildren, EndsChain, IsChainCover, IsOfChain, last_of, sibling}
+use Rattle.sd_tree.specs.Paths.{sibling_of}
+use Rattle.sd_steiner.specs.Chains.{IsInTree, AreLinked, HasOneChild, HasTwoChildren, EndsChain, IsChainCover, IsOfChain, last_of}
 use Rattle.sd_steiner.proofs.Ancestry.{halved_once_more, siblings_apart, leaf_to_root}
 use Rattle.sd_steiner.proofs.Lists.{member_cases, no_member}
 use Rattle.sd_steiner.proofs.Ends.{linked_start, linked_end, sibling_cases}
@@ -70,7 +71,7 @@ no_two_only d u v (a, b) =
     siblings_apart (2 ^ d + u) v (let h = a.0 in omega arith) (above_only d u (2 * v) a) (above_only d u (2 * v + 1) b)
 
 -- no node of the tree has a sibling in it
-no_sibling_only : (d u v : ℕ) → IsInTree d (u ∷ []) v → IsInTree d (u ∷ []) (sibling v) → ⊥
+no_sibling_only : (d u v : ℕ) → IsInTree d (u ∷ []) v → IsInTree d (u ∷ []) (sibling_of v) → ⊥
 no_sibling_only d u v t s = elim (sibling_cases v) [
   | inl h ↦ no_two_only d u h.0 (subst (IsInTree d (u ∷ [])) h.1 t, subst (IsInTree d (u ∷ [])) h.2 s)
   | inr h ↦ no_two_only d u h.0 (subst (IsInTree d (u ∷ [])) h.2 s, subst (IsInTree d (u ∷ [])) h.1 t)

@@ -5,7 +5,8 @@ use Rattle.std.proofs.lemmas.List.Elements.{Contains-append_left, Contains-appen
 use Rattle.sd_tree.specs.Node.{IsAbove}
 use Rattle.sd_tree.specs.declared.set.SetName.{SetName}
 use Rattle.sd_tree.specs.declared.set.SetName.TheVariants.{Whole, Diff}
-use Rattle.sd_steiner.specs.Chains.{IsInTree, IsChainEnd, IsChainHead, HasOneChild, HasTwoChildren, EndsChain, IsOfChain, sibling}
+use Rattle.sd_tree.specs.Paths.{sibling_of}
+use Rattle.sd_steiner.specs.Chains.{IsInTree, IsChainEnd, IsChainHead, HasOneChild, HasTwoChildren, EndsChain, IsOfChain}
 use Rattle.sd_steiner.specs.Walk.{LeadsTo, IsOnChain, BeginsBy, AreChainsFrom, of_ends}
 use Rattle.sd_tree.proofs.Ancestors.{above_self, above_le, above_trans, above_through_child}
 use Rattle.sd_steiner.proofs.Ancestry.{below_parent, siblings_apart}
@@ -174,12 +175,12 @@ no_head : (d : ℕ) (revoked : List ℕ) (v w : ℕ) → 1 ≤ v → HasOneChild
 no_head d revoked v w low one e t (inl root) = omega arith
 no_head d revoked v w low one e t (inr beside) = elim (sibling_cases w) [
   | inl left ↦
-      let half : sibling w / 2 ≡ v = omega arith in
-      let same = one_child_is d revoked v w (sibling w) one e half t beside in
+      let half : sibling_of w / 2 ≡ v = omega arith in
+      let same = one_child_is d revoked v w (sibling_of w) one e half t beside in
       omega arith
   | inr right ↦
-      let half : sibling w / 2 ≡ v = omega arith in
-      let same = one_child_is d revoked v w (sibling w) one e half t beside in
+      let half : sibling_of w / 2 ≡ v = omega arith in
+      let same = one_child_is d revoked v w (sibling_of w) one e half t beside in
       omega arith
 ]
 

@@ -7,7 +7,8 @@ use Rattle.std.proofs.lemmas.Bool.{cases_Bool}
 use Rattle.sd_steiner.proofs.Lists.{member_first, found_member}
 use Rattle.sd_tree.proofs.Ancestors.{root_above}
 use Rattle.std.proofs.lemmas.Nat.{pow_pos}
-use Rattle.sd_steiner.specs.Chains.{sibling, IsInTree, HasTwoChildren}
+use Rattle.sd_tree.specs.Paths.{sibling_of}
+use Rattle.sd_steiner.specs.Chains.{IsInTree, HasTwoChildren}
 use Rattle.sd_steiner.specs.Walk.{IsOnChain, AreChainsFrom, node_at, of_ends}
 use Rattle.sd_steiner.proofs.Ends.{AreLeaves, child_cases, sibling_cases}
 use Rattle.sd_steiner.proofs.Levels.{StandsAt, below_either, below_one, below_by_halvings, in_tree_or, in_tree_to, in_tree_from, some_child, child_stands}
@@ -35,16 +36,16 @@ and_swap false true = refl
 and_swap false false = refl
 
 -- the two children of a node are siblings
-sibling_left : (d v : ℕ) (revoked : List ℕ) → IsInTree d revoked (2 * v + 1) → IsInTree d revoked (sibling (2 * v))
+sibling_left : (d v : ℕ) (revoked : List ℕ) → IsInTree d revoked (2 * v + 1) → IsInTree d revoked (sibling_of (2 * v))
 sibling_left d v revoked t = elim (sibling_cases (2 * v)) [
-  | inl left ↦ let same : 2 * v + 1 ≡ sibling (2 * v) = (let e = left.1 in let f = left.2 in omega arith) in subst (IsInTree d revoked) same t
+  | inl left ↦ let same : 2 * v + 1 ≡ sibling_of (2 * v) = (let e = left.1 in let f = left.2 in omega arith) in subst (IsInTree d revoked) same t
   | inr right ↦ absurd (let e = right.1 in omega arith)
 ]
 
-sibling_right : (d v : ℕ) (revoked : List ℕ) → IsInTree d revoked (2 * v) → IsInTree d revoked (sibling (2 * v + 1))
+sibling_right : (d v : ℕ) (revoked : List ℕ) → IsInTree d revoked (2 * v) → IsInTree d revoked (sibling_of (2 * v + 1))
 sibling_right d v revoked t = elim (sibling_cases (2 * v + 1)) [
   | inl left ↦ absurd (let e = left.1 in omega arith)
-  | inr right ↦ let same : 2 * v ≡ sibling (2 * v + 1) = (let e = right.1 in let f = right.2 in omega arith) in subst (IsInTree d revoked) same t
+  | inr right ↦ let same : 2 * v ≡ sibling_of (2 * v + 1) = (let e = right.1 in let f = right.2 in omega arith) in subst (IsInTree d revoked) same t
 ]
 
 -- where both children of a node are in the tree, each begins a chain

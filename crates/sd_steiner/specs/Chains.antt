@@ -2,6 +2,7 @@
 -- A leaf u of a tree of height d has the node 2^d + u.
 use Rattle.std.specs.Prelude.{◌≡◌, ◌≢◌, ℕ, ◌+◌, ◌-◌, ◌*◌, ◌/◌, ◌%◌, ◌^◌, ◌≤◌, ◌==◌, ◌↔◌, ◌⊎◌, List, [], ◌∷◌, Contains, if◌then◌else◌}
 use Rattle.sd_tree.specs.Node.{IsAbove}
+use Rattle.sd_tree.specs.Paths.{sibling_of}
 use Rattle.sd_tree.specs.SetNames.{AreAscending}
 use Rattle.sd_tree.specs.declared.set.SetName.{SetName}
 use Rattle.sd_tree.specs.declared.set.SetName.TheVariants.{Whole, Diff}
@@ -9,10 +10,6 @@ use Rattle.sd_tree.specs.declared.set.SetName.TheVariants.{Whole, Diff}
 -- a node of the Steiner tree T: it is at or above a revoked leaf's node [Naor, Naor, Lotspiech 2001, 3.2]
 abbrev pub IsInTree : ℕ → List ℕ → ℕ → Type 0
 IsInTree d revoked v = (1 ≤ v) × ((u : ℕ) × Contains revoked u × IsAbove v (2 ^ d + u))
-
--- the other child of a node's parent
-abbrev pub sibling : ℕ → ℕ
-sibling v = if v % 2 == 0 then v + 1 else v - 1
 
 -- of the node's two children just one is in T
 abbrev pub HasOneChild : ℕ → List ℕ → ℕ → Type 0
@@ -25,7 +22,7 @@ HasTwoChildren d revoked v = IsInTree d revoked (2 * v) × IsInTree d revoked (2
 
 -- where a chain may begin: at the root, or beside a sibling in T [Naor, Naor, Lotspiech 2001, 3.2]
 abbrev pub IsChainHead : ℕ → List ℕ → ℕ → Type 0
-IsChainHead d revoked v = (v ≡ 1) ⊎ IsInTree d revoked (sibling v)
+IsChainHead d revoked v = (v ≡ 1) ⊎ IsInTree d revoked (sibling_of v)
 
 -- where a chain ends: at a revoked leaf's node, or above two children in T [Naor, Naor, Lotspiech 2001, 3.2]
 abbrev pub IsChainEnd : ℕ → List ℕ → ℕ → Type 0

@@ -5,10 +5,6 @@ use Rattle.sd_tree.specs.Leaves.{is_member, leaves}
 use Rattle.sd_tree.specs.declared.set.SetName.{SetName}
 use Rattle.sd_tree.specs.declared.set.SetName.TheVariants.{Whole}
 
--- the leaves of the tree that aren't among these, ascending
-abbrev pub unrevoked : ℕ → List ℕ → List ℕ
-unrevoked d revoked = filter (λ u. not (list_any (nat_eq u) revoked)) (leaves d)
-
 -- the sets are disjoint and unite to these leaves: each of them is in one place of the list, each other leaf in none [Naor, Naor, Lotspiech 2001, 3.2]
 abbrev pub IsPartition : ℕ → List SetName → List ℕ → Type 0
 IsPartition d sets united = (u : ℕ) → u < 2 ^ d → count_by (λ name. is_member d name u) sets ≡ (if list_any (nat_eq u) united then 1 else 0)

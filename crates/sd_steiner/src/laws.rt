@@ -1,7 +1,8 @@
 ghost use Rattle.std.specs.Prelude.{◌≡◌, ℕ, ◌^◌, ◌<◌, ◌≤◌, List, length, All};
 ghost use Rattle.std.specs.List.Sorted.{IsStrictlyIncreasing};
 ghost use Rattle.sd_tree.specs.declared.set.SetName.{SetName};
-ghost use Rattle.sd_steiner.specs.Partition.{IsPartition, IsSmall, unrevoked};
+ghost use Rattle.sd_tree.specs.Leaves.{unrevoked};
+ghost use Rattle.sd_steiner.specs.Partition.{IsPartition, IsSmall};
 ghost use Rattle.sd_steiner.specs.Chains.{IsChainCover};
 
 /// Some revoked leaves have at most one chain cover.

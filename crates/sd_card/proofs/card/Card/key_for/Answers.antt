@@ -1,9 +1,9 @@
-use Rattle.std.proofs.Common.{◌≡◌, ◌<◌, List, ℕ, length, refl, arith}
+use Rattle.std.proofs.Common.{◌≡◌, ◌<◌, length, refl, arith}
 use Rattle.std.specs.Prelude.{slice_get, Some, true}
 use Rattle.std.proofs.lemmas.Option.{slice_get_read}
 use Rattle.sd_tree.specs.Leaves.{is_member}
 use Rattle.sd_tree.specs.SetNames.{IsPair}
-use Rattle.sd_card.specs.Fields.{fields_of, card_key}
+use Rattle.sd_card.specs.Fields.{fields_of}
 use Rattle.sd_card.proofs.Keys.{derived_is_key, first_is_key, own_gives_key}
 use Rattle.sd_card.proofs.card.Card.key_for.Goals as goal
 

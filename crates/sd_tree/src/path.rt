@@ -1,8 +1,19 @@
 ghost use Rattle.std.specs.Prelude.{◌≡◌, ◌≢◌, ◌+◌, ◌/◌, ◌^◌, ◌<◌, ◌≤◌};
 ghost use Rattle.sd_tree.specs.Node.{depth as depth_of, IsAbove};
-ghost use Rattle.sd_label.specs.Names.{path_node as path_node_of, sibling_of};
+ghost use Rattle.sd_tree.specs.Paths.{leaf_node as node_of_leaf, path_node as path_node_of, sibling_of};
 
-use sd_tree::{Height, Leaf};
+use crate::height::Height;
+use crate::leaf::Leaf;
+
+/// The node of a leaf [Naor, Naor, Lotspiech 2001, 3.2].
+#[tactic(auto, using(crate::proofs::Paths::leaf_at_depth))]
+pub fn leaf_node(h: Height, u: Leaf) -> u32
+    requires { u < 2 ^ h }
+    ensures value { result ≡ node_of_leaf h u }
+    ensures level { depth_of result ≡ h }
+{
+    h.leaves() + u.get()
+}
 
 /// The node at this depth on the path to the leaf: the root at depth 0, the leaf's own node at depth h
 /// [Naor, Naor, Lotspiech 2001, 3.2].
@@ -15,7 +26,7 @@ pub fn path_node(h: Height, u: Leaf, depth: u32) -> u32
     ensures level { depth_of result ≡ depth }
     ensures above { IsAbove result (2 ^ h + u) }
 {
-    (h.leaves() + u.get()) >> (u32::from(h.get()) - depth)
+    leaf_node(h, u) >> (u32::from(h.get()) - depth)
 }
 
 /// The other child of the node's parent [Naor, Naor, Lotspiech 2001, 3.2]. The root has none: for it this is 0, which is

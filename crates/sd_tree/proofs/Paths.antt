@@ -6,13 +6,17 @@ use Rattle.std.proofs.lemmas.Bool.{cases_lt}
 use Rattle.sd_tree.specs.Node.{depth, IsAbove, IsProperlyAbove}
 use Rattle.sd_tree.proofs.Levels.{IsAtLevel, same_level, halved_level, depth_at}
 use Rattle.sd_tree.proofs.Ancestors.{leaf_level}
-use Rattle.sd_label.specs.Names.{path_node, sibling_of}
+use Rattle.sd_tree.specs.Paths.{path_node, sibling_of}
 
 -- the path node at depth k stands at depth k
 pub path_level : (d u k : ℕ) → u < 2 ^ d → k ≤ d → IsAtLevel (path_node d u k) k
 path_level d u k leaf le =
     let e : d - (d - k) ≡ k = omega arith in
     rw e at (halved_level (2 ^ d + u) d (d - k) (omega arith) (leaf_level d u leaf))
+
+-- a leaf's node stands at the greatest depth
+pub leaf_at_depth : (d u : ℕ) → d ≤ 20 → u < 2 ^ d → depth (2 ^ d + u) ≡ d
+leaf_at_depth d u low leaf = depth_at (2 ^ d + u) d (omega arith) (leaf_level d u leaf)
 
 -- so that is its depth, in a tree of at most 20 levels below the root
 pub path_depth : (d u k : ℕ) → d ≤ 20 → u < 2 ^ d → k ≤ d → depth (path_node d u k) ≡ k
