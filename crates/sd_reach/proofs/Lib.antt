@@ -1,5 +1,4 @@
 pub mod Reached
-pub mod Hanging
 pub mod Own
 pub mod Covers
 pub mod Given

@@ -7,7 +7,7 @@ use Rattle.sd_tree.proofs.Ancestors.{depth_within, leaf_level, above_le, above_t
 use Rattle.sd_tree.specs.Paths.{path_node, sibling_of}
 use Rattle.sd_label.proofs.Descents.{level_of, child_level}
 use Rattle.sd_tree.proofs.Paths.{sibling_half, other_child}
-use Rattle.sd_card.specs.Hanging.{IsHanging}
+use Rattle.sd_secrets.specs.Hanging.{IsHanging}
 
 -- a node of the tree has 32 bits
 pub node_within : (d j : ℕ) → d ≤ 20 → j < 2 ^ (d + 1) → j < 2 ^ 32
@@ -18,7 +18,8 @@ pub common_properly_above : (n j c : ℕ) → IsAbove c n → IsAbove c j → (I
 common_properly_above n j c over_n over_j beside = (over_j, λ e. beside (rw e at over_n))
 
 -- the child of the deepest common ancestor towards a node beside the path hangs off the path
-pub child_is_hanging : (d u j c w : ℕ) → d ≤ 20 → u < 2 ^ d → 1 ≤ j → j < 2 ^ (d + 1) → 1 ≤ c → IsAbove c (2 ^ d + u) → ((v : ℕ) → IsAbove v (2 ^ d + u) → IsAbove v j → IsAbove v c) → w / 2 ≡ c → IsAbove w j → IsHanging d u j w
+pub child_is_hanging : (d u j c w : ℕ) → d ≤ 20 → u < 2 ^ d → 1 ≤ j → j < 2 ^ (d + 1) → 1 ≤ c → IsAbove c (2 ^ d + u)
+    → ((v : ℕ) → IsAbove v (2 ^ d + u) → IsAbove v j → IsAbove v c) → w / 2 ≡ c → IsAbove w j → IsHanging d u j w
 child_is_hanging d u j c w low leaf some high is_node over deepest half above =
     let word = node_within d j low high in
     let le = above_le w j above in
@@ -30,8 +31,10 @@ child_is_hanging d u j c w low leaf some high is_node over deepest half above =
     let child : depth w ≡ depth c + 1 = rw half at (child_level w (omega arith) (omega arith)) in
     let path = above_by_levels c (2 ^ d + u) (depth c) d at_c at_leaf over in
     let s : d - depth w + 1 ≡ d - depth c = omega (arith, up.0, at_j.1) in
-    let halved : path_node d u (depth w) / 2 ≡ c = shr-shr (2 ^ d + u) (d - depth w) 1 ∙ (ap (λ (n : ℕ). (2 ^ d + u) / 2 ^ n) s ∙ path.1) in
-    let off : w ≢ path_node d u (depth w) = λ e. let back = above_le w c (deepest w (d - depth w, sym e) above) in omega arith in
+    let halved : path_node d u (depth w) / 2 ≡ c = shr-shr (2 ^ d + u) (d - depth w) 1
+    ∙ (ap (λ (n : ℕ). (2 ^ d + u) / 2 ^ n) s ∙ path.1) in
+    let off : w ≢ path_node d u (depth w) = λ e. let back =
+    above_le w c (deepest w (d - depth w, sym e) above) in omega arith in
     record {
       node = omega arith;
       above = above;
