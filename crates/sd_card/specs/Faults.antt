@@ -29,7 +29,7 @@ length_at d = SECRETS_AT + SECRET_BYTES * (d * (d + 1) / 2 + 1) + CHECK_BYTES
 -- what is wrong with the bytes, by the first field that isn't good [this project, docs/FORMATS.md, Card]
 unfoldable pub fault_in : List ℕ → Option CardFault
 fault_in bytes =
-    unless (bytes_eq MAGIC (take 4 bytes)) Magic
+    unless (bytes_eq MAGIC (take VERSION_AT bytes)) Magic
     (unless (byte_at bytes VERSION_AT == VERSION) Version
     (unless (nat_le 1 (height_in bytes) && nat_le (height_in bytes) HIGHEST) Height
     (unless (nat_lt (leaf_in bytes) (2 ^ height_in bytes)) Leaf

@@ -1,4 +1,4 @@
-ghost use Rattle.std.specs.Prelude.{◌≡◌, ◌≤◌, Some, None, length, IfOk, MatchResult};
+ghost use Rattle.std.specs.Prelude.{◌≡◌, ◌+◌, ◌≤◌, Some, None, length, IfOk, MatchResult};
 ghost use Rattle.sd_secrets.specs.Files.{byte_at as byte_of};
 ghost use Rattle.sd_card.specs.Fields.{CardFields, IsCard, fields_of, card_bytes};
 ghost use Rattle.sd_card.specs.Faults.{height_in, leaf_in, ca_in, length_at as length_of, fault_in, IsFaultOf};
@@ -68,7 +68,7 @@ fn leaf_at(bytes: &[u8]) -> u32
 fn judge(bytes: &[u8]) -> Result<(Height, Leaf), CardFault>
     ensures fault { MatchResult result (λ _. fault_in bytes.now ≡ None) (λ fault. fault_in bytes.now ≡ Some fault) }
     ensures value { IfOk result (λ named. (named.0 ≡ height_in bytes.now) × (named.1 ≡ leaf_in bytes.now)) }
-    ensures length { IfOk result (λ _. 28 ≤ length bytes.now) }
+    ensures length { IfOk result (λ _. SECRETS_AT + CHECK_BYTES ≤ length bytes.now) }
 {
     if !bytes.starts_with(&MAGIC) {
         return Err(CardFault::Magic);
@@ -95,7 +95,7 @@ fn judge(bytes: &[u8]) -> Result<(Height, Leaf), CardFault>
 #[tactic(auto, unfolding(crate::specs::Faults::length_at))]
 fn length_at(h: Height) -> usize
     ensures value { result ≡ length_of h }
-    ensures fits { 28 ≤ result }
+    ensures fits { SECRETS_AT + CHECK_BYTES ≤ result }
 {
     let d = usize::from(h.get());
     SECRETS_AT + SECRET_BYTES * (d * (d + 1) / 2 + 1) + CHECK_BYTES

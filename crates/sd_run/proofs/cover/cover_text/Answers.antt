@@ -3,8 +3,8 @@ use Rattle.std.proofs.lemmas.List.Elements.{All-contains}
 use Rattle.sd_steiner.proofs.Covers.{cover_partition, cover_small}
 use Rattle.sd_run.proofs.cover.cover_text.Goals as goal
 
-pub returns-in_ok-period_text-in-Ok-clause-text : goal.returns-in_ok-period_text-in-Ok-clause-text
-returns-in_ok-period_text-in-Ok-clause-text c =
+pub returns-in_ok-period_text-in-Ok-clause-value : goal.returns-in_ok-period_text-in-Ok-clause-value
+returns-in_ok-period_text-in-Ok-clause-value c =
     let h = c.args.h in
     let revoked = c.args.revoked.now in
     let sets = c.in-Ok.sets.items in
