@@ -1,8 +1,7 @@
 -- The fault of lines, and what is judged of them.
-use Rattle.std.proofs.Common.{arith, ◌≡◌, ℕ, suc, ◌+◌, ◌<◌, ◌≤◌, Bool, true, false, cond, List, [], ◌∷◌, ◌++◌, length, map, take, drop, get_or, Option, Some, None, Result, Ok, Err, refl, sym, ap, subst, ◌∙◌, append_assoc, inl, inr, nat_lt, nat_le}
+use Rattle.std.proofs.Common.{arith, ◌≡◌, ℕ, ◌+◌, ◌<◌, Bool, true, false, cond, List, [], ◌∷◌, ◌++◌, length, map, take, drop, get_or, Option, Some, None, Result, Ok, Err, refl, sym, ap, subst, ◌∙◌, append_assoc, inl, inr, nat_lt, nat_le}
 use Rattle.std.specs.Prelude.{◌⊎◌, IfOk, IfErr, MatchResult}
 use Rattle.std.proofs.lemmas.Grind.{common_steps}
-use Rattle.std.proofs.lemmas.Bool.{cases_lt}
 use Rattle.std.proofs.lemmas.List.{append-nil, map-append, drop_more, take-append-drop}
 use Rattle.sd_text.specs.Lines.{lines_of}
 use Rattle.sd_tree.specs.declared.leaf.TheConstants.{MOST_REVOKED}
@@ -13,12 +12,12 @@ use Rattle.sd_book.specs.declared.fault.BookFault.TheVariants.{Line, Leaf, Limit
 use Rattle.sd_book.specs.declared.fault.BookLimit.{BookLimit}
 use Rattle.sd_book.specs.declared.fault.BookLimit.TheVariants.{Lines, Periods, Revoked}
 use Rattle.sd_book.specs.declared.limits.TheConstants.{MOST_COMMANDS, MOST_PERIODS}
-use Rattle.sd_book.specs.Commands.{is_within, is_period, last_period, revoked_after}
-use Rattle.sd_book.specs.Faults.{NextSays, HasRoom, IsCrowded, PeriodEnds, Breaks, IsBroken, FaultAfter, IsCauseOf, IsLimit, IsFirstLimit}
+use Rattle.sd_book.specs.Commands.{is_within, last_period, revoked_after}
+use Rattle.sd_book.specs.Faults.{HasRoom, IsCrowded, Breaks, IsBroken, FaultAfter, IsCauseOf, IsFirstLimit}
 use Rattle.sd_book.specs.Limits.{IsWithinLimits, IsDraft}
 use Rattle.sd_book.specs.Value.{BookValue}
-use Rattle.sd_book.specs.Text.{command_of, SpellsBook, ◌>>=◌, in_tree, ended, period_fits, command_fits, judged_line, judged, said_by, book_of}
-use Rattle.sd_book.proofs.Judged.{judged_none, judged_one_more, draft_again, said_again, command_again, within_is_draft, book_again}
+use Rattle.sd_book.specs.Text.{SpellsBook, in_tree, ended, period_fits, command_fits, judged, said_by, book_of}
+use Rattle.sd_book.proofs.Judged.{draft_again, said_again, command_again, within_is_draft, book_again}
 
 -- by the test of the room
 room_open : (before : List Command) → HasRoom before → nat_le MOST_COMMANDS (length before) ≡ false
@@ -213,9 +212,9 @@ append_cause : (d : ℕ) (before more : List Command) (i : ℕ) (command : Comma
 append_cause d before more i command fault h at all broken =
     let rest : drop i more ≡ command ∷ drop (i + 1) more = drop_more more i command h ∙ ap (λ (c : Command). c ∷ drop (i + 1) more) at in
     let cut : before ++ more ≡ (before ++ take i more) ++ command ∷ drop (i + 1) more =
-        ap (λ (cs : List Command). before ++ cs) (sym (take-append-drop i more) ∙ ap (λ (cs : List Command). take i more ++ cs) rest) ∙ sym (append_assoc before (take i more) (command ∷ drop (i + 1) more)) in
+    ap (λ (cs : List Command). before ++ cs) (sym (take-append-drop i more) ∙ ap (λ (cs : List Command). take i more ++ cs) rest) ∙ sym (append_assoc before (take i more) (command ∷ drop (i + 1) more)) in
     let said : map Some (before ++ more) ≡ map Some (before ++ take i more) ++ Some command ∷ map Some (drop (i + 1) more) =
-        ap (map Some) cut ∙ map-append Some (before ++ take i more) (command ∷ drop (i + 1) more) in
+    ap (map Some) cut ∙ map-append Some (before ++ take i more) (command ∷ drop (i + 1) more) in
     record {
       limit = (broken.0, broken.1);
       cause = push_cause d (map Some (before ++ more)) (before ++ take i more) command (map Some (drop (i + 1) more)) fault said all broken;
@@ -229,7 +228,7 @@ pub append_fault : (d h : ℕ) (before more commands : List Command) (i : ℕ) (
 append_fault d h before more commands i command fault height same lt at all (inl none) = inl none
 append_fault d h before more commands i command fault height same lt at all (inr broken) =
     inr (append_cause d before more i command fault lt at (subst (λ (cs : List Command). IsDraft d cs) same all)
-        (subst (λ (cs : List Command). IsBroken d cs (Some command ∷ []) fault) same (subst (λ (k : ℕ). IsBroken k commands (Some command ∷ []) fault) height broken)))
+    (subst (λ (cs : List Command). IsBroken d cs (Some command ∷ []) fault) same (subst (λ (k : ℕ). IsBroken k commands (Some command ∷ []) fault) height broken)))
 
 -- and where the last period may not end
 pub finish_fault : (d h : ℕ) (before more commands : List Command) (answer : Result BookValue BookFault) → h ≡ d → commands ≡ before ++ more

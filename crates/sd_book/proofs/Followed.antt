@@ -7,7 +7,7 @@ use Rattle.std.proofs.lemmas.Grind.{common_steps}
 use Rattle.sd_tree.specs.Leaves.{leaves, with_leaf, without_leaf}
 use Rattle.sd_book.specs.declared.command.Command.{Command}
 use Rattle.sd_book.specs.declared.command.Command.TheVariants.{Subscribe, Revoke, Period}
-use Rattle.sd_book.specs.Commands.{is_revoked, revoked, revoked_after, last_on, last_period, commands_until, commands_in, entitled, after_command, after_commands}
+use Rattle.sd_book.specs.Commands.{is_revoked, revoked, revoked_after, last_period, commands_until, commands_in, entitled, after_command, after_commands}
 use Rattle.sd_book.proofs.Tallies.{revoked_more}
 use Rattle.sd_book.proofs.Kept.{kept_period}
 use Rattle.sd_book.proofs.Places.{first_in, until_next}
@@ -110,7 +110,7 @@ pub next_follows : (d q : ℕ) (commands : List Command) → q < last_period com
 next_follows d q commands h =
     let more : q + 1 ≡ suc q = omega arith in
     rw more (ap (revoked_after d) (until_next q commands h)
-      ∙ sym (all_follow d (commands_until q commands) (Period ∷ commands_in commands (suc q))))
+    ∙ sym (all_follow d (commands_until q commands) (Period ∷ commands_in commands (suc q))))
 
 -- the entitled leaves are those whose last command is no revoke
 pub entitled_is : (d : ℕ) (commands : List Command) (q : ℕ) → entitled d commands q ≡ filter (λ u. not (is_revoked (commands_until q commands) u)) (leaves d)

@@ -14,7 +14,7 @@ use Rattle.sd_tree.specs.declared.leaf.TheConstants.{MOST_REVOKED}
 use Rattle.sd_book.specs.declared.limits.TheConstants.{MOST_COMMANDS, MOST_PERIODS}
 use Rattle.sd_book.specs.Commands.{is_within, is_period, last_period, revoked, revoked_after}
 use Rattle.sd_book.specs.Limits.{IsWithinLimits, IsDraft}
-use Rattle.sd_book.specs.Text.{command_of, SpellsBook, ◌>>=◌, in_tree, ended, period_fits, command_fits, judged_line, judged, said_by, book_of}
+use Rattle.sd_book.specs.Text.{SpellsBook, ◌>>=◌, in_tree, ended, period_fits, command_fits, judged_line, judged, book_of}
 use Rattle.sd_book.proofs.Tallies.{period_more, tally_of_none}
 use Rattle.sd_book.proofs.Cuts.{period_none, period_period, period_append, until_after, until_period, until_end}
 

@@ -52,7 +52,7 @@ ended d commands value =
 abbrev pub period_fits : ℕ → List Command → Command → Result Command BookFault
 period_fits d before command =
     if is_period command then
-      (if nat_le MOST_PERIODS (last_period before) then Err (Limit Periods) else ended d before command)
+    (if nat_le MOST_PERIODS (last_period before) then Err (Limit Periods) else ended d before command)
     else Ok command
 
 -- a command of the tree after those commands, or the limit that it breaks

@@ -55,9 +55,13 @@ fn commands_of_each_period(rt: HostRuntime) -> Result<(), Fail> {
     let h = height(3)?;
     let five = Command::Revoke(Leaf::new(h, 5).ok_or("a leaf")?);
     let two = Command::Subscribe(Leaf::new(h, 2).ok_or("a leaf")?);
-    let book = Book::read(alloc, b"revoke 5\nperiod\nperiod\nsubscribe 2\nrevoke 5\n", h)
-        .ok()
-        .ok_or("a book")?;
+    let book = Book::read(
+        alloc,
+        b"revoke 5\nperiod\nperiod\nsubscribe 2\nrevoke 5\n",
+        h,
+    )
+    .ok()
+    .ok_or("a book")?;
     let mut place = Place::new();
     let none: &[Command] = &[];
     assert_eq!(rt; place.next_commands(&book), Some([five].as_slice()));
