@@ -1,4 +1,6 @@
-use Rattle.std.proofs.Common.{arith, ◌≡◌, ℕ, ◌+◌, ◌<◌, ◌≤◌, Bool, true, false, cond, List, [], ◌∷◌, ◌++◌, length, map, Option, Some, None, Result, Ok, Err, refl, sym, ap, subst, ◌∙◌, append_assoc, inl, inr, nat_lt, nat_le}
+use Rattle.std.proofs.Common.{arith, ◌≡◌, ℕ, ◌+◌, ◌<◌, ◌≤◌, Bool, true, false, cond, List, [], ◌∷◌, ◌++◌, length, map}
+use Rattle.std.proofs.Common.{Option, Some, None, Result, Ok, Err, refl, sym, ap, subst, ◌∙◌, append_assoc, inl, inr}
+use Rattle.std.proofs.Common.{nat_lt, nat_le}
 use Rattle.std.specs.Prelude.{All}
 use Rattle.std.proofs.lemmas.Grind.{common_steps}
 use Rattle.std.proofs.lemmas.Bool.{cases_lt}
@@ -14,17 +16,20 @@ use Rattle.sd_tree.specs.declared.leaf.TheConstants.{MOST_REVOKED}
 use Rattle.sd_book.specs.declared.limits.TheConstants.{MOST_COMMANDS, MOST_PERIODS}
 use Rattle.sd_book.specs.Commands.{is_within, is_period, last_period, revoked, revoked_after}
 use Rattle.sd_book.specs.Limits.{IsWithinLimits, IsDraft}
-use Rattle.sd_book.specs.Text.{SpellsBook, ◌>>=◌, in_tree, ended, period_fits, command_fits, judged_line, judged, book_of}
+use Rattle.sd_book.specs.Text.{SpellsBook, ◌>>=◌, in_tree, ended, period_fits, command_fits, judged_line, judged}
+use Rattle.sd_book.specs.Text.{book_of}
 use Rattle.sd_book.proofs.Tallies.{period_more, tally_of_none}
 use Rattle.sd_book.proofs.Cuts.{period_none, period_period, period_append, until_after, until_period, until_end}
 
 -- the value of a step that did not fail
-pub bind_ok : {A B : Type 0} (r : Result A BookFault) (f : A → Result B BookFault) (y : B) → (r >>= f) ≡ Ok y → (x : A) × (r ≡ Ok x) × (f x ≡ Ok y)
+pub bind_ok : {A B : Type 0} (r : Result A BookFault) (f : A → Result B BookFault) (y : B) → (r >>= f) ≡ Ok y →
+    (x : A) × (r ≡ Ok x) × (f x ≡ Ok y)
 bind_ok (Ok x) f y e = (x, refl, e)
 bind_ok (Err d) f y e = absurd cc
 
 -- a test that did not fail
-pub guard_ok : {A : Type 0} (b : Bool) (d : BookFault) (r : Result A BookFault) (y : A) → cond b (Err d) r ≡ Ok y → (b ≡ false) × (r ≡ Ok y)
+pub guard_ok : {A : Type 0} (b : Bool) (d : BookFault) (r : Result A BookFault) (y : A) → cond b (Err d) r ≡ Ok y →
+    (b ≡ false) × (r ≡ Ok y)
 guard_ok true d r y e = absurd cc
 guard_ok false d r y e = (refl, e)
 
@@ -36,18 +41,23 @@ record IsJudged (d : ℕ) (before : List Command) (command : Command) : Type 0 w
   few : is_period command ≡ true → length (revoked_after d before) ≤ MOST_REVOKED
 
 -- the command of a line is of the tree
-tree_ok : (d k : ℕ) (o : Option Command) (command : Command) → in_tree d k o ≡ Ok command → (o ≡ Some command) × (is_within d command ≡ true)
+tree_ok : (d k : ℕ) (o : Option Command) (command : Command) → in_tree d k o ≡ Ok command → (o ≡ Some command)
+    × (is_within d command ≡ true)
 tree_ok d k None command e = absurd cc
 tree_ok d k (Some c) command e = grind (arith, common_steps)
 
 -- what the commands end with is few
-pub ended_ok : {A : Type 0} (d : ℕ) (commands : List Command) (value got : A) → ended d commands value ≡ Ok got → (length (revoked_after d commands) ≤ MOST_REVOKED) × (value ≡ got)
+pub ended_ok : {A : Type 0} (d : ℕ) (commands : List Command) (value got : A) → ended d commands value ≡ Ok got →
+    (length (revoked_after d commands) ≤ MOST_REVOKED) × (value ≡ got)
 ended_ok d commands value got e =
-    let g = guard_ok (nat_lt MOST_REVOKED (length (revoked_after d commands))) (Limit (Revoked (last_period commands))) (Ok value) got e in
+    let g = guard_ok (nat_lt MOST_REVOKED (length (revoked_after d commands))) (Limit (Revoked (last_period commands)))
+    (Ok value) got e in
     (grind (arith, common_steps, g.0), cc)
 
 -- a Period was within the limits
-fits_ok : (d : ℕ) (before : List Command) (command got : Command) → period_fits d before command ≡ Ok got → (command ≡ got) × (is_period command ≡ true → last_period before < MOST_PERIODS) × (is_period command ≡ true → length (revoked_after d before) ≤ MOST_REVOKED)
+fits_ok : (d : ℕ) (before : List Command) (command got : Command) → period_fits d before command ≡ Ok got →
+    (command ≡ got) × (is_period command ≡ true → last_period before < MOST_PERIODS)
+    × (is_period command ≡ true → length (revoked_after d before) ≤ MOST_REVOKED)
 fits_ok d before (Subscribe u) got e = (cc, λ h. absurd cc, λ h. absurd cc)
 fits_ok d before (Revoke u) got e = (cc, λ h. absurd cc, λ h. absurd cc)
 fits_ok d before Period got e =
@@ -56,17 +66,20 @@ fits_ok d before Period got e =
     (few.1, λ h. grind (arith, common_steps, g.0), λ h. few.0)
 
 -- what a command that fits says
-pub command_ok : (d : ℕ) (before : List Command) (command got : Command) → command_fits d before command ≡ Ok got → (length before < MOST_COMMANDS) × (period_fits d before command ≡ Ok got)
+pub command_ok : (d : ℕ) (before : List Command) (command got : Command) → command_fits d before command ≡ Ok got →
+    (length before < MOST_COMMANDS) × (period_fits d before command ≡ Ok got)
 command_ok d before command got e =
     let g = guard_ok (nat_le MOST_COMMANDS (length before)) (Limit Lines) (period_fits d before command) got e in
     (grind (arith, common_steps, g.0), g.1)
 
 -- a command that fits is what is answered
-pub fits_same : (d : ℕ) (before : List Command) (command got : Command) → command_fits d before command ≡ Ok got → command ≡ got
+pub fits_same : (d : ℕ) (before : List Command) (command got : Command) → command_fits d before command ≡ Ok got →
+    command ≡ got
 fits_same d before command got e = (fits_ok d before command got (command_ok d before command got e).1).0
 
 -- and of the commands before it
-newest_ok : (d : ℕ) (before : List Command) (command : Command) → is_within d command ≡ true → command_fits d before command ≡ Ok command → IsJudged d before command
+newest_ok : (d : ℕ) (before : List Command) (command : Command) → is_within d command ≡ true →
+    command_fits d before command ≡ Ok command → IsJudged d before command
 newest_ok d before command leaf e =
     let parts = command_ok d before command command e in
     let fits = fits_ok d before command command parts.1 in
@@ -78,19 +91,23 @@ newest_ok d before command leaf e =
     }
 
 -- a command within the limits on lines and on periods fits
-both_fit : (d : ℕ) (before : List Command) (command got : Command) → nat_le MOST_COMMANDS (length before) ≡ false → period_fits d before command ≡ Ok got → command_fits d before command ≡ Ok got
+both_fit : (d : ℕ) (before : List Command) (command got : Command) → nat_le MOST_COMMANDS (length before) ≡ false →
+    period_fits d before command ≡ Ok got → command_fits d before command ≡ Ok got
 both_fit d before command got long fits = rw long fits
 
 -- what a judged line says
-line_ok : (d : ℕ) (before : List Command) (said : Option Command) (command : Command) → judged_line d before said ≡ Ok command
+line_ok : (d : ℕ) (before : List Command) (said : Option Command) (command : Command) → judged_line d before said
+    ≡ Ok command
     → (said ≡ Some command) × (is_within d command ≡ true) × (command_fits d before command ≡ Ok command)
 line_ok d before said command e =
-    let g = guard_ok (nat_le MOST_COMMANDS (length before)) (Limit Lines) (in_tree d (length before + 1) said >>= λ c. period_fits d before c) command e in
+    let g = guard_ok (nat_le MOST_COMMANDS (length before)) (Limit Lines)
+    (in_tree d (length before + 1) said >>= λ c. period_fits d before c) command e in
     let t = bind_ok (in_tree d (length before + 1) said) (λ c. period_fits d before c) command g.1 in
     let form = tree_ok d (length before + 1) said t.0 t.1 in
     let fits = fits_ok d before t.0 command t.2 in
     let fitted : command_fits d before t.0 ≡ Ok command = both_fit d before t.0 command g.0 t.2 in
-    subst (λ (c : Command). (said ≡ Some c) × (is_within d c ≡ true) × (command_fits d before c ≡ Ok command)) fits.0 (form.0, form.1, fitted)
+    subst (λ (c : Command). (said ≡ Some c) × (is_within d c ≡ true) × (command_fits d before c ≡ Ok command)) fits.0
+    (form.0, form.1, fitted)
 
 -- no command was judged
 pub judged_none : (d : ℕ) → IsDraft d []
@@ -102,7 +119,8 @@ judged_none d = record {
 }
 
 -- a period that ended before the newest command, or by it
-few_more : (d : ℕ) (before : List Command) (command : Command) → IsDraft d before → IsJudged d before command → (q : ℕ) → q < last_period (before ++ command ∷ []) → length (revoked d (before ++ command ∷ []) q) ≤ MOST_REVOKED
+few_more : (d : ℕ) (before : List Command) (command : Command) → IsDraft d before → IsJudged d before command →
+    (q : ℕ) → q < last_period (before ++ command ∷ []) → length (revoked d (before ++ command ∷ []) q) ≤ MOST_REVOKED
 few_more d before (Subscribe u) all newest q h =
     let lt : q < last_period before = grind (arith, common_steps, period_more before (Subscribe u)) in
     rw (until_after q before (Subscribe u ∷ []) lt) (all.revoked q lt)
@@ -118,13 +136,20 @@ few_more d before Period all newest q h =
     ]
 
 -- the newest period
-periods_more : (d : ℕ) (before : List Command) (command : Command) → IsDraft d before → IsJudged d before command → last_period (before ++ command ∷ []) ≤ MOST_PERIODS
-periods_more d before (Subscribe u) all newest = grind (arith, common_steps, period_more before (Subscribe u), all.periods)
+periods_more : (d : ℕ) (before : List Command) (command : Command) → IsDraft d before → IsJudged d before command →
+    last_period (before ++ command ∷ []) ≤ MOST_PERIODS
+periods_more d before (Subscribe u) all newest = grind (
+  arith,
+  common_steps,
+  period_more before (Subscribe u),
+  all.periods,
+)
 periods_more d before (Revoke u) all newest = grind (arith, common_steps, period_more before (Revoke u), all.periods)
 periods_more d before Period all newest = grind (arith, common_steps, period_more before Period, newest.periods refl)
 
 -- with a command that fits they are judged
-pub judged_one_more : (d : ℕ) (before : List Command) (command : Command) → IsDraft d before → is_within d command ≡ true → command_fits d before command ≡ Ok command → IsDraft d (before ++ command ∷ [])
+pub judged_one_more : (d : ℕ) (before : List Command) (command : Command) → IsDraft d before → is_within d command
+    ≡ true → command_fits d before command ≡ Ok command → IsDraft d (before ++ command ∷ [])
 judged_one_more d before command all leaf e =
     let newest = newest_ok d before command leaf e in
     record {
@@ -135,14 +160,16 @@ judged_one_more d before command all leaf e =
     }
 
 -- with the command of a judged line they are judged
-pub judged_more : (d : ℕ) (before : List Command) (said : Option Command) (command : Command) → IsDraft d before → judged_line d before said ≡ Ok command
+pub judged_more : (d : ℕ) (before : List Command) (said : Option Command) (command : Command) → IsDraft d before →
+    judged_line d before said ≡ Ok command
     → IsDraft d (before ++ command ∷ [])
 judged_more d before said command all e =
     let newest = line_ok d before said command e in
     judged_one_more d before command all newest.1 newest.2
 
 -- judged commands that end with few revoked leaves are within the limits
-pub within_at_end : (d : ℕ) (commands : List Command) → IsDraft d commands → length (revoked_after d commands) ≤ MOST_REVOKED → IsWithinLimits d commands
+pub within_at_end : (d : ℕ) (commands : List Command) → IsDraft d commands → length (revoked_after d commands)
+    ≤ MOST_REVOKED → IsWithinLimits d commands
 within_at_end d commands all few = record {
   leaves = all.leaves;
   lines = all.lines;
@@ -154,7 +181,8 @@ within_at_end d commands all few = record {
 }
 
 -- commands of a draft that may end are within the limits
-pub within_by_end : (d : ℕ) (commands : List Command) (u : Unit {0}) → IsDraft d commands → ended {A = Unit {0}} d commands tt ≡ Ok u → IsWithinLimits d commands
+pub within_by_end : (d : ℕ) (commands : List Command) (u : Unit {0}) → IsDraft d commands →
+    ended {A = Unit {0}} d commands tt ≡ Ok u → IsWithinLimits d commands
 within_by_end d commands u all e = within_at_end d commands all (ended_ok d commands tt u e).0
 
 -- no command is within the limits
@@ -162,34 +190,44 @@ pub none_within : (d : ℕ) → IsWithinLimits d []
 none_within d = within_at_end d [] (judged_none d) (omega (arith, (tally_of_none d).revoked))
 
 -- the first commands of a draft
-draft_cut : (d : ℕ) (before : List Command) (command : Command) (more : List Command) → IsDraft d (before ++ command ∷ more) → is_within d command ≡ true
+draft_cut : (d : ℕ) (before : List Command) (command : Command) (more : List Command) →
+    IsDraft d (before ++ command ∷ more) → is_within d command ≡ true
 draft_cut d before command more all =
-    let rest : All (λ c. is_within d c ≡ true) (command ∷ more) = All-same (λ c. is_within d c ≡ true) _ _ (sym (drop_at before (command ∷ more) (length before) refl)) (All-drop (λ c. is_within d c ≡ true) (length before) (before ++ command ∷ more) all.leaves) in
+    let rest : All (λ c. is_within d c ≡ true) (command ∷ more) = All-same (λ c. is_within d c ≡ true) _ _
+    (sym (drop_at before (command ∷ more) (length before) refl))
+    (All-drop (λ c. is_within d c ≡ true) (length before) (before ++ command ∷ more) all.leaves) in
     All-head (λ c. is_within d c ≡ true) command more rest
 
 -- a command of a draft may stand where it stands
-fits_again : (d : ℕ) (before : List Command) (command : Command) (more : List Command) → IsDraft d (before ++ command ∷ more)
+fits_again : (d : ℕ) (before : List Command) (command : Command) (more : List Command) →
+    IsDraft d (before ++ command ∷ more)
     → period_fits d before command ≡ Ok command
 fits_again d before (Subscribe u) more all = refl
 fits_again d before (Revoke u) more all = refl
 fits_again d before Period more all =
-    let number : last_period before + 1 ≤ last_period (before ++ Period ∷ more) = omega (arith, period_append before (Period ∷ more), period_period more) in
-    let few : length (revoked_after d before) ≤ MOST_REVOKED = rw (until_period (last_period before) before more refl) at (all.revoked (last_period before) (omega arith)) in
+    let number : last_period before + 1 ≤ last_period (before ++ Period ∷ more) = omega
+    (arith, period_append before (Period ∷ more), period_period more) in
+    let few : length (revoked_after d before) ≤ MOST_REVOKED = rw (until_period (last_period before) before more refl)
+    at (all.revoked (last_period before) (omega arith)) in
     let fits : nat_le MOST_PERIODS (last_period before) ≡ false = grind (arith, common_steps, all.periods) in
     let ends : nat_lt MOST_REVOKED (length (revoked_after d before)) ≡ false = grind (arith, common_steps) in
     rw fits (rw ends refl)
 
 -- and breaks no limit
-pub command_again : (d : ℕ) (before : List Command) (command : Command) (more : List Command) → IsDraft d (before ++ command ∷ more)
+pub command_again : (d : ℕ) (before : List Command) (command : Command) (more : List Command) →
+    IsDraft d (before ++ command ∷ more)
     → command_fits d before command ≡ Ok command
 command_again d before command more all =
-    let long : nat_le MOST_COMMANDS (length before) ≡ false = grind (arith, common_steps, all.lines, length-append before (command ∷ more)) in
+    let long : nat_le MOST_COMMANDS (length before) ≡ false = grind
+    (arith, common_steps, all.lines, length-append before (command ∷ more)) in
     rw long (fits_again d before command more all)
 
 -- the line of a command of a draft gives it
-line_again : (d : ℕ) (before : List Command) (command : Command) (more : List Command) → IsDraft d (before ++ command ∷ more)
+line_again : (d : ℕ) (before : List Command) (command : Command) (more : List Command) →
+    IsDraft d (before ++ command ∷ more)
     → judged_line d before (Some command) ≡ Ok command
-line_again d before command more all = rw (draft_cut d before command more all) (command_again d before command more all)
+line_again d before command more all = rw (draft_cut d before command more all)
+    (command_again d before command more all)
 
 -- what is judged after the commands of a draft
 pub draft_again : (d : ℕ) (before new : List Command) (rest : List (Option Command)) → IsDraft d (before ++ new)
@@ -197,13 +235,17 @@ pub draft_again : (d : ℕ) (before new : List Command) (rest : List (Option Com
 draft_again d before [] rest all = ap (λ (cs : List Command). judged d cs rest) (sym (append-nil before))
 draft_again d before (command ∷ new) rest all =
     let same : (before ++ command ∷ []) ++ new ≡ before ++ command ∷ new = append_assoc before (command ∷ []) new in
-    let others : judged d (before ++ command ∷ []) (map Some new ++ rest) ≡ judged d ((before ++ command ∷ []) ++ new) rest = draft_again d (before ++ command ∷ []) new rest (subst (λ (cs : List Command). IsDraft d cs) (sym same) all) in
+    let others : judged d (before ++ command ∷ []) (map Some new ++ rest) ≡ judged d ((before ++ command ∷ []) ++ new)
+    rest = draft_again d (before ++ command ∷ []) new rest
+    (subst (λ (cs : List Command). IsDraft d cs) (sym same) all) in
     rw (line_again d before command new all) (others ∙ ap (λ (cs : List Command). judged d cs rest) same)
 
 -- commands that end within the limits
 pub end_again : (d : ℕ) (commands : List Command) → IsWithinLimits d commands → ended d commands commands ≡ Ok commands
 end_again d commands all =
-    let few : length (revoked_after d commands) ≤ MOST_REVOKED = rw (until_end (last_period commands) commands (omega arith)) at (all.revoked (last_period commands) (omega arith)) in
+    let few : length (revoked_after d commands)
+    ≤ MOST_REVOKED = rw (until_end (last_period commands) commands (omega arith)) at
+    (all.revoked (last_period commands) (omega arith)) in
     let ends : nat_lt MOST_REVOKED (length (revoked_after d commands)) ≡ false = grind (arith, common_steps) in
     rw ends refl
 
@@ -217,11 +259,14 @@ within_is_draft d commands all = record {
 }
 
 -- what says commands within the limits is judged to be these commands
-pub said_again : (d : ℕ) (commands : List Command) → IsWithinLimits d commands → judged d [] (map Some commands) ≡ Ok commands
+pub said_again : (d : ℕ) (commands : List Command) → IsWithinLimits d commands → judged d [] (map Some commands)
+    ≡ Ok commands
 said_again d commands all =
-    ap (judged d []) (sym (append-nil (map Some commands))) ∙ draft_again d [] commands [] (within_is_draft d commands all) ∙ end_again d commands all
+    ap (judged d []) (sym (append-nil (map Some commands))) ∙
+    draft_again d [] commands [] (within_is_draft d commands all) ∙ end_again d commands all
 
 -- what spells commands within the limits is their book
-pub book_again : (d : ℕ) (bytes : List ℕ) (commands : List Command) → SpellsBook (lines_of bytes) commands → IsWithinLimits d commands → book_of d bytes ≡ Ok commands
+pub book_again : (d : ℕ) (bytes : List ℕ) (commands : List Command) → SpellsBook (lines_of bytes) commands →
+    IsWithinLimits d commands → book_of d bytes ≡ Ok commands
 unfolding book_of
 book_again d bytes commands spelled all = ap (judged d []) spelled ∙ said_again d commands all

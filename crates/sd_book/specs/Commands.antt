@@ -1,5 +1,6 @@
 -- A book is a list of commands. Its periods are cut by its Period commands.
-use Rattle.std.specs.Prelude.{ℕ, zero, suc, ◌==◌, ◌^◌, Bool, true, false, nat_lt, List, [], ◌∷◌, reverse, filter, find, count_by, if◌then◌else◌, Option}
+use Rattle.std.specs.Prelude.{ℕ, zero, suc, ◌==◌, ◌^◌, Bool, true, false, nat_lt, List, [], ◌∷◌, reverse, filter, find}
+use Rattle.std.specs.Prelude.{count_by, if◌then◌else◌, Option}
 use Rattle.std.specs.Option.{option_map_or}
 use Rattle.sd_tree.specs.Leaves.{leaves, unrevoked, with_leaf, without_leaf}
 use Rattle.sd_book.specs.declared.command.Command.{Command}
@@ -56,11 +57,13 @@ is_revoked commands leaf = option_map_or is_revoke (last_on leaf commands) false
 abbrev pub revoked_after : ℕ → List Command → List ℕ
 revoked_after d commands = filter (is_revoked commands) (leaves d)
 
--- the leaves that are revoked in period q of a book for a tree of height d, ascending [this project, docs/FORMATS.md, Book]
+-- the leaves that are revoked in period q of a book for a tree of height d, ascending [this project, docs/FORMATS.md,
+-- Book]
 abbrev pub revoked : ℕ → List Command → ℕ → List ℕ
 revoked d commands q = revoked_after d (commands_until q commands)
 
--- the leaves that are entitled in period q: those that are not revoked in it, ascending [this project, docs/FORMATS.md, Book]
+-- the leaves that are entitled in period q: those that are not revoked in it, ascending [this project, docs/FORMATS.md,
+-- Book]
 abbrev pub entitled : ℕ → List Command → ℕ → List ℕ
 entitled d commands q = unrevoked d (revoked d commands q)
 

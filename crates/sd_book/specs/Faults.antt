@@ -23,9 +23,10 @@ HasRoom before = length before < MOST_COMMANDS
 abbrev pub IsCrowded : ℕ → List Command → ℕ → Type 0
 IsCrowded d before q = (q ≡ last_period before) × (MOST_REVOKED < length (revoked_after d before))
 
--- after these commands, the rest of the lines says that the period ends: by a Period that may come, or since no line is left
+-- after these commands the rest of the lines ends the period: by a Period that may come, or as no line is left
 abbrev pub PeriodEnds : List Command → List (Option Command) → Type 0
-PeriodEnds before rest = (rest ≡ []) ⊎ (HasRoom before × NextSays (Some Period) rest × (last_period before < MOST_PERIODS))
+PeriodEnds before rest = (rest ≡ [])
+    ⊎ (HasRoom before × NextSays (Some Period) rest × (last_period before < MOST_PERIODS))
 
 -- the limit that is broken after these commands, where the rest of the lines says this
 abbrev pub Breaks : ℕ → List Command → List (Option Command) → BookLimit → Type 0
@@ -41,7 +42,8 @@ IsBroken d before rest fault = (limit : BookLimit) × (fault ≡ Limit limit) ×
 abbrev pub FaultAfter : ℕ → List Command → List (Option Command) → BookFault → Type 0
 FaultAfter d before rest (Line k) = HasRoom before × (k ≡ length before + 1) × NextSays None rest
 FaultAfter d before rest (Leaf k) =
-    HasRoom before × (k ≡ length before + 1) × (command : Command) × NextSays (Some command) rest × (is_within d command ≡ false)
+    HasRoom before × (k ≡ length before + 1) × (command : Command) × NextSays (Some command) rest
+    × (is_within d command ≡ false)
 FaultAfter d before rest (Limit limit) = Breaks d before rest limit
 FaultAfter d before rest NoMemory = ⊥
 

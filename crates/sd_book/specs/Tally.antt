@@ -4,7 +4,8 @@ use Rattle.sd_tree.specs.Leaves.{leaves}
 use Rattle.sd_book.specs.declared.command.Command.{Command}
 use Rattle.sd_book.specs.Commands.{is_revoked, revoked_after, last_period}
 
--- what is kept of these commands for a tree of height d: a mark for each leaf, the number of marked leaves, and the period that they end in
+-- what is kept of these commands for a tree of height d: a mark for each leaf, the number of marked leaves, and the
+-- period that they end in
 pub record IsTally (d : ℕ) (commands : List Command) (kept : List Bool) (count number : ℕ) : Type 0 where
   pub marks : kept ≡ map (is_revoked commands) (leaves d)
   pub revoked : count ≡ length (revoked_after d commands)

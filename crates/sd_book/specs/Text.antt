@@ -1,5 +1,6 @@
 -- The book file: one command a line [this project, docs/FORMATS.md, Book].
-use Rattle.std.specs.Prelude.{◌≡◌, ℕ, ◌+◌, nat_lt, nat_le, List, [], ◌∷◌, ◌++◌, map, length, codes, bytes_eq, if◌then◌else◌, Option, Some, None, Result, Ok, Err, option_map}
+use Rattle.std.specs.Prelude.{◌≡◌, ℕ, ◌+◌, nat_lt, nat_le, List, [], ◌∷◌, ◌++◌, map, length, codes, bytes_eq}
+use Rattle.std.specs.Prelude.{if◌then◌else◌, Option, Some, None, Result, Ok, Err, option_map}
 use Rattle.std.specs.Fmt.{decimal}
 use Rattle.std.specs.List.{flat_map}
 use Rattle.sd_text.specs.Lines.{lines_of}
@@ -22,7 +23,8 @@ first_there None other = other
 unfoldable pub command_of : List ℕ → Option Command
 command_of line =
     if bytes_eq line (codes "period") then Some Period
-    else first_there (option_map Subscribe (decimal_after (codes "subscribe ") line)) (option_map Revoke (decimal_after (codes "revoke ") line))
+    else first_there (option_map Subscribe (decimal_after (codes "subscribe ") line))
+    (option_map Revoke (decimal_after (codes "revoke ") line))
 
 -- the lines are these commands
 abbrev pub SpellsBook : List (List ℕ) → List Command → Type 0
@@ -46,13 +48,14 @@ in_tree d k (Some command) = if is_within d command then Ok command else Err (Le
 -- the period that these commands end with has no more revoked leaves than a period may have
 abbrev pub ended : {A : Type 0} → ℕ → List Command → A → Result A BookFault
 ended d commands value =
-    if nat_lt MOST_REVOKED (length (revoked_after d commands)) then Err (Limit (Revoked (last_period commands))) else Ok value
+    if nat_lt MOST_REVOKED (length (revoked_after d commands)) then Err (Limit (Revoked (last_period commands)))
+    else Ok value
 
 -- a Period is to be within the limits on periods after these commands
 abbrev pub period_fits : ℕ → List Command → Command → Result Command BookFault
 period_fits d before command =
-    if is_period command then
-    (if nat_le MOST_PERIODS (last_period before) then Err (Limit Periods) else ended d before command)
+    if is_period command
+    then (if nat_le MOST_PERIODS (last_period before) then Err (Limit Periods) else ended d before command)
     else Ok command
 
 -- a command of the tree after those commands, or the limit that it breaks
@@ -60,14 +63,14 @@ abbrev pub command_fits : ℕ → List Command → Command → Result Command Bo
 command_fits d before command =
     if nat_le MOST_COMMANDS (length before) then Err (Limit Lines) else period_fits d before command
 
--- The command that a line says after those commands, or what is wrong with it. On one line the number of lines comes first, and
--- then the form, the leaf and the limits on periods [this project, docs/FORMATS.md, Book]
+-- The command that a line says after those commands, or what is wrong with it. On one line the number of lines comes
+-- first, and then the form, the leaf and the limits on periods [this project, docs/FORMATS.md, Book]
 abbrev pub judged_line : ℕ → List Command → Option Command → Result Command BookFault
 judged_line d before said =
     if nat_le MOST_COMMANDS (length before) then Err (Limit Lines)
     else (in_tree d (length before + 1) said >>= λ command. period_fits d before command)
 
--- the commands with those that the lines after them say: the first bad line decides, and what is judged after the last line comes last
+-- the commands with those that the lines after them say: the first bad line decides, and the last period comes last
 abbrev pub judged : ℕ → List Command → List (Option Command) → Result (List Command) BookFault
 judged d before [] = ended d before before
 judged d before (said ∷ rest) = judged_line d before said >>= λ command. judged d (before ++ command ∷ []) rest

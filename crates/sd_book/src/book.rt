@@ -1,4 +1,5 @@
-ghost use Rattle.std.specs.Prelude.{◌≡◌, ◌⊎◌, ◌<◌, ◌≤◌, ◌^◌, ◌++◌, [], true, List, All, length, Ok, Err, IfOk, IfErr, OnOk, OnErr, MatchResult};
+ghost use Rattle.std.specs.Prelude.{◌≡◌, ◌⊎◌, ◌<◌, ◌≤◌, ◌^◌, ◌++◌, [], true, List, All, length, Ok, Err, IfOk, IfErr};
+ghost use Rattle.std.specs.Prelude.{OnOk, OnErr, MatchResult};
 ghost use Rattle.std.specs.List.Sorted.{IsStrictlyIncreasing};
 ghost use Rattle.sd_text.specs.Lines.{lines_of};
 ghost use Rattle.sd_book.specs.declared.command.Command.{Command as Commands};
@@ -66,14 +67,16 @@ impl Book {
 
     /// The book that a file's bytes say, one command a line.
     ///
-    /// Lines are judged in order, and the first bad one decides. On one line the order is `Limit(Lines)`, `Line`, `Leaf`,
-    /// `Limit(Periods)`, `Limit(Revoked)`. The last period is judged after the last line (docs/FORMATS.md, Book).
+    /// Lines are judged in order, and the first bad one decides. On one line the order is `Limit(Lines)`, `Line`,
+    /// `Leaf`, `Limit(Periods)`, `Limit(Revoked)`. The last period is judged after the last line
+    /// [this project, docs/FORMATS.md, Book].
     #[tactic(auto, using(crate::proofs::Causes::end_cause))]
     pub fn read(alloc: Global, bytes: &[u8], h: Height) -> Result<Book, BookFault>
         ensures height { IfOk result (λ book. book.height ≡ h) }
         ensures fits { IfOk result (λ book. IsWithinLimits h book.commands) }
         ensures sound { IfOk result (λ book. SpellsBook (lines_of bytes.now) book.commands) }
-        ensures complete { (commands : List Commands) → SpellsBook (lines_of bytes.now) commands → IsWithinLimits h commands →
+        ensures complete { (commands : List Commands) →
+            SpellsBook (lines_of bytes.now) commands → IsWithinLimits h commands →
             MatchResult result (λ book. book.commands ≡ commands) (λ fault. fault ≡ BookFault.NoMemory) }
         ensures fault { IfErr result (λ fault. (fault ≡ BookFault.NoMemory) ⊎ IsCauseOf h (said_by bytes.now) fault) }
         // The whole answer, as one value.
@@ -164,7 +167,8 @@ fn longer(alloc: Global, h: Height, before: &[Command], more: &[Command]) -> Res
     requires leaves { All (λ command. is_within h command ≡ true) more.now }
     ensures height { IfOk result (λ book. book.height ≡ h) }
     ensures value { IfOk result (λ book. book.commands ≡ before.now ++ more.now) }
-    ensures fault { IfErr result (λ fault. (fault ≡ BookFault.NoMemory) ⊎ IsFirstLimit h (before.now ++ more.now) fault) }
+    ensures fault { IfErr result (λ fault. (fault ≡ BookFault.NoMemory) ⊎
+        IsFirstLimit h (before.now ++ more.now) fault) }
 {
     let mut draft = Draft::of(alloc, h, before)?;
     for command in more {

@@ -1,4 +1,5 @@
-ghost use Rattle.std.specs.Prelude.{◌≡◌, ◌⊎◌, ◌≤◌, ◌++◌, ◌∷◌, [], true, Some, Ok, Err, IfOk, IfErr, OnOk, OnErr, IsOk, MatchResult};
+ghost use Rattle.std.specs.Prelude.{◌≡◌, ◌⊎◌, ◌≤◌, ◌++◌, ◌∷◌, [], true, Some, Ok, Err, IfOk, IfErr, OnOk, OnErr, IsOk};
+ghost use Rattle.std.specs.Prelude.{MatchResult};
 ghost use Rattle.sd_book.specs.Commands.{is_within};
 ghost use Rattle.sd_book.specs.Faults.{IsBroken};
 ghost use Rattle.sd_book.specs.Limits.{IsDraft, IsWithinLimits};
@@ -65,8 +66,8 @@ impl Draft {
 
     /// Takes one more command of the tree.
     ///
-    /// The one fault beside `NoMemory` is the limit that the command breaks. A period's revoked leaves are judged where it
-    /// ends, by the next Period or by `finish`.
+    /// The one fault beside `NoMemory` is the limit that the command breaks. A period's revoked leaves are judged where
+    /// it ends, by the next Period or by `finish`.
     #[tactic(auto, using(crate::proofs::Judged::judged_one_more, crate::proofs::Causes::command_broken, crate::proofs::Causes::command_allowed))]
     pub fn push(&mut self, command: Command) -> Result<(), BookFault>
         requires leaf { is_within self.old.height command ≡ true }

@@ -1,18 +1,20 @@
 //! What books come to, for crates that make them longer and write them.
 
-ghost use Rattle.std.specs.Prelude.{◌≡◌, ◌<◌, ◌≤◌, ◌+◌, ◌++◌, ◌∷◌, ℕ, List, All, Option, Some, Ok, [], map, filter, not, true};
+ghost use Rattle.std.specs.Prelude.{◌≡◌, ◌<◌, ◌≤◌, ◌+◌, ◌++◌, ◌∷◌, ℕ, List, All, Option, Some, Ok, [], map, filter};
+ghost use Rattle.std.specs.Prelude.{not, true};
 ghost use Rattle.sd_book.specs.declared.command.Command.{Command as Commands};
 ghost use Rattle.sd_book.specs.declared.fault.BookFault.{BookFault as Faults};
 ghost use Rattle.sd_tree.specs.Leaves.{leaves};
-ghost use Rattle.sd_book.specs.Commands.{after_command, after_commands, commands_in, commands_until, entitled, is_revoked, is_within, last_period, revoked, revoked_after};
+ghost use Rattle.sd_book.specs.Commands.{after_command, after_commands, commands_in, commands_until, entitled};
+ghost use Rattle.sd_book.specs.Commands.{is_revoked, is_within, last_period, revoked, revoked_after};
 ghost use Rattle.sd_book.specs.Faults.{IsCauseOf};
 ghost use Rattle.sd_book.specs.Limits.{IsWithinLimits};
 ghost use Rattle.sd_book.specs.Text.{book_of, judged, text_of};
 
 /// Lines have one fault at most, and none where they say commands within the limits.
-#[tactic(auto, using(crate::proofs::Causes::one_cause, crate::proofs::Causes::no_cause))]
 pub fn causes_are_one()
-    ensures one { (d : ℕ) (said : List (Option Commands)) (a b : Faults) → IsCauseOf d said a → IsCauseOf d said b → a ≡ b }
+    ensures one { (d : ℕ) (said : List (Option Commands)) (a b : Faults) →
+        IsCauseOf d said a → IsCauseOf d said b → a ≡ b }
     ensures none { (d : ℕ) (commands : List Commands) (fault : Faults) → IsWithinLimits d commands →
         ¬ IsCauseOf d (map Some commands) fault }
 {}
@@ -27,9 +29,9 @@ pub fn written_is_read()
 {}
 
 /// The leaves that are revoked in a period follow from those of the period before, command by command.
-#[tactic(auto, using(crate::proofs::Followed::first_follows, crate::proofs::Followed::next_follows, crate::proofs::Followed::one_follows))]
 pub fn revoked_follow()
-    ensures first { (d : ℕ) (commands : List Commands) → revoked d commands 0 ≡ after_commands d [] (commands_in commands 0) }
+    ensures first { (d : ℕ) (commands : List Commands) →
+        revoked d commands 0 ≡ after_commands d [] (commands_in commands 0) }
     ensures next { (d q : ℕ) (commands : List Commands) → q < last_period commands →
         revoked d commands (q + 1) ≡ after_commands d (revoked d commands q) (commands_in commands (q + 1)) }
     // One step of it: with one more command.

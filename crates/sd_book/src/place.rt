@@ -1,4 +1,5 @@
-ghost use Rattle.std.specs.Prelude.{◌≡◌, ◌+◌, ◌<◌, ◌≤◌, ◌↔◌, List, All, length, true, is_some, if◌then◌else◌, IsNone, IfSome};
+ghost use Rattle.std.specs.Prelude.{◌≡◌, ◌+◌, ◌<◌, ◌≤◌, ◌↔◌, List, All, length, true, is_some, if◌then◌else◌, IsNone};
+ghost use Rattle.std.specs.Prelude.{IfSome};
 ghost use Rattle.sd_book.specs.declared.command.Command.{Command as Commands};
 ghost use Rattle.sd_book.specs.declared.limits.TheConstants.{MOST_COMMANDS};
 ghost use Rattle.sd_book.specs.Commands.{commands_in, is_within, last_period};
@@ -48,12 +49,25 @@ impl Place {
     pub fn next_commands<'a>(&mut self, book: &'a Book) -> Option<&'a [Command]>
         requires { IsPlaceIn book.now.commands self.old }
         ensures value { IfSome result (λ commands. commands.now ≡ commands_in book.now.commands self.old.next) }
-        ensures fits { IfSome result (λ commands. All (λ command. is_within book.now.height command ≡ true) commands.now) }
+        ensures fits { IfSome result (λ commands.
+            All (λ command. is_within book.now.height command ≡ true) commands.now) }
         ensures none { IsNone result ↔ (last_period book.now.commands < self.old.next) }
         ensures next { self.new.next ≡ (if is_some result then self.old.next + 1 else self.old.next) }
         ensures place { IsPlaceIn book.now.commands self.new }
     {
-        let period = begun(book.commands(), *self)?;
+        self.next_in(book.commands())
+    }
+
+    /// The commands of the next period of these commands alone, or `None` after the last one.
+    pub(crate) fn next_in<'a>(&mut self, commands: &'a [Command]) -> Option<&'a [Command]>
+        requires few { length commands.now ≤ MOST_COMMANDS }
+        requires place { IsPlaceIn commands.now self.old }
+        ensures value { IfSome result (λ period. period.now ≡ commands_in commands.now self.old.next) }
+        ensures none { IsNone result ↔ (last_period commands.now < self.old.next) }
+        ensures next { self.new.next ≡ (if is_some result then self.old.next + 1 else self.old.next) }
+        ensures place { IsPlaceIn commands.now self.new }
+    {
+        let period = begun(commands, *self)?;
         self.taken += period.len() as u32 + 1;
         self.next += 1;
         Some(period)

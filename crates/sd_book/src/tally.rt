@@ -1,4 +1,5 @@
-ghost use Rattle.std.specs.Prelude.{◌≡◌, ◌<◌, ◌≤◌, ◌^◌, ℕ, true, [], ◌∷◌, ◌++◌, List, All, IfOk, slice_set, vec_len, count_by, nat_le, Ok, Err};
+ghost use Rattle.std.specs.Prelude.{◌≡◌, ◌<◌, ◌≤◌, ◌^◌, ℕ, true, [], ◌∷◌, ◌++◌, List, All, IfOk, slice_set, vec_len};
+ghost use Rattle.std.specs.Prelude.{count_by, nat_le, Ok, Err};
 ghost use Rattle.sd_book.specs.declared.command.Command.{Command as Commands};
 ghost use Rattle.sd_book.specs.declared.limits.TheConstants.{MOST_PERIODS};
 ghost use Rattle.sd_book.specs.Commands.{is_within, last_period, revoked_after};
@@ -58,8 +59,10 @@ impl Tally {
         requires leaf { is_within self.old.height command.now ≡ true }
         requires period { self.old.period ≤ MOST_PERIODS }
         ensures height { self.new.height ≡ self.old.height }
-        ensures tally { (commands : List Commands) → IsTally self.old.height commands self.old.marks.items self.old.revoked self.old.period →
-            IsTally self.old.height (commands ++ command.now ∷ []) self.new.marks.items self.new.revoked self.new.period }
+        ensures tally { (commands : List Commands) →
+            IsTally self.old.height commands self.old.marks.items self.old.revoked self.old.period →
+            IsTally self.old.height (commands ++ command.now ∷ [])
+            self.new.marks.items self.new.revoked self.new.period }
     {
         match *command {
             Command::Subscribe(leaf) => self.mark(leaf, false),
@@ -93,7 +96,8 @@ impl Tally {
     #[tactic(auto, using(crate::proofs::Tallies::end_by_tally, crate::proofs::Tallies::crowd_by_tally))]
     pub(crate) fn may_end(&self) -> Result<(), BookFault>
         ensures { (commands : List Commands) →
-            IsTally self.now.height commands self.now.marks.items self.now.revoked self.now.period → ended self.now.height commands tt ≡ result }
+            IsTally self.now.height commands self.now.marks.items self.now.revoked self.now.period →
+            ended self.now.height commands tt ≡ result }
     {
         if self.revoked as usize > MOST_REVOKED {
             return Err(BookFault::Limit(BookLimit::Revoked(self.period)));
