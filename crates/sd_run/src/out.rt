@@ -1,33 +1,39 @@
-ghost use Rattle.std.specs.Prelude.{◌≡◌};
-ghost use Rattle.sd_run.specs.Answers.{MakesFile, MakesAtMostOne, HasOutsideCause, making_told};
+ghost use Rattle.std.specs.Prelude.{◌≡◌, ℕ, IsErrOf, Option};
+ghost use Rattle.sd_status.specs.Outside.{Page, place, outside};
+ghost use Rattle.sd_status.specs.Meant.{value};
+ghost use Rattle.sd_status.specs.Comes.{Obeys, status_of};
+ghost use Rattle.sd_run.specs.Card.{making};
+ghost use Rattle.sd_run.specs.Shown.{shown_word, making_told};
 
-use crate::status::Status;
+use crate::word::Word;
 use sd_ports::{Depot, FileFault, write_file};
+use sd_status::Status;
 use std::alloc::Global;
 
-/// Makes the file that word 3 names, with these bytes.
-#[tactic(auto, using(crate::proofs::Outs::makes, crate::proofs::Outs::made_one, crate::proofs::Outs::outside))]
+/// Makes the file that a word names, with these bytes.
 pub fn make_file<D: Depot>(
     alloc: Global,
     depot: &mut D,
-    name: &str,
+    word: Word<'_>,
     bytes: &[u8],
 ) -> Result<(), Status>
-    ensures file { MakesFile (D.files depot.old) (D.files depot.new) name.now bytes.now result }
-    ensures made { MakesAtMostOne (D.made depot.old) (D.made depot.new) }
-    ensures cause { HasOutsideCause (D.faults depot.old) (D.faults depot.new) (D.misses depot.old) (D.misses depot.new) result }
+    ensures { (page : Page) (steps : ℕ) (most : Option ℕ) →
+        Obeys (value (making most (shown_word word.entry) bytes.now))
+        (outside (place D.Depot depot.old) page steps) (outside (place D.Depot depot.new) page steps) (status_of result) }
 {
-    told(write_file(alloc, depot, name, bytes))
+    told(word.number, write_file(alloc, depot, word.text, bytes))
 }
 
-/// What is answered once the file that word 3 names was to be made.
-pub fn told(written: Result<(), FileFault>) -> Result<(), Status>
-    ensures { result ≡ making_told written }
+/// What is answered once the file of this word was to be made.
+pub fn told(word: u8, written: Result<(), FileFault>) -> Result<(), Status>
+    requires { ¬ IsErrOf written FileFault.TooBig }
+    ensures { result ≡ making_told word written }
 {
     match written {
         Ok(()) => Ok(()),
-        Err(FileFault::Missing) => Err(Status::Missing(3)),
-        Err(FileFault::Failed | FileFault::TooBig) => Err(Status::DepotFault),
+        Err(FileFault::Missing) => Err(Status::Missing(word)),
+        Err(FileFault::Failed) => Err(Status::DepotFault),
         Err(FileFault::NoMemory) => Err(Status::NoMemory),
+        Err(FileFault::TooBig) => unreachable!(),
     }
 }

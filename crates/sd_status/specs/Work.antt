@@ -1,0 +1,68 @@
+-- What a command does.
+use Rattle.std.specs.Prelude.{◌≡◌, ℕ, ◌+◌, ◌≤◌, Bool, List, ◌++◌, Option, Some, None, Result, Ok, Err}
+use Rattle.sd_cause.specs.Count.{with_added}
+use Rattle.sd_ports.specs.Files.{Files, with_bytes}
+use Rattle.sd_book.specs.declared.command.Command.{Command}
+use Rattle.sd_book.specs.Commands.{last_period}
+use Rattle.sd_status.specs.declared.status.Status.{Status}
+use Rattle.sd_status.specs.Periods.{AreCoverTexts}
+use Rattle.sd_status.specs.Meant.{Meant}
+
+-- a file to be made: the number of its word, its name, and all its bytes
+pub record Out : Type 0 where
+  pub word : ℕ
+  pub name : List ℕ
+  pub bytes : List ℕ
+
+-- what is printed, in pieces of whole lines
+pub data Lines : Type 0 where
+  -- these pieces
+  Exactly : (pieces : List (List ℕ)) → Lines
+  -- for each period of a book for a tree of this height the sets of its cover
+  Covers : (height : ℕ) (commands : List Command) → Lines
+
+pub record Work : Type 0 where
+  pub out : Option Out
+  pub lines : Lines
+  -- the status at the end
+  pub ends : Status
+  -- the status is a refusal in the midst of a stream, which stands though OUT fails to close after it
+  pub breaks : Bool
+  -- how many steps of the generator it takes at most, where that is said
+  pub most_steps : Option ℕ
+
+abbrev pub IsPieces : Lines → List (List ℕ) → Type 0
+IsPieces (Exactly pieces) texts = texts ≡ pieces
+IsPieces (Covers height commands) texts = AreCoverTexts height commands (last_period commands + 1) texts
+
+-- the files once OUT has these of its bytes, where they are told
+abbrev pub files_with : Option Out → Option Files → Option Files
+files_with None files = files
+files_with (Some out) files = with_bytes files out.name out.bytes
+
+-- the count of the files that were made, once OUT was
+abbrev pub made_with : Option Out → ℕ → ℕ
+made_with None made = made
+made_with (Some out) made = with_added made 1
+
+-- OUT is opened and closed
+abbrev pub out_calls : Option Out → ℕ
+out_calls None = 0
+out_calls (Some out) = 2
+
+-- how many calls of the depot are made for what is meant
+abbrev pub work_calls : Result Work Status → ℕ
+work_calls (Ok work) = out_calls work.out
+work_calls (Err status) = 0
+
+abbrev pub all_calls : Meant Work → ℕ
+all_calls meant = meant.calls + work_calls meant.result
+
+abbrev pub IsWithinSteps : Option ℕ → ℕ → ℕ → Type 0
+IsWithinSteps None before now = Unit {0}
+IsWithinSteps (Some most) before now = (before ≤ now) × (now ≤ before + most)
+
+-- a refusal takes no step of the generator, and work at most its own
+abbrev pub TakesSteps : Result Work Status → ℕ → ℕ → Type 0
+TakesSteps (Ok work) before now = IsWithinSteps work.most_steps before now
+TakesSteps (Err status) before now = now ≡ before
