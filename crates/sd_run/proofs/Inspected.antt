@@ -58,24 +58,14 @@ all_lines bytes =
     ∙ ap concat (take_all (length packets) pieces (omega (arith, count_lines [] packets)))
 
 -- what was printed of the lines of a stream
-pub prints_all : (bytes : List ℕ) (a b : Page) → Appends a.printed b.printed (lines_of bytes) → PrintsAll (inspecting bytes) a b
-prints_all bytes a b h = record {
-  pieces = packet_lines [] (packets_of bytes);
-  are = refl;
-  printed = subst (λ (xs : List ℕ). Appends a.printed b.printed xs) (all_lines bytes) h;
-}
+pub prints_all : (bytes : List ℕ) (a b : Page) → Appends a.printed b.printed (lines_of bytes) →
+    PrintsAll (inspecting bytes) a b
+prints_all bytes a b h = subst (λ (xs : List ℕ). Appends a.printed b.printed xs) (all_lines bytes) h
 
-pub prints_some : (bytes : List ℕ) (a b : Page) (k : ℕ) → Appends a.printed b.printed (lines_up_to k bytes) → PrintsSome (inspecting bytes) a b
-prints_some bytes a b k h = record {
-  pieces = packet_lines [] (packets_of bytes);
-  are = refl;
-  count = k;
-  printed = subst (λ (xs : List ℕ). Appends a.printed b.printed xs) (first_lines k bytes) h;
-}
+pub prints_some : (bytes : List ℕ) (a b : Page) (k : ℕ) → Appends a.printed b.printed (lines_up_to k bytes) →
+    PrintsSome (inspecting bytes) a b
+prints_some bytes a b k h = (k, subst (λ (xs : List ℕ). Appends a.printed b.printed xs) (first_lines k bytes) h)
 
-pub prints_prefix : (bytes : List ℕ) (a b : Page) → AppendsPrefix a.printed b.printed (lines_of bytes) → PrintsPrefix (inspecting bytes) a b
-prints_prefix bytes a b h = record {
-  pieces = packet_lines [] (packets_of bytes);
-  are = refl;
-  printed = subst (λ (xs : List ℕ). AppendsPrefix a.printed b.printed xs) (all_lines bytes) h;
-}
+pub prints_prefix : (bytes : List ℕ) (a b : Page) → AppendsPrefix a.printed b.printed (lines_of bytes) →
+    PrintsPrefix (inspecting bytes) a b
+prints_prefix bytes a b h = subst (λ (xs : List ℕ). AppendsPrefix a.printed b.printed xs) (all_lines bytes) h

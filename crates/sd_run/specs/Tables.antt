@@ -12,7 +12,7 @@ use Rattle.sd_status.specs.declared.status.Status.TheVariants.{Done, BadStream}
 use Rattle.sd_status.specs.declared.status.LimitKind.TheVariants.{StreamBytes}
 use Rattle.sd_status.specs.declared.status.StreamCause.TheVariants.{Torn, NoSync}
 use Rattle.sd_status.specs.Meant.{Meant, Word, Given, within, value, ◌>>=◌}
-use Rattle.sd_status.specs.Work.{Work, Exactly}
+use Rattle.sd_status.specs.Work.{Work}
 use Rattle.sd_run.specs.Words.{TablesOf, order_of}
 use Rattle.sd_run.specs.declared.files.TheConstants.{MOST_STREAM_BYTES}
 
@@ -32,7 +32,7 @@ packet_lines before (packet ∷ packets) =
 abbrev pub inspecting : List ℕ → Work
 inspecting bytes = record {
   out = None;
-  lines = Exactly (packet_lines [] (packets_of bytes));
+  pieces = packet_lines [] (packets_of bytes);
   ends = stream_status (break_of bytes);
   breaks = false;
   most_steps = Some 0;

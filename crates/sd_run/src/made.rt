@@ -19,7 +19,8 @@ pub fn make_file<D: Depot>(
 ) -> Result<(), Status>
     ensures { (page : Page) (steps : ℕ) (most : Option ℕ) →
         Obeys (value (making most (shown_word word.entry) bytes.now))
-        (outside (place D.Depot depot.old) page steps) (outside (place D.Depot depot.new) page steps) (status_of result) }
+        (outside (place D.Depot depot.old) page steps) (outside (place D.Depot depot.new) page steps)
+        (status_of result) }
 {
     told(word.number, write_file(alloc, depot, word.text, bytes))
 }
