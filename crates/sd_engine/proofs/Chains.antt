@@ -10,12 +10,28 @@ use Rattle.sd_engine.specs.Stage.{Vessel, Grew, Chain, all_from, all_steps}
 pub chain_on : {S : Type 0} (does : S → List ℕ → S → List ℕ → ℕ → Type 0) (s : S) (ps : List (List ℕ)) (mid : S)
     (a : List ℕ) (n : ℕ) (p : List ℕ) (t : S) (b : List ℕ) (m : ℕ) →
     Chain does s ps mid a n → does mid p t b m → Chain does s (ps ++ p ∷ []) t (a ++ b) (n + m)
-chain_on does s [] mid a n p t b m (same, none, zero) one =
-    (t, b, [], m, 0, subst (λ u. does u p t b m) (sym same) one, (refl, refl, refl),
-    ap (λ (xs : List ℕ). xs ++ b) none ∙ sym (append-nil b), omega (arith, zero))
-chain_on does s (q ∷ qs) mid a n p t b m (next, first, rest, j, k, one, more, joined, counted) last =
-    (next, first, rest ++ b, j, k + m, one, chain_on does next qs mid rest k p t b m more last,
-    ap (λ (xs : List ℕ). xs ++ b) joined ∙ append_assoc first rest b, omega (arith, counted))
+chain_on does s [] mid a n p t b m (same, none, zero) one = (
+  t,
+  b,
+  [],
+  m,
+  0,
+  subst (λ u. does u p t b m) (sym same) one,
+  (refl, refl, refl),
+  ap (λ (xs : List ℕ). xs ++ b) none ∙ sym (append-nil b),
+  omega (arith, zero),
+)
+chain_on does s (q ∷ qs) mid a n p t b m (next, first, rest, j, k, one, more, joined, counted) last = (
+  next,
+  first,
+  rest ++ b,
+  j,
+  k + m,
+  one,
+  chain_on does next qs mid rest k p t b m more last,
+  ap (λ (xs : List ℕ). xs ++ b) joined ∙ append_assoc first rest b,
+  omega (arith, counted),
+)
 
 -- what was taken into a room, and then more
 pub taken_on : (a b c : Option ℕ) (n m : ℕ) → HasTaken a b n → HasTaken b c m → HasTaken a c (n + m)
@@ -58,24 +74,25 @@ grew_none P u i says = record {
 pub chain_writes : {S : Type 0} (does : S → List ℕ → S → List ℕ → ℕ → Type 0) (After : List (List ℕ) → S → Type 0)
     (wrote : List (List ℕ) → List ℕ → List ℕ)
     → ((before : List (List ℕ)) (s : S) (p : List ℕ) (t : S) (bytes : List ℕ) (n : ℕ) → After before s → does s p t bytes n →
-        (bytes ≡ wrote before p) × After (before ++ p ∷ []) t)
+    (bytes ≡ wrote before p) × After (before ++ p ∷ []) t)
     → (before : List (List ℕ)) (s : S) (ps : List (List ℕ)) (t : S) (bytes : List ℕ) (n : ℕ) → After before s →
-        Chain does s ps t bytes n → (bytes ≡ all_from wrote before ps) × After (before ++ ps) t
+    Chain does s ps t bytes n → (bytes ≡ all_from wrote before ps) × After (before ++ ps) t
 chain_writes does After wrote step before s [] t bytes n a (same, none, zero) =
     (none, subst (λ u. After (before ++ []) u) same (subst (λ xs. After xs s) (sym (append-nil before)) a))
 chain_writes does After wrote step before s (p ∷ ps) t bytes n a (mid, first, rest, m, k, one, more, joined, counted) =
     let here = step before s p mid first m a one in
-    let there = chain_writes does After wrote step (before ++ p ∷ []) mid ps t rest k here.1 more in
-    (joined ∙ (ap (λ xs. xs ++ rest) here.0 ∙ ap (λ xs. wrote before p ++ xs) there.0),
-    subst (λ xs. After xs t) (append_assoc before (p ∷ []) ps) there.1)
+    let there = chain_writes does After wrote step (before ++ p ∷ []) mid ps t rest k here.1 more in (
+      joined ∙ (ap (λ xs. xs ++ rest) here.0 ∙ ap (λ xs. wrote before p ++ xs) there.0),
+      subst (λ xs. After xs t) (append_assoc before (p ∷ []) ps) there.1,
+    )
 
 -- and its steps are at most those of all steps
 pub chain_steps : {S : Type 0} (does : S → List ℕ → S → List ℕ → ℕ → Type 0) (After : List (List ℕ) → S → Type 0)
     (takes : List (List ℕ) → List ℕ → ℕ)
     → ((before : List (List ℕ)) (s : S) (p : List ℕ) (t : S) (bytes : List ℕ) (n : ℕ) → After before s → does s p t bytes n →
-        (n ≤ takes before p) × After (before ++ p ∷ []) t)
+    (n ≤ takes before p) × After (before ++ p ∷ []) t)
     → (before : List (List ℕ)) (s : S) (ps : List (List ℕ)) (t : S) (bytes : List ℕ) (n : ℕ) → After before s →
-        Chain does s ps t bytes n → n ≤ all_steps takes before ps
+    Chain does s ps t bytes n → n ≤ all_steps takes before ps
 chain_steps does After takes step before s [] t bytes n a (same, none, zero) = omega (arith, zero)
 chain_steps does After takes step before s (p ∷ ps) t bytes n a (mid, first, rest, m, k, one, more, joined, counted) =
     let here = step before s p mid first m a one in

@@ -1,8 +1,8 @@
 -- How a drive goes on by a packet, and how it ends.
-use Rattle.std.proofs.Common.{◌≡◌, ℕ, zero, suc, ◌+◌, ◌-◌, ◌*◌, ◌<◌, ◌≤◌, ◌^◌, List, [], ◌∷◌, ◌++◌, length, take, get_or}
+use Rattle.std.proofs.Common.{◌≡◌, ℕ, suc, ◌+◌, ◌*◌, ◌<◌, ◌≤◌, List, [], ◌∷◌, ◌++◌, length, take, get_or}
 use Rattle.std.proofs.Common.{refl, sym, ap, subst, ◌∙◌, arith, append_assoc, append-nil, length-append}
 use Rattle.std.specs.Prelude.{Option, None, Some, Result, Ok, Err, slice_get}
-use Rattle.std.specs.Io.KnownBytes.{Consumes, IsAtEnd}
+use Rattle.std.specs.Io.KnownBytes.{Consumes}
 use Rattle.std.proofs.KnownBytes.{Consumes-trans, Consumes-nil}
 use Rattle.std.proofs.Math.Seq.{take-append_seam, get_or-append_seam}
 use Rattle.std.proofs.lemmas.List.{take_all}
@@ -12,7 +12,7 @@ use Rattle.std.proofs.lemmas.List.{get_or-take}
 use Rattle.sd_ports.specs.Bytes.{LosesPrefix}
 use Rattle.sd_engine.specs.declared.fault.BreakCause.{BreakCause}
 use Rattle.sd_engine.specs.declared.fault.BreakCause.TheVariants.{Torn, NoSync}
-use Rattle.sd_engine.specs.Stream.{ArePackets, pieces, packets_of, break_of, break_after}
+use Rattle.sd_engine.specs.Stream.{ArePackets, pieces, packets_of, break_after}
 use Rattle.sd_engine.specs.Stage.{Vessel, Grew, CutShort, IsAllowed, Chain}
 use Rattle.sd_engine.specs.Feeding.{Reads, GivesPacket, GivesNone, Takes, IsBroken, Stops}
 use Rattle.sd_engine.specs.declared.feed.FeedFault.{FeedFault}
@@ -43,8 +43,8 @@ reads_on : (a b c : Option (List ℕ)) (taken old new : List ℕ) → Consumes a
     Consumes a c (taken ++ new)
 reads_on a b c taken old new before reads =
     subst (Consumes a c)
-        (append_assoc taken old reads.bytes ∙ ap (λ (xs : List ℕ). taken ++ xs) (sym reads.joined))
-        (Consumes-trans a b c (taken ++ old) reads.bytes before reads.consumed)
+    (append_assoc taken old reads.bytes ∙ ap (λ (xs : List ℕ). taken ++ xs) (sym reads.joined))
+    (Consumes-trans a b c (taken ++ old) reads.bytes before reads.consumed)
 
 -- one packet more
 pub one_more : {S : Type 0} (does : S → List ℕ → S → List ℕ → ℕ → Type 0) (a : Moment S)
@@ -62,9 +62,9 @@ one_more does a left left' sink sink' stage stage' steps steps' count old new pa
       passed = subst (λ (ps : List (List ℕ)). Grew a.sink sink' a.steps steps' (Chain does a.stage ps stage'))
           (sym (ap (λ (n : ℕ). pieces n (way.taken ++ packet)) more ∙ pieces_on count way.taken packet way.packets gives.long))
           (grew_on (Chain does a.stage (pieces count way.taken) stage) (does stage packet stage')
-              (Chain does a.stage (pieces count way.taken ++ packet ∷ []) stage') a.sink sink sink' a.steps steps steps'
-              (λ x y n m first last. chain_on does a.stage (pieces count way.taken) stage x n packet stage' y m first last)
-              way.passed grew);
+          (Chain does a.stage (pieces count way.taken ++ packet ∷ []) stage') a.sink sink sink' a.steps steps steps'
+          (λ x y n m first last. chain_on does a.stage (pieces count way.taken) stage x n packet stage' y m first last)
+          way.passed grew);
     }
 
 -- the end of a whole stream
@@ -84,9 +84,9 @@ all_driven does ends a left left' sink sink' stage stage' steps steps' count old
       counted = sym (ap (λ (ps : List (List ℕ)). length ps) whole ∙ all_counted count way.taken);
       passed = subst (λ (ps : List (List ℕ)). Grew a.sink sink' a.steps steps' (Closes does ends a.stage ps stage')) (sym whole)
           (grew_on (Chain does a.stage (pieces count way.taken) stage) (ends stage stage')
-              (Closes does ends a.stage (pieces count way.taken) stage') a.sink sink sink' a.steps steps steps'
-              (λ x y n m first last. (stage, x, y, n, m, first, last, refl, refl))
-              way.passed grew);
+          (Closes does ends a.stage (pieces count way.taken) stage') a.sink sink sink' a.steps steps steps'
+          (λ x y n m first last. (stage, x, y, n, m, first, last, refl, refl))
+          way.passed grew);
     }
 
 -- the first packets of what was read, and how many there are at least
@@ -94,10 +94,11 @@ front_of : (count : ℕ) (taken rest : List ℕ) → ArePackets count taken →
     (take count (packets_of (taken ++ rest)) ≡ pieces count taken) × (count ≤ length (packets_of (taken ++ rest)))
 front_of count taken rest are =
     let all = packets_first count taken rest are in
-    let long : length (pieces count taken) ≡ count = all_counted count taken in
-    (ap (take count) all ∙ subst (λ (n : ℕ). take n (pieces count taken ++ packets_of rest) ≡ pieces count taken) long
-        (take-append_seam (pieces count taken) (packets_of rest)),
-    omega (arith, ap (λ (ps : List (List ℕ)). length ps) all ∙ length-append (pieces count taken) (packets_of rest), long))
+    let long : length (pieces count taken) ≡ count = all_counted count taken in (
+      ap (take count) all ∙ subst (λ (n : ℕ). take n (pieces count taken ++ packets_of rest) ≡ pieces count taken) long
+          (take-append_seam (pieces count taken) (packets_of rest)),
+      omega (arith, ap (λ (ps : List (List ℕ)). length ps) all ∙ length-append (pieces count taken) (packets_of rest), long),
+    )
 
 -- a read failed
 pub read_failed : {S : Type 0} (does : S → List ℕ → S → List ℕ → ℕ → Type 0) (a : Moment S)
@@ -105,14 +106,16 @@ pub read_failed : {S : Type 0} (does : S → List ℕ → S → List ℕ → ℕ
     → IsUnderWay does a (moment left sink stage steps) count old → LosesPrefix left left'
     → (n : ℕ) × IsStopped does a (moment left' sink stage steps) n
 read_failed does a left left' sink stage steps count old way lost =
-    let front = front_of count way.taken (old ++ lost.0) way.packets in
-    (count, record {
-      bytes = way.taken ++ (old ++ lost.0);
-      read = reads_on a.left left left' way.taken old (old ++ lost.0) way.read
-          (record { bytes = lost.0; consumed = lost.1; joined = refl });
-      enough = front.1;
-      passed = subst (λ (ps : List (List ℕ)). Passes does a ps (moment left' sink stage steps)) (sym front.0) way.passed;
-    })
+    let front = front_of count way.taken (old ++ lost.0) way.packets in (
+      count,
+      record {
+        bytes = way.taken ++ (old ++ lost.0);
+        read = reads_on a.left left left' way.taken old (old ++ lost.0) way.read
+            (record { bytes = lost.0; consumed = lost.1; joined = refl });
+        enough = front.1;
+        passed = subst (λ (ps : List (List ℕ)). Passes does a ps (moment left' sink stage steps)) (sym front.0) way.passed;
+      },
+    )
 
 -- what is left is no packet
 break_here : (count : ℕ) (rest : List ℕ) (cause : BreakCause) → Takes rest (Err cause) →
@@ -122,7 +125,7 @@ break_here count rest Torn takes =
 break_here count rest NoSync takes =
     let same : slice_index (take 188 rest) 0 ≡ slice_index rest 0 = get_or-take 188 rest 0 0 (omega arith) in
     let here = no_sync_here (record { rest = rest; taken = count }) rest (take 188 rest) count refl refl takes.0 refl
-        (λ e. takes.1 (sym same ∙ e)) in (here.none, here.break)
+    (λ e. takes.1 (sym same ∙ e)) in (here.none, here.break)
 
 pub stream_broken : {S : Type 0} (does : S → List ℕ → S → List ℕ → ℕ → Type 0) (a : Moment S)
     (left left' : Option (List ℕ)) (sink : Vessel) (stage : S) (steps count : ℕ) (old : List ℕ) (cause : BreakCause)
@@ -131,8 +134,8 @@ pub stream_broken : {S : Type 0} (does : S → List ℕ → S → List ℕ → �
 stream_broken does a left left' sink stage steps count old cause way found =
     let here = break_here count found.left cause found.broken in
     let all : packets_of (way.taken ++ found.left) ≡ pieces count way.taken =
-        packets_first count way.taken found.left way.packets
-        ∙ (ap (λ (ps : List (List ℕ)). pieces count way.taken ++ ps) here.0 ∙ append-nil (pieces count way.taken)) in
+    packets_first count way.taken found.left way.packets
+    ∙ (ap (λ (ps : List (List ℕ)). pieces count way.taken ++ ps) here.0 ∙ append-nil (pieces count way.taken)) in
     record {
       bytes = way.taken ++ found.left;
       read = reads_on a.left left left' way.taken old found.left way.read found.read;
@@ -156,17 +159,21 @@ unfolding pieces
 packet_at count taken packet new are long sync =
     let whole : take 188 packet ≡ packet = take_all 188 packet (omega (arith, long)) in
     let next : packets_of (packet ++ new) ≡ packet ∷ packets_of new =
-        packets_first 1 packet new (one_packet packet long sync) ∙ ap (λ (p : List ℕ). p ∷ packets_of new) whole in
+    packets_first 1 packet new (one_packet packet long sync) ∙ ap (λ (p : List ℕ). p ∷ packets_of new) whole in
     let all : packets_of (taken ++ (packet ++ new)) ≡ pieces count taken ++ packet ∷ packets_of new =
-        packets_first count taken (packet ++ new) are ∙ ap (λ (ps : List (List ℕ)). pieces count taken ++ ps) next in
+    packets_first count taken (packet ++ new) are ∙ ap (λ (ps : List (List ℕ)). pieces count taken ++ ps) next in
     let counted : length (pieces count taken) ≡ count = all_counted count taken in
     let inside : count < length (packets_of (taken ++ (packet ++ new))) =
-        omega (arith, ap (λ (ps : List (List ℕ)). length ps) all
-            ∙ length-append (pieces count taken) (packet ∷ packets_of new), counted) in
+    omega (
+      arith,
+      ap (λ (ps : List (List ℕ)). length ps) all
+          ∙ length-append (pieces count taken) (packet ∷ packets_of new),
+      counted,
+    ) in
     let at : get_or (packets_of (taken ++ (packet ++ new))) count [] ≡ packet =
-        ap (λ (ps : List (List ℕ)). get_or ps count []) all
-        ∙ subst (λ (n : ℕ). get_or (pieces count taken ++ packet ∷ packets_of new) n [] ≡ packet) counted
-            (get_or-append_seam (pieces count taken) packet (packets_of new) []) in
+    ap (λ (ps : List (List ℕ)). get_or ps count []) all
+    ∙ subst (λ (n : ℕ). get_or (pieces count taken ++ packet ∷ packets_of new) n [] ≡ packet) counted
+    (get_or-append_seam (pieces count taken) packet (packets_of new) []) in
     (slice_get-get_or (packets_of (taken ++ (packet ++ new))) count [] inside ∙ ap (λ (p : List ℕ). Some p) at, inside)
 
 -- what was read, as far as a packet and what waits after it
@@ -191,13 +198,13 @@ packet_refused does refuses a left left' sink sink' stage stage' steps steps' co
       place = record { within = front.1; end = λ e. absurd (omega (arith, e, here.1)) };
       passed =
           subst (λ (p : Option (List ℕ)). Grew a.sink sink' a.steps steps'
-              (Refuses does refuses a.stage (take count (packets_of (way.taken ++ (packet ++ new)))) p fault stage')) (sym here.0)
+          (Refuses does refuses a.stage (take count (packets_of (way.taken ++ (packet ++ new)))) p fault stage')) (sym here.0)
           (subst (λ (ps : List (List ℕ)). Grew a.sink sink' a.steps steps' (Refuses does refuses a.stage ps (Some packet) fault stage'))
-              (sym front.0)
+          (sym front.0)
           (grew_on (Chain does a.stage (pieces count way.taken) stage) (refuses stage (Some packet) fault stage')
-              (Refuses does refuses a.stage (pieces count way.taken) (Some packet) fault stage') a.sink sink sink' a.steps steps steps'
-              (λ x y n m first last. (stage, x, y, n, m, first, last, refl, refl))
-              way.passed grew));
+          (Refuses does refuses a.stage (pieces count way.taken) (Some packet) fault stage') a.sink sink sink' a.steps steps steps'
+          (λ x y n m first last. (stage, x, y, n, m, first, last, refl, refl))
+          way.passed grew));
     }
 
 -- all packets of a stream that was read to its end
@@ -206,9 +213,11 @@ all_of : (count : ℕ) (taken : List ℕ) → ArePackets count taken →
     × (count ≡ length (packets_of taken))
 all_of count taken are =
     let whole = all_taken count taken are in
-    let counted : length (packets_of taken) ≡ count = ap (λ (ps : List (List ℕ)). length ps) whole ∙ all_counted count taken in
-    (take_all count (packets_of taken) (omega (arith, counted)) ∙ whole,
-    slice_get_past (packets_of taken) count (omega (arith, counted)), sym counted)
+    let counted : length (packets_of taken) ≡ count = ap (λ (ps : List (List ℕ)). length ps) whole ∙ all_counted count taken in (
+      take_all count (packets_of taken) (omega (arith, counted)) ∙ whole,
+      slice_get_past (packets_of taken) count (omega (arith, counted)),
+      sym counted,
+    )
 
 -- the stage refused the end
 pub end_refused : {S F : Type 0} (does : S → List ℕ → S → List ℕ → ℕ → Type 0)
@@ -227,13 +236,13 @@ end_refused does refuses a left left' sink sink' stage stage' steps steps' count
       place = record { within = omega (arith, all.2); end = λ e. (gives.end, none_broken count way.taken way.packets) };
       passed =
           subst (λ (p : Option (List ℕ)). Grew a.sink sink' a.steps steps'
-              (Refuses does refuses a.stage (take count (packets_of way.taken)) p fault stage')) (sym all.1)
+          (Refuses does refuses a.stage (take count (packets_of way.taken)) p fault stage')) (sym all.1)
           (subst (λ (ps : List (List ℕ)). Grew a.sink sink' a.steps steps' (Refuses does refuses a.stage ps None fault stage'))
-              (sym all.0)
+          (sym all.0)
           (grew_on (Chain does a.stage (pieces count way.taken) stage) (refuses stage None fault stage')
-              (Refuses does refuses a.stage (pieces count way.taken) None fault stage') a.sink sink sink' a.steps steps steps'
-              (λ x y n m first last. (stage, x, y, n, m, first, last, refl, refl))
-              way.passed grew));
+          (Refuses does refuses a.stage (pieces count way.taken) None fault stage') a.sink sink sink' a.steps steps steps'
+          (λ x y n m first last. (stage, x, y, n, m, first, last, refl, refl))
+          way.passed grew));
     }
 
 -- a write failed at a packet
@@ -297,7 +306,7 @@ pub packet_too_many : {S : Type 0} (does : S → List ℕ → S → List ℕ →
     → IsTooLong does a (moment left' sink stage steps)
 packet_too_many does a left left' sink stage steps old new packet way gives =
     too_many does a left left' sink stage steps old (packet ++ new) way gives.read
-        (omega (arith, length-append packet new, gives.long))
+    (omega (arith, length-append packet new, gives.long))
 
 some_left : (rest : List ℕ) (cause : BreakCause) → Takes rest (Err cause) → 0 < length rest
 some_left rest Torn takes = takes.0
@@ -335,7 +344,7 @@ pub all_closed : {S F : Type 0} (does : S → List ℕ → S → List ℕ → �
     → Drives does ends refuses a (moment left' sink' stage' steps') result
 all_closed does ends refuses a left left' sink sink' stage stage' steps steps' count old new (Ok n) way gives closed =
     subst (λ (k : ℕ). IsWhole does ends a (moment left' sink' stage' steps') k) (sym closed.0)
-        (all_driven does ends a left left' sink sink' stage stage' steps steps' count old new way gives closed.1)
+    (all_driven does ends a left left' sink sink' stage stage' steps steps' count old new way gives closed.1)
 all_closed does ends refuses a left left' sink sink' stage stage' steps steps' count old new (Err (Broken found)) way gives closed =
     absurd closed
 all_closed does ends refuses a left left' sink sink' stage stage' steps steps' count old new (Err TooLong) way gives closed =

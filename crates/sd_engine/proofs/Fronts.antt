@@ -1,12 +1,11 @@
 -- What stands after some first packets of a stream.
-use Rattle.std.proofs.Common.{◌≡◌, ℕ, zero, suc, ◌+◌, ◌-◌, ◌*◌, ◌<◌, ◌≤◌, List, [], ◌∷◌, ◌++◌, length, take, drop, get_or}
-use Rattle.std.proofs.Common.{refl, sym, ap, subst, ◌∙◌, inl, inr, arith, length-append, length-drop, append-nil}
+use Rattle.std.proofs.Common.{◌≡◌, ℕ, zero, suc, ◌+◌, ◌-◌, ◌*◌, ◌≤◌, List, [], ◌∷◌, ◌++◌, length, take, drop}
+use Rattle.std.proofs.Common.{ap, ◌∙◌, inl, inr, arith, length-append}
 use Rattle.std.proofs.lemmas.List.{take-append-le, drop-append-le, take_all, get_or_append_left, get_or-append_right, nil_from_length}
 use Rattle.std.proofs.lemmas.Bool.{cases_lt}
-use Rattle.std.specs.Prelude.{Option, slice_index}
-use Rattle.sd_engine.specs.declared.fault.StreamBreak.{StreamBreak}
-use Rattle.sd_engine.specs.Stream.{ArePackets, pieces, packets_of, break_after, break_of}
-use Rattle.sd_engine.proofs.Walking.{packets_more, break_after_more, others, all_counted}
+use Rattle.std.specs.Prelude.{slice_index}
+use Rattle.sd_engine.specs.Stream.{ArePackets, pieces, packets_of, break_after}
+use Rattle.sd_engine.proofs.Walking.{packets_more, break_after_more, others}
 
 -- the first byte of what begins with some packets is that of the packets
 first_of : (n : ℕ) (taken rest : List ℕ) → ArePackets (suc n) taken → slice_index (taken ++ rest) 0 ≡ 0x47
@@ -25,7 +24,7 @@ packets_first (suc n) taken rest are =
     packets_more (taken ++ rest) (omega (arith, long, length-append taken rest)) (first_of n taken rest are)
     ∙ (ap (λ (p : List ℕ). p ∷ packets_of (drop 188 (taken ++ rest))) (take-append-le 188 taken rest long)
     ∙ ap (λ (ps : List (List ℕ)). take 188 taken ∷ ps)
-        (ap packets_of (drop-append-le 188 taken rest long) ∙ packets_first n (drop 188 taken) rest (others n taken are)))
+    (ap packets_of (drop-append-le 188 taken rest long) ∙ packets_first n (drop 188 taken) rest (others n taken are)))
 
 -- and the stream breaks as the rest does
 pub break_first : (n k : ℕ) (taken rest : List ℕ) → ArePackets n taken →
@@ -67,4 +66,4 @@ pieces_on (suc n) taken packet are long =
     let enough : 188 ≤ length taken = omega (arith, are.long) in
     ap (λ (p : List ℕ). p ∷ pieces (suc n) (drop 188 (taken ++ packet))) (take-append-le 188 taken packet enough)
     ∙ ap (λ (ps : List (List ℕ)). take 188 taken ∷ ps)
-        (ap (pieces (suc n)) (drop-append-le 188 taken packet enough) ∙ pieces_on n (drop 188 taken) packet (others n taken are) long)
+    (ap (pieces (suc n)) (drop-append-le 188 taken packet enough) ∙ pieces_on n (drop 188 taken) packet (others n taken are) long)

@@ -47,11 +47,7 @@ pub fn take(piece: &[u8], span: Span) -> Result<Option<Packet>, BreakCause>
 
 /// Reads until the bytes of a packet wait, or to the end of the input.
 #[tactic(auto, using(crate::proofs::Feeding::more_waits))]
-pub fn fill<S: Source>(
-    source: &mut S,
-    piece: &mut [u8],
-    span: Span,
-) -> Result<Span, PortFault>
+pub fn fill<S: Source>(source: &mut S, piece: &mut [u8], span: Span) -> Result<Span, PortFault>
     requires begun { span.at ≤ span.filled }
     requires within { span.filled ≤ length piece.old }
     requires room { SIZE ≤ length piece.old }

@@ -45,10 +45,16 @@ impl<'a> Packets<'a> {
             return Ok(None);
         }
         let Some(piece) = rest.first_chunk::<SIZE>() else {
-            return Err(StreamBreak { packet: self.taken(), cause: BreakCause::Torn });
+            return Err(StreamBreak {
+                packet: self.taken(),
+                cause: BreakCause::Torn,
+            });
         };
         let Some(packet) = Packet::new(*piece) else {
-            return Err(StreamBreak { packet: self.taken(), cause: BreakCause::NoSync });
+            return Err(StreamBreak {
+                packet: self.taken(),
+                cause: BreakCause::NoSync,
+            });
         };
         self.at += SIZE;
         Ok(Some(packet))

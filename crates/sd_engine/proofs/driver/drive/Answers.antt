@@ -1,5 +1,5 @@
 use Rattle.std.proofs.Common.{◌≡◌, ◌∙◌, subst, arith}
-use Rattle.sd_engine.specs.Feeding.{Gives, Stops}
+use Rattle.sd_engine.specs.Feeding.{Gives}
 use Rattle.sd_engine.specs.Driving.{most_packets}
 use Rattle.sd_engine.proofs.Driving.{one_more, recounted, not_fed, not_ended, packet_stopped, all_closed, packet_too_many}
 use Rattle.sd_engine.proofs.driver.drive.Goals as goal
