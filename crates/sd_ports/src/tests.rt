@@ -124,7 +124,7 @@ fn depots_keep_files_apart(rt: HostRuntime) -> Result<(), AllocError> {
 
 #[test]
 fn the_host_opens_files(rt: HostRuntime) {
-    let mut depot = HostDepot::new(&rt);
+    let mut depot = HostDepot::new(rt.alloc(), &rt);
     for (name, want) in [
         ("/dev/null", Ok("")),
         ("/dev/zero", Err(FileFault::TooBig)),
@@ -155,7 +155,7 @@ fn files_are_made_and_replaced(rt: HostRuntime) -> Result<(), AllocError> {
 #[test]
 fn the_host_writes_files(rt: HostRuntime) {
     let alloc = rt.alloc();
-    let mut depot = HostDepot::new(&rt);
+    let mut depot = HostDepot::new(rt.alloc(), &rt);
     let bytes = [7; 70000];
     for (name, size, want) in [
         ("sd_ports_written", 70000, Ok(())),
