@@ -1,3 +1,4 @@
+pub mod Derivation
 pub mod Reached
 pub mod Own
 pub mod Covers
