@@ -250,7 +250,8 @@ impl<F: Write + Drop> Sink for HostOutlet<F> {
         ensures bytes { WriteAppends None None result piece.now }
         ensures cause { HasCause self.old.file.faults self.new.file.faults result }
         ensures room { TakesRoom None None (length piece.now) result }
-        ensures passed { WriteAppends (given_to (F.Write.contents self.old.file.writer) self.old.waiting.items self.old.sent)
+        ensures passed { WriteAppends
+            (given_to (F.Write.contents self.old.file.writer) self.old.waiting.items self.old.sent)
             (given_to (F.Write.contents self.new.file.writer) self.new.waiting.items self.new.sent) result piece.now }
         ensures one { OnErr result (self.new.file.faults ≡ with_added self.old.file.faults 1) }
     {
@@ -293,7 +294,8 @@ impl<W: Write + Drop> Sink for StdPrint<W> {
         ensures bytes { WriteAppends None None result piece.now }
         ensures cause { HasCause self.old.faults self.new.faults result }
         ensures room { TakesRoom None None (length piece.now) result }
-        ensures passed { WriteAppends (W.Write.contents self.old.writer) (W.Write.contents self.new.writer) result piece.now }
+        ensures passed { WriteAppends (W.Write.contents self.old.writer) (W.Write.contents self.new.writer) result
+            piece.now }
         ensures one { OnErr result (self.new.faults ≡ with_added self.old.faults 1) }
     {
         for _turn in 0..u64::MAX {
