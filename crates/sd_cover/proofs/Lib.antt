@@ -1,1 +1,5 @@
 pub mod Tables
+pub mod Paths
+pub mod Ranges
+pub mod Indexes
+pub mod Bridge

@@ -1,2 +1,4 @@
 pub mod Tally
 pub mod Table
+pub mod Index
+pub mod Path

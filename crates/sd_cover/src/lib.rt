@@ -2,5 +2,9 @@
 #![tactic(auto)]
 
 mod counts;
+mod index;
+mod path;
+mod sets;
 
-pub use counts::{Counts, NODES};
+pub use counts::{Counts, MOST_ROOM, NODES};
+pub use index::{CoverIndex, MOST_SPARE};
