@@ -3,3 +3,4 @@ pub mod Paths
 pub mod Ranges
 pub mod Indexes
 pub mod Bridge
+pub mod Walks

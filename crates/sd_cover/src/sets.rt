@@ -36,12 +36,13 @@ fn chain_sets<L: Ledger>(
     ensures steps { steps.new ≤ steps.old + (length (revoked_by h counts.now.counts) * h + 1) }
 {
     let mut sets = Vec::new(alloc);
+    let levels = u32::from(h.get());
     let revoked = counts.get(1, steps);
     if revoked == 0 {
         sets.push(SetName::Whole)?;
         return Ok(sets);
     }
-    walk(&mut sets, counts, h, 1, 1, u32::from(h.get()), revoked, steps)?;
+    walk(&mut sets, counts, h, 1, 1, levels, revoked, steps)?;
     sets.sort_unstable();
     Ok(sets)
 }
