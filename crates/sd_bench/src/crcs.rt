@@ -1,6 +1,6 @@
 //! CRCs of long sections.
 
-use sd_crc::crc32;
+use sd_section::crc32;
 
 /// As many bytes as the longest section has.
 const SIZE: usize = 4096;

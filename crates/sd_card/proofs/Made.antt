@@ -9,8 +9,9 @@ use Rattle.std.proofs.lemmas.List.FromFn.{map-range_with_len_more}
 use Rattle.sd_tree.specs.Node.{IsAbove}
 use Rattle.sd_label.specs.Labels.{label_of, descended}
 use Rattle.sd_label.proofs.Descents.{held_gives_label}
-use Rattle.sd_label.proofs.Paths.{path_is_node}
-use Rattle.sd_label.specs.Names.{given, given_under, path_node, sibling_of}
+use Rattle.sd_tree.proofs.Paths.{path_is_node}
+use Rattle.sd_label.specs.Names.{given, given_under}
+use Rattle.sd_tree.specs.Paths.{path_node, sibling_of}
 use Rattle.sd_label.specs.declared.name.Name.{Name}
 use Rattle.sd_label.specs.declared.name.Name.TheVariants.{Whole, Pair}
 use Rattle.sd_card.specs.Fields.{secret_of}

@@ -4,9 +4,9 @@ use Rattle.std.proofs.Math.Pow.{pow_mono, shr-shr}
 use Rattle.sd_tree.specs.Node.{depth, IsAbove, IsProperlyAbove}
 use Rattle.sd_tree.proofs.Levels.{doubled}
 use Rattle.sd_tree.proofs.Ancestors.{depth_within, leaf_level, above_le, above_trans, above_parent, above_by_levels}
-use Rattle.sd_label.specs.Names.{path_node, sibling_of}
+use Rattle.sd_tree.specs.Paths.{path_node, sibling_of}
 use Rattle.sd_label.proofs.Descents.{level_of, child_level}
-use Rattle.sd_label.proofs.Paths.{sibling_half, other_child}
+use Rattle.sd_tree.proofs.Paths.{sibling_half, other_child}
 use Rattle.sd_card.specs.Hanging.{IsHanging}
 
 -- a node of the tree has 32 bits

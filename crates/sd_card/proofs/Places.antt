@@ -8,7 +8,8 @@ use Rattle.std.proofs.lemmas.List.Concat.{flat_map-cons}
 use Rattle.std.proofs.lemmas.List.FromFn.{length-map-range_with_len, get_or-map-range_with_len}
 use Rattle.sd_label.specs.declared.name.Name.{Name}
 use Rattle.sd_label.specs.declared.name.Name.TheVariants.{Whole, Pair}
-use Rattle.sd_label.specs.Names.{given, given_under, path_node, sibling_of}
+use Rattle.sd_label.specs.Names.{given, given_under}
+use Rattle.sd_tree.specs.Paths.{path_node, sibling_of}
 use Rattle.sd_label.proofs.Counts.{length_given_under}
 
 -- an element of the first of two lists

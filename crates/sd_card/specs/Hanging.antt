@@ -1,6 +1,6 @@
 use Rattle.std.specs.Prelude.{◌≡◌, ℕ, ◌+◌, ◌^◌, ◌<◌, ◌≤◌}
 use Rattle.sd_tree.specs.Node.{depth, IsAbove}
-use Rattle.sd_label.specs.Names.{path_node, sibling_of}
+use Rattle.sd_tree.specs.Paths.{path_node, sibling_of}
 
 -- node w is j or above it, and the sibling of a node on the path to leaf u, the first on the way to j that is off the path
 pub record IsHanging (d u j w : ℕ) : Type 0 where

@@ -3,11 +3,11 @@ ghost use Rattle.sd_label.specs.Names.{given, given_under};
 ghost use Rattle.sd_card.specs.Fields.{fields_of, card_of, secret_of};
 
 use crate::card::Card;
-use sd_label::{descend, path_node, root_label, sibling, whole_key};
 use sd_cause::NoMemory;
+use sd_label::{descend, root_label, whole_key};
 use sd_site::Site;
 use sd_steps::Steps;
-use sd_tree::{Height, Leaf};
+use sd_tree::{Height, Leaf, path_node, sibling};
 use std::alloc::{AllocError, Global};
 use std::sync::ledger::Ledger;
 

@@ -45,6 +45,7 @@ fn counted<L: Ledger>(
         every: 200,
         cryptos: 2,
         span: 1,
+        messages: 1,
     };
     let mut steps = Steps::<L>::new(blank);
     let card = Card::make(alloc, &site, leaf, &mut steps).ok()?;

@@ -20,7 +20,7 @@ use Rattle.sd_steiner.specs.Chains.{IsInTree, HasOneChild, HasTwoChildren, IsCha
 use Rattle.sd_steiner.specs.Walk.{node_at, of_ends, IsOnChain, AddsChains}
 use Rattle.sd_steiner.proofs.Ends.{AreLeaves}
 use Rattle.sd_steiner.proofs.Levels.{StandsAt, child_stands, below_by_halvings, in_tree_to}
-use Rattle.sd_steiner.proofs.Steps.{walk_leaf, walk_one, walk_two, on_chain_child, on_chain_begun}
+use Rattle.sd_steiner.proofs.AtNode.{walk_leaf, walk_one, walk_two, on_chain_child, on_chain_begun}
 use Rattle.sd_steiner.proofs.Walks.{on_chain_left, on_chain_right, root_in_tree}
 use Rattle.sd_steiner.proofs.Sorting.{sorted_chains}
 use Rattle.sd_cover.specs.Tally.{count_at}

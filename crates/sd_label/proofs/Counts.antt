@@ -4,7 +4,8 @@ use Rattle.std.specs.List.{range_with_len, flat_map}
 use Rattle.std.proofs.lemmas.List.Concat.{flat_map-cons}
 use Rattle.std.proofs.lemmas.List.FromFn.{length-map-range_with_len}
 use Rattle.sd_label.specs.declared.name.Name.TheVariants.{Pair}
-use Rattle.sd_label.specs.Names.{given, given_under, path_node, sibling_of}
+use Rattle.sd_label.specs.Names.{given, given_under}
+use Rattle.sd_tree.specs.Paths.{path_node, sibling_of}
 
 -- an ancestor at depth a has a pair for each depth below it
 pub length_given_under : (d u a : ℕ) → length (given_under d u a) ≡ d - a

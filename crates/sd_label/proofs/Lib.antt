@@ -1,4 +1,3 @@
 pub mod Descents
 pub mod Counts
-pub mod Paths
 pub mod Pairs

@@ -9,8 +9,9 @@ use Rattle.std.proofs.lemmas.List.FromFn.{length-map-range_with_len, get_or-map-
 use Rattle.sd_tree.proofs.Ancestors.{node_level, leaf_level, above_le, above_trans, above_by_levels, properly_above_by_levels}
 use Rattle.sd_label.specs.declared.name.Name.{Name}
 use Rattle.sd_label.specs.declared.name.Name.TheVariants.{Whole, Pair}
-use Rattle.sd_label.specs.Names.{IsGivenPair, given, given_under, path_node, sibling_of}
-use Rattle.sd_label.proofs.Paths.{path_is_node, path_over_leaf, path_above}
+use Rattle.sd_label.specs.Names.{IsGivenPair, given, given_under}
+use Rattle.sd_tree.specs.Paths.{path_node, sibling_of}
+use Rattle.sd_tree.proofs.Paths.{path_is_node, path_over_leaf, path_above}
 
 -- what is in the lists of some numbers in a row is in one of them
 pub from_lists : {X : Type 0} (f : ℕ → List X) (a n : ℕ) (x : X) → Contains (flat_map f (range_with_len a n)) x → (k : ℕ) × (a ≤ k) × (k < a + n) × Contains (f k) x

@@ -2,16 +2,9 @@
 use Rattle.std.specs.Prelude.{◌≡◌, ℕ, ◌≤◌, ◌+◌, ◌-◌, ◌/◌, ◌%◌, ◌^◌, ◌==◌, if◌then◌else◌, List, ◌∷◌, map}
 use Rattle.std.specs.List.{range_with_len, flat_map}
 use Rattle.sd_tree.specs.Node.{IsAbove, IsProperlyAbove}
+use Rattle.sd_tree.specs.Paths.{path_node, sibling_of}
 use Rattle.sd_label.specs.declared.name.Name.{Name}
 use Rattle.sd_label.specs.declared.name.Name.TheVariants.{Whole, Pair}
-
--- the other child of the node's parent
-abbrev pub sibling_of : ℕ → ℕ
-sibling_of v = if v % 2 == 0 then v + 1 else v - 1
-
--- the node at depth k on the path from the root to leaf u
-abbrev pub path_node : ℕ → ℕ → ℕ → ℕ
-path_node d u k = (2 ^ d + u) / 2 ^ (d - k)
 
 -- the pairs of leaf u's ancestor at depth a: with the sibling of each path node below it, from the highest down [Naor, Naor, Lotspiech 2001, 3.2]
 unfoldable pub given_under : ℕ → ℕ → ℕ → List Name

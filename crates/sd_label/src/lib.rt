@@ -6,13 +6,11 @@ mod key;
 mod label;
 mod laws;
 mod name;
-mod path;
 
 pub use key::{check_value, control_word, period_key, whole_key};
 pub use label::{Label, Side, descend, middle, root_label, step};
 pub use laws::{held_label, labels_of_pairs, names_given};
 pub use name::Name;
-pub use path::{path_node, sibling};
 
 #[cfg(test)]
 mod tests;

@@ -2,7 +2,7 @@
 use Rattle.std.proofs.Common.{ℕ, ◌+◌, ◌-◌, ◌≤◌, ◌≡◌, List, ◌++◌, length, take, drop, take-add, length-take-le, length-drop, length-append, append_assoc, get_or-drop, sym, ap, ◌∙◌, arith}
 use Rattle.std.specs.Int.{w32, to_be_bytes}
 use Rattle.std.proofs.lemmas.List.{take_at, take_all, take-append-drop}
-use Rattle.sd_crc.specs.Crc.{crc_of}
+use Rattle.sd_section.specs.Header.{crc_of}
 use Rattle.sd_section.specs.Header.{section_length_of, body_of, crc_in, crc_due}
 use Rattle.sd_section.specs.Written.{header_bytes, sealed, section_bytes}
 use Rattle.sd_section.specs.declared.write.Header.{Header}

@@ -1,3 +1,5 @@
 pub mod Outlets
 pub mod Portions
 pub mod Shelves
+pub mod Calls
+pub mod Rooms

@@ -1,5 +1,6 @@
 -- What stands in a file once its port is closed.
-use Rattle.std.proofs.Common.{rules, ◌≡◌, ◌≤◌, ◌++◌, ℕ, List, [], Bool, true, false, cond, refl, ap, sym, subst, inr, ◌∙◌, append-nil, append_assoc}
+use Rattle.std.proofs.Common.{rules, ◌≡◌, ◌≤◌, ◌++◌, ℕ, List, [], Bool, true, false, cond, refl, ap, sym, subst, inr}
+use Rattle.std.proofs.Common.{◌∙◌, append-nil, append_assoc}
 use Rattle.std.specs.Prelude.{Option, None, Some, IsSome, Ok, Err}
 use Rattle.std.specs.Ordering.{nat_cmp, eq_by_cmp}
 use Rattle.std.specs.Cmp.Lexicographic.{slice_cmp}
@@ -28,21 +29,28 @@ insert_twice m name a b = same_map nat_list_cmp_total (slice_cmp-IsAntisymmetric
 pub there_after : (a b : Option Files) (name bytes : List ℕ) → b ≡ with_bytes a name bytes → IsThere b name
 there_after None b name bytes e = subst (λ c. IsThere c name) (sym e) tt
 there_after (Some m) b name bytes e =
-    let found : get (insert m name bytes) name ≡ Some bytes = get-insert nat_list_cmp_total m name bytes name ∙ ap (λ c. cond c (Some bytes) (get m name)) ((eq_by_cmp_equiv nat_list_cmp_total).refl name) in
+    let found : get (insert m name bytes) name ≡ Some bytes = get-insert nat_list_cmp_total m name bytes name
+        ∙ ap (λ c. cond c (Some bytes) (get m name)) ((eq_by_cmp_equiv nat_list_cmp_total).refl name) in
     subst (λ c. IsThere c name) (sym e) (subst (λ o. IsSome o) (sym found) refl)
 
 -- what a port of told files took is what its file has
-told_whole : (m : Files) (c : Option Files) (name bytes : List ℕ) (k : Option (List ℕ)) → Appends (Some []) k bytes → Closes (Some (insert m name [])) c name k → c ≡ Some (insert m name bytes)
+told_whole : (m : Files) (c : Option Files) (name bytes : List ℕ) (k : Option (List ℕ)) → Appends (Some []) k bytes
+    → Closes (Some (insert m name [])) c name k → c ≡ Some (insert m name bytes)
 told_whole m c name bytes None w p = absurd w
-told_whole m c name bytes (Some y) w p = p ∙ ap (λ (r : List ℕ). Some (insert (insert m name []) name r)) w ∙ ap (λ (r : Files). Some r) (insert_twice m name [] bytes)
+told_whole m c name bytes (Some y) w p = p ∙ ap (λ (r : List ℕ). Some (insert (insert m name []) name r)) w
+    ∙ ap (λ (r : Files). Some r) (insert_twice m name [] bytes)
 
 -- a port that took these bytes and was closed leaves them
-pub closed_whole : (a b c : Option Files) (name bytes : List ℕ) (h k : Option (List ℕ)) → b ≡ with_bytes a name [] → IsFresh a h → Appends h k bytes → Closes b c name k → c ≡ with_bytes a name bytes
+pub closed_whole : (a b c : Option Files) (name bytes : List ℕ) (h k : Option (List ℕ)) → b ≡ with_bytes a name []
+    → IsFresh a h → Appends h k bytes → Closes b c name k → c ≡ with_bytes a name bytes
 closed_whole None b c name bytes h k e f w p = subst (λ (b : Option Files). Closes b c name k) e p
-closed_whole (Some m) b c name bytes h k e f w p = told_whole m c name bytes k (subst (λ (h : Option (List ℕ)). Appends h k bytes) f w) (subst (λ (b : Option Files). Closes b c name k) e p)
+closed_whole (Some m) b c name bytes h k e f w p =
+    told_whole m c name bytes k (subst (λ (h : Option (List ℕ)). Appends h k bytes) f w)
+    (subst (λ (b : Option Files). Closes b c name k) e p)
 
 -- all is a front, too
-pub closes_front : (b c : Option Files) (name : List ℕ) (k : Option (List ℕ)) → Closes b c name k → LeavesPrefix b c name k
+pub closes_front : (b c : Option Files) (name : List ℕ) (k : Option (List ℕ)) → Closes b c name k
+    → LeavesPrefix b c name k
 closes_front None c name k p = p
 closes_front (Some m) c name None p = p
 closes_front (Some m) c name (Some y) p = (y, ([], append-nil y), p)
@@ -52,17 +60,28 @@ front_of_front : (a b c : List ℕ) → IsPrefix a b → IsPrefix b c → IsPref
 front_of_front a b c p q = (p.0 ++ q.0, sym (append_assoc a p.0 q.0) ∙ ap (λ (r : List ℕ). r ++ q.0) p.1 ∙ q.1)
 
 -- a front of what a port of told files took is what its file has
-told_short : (m : Files) (c : Option Files) (name bytes : List ℕ) (k : Option (List ℕ)) → AppendsPrefix (Some []) k bytes → LeavesPrefix (Some (insert m name [])) c name k → (front : List ℕ) × IsPrefix front bytes × (c ≡ Some (insert m name front))
+told_short : (m : Files) (c : Option Files) (name bytes : List ℕ) (k : Option (List ℕ))
+    → AppendsPrefix (Some []) k bytes → LeavesPrefix (Some (insert m name [])) c name k → (front : List ℕ)
+    × IsPrefix front bytes × (c ≡ Some (insert m name front))
 told_short m c name bytes None w p = absurd w.2
-told_short m c name bytes (Some y) w p = (p.0, front_of_front p.0 w.0 bytes (subst (λ (r : List ℕ). IsPrefix p.0 r) w.2 p.1) w.1, p.2 ∙ ap (λ (r : Files). Some r) (insert_twice m name [] p.0))
+told_short m c name bytes (Some y) w p =
+    (p.0, front_of_front p.0 w.0 bytes (subst (λ (r : List ℕ). IsPrefix p.0 r) w.2 p.1) w.1, p.2
+    ∙ ap (λ (r : Files). Some r) (insert_twice m name [] p.0))
 
 -- a port that took a front of these bytes and was closed leaves a front of them, and so does one that was cut off
-pub cut_short : (a b c : Option Files) (name bytes : List ℕ) (h k : Option (List ℕ)) → b ≡ with_bytes a name [] → IsFresh a h → AppendsPrefix h k bytes → LeavesPrefix b c name k → (front : List ℕ) × IsPrefix front bytes × (c ≡ with_bytes a name front)
-cut_short None b c name bytes h k e f w p = ([], (bytes, refl), subst (λ (b : Option Files). LeavesPrefix b c name k) e p)
-cut_short (Some m) b c name bytes h k e f w p = told_short m c name bytes k (subst (λ (h : Option (List ℕ)). AppendsPrefix h k bytes) f w) (subst (λ (b : Option Files). LeavesPrefix b c name k) e p)
+pub cut_short : (a b c : Option Files) (name bytes : List ℕ) (h k : Option (List ℕ)) → b ≡ with_bytes a name []
+    → IsFresh a h → AppendsPrefix h k bytes → LeavesPrefix b c name k → (front : List ℕ) × IsPrefix front bytes
+    × (c ≡ with_bytes a name front)
+cut_short None b c name bytes h k e f w p =
+    ([], (bytes, refl), subst (λ (b : Option Files). LeavesPrefix b c name k) e p)
+cut_short (Some m) b c name bytes h k e f w p =
+    told_short m c name bytes k (subst (λ (h : Option (List ℕ)). AppendsPrefix h k bytes) f w)
+    (subst (λ (b : Option Files). LeavesPrefix b c name k) e p)
 
 -- a port that took all of these bytes and was closed has written the file
-pub written_whole : (a b c : Option Files) (i j k : ℕ) (name bytes : List ℕ) (h held : Option (List ℕ)) → b ≡ with_bytes a name [] → IsFresh a h → Appends h held bytes → Closes b c name held → j ≡ with_added i 1 → i ≤ j → k ≡ j → WritesFile {T = Unit {0}} a c i k name bytes (Ok tt)
+pub written_whole : (a b c : Option Files) (i j k : ℕ) (name bytes : List ℕ) (h held : Option (List ℕ))
+    → b ≡ with_bytes a name [] → IsFresh a h → Appends h held bytes → Closes b c name held → j ≡ with_added i 1 → i ≤ j
+    → k ≡ j → WritesFile {T = Unit {0}} a c i k name bytes (Ok tt)
 written_whole a b c i j k name bytes h held e f w p m l n = record {
   later = subst (λ (x : ℕ). i ≤ x) (sym n) l;
   made = (closed_whole a b c name bytes h held e f w p, n ∙ m);
@@ -73,7 +92,9 @@ written_whole a b c i j k name bytes h held e f w p m l n = record {
 }
 
 -- a port that took a front of these bytes and was closed leaves a front of them in a file that was made
-pub written_front : (a b c : Option Files) (i j k : ℕ) (name bytes : List ℕ) (h held : Option (List ℕ)) → b ≡ with_bytes a name [] → IsFresh a h → AppendsPrefix h held bytes → LeavesPrefix b c name held → j ≡ with_added i 1 → i ≤ j → k ≡ j → WritesFile {T = Unit {0}} a c i k name bytes (Err Failed)
+pub written_front : (a b c : Option Files) (i j k : ℕ) (name bytes : List ℕ) (h held : Option (List ℕ))
+    → b ≡ with_bytes a name [] → IsFresh a h → AppendsPrefix h held bytes → LeavesPrefix b c name held
+    → j ≡ with_added i 1 → i ≤ j → k ≡ j → WritesFile {T = Unit {0}} a c i k name bytes (Err Failed)
 written_front a b c i j k name bytes h held e f w p m l n =
     let q = cut_short a b c name bytes h held e f w p in
     record {
@@ -86,5 +107,8 @@ written_front a b c i j k name bytes h held e f w p m l n =
     }
 
 -- a port that took all of them and whose closing failed does, too
-pub written_cut : (a b c : Option Files) (i j k : ℕ) (name bytes : List ℕ) (h held : Option (List ℕ)) → b ≡ with_bytes a name [] → IsFresh a h → Appends h held bytes → LeavesPrefix b c name held → j ≡ with_added i 1 → i ≤ j → k ≡ j → WritesFile {T = Unit {0}} a c i k name bytes (Err Failed)
-written_cut a b c i j k name bytes h held e f w p m l n = written_front a b c i j k name bytes h held e f (bytes, ([], append-nil bytes), w) p m l n
+pub written_cut : (a b c : Option Files) (i j k : ℕ) (name bytes : List ℕ) (h held : Option (List ℕ))
+    → b ≡ with_bytes a name [] → IsFresh a h → Appends h held bytes → LeavesPrefix b c name held → j ≡ with_added i 1
+    → i ≤ j → k ≡ j → WritesFile {T = Unit {0}} a c i k name bytes (Err Failed)
+written_cut a b c i j k name bytes h held e f w p m l n =
+    written_front a b c i j k name bytes h held e f (bytes, ([], append-nil bytes), w) p m l n

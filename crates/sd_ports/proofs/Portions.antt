@@ -1,21 +1,27 @@
 -- What was written or read in portions is what was written or read in one.
-use Rattle.std.proofs.Common.{◌≡◌, ◌≤◌, ℕ, ◌+◌, ◌-◌, List, ◌++◌, length, take, drop, arith, subst, append-nil, sym, ◌∙◌, ap, length-drop}
+use Rattle.std.proofs.Common.{◌≡◌, ◌≤◌, ℕ, ◌+◌, ◌-◌, List, ◌++◌, length, take, drop, arith, subst, append-nil, sym, ◌∙◌}
+use Rattle.std.proofs.Common.{ap, length-drop}
 use Rattle.std.proofs.lemmas.List.{take_all, take-append-drop, drop-append-le, drop-drop}
 use Rattle.std.proofs.Math.Seq.{take-add}
 use Rattle.std.specs.Prelude.{Option, None, Some}
 use Rattle.std.specs.Io.KnownBytes.{Appends, Consumes, Keeps, append_known}
-use Rattle.std.proofs.KnownBytes.{Appends-trans, Appends-kept, Consumes-trans, Keeps-refl, Keeps-trans, append_known-grown, append_known-moved}
+use Rattle.std.proofs.KnownBytes.{Appends-trans, Appends-kept, Consumes-trans, Keeps-refl, Keeps-trans}
+use Rattle.std.proofs.KnownBytes.{append_known-grown, append_known-moved}
 use Rattle.sd_ports.specs.Bytes.{AppendsPrefix, LosesPrefix}
 
 -- the next `more` bytes were written after the first `done`
-pub appends_more : (a b c : Option (List ℕ)) (bs : List ℕ) (done more : ℕ) → Appends a b (take done bs) → Appends b c (take more (take (length bs - done) (drop done bs))) → Appends a c (take (done + more) bs)
+pub appends_more : (a b c : Option (List ℕ)) (bs : List ℕ) (done more : ℕ) → Appends a b (take done bs)
+    → Appends b c (take more (take (length bs - done) (drop done bs))) → Appends a c (take (done + more) bs)
 appends_more a b c bs done more p q =
-    let all : take (length bs - done) (drop done bs) ≡ drop done bs = take_all _ _ (omega (arith, length-drop done bs)) in
-    let joined : take done bs ++ take more (take (length bs - done) (drop done bs)) ≡ take (done + more) bs = ap (λ (r : List ℕ). take done bs ++ take more r) all ∙ sym (take-add done more bs) in
+    let all : take (length bs - done) (drop done bs) ≡ drop done bs =
+        take_all _ _ (omega (arith, length-drop done bs)) in
+    let joined : take done bs ++ take more (take (length bs - done) (drop done bs)) ≡ take (done + more) bs =
+        ap (λ (r : List ℕ). take done bs ++ take more r) all ∙ sym (take-add done more bs) in
     subst (Appends a c) joined (Appends-trans a b c _ _ p q)
 
 -- after a write that failed, the first `done` bytes stay written
-pub appends_front : (a b c : Option (List ℕ)) (bs : List ℕ) (done : ℕ) → Appends a b (take done bs) → Keeps b c → AppendsPrefix a c bs
+pub appends_front : (a b c : Option (List ℕ)) (bs : List ℕ) (done : ℕ) → Appends a b (take done bs) → Keeps b c
+    → AppendsPrefix a c bs
 appends_front a b c bs done p q = (take done bs, (drop done bs, take-append-drop done bs), Appends-kept a b c _ p q)
 
 -- bytes were read after those that were read before
@@ -51,13 +57,21 @@ pub kept_same : (a : Option (List ℕ)) → Keeps a a
 kept_same a = Keeps-refl a
 
 -- a writer took the next `more` bytes of what waited after the first `done`
-pub kept_moved : (a b c : Option (List ℕ)) (xs bs : List ℕ) (done more : ℕ) → xs ≡ bs → Keeps a (append_known b (drop done bs)) → Appends b c (take more (take (length xs - done) (drop done xs))) → Keeps a (append_known c (drop (done + more) bs))
+pub kept_moved : (a b c : Option (List ℕ)) (xs bs : List ℕ) (done more : ℕ) → xs ≡ bs
+    → Keeps a (append_known b (drop done bs)) → Appends b c (take more (take (length xs - done) (drop done xs)))
+    → Keeps a (append_known c (drop (done + more) bs))
 kept_moved a b c xs bs done more e p q =
-    let all : take (length xs - done) (drop done xs) ≡ drop done xs = take_all _ _ (omega (arith, length-drop done xs)) in
-    let moved : Appends b c (take more (drop done bs)) = subst (λ (ys : List ℕ). Appends b c (take more ys)) (all ∙ ap (drop done) e) q in
-    let halves : drop done bs ≡ take more (drop done bs) ++ drop (done + more) bs = sym (take-append-drop more (drop done bs)) ∙ ap (λ (r : List ℕ). take more (drop done bs) ++ r) (drop-drop more done bs) in
+    let all : take (length xs - done) (drop done xs) ≡ drop done xs =
+        take_all _ _ (omega (arith, length-drop done xs)) in
+    let moved : Appends b c (take more (drop done bs)) =
+        subst (λ (ys : List ℕ). Appends b c (take more ys)) (all ∙ ap (drop done) e) q in
+    let halves : drop done bs ≡ take more (drop done bs) ++ drop (done + more) bs =
+        sym (take-append-drop more (drop done bs))
+        ∙ ap (λ (r : List ℕ). take more (drop done bs) ++ r) (drop-drop more done bs) in
     Keeps-trans a _ _ p (append_known-moved b c _ _ _ moved halves)
 
 -- more bytes wait after those that wait after the first `done`
-pub kept_grown : (a b : Option (List ℕ)) (old new more : List ℕ) (done : ℕ) → Keeps a (append_known b (drop done old)) → done ≤ length old → new ≡ old ++ more → Appends a (append_known b (drop done new)) more
-kept_grown a b old new more done p h e = append_known-grown a b (drop done old) (drop done new) more p (ap (drop done) e ∙ drop-append-le done old more h)
+pub kept_grown : (a b : Option (List ℕ)) (old new more : List ℕ) (done : ℕ) → Keeps a (append_known b (drop done old))
+    → done ≤ length old → new ≡ old ++ more → Appends a (append_known b (drop done new)) more
+kept_grown a b old new more done p h e =
+    append_known-grown a b (drop done old) (drop done new) more p (ap (drop done) e ∙ drop-append-le done old more h)

@@ -1,4 +1,4 @@
-use Rattle.std.specs.Prelude.{◌≡◌, ℕ, ◌≤◌, Result, OnOk, OnErr, IsErrOf}
+use Rattle.std.specs.Prelude.{◌≡◌, ℕ, ◌+◌, ◌%◌, ◌^◌, ◌<◌, ◌≤◌, Result, OnOk, OnErr, IsErrOf}
 use Rattle.sd_cause.specs.Count.{Rose, with_added}
 use Rattle.sd_ports.specs.declared.fault.DepotFault.{DepotFault}
 use Rattle.sd_ports.specs.declared.fault.DepotFault.TheVariants.{Missing, Failed}
@@ -6,7 +6,8 @@ use Rattle.sd_ports.specs.declared.file.FileFault.{FileFault}
 use Rattle.sd_ports.specs.declared.file.FileFault.TheVariants as file
 
 -- Why a depot refused: `Missing` where its misses rose, `Failed` where its faults rose. Else they stand as before.
-pub record HasDepotCause {T : Type 0} (faults_before faults_now misses_before misses_now : ℕ) (result : Result T DepotFault) : Type 0 where
+pub record HasDepotCause {T : Type 0} (faults_before faults_now misses_before misses_now : ℕ)
+    (result : Result T DepotFault) : Type 0 where
   pub faults_later : faults_before ≤ faults_now
   pub misses_later : misses_before ≤ misses_now
   pub missing : IsErrOf result Missing → Rose misses_before misses_now
@@ -14,8 +15,10 @@ pub record HasDepotCause {T : Type 0} (faults_before faults_now misses_before mi
   pub no_miss : ¬ IsErrOf result Missing → misses_now ≡ misses_before
   pub no_fault : ¬ IsErrOf result Failed → faults_now ≡ faults_before
 
--- Why a whole file wasn't read or written: `Missing` where the depot's misses rose, `Failed` where its faults rose. Else they stand as before.
-pub record HasFileCause {T : Type 0} (faults_before faults_now misses_before misses_now : ℕ) (result : Result T FileFault) : Type 0 where
+-- Why a whole file wasn't read or written: `Missing` where the depot's misses rose, `Failed` where its faults rose.
+-- Else they stand as before.
+pub record HasFileCause {T : Type 0} (faults_before faults_now misses_before misses_now : ℕ)
+    (result : Result T FileFault) : Type 0 where
   pub faults_later : faults_before ≤ faults_now
   pub misses_later : misses_before ≤ misses_now
   pub missing : IsErrOf result file.Missing → Rose misses_before misses_now
@@ -23,8 +26,29 @@ pub record HasFileCause {T : Type 0} (faults_before faults_now misses_before mis
   pub no_miss : ¬ IsErrOf result file.Missing → misses_now ≡ misses_before
   pub no_fault : ¬ IsErrOf result file.Failed → faults_now ≡ faults_before
 
--- The count of the ports that were made rises by one with each port, up to its last value, and stands where none is given.
+-- The count of the ports that were made rises by one with each port, up to its last value, and stands where none is
+-- given.
 pub record CountsMade {T E : Type 0} (made_before made_now : ℕ) (result : Result T E) : Type 0 where
   pub later : made_before ≤ made_now
   pub given : OnOk result (made_now ≡ with_added made_before 1)
   pub refused : OnErr result (made_now ≡ made_before)
+
+-- how many ports are open once one more is, counted modulo 2^64
+abbrev pub one_more : ℕ → ℕ
+one_more ports = (ports + 1) % 2 ^ 64
+
+-- The number of open ports rises by one with each port that is given.
+pub record CountsOpen {T E : Type 0} (before now : ℕ) (result : Result T E) : Type 0 where
+  pub given : OnOk result ((before < 2 ^ 64) × (now ≡ one_more before))
+  pub refused : OnErr result (now ≡ before)
+
+-- the number of open ports falls by one
+pub record CountsClosed (before now : ℕ) : Type 0 where
+  pub within : now < 2 ^ 64
+  pub fallen : one_more now ≡ before
+
+-- A whole file takes two calls, one to open it and one to close it, and no more than the first where it isn't there.
+pub record CountsCalls {T : Type 0} (before now : ℕ) (result : Result T FileFault) : Type 0 where
+  pub done : OnOk result (now ≡ with_added before 2)
+  pub missing : IsErrOf result file.Missing → now ≡ with_added before 1
+  pub most : now ≤ with_added before 2

@@ -1,4 +1,5 @@
-use Rattle.std.specs.Prelude.{◌≡◌, ℕ, ◌<◌, ◌≤◌, ◌⊎◌, List, [], length, Option, None, Some, IsSome, IfSome, Result, OnOk, IsErrOf}
+use Rattle.std.specs.Prelude.{◌≡◌, ℕ, ◌<◌, ◌≤◌, ◌⊎◌, List, [], length, Option, None, Some, IsSome, IfSome, Result, OnOk}
+use Rattle.std.specs.Prelude.{IsErrOf}
 use Rattle.std.specs.Ordering.{nat_cmp}
 use Rattle.std.specs.Cmp.Lexicographic.{slice_cmp}
 use Rattle.std.specs.FinMap.{FinMap, get, insert}
@@ -57,11 +58,13 @@ Closes (Some files) now name (Some held) = now ≡ Some (insert files name held)
 abbrev pub LeavesPrefix : Option Files → Option Files → List ℕ → Option (List ℕ) → Type 0
 LeavesPrefix None now name held = now ≡ None
 LeavesPrefix (Some files) now name None = (bytes : List ℕ) × (now ≡ Some (insert files name bytes))
-LeavesPrefix (Some files) now name (Some held) = (front : List ℕ) × IsPrefix front held × (now ≡ Some (insert files name front))
+LeavesPrefix (Some files) now name (Some held) = (front : List ℕ) × IsPrefix front held
+    × (now ≡ Some (insert files name front))
 
 -- the file was made with these bytes: the other files stay, and the count of those made rose by one
 abbrev pub IsMade : Option Files → Option Files → ℕ → ℕ → List ℕ → List ℕ → Type 0
-IsMade files_before files_now made_before made_now name bytes = (files_now ≡ with_bytes files_before name bytes) × (made_now ≡ with_added made_before 1)
+IsMade files_before files_now made_before made_now name bytes = (files_now ≡ with_bytes files_before name bytes)
+    × (made_now ≡ with_added made_before 1)
 
 -- no file was made: the files and the count of those made stand as before
 abbrev pub IsUnmade : Option Files → Option Files → ℕ → ℕ → Type 0
@@ -69,14 +72,18 @@ IsUnmade files_before files_now made_before made_now = (files_now ≡ files_befo
 
 -- the file was made with a front of these bytes
 abbrev pub IsMadeShort : Option Files → Option Files → ℕ → ℕ → List ℕ → List ℕ → Type 0
-IsMadeShort files_before files_now made_before made_now name bytes = (front : List ℕ) × IsPrefix front bytes × IsMade files_before files_now made_before made_now name front
+IsMadeShort files_before files_now made_before made_now name bytes = (front : List ℕ) × IsPrefix front bytes
+    × IsMade files_before files_now made_before made_now name front
 
--- What writing a whole file did: `Ok` made it with these bytes, `Failed` may have made it with a front of them, and other faults made none.
+-- What writing a whole file did: `Ok` made it with these bytes, `Failed` may have made it with a front of them, and
+-- other faults made none.
 -- Where files are told, `Missing` never comes, and `TooBig` never does.
-pub record WritesFile {T : Type 0} (files_before files_now : Option Files) (made_before made_now : ℕ) (name bytes : List ℕ) (result : Result T FileFault) : Type 0 where
+pub record WritesFile {T : Type 0} (files_before files_now : Option Files) (made_before made_now : ℕ)
+    (name bytes : List ℕ) (result : Result T FileFault) : Type 0 where
   pub later : made_before ≤ made_now
   pub made : OnOk result (IsMade files_before files_now made_before made_now name bytes)
-  pub failed : IsErrOf result Failed → IsUnmade files_before files_now made_before made_now ⊎ IsMadeShort files_before files_now made_before made_now name bytes
+  pub failed : IsErrOf result Failed → IsUnmade files_before files_now made_before made_now
+      ⊎ IsMadeShort files_before files_now made_before made_now name bytes
   pub missing : IsErrOf result Missing → IsUnmade files_before files_now made_before made_now × (files_before ≡ None)
   pub no_memory : IsErrOf result NoMemory → IsUnmade files_before files_now made_before made_now
   pub fits : ¬ IsErrOf result TooBig

@@ -2,3 +2,4 @@ pub mod Bytes
 pub mod Files
 pub mod Causes
 pub mod Memory
+pub mod Rooms

@@ -1,13 +1,17 @@
-use Rattle.std.specs.Prelude.{refl, ℕ, map, string_bytes, String, Vec, ◌-◌, Bool, ◌||◌, if◌then◌else◌, nat_eq, nat_lt, not, min, List, [], ◌++◌, length, take, drop}
+use Rattle.std.specs.Prelude.{refl, ℕ, map, string_bytes, String, Vec, ◌-◌, Bool, ◌||◌, if◌then◌else◌}
+use Rattle.std.specs.Prelude.{nat_eq, nat_lt, min, List, [], ◌++◌, length, take, drop, Option, Some, None}
+use Rattle.std.specs.Prelude.{◌∷◌}
 use Rattle.std.specs.List.{list_any}
-use Rattle.std.specs.FinMap.{from_entries, code, insert}
+use Rattle.std.specs.FinMap.{from_entries, code, empty, insert}
 use Rattle.std.specs.Coded.{Coded, code_by, coded×, coded_ℕ, coded_list}
 use Rattle.std.specs.BTreeMap.{BTreeMap}
 use Rattle.std.specs.declared.alloc.Global.{Global}
 use Rattle.sd_cause.specs.Count.{with_added}
 use Rattle.sd_ports.specs.Files.{Files}
+use Rattle.sd_ports.specs.Causes.{one_more}
 
--- a source in memory: the bytes to come, the most bytes of a read, which reads fail, and how many reads there were and failed
+-- a source in memory: the bytes to come, the most bytes of a read, which reads fail, and how many reads there were and
+-- failed
 pub record Supply : Type 0 where
   pub left : List ℕ
   pub most : ℕ
@@ -15,7 +19,8 @@ pub record Supply : Type 0 where
   pub reads : ℕ
   pub faults : ℕ
 
--- a sink in memory: the bytes taken, how many it has room for, the most bytes of a write, which writes fail, and how many writes there were and failed
+-- a sink in memory: the bytes taken, how many it has room for, the most bytes of a write, which writes fail, and how
+-- many writes there were and failed
 pub record Store : Type 0 where
   pub held : List ℕ
   pub room : ℕ
@@ -24,7 +29,9 @@ pub record Store : Type 0 where
   pub writes : ℕ
   pub faults : ℕ
 
--- a depot in memory: its files, the room of a sink, the most bytes of a read or a write, and the counts of faults, of misses and of sinks made
+-- a depot in memory: its files, the room of a sink, the most bytes of a read or a write, the counts of faults, of
+-- misses and
+-- of sinks made, how many ports are open, and how many calls there were
 pub record Shelf : Type 0 where
   pub files : Files
   pub room : ℕ
@@ -32,32 +39,66 @@ pub record Shelf : Type 0 where
   pub faults : ℕ
   pub misses : ℕ
   pub made : ℕ
+  pub opened : ℕ
+  pub calls : ℕ
 
 -- a depot in memory is stored as the pairs of its parts
 abbrev pub shelf_code : Coded Shelf
 shelf_code =
-    code_by (Files × (ℕ × (ℕ × (ℕ × (ℕ × ℕ))))) (coded× (code (coded_list coded_ℕ) (coded_list coded_ℕ)) (coded× coded_ℕ (coded× coded_ℕ (coded× coded_ℕ (coded× coded_ℕ coded_ℕ)))))
-    (λ s. (s.files, (s.room, (s.most, (s.faults, (s.misses, s.made)))))) (λ p. record { files = p.0; room = p.1.0; most = p.1.1.0; faults = p.1.1.1.0; misses = p.1.1.1.1.0; made = p.1.1.1.1.1 }) (λ _. refl)
+    code_by (Files × (ℕ × (ℕ × (ℕ × (ℕ × (ℕ × (ℕ × ℕ)))))))
+    (coded× (code (coded_list coded_ℕ) (coded_list coded_ℕ)) (coded× coded_ℕ (coded× coded_ℕ (coded× coded_ℕ
+    (coded× coded_ℕ (coded× coded_ℕ (coded× coded_ℕ coded_ℕ)))))))
+    (λ s. (s.files, (s.room, (s.most, (s.faults, (s.misses, (s.made, (s.opened, s.calls))))))))
+    (λ p. record {
+      files = p.0;
+      room = p.1.0;
+      most = p.1.1.0;
+      faults = p.1.1.1.0;
+      misses = p.1.1.1.1.0;
+      made = p.1.1.1.1.1.0;
+      opened = p.1.1.1.1.1.1.0;
+      calls = p.1.1.1.1.1.1.1;
+    })
+    (λ _. refl)
 
 -- the files that a map of texts tells
 unfoldable pub told_files : BTreeMap (String Global) (Vec ℕ Global) → Files
 told_files m = from_entries (map (λ e. (string_bytes e.0, e.1.items)) m.entries)
 
+-- a depot with no file
+abbrev pub empty_shelf : ℕ → ℕ → Shelf
+empty_shelf room most =
+    record { files = empty; room = room; most = most; faults = 0; misses = 0; made = 0; opened = 0; calls = 0 }
+
 -- the depot with a file of these bytes, in place of one that had the name
 abbrev pub with_file : Shelf → List ℕ → List ℕ → Shelf
-with_file s name bytes = record { files = insert s.files name bytes; room = s.room; most = s.most; faults = s.faults; misses = s.misses; made = s.made }
+with_file s name bytes = record s { files = insert s.files name bytes }
 
--- the depot with other counts of faults and of misses
-abbrev pub with_counts : Shelf → ℕ → ℕ → Shelf
-with_counts s faults misses = record { files = s.files; room = s.room; most = s.most; faults = faults; misses = misses; made = s.made }
+-- the depot after a call that opened a file, or found that there is none of that name, or wanted memory
+abbrev pub with_inlet : Shelf → ℕ → ℕ → Shelf
+with_inlet s misses opened = record s { misses = misses; opened = opened; calls = with_added s.calls 1 }
 
--- the depot once it made an empty file
+-- the depot after a call that made an empty file
 abbrev pub with_outlet : Shelf → List ℕ → Shelf
-with_outlet s name = record { files = insert s.files name []; room = s.room; most = s.most; faults = s.faults; misses = s.misses; made = with_added s.made 1 }
+with_outlet s name = record s {
+  files = insert s.files name [];
+  made = with_added s.made 1;
+  opened = one_more s.opened;
+  calls = with_added s.calls 1;
+}
 
--- the depot once a file's port was closed
-abbrev pub with_closed : Shelf → List ℕ → Store → Shelf
-with_closed s name port = record { files = insert s.files name port.held; room = s.room; most = s.most; faults = with_added s.faults port.faults; misses = s.misses; made = s.made }
+-- the depot after a call that wanted memory
+abbrev pub with_call : Shelf → Shelf
+with_call s = record s { calls = with_added s.calls 1 }
+
+-- the depot after a call that closed a port with this count of faults
+abbrev pub without_port : Shelf → ℕ → ℕ → Shelf
+without_port s faults opened =
+    record s { faults = with_added s.faults faults; opened = opened; calls = with_added s.calls 1 }
+
+-- so it is of a file's port, whose bytes the file then has
+abbrev pub with_closed : Shelf → List ℕ → Store → ℕ → Shelf
+with_closed s name port opened = with_file (without_port s port.faults opened) name port.held
 
 -- whether a call's number stands in the list of those that fail
 abbrev pub is_listed : List ℕ → ℕ → Bool
@@ -74,19 +115,30 @@ given s space = min s.most (min space (length s.left))
 -- a source after a read into so much space
 abbrev pub after_read : Supply → ℕ → Supply
 after_read s space =
-    if read_fails s then record { left = s.left; most = s.most; fails = s.fails; reads = with_added s.reads 1; faults = with_added s.faults 1 }
-    else record { left = drop (given s space) s.left; most = s.most; fails = s.fails; reads = with_added s.reads 1; faults = s.faults }
+    if read_fails s then record { left = s.left; most = s.most; fails = s.fails; reads = with_added s.reads 1; faults =
+        with_added s.faults 1 }
+    else record { left = drop (given s space) s.left; most = s.most; fails = s.fails; reads =
+        with_added s.reads 1; faults = s.faults }
 
--- whether the next write fails: by its number, or since there is no room
-abbrev pub write_fails : Store → Bool
-write_fails s = is_listed s.fails s.writes || not (nat_lt (length s.held) s.room)
+-- how many more bytes there is room for, told where no write is to fail by its number
+abbrev pub room_by : List ℕ → ℕ → Option ℕ
+room_by [] room = Some room
+room_by (number ∷ fails) room = None
+
+abbrev pub room_in : Store → Option ℕ
+room_in s = room_by s.fails (s.room - length s.held)
+
+-- whether a write of so many bytes fails: by its number, or since they pass the room
+abbrev pub write_fails : Store → ℕ → Bool
+write_fails s count = is_listed s.fails s.writes || nat_lt (s.room - length s.held) count
 
 -- how many bytes of so many a write takes
 abbrev pub taken : Store → ℕ → ℕ
-taken s count = min s.most (min count (s.room - length s.held))
+taken s count = min s.most count
 
 -- a sink after a write of a piece
 abbrev pub after_write : Store → List ℕ → Store
 after_write s piece =
-    if write_fails s then record { held = s.held; room = s.room; most = s.most; fails = s.fails; writes = with_added s.writes 1; faults = with_added s.faults 1 }
-    else record { held = s.held ++ take (taken s (length piece)) piece; room = s.room; most = s.most; fails = s.fails; writes = with_added s.writes 1; faults = s.faults }
+    if write_fails s (length piece)
+    then record s { writes = with_added s.writes 1; faults = with_added s.faults 1 }
+    else record s { held = s.held ++ take (taken s (length piece)) piece; writes = with_added s.writes 1 }

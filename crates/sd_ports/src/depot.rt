@@ -1,7 +1,7 @@
 ghost use Rattle.std.specs.Prelude.{◌≡◌, ◌<◌, ◌^◌, ℕ, Option, None, IfOk, OnOk, OnErr, IsErrOf, []};
 ghost use Rattle.sd_cause.specs.Count.{HasCause, with_added};
 ghost use Rattle.sd_ports.specs.Files.{Closes, Files, IsFresh, IsNotThere, IsThere, LeavesPrefix, Opens, with_bytes};
-ghost use Rattle.sd_ports.specs.Causes.{CountsMade, HasDepotCause};
+ghost use Rattle.sd_ports.specs.Causes.{CountsClosed, CountsMade, CountsOpen, HasDepotCause};
 
 use crate::fault::DepotFault;
 use crate::sink::Sink;
@@ -26,6 +26,12 @@ pub trait Depot {
     /// How many files were made.
     ghost made: { Self → ℕ };
 
+    /// How many ports are open, given and not closed, modulo 2^64.
+    ghost opened: { Self → ℕ };
+
+    /// How many calls were made.
+    ghost calls: { Self → ℕ };
+
     /// Opens a file for reading.
     fn open_in(&mut self, alloc: Global, name: &str) -> Result<Self::Inlet, DepotFault>
         ensures files { files self.new ≡ files self.old }
@@ -33,7 +39,9 @@ pub trait Depot {
         ensures fresh { IfOk result (λ port. Self.Inlet.faults port ≡ 0) }
         ensures not_there { IsErrOf result DepotFault.Missing → IsNotThere (files self.old) name.now }
         ensures cause { HasDepotCause (faults self.old) (faults self.new) (misses self.old) (misses self.new) result }
-        ensures made { made self.new ≡ made self.old };
+        ensures made { made self.new ≡ made self.old }
+        ensures ports { CountsOpen (opened self.old) (opened self.new) result }
+        ensures calls { calls self.new ≡ with_added (calls self.old) 1 };
 
     /// Makes an empty file, in place of one that had the name, and opens it for writing. `Missing` is a folder that
     /// isn't there.
@@ -44,7 +52,9 @@ pub trait Depot {
         ensures fresh { IfOk result (λ port. Self.Outlet.faults port ≡ 0) }
         ensures missing { IsErrOf result DepotFault.Missing → files self.old ≡ None }
         ensures cause { HasDepotCause (faults self.old) (faults self.new) (misses self.old) (misses self.new) result }
-        ensures made { CountsMade (made self.old) (made self.new) result };
+        ensures made { CountsMade (made self.old) (made self.new) result }
+        ensures ports { CountsOpen (opened self.old) (opened self.new) result }
+        ensures calls { calls self.new ≡ with_added (calls self.old) 1 };
 
     /// Closes a file, and takes over the port's count of faults.
     fn close_in(&mut self, port: Self::Inlet)
@@ -52,7 +62,9 @@ pub trait Depot {
         ensures faults { faults self.new ≡ with_added (faults self.old) (Self.Inlet.faults port) }
         ensures misses { misses self.new ≡ misses self.old }
         ensures within { faults self.old < 2 ^ 64 }
-        ensures made { made self.new ≡ made self.old };
+        ensures made { made self.new ≡ made self.old }
+        ensures ports { CountsClosed (opened self.old) (opened self.new) }
+        ensures calls { calls self.new ≡ with_added (calls self.old) 1 };
 
     /// Closes a file that was made under this name, and takes over the port's count of faults. The only fault is
     /// `Failed`, for which the depot counts a fault of its own.
@@ -64,5 +76,7 @@ pub trait Depot {
         ensures cause { HasCause (with_added (faults self.old) (Self.Outlet.faults port)) (faults self.new) result }
         ensures within { faults self.old < 2 ^ 64 }
         ensures misses { misses self.new ≡ misses self.old }
-        ensures made { made self.new ≡ made self.old };
+        ensures made { made self.new ≡ made self.old }
+        ensures ports { CountsClosed (opened self.old) (opened self.new) }
+        ensures calls { calls self.new ≡ with_added (calls self.old) 1 };
 }

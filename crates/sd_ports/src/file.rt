@@ -1,5 +1,5 @@
 ghost use Rattle.std.specs.Prelude.{◌≡◌, ◌≤◌, IfOk, IsErrOf, length};
-ghost use Rattle.sd_ports.specs.Causes.{HasFileCause};
+ghost use Rattle.sd_ports.specs.Causes.{CountsCalls, HasFileCause};
 ghost use Rattle.sd_ports.specs.Files.{IsFile, IsLongFile, IsNotThere, WritesFile};
 
 use crate::depot::Depot;
@@ -21,6 +21,7 @@ pub enum FileFault {
 }
 
 /// Reads a whole file of at most `most` bytes: it opens, reads and closes it, and only then answers.
+#[tactic(auto, using(crate::proofs::Calls::twice_called, crate::proofs::Calls::open_as_before))]
 pub fn read_file<D: Depot>(
     alloc: Global,
     depot: &mut D,
@@ -33,7 +34,10 @@ pub fn read_file<D: Depot>(
     ensures within { IfOk result (λ bytes. length bytes.items ≤ most) }
     ensures too_big { IsErrOf result FileFault.TooBig → IsLongFile (D.files depot.old) name.now most }
     ensures missing { IsErrOf result FileFault.Missing → IsNotThere (D.files depot.old) name.now }
-    ensures cause { HasFileCause (D.faults depot.old) (D.faults depot.new) (D.misses depot.old) (D.misses depot.new) result }
+    ensures cause
+        { HasFileCause (D.faults depot.old) (D.faults depot.new) (D.misses depot.old) (D.misses depot.new) result }
+    ensures ports { D.opened depot.new ≡ D.opened depot.old }
+    ensures calls { CountsCalls (D.calls depot.old) (D.calls depot.new) result }
 {
     let mut port = match depot.open_in(alloc, name) {
         Ok(port) => port,
@@ -53,15 +57,20 @@ pub fn read_file<D: Depot>(
 
 /// Makes a file with these bytes, in place of one that had the name: it makes, writes and closes it, and only then
 /// answers. `Failed` may leave a front of them.
-#[tactic(auto, using(crate::proofs::Outlets::there_after))]
+#[tactic(auto, using(crate::proofs::Outlets::there_after, crate::proofs::Calls::twice_called, crate::proofs::Calls::open_as_before))]
 pub fn write_file<D: Depot>(
     alloc: Global,
     depot: &mut D,
     name: &str,
     bytes: &[u8],
 ) -> Result<(), FileFault>
-    ensures file { WritesFile (D.files depot.old) (D.files depot.new) (D.made depot.old) (D.made depot.new) name.now bytes.now result }
-    ensures cause { HasFileCause (D.faults depot.old) (D.faults depot.new) (D.misses depot.old) (D.misses depot.new) result }
+    ensures file
+        { WritesFile (D.files depot.old) (D.files depot.new) (D.made depot.old) (D.made depot.new) name.now bytes.now
+        result }
+    ensures cause
+        { HasFileCause (D.faults depot.old) (D.faults depot.new) (D.misses depot.old) (D.misses depot.new) result }
+    ensures ports { D.opened depot.new ≡ D.opened depot.old }
+    ensures calls { CountsCalls (D.calls depot.old) (D.calls depot.new) result }
 {
     let mut port = match depot.create_out(alloc, name) {
         Ok(port) => port,

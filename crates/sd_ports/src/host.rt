@@ -1,7 +1,9 @@
-ghost use Rattle.std.specs.Prelude.{◌≡◌, ◌<◌, ◌≤◌, None, [], drop, vec_len, vec_capacity, IfOk, IsErr, OnOk, OnErr, length};
+ghost use Rattle.std.specs.Prelude.{◌≡◌, ◌<◌, ◌≤◌, None, [], drop, vec_len, vec_capacity, IfOk, IsErr, OnOk, OnErr};
+ghost use Rattle.std.specs.Prelude.{length};
 ghost use Rattle.std.specs.Io.{ReadsAtMost, WritesAtMost};
 ghost use Rattle.std.specs.Io.KnownBytes.{Keeps, ReadConsumes, WriteAppends, append_known};
 ghost use Rattle.sd_cause.specs.Count.{HasCause, with_added};
+ghost use Rattle.sd_ports.specs.Rooms.{TakesRoom};
 ghost use Rattle.sd_ports.specs.Causes.{HasDepotCause};
 
 use crate::depot::Depot;
@@ -20,6 +22,8 @@ pub struct HostDepot<'a, R> {
     faults: u64,
     misses: u64,
     made: u64,
+    opened: u64,
+    calls: u64,
 }
 
 impl<'a, R: Files> HostDepot<'a, R> {
@@ -28,12 +32,16 @@ impl<'a, R: Files> HostDepot<'a, R> {
         ensures faults { result.faults ≡ 0 }
         ensures misses { result.misses ≡ 0 }
         ensures made { result.made ≡ 0 }
+        ensures ports { result.opened ≡ 0 }
+        ensures calls { result.calls ≡ 0 }
     {
         HostDepot {
             files,
             faults: 0,
             misses: 0,
             made: 0,
+            opened: 0,
+            calls: 0,
         }
     }
 
@@ -42,6 +50,8 @@ impl<'a, R: Files> HostDepot<'a, R> {
         ensures cause { HasDepotCause self.old.faults self.new.faults self.old.misses self.new.misses result }
         ensures refused { IsErr result }
         ensures made { self.new.made ≡ self.old.made }
+        ensures ports { self.new.opened ≡ self.old.opened }
+        ensures calls { self.new.calls ≡ self.old.calls }
     {
         match kind {
             ErrorKind::NotFound => {
@@ -70,21 +80,31 @@ impl<'a, R: Files> Depot for HostDepot<'a, R> {
 
     ghost made = { λ d. d.made };
 
+    ghost opened = { λ d. d.opened };
+
+    ghost calls = { λ d. d.calls };
+
     fn open_in(&mut self, _alloc: Global, name: &str) -> Result<HostInlet<R::File>, DepotFault> {
+        self.calls = self.calls.saturating_add(1);
         match fs::open(self.files, name) {
-            Ok(file) => Ok(HostInlet { file, faults: 0 }),
+            Ok(file) => {
+                self.opened = self.opened.wrapping_add(1);
+                Ok(HostInlet { file, faults: 0 })
+            }
             Err(error) => self.refuse(error.kind()),
         }
     }
 
     /// The memory is taken before the file is made.
     fn create_out(&mut self, alloc: Global, name: &str) -> Result<HostOutlet<R::File>, DepotFault> {
+        self.calls = self.calls.saturating_add(1);
         let Ok(buffer) = Vec::with_capacity(alloc, BUFFER) else {
             return Err(DepotFault::NoMemory);
         };
         match fs::create(self.files, name) {
             Ok(file) => {
                 self.made = self.made.saturating_add(1);
+                self.opened = self.opened.wrapping_add(1);
                 Ok(HostOutlet::new(file, buffer))
             }
             Err(error) => self.refuse(error.kind()),
@@ -92,11 +112,15 @@ impl<'a, R: Files> Depot for HostDepot<'a, R> {
     }
 
     fn close_in(&mut self, port: HostInlet<R::File>) {
+        self.calls = self.calls.saturating_add(1);
+        self.opened = self.opened.wrapping_sub(1);
         self.faults = self.faults.saturating_add(port.faults);
     }
 
     /// Writes what still waits.
     fn close_out(&mut self, _name: &str, mut port: HostOutlet<R::File>) -> Result<(), DepotFault> {
+        self.calls = self.calls.saturating_add(1);
+        self.opened = self.opened.wrapping_sub(1);
         self.faults = self.faults.saturating_add(port.file.faults);
         match port.send() {
             Ok(()) => Ok(()),
@@ -172,7 +196,9 @@ impl<F: Write + Drop> HostOutlet<F> {
 
     /// Writes what waits. After a fault, what wasn't written waits still.
     fn send(&mut self) -> Result<(), PortFault>
-        ensures passed { Keeps (append_known (F.Write.contents self.old.file.writer) (drop self.old.sent self.old.waiting.items)) (append_known (F.Write.contents self.new.file.writer) (drop self.new.sent self.new.waiting.items)) }
+        ensures passed
+            { Keeps (append_known (F.Write.contents self.old.file.writer) (drop self.old.sent self.old.waiting.items))
+            (append_known (F.Write.contents self.new.file.writer) (drop self.new.sent self.new.waiting.items)) }
         ensures all { OnOk result (self.new.waiting.items ≡ []) }
         ensures cause { HasCause self.old.file.faults self.new.file.faults result }
         ensures one { OnErr result (self.new.file.faults ≡ with_added self.old.file.faults 1) }
@@ -191,7 +217,9 @@ impl<F: Write + Drop> HostOutlet<F> {
     /// Sees to it that the buffer has room for a byte.
     #[tactic(auto, using(crate::proofs::Portions::kept_same))]
     fn make_room(&mut self) -> Result<(), PortFault>
-        ensures passed { Keeps (append_known (F.Write.contents self.old.file.writer) (drop self.old.sent self.old.waiting.items)) (append_known (F.Write.contents self.new.file.writer) (drop self.new.sent self.new.waiting.items)) }
+        ensures passed
+            { Keeps (append_known (F.Write.contents self.old.file.writer) (drop self.old.sent self.old.waiting.items))
+            (append_known (F.Write.contents self.new.file.writer) (drop self.new.sent self.new.waiting.items)) }
         ensures room { OnOk result (vec_len self.new.waiting < BUFFER) }
         ensures cause { HasCause self.old.file.faults self.new.file.faults result }
         ensures one { OnErr result (self.new.file.faults ≡ with_added self.old.file.faults 1) }
@@ -208,6 +236,8 @@ impl<F: Write + Drop> Sink for HostOutlet<F> {
 
     ghost faults = { λ s. s.file.faults };
 
+    ghost room = { λ s. None };
+
     /// Once the buffer is full, what waits there is written first. It takes no memory.
     #[tactic(auto, using(crate::proofs::Portions::kept_grown))]
     fn write(&mut self, piece: &[u8]) -> Result<usize, PortFault>
@@ -216,7 +246,12 @@ impl<F: Write + Drop> Sink for HostOutlet<F> {
         ensures bound { WritesAtMost result piece.now }
         ensures bytes { WriteAppends None None result piece.now }
         ensures cause { HasCause self.old.file.faults self.new.file.faults result }
-        ensures passed { WriteAppends (append_known (F.Write.contents self.old.file.writer) (drop self.old.sent self.old.waiting.items)) (append_known (F.Write.contents self.new.file.writer) (drop self.new.sent self.new.waiting.items)) result piece.now }
+        ensures room { TakesRoom None None (length piece.now) result }
+        ensures passed
+            { WriteAppends
+            (append_known (F.Write.contents self.old.file.writer) (drop self.old.sent self.old.waiting.items))
+            (append_known (F.Write.contents self.new.file.writer) (drop self.new.sent self.new.waiting.items)) result
+            piece.now }
         ensures one { OnErr result (self.new.file.faults ≡ with_added self.old.file.faults 1) }
     {
         self.make_room()?;
@@ -247,6 +282,8 @@ impl<W: Write + Drop> Sink for StdPrint<W> {
 
     ghost faults = { λ s. s.faults };
 
+    ghost room = { λ s. None };
+
     /// A write that a signal interrupts is tried again, and one that takes nothing is a fault.
     #[tactic(auto, using(crate::proofs::Portions::kept_appends, crate::proofs::Portions::kept_twice, crate::proofs::Portions::kept_none))]
     fn write(&mut self, piece: &[u8]) -> Result<usize, PortFault>
@@ -255,7 +292,9 @@ impl<W: Write + Drop> Sink for StdPrint<W> {
         ensures bound { WritesAtMost result piece.now }
         ensures bytes { WriteAppends None None result piece.now }
         ensures cause { HasCause self.old.faults self.new.faults result }
-        ensures passed { WriteAppends (W.Write.contents self.old.writer) (W.Write.contents self.new.writer) result piece.now }
+        ensures room { TakesRoom None None (length piece.now) result }
+        ensures passed
+            { WriteAppends (W.Write.contents self.old.writer) (W.Write.contents self.new.writer) result piece.now }
         ensures one { OnErr result (self.new.faults ≡ with_added self.old.faults 1) }
     {
         for _turn in 0..u64::MAX {

@@ -2,9 +2,10 @@ ghost use Rattle.std.specs.Prelude.{◌≡◌, ◌≤◌, ◌<◌, ◌^◌, ◌�
 ghost use Rattle.std.specs.Option.{option_map};
 ghost use Rattle.std.specs.FinMap as map;
 ghost use Rattle.sd_cause.specs.Count.{HasCause, with_added};
-ghost use Rattle.sd_ports.specs.Causes.{CountsMade, HasDepotCause};
+ghost use Rattle.sd_ports.specs.Causes.{CountsClosed, CountsMade, CountsOpen, HasDepotCause};
 ghost use Rattle.sd_ports.specs.Files.{Closes, IsFresh, IsNotThere, IsThere, LeavesPrefix, Opens, with_bytes};
-ghost use Rattle.sd_ports.specs.Memory.{told_files, with_closed, with_counts, with_file, with_outlet};
+ghost use Rattle.sd_ports.specs.Memory.{empty_shelf, told_files, with_call, with_closed, with_file, with_inlet};
+ghost use Rattle.sd_ports.specs.Memory.{with_outlet, without_port};
 
 use crate::depot::Depot;
 use crate::fault::DepotFault;
@@ -25,6 +26,8 @@ pub struct MemDepot {
     faults: u64,
     misses: u64,
     made: u64,
+    opened: u64,
+    calls: u64,
 }
 
 impl Model for MemDepot {
@@ -35,7 +38,16 @@ impl Model for MemDepot {
 
     ghost coded = { shelf_code };
 
-    ghost view = { λ d. record { files = told_files d.files; room = d.room; most = d.most; faults = d.faults; misses = d.misses; made = d.made } };
+    ghost view = { λ d. record {
+      files = told_files d.files;
+      room = d.room;
+      most = d.most;
+      faults = d.faults;
+      misses = d.misses;
+      made = d.made;
+      opened = d.opened;
+      calls = d.calls;
+    } };
 
     ghost invariant = { λ d. 0 < d.most };
 }
@@ -45,7 +57,7 @@ impl MemDepot {
     #[tactic(auto, using(crate::proofs::Shelves::told_none))]
     pub fn new(alloc: Global, room: usize, most: usize) -> Result<MemDepot, NoMemory>
         requires { 1 ≤ most }
-        ensures { IfOk result (λ d. d ≡ record { files = map.empty; room = room; most = most; faults = 0; misses = 0; made = 0 }) }
+        ensures { IfOk result (λ d. d ≡ empty_shelf room most) }
     {
         Ok(MemDepot {
             alloc,
@@ -55,6 +67,8 @@ impl MemDepot {
             faults: 0,
             misses: 0,
             made: 0,
+            opened: 0,
+            calls: 0,
         })
     }
 
@@ -108,6 +122,10 @@ impl Depot for MemDepot {
 
     ghost made = { λ d. d.made };
 
+    ghost opened = { λ d. d.opened };
+
+    ghost calls = { λ d. d.calls };
+
     /// Opens a copy of the file's bytes.
     fn open_in(&mut self, alloc: Global, name: &str) -> Result<MemSource, DepotFault>
         ensures files { Some self.new.files ≡ Some self.old.files }
@@ -117,17 +135,24 @@ impl Depot for MemDepot {
         ensures cause { HasDepotCause self.old.faults self.new.faults self.old.misses self.new.misses result }
         ensures made { self.new.made ≡ self.old.made }
         ensures missing { IsErrOf result DepotFault.Missing ↔ (map.get self.old.files name.now ≡ None) }
-        ensures unchanged { self.new ≡ with_counts self.old self.old.faults self.new.misses }
+        ensures ports { CountsOpen self.old.opened self.new.opened result }
+        ensures calls { self.new.calls ≡ with_added self.old.calls 1 }
+        ensures unchanged { self.new ≡ with_inlet self.old self.new.misses self.new.opened }
         ensures miss { IsErrOf result DepotFault.Missing → self.new.misses ≡ with_added self.old.misses 1 }
         ensures works { ¬ IsErrOf result DepotFault.Failed }
-        ensures port { IfOk result (λ port. port ≡ record { left = port.left; most = self.old.most; fails = []; reads = 0; faults = 0 }) }
+        ensures port { IfOk result (λ port. port ≡ record { left = port.left; most = self.old.most; fails = []; reads =
+            0; faults = 0 }) }
     {
+        self.calls = self.calls.saturating_add(1);
         let Some(file) = look_up(&self.files, name) else {
             self.misses = self.misses.saturating_add(1);
             return Err(DepotFault::Missing);
         };
         match Vec::from_slice(alloc, file) {
-            Ok(bytes) => Ok(MemSource::new(bytes, self.most, Vec::new(alloc))),
+            Ok(bytes) => {
+                self.opened = self.opened.wrapping_add(1);
+                Ok(MemSource::new(bytes, self.most, Vec::new(alloc)))
+            }
             Err(_) => Err(DepotFault::NoMemory),
         }
     }
@@ -141,17 +166,23 @@ impl Depot for MemDepot {
         ensures missing { IsErrOf result DepotFault.Missing → Some self.old.files ≡ None }
         ensures cause { HasDepotCause self.old.faults self.new.faults self.old.misses self.new.misses result }
         ensures made { CountsMade self.old.made self.new.made result }
+        ensures ports { CountsOpen self.old.opened self.new.opened result }
+        ensures calls { self.new.calls ≡ with_added self.old.calls 1 }
         ensures ok { OnOk result (self.new ≡ with_outlet self.old name.now) }
-        ensures err { OnErr result (self.new ≡ self.old) }
+        ensures err { OnErr result (self.new ≡ with_call self.old) }
         ensures works { OnErr result (IsErrOf result DepotFault.NoMemory) }
-        ensures port { IfOk result (λ port. port ≡ record { held = []; room = self.old.room; most = self.old.most; fails = []; writes = 0; faults = 0 }) }
+        ensures port
+            { IfOk result (λ port. port ≡ record { held = []; room = self.old.room; most = self.old.most; fails =
+            []; writes = 0; faults = 0 }) }
     {
+        self.calls = self.calls.saturating_add(1);
         let Ok(port) = MemSink::new(alloc, self.room, self.most, Vec::new(alloc)) else {
             return Err(DepotFault::NoMemory);
         };
         match set(alloc, &mut self.files, name, Vec::new(alloc)) {
             Ok(()) => {
                 self.made = self.made.saturating_add(1);
+                self.opened = self.opened.wrapping_add(1);
                 Ok(port)
             }
             Err(_) => Err(DepotFault::NoMemory),
@@ -164,8 +195,12 @@ impl Depot for MemDepot {
         ensures misses { self.new.misses ≡ self.old.misses }
         ensures within { self.old.faults < 2 ^ 64 }
         ensures made { self.new.made ≡ self.old.made }
-        ensures unchanged { self.new ≡ with_counts self.old self.new.faults self.old.misses }
+        ensures ports { CountsClosed self.old.opened self.new.opened }
+        ensures calls { self.new.calls ≡ with_added self.old.calls 1 }
+        ensures unchanged { self.new ≡ without_port self.old port.faults self.new.opened }
     {
+        self.calls = self.calls.saturating_add(1);
+        self.opened = self.opened.wrapping_sub(1);
         self.faults = self.faults.saturating_add(port.faults());
     }
 
@@ -180,9 +215,13 @@ impl Depot for MemDepot {
         ensures within { self.old.faults < 2 ^ 64 }
         ensures misses { self.new.misses ≡ self.old.misses }
         ensures made { self.new.made ≡ self.old.made }
+        ensures ports { CountsClosed self.old.opened self.new.opened }
+        ensures calls { self.new.calls ≡ with_added self.old.calls 1 }
         ensures works { IsOk result }
-        ensures after { self.new ≡ with_closed self.old name.now port }
+        ensures after { self.new ≡ with_closed self.old name.now port self.new.opened }
     {
+        self.calls = self.calls.saturating_add(1);
+        self.opened = self.opened.wrapping_sub(1);
         let faults = port.faults();
         replace(&mut self.files, name, port.into_bytes());
         self.faults = self.faults.saturating_add(faults);

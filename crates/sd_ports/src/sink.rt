@@ -2,6 +2,7 @@ ghost use Rattle.std.specs.Prelude.{◌<◌, ℕ, List, Option, length, IfOk};
 ghost use Rattle.std.specs.Io.{WritesAtMost};
 ghost use Rattle.std.specs.Io.KnownBytes.{WriteAppends};
 ghost use Rattle.sd_cause.specs.Count.{HasCause};
+ghost use Rattle.sd_ports.specs.Rooms.{TakesRoom};
 
 use crate::fault::PortFault;
 
@@ -13,11 +14,15 @@ pub trait Sink: Drop {
     /// How many writes failed.
     ghost faults: { Self → ℕ };
 
+    /// How many more bytes there is room for, where the sink tells it.
+    ghost room: { Self → Option ℕ };
+
     /// Takes at least one byte of the front of `piece`, and answers how many.
     fn write(&mut self, piece: &[u8]) -> Result<usize, PortFault>
         requires { 0 < length piece.now }
         ensures some { IfOk result (λ k. 0 < k) }
         ensures bound { WritesAtMost result piece.now }
         ensures bytes { WriteAppends (held self.old) (held self.new) result piece.now }
-        ensures cause { HasCause (faults self.old) (faults self.new) result };
+        ensures cause { HasCause (faults self.old) (faults self.new) result }
+        ensures room { TakesRoom (room self.old) (room self.new) (length piece.now) result };
 }

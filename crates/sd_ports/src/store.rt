@@ -2,7 +2,8 @@ ghost use Rattle.std.specs.Prelude.{◌≡◌, ◌<◌, ◌≤◌, ◌↔◌, If
 ghost use Rattle.std.specs.Io.{WritesAtMost};
 ghost use Rattle.std.specs.Io.KnownBytes.{WriteAppends};
 ghost use Rattle.sd_cause.specs.Count.{HasCause};
-ghost use Rattle.sd_ports.specs.Memory.{after_write, taken, write_fails};
+ghost use Rattle.sd_ports.specs.Memory.{after_write, room_in, taken, write_fails};
+ghost use Rattle.sd_ports.specs.Rooms.{TakesRoom};
 
 use crate::fault::PortFault;
 use crate::sink::Sink;
@@ -28,7 +29,9 @@ impl Model for MemSink {
 
     ghost Value = { Store };
 
-    ghost view = { λ s. record { held = s.bytes.items; room = s.room; most = s.most; fails = s.fails.items; writes = s.writes; faults = s.faults } };
+    ghost view =
+        { λ s. record { held = s.bytes.items; room = s.room; most = s.most; fails = s.fails.items; writes =
+        s.writes; faults = s.faults } };
 
     ghost invariant = { λ s. (vec_len s.bytes ≤ s.room) × (s.room ≤ vec_capacity s.bytes) × (0 < s.most) };
 }
@@ -43,7 +46,8 @@ impl MemSink {
         fails: Vec<u32>,
     ) -> Result<MemSink, NoMemory>
         requires { 1 ≤ most }
-        ensures { IfOk result (λ s. s ≡ record { held = []; room = room; most = most; fails = fails.items; writes = 0; faults = 0 }) }
+        ensures { IfOk result (λ s. s ≡ record { held = []; room = room; most = most; fails = fails.items; writes =
+            0; faults = 0 }) }
     {
         match Vec::with_capacity(alloc, room) {
             Ok(bytes) => Ok(MemSink {
@@ -85,25 +89,27 @@ impl Sink for MemSink {
 
     ghost faults = { λ s. s.faults };
 
-    /// A piece that doesn't fit is cut to what fits, and a write with no room left fails. It takes no memory.
+    ghost room = { room_in };
+
+    /// A piece that passes the room fails whole, and nothing of it is held. It takes no memory.
     fn write(&mut self, piece: &[u8]) -> Result<usize, PortFault>
         requires { 0 < length piece.now }
         ensures some { IfOk result (λ k. 0 < k) }
         ensures bound { WritesAtMost result piece.now }
         ensures bytes { WriteAppends (Some self.old.held) (Some self.new.held) result piece.now }
         ensures cause { HasCause self.old.faults self.new.faults result }
-        ensures fails { IsErr result ↔ (write_fails self.old ≡ true) }
+        ensures room { TakesRoom (room_in self.old) (room_in self.new) (length piece.now) result }
+        ensures fails { IsErr result ↔ (write_fails self.old (length piece.now) ≡ true) }
         ensures count { IfOk result (λ k. k ≡ taken self.old (length piece.now)) }
         ensures after { self.new ≡ after_write self.old piece.now }
     {
         let number = self.writes;
         self.writes = number.saturating_add(1);
-        let free = self.room - self.bytes.len();
-        if is_listed(&self.fails, number) || free == 0 {
+        if is_listed(&self.fails, number) || piece.len() > self.room - self.bytes.len() {
             self.faults = self.faults.saturating_add(1);
             return Err(PortFault);
         }
-        let count = self.most.min(piece.len()).min(free);
+        let count = self.most.min(piece.len());
         self.bytes.extend_from_slice(&piece[..count]).unwrap();
         Ok(count)
     }

@@ -25,7 +25,9 @@ impl Model for MemSource {
 
     ghost Value = { Supply };
 
-    ghost view = { λ s. record { left = drop s.at s.bytes.items; most = s.most; fails = s.fails.items; reads = s.reads; faults = s.faults } };
+    ghost view =
+        { λ s. record { left = drop s.at s.bytes.items; most = s.most; fails = s.fails.items; reads = s.reads; faults =
+        s.faults } };
 
     ghost invariant = { λ s. (s.at ≤ vec_len s.bytes) × (0 < s.most) };
 }

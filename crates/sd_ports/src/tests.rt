@@ -89,7 +89,7 @@ fn bytes_go_through_in_portions(rt: HostRuntime) -> Result<(), AllocError> {
         ((1, 9, 7), "abcdefg"),
         ((2, 9, 7), "abcdefg"),
         ((3, 9, 8), "abcdefg"),
-        ((3, 9, 5), "abcde"),
+        ((3, 9, 5), ""),
         ((3, 9, 0), ""),
         ((3, 1, 7), "abc"),
     ] {
@@ -142,7 +142,7 @@ fn files_are_made_and_replaced(rt: HostRuntime) -> Result<(), AllocError> {
     for (name, text, want, left) in [
         ("a", "abcdefg", Ok(()), "abcdefg"),
         ("c", "", Ok(()), ""),
-        ("b", "abcdefghij", Err(FileFault::Failed), "abcdefgh"),
+        ("b", "abcdefghij", Err(FileFault::Failed), ""),
     ] {
         assert!(rt; write_file(alloc, &mut depot, name, text.as_bytes()) == want);
         assert!(rt; depot.get(name) == Some(left.as_bytes()));

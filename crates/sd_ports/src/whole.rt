@@ -1,6 +1,7 @@
 ghost use Rattle.std.specs.Prelude.{◌≡◌, ◌<◌, ◌≤◌, ◌++◌, vec_len, IfOk, OnOk, OnErr, IsErrOf, length};
 ghost use Rattle.std.specs.Io.KnownBytes.{Appends};
 ghost use Rattle.sd_cause.specs.Count.{HasCause, Rose};
+ghost use Rattle.sd_ports.specs.Rooms.{FillsRoom};
 ghost use Rattle.sd_ports.specs.Bytes.{AppendsPrefix, LosesPrefix, GivesAll, IsLonger};
 
 use crate::fault::PortFault;
@@ -68,11 +69,12 @@ fn keep(bytes: &mut Vec<u8>, more: &[u8], most: usize) -> Result<(), ReadAllFaul
 }
 
 /// Writes all the bytes. After a fault a front of them was written.
-#[tactic(auto, using(crate::proofs::Portions::appends_more))]
+#[tactic(auto, using(crate::proofs::Portions::appends_more, crate::proofs::Rooms::none_taken, crate::proofs::Rooms::more_taken, crate::proofs::Rooms::too_long))]
 pub fn write_all<K: Sink>(sink: &mut K, bytes: &[u8]) -> Result<(), PortFault>
     ensures all { OnOk result (Appends (K.held sink.old) (K.held sink.new) bytes.now) }
     ensures front { OnErr result (AppendsPrefix (K.held sink.old) (K.held sink.new) bytes.now) }
     ensures cause { HasCause (K.faults sink.old) (K.faults sink.new) result }
+    ensures room { FillsRoom (K.room sink.old) (K.room sink.new) (length bytes.now) result }
 {
     let mut done = 0;
     while done < bytes.len() {

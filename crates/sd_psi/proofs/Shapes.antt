@@ -8,11 +8,10 @@ use Rattle.std.proofs.lemmas.Slice.Eq.{bytes_eq-Decides}
 use Rattle.sd_bits.specs.Bits.{field}
 use Rattle.sd_bits.proofs.Fields.{field_split}
 use Rattle.sd_bits.proofs.Words.{byte_field}
-use Rattle.sd_crc.specs.Crc.{crc_of}
-use Rattle.sd_crc.proofs.Words.{crc_below}
 use Rattle.sd_section.specs.Header.{table_id_of, syntax_of, section_length_of, number_of, last_number_of, body_of, crc_in, crc_due}
 use Rattle.sd_section.specs.Written.{sealed}
 use Rattle.sd_section.proofs.Judging.{field_take}
+use Rattle.sd_section.proofs.Spelling.{crc_is_read, crc_is_due}
 use Rattle.sd_psi.specs.declared.items.Kind.TheVariants.{Descriptor}
 use Rattle.sd_psi.specs.Items.{size_of, items_of}
 use Rattle.sd_psi.specs.Tables.{are_descriptors, info_length_of, info_of, loop_of, has_info, are_streams, is_pmt}
@@ -26,26 +25,8 @@ use Rattle.sd_psi.proofs.Heads.{IsHead}
 use Rattle.sd_psi.proofs.Undoing.{sealed_field, sealed_long, sealed_between, IsMap, other_head}
 
 -- the CRC of sealed bytes is the one due
-crc_read : (front : List ℕ) → crc_in (sealed front) ≡ crc_of front
-unfolding crc_in
-crc_read front =
-    let tail : List ℕ = to_be_bytes w32 (crc_of front) in
-    let below = crc_below front in
-    let count : length (sealed front) - 4 ≡ length front = omega (arith, length-append front tail) in
-    let b0 : field tail 0 8 ≡ slice_index tail 0 = byte_field tail 0 (omega arith) in
-    let b1 : field tail 8 8 ≡ slice_index tail 1 = byte_field tail 1 (omega arith) in
-    let b2 : field tail 16 8 ≡ slice_index tail 2 = byte_field tail 2 (omega arith) in
-    let b3 : field tail 24 8 ≡ slice_index tail 3 = byte_field tail 3 (omega arith) in
-    let number : field tail 0 32 ≡ crc_of front = omega (arith, field_split tail 0 24 8, field_split tail 0 16 8, field_split tail 0 8 8) in
-    ap (λ (n : ℕ). field (drop n (sealed front)) 0 32) count
-    ∙ (ap (λ (l : List ℕ). field l 0 32) (drop_at front tail (length front) refl) ∙ number)
-
-pub sealed_right : (front : List ℕ) → crc_in (sealed front) ≡ crc_due (sealed front)
-unfolding crc_due
-sealed_right front =
-    let tail : List ℕ = to_be_bytes w32 (crc_of front) in
-    let count : length (sealed front) - 4 ≡ length front = omega (arith, length-append front tail) in
-    crc_read front ∙ sym (ap (λ (n : ℕ). crc_of (take n (sealed front))) count ∙ ap crc_of (take_at front tail (length front) refl))
+pub sealed_right : (bytes : List ℕ) → crc_in (sealed bytes) ≡ crc_due (sealed bytes)
+sealed_right bytes = crc_is_read bytes ∙ sym (crc_is_due bytes)
 
 -- what stands between the first twelve bytes and the CRC
 abbrev pub loops_of : List ℕ → List ℕ

@@ -5,7 +5,8 @@ use Rattle.std.proofs.lemmas.List.{flat_map_more}
 use Rattle.std.proofs.lemmas.List.FromFn.{map-range_with_len_more}
 use Rattle.sd_label.specs.declared.name.Name.{Name}
 use Rattle.sd_label.specs.declared.name.Name.TheVariants.{Whole, Pair}
-use Rattle.sd_label.specs.Names.{given, given_under, path_node, sibling_of}
+use Rattle.sd_label.specs.Names.{given, given_under}
+use Rattle.sd_tree.specs.Paths.{path_node, sibling_of}
 
 -- the first n pairs of the leaf's ancestor at depth a
 abbrev pub first_pairs : ℕ → ℕ → ℕ → ℕ → List Name

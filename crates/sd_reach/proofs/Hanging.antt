@@ -6,7 +6,7 @@ use Rattle.std.proofs.lemmas.Nat.{pow_pos}
 use Rattle.sd_tree.specs.Node.{IsAbove, IsProperlyAbove}
 use Rattle.sd_tree.proofs.Ancestors.{above_le, above_self, above_trans, above_or_not, above_parent, above_comparable, above_through_child, parent_above, properly_above_from_parent}
 use Rattle.sd_label.specs.Names.{IsGivenPair}
-use Rattle.sd_label.proofs.Paths.{other_child}
+use Rattle.sd_tree.proofs.Paths.{other_child}
 
 -- of two nodes with one parent, not both are above a node
 pub one_child_above : (v w n : ℕ) → 1 ≤ w → 1 ≤ v → w / 2 ≡ v / 2 → w ≢ v → IsAbove v n → IsAbove w n → ⊥

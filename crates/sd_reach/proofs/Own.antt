@@ -16,7 +16,7 @@ use Rattle.sd_tree.proofs.Members.{member_of_pair}
 use Rattle.sd_label.specs.declared.name.Name.{Name}
 use Rattle.sd_label.specs.declared.name.Name.TheVariants.{Whole, Pair}
 use Rattle.sd_label.specs.Names.{given, IsGivenPair}
-use Rattle.sd_label.proofs.Paths.{sibling_half, sibling_apart}
+use Rattle.sd_tree.proofs.Paths.{sibling_half, sibling_apart}
 use Rattle.sd_label.proofs.Pairs.{given_pairs, given_whole}
 use Rattle.sd_reach.specs.Reach.{Secret, Named, Key, IsReached, LeadsTo, ReachesItsSets, source_of}
 use Rattle.sd_reach.proofs.Reached.{reached_is_found, found_is_reached, reached_by_one, at_or_above}

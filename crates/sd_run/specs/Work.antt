@@ -4,7 +4,8 @@ use Rattle.sd_tree.specs.declared.set.SetName.{SetName}
 use Rattle.sd_ports.specs.Files.{Files, with_bytes}
 use Rattle.sd_book.specs.declared.command.Command.{Command}
 use Rattle.sd_book.specs.Commands.{last_period, revoked}
-use Rattle.sd_steiner.specs.Partition.{IsPartition, IsSmall, unrevoked}
+use Rattle.sd_tree.specs.Leaves.{unrevoked}
+use Rattle.sd_steiner.specs.Partition.{IsPartition, IsSmall}
 use Rattle.sd_steiner.specs.Chains.{IsChainCover}
 use Rattle.sd_engine.specs.Stream.{break_of}
 use Rattle.sd_engine.specs.declared.fault.StreamBreak.{StreamBreak}

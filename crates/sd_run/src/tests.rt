@@ -422,9 +422,9 @@ fn each_status_has_its_line(rt: HostRuntime) -> Result<(), AllocError> {
             "site names one pid twice\n",
         ),
         (
-            Status::BadSite(SiteFault::Extra(9)),
+            Status::BadSite(SiteFault::Extra(10)),
             6,
-            "site has extra line 9\n",
+            "site has extra line 10\n",
         ),
         (
             Status::Limit(LimitKind::BookBytes),

@@ -1,10 +1,14 @@
 -- What is kept after some packets is enough to go on with the next.
-use Rattle.std.proofs.Common.{ℕ, ◌+◌, ◌-◌, ◌≤◌, ◌≡◌, Bool, true, false, not, ◌==◌, ◌&&◌, List, [], ◌∷◌, ◌++◌, length, take, drop, append-nil, refl, sym, ap, ◌∙◌, arith}
+use Rattle.std.proofs.Common.{ℕ, ◌+◌, ◌-◌, ◌≤◌, ◌≡◌, Bool, true, false, not, ◌==◌, ◌&&◌, List, [], ◌∷◌, ◌++◌, length}
+use Rattle.std.proofs.Common.{take, drop, append-nil, refl, sym, ap, ◌∙◌, arith}
 use Rattle.std.specs.Prelude.{if◌then◌else◌, Option, Some, None, slice_range, slice_get}
 use Rattle.std.proofs.lemmas.List.{drop_at, take-take, drop-drop, drop-take}
 use Rattle.std.proofs.lemmas.Bool.{eqb-true, and_parts}
-use Rattle.sd_section.specs.Assembled.{Fed, Run, Cut, cut_of, is_last, is_next, has_payload, is_taken, last_counter, tail_of, fresh_of, kept_run, longer_run, run_after, newly, completed_in, completed_by, Assembling, after, all_lent, with_section, next_of, one_lent}
-use Rattle.sd_section.specs.Steps.{added, held, kept, holds_of, is_section, tail_with, fresh_with, still_making, going_on, fed}
+use Rattle.sd_section.specs.Assembled.{Fed, Run, Cut, cut_of, is_last, is_next, has_payload, is_taken, last_counter}
+use Rattle.sd_section.specs.Assembled.{tail_of, fresh_of, kept_run, longer_run, run_after, newly, completed_in}
+use Rattle.sd_section.specs.Assembled.{completed_by, Assembling, after, all_lent, with_section, next_of, one_lent}
+use Rattle.sd_section.specs.Steps.{added, held, kept, holds_of, is_section, tail_with, fresh_with, still_making}
+use Rattle.sd_section.specs.Steps.{going_on, fed}
 use Rattle.sd_section.specs.declared.holds.Holds.{Holds}
 use Rattle.sd_section.specs.declared.holds.Holds.TheVariants.{Making, Section, Lent}
 use Rattle.sd_section.proofs.Cutting.{longer, cut_none}
@@ -28,7 +32,8 @@ completed_is true counter payload run =
     ap (λ (l : List (List ℕ)). l ++ (cut_of (fresh_of payload) []).sections) (newly_is run (tail_of payload))
 completed_is false counter payload run =
     let none : (cut_of [] []).sections ≡ [] = ap (λ (c : Cut). c.sections) (cut_none 0 []) in
-    newly_is run payload ∙ (sym (append-nil (added (making_of run) payload).sections) ∙ ap (λ (l : List (List ℕ)). (added (making_of run) payload).sections ++ l) (sym none))
+    newly_is run payload ∙ (sym (append-nil (added (making_of run) payload).sections) ∙
+    ap (λ (l : List (List ℕ)). (added (making_of run) payload).sections ++ l) (sym none))
 
 making_is : (unit_start : Bool) (counter : ℕ) (payload : List ℕ) (run : Run) →
     making_of (longer_run (record { unit_start = unit_start; counter = counter; payload = payload }) run)
@@ -37,7 +42,8 @@ making_is true counter payload run = refl
 making_is false counter payload run =
     let none : (cut_of [] []).making ≡ [] = ap (λ (c : Cut). c.making) (cut_none 0 []) in
     ap (λ (c : Cut). c.making) (longer (length run.first) run.first run.more payload)
-    ∙ (sym (append-nil (added (making_of run) payload).making) ∙ ap (λ (l : List ℕ). (added (making_of run) payload).making ++ l) (sym none))
+    ∙ (sym (append-nil (added (making_of run) payload).making) ∙
+    ap (λ (l : List ℕ). (added (making_of run) payload).making ++ l) (sym none))
 
 is_true : (v : Bool) → not v ≡ false → v ≡ true
 is_true true h = refl
@@ -47,16 +53,19 @@ is_true false h = absurd (cc)
 abbrev assembling : Option ℕ → List ℕ → List (List ℕ) → Assembling
 assembling counter making waiting = record { counter = counter; making = making; waiting = waiting }
 
-state_is : (a c : Option ℕ) (m n : List ℕ) (v w : List (List ℕ)) → a ≡ c → m ≡ n → v ≡ w → assembling a m v ≡ assembling c n w
+state_is : (a c : Option ℕ) (m n : List ℕ) (v w : List (List ℕ)) → a ≡ c → m ≡ n → v ≡ w → assembling a m v
+    ≡ assembling c n w
 state_is a c m n v w e f g =
-    ap (λ (k : Option ℕ). assembling k m v) e ∙ (ap (λ (k : List ℕ). assembling c k v) f ∙ ap (λ (k : List (List ℕ)). assembling c n k) g)
+    ap (λ (k : Option ℕ). assembling k m v) e ∙ (ap (λ (k : List ℕ). assembling c k v) f ∙
+    ap (λ (k : List (List ℕ)). assembling c n k) g)
 
 -- a packet that is passed over leaves the last counter, the run, and completes nothing
 counter_by : (has : Bool) (counter : ℕ) (last : Option ℕ) → (has && not (is_last counter last)) ≡ false →
     (if has then Some counter else last) ≡ last
 counter_by false counter last h = refl
 counter_by true counter None h = absurd (cc)
-counter_by true counter (Some last) h = ap (λ (n : ℕ). Some n) (sym (eqb-true last counter (is_true (last == counter) h)))
+counter_by true counter (Some last) h = ap (λ (n : ℕ). Some n)
+    (sym (eqb-true last counter (is_true (last == counter) h)))
 
 counter_passed : (packet : Fed) (before : List Fed) → is_taken packet (last_counter before) ≡ false →
     last_counter (packet ∷ before) ≡ last_counter before
@@ -81,7 +90,8 @@ passed_over : (packet : Fed) (before : List Fed) → is_taken packet (last_count
     after (packet ∷ before) ≡ fed (all_lent (after before)) packet
 unfolding after
 passed_over packet before e =
-    state_is _ _ _ _ _ _ (counter_passed packet before e) (ap making_of (run_passed packet before e)) (completed_passed packet before e)
+    state_is _ _ _ _ _ _ (counter_passed packet before e) (ap making_of (run_passed packet before e))
+    (completed_passed packet before e)
     ∙ sym (fed_passed (all_lent (after before)) packet e)
 
 -- a packet that is taken
@@ -116,7 +126,8 @@ taken : (packet : Fed) (before : List Fed) → is_taken packet (last_counter bef
 unfolding after
 taken packet before e =
     let run : Run = kept_run packet (last_counter before) (run_after before) in
-    let making : making_of run ≡ (if is_next packet.counter (last_counter before) then making_of (run_after before) else []) =
+    let making : making_of run ≡ (if is_next packet.counter (last_counter before) then making_of
+    (run_after before) else []) =
     kept_making (is_next packet.counter (last_counter before)) (run_after before) in
     state_is _ _ _ _ _ _ (counter_taken packet before e)
     (ap making_of (run_taken packet before e) ∙ making_is packet.unit_start packet.counter packet.payload run)
@@ -132,12 +143,14 @@ after_fed packet before = by_test (is_taken packet (last_counter before)) refl w
   by_test false e = passed_over packet before e
 
 -- so too from what equals it
-pub fed_after : (old new : Assembling) (packet : Fed) (before : List Fed) → new ≡ fed old packet → old ≡ all_lent (after before) →
+pub fed_after : (old new : Assembling) (packet : Fed) (before : List Fed) → new ≡ fed old packet →
+    old ≡ all_lent (after before) →
     new ≡ after (packet ∷ before)
 fed_after old new packet before e f = e ∙ (ap (λ (s : Assembling). fed s packet) f ∙ sym (after_fed packet before))
 
 -- what is kept, by its fields: the counter, and what the others come to whatever the counter is
-kept_counter : (holds : Holds) (bytes : List ℕ) (cut : Cut) (counter : Option ℕ) → (kept holds bytes cut counter).counter ≡ counter
+kept_counter : (holds : Holds) (bytes : List ℕ) (cut : Cut) (counter : Option ℕ) →
+    (kept holds bytes cut counter).counter ≡ counter
 kept_counter Making bytes cut counter = refl
 kept_counter Section bytes cut counter = refl
 kept_counter Lent bytes cut counter = refl
@@ -158,21 +171,26 @@ kept_held false bytes cut counter = refl
 pub nothing_taken : (holds : Holds) (bytes : List ℕ) (cut : Cut) (last : Option ℕ) (packet : Fed) (state : Assembling) →
     kept holds bytes cut last ≡ state → is_taken packet last ≡ false → state ≡ fed state packet
 nothing_taken holds bytes cut last packet state is e =
-    let counter : state.counter ≡ last = ap (λ (s : Assembling). s.counter) (sym is) ∙ kept_counter holds bytes cut last in
+    let counter : state.counter ≡ last = ap (λ (s : Assembling). s.counter) (sym is) ∙
+    kept_counter holds bytes cut last in
     sym (fed_passed state packet (ap (is_taken packet) counter ∙ e))
 
 -- what the steps of taking a packet come to
-pub all_taken : (holds : Holds) (bytes gathered before later stored : List ℕ) (cut : Cut) (last : Option ℕ) (unit_start next whole : Bool) (now : Holds) (counter : ℕ) (payload : List ℕ) (state : Assembling) →
+pub all_taken : (holds : Holds) (bytes gathered before later stored : List ℕ) (cut : Cut) (last : Option ℕ)
+    (unit_start next whole : Bool) (now : Holds) (counter : ℕ) (payload : List ℕ) (state : Assembling) →
     kept holds bytes cut last ≡ state → now ≡ holds_of whole →
     is_taken (record { unit_start = unit_start; counter = counter; payload = payload }) last ≡ true →
-    gathered ≡ (kept holds bytes cut None).making → next ≡ is_next counter last → before ≡ (if next then gathered else []) →
+    gathered ≡ (kept holds bytes cut None).making → next ≡ is_next counter last →
+    before ≡ (if next then gathered else []) →
     (held whole later).sections ≡ (added before (tail_with unit_start payload)).sections →
     (held whole later).making ≡ still_making unit_start before payload → stored ≡ fresh_with unit_start payload →
     kept now later (cut_of stored []) (Some counter) ≡
     fed state (record { unit_start = unit_start; counter = counter; payload = payload })
-all_taken holds bytes gathered before later stored cut last unit_start next whole now counter payload state is is_now e is_gathered is_next' is_before sections making is_stored =
+all_taken holds bytes gathered before later stored cut last unit_start next whole now counter payload state is is_now e
+    is_gathered is_next' is_before sections making is_stored =
     let packet : Fed = record { unit_start = unit_start; counter = counter; payload = payload } in
-    let same_counter : state.counter ≡ last = ap (λ (s : Assembling). s.counter) (sym is) ∙ kept_counter holds bytes cut last in
+    let same_counter : state.counter ≡ last = ap (λ (s : Assembling). s.counter) (sym is) ∙
+    kept_counter holds bytes cut last in
     let same_making : gathered ≡ state.making =
     is_gathered ∙ (kept_same holds bytes cut None last ∙ ap (λ (s : Assembling). s.making) is) in
     let start : before ≡ (if is_next counter state.counter then state.making else []) =
@@ -182,25 +200,30 @@ all_taken holds bytes gathered before later stored cut last unit_start next whol
     ap (λ (h : Holds). kept h later (cut_of stored []) (Some counter)) is_now
     ∙ (kept_held whole later (cut_of stored []) (Some counter)
     ∙ state_is _ _ _ _ _ _ refl
-    (ap (λ (l : List ℕ). l ++ (cut_of stored []).making) making ∙ ap (λ (l : List ℕ). still_making unit_start before payload ++ (cut_of l []).making) is_stored)
+    (ap (λ (l : List ℕ). l ++ (cut_of stored []).making) making ∙
+    ap (λ (l : List ℕ). still_making unit_start before payload ++ (cut_of l []).making) is_stored)
     (ap (λ (l : List (List ℕ)). l ++ (cut_of stored []).sections) sections
-    ∙ ap (λ (l : List ℕ). (added before (tail_with unit_start payload)).sections ++ (cut_of l []).sections) is_stored)) in
+    ∙ ap (λ (l : List ℕ). (added before (tail_with unit_start payload)).sections ++ (cut_of l []).sections)
+    is_stored)) in
     result ∙ (ap (going_on packet) start ∙ sym (fed_taken state packet (ap (is_taken packet) same_counter ∙ e)))
 
--- with a section more in front of what is cut, that one is lent next
+-- with a section more before what is cut, that one is lent next
 pub lent_next : (holds : Holds) (bytes section : List ℕ) (cut : Cut) (counter : Option ℕ) → is_section holds ≡ false →
-    (next_of (kept holds bytes (with_section section cut) counter) ≡ Some section) × (kept holds bytes cut counter ≡ one_lent (kept holds bytes (with_section section cut) counter))
+    (next_of (kept holds bytes (with_section section cut) counter) ≡ Some section)
+    × (kept holds bytes cut counter ≡ one_lent (kept holds bytes (with_section section cut) counter))
 lent_next Making bytes section cut counter h = (refl, refl)
 lent_next Section bytes section cut counter h = absurd (cc)
 lent_next Lent bytes section cut counter h = (refl, refl)
 
 -- a part of a payload, cut in two
-part_front : (payload : List ℕ) (at n end : ℕ) → at + n ≤ end → slice_range payload at (at + n) ≡ take n (slice_range payload at end)
-part_front payload at n end h =
+part_first : (payload : List ℕ) (at n end : ℕ) → at + n ≤ end → slice_range payload at (at + n)
+    ≡ take n (slice_range payload at end)
+part_first payload at n end h =
     let count : at + n - at ≡ n = omega arith in
     ap (λ (k : ℕ). take k (drop at payload)) count ∙ sym (take-take n (end - at) (drop at payload) (omega arith))
 
-part_back : (payload : List ℕ) (at n end : ℕ) → at + n ≤ end → slice_range payload (at + n) end ≡ drop n (slice_range payload at end)
+part_back : (payload : List ℕ) (at n end : ℕ) → at + n ≤ end → slice_range payload (at + n) end
+    ≡ drop n (slice_range payload at end)
 part_back payload at n end h =
     let count : n + (end - (at + n)) ≡ end - at = omega arith in
     ap (take (end - (at + n))) (sym (drop-drop n at payload))
@@ -211,15 +234,19 @@ pub part_lent : (holds : Holds) (bytes payload rest : List ℕ) (at n end : ℕ)
     is_section holds ≡ false → at + n ≤ end →
     kept holds bytes (cut_of (slice_range payload at end) []) counter ≡ state → rest ≡ slice_range payload at end →
     cut_of rest [] ≡ with_section (take n rest) (cut_of (drop n rest) []) →
-    (kept holds bytes (cut_of (slice_range payload (at + n) end) []) counter ≡ one_lent state) × (Some (slice_range payload at (at + n)) ≡ next_of state)
+    (kept holds bytes (cut_of (slice_range payload (at + n) end) []) counter ≡ one_lent state)
+    × (Some (slice_range payload at (at + n)) ≡ next_of state)
 part_lent holds bytes payload rest at n end counter state h fits is is_rest cut =
     let next = lent_next holds bytes (take n rest) (cut_of (drop n rest) []) counter h in
     let whole : state ≡ kept holds bytes (with_section (take n rest) (cut_of (drop n rest) [])) counter =
-    sym is ∙ (ap (λ (l : List ℕ). kept holds bytes (cut_of l []) counter) (sym is_rest) ∙ ap (λ (c : Cut). kept holds bytes c counter) cut) in
-    let front : slice_range payload at (at + n) ≡ take n rest = part_front payload at n end fits ∙ ap (take n) (sym is_rest) in
-    let back : slice_range payload (at + n) end ≡ drop n rest = part_back payload at n end fits ∙ ap (drop n) (sym is_rest) in (
+    sym is ∙ (ap (λ (l : List ℕ). kept holds bytes (cut_of l []) counter) (sym is_rest) ∙
+    ap (λ (c : Cut). kept holds bytes c counter) cut) in
+    let here : slice_range payload at (at + n) ≡ take n rest = part_first payload at n end fits ∙
+    ap (take n) (sym is_rest) in
+    let back : slice_range payload (at + n) end ≡ drop n rest = part_back payload at n end fits ∙
+    ap (drop n) (sym is_rest) in (
       ap (λ (l : List ℕ). kept holds bytes (cut_of l []) counter) back ∙ (next.1 ∙ ap one_lent (sym whole)),
-      ap (λ (l : List ℕ). Some l) front ∙ (sym next.0 ∙ ap next_of (sym whole)),
+      ap (λ (l : List ℕ). Some l) here ∙ (sym next.0 ∙ ap next_of (sym whole)),
     )
 
 -- where a section is lent next, some are left

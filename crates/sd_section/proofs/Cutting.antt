@@ -1,5 +1,7 @@
 -- Bytes that are cut into sections, with more bytes after them.
-use Rattle.std.proofs.Common.{ℕ, zero, suc, ◌+◌, ◌-◌, ◌*◌, ◌/◌, ◌%◌, ◌^◌, ◌<◌, ◌≤◌, ◌≡◌, Bool, true, false, ◌==◌, List, [], ◌∷◌, ◌++◌, length, take, drop, append_assoc, length-append, inl, inr, refl, sym, ap, ◌∙◌, arith}
+use Rattle.std.proofs.Common.{ℕ, zero, suc, ◌+◌, ◌-◌, ◌*◌, ◌/◌, ◌%◌, ◌^◌, ◌<◌, ◌≤◌, ◌≡◌, Bool, true, false, ◌==◌, List}
+use Rattle.std.proofs.Common.{[], ◌∷◌, ◌++◌, length, take, drop, append_assoc, length-append, inl, inr, refl, sym, ap}
+use Rattle.std.proofs.Common.{◌∙◌, arith}
 use Rattle.std.specs.Prelude.{nat_le, nat_lt}
 use Rattle.std.proofs.lemmas.Bool.{and_parts, leb-true, le-leb, lt-ltb, cases_lt}
 use Rattle.std.proofs.lemmas.List.{get_or_append_left, take-append-le, drop_all}
@@ -10,19 +12,24 @@ use Rattle.sd_section.specs.Assembled.{is_overlong, is_whole, Cut, no_cut, with_
 use Rattle.sd_section.specs.Steps.{added}
 
 -- a field within the first bytes stays with more bytes after
-pub field_append : (front back : List ℕ) (at width : ℕ) → at + width ≤ 8 * length front →
-    field (front ++ back) at width ≡ field front at width
-field_append front back at width h =
-    same_by_bits (front ++ back) front at width (λ j k.
-    let here : (at + j) / 8 < length front = omega arith in
-    ap (λ (b : ℕ). b / 2 ^ (7 - (at + j) % 8) % 2) (get_or_append_left front back 0 ((at + j) / 8) here))
+pub field_append : (first back : List ℕ) (at width : ℕ) → at + width ≤ 8 * length first →
+    field (first ++ back) at width ≡ field first at width
+field_append first back at width h =
+    same_by_bits (first ++ back) first at width (λ j k.
+    let here : (at + j) / 8 < length first = omega arith in
+    ap (λ (b : ℕ). b / 2 ^ (7 - (at + j) % 8) % 2) (get_or_append_left first back 0 ((at + j) / 8) here))
 
 -- so does section_length
 pub length_stays : (run more : List ℕ) → 3 ≤ length run → section_length_of (run ++ more) ≡ section_length_of run
 length_stays run more h = field_append run more 12 12 (omega arith)
 
-three_there : (run more : List ℕ) → 3 ≤ length run → (nat_le 3 (length run) ≡ true) × (nat_le 3 (length (run ++ more)) ≡ true)
-three_there run more h = (le-leb 3 (length run) h, le-leb 3 (length (run ++ more)) (omega (arith, length-append run more)))
+three_there : (run more : List ℕ) → 3 ≤ length run → (nat_le 3 (length run) ≡ true)
+    × (nat_le 3 (length (run ++ more)) ≡ true)
+three_there run more h = (
+  le-leb 3 (length run) h,
+  le-leb 3 (length (run ++ more))
+      (omega (arith, length-append run more)),
+)
 
 pub over_stays : (run more : List ℕ) → 3 ≤ length run → is_overlong (run ++ more) ≡ is_overlong run
 unfolding is_overlong
@@ -30,7 +37,8 @@ over_stays run more h = let three = three_there run more h in rw (three.0, three
 
 pub over_has_three : (run : List ℕ) → is_overlong run ≡ true → 3 ≤ length run
 unfolding is_overlong
-over_has_three run h = leb-true 3 (length run) (and_parts (nat_le 3 (length run)) (nat_lt 4093 (section_length_of run)) h).0
+over_has_three run h = leb-true 3 (length run) (and_parts (nat_le 3 (length run)) (nat_lt 4093 (section_length_of run))
+    h).0
 
 pub all_is_over : (run : List ℕ) → 3 ≤ length run → 4093 < section_length_of run → is_overlong run ≡ true
 unfolding is_overlong
@@ -50,10 +58,12 @@ pub whole_stays : (run more : List ℕ) → is_whole run ≡ true → is_whole (
 whole_stays run more h =
     let all = whole_has_all run h in
     let same = length_stays run more all.0 in
-    all_is_whole (run ++ more) (omega (arith, length-append run more)) (omega (arith, length-append run more, same, all.1))
+    all_is_whole (run ++ more) (omega (arith, length-append run more))
+    (omega (arith, length-append run more, same, all.1))
 
 -- where a run isn't whole and is with more after it, its length passes the run
-passes : (run more : List ℕ) → is_whole run ≡ false → is_whole (run ++ more) ≡ true → length run ≤ 3 + section_length_of (run ++ more)
+passes : (run more : List ℕ) → is_whole run ≡ false → is_whole (run ++ more) ≡ true → length run ≤ 3 + section_length_of
+    (run ++ more)
 passes run more part whole = elim (cases_lt (3 + section_length_of (run ++ more)) (length run)) [
   | inl short ↦
       let three : 3 ≤ length run = omega arith in
@@ -112,7 +122,10 @@ added_none more = refl
 
 -- a cut, and what its section in the making comes to with more bytes
 abbrev pub gone_on : Cut → List ℕ → Cut
-gone_on cut bytes = record { sections = cut.sections ++ (added cut.making bytes).sections; making = (added cut.making bytes).making }
+gone_on cut bytes = record {
+  sections = cut.sections ++ (added cut.making bytes).sections;
+  making = (added cut.making bytes).making;
+}
 
 -- the run may be written with its parts in another order
 run_is : (b : ℕ) (bs more bytes : List ℕ) → b ∷ bs ++ (more ++ bytes) ≡ (b ∷ bs ++ more) ++ bytes
@@ -138,12 +151,16 @@ longer_turn n b bs more bytes after false false true over' whole' s o w o' w' =
     let all : List ℕ = b ∷ bs ++ (more ++ bytes) in
     let is : all ≡ run ++ bytes = run_is b bs more bytes in
     let there = whole_has_all run w in
-    let same : section_length_of all ≡ section_length_of run = ap section_length_of is ∙ length_stays run bytes there.0 in
-    let front : whole_of all ≡ whole_of run =
-    ap (λ (k : ℕ). take (3 + k) all) same ∙ (ap (take (3 + section_length_of run)) is ∙ take-append-le (3 + section_length_of run) run bytes there.1) in
+    let same : section_length_of all ≡ section_length_of run = ap section_length_of is ∙
+    length_stays run bytes there.0 in
+    let first : whole_of all ≡ whole_of run =
+    ap (λ (k : ℕ). take (3 + k) all) same ∙ (ap (take (3 + section_length_of run)) is ∙
+    take-append-le (3 + section_length_of run) run bytes there.1) in
     let left : List ℕ = drop (3 + section_length_of run) (b ∷ bs) in
-    cut_whole n b bs (more ++ bytes) s (ap is_overlong is ∙ (over_stays run bytes there.0 ∙ o)) (ap is_whole is ∙ whole_stays run bytes w)
-    ∙ (ap (λ (l : List ℕ). with_section l (cut_from n (drop (3 + section_length_of all) (b ∷ bs)) (more ++ bytes))) front
+    cut_whole n b bs (more ++ bytes) s (ap is_overlong is ∙ (over_stays run bytes there.0 ∙ o)) (ap is_whole is ∙
+    whole_stays run bytes w)
+    ∙ (ap (λ (l : List ℕ). with_section l (cut_from n (drop (3 + section_length_of all) (b ∷ bs)) (more ++ bytes)))
+    first
     ∙ (ap (λ (k : ℕ). with_section (whole_of run) (cut_from n (drop (3 + k) (b ∷ bs)) (more ++ bytes))) same
     ∙ (ap (with_section (whole_of run)) (after left)
     ∙ ap (λ (c : Cut). gone_on c bytes) (sym (cut_whole n b bs more s o w)))))
@@ -157,18 +174,23 @@ longer_turn n b bs more bytes after false false false false true s o w o' w' =
     let past : length (b ∷ bs) ≤ 3 + section_length_of all =
     omega (arith, passes run bytes w w', ap section_length_of is, length-append (b ∷ bs) more) in
     let none : cut_from n (drop (3 + section_length_of all) (b ∷ bs)) (more ++ bytes) ≡ no_cut =
-    ap (λ (l : List ℕ). cut_from n l (more ++ bytes)) (drop_all (3 + section_length_of all) (b ∷ bs) past) ∙ cut_none n (more ++ bytes) in
+    ap (λ (l : List ℕ). cut_from n l (more ++ bytes)) (drop_all (3 + section_length_of all) (b ∷ bs) past) ∙
+    cut_none n (more ++ bytes) in
     cut_whole n b bs (more ++ bytes) s (ap is_overlong is ∙ o') (ap is_whole is ∙ w')
     ∙ (ap (with_section (whole_of all)) none
     ∙ (ap (λ (l : List ℕ). with_section (whole_of l) no_cut) is
-    ∙ (sym (added_whole b (bs ++ more) bytes o' w') ∙ ap (λ (c : Cut). gone_on c bytes) (sym (cut_part n b bs more s o w)))))
+    ∙ (sym (added_whole b (bs ++ more) bytes o' w') ∙ ap (λ (c : Cut). gone_on c bytes)
+    (sym (cut_part n b bs more s o w)))))
 longer_turn n b bs more bytes after false false false false false s o w o' w' =
-    cut_part n b bs (more ++ bytes) s (ap is_overlong (run_is b bs more bytes) ∙ o') (ap is_whole (run_is b bs more bytes) ∙ w')
+    cut_part n b bs (more ++ bytes) s (ap is_overlong (run_is b bs more bytes) ∙ o')
+    (ap is_whole (run_is b bs more bytes) ∙ w')
     ∙ (ap (λ (l : List ℕ). record { sections = []; making = l }) (run_is b bs more bytes)
-    ∙ (sym (added_part b (bs ++ more) bytes o' w') ∙ ap (λ (c : Cut). gone_on c bytes) (sym (cut_part n b bs more s o w))))
+    ∙ (sym (added_part b (bs ++ more) bytes o' w') ∙ ap (λ (c : Cut). gone_on c bytes)
+    (sym (cut_part n b bs more s o w))))
 
 -- a cut of a longer run
-pub longer : (n : ℕ) (first more bytes : List ℕ) → cut_from n first (more ++ bytes) ≡ gone_on (cut_from n first more) bytes
+pub longer : (n : ℕ) (first more bytes : List ℕ) → cut_from n first (more ++ bytes) ≡ gone_on (cut_from n first more)
+    bytes
 unfolding cut_from added
 longer zero first more bytes = refl
 longer (suc n) [] more bytes = refl

@@ -1,5 +1,6 @@
 -- Sections that this project writes are read as they were written.
-use Rattle.std.proofs.Common.{ℕ, ◌+◌, ◌-◌, ◌*◌, ◌/◌, ◌%◌, ◌^◌, ◌<◌, ◌≤◌, ◌≡◌, Bool, true, List, [], ◌++◌, length, take, drop, length-append, append-nil, append_assoc, eq-eqb, refl, sym, ap, subst, ◌∙◌, arith}
+use Rattle.std.proofs.Common.{ℕ, ◌+◌, ◌-◌, ◌*◌, ◌/◌, ◌%◌, ◌^◌, ◌<◌, ◌≤◌, ◌≡◌, Bool, true, List, [], ◌++◌, length, take}
+use Rattle.std.proofs.Common.{drop, length-append, append-nil, append_assoc, eq-eqb, refl, sym, ap, subst, ◌∙◌, arith}
 use Rattle.std.specs.Prelude.{None, slice_index, ◌==◌}
 use Rattle.std.specs.Int.{w32, to_be_bytes}
 use Rattle.std.proofs.lemmas.Bool.{le-leb}
@@ -9,14 +10,16 @@ use Rattle.sd_bits.proofs.Fields.{field_below, field_split}
 use Rattle.sd_bits.proofs.Words.{byte_field}
 use Rattle.sd_crc.specs.Crc.{crc_of}
 use Rattle.sd_crc.proofs.Words.{crc_below}
-use Rattle.sd_section.specs.Header.{syntax_of, private_of, section_length_of, extension_of, version_of, current_of, whole_of, body_of, crc_in, crc_due}
+use Rattle.sd_section.specs.Header.{syntax_of, private_of, section_length_of, extension_of, version_of, current_of}
+use Rattle.sd_section.specs.Header.{whole_of, body_of, crc_in, crc_due}
 use Rattle.sd_section.specs.Judged.{unless, crc_fault, section_fault}
 use Rattle.sd_section.specs.Written.{header_bytes, sealed, section_bytes, Fits, IsWritten}
 use Rattle.sd_section.specs.declared.fault.SectionFault.TheVariants.{Crc}
 use Rattle.sd_section.specs.declared.write.Header.{Header}
 
 -- a list of four bytes as a number
-four_field : (xs : List ℕ) → slice_index xs 0 < 256 → slice_index xs 1 < 256 → slice_index xs 2 < 256 → slice_index xs 3 < 256 →
+four_field : (xs : List ℕ) → slice_index xs 0 < 256 → slice_index xs 1 < 256 → slice_index xs 2 < 256 → slice_index xs 3
+    < 256 →
     field xs 0 32 ≡ ((slice_index xs 0 * 256 + slice_index xs 1) * 256 + slice_index xs 2) * 256 + slice_index xs 3
 four_field xs h0 h1 h2 h3 =
     let b0 = byte_field xs 0 h0 in
@@ -30,20 +33,21 @@ number_again : (n : ℕ) → n < 2 ^ 32 → field (to_be_bytes w32 n) 0 32 ≡ n
 number_again n h = four_field (to_be_bytes w32 n) (omega arith) (omega arith) (omega arith) (omega arith) ∙ omega arith
 
 -- the CRC of sealed bytes
-sealed_front : (front : List ℕ) → length (sealed front) - 4 ≡ length front
-sealed_front front = omega (arith, length-append front (to_be_bytes w32 (crc_of front)))
+sealed_long : (head : List ℕ) → length (sealed head) - 4 ≡ length head
+sealed_long head = omega (arith, length-append head (to_be_bytes w32 (crc_of head)))
 
-crc_is_read : (front : List ℕ) → crc_in (sealed front) ≡ crc_of front
+pub crc_is_read : (head : List ℕ) → crc_in (sealed head) ≡ crc_of head
 unfolding crc_in
-crc_is_read front =
-    ap (λ (n : ℕ). field (drop n (sealed front)) 0 32) (sealed_front front)
-    ∙ (ap (λ (l : List ℕ). field l 0 32) (drop_at front (to_be_bytes w32 (crc_of front)) (length front) refl) ∙ number_again (crc_of front) (crc_below front))
+crc_is_read head =
+    ap (λ (n : ℕ). field (drop n (sealed head)) 0 32) (sealed_long head)
+    ∙ (ap (λ (l : List ℕ). field l 0 32) (drop_at head (to_be_bytes w32 (crc_of head)) (length head) refl) ∙
+    number_again (crc_of head) (crc_below head))
 
-crc_is_due : (front : List ℕ) → crc_due (sealed front) ≡ crc_of front
+pub crc_is_due : (head : List ℕ) → crc_due (sealed head) ≡ crc_of head
 unfolding crc_due
-crc_is_due front =
-    ap (λ (n : ℕ). crc_of (take n (sealed front))) (sealed_front front) ∙
-    ap crc_of (take_at front (to_be_bytes w32 (crc_of front)) (length front) refl)
+crc_is_due head =
+    ap (λ (n : ℕ). crc_of (take n (sealed head))) (sealed_long head) ∙
+    ap crc_of (take_at head (to_be_bytes w32 (crc_of head)) (length head) refl)
 
 -- the fields of bytes that begin with a header
 record HasHeader (header : Header) (body : ℕ) (section : List ℕ) : Type 0 where
@@ -102,7 +106,8 @@ header_is_read header body rest fits few =
 -- a section, and what stands after it, begin with the header
 parts_are : (header : Header) (body rest : List ℕ) →
     section_bytes header body ++ rest ≡
-    header_bytes header (length body) ++ ((body ++ to_be_bytes w32 (crc_of (header_bytes header (length body) ++ body))) ++ rest)
+    header_bytes header (length body) ++ ((body ++ to_be_bytes w32 (crc_of (header_bytes header (length body) ++ body)))
+    ++ rest)
 unfolding section_bytes
 parts_are header body rest = refl
 
@@ -110,7 +115,8 @@ all_headed : (header : Header) (body rest : List ℕ) → Fits header → length
     HasHeader header (length body) (section_bytes header body ++ rest)
 all_headed header body rest fits few =
     subst (HasHeader header (length body)) (sym (parts_are header body rest))
-    (header_is_read header (length body) ((body ++ to_be_bytes w32 (crc_of (header_bytes header (length body) ++ body))) ++ rest) fits few)
+    (header_is_read header (length body) ((body ++ to_be_bytes w32 (crc_of (header_bytes header (length body) ++ body)))
+    ++ rest) fits few)
 
 section_headed : (header : Header) (body : List ℕ) → Fits header → length body ≤ 4084 →
     HasHeader header (length body) (section_bytes header body)
@@ -119,31 +125,35 @@ section_headed header body fits few = rw append-nil at (all_headed header body [
 -- how long the section is
 section_long : (header : Header) (body : List ℕ) → length (section_bytes header body) ≡ length body + 12
 unfolding section_bytes
-section_long header body = omega (arith, length-append body (to_be_bytes w32 (crc_of (header_bytes header (length body) ++ body))))
+section_long header body = omega
+    (arith, length-append body (to_be_bytes w32 (crc_of (header_bytes header (length body) ++ body))))
 
 -- the whole section is read
 pub whole_is_read : (header : Header) (body rest : List ℕ) → Fits header → length body ≤ 4084 →
     whole_of (section_bytes header body ++ rest) ≡ section_bytes header body
 whole_is_read header body rest fits few =
     let head = all_headed header body rest fits few in
-    take_at (section_bytes header body) rest (3 + section_length_of (section_bytes header body ++ rest)) (omega (arith, section_long header body, head.section_length))
+    take_at (section_bytes header body) rest (3 + section_length_of (section_bytes header body ++ rest))
+    (omega (arith, section_long header body, head.section_length))
 
 -- its CRC is the one due
 crc_is_right : (header : Header) (body : List ℕ) → crc_fault (section_bytes header body) ≡ None
 unfolding section_bytes
 crc_is_right header body =
-    let front : List ℕ = header_bytes header (length body) ++ body in
-    let right : (crc_in (sealed front) == crc_due (sealed front)) ≡ true =
-    eq-eqb (crc_in (sealed front)) (crc_due (sealed front)) (crc_is_read front ∙ sym (crc_is_due front)) in
-    ap (λ (b : Bool). unless b (Crc (crc_in (sealed front)) (crc_due (sealed front))) None) right
+    let head : List ℕ = header_bytes header (length body) ++ body in
+    let right : (crc_in (sealed head) == crc_due (sealed head)) ≡ true =
+    eq-eqb (crc_in (sealed head)) (crc_due (sealed head)) (crc_is_read head ∙ sym (crc_is_due head)) in
+    ap (λ (b : Bool). unless b (Crc (crc_in (sealed head)) (crc_due (sealed head))) None) right
 
 -- nothing is wrong with it
 all_good : (bytes section : List ℕ) → 3 ≤ length bytes → syntax_of bytes ≡ 1 → 9 ≤ section_length_of bytes →
     section_length_of bytes ≤ 4093 →
-    3 + section_length_of bytes ≤ length bytes → whole_of bytes ≡ section → crc_fault section ≡ None → section_fault bytes ≡ None
+    3 + section_length_of bytes ≤ length bytes → whole_of bytes ≡ section → crc_fault section ≡ None →
+    section_fault bytes ≡ None
 unfolding section_fault
 all_good bytes section three long low high there is right =
-    rw (le-leb 3 (length bytes) three) (rw long (rw (le-leb 9 (section_length_of bytes) low) (rw (le-leb (section_length_of bytes) 4093 high)
+    rw (le-leb 3 (length bytes) three)
+    (rw long (rw (le-leb 9 (section_length_of bytes) low) (rw (le-leb (section_length_of bytes) 4093 high)
     (rw (le-leb (3 + section_length_of bytes) (length bytes) there) (ap crc_fault is ∙ right)))))
 
 pub none_is_wrong : (header : Header) (body rest : List ℕ) → Fits header → length body ≤ 4084 →
@@ -152,23 +162,30 @@ none_is_wrong header body rest fits few =
     let head = all_headed header body rest fits few in
     let all = length-append (section_bytes header body) rest in
     let long = section_long header body in
-    all_good (section_bytes header body ++ rest) (section_bytes header body) (omega arith) head.syntax (omega arith) (omega arith) (omega arith)
+    all_good (section_bytes header body ++ rest) (section_bytes header body) (omega arith) head.syntax (omega arith)
+    (omega arith) (omega arith)
     (whole_is_read header body rest fits few) (crc_is_right header body)
 
 -- what stands between eight bytes and four
-between : (front body back : List ℕ) → length front ≡ 8 → length back ≡ 4 → body_of ((front ++ body) ++ back) ≡ body
-between front body back h k =
-    let all : List ℕ = (front ++ body) ++ back in
-    let count : length all - 4 - 8 ≡ length body = omega (arith, length-append (front ++ body) back, length-append front body) in
-    let after : drop 8 all ≡ body ++ back = ap (drop 8) (append_assoc front body back) ∙ drop_at front (body ++ back) 8 h in
+between : (head body back : List ℕ) → length head ≡ 8 → length back ≡ 4 → body_of ((head ++ body) ++ back) ≡ body
+between head body back h k =
+    let all : List ℕ = (head ++ body) ++ back in
+    let count : length all - 4 - 8 ≡ length body = omega (
+      arith,
+      length-append (head ++ body) back,
+      length-append head
+          body,
+    ) in
+    let after : drop 8 all ≡ body ++ back = ap (drop 8) (append_assoc head body back) ∙ drop_at head (body ++ back) 8
+    h in
     ap (λ (n : ℕ). take n (drop 8 all)) count ∙ (ap (take (length body)) after ∙ take_at body back (length body) refl)
 
 -- its body is what was written
 body_is_read : (header : Header) (body : List ℕ) → body_of (section_bytes header body) ≡ body
 unfolding section_bytes
 body_is_read header body =
-    let front : List ℕ = header_bytes header (length body) in
-    between front body (to_be_bytes w32 (crc_of (front ++ body))) refl refl
+    let head : List ℕ = header_bytes header (length body) in
+    between head body (to_be_bytes w32 (crc_of (head ++ body))) refl refl
 
 pub fields_are_read : (header : Header) (body : List ℕ) → Fits header → length body ≤ 4084 →
     IsWritten header body (section_bytes header body)

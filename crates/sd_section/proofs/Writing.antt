@@ -1,5 +1,6 @@
 -- Headers are written field by field.
-use Rattle.std.proofs.Common.{ℕ, ◌+◌, ◌*◌, ◌/◌, ◌%◌, ◌<◌, ◌≤◌, ◌≡◌, List, [], ◌∷◌, length, get_or, refl, sym, ◌∙◌, inl, arith}
+use Rattle.std.proofs.Common.{ℕ, ◌+◌, ◌*◌, ◌/◌, ◌%◌, ◌<◌, ◌≤◌, ◌≡◌, List, [], ◌∷◌, length, get_or, refl, sym, ◌∙◌, inl}
+use Rattle.std.proofs.Common.{arith}
 use Rattle.sd_bits.specs.Bits.{field, KeepsOthers}
 use Rattle.sd_bits.proofs.Fields.{field_split, apart_stays}
 use Rattle.sd_bits.proofs.Words.{byte_field}
@@ -7,7 +8,8 @@ use Rattle.sd_crc.proofs.Words.{eight_listed}
 
 -- eight bytes are a header where their fields are
 header_by_fields : (xs : List ℕ) (t n e s l : ℕ) → length xs ≡ 8 → ((i : ℕ) → get_or xs i 0 < 256) →
-    field xs 0 8 ≡ t → field xs 8 1 ≡ 1 → field xs 9 1 ≡ 0 → field xs 10 2 ≡ 3 → field xs 12 12 ≡ n → field xs 24 16 ≡ e →
+    field xs 0 8 ≡ t → field xs 8 1 ≡ 1 → field xs 9 1 ≡ 0 → field xs 10 2 ≡ 3 → field xs 12 12 ≡ n → field xs 24 16
+    ≡ e →
     field xs 40 2 ≡ 3 → field xs 42 5 ≡ 0 → field xs 47 1 ≡ 1 → field xs 48 8 ≡ s → field xs 56 8 ≡ l →
     xs ≡ t ∷ (0xB0 + n / 256) ∷ (n % 256) ∷ (e / 256) ∷ (e % 256) ∷ 0xC1 ∷ s ∷ l ∷ []
 header_by_fields xs t n e s l long bytes f0 f1 f2 f3 f4 f5 f6 f7 f8 f9 f10 =
@@ -45,7 +47,8 @@ header_by_fields xs t n e s l long bytes f0 f1 f2 f3 f4 f5 f6 f7 f8 f9 f10 =
     eight_listed xs long ∙ rw (e0, e1, e2, e3, e4, e5, e6, e7) refl
 
 -- the fields of a header that are written from the first to the last stand in it
-pub header_written : (t n e s l : ℕ) (x0 x1 x2 x3 x4 x5 x6 x7 x8 x9 x10 x11 : List ℕ) → ((i : ℕ) → get_or x11 i 0 < 256) → length x0 ≡ 8 →
+pub header_written : (t n e s l : ℕ) (x0 x1 x2 x3 x4 x5 x6 x7 x8 x9 x10 x11 : List ℕ) →
+    ((i : ℕ) → get_or x11 i 0 < 256) → length x0 ≡ 8 →
     KeepsOthers 0 8 x0 x1 → field x1 0 8 ≡ t → length x1 ≡ length x0 →
     KeepsOthers 8 1 x1 x2 → field x2 8 1 ≡ 1 → length x2 ≡ length x1 →
     KeepsOthers 9 1 x2 x3 → field x3 9 1 ≡ 0 → length x3 ≡ length x2 →
@@ -58,8 +61,10 @@ pub header_written : (t n e s l : ℕ) (x0 x1 x2 x3 x4 x5 x6 x7 x8 x9 x10 x11 : 
     KeepsOthers 48 8 x9 x10 → field x10 48 8 ≡ s → length x10 ≡ length x9 →
     KeepsOthers 56 8 x10 x11 → field x11 56 8 ≡ l → length x11 ≡ length x10 →
     x11 ≡ t ∷ (0xB0 + n / 256) ∷ (n % 256) ∷ (e / 256) ∷ (e % 256) ∷ 0xC1 ∷ s ∷ l ∷ []
-header_written t n e s l x0 x1 x2 x3 x4 x5 x6 x7 x8 x9 x10 x11 bytes l0 k0 f0 l1 k1 f1 l2 k2 f2 l3 k3 f3 l4 k4 f4 l5 k5 f5 l6 k6 f6 l7 k7 f7 l8 k8 f8 l9 k9 f9 l10 k10 f10 l11 =
-    let s10 : (o w : ℕ) → o + w ≤ 56 → field x11 o w ≡ field x10 o w = λ o w h. apart_stays x10 x11 56 8 o w k10 (inl h) in
+header_written t n e s l x0 x1 x2 x3 x4 x5 x6 x7 x8 x9 x10 x11 bytes l0 k0 f0 l1 k1 f1 l2 k2 f2 l3 k3 f3 l4 k4 f4 l5 k5
+    f5 l6 k6 f6 l7 k7 f7 l8 k8 f8 l9 k9 f9 l10 k10 f10 l11 =
+    let s10 : (o w : ℕ) → o + w ≤ 56 → field x11 o w ≡ field x10 o w = λ o w h. apart_stays x10 x11 56 8 o w k10
+    (inl h) in
     let s9 : (o w : ℕ) → o + w ≤ 48 →
     field x11 o w ≡ field x9 o w = λ o w h. s10 o w (omega arith) ∙ apart_stays x9 x10 48 8 o w k9 (inl h) in
     let s8 : (o w : ℕ) → o + w ≤ 47 →

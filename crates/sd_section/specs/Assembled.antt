@@ -1,7 +1,8 @@
 -- Sections assembled from the packets of a PID.
-use Rattle.std.specs.Prelude.{ℕ, zero, suc, refl, ◌+◌, ◌%◌, Bool, false, not, ◌==◌, ◌&&◌, nat_le, nat_lt, if◌then◌else◌, List, [], ◌∷◌, ◌++◌, length, take, drop, slice_index, slice_get, Option, Some, None}
+use Rattle.std.specs.Prelude.{ℕ, zero, suc, refl, ◌+◌, ◌%◌, Bool, false, not, ◌==◌, ◌&&◌, nat_le, nat_lt, if◌then◌else◌}
+use Rattle.std.specs.Prelude.{List, [], ◌∷◌, ◌++◌, length, take, drop, slice_index, slice_get, Option, Some, None}
 use Rattle.std.specs.Coded.{Coded, code_by, coded×, coded_list, coded_option, coded_ℕ}
-use Rattle.sd_section.specs.Header.{section_length_of, whole_of}
+use Rattle.sd_section.specs.Header.{most_length, section_length_of, whole_of}
 
 -- what counts of a packet: payload_unit_start_indicator, continuity_counter, and the payload [ISO/IEC 13818-1, 2.4.3.3]
 pub record Fed : Type 0 where
@@ -14,9 +15,9 @@ abbrev pub starts : List ℕ → Bool
 starts [] = false
 starts (byte ∷ bytes) = not (byte == 255)
 
--- section_length is there and above 4,093 [this project, docs/FORMATS.md, Assembler]
+-- section_length is there and above the most that it may count [this project, docs/FORMATS.md, Assembler]
 unfoldable pub is_overlong : List ℕ → Bool
-is_overlong bytes = nat_le 3 (length bytes) && nat_lt 4093 (section_length_of bytes)
+is_overlong bytes = nat_le 3 (length bytes) && nat_lt most_length (section_length_of bytes)
 
 -- section_length is there, and so are the bytes that it counts [ISO/IEC 13818-1, 2.4.4]
 unfoldable pub is_whole : List ℕ → Bool
@@ -31,7 +32,7 @@ pub record Cut : Type 0 where
 abbrev pub no_cut : Cut
 no_cut = record { sections = []; making = [] }
 
--- with a section more in front
+-- with a section more before them
 abbrev pub with_section : List ℕ → Cut → Cut
 with_section section cut = record { sections = section ∷ cut.sections; making = cut.making }
 
@@ -42,7 +43,8 @@ cut_from zero first more = no_cut
 cut_from (suc n) first more =
     if not (starts first) then no_cut else
     if is_overlong (first ++ more) then no_cut else
-    if is_whole (first ++ more) then with_section (whole_of (first ++ more)) (cut_from n (drop (3 + section_length_of (first ++ more)) first) more) else
+    if is_whole (first ++ more) then with_section (whole_of (first ++ more))
+    (cut_from n (drop (3 + section_length_of (first ++ more)) first) more) else
     record { sections = []; making = first ++ more }
 
 -- all sections that start in `first`, and the last may go on in `more`
@@ -72,10 +74,12 @@ last_counter (packet ∷ before) = if has_payload packet then Some packet.counte
 abbrev pub is_taken : Fed → Option ℕ → Bool
 is_taken packet last = has_payload packet && not (is_last packet.counter last)
 
--- the bytes of a payload with unit start that belong to what came before: as many as its first byte, the pointer, says, and none
+-- the bytes of a payload with unit start that belong to what came before: as many as its first byte, the pointer, says,
+-- and none
 -- where that passes the payload [ISO/IEC 13818-1, 2.4.4]
 abbrev pub tail_of : List ℕ → List ℕ
-tail_of payload = if nat_lt (slice_index payload 0) (length payload) then take (slice_index payload 0) (drop 1 payload) else []
+tail_of payload = if nat_lt (slice_index payload 0) (length payload) then take (slice_index payload 0)
+    (drop 1 payload) else []
 
 -- the bytes after those, in which sections start [ISO/IEC 13818-1, 2.4.4]
 abbrev pub fresh_of : List ℕ → List ℕ
@@ -96,18 +100,21 @@ longer_run packet run =
     if packet.unit_start then record { first = fresh_of packet.payload; more = [] } else
     record { first = run.first; more = run.more ++ packet.payload }
 
--- the bytes since the last unit start, after these packets [ISO/IEC 13818-1, 2.4.4; this project, docs/FORMATS.md, Assembler]
+-- the bytes since the last unit start, after these packets [ISO/IEC 13818-1, 2.4.4; this project, docs/FORMATS.md,
+-- Assembler]
 unfoldable pub run_after : List Fed → Run
 run_after [] = record { first = []; more = [] }
 run_after (packet ∷ before) =
-    if is_taken packet (last_counter before) then longer_run packet (kept_run packet (last_counter before) (run_after before)) else
+    if is_taken packet (last_counter before) then longer_run packet (kept_run packet (last_counter before)
+    (run_after before)) else
     run_after before
 
 -- the sections that bytes complete with which a run goes on
 abbrev pub newly : Run → List ℕ → List (List ℕ)
 newly run bytes = drop (length (cut_of run.first run.more).sections) (cut_of run.first (run.more ++ bytes)).sections
 
--- the sections that a payload completes: of the run, and with unit start also those that are whole in the payload itself
+-- the sections that a payload completes: of the run, and with unit start also those that are whole in the payload
+-- itself
 abbrev pub completed_in : Fed → Run → List (List ℕ)
 completed_in packet run =
     if packet.unit_start then newly run (tail_of packet.payload) ++ (cut_of (fresh_of packet.payload) []).sections else
@@ -117,9 +124,11 @@ completed_in packet run =
 unfoldable pub completed_by : List Fed → List (List ℕ)
 completed_by [] = []
 completed_by (packet ∷ before) =
-    if is_taken packet (last_counter before) then completed_in packet (kept_run packet (last_counter before) (run_after before)) else []
+    if is_taken packet (last_counter before) then completed_in packet (kept_run packet (last_counter before)
+    (run_after before)) else []
 
--- what an assembler keeps: the last counter, the section in the making, the completed sections that it has still to lend
+-- what an assembler keeps: the last counter, the section in the making, the completed sections that it has still to
+-- lend
 pub record Assembling : Type 0 where
   pub counter : Option ℕ
   pub making : List ℕ
@@ -127,8 +136,10 @@ pub record Assembling : Type 0 where
 
 -- how contracts hold it
 abbrev pub assembling_code : Coded Assembling
-assembling_code = code_by (Option ℕ × (List ℕ × List (List ℕ))) (coded× (coded_option coded_ℕ) (coded× (coded_list coded_ℕ) (coded_list (coded_list coded_ℕ))))
-    (λ s. (s.counter, (s.making, s.waiting))) (λ p. record { counter = p.0; making = p.1.0; waiting = p.1.1 }) (λ _. refl)
+assembling_code = code_by (Option ℕ × (List ℕ × List (List ℕ)))
+    (coded× (coded_option coded_ℕ) (coded× (coded_list coded_ℕ) (coded_list (coded_list coded_ℕ))))
+    (λ s. (s.counter, (s.making, s.waiting))) (λ p. record { counter = p.0; making = p.1.0; waiting = p.1.1 })
+    (λ _. refl)
 
 -- as it stands after these packets, of which the last comes first
 unfoldable pub after : List Fed → Assembling

@@ -1,7 +1,24 @@
 -- A section in the long form: its header of eight bytes, its body, its CRC.
 use Rattle.std.specs.Prelude.{ℕ, ◌+◌, ◌-◌, List, length, take, drop, slice_range}
 use Rattle.sd_bits.specs.Bits.{field}
-use Rattle.sd_crc.specs.Crc.{crc_of}
+pub use Rattle.sd_crc.specs.Crc.{crc_of}
+
+-- the fewest bytes that section_length counts in the long form: the other five of the header, and the CRC
+-- [ISO/IEC 13818-1, 2.4.4]
+abbrev pub least_length : ℕ
+least_length = 9
+
+-- the most that it may count [ISO/IEC 13818-1, 2.4.4.11]
+abbrev pub most_length : ℕ
+most_length = 4093
+
+-- the most bytes of a section: the three up to section_length, and those
+abbrev pub longest : ℕ
+longest = 3 + most_length
+
+-- the most bytes between the header and the CRC
+abbrev pub longest_body : ℕ
+longest_body = most_length - least_length
 
 -- table_id [ISO/IEC 13818-1, 2.4.4]
 abbrev pub table_id_of : List ℕ → ℕ
@@ -39,7 +56,8 @@ number_of section = field section 48 8
 abbrev pub last_number_of : List ℕ → ℕ
 last_number_of section = field section 56 8
 
--- the section with which some bytes begin: the three bytes up to section_length, and as many as it says [ISO/IEC 13818-1, 2.4.4]
+-- the section with which some bytes begin: the three bytes up to section_length, and as many as it says
+-- [ISO/IEC 13818-1, 2.4.4]
 abbrev pub whole_of : List ℕ → List ℕ
 whole_of bytes = take (3 + section_length_of bytes) bytes
 

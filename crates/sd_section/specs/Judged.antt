@@ -1,6 +1,6 @@
 -- What is wrong with bytes that are to begin with a section in the long form.
 use Rattle.std.specs.Prelude.{ℕ, ◌+◌, Bool, true, false, ◌==◌, ◌&&◌, nat_le, List, length, Option, Some, None}
-use Rattle.sd_section.specs.Header.{syntax_of, section_length_of, whole_of, crc_in, crc_due}
+use Rattle.sd_section.specs.Header.{least_length, most_length, syntax_of, section_length_of, whole_of, crc_in, crc_due}
 use Rattle.sd_section.specs.declared.fault.SectionFault.{SectionFault}
 use Rattle.sd_section.specs.declared.fault.SectionFault.TheVariants.{Short, Length, Crc}
 
@@ -9,10 +9,11 @@ abbrev pub unless : Bool → SectionFault → Option SectionFault → Option Sec
 unless true fault after = after
 unless false fault after = Some fault
 
--- the first three bytes begin a section in the long form, which has room for a header and a CRC, and at most 4,096 bytes
+-- the first three bytes begin a section in the long form, which has room for a header and a CRC, and isn't too long
 -- [ISO/IEC 13818-1, 2.4.4]
 abbrev pub has_long_form : List ℕ → Bool
-has_long_form bytes = (syntax_of bytes == 1) && (nat_le 9 (section_length_of bytes) && nat_le (section_length_of bytes) 4093)
+has_long_form bytes = (syntax_of bytes == 1) && (nat_le least_length (section_length_of bytes) && nat_le
+    (section_length_of bytes) most_length)
 
 -- a section's CRC isn't the one due
 abbrev pub crc_fault : List ℕ → Option SectionFault

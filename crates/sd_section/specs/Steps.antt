@@ -1,7 +1,8 @@
 -- One packet more, from what an assembler keeps.
 use Rattle.std.specs.Prelude.{ℕ, ◌+◌, ◌≤◌, Bool, true, false, if◌then◌else◌, List, [], ◌∷◌, ◌++◌, Option, Some}
-use Rattle.sd_section.specs.Header.{section_length_of, whole_of}
-use Rattle.sd_section.specs.Assembled.{Fed, is_overlong, is_whole, Cut, no_cut, cut_of, is_next, is_taken, tail_of, fresh_of, Assembling}
+use Rattle.sd_section.specs.Header.{longest, section_length_of, whole_of}
+use Rattle.sd_section.specs.Assembled.{Fed, is_overlong, is_whole, Cut, no_cut, cut_of, is_next, is_taken, tail_of}
+use Rattle.sd_section.specs.Assembled.{fresh_of, Assembling}
 use Rattle.sd_section.specs.declared.begun.Begun.{Begun}
 use Rattle.sd_section.specs.declared.begun.Begun.TheVariants.{Overlong, Whole, Part}
 use Rattle.sd_section.specs.declared.holds.Holds.{Holds}
@@ -9,14 +10,18 @@ use Rattle.sd_section.specs.declared.holds.Holds.TheVariants.{Making, Section, L
 
 -- what is there of the section that bytes begin with
 abbrev pub begun_of : List ℕ → Begun
-begun_of bytes = if is_overlong bytes then Overlong else if is_whole bytes then Whole (3 + section_length_of bytes) else Part
+begun_of bytes = if is_overlong bytes then Overlong else if is_whole bytes then Whole
+    (3 + section_length_of bytes) else Part
 
 -- what comes of a section in the making with more bytes after it
 unfoldable pub added : List ℕ → List ℕ → Cut
 added [] bytes = no_cut
 added (byte ∷ making) bytes =
     if is_overlong (byte ∷ making ++ bytes) then no_cut else
-    if is_whole (byte ∷ making ++ bytes) then record { sections = whole_of (byte ∷ making ++ bytes) ∷ []; making = [] } else
+    if is_whole (byte ∷ making ++ bytes) then record {
+      sections = whole_of (byte ∷ making ++ bytes) ∷ [];
+      making = [];
+    } else
     record { sections = []; making = byte ∷ making ++ bytes }
 
 -- a section that is whole, or one in the making
@@ -40,17 +45,21 @@ still_making unit_start making payload = if unit_start then [] else (added makin
 abbrev pub going_on : Fed → List ℕ → Assembling
 going_on packet making = record {
   counter = Some packet.counter;
-  making = still_making packet.unit_start making packet.payload ++ (cut_of (fresh_with packet.unit_start packet.payload) []).making;
-  waiting = (added making (tail_with packet.unit_start packet.payload)).sections ++ (cut_of (fresh_with packet.unit_start packet.payload) []).sections;
+  making = still_making packet.unit_start making packet.payload ++ (cut_of (fresh_with packet.unit_start packet.payload)
+      []).making;
+  waiting = (added making (tail_with packet.unit_start packet.payload)).sections
+      ++ (cut_of (fresh_with packet.unit_start packet.payload) []).sections;
 }
 
 -- a packet more
 unfoldable pub fed : Assembling → Fed → Assembling
 fed state packet =
-    if is_taken packet state.counter then going_on packet (if is_next packet.counter state.counter then state.making else []) else
+    if is_taken packet state.counter then going_on packet
+    (if is_next packet.counter state.counter then state.making else []) else
     state
 
--- what an assembler keeps, by its fields: the bytes that it holds, and those of the last payload that it hasn't looked at
+-- what an assembler keeps, by its fields: the bytes that it holds, and those of the last payload that it hasn't looked
+-- at
 abbrev pub kept : Holds → List ℕ → Cut → Option ℕ → Assembling
 kept Making bytes cut counter = record { counter = counter; making = bytes ++ cut.making; waiting = cut.sections }
 kept Section bytes cut counter = record { counter = counter; making = cut.making; waiting = bytes ∷ cut.sections }
@@ -58,7 +67,7 @@ kept Lent bytes cut counter = record { counter = counter; making = cut.making; w
 
 -- a section in the making and what may be added to it have room
 abbrev pub HasRoom : Holds → ℕ → ℕ → Type 0
-HasRoom Making count more = count + more ≤ 4096
+HasRoom Making count more = count + more ≤ longest
 HasRoom Section count more = Unit {0}
 HasRoom Lent count more = Unit {0}
 

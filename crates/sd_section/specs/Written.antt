@@ -2,19 +2,21 @@
 use Rattle.std.specs.Prelude.{◌≡◌, ℕ, ◌+◌, ◌/◌, ◌%◌, ◌^◌, ◌<◌, List, [], ◌∷◌, ◌++◌, length}
 use Rattle.std.specs.Int.{w32, to_be_bytes}
 use Rattle.sd_crc.specs.Crc.{crc_of}
-use Rattle.sd_section.specs.Header.{table_id_of, syntax_of, private_of, section_length_of, extension_of, version_of, current_of, number_of, last_number_of, body_of}
+use Rattle.sd_section.specs.Header.{least_length, table_id_of, syntax_of, private_of, section_length_of, extension_of}
+use Rattle.sd_section.specs.Header.{version_of, current_of, number_of, last_number_of, body_of}
 use Rattle.sd_section.specs.declared.write.Header.{Header}
 
--- the header in front of a body of so many bytes: the syntax indicator is 1, the bit after it 0, reserved bits are 1, the version is 0,
--- the section is current [ISO/IEC 13818-1, 2.4.4; this project, docs/FORMATS.md, Sections]
+-- the header before a body of so many bytes: the syntax indicator is 1, the bit after it 0, reserved bits are 1,
+-- the version is 0, the section is current [ISO/IEC 13818-1, 2.4.4; this project, docs/FORMATS.md, Sections]
 abbrev pub header_bytes : Header → ℕ → List ℕ
 header_bytes header body =
-    header.table_id ∷ (0xB0 + (body + 9) / 256) ∷ ((body + 9) % 256) ∷ (header.extension / 256) ∷ (header.extension % 256)
+    header.table_id ∷ (0xB0 + (body + least_length) / 256) ∷ ((body + least_length) % 256) ∷ (header.extension / 256)
+    ∷ (header.extension % 256)
     ∷ 0xC1 ∷ header.number ∷ header.last_number ∷ []
 
 -- bytes with their CRC after them [ISO/IEC 13818-1, 2.4.4 and annex A]
 abbrev pub sealed : List ℕ → List ℕ
-sealed front = front ++ to_be_bytes w32 (crc_of front)
+sealed bytes = bytes ++ to_be_bytes w32 (crc_of bytes)
 
 -- the section of this header and body [ISO/IEC 13818-1, 2.4.4; this project, docs/FORMATS.md, Sections]
 unfoldable pub section_bytes : Header → List ℕ → List ℕ
@@ -32,7 +34,7 @@ pub record IsWritten (header : Header) (body section : List ℕ) : Type 0 where
   pub table_id : table_id_of section ≡ header.table_id
   pub syntax : syntax_of section ≡ 1
   pub private : private_of section ≡ 0
-  pub section_length : section_length_of section ≡ length body + 9
+  pub section_length : section_length_of section ≡ length body + least_length
   pub extension : extension_of section ≡ header.extension
   pub version : version_of section ≡ 0
   pub current : current_of section ≡ 1

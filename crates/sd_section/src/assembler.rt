@@ -7,9 +7,8 @@ ghost use Rattle.sd_section.specs.Steps.{fed};
 ghost use Rattle.sd_section.specs.contracts.assembler.Assembler.{the_row};
 
 use crate::holds::Holds;
-use crate::making::{
-    LONGEST, fresh_in, gather, go_on, is_next, is_taken, keep_if, part, store, whole_in,
-};
+use crate::limits::LONGEST;
+use crate::making::{fresh_in, gather, go_on, is_next, is_taken, keep_if, part, store, whole_in};
 use sd_cause::NoMemory;
 use std::alloc::Global;
 use std::marker::Model;
@@ -27,6 +26,7 @@ pub struct Assembler {
 
 impl Model for Assembler {
     ghost use Rattle.std.specs.Prelude.{◌≤◌, ◌-◌, [], length, slice_range, vec_capacity};
+    ghost use Rattle.sd_section.specs.Header.{longest};
     ghost use Rattle.sd_section.specs.Assembled.{Assembling, assembling_code, cut_of};
     ghost use Rattle.sd_section.specs.Steps.{kept, HasRoom};
 
@@ -36,7 +36,8 @@ impl Model for Assembler {
 
     ghost view = { λ a. kept a.holds a.buffer.items (cut_of (slice_range a.payload a.at a.end) []) a.counter };
 
-    ghost invariant = { λ a. (4096 ≤ vec_capacity a.buffer) × (length a.buffer.items ≤ 4096) × (a.at ≤ a.end) × (a.end ≤ 184)
+    ghost invariant = { λ a. (longest ≤ vec_capacity a.buffer) × (length a.buffer.items ≤ longest) × (a.at ≤ a.end)
+        × (a.end ≤ 184)
         × HasRoom a.holds (length a.buffer.items) (a.end - a.at) };
 }
 
@@ -73,7 +74,8 @@ impl Assembler {
     fn take(&mut self, unit_start: bool, counter: u8, payload: &[u8])
         requires payload { length payload.now ≤ 184 }
         requires lent { self.old.waiting ≡ [] }
-        ensures { self.new ≡ fed self.old (record { unit_start = unit_start; counter = counter; payload = payload.now }) }
+        ensures { self.new ≡
+            fed self.old (record { unit_start = unit_start; counter = counter; payload = payload.now }) }
     {
         if !is_taken(counter, payload, self.counter) {
             return;

@@ -1,12 +1,13 @@
 ghost use Rattle.std.specs.Prelude.{◌≡◌, ◌+◌, ◌≤◌, length};
 ghost use Rattle.sd_section.specs.Steps.{begun_of};
 
+use crate::limits::{MOST_LENGTH, UP_TO_LENGTH};
 use sd_bits::fields;
 
 /// What is there of a section.
 #[derive(Clone, Copy)]
 pub enum Begun {
-    /// section_length is above 4,093.
+    /// section_length is above the most that it may count.
     Overlong,
     /// So many bytes are the section.
     Whole(usize),
@@ -19,12 +20,12 @@ pub enum Begun {
 pub fn judge(bytes: &[u8]) -> Begun
     ensures { result ≡ begun_of bytes.now }
 {
-    if bytes.len() < 3 {
+    if bytes.len() < UP_TO_LENGTH {
         return Begun::Part;
     }
     fields! { bytes; section_length: 12, 12; }
-    let whole = 3 + section_length as usize;
-    if section_length > 4093 {
+    let whole = UP_TO_LENGTH + section_length as usize;
+    if section_length > MOST_LENGTH {
         Begun::Overlong
     } else if whole <= bytes.len() {
         Begun::Whole(whole)

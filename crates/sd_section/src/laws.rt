@@ -1,7 +1,7 @@
 //! What is read from the sections that this project writes.
 
 ghost use Rattle.std.specs.Prelude.{◌≡◌, ◌≤◌, ◌++◌, None, List, ℕ, length};
-ghost use Rattle.sd_section.specs.Header.{whole_of};
+ghost use Rattle.sd_section.specs.Header.{longest_body, whole_of};
 ghost use Rattle.sd_section.specs.Judged.{section_fault};
 ghost use Rattle.sd_section.specs.Written.{section_bytes, Fits, IsWritten};
 ghost use Rattle.sd_section.specs.declared.write.Header.{Header};
@@ -9,10 +9,10 @@ ghost use Rattle.sd_section.specs.declared.write.Header.{Header};
 /// A written section is read whole whatever stands after it, and what is read is what was written.
 #[tactic(auto, using(crate::proofs::Spelling::none_is_wrong, crate::proofs::Spelling::whole_is_read))]
 pub fn written_sections_are_read()
-    ensures good { (header : Header) (body rest : List ℕ) → Fits header → length body ≤ 4084 →
+    ensures good { (header : Header) (body rest : List ℕ) → Fits header → length body ≤ longest_body →
         section_fault (section_bytes header body ++ rest) ≡ None }
-    ensures whole { (header : Header) (body rest : List ℕ) → Fits header → length body ≤ 4084 →
+    ensures whole { (header : Header) (body rest : List ℕ) → Fits header → length body ≤ longest_body →
         whole_of (section_bytes header body ++ rest) ≡ section_bytes header body }
-    ensures fields { (header : Header) (body : List ℕ) → Fits header → length body ≤ 4084 →
+    ensures fields { (header : Header) (body : List ℕ) → Fits header → length body ≤ longest_body →
         IsWritten header body (section_bytes header body) }
 {}

@@ -1,4 +1,4 @@
-//! Sections: read, written, and assembled from the packets of a PID.
+//! Sections: read, written with their CRC, and assembled from the packets of a PID.
 #![tactic(auto)]
 
 mod assembler;
@@ -6,6 +6,7 @@ mod begun;
 mod fault;
 mod holds;
 pub mod laws;
+mod limits;
 mod making;
 mod read;
 mod section;
@@ -16,5 +17,6 @@ mod write;
 pub use assembler::Assembler;
 pub use fault::SectionFault;
 pub use read::read_one;
+pub use sd_crc::crc32;
 pub use section::Section;
 pub use write::{Header, seal};

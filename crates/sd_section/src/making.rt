@@ -1,23 +1,24 @@
-ghost use Rattle.std.specs.Prelude.{◌≡◌, ◌<◌, ◌≤◌, ◌-◌, if◌then◌else◌, slice_range, None, IfSome, IsNone, nat_lt, not, ◌&&◌, [], length, take, drop, vec_capacity};
-ghost use Rattle.sd_section.specs.Assembled.{cut_of, starts as starts_of, with_section, tail_of, is_last, is_next as is_next_of};
+ghost use Rattle.std.specs.Prelude.{◌≡◌, ◌<◌, ◌≤◌, ◌-◌, if◌then◌else◌, slice_range, None, IfSome, IsNone, nat_lt, not};
+ghost use Rattle.std.specs.Prelude.{◌&&◌, [], length, take, drop, vec_capacity};
+ghost use Rattle.sd_section.specs.Header.{longest};
+ghost use Rattle.sd_section.specs.Assembled.{cut_of, starts as starts_of, with_section, tail_of, is_last};
+ghost use Rattle.sd_section.specs.Assembled.{is_next as is_next_of};
 ghost use Rattle.sd_section.specs.Steps.{added, held, kept, HasRoom, tail_with, fresh_with, still_making};
 
 use crate::begun::{Begun, judge};
 use crate::holds::Holds;
-
-/// The most bytes that a section has.
-pub const LONGEST: usize = 4096;
+use crate::limits::LONGEST;
 
 const STUFFING: u8 = 0xFF;
 
 /// Adds bytes to the section in the making, if there is one. Whether it is whole now.
 #[tactic(auto, using(crate::proofs::Adding::add_nothing, crate::proofs::Adding::add_overlong, crate::proofs::Adding::add_whole, crate::proofs::Adding::add_part))]
 pub fn add(making: &mut Vec<u8>, bytes: &[u8]) -> bool
-    requires room { 4096 ≤ vec_capacity making.old }
-    requires short { length making.old.items ≤ 4096 }
+    requires room { longest ≤ vec_capacity making.old }
+    requires short { length making.old.items ≤ longest }
     ensures value { held result making.new.items ≡ added making.old.items bytes.now }
-    ensures room { 4096 ≤ vec_capacity making.new }
-    ensures short { length making.new.items ≤ 4096 }
+    ensures room { longest ≤ vec_capacity making.new }
+    ensures short { length making.new.items ≤ longest }
 {
     if making.is_empty() {
         return false;
@@ -50,7 +51,8 @@ pub fn starts(bytes: &[u8]) -> bool
 /// How long the section is with which the bytes begin, where all of it is there.
 pub fn whole_in(bytes: &[u8]) -> Option<usize>
     ensures none { IsNone result → (cut_of bytes.now []).sections ≡ [] }
-    ensures some { IfSome result (λ n. cut_of bytes.now [] ≡ with_section (take n bytes.now) (cut_of (drop n bytes.now) [])) }
+    ensures some { IfSome result (λ n.
+        cut_of bytes.now [] ≡ with_section (take n bytes.now) (cut_of (drop n bytes.now) [])) }
     ensures within { IfSome result (λ n. n ≤ length bytes.now) }
 {
     if !starts(bytes) {
@@ -81,14 +83,15 @@ fn left_in(bytes: &[u8]) -> &[u8]
 /// Puts what is in the making into the buffer: what it holds of a section, and the bytes that weren't
 /// looked at.
 pub fn gather(buffer: &mut Vec<u8>, holds: Holds, payload: &[u8; 184], at: usize, end: usize)
-    requires room { 4096 ≤ vec_capacity buffer.old }
+    requires room { longest ≤ vec_capacity buffer.old }
     requires ordered { at ≤ end }
     requires within { end ≤ 184 }
     requires short { HasRoom holds (length buffer.old.items) (end - at) }
     requires lent { (kept holds buffer.old.items (cut_of (slice_range payload.now at end) []) None).waiting ≡ [] }
-    ensures value { buffer.new.items ≡ (kept holds buffer.old.items (cut_of (slice_range payload.now at end) []) None).making }
-    ensures room { 4096 ≤ vec_capacity buffer.new }
-    ensures short { length buffer.new.items ≤ 4096 }
+    ensures value { buffer.new.items ≡
+        (kept holds buffer.old.items (cut_of (slice_range payload.now at end) []) None).making }
+    ensures room { longest ≤ vec_capacity buffer.new }
+    ensures short { length buffer.new.items ≤ longest }
 {
     if !matches!(holds, Holds::Making) {
         buffer.clear();
@@ -100,27 +103,28 @@ pub fn gather(buffer: &mut Vec<u8>, holds: Holds, payload: &[u8; 184], at: usize
 
 /// Leaves the buffer as it is, or empties it.
 pub fn keep_if(buffer: &mut Vec<u8>, kept: bool)
-    requires room { 4096 ≤ vec_capacity buffer.old }
-    requires short { length buffer.old.items ≤ 4096 }
+    requires room { longest ≤ vec_capacity buffer.old }
+    requires short { length buffer.old.items ≤ longest }
     ensures value { buffer.new.items ≡ (if kept then buffer.old.items else []) }
-    ensures room { 4096 ≤ vec_capacity buffer.new }
-    ensures short { length buffer.new.items ≤ 4096 }
+    ensures room { longest ≤ vec_capacity buffer.new }
+    ensures short { length buffer.new.items ≤ longest }
 {
     if !kept {
         buffer.clear();
     }
 }
 
-/// Adds the bytes of a payload that go to the section in the making, if there is one. Whether it is whole now. With unit
-/// start it is given up if it isn't.
+/// Adds the bytes of a payload that go to the section in the making, if there is one. Whether it is whole now.
+/// With unit start it is given up if it isn't.
 pub fn go_on(buffer: &mut Vec<u8>, unit_start: bool, payload: &[u8]) -> bool
-    requires room { 4096 ≤ vec_capacity buffer.old }
-    requires short { length buffer.old.items ≤ 4096 }
+    requires room { longest ≤ vec_capacity buffer.old }
+    requires short { length buffer.old.items ≤ longest }
     requires some { 0 < length payload.now }
-    ensures sections { (held result buffer.new.items).sections ≡ (added buffer.old.items (tail_with unit_start payload.now)).sections }
+    ensures sections { (held result buffer.new.items).sections
+        ≡ (added buffer.old.items (tail_with unit_start payload.now)).sections }
     ensures making { (held result buffer.new.items).making ≡ still_making unit_start buffer.old.items payload.now }
-    ensures room { 4096 ≤ vec_capacity buffer.new }
-    ensures short { length buffer.new.items ≤ 4096 }
+    ensures room { longest ≤ vec_capacity buffer.new }
+    ensures short { length buffer.new.items ≤ longest }
 {
     if !unit_start {
         return add(buffer, payload);
@@ -187,7 +191,7 @@ pub fn part(payload: &[u8; 184], at: usize, end: usize) -> &[u8]
     &payload[at..end]
 }
 
-/// Stores bytes at the front.
+/// Stores bytes from the first place on.
 pub fn store(payload: &mut [u8; 184], bytes: &[u8])
     requires { length bytes.now ≤ 184 }
     ensures { slice_range payload.new 0 (length bytes.now) ≡ bytes.now }

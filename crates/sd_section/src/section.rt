@@ -1,5 +1,7 @@
 ghost use Rattle.std.specs.Prelude.{◌≡◌, ◌+◌, ◌<◌, ◌≤◌, ◌↔◌, IsTrue, length};
-ghost use Rattle.sd_section.specs.Header.{table_id_of, syntax_of, section_length_of, extension_of, version_of, current_of, number_of, last_number_of, body_of, crc_in, crc_due};
+ghost use Rattle.sd_section.specs.Header.{least_length, most_length, table_id_of, syntax_of, section_length_of};
+ghost use Rattle.sd_section.specs.Header.{extension_of, version_of, current_of, number_of, last_number_of, body_of};
+ghost use Rattle.sd_section.specs.Header.{crc_in, crc_due};
 
 use sd_bits::fields;
 
@@ -8,8 +10,8 @@ use sd_bits::fields;
 pub struct Section<'a> {
     pub(crate) bytes: &'a [u8],
     pub ghost long: { syntax_of bytes.now ≡ 1 },
-    pub ghost low: { 9 ≤ section_length_of bytes.now },
-    pub ghost high: { section_length_of bytes.now ≤ 4093 },
+    pub ghost low: { least_length ≤ section_length_of bytes.now },
+    pub ghost high: { section_length_of bytes.now ≤ most_length },
     pub ghost whole: { length bytes.now ≡ 3 + section_length_of bytes.now },
     pub ghost sealed: { crc_in bytes.now ≡ crc_due bytes.now },
 }

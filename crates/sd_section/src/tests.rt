@@ -133,7 +133,7 @@ static TWO: [u8; 36] = [
 ];
 
 // Seven bytes of the section after pointer 0; the other nine; these after a pointer, and stuffing.
-static FRONT: [u8; 8] = [0x00, 0x00, 0xB0, 0x0D, 0x00, 0x01, 0xC1, 0x00];
+static BEFORE: [u8; 8] = [0x00, 0x00, 0xB0, 0x0D, 0x00, 0x01, 0xC1, 0x00];
 
 static REST: [u8; 9] = [0x00, 0x00, 0x01, 0xF0, 0x00, 0x2A, 0xB1, 0x04, 0xB2];
 
@@ -157,33 +157,38 @@ fn packet(unit_start: bool, counter: u8, payload: &'static [u8]) -> Fed {
 
 #[test]
 fn sections_are_assembled(rt: HostRuntime) -> Result<(), Fail> {
-    let front = packet(true, 1, &FRONT);
+    let before = packet(true, 1, &BEFORE);
     let table: [(&[Fed], &[usize]); 9] = [
         // Two in one payload; the duplicate is passed over.
         (&[packet(true, 5, &TWO), packet(true, 5, &TWO)], &[2, 0]),
         // In two packets, with no unit start in the second, and with one.
         (
-            &[packet(true, 15, &FRONT), packet(false, 0, &REST)],
+            &[packet(true, 15, &BEFORE), packet(false, 0, &REST)],
             &[0, 1],
         ),
-        (&[front, packet(true, 2, &TAIL)], &[0, 1]),
+        (&[before, packet(true, 2, &TAIL)], &[0, 1]),
         // A packet without payload and a duplicate between them.
         (
-            &[front, packet(false, 7, &[]), front, packet(false, 2, &REST)],
+            &[
+                before,
+                packet(false, 7, &[]),
+                before,
+                packet(false, 2, &REST),
+            ],
             &[0, 0, 0, 1],
         ),
         // A counter is missing.
-        (&[front, packet(false, 3, &REST)], &[0, 0]),
+        (&[before, packet(false, 3, &REST)], &[0, 0]),
         // A pointer that passes the payload, whose counter is still the last one.
         (
-            &[front, packet(true, 2, &PAST), packet(false, 3, &REST)],
+            &[before, packet(true, 2, &PAST), packet(false, 3, &REST)],
             &[0, 0, 0],
         ),
         // No section is in the making.
         (&[packet(false, 1, &SECTION)], &[0]),
         // Bytes that are left over without unit start are passed over.
         (
-            &[front, packet(false, 2, &REST), packet(false, 3, &SECTION)],
+            &[before, packet(false, 2, &REST), packet(false, 3, &SECTION)],
             &[0, 1, 0],
         ),
         // section_length is above 4,093.

@@ -1,8 +1,10 @@
 ghost use Rattle.std.specs.Prelude.{◌≡◌, ◌-◌, ◌≤◌, length, take};
+ghost use Rattle.sd_section.specs.Header.{longest_body};
 ghost use Rattle.sd_section.specs.Written.{header_bytes, sealed};
 
+use crate::crc32;
+use crate::limits::LEAST_LENGTH;
 use sd_bits::fields;
-use sd_crc::crc32;
 
 /// What tells the sections that this project writes from one another. They are current, and their version is 0.
 #[derive(Clone, Copy)]
@@ -18,9 +20,9 @@ pub struct Header {
 }
 
 impl Header {
-    /// The header in front of a body of so many bytes (ISO/IEC 13818-1, 2.4.4).
+    /// The header before a body of so many bytes (ISO/IEC 13818-1, 2.4.4).
     pub fn bytes(&self, body: usize) -> [u8; 8]
-        requires { body ≤ 4084 }
+        requires { body ≤ longest_body }
         ensures { result ≡ header_bytes self.now body }
     {
         let mut bytes = [0; 8];
@@ -31,7 +33,7 @@ impl Header {
     // Writes the header into eight bytes.
     fn write(&self, bytes: &mut [u8], body: usize)
         requires room { length bytes.old ≡ 8 }
-        requires body { body ≤ 4084 }
+        requires body { body ≤ longest_body }
         ensures { bytes.new ≡ header_bytes self.now body }
     {
         fields! {
@@ -40,7 +42,7 @@ impl Header {
             section_syntax_indicator: 8, 1 = 1;
             zero: 9, 1 = 0;
             reserved: 10, 2 = 0b11;
-            section_length: 12, 12 = body as u64 + 9;
+            section_length: 12, 12 = body as u64 + LEAST_LENGTH;
             extension: 24, 16 = u64::from(self.extension);
             reserved: 40, 2 = 0b11;
             version_number: 42, 5 = 0;
@@ -57,7 +59,7 @@ pub fn seal(section: &mut [u8])
     ensures value { section.new ≡ sealed (take (length section.old - 4) section.old) }
     ensures length { length section.new ≡ length section.old }
 {
-    let front = section.len() - 4;
-    let crc = crc32(&section[..front]);
-    section[front..].copy_from_slice(&crc.to_be_bytes());
+    let end = section.len() - 4;
+    let crc = crc32(&section[..end]);
+    section[end..].copy_from_slice(&crc.to_be_bytes());
 }

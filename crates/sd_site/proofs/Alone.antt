@@ -1,53 +1,65 @@
 -- Lines tell one thing alone.
-use Rattle.std.proofs.Common.{arith, ◌≡◌, ℕ, zero, suc, ◌+◌, ◌<◌, ◌≤◌, Bool, true, false, cond, eqb, List, [], length, Option, Some, None, Result, Ok, Err, refl, ◌∙◌, sym, ap, subst, inl, inr, eq-eqb}
-use Rattle.std.proofs.lemmas.Bool.{cases_lt, ne_eqb}
+use Rattle.std.proofs.Common.{arith, ◌≡◌, ℕ, zero, suc, ◌+◌, ◌<◌, ◌≤◌, Bool, true, false, cond, eqb, List, [], length}
+use Rattle.std.proofs.Common.{Option, Some, None, Result, Ok, Err, refl, ◌∙◌, sym, ap, subst, inl, inr, eq-eqb}
+use Rattle.std.proofs.lemmas.Bool.{cases_lt, ne_eqb, lt-ltb, le-ltb}
 use Rattle.std.proofs.lemmas.Option.{none-some, same_Some, slice_get_past, slice_get-get_or, option_and_then_some}
-use Rattle.std.specs.Prelude.{slice_get, codes, option_and_then, is_some, unwrap_or, IsErrOf, IfOk, MatchResult, ◌↔◌}
+use Rattle.std.specs.Prelude.{nat_lt, slice_get, is_some, unwrap_or, IsErrOf, IfOk, MatchResult, ◌↔◌}
 use Rattle.std.specs.Int.{w16, from_be_bytes}
+use Rattle.sd_text.specs.Lines.{lines_of}
 use Rattle.sd_text.specs.Number.{decimal_after}
 use Rattle.sd_site.specs.declared.fault.SiteFault.{SiteFault}
 use Rattle.sd_site.specs.declared.fault.SiteFault.TheVariants.{Line, Range, SamePid, Extra, Short}
-use Rattle.sd_site.specs.Fields.{SiteFields, AreInRange, fields_of}
-use Rattle.sd_text.specs.Lines.{lines_of}
 use Rattle.sd_site.specs.declared.site.Site.{Site}
-use Rattle.sd_site.specs.Text.{bytes_after, SpellsSite, IsSite, site_on, site_of}
-use Rattle.sd_site.specs.Faults.{Form, number, bytes, forms, IsInForm, IsGood, IsMalformed, IsOutOfRange, NextIs, AreGood, IsCauseOf}
+use Rattle.sd_site.specs.Fields.{SiteFields, AreInRange, fields_of}
+use Rattle.sd_site.specs.Forms.{NumberLine, BytesLine, Form, number, bytes, forms, IsWithin, bytes_after, number_on}
+use Rattle.sd_site.specs.Forms.{bytes_on, version_on, height_line, master_line, ca_line, emm_line, ecm_line}
+use Rattle.sd_site.specs.Forms.{every_line, cryptos_line, span_line, messages_line}
+use Rattle.sd_site.specs.Text.{SpellsSite, IsSite, site_on, site_of}
+use Rattle.sd_site.specs.Faults.{IsInForm, IsGood, IsMalformed, IsOutOfRange, NextIs, AreGood, IsCauseOf}
 use Rattle.sd_site.proofs.Walk.{Tells, told}
 
 -- ---- what lines tell that are good up to line n and no further
 
 -- whether the line is in its form
 abbrev in_form : Form → List ℕ → Bool
-in_form (number word low high) line = is_some (decimal_after word line)
-in_form (bytes word count) line = is_some (bytes_after word count line)
+in_form (number form) line = is_some (decimal_after form.word line)
+in_form (bytes form) line = is_some (bytes_after form.word form.count line)
 
 -- the decimal on a line
-abbrev number_on : List ℕ → Option (List ℕ) → ℕ
-number_on word line = unwrap_or (option_and_then (decimal_after word) line) 0
+abbrev number_or_0 : NumberLine → Option (List ℕ) → ℕ
+number_or_0 form line = unwrap_or (number_on form line) 0
 
 -- the bytes on a line
-abbrev bytes_on : List ℕ → ℕ → Option (List ℕ) → List ℕ
-bytes_on word count line = unwrap_or (option_and_then (bytes_after word count) line) []
+abbrev bytes_or_none : BytesLine → Option (List ℕ) → List ℕ
+bytes_or_none form line = unwrap_or (bytes_on form line) []
 
--- what the eight lines say
+-- what good lines say
 abbrev fields_on : List (List ℕ) → SiteFields
 fields_on lines = record {
-  height = number_on (codes "height ") (slice_get lines 0);
-  master = bytes_on (codes "master ") 32 (slice_get lines 1);
-  ca = from_be_bytes w16 (bytes_on (codes "ca ") 2 (slice_get lines 2));
-  emm = number_on (codes "emm ") (slice_get lines 3);
-  ecm = number_on (codes "ecm ") (slice_get lines 4);
-  every = number_on (codes "ecm-every ") (slice_get lines 5);
-  cryptos = number_on (codes "crypto-ecms ") (slice_get lines 6);
-  span = number_on (codes "period-cryptos ") (slice_get lines 7);
+  height = number_or_0 height_line (slice_get lines 0);
+  master = bytes_or_none master_line (slice_get lines 1);
+  ca = from_be_bytes w16 (bytes_or_none ca_line (slice_get lines 2));
+  emm = number_or_0 emm_line (slice_get lines 3);
+  ecm = number_or_0 ecm_line (slice_get lines 4);
+  every = number_or_0 every_line (slice_get lines 5);
+  cryptos = number_or_0 cryptos_line (slice_get lines 6);
+  span = number_or_0 span_line (slice_get lines 7);
+  messages = unwrap_or (version_on (slice_get lines 8)) 0;
 }
+
+-- whether lines 4 and 5 name one PID
+abbrev same_pid : List (List ℕ) → Bool
+same_pid lines = eqb (number_or_0 emm_line (slice_get lines 3)) (number_or_0 ecm_line (slice_get lines 4))
+
+-- the answer where no line is bad or too many
+abbrev at_end : ℕ → List (List ℕ) → Result SiteFields SiteFault
+at_end n lines = cond (nat_lt n 8) (Err Short) (cond (same_pid lines) (Err SamePid) (Ok (fields_on lines)))
 
 -- the answer by the form and the line after n good ones
 abbrev answer : ℕ → List (List ℕ) → Option Form → Option (List ℕ) → Result SiteFields SiteFault
 answer n lines (Some form) (Some line) = cond (in_form form line) (Err (Range (n + 1))) (Err (Line (n + 1)))
-answer n lines (Some form) None = Err Short
-answer n lines None (Some line) = Err (Extra 9)
-answer n lines None None = cond (eqb (number_on (codes "emm ") (slice_get lines 3)) (number_on (codes "ecm ") (slice_get lines 4))) (Err SamePid) (Ok (fields_on lines))
+answer n lines None (Some line) = Err (Extra 10)
+answer n lines form None = at_end n lines
 
 -- n lines are good, line n + 1 is not, and the answer is what follows from that
 record Stops (lines : List (List ℕ)) (r : Result SiteFields SiteFault) : Type 0 where
@@ -59,34 +71,43 @@ record Stops (lines : List (List ℕ)) (r : Result SiteFields SiteFault) : Type 
 -- ---- each answer is that
 
 -- a line can't be two things of which one excludes the other
-apart : (P Q : Form → List ℕ → Type 0) → ((form : Form) (line : List ℕ) → P form line → Q form line → ⊥) → (n : ℕ) (lines : List (List ℕ)) → NextIs P n lines → NextIs Q n lines → ⊥
+apart : (P Q : Form → List ℕ → Type 0) → ((form : Form) (line : List ℕ) → P form line → Q form line → ⊥)
+    → (n : ℕ) (lines : List (List ℕ)) → NextIs P n lines → NextIs Q n lines → ⊥
 apart P Q either n lines p q =
     let same_form = same_Some _ _ (sym p.2 ∙ q.2) in
     let same_line = same_Some _ _ (sym p.3 ∙ q.3) in
-    either q.0 q.1 (subst (λ (line : List ℕ). P q.0 line) same_line (subst (λ (form : Form). P form p.1) same_form p.4)) q.4
+    let both = subst (λ (form : Form). P form p.1) same_form p.4 in
+    either q.0 q.1 (subst (λ (line : List ℕ). P q.0 line) same_line both) q.4
 
 -- a good line is in its form
 good_in_form : (form : Form) (line : List ℕ) → IsGood form line → IsInForm form line
-good_in_form (number word low high) line good = (good.0, good.1)
-good_in_form (bytes word count) line good = good
+good_in_form (number form) line good = (good.0, good.1)
+good_in_form (bytes form) line good = good
 
 nothing : {A : Type 0} (o : Option A) → ((x : A) × (o ≡ Some x) → ⊥) → is_some o ≡ false
 nothing None never = refl
 nothing (Some x) never = absurd (never (x, refl))
 
 in_form_false : (form : Form) (line : List ℕ) → IsMalformed form line → in_form form line ≡ false
-in_form_false (number word low high) line never = nothing (decimal_after word line) never
-in_form_false (bytes word count) line never = nothing (bytes_after word count line) never
+in_form_false (number form) line never = nothing (decimal_after form.word line) never
+in_form_false (bytes form) line never = nothing (bytes_after form.word form.count line) never
 
 in_form_true : (form : Form) (line : List ℕ) → IsInForm form line → in_form form line ≡ true
-in_form_true (number word low high) line holds = ap is_some holds.1
-in_form_true (bytes word count) line holds = ap is_some holds.1
+in_form_true (number form) line holds = ap is_some holds.1
+in_form_true (bytes form) line holds = ap is_some holds.1
+
+-- a line that is not in its form, or out of range, is not good
+malformed_not_good : (form : Form) (line : List ℕ) → IsMalformed form line → IsGood form line → ⊥
+malformed_not_good form line never good = never (good_in_form form line good)
+
+outside_not_good : (form : Form) (line : List ℕ) → IsOutOfRange form line → IsGood form line → ⊥
+outside_not_good form line never good = never.1 good
 
 line_stops : (lines : List (List ℕ)) (k : ℕ) → IsCauseOf lines (Line k) → Stops lines (Err (Line k))
 line_stops lines k (n, is, good, (form, line, form_is, line_is, bad)) = record {
   n = n;
   good = good;
-  stop = λ next. apart IsMalformed IsGood (λ form line never holds. never (good_in_form form line holds)) n lines (form, line, form_is, line_is, bad) next;
+  stop = λ next. apart IsMalformed IsGood malformed_not_good n lines (form, line, form_is, line_is, bad) next;
   is = rw (is, form_is, line_is, in_form_false form line bad) refl;
 }
 
@@ -94,7 +115,7 @@ range_stops : (lines : List (List ℕ)) (k : ℕ) → IsCauseOf lines (Range k) 
 range_stops lines k (n, is, good, (form, line, form_is, line_is, bad)) = record {
   n = n;
   good = good;
-  stop = λ next. apart IsOutOfRange IsGood (λ form line never holds. never.1 holds) n lines (form, line, form_is, line_is, bad) next;
+  stop = λ next. apart IsOutOfRange IsGood outside_not_good n lines (form, line, form_is, line_is, bad) next;
   is = rw (is, form_is, line_is, in_form_true form line bad.0) refl;
 }
 
@@ -103,86 +124,110 @@ ended : (P : Form → List ℕ → Type 0) (lines : List (List ℕ)) (n : ℕ) �
 ended P lines n past next = none-some _ (sym (slice_get_past lines n past) ∙ next.3)
 
 -- no form is left
-all_forms : (P : Form → List ℕ → Type 0) (lines : List (List ℕ)) (n : ℕ) → 8 ≤ n → NextIs P n lines → ⊥
+all_forms : (P : Form → List ℕ → Type 0) (lines : List (List ℕ)) (n : ℕ) → 9 ≤ n → NextIs P n lines → ⊥
 unfolding forms
 all_forms P lines n past next = none-some _ (sym (slice_get_past forms n past) ∙ next.2)
 
--- each of the eight lines has a form
-form_there : (n : ℕ) → n < 8 → (form : Form) × (slice_get forms n ≡ Some form)
-unfolding forms
-form_there n lt = (_, slice_get-get_or forms n (bytes [] 0) lt)
-
-no_form : slice_get forms 8 ≡ None
+no_form : slice_get forms 9 ≡ None
 unfolding forms
 no_form = refl
 
-short_stops : (lines : List (List ℕ)) → IsCauseOf lines Short → Stops lines (Err Short)
-short_stops lines (few, good) = record {
+-- where the lines end, the answer is that
+answer_at_end : (n : ℕ) (lines : List (List ℕ)) (form : Option Form) → answer n lines form None ≡ at_end n lines
+answer_at_end n lines None = refl
+answer_at_end n lines (Some form) = refl
+
+-- good lines that end stop there
+end_stops : (lines : List (List ℕ)) (r : Result SiteFields SiteFault) → AreGood (length lines) lines
+    → r ≡ at_end (length lines) lines → Stops lines r
+end_stops lines r good e = record {
   n = length lines;
   good = good;
   stop = λ next. ended IsGood lines (length lines) (omega arith) next;
-  is = rw ((form_there (length lines) few).1, slice_get_past lines (length lines) (omega arith)) refl;
+  is = rw (slice_get_past lines (length lines) (omega arith)) (
+      e ∙ sym (answer_at_end (length lines) lines (slice_get forms (length lines))));
 }
+
+short_stops : (lines : List (List ℕ)) → IsCauseOf lines Short → Stops lines (Err Short)
+short_stops lines (few, good) =
+    end_stops lines (Err Short) good (rw (lt-ltb (length lines) 8 few) refl)
 
 extra_stops : (lines : List (List ℕ)) (k : ℕ) → IsCauseOf lines (Extra k) → Stops lines (Err (Extra k))
-extra_stops lines k (nine, many, good) = record {
-  n = 8;
+extra_stops lines k (ten, many, good) = record {
+  n = 9;
   good = good;
-  stop = λ next. all_forms IsGood lines 8 (omega arith) next;
-  is = rw (nine, no_form, slice_get-get_or lines 8 [] many) refl;
+  stop = λ next. all_forms IsGood lines 9 (omega arith) next;
+  is = rw (ten, no_form, slice_get-get_or lines 9 [] many) refl;
 }
 
--- eight lines end where the forms do
-eight : (lines : List (List ℕ)) → length lines ≡ 8 → (r : Result SiteFields SiteFault) → cond (eqb (number_on (codes "emm ") (slice_get lines 3)) (number_on (codes "ecm ") (slice_get lines 4))) (Err SamePid) (Ok (fields_on lines)) ≡ r
-    → r ≡ answer 8 lines (slice_get forms 8) (slice_get lines 8)
-eight lines count r e = rw (no_form, slice_get_past lines 8 (omega arith)) (sym e)
+-- eight good lines or nine end with the PIDs
+pids_stop : (lines : List (List ℕ)) (r : Result SiteFields SiteFault) → 8 ≤ length lines
+    → AreGood (length lines) lines → r ≡ cond (same_pid lines) (Err SamePid) (Ok (fields_on lines)) → Stops lines r
+pids_stop lines r least good e = end_stops lines r good (rw (le-ltb (length lines) 8 least) e)
 
 same_pid_stops : (lines : List (List ℕ)) → IsCauseOf lines SamePid → Stops lines (Err SamePid)
-same_pid_stops lines (count, good, same) =
-    let equal : eqb (number_on (codes "emm ") (slice_get lines 3)) (number_on (codes "ecm ") (slice_get lines 4)) ≡ true = eq-eqb _ _ (ap (λ (o : Option ℕ). unwrap_or o 0) same) in
-    record {
-      n = 8;
-      good = good;
-      stop = λ next. all_forms IsGood lines 8 (omega arith) next;
-      is = eight lines count (Err SamePid) (ap (λ (b : Bool). cond b (Err SamePid) (Ok (fields_on lines))) equal);
-    }
+same_pid_stops lines (least, good, same) =
+    let equal : same_pid lines ≡ true = eq-eqb _ _ (ap (λ (o : Option ℕ). unwrap_or o 0) same) in
+    pids_stop lines (Err SamePid) least good (rw equal refl)
 
 -- the lines of a site say its fields
 spelled : (lines : List (List ℕ)) (site : SiteFields) → SpellsSite lines site → fields_on lines ≡ site
-spelled lines site spells = rw (spells.height, spells.master, spells.ca.1, spells.emm, spells.ecm, spells.every, spells.cryptos, spells.span, ← spells.ca.2) refl
+spelled lines site spells = rw (spells.height, spells.master, spells.ca.1, spells.emm, spells.ecm, spells.every) (
+    rw (spells.cryptos, spells.span, spells.messages, ← spells.ca.2) refl)
 
 -- a line whose number is in range is good
-good_number : (n low high value : ℕ) (word : List ℕ) (lines : List (List ℕ)) → slice_get forms n ≡ Some (number word low high) → option_and_then (decimal_after word) (slice_get lines n) ≡ Some value → (low ≤ value) × (value ≤ high) → NextIs IsGood n lines
-good_number n low high value word lines form reads within =
-    option_and_then_some (decimal_after word) (slice_get lines n) value reads (λ line is says. (number word low high, line, form, is, (value, says, within.0, within.1)))
+good_number : (n value : ℕ) (form : NumberLine) (lines : List (List ℕ)) → slice_get forms n ≡ Some (number form)
+    → number_on form (slice_get lines n) ≡ Some value → IsWithin form value → NextIs IsGood n lines
+good_number n value form lines there reads within =
+    option_and_then_some (decimal_after form.word) (slice_get lines n) value reads
+    (λ line is says. (number form, line, there, is, (value, says, within)))
 
 -- a line of bytes is good
-good_bytes : (n count : ℕ) (value word : List ℕ) (lines : List (List ℕ)) → slice_get forms n ≡ Some (bytes word count) → option_and_then (bytes_after word count) (slice_get lines n) ≡ Some value → NextIs IsGood n lines
-good_bytes n count value word lines form reads =
-    option_and_then_some (bytes_after word count) (slice_get lines n) value reads (λ line is says. (bytes word count, line, form, is, (value, says)))
+good_bytes : (n : ℕ) (value : List ℕ) (form : BytesLine) (lines : List (List ℕ))
+    → slice_get forms n ≡ Some (bytes form) → bytes_on form (slice_get lines n) ≡ Some value → NextIs IsGood n lines
+good_bytes n value form lines there reads =
+    option_and_then_some (bytes_after form.word form.count) (slice_get lines n) value reads
+    (λ line is says. (bytes form, line, there, is, (value, says)))
+
+-- a last line whose version is in range is good
+good_version : (value : ℕ) (lines : List (List ℕ)) → 8 < length lines → version_on (slice_get lines 8) ≡ Some value
+    → IsWithin messages_line value → NextIs IsGood 8 lines
+unfolding forms
+good_version value lines there reads within =
+    let here = slice_get-get_or lines 8 [] there in
+    (number messages_line, _, refl, here, (value, rw here at reads, within))
 
 -- the lines of a site are good
-spelled_good : (lines : List (List ℕ)) (site : SiteFields) → SpellsSite lines site → AreInRange site → AreGood 8 lines
+spelled_good : (lines : List (List ℕ)) (site : SiteFields) → SpellsSite lines site → AreInRange site
+    → AreGood (length lines) lines
 unfolding forms
-spelled_good lines site spells ranges zero lt = good_number 0 1 20 _ (codes "height ") lines refl spells.height ranges.height
-spelled_good lines site spells ranges (suc zero) lt = good_bytes 1 32 _ (codes "master ") lines refl spells.master
-spelled_good lines site spells ranges (suc (suc zero)) lt = good_bytes 2 2 _ (codes "ca ") lines refl spells.ca.1
-spelled_good lines site spells ranges (suc (suc (suc zero))) lt = good_number 3 32 8175 _ (codes "emm ") lines refl spells.emm ranges.emm
-spelled_good lines site spells ranges (suc (suc (suc (suc zero)))) lt = good_number 4 32 8175 _ (codes "ecm ") lines refl spells.ecm ranges.ecm
-spelled_good lines site spells ranges (suc (suc (suc (suc (suc zero))))) lt = good_number 5 1 4096 _ (codes "ecm-every ") lines refl spells.every ranges.every
-spelled_good lines site spells ranges (suc (suc (suc (suc (suc (suc zero)))))) lt = good_number 6 1 256 _ (codes "crypto-ecms ") lines refl spells.cryptos ranges.cryptos
-spelled_good lines site spells ranges (suc (suc (suc (suc (suc (suc (suc zero))))))) lt = good_number 7 1 65535 _ (codes "period-cryptos ") lines refl spells.span ranges.span
-spelled_good lines site spells ranges (suc (suc (suc (suc (suc (suc (suc (suc i)))))))) lt = absurd (omega arith)
+spelled_good lines site spells ranges zero lt =
+    good_number 0 _ height_line lines refl spells.height ranges.height
+spelled_good lines site spells ranges (suc zero) lt =
+    good_bytes 1 _ master_line lines refl spells.master
+spelled_good lines site spells ranges (suc (suc zero)) lt =
+    good_bytes 2 _ ca_line lines refl spells.ca.1
+spelled_good lines site spells ranges (suc (suc (suc zero))) lt =
+    good_number 3 _ emm_line lines refl spells.emm ranges.emm
+spelled_good lines site spells ranges (suc (suc (suc (suc zero)))) lt =
+    good_number 4 _ ecm_line lines refl spells.ecm ranges.ecm
+spelled_good lines site spells ranges (suc (suc (suc (suc (suc zero))))) lt =
+    good_number 5 _ every_line lines refl spells.every ranges.every
+spelled_good lines site spells ranges (suc (suc (suc (suc (suc (suc zero)))))) lt =
+    good_number 6 _ cryptos_line lines refl spells.cryptos ranges.cryptos
+spelled_good lines site spells ranges (suc (suc (suc (suc (suc (suc (suc zero))))))) lt =
+    good_number 7 _ span_line lines refl spells.span ranges.span
+spelled_good lines site spells ranges (suc (suc (suc (suc (suc (suc (suc (suc zero)))))))) lt =
+    good_version _ lines lt spells.messages ranges.messages
+spelled_good lines site spells ranges (suc (suc (suc (suc (suc (suc (suc (suc (suc i))))))))) lt =
+    absurd (omega (arith, spells.most))
 
-site_stops : (lines : List (List ℕ)) (site : SiteFields) → SpellsSite lines site → AreInRange site → Stops lines (Ok site)
+site_stops : (lines : List (List ℕ)) (site : SiteFields) → SpellsSite lines site → AreInRange site
+    → Stops lines (Ok site)
 site_stops lines site spells ranges =
-    let differ : eqb (number_on (codes "emm ") (slice_get lines 3)) (number_on (codes "ecm ") (slice_get lines 4)) ≡ false = rw (spells.emm, spells.ecm) (ne_eqb _ _ ranges.apart) in
-    record {
-      n = 8;
-      good = spelled_good lines site spells ranges;
-      stop = λ next. all_forms IsGood lines 8 (omega arith) next;
-      is = eight lines spells.count (Ok site) (ap (λ (b : Bool). cond b (Err SamePid) (Ok (fields_on lines))) differ ∙ ap Ok (spelled lines site spells));
-    }
+    let differ : same_pid lines ≡ false = rw (spells.emm, spells.ecm) (ne_eqb _ _ ranges.apart) in
+    pids_stop lines (Ok site) spells.least (spelled_good lines site spells ranges)
+    (rw differ (ap Ok (sym (spelled lines site spells))))
 
 -- whatever lines tell follows from how far they are good
 stops : (lines : List (List ℕ)) (r : Result SiteFields SiteFault) → Tells lines r → Stops lines r
@@ -194,7 +239,8 @@ stops lines (Err (Extra k)) tells = extra_stops lines k tells
 stops lines (Err Short) tells = short_stops lines tells
 
 -- lines that are good up to line n and no further are so for one n
-one_end : (m n : ℕ) (lines : List (List ℕ)) → AreGood m lines → (NextIs IsGood m lines → ⊥) → AreGood n lines → (NextIs IsGood n lines → ⊥) → m ≡ n
+one_end : (m n : ℕ) (lines : List (List ℕ)) → AreGood m lines → (NextIs IsGood m lines → ⊥) → AreGood n lines
+    → (NextIs IsGood n lines → ⊥) → m ≡ n
 one_end m n lines good_m stop_m good_n stop_n =
     elim (cases_lt m n) [
       | inl lt ↦ absurd (stop_m (good_n m lt))
@@ -256,13 +302,20 @@ is_site text (Ok site) gives = let h = tells text (Ok (fields_of site)) gives in
 is_site text (Err fault) gives = tt
 
 -- what is a site file is read
-pub is_read : (text : List ℕ) (r : Result Site SiteFault) → Gives r text → (fields : SiteFields) → IsSite text fields → MatchResult r (λ site. fields_of site ≡ fields) (λ _. ⊥)
-is_read text (Ok site) gives fields is = ok_is _ _ (sym gives ∙ answered (lines_of text) (Ok fields) (is.text, is.ranges))
-is_read text (Err fault) gives fields is = not_err _ _ (sym gives ∙ answered (lines_of text) (Ok fields) (is.text, is.ranges))
+pub is_read : (text : List ℕ) (r : Result Site SiteFault) → Gives r text → (fields : SiteFields)
+    → IsSite text fields → MatchResult r (λ site. fields_of site ≡ fields) (λ _. ⊥)
+is_read text (Ok site) gives fields is =
+    ok_is _ _ (sym gives ∙ answered (lines_of text) (Ok fields) (is.text, is.ranges))
+is_read text (Err fault) gives fields is =
+    not_err _ _ (sym gives ∙ answered (lines_of text) (Ok fields) (is.text, is.ranges))
 
 -- each fault comes exactly where the lines have it
-pub is_cause : (text : List ℕ) (r : Result Site SiteFault) → Gives r text → (fault : SiteFault) → IsErrOf r fault ↔ IsCauseOf (lines_of text) fault
-is_cause text (Ok site) gives fault = (λ err. absurd (accepts site fault err), λ cause. absurd (not_err _ _ (sym (answered (lines_of text) (Err fault) cause) ∙ gives)))
+pub is_cause : (text : List ℕ) (r : Result Site SiteFault) → Gives r text → (fault : SiteFault)
+    → IsErrOf r fault ↔ IsCauseOf (lines_of text) fault
+is_cause text (Ok site) gives fault = (
+  λ err. absurd (accepts site fault err),
+  λ cause. absurd (not_err _ _ (sym (answered (lines_of text) (Err fault) cause) ∙ gives)),
+)
 is_cause text (Err other) gives fault = (
   λ err. tells text (Err fault) (gives ∙ ap (λ (f : SiteFault). failed f) (refusal_is _ _ err)),
   λ cause. ap (λ (f : SiteFault). Err f) (err_is _ _ (sym gives ∙ answered (lines_of text) (Err fault) cause)),

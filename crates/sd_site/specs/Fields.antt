@@ -1,5 +1,7 @@
-use Rattle.std.specs.Prelude.{◌≢◌, ℕ, ◌≤◌, List}
+use Rattle.std.specs.Prelude.{◌≢◌, ℕ, List}
 use Rattle.sd_site.specs.declared.site.Site.{Site}
+use Rattle.sd_site.specs.Forms.{IsWithin, height_line, emm_line, ecm_line, every_line, cryptos_line, span_line}
+use Rattle.sd_site.specs.Forms.{messages_line}
 
 -- what a site file says
 pub record SiteFields : Type 0 where
@@ -11,6 +13,7 @@ pub record SiteFields : Type 0 where
   pub every : ℕ
   pub cryptos : ℕ
   pub span : ℕ
+  pub messages : ℕ
 
 -- the same of a site as the program keeps it
 abbrev pub fields_of : Site → SiteFields
@@ -23,14 +26,16 @@ fields_of site = record {
   every = site.every;
   cryptos = site.cryptos;
   span = site.span;
+  messages = site.messages;
 }
 
 -- the numbers are in their ranges, and the two PIDs differ [this project, docs/FORMATS.md, Site]
 pub record AreInRange (site : SiteFields) : Type 0 where
-  pub height : (1 ≤ site.height) × (site.height ≤ 20)
-  pub emm : (32 ≤ site.emm) × (site.emm ≤ 8175)
-  pub ecm : (32 ≤ site.ecm) × (site.ecm ≤ 8175)
+  pub height : IsWithin height_line site.height
+  pub emm : IsWithin emm_line site.emm
+  pub ecm : IsWithin ecm_line site.ecm
   pub apart : site.emm ≢ site.ecm
-  pub every : (1 ≤ site.every) × (site.every ≤ 4096)
-  pub cryptos : (1 ≤ site.cryptos) × (site.cryptos ≤ 256)
-  pub span : (1 ≤ site.span) × (site.span ≤ 65535)
+  pub every : IsWithin every_line site.every
+  pub cryptos : IsWithin cryptos_line site.cryptos
+  pub span : IsWithin span_line site.span
+  pub messages : IsWithin messages_line site.messages

@@ -1,3 +1,4 @@
+pub mod Forms
 pub mod Fields
 pub mod Text
 pub mod Faults

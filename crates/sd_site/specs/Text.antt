@@ -1,30 +1,29 @@
--- The site file: eight lines in a fixed order [this project, docs/FORMATS.md, Site].
-use Rattle.std.specs.Prelude.{◌≡◌, ℕ, ◌*◌, ◌==◌, ◌&&◌, nat_le, List, [], ◌∷◌, length, slice_get, codes, if◌then◌else◌, Option, Some, None, Result, Ok, Err, option_and_then}
-use Rattle.std.specs.Result.{result_ok}
+-- The site file: eight or nine lines in a fixed order [this project, docs/FORMATS.md, Site].
+use Rattle.std.specs.Prelude.{◌≡◌, ℕ, ◌==◌, ◌&&◌, ◌≤◌, nat_le, List, [], ◌∷◌, length, slice_get}
+use Rattle.std.specs.Prelude.{if◌then◌else◌, Option, Some, None, Result, Ok, Err}
 use Rattle.std.specs.Int.{w16, from_be_bytes}
-use Rattle.hex.specs.Hex.{decode_of}
 use Rattle.sd_text.specs.Lines.{lines_of}
-use Rattle.sd_text.specs.Number.{after, decimal_after}
+use Rattle.sd_text.specs.Number.{decimal_after}
 use Rattle.sd_site.specs.Fields.{SiteFields, AreInRange}
+use Rattle.sd_site.specs.Forms.{NumberLine, BytesLine, bytes_after, number_on, bytes_on, version_on}
+use Rattle.sd_site.specs.Forms.{height_line, master_line, ca_line, emm_line, ecm_line, every_line, cryptos_line}
+use Rattle.sd_site.specs.Forms.{span_line, messages_line}
 use Rattle.sd_site.specs.declared.fault.SiteFault.{SiteFault}
 use Rattle.sd_site.specs.declared.fault.SiteFault.TheVariants.{Line, Range, SamePid, Extra, Short}
 
--- the bytes on a line that is the word and two hexadecimal digits for each of them, of either case
-unfoldable pub bytes_after : List ℕ → ℕ → List ℕ → Option (List ℕ)
-bytes_after word count line =
-    option_and_then (λ digits. if length digits == 2 * count then result_ok (decode_of digits) else None) (after word line)
-
--- the text has just these eight lines
+-- the text has just these lines, of which the ninth may be left out
 pub record SpellsSite (lines : List (List ℕ)) (site : SiteFields) : Type 0 where
-  pub count : length lines ≡ 8
-  pub height : option_and_then (decimal_after (codes "height ")) (slice_get lines 0) ≡ Some site.height
-  pub master : option_and_then (bytes_after (codes "master ") 32) (slice_get lines 1) ≡ Some site.master
-  pub ca : (bytes : List ℕ) × (option_and_then (bytes_after (codes "ca ") 2) (slice_get lines 2) ≡ Some bytes) × (site.ca ≡ from_be_bytes w16 bytes)
-  pub emm : option_and_then (decimal_after (codes "emm ")) (slice_get lines 3) ≡ Some site.emm
-  pub ecm : option_and_then (decimal_after (codes "ecm ")) (slice_get lines 4) ≡ Some site.ecm
-  pub every : option_and_then (decimal_after (codes "ecm-every ")) (slice_get lines 5) ≡ Some site.every
-  pub cryptos : option_and_then (decimal_after (codes "crypto-ecms ")) (slice_get lines 6) ≡ Some site.cryptos
-  pub span : option_and_then (decimal_after (codes "period-cryptos ")) (slice_get lines 7) ≡ Some site.span
+  pub least : 8 ≤ length lines
+  pub most : length lines ≤ 9
+  pub height : number_on height_line (slice_get lines 0) ≡ Some site.height
+  pub master : bytes_on master_line (slice_get lines 1) ≡ Some site.master
+  pub ca : (bytes : List ℕ) × (bytes_on ca_line (slice_get lines 2) ≡ Some bytes) × (site.ca ≡ from_be_bytes w16 bytes)
+  pub emm : number_on emm_line (slice_get lines 3) ≡ Some site.emm
+  pub ecm : number_on ecm_line (slice_get lines 4) ≡ Some site.ecm
+  pub every : number_on every_line (slice_get lines 5) ≡ Some site.every
+  pub cryptos : number_on cryptos_line (slice_get lines 6) ≡ Some site.cryptos
+  pub span : number_on span_line (slice_get lines 7) ≡ Some site.span
+  pub messages : version_on (slice_get lines 8) ≡ Some site.messages
 
 -- the bytes are a site file that says this
 pub record IsSite (bytes : List ℕ) (site : SiteFields) : Type 0 where
@@ -48,33 +47,50 @@ well_formed k None = Err (Line k)
 well_formed k (Some bytes) = Ok bytes
 
 -- the decimal on line k and the lines after it, where line k is the first of these lines
-abbrev pub number_at : ℕ → List ℕ → ℕ → ℕ → List (List ℕ) → Result (ℕ × List (List ℕ)) SiteFault
-number_at k word low high [] = Err Short
-number_at k word low high (line ∷ lines) = in_range k low high (decimal_after word line) >>= λ n. Ok (n, lines)
+abbrev pub number_at : ℕ → NumberLine → List (List ℕ) → Result (ℕ × List (List ℕ)) SiteFault
+number_at k form [] = Err Short
+number_at k form (line ∷ lines) =
+    in_range k form.low form.high (decimal_after form.word line) >>= λ n. Ok (n, lines)
+
+-- the same of the last line, in place of which 1 stands where it is left out
+abbrev pub version_at : ℕ → NumberLine → List (List ℕ) → Result (ℕ × List (List ℕ)) SiteFault
+version_at k form [] = Ok (1, [])
+version_at k form (line ∷ lines) = number_at k form (line ∷ lines)
 
 -- the bytes on line k and the lines after it
-abbrev pub bytes_at : ℕ → List ℕ → ℕ → List (List ℕ) → Result (List ℕ × List (List ℕ)) SiteFault
-bytes_at k word count [] = Err Short
-bytes_at k word count (line ∷ lines) = well_formed k (bytes_after word count line) >>= λ bytes. Ok (bytes, lines)
+abbrev pub bytes_at : ℕ → BytesLine → List (List ℕ) → Result (List ℕ × List (List ℕ)) SiteFault
+bytes_at k form [] = Err Short
+bytes_at k form (line ∷ lines) = well_formed k (bytes_after form.word form.count line) >>= λ bytes. Ok (bytes, lines)
 
--- what is judged once the eight lines are good: those after them, and the two PIDs
+-- what is judged once the lines are good: those after them, and the two PIDs
 abbrev pub judged_whole : List (List ℕ) → SiteFields → Result SiteFields SiteFault
-judged_whole (line ∷ lines) site = Err (Extra 9)
+judged_whole (line ∷ lines) site = Err (Extra 10)
 judged_whole [] site = if site.emm == site.ecm then Err SamePid else Ok site
 
 -- The site that the lines say, or the fault of the first bad line: lines are judged in order, and each by its form and
 -- then by its range [this project, docs/FORMATS.md, Site]
 unfoldable pub site_on : List (List ℕ) → Result SiteFields SiteFault
 site_on lines = do
-  height ← number_at 1 (codes "height ") 1 20 lines
-  master ← bytes_at 2 (codes "master ") 32 height.1
-  ca ← bytes_at 3 (codes "ca ") 2 master.1
-  emm ← number_at 4 (codes "emm ") 32 8175 ca.1
-  ecm ← number_at 5 (codes "ecm ") 32 8175 emm.1
-  every ← number_at 6 (codes "ecm-every ") 1 4096 ecm.1
-  cryptos ← number_at 7 (codes "crypto-ecms ") 1 256 every.1
-  span ← number_at 8 (codes "period-cryptos ") 1 65535 cryptos.1
-  judged_whole span.1 (record { height = height.0; master = master.0; ca = from_be_bytes w16 ca.0; emm = emm.0; ecm = ecm.0; every = every.0; cryptos = cryptos.0; span = span.0 })
+  height ← number_at 1 height_line lines
+  master ← bytes_at 2 master_line height.1
+  ca ← bytes_at 3 ca_line master.1
+  emm ← number_at 4 emm_line ca.1
+  ecm ← number_at 5 ecm_line emm.1
+  every ← number_at 6 every_line ecm.1
+  cryptos ← number_at 7 cryptos_line every.1
+  span ← number_at 8 span_line cryptos.1
+  messages ← version_at 9 messages_line span.1
+  judged_whole messages.1 (record {
+    height = height.0;
+    master = master.0;
+    ca = from_be_bytes w16 ca.0;
+    emm = emm.0;
+    ecm = ecm.0;
+    every = every.0;
+    cryptos = cryptos.0;
+    span = span.0;
+    messages = messages.0;
+  })
 
 -- the same of a file's bytes
 abbrev pub site_of : List ℕ → Result SiteFields SiteFault

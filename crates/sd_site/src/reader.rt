@@ -1,14 +1,16 @@
 ghost use Rattle.std.specs.Prelude.{◌≡◌, ◌≤◌, ◌↔◌, Ok, Err, IfOk, IsErrOf, MatchResult};
 ghost use Rattle.sd_text.specs.Lines.{lines_of};
 ghost use Rattle.sd_site.specs.Fields.{SiteFields, fields_of};
+ghost use Rattle.sd_site.specs.Forms.{IsWithin, emm_line, messages_line};
 ghost use Rattle.sd_site.specs.Faults.{IsCauseOf};
-ghost use Rattle.sd_site.specs.Text.{IsSite, site_of, number_at, bytes_at};
+ghost use Rattle.sd_site.specs.Text.{IsSite, site_of, number_at, version_at, bytes_at};
 
 use crate::fault::SiteFault;
-use crate::site::Site;
+use crate::site::{MOST_CRYPTOS, MOST_EVERY, MOST_MESSAGES, MOST_SPAN, Site};
 use hex::FromHex;
+use sd_packet::{HIGHEST_POSITIONAL, LOWEST_POSITIONAL};
 use sd_text::{NumberFault, next_line, number_after};
-use sd_tree::Height;
+use sd_tree::{HIGHEST, Height};
 
 // The number on line k, which is the first of these bytes, and the bytes after the line.
 fn number_line<'a>(
@@ -18,10 +20,11 @@ fn number_line<'a>(
     low: u32,
     high: u32,
 ) -> Result<(u32, &'a [u8]), SiteFault>
-    ensures range { IfOk result (λ cut. (low ≤ cut.0) × (cut.0 ≤ high)) }
+    ensures fits { IfOk result (λ cut. (low ≤ cut.0) × (cut.0 ≤ high)) }
     ensures value { MatchResult result
-        (λ cut. number_at k word.now low high (lines_of bytes.now) ≡ Ok (cut.0, lines_of cut.1.now))
-        (λ fault. number_at k word.now low high (lines_of bytes.now) ≡ Err fault) }
+        (λ cut. number_at k (record { word = word.now; low = low; high = high }) (lines_of bytes.now)
+        ≡ Ok (cut.0, lines_of cut.1.now))
+        (λ fault. number_at k (record { word = word.now; low = low; high = high }) (lines_of bytes.now) ≡ Err fault) }
 {
     let (line, rest) = next_line(bytes).ok_or(SiteFault::Short)?;
     match number_after(word, line) {
@@ -32,25 +35,46 @@ fn number_line<'a>(
 }
 
 fn pid_line<'a>(bytes: &'a [u8], k: u32, word: &[u8]) -> Result<(u16, &'a [u8]), SiteFault>
-    ensures range { IfOk result (λ cut. (32 ≤ cut.0) × (cut.0 ≤ 8175)) }
+    ensures fits { IfOk result (λ cut. IsWithin emm_line cut.0) }
     ensures value { MatchResult result
-        (λ cut. number_at k word.now 32 8175 (lines_of bytes.now) ≡ Ok (cut.0, lines_of cut.1.now))
-        (λ fault. number_at k word.now 32 8175 (lines_of bytes.now) ≡ Err fault) }
+        (λ cut. number_at k (record emm_line { word = word.now }) (lines_of bytes.now) ≡ Ok (cut.0, lines_of cut.1.now))
+        (λ fault. number_at k (record emm_line { word = word.now }) (lines_of bytes.now) ≡ Err fault) }
 {
-    let (number, rest) = number_line(bytes, k, word, 32, 8175)?;
+    let (number, rest) = number_line(
+        bytes,
+        k,
+        word,
+        u32::from(LOWEST_POSITIONAL),
+        u32::from(HIGHEST_POSITIONAL),
+    )?;
     Ok((number as u16, rest))
 }
 
+// The version on the last line, or 1 where no line is left.
+fn version_line(bytes: &[u8]) -> Result<(u8, &[u8]), SiteFault>
+    ensures fits { IfOk result (λ cut. IsWithin messages_line cut.0) }
+    ensures value { MatchResult result
+        (λ cut. version_at 9 messages_line (lines_of bytes.now) ≡ Ok (cut.0, lines_of cut.1.now))
+        (λ fault. version_at 9 messages_line (lines_of bytes.now) ≡ Err fault) }
+{
+    if next_line(bytes).is_none() {
+        return Ok((1, bytes));
+    }
+    let (version, rest) = number_line(bytes, 9, b"messages ", 1, u32::from(MOST_MESSAGES))?;
+    Ok((version as u8, rest))
+}
+
 // The same of a line of N bytes in hexadecimal digits.
-#[tactic(auto, using(crate::proofs::Digits::bytes_of_digits), unfolding(crate::specs::Text::bytes_after, sd_text::specs::Number::after))]
+#[tactic(auto, using(crate::proofs::Digits::bytes_of_digits), unfolding(crate::specs::Forms::bytes_after, sd_text::specs::Number::after))]
 fn bytes_line<'a, const N: usize>(
     bytes: &'a [u8],
     k: u32,
     word: &[u8],
 ) -> Result<([u8; N], &'a [u8]), SiteFault>
     ensures { MatchResult result
-        (λ cut. bytes_at k word.now N (lines_of bytes.now) ≡ Ok (cut.0, lines_of cut.1.now))
-        (λ fault. bytes_at k word.now N (lines_of bytes.now) ≡ Err fault) }
+        (λ cut. bytes_at k (record { word = word.now; count = N }) (lines_of bytes.now)
+        ≡ Ok (cut.0, lines_of cut.1.now))
+        (λ fault. bytes_at k (record { word = word.now; count = N }) (lines_of bytes.now) ≡ Err fault) }
 {
     let (line, rest) = next_line(bytes).ok_or(SiteFault::Short)?;
     let digits = line.strip_prefix(word).ok_or(SiteFault::Line(k))?;
@@ -61,15 +85,15 @@ fn bytes_line<'a, const N: usize>(
 /// The site that a file's bytes say. Nothing is allocated.
 pub fn read(bytes: &[u8]) -> Result<Site, SiteFault>
     // What is read is a site file that says this.
-    ensures found { IfOk result (λ site. IsSite bytes.now (fields_of site)) }
+    ensures sound { IfOk result (λ site. IsSite bytes.now (fields_of site)) }
     // What is a site file is read.
-    ensures only { (fields : SiteFields) → IsSite bytes.now fields →
+    ensures complete { (fields : SiteFields) → IsSite bytes.now fields →
         MatchResult result (λ site. fields_of site ≡ fields) (λ _. ⊥) }
-    // Which fault it is.
-    ensures exact { MatchResult result
+    // Which site or fault it is, as a function of the bytes.
+    ensures value { MatchResult result
         (λ site. site_of bytes.now ≡ Ok (fields_of site)) (λ fault. site_of bytes.now ≡ Err fault) }
     // Each fault comes exactly where the lines have it.
-    ensures cause { (fault : SiteFault) → IsErrOf result fault ↔ IsCauseOf (lines_of bytes.now) fault }
+    ensures fault { (fault : SiteFault) → IsErrOf result fault ↔ IsCauseOf (lines_of bytes.now) fault }
 {
     judge(bytes)
 }
@@ -80,17 +104,18 @@ fn judge(bytes: &[u8]) -> Result<Site, SiteFault>
     ensures { MatchResult result
         (λ site. site_of bytes.now ≡ Ok (fields_of site)) (λ fault. site_of bytes.now ≡ Err fault) }
 {
-    let (height, rest) = number_line(bytes, 1, b"height ", 1, 20)?;
+    let (height, rest) = number_line(bytes, 1, b"height ", 1, u32::from(HIGHEST))?;
     let height = Height::new(height as u8).ok_or(SiteFault::Range(1))?;
     let (master, rest) = bytes_line::<32>(rest, 2, b"master ")?;
     let (ca, rest) = bytes_line::<2>(rest, 3, b"ca ")?;
     let (emm, rest) = pid_line(rest, 4, b"emm ")?;
     let (ecm, rest) = pid_line(rest, 5, b"ecm ")?;
-    let (every, rest) = number_line(rest, 6, b"ecm-every ", 1, 4096)?;
-    let (cryptos, rest) = number_line(rest, 7, b"crypto-ecms ", 1, 256)?;
-    let (span, rest) = number_line(rest, 8, b"period-cryptos ", 1, 65535)?;
+    let (every, rest) = number_line(rest, 6, b"ecm-every ", 1, MOST_EVERY)?;
+    let (cryptos, rest) = number_line(rest, 7, b"crypto-ecms ", 1, MOST_CRYPTOS)?;
+    let (span, rest) = number_line(rest, 8, b"period-cryptos ", 1, MOST_SPAN)?;
+    let (messages, rest) = version_line(rest)?;
     if next_line(rest).is_some() {
-        return Err(SiteFault::Extra(9));
+        return Err(SiteFault::Extra(10));
     }
     if emm == ecm {
         return Err(SiteFault::SamePid);
@@ -104,5 +129,6 @@ fn judge(bytes: &[u8]) -> Result<Site, SiteFault>
         every,
         cryptos,
         span,
+        messages,
     })
 }

@@ -1,8 +1,23 @@
-ghost use Rattle.std.specs.Prelude.{◌≢◌, ◌≤◌};
+ghost use Rattle.std.specs.Prelude.{◌≢◌};
+ghost use Rattle.sd_site.specs.Forms.{IsWithin, emm_line, ecm_line, every_line, cryptos_line, span_line};
+ghost use Rattle.sd_site.specs.Forms.{messages_line};
 
 use sd_tree::Height;
 
-/// A site: its tree's height, its master secret, its conditional access system and PIDs, and the schedule of its messages.
+/// The most clear packets from one ECM to the next.
+pub const MOST_EVERY: u32 = 4_096;
+
+/// The most ECMs of a crypto period.
+pub const MOST_CRYPTOS: u32 = 256;
+
+/// The most crypto periods of a period.
+pub const MOST_SPAN: u32 = 65_535;
+
+/// The greatest version of ECMs.
+pub const MOST_MESSAGES: u8 = 2;
+
+/// A site: its tree's height, its master secret, its conditional access system and PIDs, and its messages' schedule
+/// and version.
 #[derive(Clone, Copy, Debug, PartialEq, Eq)]
 pub struct Site {
     /// The height of the tree of receivers.
@@ -21,10 +36,13 @@ pub struct Site {
     pub cryptos: u32,
     /// So many crypto periods are one period.
     pub span: u32,
-    ghost emm_in: { (32 ≤ emm) × (emm ≤ 8175) },
-    ghost ecm_in: { (32 ≤ ecm) × (ecm ≤ 8175) },
+    /// The version of the ECMs that the head end writes.
+    pub messages: u8,
+    ghost emm_in: { IsWithin emm_line emm },
+    ghost ecm_in: { IsWithin ecm_line ecm },
     ghost apart: { emm ≢ ecm },
-    ghost every_in: { (1 ≤ every) × (every ≤ 4096) },
-    ghost cryptos_in: { (1 ≤ cryptos) × (cryptos ≤ 256) },
-    ghost span_in: { (1 ≤ span) × (span ≤ 65535) },
+    ghost every_in: { IsWithin every_line every },
+    ghost cryptos_in: { IsWithin cryptos_line cryptos },
+    ghost span_in: { IsWithin span_line span },
+    ghost messages_in: { IsWithin messages_line messages },
 }

@@ -2,7 +2,7 @@ use super::*;
 use std::alloc::{AllocError, Global};
 use std::test::*;
 
-const LINES: [&str; 8] = [
+const LINES: [&str; 9] = [
     "height 3",
     "master 000102030405060708090a0b0c0d0e0f101112131415161718191a1b1c1d1e1f",
     "ca 1234",
@@ -11,6 +11,7 @@ const LINES: [&str; 8] = [
     "ecm-every 200",
     "crypto-ecms 2",
     "period-cryptos 1",
+    "messages 2",
 ];
 
 const UPPER: &str = "master 000102030405060708090A0B0C0D0E0F101112131415161718191A1B1C1D1E1F";
@@ -31,21 +32,25 @@ fn text(alloc: Global, count: usize, k: usize, other: &str) -> Result<String, Al
 
 #[test]
 fn a_site_is_read(rt: HostRuntime) -> Result<(), Fail> {
-    let lower = text(rt.alloc(), 8, 0, "")?;
-    let upper = text(rt.alloc(), 8, 2, UPPER)?;
-    let bytes = lower.as_bytes();
-    for bytes in [
-        bytes,
-        &bytes[..bytes.len().saturating_sub(1)],
-        upper.as_bytes(),
-    ] {
-        let site = read(bytes).ok().ok_or("the text is a site file")?;
-        assert_eq!(rt; site.height.get(), 3);
-        for (i, byte) in site.master.iter().enumerate() {
-            assert_eq!(rt; usize::from(*byte), i);
+    let table = [
+        (8, 0, "", 1),
+        (8, 2, UPPER, 1),
+        (9, 9, "messages 1", 1),
+        (9, 0, "", 2),
+    ];
+    for (count, k, line, messages) in table {
+        let text = text(rt.alloc(), count, k, line)?;
+        let whole = text.as_bytes();
+        for bytes in [whole, &whole[..whole.len().saturating_sub(1)]] {
+            let site = read(bytes).ok().ok_or("the text is a site file")?;
+            assert_eq!(rt; site.height.get(), 3);
+            for (i, byte) in site.master.iter().enumerate() {
+                assert_eq!(rt; usize::from(*byte), i);
+            }
+            assert_eq!(rt; (site.ca, site.emm, site.ecm), (0x1234, 496, 497));
+            assert_eq!(rt; (site.every, site.cryptos, site.span), (200, 2, 1));
+            assert_eq!(rt; site.messages, messages);
         }
-        assert_eq!(rt; (site.ca, site.emm, site.ecm), (0x1234, 496, 497));
-        assert_eq!(rt; (site.every, site.cryptos, site.span), (200, 2, 1));
     }
     Ok(())
 }
@@ -66,11 +71,16 @@ fn the_first_bad_line_decides(rt: HostRuntime) -> Result<(), Fail> {
         (8, 4, "emm 31", SiteFault::Range(4)),
         (8, 4, "emm 8176", SiteFault::Range(4)),
         (8, 5, "ecm 496", SiteFault::SamePid),
+        (9, 5, "ecm 496", SiteFault::SamePid),
         (8, 6, "ecm-every 4097", SiteFault::Range(6)),
         (8, 7, "crypto-ecms 257", SiteFault::Range(7)),
         (8, 8, "period-cryptos 65536", SiteFault::Range(8)),
-        (8, 8, "period-cryptos 1\n", SiteFault::Extra(9)),
-        (8, 8, "period-cryptos 1\nheight 3", SiteFault::Extra(9)),
+        (8, 8, "period-cryptos 1\n", SiteFault::Line(9)),
+        (9, 9, "messages 0", SiteFault::Range(9)),
+        (9, 9, "messages 3", SiteFault::Range(9)),
+        (9, 9, "messages", SiteFault::Line(9)),
+        (9, 9, "messages 2\n", SiteFault::Extra(10)),
+        (9, 9, "messages 2\nmessages 2", SiteFault::Extra(10)),
     ];
     for (count, k, line, fault) in table {
         let text = text(rt.alloc(), count, k, line)?;

@@ -1,5 +1,6 @@
 -- Halving, and the leaves below the root and below a leaf's node.
-use Rattle.std.proofs.Common.{◌≡◌, ℕ, suc, ⊎_elim, ◌+◌, ◌-◌, ◌*◌, ◌/◌, ◌^◌, ◌<◌, ◌≤◌, true, arith, nat_eq, le-leb, lt-ltb, sym, refl}
+use Rattle.std.proofs.Common.{◌≡◌, ℕ, suc, ⊎_elim, ◌+◌, ◌-◌, ◌*◌, ◌/◌, ◌^◌, ◌<◌, ◌≤◌, true, arith, nat_eq, le-leb}
+use Rattle.std.proofs.Common.{lt-ltb, sym, refl}
 use Rattle.std.proofs.Math.Nat.{div-div-eq-div-mul, pow-suc}
 use Rattle.std.proofs.lemmas.Bool.Decides.{nat_tests}
 use Rattle.std.proofs.lemmas.Nat.{div-mul-add}

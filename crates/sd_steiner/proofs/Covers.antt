@@ -1,12 +1,14 @@
 -- A chain cover has each unrevoked leaf in one set, and few sets.
-use Rattle.std.proofs.Common.{◌≡◌, ◌≢◌, ℕ, subst, inl, inr, ◌<◌, List, [], ◌∷◌, length, Contains, sum_by, cond, arith, sym, ◌∙◌, refl}
+use Rattle.std.proofs.Common.{◌≡◌, ◌≢◌, ℕ, subst, inl, inr, ◌<◌, List, [], ◌∷◌, length, Contains, sum_by, cond, arith}
+use Rattle.std.proofs.Common.{sym, ◌∙◌, refl}
 use Rattle.std.proofs.lemmas.Bool.Decides.{eqb_tells}
 use Rattle.std.proofs.lemmas.List.Sums.{count_by-le-length}
 use Rattle.std.proofs.lemmas.List.Elements.{Contains-get_or}
 use Rattle.sd_tree.specs.Leaves.{is_below, is_member}
 use Rattle.sd_tree.specs.declared.set.SetName.{SetName}
 use Rattle.sd_tree.specs.declared.set.SetName.TheVariants.{Whole, Diff}
-use Rattle.sd_steiner.specs.Partition.{IsPartition, IsSmall, unrevoked}
+use Rattle.sd_tree.specs.Leaves.{unrevoked}
+use Rattle.sd_steiner.specs.Partition.{IsPartition, IsSmall}
 use Rattle.sd_steiner.specs.Chains.{IsOfChain, IsChainCover}
 use Rattle.sd_steiner.specs.Walk.{BeginsBy}
 use Rattle.sd_tree.proofs.Ancestors.{root_above}
@@ -25,7 +27,8 @@ all_begin d revoked (Diff i j) c = elim (eqb_tells i 1) [
   | inr other ↦ inr (root_above i (linked_start d revoked c.nodes i c.linked).0, λ e. other.1 (sym e))
 ]
 
-module _ (d : ℕ) (revoked : List ℕ) (sets : List SetName) (leaves : AreLeaves d revoked) (some : revoked ≢ []) (cover : IsChainCover d revoked sets) (walk : IsWalk d revoked 1 1) where
+module _ (d : ℕ) (revoked : List ℕ) (sets : List SetName) (leaves : AreLeaves d revoked) (some : revoked ≢ [])
+    (cover : IsChainCover d revoked sets) (walk : IsWalk d revoked 1 1) where
   -- the cover and the walk have the same names
   same_there : (name : SetName) → Contains sets name → Contains walk.sets name
   same_there name m =
@@ -63,7 +66,8 @@ module _ (d : ℕ) (revoked : List ℕ) (sets : List SetName) (leaves : AreLeave
   }
 
 -- a chain cover has each unrevoked leaf in one of its sets
-pub cover_partition : (d : ℕ) (revoked : List ℕ) (sets : List SetName) → d < 32 → AreLeaves d revoked → IsChainCover d revoked sets → IsPartition d sets (unrevoked d revoked)
+pub cover_partition : (d : ℕ) (revoked : List ℕ) (sets : List SetName) → d < 32 → AreLeaves d revoked
+    → IsChainCover d revoked sets → IsPartition d sets (unrevoked d revoked)
 cover_partition d [] sets small leaves cover =
     subst (λ (xs : List SetName). IsPartition d xs (unrevoked d [])) (sym (cover.none_revoked refl)) (whole_alone d)
 cover_partition d (u ∷ us) sets small leaves cover =
@@ -71,7 +75,8 @@ cover_partition d (u ∷ us) sets small leaves cover =
     some_partition d (u ∷ us) sets leaves some cover (walk_of_all d (u ∷ us) (omega arith) leaves some)
 
 -- a chain cover is small
-pub cover_small : (d : ℕ) (revoked : List ℕ) (sets : List SetName) → d < 32 → AreLeaves d revoked → IsChainCover d revoked sets → IsSmall sets (length revoked)
+pub cover_small : (d : ℕ) (revoked : List ℕ) (sets : List SetName) → d < 32 → AreLeaves d revoked
+    → IsChainCover d revoked sets → IsSmall sets (length revoked)
 cover_small d [] sets small leaves cover = record {
   none_revoked = λ e. cover.none_revoked refl;
   count = λ more. absurd (omega arith);

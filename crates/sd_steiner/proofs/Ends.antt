@@ -1,9 +1,11 @@
 -- The nodes of the chains of the Steiner tree, and where the chains end.
-use Rattle.std.proofs.Common.{◌≡◌, ◌≢◌, ℕ, subst, ◌⊎◌, inl, inr, ◌+◌, ◌*◌, ◌/◌, ◌%◌, ◌^◌, ◌<◌, ◌≤◌, List, [], ◌∷◌, Contains, arith, ap, sym, ◌∙◌, refl}
+use Rattle.std.proofs.Common.{◌≡◌, ◌≢◌, ℕ, subst, ◌⊎◌, inl, inr, ◌+◌, ◌*◌, ◌/◌, ◌%◌, ◌^◌, ◌<◌, ◌≤◌, List, [], ◌∷◌}
+use Rattle.std.proofs.Common.{Contains, arith, ap, sym, ◌∙◌, refl}
 use Rattle.std.proofs.Math.Decide.{dec_lt}
 use Rattle.std.proofs.lemmas.Bool.Decides.{eqb_tells}
 use Rattle.sd_tree.specs.Node.{IsAbove}
-use Rattle.sd_steiner.specs.Chains.{IsInTree, AreLinked, IsChainEnd, IsChainHead, HasOneChild, EndsChain, last_of, sibling}
+use Rattle.sd_tree.specs.Paths.{sibling_of}
+use Rattle.sd_steiner.specs.Chains.{IsInTree, AreLinked, IsChainEnd, IsChainHead, HasOneChild, EndsChain, last_of}
 use Rattle.sd_steiner.specs.Walk.{LeadsTo}
 use Rattle.sd_tree.proofs.Ancestors.{above_le, above_trans}
 
@@ -19,7 +21,8 @@ within_tree d revoked v leaves (h, t) =
     omega arith
 
 -- what is at or above a node of the tree is in the tree
-pub tree_upward : (d : ℕ) (revoked : List ℕ) (v i : ℕ) → 1 ≤ v → IsAbove v i → IsInTree d revoked i → IsInTree d revoked v
+pub tree_upward : (d : ℕ) (revoked : List ℕ) (v i : ℕ) → 1 ≤ v → IsAbove v i → IsInTree d revoked i
+    → IsInTree d revoked v
 tree_upward d revoked v i h a (low, (u, m, b)) = (h, (u, m, above_trans v i (2 ^ d + u) a b))
 
 -- the first node of a chain is in the tree
@@ -28,12 +31,14 @@ linked_start d revoked [] v l = l.0
 linked_start d revoked (w ∷ nodes) v l = l.0
 
 -- the last node of a chain is in the tree, and ends the chain
-pub linked_end : (d : ℕ) (revoked : List ℕ) (nodes : List ℕ) (v : ℕ) → AreLinked d revoked (v ∷ nodes) → IsInTree d revoked (last_of v nodes) × IsChainEnd d revoked (last_of v nodes)
+pub linked_end : (d : ℕ) (revoked : List ℕ) (nodes : List ℕ) (v : ℕ) → AreLinked d revoked (v ∷ nodes)
+    → IsInTree d revoked (last_of v nodes) × IsChainEnd d revoked (last_of v nodes)
 linked_end d revoked [] v l = l
 linked_end d revoked (w ∷ nodes) v l = linked_end d revoked nodes w l.3
 
 -- a node that ends a chain has not one child
-end_not_one : (d : ℕ) (revoked : List ℕ) (v : ℕ) → AreLeaves d revoked → IsChainEnd d revoked v → HasOneChild d revoked v → ⊥
+end_not_one : (d : ℕ) (revoked : List ℕ) (v : ℕ) → AreLeaves d revoked → IsChainEnd d revoked v
+    → HasOneChild d revoked v → ⊥
 end_not_one d revoked v leaves (inr two) (inl one) = one.1 two.1
 end_not_one d revoked v leaves (inr two) (inr one) = one.0 two.0
 end_not_one d revoked v leaves (inl leaf) (inl one) =
@@ -53,14 +58,16 @@ child_cases v w e = elim (dec_lt (2 * v) w) [
 ]
 
 -- a node and its sibling are the two children of a node
-pub sibling_cases : (v : ℕ) → ((m : ℕ) × (v ≡ 2 * m) × (sibling v ≡ 2 * m + 1)) ⊎ ((m : ℕ) × (v ≡ 2 * m + 1) × (sibling v ≡ 2 * m))
+pub sibling_cases : (v : ℕ) → ((m : ℕ) × (v ≡ 2 * m) × (sibling_of v ≡ 2 * m + 1))
+    ⊎ ((m : ℕ) × (v ≡ 2 * m + 1) × (sibling_of v ≡ 2 * m))
 sibling_cases v = elim (eqb_tells (v % 2) 0) [
   | inl h ↦ inl (v / 2, omega arith, rw h.0 (omega arith))
   | inr h ↦ inr (v / 2, omega arith, rw h.0 (omega arith))
 ]
 
 -- of a node with one child the child in the tree is that one
-pub one_child_is : (d : ℕ) (revoked : List ℕ) (v w x : ℕ) → HasOneChild d revoked v → w / 2 ≡ v → x / 2 ≡ v → IsInTree d revoked w → IsInTree d revoked x → w ≡ x
+pub one_child_is : (d : ℕ) (revoked : List ℕ) (v w x : ℕ) → HasOneChild d revoked v → w / 2 ≡ v → x / 2 ≡ v
+    → IsInTree d revoked w → IsInTree d revoked x → w ≡ x
 one_child_is d revoked v w x one e f t s = elim one [
   | inl left ↦ is_left left.1 w e t ∙ sym (is_left left.1 x f s)
   | inr right ↦ is_right right.0 w e t ∙ sym (is_right right.0 x f s)
@@ -79,11 +86,13 @@ one_child_is d revoked v w x one e f t s = elim one [
     ]
 
 -- an end of a chain leads to itself alone
-pub end_leads : (d : ℕ) (revoked : List ℕ) (v : ℕ) → IsInTree d revoked v → IsChainEnd d revoked v → LeadsTo d revoked v v
+pub end_leads : (d : ℕ) (revoked : List ℕ) (v : ℕ) → IsInTree d revoked v → IsChainEnd d revoked v
+    → LeadsTo d revoked v v
 end_leads d revoked v t e = record { nodes = []; linked = (t, e); last = refl }
 
 -- it leads to nothing else
-pub end_leads_only : (d : ℕ) (revoked : List ℕ) (v j : ℕ) → AreLeaves d revoked → IsChainEnd d revoked v → LeadsTo d revoked v j → j ≡ v
+pub end_leads_only : (d : ℕ) (revoked : List ℕ) (v j : ℕ) → AreLeaves d revoked → IsChainEnd d revoked v
+    → LeadsTo d revoked v j → j ≡ v
 end_leads_only d revoked v j leaves e l = only l.nodes l.linked l.last
   where
     only : (nodes : List ℕ) → AreLinked d revoked (v ∷ nodes) → last_of v nodes ≡ j → j ≡ v
@@ -91,11 +100,14 @@ end_leads_only d revoked v j leaves e l = only l.nodes l.linked l.last
     only (w ∷ nodes) linked last = absurd (end_not_one d revoked v leaves e linked.1)
 
 -- a node with one child leads to where the child leads
-pub leads_from_child : (d : ℕ) (revoked : List ℕ) (v w j : ℕ) → IsInTree d revoked v → HasOneChild d revoked v → w / 2 ≡ v → LeadsTo d revoked w j → LeadsTo d revoked v j
-leads_from_child d revoked v w j t one e l = record { nodes = w ∷ l.nodes; linked = (t, one, e, l.linked); last = l.last }
+pub leads_from_child : (d : ℕ) (revoked : List ℕ) (v w j : ℕ) → IsInTree d revoked v → HasOneChild d revoked v
+    → w / 2 ≡ v → LeadsTo d revoked w j → LeadsTo d revoked v j
+leads_from_child d revoked v w j t one e l =
+    record { nodes = w ∷ l.nodes; linked = (t, one, e, l.linked); last = l.last }
 
 -- the child in the tree leads to where the node does
-pub leads_to_child : (d : ℕ) (revoked : List ℕ) (v w j : ℕ) → AreLeaves d revoked → HasOneChild d revoked v → w / 2 ≡ v → IsInTree d revoked w → LeadsTo d revoked v j → LeadsTo d revoked w j
+pub leads_to_child : (d : ℕ) (revoked : List ℕ) (v w j : ℕ) → AreLeaves d revoked → HasOneChild d revoked v → w / 2 ≡ v
+    → IsInTree d revoked w → LeadsTo d revoked v j → LeadsTo d revoked w j
 leads_to_child d revoked v w j leaves one e t l = go l.nodes l.linked l.last
   where
     go : (nodes : List ℕ) → AreLinked d revoked (v ∷ nodes) → last_of v nodes ≡ j → LeadsTo d revoked w j
@@ -118,7 +130,8 @@ linked_rises d revoked (w ∷ nodes) v l =
 
 -- a chain of more than one node leads from its first node to another one
 pub chain_leads : (d : ℕ) (revoked : List ℕ) (i j : ℕ) → EndsChain d revoked i j → LeadsTo d revoked i j × (i ≢ j)
-chain_leads d revoked i j c = (record { nodes = c.nodes; linked = c.linked; last = c.last }, go c.nodes c.several c.linked c.last)
+chain_leads d revoked i j c =
+    (record { nodes = c.nodes; linked = c.linked; last = c.last }, go c.nodes c.several c.linked c.last)
   where
     go : (nodes : List ℕ) → nodes ≢ [] → AreLinked d revoked (i ∷ nodes) → last_of i nodes ≡ j → i ≢ j
     go [] several linked last = absurd (several refl)
@@ -129,7 +142,8 @@ chain_leads d revoked i j c = (record { nodes = c.nodes; linked = c.linked; last
         λ same. omega arith
 
 -- from a head that leads to another node there is such a chain
-pub chain_from_leads : (d : ℕ) (revoked : List ℕ) (i j : ℕ) → IsChainHead d revoked i → LeadsTo d revoked i j → i ≢ j → EndsChain d revoked i j
+pub chain_from_leads : (d : ℕ) (revoked : List ℕ) (i j : ℕ) → IsChainHead d revoked i → LeadsTo d revoked i j → i ≢ j
+    → EndsChain d revoked i j
 chain_from_leads d revoked i j h l other = record {
   nodes = l.nodes;
   several = λ e. other (ap (last_of i) (sym e) ∙ l.last);

@@ -5,7 +5,7 @@ pub mod Ends
 pub mod Paths
 pub mod Partitions
 pub mod Levels
-pub mod Steps
+pub mod AtNode
 pub mod Counts
 pub mod Walks
 pub mod Covers

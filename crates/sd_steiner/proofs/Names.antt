@@ -1,5 +1,6 @@
 -- Ascending lists of names are told by their members.
-use Rattle.std.proofs.Common.{◌≡◌, ◌≢◌, ℕ, suc, inl, inr, List, [], ◌∷◌, Contains, AllPairs, get_or, arith, refl, sym, subst}
+use Rattle.std.proofs.Common.{◌≡◌, ◌≢◌, ℕ, suc, inl, inr, List, [], ◌∷◌, Contains, AllPairs, get_or, arith, refl, sym}
+use Rattle.std.proofs.Common.{subst}
 use Rattle.std.specs.declared.cmp.Ordering.TheVariants.{Less}
 use Rattle.std.proofs.lemmas.Bool.Decides.{nat_tests}
 use Rattle.sd_tree.specs.declared.set.SetName.{SetName}
@@ -16,8 +17,10 @@ not_both (Diff i j) Whole p q = cc
 not_both (Diff i j) (Diff k l) p q = grind (arith, nat_tests)
 
 -- the first name stands before all others
-pub first_before : (x : SetName) (xs : List SetName) → AreAscending (x ∷ xs) → (y : SetName) → Contains xs y → set_cmp x y ≡ Less
-first_before x xs a y (k, h, e) = subst (λ (z : SetName). set_cmp x z ≡ Less) e (a 0 (suc k) y (omega arith) (omega arith))
+pub first_before : (x : SetName) (xs : List SetName) → AreAscending (x ∷ xs) → (y : SetName) → Contains xs y
+    → set_cmp x y ≡ Less
+first_before x xs a y (k, h, e) =
+    subst (λ (z : SetName). set_cmp x z ≡ Less) e (a 0 (suc k) y (omega arith) (omega arith))
 
 -- the rest ascends too
 pub rest_ascending : (x : SetName) (xs : List SetName) → AreAscending (x ∷ xs) → AreAscending xs
@@ -35,7 +38,8 @@ abbrev HasAllOf : List SetName → List SetName → Type 0
 HasAllOf a b = (name : SetName) → Contains b name → Contains a name
 
 -- two ascending lists with the same members begin alike
-same_first : (x y : SetName) (xs ys : List SetName) → AreAscending (x ∷ xs) → AreAscending (y ∷ ys) → HasAllOf (y ∷ ys) (x ∷ xs) → HasAllOf (x ∷ xs) (y ∷ ys) → y ≡ x
+same_first : (x y : SetName) (xs ys : List SetName) → AreAscending (x ∷ xs) → AreAscending (y ∷ ys)
+    → HasAllOf (y ∷ ys) (x ∷ xs) → HasAllOf (x ∷ xs) (y ∷ ys) → y ≡ x
 same_first x y xs ys a b all back = elim (member_cases y ys x (all x (member_first x xs))) [
   | inl same ↦ same
   | inr later ↦ elim (member_cases x xs y (back y (member_first y ys))) [
@@ -64,11 +68,14 @@ same_ascending (x ∷ xs) (y ∷ ys) a b all back =
     let b' = subst (λ (z : SetName). AreAscending (z ∷ ys)) e b in
     let all' = subst (λ (z : SetName). HasAllOf (z ∷ ys) (x ∷ xs)) e all in
     let back' = subst (λ (z : SetName). HasAllOf (x ∷ xs) (z ∷ ys)) e back in
-    let rest = same_ascending xs ys (rest_ascending x xs a) (rest_ascending x ys b') (rest_has x xs ys a all') (rest_has x ys xs b' back') in
+    let rest =
+    same_ascending xs ys (rest_ascending x xs a) (rest_ascending x ys b') (rest_has x xs ys a all')
+    (rest_has x ys xs b' back') in
     cc
 
 -- there is one chain cover
-pub one_cover : (d : ℕ) (revoked : List ℕ) (a b : List SetName) → IsChainCover d revoked a → IsChainCover d revoked b → a ≡ b
+pub one_cover : (d : ℕ) (revoked : List ℕ) (a b : List SetName) → IsChainCover d revoked a → IsChainCover d revoked b
+    → a ≡ b
 one_cover d [] a b p q =
     let first = p.none_revoked refl in
     let second = q.none_revoked refl in

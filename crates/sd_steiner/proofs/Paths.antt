@@ -1,12 +1,15 @@
 -- The chain of one revoked leaf: the way from the root to its node.
-use Rattle.std.proofs.Common.{◌≡◌, ℕ, suc, zero, subst, inl, inr, ◌+◌, ◌*◌, ◌/◌, ◌^◌, ◌<◌, ◌≤◌, List, [], ◌∷◌, arith, ap, sym, ◌∙◌, refl}
+use Rattle.std.proofs.Common.{◌≡◌, ℕ, suc, zero, subst, inl, inr, ◌+◌, ◌*◌, ◌/◌, ◌^◌, ◌<◌, ◌≤◌, List, [], ◌∷◌, arith}
+use Rattle.std.proofs.Common.{ap, sym, ◌∙◌, refl}
 use Rattle.std.specs.Prelude.{Contains}
 use Rattle.std.proofs.Math.Nat.{div-one}
 use Rattle.std.proofs.Math.Decide.{dec_lt}
 use Rattle.sd_tree.specs.Node.{IsAbove}
 use Rattle.sd_tree.specs.declared.set.SetName.{SetName}
 use Rattle.sd_tree.specs.declared.set.SetName.TheVariants.{Whole, Diff}
-use Rattle.sd_steiner.specs.Chains.{IsInTree, AreLinked, HasOneChild, HasTwoChildren, EndsChain, IsChainCover, IsOfChain, last_of, sibling}
+use Rattle.sd_tree.specs.Paths.{sibling_of}
+use Rattle.sd_steiner.specs.Chains.{IsInTree, AreLinked, HasOneChild, HasTwoChildren, EndsChain, IsChainCover}
+use Rattle.sd_steiner.specs.Chains.{IsOfChain, last_of}
 use Rattle.sd_steiner.proofs.Ancestry.{halved_once_more, siblings_apart, leaf_to_root}
 use Rattle.sd_steiner.proofs.Lists.{member_cases, no_member}
 use Rattle.sd_steiner.proofs.Ends.{linked_start, linked_end, sibling_cases}
@@ -55,8 +58,12 @@ path_linked d u zero h =
     (in_tree_only d u ((2 ^ d + u) / 2 ^ 0) 0 h refl, inl (u, (0, omega arith, refl), div-one (2 ^ d + u)))
 path_linked d u (suc m) h =
     let n = 2 ^ d + u in
-    let half : n / 2 ^ m / 2 ≡ n / 2 ^ suc m = sym (halved_once_more n m) in
-    (in_tree_only d u (n / 2 ^ suc m) (suc m) h refl, one_child_only d u (n / 2 ^ suc m) m h half, half, path_linked d u m (omega arith))
+    let half : n / 2 ^ m / 2 ≡ n / 2 ^ suc m = sym (halved_once_more n m) in (
+      in_tree_only d u (n / 2 ^ suc m) (suc m) h refl,
+      one_child_only d u (n / 2 ^ suc m) m h half,
+      half,
+      path_linked d u m (omega arith),
+    )
 
 -- it ends at the leaf
 path_last : (n m : ℕ) → last_of (n / 2 ^ m) (path n m) ≡ n
@@ -70,7 +77,7 @@ no_two_only d u v (a, b) =
     siblings_apart (2 ^ d + u) v (let h = a.0 in omega arith) (above_only d u (2 * v) a) (above_only d u (2 * v + 1) b)
 
 -- no node of the tree has a sibling in it
-no_sibling_only : (d u v : ℕ) → IsInTree d (u ∷ []) v → IsInTree d (u ∷ []) (sibling v) → ⊥
+no_sibling_only : (d u v : ℕ) → IsInTree d (u ∷ []) v → IsInTree d (u ∷ []) (sibling_of v) → ⊥
 no_sibling_only d u v t s = elim (sibling_cases v) [
   | inl h ↦ no_two_only d u h.0 (subst (IsInTree d (u ∷ [])) h.1 t, subst (IsInTree d (u ∷ [])) h.2 s)
   | inr h ↦ no_two_only d u h.0 (subst (IsInTree d (u ∷ [])) h.2 s, subst (IsInTree d (u ∷ [])) h.1 t)
@@ -103,7 +110,8 @@ only_chain (suc d) u h lt =
       several = λ e. cc;
       head = inl refl;
       linked = subst (λ (v : ℕ). AreLinked (suc d) (u ∷ []) (v ∷ path (2 ^ suc d + u) (suc d))) root way;
-      last = subst (λ (v : ℕ). last_of v (path (2 ^ suc d + u) (suc d)) ≡ 2 ^ suc d + u) root (path_last (2 ^ suc d + u) (suc d));
+      last = subst (λ (v : ℕ). last_of v (path (2 ^ suc d + u) (suc d)) ≡ 2 ^ suc d + u) root
+          (path_last (2 ^ suc d + u) (suc d));
     }
 
 -- the set of that chain is the chain cover

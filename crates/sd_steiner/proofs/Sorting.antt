@@ -1,5 +1,6 @@
 -- The sorted sets of the walk are the cover.
-use Rattle.std.proofs.Common.{◌≡◌, ◌≢◌, ◌⊎◌, inl, inr, ℕ, ◌^◌, ◌<◌, Bool, true, false, ◌&&◌, nat_eq, Decides, eq-eqb, List, [], length, get_or, All, AllPairs, arith, subst, ap, refl}
+use Rattle.std.proofs.Common.{◌≡◌, ◌≢◌, ◌⊎◌, inl, inr, ℕ, ◌^◌, ◌<◌, Bool, true, false, ◌&&◌, nat_eq, Decides, eq-eqb}
+use Rattle.std.proofs.Common.{List, [], length, get_or, All, AllPairs, arith, subst, ap, refl}
 use Rattle.std.specs.Ordering.{nat_cmp, ordering_then, is_lt}
 use Rattle.std.specs.List.Sorted.{IsSorted, IsPermutation}
 use Rattle.std.specs.Cmp.{IsStrictWeakOrder}
@@ -14,7 +15,7 @@ use Rattle.sd_tree.specs.declared.set.SetName.TheVariants.{Whole, Diff}
 use Rattle.sd_steiner.specs.Chains.{IsChainCover}
 use Rattle.std.proofs.lemmas.List.Elements.{All-contains}
 use Rattle.sd_steiner.proofs.Ancestry.{leaf_to_root}
-use Rattle.sd_steiner.proofs.Steps.{on_chain_begun}
+use Rattle.sd_steiner.proofs.AtNode.{on_chain_begun}
 use Rattle.sd_steiner.proofs.Walks.{root_in_tree}
 use Rattle.sd_steiner.proofs.Covers.{all_begin}
 use Rattle.sd_steiner.specs.Walk.{AreChainsFrom, AreRevokedBelow, AddsChainsBelow}
@@ -55,16 +56,22 @@ same_name_flips (Diff i j) (Diff k l) = grind (arith, nat_tests)
 -- a list in which no name stands twice stays so in another order
 once_moved : (xs ys : List SetName) → IsPermutation xs ys → AllPairs (λ a b. a ≢ b) xs → AllPairs (λ a b. a ≢ b) ys
 once_moved xs ys moved once =
-    AllPairs-from_IsDistinct same_name_tells ys (IsDistinct-IsPermutation same_name same_name_flips xs ys moved (IsDistinct-from_AllPairs same_name_tells xs once))
+    AllPairs-from_IsDistinct same_name_tells ys
+    (IsDistinct-IsPermutation same_name same_name_flips xs ys moved
+    (IsDistinct-from_AllPairs same_name_tells xs once))
 
 -- the order of pairs of numbers
-pair_one_way : (i j k l : ℕ) → is_lt (ordering_then (nat_cmp i k) (nat_cmp j l)) ≡ true → is_lt (ordering_then (nat_cmp k i) (nat_cmp l j)) ≡ false
+pair_one_way : (i j k l : ℕ) → is_lt (ordering_then (nat_cmp i k) (nat_cmp j l)) ≡ true
+    → is_lt (ordering_then (nat_cmp k i) (nat_cmp l j)) ≡ false
 pair_one_way i j k l p = grind (arith, nat_tests)
 
-pair_chain : (i j k l m n : ℕ) → is_lt (ordering_then (nat_cmp i k) (nat_cmp j l)) ≡ false → is_lt (ordering_then (nat_cmp k m) (nat_cmp l n)) ≡ false → is_lt (ordering_then (nat_cmp i m) (nat_cmp j n)) ≡ false
+pair_chain : (i j k l m n : ℕ) → is_lt (ordering_then (nat_cmp i k) (nat_cmp j l)) ≡ false
+    → is_lt (ordering_then (nat_cmp k m) (nat_cmp l n)) ≡ false
+    → is_lt (ordering_then (nat_cmp i m) (nat_cmp j n)) ≡ false
 pair_chain i j k l m n p q = grind (arith, nat_tests)
 
-pair_cases : (i j k l : ℕ) → is_lt (ordering_then (nat_cmp k i) (nat_cmp l j)) ≡ false → (ordering_then (nat_cmp i k) (nat_cmp j l) ≡ Less) ⊎ ((i ≡ k) × (j ≡ l))
+pair_cases : (i j k l : ℕ) → is_lt (ordering_then (nat_cmp k i) (nat_cmp l j)) ≡ false
+    → (ordering_then (nat_cmp i k) (nat_cmp j l) ≡ Less) ⊎ ((i ≡ k) × (j ≡ l))
 pair_cases i j k l p = grind (arith, nat_tests)
 
 -- whether a name stands before another
@@ -102,7 +109,8 @@ after_or_same (Diff i j) (Diff k l) p = elim (pair_cases i j k l p) [
 -- a sorted list in which no name stands twice ascends
 sorted_ascends : (sets : List SetName) → IsSorted set_cmp sets → AllPairs (λ a b. a ≢ b) sets → AreAscending sets
 sorted_ascends sets up once i j d below within =
-    elim (after_or_same (get_or sets i d) (get_or sets j d) (sorted_far before names_ordered sets up i j d (omega arith) within)) [
+    elim (after_or_same (get_or sets i d) (get_or sets j d)
+    (sorted_far before names_ordered sets up i j d (omega arith) within)) [
       | inl less ↦ less
       | inr same ↦ absurd (once i j d below within same)
     ]
@@ -126,7 +134,9 @@ sorted_chains d revoked added sorted some from moved up = record {
 }
 
 -- what the walk from the root adds, sorted, is the cover
-pub sorted_cover : (d level : ℕ) (revoked : List ℕ) (old sets sorted : List SetName) → All (λ u. u < 2 ^ d) revoked → 0 < length revoked → level ≡ d → old ≡ [] → AddsChainsBelow d level 1 1 revoked old sets → IsPermutation sets sorted → IsSorted set_cmp sorted → IsChainCover d revoked sorted
+pub sorted_cover : (d level : ℕ) (revoked : List ℕ) (old sets sorted : List SetName) → All (λ u. u < 2 ^ d) revoked
+    → 0 < length revoked → level ≡ d → old ≡ [] → AddsChainsBelow d level 1 1 revoked old sets
+    → IsPermutation sets sorted → IsSorted set_cmp sorted → IsChainCover d revoked sorted
 sorted_cover d level revoked old sets sorted leaves some top none walked moved up =
     let from_top = subst (λ (l : ℕ). AddsChainsBelow d l 1 1 revoked old sets) top walked in
     let more = subst (λ (xs : List SetName). AddsChainsBelow d d 1 1 revoked xs sets) none from_top in

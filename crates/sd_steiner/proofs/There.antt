@@ -1,161 +1,415 @@
--- There is a chain cover: the sets of the walk, in ascending order.
-use Rattle.std.proofs.Common.{◌≡◌, ◌≢◌, ◌⊎◌, inl, inr, ℕ, ◌<◌, List, [], ◌∷◌, Contains, get_or, arith, subst, sym, ◌∙◌, refl}
+-- There is a chain cover: the list of the sets by the nodes that begin chains.
+use Rattle.std.proofs.Common.{◌≡◌, ◌≢◌, inl, inr, ℕ, suc, zero, ◌+◌, ◌-◌, ◌*◌, ◌/◌, ◌^◌, ◌<◌, ◌≤◌, Bool, true}
+use Rattle.std.proofs.Common.{false, ◌||◌, nat_eq, Decides, List, [], ◌∷◌, Contains, All}
+use Rattle.std.proofs.Common.{get_or, map, filter, eq-eqb, eqb-true, ne_eqb, arith, ap, subst, sym, ◌∙◌, refl, ◌↔◌}
+use Rattle.std.proofs.Common.{if◌then◌else◌}
+use Rattle.std.specs.List.{list_any, range_with_len}
 use Rattle.std.specs.declared.cmp.Ordering.TheVariants.{Less}
-use Rattle.std.proofs.lemmas.Bool.Decides.{nat_tests}
-use Rattle.std.proofs.lemmas.List.Elements.{Contains-get_or}
+use Rattle.std.proofs.Math.Pow.{pow_mono}
+use Rattle.std.proofs.lemmas.Bool.{cases_Bool, and_parts, and_from, cases_lt}
+use Rattle.std.proofs.lemmas.Bool.Decides.{nat_tests, eqb_tells, same_from_decides}
+use Rattle.std.proofs.lemmas.Nat.{pow_pos}
+use Rattle.std.proofs.lemmas.List.Elements.{Contains-get_or, All-contains}
+use Rattle.std.proofs.lemmas.List.Folds.{list_any_at}
 use Rattle.std.proofs.lemmas.List.Kept.{AllPairs-cons}
+use Rattle.sd_tree.specs.declared.height.TheConstants.{HIGHEST}
+use Rattle.sd_tree.specs.Node.{depth}
+use Rattle.sd_tree.specs.Leaves.{is_below}
+use Rattle.sd_tree.specs.Paths.{sibling_of}
 use Rattle.sd_tree.specs.SetNames.{set_cmp, AreAscending}
 use Rattle.sd_tree.specs.declared.set.SetName.{SetName}
 use Rattle.sd_tree.specs.declared.set.SetName.TheVariants.{Whole, Diff}
-use Rattle.sd_steiner.specs.Chains.{IsChainCover}
+use Rattle.sd_tree.proofs.Levels.{depth_at, doubled}
+use Rattle.sd_tree.proofs.Ancestors.{node_level, above_from_below}
+use Rattle.sd_steiner.specs.Chains.{IsInTree, IsChainHead, IsOfChain, EndsChain, IsChainCover}
+use Rattle.sd_steiner.specs.Cover.{is_inside, chain_end, end_of, begins_chain, set_from, nodes, cover_by, cover_of}
+use Rattle.sd_steiner.specs.Walk.{node_at, LeadsTo}
 use Rattle.sd_steiner.proofs.Lists.{member_cases, member_first, member_later, no_member}
-use Rattle.sd_steiner.proofs.Names.{first_before, rest_ascending}
-use Rattle.sd_steiner.proofs.Ends.{AreLeaves}
-use Rattle.sd_steiner.proofs.Covers.{all_begin}
-use Rattle.sd_steiner.proofs.Walks.{walk_of_all}
+use Rattle.sd_steiner.proofs.Names.{one_cover}
+use Rattle.sd_steiner.proofs.Ends.{AreLeaves, within_tree, sibling_cases, linked_start, end_leads, end_leads_only}
+use Rattle.sd_steiner.proofs.Ends.{leads_from_child, leads_to_child, chain_leads, chain_from_leads}
+use Rattle.sd_steiner.proofs.Levels.{StandsAt, child_stands, below_by_halvings, in_tree_to, in_tree_from, in_tree_or}
+use Rattle.sd_steiner.proofs.Walks.{no_child, root_in_tree}
 
--- of two pairs of numbers one stands before the other, or they are equal
-pair_ways : (i j k l : ℕ) →
-    (set_cmp (Diff i j) (Diff k l) ≡ Less) ⊎ (((i ≡ k) × (j ≡ l)) ⊎ (set_cmp (Diff k l) (Diff i j) ≡ Less))
-pair_ways i j k l = grind (arith, nat_tests)
-
--- so it is with two names
-three_ways : (a b : SetName) → (set_cmp a b ≡ Less) ⊎ ((a ≡ b) ⊎ (set_cmp b a ≡ Less))
-three_ways Whole Whole = inr (inl refl)
-three_ways Whole (Diff k l) = inl refl
-three_ways (Diff i j) Whole = inr (inr refl)
-three_ways (Diff i j) (Diff k l) = elim (pair_ways i j k l) [
-  | inl less ↦ inl less
-  | inr (inl same) ↦ inr (inl (let e = same.0 in let f = same.1 in cc))
-  | inr (inr more) ↦ inr (inr more)
+-- a test that a list passes is passed by a member
+passed_by : {X : Type 0} (p : X → Bool) (xs : List X) → list_any p xs ≡ true → (x : X) × Contains xs x × (p x ≡ true)
+passed_by p [] e = absurd (cc)
+passed_by p (x ∷ xs) e = elim (cases_Bool (p x)) [
+  | inl yes' ↦ (x, member_first x xs, yes')
+  | inr no' ↦ let rest = passed_by p xs (sym (rw no' refl) ∙ e) in (rest.0, member_later x xs rest.0 rest.1, rest.2)
 ]
 
--- a name stands before what the ones after it stand before
-less_chain : (a b c : SetName) → set_cmp a b ≡ Less → set_cmp b c ≡ Less → set_cmp a c ≡ Less
-less_chain Whole Whole Whole p q = p
-less_chain Whole (Diff k l) Whole p q = absurd (cc)
-less_chain Whole b (Diff m n) p q = refl
-less_chain (Diff i j) Whole c p q = absurd (cc)
-less_chain (Diff i j) (Diff k l) Whole p q = absurd (cc)
-less_chain (Diff i j) (Diff k l) (Diff m n) p q = grind (arith, nat_tests)
+-- a member that passes is found
+passes : {X : Type 0} (p : X → Bool) (xs : List X) (x : X) → Contains xs x → p x ≡ true → list_any p xs ≡ true
+passes p xs x (k, h, is) e = list_any_at p xs k x h (ap p is ∙ e)
+
+-- a node of a tree of height d stands so many steps above the leaves
+pub stands_by_number : (d v : ℕ) → d < 32 → 1 ≤ v → v < 2 ^ (d + 1) → StandsAt d (d - depth v) v
+stands_by_number d v small low high =
+    let n = node_level v low in
+    let within : n.0 ≤ d = elim (cases_lt d n.0) [
+      | inl more ↦ absurd (omega (arith, pow_mono {i = d + 1} {j = n.0} (omega arith), n.1.low))
+      | inr le ↦ le
+    ] in
+    let is = depth_at v n.0 (omega arith) n.1 in
+    let back : d - (d - n.0) ≡ n.0 = omega arith in
+    rw is (record { within = omega arith; at = rw back n.1 })
+
+-- the members of a list's part, each put through f
+member_of_map : {X Y : Type 0} (f : X → Y) (p : X → Bool) (xs : List X) (y : Y) →
+    Contains (map f (filter p xs)) y → (x : X) × Contains xs x × (p x ≡ true) × (f x ≡ y)
+member_of_map f p [] y m = absurd (no_member y m)
+member_of_map f p (x ∷ xs) y m = elim (cases_Bool (p x)) [
+  | inl yes' ↦ elim (member_cases (f x) (map f (filter p xs)) y (rw yes' at m)) [
+    | inl same ↦ (x, member_first x xs, yes', same)
+    | inr later ↦ let rest = member_of_map f p xs y later in (rest.0, member_later x xs rest.0 rest.1, rest.2, rest.3)
+  ]
+  | inr no' ↦ let rest =
+      member_of_map f p xs y (rw no' at m) in (rest.0, member_later x xs rest.0 rest.1, rest.2, rest.3)
+]
+
+map_has_member : {X Y : Type 0} (f : X → Y) (p : X → Bool) (xs : List X) (x : X) → Contains xs x → p x ≡ true →
+    Contains (map f (filter p xs)) (f x)
+map_has_member f p [] x m e = absurd (no_member x m)
+map_has_member f p (y ∷ ys) x m e = elim (member_cases y ys x m) [
+  | inl same ↦ let is : p y ≡ true = ap p same ∙ e in
+      rw is (subst (Contains (f y ∷ map f (filter p ys))) (ap f same) (member_first (f y) (map f (filter p ys))))
+  | inr later ↦ elim (cases_Bool (p y)) [
+    | inl yes' ↦ rw yes' (member_later (f y) (map f (filter p ys)) (f x) (map_has_member f p ys x later e))
+    | inr no' ↦ rw no' (map_has_member f p ys x later e)
+  ]
+]
+
+-- the members of a range
+range_has : (a n v : ℕ) → a ≤ v → v < a + n → Contains (range_with_len a n) v
+range_has a zero v low high = absurd (omega arith)
+range_has a (suc n) v low high = elim (eqb_tells a v) [
+  | inl same ↦ subst (Contains (a ∷ range_with_len (a + 1) n)) same.1 (member_first a (range_with_len (a + 1) n))
+  | inr other ↦ let apart =
+      other.1 in member_later a (range_with_len (a + 1) n) v (range_has (a + 1) n v (omega arith) (omega arith))
+]
+
+in_range : (a n v : ℕ) → Contains (range_with_len a n) v → (a ≤ v) × (v < a + n)
+in_range a zero v m = absurd (no_member v m)
+in_range a (suc n) v m = elim (member_cases a (range_with_len (a + 1) n) v m) [
+  | inl same ↦ (omega arith, omega arith)
+  | inr later ↦ let rest = in_range (a + 1) n v later in (omega (arith, rest.0), omega (arith, rest.1))
+]
 
 -- ascending names after one that stands before each of them ascend with it
 begins_ascending : (x : SetName) (xs : List SetName) →
     ((y : SetName) → Contains xs y → set_cmp x y ≡ Less) → AreAscending xs → AreAscending (x ∷ xs)
 begins_ascending x xs first up =
-    AllPairs-cons (λ a b. set_cmp a b ≡ Less) x xs (λ k d within. first (get_or xs k d) (Contains-get_or xs k d within)) up
+    AllPairs-cons (λ a b. set_cmp a b ≡ Less) x xs (λ k d within. first (get_or xs k d) (Contains-get_or xs k d within))
+    up
 
--- each of these names is among those
-abbrev AreAmong : List SetName → List SetName → Type 0
-AreAmong xs ys = (name : SetName) → Contains xs name → Contains ys name
+-- a pair with a lower first number stands before another
+pair_before : (i j k l : ℕ) → i < k → set_cmp (Diff i j) (Diff k l) ≡ Less
+pair_before i j k l h = grind (arith, nat_tests)
 
--- names stay among others after the same first name
-among_after : (x : SetName) (xs ys : List SetName) → AreAmong xs ys → AreAmong (x ∷ xs) (x ∷ ys)
-among_after x xs ys all name m = elim (member_cases x xs name m) [
-  | inl same ↦ subst (Contains (x ∷ ys)) same (member_first x ys)
-  | inr later ↦ member_later x ys name (all name later)
-]
-
--- the first two names may change places
-among_swapped : (x y : SetName) (xs : List SetName) → AreAmong (x ∷ y ∷ xs) (y ∷ x ∷ xs)
-among_swapped x y xs name m = elim (member_cases x (y ∷ xs) name m) [
-  | inl same ↦ member_later y (x ∷ xs) name (subst (Contains (x ∷ xs)) same (member_first x xs))
-  | inr later ↦ among_after y xs (x ∷ xs) (λ z n. member_later x xs z n) name later
-]
-
--- these names in ascending order, each once
-record InOrder (names : List SetName) : Type 0 where
-  ordered : List SetName
-  ascending : AreAscending ordered
-  all : AreAmong names ordered
-  only : AreAmong ordered names
-
--- a name is put in its place among ascending names
-put_in : (x : SetName) (ys : List SetName) → AreAscending ys → InOrder (x ∷ ys)
-put_in x [] up = record {
-  ordered = x ∷ [];
-  ascending = begins_ascending x [] (λ y m. absurd (no_member y m)) up;
-  all = λ name m. m;
-  only = λ name m. m;
-}
-put_in x (y ∷ ys) up = elim (three_ways x y) [
-  | inl less ↦ record {
-    ordered = x ∷ y ∷ ys;
-    ascending = begins_ascending x (y ∷ ys) (before less) up;
-    all = λ name m. m;
-    only = λ name m. m;
-  }
-  | inr (inl same) ↦ record {
-    ordered = y ∷ ys;
-    ascending = up;
-    all = λ name m. elim (member_cases x (y ∷ ys) name m) [
-      | inl is ↦ subst (Contains (y ∷ ys)) (sym same ∙ is) (member_first y ys)
-      | inr later ↦ later
-    ];
-    only = λ name m. member_later x (y ∷ ys) name m;
-  }
-  | inr (inr more) ↦ after more (put_in x ys (rest_ascending y ys up))
-]
+-- sets by their first nodes ascend
+ascending_by_first : (f : ℕ → ℕ) (p : ℕ → Bool) (a n : ℕ)
+    → AreAscending (map (λ v. Diff v (f v)) (filter p (range_with_len a n)))
+ascending_by_first f p a zero = λ i j x below within. absurd (omega arith)
+ascending_by_first f p a (suc n) =
+    let rest = ascending_by_first f p (a + 1) n in
+    elim (cases_Bool (p a)) [
+      | inl yes' ↦ rw yes'
+          (begins_ascending (Diff a (f a)) (map (λ v. Diff v (f v)) (filter p (range_with_len (a + 1) n))) first rest)
+      | inr no' ↦ rw no' rest
+    ]
   where
-    before : set_cmp x y ≡ Less → (z : SetName) → Contains (y ∷ ys) z → set_cmp x z ≡ Less
-    before less z m = elim (member_cases y ys z m) [
-      | inl same ↦ subst (λ (w : SetName). set_cmp x w ≡ Less) same less
-      | inr later ↦ less_chain x y z less (first_before y ys up z later)
-    ]
+    first : (y : SetName) → Contains (map (λ v. Diff v (f v)) (filter p (range_with_len (a + 1) n))) y
+        → set_cmp (Diff a (f a)) y ≡ Less
+    first y m =
+        let of' = member_of_map (λ v. Diff v (f v)) p (range_with_len (a + 1) n) y m in
+        let within = in_range (a + 1) n of'.0 of'.1 in
+        subst (λ (z : SetName). set_cmp (Diff a (f a)) z ≡ Less) of'.3
+        (pair_before a (f a) of'.0 (f of'.0) (omega (arith, within.0)))
 
-    below : set_cmp y x ≡ Less → (z : SetName) → Contains (x ∷ ys) z → set_cmp y z ≡ Less
-    below more z m = elim (member_cases x ys z m) [
-      | inl same ↦ subst (λ (w : SetName). set_cmp y w ≡ Less) same more
-      | inr later ↦ first_before y ys up z later
-    ]
+module _ (d : ℕ) (revoked : List ℕ) (small : d < 32) (leaves : AreLeaves d revoked) where
+  -- the test tells the nodes of the tree
+  pub inside_tells : (level v : ℕ) → StandsAt d level v → Decides (is_inside d revoked v) (IsInTree d revoked v)
+  unfolding is_inside
+  inside_tells level v at = (
+    λ e.
+        let u = passed_by (is_below d v) revoked e in
+        let is = eqb-true (node_at d level u.0) v (sym (below_by_halvings d level v u.0 small at) ∙ u.2) in
+        in_tree_from d level v u.0 revoked at u.1 is,
+    λ t.
+        let to = in_tree_to d level v revoked leaves at t in
+        passes (is_below d v) revoked to.0 to.1 (below_by_halvings d level v to.0 small at
+        ∙ eq-eqb (node_at d level to.0) v to.2),
+  )
 
-    after : set_cmp y x ≡ Less → InOrder (x ∷ ys) → InOrder (x ∷ y ∷ ys)
-    after more rest = record {
-      ordered = y ∷ rest.ordered;
-      ascending = begins_ascending y rest.ordered (λ z m. below more z (rest.only z m)) rest.ascending;
-      all = λ name m. among_after y (x ∷ ys) rest.ordered rest.all name (among_swapped x y ys name m);
-      only = λ name m. among_swapped y x ys name (among_after y rest.ordered (x ∷ ys) rest.only name m);
-    }
+  -- it fails at the others
+  outside : (level v : ℕ) → StandsAt d level v → (IsInTree d revoked v → ⊥) → is_inside d revoked v ≡ false
+  outside level v at none = elim (cases_Bool (is_inside d revoked v)) [
+    | inl yes' ↦ absurd (none ((inside_tells level v at).0 yes'))
+    | inr no' ↦ no'
+  ]
 
--- all names have an ascending order
-in_order : (names : List SetName) → InOrder names
-in_order [] = record {
-  ordered = [];
-  ascending = λ i j d below within. absurd (omega arith);
-  all = λ name m. m;
-  only = λ name m. m;
+  -- a chain from v leads to its end
+  leads_there : (level v : ℕ) → StandsAt d level v → IsInTree d revoked v
+      → LeadsTo d revoked v (chain_end (is_inside d revoked) level v)
+  leads_there zero v at t =
+      let to = in_tree_to d 0 v revoked leaves at t in
+      let is : (2 ^ d + to.0) / 1 ≡ v = to.2 in
+      end_leads d revoked v t (inl (to.0, to.1, omega arith))
+  leads_there (suc level) v at t =
+      let a = child_stands d level v (2 * v) at (omega arith) in
+      let b = child_stands d level v (2 * v + 1) at (omega arith) in
+      elim (in_tree_or d level (2 * v) revoked leaves a) [
+        | inl l ↦ elim (in_tree_or d level (2 * v + 1) revoked leaves b) [
+          | inl r ↦ rw (
+            (inside_tells level (2 * v) a).1 l,
+            (inside_tells level (2 * v + 1) b).1 r,
+          ) (end_leads d revoked v t (inr (l, r)))
+          | inr r ↦ rw ((inside_tells level (2 * v) a).1 l, outside level (2 * v + 1) b r)
+              (leads_from_child d revoked v (2 * v) (chain_end (is_inside d revoked) level (2 * v)) t (inl (l, r))
+              (omega arith) (leads_there level (2 * v) a l))
+        ]
+        | inr l ↦ elim (in_tree_or d level (2 * v + 1) revoked leaves b) [
+          | inl r ↦ rw (outside level (2 * v) a l)
+              (leads_from_child d revoked v (2 * v + 1) (chain_end (is_inside d revoked) level (2 * v + 1)) t
+              (inr (l, r)) (omega arith) (leads_there level (2 * v + 1) b r))
+          | inr r ↦ absurd (no_child d revoked small leaves level v at t l r)
+        ]
+      ]
+
+  -- and nowhere else
+  leads_only : (level v j : ℕ) → StandsAt d level v → LeadsTo d revoked v j
+      → j ≡ chain_end (is_inside d revoked) level v
+  leads_only zero v j at lead =
+      let t = linked_start d revoked lead.nodes v lead.linked in
+      let to = in_tree_to d 0 v revoked leaves at t in
+      let is : (2 ^ d + to.0) / 1 ≡ v = to.2 in
+      end_leads_only d revoked v j leaves (inl (to.0, to.1, omega arith)) lead
+  leads_only (suc level) v j at lead =
+      let t = linked_start d revoked lead.nodes v lead.linked in
+      let a = child_stands d level v (2 * v) at (omega arith) in
+      let b = child_stands d level v (2 * v + 1) at (omega arith) in
+      elim (in_tree_or d level (2 * v) revoked leaves a) [
+        | inl l ↦ elim (in_tree_or d level (2 * v + 1) revoked leaves b) [
+          | inl r ↦ rw (
+            (inside_tells level (2 * v) a).1 l,
+            (inside_tells level (2 * v + 1) b).1 r,
+          ) (end_leads_only d revoked v j leaves (inr (l, r)) lead)
+          | inr r ↦ rw ((inside_tells level (2 * v) a).1 l, outside level (2 * v + 1) b r)
+              (leads_only level (2 * v) j a
+              (leads_to_child d revoked v (2 * v) j leaves (inl (l, r)) (omega arith) l lead))
+        ]
+        | inr l ↦ elim (in_tree_or d level (2 * v + 1) revoked leaves b) [
+          | inl r ↦ rw (outside level (2 * v) a l)
+              (leads_only level (2 * v + 1) j b
+              (leads_to_child d revoked v (2 * v + 1) j leaves (inr (l, r)) (omega arith) r lead))
+          | inr r ↦ absurd (no_child d revoked small leaves level v at t l r)
+        ]
+      ]
+
+  -- the test tells each node
+  pub tells : (v : ℕ) → 1 ≤ v → Decides (is_inside d revoked v) (IsInTree d revoked v)
+  unfolding is_inside
+  tells v low = (
+    λ e. let u = passed_by (is_below d v) revoked e in (low, (u.0, u.1, above_from_below d v u.0 u.2)),
+    λ t.
+        let high = within_tree d revoked v leaves t in
+        (inside_tells (d - depth v) v (stands_by_number d v small low (omega (arith, doubled d)))).1 t,
+  )
+
+  -- a chain of more than one node begins where the test says so, and ends at its end
+  begun : (v : ℕ) → 1 ≤ v → v < 2 ^ (d + 1) → begins_chain d (is_inside d revoked) v ≡ true
+      → EndsChain d revoked v (end_of d (is_inside d revoked) v)
+  unfolding begins_chain end_of
+  begun v low high e =
+      let all = and_parts _ _ e in
+      let rest = and_parts _ _ all.1 in
+      let at = stands_by_number d v small low high in
+      chain_from_leads d revoked v (chain_end (is_inside d revoked) (d - depth v) v) (head rest.0)
+      (leads_there (d - depth v) v at ((tells v low).0 all.0))
+      (λ same. let is =
+      eq-eqb (chain_end (is_inside d revoked) (d - depth v) v) v (sym same) in absurd (let no' = rest.1 in cc))
+    where
+      sibling_low : 2 ≤ v → 1 ≤ sibling_of v
+      sibling_low more = elim (sibling_cases v) [
+        | inl left ↦ omega (arith, left.2)
+        | inr right ↦ omega (arith, right.1, right.2)
+      ]
+
+      head : (nat_eq v 1 || is_inside d revoked (sibling_of v)) ≡ true → IsChainHead d revoked v
+      head h = elim (eqb_tells v 1) [
+        | inl same ↦ inl same.1
+        | inr other ↦
+            let apart = other.1 in
+            inr ((tells (sibling_of v) (sibling_low (omega arith))).0 (sym (rw other.0 refl) ∙ h))
+      ]
+
+  -- each chain of more than one node begins where the test says so, and ends at its end
+  found : (i j : ℕ) → EndsChain d revoked i j → Contains (nodes d) i × (begins_chain d (is_inside d revoked) i ≡ true)
+      × (j ≡ end_of d (is_inside d revoked) i)
+  unfolding begins_chain end_of
+  found i j c =
+      let t = linked_start d revoked c.nodes i c.linked in
+      let low : 1 ≤ i = t.0 in
+      let high : i < 2 ^ (d + 1) = omega (arith, doubled d, within_tree d revoked i leaves t) in
+      let lead = chain_leads d revoked i j c in
+      let is = leads_only (d - depth i) i j (stands_by_number d i small low high) lead.0 in (
+        range_has 1 (2 ^ (d + 1) - 1) i low (omega arith),
+        and_from _ _ ((tells i low).1 t)
+            (and_from _ _ (head c.head)
+            (rw (ne_eqb (chain_end (is_inside d revoked) (d - depth i) i) i (λ e. lead.1 (sym (is ∙ e)))) refl)),
+        is,
+      )
+    where
+      head : IsChainHead d revoked i → (nat_eq i 1 || is_inside d revoked (sibling_of i)) ≡ true
+      head (inl root) = rw (eq-eqb i 1 root) refl
+      head (inr beside) = rw ((tells (sibling_of i) beside.0).1 beside) (either (nat_eq i 1))
+        where
+          either : (b : Bool) → (b || true) ≡ true
+          either true = refl
+          either false = refl
+
+  -- the sets of the definition are those of the chains
+  names_chains : (name : SetName)
+      → Contains (map (set_from d (is_inside d revoked)) (filter (begins_chain d (is_inside d revoked)) (nodes d))) name
+      ↔ IsOfChain d revoked name
+  names_chains name = (there name, back name)
+    where
+      there : (name : SetName)
+          → Contains (map (set_from d (is_inside d revoked)) (filter (begins_chain d (is_inside d revoked)) (nodes d)))
+          name → IsOfChain d revoked name
+      there name m =
+          let of' =
+          member_of_map (set_from d (is_inside d revoked)) (begins_chain d (is_inside d revoked)) (nodes d) name m
+          in
+          let within = in_range 1 (2 ^ (d + 1) - 1) of'.0 of'.1 in
+          subst (IsOfChain d revoked) of'.3 (begun of'.0 within.0 (omega (arith, within.0, within.1)) of'.2)
+
+      back : (name : SetName) → IsOfChain d revoked name
+          → Contains (map (set_from d (is_inside d revoked)) (filter (begins_chain d (is_inside d revoked)) (nodes d)))
+          name
+      back Whole c = absurd c
+      back (Diff i j) c =
+          let f = found i j c in
+          let m = map_has_member (set_from d (is_inside d revoked)) (begins_chain d (is_inside d revoked)) (nodes d) i
+          f.0 f.1 in
+          rw f.2 m
+
+-- the list of the definition is a chain cover
+pub list_is_cover : (d : ℕ) (revoked : List ℕ) → d < 32 → AreLeaves d revoked
+    → IsChainCover d revoked (cover_of d revoked)
+unfolding cover_of cover_by is_inside
+list_is_cover d [] small leaves = record {
+  ascending = begins_ascending Whole [] (λ y m. absurd (no_member y m)) (λ i j d below within. absurd (omega arith));
+  none_revoked = λ e. refl;
+  chains = λ some. absurd (some refl);
 }
-in_order (x ∷ xs) =
-    let rest = in_order xs in
-    let more = put_in x rest.ordered rest.ascending in
-    record {
-      ordered = more.ordered;
-      ascending = more.ascending;
-      all = λ name m. more.all name (among_after x xs rest.ordered rest.all name m);
-      only = λ name m. among_after x rest.ordered xs rest.only name (more.only name m);
-    }
+list_is_cover d (u ∷ us) small leaves =
+    let some : u ∷ us ≢ [] = λ e. absurd (cc) in
+    let root = (tells d (u ∷ us) small leaves 1 (omega arith)).1 (root_in_tree d (u ∷ us) leaves some) in
+    subst (λ (b : Bool). IsChainCover d (u ∷ us)
+    (if b then map (set_from d (is_inside d (u ∷ us))) (filter (begins_chain d (is_inside d (u ∷ us))) (nodes d))
+    else Whole ∷ [])) (sym root) (record {
+      ascending =
+          ascending_by_first (end_of d (is_inside d (u ∷ us))) (begins_chain d (is_inside d (u ∷ us))) 1
+          (2 ^ (d + 1) - 1);
+      none_revoked = λ e. absurd (some e);
+      chains = λ some' name. names_chains d (u ∷ us) small leaves name;
+    })
 
 -- revoked leaves have a chain cover, in whatever order they stand
-pub cover_there : (d : ℕ) (revoked : List ℕ) → d < 32 → AreLeaves d revoked → (sets : List SetName) × IsChainCover d revoked sets
-cover_there d [] small leaves = (
-  Whole ∷ [],
-  record {
-    ascending = begins_ascending Whole [] (λ y m. absurd (no_member y m)) (λ i j d below within. absurd (omega arith));
-    none_revoked = λ e. refl;
-    chains = λ some. absurd (some refl);
-  },
+pub cover_there : (d : ℕ) (revoked : List ℕ) → d < 32 → AreLeaves d revoked → (sets : List SetName)
+    × IsChainCover d revoked sets
+cover_there d revoked small leaves = (cover_of d revoked, list_is_cover d revoked small leaves)
+
+-- it is that list alone
+pub the_cover : (d : ℕ) (revoked : List ℕ) (sets : List SetName) → d < 32 → AreLeaves d revoked
+    → IsChainCover d revoked sets ↔ (sets ≡ cover_of d revoked)
+the_cover d revoked sets small leaves = (
+  λ cover. one_cover d revoked sets (cover_of d revoked) cover (list_is_cover d revoked small leaves),
+  λ e. subst (IsChainCover d revoked) (sym e) (list_is_cover d revoked small leaves),
 )
-cover_there d (u ∷ us) small leaves =
-    let some : u ∷ us ≢ [] = λ e. absurd (cc) in
-    let walk = walk_of_all d (u ∷ us) small leaves some in
-    let sets = in_order walk.sets in (
-      sets.ordered,
-      record {
-        ascending = sets.ascending;
-        none_revoked = λ e. absurd (some e);
-        chains = λ some' name. (
-          λ m. ((walk.chains.chains name).0 (sets.only name m)).0,
-          λ c. sets.all name ((walk.chains.chains name).1 (c, all_begin d (u ∷ us) name c)),
-        );
-      },
-    )
+
+-- a chain cover of leaves of a tree is the list of the definition
+pub as_listed : (d : ℕ) (revoked : List ℕ) (sets : List SetName) → d ≤ HIGHEST → All (λ u. u < 2 ^ d) revoked
+    → IsChainCover d revoked sets
+    → (sets ≡ cover_of d revoked) × IsChainCover d revoked sets
+as_listed d revoked sets small leaves cover =
+    ((the_cover d revoked sets (omega arith) (λ u m. All-contains (λ w. w < 2 ^ d) revoked u leaves m)).0 cover, cover)
+
+module _ (d : ℕ) (f g : ℕ → Bool) (small : d < 32) (agree : (v : ℕ) → 1 ≤ v → v < 2 ^ (d + 1) → f v ≡ g v) where
+  -- tests that agree at the nodes agree where a node stands
+  agree_at : (level v : ℕ) → StandsAt d level v → f v ≡ g v
+  agree_at level v at =
+      let low = at.at.low in
+      let high = at.at.high in
+      let within = at.within in
+      let some = pow_pos (d - level) in
+      agree v (omega arith) (omega (arith, pow_mono {i = d - level + 1} {j = d + 1} (omega arith)))
+
+  -- so do the ends of chains
+  ends_agree : (level v : ℕ) → StandsAt d level v → chain_end f level v ≡ chain_end g level v
+  ends_agree zero v at = refl
+  ends_agree (suc level) v at =
+      let a = child_stands d level v (2 * v) at (omega arith) in
+      let b = child_stands d level v (2 * v + 1) at (omega arith) in
+      rw (
+        agree_at level (2 * v) a,
+        agree_at level (2 * v + 1) b,
+        ends_agree level (2 * v) a,
+        ends_agree level (2 * v + 1) b,
+      ) refl
+
+  -- and where they begin
+  begin_alike : (v : ℕ) → 1 ≤ v → v < 2 ^ (d + 1) → begins_chain d f v ≡ begins_chain d g v
+  unfolding begins_chain end_of
+  begin_alike v low high =
+      rw (agree v low high, ends_agree (d - depth v) v (stands_by_number d v small low high), beside) refl
+    where
+      beside : (nat_eq v 1 || f (sibling_of v)) ≡ (nat_eq v 1 || g (sibling_of v))
+      beside = elim (eqb_tells v 1) [
+        | inl same ↦ rw same.0 refl
+        | inr other ↦
+            let apart = other.1 in
+            let within : (1 ≤ sibling_of v) × (sibling_of v < 2 ^ (d + 1)) = elim (sibling_cases v) [
+              | inl left ↦ (omega (arith, left.2), omega (arith, left.1, left.2, doubled d))
+              | inr right ↦ (omega (arith, right.1, right.2), omega (arith, right.1, right.2))
+            ] in
+            rw (agree (sibling_of v) within.0 within.1) refl
+      ]
+
+  lists_agree : (xs : List ℕ) → ((v : ℕ) → Contains xs v → (1 ≤ v) × (v < 2 ^ (d + 1)))
+      → map (set_from d f) (filter (begins_chain d f) xs) ≡ map (set_from d g) (filter (begins_chain d g) xs)
+  unfolding end_of
+  lists_agree [] within = refl
+  lists_agree (x ∷ xs) within =
+      let here = within x (member_first x xs) in
+      let rest = lists_agree xs (λ v m. within v (member_later x xs v m)) in
+      let ends = ends_agree (d - depth x) x (stands_by_number d x small here.0 here.1) in
+      rw (begin_alike x here.0 here.1) (elim (cases_Bool (begins_chain d g x)) [
+        | inl yes' ↦ rw (yes', ends, rest) refl
+        | inr no' ↦ rw (no', rest) refl
+      ])
+
+  -- tests that agree at the nodes of a tree have the same cover
+  pub covers_agree : cover_by d f ≡ cover_by d g
+  unfolding cover_by
+  covers_agree =
+      let lists =
+      lists_agree (nodes d) (λ v m. let in' =
+      in_range 1 (2 ^ (d + 1) - 1) v m in (in'.0, omega (arith, in'.0, in'.1))) in
+      rw (agree 1 (omega arith) (omega (arith, doubled d, pow_pos d)), lists) refl
+
+-- a leaf of one list below a node is of the other where it has the same leaves
+inside_either : (d : ℕ) (a b : List ℕ) (v : ℕ) → ((u : ℕ) → Contains a u → Contains b u) → is_inside d a v ≡ true
+    → is_inside d b v ≡ true
+unfolding is_inside
+inside_either d a b v has e = let u = passed_by (is_below d v) a e in passes (is_below d v) b u.0 (has u.0 u.1) u.2
+
+-- lists of the same leaves have the same cover
+pub same_leaves : (d : ℕ) (a b : List ℕ) → d < 32 → ((u : ℕ) → Contains a u ↔ Contains b u)
+    → cover_of d a ≡ cover_of d b
+unfolding cover_of
+same_leaves d a b small same = covers_agree d (is_inside d a) (is_inside d b) small (λ v low high.
+    same_from_decides (is_inside d a v) (is_inside d b v)
+    (inside_either d a b v (λ u. (same u).0), inside_either d b a v (λ u. (same u).1)) (λ e. e, λ e. e))

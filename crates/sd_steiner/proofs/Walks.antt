@@ -1,5 +1,6 @@
 -- There is a walk: a list of the sets of all chains, with what it says of each leaf.
-use Rattle.std.proofs.Common.{◌≡◌, ◌≢◌, ℕ, suc, zero, subst, inl, inr, ◌+◌, ◌-◌, ◌*◌, ◌/◌, ◌^◌, ◌<◌, Bool, true, false, ◌&&◌, ◌||◌, nat_eq, List, [], ◌∷◌, ◌++◌, eqb-true, arith, sym, ◌∙◌, refl}
+use Rattle.std.proofs.Common.{◌≡◌, ◌≢◌, ℕ, suc, zero, subst, inl, inr, ◌+◌, ◌-◌, ◌*◌, ◌/◌, ◌^◌, ◌<◌, Bool, true, false}
+use Rattle.std.proofs.Common.{◌&&◌, ◌||◌, nat_eq, List, [], ◌∷◌, ◌++◌, eqb-true, arith, sym, ◌∙◌, refl}
 use Rattle.std.specs.List.{list_any}
 use Rattle.sd_tree.specs.Leaves.{is_below, HoldsLeavesOf}
 use Rattle.sd_tree.specs.declared.set.SetName.{SetName}
@@ -7,11 +8,13 @@ use Rattle.std.proofs.lemmas.Bool.{cases_Bool}
 use Rattle.sd_steiner.proofs.Lists.{member_first, found_member}
 use Rattle.sd_tree.proofs.Ancestors.{root_above}
 use Rattle.std.proofs.lemmas.Nat.{pow_pos}
-use Rattle.sd_steiner.specs.Chains.{sibling, IsInTree, HasTwoChildren}
+use Rattle.sd_tree.specs.Paths.{sibling_of}
+use Rattle.sd_steiner.specs.Chains.{IsInTree, HasTwoChildren}
 use Rattle.sd_steiner.specs.Walk.{IsOnChain, AreChainsFrom, node_at, of_ends}
 use Rattle.sd_steiner.proofs.Ends.{AreLeaves, child_cases, sibling_cases}
-use Rattle.sd_steiner.proofs.Levels.{StandsAt, below_either, below_one, below_by_halvings, in_tree_or, in_tree_to, in_tree_from, some_child, child_stands}
-use Rattle.sd_steiner.proofs.Steps.{walk_leaf, walk_two, walk_one, on_chain_child, on_chain_begun}
+use Rattle.sd_steiner.proofs.Levels.{StandsAt, below_either, below_one, below_by_halvings, in_tree_or, in_tree_to}
+use Rattle.sd_steiner.proofs.Levels.{in_tree_from, some_child, child_stands}
+use Rattle.sd_steiner.proofs.AtNode.{walk_leaf, walk_two, walk_one, on_chain_child, on_chain_begun}
 use Rattle.sd_steiner.proofs.Counts.{IsCounted, counted_leaf, counted_two, counted_one}
 
 -- a list of the sets of the chains from v on
@@ -35,23 +38,26 @@ and_swap false true = refl
 and_swap false false = refl
 
 -- the two children of a node are siblings
-sibling_left : (d v : ℕ) (revoked : List ℕ) → IsInTree d revoked (2 * v + 1) → IsInTree d revoked (sibling (2 * v))
+sibling_left : (d v : ℕ) (revoked : List ℕ) → IsInTree d revoked (2 * v + 1) → IsInTree d revoked (sibling_of (2 * v))
 sibling_left d v revoked t = elim (sibling_cases (2 * v)) [
-  | inl left ↦ let same : 2 * v + 1 ≡ sibling (2 * v) = (let e = left.1 in let f = left.2 in omega arith) in subst (IsInTree d revoked) same t
+  | inl left ↦ let same : 2 * v + 1 ≡ sibling_of (2 * v) =
+      (let e = left.1 in let f = left.2 in omega arith) in subst (IsInTree d revoked) same t
   | inr right ↦ absurd (let e = right.1 in omega arith)
 ]
 
-sibling_right : (d v : ℕ) (revoked : List ℕ) → IsInTree d revoked (2 * v) → IsInTree d revoked (sibling (2 * v + 1))
+sibling_right : (d v : ℕ) (revoked : List ℕ) → IsInTree d revoked (2 * v) → IsInTree d revoked (sibling_of (2 * v + 1))
 sibling_right d v revoked t = elim (sibling_cases (2 * v + 1)) [
   | inl left ↦ absurd (let e = left.1 in omega arith)
-  | inr right ↦ let same : 2 * v ≡ sibling (2 * v + 1) = (let e = right.1 in let f = right.2 in omega arith) in subst (IsInTree d revoked) same t
+  | inr right ↦ let same : 2 * v ≡ sibling_of (2 * v + 1) =
+      (let e = right.1 in let f = right.2 in omega arith) in subst (IsInTree d revoked) same t
 ]
 
 -- where both children of a node are in the tree, each begins a chain
 pub on_chain_left : (d v : ℕ) (revoked : List ℕ) → HasTwoChildren d revoked v → IsOnChain d revoked (2 * v) (2 * v)
 on_chain_left d v revoked two = on_chain_begun d revoked (2 * v) (inr (sibling_left d v revoked two.1)) two.0
 
-pub on_chain_right : (d v : ℕ) (revoked : List ℕ) → HasTwoChildren d revoked v → IsOnChain d revoked (2 * v + 1) (2 * v + 1)
+pub on_chain_right : (d v : ℕ) (revoked : List ℕ) → HasTwoChildren d revoked v
+    → IsOnChain d revoked (2 * v + 1) (2 * v + 1)
 on_chain_right d v revoked two = on_chain_begun d revoked (2 * v + 1) (inr (sibling_right d v revoked two.0)) two.1
 
 -- where a leaf is revoked, the root is in the tree
@@ -77,7 +83,8 @@ module _ (d : ℕ) (revoked : List ℕ) (small : d < 32) (leaves : AreLeaves d r
       })
 
   -- a leaf below a node that isn't in the tree isn't revoked
-  free_below : (level x : ℕ) → StandsAt d level x → (IsInTree d revoked x → ⊥) → (u : ℕ) → u < 2 ^ d → is_below d x u ≡ true → list_any (nat_eq u) revoked ≡ false
+  free_below : (level x : ℕ) → StandsAt d level x → (IsInTree d revoked x → ⊥) → (u : ℕ) → u < 2 ^ d
+      → is_below d x u ≡ true → list_any (nat_eq u) revoked ≡ false
   free_below level x at none u h b =
       elim (cases_Bool (list_any (nat_eq u) revoked)) [
         | inl yes' ↦
@@ -87,7 +94,8 @@ module _ (d : ℕ) (revoked : List ℕ) (small : d < 32) (leaves : AreLeaves d r
       ]
 
   -- the walk at a node with two children in the tree
-  walk_at_two : (level head v : ℕ) → StandsAt d (suc level) v → IsOnChain d revoked head v → HasTwoChildren d revoked v → IsWalk d revoked (2 * v) (2 * v) → IsWalk d revoked (2 * v + 1) (2 * v + 1) → IsWalk d revoked head v
+  walk_at_two : (level head v : ℕ) → StandsAt d (suc level) v → IsOnChain d revoked head v → HasTwoChildren d revoked v
+      → IsWalk d revoked (2 * v) (2 * v) → IsWalk d revoked (2 * v + 1) (2 * v + 1) → IsWalk d revoked head v
   walk_at_two level head v at on two p q = record {
     sets = of_ends head v ++ (p.sets ++ q.sets);
     chains = walk_two d revoked head v p.sets q.sets leaves on two p.chains q.chains;
@@ -95,7 +103,9 @@ module _ (d : ℕ) (revoked : List ℕ) (small : d < 32) (leaves : AreLeaves d r
   }
 
   -- the walk at a node with its left child alone in the tree, or its right one alone
-  walk_at_left : (level head v : ℕ) → StandsAt d (suc level) v → HoldsLeavesOf d head v → IsInTree d revoked v → IsInTree d revoked (2 * v) → (IsInTree d revoked (2 * v + 1) → ⊥) → IsWalk d revoked head (2 * v) → IsWalk d revoked head v
+  walk_at_left : (level head v : ℕ) → StandsAt d (suc level) v → HoldsLeavesOf d head v → IsInTree d revoked v
+      → IsInTree d revoked (2 * v) → (IsInTree d revoked (2 * v + 1) → ⊥) → IsWalk d revoked head (2 * v)
+      → IsWalk d revoked head v
   walk_at_left level head v at cover t l r p = record {
     sets = p.sets;
     chains = walk_one d revoked head v (2 * v) p.sets t.0 (inl (l, r)) (omega arith) l p.chains;
@@ -104,7 +114,9 @@ module _ (d : ℕ) (revoked : List ℕ) (small : d < 32) (leaves : AreLeaves d r
         (free_below level (2 * v + 1) (child_stands d level v (2 * v + 1) at (omega arith)) r) cover p.counted;
   }
 
-  walk_at_right : (level head v : ℕ) → StandsAt d (suc level) v → HoldsLeavesOf d head v → IsInTree d revoked v → (IsInTree d revoked (2 * v) → ⊥) → IsInTree d revoked (2 * v + 1) → IsWalk d revoked head (2 * v + 1) → IsWalk d revoked head v
+  walk_at_right : (level head v : ℕ) → StandsAt d (suc level) v → HoldsLeavesOf d head v → IsInTree d revoked v
+      → (IsInTree d revoked (2 * v) → ⊥) → IsInTree d revoked (2 * v + 1) → IsWalk d revoked head (2 * v + 1)
+      → IsWalk d revoked head v
   walk_at_right level head v at cover t l r p = record {
     sets = p.sets;
     chains = walk_one d revoked head v (2 * v + 1) p.sets t.0 (inr (l, r)) (omega arith) r p.chains;
@@ -118,11 +130,15 @@ module _ (d : ℕ) (revoked : List ℕ) (small : d < 32) (leaves : AreLeaves d r
   covers_left : (level head v : ℕ) → StandsAt d (suc level) v → HoldsLeavesOf d head v → HoldsLeavesOf d head (2 * v)
   covers_left level head v at cover u h b = cover u h (below_either d level v u small at ∙ rw b refl)
 
-  covers_right : (level head v : ℕ) → StandsAt d (suc level) v → HoldsLeavesOf d head v → HoldsLeavesOf d head (2 * v + 1)
-  covers_right level head v at cover u h b = cover u h (below_either d level v u small at ∙ (or_swap (is_below d (2 * v) u) (is_below d (2 * v + 1) u) ∙ rw b refl))
+  covers_right : (level head v : ℕ) → StandsAt d (suc level) v → HoldsLeavesOf d head v
+      → HoldsLeavesOf d head (2 * v + 1)
+  covers_right level head v at cover u h b =
+      cover u h (below_either d level v u small at
+      ∙ (or_swap (is_below d (2 * v) u) (is_below d (2 * v + 1) u) ∙ rw b refl))
 
   -- a node of the tree above the leaves has a child in the tree
-  no_child : (level v : ℕ) → StandsAt d (suc level) v → IsInTree d revoked v → (IsInTree d revoked (2 * v) → ⊥) → (IsInTree d revoked (2 * v + 1) → ⊥) → ⊥
+  pub no_child : (level v : ℕ) → StandsAt d (suc level) v → IsInTree d revoked v → (IsInTree d revoked (2 * v) → ⊥)
+      → (IsInTree d revoked (2 * v + 1) → ⊥) → ⊥
   no_child level v at t l r =
       let child = some_child d level v revoked leaves at t in
       elim (child_cases v child.0 child.1) [
@@ -131,22 +147,31 @@ module _ (d : ℕ) (revoked : List ℕ) (small : d < 32) (leaves : AreLeaves d r
       ]
 
   -- there is a walk from each node of the tree
-  pub walk_from : (level head v : ℕ) → StandsAt d level v → IsOnChain d revoked head v → HoldsLeavesOf d head v → IsWalk d revoked head v
+  pub walk_from : (level head v : ℕ) → StandsAt d level v → IsOnChain d revoked head v → HoldsLeavesOf d head v
+      → IsWalk d revoked head v
   walk_from zero head v at on cover = walk_at_leaf head v at on
   walk_from (suc level) head v at on cover =
       elim (in_tree_or d level (2 * v) revoked leaves (child_stands d level v (2 * v) at (omega arith))) [
-        | inl l ↦ elim (in_tree_or d level (2 * v + 1) revoked leaves (child_stands d level v (2 * v + 1) at (omega arith))) [
-          | inl r ↦ walk_at_two level head v at on (l, r)
-              (walk_from level (2 * v) (2 * v) (child_stands d level v (2 * v) at (omega arith)) (on_chain_left d v revoked (l, r)) (λ u h b. b))
-              (walk_from level (2 * v + 1) (2 * v + 1) (child_stands d level v (2 * v + 1) at (omega arith)) (on_chain_right d v revoked (l, r)) (λ u h b. b))
-          | inr r ↦ walk_at_left level head v at cover on.inside l r
-              (walk_from level head (2 * v) (child_stands d level v (2 * v) at (omega arith)) (on_chain_child d revoked head v (2 * v) leaves on (inl (l, r)) (omega arith) l) (covers_left level head v at cover))
-        ]
-        | inr l ↦ elim (in_tree_or d level (2 * v + 1) revoked leaves (child_stands d level v (2 * v + 1) at (omega arith))) [
-          | inl r ↦ walk_at_right level head v at cover on.inside l r
-              (walk_from level head (2 * v + 1) (child_stands d level v (2 * v + 1) at (omega arith)) (on_chain_child d revoked head v (2 * v + 1) leaves on (inr (l, r)) (omega arith) r) (covers_right level head v at cover))
-          | inr r ↦ absurd (no_child level v at on.inside l r)
-        ]
+        | inl l ↦ elim
+            (in_tree_or d level (2 * v + 1) revoked leaves (child_stands d level v (2 * v + 1) at (omega arith))) [
+              | inl r ↦ walk_at_two level head v at on (l, r)
+                  (walk_from level (2 * v) (2 * v) (child_stands d level v (2 * v) at (omega arith))
+                  (on_chain_left d v revoked (l, r)) (λ u h b. b))
+                  (walk_from level (2 * v + 1) (2 * v + 1) (child_stands d level v (2 * v + 1) at (omega arith))
+                  (on_chain_right d v revoked (l, r)) (λ u h b. b))
+              | inr r ↦ walk_at_left level head v at cover on.inside l r
+                  (walk_from level head (2 * v) (child_stands d level v (2 * v) at (omega arith))
+                  (on_chain_child d revoked head v (2 * v) leaves on (inl (l, r)) (omega arith) l)
+                  (covers_left level head v at cover))
+            ]
+        | inr l ↦ elim
+            (in_tree_or d level (2 * v + 1) revoked leaves (child_stands d level v (2 * v + 1) at (omega arith))) [
+              | inl r ↦ walk_at_right level head v at cover on.inside l r
+                  (walk_from level head (2 * v + 1) (child_stands d level v (2 * v + 1) at (omega arith))
+                  (on_chain_child d revoked head v (2 * v + 1) leaves on (inr (l, r)) (omega arith) r)
+                  (covers_right level head v at cover))
+              | inr r ↦ absurd (no_child level v at on.inside l r)
+            ]
       ]
 
   -- the root is the node of the highest level
@@ -158,4 +183,5 @@ module _ (d : ℕ) (revoked : List ℕ) (small : d < 32) (leaves : AreLeaves d r
   -- there is a walk from the root where a leaf is revoked
   pub walk_of_all : revoked ≢ [] → IsWalk d revoked 1 1
   walk_of_all some =
-      walk_from d 1 1 root_level (on_chain_begun d revoked 1 (inl refl) (root_in_tree d revoked leaves some)) (λ u h b. b)
+      walk_from d 1 1 root_level (on_chain_begun d revoked 1 (inl refl) (root_in_tree d revoked leaves some))
+      (λ u h b. b)

@@ -1,7 +1,8 @@
 -- The chain cover of the leaves that are not revoked [Naor, Naor, Lotspiech 2001, 3.2].
 -- A leaf u of a tree of height d has the node 2^d + u.
-use Rattle.std.specs.Prelude.{◌≡◌, ◌≢◌, ℕ, ◌+◌, ◌-◌, ◌*◌, ◌/◌, ◌%◌, ◌^◌, ◌≤◌, ◌==◌, ◌↔◌, ◌⊎◌, List, [], ◌∷◌, Contains, if◌then◌else◌}
+use Rattle.std.specs.Prelude.{◌≡◌, ◌≢◌, ℕ, ◌+◌, ◌*◌, ◌/◌, ◌^◌, ◌≤◌, ◌↔◌, ◌⊎◌, List, [], ◌∷◌, Contains}
 use Rattle.sd_tree.specs.Node.{IsAbove}
+use Rattle.sd_tree.specs.Paths.{sibling_of}
 use Rattle.sd_tree.specs.SetNames.{AreAscending}
 use Rattle.sd_tree.specs.declared.set.SetName.{SetName}
 use Rattle.sd_tree.specs.declared.set.SetName.TheVariants.{Whole, Diff}
@@ -10,14 +11,11 @@ use Rattle.sd_tree.specs.declared.set.SetName.TheVariants.{Whole, Diff}
 abbrev pub IsInTree : ℕ → List ℕ → ℕ → Type 0
 IsInTree d revoked v = (1 ≤ v) × ((u : ℕ) × Contains revoked u × IsAbove v (2 ^ d + u))
 
--- the other child of a node's parent
-abbrev pub sibling : ℕ → ℕ
-sibling v = if v % 2 == 0 then v + 1 else v - 1
-
 -- of the node's two children just one is in T
 abbrev pub HasOneChild : ℕ → List ℕ → ℕ → Type 0
 HasOneChild d revoked v =
-    (IsInTree d revoked (2 * v) × ¬ IsInTree d revoked (2 * v + 1)) ⊎ (¬ IsInTree d revoked (2 * v) × IsInTree d revoked (2 * v + 1))
+    (IsInTree d revoked (2 * v) × ¬ IsInTree d revoked (2 * v + 1))
+    ⊎ (¬ IsInTree d revoked (2 * v) × IsInTree d revoked (2 * v + 1))
 
 -- both of its children are in T
 abbrev pub HasTwoChildren : ℕ → List ℕ → ℕ → Type 0
@@ -25,7 +23,7 @@ HasTwoChildren d revoked v = IsInTree d revoked (2 * v) × IsInTree d revoked (2
 
 -- where a chain may begin: at the root, or beside a sibling in T [Naor, Naor, Lotspiech 2001, 3.2]
 abbrev pub IsChainHead : ℕ → List ℕ → ℕ → Type 0
-IsChainHead d revoked v = (v ≡ 1) ⊎ IsInTree d revoked (sibling v)
+IsChainHead d revoked v = (v ≡ 1) ⊎ IsInTree d revoked (sibling_of v)
 
 -- where a chain ends: at a revoked leaf's node, or above two children in T [Naor, Naor, Lotspiech 2001, 3.2]
 abbrev pub IsChainEnd : ℕ → List ℕ → ℕ → Type 0
@@ -56,7 +54,8 @@ abbrev pub IsOfChain : ℕ → List ℕ → SetName → Type 0
 IsOfChain d revoked Whole = ⊥
 IsOfChain d revoked (Diff i j) = EndsChain d revoked i j
 
--- the cover, ascending: the whole set alone where no leaf is revoked, else a set for each chain of more than one node [Naor, Naor, Lotspiech 2001, 3.2]
+-- the cover, ascending: the whole set alone where no leaf is revoked, else a set for each chain of more than one node
+-- [Naor, Naor, Lotspiech 2001, 3.2]
 pub record IsChainCover (d : ℕ) (revoked : List ℕ) (sets : List SetName) : Type 0 where
   pub ascending : AreAscending sets
   pub none_revoked : revoked ≡ [] → sets ≡ Whole ∷ []

@@ -1,3 +1,4 @@
 pub mod Partition
 pub mod Chains
+pub mod Cover
 pub mod Walk

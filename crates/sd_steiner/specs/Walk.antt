@@ -1,5 +1,6 @@
 -- The walk over the Steiner tree that finds the chains [Naor, Naor, Lotspiech 2001, 3.2].
-use Rattle.std.specs.Prelude.{◌≡◌, ◌≢◌, ℕ, ◌+◌, ◌/◌, ◌^◌, ◌<◌, ◌≤◌, ◌==◌, ◌↔◌, ◌⊎◌, List, [], ◌∷◌, ◌++◌, Contains, AllPairs, if◌then◌else◌}
+use Rattle.std.specs.Prelude.{◌≡◌, ◌≢◌, ℕ, ◌+◌, ◌/◌, ◌^◌, ◌<◌, ◌≤◌, ◌==◌, ◌↔◌, ◌⊎◌, List, [], ◌∷◌, ◌++◌, Contains}
+use Rattle.std.specs.Prelude.{AllPairs, if◌then◌else◌}
 use Rattle.std.specs.List.Sorted.{IsStrictlyIncreasing}
 use Rattle.sd_tree.specs.Node.{IsAbove, IsProperlyAbove}
 use Rattle.sd_tree.specs.declared.set.SetName.{SetName}
@@ -50,8 +51,10 @@ pub record AreRevokedBelow (d : ℕ) (revoked : List ℕ) (level v : ℕ) (leave
 
 -- the new list is the old one and after it the sets of the chain that begins at head and of those that begin below v
 abbrev pub AddsChains : ℕ → List ℕ → ℕ → ℕ → List SetName → List SetName → Type 0
-AddsChains d revoked head v old new = (added : List SetName) × (new ≡ old ++ added) × AreChainsFrom d revoked head v added
+AddsChains d revoked head v old new = (added : List SetName) × (new ≡ old ++ added)
+    × AreChainsFrom d revoked head v added
 
 -- the sets are added so whatever leaves are revoked elsewhere
 pub record AddsChainsBelow (d level head v : ℕ) (leaves : List ℕ) (old new : List SetName) : Type 0 where
-  pub adds : (revoked : List ℕ) → AreRevokedBelow d revoked level v leaves → IsOnChain d revoked head v → AddsChains d revoked head v old new
+  pub adds : (revoked : List ℕ) → AreRevokedBelow d revoked level v leaves → IsOnChain d revoked head v
+      → AddsChains d revoked head v old new

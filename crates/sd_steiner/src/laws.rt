@@ -1,25 +1,45 @@
-ghost use Rattle.std.specs.Prelude.{◌≡◌, ℕ, ◌^◌, ◌<◌, ◌≤◌, List, length, All};
-ghost use Rattle.std.specs.List.Sorted.{IsStrictlyIncreasing};
+//! What the chain cover is and comes to, for crates that broadcast, count or print it.
+
+ghost use Rattle.std.specs.Prelude.{◌≡◌, ℕ, ◌+◌, ◌^◌, ◌<◌, ◌≤◌, ◌↔◌, Bool, List, Contains, length, All};
 ghost use Rattle.sd_tree.specs.declared.set.SetName.{SetName};
-ghost use Rattle.sd_steiner.specs.Partition.{IsPartition, IsSmall, unrevoked};
+ghost use Rattle.sd_tree.specs.Leaves.{unrevoked};
+ghost use Rattle.sd_steiner.specs.Partition.{IsPartition, IsSmall};
 ghost use Rattle.sd_steiner.specs.Chains.{IsChainCover};
+ghost use Rattle.sd_steiner.specs.Cover.{cover_by, cover_of};
 
 /// Some revoked leaves have at most one chain cover.
 pub fn one_cover()
-    ensures { (d : ℕ) (revoked : List ℕ) (a b : List SetName) → IsChainCover d revoked a → IsChainCover d revoked b → a ≡ b }
+    ensures { (d : ℕ) (revoked : List ℕ) (a b : List SetName) →
+        IsChainCover d revoked a → IsChainCover d revoked b → a ≡ b }
 {}
 
-/// In a tree whose nodes have 32 bits, revoked leaves have a chain cover.
-pub fn there_is_a_cover()
-    ensures { (d : ℕ) (revoked : List ℕ) → d < 32 → All (λ u. u < 2 ^ d) revoked → (sets : List SetName) × IsChainCover d revoked sets }
+/// However many leaves of a tree are revoked, and in whatever order they stand, the list of the definition is their one
+/// chain cover.
+pub fn cover_is_listed()
+    ensures { (d : ℕ) (revoked : List ℕ) (sets : List SetName) → d < 32 → All (λ u. u < 2 ^ d) revoked →
+        IsChainCover d revoked sets ↔ (sets ≡ cover_of d revoked) }
 {}
 
-/// In a tree whose nodes have 32 bits, the sets of a chain cover are disjoint and unite to the leaves that are not revoked.
+/// Lists of the same leaves have the same cover.
+pub fn same_leaves_same_cover()
+    ensures { (d : ℕ) (a b : List ℕ) → d < 32 → ((u : ℕ) → Contains a u ↔ Contains b u) →
+        cover_of d a ≡ cover_of d b }
+{}
+
+/// Tests that agree at the nodes of a tree, as by counts and by a list of leaves, give the same cover.
+pub fn same_nodes_same_cover()
+    ensures { (d : ℕ) (f g : ℕ → Bool) → d < 32 → ((v : ℕ) → 1 ≤ v → v < 2 ^ (d + 1) → f v ≡ g v) →
+        cover_by d f ≡ cover_by d g }
+{}
+
+/// The sets of a chain cover are disjoint and unite to the leaves that are not revoked.
 pub fn cover_unites()
-    ensures { (d : ℕ) (revoked : List ℕ) (sets : List SetName) → d < 32 → All (λ u. u < 2 ^ d) revoked → IsChainCover d revoked sets → IsPartition d sets (unrevoked d revoked) }
+    ensures { (d : ℕ) (revoked : List ℕ) (sets : List SetName) → d < 32 → All (λ u. u < 2 ^ d) revoked →
+        IsChainCover d revoked sets → IsPartition d sets (unrevoked d revoked) }
 {}
 
 /// A chain cover has at most 2r - 1 sets where r leaves are revoked.
 pub fn cover_is_small()
-    ensures { (d : ℕ) (revoked : List ℕ) (sets : List SetName) → d < 32 → All (λ u. u < 2 ^ d) revoked → IsChainCover d revoked sets → IsSmall sets (length revoked) }
+    ensures { (d : ℕ) (revoked : List ℕ) (sets : List SetName) → d < 32 → All (λ u. u < 2 ^ d) revoked →
+        IsChainCover d revoked sets → IsSmall sets (length revoked) }
 {}

@@ -4,5 +4,8 @@
 mod laws;
 mod walk;
 
-pub use laws::{cover_is_small, cover_unites, one_cover, there_is_a_cover};
-pub use walk::{CoverFault, MOST_REVOKED, cover};
+pub use laws::{
+    cover_is_listed, cover_is_small, cover_unites, one_cover, same_leaves_same_cover,
+    same_nodes_same_cover,
+};
+pub use walk::{CoverFault, cover};

@@ -1,18 +1,19 @@
-ghost use Rattle.std.specs.Prelude.{◌≡◌, ℕ, ◌+◌, ◌-◌, ◌*◌, ◌^◌, ◌<◌, ◌≤◌, ◌++◌, ◌↔◌, List, All, IfOk, OnOk, IsErrOf, length};
+ghost use Rattle.std.specs.Prelude.{◌≡◌, ℕ, ◌+◌, ◌-◌, ◌*◌, ◌^◌, ◌<◌, ◌≤◌, ◌++◌, ◌↔◌, List, All};
+ghost use Rattle.std.specs.Prelude.{IfOk, OnOk, IsErrOf, length};
 ghost use Rattle.std.specs.List.Sorted.{IsStrictlyIncreasing};
+ghost use Rattle.sd_tree.specs.declared.height.TheConstants.{HIGHEST};
+ghost use Rattle.sd_tree.specs.declared.leaf.TheConstants.{MOST_REVOKED};
 ghost use Rattle.sd_steiner.specs.Chains.{IsChainCover};
+ghost use Rattle.sd_steiner.specs.Cover.{cover_of};
 ghost use Rattle.sd_steiner.specs.Walk.{of_ends, AreBelowNode, AddsChainsBelow};
 
-use sd_tree::{Height, Leaf, SetName};
+use sd_tree::{HIGHEST, Height, Leaf, MOST_REVOKED, SetName};
 use std::alloc::{AllocError, Global};
-
-/// The most revoked leaves for which a cover is made.
-pub const MOST_REVOKED: usize = 4096;
 
 /// Why no cover was made.
 #[derive(Clone, Copy, Debug, PartialEq, Eq)]
 pub enum CoverFault {
-    /// More than 4,096 leaves are revoked.
+    /// More than [`MOST_REVOKED`] leaves are revoked.
     TooMany,
     /// Memory ran out.
     NoMemory,
@@ -34,12 +35,14 @@ impl From<AllocError> for CoverFault {
 pub fn cover(alloc: Global, h: Height, revoked: &[Leaf]) -> Result<Vec<SetName>, CoverFault>
     requires leaves { All (λ u. u < 2 ^ h) revoked.now }
     requires ascending { IsStrictlyIncreasing revoked.now }
-    ensures ok { IfOk result (λ sets. IsChainCover h revoked.now sets.items) }
-    ensures too_many { IsErrOf result CoverFault.TooMany ↔ (4096 < length revoked.now) }
+    ensures value { IfOk result (λ sets.
+        (sets.items ≡ cover_of h revoked.now) × IsChainCover h revoked.now sets.items) }
+    ensures fault { IsErrOf result CoverFault.TooMany ↔ (MOST_REVOKED < length revoked.now) }
 {
     if revoked.len() > MOST_REVOKED {
         return Err(CoverFault::TooMany);
     }
+    prove!(h.get() <= HIGHEST);
     Ok(chain_sets(alloc, h, revoked)?)
 }
 
@@ -59,8 +62,8 @@ fn chain_sets(alloc: Global, h: Height, revoked: &[Leaf]) -> Result<Vec<SetName>
     Ok(sets)
 }
 
-// Adds the sets of the chain that begins at `head` and goes on at node v, and of those that begin below v. Node v stands
-// `level` steps above the leaves, and below it these are revoked.
+// Adds the sets of the chain that begins at `head` and goes on at node v, and of those that begin below v. Node v
+// stands `level` steps above the leaves, and below it these are revoked.
 fn walk(
     sets: &mut Vec<SetName>,
     h: Height,
@@ -69,7 +72,7 @@ fn walk(
     level: u32,
     leaves: &[Leaf],
 ) -> Result<(), AllocError>
-    requires height { h ≤ 20 }
+    requires height { h ≤ HIGHEST }
     requires some { 0 < length leaves.now }
     requires below { AreBelowNode h level v leaves.now }
     ensures { OnOk result (AddsChainsBelow h level head v leaves.now sets.old.items sets.new.items) }
@@ -103,7 +106,7 @@ fn push_chain(sets: &mut Vec<SetName>, head: u32, end: u32) -> Result<(), AllocE
 
 // Cuts the leaves below node v, which stands `level` steps above them, into those below its left and its right child.
 fn halves<'a>(h: Height, v: u32, level: u32, leaves: &'a [Leaf]) -> (&'a [Leaf], &'a [Leaf])
-    requires height { h ≤ 20 }
+    requires height { h ≤ HIGHEST }
     requires some { 0 < length leaves.now }
     requires inner { 0 < level }
     requires below { AreBelowNode h level v leaves.now }

@@ -4,3 +4,5 @@ pub mod Levels
 pub mod Ancestors
 pub mod Meeting
 pub mod Members
+pub mod Paths
+pub mod Halves

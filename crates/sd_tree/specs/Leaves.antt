@@ -1,6 +1,6 @@
 -- In a tree of height d leaf u is node 2^d + u, and the leaves below a node are an interval of numbers.
-use Rattle.std.specs.Prelude.{◌≡◌, true, ℕ, ◌+◌, ◌-◌, ◌*◌, ◌^◌, ◌<◌, ◌&&◌, Bool, not, nat_le, nat_lt, List, filter}
-use Rattle.std.specs.List.{range_with_len}
+use Rattle.std.specs.Prelude.{◌≡◌, true, ℕ, ◌+◌, ◌-◌, ◌*◌, ◌^◌, ◌<◌, ◌&&◌, Bool, not, nat_eq, nat_le, nat_lt, List, filter}
+use Rattle.std.specs.List.{list_any, range_with_len}
 use Rattle.sd_tree.specs.declared.set.SetName.{SetName}
 use Rattle.sd_tree.specs.declared.set.SetName.TheVariants.{Whole, Diff}
 use Rattle.sd_tree.specs.Node.{depth}
@@ -8,6 +8,10 @@ use Rattle.sd_tree.specs.Node.{depth}
 -- the numbers of all leaves
 abbrev pub leaves : ℕ → List ℕ
 leaves d = range_with_len 0 (2 ^ d)
+
+-- the leaves of the tree that aren't among these, ascending
+abbrev pub unrevoked : ℕ → List ℕ → List ℕ
+unrevoked d revoked = filter (λ u. not (list_any (nat_eq u) revoked)) (leaves d)
 
 -- leaf u stands at or below node v: its node is in the interval that v has at depth d [Naor, Naor, Lotspiech 2001, 3.2]
 unfoldable pub is_below : ℕ → ℕ → ℕ → Bool

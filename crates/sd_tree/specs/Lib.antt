@@ -1,3 +1,4 @@
 pub mod Node
 pub mod Leaves
 pub mod SetNames
+pub mod Paths

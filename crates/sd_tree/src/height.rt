@@ -2,6 +2,9 @@ ghost use Rattle.std.specs.Prelude.{◌≡◌, ◌^◌, ◌≤◌, ◌↔◌, Is
 
 use std::marker::Model;
 
+/// The greatest height of a tree.
+pub const HIGHEST: u8 = 20;
+
 /// The height of a tree of receivers, 1 to 20.
 #[derive(Clone, Copy, Debug, PartialEq, Eq)]
 pub struct Height {
@@ -10,12 +13,13 @@ pub struct Height {
 
 impl Model for Height {
     ghost use Rattle.std.specs.Prelude.{ℕ, ◌≤◌};
+    ghost use Rattle.sd_tree.specs.declared.height.TheConstants.{HIGHEST};
 
     ghost Value = { ℕ };
 
     ghost view = { λ h. h.depth };
 
-    ghost invariant = { λ h. (1 ≤ h.depth) × (h.depth ≤ 20) };
+    ghost invariant = { λ h. (1 ≤ h.depth) × (h.depth ≤ HIGHEST) };
 
     ghost inverse = { λ d. record { depth = d } };
 }
@@ -23,10 +27,10 @@ impl Model for Height {
 impl Height {
     /// The height d, or `None` where it isn't 1 to 20.
     pub fn new(d: u8) -> Option<Height>
-        ensures range { IsSome result ↔ ((1 ≤ d) × (d ≤ 20)) }
+        ensures range { IsSome result ↔ ((1 ≤ d) × (d ≤ HIGHEST)) }
         ensures value { IfSome result (λ h. h ≡ d) }
     {
-        if (1..=20).contains(&d) {
+        if (1..=HIGHEST).contains(&d) {
             Some(Height { depth: d })
         } else {
             None
@@ -47,7 +51,7 @@ impl Height {
     pub fn get(self) -> u8
         ensures value { result ≡ self }
         ensures low { 1 ≤ result }
-        ensures high { result ≤ 20 }
+        ensures high { result ≤ HIGHEST }
     {
         self.depth
     }

@@ -1,7 +1,12 @@
 ghost use Rattle.std.specs.Prelude.{◌≡◌, ◌^◌, ◌<◌, ◌↔◌, IsSome, IfSome};
+ghost use Rattle.std.specs.Ordering.{nat_cmp};
 
 use crate::height::Height;
+use std::cmp::Ordering;
 use std::marker::Model;
+
+/// The most leaves that may be revoked at a time.
+pub const MOST_REVOKED: usize = 65_536;
 
 /// A leaf of a tree of receivers, numbered from 0 at the left.
 #[derive(Clone, Copy, Debug, PartialEq, Eq, PartialOrd, Ord)]
@@ -41,4 +46,11 @@ impl Leaf {
     {
         self.number
     }
+}
+
+/// How two leaves stand in their order, which is that of their numbers.
+pub fn compare_leaves(a: Leaf, b: Leaf) -> Ordering
+    ensures { result ≡ nat_cmp a b }
+{
+    a.cmp(&b)
 }

@@ -1,4 +1,4 @@
-ghost use Rattle.std.specs.Prelude.{◌≡◌, ℕ, ◌+◌, ◌/◌, ◌^◌, ◌<◌, ◌≤◌, ◌↔◌, IsTrue};
+ghost use Rattle.std.specs.Prelude.{◌≡◌, ℕ, ◌+◌, ◌-◌, ◌/◌, ◌^◌, ◌<◌, ◌≤◌, ◌↔◌, IsTrue};
 ghost use Rattle.sd_tree.specs.Node.{depth as depth_of, IsAbove, IsProperlyAbove};
 ghost use Rattle.sd_tree.specs.Leaves.{HoldsLeavesOf};
 
@@ -33,6 +33,7 @@ pub fn child_towards(i: u32, j: u32) -> u32
     requires j { IsProperlyAbove i j }
     ensures child { result / 2 ≡ i }
     ensures above { IsAbove result j }
+    ensures halving { result ≡ j / 2 ^ (depth_of j - depth_of i - 1) }
 {
     j >> (depth(j) - depth(i) - 1)
 }

@@ -1,9 +1,9 @@
 use Rattle.std.proofs.Common.{◌+◌, ◌-◌, ◌/◌, ◌≡◌, ◌≤◌, ◌++◌, ◌∷◌, [], ◌<◌, ◌^◌, List, ℕ, sym, ap, ◌∙◌, arith}
 use Rattle.std.proofs.lemmas.Grind.{common_steps}
 use Rattle.sd_label.specs.Labels.{label_of, descended}
-use Rattle.sd_label.specs.Names.{path_node as path_node_of, sibling_of}
+use Rattle.sd_tree.specs.Paths.{path_node as path_node_of, sibling_of}
 use Rattle.sd_label.proofs.Descents.{label_of_itself}
-use Rattle.sd_label.proofs.Paths.{path_is_node}
+use Rattle.sd_tree.proofs.Paths.{path_is_node}
 use Rattle.sd_card.proofs.Made.{path_half, child_label, one_more, labels_given}
 use Rattle.sd_card.proofs.make.give.Goals.{then-below-levels, else-below-levels}
 use Rattle.sd_card.proofs.make.give.Goals as goal

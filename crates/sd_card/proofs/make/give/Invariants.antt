@@ -1,6 +1,6 @@
 use Rattle.std.proofs.Common.{◌+◌, ◌-◌, ◌<◌, ◌≡◌, ◌++◌}
 use Rattle.sd_label.specs.Labels.{label_of}
-use Rattle.sd_label.specs.Names.{path_node}
+use Rattle.sd_tree.specs.Paths.{path_node}
 use Rattle.sd_card.proofs.Made.{labels_under}
 use Rattle.sd_card.proofs.make.give.Given as goal
 

@@ -11,8 +11,8 @@ returns-in_ok-period_text-in-Ok-clause-text c =
     let low : h < 32 = omega (arith, c.requires.height) in
     record {
       sets = sets;
-      chains = c.in-Ok.ensures.ok;
-      partition = cover_partition h revoked sets low (λ u m. All-contains (λ w. w < 2 ^ h) revoked u c.requires.leaves m) c.in-Ok.ensures.ok;
-      small = cover_small h revoked sets low (λ u m. All-contains (λ w. w < 2 ^ h) revoked u c.requires.leaves m) c.in-Ok.ensures.ok;
+      chains = c.in-Ok.ensures.value.1;
+      partition = cover_partition h revoked sets low (λ u m. All-contains (λ w. w < 2 ^ h) revoked u c.requires.leaves m) c.in-Ok.ensures.value.1;
+      small = cover_small h revoked sets low (λ u m. All-contains (λ w. w < 2 ^ h) revoked u c.requires.leaves m) c.in-Ok.ensures.value.1;
       printed = rw c.deref.ensures.value at c.in_ok-period_text-in-Ok.ensures;
     }

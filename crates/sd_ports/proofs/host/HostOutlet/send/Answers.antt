@@ -5,5 +5,6 @@ use Rattle.sd_ports.proofs.host.HostOutlet.send.Goals as goal
 pub loop-self-preserved : goal.loop-self-preserved
 loop-self-preserved g c = record {
   calm = c.in-Ok.ensures.cause.calm ∙ c.loop-self.invariant.calm;
-  kept = kept_moved _ _ _ c.deref.result.now c.loop-self.self.waiting.items c.loop-self.self.sent c.in-Ok.count c.deref.ensures.value c.loop-self.invariant.kept c.in-Ok.ensures.passed;
+  kept = kept_moved _ _ _ c.deref.result.now c.loop-self.self.waiting.items c.loop-self.self.sent c.in-Ok.count
+      c.deref.ensures.value c.loop-self.invariant.kept c.in-Ok.ensures.passed;
 }

@@ -6,7 +6,8 @@ use Rattle.sd_ports.proofs.host.HostOutlet.send.Given as goal
 abbrev pub invariant-loop-self : goal.invariant-loop-self
 invariant-loop-self g l = record {
   calm : l.self.file.faults ≡ l.fn.self.file.faults;
-  kept : Keeps (append_known (g.F.Write.contents l.fn.self.file.writer) (drop l.fn.self.sent l.fn.self.waiting.items)) (append_known (g.F.Write.contents l.self.file.writer) (drop l.self.sent l.self.waiting.items));
+  kept : Keeps (append_known (g.F.Write.contents l.fn.self.file.writer) (drop l.fn.self.sent l.fn.self.waiting.items))
+      (append_known (g.F.Write.contents l.self.file.writer) (drop l.self.sent l.self.waiting.items));
 }
 
 abbrev pub decreases-loop-self : goal.decreases-loop-self

@@ -7,9 +7,12 @@ pub returns : goal.returns
 returns c =
     let inside = c.self.inside in
     let both =
-    part_lent inside.holds inside.buffer.items inside.payload c.part.result.now inside.at c.in_ok-length.length inside.end inside.counter c.args.self.now
-    (sym c.is_section.ensures ∙ c.if-is_section.false) (omega (arith, c.in_ok-length.ensures.within)) c.self.view_is c.part.ensures.value c.in_ok-length.ensures.some in
-    let value : Some c.part-2.result.now ≡ next_of c.args.self.now = ap (λ (l : List ℕ). Some l) c.part-2.ensures.value ∙ both.1 in (
+    part_lent inside.holds inside.buffer.items inside.payload c.part.result.now inside.at c.in_ok-length.length
+    inside.end inside.counter c.args.self.now
+    (sym c.is_section.ensures ∙ c.if-is_section.false) (omega (arith, c.in_ok-length.ensures.within)) c.self.view_is
+    c.part.ensures.value c.in_ok-length.ensures.some in
+    let value : Some c.part-2.result.now ≡ next_of c.args.self.now = ap (λ (l : List ℕ). Some l)
+    c.part-2.ensures.value ∙ both.1 in (
       (refl, (λ _. tt), both.0),
       record {
         value = value;

@@ -15,7 +15,8 @@ returns c =
     let s9 = c.fields-set-9.ensures in
     let s10 = c.fields-set-10.ensures in
     let s11 = c.fields-set-11.ensures in
-    header_written c.args.self.now.table_id (c.args.body + 9) c.args.self.now.extension c.args.self.now.number c.args.self.now.last_number
+    header_written c.args.self.now.table_id (c.args.body + 9) c.args.self.now.extension c.args.self.now.number
+    c.args.self.now.last_number
     _ _ _ _ _ _ _ _ _ _ _ _ (search rules) c.requires.room
     s1.unchanged (s1.value ∙ c.from.ensures) s1.length
     s2.unchanged s2.value s2.length

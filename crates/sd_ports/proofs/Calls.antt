@@ -1,0 +1,10 @@
+-- Two calls, of which the second closes what the first opened.
+use Rattle.std.proofs.Common.{◌≡◌, ℕ, ◌+◌, ◌-◌, ◌%◌, ◌^◌, ◌<◌, ◌≤◌, min, arith}
+use Rattle.sd_cause.specs.Count.{with_added}
+use Rattle.sd_ports.specs.Causes.{one_more, CountsClosed}
+
+pub twice_called : (a b c : ℕ) → b ≡ with_added a 1 → c ≡ with_added b 1 → c ≡ with_added a 2
+twice_called a b c e f = omega arith
+
+pub open_as_before : (a b c : ℕ) → (a < 2 ^ 64) × (b ≡ one_more a) → CountsClosed b c → c ≡ a
+open_as_before a b c o h = let w = o.0 in let e = o.1 in let x = h.within in let y = h.fallen in omega arith

@@ -1,0 +1,87 @@
+-- The one table of a site's lines, with their words and ranges.
+use Rattle.std.specs.Prelude.{ℕ, ◌*◌, ◌≤◌, ◌==◌, List, [], ◌∷◌, length, codes}
+use Rattle.std.specs.Prelude.{if◌then◌else◌, Option, Some, None, option_and_then}
+use Rattle.std.specs.Result.{result_ok}
+use Rattle.hex.specs.Hex.{decode_of}
+use Rattle.sd_packet.specs.declared.position.TheConstants.{LOWEST_POSITIONAL, HIGHEST_POSITIONAL}
+use Rattle.sd_text.specs.Number.{after, decimal_after}
+use Rattle.sd_tree.specs.declared.height.TheConstants.{HIGHEST}
+use Rattle.sd_site.specs.declared.site.TheConstants.{MOST_EVERY, MOST_CRYPTOS, MOST_SPAN, MOST_MESSAGES}
+
+-- what a line is: a word and a decimal of a range
+pub record NumberLine : Type 0 where
+  pub word : List ℕ
+  pub low : ℕ
+  pub high : ℕ
+
+-- or a word and the hexadecimal digits of so many bytes
+pub record BytesLine : Type 0 where
+  pub word : List ℕ
+  pub count : ℕ
+
+pub data Form : Type 0 where
+  number : NumberLine → Form
+  bytes : BytesLine → Form
+
+abbrev pub height_line : NumberLine
+height_line = record { word = codes "height "; low = 1; high = HIGHEST }
+
+abbrev pub master_line : BytesLine
+master_line = record { word = codes "master "; count = 32 }
+
+abbrev pub ca_line : BytesLine
+ca_line = record { word = codes "ca "; count = 2 }
+
+abbrev pub emm_line : NumberLine
+emm_line = record { word = codes "emm "; low = LOWEST_POSITIONAL; high = HIGHEST_POSITIONAL }
+
+abbrev pub ecm_line : NumberLine
+ecm_line = record { word = codes "ecm "; low = LOWEST_POSITIONAL; high = HIGHEST_POSITIONAL }
+
+abbrev pub every_line : NumberLine
+every_line = record { word = codes "ecm-every "; low = 1; high = MOST_EVERY }
+
+abbrev pub cryptos_line : NumberLine
+cryptos_line = record { word = codes "crypto-ecms "; low = 1; high = MOST_CRYPTOS }
+
+abbrev pub span_line : NumberLine
+span_line = record { word = codes "period-cryptos "; low = 1; high = MOST_SPAN }
+
+abbrev pub messages_line : NumberLine
+messages_line = record { word = codes "messages "; low = 1; high = MOST_MESSAGES }
+
+-- the lines in their order, of which the last may be left out [this project, docs/FORMATS.md, Site]
+unfoldable pub forms : List Form
+forms =
+    number height_line
+    ∷ bytes master_line
+    ∷ bytes ca_line
+    ∷ number emm_line
+    ∷ number ecm_line
+    ∷ number every_line
+    ∷ number cryptos_line
+    ∷ number span_line
+    ∷ number messages_line
+    ∷ []
+
+-- the number is in the line's range
+abbrev pub IsWithin : NumberLine → ℕ → Type 0
+IsWithin form n = (form.low ≤ n) × (n ≤ form.high)
+
+-- the bytes on a line that is the word and two hexadecimal digits for each of them, of either case
+unfoldable pub bytes_after : List ℕ → ℕ → List ℕ → Option (List ℕ)
+bytes_after word count line = option_and_then
+    (λ digits. if length digits == 2 * count then result_ok (decode_of digits) else None) (after word line)
+
+-- the decimal on a line of this form, in its range or not
+abbrev pub number_on : NumberLine → Option (List ℕ) → Option ℕ
+number_on form = option_and_then (decimal_after form.word)
+
+-- the bytes on a line of this form
+abbrev pub bytes_on : BytesLine → Option (List ℕ) → Option (List ℕ)
+bytes_on form = option_and_then (bytes_after form.word form.count)
+
+-- the version on the last line, which is 1 where the line is left out [this project, docs/FORMATS.md, Site]
+abbrev pub version_on : Option (List ℕ) → Option ℕ
+version_on None = Some 1
+version_on (Some line) = decimal_after messages_line.word line
