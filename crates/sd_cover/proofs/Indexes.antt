@@ -211,7 +211,7 @@ met_within d u v m small h is old low high =
     ]
 
 -- where nothing counts no leaf is revoked
-none_passes : (a n : ℕ) → filter (λ w. false) (range_with_len a n) ≡ []
+pub none_passes : (a n : ℕ) → filter (λ w. false) (range_with_len a n) ≡ []
 none_passes a zero = refl
 none_passes a (suc n) = none_passes (a + 1) n
 

@@ -4,3 +4,4 @@ pub mod Ranges
 pub mod Indexes
 pub mod Bridge
 pub mod Walks
+pub mod Changed

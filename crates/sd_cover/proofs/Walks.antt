@@ -22,6 +22,8 @@ use Rattle.sd_steiner.proofs.Ends.{AreLeaves}
 use Rattle.sd_steiner.proofs.Levels.{StandsAt, child_stands, below_by_halvings, in_tree_to}
 use Rattle.sd_steiner.proofs.AtNode.{walk_leaf, walk_one, walk_two, on_chain_child, on_chain_begun}
 use Rattle.sd_steiner.proofs.Walks.{on_chain_left, on_chain_right, root_in_tree}
+use Rattle.sd_steiner.specs.Cover.{cover_of}
+use Rattle.sd_steiner.proofs.There.{the_cover}
 use Rattle.sd_steiner.proofs.Sorting.{sorted_chains}
 use Rattle.sd_cover.specs.Tally.{count_at}
 use Rattle.sd_cover.specs.Index.{count_below, is_revoked, revoked_by, IsIndex, AreRevocable}
@@ -44,6 +46,10 @@ revocable d m = record {
 
 pub are_leaves : (d : ℕ) (m : FinMap nat_cmp ℕ) → AreLeaves d (revoked_by d m)
 are_leaves d m u c = All-contains (λ w. w < 2 ^ d) (revoked_by d m) u (revocable d m).leaves c
+
+-- the cover, by both definitions
+abbrev IsListed : ℕ → List ℕ → List SetName → Type 0
+IsListed d revoked sets = (sets ≡ cover_of d revoked) × IsChainCover d revoked sets
 
 -- a child stands one step lower
 pub stands_child : (d level v w : ℕ) → 0 < level → StandsAt d level v → w / 2 ≡ v → StandsAt d (level - 1) w
@@ -173,23 +179,27 @@ module _ (d : ℕ) (m : FinMap nat_cmp ℕ) (small : d < 32) (is : IsIndex d m) 
   pub chain_root : 0 < count_at m 1 → IsOnChain d (revoked_by d m) 1 1
   chain_root some = on_chain_begun d (revoked_by d m) 1 (inl refl) ((in_tree d 1 (stands_root d)).0 some)
 
+  -- a chain cover is the list of the definition
+  listed : (sets : List SetName) → IsChainCover d (revoked_by d m) sets → IsListed d (revoked_by d m) sets
+  listed sets c = ((the_cover d (revoked_by d m) sets small (are_leaves d m)).0 c, c)
+
   -- what the walk from the root adds, sorted, is the cover
-  pub cover_of_walk : (old sets sorted : List SetName) → 0 < count_at m 1 → old ≡ [] → AddsChains d (revoked_by d m) 1 1 old sets → IsPermutation sets sorted → IsSorted set_cmp sorted → IsChainCover d (revoked_by d m) sorted
+  pub cover_of_walk : (old sets sorted : List SetName) → 0 < count_at m 1 → old ≡ [] → AddsChains d (revoked_by d m) 1 1 old sets → IsPermutation sets sorted → IsSorted set_cmp sorted → IsListed d (revoked_by d m) sorted
   cover_of_walk old sets sorted some none added moved up =
       let all = root_counts in
       let is_added : sets ≡ added.0 = added.1 ∙ ap (λ (xs : List SetName). xs ++ added.0) none in
-      sorted_chains d (revoked_by d m) added.0 sorted (λ e. let n = ap length e in omega arith) added.2 (subst (λ (xs : List SetName). IsPermutation xs sorted) is_added moved) up
+      listed sorted (sorted_chains d (revoked_by d m) added.0 sorted (λ e. let n = ap length e in omega arith) added.2 (subst (λ (xs : List SetName). IsPermutation xs sorted) is_added moved) up)
 
   -- the whole set is the cover where no leaf is revoked
-  pub cover_of_none : (sets : List SetName) → count_at m 1 ≡ 0 → sets ≡ Whole ∷ [] → IsChainCover d (revoked_by d m) sets
+  pub cover_of_none : (sets : List SetName) → count_at m 1 ≡ 0 → sets ≡ Whole ∷ [] → IsListed d (revoked_by d m) sets
   cover_of_none sets none whole =
       let all = root_counts in
       let empty : revoked_by d m ≡ [] = none_of_length (revoked_by d m) (omega arith) in
-      record {
+      listed sets (record {
         ascending = subst AreAscending (sym whole) (λ i j x below within. absurd (let h : j < 1 = within in omega arith));
         none_revoked = λ e. whole;
         chains = λ some. absurd (some empty);
-      }
+      })
     where
       none_of_length : (us : List ℕ) → length us ≡ 0 → us ≡ []
       none_of_length [] e = refl

@@ -6,15 +6,16 @@ ghost use Rattle.sd_cover.specs.Tally.{count_at, with_count};
 
 use sd_cause::NoMemory;
 use sd_steps::Steps;
+use sd_tree::HIGHEST;
 use std::alloc::Global;
 use std::marker::Model;
 use std::sync::ledger::Ledger;
 
 /// The nodes that are counted have numbers below this one, as those of the highest tree have.
-pub const NODES: u32 = 1 << 21;
+pub const NODES: u32 = 2 << HIGHEST;
 
-/// The most room that can be asked for: a path of 21 nodes for each leaf of the highest tree.
-pub const MOST_ROOM: u32 = 21 << 20;
+/// The most room that can be asked for: a whole path for each leaf of the highest tree.
+pub const MOST_ROOM: u32 = (HIGHEST as u32 + 1) << HIGHEST;
 
 /// A count for each node, with room for some more nodes that count.
 ///

@@ -3,16 +3,16 @@ ghost use Rattle.sd_cover.specs.declared.index.TheConstants.{MOST_SPARE};
 ghost use Rattle.sd_cover.specs.Index.{with_leaf, without_leaf};
 
 use crate::counts::Counts;
-use crate::path::{leaf_node, lower_path, raise_path};
+use crate::path::{lowest_node, lower_path, raise_path};
 use sd_cause::NoMemory;
 use sd_steps::Steps;
-use sd_tree::{Height, Leaf};
+use sd_tree::{HIGHEST, Height, Leaf};
 use std::alloc::Global;
 use std::marker::Model;
 use std::sync::ledger::Ledger;
 
 /// The most revocations that can be reserved for: one of each leaf of the highest tree.
-pub const MOST_SPARE: u32 = 1 << 20;
+pub const MOST_SPARE: u32 = 1 << HIGHEST;
 
 /// The revoked leaves of a tree, by a count for each node: how many are at or below it.
 #[derive(Drop)]
@@ -68,7 +68,7 @@ impl CoverIndex {
         ensures value { IsTrue result ↔ Contains self.now.revoked u }
         ensures steps { steps.new ≡ steps.old + 1 }
     {
-        self.counts.get(leaf_node(self.height, u), steps) == 1
+        self.counts.get(lowest_node(self.height, u), steps) == 1
     }
 
     /// Revokes a leaf, by a visit of each node of its path. It takes no memory.
@@ -81,7 +81,7 @@ impl CoverIndex {
         ensures spare { self.old.spare ≤ self.new.spare + 1 }
         ensures steps { steps.new ≡ steps.old + (self.old.height + 1) }
     {
-        let node = leaf_node(self.height, u);
+        let node = lowest_node(self.height, u);
         raise_path(&mut self.counts, self.height, node, steps);
     }
 
@@ -94,7 +94,7 @@ impl CoverIndex {
         ensures spare { self.old.spare ≤ self.new.spare }
         ensures steps { steps.new ≡ steps.old + (self.old.height + 1) }
     {
-        let node = leaf_node(self.height, u);
+        let node = lowest_node(self.height, u);
         lower_path(&mut self.counts, self.height, node, steps);
     }
 }

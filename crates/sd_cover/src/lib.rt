@@ -3,6 +3,7 @@
 
 mod counts;
 mod index;
+pub mod laws;
 mod path;
 mod sets;
 

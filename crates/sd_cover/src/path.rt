@@ -1,22 +1,25 @@
 ghost use Rattle.std.specs.Prelude.{◌≡◌, ℕ, ◌+◌, ◌^◌, ◌<◌, ◌≤◌};
+ghost use Rattle.sd_tree.specs.declared.height.TheConstants.{HIGHEST};
+ghost use Rattle.sd_tree.specs.Paths.{leaf_node as leaf_node_of};
 ghost use Rattle.sd_cover.specs.declared.counts.TheConstants.{NODES};
 ghost use Rattle.sd_cover.specs.Tally.{count_at};
 ghost use Rattle.sd_cover.specs.Path.{met_by};
 
 use crate::counts::Counts;
 use sd_steps::Steps;
-use sd_tree::{Height, Leaf};
+use sd_tree::{HIGHEST, Height, Leaf, leaf_node};
 use std::sync::ledger::Ledger;
 
 /// The number of a leaf's node.
-pub fn leaf_node(h: Height, u: Leaf) -> u32
+pub fn lowest_node(h: Height, u: Leaf) -> u32
     requires leaf { u < 2 ^ h }
-    ensures value { result ≡ 2 ^ h + u }
+    ensures value { result ≡ leaf_node_of h u }
     ensures fits { result < 2 ^ (h + 1) }
     ensures most { result < NODES }
-    ensures height { h ≤ 20 }
+    ensures height { h ≤ HIGHEST }
 {
-    h.leaves() + u.get()
+    prove!(h.get() <= HIGHEST);
+    leaf_node(h, u)
 }
 
 /// Adds one to the count of each node from one of the lowest up to the root.

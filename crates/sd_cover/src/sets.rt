@@ -1,5 +1,7 @@
 ghost use Rattle.std.specs.Prelude.{◌≡◌, ℕ, ◌+◌, ◌-◌, ◌*◌, ◌^◌, ◌<◌, ◌≤◌, ◌++◌, All, IfOk, OnOk, length};
 ghost use Rattle.sd_steiner.specs.Chains.{IsChainCover};
+ghost use Rattle.sd_steiner.specs.Cover.{cover_of};
+ghost use Rattle.sd_tree.specs.declared.height.TheConstants.{HIGHEST};
 ghost use Rattle.sd_steiner.specs.Walk.{of_ends, IsOnChain, AddsChains};
 ghost use Rattle.sd_steiner.proofs.Levels.{StandsAt};
 ghost use Rattle.sd_cover.specs.Tally.{count_at};
@@ -17,7 +19,8 @@ impl CoverIndex {
     /// The chain cover of the leaves that are not revoked, ascending [Naor, Naor, Lotspiech 2001, 3.2].
     pub fn sets<L: Ledger>(&self, alloc: Global, steps: &mut Steps<L>) -> Result<Vec<SetName>, NoMemory>
         ensures leaves { AreRevocable self.now.height self.now.revoked }
-        ensures value { IfOk result (λ sets. IsChainCover self.now.height self.now.revoked sets.items) }
+        ensures value { IfOk result (λ sets. (sets.items ≡ cover_of self.now.height self.now.revoked)
+            × IsChainCover self.now.height self.now.revoked sets.items) }
         ensures steps { steps.new ≤ steps.old + (length self.now.revoked * self.now.height + 1) }
     {
         chain_sets(alloc, &self.counts, self.height, steps).map_err(|_| NoMemory)
@@ -32,7 +35,8 @@ fn chain_sets<L: Ledger>(
     steps: &mut Steps<L>,
 ) -> Result<Vec<SetName>, AllocError>
     requires index { IsIndex h counts.now.counts }
-    ensures value { IfOk result (λ sets. IsChainCover h (revoked_by h counts.now.counts) sets.items) }
+    ensures value { IfOk result (λ sets. (sets.items ≡ cover_of h (revoked_by h counts.now.counts))
+        × IsChainCover h (revoked_by h counts.now.counts) sets.items) }
     ensures steps { steps.new ≤ steps.old + (length (revoked_by h counts.now.counts) * h + 1) }
 {
     let mut sets = Vec::new(alloc);
@@ -59,7 +63,7 @@ fn walk<L: Ledger>(
     revoked: u32,
     steps: &mut Steps<L>,
 ) -> Result<(), AllocError>
-    requires height { h ≤ 20 }
+    requires height { h ≤ HIGHEST }
     requires index { IsIndex h counts.now.counts }
     requires stands { StandsAt h level v }
     requires revoked { revoked ≡ count_at counts.now.counts v }
