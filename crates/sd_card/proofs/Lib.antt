@@ -1,4 +1,3 @@
-pub mod Paths
 pub mod Places
 pub mod Keys
 pub mod Made

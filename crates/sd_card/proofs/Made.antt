@@ -1,73 +1,48 @@
 -- The secrets of a leaf, as they are made.
-use Rattle.std.proofs.Common.{ℕ, zero, suc, ◌+◌, ◌-◌, ◌/◌, ◌^◌, ◌<◌, ◌≤◌, ◌≡◌, List, [], ◌∷◌, ◌++◌, map, sym, refl, ap, ◌∙◌, append_assoc, add-one, arith}
-use Rattle.std.proofs.lemmas.List.{append-nil, map-append}
+use Rattle.std.proofs.Common.{ℕ, zero, suc, ◌+◌, ◌-◌, ◌^◌, ◌<◌, ◌≤◌, ◌≡◌, List, [], ◌∷◌, ◌++◌, length, map, take, sym}
+use Rattle.std.proofs.Common.{refl}
+use Rattle.std.proofs.Common.{◌∙◌, append_assoc, add-one, arith}
 use Rattle.std.specs.List.{range_with_len, flat_map}
+use Rattle.std.proofs.lemmas.List.{append-nil, length-map, map-append, take_all}
 use Rattle.std.proofs.lemmas.List.Concat.{flat_map-cons}
+use Rattle.sha2.proofs.Facts256.{length-sha256}
+use Rattle.sd_tree.specs.Node.{depth}
 use Rattle.sd_label.specs.Keys.{whole_key_of}
-use Rattle.std.proofs.Math.Pow.{shr-shr}
-use Rattle.std.proofs.lemmas.List.FromFn.{map-range_with_len_more}
-use Rattle.sd_tree.specs.Node.{IsAbove}
-use Rattle.sd_label.specs.Labels.{label_of, descended}
-use Rattle.sd_label.proofs.Descents.{held_gives_label}
-use Rattle.sd_tree.proofs.Paths.{path_is_node}
+use Rattle.sd_label.specs.Labels.{left_of, right_of, third_of, side_of, label_of_node, label_below, descended, label_of}
 use Rattle.sd_label.specs.Names.{given, given_under}
-use Rattle.sd_tree.specs.Paths.{path_node, sibling_of}
+use Rattle.sd_label.specs.declared.label.Side.{Side}
+use Rattle.sd_label.specs.declared.label.Side.TheVariants.{Left, Right}
 use Rattle.sd_label.specs.declared.name.Name.{Name}
 use Rattle.sd_label.specs.declared.name.Name.TheVariants.{Whole, Pair}
-use Rattle.sd_card.specs.Fields.{secret_of}
+use Rattle.sd_label.proofs.Counts.{length_given, length_given_under}
+use Rattle.sd_secrets.specs.Files.{AreSecrets}
+use Rattle.sd_secrets.specs.Secrets.{secret_of}
+use Rattle.sd_card.specs.Fields.{IsCard, card_of}
 
--- the labels of the ancestor at depth a with the first n hanging nodes below it
-abbrev pub labels_under : List ℕ → ℕ → ℕ → ℕ → ℕ → List (List ℕ)
-labels_under master d u a n = map (λ b. label_of master (path_node d u a) (sibling_of (path_node d u b))) (range_with_len (a + 1) n)
-
--- a path node's parent is the path node above it
-pub path_half : (d u k : ℕ) → k + 1 ≤ d → path_node d u (k + 1) / 2 ≡ path_node d u k
-path_half d u k le =
-    let s : d - (k + 1) + 1 ≡ d - k = omega arith in
-    shr-shr (2 ^ d + u) (d - (k + 1)) 1 ∙ ap (λ (n : ℕ). (2 ^ d + u) / 2 ^ n) s
-
--- a path node is above those k levels below it
-pub path_over : (d u a k : ℕ) → a + k ≤ d → IsAbove (path_node d u a) (path_node d u (a + k))
-path_over d u a k le =
-    let s : d - (a + k) + k ≡ d - a = omega arith in
-    (k, shr-shr (2 ^ d + u) (d - (a + k)) k ∙ ap (λ (n : ℕ). (2 ^ d + u) / 2 ^ n) s)
-
--- the label of a path node leads to that of each of its children
-pub child_label : (master : List ℕ) (d u a k node : ℕ) → u < 2 ^ d → a + k ≤ d → node < 2 ^ 32 → node / 2 ≡ path_node d u (a + k) → descended (label_of master (path_node d u a) (path_node d u (a + k))) (path_node d u (a + k)) node ≡ label_of master (path_node d u a) node
-child_label master d u a k node leaf le word half =
-    held_gives_label master (path_node d u a) (path_node d u (a + k)) node (path_is_node d u a leaf (omega arith)) word (path_over d u a k le) (1, half)
-
--- one more label after those that were given
-pub one_more : (master : List ℕ) (d u a n b : ℕ) (before secrets : List (List ℕ)) → a + 1 + n ≡ b → secrets ≡ before ++ labels_under master d u a n → secrets ++ label_of master (path_node d u a) (sibling_of (path_node d u b)) ∷ [] ≡ before ++ labels_under master d u a (n + 1)
-one_more master d u a n b before secrets at is =
-    rw is (append_assoc before (labels_under master d u a n) (label_of master (path_node d u a) (sibling_of (path_node d u b)) ∷ [])
-    ∙ ap (λ (xs : List (List ℕ)). before ++ xs) (sym (map-range_with_len_more (λ b. label_of master (path_node d u a) (sibling_of (path_node d u b))) (a + 1) n b at)))
-
--- all labels of an ancestor are the secrets of its pairs
-pub labels_are_secrets : (master : List ℕ) (d u a s n : ℕ) → map (λ b. label_of master (path_node d u a) (sibling_of (path_node d u b))) (range_with_len s n) ≡ map (secret_of master) (map (λ b. Pair (path_node d u a) (sibling_of (path_node d u b))) (range_with_len s n))
-unfolding secret_of
-labels_are_secrets master d u a s zero = refl
-labels_are_secrets master d u a s (suc n) = ap (λ (xs : List (List ℕ)). label_of master (path_node d u a) (sibling_of (path_node d u s)) ∷ xs) (labels_are_secrets master d u a (s + 1) n)
-
--- and these are what the leaf is given under it
-pub labels_given : (master : List ℕ) (d u a : ℕ) → labels_under master d u a (d - a) ≡ map (secret_of master) (given_under d u a)
-unfolding given_under
-labels_given master d u a = labels_are_secrets master d u a (a + 1) (d - a)
+-- all pairs of an ancestor
+pub all_under : (d u a n : ℕ) → n ≡ d - a → take n (given_under d u a) ≡ given_under d u a
+all_under d u a n e = take_all n (given_under d u a) (omega (arith, length_given_under d u a))
 
 -- what a leaf is given under its first k ancestors, and the whole set
 abbrev pub given_first : ℕ → ℕ → ℕ → List Name
 given_first d u k = Whole ∷ flat_map (given_under d u) (range_with_len 0 k)
 
 -- the lists of one number more
-lists_more : {X : Type 0} (f : ℕ → List X) (a k : ℕ) → flat_map f (range_with_len a (suc k)) ≡ flat_map f (range_with_len a k) ++ f (a + k)
+lists_more : {X : Type 0} (f : ℕ → List X) (a k : ℕ)
+    → flat_map f (range_with_len a (suc k)) ≡ flat_map f (range_with_len a k) ++ f (a + k)
 lists_more f a zero = let e : a + 0 ≡ a = omega arith in rw (flat_map-cons f a [], e) (append-nil (f a))
 lists_more f a (suc k) =
     let e : a + 1 + k ≡ a + suc k = omega arith in
     let rest = rw e at (lists_more f (a + 1) k) in
-    rw (flat_map-cons f a (range_with_len (a + 1) (suc k)), flat_map-cons f a (range_with_len (a + 1) k), rest) (sym (append_assoc (f a) (flat_map f (range_with_len (a + 1) k)) (f (a + suc k))))
+    rw (
+      flat_map-cons f a (range_with_len (a + 1) (suc k)),
+      flat_map-cons f a (range_with_len (a + 1) k),
+      rest,
+    ) (sym (append_assoc (f a) (flat_map f (range_with_len (a + 1) k)) (f (a + suc k))))
 
 -- the secrets of one ancestor more
-pub secrets_more : (master : List ℕ) (d u k : ℕ) → map (secret_of master) (given_first d u k) ++ map (secret_of master) (given_under d u k) ≡ map (secret_of master) (given_first d u (k + 1))
+pub secrets_more : (master : List ℕ) (d u k : ℕ) → map (secret_of master) (given_first d u k)
+    ++ map (secret_of master) (given_under d u k) ≡ map (secret_of master) (given_first d u (k + 1))
 secrets_more master d u k =
     let e : 0 + k ≡ k = omega arith in
     let more = rw e at (lists_more (given_under d u) 0 k) in
@@ -79,6 +54,44 @@ unfolding secret_of
 secrets_first master d u = refl
 
 -- the secrets of all ancestors
-pub secrets_all : (master : List ℕ) (d u : ℕ) → map (secret_of master) (given_first d u d) ≡ map (secret_of master) (given d u)
+pub secrets_all : (master : List ℕ) (d u : ℕ)
+    → map (secret_of master) (given_first d u d) ≡ map (secret_of master) (given d u)
 unfolding given
 secrets_all master d u = refl
+
+-- ---- the card of a leaf is a card
+
+-- a child's label has the length of a hash
+length_third : (side : Side) (label : List ℕ) → length (third_of side label) ≡ 32
+unfolding left_of right_of
+length_third Left label = length-sha256 _
+length_third Right label = length-sha256 _
+
+-- so has each label below one that has it
+length_below : (label : List ℕ) (k j : ℕ) → length label ≡ 32 → length (label_below label k j) ≡ 32
+unfolding label_below
+length_below label zero j long = long
+length_below label (suc k) j long = length_third (side_of j) _
+
+-- and so has each secret
+length_secret : (master : List ℕ) (name : Name) → length (secret_of master name) ≡ 32
+unfolding secret_of whole_key_of label_of_node descended label_of
+length_secret master Whole = length-sha256 _
+length_secret master (Pair i w) = length_below _ (depth w - depth i) w (length-sha256 _)
+
+-- also where they are many
+secrets_long : (master : List ℕ) (names : List Name) → AreSecrets (map (secret_of master) names)
+secrets_long master [] = tt
+secrets_long master (name ∷ names) = (length_secret master name, secrets_long master names)
+
+-- the card of a leaf is a card
+pub made_is_card : (master : List ℕ) (ca d u : ℕ) → ca < 2 ^ 16 → 1 ≤ d → d ≤ 20 → u < 2 ^ d
+    → IsCard (card_of master ca d u)
+unfolding card_of
+made_is_card master ca d u system some low leaf = record {
+  height = (some, low);
+  leaf = leaf;
+  ca = system;
+  count = length-map (given d u) (secret_of master) ∙ length_given d u;
+  secrets = secrets_long master (given d u);
+}

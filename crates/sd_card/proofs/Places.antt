@@ -1,5 +1,6 @@
 -- Where a pair stands among the names that a leaf is given.
-use Rattle.std.proofs.Common.{ℕ, suc, zero, ◌+◌, ◌-◌, ◌*◌, ◌/◌, ◌<◌, ◌≤◌, ◌≡◌, List, [], ◌∷◌, ◌++◌, length, map, refl, ap, ◌∙◌, arith}
+use Rattle.std.proofs.Common.{ℕ, suc, zero, ◌+◌, ◌-◌, ◌*◌, ◌/◌, ◌<◌, ◌≤◌, ◌≡◌, List, [], ◌∷◌, ◌++◌, length, map, refl}
+use Rattle.std.proofs.Common.{ap, ◌∙◌, arith}
 use Rattle.std.specs.Prelude.{slice_get, Some}
 use Rattle.std.specs.List.{range_with_len, flat_map}
 use Rattle.std.proofs.Math.Nat.{mul-le-mul_right}
@@ -25,27 +26,35 @@ get_after (x ∷ xs) ys k zero e = absurd (omega arith)
 get_after (x ∷ xs) ys k (suc n) e = get_after xs ys k n (omega arith)
 
 -- a pair among those of its ancestor
-pub pair_under : (d u a b r : ℕ) → a + 1 + r ≡ b → b ≤ d → slice_get (given_under d u a) r ≡ Some (Pair (path_node d u a) (sibling_of (path_node d u b)))
+pub pair_under : (d u a b r : ℕ) → a + 1 + r ≡ b → b ≤ d
+    → slice_get (given_under d u a) r ≡ Some (Pair (path_node d u a) (sibling_of (path_node d u b)))
 unfolding given_under
 pair_under d u a b r e le =
     let f : ℕ → Name = λ k. Pair (path_node d u a) (sibling_of (path_node d u k)) in
-    let within : r < length (map f (range_with_len (a + 1) (d - a))) = omega (arith, length-map-range_with_len f (a + 1) (d - a)) in
+    let within : r < length (map f (range_with_len (a + 1) (d - a))) =
+    omega (arith, length-map-range_with_len f (a + 1) (d - a)) in
     slice_get-get_or (map f (range_with_len (a + 1) (d - a))) r Whole within
     ∙ ap Some (get_or-map-range_with_len f (a + 1) (d - a) r b Whole (omega arith) e)
 
 -- a pair among those of the n lowest ancestors, from depth s on: after those of m of them and r of its own
-pub pair_from : (d u s n m p r k a b : ℕ) → s + n ≡ d → m + p + 1 ≡ n → r ≤ p → 2 * k ≡ m * (m + 2 * p + 3) + 2 * r → s + m ≡ a → a + 1 + r ≡ b → slice_get (flat_map (given_under d u) (range_with_len s n)) k ≡ Some (Pair (path_node d u a) (sibling_of (path_node d u b)))
+pub pair_from : (d u s n m p r k a b : ℕ) → s + n ≡ d → m + p + 1 ≡ n → r ≤ p → 2 * k ≡ m * (m + 2 * p + 3) + 2 * r
+    → s + m ≡ a → a + 1 + r ≡ b
+    → slice_get (flat_map (given_under d u) (range_with_len s n)) k
+    ≡ Some (Pair (path_node d u a) (sibling_of (path_node d u b)))
 pair_from d u s zero m p r k a b whole parts own place from to = absurd (omega arith)
 pair_from d u s (suc n) zero p r k a b whole parts own place from to =
     let first : k ≡ r = omega arith in
     let at : s ≡ a = omega arith in
     rw (flat_map-cons (given_under d u) s (range_with_len (s + 1) n))
-    (get_front (given_under d u s) (flat_map (given_under d u) (range_with_len (s + 1) n)) k (omega (arith, length_given_under d u s))
+    (get_front (given_under d u s) (flat_map (given_under d u) (range_with_len (s + 1) n)) k
+    (omega (arith, length_given_under d u s))
     ∙ rw (first, at) (pair_under d u a b r to (omega arith)))
 pair_from d u s (suc n) (suc m) p r k a b whole parts own place from to =
     rw (flat_map-cons (given_under d u) s (range_with_len (s + 1) n))
-    (get_after (given_under d u s) (flat_map (given_under d u) (range_with_len (s + 1) n)) (k - (m + p + 2)) k (omega (arith, length_given_under d u s))
-    ∙ pair_from d u (s + 1) n m p r (k - (m + p + 2)) a b (omega arith) (omega arith) own (omega arith) (omega arith) to)
+    (get_after (given_under d u s) (flat_map (given_under d u) (range_with_len (s + 1) n)) (k - (m + p + 2)) k
+    (omega (arith, length_given_under d u s))
+    ∙ pair_from d u (s + 1) n m p r (k - (m + p + 2)) a b (omega arith) (omega arith) own (omega arith) (omega arith)
+    to)
 
 -- a(a + 3) is even
 even_product : (a : ℕ) → (t : ℕ) × (a * (a + 3) ≡ 2 * t)
@@ -53,7 +62,9 @@ even_product zero = (0, refl)
 even_product (suc a) = let (t, e) = even_product a in (t + a + 2, omega (arith, e))
 
 -- the pair of the path node at depth a and the node that hangs at depth b
-pub pair_at : (d u a b : ℕ) → a < b → b ≤ d → slice_get (given d u) (a * (2 * d - a + 1) / 2 + (b - a)) ≡ Some (Pair (path_node d u a) (sibling_of (path_node d u b)))
+pub pair_at : (d u a b : ℕ) → a < b → b ≤ d
+    → slice_get (given d u) (a * (2 * d - a + 1) / 2 + (b - a))
+    ≡ Some (Pair (path_node d u a) (sibling_of (path_node d u b)))
 unfolding given
 pair_at d u a b less le =
     let (t, even) = even_product a in
@@ -62,7 +73,8 @@ pair_at d u a b less le =
     let width : 2 * d - a + 1 ≡ a + 3 + 2 * p = omega arith in
     let wide : a * (2 * d - a + 1) ≡ a * (a + 3 + 2 * p) = ap (λ (n : ℕ). a * n) width in
     let place : a * (2 * d - a + 1) / 2 + (b - a) ≡ suc (t + a * p + r) = omega (arith, wide, even) in
-    rw place (pair_from d u 0 d a p r (t + a * p + r) a b (omega arith) (omega arith) (omega arith) (omega (arith, even)) (omega arith) (omega arith))
+    rw place (pair_from d u 0 d a p r (t + a * p + r) a b (omega arith) (omega arith) (omega arith)
+    (omega (arith, even)) (omega arith) (omega arith))
 
 -- that place is among those of all names
 pub place_within : (d a b : ℕ) → a < b → b ≤ d → a * (2 * d - a + 1) / 2 + (b - a) < d * (d + 1) / 2 + 1

@@ -1,16 +1,18 @@
 -- The card of a receiver, and the file that it is kept in.
-use Rattle.std.specs.Prelude.{ℕ, List, ◌∷◌, ◌++◌, take, map, codes}
+use Rattle.std.specs.Prelude.{◌≡◌, ℕ, ◌+◌, ◌*◌, ◌/◌, ◌^◌, ◌<◌, ◌≤◌, List, ◌∷◌, ◌++◌, length, map}
 use Rattle.std.specs.List.{concat}
-use Rattle.std.specs.Int.{w16, w32, to_be_bytes}
-use Rattle.sha2.specs.Sha256.{sha256}
-use Rattle.sd_label.specs.Labels.{label_of}
-use Rattle.sd_label.specs.Keys.{whole_key_of}
+use Rattle.byteorder.specs.Endian.{big_bytes}
+use Rattle.sd_tree.specs.declared.height.TheConstants.{HIGHEST}
+use Rattle.sd_tree.specs.declared.set.SetName.{SetName}
 use Rattle.sd_label.specs.Names.{given}
-use Rattle.sd_label.specs.declared.name.Name.{Name}
-use Rattle.sd_label.specs.declared.name.Name.TheVariants.{Whole, Pair}
+use Rattle.sd_secrets.specs.Files.{AreSecrets, check_of}
+use Rattle.sd_secrets.specs.Secrets.{secret_of, Derives, key_held}
 use Rattle.sd_card.specs.declared.card.Card.{Card}
+use Rattle.sd_card.specs.declared.format.TheConstants.{MAGIC, VERSION}
 
--- what a card says: the tree's height, its leaf, the conditional access system, and a secret for each name that the leaf is given
+-- what a card says: the tree's height, its leaf, the conditional access system, and a secret for each name that the
+-- leaf
+-- is given
 pub record CardFields : Type 0 where
   pub height : ℕ
   pub leaf : ℕ
@@ -25,19 +27,32 @@ saying d u ca secrets = record { height = d; leaf = u; ca = ca; secrets = secret
 abbrev pub fields_of : Card → CardFields
 fields_of card = saying card.height card.leaf card.ca card.secrets.items
 
--- the secret of a name: the whole key, or the label of the pair [Naor, Naor, Lotspiech 2001, 3.2]
-unfoldable pub secret_of : List ℕ → Name → List ℕ
-secret_of master Whole = whole_key_of master
-secret_of master (Pair i w) = label_of master i w
+-- the numbers are in their ranges, and there are as many secrets as a leaf is given names
+-- [this project, docs/FORMATS.md, Card]
+pub record IsCard (card : CardFields) : Type 0 where
+  pub height : (1 ≤ card.height) × (card.height ≤ HIGHEST)
+  pub leaf : card.leaf < 2 ^ card.height
+  pub ca : card.ca < 2 ^ 16
+  pub count : length card.secrets ≡ card.height * (card.height + 1) / 2 + 1
+  pub secrets : AreSecrets card.secrets
 
 -- the card of a leaf: the secrets of the names that it is given, in their order [Naor, Naor, Lotspiech 2001, 3.2]
 unfoldable pub card_of : List ℕ → ℕ → ℕ → ℕ → CardFields
-card_of master ca d u = record { height = d; leaf = u; ca = ca; secrets = map (secret_of master) (given d u) }
+card_of master ca d u = saying d u ca (map (secret_of master) (given d u))
 
 -- a card's file before its check [this project, docs/FORMATS.md, Card]
 unfoldable pub card_body : CardFields → List ℕ
-card_body card = codes "SDCD" ++ (1 ∷ card.height ∷ (to_be_bytes w32 card.leaf ++ (to_be_bytes w16 card.ca ++ concat card.secrets)))
+card_body card =
+    MAGIC ++ (VERSION ∷ card.height ∷ (big_bytes 4 card.leaf ++ (big_bytes 2 card.ca ++ concat card.secrets)))
 
--- a card's file: the check after it is 16 bytes of its hash [this project, docs/FORMATS.md, Card]
+-- a card's file: the check stands at its end [this project, docs/FORMATS.md, Card]
 unfoldable pub card_bytes : CardFields → List ℕ
-card_bytes card = card_body card ++ take 16 (sha256 (card_body card))
+card_bytes card = card_body card ++ check_of (card_body card)
+
+-- the key that a card gives for a set [Naor, Naor, Lotspiech 2001, 3.2]
+abbrev pub card_key : CardFields → SetName → List ℕ
+card_key card name = key_held (given card.height card.leaf) card.secrets name
+
+-- the key is derived from what the card holds, by so many steps
+abbrev pub CardDerives : CardFields → SetName → List ℕ → ℕ → Type 0
+CardDerives card name key taken = Derives (given card.height card.leaf) card.secrets name key taken

@@ -1,4 +1,2 @@
 pub mod Fields
 pub mod Faults
-pub mod Derived
-pub mod Hanging

@@ -1,15 +1,17 @@
 ghost use Rattle.std.specs.Prelude.{◌≡◌, ◌+◌, ◌*◌, ◌/◌, ◌^◌, ◌<◌, ◌≤◌, length};
+ghost use Rattle.sd_tree.specs.declared.height.TheConstants.{HIGHEST};
 
 use sd_tree::{Height, Leaf};
 
-/// What a receiver is given once: the whole set's key and the labels of its leaf, in the order of docs/FORMATS.md, Card.
+/// What a receiver is given once: the whole set's key and the labels of its leaf, in their order [this project,
+/// docs/FORMATS.md, Card].
 #[derive(Drop)]
 pub struct Card {
     pub(crate) height: Height,
     pub(crate) leaf: Leaf,
     pub(crate) ca: u16,
     pub(crate) secrets: Vec<[u8; 32]>,
-    ghost height_in: { (1 ≤ height) × (height ≤ 20) },
+    ghost height_in: { (1 ≤ height) × (height ≤ HIGHEST) },
     ghost leaf_in: { leaf < 2 ^ height },
     ghost count: { length secrets.items ≡ height * (height + 1) / 2 + 1 },
 }

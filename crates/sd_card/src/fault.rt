@@ -4,7 +4,8 @@ ghost use Rattle.sd_card.specs.declared.fault.CardFault.TheVariants.{NoMemory};
 use std::alloc::AllocError;
 use thiserror::Error;
 
-/// Why bytes are no card's file: the first field from the left that isn't good, where a byte that isn't there counts as 0.
+/// Why bytes are no card's file: the first field from the left that isn't good, where a byte that isn't there counts as
+/// 0.
 #[derive(Clone, Copy, Debug, PartialEq, Eq, Error)]
 pub enum CardFault {
     /// The first four bytes aren't `SDCD`.
@@ -25,8 +26,8 @@ pub enum CardFault {
     /// The check at the end isn't that of the bytes before it.
     #[error("the check is wrong")]
     Check { found: [u8; 16], due: [u8; 16] },
-    /// Nothing is wrong with the bytes, and memory is wanting.
-    #[error("memory is wanting")]
+    /// Nothing is wrong with the bytes, and memory is out.
+    #[error("out of memory")]
     NoMemory,
 }
 

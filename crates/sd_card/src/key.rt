@@ -1,14 +1,14 @@
-ghost use Rattle.std.specs.Prelude.{◌≡◌, ℕ, ◌+◌, ◌-◌, ◌*◌, ◌/◌, ◌<◌, ◌≤◌, ◌↔◌, List, true, false, slice_get, IsNone, IfSome, IsSome};
+ghost use Rattle.std.specs.Prelude.{◌≡◌, ℕ, ◌+◌, ◌-◌, ◌≤◌, ◌↔◌, List, true, false, IsNone, IfSome};
 ghost use Rattle.sd_tree.specs.Leaves.{is_member};
 ghost use Rattle.sd_tree.specs.SetNames.{IsOfHeight};
 ghost use Rattle.sd_tree.specs.declared.set.SetName.TheVariants.{Diff};
 ghost use Rattle.sd_label.specs.Keys.{key_of};
-ghost use Rattle.sd_card.specs.Fields.{fields_of, card_of};
-ghost use Rattle.sd_card.specs.Derived.{Derives, DerivesPair};
+ghost use Rattle.sd_card.specs.Fields.{fields_of, card_of, card_key, CardDerives};
 
 use crate::card::Card;
-use crate::hanging::{hanging_above, place};
+use crate::place::place;
 use sd_label::{Label, descend, middle};
+use sd_secrets::hanging_above;
 use sd_steps::Steps;
 use sd_tree::{SetName, contains, depth};
 use std::sync::ledger::Ledger;
@@ -17,11 +17,16 @@ impl Card {
     /// The key of a set, or `None` where the leaf isn't in it. It takes at most as many steps as the tree is high.
     pub fn key_for<L: Ledger>(&self, name: SetName, steps: &mut Steps<L>) -> Option<[u8; 32]>
         requires { IsOfHeight self.now.height name }
-        ensures member { IsNone result ↔ (is_member self.now.height name self.now.leaf ≡ false) }
-        ensures refused { IsNone result → steps.new ≡ steps.old }
-        ensures derived { IfSome result (λ key. Derives (fields_of self.now) name key (steps.new - steps.old)) }
+        ensures none { IsNone result ↔ (is_member self.now.height name self.now.leaf ≡ false) }
+        ensures unchanged { IsNone result → steps.new ≡ steps.old }
+        // Which key it is, as a function of what the card says.
+        ensures value { IfSome result (λ key. key ≡ card_key (fields_of self.now) name) }
+        // From which secret, and by how many steps.
+        ensures sound { IfSome result (λ key. CardDerives (fields_of self.now) name key (steps.new - steps.old)) }
         ensures steps { (steps.old ≤ steps.new) × (steps.new ≤ steps.old + self.now.height) }
-        ensures key { (master : List ℕ) (ca : ℕ) → fields_of self.now ≡ card_of master ca self.now.height self.now.leaf →
+        // Of a card that was made for its leaf it is the set's key.
+        ensures made { (master : List ℕ) (ca : ℕ) →
+            fields_of self.now ≡ card_of master ca self.now.height self.now.leaf →
             IfSome result (λ key. key ≡ key_of master name) }
     {
         if !contains(self.height, name, self.leaf) {
@@ -37,7 +42,7 @@ impl Card {
     fn pair_key<L: Ledger>(&self, i: u32, j: u32, steps: &mut Steps<L>) -> [u8; 32]
         requires pair { IsOfHeight self.now.height (SetName.Diff i j) }
         requires member { is_member self.now.height (SetName.Diff i j) self.now.leaf ≡ true }
-        ensures derived { DerivesPair (fields_of self.now) i j result (steps.new - steps.old) }
+        ensures sound { CardDerives (fields_of self.now) (SetName.Diff i j) result (steps.new - steps.old) }
         ensures steps { (steps.old ≤ steps.new) × (steps.new ≤ steps.old + self.now.height) }
     {
         let held = hanging_above(self.height, self.leaf, j);

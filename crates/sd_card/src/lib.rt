@@ -1,18 +1,18 @@
-//! The card of a receiver: the secrets that its leaf is given, the keys that they lead to, and the file that keeps them.
+//! The card of a receiver: what its leaf is given, the keys that this leads to, and the file that keeps it.
 #![tactic(auto)]
 
 mod card;
 mod fault;
-mod hanging;
+mod format;
 mod key;
-mod laws;
+pub mod laws;
 mod make;
+mod place;
 mod read;
 mod write;
 
 pub use card::Card;
 pub use fault::CardFault;
-pub use laws::card_files;
 
 #[cfg(test)]
 mod tests;

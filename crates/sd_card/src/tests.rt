@@ -13,10 +13,16 @@ use std::test::*;
 
 // The cards of leaf 0 at height 1 and of leaf 5 at height 3.
 const LEAF_0: &str =
-    "5344434401010000000012349a9aea255b8e54be50fc2cb5d0b83ebf64120b12e68d82699face4ee860511dc0938f5db1e2e38332732e7da82f1ad3e4ce6cfe09cd3dfda4ac268d6eabfa59acd2c720852888ed655d22a5c8a4d7d2f";
+    "5344434401010000000012349a9aea255b8e54be50fc2cb5d0b83ebf64120b12e68d82699face4ee860511dc0938\
+    f5db1e2e38332732e7da82f1ad3e4ce6cfe09cd3dfda4ac268d6eabfa59acd2c720852888ed655d22a5c8a4d7d2f";
 
 const LEAF_5: &str =
-    "5344434401030000000512349a9aea255b8e54be50fc2cb5d0b83ebf64120b12e68d82699face4ee860511dc0957476ca37572a1dcc65a3f00d57deed46e69c2e91426478f712417fb92a56bb3b4a9ec141e3e6c5f7f1d34c7932d34ee14f724fd68a98b2f9fdcb508de0f48aa94e29d22fc6666b24e1ad2794a4f1f1519d5126f9de69bdeaf722cfee0075900407c5f5709ab0b475c92082dca33bfd94d089bfb1948a03cae4d5b75ad14e548954a872ea73ecca7c88349a7d5558ea323dfebd65bf59142ace49371da03b064c53490a01b870e7120925ffd7ce8b20d840d83d052c5668db762ab8dbdeede813ac7b7ad90ee38b89d1475ba747af7";
+    "5344434401030000000512349a9aea255b8e54be50fc2cb5d0b83ebf64120b12e68d82699face4ee860511dc0957\
+    476ca37572a1dcc65a3f00d57deed46e69c2e91426478f712417fb92a56bb3b4a9ec141e3e6c5f7f1d34c7932d34\
+    ee14f724fd68a98b2f9fdcb508de0f48aa94e29d22fc6666b24e1ad2794a4f1f1519d5126f9de69bdeaf722cfee0\
+    075900407c5f5709ab0b475c92082dca33bfd94d089bfb1948a03cae4d5b75ad14e548954a872ea73ecca7c88349\
+    a7d5558ea323dfebd65bf59142ace49371da03b064c53490a01b870e7120925ffd7ce8b20d840d83d052c5668db7\
+    62ab8dbdeede813ac7b7ad90ee38b89d1475ba747af7";
 
 // The card of a leaf at this height, and its key for a set.
 fn counted<L: Ledger>(
@@ -74,20 +80,30 @@ fn cards_are_written_and_read_again(rt: HostRuntime) -> Result<(), Fail> {
 }
 
 #[test]
-fn cards_of_a_tall_tree(rt: HostRuntime) -> Result<(), Fail> {
-    for (u, sum) in [
+fn cards_of_tall_trees(rt: HostRuntime) -> Result<(), Fail> {
+    for (d, u, length, sum) in [
         (
+            10,
+            515,
+            1820,
+            "431f55dd8536a13036bcb9edd665afdf39a426acb6bf60ee001cb7a0b619d46d",
+        ),
+        (
+            20,
             12345,
+            6780,
             "33f8db1f7633b12de2b8976fe46d7a73e9537dd24e04137cfe070f05aec66e94",
         ),
         (
+            20,
             1048575,
+            6780,
             "bfcbc774a9f50e0917519d412c998ec26d8d7a84e5ad4da24446ab561b63d50e",
         ),
     ] {
-        let (card, _) = made(rt.alloc(), 20, u, (0, 0)).ok_or("the leaf has a card")?;
+        let (card, _) = made(rt.alloc(), d, u, (0, 0)).ok_or("the leaf has a card")?;
         let bytes = card.write(rt.alloc()).ok().ok_or("memory is left")?;
-        assert_eq!(rt; bytes.len(), 6780);
+        assert_eq!(rt; bytes.len(), length);
         assert_eq!(rt;
             hex::encode(rt.alloc(), &Sha256::digest(&bytes))?.as_str(),
             sum

@@ -1,18 +1,20 @@
-ghost use Rattle.std.specs.Prelude.{◌≡◌, ◌<◌, ◌^◌, [], ◌++◌, length, take, IfOk, OnOk};
-ghost use Rattle.sha2.specs.Sha256.{sha256};
-ghost use Rattle.sd_card.specs.Fields.{saying, fields_of, card_body, card_bytes};
-ghost use Rattle.sd_card.specs.Faults.{IsCard};
+ghost use Rattle.std.specs.Prelude.{◌≡◌, ◌<◌, ◌^◌, [], ◌++◌, length, IfOk, OnOk};
+ghost use Rattle.byteorder.specs.Endian.{big_bytes};
+ghost use Rattle.sd_card.specs.Fields.{IsCard, saying, fields_of, card_body, card_bytes};
 
 use crate::card::Card;
+use crate::format::{MAGIC, VERSION};
+use byteorder::{BigEndian, ByteOrder};
 use sd_cause::NoMemory;
-use sha2::{Digest, Sha256};
+use sd_secrets::check_of;
+use sd_tree::Leaf;
 use std::alloc::{AllocError, Global};
 
 impl Card {
-    /// The card's file, as docs/FORMATS.md describes it.
+    /// The card's file [this project, docs/FORMATS.md, Card].
     pub fn write(&self, alloc: Global) -> Result<Vec<u8>, NoMemory>
         ensures value { IfOk result (λ bytes. bytes.items ≡ card_bytes (fields_of self.now)) }
-        ensures card { IfOk result (λ _. IsCard (fields_of self.now)) }
+        ensures fits { IfOk result (λ _. IsCard (fields_of self.now)) }
     {
         self.checked(alloc).map_err(|_| NoMemory)
     }
@@ -21,7 +23,7 @@ impl Card {
     #[tactic(auto, unfolding(crate::specs::Fields::card_bytes))]
     fn checked(&self, alloc: Global) -> Result<Vec<u8>, AllocError>
         ensures value { IfOk result (λ bytes. bytes.items ≡ card_bytes (fields_of self.now)) }
-        ensures card { IfOk result (λ _. IsCard (fields_of self.now)) }
+        ensures fits { IfOk result (λ _. IsCard (fields_of self.now)) }
     {
         let mut bytes = self.body(alloc)?;
         let check = check_of(&bytes);
@@ -32,7 +34,7 @@ impl Card {
     // The file before its check.
     fn body(&self, alloc: Global) -> Result<Vec<u8>, AllocError>
         ensures value { IfOk result (λ bytes. bytes.items ≡ card_body (fields_of self.now)) }
-        ensures card { IfOk result (λ _. IsCard (fields_of self.now)) }
+        ensures fits { IfOk result (λ _. IsCard (fields_of self.now)) }
     {
         let mut bytes = self.head(alloc)?;
         for secret in &self.secrets {
@@ -44,32 +46,42 @@ impl Card {
     // The file before its secrets.
     #[tactic(auto, unfolding(crate::specs::Fields::card_body))]
     fn head(&self, alloc: Global) -> Result<Vec<u8>, AllocError>
-        ensures value { IfOk result (λ bytes. bytes.items ≡ card_body (saying self.now.height self.now.leaf self.now.ca [])) }
-        ensures ca { IfOk result (λ _. self.now.ca < 2 ^ 16) }
+        ensures value { IfOk result (λ bytes.
+            bytes.items ≡ card_body (saying self.now.height self.now.leaf self.now.ca [])) }
+        ensures fits { IfOk result (λ _. self.now.ca < 2 ^ 16) }
     {
         let mut bytes = Vec::new(alloc);
-        bytes.extend_from_slice(b"SDCD")?;
-        bytes.extend_from_slice(&[1, self.height.get()])?;
-        bytes.extend_from_slice(&self.leaf.get().to_be_bytes())?;
-        bytes.extend_from_slice(&self.ca.to_be_bytes())?;
+        bytes.extend_from_slice(&MAGIC)?;
+        bytes.extend_from_slice(&[VERSION, self.height.get()])?;
+        bytes.extend_from_slice(&leaf_bytes(self.leaf))?;
+        bytes.extend_from_slice(&ca_bytes(self.ca))?;
         Ok(bytes)
     }
+}
+
+// The leaf as a file has it.
+fn leaf_bytes(u: Leaf) -> [u8; 4]
+    ensures { result ≡ big_bytes 4 u }
+{
+    let mut bytes = [0; 4];
+    BigEndian::write_u32(&mut bytes, u.get());
+    bytes
+}
+
+// The conditional access system as a file has it.
+fn ca_bytes(ca: u16) -> [u8; 2]
+    ensures value { result ≡ big_bytes 2 ca }
+    ensures fits { ca < 2 ^ 16 }
+{
+    let mut bytes = [0; 2];
+    BigEndian::write_u16(&mut bytes, ca);
+    bytes
 }
 
 // Adds a secret.
 fn put(bytes: &mut Vec<u8>, secret: &[u8; 32]) -> Result<(), AllocError>
     ensures value { OnOk result (bytes.new.items ≡ bytes.old.items ++ secret.now) }
-    ensures long { length secret.now ≡ 32 }
+    ensures length { length secret.now ≡ 32 }
 {
     bytes.extend_from_slice(secret)
-}
-
-// The check of a file's bytes before it.
-pub fn check_of(body: &[u8]) -> [u8; 16]
-    ensures { result ≡ take 16 (sha256 body.now) }
-{
-    let digest = Sha256::digest(body);
-    let mut check = [0; 16];
-    check.copy_from_slice(&digest[..16]);
-    check
 }

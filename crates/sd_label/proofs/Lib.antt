@@ -1,3 +1,4 @@
 pub mod Descents
 pub mod Counts
 pub mod Pairs
+pub mod Hanging

@@ -71,7 +71,8 @@ fn generated<L: Ledger>(label: &Label, third: u8, steps: &mut Steps<L>) -> [u8; 
     tagged(&label.0, third)
 }
 
-/// The label at node `to`, from a label that is held at a node above it or at `to` itself. It takes one step for each level.
+/// The label at node `to`, from a label that is held at a node above it or at `to` itself. It takes one step for each
+/// level.
 pub fn descend<L: Ledger>(label: &Label, from: u32, to: u32, steps: &mut Steps<L>) -> Label
     requires node { 1 ≤ from }
     requires above { IsAbove from to }

@@ -24,7 +24,8 @@ pub fn labels_of_pairs()
         label_of master i (2 * v + 1) ≡ right_of (label_of master i v) }
 {}
 
-/// What a leaf is given: the whole set, the pairs of its ancestors with the siblings of the path below them, and nothing else.
+/// What a leaf is given: the whole set, the pairs of its ancestors with the siblings of the path below them, and
+/// nothing else.
 #[tactic(auto, using(crate::proofs::Counts::length_given, crate::proofs::Pairs::given_whole))]
 pub fn names_given()
     ensures count { (d u : ℕ) → length (given d u) ≡ d * (d + 1) / 2 + 1 }

@@ -1,11 +1,8 @@
 ghost use Rattle.std.specs.Prelude.{◌≡◌, ◌<◌};
 
-use crate::{
-    Label, check_value, control_word, descend, middle, path_node, period_key, root_label, sibling,
-    whole_key,
-};
+use crate::{Label, check_value, control_word, descend, middle, period_key, root_label, whole_key};
 use sd_steps::Steps;
-use sd_tree::{Height, Leaf, is_above};
+use sd_tree::is_above;
 use std::marker::Brand;
 use std::sync::ledger::{Blank, Ledger};
 
@@ -148,27 +145,5 @@ fn labels_and_keys_of_a_site(rt: HostRuntime) {
         ),
     ] {
         assert_eq!(rt; value, due, "check value of {name}");
-    }
-}
-
-// The node at this depth on the path to leaf 5 of height 3.
-fn on_path(depth: u32) -> Option<u32> {
-    let h = Height::new(3)?;
-    let u = Leaf::new(h, 5)?;
-    if depth <= 3 {
-        Some(path_node(h, u, depth))
-    } else {
-        None
-    }
-}
-
-#[test]
-fn path_of_leaf_5(rt: HostRuntime) {
-    for (depth, node) in [(0, 1), (1, 3), (2, 6), (3, 13)] {
-        assert_eq!(rt; on_path(depth), Some(node), "depth {depth}");
-    }
-    for (node, due) in [(3, 2), (6, 7), (13, 12)] {
-        assert!(rt; 1 <= node);
-        assert_eq!(rt; sibling(node), due, "sibling of {node}");
     }
 }

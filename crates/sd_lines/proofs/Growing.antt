@@ -1,52 +1,52 @@
 -- Lists of what is shown, which grow by one item at a time.
-use Rattle.std.proofs.Common.{ℕ, ◌+◌, ◌<◌, ◌≡◌, true, false, List, [], ◌∷◌, ◌++◌, length, take, map, append-nil, refl, sym, ap, ◌∙◌}
-use Rattle.std.specs.Prelude.{Some, slice_get, filter}
-use Rattle.std.proofs.lemmas.List.{take_more, map-append, map_more}
-use Rattle.std.proofs.lemmas.List.Elements.{filter-append}
-use Rattle.std.proofs.lemmas.Option.{slice_get_within, get_or_from_slice_get}
+use Rattle.std.proofs.Common.{ℕ, ◌≡◌, true, false, List, [], ◌∷◌, ◌++◌, map, append-nil, append_assoc, refl, sym, ap}
+use Rattle.std.proofs.Common.{◌∙◌}
 use Rattle.serde_json.specs.Data.{Data}
-use Rattle.sd_psi.specs.Tables.{programs_of, streams_of, stream_at}
-use Rattle.sd_lines.specs.Lines.{is_ca, ca_data, cas_of, program_data, stream_data}
+use Rattle.sd_psi.specs.Tables.{Stream}
+use Rattle.sd_psi.specs.Access.{is_ca}
+use Rattle.sd_lines.specs.Lines.{ca_data, cas_of, program_data, stream_data}
 
--- one item more is taken
-taken_more : {X : Type 0} (xs : List X) (k : ℕ) (x : X) → slice_get xs k ≡ Some x → take (k + 1) xs ≡ take k xs ++ x ∷ []
-taken_more {X} xs k x h =
-    take_more xs k x (slice_get_within xs k x h) ∙ ap (λ (y : X). take k xs ++ y ∷ []) (get_or_from_slice_get xs k x x h)
+-- the first of those that are left is shown after the others
+one_first : {X : Type 0} (f : X → Data) (shown : List Data) (all rest : List X) (one : X) → all ≡ one ∷ rest →
+    (shown ++ f one ∷ []) ++ map f rest ≡ shown ++ map f all
+one_first f shown all rest one cut = append_assoc shown (f one ∷ []) (map f rest) ∙
+    ap (λ xs. shown ++ map f xs) (sym cut)
 
--- one program of a PAT more is shown
-pub one_program_more : (section : List ℕ) (k : ℕ) (program : ℕ × ℕ) → slice_get (programs_of section) k ≡ Some program →
-    map program_data (take k (programs_of section)) ++ program_data program ∷ [] ≡ map program_data (take (k + 1) (programs_of section))
-one_program_more section k program h =
-    sym (ap (map program_data) (taken_more (programs_of section) k program h)
-    ∙ map-append program_data (take k (programs_of section)) (program ∷ []))
+-- where none is left, all are shown
+all_shown : {X : Type 0} (f : X → Data) (shown due : List Data) (rest : List X) → rest ≡ [] → shown ++ map f rest
+    ≡ due → shown ≡ due
+all_shown f shown due rest none is = sym (append-nil shown) ∙ (ap (λ xs. shown ++ map f xs) (sym none) ∙ is)
 
--- one stream of a PMT more is shown
-pub one_stream_more : (section : List ℕ) (k : ℕ) → k < length (streams_of section) →
-    map stream_data (take k (streams_of section)) ++ stream_data (stream_at section k) ∷ []
-    ≡ map stream_data (take (k + 1) (streams_of section))
-unfolding stream_at
-one_stream_more section k h = sym (map_more stream_data (streams_of section) k _ h)
+-- programs of a PAT
+pub program_first : (shown : List Data) (all rest : List (ℕ × ℕ)) (program : ℕ × ℕ) → all ≡ program ∷ rest →
+    (shown ++ program_data program ∷ []) ++ map program_data rest ≡ shown ++ map program_data all
+program_first shown all rest program cut = one_first program_data shown all rest program cut
 
--- one descriptor more is shown where it is a CA_descriptor
-pub one_ca_more : (descriptors : List (List ℕ)) (k : ℕ) (descriptor : List ℕ) → slice_get descriptors k ≡ Some descriptor →
-    cas_of (take k descriptors) ++ cas_of (descriptor ∷ []) ≡ cas_of (take (k + 1) descriptors)
+pub programs_shown : (shown due : List Data) (rest : List (ℕ × ℕ)) → rest ≡ [] → shown ++ map program_data rest ≡ due →
+    shown ≡ due
+programs_shown shown due rest none is = all_shown program_data shown due rest none is
+
+-- streams of a PMT
+pub stream_first : (shown : List Data) (all rest : List Stream) (stream : Stream) → all ≡ stream ∷ rest →
+    (shown ++ stream_data stream ∷ []) ++ map stream_data rest ≡ shown ++ map stream_data all
+stream_first shown all rest stream cut = one_first stream_data shown all rest stream cut
+
+pub streams_shown : (shown due : List Data) (rest : List Stream) → rest ≡ [] → shown ++ map stream_data rest ≡ due →
+    shown ≡ due
+streams_shown shown due rest none is = all_shown stream_data shown due rest none is
+
+-- a CA_descriptor is shown, and another descriptor isn't
+pub ca_first : (shown : List Data) (all rest : List (List ℕ)) (descriptor : List ℕ) → all ≡ descriptor ∷ rest →
+    is_ca descriptor ≡ true → (shown ++ ca_data descriptor ∷ []) ++ cas_of rest ≡ shown ++ cas_of all
 unfolding cas_of
-one_ca_more descriptors k descriptor h =
-    sym (ap (λ (ds : List (List ℕ)). map ca_data (filter is_ca ds)) (taken_more descriptors k descriptor h)
-    ∙ (ap (map ca_data) (filter-append is_ca (take k descriptors) (descriptor ∷ []))
-    ∙ map-append ca_data (filter is_ca (take k descriptors)) (filter is_ca (descriptor ∷ []))))
+ca_first shown all rest descriptor cut is =
+    append_assoc shown (ca_data descriptor ∷ []) (cas_of rest) ∙ rw cut (rw is refl)
 
--- a CA_descriptor by itself is shown
-pub ca_shown : (descriptor : List ℕ) → is_ca descriptor ≡ true → cas_of (descriptor ∷ []) ≡ ca_data descriptor ∷ []
+pub other_first : (all rest : List (List ℕ)) (descriptor : List ℕ) → all ≡ descriptor ∷ rest →
+    is_ca descriptor ≡ false → cas_of rest ≡ cas_of all
 unfolding cas_of
-ca_shown descriptor h = rw h refl
+other_first all rest descriptor cut isnt = rw cut (rw isnt refl)
 
--- another descriptor adds nothing
-pub other_hidden : (shown : List Data) (descriptor : List ℕ) → is_ca descriptor ≡ false → shown ++ cas_of (descriptor ∷ []) ≡ shown
+pub cas_shown : (shown due : List Data) (rest : List (List ℕ)) → rest ≡ [] → shown ++ cas_of rest ≡ due → shown ≡ due
 unfolding cas_of
-other_hidden shown descriptor h = rw h (append-nil shown)
-
--- of no descriptors nothing is shown
-pub none_shown : cas_of [] ≡ []
-unfolding cas_of
-none_shown = refl
+cas_shown shown due rest none is = sym (append-nil shown) ∙ (ap (λ xs. shown ++ cas_of xs) (sym none) ∙ is)

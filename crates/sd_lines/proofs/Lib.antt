@@ -1,3 +1,2 @@
-pub mod After
 pub mod Growing
 pub mod Plain

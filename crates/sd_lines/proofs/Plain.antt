@@ -9,7 +9,9 @@ use Rattle.sd_section.specs.Judged.{section_fault}
 use Rattle.sd_section.specs.declared.fault.SectionFault.{SectionFault}
 use Rattle.sd_section.specs.declared.fault.SectionFault.TheVariants.{Short, Length, Crc}
 use Rattle.sd_psi.specs.Tables.{Stream, descriptors_of, programs_of, info_of, streams_of, is_pat, is_cat, is_pmt}
-use Rattle.sd_lines.specs.Lines.{is_ca, ca_data, cas_of, cas_data, program_data, stream_data, pat_data, cat_data, pmt_data, fault_data, table_data, data_by, section_data}
+use Rattle.sd_psi.specs.Access.{is_ca}
+use Rattle.sd_lines.specs.Lines.{ca_data, cas_of, cas_data, program_data, stream_data, pat_data, cat_data, pmt_data}
+use Rattle.sd_lines.specs.Lines.{fault_data, table_data, data_by, section_data}
 
 -- some CA_descriptors
 plain_ca : (descriptors : List (List ℕ)) → items_have_float (items_of (map ca_data descriptors)) ≡ false
@@ -70,7 +72,8 @@ plain_table packet pid section =
     (plain_either (is_pmt section) _ _ (plain_pmt packet pid section) fault))
 
 -- bytes, by what is wrong with them
-plain_by : (fault : Option SectionFault) (packet pid : ℕ) (section : List ℕ) → has_float (data_by fault packet pid section) ≡ false
+plain_by : (fault : Option SectionFault) (packet pid : ℕ) (section : List ℕ) →
+    has_float (data_by fault packet pid section) ≡ false
 plain_by None packet pid section = plain_table packet pid (whole_of section)
 plain_by (Some Short) packet pid section = plain_fault (codes "length") packet pid
 plain_by (Some Length) packet pid section = plain_fault (codes "length") packet pid

@@ -1,14 +1,15 @@
 -- The line of compact JSON that a section is shown by.
-use Rattle.std.specs.Prelude.{ℕ, ◌==◌, ◌&&◌, Bool, List, [], ◌∷◌, ◌++◌, length, map, filter, nat_le, codes, if◌then◌else◌, Option, Some, None}
+use Rattle.std.specs.Prelude.{ℕ, ◌==◌, List, [], ◌∷◌, ◌++◌, map, filter, codes, if◌then◌else◌, Option, Some, None}
 use Rattle.serde_json.specs.Data.{Data, number, unsigned, string, array, object, member, no_members}
 use Rattle.serde_json.specs.View.{items_of}
 use Rattle.serde_json.specs.Written.{compact_text}
-use Rattle.sd_bits.specs.Bits.{field}
 use Rattle.sd_section.specs.Header.{extension_of, version_of, body_of, whole_of}
 use Rattle.sd_section.specs.Judged.{section_fault}
 use Rattle.sd_section.specs.declared.fault.SectionFault.{SectionFault}
 use Rattle.sd_section.specs.declared.fault.SectionFault.TheVariants.{Short, Length, Crc}
-use Rattle.sd_psi.specs.Tables.{Stream, descriptors_of, tag_of, content_of, programs_of, pcr_of, info_of, streams_of, is_pat, is_cat, is_pmt}
+use Rattle.sd_psi.specs.Tables.{Stream, descriptors_of, programs_of, pcr_of, info_of, streams_of, is_pat, is_cat}
+use Rattle.sd_psi.specs.Tables.{is_pmt}
+use Rattle.sd_psi.specs.Access.{is_ca, system_of, ca_pid_of}
 
 -- a number
 abbrev pub num : ℕ → Data
@@ -22,15 +23,11 @@ word text = string text
 abbrev pub listed : List Data → Data
 listed items = array (items_of items)
 
--- the descriptor is a CA_descriptor in which CA_system_ID and CA_PID are there [ISO/IEC 13818-1, 2.6.16]
-unfoldable pub is_ca : List ℕ → Bool
-is_ca descriptor = (tag_of descriptor == 9) && nat_le 4 (length (content_of descriptor))
-
--- its CA_PID and CA_system_ID [ISO/IEC 13818-1, 2.6.16]
+-- a CA_descriptor: its CA_PID and CA_system_ID [ISO/IEC 13818-1, 2.6.16]
 unfoldable pub ca_data : List ℕ → Data
 ca_data descriptor = object
-    (member (codes "pid") (num (field descriptor 35 13))
-    (member (codes "system") (num (field descriptor 16 16))
+    (member (codes "pid") (num (ca_pid_of descriptor))
+    (member (codes "system") (num (system_of descriptor))
     no_members))
 
 -- the CA_descriptors among some descriptors, and among those that fill some bytes
@@ -55,7 +52,8 @@ stream_data stream = object
     (member (codes "type") (num stream.stream_type)
     no_members)))
 
--- what is shown of a PAT, a CAT and a PMT of a PID, completed by the packet of this number [this project, docs/FORMATS.md, Inspector]
+-- what is shown of a PAT, a CAT and a PMT of a PID, completed by the packet of this number [this project,
+-- docs/FORMATS.md, Inspector]
 unfoldable pub pat_data : ℕ → ℕ → List ℕ → Data
 pat_data packet pid section = object
     (member (codes "packet") (num packet)
@@ -100,7 +98,8 @@ fault_data fault packet pid = object
 unfoldable pub table_data : ℕ → ℕ → List ℕ → Data
 table_data packet pid section =
     if pid == 0 then (if is_pat section then pat_data packet pid section else fault_data (codes "table") packet pid)
-    else if pid == 1 then (if is_cat section then cat_data packet pid section else fault_data (codes "table") packet pid)
+    else if pid == 1 then (if is_cat section then cat_data packet pid section else fault_data (codes "table") packet
+    pid)
     else if is_pmt section then pmt_data packet pid section else fault_data (codes "table") packet pid
 
 -- what is shown of bytes, by what is wrong with the section that they begin with
@@ -110,7 +109,8 @@ data_by (Some Short) packet pid section = fault_data (codes "length") packet pid
 data_by (Some Length) packet pid section = fault_data (codes "length") packet pid
 data_by (Some (Crc found due)) packet pid section = fault_data (codes "crc") packet pid
 
--- what is shown of the bytes of a section of a PID, completed by the packet of this number [this project, docs/FORMATS.md, Inspector]
+-- what is shown of the bytes of a section of a PID, completed by the packet of this number [this project,
+-- docs/FORMATS.md, Inspector]
 unfoldable pub section_data : ℕ → ℕ → List ℕ → Data
 section_data packet pid section = data_by (section_fault section) packet pid section
 

@@ -1,8 +1,8 @@
 //! The inspector's line of a section: what stands in it, as compact JSON.
 #![tactic(auto)]
 
+mod ca;
 mod cat;
-mod descriptor;
 mod line;
 mod pat;
 mod pmt;

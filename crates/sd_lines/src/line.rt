@@ -13,8 +13,8 @@ use std::alloc::{AllocError, Global};
 
 /// Puts the line of a section after the text: of these bytes on this PID, completed by the packet of this number.
 ///
-/// The line is compact JSON with the keys in ascending order, and a line feed. Of a PAT, a CAT and a PMT it names what they list, and of
-/// anything else which fault it has.
+/// The line is compact JSON with the keys in ascending order, and a line feed. Of a PAT, a CAT and a PMT it names
+/// what they list, and of anything else which fault it has.
 pub fn push_line(
     alloc: Global,
     text: &mut String,
@@ -56,7 +56,8 @@ fn section_value(alloc: Global, packet: u64, pid: u16, section: &[u8]) -> Result
     }
 }
 
-// What is shown of a whole section: PID 0 has PATs, PID 1 has CATs, and each other PID has PMTs (ISO/IEC 13818-1, 2.4.4).
+// What is shown of a whole section: PID 0 has PATs, PID 1 has CATs, and each other PID has PMTs
+// (ISO/IEC 13818-1, 2.4.4).
 #[tactic(auto, unfolding(crate::specs::Lines::table_data))]
 fn table_value(alloc: Global, packet: u64, pid: u16, section: &Section) -> Result<Value, AllocError>
     ensures { IfOk result (λ value. view value ≡ table_data packet pid section.now.bytes.now) }

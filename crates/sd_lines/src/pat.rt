@@ -25,13 +25,13 @@ pub(crate) fn pat_value(
 }
 
 // Its programs.
-#[tactic(auto, using(crate::proofs::Growing::one_program_more, std::proofs::lemmas::List::map_push))]
+#[tactic(auto, using(crate::proofs::Growing::program_first, crate::proofs::Growing::programs_shown, std::proofs::lemmas::List::map_push))]
 fn programs_value(alloc: Global, pat: &Pat) -> Result<Value, AllocError>
     ensures { IfOk result (λ value. view value ≡ listed (map program_data (programs_of pat.now.section.bytes.now))) }
 {
+    let mut rest = pat.programs();
     let mut programs = Vec::new(alloc);
-    for k in 0..pat.len() {
-        let (number, pid) = pat.program(k);
+    while let Some((number, pid)) = rest.next() {
         programs.push(program_value(alloc, number, pid)?)?;
     }
     Ok(Value::Array(programs))

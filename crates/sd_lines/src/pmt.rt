@@ -1,10 +1,10 @@
-ghost use Rattle.std.specs.Prelude.{◌≡◌, ◌<◌, IfOk, map, length};
+ghost use Rattle.std.specs.Prelude.{◌≡◌, IfOk, map};
 ghost use Rattle.serde_json.specs.View.{view};
-ghost use Rattle.sd_psi.specs.Tables.{info_of, streams_of, stream_at};
-ghost use Rattle.sd_lines.specs.Lines.{listed, cas_data, stream_data, pmt_data};
+ghost use Rattle.sd_psi.specs.Tables.{stream_of, streams_of};
+ghost use Rattle.sd_lines.specs.Lines.{listed, stream_data, pmt_data};
 
-use crate::descriptor::push_ca;
-use sd_psi::Pmt;
+use crate::ca::cas_value;
+use sd_psi::{Pmt, Stream};
 use serde_json::{Value, json};
 use std::alloc::{AllocError, Global};
 
@@ -18,7 +18,7 @@ pub(crate) fn pmt_value(
 ) -> Result<Value, AllocError>
     ensures { IfOk result (λ value. view value ≡ pmt_data packet pid pmt.now.section.bytes.now) }
 {
-    let cas = program_cas(alloc, pmt)?;
+    let cas = cas_value(alloc, pmt.descriptors())?;
     let streams = streams_value(alloc, pmt)?;
     json!(in alloc; {
         "ca": cas, "packet": packet, "pcr": pmt.pcr(), "pid": pid, "program": pmt.program(),
@@ -26,50 +26,24 @@ pub(crate) fn pmt_value(
     })
 }
 
-// The program's CA_descriptors.
-#[tactic(auto, using(crate::proofs::Growing::one_ca_more, crate::proofs::Growing::none_shown), unfolding(crate::specs::Lines::cas_data))]
-fn program_cas(alloc: Global, pmt: &Pmt) -> Result<Value, AllocError>
-    ensures { IfOk result (λ value. view value ≡ cas_data (info_of pmt.now.section.bytes.now)) }
-{
-    let mut cas = Vec::new(alloc);
-    for k in 0..pmt.info_len() {
-        push_ca(alloc, &mut cas, &pmt.info(k))?;
-    }
-    Ok(Value::Array(cas))
-}
-
-// The streams.
-#[tactic(auto, using(crate::proofs::Growing::one_stream_more, std::proofs::lemmas::List::map_push))]
+// Its streams.
+#[tactic(auto, using(crate::proofs::Growing::stream_first, crate::proofs::Growing::streams_shown, std::proofs::lemmas::List::map_push))]
 fn streams_value(alloc: Global, pmt: &Pmt) -> Result<Value, AllocError>
     ensures { IfOk result (λ value. view value ≡ listed (map stream_data (streams_of pmt.now.section.bytes.now))) }
 {
+    let mut rest = pmt.streams();
     let mut streams = Vec::new(alloc);
-    for k in 0..pmt.len() {
-        streams.push(stream_value(alloc, pmt, k)?)?;
+    while let Some(stream) = rest.next() {
+        streams.push(stream_value(alloc, &stream)?)?;
     }
     Ok(Value::Array(streams))
 }
 
-// The stream with this number.
+// One of them.
 #[tactic(auto, unfolding(crate::specs::Lines::stream_data))]
-fn stream_value(alloc: Global, pmt: &Pmt, k: usize) -> Result<Value, AllocError>
-    requires { k < length (streams_of pmt.now.section.bytes.now) }
-    ensures { IfOk result (λ value. view value ≡ stream_data (stream_at pmt.now.section.bytes.now k)) }
+fn stream_value(alloc: Global, stream: &Stream) -> Result<Value, AllocError>
+    ensures { IfOk result (λ value. view value ≡ stream_data (stream_of stream.now.bytes.now)) }
 {
-    let (stream_type, pid) = pmt.stream(k);
-    let cas = stream_cas(alloc, pmt, k)?;
-    json!(in alloc; {"ca": cas, "pid": pid, "type": stream_type})
-}
-
-// Its CA_descriptors.
-#[tactic(auto, using(crate::proofs::Growing::one_ca_more, crate::proofs::Growing::none_shown), unfolding(crate::specs::Lines::cas_data))]
-fn stream_cas(alloc: Global, pmt: &Pmt, k: usize) -> Result<Value, AllocError>
-    requires { k < length (streams_of pmt.now.section.bytes.now) }
-    ensures { IfOk result (λ value. view value ≡ cas_data (stream_at pmt.now.section.bytes.now k).info) }
-{
-    let mut cas = Vec::new(alloc);
-    for x in 0..pmt.stream_len(k) {
-        push_ca(alloc, &mut cas, &pmt.stream_info(k, x))?;
-    }
-    Ok(Value::Array(cas))
+    let cas = cas_value(alloc, stream.descriptors())?;
+    json!(in alloc; {"ca": cas, "pid": stream.pid(), "type": stream.stream_type()})
 }

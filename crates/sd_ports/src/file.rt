@@ -1,6 +1,7 @@
-ghost use Rattle.std.specs.Prelude.{◌≡◌, ◌≤◌, IfOk, IsErrOf, length};
+ghost use Rattle.std.specs.Prelude.{◌≡◌, ◌≤◌, ◌⊎◌, IfOk, IsErrOf, length};
+ghost use Rattle.sd_cause.specs.Count.{with_added};
 ghost use Rattle.sd_ports.specs.Causes.{CountsCalls, HasFileCause};
-ghost use Rattle.sd_ports.specs.Files.{IsFile, IsLongFile, IsNotThere, WritesFile};
+ghost use Rattle.sd_ports.specs.Files.{IsFile, IsLongFile, IsNotThere, IsThere, WritesFile};
 
 use crate::depot::Depot;
 use crate::fault::DepotFault;
@@ -21,7 +22,7 @@ pub enum FileFault {
 }
 
 /// Reads a whole file of at most `most` bytes: it opens, reads and closes it, and only then answers.
-#[tactic(auto, using(crate::proofs::Calls::twice_called, crate::proofs::Calls::open_as_before))]
+#[tactic(auto, using(crate::proofs::Calls::twice_called, crate::proofs::Calls::open_as_before, crate::proofs::Calls::opened_there))]
 pub fn read_file<D: Depot>(
     alloc: Global,
     depot: &mut D,
@@ -34,10 +35,10 @@ pub fn read_file<D: Depot>(
     ensures within { IfOk result (λ bytes. length bytes.items ≤ most) }
     ensures too_big { IsErrOf result FileFault.TooBig → IsLongFile (D.files depot.old) name.now most }
     ensures missing { IsErrOf result FileFault.Missing → IsNotThere (D.files depot.old) name.now }
-    ensures cause
-        { HasFileCause (D.faults depot.old) (D.faults depot.new) (D.misses depot.old) (D.misses depot.new) result }
+    ensures cause { HasFileCause (D.faults depot.old) (D.faults depot.new) (D.misses depot.old) (D.misses depot.new) result }
     ensures ports { D.opened depot.new ≡ D.opened depot.old }
     ensures calls { CountsCalls (D.calls depot.old) (D.calls depot.new) result }
+    ensures once { (D.calls depot.new ≤ with_added (D.calls depot.old) 1) ⊎ IsThere (D.files depot.old) name.now }
 {
     let mut port = match depot.open_in(alloc, name) {
         Ok(port) => port,
@@ -64,11 +65,9 @@ pub fn write_file<D: Depot>(
     name: &str,
     bytes: &[u8],
 ) -> Result<(), FileFault>
-    ensures file
-        { WritesFile (D.files depot.old) (D.files depot.new) (D.made depot.old) (D.made depot.new) name.now bytes.now
+    ensures file { WritesFile (D.files depot.old) (D.files depot.new) (D.made depot.old) (D.made depot.new) name.now bytes.now
         result }
-    ensures cause
-        { HasFileCause (D.faults depot.old) (D.faults depot.new) (D.misses depot.old) (D.misses depot.new) result }
+    ensures cause { HasFileCause (D.faults depot.old) (D.faults depot.new) (D.misses depot.old) (D.misses depot.new) result }
     ensures ports { D.opened depot.new ≡ D.opened depot.old }
     ensures calls { CountsCalls (D.calls depot.old) (D.calls depot.new) result }
 {

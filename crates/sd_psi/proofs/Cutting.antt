@@ -1,9 +1,10 @@
 -- How bytes are cut into items.
-use Rattle.std.proofs.Common.{ℕ, zero, suc, ◌+◌, ◌-◌, ◌<◌, ◌≤◌, ◌≡◌, Bool, true, false, ◌==◌, ◌&&◌, List, [], ◌∷◌, length, take, drop, length-drop, length-take-le, eq-eqb, inl, inr, le_refl, refl, sym, ap, ◌∙◌, arith}
+use Rattle.std.proofs.Common.{ℕ, zero, suc, ◌+◌, ◌-◌, ◌<◌, ◌≤◌, ◌≡◌, Bool, true, false, ◌==◌, ◌&&◌, List, [], ◌∷◌}
+use Rattle.std.proofs.Common.{length, take, drop, length-drop, length-take-le, eq-eqb, le_refl, refl, sym, ap, ◌∙◌}
+use Rattle.std.proofs.Common.{arith}
 use Rattle.std.specs.List.{list_all}
 use Rattle.std.proofs.lemmas.List.{take_all, take_rest, drop-drop}
-use Rattle.std.specs.Prelude.{Some, slice_get}
-use Rattle.std.proofs.lemmas.Bool.{eqb-true, cases_lt}
+use Rattle.std.proofs.lemmas.Bool.{eqb-true}
 use Rattle.sd_bits.specs.Bits.{field}
 use Rattle.sd_section.proofs.Judging.{field_take}
 use Rattle.sd_psi.specs.declared.items.Kind.{Kind}
@@ -18,7 +19,7 @@ some_size Descriptor bytes = omega arith
 some_size Stream bytes = omega arith
 
 -- an item that is there says its own length
-same_size : (kind : Kind) (bytes : List ℕ) → size_of kind (take (size_of kind bytes) bytes) ≡ size_of kind bytes
+pub same_size : (kind : Kind) (bytes : List ℕ) → size_of kind (take (size_of kind bytes) bytes) ≡ size_of kind bytes
 unfolding size_of
 same_size Program bytes = refl
 same_size Descriptor bytes = ap (λ (n : ℕ). 2 + n) (field_take bytes (2 + field bytes 8 8) 8 8 (omega arith))
@@ -29,7 +30,8 @@ pub left_less : (kind : Kind) (b : ℕ) (bs : List ℕ) → length (drop (size_o
 left_less kind b bs = omega (arith, length-drop (size_of kind (b ∷ bs)) (b ∷ bs), some_size kind (b ∷ bs))
 
 -- any number of turns does that isn't below the length
-same_turns : (kind : Kind) (m n : ℕ) (bytes : List ℕ) → length bytes ≤ m → length bytes ≤ n → cut kind m bytes ≡ cut kind n bytes
+same_turns : (kind : Kind) (m n : ℕ) (bytes : List ℕ) → length bytes ≤ m → length bytes ≤ n → cut kind m bytes
+    ≡ cut kind n bytes
 unfolding cut
 same_turns kind zero zero [] h k = refl
 same_turns kind zero (suc n) [] h k = refl
@@ -39,7 +41,8 @@ same_turns kind zero n (b ∷ bs) h k = absurd (omega arith)
 same_turns kind (suc m) zero (b ∷ bs) h k = absurd (omega arith)
 same_turns kind (suc m) (suc n) (b ∷ bs) h k =
     let less = left_less kind b bs in
-    ap (λ (l : List (List ℕ)). take (size_of kind (b ∷ bs)) (b ∷ bs) ∷ l) (same_turns kind m n (drop (size_of kind (b ∷ bs)) (b ∷ bs)) (omega arith) (omega arith))
+    ap (λ (l : List (List ℕ)). take (size_of kind (b ∷ bs)) (b ∷ bs) ∷ l)
+    (same_turns kind m n (drop (size_of kind (b ∷ bs)) (b ∷ bs)) (omega arith) (omega arith))
 
 -- no bytes have no item
 pub none_cut : (kind : Kind) (bytes : List ℕ) → length bytes ≡ 0 → items_of kind bytes ≡ []
@@ -54,7 +57,8 @@ unfolding items_of cut
 first_cut kind [] h = absurd (omega arith)
 first_cut kind (b ∷ bs) h =
     ap (λ (l : List (List ℕ)). take (size_of kind (b ∷ bs)) (b ∷ bs) ∷ l)
-    (same_turns kind (length bs) (length (drop (size_of kind (b ∷ bs)) (b ∷ bs))) (drop (size_of kind (b ∷ bs)) (b ∷ bs)) (left_less kind b bs) (le_refl _))
+    (same_turns kind (length bs) (length (drop (size_of kind (b ∷ bs)) (b ∷ bs)))
+    (drop (size_of kind (b ∷ bs)) (b ∷ bs)) (left_less kind b bs) (le_refl _))
 
 -- nothing is cut off of no bytes
 pub none_off : (kind : Kind) (bytes : List ℕ) → length bytes ≡ 0 → are_whole kind bytes ≡ true
@@ -62,7 +66,8 @@ unfolding are_whole
 none_off kind bytes h = ap (list_all (is_whole kind)) (none_cut kind bytes h)
 
 first_test : (kind : Kind) (bytes : List ℕ) → 0 < length bytes →
-    are_whole kind bytes ≡ (is_whole kind (take (size_of kind bytes) bytes) && are_whole kind (drop (size_of kind bytes) bytes))
+    are_whole kind bytes
+    ≡ (is_whole kind (take (size_of kind bytes) bytes) && are_whole kind (drop (size_of kind bytes) bytes))
 unfolding are_whole
 first_test kind bytes h = ap (list_all (is_whole kind)) (first_cut kind bytes h)
 
@@ -72,17 +77,20 @@ pub first_whole : (kind : Kind) (bytes : List ℕ) → 0 < length bytes → size
 first_whole kind bytes some there =
     let long : length (take (size_of kind bytes) bytes) ≡ size_of kind (take (size_of kind bytes) bytes) =
     length-take-le (size_of kind bytes) bytes there ∙ sym (same_size kind bytes) in
-    first_test kind bytes some ∙ ap (λ (b : Bool). b && are_whole kind (drop (size_of kind bytes) bytes)) (eq-eqb _ _ long)
+    first_test kind bytes some ∙ ap (λ (b : Bool). b && are_whole kind (drop (size_of kind bytes) bytes))
+    (eq-eqb _ _ long)
 
 not_equal : (a b : ℕ) (test : Bool) → (a == b) ≡ test → a < b → test ≡ false
 not_equal a b false e h = refl
 not_equal a b true e h = absurd (omega (arith, eqb-true a b e))
 
 -- where it is cut off, the items don't fill the bytes
-pub first_off : (kind : Kind) (bytes : List ℕ) → 0 < length bytes → length bytes < size_of kind bytes → are_whole kind bytes ≡ false
+pub first_off : (kind : Kind) (bytes : List ℕ) → 0 < length bytes → length bytes < size_of kind bytes →
+    are_whole kind bytes ≡ false
 first_off kind bytes some off =
     let every : take (size_of kind bytes) bytes ≡ bytes = take_all (size_of kind bytes) bytes (omega arith) in
-    let wrong : is_whole kind (take (size_of kind bytes) bytes) ≡ false = rw every (not_equal (length bytes) (size_of kind bytes) _ refl off) in
+    let wrong : is_whole kind (take (size_of kind bytes) bytes) ≡ false = rw every
+    (not_equal (length bytes) (size_of kind bytes) _ refl off) in
     first_test kind bytes some ∙ ap (λ (b : Bool). b && are_whole kind (drop (size_of kind bytes) bytes)) wrong
 
 -- the items after a place where an item of so many bytes stands
@@ -102,7 +110,8 @@ pub whole_after : (kind : Kind) (bytes : List ℕ) (at size : ℕ) → at < leng
 whole_after kind bytes at size within is there =
     let here : size ≡ size_of kind (drop at bytes) = is ∙ ap (size_of kind) (take_rest bytes at) in
     first_whole kind (drop at bytes) (omega (arith, length-drop at bytes)) (omega (arith, length-drop at bytes))
-    ∙ (ap (λ (n : ℕ). are_whole kind (drop n (drop at bytes))) (sym here) ∙ ap (are_whole kind) (drop-drop size at bytes))
+    ∙ (ap (λ (n : ℕ). are_whole kind (drop n (drop at bytes))) (sym here) ∙
+    ap (are_whole kind) (drop-drop size at bytes))
 
 -- where it is cut off, they don't
 pub off_after : (kind : Kind) (bytes : List ℕ) (at : ℕ) → at < length bytes →
@@ -111,39 +120,38 @@ off_after kind bytes at within off =
     let here = ap (size_of kind) (take_rest bytes at) in
     first_off kind (drop at bytes) (omega (arith, length-drop at bytes)) (omega (arith, length-drop at bytes, here))
 
--- one item more is after the place
-pub one_more : (kind : Kind) (bytes : List ℕ) (at size : ℕ) → at < length bytes →
-    size ≡ size_of kind (take (length bytes - at) (drop at bytes)) →
-    length (items_of kind (drop at bytes)) ≡ 1 + length (items_of kind (drop (at + size) bytes))
-one_more kind bytes at size within is = omega (arith, ap (λ (l : List (List ℕ)). length l) (items_after kind bytes at size within is))
-
--- after the end there is nothing
-pub none_after : (kind : Kind) (bytes : List ℕ) (at : ℕ) → length bytes ≤ at →
-    (length (items_of kind (drop at bytes)) ≡ 0) × (are_whole kind (drop at bytes) ≡ true)
-none_after kind bytes at past =
-    let none : length (drop at bytes) ≡ 0 = omega (arith, length-drop at bytes) in
-    (ap (λ (l : List (List ℕ)). length l) (none_cut kind (drop at bytes) none), none_off kind (drop at bytes) none)
-
--- an item stands where items do
-pub some_bytes : (kind : Kind) (bytes : List ℕ) (at : ℕ) → 0 < length (items_of kind (drop at bytes)) → at < length bytes
-some_bytes kind bytes at some = elim (cases_lt at (length bytes)) [
-  | inl within ↦ within
-  | inr past ↦ absurd (omega (arith, (none_after kind bytes at past).0))
-]
-
--- a list after its first elements, by the element there
-pub rest_more : (xs : List (List ℕ)) (i : ℕ) (y : List ℕ) (ys : List (List ℕ)) → drop i xs ≡ y ∷ ys → drop (i + 1) xs ≡ ys
-rest_more xs i y ys h = sym (drop-drop 1 i xs) ∙ ap (drop 1) h
-
-pub get_here : (xs : List (List ℕ)) (i : ℕ) (y : List ℕ) (ys : List (List ℕ)) → drop i xs ≡ y ∷ ys → slice_get xs i ≡ Some y
-get_here [] zero y ys h = absurd (cc)
-get_here [] (suc i) y ys h = absurd (cc)
-get_here (x ∷ xs) zero y ys h = (cc)
-get_here (x ∷ xs) (suc i) y ys h = get_here xs i y ys h
+-- nothing is cut off after the end
+pub none_after : (kind : Kind) (bytes : List ℕ) (at : ℕ) → length bytes ≤ at → are_whole kind (drop at bytes) ≡ true
+none_after kind bytes at past = none_off kind (drop at bytes) (omega (arith, length-drop at bytes))
 
 -- an item at a place is as long as it says
-pub size_itself : (kind : Kind) (bytes : List ℕ) (at size : ℕ) → size ≡ size_of kind (take (length bytes - at) (drop at bytes)) →
+pub size_itself : (kind : Kind) (bytes : List ℕ) (at size : ℕ) →
+    size ≡ size_of kind (take (length bytes - at) (drop at bytes)) →
     size_of kind (take size (drop at bytes)) ≡ size
 size_itself kind bytes at size is =
     let here : size ≡ size_of kind (drop at bytes) = is ∙ ap (size_of kind) (take_rest bytes at) in
     ap (λ (n : ℕ). size_of kind (take n (drop at bytes))) here ∙ (same_size kind (drop at bytes) ∙ sym here)
+
+-- the first item of bytes that items fill, and the bytes after it
+pub cut_first : (kind : Kind) (bytes : List ℕ) (size : ℕ) → size ≡ size_of kind bytes → 0 < length bytes →
+    items_of kind bytes ≡ take size bytes ∷ items_of kind (drop size bytes)
+cut_first kind bytes size is some =
+    first_cut kind bytes some ∙ ap (λ (n : ℕ). take n bytes ∷ items_of kind (drop n bytes)) (sym is)
+
+pub cut_long : (kind : Kind) (bytes : List ℕ) (size : ℕ) → size ≡ size_of kind bytes → size ≤ length bytes →
+    length (take size bytes) ≡ size_of kind (take size bytes)
+cut_long kind bytes size is there =
+    length-take-le size bytes there
+    ∙ (is ∙ (sym (same_size kind bytes) ∙ ap (λ (n : ℕ). size_of kind (take n bytes)) (sym is)))
+
+pub cut_rest : (kind : Kind) (bytes : List ℕ) (size : ℕ) → size ≡ size_of kind bytes → 0 < length bytes →
+    size ≤ length bytes → are_whole kind bytes ≡ true → are_whole kind (drop size bytes) ≡ true
+cut_rest kind bytes size is some there whole =
+    ap (λ (n : ℕ). are_whole kind (drop n bytes)) is
+    ∙ (sym (first_whole kind bytes some (omega (arith, is, there))) ∙ whole)
+
+-- bytes have an item
+pub some_items : (kind : Kind) (bytes : List ℕ) → 0 < length bytes → items_of kind bytes ≡ [] → ⊥
+some_items kind bytes some none =
+    let cut = first_cut kind bytes some in
+    absurd (cc)

@@ -1,5 +1,7 @@
 -- Items as a grammar: they spell the bytes into which they are cut, and in one way.
-use Rattle.std.proofs.Common.{ℕ, zero, suc, ◌+◌, ◌*◌, ◌%◌, ◌≤◌, ◌≡◌, true, false, List, [], ◌∷◌, ◌++◌, length, take, drop, length-drop, length-append, take-append-drop, le_refl, inl, inr, refl, sym, ap, ◌∙◌, arith}
+use Rattle.std.proofs.Common.{ℕ, zero, suc, ◌+◌, ◌*◌, ◌%◌, ◌≤◌, ◌≡◌, true, false, List, [], ◌∷◌, ◌++◌, length, take}
+use Rattle.std.proofs.Common.{drop, length-drop, length-append, take-append-drop, le_refl, inl, inr, refl, sym, ap, ◌∙◌}
+use Rattle.std.proofs.Common.{arith}
 use Rattle.std.specs.List.{list_all}
 use Rattle.std.proofs.lemmas.List.{take_at, drop_at}
 use Rattle.std.proofs.lemmas.Bool.{and_parts, eqb-true, cases_lt}
@@ -19,41 +21,49 @@ cut_spells kind zero (b ∷ bs) h = absurd (omega arith)
 cut_spells kind (suc n) (b ∷ bs) h =
     let size : ℕ = size_of kind (b ∷ bs) in
     let less = left_less kind b bs in
-    ap (λ (l : List ℕ). take size (b ∷ bs) ++ l) (cut_spells kind n (drop size (b ∷ bs)) (omega arith)) ∙ take-append-drop size (b ∷ bs)
+    ap (λ (l : List ℕ). take size (b ∷ bs) ++ l) (cut_spells kind n (drop size (b ∷ bs)) (omega arith)) ∙
+    take-append-drop size (b ∷ bs)
 
 pub items_spell : (kind : Kind) (bytes : List ℕ) → joined (items_of kind bytes) ≡ bytes
 unfolding items_of
 items_spell kind bytes = cut_spells kind (length bytes) bytes (le_refl (length bytes))
 
 -- what stands after an item doesn't change how long it says that it is
-pub front_field : (item rest : List ℕ) (at width : ℕ) → at + width ≤ 8 * length item → field (item ++ rest) at width ≡ field item at width
-front_field item rest at width h =
-    sym (field_take (item ++ rest) (length item) at width h) ∙ ap (λ (l : List ℕ). field l at width) (take_at item rest (length item) refl)
+pub head_field : (item rest : List ℕ) (at width : ℕ) → at + width ≤ 8 * length item → field (item ++ rest) at width
+    ≡ field item at width
+head_field item rest at width h =
+    sym (field_take (item ++ rest) (length item) at width h) ∙ ap (λ (l : List ℕ). field l at width)
+    (take_at item rest (length item) refl)
 
-size_in_front : (kind : Kind) (item rest : List ℕ) → length item ≡ size_of kind item → size_of kind (item ++ rest) ≡ length item
+size_before : (kind : Kind) (item rest : List ℕ) → length item ≡ size_of kind item → size_of kind (item ++ rest)
+    ≡ length item
 unfolding size_of
-size_in_front Program item rest h = sym h
-size_in_front Descriptor item rest h = ap (λ (n : ℕ). 2 + n) (front_field item rest 8 8 (omega arith)) ∙ sym h
-size_in_front Stream item rest h = ap (λ (n : ℕ). 5 + n) (front_field item rest 28 12 (omega arith)) ∙ sym h
+size_before Program item rest h = sym h
+size_before Descriptor item rest h = ap (λ (n : ℕ). 2 + n) (head_field item rest 8 8 (omega arith)) ∙ sym h
+size_before Stream item rest h = ap (λ (n : ℕ). 5 + n) (head_field item rest 28 12 (omega arith)) ∙ sym h
 
 -- so whole items are those of their bytes
-pub spelled_items : (kind : Kind) (items : List (List ℕ)) → list_all (is_whole kind) items ≡ true → items_of kind (joined items) ≡ items
+pub spelled_items : (kind : Kind) (items : List (List ℕ)) → list_all (is_whole kind) items ≡ true →
+    items_of kind (joined items) ≡ items
 spelled_items kind [] h = none_cut kind [] refl
 spelled_items kind (x ∷ xs) h =
     let tests = and_parts (is_whole kind x) (list_all (is_whole kind) xs) h in
     let long : length x ≡ size_of kind x = eqb-true (length x) (size_of kind x) tests.0 in
-    let size = size_in_front kind x (joined xs) long in
+    let size = size_before kind x (joined xs) long in
     first_cut kind (x ++ joined xs) (omega (arith, long, some_size kind x, length-append x (joined xs)))
     ∙ (ap (λ (n : ℕ). take n (x ++ joined xs) ∷ items_of kind (drop n (x ++ joined xs))) size
     ∙ (ap (λ (l : List ℕ). l ∷ items_of kind (drop (length x) (x ++ joined xs))) (take_at x (joined xs) (length x) refl)
-    ∙ (ap (λ (l : List ℕ). x ∷ items_of kind l) (drop_at x (joined xs) (length x) refl) ∙ ap (λ (l : List (List ℕ)). x ∷ l) (spelled_items kind xs tests.1))))
+    ∙ (ap (λ (l : List ℕ). x ∷ items_of kind l) (drop_at x (joined xs) (length x) refl) ∙
+    ap (λ (l : List (List ℕ)). x ∷ l) (spelled_items kind xs tests.1))))
 
-pub spelled_whole : (kind : Kind) (items : List (List ℕ)) → list_all (is_whole kind) items ≡ true → are_whole kind (joined items) ≡ true
+pub spelled_whole : (kind : Kind) (items : List (List ℕ)) → list_all (is_whole kind) items ≡ true →
+    are_whole kind (joined items) ≡ true
 unfolding are_whole
 spelled_whole kind items h = ap (list_all (is_whole kind)) (spelled_items kind items h) ∙ h
 
 -- programs have four bytes each
-fours : (n : ℕ) (bytes : List ℕ) → length bytes ≤ n → (are_whole Program bytes ≡ true → length bytes % 4 ≡ 0) × (length bytes % 4 ≡ 0 → are_whole Program bytes ≡ true)
+fours : (n : ℕ) (bytes : List ℕ) → length bytes ≤ n → (are_whole Program bytes ≡ true → length bytes % 4 ≡ 0)
+    × (length bytes % 4 ≡ 0 → are_whole Program bytes ≡ true)
 unfolding size_of
 fours n [] h = (λ is. refl, λ is. none_off Program [] refl)
 fours zero (b ∷ bs) h = absurd (omega arith)
@@ -64,7 +74,8 @@ fours (suc n) (b ∷ bs) h = elim (cases_lt (length (b ∷ bs)) 4) [
   | inr enough ↦
       let left = length-drop 4 (b ∷ bs) in
       let after = fours n (drop 4 (b ∷ bs)) (omega arith) in
-      let whole : are_whole Program (b ∷ bs) ≡ are_whole Program (drop 4 (b ∷ bs)) = first_whole Program (b ∷ bs) (omega arith) enough in
+      let whole : are_whole Program (b ∷ bs) ≡ are_whole Program (drop 4 (b ∷ bs)) = first_whole Program (b ∷ bs)
+      (omega arith) enough in
       (λ is. omega (arith, after.0 (sym whole ∙ is)), λ is. whole ∙ after.1 (omega arith))
 ]
 

@@ -1,5 +1,7 @@
 -- The first twelve bytes of a PMT, in which its lengths are changed, and the CRC after it.
-use Rattle.std.proofs.Common.{ℕ, zero, suc, ◌+◌, ◌-◌, ◌*◌, ◌/◌, ◌%◌, ◌<◌, ◌≤◌, ◌≡◌, List, [], ◌∷◌, ◌++◌, length, take, drop, get_or, get_or-take, get_or-drop, drop-cons, length-take, length-drop, take-append-drop, inl, inr, refl, sym, ap, subst, ◌∙◌, arith}
+use Rattle.std.proofs.Common.{ℕ, zero, suc, ◌+◌, ◌-◌, ◌*◌, ◌/◌, ◌%◌, ◌<◌, ◌≤◌, ◌≡◌, List, [], ◌∷◌, ◌++◌, length, take}
+use Rattle.std.proofs.Common.{drop, get_or, get_or-take, get_or-drop, drop-cons, length-take, length-drop}
+use Rattle.std.proofs.Common.{take-append-drop, inl, inr, refl, sym, ap, subst, ◌∙◌, arith}
 use Rattle.std.specs.Prelude.{slice_set}
 use Rattle.std.specs.Int.{w32, to_be_bytes}
 use Rattle.std.proofs.lemmas.List.{drop_all, get_or_past}
@@ -18,8 +20,8 @@ AreBytes bytes = (i : ℕ) → get_or bytes i 0 < 256
 pub bytes_after : (bytes : List ℕ) (n : ℕ) → AreBytes bytes → AreBytes (drop n bytes)
 bytes_after bytes n h = λ i. rw (get_or-drop n bytes i 0) (h (n + i))
 
-pub bytes_in_front : (bytes : List ℕ) (n : ℕ) → AreBytes bytes → AreBytes (take n bytes)
-bytes_in_front bytes n h = λ i. elim (cases_lt i n) [
+pub bytes_before : (bytes : List ℕ) (n : ℕ) → AreBytes bytes → AreBytes (take n bytes)
+bytes_before bytes n h = λ i. elim (cases_lt i n) [
   | inl within ↦ rw (get_or-take n bytes i 0 within) (h i)
   | inr past ↦
       let none : get_or (take n bytes) i 0 ≡ 0 = get_or_past (take n bytes) i 0 (omega (arith, length-take n bytes)) in
@@ -27,7 +29,8 @@ bytes_in_front bytes n h = λ i. elim (cases_lt i n) [
 ]
 
 -- twelve bits from the middle of a byte on, by their bytes
-pub twelve_read : (bytes : List ℕ) (p : ℕ) → AreBytes bytes → field bytes (8 * p + 4) 12 ≡ get_or bytes p 0 % 16 * 256 + get_or bytes (p + 1) 0
+pub twelve_read : (bytes : List ℕ) (p : ℕ) → AreBytes bytes → field bytes (8 * p + 4) 12 ≡ get_or bytes p 0 % 16 * 256
+    + get_or bytes (p + 1) 0
 twelve_read bytes p h =
     let next : 8 * (p + 1) ≡ 8 * p + 8 = omega arith in
     let bp = byte_field bytes p (h p) in
@@ -49,12 +52,18 @@ twelve_listed bs long =
     let next : (i : ℕ) (rest : List ℕ) → i < 12 → drop (suc i) bs ≡ rest → drop i bs ≡ get_or bs i 0 ∷ rest =
     λ i rest h e. drop-cons bs i 0 (omega arith) ∙ ap (λ (l : List ℕ). get_or bs i 0 ∷ l) e in
     let end : drop 12 bs ≡ [] = drop_all 12 bs (omega arith) in
-    next 0 _ (omega arith) (next 1 _ (omega arith) (next 2 _ (omega arith) (next 3 _ (omega arith) (next 4 _ (omega arith) (next 5 _ (omega arith)
-    (next 6 _ (omega arith) (next 7 _ (omega arith) (next 8 _ (omega arith) (next 9 _ (omega arith) (next 10 _ (omega arith) (next 11 _ (omega arith) end)))))))))))
+    next 0 _ (omega arith)
+    (next 1 _ (omega arith)
+    (next 2 _ (omega arith) (next 3 _ (omega arith) (next 4 _ (omega arith) (next 5 _ (omega arith)
+    (next 6 _ (omega arith)
+    (next 7 _ (omega arith)
+    (next 8 _ (omega arith) (next 9 _ (omega arith) (next 10 _ (omega arith) (next 11 _ (omega arith) end)))))))))))
 
 -- a head with its lengths put back is itself
-back_listed : (x0 x1 x2 x3 x4 x5 x6 x7 x8 x9 x10 x11 a b : ℕ) → x1 < 256 → x2 < 256 → x10 < 256 → x11 < 256 → a < 4096 → b < 4096 →
-    with_lengths (x1 % 16 * 256 + x2) (x10 % 16 * 256 + x11) (with_lengths a b (x0 ∷ x1 ∷ x2 ∷ x3 ∷ x4 ∷ x5 ∷ x6 ∷ x7 ∷ x8 ∷ x9 ∷ x10 ∷ x11 ∷ []))
+back_listed : (x0 x1 x2 x3 x4 x5 x6 x7 x8 x9 x10 x11 a b : ℕ) → x1 < 256 → x2 < 256 → x10 < 256 → x11 < 256 → a < 4096 →
+    b < 4096 →
+    with_lengths (x1 % 16 * 256 + x2) (x10 % 16 * 256 + x11)
+    (with_lengths a b (x0 ∷ x1 ∷ x2 ∷ x3 ∷ x4 ∷ x5 ∷ x6 ∷ x7 ∷ x8 ∷ x9 ∷ x10 ∷ x11 ∷ []))
     ≡ x0 ∷ x1 ∷ x2 ∷ x3 ∷ x4 ∷ x5 ∷ x6 ∷ x7 ∷ x8 ∷ x9 ∷ x10 ∷ x11 ∷ []
 unfolding with_lengths
 back_listed x0 x1 x2 x3 x4 x5 x6 x7 x8 x9 x10 x11 a b h1 h2 h10 h11 ha hb =
@@ -72,7 +81,8 @@ lengths_back head a b long h ha hb =
     let listed = twelve_listed head long in
     ap (λ (n : ℕ). with_lengths n (field head 84 12) (with_lengths a b head)) first
     ∙ (ap (λ (n : ℕ). with_lengths (get_or head 1 0 % 16 * 256 + get_or head 2 0) n (with_lengths a b head)) second
-    ∙ (ap (λ (l : List ℕ). with_lengths (get_or head 1 0 % 16 * 256 + get_or head 2 0) (get_or head 10 0 % 16 * 256 + get_or head 11 0) (with_lengths a b l)) listed
+    ∙ (ap (λ (l : List ℕ). with_lengths (get_or head 1 0 % 16 * 256 + get_or head 2 0)
+    (get_or head 10 0 % 16 * 256 + get_or head 11 0) (with_lengths a b l)) listed
     ∙ (back_listed _ _ _ _ _ _ _ _ _ _ _ _ a b (h 1) (h 2) (h 10) (h 11) ha hb ∙ sym listed)))
 
 set_first : (xs : List ℕ) (byte k : ℕ) → AreBytes xs → byte < 256 → get_or (byte ∷ xs) k 0 < 256
@@ -97,7 +107,8 @@ pub record IsHead (a b : ℕ) (old new : List ℕ) : Type 0 where
 bytes_set : (bytes : List ℕ) (i byte : ℕ) → AreBytes bytes → byte < 256 → AreBytes (slice_set bytes i byte)
 bytes_set [] i byte h b = h
 bytes_set (x ∷ xs) zero byte h b = λ k. set_first xs byte k (λ j. h (suc j)) b
-bytes_set (x ∷ xs) (suc i) byte h b = λ k. set_after x (slice_set xs i byte) k (h zero) (bytes_set xs i byte (λ j. h (suc j)) b)
+bytes_set (x ∷ xs) (suc i) byte h b = λ k. set_after x (slice_set xs i byte) k (h zero)
+    (bytes_set xs i byte (λ j. h (suc j)) b)
 
 bytes_twelve : (bytes : List ℕ) (p number : ℕ) → AreBytes bytes → number < 4096 → AreBytes (with_twelve p number bytes)
 bytes_twelve bytes p number h few =
@@ -111,10 +122,18 @@ bytes_lengths head a b h ha hb = bytes_twelve (with_twelve 1 a head) 10 b (bytes
 
 -- the top bit of a byte
 top_bit : (bytes : List ℕ) (p : ℕ) → AreBytes bytes → field bytes (8 * p) 1 ≡ get_or bytes p 0 / 128
-top_bit bytes p h = omega (arith, byte_field bytes p (h p), field_split bytes (8 * p) 1 7, field_below bytes (8 * p + 1) 7)
+top_bit bytes p h = omega (
+  arith,
+  byte_field bytes p (h p),
+  field_split bytes (8 * p) 1 7,
+  field_below bytes (8 * p + 1)
+      7,
+)
 
-head_listed : (x0 x1 x2 x3 x4 x5 x6 x7 x8 x9 x10 x11 a b : ℕ) → AreBytes (x0 ∷ x1 ∷ x2 ∷ x3 ∷ x4 ∷ x5 ∷ x6 ∷ x7 ∷ x8 ∷ x9 ∷ x10 ∷ x11 ∷ []) → a < 4096 → b < 4096 →
-    IsHead a b (x0 ∷ x1 ∷ x2 ∷ x3 ∷ x4 ∷ x5 ∷ x6 ∷ x7 ∷ x8 ∷ x9 ∷ x10 ∷ x11 ∷ []) (with_lengths a b (x0 ∷ x1 ∷ x2 ∷ x3 ∷ x4 ∷ x5 ∷ x6 ∷ x7 ∷ x8 ∷ x9 ∷ x10 ∷ x11 ∷ []))
+head_listed : (x0 x1 x2 x3 x4 x5 x6 x7 x8 x9 x10 x11 a b : ℕ) →
+    AreBytes (x0 ∷ x1 ∷ x2 ∷ x3 ∷ x4 ∷ x5 ∷ x6 ∷ x7 ∷ x8 ∷ x9 ∷ x10 ∷ x11 ∷ []) → a < 4096 → b < 4096 →
+    IsHead a b (x0 ∷ x1 ∷ x2 ∷ x3 ∷ x4 ∷ x5 ∷ x6 ∷ x7 ∷ x8 ∷ x9 ∷ x10 ∷ x11 ∷ [])
+    (with_lengths a b (x0 ∷ x1 ∷ x2 ∷ x3 ∷ x4 ∷ x5 ∷ x6 ∷ x7 ∷ x8 ∷ x9 ∷ x10 ∷ x11 ∷ []))
 unfolding with_lengths
 head_listed x0 x1 x2 x3 x4 x5 x6 x7 x8 x9 x10 x11 a b h ha hb =
     let old : List ℕ = x0 ∷ x1 ∷ x2 ∷ x3 ∷ x4 ∷ x5 ∷ x6 ∷ x7 ∷ x8 ∷ x9 ∷ x10 ∷ x11 ∷ [] in
@@ -135,7 +154,8 @@ head_listed x0 x1 x2 x3 x4 x5 x6 x7 x8 x9 x10 x11 a b h ha hb =
       last_number = byte_field new 7 (bytes 7) ∙ sym (byte_field old 7 (h 7));
     }
 
-pub head_is : (head : List ℕ) (a b : ℕ) → length head ≡ 12 → AreBytes head → a < 4096 → b < 4096 → IsHead a b head (with_lengths a b head)
+pub head_is : (head : List ℕ) (a b : ℕ) → length head ≡ 12 → AreBytes head → a < 4096 → b < 4096 →
+    IsHead a b head (with_lengths a b head)
 head_is head a b long h ha hb =
     let listed = twelve_listed head long in
     subst (λ (l : List ℕ). IsHead a b l (with_lengths a b l)) (sym listed)
@@ -146,9 +166,11 @@ four_listed : (bs : List ℕ) → length bs ≡ 4 → bs ≡ get_or bs 0 0 ∷ g
 four_listed bs long =
     let next : (i : ℕ) (rest : List ℕ) → i < 4 → drop (suc i) bs ≡ rest → drop i bs ≡ get_or bs i 0 ∷ rest =
     λ i rest h e. drop-cons bs i 0 (omega arith) ∙ ap (λ (l : List ℕ). get_or bs i 0 ∷ l) e in
-    next 0 _ (omega arith) (next 1 _ (omega arith) (next 2 _ (omega arith) (next 3 _ (omega arith) (drop_all 4 bs (omega arith)))))
+    next 0 _ (omega arith)
+    (next 1 _ (omega arith) (next 2 _ (omega arith) (next 3 _ (omega arith) (drop_all 4 bs (omega arith)))))
 
-four_numbers : (x0 x1 x2 x3 n : ℕ) → x0 < 256 → x1 < 256 → x2 < 256 → x3 < 256 → n ≡ ((x0 * 256 + x1) * 256 + x2) * 256 + x3 →
+four_numbers : (x0 x1 x2 x3 n : ℕ) → x0 < 256 → x1 < 256 → x2 < 256 → x3 < 256 → n ≡ ((x0 * 256 + x1) * 256 + x2) * 256
+    + x3 →
     to_be_bytes w32 n ≡ x0 ∷ x1 ∷ x2 ∷ x3 ∷ []
 four_numbers x0 x1 x2 x3 n h0 h1 h2 h3 e =
     let e0 : get_or (to_be_bytes w32 n) 0 0 ≡ x0 = omega arith in
@@ -163,7 +185,8 @@ four_again bytes long h =
     let b1 = byte_field bytes 1 (h 1) in
     let b2 = byte_field bytes 2 (h 2) in
     let b3 = byte_field bytes 3 (h 3) in
-    let number : field bytes 0 32 ≡ ((get_or bytes 0 0 * 256 + get_or bytes 1 0) * 256 + get_or bytes 2 0) * 256 + get_or bytes 3 0 =
+    let number : field bytes 0 32 ≡ ((get_or bytes 0 0 * 256 + get_or bytes 1 0) * 256 + get_or bytes 2 0) * 256
+    + get_or bytes 3 0 =
     omega (arith, field_split bytes 0 24 8, field_split bytes 0 16 8, field_split bytes 0 8 8) in
     four_numbers _ _ _ _ (field bytes 0 32) (h 0) (h 1) (h 2) (h 3) number ∙ sym (four_listed bytes long)
 
@@ -172,7 +195,9 @@ pub sealed_again : (section : List ℕ) → 4 ≤ length section → AreBytes se
     sealed (take (length section - 4) section) ≡ section
 unfolding crc_in crc_due
 sealed_again section long h right =
-    let four : length (drop (length section - 4) section) ≡ 4 = omega (arith, length-drop (length section - 4) section) in
+    let four : length (drop (length section - 4) section)
+    ≡ 4 = omega (arith, length-drop (length section - 4) section) in
     ap (λ (l : List ℕ). take (length section - 4) section ++ l)
-    (ap (to_be_bytes w32) (sym right) ∙ four_again (drop (length section - 4) section) four (bytes_after section (length section - 4) h))
+    (ap (to_be_bytes w32) (sym right) ∙ four_again (drop (length section - 4) section) four
+    (bytes_after section (length section - 4) h))
     ∙ take-append-drop (length section - 4) section

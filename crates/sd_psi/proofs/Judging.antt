@@ -1,5 +1,6 @@
 -- What is wrong first.
-use Rattle.std.proofs.Common.{ℕ, zero, suc, ◌+◌, ◌-◌, ◌*◌, ◌/◌, ◌≤◌, ◌≡◌, Bool, true, false, ◌==◌, ◌&&◌, List, length, drop, get_or, length-drop, length-take, refl, sym, ap, ◌∙◌, arith}
+use Rattle.std.proofs.Common.{ℕ, zero, suc, ◌+◌, ◌-◌, ◌*◌, ◌/◌, ◌≤◌, ◌≡◌, Bool, true, false, ◌==◌, ◌&&◌, List, length}
+use Rattle.std.proofs.Common.{drop, get_or, length-drop, length-take, refl, sym, ap, ◌∙◌, arith}
 use Rattle.std.specs.Prelude.{Option, Some, None, nat_le}
 use Rattle.std.proofs.lemmas.List.{get_or_past}
 use Rattle.std.proofs.lemmas.Bool.{and_parts, eqb-true, leb-true, le-leb}
@@ -7,14 +8,16 @@ use Rattle.sd_bits.specs.Bits.{bit, field}
 use Rattle.sd_packet.specs.Header.{payload_start_of}
 use Rattle.sd_packet.proofs.Packets.{start_within}
 use Rattle.sd_section.specs.declared.fault.SectionFault.TheVariants as SectionFault
-use Rattle.sd_section.specs.Header.{table_id_of, syntax_of, section_length_of, number_of, last_number_of, whole_of, body_of}
+use Rattle.sd_section.specs.Header.{table_id_of, syntax_of, section_length_of, number_of, last_number_of, whole_of}
+use Rattle.sd_section.specs.Header.{body_of}
 use Rattle.sd_section.specs.Judged.{section_fault, unless}
 use Rattle.sd_section.specs.Judged.{crc_fault as section_crc_fault}
 use Rattle.sd_psi.specs.declared.fault.FormFault.{FormFault}
 use Rattle.sd_psi.specs.declared.fault.FormFault.TheVariants as Fault
 use Rattle.sd_psi.specs.declared.form.Table.{Table}
 use Rattle.sd_psi.specs.declared.form.Table.TheVariants.{Pat, Cat, Pmt}
-use Rattle.sd_psi.specs.Forms.{fault_unless, or_next, id_of, least_of, section_in, has_table, has_body, has_length, crc_fault, front_fault, has_form, form_fault}
+use Rattle.sd_psi.specs.Forms.{fault_unless, or_next, id_of, least_of, section_in, has_table, has_body, has_length}
+use Rattle.sd_psi.specs.Forms.{crc_fault, outer_fault, has_form, form_fault}
 
 -- a payload has at most 184 bytes
 pub payload_short : (packet : List ℕ) (n : ℕ) → n ≡ 188 - payload_start_of packet → n ≤ 184
@@ -45,14 +48,22 @@ least_low Pat = omega arith
 least_low Cat = omega arith
 least_low Pmt = omega arith
 
-fitting : (table : Table) (bytes : List ℕ) → has_table table bytes ≡ true → has_length table bytes ≡ true → IsFitting table bytes
+fitting : (table : Table) (bytes : List ℕ) → has_table table bytes ≡ true → has_length table bytes ≡ true →
+    IsFitting table bytes
 fitting table bytes t l =
-    let ids = and_parts (nat_le 2 (length bytes)) ((table_id_of bytes == id_of table) && ((syntax_of bytes == 1) && ((number_of bytes == 0) && (last_number_of bytes == 0)))) t in
-    let forms = and_parts (table_id_of bytes == id_of table) ((syntax_of bytes == 1) && ((number_of bytes == 0) && (last_number_of bytes == 0))) ids.1 in
+    let ids = and_parts (nat_le 2 (length bytes))
+    ((table_id_of bytes == id_of table) &&
+    ((syntax_of bytes == 1) && ((number_of bytes == 0) && (last_number_of bytes == 0)))) t in
+    let forms = and_parts (table_id_of bytes == id_of table)
+    ((syntax_of bytes == 1) && ((number_of bytes == 0) && (last_number_of bytes == 0))) ids.1 in
     let syntax = and_parts (syntax_of bytes == 1) ((number_of bytes == 0) && (last_number_of bytes == 0)) forms.1 in
-    let threes = and_parts (nat_le 3 (length bytes)) (nat_le (3 + section_length_of bytes) (length bytes) && (nat_le (least_of table) (section_length_of bytes) && has_body table (whole_of bytes))) l in
-    let wholes = and_parts (nat_le (3 + section_length_of bytes) (length bytes)) (nat_le (least_of table) (section_length_of bytes) && has_body table (whole_of bytes)) threes.1 in
-    let lows = and_parts (nat_le (least_of table) (section_length_of bytes)) (has_body table (whole_of bytes)) wholes.1 in
+    let threes = and_parts (nat_le 3 (length bytes))
+    (nat_le (3 + section_length_of bytes) (length bytes) &&
+    (nat_le (least_of table) (section_length_of bytes) && has_body table (whole_of bytes))) l in
+    let wholes = and_parts (nat_le (3 + section_length_of bytes) (length bytes))
+    (nat_le (least_of table) (section_length_of bytes) && has_body table (whole_of bytes)) threes.1 in
+    let lows = and_parts (nat_le (least_of table) (section_length_of bytes)) (has_body table (whole_of bytes))
+    wholes.1 in
     let least = least_low table in
     let low : least_of table ≤ section_length_of bytes = leb-true (least_of table) (section_length_of bytes) lows.0 in
     record {
@@ -63,20 +74,24 @@ fitting table bytes t l =
     }
 
 -- then the CRC alone may be wrong
-judged : (table : Table) (bytes : List ℕ) → length bytes ≤ 183 → has_table table bytes ≡ true → has_length table bytes ≡ true →
+judged : (table : Table) (bytes : List ℕ) → length bytes ≤ 183 → has_table table bytes ≡ true → has_length table bytes
+    ≡ true →
     section_fault bytes ≡ section_crc_fault (whole_of bytes)
 unfolding section_fault
 judged table bytes short t l =
     let is = fitting table bytes t l in
     rw (le-leb 3 (length bytes) is.three) (rw is.syntax (rw (le-leb 9 (section_length_of bytes) is.low) (
-    rw (le-leb (section_length_of bytes) 4093 (omega (arith, is.there))) (rw (le-leb (3 + section_length_of bytes) (length bytes) is.there) refl))))
+    rw (le-leb (section_length_of bytes) 4093 (omega (arith, is.there)))
+    (rw (le-leb (3 + section_length_of bytes) (length bytes) is.there) refl))))
 
 -- which is then the same fault
-right_test : (test : Bool) (a b : ℕ) → unless test (SectionFault.Crc a b) None ≡ None → fault_unless test (Fault.Crc a b) ≡ None
+right_test : (test : Bool) (a b : ℕ) → unless test (SectionFault.Crc a b) None ≡ None →
+    fault_unless test (Fault.Crc a b) ≡ None
 right_test true a b h = refl
 right_test false a b h = absurd (cc)
 
-wrong_test : (test : Bool) (a b found due : ℕ) → unless test (SectionFault.Crc a b) None ≡ Some (SectionFault.Crc found due) →
+wrong_test : (test : Bool) (a b found due : ℕ) → unless test (SectionFault.Crc a b) None
+    ≡ Some (SectionFault.Crc found due) →
     fault_unless test (Fault.Crc a b) ≡ Some (Fault.Crc found due)
 wrong_test true a b found due h = absurd (cc)
 wrong_test false a b found due h =
@@ -84,45 +99,56 @@ wrong_test false a b found due h =
     let second : b ≡ due = (cc) in
     rw (first, second) refl
 
-short_test : (test : Bool) (a b : ℕ) (next : Option FormFault) → unless test (SectionFault.Crc a b) None ≡ Some SectionFault.Short → fault_unless test (Fault.Crc a b) ≡ next
+short_test : (test : Bool) (a b : ℕ) (next : Option FormFault) → unless test (SectionFault.Crc a b) None
+    ≡ Some SectionFault.Short → fault_unless test (Fault.Crc a b) ≡ next
 short_test true a b next h = absurd (cc)
 short_test false a b next h = absurd (cc)
 
-length_test : (test : Bool) (a b : ℕ) (next : Option FormFault) → unless test (SectionFault.Crc a b) None ≡ Some SectionFault.Length → fault_unless test (Fault.Crc a b) ≡ next
+length_test : (test : Bool) (a b : ℕ) (next : Option FormFault) → unless test (SectionFault.Crc a b) None
+    ≡ Some SectionFault.Length → fault_unless test (Fault.Crc a b) ≡ next
 length_test true a b next h = absurd (cc)
 length_test false a b next h = absurd (cc)
 
-pub crc_right : (table : Table) (bytes : List ℕ) → length bytes ≤ 183 → has_table table bytes ≡ true → has_length table bytes ≡ true →
+pub crc_right : (table : Table) (bytes : List ℕ) → length bytes ≤ 183 → has_table table bytes ≡ true →
+    has_length table bytes ≡ true →
     section_fault bytes ≡ None → crc_fault (whole_of bytes) ≡ None
 crc_right table bytes short t l h = right_test _ _ _ (sym (judged table bytes short t l) ∙ h)
 
-pub crc_wrong : (table : Table) (bytes : List ℕ) (found due : ℕ) → length bytes ≤ 183 → has_table table bytes ≡ true → has_length table bytes ≡ true →
+pub crc_wrong : (table : Table) (bytes : List ℕ) (found due : ℕ) → length bytes ≤ 183 → has_table table bytes ≡ true →
+    has_length table bytes ≡ true →
     section_fault bytes ≡ Some (SectionFault.Crc found due) → crc_fault (whole_of bytes) ≡ Some (Fault.Crc found due)
 crc_wrong table bytes found due short t l h = wrong_test _ _ _ found due (sym (judged table bytes short t l) ∙ h)
 
-pub never_short : (table : Table) (bytes : List ℕ) → length bytes ≤ 183 → has_table table bytes ≡ true → has_length table bytes ≡ true →
+pub never_short : (table : Table) (bytes : List ℕ) → length bytes ≤ 183 → has_table table bytes ≡ true →
+    has_length table bytes ≡ true →
     section_fault bytes ≡ Some SectionFault.Short → crc_fault (whole_of bytes) ≡ Some Fault.Length
 never_short table bytes short t l h = short_test _ _ _ _ (sym (judged table bytes short t l) ∙ h)
 
-pub never_length : (table : Table) (bytes : List ℕ) → length bytes ≤ 183 → has_table table bytes ≡ true → has_length table bytes ≡ true →
+pub never_length : (table : Table) (bytes : List ℕ) → length bytes ≤ 183 → has_table table bytes ≡ true →
+    has_length table bytes ≡ true →
     section_fault bytes ≡ Some SectionFault.Length → crc_fault (whole_of bytes) ≡ Some Fault.Length
 never_length table bytes short t l h = length_test _ _ _ _ (sym (judged table bytes short t l) ∙ h)
 
--- what is wrong in front of the loops is wrong first, and else the loops may be wrong
-pub front_first : (table : Table) (packet : List ℕ) (fault : FormFault) → front_fault table packet ≡ Some fault → form_fault table packet ≡ Some fault
+-- what is wrong before the loops is wrong first, and else the loops may be wrong
+pub outer_first : (table : Table) (packet : List ℕ) (fault : FormFault) → outer_fault table packet ≡ Some fault →
+    form_fault table packet ≡ Some fault
 unfolding form_fault
-front_first table packet fault h = ap (λ (f : Option FormFault). or_next f (fault_unless (has_form table (section_in packet)) Fault.Descriptor)) h
+outer_first table packet fault h = ap
+    (λ (f : Option FormFault). or_next f (fault_unless (has_form table (section_in packet)) Fault.Descriptor)) h
 
-form_is : (table : Table) (packet : List ℕ) (test : Bool) → front_fault table packet ≡ None → has_form table (section_in packet) ≡ test →
+form_is : (table : Table) (packet : List ℕ) (test : Bool) → outer_fault table packet ≡ None →
+    has_form table (section_in packet) ≡ test →
     form_fault table packet ≡ fault_unless test Fault.Descriptor
 unfolding form_fault
 form_is table packet test h e =
     ap (λ (f : Option FormFault). or_next f (fault_unless (has_form table (section_in packet)) Fault.Descriptor)) h
     ∙ ap (λ (b : Bool). fault_unless b Fault.Descriptor) e
 
-pub then_good : (table : Table) (packet : List ℕ) → front_fault table packet ≡ None → has_form table (section_in packet) ≡ true → form_fault table packet ≡ None
+pub then_good : (table : Table) (packet : List ℕ) → outer_fault table packet ≡ None → has_form table (section_in packet)
+    ≡ true → form_fault table packet ≡ None
 then_good table packet h e = form_is table packet true h e
 
-pub then_loops : (table : Table) (packet : List ℕ) → front_fault table packet ≡ None → has_form table (section_in packet) ≡ false →
+pub then_loops : (table : Table) (packet : List ℕ) → outer_fault table packet ≡ None →
+    has_form table (section_in packet) ≡ false →
     form_fault table packet ≡ Some Fault.Descriptor
 then_loops table packet h e = form_is table packet false h e

@@ -9,3 +9,5 @@ pub mod Heads
 pub mod Undoing
 pub mod Shapes
 pub mod Inverse
+pub mod Keeping
+pub mod OurCat

@@ -1,21 +1,17 @@
 -- What is read from the items of a table.
-use Rattle.std.proofs.Common.{ℕ, zero, suc, ◌+◌, ◌-◌, ◌<◌, ◌≤◌, ◌≡◌, Bool, true, false, ◌==◌, ◌&&◌, List, [], ◌∷◌, length, take, drop, map, get_or, length-drop, length-take-le, eq-eqb, refl, sym, ap, ◌∙◌, arith}
-use Rattle.std.specs.Prelude.{Option, Some, slice_get}
-use Rattle.std.specs.Option.{option_map}
+use Rattle.std.proofs.Common.{ℕ, ◌+◌, ◌-◌, ◌<◌, ◌≤◌, ◌≡◌, Bool, true, false, ◌==◌, ◌&&◌, List, [], ◌∷◌, length, take}
+use Rattle.std.proofs.Common.{drop, map, length-drop, length-take-le, eq-eqb, refl, sym, ap, ◌∙◌, arith}
+use Rattle.std.specs.Prelude.{◌≢◌}
 use Rattle.std.specs.List.{list_all}
-use Rattle.std.proofs.lemmas.List.{length-map, drop-take, drop-drop}
-use Rattle.std.proofs.lemmas.Bool.{and_parts, eqb-true}
+use Rattle.std.proofs.lemmas.List.{drop-take, drop-drop}
+use Rattle.std.proofs.lemmas.Bool.{and_parts, eqb-true, ne_eqb}
+use Rattle.sd_bits.specs.Bits.{field}
 use Rattle.sd_section.specs.Header.{table_id_of, body_of}
 use Rattle.sd_psi.specs.declared.items.Kind.TheVariants.{Program, Descriptor, Stream}
 use Rattle.sd_psi.specs.Items.{size_of, items_of, is_whole, are_whole}
-use Rattle.sd_psi.specs.Tables.{are_descriptors, program_of, programs_of, is_pat, is_cat, has_info, info_of, loop_of, stream_of, streams_of, stream_at, is_stream, are_streams, is_pmt}
+use Rattle.sd_psi.specs.Tables.{are_descriptors, program_of, programs_in, pmt_pids_in, is_pat, is_cat, has_info}
+use Rattle.sd_psi.specs.Tables.{info_of, loop_of, stream_of, streams_in, is_stream, are_streams, is_pmt}
 use Rattle.sd_psi.proofs.Cutting.{items_after, size_itself, off_after, none_cut}
-
--- an element of a list is made of that of another
-pub made_of : {X Y : Type 0} (f : X → Y) (xs : List X) (k : ℕ) (x : X) → slice_get xs k ≡ Some x → slice_get (map f xs) k ≡ Some (f x)
-made_of f [] k x h = absurd (cc)
-made_of f (y ∷ ys) zero x h = ap (λ (o : Option _). option_map f o) h
-made_of f (y ∷ ys) (suc k) x h = made_of f ys k x h
 
 -- a PAT's programs fill its body
 pub pat_body : (section : List ℕ) → is_pat section ≡ true → are_whole Program (body_of section) ≡ true
@@ -25,19 +21,34 @@ pat_body section h = (and_parts (table_id_of section == 0) (are_whole Program (b
 pub cat_body : (section : List ℕ) → is_cat section ≡ true → are_whole Descriptor (body_of section) ≡ true
 cat_body section h = (and_parts (table_id_of section == 1) (are_whole Descriptor (body_of section)) h).1
 
--- there are as many programs as items
-pub programs_counted : (section : List ℕ) → length (programs_of section) ≡ length (items_of Program (body_of section))
-unfolding programs_of
-programs_counted section = length-map (items_of Program (body_of section)) program_of
+-- the first program is read from its item, and the others stand after it
+pub program_first : (bytes rest program : List ℕ) (number pid : ℕ) → items_of Program bytes ≡ program ∷ items_of Program
+    rest →
+    number ≡ field program 0 16 → pid ≡ field program 19 13 → programs_in bytes ≡ (number, pid) ∷ programs_in rest
+program_first bytes rest program number pid cut is_number is_pid =
+    rw (is_number, is_pid) (ap (map program_of) cut)
 
--- a program is read from its item
-pub program_listed : (section program : List ℕ) (k : ℕ) → slice_get (items_of Program (body_of section)) k ≡ Some program →
-    slice_get (programs_of section) k ≡ Some (program_of program)
-unfolding programs_of
-program_listed section program k h = made_of program_of (items_of Program (body_of section)) k program h
+pub no_program : (bytes : List ℕ) → items_of Program bytes ≡ [] → programs_in bytes ≡ []
+no_program bytes none = ap (map program_of) none
+
+-- no programs give no PID, program 0 gives none, and each other its own
+pub no_pids : (programs : List (ℕ × ℕ)) → programs ≡ [] → pmt_pids_in programs ≡ []
+unfolding pmt_pids_in
+no_pids programs none = rw none refl
+
+pub pid_passed : (programs rest : List (ℕ × ℕ)) (program : ℕ × ℕ) → programs ≡ program ∷ rest → program.0 ≡ 0 →
+    pmt_pids_in programs ≡ pmt_pids_in rest
+unfolding pmt_pids_in
+pid_passed programs rest program first none = rw first (rw none refl)
+
+pub pid_given : (programs rest : List (ℕ × ℕ)) (program : ℕ × ℕ) → programs ≡ program ∷ rest → program.0 ≢ 0 →
+    pmt_pids_in programs ≡ program.1 ∷ pmt_pids_in rest
+unfolding pmt_pids_in
+pid_given programs rest program first other = rw first (rw (ne_eqb program.0 0 other) refl)
 
 -- a PMT by its parts
-pub pmt_by_parts : (section : List ℕ) → table_id_of section ≡ 2 → has_info section ≡ true → are_descriptors (info_of section) ≡ true →
+pub pmt_by_parts : (section : List ℕ) → table_id_of section ≡ 2 → has_info section ≡ true →
+    are_descriptors (info_of section) ≡ true →
     are_streams (loop_of section) ≡ true → is_pmt section ≡ true
 unfolding is_pmt
 pmt_by_parts section id info descriptors streams = rw (id, info, descriptors, streams) refl
@@ -52,8 +63,10 @@ pub record IsPmt (section : List ℕ) : Type 0 where
 pub pmt_parts : (section : List ℕ) → is_pmt section ≡ true → IsPmt section
 unfolding is_pmt
 pmt_parts section h =
-    let first = and_parts (table_id_of section == 2) (has_info section && (are_descriptors (info_of section) && are_streams (loop_of section))) h in
-    let second = and_parts (has_info section) (are_descriptors (info_of section) && are_streams (loop_of section)) first.1 in
+    let first = and_parts (table_id_of section == 2)
+    (has_info section && (are_descriptors (info_of section) && are_streams (loop_of section))) h in
+    let second = and_parts (has_info section) (are_descriptors (info_of section) && are_streams (loop_of section))
+    first.1 in
     let third = and_parts (are_descriptors (info_of section)) (are_streams (loop_of section)) second.1 in
     record { id = eqb-true (table_id_of section) 2 first.0; has = second.0; info = third.0; streams = third.1 }
 
@@ -64,7 +77,7 @@ isnt false h = refl
 pub no_pmt : (section : List ℕ) → (IsPmt section → ⊥) → is_pmt section ≡ false
 no_pmt section h = isnt (is_pmt section) (λ is. h (pmt_parts section is))
 
--- a stream has five bytes in front of its descriptors
+-- a stream has five bytes before its descriptors
 pub stream_head : (bytes : List ℕ) → 5 ≤ size_of Stream bytes
 unfolding size_of
 stream_head bytes = omega arith
@@ -81,55 +94,57 @@ pub streams_whole : (bytes : List ℕ) → are_streams bytes ≡ true → are_wh
 unfolding are_streams are_whole
 streams_whole bytes h = all_whole (items_of Stream bytes) h
 
--- an element of a list passes the test that all of them pass
-one_of : (p : List ℕ → Bool) (xs : List (List ℕ)) (k : ℕ) (x : List ℕ) → list_all p xs ≡ true → slice_get xs k ≡ Some x → p x ≡ true
-one_of p [] k x h e = absurd (cc)
-one_of p (y ∷ ys) zero x h e =
-    let same : y ≡ x = (cc) in
-    ap p (sym same) ∙ (and_parts (p y) (list_all p ys) h).0
-one_of p (y ∷ ys) (suc k) x h e = one_of p ys k x (and_parts (p y) (list_all p ys) h).1 e
+-- the first stream is read from its item, and the others stand after it
+pub stream_first : (bytes rest item : List ℕ) → items_of Stream bytes ≡ item ∷ items_of Stream rest →
+    streams_in bytes ≡ stream_of item ∷ streams_in rest
+stream_first bytes rest item cut = ap (map stream_of) cut
 
--- descriptors fill the part of a stream that ES_info_length counts
-pub info_whole : (bytes stream : List ℕ) (k : ℕ) → are_streams bytes ≡ true → slice_get (items_of Stream bytes) k ≡ Some stream →
-    are_descriptors (drop 5 stream) ≡ true
+pub no_stream : (bytes : List ℕ) → items_of Stream bytes ≡ [] → streams_in bytes ≡ []
+no_stream bytes none = ap (map stream_of) none
+
+-- its descriptors are whole, and so are the streams after it
+first_parts : (bytes rest item : List ℕ) → are_streams bytes ≡ true → items_of Stream bytes ≡ item ∷ items_of Stream
+    rest →
+    (is_stream item ≡ true) × (are_streams rest ≡ true)
 unfolding are_streams
-info_whole bytes stream k h e = (and_parts (is_whole Stream stream) (are_descriptors (drop 5 stream)) (one_of is_stream (items_of Stream bytes) k stream h e)).1
+first_parts bytes rest item whole cut =
+    and_parts (is_stream item) (list_all is_stream (items_of Stream rest)) (sym (ap (list_all is_stream) cut) ∙ whole)
 
--- there are as many streams as items
-pub streams_counted : (section : List ℕ) → length (streams_of section) ≡ length (items_of Stream (loop_of section))
-unfolding streams_of
-streams_counted section = length-map (items_of Stream (loop_of section)) stream_of
+pub info_first : (bytes rest item : List ℕ) → are_streams bytes ≡ true → items_of Stream bytes ≡ item ∷ items_of Stream
+    rest →
+    are_descriptors (drop 5 item) ≡ true
+info_first bytes rest item whole cut =
+    (and_parts (is_whole Stream item) (are_descriptors (drop 5 item)) (first_parts bytes rest item whole cut).0).1
 
--- an element that is there is the one at its place
-here_is : {X : Type 0} (xs : List X) (k : ℕ) (x d : X) → slice_get xs k ≡ Some x → get_or xs k d ≡ x
-here_is [] k x d h = absurd (cc)
-here_is (y ∷ ys) zero x d h = (cc)
-here_is (y ∷ ys) (suc k) x d h = here_is ys k x d h
-
--- a stream is read from its item
-pub stream_listed : (section stream : List ℕ) (k : ℕ) → slice_get (items_of Stream (loop_of section)) k ≡ Some stream →
-    stream_at section k ≡ stream_of stream
-unfolding stream_at streams_of
-stream_listed section stream k h = here_is (streams_of section) k (stream_of stream) _ (made_of stream_of (items_of Stream (loop_of section)) k stream h)
+pub streams_left : (bytes rest item : List ℕ) → are_streams bytes ≡ true → items_of Stream bytes ≡ item
+    ∷ items_of Stream rest →
+    are_streams rest ≡ true
+streams_left bytes rest item whole cut = (first_parts bytes rest item whole cut).1
 
 -- the streams after a place where one of so many bytes stands
-streams_first : (bytes : List ℕ) (at size : ℕ) → at < length bytes → size ≡ size_of Stream (take (length bytes - at) (drop at bytes)) →
+streams_first : (bytes : List ℕ) (at size : ℕ) → at < length bytes →
+    size ≡ size_of Stream (take (length bytes - at) (drop at bytes)) →
     size ≤ length bytes - at →
-    are_streams (drop at bytes) ≡ (are_descriptors (drop 5 (take size (drop at bytes))) && are_streams (drop (at + size) bytes))
+    are_streams (drop at bytes)
+    ≡ (are_descriptors (drop 5 (take size (drop at bytes))) && are_streams (drop (at + size) bytes))
 unfolding are_streams
 streams_first bytes at size within is there =
     let long : length (take size (drop at bytes)) ≡ size_of Stream (take size (drop at bytes)) =
-    length-take-le size (drop at bytes) (omega (arith, length-drop at bytes)) ∙ sym (size_itself Stream bytes at size is) in
+    length-take-le size (drop at bytes) (omega (arith, length-drop at bytes)) ∙
+    sym (size_itself Stream bytes at size is) in
     ap (list_all is_stream) (items_after Stream bytes at size within is)
-    ∙ ap (λ (b : Bool). (b && are_descriptors (drop 5 (take size (drop at bytes)))) && list_all is_stream (items_of Stream (drop (at + size) bytes))) (eq-eqb _ _ long)
+    ∙ ap (λ (b : Bool). (b && are_descriptors (drop 5 (take size (drop at bytes)))) && list_all is_stream
+    (items_of Stream (drop (at + size) bytes))) (eq-eqb _ _ long)
 
 -- the part of it that its descriptors are to fill
-stream_part : (bytes : List ℕ) (at size : ℕ) → 5 ≤ size → drop 5 (take size (drop at bytes)) ≡ take (at + size - (at + 5)) (drop (at + 5) bytes)
+stream_part : (bytes : List ℕ) (at size : ℕ) → 5 ≤ size → drop 5 (take size (drop at bytes))
+    ≡ take (at + size - (at + 5)) (drop (at + 5) bytes)
 stream_part bytes at size h =
     let count : size ≡ 5 + (size - 5) = omega arith in
     let same : at + size - (at + 5) ≡ size - 5 = omega arith in
     ap (λ (n : ℕ). drop 5 (take n (drop at bytes))) count
-    ∙ (drop-take 5 (size - 5) (drop at bytes) ∙ (ap (take (size - 5)) (drop-drop 5 at bytes) ∙ ap (λ (n : ℕ). take n (drop (at + 5) bytes)) (sym same)))
+    ∙ (drop-take 5 (size - 5) (drop at bytes) ∙
+    (ap (take (size - 5)) (drop-drop 5 at bytes) ∙ ap (λ (n : ℕ). take n (drop (at + 5) bytes)) (sym same)))
 
 streams_after : (bytes : List ℕ) (at size : ℕ) (test : Bool) → at < length bytes →
     size ≡ size_of Stream (take (length bytes - at) (drop at bytes)) →
@@ -138,14 +153,17 @@ streams_after : (bytes : List ℕ) (at size : ℕ) (test : Bool) → at < length
 streams_after bytes at size test within is there filled =
     let head : 5 ≤ size = omega (arith, stream_head (take (length bytes - at) (drop at bytes))) in
     streams_first bytes at size within is there
-    ∙ ap (λ (b : Bool). b && are_streams (drop (at + size) bytes)) (ap are_descriptors (stream_part bytes at size head) ∙ filled)
+    ∙ ap (λ (b : Bool). b && are_streams (drop (at + size) bytes))
+    (ap are_descriptors (stream_part bytes at size head) ∙ filled)
 
-pub streams_on : (bytes : List ℕ) (at size : ℕ) → at < length bytes → size ≡ size_of Stream (take (length bytes - at) (drop at bytes)) →
+pub streams_on : (bytes : List ℕ) (at size : ℕ) → at < length bytes →
+    size ≡ size_of Stream (take (length bytes - at) (drop at bytes)) →
     size ≤ length bytes - at → are_descriptors (take (at + size - (at + 5)) (drop (at + 5) bytes)) ≡ true →
     are_streams (drop at bytes) ≡ are_streams (drop (at + size) bytes)
 streams_on bytes at size within is there filled = streams_after bytes at size true within is there filled
 
-pub streams_bad : (bytes : List ℕ) (at size : ℕ) → at < length bytes → size ≡ size_of Stream (take (length bytes - at) (drop at bytes)) →
+pub streams_bad : (bytes : List ℕ) (at size : ℕ) → at < length bytes →
+    size ≡ size_of Stream (take (length bytes - at) (drop at bytes)) →
     size ≤ length bytes - at → are_descriptors (take (at + size - (at + 5)) (drop (at + 5) bytes)) ≡ false →
     are_streams (drop at bytes) ≡ false
 streams_bad bytes at size within is there filled = streams_after bytes at size false within is there filled
@@ -155,15 +173,19 @@ untrue : (test : Bool) → test ≡ true → (test ≡ false) → ⊥
 untrue true h e = absurd (cc)
 untrue false h e = absurd (cc)
 
-pub streams_off : (bytes : List ℕ) (at : ℕ) → at < length bytes → length bytes - at < size_of Stream (take (length bytes - at) (drop at bytes)) →
+pub streams_off : (bytes : List ℕ) (at : ℕ) → at < length bytes → length bytes - at < size_of Stream
+    (take (length bytes - at) (drop at bytes)) →
     are_streams (drop at bytes) ≡ false
 streams_off bytes at within off =
-    isnt (are_streams (drop at bytes)) (λ is. untrue (are_whole Stream (drop at bytes)) (streams_whole (drop at bytes) is) (off_after Stream bytes at within off))
+    isnt (are_streams (drop at bytes))
+    (λ is. untrue (are_whole Stream (drop at bytes)) (streams_whole (drop at bytes) is)
+    (off_after Stream bytes at within off))
 
 -- no bytes have no stream
 pub no_streams : (bytes : List ℕ) (at : ℕ) → length bytes ≤ at → are_streams (drop at bytes) ≡ true
 unfolding are_streams
-no_streams bytes at past = ap (list_all is_stream) (none_cut Stream (drop at bytes) (omega (arith, length-drop at bytes)))
+no_streams bytes at past = ap (list_all is_stream)
+    (none_cut Stream (drop at bytes) (omega (arith, length-drop at bytes)))
 
 -- what a PMT has
 pub pmt_has : (section : List ℕ) → is_pmt section ≡ true → has_info section ≡ true

@@ -1,14 +1,15 @@
 -- What is read from a PMT's section whose lengths and whose loops are others.
-use Rattle.std.proofs.Common.{ℕ, ◌+◌, ◌-◌, ◌/◌, ◌%◌, ◌<◌, ◌≤◌, ◌≡◌, true, false, List, [], ◌∷◌, ◌++◌, length, take, drop, get_or, length-append, length-drop, length-take, length-take-le, inl, inr, refl, sym, ap, ◌∙◌, arith}
-use Rattle.std.specs.Prelude.{slice_index, slice_range}
-use Rattle.std.specs.Int.{w32, to_be_bytes}
+use Rattle.std.proofs.Common.{ℕ, ◌+◌, ◌-◌, ◌/◌, ◌%◌, ◌<◌, ◌≤◌, ◌≡◌, true, false, List, [], ◌∷◌, ◌++◌, length, take}
+use Rattle.std.proofs.Common.{drop, get_or, length-append, length-drop, length-take, length-take-le, inl, inr, refl}
+use Rattle.std.proofs.Common.{sym, ap, ◌∙◌, arith}
+use Rattle.std.specs.Prelude.{slice_range}
 use Rattle.std.proofs.lemmas.Bool.{le-leb, cases_lt}
 use Rattle.std.proofs.lemmas.List.{take_at, drop_at, drop-drop, drop-take, take-take}
 use Rattle.std.proofs.lemmas.Slice.Eq.{bytes_eq-Decides}
 use Rattle.sd_bits.specs.Bits.{field}
-use Rattle.sd_bits.proofs.Fields.{field_split}
 use Rattle.sd_bits.proofs.Words.{byte_field}
-use Rattle.sd_section.specs.Header.{table_id_of, syntax_of, section_length_of, number_of, last_number_of, body_of, crc_in, crc_due}
+use Rattle.sd_section.specs.Header.{table_id_of, syntax_of, section_length_of, number_of, last_number_of, body_of}
+use Rattle.sd_section.specs.Header.{crc_in, crc_due}
 use Rattle.sd_section.specs.Written.{sealed}
 use Rattle.sd_section.proofs.Judging.{field_take}
 use Rattle.sd_section.proofs.Spelling.{crc_is_read, crc_is_due}
@@ -19,10 +20,10 @@ use Rattle.sd_psi.specs.Rewriting.{ca_descriptor, with_lengths, inserted, remove
 use Rattle.sd_psi.proofs.Cutting.{first_cut, first_whole, first_off}
 use Rattle.sd_psi.proofs.Judging.{body_long}
 use Rattle.sd_psi.proofs.Listing.{pmt_by_parts, pmt_parts, IsPmt}
-use Rattle.sd_psi.proofs.Packets.{first_in_front}
+use Rattle.sd_psi.proofs.Packets.{info_begins}
 use Rattle.sd_psi.proofs.Moving.{take_after}
 use Rattle.sd_psi.proofs.Heads.{IsHead}
-use Rattle.sd_psi.proofs.Undoing.{sealed_field, sealed_long, sealed_between, IsMap, other_head}
+use Rattle.sd_psi.proofs.Undoing.{sealed_field, sealed_long, sealed_between, IsRightPmt, other_head}
 
 -- the CRC of sealed bytes is the one due
 pub sealed_right : (bytes : List ℕ) → crc_in (sealed bytes) ≡ crc_due (sealed bytes)
@@ -36,19 +37,24 @@ after_lengths : (section : List ℕ) → 16 ≤ length section → drop 4 (body_
 after_lengths section long =
     let count : length section - 4 - 8 ≡ 4 + (length section - 4 - 12) = omega arith in
     ap (λ (n : ℕ). drop 4 (take n (drop 8 section))) count
-    ∙ (drop-take 4 (length section - 4 - 12) (drop 8 section) ∙ ap (take (length section - 4 - 12)) (drop-drop 4 8 section))
+    ∙ (drop-take 4 (length section - 4 - 12) (drop 8 section) ∙ ap (take (length section - 4 - 12))
+    (drop-drop 4 8 section))
 
-pub info_is : (section : List ℕ) → 16 ≤ length section → info_of section ≡ take (info_length_of section) (loops_of section)
+pub info_is : (section : List ℕ) → 16 ≤ length section → info_of section ≡ take (info_length_of section)
+    (loops_of section)
 unfolding info_of
 info_is section long = ap (take (info_length_of section)) (after_lengths section long)
 
-pub loop_is : (section : List ℕ) → 16 ≤ length section → loop_of section ≡ drop (info_length_of section) (loops_of section)
+pub loop_is : (section : List ℕ) → 16 ≤ length section → loop_of section ≡ drop (info_length_of section)
+    (loops_of section)
 unfolding loop_of
 loop_is section long =
-    sym (drop-drop (info_length_of section) 4 (body_of section)) ∙ ap (drop (info_length_of section)) (after_lengths section long)
+    sym (drop-drop (info_length_of section) 4 (body_of section)) ∙ ap (drop (info_length_of section))
+    (after_lengths section long)
 
 loops_long : (section : List ℕ) → 16 ≤ length section → length (loops_of section) ≡ length section - 16
-loops_long section long = length-take-le (length section - 4 - 12) (drop 12 section) (omega (arith, length-drop 12 section)) ∙ omega arith
+loops_long section long = length-take-le (length section - 4 - 12) (drop 12 section)
+    (omega (arith, length-drop 12 section)) ∙ omega arith
 
 -- a section that is good but for its packet
 pub record IsShaped (old new : List ℕ) : Type 0 where
@@ -63,14 +69,16 @@ pub record IsShaped (old new : List ℕ) : Type 0 where
   pub streams : loop_of new ≡ drop (info_length_of new) (loops_of new)
 
 -- the section with other lengths and other loops
-module _ (section rest : List ℕ) (a b : ℕ) (map : IsMap section) (long : a ≡ 13 + length rest) (few : a < 4096) (low : b ≤ length rest) where
+module _ (section rest : List ℕ) (a b : ℕ) (is_right : IsRightPmt section) (long : a ≡ 13 + length rest)
+    (few : a < 4096) (low : b ≤ length rest) where
   other : List ℕ
   other = sealed (with_lengths a b (take 12 section) ++ rest)
 
   head : IsHead a b (take 12 section) (with_lengths a b (take 12 section))
-  head = other_head section map a b few (omega arith)
+  head = other_head section is_right a b few (omega arith)
 
-  same_field : (at width : ℕ) → at + width ≤ 96 → field (sealed (with_lengths a b (take 12 section) ++ rest)) at width ≡ field (with_lengths a b (take 12 section)) at width
+  same_field : (at width : ℕ) → at + width ≤ 96 → field (sealed (with_lengths a b (take 12 section) ++ rest)) at width
+      ≡ field (with_lengths a b (take 12 section)) at width
   same_field at width h = sealed_field (with_lengths a b (take 12 section)) rest at width head.long h
 
   pub other_loops : loops_of (sealed (with_lengths a b (take 12 section) ++ rest)) ≡ rest
@@ -82,8 +90,10 @@ module _ (section rest : List ℕ) (a b : ℕ) (map : IsMap section) (long : a �
   pub shaped : IsShaped section (sealed (with_lengths a b (take 12 section) ++ rest))
   shaped =
       let count = sealed_long (with_lengths a b (take 12 section)) rest head.long in
-      let lengths : section_length_of (sealed (with_lengths a b (take 12 section) ++ rest)) ≡ a = same_field 12 12 (omega arith) ∙ head.section in
-      let was : (at width : ℕ) → at + width ≤ 96 → field (take 12 section) at width ≡ field section at width = λ at width h. field_take section 12 at width h in
+      let lengths : section_length_of (sealed (with_lengths a b (take 12 section) ++ rest)) ≡ a = same_field 12 12
+      (omega arith) ∙ head.section in
+      let was : (at width : ℕ) → at + width ≤ 96 → field (take 12 section) at width ≡ field section at width = λ at
+      width h. field_take section 12 at width h in
       record {
         long = omega arith;
         low = omega (arith, other_info_length);
@@ -101,16 +111,22 @@ pub shaped_has : (old new : List ℕ) → IsShaped old new → has_info new ≡ 
 unfolding has_info
 shaped_has old new is =
     let count = body_long new in
-    rw (le-leb 4 (length (body_of new)) (omega (arith, is.low))) (le-leb (4 + info_length_of new) (length (body_of new)) (omega (arith, is.low)))
+    rw (le-leb 4 (length (body_of new)) (omega (arith, is.low)))
+    (le-leb (4 + info_length_of new) (length (body_of new)) (omega (arith, is.low)))
 
-shaped_pmt : (old new : List ℕ) → IsShaped old new → IsPmt old → are_descriptors (info_of new) ≡ true → loop_of new ≡ loop_of old → is_pmt new ≡ true
+shaped_pmt : (old new : List ℕ) → IsShaped old new → IsPmt old → are_descriptors (info_of new) ≡ true →
+    loop_of new ≡ loop_of old → is_pmt new ≡ true
 shaped_pmt old new is pmt descriptors streams =
     pmt_by_parts new (is.id ∙ pmt.id) (shaped_has old new is) descriptors (ap are_streams streams ∙ pmt.streams)
 
 -- the project's descriptor says that it has six bytes
 six_bytes : (ca pid : ℕ) (rest : List ℕ) → size_of Descriptor (ca_descriptor ca pid ++ rest) ≡ 6
 unfolding ca_descriptor size_of
-six_bytes ca pid rest = omega (arith, byte_field (9 ∷ 4 ∷ ca / 256 ∷ ca % 256 ∷ (0xE0 + pid / 256) ∷ pid % 256 ∷ rest) 1 (omega arith))
+six_bytes ca pid rest = omega (
+  arith,
+  byte_field (9 ∷ 4 ∷ ca / 256 ∷ ca % 256 ∷ (0xE0 + pid / 256) ∷ pid % 256 ∷ rest) 1
+      (omega arith),
+)
 
 six_long : (ca pid : ℕ) → length (ca_descriptor ca pid) ≡ 6
 unfolding ca_descriptor
@@ -122,38 +138,49 @@ pub record IsInserted (ca pid : ℕ) (section new : List ℕ) : Type 0 where
   pub form : is_pmt new ≡ true
   pub first : is_first (ca_descriptor ca pid) new ≡ true
 
-pub inserted_shape : (ca pid : ℕ) (section : List ℕ) → IsMap section → is_pmt section ≡ true → length section ≤ 177 →
+pub inserted_shape : (ca pid : ℕ) (section : List ℕ) → IsRightPmt section → is_pmt section ≡ true →
+    length section ≤ 177 →
     IsInserted ca pid section (inserted (ca_descriptor ca pid) section)
 unfolding inserted
-inserted_shape ca pid section map pmt room =
+inserted_shape ca pid section is_right pmt room =
     let descriptor : List ℕ = ca_descriptor ca pid in
     let rest : List ℕ = descriptor ++ loops_of section in
     let a : ℕ = section_length_of section + 6 in
     let b : ℕ = info_length_of section + 6 in
     let new : List ℕ = sealed (with_lengths a b (take 12 section) ++ rest) in
-    let count = loops_long section (omega (arith, map.info)) in
+    let count = loops_long section (omega (arith, is_right.info)) in
     let six = six_long ca pid in
-    let long : a ≡ 13 + length rest = omega (arith, map.long, map.info, length-append descriptor (loops_of section)) in
-    let few : a < 4096 = omega (arith, map.long) in
-    let low : b ≤ length rest = omega (arith, map.info, length-append descriptor (loops_of section)) in
-    let shape : IsShaped section new = shaped section rest a b map long few low in
-    let infos : info_length_of new ≡ b = other_info_length section rest a b map long few low in
-    let loops : loops_of new ≡ rest = other_loops section rest a b map long few low in
+    let long : a ≡ 13 + length rest = omega (
+      arith,
+      is_right.long,
+      is_right.info,
+      length-append descriptor
+          (loops_of section),
+    ) in
+    let few : a < 4096 = omega (arith, is_right.long) in
+    let low : b ≤ length rest = omega (arith, is_right.info, length-append descriptor (loops_of section)) in
+    let shape : IsShaped section new = shaped section rest a b is_right long few low in
+    let infos : info_length_of new ≡ b = other_info_length section rest a b is_right long few low in
+    let loops : loops_of new ≡ rest = other_loops section rest a b is_right long few low in
     let less : b - length descriptor ≡ info_length_of section = omega arith in
     let info : info_of new ≡ descriptor ++ info_of section =
     shape.info ∙ (ap (λ (n : ℕ). take n (loops_of new)) infos ∙ (ap (take b) loops
     ∙ (take_after descriptor (loops_of section) b (omega arith)
-    ∙ (ap (λ (n : ℕ). descriptor ++ take n (loops_of section)) less ∙ ap (λ (l : List ℕ). descriptor ++ l) (sym (info_is section (omega (arith, map.info)))))))) in
-    let split : drop b rest ≡ drop (info_length_of section) (drop 6 rest) = sym (drop-drop (info_length_of section) 6 rest ∙ ap (λ (n : ℕ). drop n rest) (omega arith)) in
+    ∙ (ap (λ (n : ℕ). descriptor ++ take n (loops_of section)) less ∙ ap (λ (l : List ℕ). descriptor ++ l)
+    (sym (info_is section (omega (arith, is_right.info)))))))) in
+    let split : drop b rest ≡ drop (info_length_of section) (drop 6 rest) = sym
+    (drop-drop (info_length_of section) 6 rest ∙ ap (λ (n : ℕ). drop n rest) (omega arith)) in
     let streams : loop_of new ≡ loop_of section =
     shape.streams ∙ (ap (λ (n : ℕ). drop n (loops_of new)) infos ∙ (ap (drop b) loops
-    ∙ (split ∙ (ap (drop (info_length_of section)) (drop_at descriptor (loops_of section) 6 six) ∙ sym (loop_is section (omega (arith, map.info))))))) in
+    ∙ (split ∙ (ap (drop (info_length_of section)) (drop_at descriptor (loops_of section) 6 six) ∙
+    sym (loop_is section (omega (arith, is_right.info))))))) in
     let parts = pmt_parts section pmt in
     let some : 0 < length (descriptor ++ info_of section) = omega (arith, length-append descriptor (info_of section)) in
     let size = six_bytes ca pid (info_of section) in
     let descriptors : are_descriptors (info_of new) ≡ true =
     ap are_descriptors info
-    ∙ (first_whole Descriptor (descriptor ++ info_of section) some (omega (arith, length-append descriptor (info_of section)))
+    ∙ (first_whole Descriptor (descriptor ++ info_of section) some
+    (omega (arith, length-append descriptor (info_of section)))
     ∙ (ap (λ (n : ℕ). are_descriptors (drop n (descriptor ++ info_of section))) size
     ∙ (ap are_descriptors (drop_at descriptor (info_of section) 6 six) ∙ parts.info))) in
     let first : get_or (items_of Descriptor (info_of new)) 0 [] ≡ descriptor =
@@ -173,30 +200,32 @@ pub record IsSix (descriptor section : List ℕ) : Type 0 where
   pub some : 6 ≤ length (info_of section)
   pub is : take 6 (drop 12 section) ≡ descriptor
 
-pub first_six : (descriptor section : List ℕ) → IsMap section → is_first descriptor section ≡ true → length descriptor ≡ 6 →
+pub first_six : (descriptor section : List ℕ) → IsRightPmt section → is_first descriptor section ≡ true →
+    length descriptor ≡ 6 →
     are_descriptors (info_of section) ≡ true → IsSix descriptor section
-first_six descriptor section map first six whole =
+first_six descriptor section is_right first six whole =
     let info : List ℕ = info_of section in
-    let front = first_in_front descriptor section first six in
-    let some : 6 ≤ length info = front.some in
+    let before = info_begins descriptor section first six in
+    let some : 6 ≤ length info = before.some in
     let there : size_of Descriptor info ≤ length info = elim (cases_lt (length info) (size_of Descriptor info)) [
       | inl over ↦ let off : are_descriptors info ≡ false = first_off Descriptor info (omega arith) over in absurd (cc)
       | inr within ↦ within
     ] in
     let size : size_of Descriptor info ≡ 6 =
-    sym (length-take-le (size_of Descriptor info) info there) ∙ (ap (λ (l : List ℕ). length l) front.is ∙ six) in
-    let info_there : info ≡ take (info_length_of section) (loops_of section) = info_is section (omega (arith, map.info)) in
+    sym (length-take-le (size_of Descriptor info) info there) ∙ (ap (λ (l : List ℕ). length l) before.is ∙ six) in
+    let info_there : info ≡ take (info_length_of section) (loops_of section) = info_is section
+    (omega (arith, is_right.info)) in
     let counted : 6 ≤ info_length_of section =
     omega (arith, ap (λ (l : List ℕ). length l) info_there, length-take (info_length_of section) (loops_of section)) in
     let part : take 6 info ≡ take 6 (drop 12 section) =
     ap (take 6) info_there
     ∙ (take-take 6 (info_length_of section) (loops_of section) counted
-    ∙ take-take 6 (length section - 4 - 12) (drop 12 section) (omega (arith, map.info))) in
+    ∙ take-take 6 (length section - 4 - 12) (drop 12 section) (omega (arith, is_right.info))) in
     record {
       counted = counted;
       size = size;
       some = some;
-      is = sym part ∙ (ap (λ (n : ℕ). take n info) (sym size) ∙ front.is);
+      is = sym part ∙ (ap (λ (n : ℕ). take n info) (sym size) ∙ before.is);
     }
 
 -- the section without it
@@ -204,34 +233,40 @@ pub record IsRemoved (section new : List ℕ) : Type 0 where
   pub shape : IsShaped section new
   pub form : is_pmt new ≡ true
 
-pub removed_shape : (descriptor section : List ℕ) → IsMap section → is_pmt section ≡ true → IsSix descriptor section → IsRemoved section (removed section)
+pub removed_shape : (descriptor section : List ℕ) → IsRightPmt section → is_pmt section ≡ true →
+    IsSix descriptor section → IsRemoved section (removed section)
 unfolding removed
-removed_shape descriptor section map pmt six =
+removed_shape descriptor section is_right pmt six =
     let rest : List ℕ = slice_range section 18 (length section - 4) in
     let a : ℕ = section_length_of section - 6 in
     let b : ℕ = info_length_of section - 6 in
     let new : List ℕ = sealed (with_lengths a b (take 12 section) ++ rest) in
-    let width : length section - 4 - 12 ≡ 6 + (length section - 4 - 18) = omega (arith, map.info, six.counted) in
+    let width : length section - 4 - 12 ≡ 6 + (length section - 4 - 18) = omega (arith, is_right.info, six.counted) in
     let after : drop 6 (loops_of section) ≡ rest =
     ap (λ (n : ℕ). drop 6 (take n (drop 12 section))) width
-    ∙ (drop-take 6 (length section - 4 - 18) (drop 12 section) ∙ ap (take (length section - 4 - 18)) (drop-drop 6 12 section)) in
+    ∙ (drop-take 6 (length section - 4 - 18) (drop 12 section) ∙ ap (take (length section - 4 - 18))
+    (drop-drop 6 12 section)) in
     let count : length rest ≡ length section - 22 =
     length-take-le (length section - 4 - 18) (drop 18 section) (omega (arith, length-drop 18 section)) ∙ omega arith in
-    let long : a ≡ 13 + length rest = omega (arith, map.long, map.info, six.counted) in
-    let few : a < 4096 = omega (arith, map.long, map.few) in
-    let low : b ≤ length rest = omega (arith, map.info, six.counted) in
-    let shape : IsShaped section new = shaped section rest a b map long few low in
-    let infos : info_length_of new ≡ b = other_info_length section rest a b map long few low in
-    let loops : loops_of new ≡ rest = other_loops section rest a b map long few low in
+    let long : a ≡ 13 + length rest = omega (arith, is_right.long, is_right.info, six.counted) in
+    let few : a < 4096 = omega (arith, is_right.long, is_right.few) in
+    let low : b ≤ length rest = omega (arith, is_right.info, six.counted) in
+    let shape : IsShaped section new = shaped section rest a b is_right long few low in
+    let infos : info_length_of new ≡ b = other_info_length section rest a b is_right long few low in
+    let loops : loops_of new ≡ rest = other_loops section rest a b is_right long few low in
     let more : info_length_of section ≡ 6 + b = omega (arith, six.counted) in
     let info : info_of new ≡ drop 6 (info_of section) =
     shape.info ∙ (ap (λ (n : ℕ). take n (loops_of new)) infos ∙ (ap (take b) (loops ∙ sym after)
-    ∙ (sym (drop-take 6 b (loops_of section)) ∙ (ap (λ (n : ℕ). drop 6 (take n (loops_of section))) (sym more) ∙ ap (drop 6) (sym (info_is section (omega (arith, map.info)))))))) in
+    ∙ (sym (drop-take 6 b (loops_of section)) ∙ (ap (λ (n : ℕ). drop 6 (take n (loops_of section))) (sym more) ∙
+    ap (drop 6) (sym (info_is section (omega (arith, is_right.info)))))))) in
     let streams : loop_of new ≡ loop_of section =
     shape.streams ∙ (ap (λ (n : ℕ). drop n (loops_of new)) infos ∙ (ap (drop b) (loops ∙ sym after)
-    ∙ (drop-drop b 6 (loops_of section) ∙ (ap (λ (n : ℕ). drop n (loops_of section)) (sym more) ∙ sym (loop_is section (omega (arith, map.info))))))) in
+    ∙ (drop-drop b 6 (loops_of section) ∙
+    (ap (λ (n : ℕ). drop n (loops_of section)) (sym more) ∙
+    sym (loop_is section (omega (arith, is_right.info))))))) in
     let parts = pmt_parts section pmt in
-    let whole = first_whole Descriptor (info_of section) (omega (arith, six.some)) (omega (arith, six.size, six.some)) in
+    let whole = first_whole Descriptor (info_of section) (omega (arith, six.some))
+    (omega (arith, six.size, six.some)) in
     let descriptors : are_descriptors (info_of new) ≡ true =
     ap are_descriptors info
     ∙ (ap (λ (n : ℕ). are_descriptors (drop n (info_of section))) (sym six.size) ∙ (sym whole ∙ parts.info)) in

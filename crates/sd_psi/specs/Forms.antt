@@ -1,8 +1,10 @@
 -- What is wrong with a packet that is to be one section of a PAT, a CAT or a PMT by itself.
-use Rattle.std.specs.Prelude.{ℕ, ◌+◌, ◌%◌, Bool, true, false, ◌==◌, ◌&&◌, nat_le, List, length, drop, slice_index, Option, Some, None}
+use Rattle.std.specs.Prelude.{ℕ, ◌+◌, ◌%◌, Bool, true, false, ◌==◌, ◌&&◌, nat_le, List, length, drop, slice_index}
+use Rattle.std.specs.Prelude.{Option, Some, None}
 use Rattle.std.specs.List.{list_all}
 use Rattle.sd_packet.specs.Header.{unit_start_of, payload_of}
-use Rattle.sd_section.specs.Header.{table_id_of, syntax_of, section_length_of, number_of, last_number_of, whole_of, body_of, crc_in, crc_due}
+use Rattle.sd_section.specs.Header.{table_id_of, syntax_of, section_length_of, number_of, last_number_of, whole_of}
+use Rattle.sd_section.specs.Header.{body_of, crc_in, crc_due}
 use Rattle.sd_psi.specs.declared.fault.FormFault.{FormFault}
 use Rattle.sd_psi.specs.declared.fault.FormFault.TheVariants as Fault
 use Rattle.sd_psi.specs.declared.form.Table.{Table}
@@ -25,7 +27,8 @@ id_of Pat = 0
 id_of Cat = 1
 id_of Pmt = 2
 
--- section_length of an empty table: what stands after it up to the body and after the body, and for a PMT up to program_info_length
+-- section_length of an empty table: what stands after it up to the body and after the body, and for a PMT up to
+-- program_info_length
 -- [ISO/IEC 13818-1, 2.4.4.3, 2.4.4.6 and 2.4.4.8]
 abbrev pub least_of : Table → ℕ
 least_of Pat = 9
@@ -48,11 +51,14 @@ after_section packet = drop (3 + section_length_of (after_pointer packet)) (afte
 abbrev pub has_pointer : List ℕ → Bool
 has_pointer packet = (unit_start_of packet == 1) && (slice_index (payload_of packet) 0 == 0)
 
--- the bytes begin with this table's id and the long form, and the section is the only one, if they go so far: past their end a number is 0
+-- the bytes begin with this table's id and the long form, and the section is the only one, if they go so far: past
+-- their end a number is 0
 -- [ISO/IEC 13818-1, 2.4.4; this project, docs/FORMATS.md, Tables]
 abbrev pub has_table : Table → List ℕ → Bool
 has_table table bytes =
-    nat_le 2 (length bytes) && ((table_id_of bytes == id_of table) && ((syntax_of bytes == 1) && ((number_of bytes == 0) && (last_number_of bytes == 0))))
+    nat_le 2 (length bytes) &&
+    ((table_id_of bytes == id_of table) &&
+    ((syntax_of bytes == 1) && ((number_of bytes == 0) && (last_number_of bytes == 0))))
 
 -- the body has the length that its table asks for: whole programs in a PAT, program_info in a PMT
 -- [ISO/IEC 13818-1, 2.4.4.3 and 2.4.4.8]
@@ -86,8 +92,9 @@ bytes_fault table bytes =
     (fault_unless (is_stuffing (drop (3 + section_length_of bytes) bytes)) Fault.Trailing)))
 
 -- the first thing that is wrong with the packet but its loops [this project, docs/FORMATS.md, Tables]
-unfoldable pub front_fault : Table → List ℕ → Option FormFault
-front_fault table packet = or_next (fault_unless (has_pointer packet) Fault.Pointer) (bytes_fault table (after_pointer packet))
+unfoldable pub outer_fault : Table → List ℕ → Option FormFault
+outer_fault table packet = or_next (fault_unless (has_pointer packet) Fault.Pointer)
+    (bytes_fault table (after_pointer packet))
 
 -- the section is one of the table
 abbrev pub has_form : Table → List ℕ → Bool
@@ -98,7 +105,8 @@ has_form Pmt section = is_pmt section
 -- the first thing that is wrong with a packet that is to be one section of the table by itself
 -- [this project, docs/FORMATS.md, Tables]
 unfoldable pub form_fault : Table → List ℕ → Option FormFault
-form_fault table packet = or_next (front_fault table packet) (fault_unless (has_form table (section_in packet)) Fault.Descriptor)
+form_fault table packet = or_next (outer_fault table packet)
+    (fault_unless (has_form table (section_in packet)) Fault.Descriptor)
 
 -- of a PAT, a CAT and a PMT
 abbrev pub pat_fault : List ℕ → Option FormFault

@@ -5,7 +5,8 @@ use Rattle.sd_bits.specs.Bits.{field}
 use Rattle.sd_psi.specs.declared.items.Kind.{Kind}
 use Rattle.sd_psi.specs.declared.items.Kind.TheVariants.{Program, Descriptor, Stream}
 
--- how long the item is with which the bytes begin: a program of a PAT, a descriptor with descriptor_length, a stream of a PMT with
+-- how long the item is with which the bytes begin: a program of a PAT, a descriptor with descriptor_length, a stream of
+-- a PMT with
 -- ES_info_length [ISO/IEC 13818-1, 2.4.4.3, 2.4.4.8 and 2.6]
 unfoldable pub size_of : Kind → List ℕ → ℕ
 size_of Program bytes = 4
@@ -16,7 +17,8 @@ size_of Stream bytes = 5 + field bytes 28 12
 unfoldable pub cut : Kind → ℕ → List ℕ → List (List ℕ)
 cut kind n [] = []
 cut kind zero (byte ∷ bytes) = []
-cut kind (suc n) (byte ∷ bytes) = take (size_of kind (byte ∷ bytes)) (byte ∷ bytes) ∷ cut kind n (drop (size_of kind (byte ∷ bytes)) (byte ∷ bytes))
+cut kind (suc n) (byte ∷ bytes) = take (size_of kind (byte ∷ bytes)) (byte ∷ bytes)
+    ∷ cut kind n (drop (size_of kind (byte ∷ bytes)) (byte ∷ bytes))
 
 -- all of them
 unfoldable pub items_of : Kind → List ℕ → List (List ℕ)

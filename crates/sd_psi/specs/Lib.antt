@@ -3,3 +3,4 @@ pub mod Tables
 pub mod Forms
 pub mod Rewriting
 pub mod Undone
+pub mod Access

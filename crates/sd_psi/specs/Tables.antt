@@ -1,5 +1,5 @@
 -- What stands in a PAT, a CAT and a PMT.
-use Rattle.std.specs.Prelude.{◌≡◌, ℕ, ◌+◌, ◌==◌, ◌&&◌, Bool, List, [], length, take, drop, map, nat_le, get_or}
+use Rattle.std.specs.Prelude.{◌≡◌, ℕ, ◌+◌, ◌==◌, ◌&&◌, Bool, List, length, take, drop, map, filter, not, nat_le}
 use Rattle.std.specs.List.{list_all}
 use Rattle.sd_bits.specs.Bits.{field}
 use Rattle.sd_section.specs.Header.{table_id_of, body_of}
@@ -27,13 +27,26 @@ content_of descriptor = drop 2 descriptor
 abbrev pub IsDescriptor : List ℕ → Type 0
 IsDescriptor bytes = length bytes ≡ size_of Descriptor bytes
 
--- program_number, and the PID of the program's map, or of the network for program 0 [ISO/IEC 13818-1, 2.4.4.3]
+-- program_number, and the PID of the program's PMT, or of the network for program 0 [ISO/IEC 13818-1, 2.4.4.3]
 abbrev pub program_of : List ℕ → ℕ × ℕ
 program_of program = (field program 0 16, field program 19 13)
 
+-- the programs that stand in some bytes [ISO/IEC 13818-1, 2.4.4.3]
+abbrev pub programs_in : List ℕ → List (ℕ × ℕ)
+programs_in bytes = map program_of (items_of Program bytes)
+
 -- a PAT's programs [ISO/IEC 13818-1, 2.4.4.3]
 unfoldable pub programs_of : List ℕ → List (ℕ × ℕ)
-programs_of section = map program_of (items_of Program (body_of section))
+programs_of section = programs_in (body_of section)
+
+-- the PIDs of the PMTs of some programs: those of all programs but 0, whose PID is the network's [ISO/IEC 13818-1,
+-- 2.4.4.3]
+unfoldable pub pmt_pids_in : List (ℕ × ℕ) → List ℕ
+pmt_pids_in programs = map (λ program. program.1) (filter (λ program. not (program.0 == 0)) programs)
+
+-- those that a PAT names
+unfoldable pub pmt_pids_of : List ℕ → List ℕ
+pmt_pids_of section = pmt_pids_in (programs_of section)
 
 -- the section is a PAT: programs fill its body exactly [ISO/IEC 13818-1, 2.4.4.3]
 abbrev pub is_pat : List ℕ → Bool
@@ -69,13 +82,13 @@ pub record Stream : Type 0 where
 abbrev pub stream_of : List ℕ → Stream
 stream_of stream = record { stream_type = field stream 0 8; pid = field stream 11 13; info = drop 5 stream }
 
+-- the streams that stand in some bytes [ISO/IEC 13818-1, 2.4.4.8]
+abbrev pub streams_in : List ℕ → List Stream
+streams_in bytes = map stream_of (items_of Item.Stream bytes)
+
 -- a PMT's streams [ISO/IEC 13818-1, 2.4.4.8]
 unfoldable pub streams_of : List ℕ → List Stream
-streams_of section = map stream_of (items_of Item.Stream (loop_of section))
-
--- the stream with this number
-unfoldable pub stream_at : List ℕ → ℕ → Stream
-stream_at section number = get_or (streams_of section) number (record { stream_type = 0; pid = 0; info = [] })
+streams_of section = streams_in (loop_of section)
 
 -- the stream is as long as it says, and descriptors fill the part that ES_info_length counts [ISO/IEC 13818-1, 2.4.4.8]
 abbrev pub is_stream : List ℕ → Bool
@@ -91,4 +104,5 @@ has_info section = nat_le 4 (length (body_of section)) && nat_le (4 + info_lengt
 
 -- the section is a PMT: its loops fill its body exactly [ISO/IEC 13818-1, 2.4.4.8]
 unfoldable pub is_pmt : List ℕ → Bool
-is_pmt section = (table_id_of section == 2) && (has_info section && (are_descriptors (info_of section) && are_streams (loop_of section)))
+is_pmt section = (table_id_of section == 2) &&
+    (has_info section && (are_descriptors (info_of section) && are_streams (loop_of section)))

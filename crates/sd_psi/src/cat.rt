@@ -1,13 +1,14 @@
-ghost use Rattle.std.specs.Prelude.{◌≡◌, ◌<◌, ◌↔◌, true, false, Some, None, IfOk, MatchResult, IsNone, IfSome, IsTrue, length, slice_get};
+ghost use Rattle.std.specs.Prelude.{◌≡◌, ◌<◌, ◌↔◌, true, false, Some, None, IfOk, MatchResult, IsNone, IfSome, IsTrue};
+ghost use Rattle.std.specs.Prelude.{length, slice_get};
 ghost use Rattle.sd_section.specs.Header.{body_of, version_of, current_of};
 ghost use Rattle.sd_packet.specs.Header.{payload_start_of};
 ghost use Rattle.sd_psi.specs.Forms.{section_in, cat_fault};
-ghost use Rattle.sd_psi.specs.Tables.{descriptors_of, is_cat};
+ghost use Rattle.sd_psi.specs.Tables.{is_cat};
 
-use crate::descriptor::Descriptor;
+use crate::descriptor::Descriptors;
 use crate::fault::FormFault;
 use crate::form::{Table, read};
-use crate::items::{Kind, count};
+use crate::items::{Kind, fill};
 use sd_packet::Packet;
 use sd_section::Section;
 
@@ -23,7 +24,7 @@ pub fn cat_in<'a>(section: &Section<'a>) -> Option<Cat<'a>>
     ensures none { IsNone result ↔ (is_cat section.now.bytes.now ≡ false) }
     ensures value { IfSome result (λ cat. cat.section.bytes.now ≡ section.now.bytes.now) }
 {
-    if section.table_id() == Table::Cat.id() && count(Kind::Descriptor, section.body()).is_some() {
+    if section.table_id() == Table::Cat.id() && fill(Kind::Descriptor, section.body()) {
         Some(Cat { section: *section })
     } else {
         None
@@ -31,7 +32,7 @@ pub fn cat_in<'a>(section: &Section<'a>) -> Option<Cat<'a>>
 }
 
 /// The CAT that the packet is by itself.
-#[tactic(auto, using(crate::proofs::Judging::front_first, crate::proofs::Judging::then_good, crate::proofs::Judging::then_loops))]
+#[tactic(auto, using(crate::proofs::Judging::outer_first, crate::proofs::Judging::then_good, crate::proofs::Judging::then_loops))]
 pub fn cat_of<'a>(packet: &'a Packet) -> Result<Cat<'a>, FormFault>
     requires { payload_start_of packet.now < 188 }
     ensures value { IfOk result (λ cat. cat.section.bytes.now ≡ section_in packet.now) }
@@ -56,20 +57,11 @@ impl<'a> Cat<'a> {
         self.section.current()
     }
 
-    /// How many descriptors there are.
+    /// Its descriptors.
     #[tactic(auto, using(crate::proofs::Listing::cat_body))]
-    pub fn len(&self) -> usize
-        ensures { result ≡ length (descriptors_of (body_of self.now.section.bytes.now)) }
+    pub fn descriptors(&self) -> Descriptors<'a>
+        ensures { result.bytes.now ≡ body_of self.now.section.bytes.now }
     {
-        count(Kind::Descriptor, self.section.body()).unwrap()
-    }
-
-    /// The descriptor with this number.
-    #[tactic(auto, using(crate::proofs::Listing::cat_body))]
-    pub fn descriptor(&self, k: usize) -> Descriptor<'a>
-        requires { k < length (descriptors_of (body_of self.now.section.bytes.now)) }
-        ensures { slice_get (descriptors_of (body_of self.now.section.bytes.now)) k ≡ Some result.bytes.now }
-    {
-        Descriptor::at(self.section.body(), k)
+        Descriptors::of(self.section.body())
     }
 }

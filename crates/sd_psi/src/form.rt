@@ -1,7 +1,9 @@
 ghost use Rattle.std.specs.Prelude.{◌≡◌, ◌+◌, ◌<◌, ◌≤◌, ◌==◌, ◌&&◌, true, Some, None, IfOk, MatchResult, length, drop};
 ghost use Rattle.sd_packet.specs.Header.{payload_start_of};
 ghost use Rattle.sd_section.specs.Header.{number_of, last_number_of, whole_of};
-ghost use Rattle.sd_psi.specs.Forms.{id_of, least_of, section_in, has_table as has_table_of, has_body as has_body_of, has_length as has_length_of, crc_fault, is_stuffing as is_stuffing_of, bytes_fault, front_fault};
+ghost use Rattle.sd_psi.specs.Forms.{id_of, least_of, section_in, has_table as has_table_of, has_body as has_body_of};
+ghost use Rattle.sd_psi.specs.Forms.{has_length as has_length_of, crc_fault, is_stuffing as is_stuffing_of};
+ghost use Rattle.sd_psi.specs.Forms.{bytes_fault, outer_fault};
 
 use crate::fault::FormFault;
 use sd_bits::fields;
@@ -42,11 +44,12 @@ impl Table {
 }
 
 /// The section that the packet is by itself, where all but its loops is as it is to be.
-#[tactic(auto, using(crate::proofs::Judging::payload_short), unfolding(crate::specs::Forms::front_fault))]
+#[tactic(auto, using(crate::proofs::Judging::payload_short), unfolding(crate::specs::Forms::outer_fault))]
 pub fn read<'a>(table: Table, packet: &'a Packet) -> Result<Section<'a>, FormFault>
     requires { payload_start_of packet.now < 188 }
-    ensures section { IfOk result (λ section. section.bytes.now ≡ section_in packet.now) }
-    ensures fault { MatchResult result (λ _. front_fault table packet.now ≡ None) (λ fault. front_fault table packet.now ≡ Some fault) }
+    ensures value { IfOk result (λ section. section.bytes.now ≡ section_in packet.now) }
+    ensures fault { MatchResult result (λ _. outer_fault table packet.now ≡ None)
+        (λ fault. outer_fault table packet.now ≡ Some fault) }
 {
     let payload = packet.payload();
     if !packet.unit_start() || payload[0] != 0 {
@@ -58,8 +61,9 @@ pub fn read<'a>(table: Table, packet: &'a Packet) -> Result<Section<'a>, FormFau
 // The section with which the bytes after the pointer begin.
 fn read_bytes<'a>(table: Table, bytes: &'a [u8]) -> Result<Section<'a>, FormFault>
     requires { length bytes.now ≤ 183 }
-    ensures section { IfOk result (λ section. section.bytes.now ≡ whole_of bytes.now) }
-    ensures fault { MatchResult result (λ _. bytes_fault table bytes.now ≡ None) (λ fault. bytes_fault table bytes.now ≡ Some fault) }
+    ensures value { IfOk result (λ section. section.bytes.now ≡ whole_of bytes.now) }
+    ensures fault { MatchResult result (λ _. bytes_fault table bytes.now ≡ None)
+        (λ fault. bytes_fault table bytes.now ≡ Some fault) }
 {
     if !has_table(table, bytes) {
         return Err(FormFault::Table);
@@ -80,8 +84,9 @@ fn read_whole<'a>(table: Table, bytes: &'a [u8]) -> Result<Section<'a>, FormFaul
     requires short { length bytes.now ≤ 183 }
     requires table { has_table_of table bytes.now ≡ true }
     requires length { has_length_of table bytes.now ≡ true }
-    ensures section { IfOk result (λ section. section.bytes.now ≡ whole_of bytes.now) }
-    ensures fault { MatchResult result (λ _. crc_fault (whole_of bytes.now) ≡ None) (λ fault. crc_fault (whole_of bytes.now) ≡ Some fault) }
+    ensures value { IfOk result (λ section. section.bytes.now ≡ whole_of bytes.now) }
+    ensures fault { MatchResult result (λ _. crc_fault (whole_of bytes.now) ≡ None)
+        (λ fault. crc_fault (whole_of bytes.now) ≡ Some fault) }
 {
     match read_one(bytes) {
         Ok(section) => Ok(section),

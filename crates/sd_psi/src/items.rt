@@ -1,4 +1,4 @@
-ghost use Rattle.std.specs.Prelude.{◌≡◌, ◌<◌, ◌≤◌, ◌↔◌, ◌+◌, ◌∷◌, true, false, IsNone, IfSome, length, take, drop, slice_get, Some};
+ghost use Rattle.std.specs.Prelude.{◌≡◌, ◌<◌, ◌≤◌, ◌↔◌, [], ◌∷◌, true, false, IsNone, IfSome, length};
 ghost use Rattle.sd_psi.specs.Items.{size_of, items_of, are_whole};
 
 use sd_bits::fields;
@@ -18,7 +18,7 @@ pub enum Kind {
 pub fn size(kind: Kind, bytes: &[u8]) -> Option<usize>
     ensures none { IsNone result → length bytes.now < size_of kind bytes.now }
     ensures value { IfSome result (λ size. size ≡ size_of kind bytes.now) }
-    ensures there { IfSome result (λ size. size ≤ length bytes.now) }
+    ensures fits { IfSome result (λ size. size ≤ length bytes.now) }
 {
     let size = stated(kind, bytes)?;
     (size <= bytes.len()).then_some(size)
@@ -44,45 +44,33 @@ fn stated(kind: Kind, bytes: &[u8]) -> Option<usize>
     }
 }
 
-/// How many items fill the bytes exactly, or `None` where one is cut off.
-#[tactic(auto, using(crate::proofs::Cutting::one_more, crate::proofs::Cutting::whole_after, crate::proofs::Cutting::off_after, crate::proofs::Cutting::none_after, crate::proofs::Cutting::some_size))]
-pub fn count(kind: Kind, bytes: &[u8]) -> Option<usize>
-    ensures none { IsNone result ↔ (are_whole kind bytes.now ≡ false) }
-    ensures value { IfSome result (λ count. count ≡ length (items_of kind bytes.now)) }
+/// Whether items fill the bytes exactly: none is cut off.
+#[tactic(auto, using(crate::proofs::Cutting::whole_after, crate::proofs::Cutting::off_after, crate::proofs::Cutting::none_after, crate::proofs::Cutting::some_size))]
+pub fn fill(kind: Kind, bytes: &[u8]) -> bool
+    ensures { result ≡ are_whole kind bytes.now }
 {
     let mut at = 0;
-    let mut count = 0;
     while at < bytes.len() {
-        at += size(kind, &bytes[at..])?;
-        count += 1;
+        let Some(size) = size(kind, &bytes[at..]) else {
+            return false;
+        };
+        at += size;
     }
-    Some(count)
+    true
 }
 
-/// The item with this number.
-#[tactic(auto, using(crate::proofs::Cutting::rest_more, crate::proofs::Cutting::get_here))]
-pub fn item<'a>(kind: Kind, bytes: &'a [u8], number: usize) -> &'a [u8]
-    requires whole { are_whole kind bytes.now ≡ true }
-    requires number { number < length (items_of kind bytes.now) }
-    ensures value { slice_get (items_of kind bytes.now) number ≡ Some result.now }
-    ensures whole { length result.now ≡ size_of kind result.now }
+/// The first of the items that fill the bytes, and the bytes after it.
+#[tactic(auto, using(crate::proofs::Cutting::none_cut, crate::proofs::Cutting::first_off, crate::proofs::Cutting::cut_first, crate::proofs::Cutting::cut_long, crate::proofs::Cutting::cut_rest))]
+pub fn first<'a>(kind: Kind, bytes: &'a [u8]) -> Option<(&'a [u8], &'a [u8])>
+    requires { are_whole kind bytes.now ≡ true }
+    ensures none { IsNone result ↔ (items_of kind bytes.now ≡ []) }
+    ensures value { IfSome result (λ cut. items_of kind bytes.now ≡ cut.0.now ∷ items_of kind cut.1.now) }
+    ensures length { IfSome result (λ cut. length cut.0.now ≡ size_of kind cut.0.now) }
+    ensures rest { IfSome result (λ cut. are_whole kind cut.1.now ≡ true) }
 {
-    let mut at = 0;
-    for _turn in 0..number {
-        at += size_at(kind, bytes, at);
+    if bytes.is_empty() {
+        return None;
     }
-    &bytes[at..at + size_at(kind, bytes, at)]
-}
-
-// How long the item is that stands at this place.
-#[tactic(auto, using(crate::proofs::Cutting::some_bytes, crate::proofs::Cutting::items_after, crate::proofs::Cutting::whole_after, crate::proofs::Cutting::off_after, crate::proofs::Cutting::size_itself))]
-fn size_at(kind: Kind, bytes: &[u8], at: usize) -> usize
-    requires some { 0 < length (items_of kind (drop at bytes.now)) }
-    requires whole { are_whole kind (drop at bytes.now) ≡ true }
-    ensures first { items_of kind (drop at bytes.now) ≡ take result (drop at bytes.now) ∷ items_of kind (drop (at + result) bytes.now) }
-    ensures whole { are_whole kind (drop (at + result) bytes.now) ≡ true }
-    ensures there { at + result ≤ length bytes.now }
-    ensures itself { size_of kind (take result (drop at bytes.now)) ≡ result }
-{
-    size(kind, &bytes[at..]).unwrap()
+    let size = size(kind, bytes).unwrap();
+    Some(bytes.split_at(size))
 }

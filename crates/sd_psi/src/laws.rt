@@ -1,19 +1,28 @@
 //! The items of tables spell bytes in one way, and rewriting and restoring a PMT undo each other.
 
-ghost use Rattle.std.specs.Prelude.{◌≡◌, ◌%◌, ◌↔◌, true, None, List, ℕ, length};
+ghost use Rattle.std.specs.Prelude.{◌≡◌, ◌≢◌, ◌%◌, ◌^◌, ◌<◌, ◌↔◌, [], ◌∷◌, true, Some, None, List, ℕ, length};
 ghost use Rattle.std.specs.List.{list_all};
 ghost use Rattle.sd_psi.specs.declared.items.Kind.{Kind};
 ghost use Rattle.sd_psi.specs.declared.items.Kind.TheVariants.{Program};
+ghost use Rattle.sd_psi.specs.declared.fault.FormFault.TheVariants.{NoRoom};
 ghost use Rattle.sd_psi.specs.Items.{items_of, is_whole, are_whole, joined};
+ghost use Rattle.sd_packet.specs.Packing.{packed};
+ghost use Rattle.sd_section.specs.Header.{body_of};
+ghost use Rattle.sd_psi.specs.Tables.{descriptors_of};
+ghost use Rattle.sd_psi.specs.Access.{cat_descriptor, cat_section, IsCatDescriptor};
+ghost use Rattle.sd_psi.specs.Forms.{section_in, cat_fault};
 ghost use Rattle.sd_psi.specs.Rewriting.{rewritten, restored, rewrite_fault, restore_fault};
-ghost use Rattle.sd_psi.specs.Undone.{IsPacket};
+ghost use Rattle.sd_psi.specs.Undone.{IsPacket, KeepsHeader};
 
-/// Bytes are their items one after the other, and items that are as long as they say are those of the bytes that they are.
+/// Bytes are their items one after the other, and items that are as long as they say are those of the bytes that
+/// they are.
 #[tactic(auto, using(crate::proofs::Grammar::items_spell, crate::proofs::Grammar::spelled_items, crate::proofs::Grammar::spelled_whole))]
 pub fn items_are_spelled()
     ensures bytes { (kind : Kind) (bytes : List ℕ) → joined (items_of kind bytes) ≡ bytes }
-    ensures items { (kind : Kind) (items : List (List ℕ)) → list_all (is_whole kind) items ≡ true → items_of kind (joined items) ≡ items }
-    ensures whole { (kind : Kind) (items : List (List ℕ)) → list_all (is_whole kind) items ≡ true → are_whole kind (joined items) ≡ true }
+    ensures items { (kind : Kind) (items : List (List ℕ)) → list_all (is_whole kind) items ≡ true →
+        items_of kind (joined items) ≡ items }
+    ensures whole { (kind : Kind) (items : List (List ℕ)) → list_all (is_whole kind) items ≡ true →
+        are_whole kind (joined items) ≡ true }
 {}
 
 /// Programs fill bytes exactly where their number is a multiple of 4.
@@ -38,4 +47,31 @@ pub fn restoring_is_undone()
         rewrite_fault (restored packet) ≡ None }
     ensures same { (ca pid : ℕ) (packet : List ℕ) → IsPacket packet → restore_fault ca pid packet ≡ None →
         rewritten ca pid (restored packet) ≡ packet }
+{}
+
+/// A packet that is rewritten, or restored, has its header as it was.
+
+pub fn rewritten_headers_stay()
+    ensures rewritten { (ca pid : ℕ) (packet : List ℕ) → IsPacket packet →
+        KeepsHeader packet (rewritten ca pid packet) }
+    ensures restored { (packet : List ℕ) → IsPacket packet → KeepsHeader packet (restored packet) }
+{}
+
+/// Where a packet that may be restored can't be rewritten, it has no room.
+#[tactic(auto, using(crate::proofs::Keeping::full_is_told_apart))]
+pub fn full_pmts_are_told_apart()
+    ensures { (ca pid : ℕ) (packet : List ℕ) → restore_fault ca pid packet ≡ None → rewrite_fault packet ≢ None →
+        rewrite_fault packet ≡ Some NoRoom }
+{}
+
+/// The packet of the project's CAT is one, and its descriptors are the one that names the system and both PIDs.
+#[tactic(auto, using(crate::proofs::OurCat::our_cat_is_good, crate::proofs::OurCat::our_cat_has_one))]
+pub fn our_cat_is_one()
+    ensures fault { (ca emm ecm counter : ℕ) → counter < 16 → cat_fault (packed (cat_section ca emm ecm) 1 counter)
+        ≡ None }
+    ensures value { (ca emm ecm counter : ℕ) → counter < 16 →
+        descriptors_of (body_of (section_in (packed (cat_section ca emm ecm) 1 counter)))
+        ≡ cat_descriptor ca emm ecm ∷ [] }
+    ensures fields { (ca emm ecm : ℕ) → ca < 2 ^ 16 → emm < 8192 → ecm < 8192 →
+        IsCatDescriptor ca emm ecm (cat_descriptor ca emm ecm) }
 {}

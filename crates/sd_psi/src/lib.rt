@@ -9,13 +9,17 @@ mod items;
 pub mod laws;
 mod pat;
 mod pmt;
+mod program;
 mod rewrite;
+mod stream;
 #[cfg(test)]
 mod tests;
 
 pub use cat::{Cat, cat_in, cat_of};
-pub use descriptor::Descriptor;
+pub use descriptor::{CA_TAG, CaDescriptor, Descriptor, Descriptors};
 pub use fault::FormFault;
 pub use pat::{Pat, pat_in, pat_of};
 pub use pmt::{Pmt, pmt_in, pmt_of};
+pub use program::{PmtPids, Programs};
 pub use rewrite::{restore_pmt, rewrite_pmt};
+pub use stream::{Stream, Streams};

@@ -1,13 +1,14 @@
-ghost use Rattle.std.specs.Prelude.{◌≡◌, ◌<◌, ◌↔◌, true, false, Some, None, IfOk, MatchResult, IsNone, IsSome, IfSome, IsTrue, length, slice_get};
+ghost use Rattle.std.specs.Prelude.{◌≡◌, ◌<◌, ◌↔◌, true, false, Some, None, IfOk, MatchResult, IsNone, IsSome, IfSome};
+ghost use Rattle.std.specs.Prelude.{IsTrue, length, slice_get};
 ghost use Rattle.sd_section.specs.Header.{extension_of, version_of, current_of};
 ghost use Rattle.sd_packet.specs.Header.{payload_start_of};
 ghost use Rattle.sd_psi.specs.Forms.{section_in, pat_fault};
-ghost use Rattle.sd_psi.specs.Tables.{programs_of, is_pat};
+ghost use Rattle.sd_psi.specs.Tables.{programs_in, programs_of, pmt_pids_in, pmt_pids_of, is_pat};
 
 use crate::fault::FormFault;
 use crate::form::{Table, read};
-use crate::items::{Kind, count, item};
-use sd_bits::fields;
+use crate::items::{Kind, fill};
+use crate::program::{PmtPids, Programs};
 use sd_packet::Packet;
 use sd_section::Section;
 
@@ -23,7 +24,7 @@ pub fn pat_in<'a>(section: &Section<'a>) -> Option<Pat<'a>>
     ensures none { IsNone result ↔ (is_pat section.now.bytes.now ≡ false) }
     ensures value { IfSome result (λ pat. pat.section.bytes.now ≡ section.now.bytes.now) }
 {
-    if section.table_id() == Table::Pat.id() && count(Kind::Program, section.body()).is_some() {
+    if section.table_id() == Table::Pat.id() && fill(Kind::Program, section.body()) {
         Some(Pat { section: *section })
     } else {
         None
@@ -31,7 +32,7 @@ pub fn pat_in<'a>(section: &Section<'a>) -> Option<Pat<'a>>
 }
 
 /// The PAT that the packet is by itself.
-#[tactic(auto, using(crate::proofs::Judging::front_first, crate::proofs::Judging::then_good, crate::proofs::Judging::then_loops))]
+#[tactic(auto, using(crate::proofs::Judging::outer_first, crate::proofs::Judging::then_good, crate::proofs::Judging::then_loops))]
 pub fn pat_of<'a>(packet: &'a Packet) -> Result<Pat<'a>, FormFault>
     requires { payload_start_of packet.now < 188 }
     ensures value { IfOk result (λ pat. pat.section.bytes.now ≡ section_in packet.now) }
@@ -63,22 +64,21 @@ impl<'a> Pat<'a> {
         self.section.extension()
     }
 
-    /// How many programs there are.
-    #[tactic(auto, using(crate::proofs::Listing::programs_counted, crate::proofs::Listing::pat_body))]
-    pub fn len(&self) -> usize
-        ensures { result ≡ length (programs_of self.now.section.bytes.now) }
+    /// Its programs.
+    #[tactic(auto, using(crate::proofs::Listing::pat_body), unfolding(crate::specs::Tables::programs_of))]
+    pub fn programs(&self) -> Programs<'a>
+        ensures { programs_in result.bytes.now ≡ programs_of self.now.section.bytes.now }
     {
-        count(Kind::Program, self.section.body()).unwrap()
+        Programs::of(self.section.body())
     }
 
-    /// The number of a program, and the PID of its map, or of the network for number 0.
-    #[tactic(auto, using(crate::proofs::Listing::programs_counted, crate::proofs::Listing::pat_body, crate::proofs::Listing::program_listed), unfolding(crate::specs::Items::size_of))]
-    pub fn program(&self, k: usize) -> (u16, u16)
-        requires { k < length (programs_of self.now.section.bytes.now) }
-        ensures { slice_get (programs_of self.now.section.bytes.now) k ≡ Some result }
+    /// The PIDs that it gives to the PMTs of its programs: to all programs but 0.
+    #[tactic(auto, unfolding(crate::specs::Tables::pmt_pids_of))]
+    pub fn pmt_pids(&self) -> PmtPids<'a>
+        ensures { pmt_pids_in (programs_in result.programs.bytes.now) ≡ pmt_pids_of self.now.section.bytes.now }
     {
-        let program = item(Kind::Program, self.section.body(), k);
-        fields! { program; program_number: 0, 16; program_map_pid: 19, 13; }
-        (program_number as u16, program_map_pid as u16)
+        PmtPids {
+            programs: self.programs(),
+        }
     }
 }

@@ -1,14 +1,17 @@
-ghost use Rattle.std.specs.Prelude.{◌≡◌, ◌+◌, ◌<◌, ◌≤◌, ◌↔◌, true, false, Some, None, IfOk, MatchResult, IsNone, IfSome, IsTrue, length, drop, slice_get};
+ghost use Rattle.std.specs.Prelude.{◌≡◌, ◌+◌, ◌<◌, ◌≤◌, ◌↔◌, true, false, Some, None, IfOk, MatchResult, IsNone};
+ghost use Rattle.std.specs.Prelude.{IfSome, IsTrue, length, drop, slice_get};
 ghost use Rattle.sd_section.specs.Header.{extension_of, version_of, current_of};
 ghost use Rattle.sd_packet.specs.Header.{payload_start_of};
 ghost use Rattle.sd_psi.specs.Forms.{section_in, pmt_fault};
 ghost use Rattle.sd_psi.specs.Rewriting.{is_first};
-ghost use Rattle.sd_psi.specs.Tables.{descriptors_of, are_descriptors, pcr_of, has_info, info_of, loop_of, stream_of, streams_of, stream_at, are_streams as are_streams_of, is_pmt};
+ghost use Rattle.sd_psi.specs.Tables.{descriptors_of, are_descriptors, pcr_of, has_info, info_of, loop_of, streams_in};
+ghost use Rattle.sd_psi.specs.Tables.{streams_of, are_streams as are_streams_of, is_pmt};
 
-use crate::descriptor::Descriptor;
+use crate::descriptor::Descriptors;
 use crate::fault::FormFault;
 use crate::form::{Table, read};
-use crate::items::{Kind, count, item, size};
+use crate::items::{Kind, fill, size};
+use crate::stream::Streams;
 use sd_bits::fields;
 use sd_packet::Packet;
 use sd_section::Section;
@@ -28,7 +31,7 @@ pub fn pmt_in<'a>(section: &Section<'a>) -> Option<Pmt<'a>>
 {
     let (info, streams) = loops(section)?;
     if section.table_id() == Table::Pmt.id()
-        && count(Kind::Descriptor, info).is_some()
+        && fill(Kind::Descriptor, info)
         && are_streams(streams)
     {
         Some(Pmt { section: *section })
@@ -65,7 +68,7 @@ fn are_streams(bytes: &[u8]) -> bool
         let Some(size) = size(Kind::Stream, &bytes[at..]) else {
             return false;
         };
-        if count(Kind::Descriptor, &bytes[at + 5..at + size]).is_none() {
+        if !fill(Kind::Descriptor, &bytes[at + 5..at + size]) {
             return false;
         }
         at += size;
@@ -74,7 +77,7 @@ fn are_streams(bytes: &[u8]) -> bool
 }
 
 /// The PMT that the packet is by itself.
-#[tactic(auto, using(crate::proofs::Judging::front_first, crate::proofs::Judging::then_good, crate::proofs::Judging::then_loops))]
+#[tactic(auto, using(crate::proofs::Judging::outer_first, crate::proofs::Judging::then_good, crate::proofs::Judging::then_loops))]
 pub fn pmt_of<'a>(packet: &'a Packet) -> Result<Pmt<'a>, FormFault>
     requires { payload_start_of packet.now < 188 }
     ensures value { IfOk result (λ pmt. pmt.section.bytes.now ≡ section_in packet.now) }
@@ -124,19 +127,11 @@ impl<'a> Pmt<'a> {
         loops(&self.section).unwrap().0
     }
 
-    /// How many descriptors the program has.
-    pub fn info_len(&self) -> usize
-        ensures { result ≡ length (descriptors_of (info_of self.now.section.bytes.now)) }
+    /// The program's descriptors.
+    pub fn descriptors(&self) -> Descriptors<'a>
+        ensures { result.bytes.now ≡ info_of self.now.section.bytes.now }
     {
-        count(Kind::Descriptor, self.info_bytes()).unwrap()
-    }
-
-    /// The program's descriptor with this number.
-    pub fn info(&self, k: usize) -> Descriptor<'a>
-        requires { k < length (descriptors_of (info_of self.now.section.bytes.now)) }
-        ensures { slice_get (descriptors_of (info_of self.now.section.bytes.now)) k ≡ Some result.bytes.now }
-    {
-        Descriptor::at(self.info_bytes(), k)
+        Descriptors::of(self.info_bytes())
     }
 
     // Whether the program's first descriptor is this one.
@@ -145,7 +140,10 @@ impl<'a> Pmt<'a> {
         requires { 0 < length descriptor.now }
         ensures { result ≡ is_first descriptor.now self.now.section.bytes.now }
     {
-        self.info_len() > 0 && self.info(0).bytes == descriptor
+        match self.descriptors().next() {
+            Some(first) => first.bytes == descriptor,
+            None => false,
+        }
     }
 
     // The bytes of the streams.
@@ -157,50 +155,11 @@ impl<'a> Pmt<'a> {
         loops(&self.section).unwrap().1
     }
 
-    /// How many streams there are.
-    #[tactic(auto, using(crate::proofs::Listing::streams_counted, crate::proofs::Listing::streams_whole))]
-    pub fn len(&self) -> usize
-        ensures { result ≡ length (streams_of self.now.section.bytes.now) }
+    /// Its streams.
+    #[tactic(auto, unfolding(crate::specs::Tables::streams_of))]
+    pub fn streams(&self) -> Streams<'a>
+        ensures { streams_in result.bytes.now ≡ streams_of self.now.section.bytes.now }
     {
-        count(Kind::Stream, self.stream_bytes()).unwrap()
-    }
-
-    // The stream with this number.
-    #[tactic(auto, using(crate::proofs::Listing::streams_counted, crate::proofs::Listing::streams_whole, crate::proofs::Listing::stream_listed, crate::proofs::Listing::info_whole, crate::proofs::Listing::stream_head))]
-    fn stream_item(&self, k: usize) -> &'a [u8]
-        requires { k < length (streams_of self.now.section.bytes.now) }
-        ensures value { stream_at self.now.section.bytes.now k ≡ stream_of result.now }
-        ensures head { 5 ≤ length result.now }
-        ensures whole { are_descriptors (drop 5 result.now) ≡ true }
-    {
-        item(Kind::Stream, self.stream_bytes(), k)
-    }
-
-    /// The stream_type and the elementary_PID of a stream.
-    pub fn stream(&self, k: usize) -> (u8, u16)
-        requires { k < length (streams_of self.now.section.bytes.now) }
-        ensures stream_type { result.0 ≡ (stream_at self.now.section.bytes.now k).stream_type }
-        ensures pid { result.1 ≡ (stream_at self.now.section.bytes.now k).pid }
-    {
-        let stream = self.stream_item(k);
-        fields! { stream; stream_type: 0, 8; elementary_pid: 11, 13; }
-        (stream_type as u8, elementary_pid as u16)
-    }
-
-    /// How many descriptors a stream has.
-    pub fn stream_len(&self, k: usize) -> usize
-        requires { k < length (streams_of self.now.section.bytes.now) }
-        ensures { result ≡ length (descriptors_of (stream_at self.now.section.bytes.now k).info) }
-    {
-        count(Kind::Descriptor, &self.stream_item(k)[5..]).unwrap()
-    }
-
-    /// A stream's descriptor with this number.
-    pub fn stream_info(&self, k: usize, x: usize) -> Descriptor<'a>
-        requires stream { k < length (streams_of self.now.section.bytes.now) }
-        requires descriptor { x < length (descriptors_of (stream_at self.now.section.bytes.now k).info) }
-        ensures { slice_get (descriptors_of (stream_at self.now.section.bytes.now k).info) x ≡ Some result.bytes.now }
-    {
-        Descriptor::at(&self.stream_item(k)[5..], x)
+        Streams::of(self.stream_bytes())
     }
 }

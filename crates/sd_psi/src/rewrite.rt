@@ -1,12 +1,16 @@
-ghost use Rattle.std.specs.Prelude.{◌≡◌, ◌+◌, ◌-◌, ◌<◌, ◌≤◌, ◌++◌, Some, None, IfOk, MatchResult, length, take, replicate};
+ghost use Rattle.std.specs.Prelude.{◌≡◌, ◌+◌, ◌-◌, ◌<◌, ◌≤◌, ◌++◌, Some, None, IfOk, MatchResult, length, take};
+ghost use Rattle.std.specs.Prelude.{replicate};
 ghost use Rattle.std.specs.Result.{OnOk, OnErr};
 ghost use Rattle.sd_packet.specs.Header.{payload_start_of, payload_of};
 ghost use Rattle.sd_section.specs.Header.{section_length_of};
 ghost use Rattle.sd_section.specs.Written.{sealed};
 ghost use Rattle.sd_psi.specs.Tables.{info_length_of};
 ghost use Rattle.sd_psi.specs.Forms.{after_pointer};
-ghost use Rattle.sd_psi.specs.Rewriting.{ca_descriptor as ca_descriptor_of, with_lengths, inserted, removed, rewritten, restored, rewrite_fault, restore_fault, removal_fault};
+ghost use Rattle.sd_psi.specs.Rewriting.{ca_descriptor as ca_descriptor_of, with_lengths, inserted, removed, rewritten};
+ghost use Rattle.sd_psi.specs.Rewriting.{restored, rewrite_fault, restore_fault, removal_fault};
+ghost use Rattle.sd_psi.specs.Undone.{KeepsHeader};
 
+use crate::descriptor::CA_TAG;
 use crate::fault::FormFault;
 use crate::form::{Table, read};
 use crate::pmt::pmt_in;
@@ -19,14 +23,16 @@ const STUFFING: u8 = 0xFF;
 // How many bytes the project's CA_descriptor has.
 const SIZE: usize = 6;
 
-/// Puts the project's CA_descriptor in front of the PMT's others. After a refusal the packet is unchanged.
+/// Puts the project's CA_descriptor before the PMT's others. After a refusal the packet is unchanged.
 #[tactic(auto, using(crate::proofs::Packets::rewritten_laid, crate::proofs::Packets::sync_stays, crate::proofs::Packets::payload_long, crate::proofs::Packets::piece_section, crate::proofs::Packets::piece_info))]
 pub fn rewrite_pmt(packet: &mut Packet, ca: u16, pid: u16) -> Result<(), FormFault>
     requires payload { payload_start_of packet.old < 188 }
     requires pid { pid < 8192 }
     ensures value { OnOk result (packet.new ≡ rewritten ca pid packet.old) }
-    ensures fault { MatchResult result (λ _. rewrite_fault packet.old ≡ None) (λ fault. rewrite_fault packet.old ≡ Some fault) }
+    ensures fault { MatchResult result (λ _. rewrite_fault packet.old ≡ None)
+        (λ fault. rewrite_fault packet.old ≡ Some fault) }
     ensures unchanged { OnErr result (packet.new ≡ packet.old) }
+    ensures header { OnOk result (KeepsHeader packet.old packet.new) }
 {
     let length = judge_rewrite(packet)?;
     let start = packet.payload_start() + 1;
@@ -45,8 +51,10 @@ pub fn restore_pmt(packet: &mut Packet, ca: u16, pid: u16) -> Result<(), FormFau
     requires payload { payload_start_of packet.old < 188 }
     requires pid { pid < 8192 }
     ensures value { OnOk result (packet.new ≡ restored packet.old) }
-    ensures fault { MatchResult result (λ _. restore_fault ca pid packet.old ≡ None) (λ fault. restore_fault ca pid packet.old ≡ Some fault) }
+    ensures fault { MatchResult result (λ _. restore_fault ca pid packet.old ≡ None)
+        (λ fault. restore_fault ca pid packet.old ≡ Some fault) }
     ensures unchanged { OnErr result (packet.new ≡ packet.old) }
+    ensures header { OnOk result (KeepsHeader packet.old packet.new) }
 {
     let length = judge_restore(packet, &ca_descriptor(ca, pid))?;
     let start = packet.payload_start() + 1;
@@ -57,10 +65,11 @@ pub fn restore_pmt(packet: &mut Packet, ca: u16, pid: u16) -> Result<(), FormFau
 }
 
 // How many bytes the PMT has, where the packet may be rewritten.
-#[tactic(auto, using(crate::proofs::Packets::whole_long, crate::proofs::Packets::info_within, crate::proofs::Packets::rewrite_front, crate::proofs::Packets::rewrite_room, crate::proofs::Packets::rewrite_loops, crate::proofs::Packets::rewrite_good))]
+#[tactic(auto, using(crate::proofs::Packets::whole_long, crate::proofs::Packets::info_within, crate::proofs::Packets::rewrite_outer, crate::proofs::Packets::rewrite_room, crate::proofs::Packets::rewrite_loops, crate::proofs::Packets::rewrite_good))]
 fn judge_rewrite(packet: &Packet) -> Result<usize, FormFault>
     requires { payload_start_of packet.now < 188 }
-    ensures fault { MatchResult result (λ _. rewrite_fault packet.now ≡ None) (λ fault. rewrite_fault packet.now ≡ Some fault) }
+    ensures fault { MatchResult result (λ _. rewrite_fault packet.now ≡ None)
+        (λ fault. rewrite_fault packet.now ≡ Some fault) }
     ensures long { IfOk result (λ count. count ≡ 3 + section_length_of (after_pointer packet.now)) }
     ensures info { IfOk result (λ count. 16 + info_length_of (after_pointer packet.now) ≤ count) }
     ensures room { IfOk result (λ count. count + 6 < length (payload_of packet.now)) }
@@ -77,11 +86,12 @@ fn judge_rewrite(packet: &Packet) -> Result<usize, FormFault>
 }
 
 // How many bytes the PMT has, where its first descriptor may be removed.
-#[tactic(auto, using(crate::proofs::Packets::whole_long, crate::proofs::Packets::section_within, crate::proofs::Packets::info_within, crate::proofs::Packets::first_within, crate::proofs::Packets::restore_front, crate::proofs::Packets::restore_loops, crate::proofs::Packets::restore_first, crate::proofs::Packets::restore_good))]
+#[tactic(auto, using(crate::proofs::Packets::whole_long, crate::proofs::Packets::section_within, crate::proofs::Packets::info_within, crate::proofs::Packets::first_within, crate::proofs::Packets::restore_outer, crate::proofs::Packets::restore_loops, crate::proofs::Packets::restore_first, crate::proofs::Packets::restore_good))]
 fn judge_restore(packet: &Packet, descriptor: &[u8; SIZE]) -> Result<usize, FormFault>
     requires payload { payload_start_of packet.now < 188 }
     requires six { length descriptor.now ≡ 6 }
-    ensures fault { MatchResult result (λ _. removal_fault descriptor.now packet.now ≡ None) (λ fault. removal_fault descriptor.now packet.now ≡ Some fault) }
+    ensures fault { MatchResult result (λ _. removal_fault descriptor.now packet.now ≡ None)
+        (λ fault. removal_fault descriptor.now packet.now ≡ Some fault) }
     ensures long { IfOk result (λ count. count ≡ 3 + section_length_of (after_pointer packet.now)) }
     ensures info { IfOk result (λ count. 16 + info_length_of (after_pointer packet.now) ≤ count) }
     ensures first { IfOk result (λ count. 6 ≤ info_length_of (after_pointer packet.now)) }
@@ -114,7 +124,7 @@ fn write_descriptor(bytes: &mut [u8], ca: u16, pid: u16)
 {
     fields! {
         bytes;
-        descriptor_tag: 0, 8 = 0x09;
+        descriptor_tag: 0, 8 = u64::from(CA_TAG);
         descriptor_length: 8, 8 = 4;
         ca_system_id: 16, 16 = u64::from(ca);
         reserved: 32, 3 = 0b111;
@@ -137,7 +147,8 @@ fn set_lengths(head: &mut [u8], section_length: u64, info_length: u64)
     }
 }
 
-// Puts the descriptor in front of the first one of program_info. Six bytes stand after the section, for which there is to be room.
+// Puts the descriptor before the first one of program_info. Six bytes stand after the section, for which there is
+// to be room.
 fn insert(bytes: &mut [u8], descriptor: &[u8; SIZE])
     requires long { 22 ≤ length bytes.old }
     requires section { section_length_of bytes.old < 4090 }

@@ -33,9 +33,12 @@ fn a_pat_is_read(rt: HostRuntime) {
         assert_eq!(rt; pat.stream_id(), 1);
         assert_eq!(rt; pat.version(), 0);
         assert!(rt; pat.current());
-        assert_eq!(rt; pat.len(), 1);
-        assert!(rt; pat.len() > 0);
-        assert_eq!(rt; pat.program(0), (1, 0x1000));
+        let mut programs = pat.programs();
+        assert_eq!(rt; programs.next(), Some((1, 0x1000)));
+        assert_eq!(rt; programs.next(), None);
+        let mut pids = pat.pmt_pids();
+        assert_eq!(rt; pids.next(), Some(0x1000));
+        assert_eq!(rt; pids.next(), None);
     }
 }
 
@@ -48,11 +51,21 @@ fn a_cat_is_read(rt: HostRuntime) {
     if let Ok(cat) = read {
         assert_eq!(rt; cat.version(), 0);
         assert!(rt; cat.current());
-        assert_eq!(rt; cat.len(), 1);
-        assert!(rt; cat.len() > 0);
-        let descriptor = cat.descriptor(0);
-        assert_eq!(rt; descriptor.tag(), 9);
-        assert_eq!(rt; descriptor.body(), &CAT[10..16]);
+        let mut descriptors = cat.descriptors();
+        let first = descriptors.next();
+        assert!(rt; first.is_some());
+        if let Some(descriptor) = first {
+            assert_eq!(rt; descriptor.tag(), 9);
+            assert_eq!(rt; descriptor.body(), &CAT[10..16]);
+            let ca = descriptor.ca();
+            assert!(rt; ca.is_some());
+            if let Some(ca) = ca {
+                assert_eq!(rt; ca.system(), 0x1234);
+                assert_eq!(rt; ca.pid(), 0x1F0);
+                assert_eq!(rt; ca.private(), [0xE1, 0xF1].as_slice());
+            }
+        }
+        assert!(rt; descriptors.next().is_none());
     }
 }
 
@@ -67,16 +80,21 @@ fn a_pmt_is_read(rt: HostRuntime) {
         assert_eq!(rt; pmt.version(), 0);
         assert!(rt; pmt.current());
         assert_eq!(rt; pmt.pcr(), 0x100);
-        assert_eq!(rt; pmt.info_len(), 1);
-        assert!(rt; pmt.info_len() > 0);
-        let descriptor = pmt.info(0);
-        assert_eq!(rt; descriptor.tag(), 9);
-        assert_eq!(rt; descriptor.body(), &REWRITTEN[14..18]);
-        assert_eq!(rt; pmt.len(), 2);
-        assert!(rt; pmt.len() > 1);
-        assert_eq!(rt; pmt.stream(0), (0x1B, 0x100));
-        assert_eq!(rt; pmt.stream(1), (0x0F, 0x101));
-        assert_eq!(rt; pmt.stream_len(1), 0);
+        let mut descriptors = pmt.descriptors();
+        let first = descriptors.next();
+        assert!(rt; first.is_some_and(|descriptor| descriptor.body() == &REWRITTEN[14..18]));
+        assert!(rt; descriptors.next().is_none());
+        let mut streams = pmt.streams();
+        for (stream_type, pid) in [(0x1B, 0x100), (0x0F, 0x101)] {
+            let next = streams.next();
+            assert!(rt; next.is_some());
+            if let Some(stream) = next {
+                assert_eq!(rt; stream.stream_type(), stream_type);
+                assert_eq!(rt; stream.pid(), pid);
+                assert!(rt; stream.descriptors().next().is_none());
+            }
+        }
+        assert!(rt; streams.next().is_none());
     }
 }
 
@@ -262,9 +280,18 @@ fn a_stream_has_descriptors(rt: HostRuntime) {
     let read = pmt_of(&packet);
     assert!(rt; read.is_ok());
     if let Ok(pmt) = read {
-        assert!(rt; pmt.len() == 1);
-        assert!(rt; pmt.stream_len(0) == 1);
-        assert_eq!(rt; pmt.stream_info(0, 0).tag(), 0x0A);
-        assert_eq!(rt; pmt.stream_info(0, 0).body().len(), 155);
+        let stream = pmt.streams().next();
+        assert!(rt; stream.is_some());
+        if let Some(stream) = stream {
+            let mut descriptors = stream.descriptors();
+            let first = descriptors.next();
+            assert!(rt; first.is_some());
+            if let Some(descriptor) = first {
+                assert_eq!(rt; descriptor.tag(), 0x0A);
+                assert_eq!(rt; descriptor.body().len(), 155);
+                assert!(rt; descriptor.ca().is_none());
+            }
+            assert!(rt; descriptors.next().is_none());
+        }
     }
 }

@@ -1,5 +1,6 @@
 -- A chain cover and what the names of revoked leaves reach.
-use Rattle.std.proofs.Common.{ℕ, ◌*◌, ◌/◌, ◌^◌, ◌<◌, ◌≤◌, ◌≡◌, Bool, true, false, nat_eq, List, [], ◌∷◌, cond, count_by, eq-eqb, ⊎_elim, refl, subst, inl, inr, arith}
+use Rattle.std.proofs.Common.{ℕ, ◌*◌, ◌/◌, ◌^◌, ◌<◌, ◌≤◌, ◌≡◌, Bool, true, false, nat_eq, List, [], ◌∷◌, cond, count_by}
+use Rattle.std.proofs.Common.{eq-eqb, ⊎_elim, refl, subst, inl, inr, arith}
 use Rattle.std.specs.Prelude.{◌↔◌, Contains, All, Any}
 use Rattle.std.specs.List.{flat_map, list_any}
 use Rattle.std.proofs.lemmas.Bool.{cases_Bool, false_from_ne_true}
@@ -38,7 +39,8 @@ ends_are_pair d leaves i j all chain =
     let end = linked_end d leaves chain.nodes i chain.linked in
     let above : IsAbove i j = subst (IsAbove i) chain.last (linked_above d leaves chain.nodes i chain.linked) in
     let apart = (chain_leads d leaves i j chain).1 in
-    let within : j < 2 * 2 ^ d = subst (λ (v : ℕ). v < 2 * 2 ^ d) chain.last (within_tree d leaves (last_of i chain.nodes) all end.0) in
+    let within : j < 2 * 2 ^ d =
+    subst (λ (v : ℕ). v < 2 * 2 ^ d) chain.last (within_tree d leaves (last_of i chain.nodes) all end.0) in
     let half = above_le i (j / 2) (above_parent i j (above, apart)) in
     record {
       inner = (start.0, omega arith);
@@ -54,18 +56,23 @@ only_whole name m = elim (member_cases WholeSet [] name m) [
 ]
 
 -- each set of a chain cover is of the tree's height
-pub of_height : (d : ℕ) (leaves : List ℕ) (sets : List SetName) → AreLeaves d leaves → IsChainCover d leaves sets → (name : SetName) → Contains sets name → IsOfHeight d name
+pub of_height : (d : ℕ) (leaves : List ℕ) (sets : List SetName) → AreLeaves d leaves → IsChainCover d leaves sets
+    → (name : SetName) → Contains sets name → IsOfHeight d name
 of_height d [] sets all cover name m =
-    subst (IsOfHeight d) (only_whole name (subst (λ (names : List SetName). Contains names name) (cover.none_revoked refl) m)) tt
+    subst (IsOfHeight d)
+    (only_whole name (subst (λ (names : List SetName). Contains names name) (cover.none_revoked refl) m)) tt
 of_height d (u ∷ us) sets all cover WholeSet m = tt
-of_height d (u ∷ us) sets all cover (Diff i j) m = ends_are_pair d (u ∷ us) i j all ((cover.chains (λ e. absurd (cc)) (Diff i j)).0 m)
+of_height d (u ∷ us) sets all cover (Diff i j) m =
+    ends_are_pair d (u ∷ us) i j all ((cover.chains (λ e. absurd (cc)) (Diff i j)).0 m)
 
 -- a number in a list is found by the test
 is_found : (leaves : List ℕ) (u : ℕ) → Contains leaves u → list_any (nat_eq u) leaves ≡ true
 is_found leaves u (k, within, is) = list_any_at (nat_eq u) leaves k u within (rw is (eq-eqb u u refl))
 
 -- no set of a chain cover has a revoked leaf
-none_has : (d : ℕ) (leaves : List ℕ) (sets : List SetName) (u : ℕ) → d ≤ 20 → AreLeaves d leaves → IsChainCover d leaves sets → Contains leaves u → (name : SetName) → Contains sets name → is_member d name u ≡ true → ⊥
+none_has : (d : ℕ) (leaves : List ℕ) (sets : List SetName) (u : ℕ) → d ≤ 20 → AreLeaves d leaves
+    → IsChainCover d leaves sets → Contains leaves u → (name : SetName) → Contains sets name → is_member d name u ≡ true
+    → ⊥
 none_has d leaves sets u low all cover m name there member =
     let leaf = all u m in
     let count = cover_partition d leaves sets (omega arith) all cover u leaf in
@@ -74,7 +81,8 @@ none_has d leaves sets u low all cover m name there member =
     omega arith
 
 -- the names of a revoked leaf reach no set of the cover
-pub revoked_reach_none : (d : ℕ) (leaves : List ℕ) (sets : List SetName) (u : ℕ) → d ≤ 20 → All (λ w. w < 2 ^ d) leaves → IsChainCover d leaves sets → Contains leaves u → ReachesNoneOf (given d u) sets
+pub revoked_reach_none : (d : ℕ) (leaves : List ℕ) (sets : List SetName) (u : ℕ) → d ≤ 20 → All (λ w. w < 2 ^ d) leaves
+    → IsChainCover d leaves sets → Contains leaves u → ReachesNoneOf (given d u) sets
 revoked_reach_none d leaves sets u low all cover m name there =
     let each : AreLeaves d leaves = λ w. All-contains (λ n. n < 2 ^ d) leaves w all in
     let its = reaches_its_sets d u low (each u m) in
@@ -83,23 +91,34 @@ revoked_reach_none d leaves sets u low all cover m name there =
     (λ r. none ((its.source name height).0 r), λ r. none ((its.key name height).0 r))
 
 -- the same of a book's period
-pub revoked_in_book_reach_none : (d : ℕ) (commands : List Command) (q : ℕ) (sets : List SetName) (u : ℕ) → d ≤ 20 → IsChainCover d (revoked d commands q) sets → Contains (revoked d commands q) u → ReachesNoneOf (given d u) sets
-revoked_in_book_reach_none d commands q sets u low cover m = revoked_reach_none d (revoked d commands q) sets u low (below d commands q) cover m
+pub revoked_in_book_reach_none : (d : ℕ) (commands : List Command) (q : ℕ) (sets : List SetName) (u : ℕ) → d ≤ 20
+    → IsChainCover d (revoked d commands q) sets → Contains (revoked d commands q) u → ReachesNoneOf (given d u) sets
+revoked_in_book_reach_none d commands q sets u low cover m =
+    revoked_reach_none d (revoked d commands q) sets u low (below d commands q) cover m
 
 -- what all leaves of a coalition reach none of, they reach none of together
-pool_reaches_none : (d : ℕ) (coalition : List ℕ) (sets : List SetName) → ((u : ℕ) → Contains coalition u → ReachesNoneOf (given d u) sets) → ReachesNoneOf (flat_map (given d) coalition) sets
+pool_reaches_none : (d : ℕ) (coalition : List ℕ) (sets : List SetName)
+    → ((u : ℕ) → Contains coalition u → ReachesNoneOf (given d u) sets)
+    → ReachesNoneOf (flat_map (given d) coalition) sets
 pool_reaches_none d coalition sets each name there = (
-  λ r. let (k, u, within, is, own) = (reached_by_one d coalition (Named (source_of name))).0 r in (each u (k, within, is) name there).0 own,
-  λ r. let (k, u, within, is, own) = (reached_by_one d coalition (Key name)).0 r in (each u (k, within, is) name there).1 own,
+  λ r. let (k, u, within, is, own) =
+      (reached_by_one d coalition (Named (source_of name))).0 r in (each u (k, within, is) name there).0 own,
+  λ r. let (k, u, within, is, own) =
+      (reached_by_one d coalition (Key name)).0 r in (each u (k, within, is) name there).1 own,
 )
 
 -- the names of revoked leaves together reach no set of the cover
-pub revoked_pool_reaches_none : (d : ℕ) (leaves : List ℕ) (sets : List SetName) (coalition : List ℕ) → d ≤ 20 → All (λ w. w < 2 ^ d) leaves → IsChainCover d leaves sets → All (Contains leaves) coalition → ReachesNoneOf (flat_map (given d) coalition) sets
+pub revoked_pool_reaches_none : (d : ℕ) (leaves : List ℕ) (sets : List SetName) (coalition : List ℕ) → d ≤ 20
+    → All (λ w. w < 2 ^ d) leaves → IsChainCover d leaves sets → All (Contains leaves) coalition
+    → ReachesNoneOf (flat_map (given d) coalition) sets
 revoked_pool_reaches_none d leaves sets coalition low all cover members =
-    pool_reaches_none d coalition sets (λ u m. revoked_reach_none d leaves sets u low all cover (All-contains (Contains leaves) coalition u members m))
+    pool_reaches_none d coalition sets
+    (λ u m. revoked_reach_none d leaves sets u low all cover (All-contains (Contains leaves) coalition u members m))
 
 -- the same of a book's period
-pub revoked_pool_in_book_reaches_none : (d : ℕ) (commands : List Command) (q : ℕ) (sets : List SetName) (coalition : List ℕ) → d ≤ 20 → IsChainCover d (revoked d commands q) sets → All (Contains (revoked d commands q)) coalition → ReachesNoneOf (flat_map (given d) coalition) sets
+pub revoked_pool_in_book_reaches_none : (d : ℕ) (commands : List Command) (q : ℕ) (sets : List SetName)
+    (coalition : List ℕ) → d ≤ 20 → IsChainCover d (revoked d commands q) sets
+    → All (Contains (revoked d commands q)) coalition → ReachesNoneOf (flat_map (given d) coalition) sets
 revoked_pool_in_book_reaches_none d commands q sets coalition low cover members =
     revoked_pool_reaches_none d (revoked d commands q) sets coalition low (below d commands q) cover members
 
@@ -115,20 +134,33 @@ counted_any p (x ∷ xs) some =
     (cases_Bool (p x))
 
 -- a leaf that isn't revoked is in a set of the cover, and its names reach the set's key
-unrevoked_reach_some : (d : ℕ) (leaves : List ℕ) (sets : List SetName) (u : ℕ) → d ≤ 20 → AreLeaves d leaves → IsChainCover d leaves sets → u < 2 ^ d → ¬ Contains leaves u → Any (λ name. IsReached (given d u) (Key name)) sets
+unrevoked_reach_some : (d : ℕ) (leaves : List ℕ) (sets : List SetName) (u : ℕ) → d ≤ 20 → AreLeaves d leaves
+    → IsChainCover d leaves sets → u < 2 ^ d → ¬ Contains leaves u → Any (λ name. IsReached (given d u) (Key name)) sets
 unrevoked_reach_some d leaves sets u low all cover leaf free =
     let absent : list_any (nat_eq u) leaves ≡ false = false_from_ne_true _ (λ e. free (found_member u leaves e)) in
-    let count = rw (among_unrevoked d leaves u leaf, absent) at (cover_partition d leaves sets (omega arith) all cover u leaf) in
-    let (k, name, within, is, member) = Any-from_list_any (λ (n : SetName). is_member d n u) sets (counted_any _ sets (omega arith)) in
-    (k, name, within, is, ((reaches_its_sets d u low leaf).key name (of_height d leaves sets all cover name (k, within, is))).1 member)
+    let count =
+    rw (among_unrevoked d leaves u leaf, absent) at (cover_partition d leaves sets (omega arith) all cover u leaf)
+    in
+    let (k, name, within, is, member) =
+    Any-from_list_any (λ (n : SetName). is_member d n u) sets (counted_any _ sets (omega arith)) in (
+      k,
+      name,
+      within,
+      is,
+      ((reaches_its_sets d u low leaf).key name (of_height d leaves sets all cover name (k, within, is))).1 member,
+    )
 
 -- a leaf's names reach the key of some set of the cover exactly where the leaf isn't revoked
-pub cover_reached : (d : ℕ) (leaves : List ℕ) (sets : List SetName) (u : ℕ) → d ≤ 20 → All (λ w. w < 2 ^ d) leaves → IsChainCover d leaves sets → u < 2 ^ d → Any (λ name. IsReached (given d u) (Key name)) sets ↔ ¬ Contains leaves u
+pub cover_reached : (d : ℕ) (leaves : List ℕ) (sets : List SetName) (u : ℕ) → d ≤ 20 → All (λ w. w < 2 ^ d) leaves
+    → IsChainCover d leaves sets → u < 2 ^ d → Any (λ name. IsReached (given d u) (Key name)) sets ↔ ¬ Contains leaves u
 cover_reached d leaves sets u low all cover leaf = (
   λ (k, name, within, is, r) m. (revoked_reach_none d leaves sets u low all cover m name (k, within, is)).1 r,
   unrevoked_reach_some d leaves sets u low (λ w. All-contains (λ n. n < 2 ^ d) leaves w all) cover leaf,
 )
 
 -- the same of a book's period
-pub cover_in_book_reached : (d : ℕ) (commands : List Command) (q : ℕ) (sets : List SetName) (u : ℕ) → d ≤ 20 → IsChainCover d (revoked d commands q) sets → u < 2 ^ d → Any (λ name. IsReached (given d u) (Key name)) sets ↔ ¬ Contains (revoked d commands q) u
-cover_in_book_reached d commands q sets u low cover leaf = cover_reached d (revoked d commands q) sets u low (below d commands q) cover leaf
+pub cover_in_book_reached : (d : ℕ) (commands : List Command) (q : ℕ) (sets : List SetName) (u : ℕ) → d ≤ 20
+    → IsChainCover d (revoked d commands q) sets → u < 2 ^ d → Any (λ name. IsReached (given d u) (Key name)) sets
+    ↔ ¬ Contains (revoked d commands q) u
+cover_in_book_reached d commands q sets u low cover leaf =
+    cover_reached d (revoked d commands q) sets u low (below d commands q) cover leaf

@@ -1,5 +1,6 @@
 -- The names of a leaf, as they are added one after another.
-use Rattle.std.proofs.Common.{ℕ, suc, zero, ◌+◌, ◌-◌, ◌≡◌, List, [], ◌∷◌, ◌++◌, map, refl, sym, ap, ◌∙◌, append_assoc, add-one, arith}
+use Rattle.std.proofs.Common.{ℕ, suc, zero, ◌+◌, ◌-◌, ◌≡◌, List, [], ◌∷◌, ◌++◌, map, refl, sym, ap, ◌∙◌, append_assoc}
+use Rattle.std.proofs.Common.{add-one, arith}
 use Rattle.std.specs.List.{range_with_len, flat_map}
 use Rattle.std.proofs.lemmas.List.{flat_map_more}
 use Rattle.std.proofs.lemmas.List.FromFn.{map-range_with_len_more}
@@ -13,10 +14,13 @@ abbrev pub first_pairs : ℕ → ℕ → ℕ → ℕ → List Name
 first_pairs d u a n = map (λ b. Pair (path_node d u a) (sibling_of (path_node d u b))) (range_with_len (a + 1) n)
 
 -- one pair more after some names
-pub pair_more : (d u a n b : ℕ) (before : List Name) → a + 1 + n ≡ b → (before ++ first_pairs d u a n) ++ Pair (path_node d u a) (sibling_of (path_node d u b)) ∷ [] ≡ before ++ first_pairs d u a (n + 1)
+pub pair_more : (d u a n b : ℕ) (before : List Name) → a + 1 + n ≡ b → (before ++ first_pairs d u a n)
+    ++ Pair (path_node d u a) (sibling_of (path_node d u b)) ∷ [] ≡ before ++ first_pairs d u a (n + 1)
 pair_more d u a n b before at =
     append_assoc before (first_pairs d u a n) (Pair (path_node d u a) (sibling_of (path_node d u b)) ∷ [])
-    ∙ ap (λ (xs : List Name). before ++ xs) (sym (map-range_with_len_more (λ b. Pair (path_node d u a) (sibling_of (path_node d u b))) (a + 1) n b at))
+    ∙ ap (λ (xs : List Name). before
+    ++ xs) (sym
+    (map-range_with_len_more (λ b. Pair (path_node d u a) (sibling_of (path_node d u b))) (a + 1) n b at))
 
 -- all pairs of the ancestor
 pub pairs_all : (d u a n : ℕ) → n ≡ d - a → first_pairs d u a n ≡ given_under d u a
@@ -38,7 +42,8 @@ range_more a (suc k) =
 pub ancestor_more : (d u k : ℕ) → first_given d u k ++ given_under d u k ≡ first_given d u (k + 1)
 ancestor_more d u k =
     let e : 0 + k ≡ k = omega arith in
-    flat_map_more (given_under d u) (Whole ∷ []) (range_with_len 0 k) k ∙ ap (λ (ks : List ℕ). Whole ∷ [] ++ flat_map (given_under d u) ks) (sym (rw e at (range_more 0 k)))
+    flat_map_more (given_under d u) (Whole ∷ []) (range_with_len 0 k) k
+    ∙ ap (λ (ks : List ℕ). Whole ∷ [] ++ flat_map (given_under d u) ks) (sym (rw e at (range_more 0 k)))
 
 -- all ancestors
 pub ancestors_all : (d u k : ℕ) → k ≡ d → first_given d u k ≡ given d u

@@ -1,5 +1,5 @@
+pub mod Derivation
 pub mod Reached
-pub mod Hanging
 pub mod Own
 pub mod Covers
 pub mod Given

@@ -1,5 +1,5 @@
 -- What follows from names by the steps of the generator. It is said of names and not of bytes.
-use Rattle.std.specs.Prelude.{◌≡◌, true, ℕ, ◌+◌, ◌*◌, ◌≤◌, ◌⊎◌, ◌↔◌, List, [], ◌∷◌, Contains}
+use Rattle.std.specs.Prelude.{◌≡◌, true, ℕ, ◌+◌, ◌*◌, ◌≤◌, ◌⊎◌, ◌↔◌, List, Contains}
 use Rattle.sd_tree.specs.Node.{IsAbove}
 use Rattle.sd_tree.specs.Leaves.{is_member}
 use Rattle.sd_tree.specs.SetNames.{IsOfHeight}
@@ -7,13 +7,15 @@ use Rattle.sd_tree.specs.declared.set.SetName.{SetName}
 use Rattle.sd_tree.specs.declared.set.SetName.TheVariants.{Whole as WholeSet, Diff}
 use Rattle.sd_label.specs.declared.name.Name.{Name}
 use Rattle.sd_label.specs.declared.name.Name.TheVariants.{Whole, Pair}
+use Rattle.sd_reach.specs.Derivation.{IsDerived}
 
 -- a secret by its name: what a receiver can be given, or the key of a set
 pub data Secret : Type 0 where
   Named : Name → Secret
   Key : SetName → Secret
 
--- the second is made from the first: the labels of w's children and the key of S(i,w) from the label of (i,w) [Naor, Naor, Lotspiech 2001, 3.2]
+-- the second is made from the first: the labels of w's children and the key of S(i,w) from the label of (i,w) [Naor,
+-- Naor, Lotspiech 2001, 3.2]
 pub data Follows : Secret → Secret → Type 0 where
   left : {i w : ℕ} → 1 ≤ w → Follows (Named (Pair i w)) (Named (Pair i (2 * w)))
   right : {i w : ℕ} → 1 ≤ w → Follows (Named (Pair i w)) (Named (Pair i (2 * w + 1)))
@@ -25,31 +27,29 @@ abbrev pub IsHeld : List Name → Secret → Type 0
 IsHeld held (Named name) = Contains held name
 IsHeld held (Key name) = ⊥
 
--- secrets, the last one first, of which each is held or made from an earlier one
-abbrev pub IsDerivation : List Name → List Secret → Type 0
-IsDerivation held [] = Unit {0}
-IsDerivation held (secret ∷ earlier) =
-    (IsHeld held secret ⊎ ((from : Secret) × Contains earlier from × Follows from secret)) × IsDerivation held earlier
-
--- the secret is had from the held names: some derivation ends with it [Naor, Naor, Lotspiech 2001, 3.2]
+-- the secret is had from the held names, by the steps of the generator [Naor, Naor, Lotspiech 2001, 3.2]
 unfoldable pub IsReached : List Name → Secret → Type 0
-IsReached held secret = (earlier : List Secret) × IsDerivation held (secret ∷ earlier)
+IsReached held secret = IsDerived (IsHeld held) Follows secret
 
 -- the name of the secret that a set's key is made from
 abbrev pub source_of : SetName → Name
 source_of WholeSet = Whole
 source_of (Diff i j) = Pair i j
 
--- of the sets of a tree of height d just those of leaf u have their key, and what it is made from, reached [Naor, Naor, Lotspiech 2001, 3.2]
+-- of the sets of a tree of height d just those of leaf u have their key, and what it is made from, reached [Naor, Naor,
+-- Lotspiech 2001, 3.2]
 pub record ReachesItsSets (d u : ℕ) (held : List Name) : Type 0 where
-  pub source : (name : SetName) → IsOfHeight d name → IsReached held (Named (source_of name)) ↔ (is_member d name u ≡ true)
+  pub source : (name : SetName) → IsOfHeight d name → IsReached held (Named (source_of name))
+      ↔ (is_member d name u ≡ true)
   pub key : (name : SetName) → IsOfHeight d name → IsReached held (Key name) ↔ (is_member d name u ≡ true)
 
 -- of none of the sets is the key, or what it is made from, reached from the held names
 abbrev pub ReachesNoneOf : List Name → List SetName → Type 0
-ReachesNoneOf held sets = (name : SetName) → Contains sets name → ¬ IsReached held (Named (source_of name)) × ¬ IsReached held (Key name)
+ReachesNoneOf held sets = (name : SetName) → Contains sets name → ¬ IsReached held (Named (source_of name))
+    × ¬ IsReached held (Key name)
 
--- the secret is had from this one name: a label leads to those of all nodes below and to their keys [Naor, Naor, Lotspiech 2001, 3.2]
+-- the secret is had from this one name: a label leads to those of all nodes below and to their keys [Naor, Naor,
+-- Lotspiech 2001, 3.2]
 abbrev pub LeadsTo : Name → Secret → Type 0
 LeadsTo Whole (Named Whole) = Unit {0}
 LeadsTo Whole (Named (Pair k v)) = ⊥

@@ -43,7 +43,8 @@ pub fn pooled_reach()
 /// A leaf's names reach the key of some set of the cover exactly where the leaf isn't revoked.
 pub fn cover_reached()
     ensures leaves { (d : ℕ) (revoked : List ℕ) (sets : List SetName) (u : ℕ) → d ≤ 20 → All (λ w. w < 2 ^ d) revoked →
-        IsChainCover d revoked sets → u < 2 ^ d → Any (λ name. IsReached (given d u) (Key name)) sets ↔ ¬ Contains revoked u }
+        IsChainCover d revoked sets → u < 2 ^ d →
+        Any (λ name. IsReached (given d u) (Key name)) sets ↔ ¬ Contains revoked u }
     ensures book { (d : ℕ) (commands : List Command) (q : ℕ) (sets : List SetName) (u : ℕ) → d ≤ 20 →
         IsChainCover d (revoked_in d commands q) sets → u < 2 ^ d →
         Any (λ name. IsReached (given d u) (Key name)) sets ↔ ¬ Contains (revoked_in d commands q) u }
@@ -54,13 +55,15 @@ pub fn revoked_reach_none()
     ensures leaves { (d : ℕ) (revoked : List ℕ) (sets : List SetName) (u : ℕ) → d ≤ 20 → All (λ w. w < 2 ^ d) revoked →
         IsChainCover d revoked sets → Contains revoked u → ReachesNoneOf (given d u) sets }
     ensures book { (d : ℕ) (commands : List Command) (q : ℕ) (sets : List SetName) (u : ℕ) → d ≤ 20 →
-        IsChainCover d (revoked_in d commands q) sets → Contains (revoked_in d commands q) u → ReachesNoneOf (given d u) sets }
+        IsChainCover d (revoked_in d commands q) sets → Contains (revoked_in d commands q) u →
+        ReachesNoneOf (given d u) sets }
 {}
 
 /// The names of revoked leaves together reach none either.
 pub fn revoked_pool_reaches_none()
-    ensures leaves { (d : ℕ) (revoked : List ℕ) (sets : List SetName) (coalition : List ℕ) → d ≤ 20 → All (λ w. w < 2 ^ d) revoked →
-        IsChainCover d revoked sets → All (Contains revoked) coalition → ReachesNoneOf (flat_map (given d) coalition) sets }
+    ensures leaves { (d : ℕ) (revoked : List ℕ) (sets : List SetName) (coalition : List ℕ) → d ≤ 20 →
+        All (λ w. w < 2 ^ d) revoked → IsChainCover d revoked sets → All (Contains revoked) coalition →
+        ReachesNoneOf (flat_map (given d) coalition) sets }
     ensures book { (d : ℕ) (commands : List Command) (q : ℕ) (sets : List SetName) (coalition : List ℕ) → d ≤ 20 →
         IsChainCover d (revoked_in d commands q) sets → All (Contains (revoked_in d commands q)) coalition →
         ReachesNoneOf (flat_map (given d) coalition) sets }

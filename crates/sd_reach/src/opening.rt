@@ -7,8 +7,8 @@ ghost use Rattle.sd_reach.specs.Reach.{Key, IsReached};
 
 use sd_tree::{Height, Leaf, SetName, contains};
 
-/// Whether the names of some leaf of the coalition reach the set's key. They do exactly where that leaf is in the set, and
-/// the leaves' names together reach no more.
+/// Whether the names of some leaf of the coalition reach the set's key. They do exactly where that leaf is in the set,
+/// and the leaves' names together reach no more.
 pub fn opens(h: Height, coalition: &[Leaf], name: SetName) -> bool
     requires leaves { All (λ u. u < 2 ^ h) coalition.now }
     requires name { IsOfHeight h name }

@@ -1,84 +1,71 @@
--- The lines of the tables in a stream.
-use Rattle.std.proofs.Common.{◌≡◌, ◌≢◌, ℕ, List, length, reverse, Option, Result, Ok, Err, IfErr, refl, sym, ap, subst, ◌∙◌, inl, inr, take_all, arith}
-use Rattle.sd_ports.specs.Files.{Files}
-use Rattle.sd_engine.specs.Stream.{packets_of}
-use Rattle.sd_tables.specs.Inspected.{lines_in}
-use Rattle.sd_tables.specs.Whole.{lines_of, lines_up_to}
-use Rattle.sd_run.specs.declared.status.Status.{Status}
-use Rattle.sd_run.specs.declared.status.Status.TheVariants.{PrintFault}
-use Rattle.sd_run.specs.Work.{Work, Inspect, BeginsToPrint}
-use Rattle.sd_run.specs.Answers.{IsWork, StopsAt, Obeys, PrintsLines, IsOfLines}
-use Rattle.sd_run.proofs.Refusals.{told_weaker, err_is}
+-- The lines of the tables in a stream, packet by packet.
+use Rattle.std.proofs.Common.{◌≡◌, ℕ, zero, suc, List, [], ◌∷◌, ◌++◌, length, take, reverse, append-nil, append_assoc, Option, Some, None, Result, Ok, Err, refl, sym, ap, subst, ◌∙◌, inl, inr, take_all, arith}
+use Rattle.std.proofs.lemmas.List.{reverse-append}
+use Rattle.std.specs.List.{concat, flat_map}
+use Rattle.std.specs.Io.KnownBytes.{Appends}
+use Rattle.sd_cause.specs.Count.{Rose}
+use Rattle.sd_packet.specs.Header.{pid_of}
+use Rattle.sd_lines.specs.Lines.{line_of}
+use Rattle.sd_ports.specs.Bytes.{AppendsPrefix}
+use Rattle.sd_engine.specs.Stream.{packets_of, break_of}
+use Rattle.sd_engine.specs.declared.fault.StreamBreak.{StreamBreak}
+use Rattle.sd_engine.specs.declared.fault.StreamBreak.TheVariants as stream
+use Rattle.sd_tables.specs.Inspected.{lines_in, sections_at}
+use Rattle.sd_tables.specs.Whole.{lines_of, lines_up_to, PrintsTables}
+use Rattle.sd_status.specs.declared.status.Status.{Status}
+use Rattle.sd_status.specs.Outside.{Page}
+use Rattle.sd_status.specs.Comes.{IsEnding, PrintsAll, PrintsSome, PrintsPrefix}
+use Rattle.sd_status.specs.Prints.{Prints}
+use Rattle.sd_run.specs.Tables.{packet_lines, inspecting, stream_status}
 
--- the lines of all packets are those of as many as there are
-all_lines : (stream : List ℕ) → lines_of stream ≡ lines_up_to (length (packets_of stream)) stream
+-- the end of a stream may stand at the end of work
+pub stream_ends : (found : Option StreamBreak) → IsEnding (stream_status found)
+stream_ends None = tt
+stream_ends (Some (stream.Torn packet)) = tt
+stream_ends (Some (stream.NoSync packet)) = tt
+
+-- after a packet the lines go on with those of the next ones
+grown : (k : ℕ) (before packets : List (List ℕ)) →
+    lines_in (reverse (take k packets) ++ before) ≡ lines_in before ++ concat (take k (packet_lines before packets))
+unfolding lines_in
+grown zero before packets = sym (append-nil (lines_in before))
+grown (suc k) before [] = sym (append-nil (lines_in before))
+grown (suc k) before (packet ∷ packets) =
+    ap (λ (ps : List (List ℕ)). lines_in (ps ++ before)) (reverse-append (packet ∷ []) (take k packets))
+    ∙ ap lines_in (append_assoc (reverse (take k packets)) (packet ∷ []) before)
+    ∙ grown k (packet ∷ before) packets
+    ∙ append_assoc (lines_in before) (flat_map (line_of (length before) (pid_of packet)) (sections_at packet before))
+    (concat (take k (packet_lines (packet ∷ before) packets)))
+
+-- the lines of some first packets
+first_lines : (k : ℕ) (bytes : List ℕ) → lines_up_to k bytes ≡ concat (take k (packet_lines [] (packets_of bytes)))
+unfolding lines_up_to lines_in
+first_lines k bytes =
+    ap lines_in (sym (append-nil (reverse (take k (packets_of bytes))))) ∙ grown k [] (packets_of bytes)
+
+count_lines : (before packets : List (List ℕ)) → length (packet_lines before packets) ≡ length packets
+count_lines before [] = refl
+count_lines before (packet ∷ packets) = ap suc (count_lines (packet ∷ before) packets)
+
+-- the lines of all packets
+all_lines : (bytes : List ℕ) → lines_of bytes ≡ concat (packet_lines [] (packets_of bytes))
 unfolding lines_of lines_up_to
-all_lines stream = ap (λ ps. lines_in (reverse ps)) (sym (take_all (length (packets_of stream)) (packets_of stream) (omega arith)))
+all_lines bytes =
+    let packets = packets_of bytes in
+    let pieces = packet_lines [] packets in
+    ap (λ (ps : List (List ℕ)). lines_in (reverse ps)) (sym (take_all (length packets) packets (omega arith)))
+    ∙ first_lines (length packets) bytes
+    ∙ ap concat (take_all (length packets) pieces (omega (arith, count_lines [] packets)))
 
--- the whole text of an inspection is one that it may begin with
-pub whole_begins : (stream lines : List ℕ) → lines ≡ lines_of stream → BeginsToPrint (Inspect stream) lines
-whole_begins stream lines e = (length (packets_of stream), e ∙ all_lines stream)
+-- what was printed of the lines of a stream
+pub prints_all : (bytes : List ℕ) (a b : Page) → Appends a.printed b.printed (lines_of bytes) →
+    PrintsAll (inspecting bytes) a b
+prints_all bytes a b h = subst (λ (xs : List ℕ). Appends a.printed b.printed xs) (all_lines bytes) h
 
--- an inspection that ended otherwise than done, or was stopped by want of memory
-inspecting_stops : (meant : Files → Result Work Status) (files : Option Files) (stream : List ℕ) (old new : Option (List ℕ)) (status : Status)
-    → IsWork meant files (Inspect stream) → IsOfLines status → PrintsLines stream old new (Err status) → status ≢ PrintFault
-    → StopsAt meant files files old new status
-inspecting_stops meant files stream old new status work (inl wanting) printed whole =
-    let lines = printed.no_memory (ap Err wanting) in
-    subst (λ (s : Status). StopsAt meant files files old new s) (sym wanting) (record {
-      lines = lines_up_to lines.0 stream;
-      halted = inl (record {
-        refused = told_weaker files _ _ (λ fs h. tt) work;
-        stops = inr tt;
-        begun = inr (Inspect stream, work, (lines.0, refl));
-        none = λ other. absurd (other refl);
-        files_stay = λ _. refl;
-        out = inl refl;
-      });
-      printed = lines.1;
-    })
-inspecting_stops meant files stream old new status work (inr (inl failed)) printed whole = absurd (whole failed)
-inspecting_stops meant files stream old new status work (inr (inr broken)) printed whole =
-    let lines = printed.broken broken.0 broken.1 (ap Err broken.2) in
-    record {
-      lines = lines_of stream;
-      halted = inr (record {
-        work = Inspect stream;
-        is_meant = work;
-        ends = lines.0 ∙ sym broken.2;
-        not_done = λ e. cc;
-        prints = refl;
-        made = refl;
-      });
-      printed = lines.1;
-    }
+pub prints_some : (bytes : List ℕ) (a b : Page) (k : ℕ) → Appends a.printed b.printed (lines_up_to k bytes) →
+    PrintsSome (inspecting bytes) a b
+prints_some bytes a b k h = (k, subst (λ (xs : List ℕ). Appends a.printed b.printed xs) (first_lines k bytes) h)
 
--- printing the lines of the stream that is meant obeys
-pub inspecting_obeys : (meant : Files → Result Work Status) (files : Option Files) (stream : List ℕ) (old new : Option (List ℕ)) (result : Result (Unit {0}) Status)
-    → IsWork meant files (Inspect stream) → IfErr result IsOfLines → PrintsLines stream old new result → Obeys meant files files old new result
-inspecting_obeys meant files stream old new (Ok done) work only printed = record {
-  done = record {
-    work = Inspect stream;
-    is_meant = work;
-    ends = printed.done.0;
-    text = lines_of stream;
-    prints = refl;
-    printed = printed.done.1;
-    made = refl;
-  };
-  cut_off = λ e. absurd (cc);
-  stops = λ s e n. absurd (cc);
-}
-inspecting_obeys meant files stream old new (Err status) work only printed = record {
-  done = tt;
-  cut_off = λ e. record {
-    work = Inspect stream;
-    is_meant = work;
-    text = lines_of stream;
-    prints = refl;
-    front = printed.cut_off e;
-    files_stay = refl;
-  };
-  stops = λ s e n. subst (λ (s : Status). StopsAt meant files files old new s) (err_is e)
-      (inspecting_stops meant files stream old new status work only printed (λ f. n (sym (err_is e) ∙ f)));
-}
+pub prints_prefix : (bytes : List ℕ) (a b : Page) → AppendsPrefix a.printed b.printed (lines_of bytes) →
+    PrintsPrefix (inspecting bytes) a b
+prints_prefix bytes a b h = subst (λ (xs : List ℕ). AppendsPrefix a.printed b.printed xs) (all_lines bytes) h

@@ -1,8 +1,9 @@
+pub mod Places
+pub mod Looked
 pub mod Words
-pub mod Covers
+pub mod Making
+pub mod Carding
 pub mod Inspected
-pub mod Refusals
-pub mod Told
-pub mod Outs
+pub mod Covers
 pub mod Ordered
-pub mod Completeness
+pub mod Goodness

@@ -4,8 +4,8 @@ use Rattle.std.proofs.lemmas.Bool.{cases_lt}
 use Rattle.sd_text.specs.Number.{number_of, decimal_after, after, fitting}
 use Rattle.sd_text.specs.declared.number.NumberFault.{NumberFault}
 use Rattle.sd_text.specs.declared.number.NumberFault.TheVariants.{TooLarge}
-use Rattle.sd_run.specs.declared.status.Status.TheVariants.{BadWord}
-use Rattle.sd_run.specs.Meaning.{at_most, number_in}
+use Rattle.sd_status.specs.declared.status.Status.TheVariants.{BadWord}
+use Rattle.sd_run.specs.Words.{at_most, number_in}
 
 -- after no word stands the whole text
 after_nothing : (text : List ℕ) → decimal_after [] text ≡ number_of text

@@ -1,8 +1,9 @@
-pub mod Texts
-pub mod Work
+pub mod Words
+pub mod Files
+pub mod Periods
+pub mod Cover
+pub mod Card
+pub mod Sample
+pub mod Tables
 pub mod Meaning
-pub mod Answers
-pub mod Orders
-pub mod Lines
-pub mod Exits
-pub mod Complete
+pub mod Shown

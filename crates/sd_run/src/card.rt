@@ -1,14 +1,18 @@
-ghost use Rattle.std.specs.Prelude.{◌≡◌, ◌⊎◌, List, ℕ, Option, IfErr};
+ghost use Rattle.std.specs.Prelude.{◌≡◌};
 ghost use Rattle.sd_site.specs.Fields.{fields_of};
-ghost use Rattle.sd_run.specs.Meaning.{card_in, card_work, told_card};
-ghost use Rattle.sd_run.specs.Answers.{Obeys, Gives, ForTold, IsRefusal, MakesAtMostOne, HasOutsideCause};
+ghost use Rattle.sd_status.specs.Outside.{Page, place, outside};
+ghost use Rattle.sd_status.specs.Reads.{Judges, TakesFor};
+ghost use Rattle.sd_status.specs.Comes.{Follows, status_of};
+ghost use Rattle.sd_run.specs.Card.{card_meaning, told_card};
+ghost use Rattle.sd_run.specs.Shown.{shown_word, shown_number};
 
 use crate::files::read_site;
-use crate::out::make_file;
-use crate::status::Status;
+use crate::made::make_file;
+use crate::word::{Number, Word};
 use sd_card::Card;
 use sd_ports::Depot;
 use sd_site::Site;
+use sd_status::Status;
 use sd_steps::Steps;
 use sd_tree::Leaf;
 use std::alloc::Global;
@@ -18,53 +22,34 @@ use std::sync::ledger::Ledger;
 pub fn card<D: Depot, L: Ledger>(
     alloc: Global,
     depot: &mut D,
-    site: &str,
-    leaf: u32,
-    out: &str,
+    site: Word<'_>,
+    leaf: Number,
+    out: Word<'_>,
     steps: &mut Steps<L>,
 ) -> Result<(), Status>
-    ensures obeys { (held : Option (List ℕ)) →
-        Obeys (λ files. card_work files site.now leaf out.now) (D.files depot.old) (D.files depot.new) held held result }
-    ensures refusal { IfErr result IsRefusal }
-    ensures made { MakesAtMostOne (D.made depot.old) (D.made depot.new) }
-    ensures cause { HasOutsideCause (D.faults depot.old) (D.faults depot.new) (D.misses depot.old) (D.misses depot.new) result }
+    ensures { (page : Page) →
+        Follows (card_meaning (shown_word site.entry) (shown_number leaf) (shown_word out.entry))
+        (outside (place D.Depot depot.old) page steps.old) (outside (place D.Depot depot.new) page steps.new)
+        (status_of result) }
 {
-    let bytes = card_file(alloc, depot, site, leaf, steps)?;
+    let site = read_site(alloc, depot, site)?;
+    let bytes = card_of(alloc, &site, leaf, steps)?;
     make_file(alloc, depot, out, &bytes)
 }
 
-/// The bytes of the leaf's card.
-#[tactic(auto, unfolding(crate::specs::Meaning::card_in))]
-fn card_file<D: Depot, L: Ledger>(
-    alloc: Global,
-    depot: &mut D,
-    site: &str,
-    leaf: u32,
-    steps: &mut Steps<L>,
-) -> Result<Vec<u8>, Status>
-    ensures files { D.files depot.new ≡ D.files depot.old }
-    ensures made { D.made depot.new ≡ D.made depot.old }
-    ensures meant { ForTold (D.files depot.old) (λ files. Gives (λ bytes. bytes.items) result (card_in files site.now leaf)) }
-    ensures refusal { IfErr result IsRefusal }
-    ensures cause { HasOutsideCause (D.faults depot.old) (D.faults depot.new) (D.misses depot.old) (D.misses depot.new) result }
-{
-    let site = read_site(alloc, depot, site)?;
-    card_of(alloc, &site, leaf, steps)
-}
-
-/// The bytes of the card of a site's leaf.
+/// The bytes of the card of a site's leaf, which is to be one of its tree.
 fn card_of<L: Ledger>(
     alloc: Global,
     site: &Site,
-    leaf: u32,
+    leaf: Number,
     steps: &mut Steps<L>,
 ) -> Result<Vec<u8>, Status>
-    ensures meant { Gives (λ bytes. bytes.items) result (told_card (fields_of site.now) leaf) }
-    ensures only { IfErr result (λ status. (status ≡ Status.BadWord 2) ⊎ (status ≡ Status.NoMemory)) }
+    ensures value { Judges (λ bytes. bytes.items) (told_card (fields_of site.now) (shown_number leaf)) result }
+    ensures steps { TakesFor (told_card (fields_of site.now) (shown_number leaf)) steps.old steps.new }
 {
-    let Some(leaf) = Leaf::new(site.height, leaf) else {
-        return Err(Status::BadWord(2));
+    let Some(of_tree) = Leaf::new(site.height, leaf.value) else {
+        return Err(Status::BadWord(leaf.word));
     };
-    let card = Card::make(alloc, site, leaf, steps)?;
+    let card = Card::make(alloc, site, of_tree, steps)?;
     Ok(card.write(alloc)?)
 }

@@ -1,111 +1,118 @@
-ghost use Rattle.std.specs.Prelude.{◌≡◌, ◌≢◌, ℕ, IfOk, IfErr, IsErrOf};
+ghost use Rattle.std.specs.Prelude.{◌≡◌, IfOk};
+ghost use Rattle.sd_book.specs.Text.{book_of};
 ghost use Rattle.sd_site.specs.Fields.{fields_of};
-ghost use Rattle.sd_run.specs.declared.status.LimitKind.TheVariants.{StreamBytes};
-ghost use Rattle.sd_run.specs.Meaning.{file_in, site_in, book_in, refused_book};
-ghost use Rattle.sd_run.specs.Answers.{Gives, ForTold, IsRefusal, HasOutsideCause};
+ghost use Rattle.sd_site.specs.Text.{site_of};
+ghost use Rattle.sd_status.specs.Meant.{within};
+ghost use Rattle.sd_status.specs.Outside.{place};
+ghost use Rattle.sd_status.specs.Reads.{Judges, Looks};
+ghost use Rattle.sd_run.specs.Files.{site_of_file, book_of_file, refused_book, told_book, told_site};
+ghost use Rattle.sd_run.specs.Shown.{shown_word};
 
-use crate::status::{LimitKind, Status};
+use crate::word::Word;
 use sd_book::{Book, BookFault};
 use sd_ports::{Depot, FileFault, read_file};
 use sd_site::Site;
+use sd_status::{LimitKind, Status};
 use sd_tree::Height;
 use std::alloc::Global;
 
+/// As many bytes as a site file may have.
 const MOST_SITE_BYTES: usize = 4_096;
 
+/// As many bytes as a book file may have.
 const MOST_BOOK_BYTES: usize = 33_554_432;
 
+/// As many bytes as a stream file may have.
 const MOST_STREAM_BYTES: usize = 67_108_864;
 
-/// The site of the file that word 1 names.
-#[tactic(auto, unfolding(crate::specs::Meaning::site_in))]
-pub fn read_site<D: Depot>(alloc: Global, depot: &mut D, name: &str) -> Result<Site, Status>
-    ensures files { D.files depot.new ≡ D.files depot.old }
-    ensures made { D.made depot.new ≡ D.made depot.old }
-    ensures meant { ForTold (D.files depot.old) (λ files. Gives fields_of result (site_in files name.now)) }
-    ensures refusal { IfErr result IsRefusal }
-    ensures cause { HasOutsideCause (D.faults depot.old) (D.faults depot.new) (D.misses depot.old) (D.misses depot.new) result }
+/// The site of the word's file.
+pub fn read_site<D: Depot>(alloc: Global, depot: &mut D, word: Word<'_>) -> Result<Site, Status>
+    ensures { Looks fields_of (site_of_file word.entry.number) word.entry.text.now
+        (place D.Depot depot.old) (place D.Depot depot.new) result }
 {
-    let bytes = read_bytes(alloc, depot, name, 1, MOST_SITE_BYTES, LimitKind::SiteBytes)?;
-    match sd_site::read(&bytes) {
+    let bytes = read_bytes(alloc, depot, word, MOST_SITE_BYTES, LimitKind::SiteBytes)?;
+    judge_site(&bytes)
+}
+
+/// The site that a file's bytes say.
+fn judge_site(bytes: &[u8]) -> Result<Site, Status>
+    ensures { Judges fields_of (told_site (site_of bytes.now)) result }
+{
+    match sd_site::read(bytes) {
         Ok(site) => Ok(site),
         Err(fault) => Err(Status::BadSite(fault)),
     }
 }
 
-/// The book of the file that word 2 names.
-#[tactic(auto, unfolding(crate::specs::Meaning::book_in))]
+/// The book of the word's file.
 pub fn read_book<D: Depot>(
     alloc: Global,
     depot: &mut D,
-    name: &str,
+    word: Word<'_>,
     h: Height,
 ) -> Result<Book, Status>
-    ensures files { D.files depot.new ≡ D.files depot.old }
-    ensures made { D.made depot.new ≡ D.made depot.old }
+    ensures value { Looks (λ book. book.commands) (book_of_file word.entry.number h) word.entry.text.now
+        (place D.Depot depot.old) (place D.Depot depot.new) result }
     ensures height { IfOk result (λ book. book.height ≡ h) }
-    ensures meant { ForTold (D.files depot.old) (λ files. Gives (λ book. book.commands) result (book_in files h name.now)) }
-    ensures refusal { IfErr result IsRefusal }
-    ensures cause { HasOutsideCause (D.faults depot.old) (D.faults depot.new) (D.misses depot.old) (D.misses depot.new) result }
 {
-    let bytes = read_bytes(alloc, depot, name, 2, MOST_BOOK_BYTES, LimitKind::BookBytes)?;
-    match Book::read(alloc, &bytes, h) {
+    let bytes = read_bytes(alloc, depot, word, MOST_BOOK_BYTES, LimitKind::BookBytes)?;
+    judge_book(alloc, word.number, &bytes, h)
+}
+
+/// The book that the bytes of this word's file say.
+fn judge_book(alloc: Global, word: u8, bytes: &[u8], h: Height) -> Result<Book, Status>
+    ensures value { Judges (λ book. book.commands) (told_book word (book_of h bytes.now)) result }
+    ensures height { IfOk result (λ book. book.height ≡ h) }
+{
+    match Book::read(alloc, bytes, h) {
         Ok(book) => Ok(book),
-        Err(fault) => Err(refused(fault)),
+        Err(fault) => Err(refused(word, fault)),
     }
 }
 
 /// What the program answers to a book that is refused.
-fn refused(fault: BookFault) -> Status
-    ensures meant { result ≡ refused_book fault }
-    ensures refusal { IsRefusal result }
-    ensures outside { (result ≢ Status.DepotFault) × ((word : ℕ) → result ≢ Status.Missing word) }
+fn refused(word: u8, fault: BookFault) -> Status
+    ensures { result ≡ refused_book word fault }
 {
     match fault {
-        BookFault::Line(line) | BookFault::Leaf(line) => Status::BadBook { word: 2, line },
+        BookFault::Line(line) | BookFault::Leaf(line) => Status::BadBook { word, line },
         BookFault::Limit(limit) => Status::Limit(LimitKind::Book(limit)),
         BookFault::NoMemory => Status::NoMemory,
     }
 }
 
-/// The bytes of the stream file that word 1 names.
-pub fn read_stream<D: Depot>(alloc: Global, depot: &mut D, name: &str) -> Result<Vec<u8>, Status>
-    ensures files { D.files depot.new ≡ D.files depot.old }
-    ensures made { D.made depot.new ≡ D.made depot.old }
-    ensures meant { ForTold (D.files depot.old) (λ files.
-        Gives (λ bytes. bytes.items) result (file_in files 1 67108864 StreamBytes name.now)) }
-    ensures refusal { IfErr result IsRefusal }
-    ensures cause { HasOutsideCause (D.faults depot.old) (D.faults depot.new) (D.misses depot.old) (D.misses depot.new) result }
+/// The bytes of the word's stream file.
+pub fn read_stream<D: Depot>(
+    alloc: Global,
+    depot: &mut D,
+    word: Word<'_>,
+) -> Result<Vec<u8>, Status>
+    ensures { Looks (λ bytes. bytes.items) (within word.entry.number MOST_STREAM_BYTES LimitKind.StreamBytes)
+        word.entry.text.now (place D.Depot depot.old) (place D.Depot depot.new) result }
 {
     read_bytes(
         alloc,
         depot,
-        name,
-        1,
+        word,
         MOST_STREAM_BYTES,
         LimitKind::StreamBytes,
     )
 }
 
-/// The bytes of the file that a word names, at most `most`.
+/// The bytes of the word's file, at most `most`.
 fn read_bytes<D: Depot>(
     alloc: Global,
     depot: &mut D,
-    name: &str,
-    word: u8,
+    word: Word<'_>,
     most: usize,
     kind: LimitKind,
 ) -> Result<Vec<u8>, Status>
-    ensures files { D.files depot.new ≡ D.files depot.old }
-    ensures made { D.made depot.new ≡ D.made depot.old }
-    ensures meant { ForTold (D.files depot.old) (λ files.
-        Gives (λ bytes. bytes.items) result (file_in files word most kind name.now)) }
-    ensures refusal { IfErr result IsRefusal }
-    ensures cause { HasOutsideCause (D.faults depot.old) (D.faults depot.new) (D.misses depot.old) (D.misses depot.new) result }
+    ensures { Looks (λ bytes. bytes.items) (within word.entry.number most kind) word.entry.text.now
+        (place D.Depot depot.old) (place D.Depot depot.new) result }
 {
-    match read_file(alloc, depot, name, most) {
+    match read_file(alloc, depot, word.text, most) {
         Ok(bytes) => Ok(bytes),
-        Err(FileFault::Missing) => Err(Status::Missing(word)),
+        Err(FileFault::Missing) => Err(Status::Missing(word.number)),
         Err(FileFault::TooBig) => Err(Status::Limit(kind)),
         Err(FileFault::Failed) => Err(Status::DepotFault),
         Err(FileFault::NoMemory) => Err(Status::NoMemory),

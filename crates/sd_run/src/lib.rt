@@ -4,17 +4,15 @@
 mod card;
 mod cover;
 mod files;
+pub mod laws;
+mod made;
 mod order;
-mod out;
 mod sample;
-mod status;
 mod tables;
-mod telling;
 mod text;
 mod top;
+mod word;
 
-pub use status::{LimitKind, Status, StreamCause};
-pub use telling::tell;
 pub use top::run;
 
 #[cfg(test)]

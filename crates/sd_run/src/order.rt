@@ -1,45 +1,52 @@
 ghost use Rattle.std.specs.Prelude.{◌≡◌, ◌≤◌, ◌⊎◌, ℕ, IfOk, IfErr, map, string_bytes};
-ghost use Rattle.sd_run.specs.Meaning.{order_of, card_words, sample_words, number_in};
-ghost use Rattle.sd_run.specs.Orders.{shown, IsWithin};
+ghost use Rattle.sd_run.specs.Words.{order_of, card_words, sample_words, number_in};
+ghost use Rattle.sd_run.specs.Shown.{shown, IsSound, RefusesWords};
 
-use crate::status::Status;
+use crate::word::{Number, Word};
+use sd_status::Status;
 use sd_text::number_after;
 
 /// As many packets as a sample stream may have.
-const MOST_PACKETS: u32 = 1_000_000;
+pub(crate) const MOST_PACKETS: u32 = 1_000_000;
 
 /// A command and what its words say.
 #[derive(Clone, Copy)]
 pub enum Order<'a> {
     Cover {
-        site: &'a str,
-        book: &'a str,
+        site: Word<'a>,
+        book: Word<'a>,
     },
     Card {
-        site: &'a str,
-        leaf: u32,
-        out: &'a str,
+        site: Word<'a>,
+        leaf: Number,
+        out: Word<'a>,
     },
     Sample {
         number: u32,
         packets: u32,
-        out: &'a str,
+        out: Word<'a>,
     },
     Tables {
-        stream: &'a str,
+        stream: Word<'a>,
     },
 }
 
 /// What the words say, or the status of their refusal.
 pub fn read_words(words: &[String]) -> Result<Order<'_>, Status>
     ensures value { shown result ≡ order_of (map string_bytes words.now) }
-    ensures within { IfOk result IsWithin }
-    ensures refusal { IfErr result (λ status. (status ≡ Status.Usage) ⊎ ((word : ℕ) × (status ≡ Status.BadWord word))) }
+    ensures fits { IfOk result IsSound }
+    ensures fault { IfErr result RefusesWords }
 {
     match words {
         [command, site, book] if command.as_str() == "cover" => Ok(Order::Cover {
-            site: site.as_str(),
-            book: book.as_str(),
+            site: Word {
+                number: 1,
+                text: site.as_str(),
+            },
+            book: Word {
+                number: 2,
+                text: book.as_str(),
+            },
         }),
         [command, site, leaf, out] if command.as_str() == "card" => {
             read_card(site.as_str(), leaf.as_str(), out.as_str())
@@ -48,47 +55,63 @@ pub fn read_words(words: &[String]) -> Result<Order<'_>, Status>
             read_sample(number.as_str(), packets.as_str(), out.as_str())
         }
         [command, stream] if command.as_str() == "tables" => Ok(Order::Tables {
-            stream: stream.as_str(),
+            stream: Word {
+                number: 1,
+                text: stream.as_str(),
+            },
         }),
         _ => Err(Status::Usage),
     }
 }
 
 /// What the words of `card` say.
-#[tactic(auto, unfolding(crate::specs::Meaning::card_words))]
+#[tactic(auto, unfolding(crate::specs::Words::card_words))]
 fn read_card<'a>(site: &'a str, leaf: &str, out: &'a str) -> Result<Order<'a>, Status>
     ensures value { shown result ≡ card_words site.now leaf.now out.now }
-    ensures within { IfOk result IsWithin }
-    ensures refusal { IfErr result (λ status. (status ≡ Status.Usage) ⊎ ((word : ℕ) × (status ≡ Status.BadWord word))) }
+    ensures fits { IfOk result IsSound }
+    ensures fault { IfErr result RefusesWords }
 {
     if site == out {
         return Err(Status::Usage);
     }
-    let leaf = read_number(2, leaf, u32::MAX)?;
-    Ok(Order::Card { site, leaf, out })
+    let value = read_number(2, leaf, u32::MAX)?;
+    Ok(Order::Card {
+        site: Word {
+            number: 1,
+            text: site,
+        },
+        leaf: Number { word: 2, value },
+        out: Word {
+            number: 3,
+            text: out,
+        },
+    })
 }
 
 /// What the words of `sample` say.
-#[tactic(auto, unfolding(crate::specs::Meaning::sample_words))]
+#[tactic(auto, unfolding(crate::specs::Words::sample_words))]
 fn read_sample<'a>(number: &str, packets: &str, out: &'a str) -> Result<Order<'a>, Status>
     ensures value { shown result ≡ sample_words number.now packets.now out.now }
-    ensures within { IfOk result IsWithin }
-    ensures refusal { IfErr result (λ status. (status ≡ Status.Usage) ⊎ ((word : ℕ) × (status ≡ Status.BadWord word))) }
+    ensures fits { IfOk result IsSound }
+    ensures fault { IfErr result RefusesWords }
 {
     let number = read_number(1, number, u32::MAX)?;
     let packets = read_number(2, packets, MOST_PACKETS)?;
     Ok(Order::Sample {
         number,
         packets,
-        out,
+        out: Word {
+            number: 3,
+            text: out,
+        },
     })
 }
 
 /// The number of this word, which is to be at most so large.
 fn read_number(word: u8, text: &str, most: u32) -> Result<u32, Status>
     ensures value { result ≡ number_in word most text.now }
-    ensures within { IfOk result (λ number. number ≤ most) }
-    ensures refusal { IfErr result (λ status. status ≡ Status.BadWord word) }
+    ensures fits { IfOk result (λ number. number ≤ most) }
+    ensures fault { IfErr result (λ status. status ≡ Status.BadWord word) }
 {
     match number_after(b"", text.as_bytes()) {
         Ok(number) if number <= most => Ok(number),

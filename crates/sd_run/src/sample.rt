@@ -1,36 +1,40 @@
-ghost use Rattle.std.specs.Prelude.{◌≡◌, ◌≤◌, List, ℕ, Option, Ok, IfErr};
-ghost use Rattle.sd_ports.specs.Causes.{HasFileCause};
+ghost use Rattle.std.specs.Prelude.{◌≡◌, ◌≤◌, ℕ};
+ghost use Rattle.sd_ports.specs.Causes.{CountsCalls, HasFileCause};
 ghost use Rattle.sd_ports.specs.Files.{WritesFile};
 ghost use Rattle.sd_sample.specs.Sample.{sample_of};
-ghost use Rattle.sd_run.specs.Meaning.{sample_work};
-ghost use Rattle.sd_run.specs.Answers.{Obeys, IsRefusal, MakesAtMostOne, HasOutsideCause};
+ghost use Rattle.sd_status.specs.Outside.{Page, outside, place};
+ghost use Rattle.sd_status.specs.Comes.{Follows, status_of};
+ghost use Rattle.sd_run.specs.Sample.{sample_meaning};
+ghost use Rattle.sd_run.specs.Shown.{shown_word};
 
-use crate::out::told;
-use crate::status::Status;
+use crate::made::told;
+use crate::order::MOST_PACKETS;
+use crate::word::Word;
 use sd_ports::{Depot, DepotFault, FileFault};
+use sd_status::Status;
 use std::alloc::Global;
 
 /// Does `sample NUMBER PACKETS OUT`.
-#[tactic(auto, using(crate::proofs::Outs::made_one, crate::proofs::Outs::outside, crate::proofs::Outs::told_refuses))]
 pub fn sample<D: Depot>(
     alloc: Global,
     depot: &mut D,
     number: u32,
     packets: u32,
-    out: &str,
+    out: Word<'_>,
 ) -> Result<(), Status>
-    requires { packets ≤ 1000000 }
-    ensures obeys { (held : Option (List ℕ)) →
-        Obeys (λ _. sample_work number packets out.now) (D.files depot.old) (D.files depot.new) held held result }
-    ensures refusal { IfErr result IsRefusal }
-    ensures made { MakesAtMostOne (D.made depot.old) (D.made depot.new) }
-    ensures cause { HasOutsideCause (D.faults depot.old) (D.faults depot.new) (D.misses depot.old) (D.misses depot.new) result }
+    requires { packets ≤ MOST_PACKETS }
+    ensures { (page : Page) (steps : ℕ) → Follows (sample_meaning number packets (shown_word out.entry))
+        (outside (place D.Depot depot.old) page steps) (outside (place D.Depot depot.new) page steps)
+        (status_of result) }
 {
-    told(write_sample(alloc, depot, out, number, packets))
+    told(
+        out.number,
+        write_sample(alloc, depot, out.text, number, packets),
+    )
 }
 
 /// Makes a file, writes the stream to it and closes it, and only then answers.
-#[tactic(auto, using(crate::proofs::Outs::there_after))]
+#[tactic(auto, using(sd_ports::proofs::Outlets::there_after, sd_ports::proofs::Calls::twice_called, sd_ports::proofs::Calls::open_as_before))]
 fn write_sample<D: Depot>(
     alloc: Global,
     depot: &mut D,
@@ -38,9 +42,13 @@ fn write_sample<D: Depot>(
     number: u32,
     packets: u32,
 ) -> Result<(), FileFault>
-    requires { packets ≤ 1000000 }
-    ensures file { WritesFile (D.files depot.old) (D.files depot.new) (D.made depot.old) (D.made depot.new) name.now (sample_of number packets) result }
-    ensures cause { HasFileCause (D.faults depot.old) (D.faults depot.new) (D.misses depot.old) (D.misses depot.new) result }
+    requires { packets ≤ MOST_PACKETS }
+    ensures file { WritesFile (D.files depot.old) (D.files depot.new) (D.made depot.old) (D.made depot.new)
+        name.now (sample_of number packets) result }
+    ensures cause { HasFileCause
+        (D.faults depot.old) (D.faults depot.new) (D.misses depot.old) (D.misses depot.new) result }
+    ensures ports { D.opened depot.new ≡ D.opened depot.old }
+    ensures calls { CountsCalls (D.calls depot.old) (D.calls depot.new) result }
 {
     let mut port = match depot.create_out(alloc, name) {
         Ok(port) => port,

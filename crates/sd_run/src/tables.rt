@@ -1,10 +1,14 @@
-ghost use Rattle.std.specs.Prelude.{◌≡◌, ◌≢◌, IfErr};
-ghost use Rattle.sd_run.specs.Meaning.{tables_work};
-ghost use Rattle.sd_run.specs.Answers.{Obeys, PrintsLines, IsOfLines, HasOutsideCause, HasPrintCause};
+ghost use Rattle.std.specs.Prelude.{ℕ};
+ghost use Rattle.sd_status.specs.Outside.{outside, page, place};
+ghost use Rattle.sd_status.specs.Comes.{Follows, status_of};
+ghost use Rattle.sd_status.specs.Prints.{Prints};
+ghost use Rattle.sd_run.specs.Tables.{inspecting, tables_meaning};
+ghost use Rattle.sd_run.specs.Shown.{shown_word};
 
 use crate::files::read_stream;
-use crate::status::{Status, StreamCause};
+use crate::word::Word;
 use sd_ports::{Depot, Sink};
+use sd_status::{Status, StreamCause};
 use sd_tables::{WholeTablesFault, whole};
 use std::alloc::Global;
 
@@ -13,14 +17,11 @@ pub fn tables<D: Depot, P: Sink>(
     alloc: Global,
     depot: &mut D,
     print: &mut P,
-    stream: &str,
+    stream: Word<'_>,
 ) -> Result<(), Status>
-    ensures obeys { Obeys (λ files. tables_work files stream.now) (D.files depot.old) (D.files depot.new) (P.held print.old) (P.held print.new) result }
-    ensures files { D.files depot.new ≡ D.files depot.old }
-    ensures made { D.made depot.new ≡ D.made depot.old }
-    ensures refusal { IfErr result (λ status. status ≢ Status.Usage) }
-    ensures cause { HasOutsideCause (D.faults depot.old) (D.faults depot.new) (D.misses depot.old) (D.misses depot.new) result }
-    ensures print_cause { HasPrintCause (P.faults print.old) (P.faults print.new) result }
+    ensures { (steps : ℕ) → Follows (tables_meaning (shown_word stream.entry))
+        (outside (place D.Depot depot.old) (page P.Sink print.old) steps)
+        (outside (place D.Depot depot.new) (page P.Sink print.new) steps) (status_of result) }
 {
     let bytes = read_stream(alloc, depot, stream)?;
     print_tables(alloc, print, &bytes)
@@ -28,9 +29,7 @@ pub fn tables<D: Depot, P: Sink>(
 
 /// Prints the lines of the tables in a stream of these bytes.
 fn print_tables<P: Sink>(alloc: Global, print: &mut P, bytes: &[u8]) -> Result<(), Status>
-    ensures printed { PrintsLines bytes.now (P.held print.old) (P.held print.new) result }
-    ensures only { IfErr result IsOfLines }
-    ensures print_cause { HasPrintCause (P.faults print.old) (P.faults print.new) result }
+    ensures { Prints (inspecting bytes.now) (page P.Sink print.old) (page P.Sink print.new) (status_of result) }
 {
     match whole(alloc, bytes, print) {
         Ok(()) => Ok(()),

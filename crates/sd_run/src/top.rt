@@ -1,19 +1,21 @@
-ghost use Rattle.std.specs.Prelude.{◌≡◌, ◌≢◌, ◌↔◌, ◌⊎◌, ◌≤◌, ℕ, Some, Ok, Err, IfErr, IsErrOf, map, string_bytes};
-ghost use Rattle.sd_cause.specs.Count.{Rose, IsCalm};
+ghost use Rattle.std.specs.Prelude.{◌≡◌, Some, Err, IsErrOf, map, string_bytes};
+ghost use Rattle.sd_cause.specs.Count.{IsCalm};
 ghost use Rattle.sd_ports.specs.Files.{Files};
-ghost use Rattle.sd_run.specs.Meaning.{order_of, order_meaning, meaning};
-ghost use Rattle.sd_run.specs.Orders.{told, IsWithin, MakesFor, StepsFor};
-ghost use Rattle.sd_run.specs.Answers.{Answers, Obeys, HasOutsideCause, HasPrintCause};
-ghost use Rattle.sd_run.specs.Complete.{IsGoodOrder, IsGoodAnswer};
+ghost use Rattle.sd_status.specs.Outside.{outside, page, place};
+ghost use Rattle.sd_status.specs.Meant.{told_by};
+ghost use Rattle.sd_status.specs.Comes.{Follows, status_of};
+ghost use Rattle.sd_status.specs.Answers.{Answers, HasCause, IsMeant, IsToldAs};
+ghost use Rattle.sd_run.specs.Words.{order_of};
+ghost use Rattle.sd_run.specs.Meaning.{meaning, order_meaning};
+ghost use Rattle.sd_run.specs.Shown.{told, IsSound};
 
 use crate::card::card;
 use crate::cover::cover;
 use crate::order::{Order, read_words};
 use crate::sample::sample;
-use crate::status::Status;
 use crate::tables::tables;
-use crate::telling::tell;
 use sd_ports::{Depot, Sink};
+use sd_status::{Status, tell};
 use sd_steps::Steps;
 use std::alloc::Global;
 use std::sync::ledger::Ledger;
@@ -27,25 +29,23 @@ pub fn run<D: Depot, P: Sink, L: Ledger>(
     print: &mut P,
     steps: &mut Steps<L>,
 ) -> Status
-    // What the words and files mean is answered, printed and made.
-    ensures meaning { Answers (λ files. meaning (map string_bytes words.now) files)
-        (D.files depot.old) (D.files depot.new) (P.held print.old) (P.held print.new) result }
+    // What the words and files mean is done, printed, made and answered.
+    ensures value { Answers (meaning (map string_bytes words.now))
+        (outside (place D.Depot depot.old) (page P.Sink print.old) steps.old)
+        (outside (place D.Depot depot.new) (page P.Sink print.new) steps.new) result }
+    // Each port that was opened is closed.
+    ensures ports { (place D.Depot depot.new).opened ≡ (place D.Depot depot.old).opened }
+    // Each answer of the outside has its cause.
+    ensures cause { HasCause
+        (outside (place D.Depot depot.old) (page P.Sink print.old) steps.old)
+        (outside (place D.Depot depot.new) (page P.Sink print.new) steps.new) result }
+    // Refused words are answered at once, and `Usage` is answered to them alone.
+    ensures words { (status : Status) → order_of (map string_bytes words.now) ≡ Err status → IsToldAs status result }
     ensures usage { result ≡ Status.Usage → order_of (map string_bytes words.now) ≡ Err Status.Usage }
-    ensures no_order { order_of (map string_bytes words.now) ≡ Err Status.Usage → (result ≡ Status.Usage) ⊎ (result ≡ Status.PrintFault) }
-    // Each answer of the outside has its cause, and without one the counts stand.
-    ensures missing { (word : ℕ) → result ≡ Status.Missing word → Rose (D.misses depot.old) (D.misses depot.new) }
-    ensures depot_fault { result ≡ Status.DepotFault → Rose (D.faults depot.old) (D.faults depot.new) }
-    ensures print_fault { result ≡ Status.PrintFault → Rose (P.faults print.old) (P.faults print.new) }
-    ensures depot_calm { result ≢ Status.DepotFault → result ≢ Status.PrintFault → D.faults depot.new ≡ D.faults depot.old }
-    ensures print_calm { result ≢ Status.PrintFault → P.faults print.new ≡ P.faults print.old }
-    ensures no_miss { ((word : ℕ) → result ≢ Status.Missing word) → result ≢ Status.PrintFault → result ≢ Status.NoMemory →
-        D.misses depot.new ≡ D.misses depot.old }
-    // Good words over good files are done, unless memory is wanting.
-    ensures complete { (files : Files) → D.files depot.old ≡ Some files → IsGoodOrder (map string_bytes words.now) files →
-        IsCalm (D.faults depot.old) (D.faults depot.new) → IsCalm (P.faults print.old) (P.faults print.new) → IsGoodAnswer result }
-    // At most one file is made, and steps of the generator are taken for a card alone.
-    ensures made { MakesFor (order_of (map string_bytes words.now)) (D.made depot.old) (D.made depot.new) }
-    ensures steps { StepsFor (order_of (map string_bytes words.now)) steps.old steps.new }
+    // Where files are told and no device failed, the answer is the one that is meant, or out of memory.
+    ensures complete { (files : Files) → D.files depot.old ≡ Some files →
+        IsCalm (D.faults depot.old) (D.faults depot.new) → IsCalm (P.faults print.old) (P.faults print.new) →
+        IsMeant (meaning (map string_bytes words.now) (told_by files)).result result }
 {
     match obey(alloc, words, depot, print, steps) {
         Ok(()) => Status::Done,
@@ -62,13 +62,10 @@ fn obey<D: Depot, P: Sink, L: Ledger>(
     print: &mut P,
     steps: &mut Steps<L>,
 ) -> Result<(), Status>
-    ensures obeys { Obeys (λ files. meaning (map string_bytes words.now) files)
-        (D.files depot.old) (D.files depot.new) (P.held print.old) (P.held print.new) result }
-    ensures usage { IsErrOf result Status.Usage ↔ (order_of (map string_bytes words.now) ≡ Err Status.Usage) }
-    ensures made { MakesFor (order_of (map string_bytes words.now)) (D.made depot.old) (D.made depot.new) }
-    ensures steps { StepsFor (order_of (map string_bytes words.now)) steps.old steps.new }
-    ensures cause { HasOutsideCause (D.faults depot.old) (D.faults depot.new) (D.misses depot.old) (D.misses depot.new) result }
-    ensures print_cause { HasPrintCause (P.faults print.old) (P.faults print.new) result }
+    ensures value { Follows (meaning (map string_bytes words.now))
+        (outside (place D.Depot depot.old) (page P.Sink print.old) steps.old)
+        (outside (place D.Depot depot.new) (page P.Sink print.new) steps.new) (status_of result) }
+    ensures words { (status : Status) → order_of (map string_bytes words.now) ≡ Err status → IsErrOf result status }
 {
     let order = read_words(words)?;
     work(alloc, order, depot, print, steps)
@@ -82,14 +79,10 @@ fn work<D: Depot, P: Sink, L: Ledger>(
     print: &mut P,
     steps: &mut Steps<L>,
 ) -> Result<(), Status>
-    requires { IsWithin order }
-    ensures obeys { Obeys (λ files. order_meaning (told order.entry) files)
-        (D.files depot.old) (D.files depot.new) (P.held print.old) (P.held print.new) result }
-    ensures refusal { IfErr result (λ status. status ≢ Status.Usage) }
-    ensures made { MakesFor (Ok (told order.entry)) (D.made depot.old) (D.made depot.new) }
-    ensures steps { StepsFor (Ok (told order.entry)) steps.old steps.new }
-    ensures cause { HasOutsideCause (D.faults depot.old) (D.faults depot.new) (D.misses depot.old) (D.misses depot.new) result }
-    ensures print_cause { HasPrintCause (P.faults print.old) (P.faults print.new) result }
+    requires { IsSound order }
+    ensures { Follows (order_meaning (told order.entry))
+        (outside (place D.Depot depot.old) (page P.Sink print.old) steps.old)
+        (outside (place D.Depot depot.new) (page P.Sink print.new) steps.new) (status_of result) }
 {
     match order {
         Order::Cover { site, book } => cover(alloc, depot, print, site, book),

@@ -50,16 +50,16 @@ crc_is_due head =
     ap crc_of (take_at head (to_be_bytes w32 (crc_of head)) (length head) refl)
 
 -- the fields of bytes that begin with a header
-record HasHeader (header : Header) (body : ℕ) (section : List ℕ) : Type 0 where
-  table_id : field section 0 8 ≡ header.table_id
-  syntax : syntax_of section ≡ 1
-  private : private_of section ≡ 0
-  section_length : section_length_of section ≡ body + 9
-  extension : extension_of section ≡ header.extension
-  version : version_of section ≡ 0
-  current : current_of section ≡ 1
-  number : field section 48 8 ≡ header.number
-  last_number : field section 56 8 ≡ header.last_number
+pub record HasHeader (header : Header) (body : ℕ) (section : List ℕ) : Type 0 where
+  pub table_id : field section 0 8 ≡ header.table_id
+  pub syntax : syntax_of section ≡ 1
+  pub private : private_of section ≡ 0
+  pub section_length : section_length_of section ≡ body + 9
+  pub extension : extension_of section ≡ header.extension
+  pub version : version_of section ≡ 0
+  pub current : current_of section ≡ 1
+  pub number : field section 48 8 ≡ header.number
+  pub last_number : field section 56 8 ≡ header.last_number
 
 header_is_read : (header : Header) (body : ℕ) (rest : List ℕ) → Fits header → body ≤ 4084 →
     HasHeader header body (header_bytes header body ++ rest)
@@ -111,7 +111,7 @@ parts_are : (header : Header) (body rest : List ℕ) →
 unfolding section_bytes
 parts_are header body rest = refl
 
-all_headed : (header : Header) (body rest : List ℕ) → Fits header → length body ≤ 4084 →
+pub all_headed : (header : Header) (body rest : List ℕ) → Fits header → length body ≤ 4084 →
     HasHeader header (length body) (section_bytes header body ++ rest)
 all_headed header body rest fits few =
     subst (HasHeader header (length body)) (sym (parts_are header body rest))
@@ -123,7 +123,7 @@ section_headed : (header : Header) (body : List ℕ) → Fits header → length 
 section_headed header body fits few = rw append-nil at (all_headed header body [] fits few)
 
 -- how long the section is
-section_long : (header : Header) (body : List ℕ) → length (section_bytes header body) ≡ length body + 12
+pub section_long : (header : Header) (body : List ℕ) → length (section_bytes header body) ≡ length body + 12
 unfolding section_bytes
 section_long header body = omega
     (arith, length-append body (to_be_bytes w32 (crc_of (header_bytes header (length body) ++ body))))
@@ -137,7 +137,7 @@ whole_is_read header body rest fits few =
     (omega (arith, section_long header body, head.section_length))
 
 -- its CRC is the one due
-crc_is_right : (header : Header) (body : List ℕ) → crc_fault (section_bytes header body) ≡ None
+pub crc_is_right : (header : Header) (body : List ℕ) → crc_fault (section_bytes header body) ≡ None
 unfolding section_bytes
 crc_is_right header body =
     let head : List ℕ = header_bytes header (length body) ++ body in

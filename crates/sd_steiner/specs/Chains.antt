@@ -1,15 +1,14 @@
 -- The chain cover of the leaves that are not revoked [Naor, Naor, Lotspiech 2001, 3.2].
--- A leaf u of a tree of height d has the node 2^d + u.
-use Rattle.std.specs.Prelude.{◌≡◌, ◌≢◌, ℕ, ◌+◌, ◌*◌, ◌/◌, ◌^◌, ◌≤◌, ◌↔◌, ◌⊎◌, List, [], ◌∷◌, Contains}
+use Rattle.std.specs.Prelude.{◌≡◌, ◌≢◌, ℕ, ◌+◌, ◌*◌, ◌/◌, ◌≤◌, ◌↔◌, ◌⊎◌, List, [], ◌∷◌, Contains}
 use Rattle.sd_tree.specs.Node.{IsAbove}
-use Rattle.sd_tree.specs.Paths.{sibling_of}
+use Rattle.sd_tree.specs.Paths.{leaf_node, sibling_of}
 use Rattle.sd_tree.specs.SetNames.{AreAscending}
 use Rattle.sd_tree.specs.declared.set.SetName.{SetName}
 use Rattle.sd_tree.specs.declared.set.SetName.TheVariants.{Whole, Diff}
 
 -- a node of the Steiner tree T: it is at or above a revoked leaf's node [Naor, Naor, Lotspiech 2001, 3.2]
 abbrev pub IsInTree : ℕ → List ℕ → ℕ → Type 0
-IsInTree d revoked v = (1 ≤ v) × ((u : ℕ) × Contains revoked u × IsAbove v (2 ^ d + u))
+IsInTree d revoked v = (1 ≤ v) × ((u : ℕ) × Contains revoked u × IsAbove v (leaf_node d u))
 
 -- of the node's two children just one is in T
 abbrev pub HasOneChild : ℕ → List ℕ → ℕ → Type 0
@@ -27,7 +26,7 @@ IsChainHead d revoked v = (v ≡ 1) ⊎ IsInTree d revoked (sibling_of v)
 
 -- where a chain ends: at a revoked leaf's node, or above two children in T [Naor, Naor, Lotspiech 2001, 3.2]
 abbrev pub IsChainEnd : ℕ → List ℕ → ℕ → Type 0
-IsChainEnd d revoked v = ((u : ℕ) × Contains revoked u × (v ≡ 2 ^ d + u)) ⊎ HasTwoChildren d revoked v
+IsChainEnd d revoked v = ((u : ℕ) × Contains revoked u × (v ≡ leaf_node d u)) ⊎ HasTwoChildren d revoked v
 
 -- nodes of T, each the child of the one before, of which each but the last has one child in T and the last ends a chain
 abbrev pub AreLinked : ℕ → List ℕ → List ℕ → Type 0

@@ -1,15 +1,16 @@
 -- The walk over the Steiner tree that finds the chains [Naor, Naor, Lotspiech 2001, 3.2].
-use Rattle.std.specs.Prelude.{◌≡◌, ◌≢◌, ℕ, ◌+◌, ◌/◌, ◌^◌, ◌<◌, ◌≤◌, ◌==◌, ◌↔◌, ◌⊎◌, List, [], ◌∷◌, ◌++◌, Contains}
+use Rattle.std.specs.Prelude.{◌≡◌, ◌≢◌, ℕ, ◌/◌, ◌^◌, ◌<◌, ◌≤◌, ◌==◌, ◌↔◌, ◌⊎◌, List, [], ◌∷◌, ◌++◌, Contains}
 use Rattle.std.specs.Prelude.{AllPairs, if◌then◌else◌}
 use Rattle.std.specs.List.Sorted.{IsStrictlyIncreasing}
 use Rattle.sd_tree.specs.Node.{IsAbove, IsProperlyAbove}
+use Rattle.sd_tree.specs.Paths.{leaf_node}
 use Rattle.sd_tree.specs.declared.set.SetName.{SetName}
 use Rattle.sd_tree.specs.declared.set.SetName.TheVariants.{Whole, Diff}
 use Rattle.sd_steiner.specs.Chains.{IsInTree, IsChainHead, AreLinked, IsOfChain, last_of}
 
 -- the node at or above a leaf that stands level steps above it
 abbrev pub node_at : ℕ → ℕ → ℕ → ℕ
-node_at d level u = (2 ^ d + u) / 2 ^ level
+node_at d level u = leaf_node d u / 2 ^ level
 
 -- the set of a chain from its first node to its last, and none where they are one node
 abbrev pub of_ends : ℕ → ℕ → List SetName

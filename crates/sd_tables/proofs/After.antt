@@ -8,7 +8,7 @@ use Rattle.std.proofs.lemmas.List.Folds.{list_any-append}
 use Rattle.sd_packet.specs.Header.{pid_of, unit_start_of, counter_of, payload_of}
 use Rattle.sd_section.specs.Assembled.{Fed, Assembling, completed_by, after, all_lent}
 use Rattle.sd_lines.specs.Lines.{line_of}
-use Rattle.sd_tables.specs.Inspected.{fed_of, on_pid, pat_sections_at, maps_of, named_in, is_watched, watched_on, sections_at}
+use Rattle.sd_tables.specs.Inspected.{fed_of, on_pid, pat_sections_at, pids_named_by, named_in, is_watched, watched_on, sections_at}
 use Rattle.sd_tables.specs.Watching.{is_named, naming, IsLearned, IsPlace, AreMarked, ArePlaced, IsAfter}
 use Rattle.sd_tables.proofs.Learning.{or_stay}
 use Rattle.sd_tables.proofs.Showing.{none_named}
@@ -95,9 +95,9 @@ watched_more : (pid : ℕ) (packet : List ℕ) (before : List (List ℕ)) →
 unfolding is_watched named_in is_named
 watched_more pid packet before =
     ap (λ (a : Bool). (pid == 0) || ((pid == 1) || a))
-    (list_any-append (λ (named : ℕ). named == pid) (named_in before) (flat_map maps_of (pat_sections_at packet before)))
+    (list_any-append (λ (named : ℕ). named == pid) (named_in before) (flat_map pids_named_by (pat_sections_at packet before)))
     ∙ or_regrouped (pid == 0) (pid == 1) (list_any (λ (named : ℕ). named == pid) (named_in before))
-    (list_any (λ (named : ℕ). named == pid) (flat_map maps_of (pat_sections_at packet before)))
+    (list_any (λ (named : ℕ). named == pid) (flat_map pids_named_by (pat_sections_at packet before)))
 
 pub marks_more : (packet : List ℕ) (before : List (List ℕ)) (marks new : List Bool) → AreMarked before marks →
     IsLearned (naming (pid_of packet) (sections_at packet before)) marks new → AreMarked (packet ∷ before) new

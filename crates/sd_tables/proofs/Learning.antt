@@ -1,33 +1,15 @@
 -- The PIDs that sections name.
-use Rattle.std.proofs.Common.{ℕ, ◌+◌, ◌<◌, ◌≡◌, ◌≢◌, Bool, true, false, not, ◌==◌, ◌&&◌, ◌||◌, List, [], ◌∷◌, ◌++◌, length, take, map, get_or, set, replicate, cond, length-set, refl, sym, ap, subst, ◌∙◌, append-nil, inl, inr, arith}
-use Rattle.std.specs.Prelude.{Option, Some, None, slice_get, filter, is_none}
-use Rattle.std.specs.Option.{option_map}
+use Rattle.std.proofs.Common.{ℕ, ◌<◌, ◌≡◌, ◌≢◌, Bool, true, false, ◌==◌, ◌&&◌, ◌||◌, List, [], ◌∷◌, ◌++◌, length, get_or, set, replicate, cond, length-set, refl, sym, ap, subst, ◌∙◌, append-nil, inl, inr, arith}
+use Rattle.std.specs.Prelude.{Option, Some, None, is_none}
 use Rattle.std.specs.List.{list_any}
 use Rattle.std.proofs.lemmas.Bool.{eq-eqb, ne_eqb, cases_eq}
 use Rattle.std.proofs.lemmas.List.{get_or-set_same, get_or-set_other, get_or-replicate}
-use Rattle.std.proofs.lemmas.List.Folds.{list_any_more}
-use Rattle.std.proofs.lemmas.Option.{slice_get-map, slice_get_within, get_or_from_slice_get}
-use Rattle.sd_bits.proofs.Fields.{field_below}
-use Rattle.sd_section.specs.Header.{body_of, whole_of}
+use Rattle.sd_section.specs.Header.{whole_of}
 use Rattle.sd_section.specs.Judged.{section_fault}
 use Rattle.sd_section.specs.declared.fault.SectionFault.{SectionFault}
-use Rattle.sd_psi.specs.declared.items.Kind.TheVariants.{Program}
-use Rattle.sd_psi.specs.Items.{items_of}
-use Rattle.sd_psi.specs.Tables.{program_of, programs_of, is_pat}
-use Rattle.sd_tables.specs.Inspected.{is_sound, maps_in, maps_of, is_watched, named_in}
-use Rattle.sd_tables.specs.Watching.{is_named, naming, maps_to, IsTold, IsLearned, AreMarked}
-
--- the PID of a program has 13 bits
-of_13_bits : (o : Option (List ℕ)) (program : ℕ × ℕ) → option_map program_of o ≡ Some program → program.1 < 8192
-of_13_bits None program is = absurd (cc)
-of_13_bits (Some item) program is =
-    let same : program_of item ≡ program = cc in subst (λ (p : ℕ × ℕ). p.1 < 8192) same (field_below item 19 13)
-
-pub pid_of_program : (section : List ℕ) (k : ℕ) (program : ℕ × ℕ) → slice_get (programs_of section) k ≡ Some program → program.1 < 8192
-unfolding programs_of
-pid_of_program section k program is =
-    of_13_bits (slice_get (items_of Program (body_of section)) k) program
-    (sym (slice_get-map program_of (items_of Program (body_of section)) k) ∙ is)
+use Rattle.sd_psi.specs.Tables.{pmt_pids_of, is_pat}
+use Rattle.sd_tables.specs.Inspected.{is_sound, pids_named_by, is_watched, named_in}
+use Rattle.sd_tables.specs.Watching.{is_named, naming, AreAdded, IsLearned, AreMarked}
 
 -- with nothing more it stays
 pub or_false : (a : Bool) → (a || false) ≡ a
@@ -37,10 +19,6 @@ or_false false = refl
 pub or_assoc : (a b c : Bool) → ((a || b) || c) ≡ (a || (b || c))
 or_assoc true b c = refl
 or_assoc false b c = refl
-
--- before the first program
-pub none_told : (programs : List (ℕ × ℕ)) (marks : List Bool) → IsTold (take 0 programs) marks marks
-none_told programs marks = record { at = λ pid h. sym (or_false (get_or marks pid false)) }
 
 or_mark : (a b c : Bool) → b ≡ true → c ≡ true → c ≡ (a || b)
 or_mark true b c e f = f
@@ -60,55 +38,40 @@ marked_more marks pid other h = elim (cases_eq other pid) [
       (get_or-set_other marks other pid true false (λ e. apart (sym e)))
 ]
 
--- the network's PID isn't marked
-by_network : (marks new : List Bool) (other pid : ℕ) (network : Bool) → other < length marks →
-    new ≡ cond network marks (set marks other true) →
-    get_or new pid false ≡ (get_or marks pid false || (not network && (other == pid)))
-by_network marks new other pid true h is = ap (λ (l : List Bool). get_or l pid false) is ∙ sym (or_false (get_or marks pid false))
-by_network marks new other pid false h is = ap (λ (l : List Bool). get_or l pid false) is ∙ marked_more marks pid other h
+-- the marks and the PIDs that are left come to the old marks and all PIDs
+pub record AreAdding (all left : List ℕ) (old marks : List Bool) : Type 0 where
+  pub at : (pid : ℕ) → pid < 8192 →
+      (get_or marks pid false || list_any (λ (named : ℕ). named == pid) left)
+      ≡ (get_or old pid false || list_any (λ (named : ℕ). named == pid) all)
 
--- what a program's mark leaves of the marks
-program_marked : (marks new : List Bool) (program : ℕ × ℕ) (pid : ℕ) → program.1 < length marks →
-    new ≡ cond (program.0 == 0) marks (set marks program.1 true) →
-    get_or new pid false ≡ (get_or marks pid false || maps_to pid program)
-program_marked marks new program pid h is = by_network marks new program.1 pid (program.0 == 0) h is
+pub none_added : (all left : List ℕ) (marks : List Bool) → left ≡ all → AreAdding all left marks marks
+none_added all left marks is =
+    record { at = λ pid h. ap (λ (pids : List ℕ). get_or marks pid false || list_any (λ (named : ℕ). named == pid) pids) is }
 
--- a program more
-pub told_more : (programs : List (ℕ × ℕ)) (k : ℕ) (program : ℕ × ℕ) (old marks new : List Bool) → slice_get programs k ≡ Some program →
-    program.1 < length marks → new ≡ cond (program.0 == 0) marks (set marks program.1 true) → IsTold (take k programs) old marks →
-    IsTold (take (k + 1) programs) old new
-told_more programs k program old marks new there room is told = record {
-  at = λ pid h.
-      program_marked marks new program pid room is
-      ∙ ap (λ (a : Bool). a || maps_to pid program) (told.at pid h)
-      ∙ or_assoc (get_or old pid false) (list_any (maps_to pid) (take k programs)) (maps_to pid program)
-      ∙ ap (λ (p : ℕ × ℕ). get_or old pid false || (list_any (maps_to pid) (take k programs) || maps_to pid p))
-      (sym (get_or_from_slice_get programs k program (0, 0) there))
-      ∙ ap (λ (a : Bool). get_or old pid false || a)
-      (sym (list_any_more (maps_to pid) programs k (0, 0) (slice_get_within programs k program there)));
+pub one_added : (all left rest : List ℕ) (pid : ℕ) (old marks : List Bool) → left ≡ pid ∷ rest → pid < length marks →
+    AreAdding all left old marks → AreAdding all rest old (set marks pid true)
+one_added all left rest pid old marks first room adding = record {
+  at = λ q h.
+      ap (λ (a : Bool). a || list_any (λ (named : ℕ). named == q) rest) (marked_more marks q pid room)
+      ∙ (or_assoc (get_or marks q false) (pid == q) (list_any (λ (named : ℕ). named == q) rest)
+      ∙ (ap (λ (pids : List ℕ). get_or marks q false || list_any (λ (named : ℕ). named == q) pids) (sym first)
+      ∙ adding.at q h));
 }
 
-by_kept : (kept : Bool) (program : ℕ × ℕ) (programs : List (ℕ × ℕ)) (pid : ℕ) →
-    list_any (λ (named : ℕ). named == pid) (maps_in programs) ≡ list_any (maps_to pid) programs →
-    list_any (λ (named : ℕ). named == pid)
-    (map (λ (p : ℕ × ℕ). p.1) (cond kept (program ∷ filter (λ p. not (p.0 == 0)) programs) (filter (λ p. not (p.0 == 0)) programs)))
-    ≡ ((kept && (program.1 == pid)) || list_any (maps_to pid) programs)
-unfolding maps_in
-by_kept true program programs pid h = ap (λ (a : Bool). (program.1 == pid) || a) h
-by_kept false program programs pid h = h
-
--- the PIDs of the maps of programs
-maps_are : (programs : List (ℕ × ℕ)) (pid : ℕ) → list_any (λ (named : ℕ). named == pid) (maps_in programs) ≡ list_any (maps_to pid) programs
-unfolding maps_in
-maps_are [] pid = refl
-maps_are (program ∷ programs) pid = by_kept (not (program.0 == 0)) program programs pid (maps_are programs pid)
+pub all_added : (all left : List ℕ) (old marks : List Bool) → left ≡ [] → AreAdding all left old marks → AreAdded all old marks
+all_added all left old marks none adding = record {
+  at = λ q h.
+      sym (or_false (get_or marks q false))
+      ∙ (ap (λ (pids : List ℕ). get_or marks q false || list_any (λ (named : ℕ). named == q) pids) (sym none)
+      ∙ adding.at q h);
+}
 
 -- a section that is no PAT names none
-none_named : (section : List ℕ) (pid : ℕ) → maps_of section ≡ [] → is_named pid (section ∷ []) ≡ false
+none_named : (section : List ℕ) (pid : ℕ) → pids_named_by section ≡ [] → is_named pid (section ∷ []) ≡ false
 unfolding is_named
 none_named section pid none = ap (λ (maps : List ℕ). list_any (λ (named : ℕ). named == pid) (maps ++ [])) none
 
-none_learned : (section : List ℕ) (marks : List Bool) → maps_of section ≡ [] → IsLearned (section ∷ []) marks marks
+none_learned : (section : List ℕ) (marks : List Bool) → pids_named_by section ≡ [] → IsLearned (section ∷ []) marks marks
 none_learned section marks none = record {
   at = λ pid h. or_stay (get_or marks pid false) (is_named pid (section ∷ [])) _ (none_named section pid none) refl;
 }
@@ -129,11 +92,11 @@ faulty_none (Some f) fault b maps is = refl
 pub faulty_learned : (pid : ℕ) (section : List ℕ) (fault : SectionFault) (marks : List Bool) → pid ≡ 0 →
     section_fault section ≡ Some fault →
     IsLearned (naming pid (section ∷ [])) marks marks
-unfolding maps_of
+unfolding pids_named_by
 faulty_learned pid section fault marks zero wrong =
     subst (λ (b : Bool). IsLearned (cond b (section ∷ []) []) marks marks) (sym (eq-eqb pid 0 zero))
     (none_learned section marks
-    (faulty_none (section_fault section) fault (is_pat (whole_of section)) (maps_in (programs_of (whole_of section))) wrong))
+    (faulty_none (section_fault section) fault (is_pat (whole_of section)) (pmt_pids_of (whole_of section)) wrong))
 
 no_pat : (sound pat : Bool) (maps : List ℕ) → pat ≡ false → cond (sound && pat) maps [] ≡ []
 no_pat true pat maps h = ap (λ (b : Bool). cond b maps []) h
@@ -146,27 +109,26 @@ a_pat (Some f) pat maps is h = absurd (cc)
 -- nor does one that is no PAT
 pub unlike_learned : (pid : ℕ) (section bytes : List ℕ) (marks : List Bool) → pid ≡ 0 → bytes ≡ whole_of section → is_pat bytes ≡ false →
     IsLearned (naming pid (section ∷ [])) marks marks
-unfolding maps_of
+unfolding pids_named_by
 unlike_learned pid section bytes marks zero is other =
     let none : is_pat (whole_of section) ≡ false = subst (λ (s : List ℕ). is_pat s ≡ false) is other in
     subst (λ (b : Bool). IsLearned (cond b (section ∷ []) []) marks marks) (sym (eq-eqb pid 0 zero))
-    (none_learned section marks (no_pat (is_sound section) (is_pat (whole_of section)) (maps_in (programs_of (whole_of section))) none))
+    (none_learned section marks (no_pat (is_sound section) (is_pat (whole_of section)) (pmt_pids_of (whole_of section)) none))
 
--- a PAT names the PIDs of the maps of its programs
+-- a PAT names the PIDs of the PMTs of its programs
 pub pat_learned : (pid : ℕ) (section bytes : List ℕ) (old new : List Bool) → pid ≡ 0 → section_fault section ≡ None →
     bytes ≡ whole_of section →
-    is_pat bytes ≡ true → IsTold (programs_of bytes) old new → IsLearned (naming pid (section ∷ [])) old new
-unfolding maps_of is_named
-pat_learned pid section bytes old new zero sound is pat told =
-    let kept : maps_of section ≡ maps_in (programs_of bytes) =
-    a_pat (section_fault section) (is_pat (whole_of section)) (maps_in (programs_of (whole_of section))) sound
+    is_pat bytes ≡ true → AreAdded (pmt_pids_of bytes) old new → IsLearned (naming pid (section ∷ [])) old new
+unfolding pids_named_by is_named
+pat_learned pid section bytes old new zero sound is pat added =
+    let kept : pids_named_by section ≡ pmt_pids_of bytes =
+    a_pat (section_fault section) (is_pat (whole_of section)) (pmt_pids_of (whole_of section)) sound
     (subst (λ (s : List ℕ). is_pat s ≡ true) is pat)
-    ∙ ap (λ (s : List ℕ). maps_in (programs_of s)) (sym is) in
-    let named : (q : ℕ) → list_any (maps_to q) (programs_of bytes) ≡ is_named q (section ∷ []) = λ q.
-    sym (maps_are (programs_of bytes) q)
-    ∙ ap (list_any (λ (named : ℕ). named == q)) (sym kept ∙ sym (append-nil (maps_of section))) in
+    ∙ ap pmt_pids_of (sym is) in
+    let named : (q : ℕ) → list_any (λ (named : ℕ). named == q) (pmt_pids_of bytes) ≡ is_named q (section ∷ []) = λ q.
+    ap (list_any (λ (named : ℕ). named == q)) (sym kept ∙ sym (append-nil (pids_named_by section))) in
     subst (λ (b : Bool). IsLearned (cond b (section ∷ []) []) old new) (sym (eq-eqb pid 0 zero))
-    (record { at = λ q h. told.at q h ∙ ap (λ (a : Bool). get_or old q false || a) (named q) })
+    (record { at = λ q h. added.at q h ∙ ap (λ (a : Bool). get_or old q false || a) (named q) })
 
 -- a test on numbers, either way round
 eqb_sym : (a b : ℕ) → (a == b) ≡ (b == a)

@@ -5,7 +5,7 @@ use Rattle.std.specs.List.{flat_map, list_any}
 use Rattle.std.proofs.lemmas.List.Folds.{list_any-append}
 use Rattle.sd_section.specs.Assembled.{Assembling, all_lent}
 use Rattle.sd_lines.specs.Lines.{line_of}
-use Rattle.sd_tables.specs.Inspected.{maps_of}
+use Rattle.sd_tables.specs.Inspected.{pids_named_by}
 use Rattle.sd_tables.specs.Watching.{is_named, naming, IsLearned, IsLearning}
 use Rattle.sd_tables.proofs.Learning.{or_false, or_assoc}
 
@@ -39,9 +39,9 @@ named_by : (b : Bool) (q : ℕ) (section : List ℕ) (rest : List (List ℕ)) �
     (is_named q (cond b (section ∷ []) []) || is_named q (cond b rest [])) ≡ is_named q (cond b (section ∷ rest) [])
 unfolding is_named
 named_by true q section rest =
-    ap (λ (maps : List ℕ). list_any (λ (named : ℕ). named == q) maps || list_any (λ (named : ℕ). named == q) (flat_map maps_of rest))
-    (append-nil (maps_of section))
-    ∙ sym (list_any-append (λ (named : ℕ). named == q) (maps_of section) (flat_map maps_of rest))
+    ap (λ (maps : List ℕ). list_any (λ (named : ℕ). named == q) maps || list_any (λ (named : ℕ). named == q) (flat_map pids_named_by rest))
+    (append-nil (pids_named_by section))
+    ∙ sym (list_any-append (λ (named : ℕ). named == q) (pids_named_by section) (flat_map pids_named_by rest))
 named_by false q section rest = refl
 
 none_by : (b : Bool) (q : ℕ) → is_named q (cond b [] []) ≡ false

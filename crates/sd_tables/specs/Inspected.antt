@@ -1,11 +1,11 @@
 -- What the inspector prints of packets. In each list of packets the last comes first.
-use Rattle.std.specs.Prelude.{ℕ, ◌==◌, ◌&&◌, ◌||◌, Bool, not, List, [], ◌∷◌, ◌++◌, length, map, filter, flat_map, if◌then◌else◌, is_none}
+use Rattle.std.specs.Prelude.{ℕ, ◌==◌, ◌&&◌, ◌||◌, Bool, List, [], ◌∷◌, ◌++◌, length, map, filter, flat_map, if◌then◌else◌, is_none}
 use Rattle.std.specs.List.{list_any}
 use Rattle.sd_packet.specs.Header.{pid_of, unit_start_of, counter_of, payload_of}
 use Rattle.sd_section.specs.Header.{whole_of}
 use Rattle.sd_section.specs.Judged.{section_fault}
 use Rattle.sd_section.specs.Assembled.{Fed, completed_by}
-use Rattle.sd_psi.specs.Tables.{programs_of, is_pat}
+use Rattle.sd_psi.specs.Tables.{pmt_pids_of, is_pat}
 use Rattle.sd_lines.specs.Lines.{line_of}
 
 -- what an assembler takes of a packet
@@ -24,18 +24,14 @@ pat_sections_at packet before = if pid_of packet == 0 then completed_by (on_pid 
 abbrev pub is_sound : List ℕ → Bool
 is_sound section = is_none (section_fault section)
 
--- the PIDs of the maps of these programs: those of all programs but 0, whose PID is the network's [ISO/IEC 13818-1, 2.4.4.3]
-unfoldable pub maps_in : List (ℕ × ℕ) → List ℕ
-maps_in programs = map (λ program. program.1) (filter (λ program. not (program.0 == 0)) programs)
+-- the PIDs of the PMTs that a section names, where it is a PAT [ISO/IEC 13818-1, 2.4.4.3]
+unfoldable pub pids_named_by : List ℕ → List ℕ
+pids_named_by section = if is_sound section && is_pat (whole_of section) then pmt_pids_of (whole_of section) else []
 
--- the PIDs of the maps that a section names, where it is a PAT [ISO/IEC 13818-1, 2.4.4.3]
-unfoldable pub maps_of : List ℕ → List ℕ
-maps_of section = if is_sound section && is_pat (whole_of section) then maps_in (programs_of (whole_of section)) else []
-
--- the PIDs of all maps that were named up to here
+-- the PIDs of all PMTs that were named up to here
 unfoldable pub named_in : List (List ℕ) → List ℕ
 named_in [] = []
-named_in (packet ∷ before) = named_in before ++ flat_map maps_of (pat_sections_at packet before)
+named_in (packet ∷ before) = named_in before ++ flat_map pids_named_by (pat_sections_at packet before)
 
 -- the PID is watched: PID 0 with the PAT, PID 1 with the CAT, and each PID that was named so far
 -- [this project, docs/FORMATS.md, Inspector]

@@ -1,24 +1,21 @@
 -- What the inspector keeps of packets, of which the last comes first: marks of the PIDs that are watched, and what their assemblers keep.
-use Rattle.std.specs.Prelude.{◌≡◌, ℕ, ◌<◌, ◌==◌, ◌&&◌, ◌||◌, Bool, false, not, List, [], if◌then◌else◌, get_or, Option, Some, None}
+use Rattle.std.specs.Prelude.{◌≡◌, ℕ, ◌<◌, ◌==◌, ◌||◌, Bool, false, List, [], if◌then◌else◌, get_or, Option, Some, None}
 use Rattle.std.specs.List.{flat_map, list_any}
 use Rattle.sd_section.specs.Assembled.{Fed, Assembling, after, all_lent}
-use Rattle.sd_tables.specs.Inspected.{maps_of, is_watched, watched_on}
+use Rattle.sd_tables.specs.Inspected.{pids_named_by, is_watched, watched_on}
 
 -- one of these sections names the PID
 unfoldable pub is_named : ℕ → List (List ℕ) → Bool
-is_named pid sections = list_any (λ named. named == pid) (flat_map maps_of sections)
+is_named pid sections = list_any (λ named. named == pid) (flat_map pids_named_by sections)
 
 -- the sections of a PID that may name others: those of PID 0 [ISO/IEC 13818-1, 2.4.4.3]
 abbrev pub naming : ℕ → List (List ℕ) → List (List ℕ)
 naming pid sections = if pid == 0 then sections else []
 
--- the program has its map on the PID [ISO/IEC 13818-1, 2.4.4.3]
-abbrev pub maps_to : ℕ → ℕ × ℕ → Bool
-maps_to pid program = not (program.0 == 0) && (program.1 == pid)
-
--- the PIDs of the maps of these programs are marked too
-pub record IsTold (programs : List (ℕ × ℕ)) (old new : List Bool) : Type 0 where
-  pub at : (pid : ℕ) → pid < 8192 → get_or new pid false ≡ (get_or old pid false || list_any (maps_to pid) programs)
+-- these PIDs are marked too
+pub record AreAdded (pids : List ℕ) (old new : List Bool) : Type 0 where
+  pub at : (pid : ℕ) → pid < 8192 →
+      get_or new pid false ≡ (get_or old pid false || list_any (λ named. named == pid) pids)
 
 -- the PIDs that these sections name are marked too
 pub record IsLearned (sections : List (List ℕ)) (old new : List Bool) : Type 0 where

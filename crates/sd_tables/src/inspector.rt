@@ -7,9 +7,9 @@ ghost use Rattle.sd_tables.specs.Inspected.{sections_at};
 ghost use Rattle.sd_tables.specs.Watching.{naming, IsLearned, IsPlace, AreIdle, IsAfter};
 
 use crate::watched::{PIDS, Watched};
+use sd_cause::NoMemory;
 use sd_lines::push_line;
 use sd_packet::Packet;
-use sd_cause::NoMemory;
 use sd_section::Assembler;
 use std::alloc::Global;
 

@@ -7,8 +7,8 @@ ghost use Rattle.sd_tables.specs.Progress.{IsPrintedOrKept, LeavesText, answer_o
 
 use crate::fault::WholeTablesFault;
 use crate::inspector::Inspector;
-use sd_ports::{Sink, write_all};
 use sd_engine::{Packets, StreamBreak};
+use sd_ports::{Sink, write_all};
 use std::alloc::Global;
 
 /// How many bytes of lines are gathered before they are printed.

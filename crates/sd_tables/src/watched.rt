@@ -1,6 +1,6 @@
 ghost use Rattle.std.specs.Prelude.{◌≡◌, ◌<◌, false, IfOk, [], ◌∷◌, get_or, vec_len};
-ghost use Rattle.sd_psi.specs.Tables.{programs_of};
-ghost use Rattle.sd_tables.specs.Watching.{naming, AreMarked, IsTold, IsLearned};
+ghost use Rattle.sd_psi.specs.Tables.{pmt_pids_of};
+ghost use Rattle.sd_tables.specs.Watching.{naming, AreMarked, AreAdded, IsLearned};
 
 use sd_cause::NoMemory;
 use sd_psi::{Pat, pat_in};
@@ -38,7 +38,7 @@ impl Watched {
         self.marks[usize::from(pid)]
     }
 
-    /// Watches the PIDs of the maps that a section of a PID names, where it is a PAT.
+    /// Watches the PIDs of the PMTs that a section of a PID names, where it is a PAT.
     pub fn learn(&mut self, pid: u16, section: &[u8])
         ensures { IsLearned (naming pid (section.now ∷ [])) self.old.marks.items self.new.marks.items }
     {
@@ -53,15 +53,14 @@ impl Watched {
         }
     }
 
-    // Watches the PIDs of the maps of its programs.
+    // Watches the PIDs of the PMTs of its programs.
+    #[tactic(auto, using(crate::proofs::Learning::none_added, crate::proofs::Learning::one_added, crate::proofs::Learning::all_added))]
     fn learn_programs(&mut self, pat: &Pat)
-        ensures { IsTold (programs_of pat.now.section.bytes.now) self.old.marks.items self.new.marks.items }
+        ensures { AreAdded (pmt_pids_of pat.now.section.bytes.now) self.old.marks.items self.new.marks.items }
     {
-        for k in 0..pat.len() {
-            let (number, pid) = pat.program(k);
-            if number != 0 {
-                self.marks[usize::from(pid)] = true;
-            }
+        let mut pids = pat.pmt_pids();
+        while let Some(pid) = pids.next() {
+            self.marks[usize::from(pid)] = true;
         }
     }
 }

@@ -1,7 +1,9 @@
 -- Ancestors, and the leaves below them.
-use Rattle.std.proofs.Common.{ℕ, suc, zero, ◌+◌, ◌-◌, ◌*◌, ◌/◌, ◌^◌, ◌<◌, ◌≤◌, ◌≡◌, true, sym, refl, ap, ◌∙◌, inl, inr, ⊎_elim, arith}
+use Rattle.std.proofs.Common.{ℕ, suc, zero, ◌+◌, ◌-◌, ◌*◌, ◌/◌, ◌^◌, ◌<◌, ◌≤◌, ◌≡◌, true, sym, refl, ap, ◌∙◌, inl, inr}
+use Rattle.std.proofs.Common.{⊎_elim, arith}
 use Rattle.std.specs.Prelude.{◌⊎◌, ◌↔◌}
-use Rattle.std.proofs.Math.Nat.{mul_assoc, add-mul, div-one, div-eq_of_lt, div-eq_of_lt-le, mul-le-mul_right, le_of_mul-le-mul_right, div-mul-le_self, lt-div-mul-add}
+use Rattle.std.proofs.Math.Nat.{mul_assoc, add-mul, div-one, div-eq_of_lt, div-eq_of_lt-le, mul-le-mul_right}
+use Rattle.std.proofs.Math.Nat.{le_of_mul-le-mul_right, div-mul-le_self, lt-div-mul-add}
 use Rattle.std.proofs.Math.Pow.{pow_mono, shr-shr, pow-add, pow-lt, shr_le}
 use Rattle.std.proofs.lemmas.Nat.{pow_pos}
 use Rattle.std.proofs.lemmas.Bool.{cases_lt, cases_eq, and_parts, and_from, leb-true, ltb-true, le-leb, lt-ltb}
@@ -39,10 +41,18 @@ pub above_comparable : (a b c : ℕ) → IsAbove a c → IsAbove b c → IsAbove
 above_comparable a b c p q =
     ⊎_elim (λ (h : p.0 < q.0).
     let e : p.0 + (q.0 - p.0) ≡ q.0 = omega arith in
-    inr (q.0 - p.0, ap (λ (n : ℕ). n / 2 ^ (q.0 - p.0)) (sym p.1) ∙ (shr-shr c p.0 (q.0 - p.0) ∙ (ap (λ (n : ℕ). c / 2 ^ n) e ∙ q.1))))
+    inr (
+      q.0 - p.0,
+      ap (λ (n : ℕ). n / 2 ^ (q.0 - p.0)) (sym p.1)
+          ∙ (shr-shr c p.0 (q.0 - p.0) ∙ (ap (λ (n : ℕ). c / 2 ^ n) e ∙ q.1)),
+    ))
     (λ (h : q.0 ≤ p.0).
     let e : q.0 + (p.0 - q.0) ≡ p.0 = omega arith in
-    inl (p.0 - q.0, ap (λ (n : ℕ). n / 2 ^ (p.0 - q.0)) (sym q.1) ∙ (shr-shr c q.0 (p.0 - q.0) ∙ (ap (λ (n : ℕ). c / 2 ^ n) e ∙ p.1))))
+    inl (
+      p.0 - q.0,
+      ap (λ (n : ℕ). n / 2 ^ (p.0 - q.0)) (sym q.1)
+          ∙ (shr-shr c q.0 (p.0 - q.0) ∙ (ap (λ (n : ℕ). c / 2 ^ n) e ∙ p.1)),
+    ))
     (cases_lt p.0 q.0)
 
 -- two nodes above one another are one
@@ -53,7 +63,8 @@ root_above_within : (n v : ℕ) → 1 ≤ v → v ≤ n → IsAbove 1 v
 root_above_within zero v low high = absurd (omega arith)
 root_above_within (suc n) v low high =
     ⊎_elim (λ (h : v < 2). let e : v ≡ 1 = omega arith in rw e (above_self 1))
-    (λ (h : 2 ≤ v). above_trans 1 (v / 2) v (root_above_within n (v / 2) (omega arith) (omega arith)) (parent_above v)) (cases_lt v 2)
+    (λ (h : 2 ≤ v). above_trans 1 (v / 2) v (root_above_within n (v / 2) (omega arith) (omega arith)) (parent_above v))
+    (cases_lt v 2)
 
 -- the root is above each node
 pub root_above : (v : ℕ) → 1 ≤ v → IsAbove 1 v
@@ -66,8 +77,14 @@ node_level v low =
     let k : ℕ = r.0 in
     let whole = div-mul-le_self v (2 ^ k) in
     let rest = lt-div-mul-add {a = v} {b = 2 ^ k} (pow_pos k) in
-    let e : v / 2 ^ k ≡ 1 = r.1 in
-    (k, record { low = (let w = rw e at whole in omega arith); high = (let w = rw e at rest in omega (arith, doubled k)) })
+    let e : v / 2 ^ k ≡ 1 = r.1 in (
+      k,
+      record {
+        low = (let w = rw e at whole in omega arith);
+        high =
+            (let w = rw e at rest in omega (arith, doubled k));
+      },
+    )
 
 -- an ancestor of a node on level n stands on a level m up to n, and n - m halvings lead to it
 pub above_by_levels : (i j m n : ℕ) → IsAtLevel i m → IsAtLevel j n → IsAbove i j → (m ≤ n) × (j / 2 ^ (n - m) ≡ i)
@@ -83,20 +100,24 @@ above_by_levels i j m n p q (k, e) =
     (cases_lt n k)
 
 -- a node's proper ancestor stands on a level above the node's, and one halving less than those to it leads to its child
-pub properly_above_by_levels : (i j m n : ℕ) → IsAtLevel i m → IsAtLevel j n → IsProperlyAbove i j → (m < n) × (j / 2 ^ (n - m - 1) / 2 ≡ i)
+pub properly_above_by_levels : (i j m n : ℕ) → IsAtLevel i m → IsAtLevel j n → IsProperlyAbove i j → (m < n)
+    × (j / 2 ^ (n - m - 1) / 2 ≡ i)
 properly_above_by_levels i j m n p q above =
     let by = above_by_levels i j m n p q above.0 in
     let less : m < n =
     ⊎_elim (λ (h : m < n). h)
-    (λ (h : n ≤ m). let e : n - m ≡ 0 = omega arith in absurd (above.1 (sym (rw e at by.1) ∙ div-one j))) (cases_lt m n) in
+    (λ (h : n ≤ m). let e : n - m ≡ 0 =
+    omega arith in absurd (above.1 (sym (rw e at by.1) ∙ div-one j))) (cases_lt m n) in
     let e : n - m - 1 + 1 ≡ n - m = omega arith in
     (less, shr-shr j (n - m - 1) 1 ∙ (ap (λ (k : ℕ). j / 2 ^ k) e ∙ by.1))
 
 -- two nodes of one level above one node are one
 pub above_same_level : (a b c k : ℕ) → IsAtLevel a k → IsAtLevel b k → IsAbove a c → IsAbove b c → a ≡ b
 above_same_level a b c k p q over_a over_b =
-    ⊎_elim (λ (h : IsAbove a b). let by = above_by_levels a b k k p q h in let e : k - k ≡ 0 = omega arith in sym (rw e at by.1) ∙ div-one b)
-    (λ (h : IsAbove b a). let by = above_by_levels b a k k q p h in let e : k - k ≡ 0 = omega arith in sym (sym (rw e at by.1) ∙ div-one a))
+    ⊎_elim (λ (h : IsAbove a b). let by = above_by_levels a b k k p q h in let e : k - k ≡ 0 =
+    omega arith in sym (rw e at by.1) ∙ div-one b)
+    (λ (h : IsAbove b a). let by = above_by_levels b a k k q p h in let e : k - k ≡ 0 =
+    omega arith in sym (sym (rw e at by.1) ∙ div-one a))
     (above_comparable a b c over_a over_b)
 
 -- what is properly above a node is above its parent
@@ -118,7 +139,8 @@ above_through_child i j ((zero, e), apart) = absurd (apart (sym e ∙ div-one j)
 above_through_child i j ((suc k, e), apart) =
     let s : k + 1 ≡ suc k = omega arith in
     let half : j / 2 ^ k / 2 ≡ i = shr-shr j k 1 ∙ (ap (λ (n : ℕ). j / 2 ^ n) s ∙ e) in
-    ⊎_elim (λ (h : j / 2 ^ k < 2 * i + 1). inl (k, omega arith)) (λ (h : 2 * i + 1 ≤ j / 2 ^ k). inr (k, omega arith)) (cases_lt (j / 2 ^ k) (2 * i + 1))
+    ⊎_elim (λ (h : j / 2 ^ k < 2 * i + 1). inl (k, omega arith)) (λ (h : 2 * i + 1 ≤ j / 2 ^ k). inr (k, omega arith))
+    (cases_lt (j / 2 ^ k) (2 * i + 1))
 
 -- so many halvings lead to a node exactly where it is above
 pub above_tested : (i j m n : ℕ) → IsAtLevel i m → IsAtLevel j n → (j / 2 ^ (n - m) ≡ i) ↔ IsAbove i j
@@ -130,7 +152,8 @@ above_or_not i j low_i low_j =
     let m = node_level i low_i in
     let n = node_level j low_j in
     let tested = above_tested i j m.0 n.0 m.1 n.1 in
-    ⊎_elim (λ (e : j / 2 ^ (n.0 - m.0) ≡ i). inl (tested.0 e)) (λ (ne : j / 2 ^ (n.0 - m.0) ≡ i → ⊥). inr (λ p. ne (tested.1 p))) (cases_eq (j / 2 ^ (n.0 - m.0)) i)
+    ⊎_elim (λ (e : j / 2 ^ (n.0 - m.0) ≡ i). inl (tested.0 e)) (λ (ne : j / 2 ^ (n.0 - m.0) ≡ i
+    → ⊥). inr (λ p. ne (tested.1 p))) (cases_eq (j / 2 ^ (n.0 - m.0)) i)
 
 -- the node of leaf u stands on the lowest level
 pub leaf_level : (d u : ℕ) → u < 2 ^ d → IsAtLevel (2 ^ d + u) d
@@ -141,17 +164,21 @@ pub depth_within : (d v : ℕ) → d ≤ 20 → 1 ≤ v → v < 2 ^ (d + 1) → 
 depth_within d v h low high =
     let n = node_level v low in
     let k : ℕ = n.0 in
-    let within : k ≤ d = ⊎_elim (λ (g : d < k). absurd (omega (arith, pow_mono {i = d + 1} {j = k} (omega arith), n.1.low))) (λ (g : k ≤ d). g) (cases_lt d k) in
+    let within : k ≤ d =
+    ⊎_elim (λ (g : d < k). absurd (omega (arith, pow_mono {i = d + 1} {j = k} (omega arith), n.1.low)))
+    (λ (g : k ≤ d). g) (cases_lt d k) in
     let same = depth_at v k (omega arith) n.1 in
     rw same (n.1, within)
 
 -- the node of a leaf stands in the interval of each node that the leaf is below
-pub within_from_below : (d v u : ℕ) → is_below d v u ≡ true → (v * 2 ^ (d - depth v) ≤ 2 ^ d + u) × (2 ^ d + u < (v + 1) * 2 ^ (d - depth v))
+pub within_from_below : (d v u : ℕ) → is_below d v u ≡ true → (v * 2 ^ (d - depth v) ≤ 2 ^ d + u)
+    × (2 ^ d + u < (v + 1) * 2 ^ (d - depth v))
 unfolding is_below
 within_from_below d v u h = let both = and_parts _ _ h in (leb-true _ _ both.0, ltb-true _ _ both.1)
 
 -- a leaf is below each node in whose interval its node stands
-pub below_from_within : (d v u : ℕ) → v * 2 ^ (d - depth v) ≤ 2 ^ d + u → 2 ^ d + u < (v + 1) * 2 ^ (d - depth v) → is_below d v u ≡ true
+pub below_from_within : (d v u : ℕ) → v * 2 ^ (d - depth v) ≤ 2 ^ d + u → 2 ^ d + u < (v + 1) * 2 ^ (d - depth v)
+    → is_below d v u ≡ true
 unfolding is_below
 below_from_within d v u from to = and_from _ _ (le-leb _ _ from) (lt-ltb _ _ to)
 
@@ -162,7 +189,8 @@ above_from_below d v u h =
     (d - depth v, div-eq_of_lt-le (2 ^ (d - depth v)) within.0 within.1)
 
 -- a leaf is below the nodes that are above it
-pub below_from_above : (d v u : ℕ) → d ≤ 20 → 1 ≤ v → v < 2 ^ (d + 1) → u < 2 ^ d → IsAbove v (2 ^ d + u) → is_below d v u ≡ true
+pub below_from_above : (d v u : ℕ) → d ≤ 20 → 1 ≤ v → v < 2 ^ (d + 1) → u < 2 ^ d → IsAbove v (2 ^ d + u)
+    → is_below d v u ≡ true
 below_from_above d v u h low high leaf p =
     let at = depth_within d v h low high in
     let by = above_by_levels v (2 ^ d + u) (depth v) d at.0 (leaf_level d u leaf) p in
@@ -171,7 +199,8 @@ below_from_above d v u h low high leaf p =
     below_from_within d v u whole (omega (arith, add-one-mul v (2 ^ (d - depth v)), rest))
 
 -- leaf u is below node v exactly where v is above the leaf's node
-pub below_is_above : (d v u : ℕ) → d ≤ 20 → 1 ≤ v → v < 2 ^ (d + 1) → u < 2 ^ d → (is_below d v u ≡ true) ↔ IsAbove v (2 ^ d + u)
+pub below_is_above : (d v u : ℕ) → d ≤ 20 → 1 ≤ v → v < 2 ^ (d + 1) → u < 2 ^ d → (is_below d v u ≡ true)
+    ↔ IsAbove v (2 ^ d + u)
 below_is_above d v u h low high leaf = (above_from_below d v u, below_from_above d v u h low high leaf)
 
 -- an interval within another of q times its size ends where the other does or before
@@ -200,7 +229,8 @@ leaves_from_above d i j h low high p u leaf below =
     below_from_above d i u h low high leaf (above_trans i j (2 ^ d + u) p (above_from_below d j u below))
 
 -- the interval of a node is within the interval of all leaves
-pub interval_within : (d v : ℕ) → d ≤ 20 → 1 ≤ v → v < 2 ^ (d + 1) → (2 ^ d ≤ v * 2 ^ (d - depth v)) × ((v + 1) * 2 ^ (d - depth v) ≤ 2 ^ d + 2 ^ d)
+pub interval_within : (d v : ℕ) → d ≤ 20 → 1 ≤ v → v < 2 ^ (d + 1) → (2 ^ d ≤ v * 2 ^ (d - depth v))
+    × ((v + 1) * 2 ^ (d - depth v) ≤ 2 ^ d + 2 ^ d)
 interval_within d v h low high =
     let at = depth_within d v h low high in
     let e : ℕ = d - depth v in
@@ -223,10 +253,18 @@ above_from_leaves d i j h low high holds =
     let pos = pow_pos e in
     let left : 2 ^ d + (j * 2 ^ e - 2 ^ d) ≡ j * 2 ^ e = omega arith in
     let right : 2 ^ d + (j * 2 ^ e + 2 ^ e - 1 - 2 ^ d) ≡ j * 2 ^ e + 2 ^ e - 1 = omega arith in
-    let in_left = within_from_below d i (j * 2 ^ e - 2 ^ d) (holds (j * 2 ^ e - 2 ^ d) (omega arith) (below_from_within d j (j * 2 ^ e - 2 ^ d) (omega arith) (omega arith))) in
-    let in_right = within_from_below d i (j * 2 ^ e + 2 ^ e - 1 - 2 ^ d) (holds (j * 2 ^ e + 2 ^ e - 1 - 2 ^ d) (omega arith) (below_from_within d j (j * 2 ^ e + 2 ^ e - 1 - 2 ^ d) (omega arith) (omega arith))) in
+    let in_left =
+    within_from_below d i (j * 2 ^ e - 2 ^ d)
+    (holds (j * 2 ^ e - 2 ^ d) (omega arith)
+    (below_from_within d j (j * 2 ^ e - 2 ^ d) (omega arith) (omega arith))) in
+    let in_right =
+    within_from_below d i (j * 2 ^ e + 2 ^ e - 1 - 2 ^ d)
+    (holds (j * 2 ^ e + 2 ^ e - 1 - 2 ^ d) (omega arith)
+    (below_from_within d j (j * 2 ^ e + 2 ^ e - 1 - 2 ^ d) (omega arith) (omega arith))) in
     interval_above i j e f (omega (arith, in_left.0)) (omega (arith, add-one-mul i (2 ^ f), in_right.1))
 
 -- a node is above another exactly where all leaves below that one are below it
-pub above_is_leaves : (d i j : ℕ) → d ≤ 20 → 1 ≤ i → 1 ≤ j → i < 2 ^ (d + 1) → j < 2 ^ (d + 1) → IsAbove i j ↔ HoldsLeavesOf d i j
-above_is_leaves d i j h low_i low_j high_i high_j = (leaves_from_above d i j h low_i high_i, above_from_leaves d i j h low_j high_j)
+pub above_is_leaves : (d i j : ℕ) → d ≤ 20 → 1 ≤ i → 1 ≤ j → i < 2 ^ (d + 1) → j < 2 ^ (d + 1) → IsAbove i j
+    ↔ HoldsLeavesOf d i j
+above_is_leaves d i j h low_i low_j high_i high_j =
+    (leaves_from_above d i j h low_i high_i, above_from_leaves d i j h low_j high_j)

@@ -1,5 +1,6 @@
 -- A set that is cut in two at a node between its upper and its lower node.
-use Rattle.std.proofs.Common.{◌≡◌, ◌≢◌, ℕ, ◌+◌, ◌*◌, ◌^◌, ◌<◌, ◌≤◌, ◌&&◌, Bool, true, false, not, nat_lt, if◌then◌else◌, refl, sym, subst, arith}
+use Rattle.std.proofs.Common.{◌≡◌, ℕ, ◌+◌, ◌*◌, ◌^◌, ◌<◌, ◌≤◌, ◌&&◌, Bool, true, false, not, nat_lt, if◌then◌else◌}
+use Rattle.std.proofs.Common.{refl, sym, subst, arith}
 use Rattle.std.proofs.lemmas.Bool.Decides.{nat_tests}
 use Rattle.sd_tree.specs.Node.{IsAbove, IsProperlyAbove}
 use Rattle.sd_tree.specs.Leaves.{is_below, is_member}
@@ -28,11 +29,13 @@ cut_pair d i k j a b = record {
 below_higher : (d i j u : ℕ) → d ≤ 20 → 1 ≤ i → i < 2 ^ (d + 1) → 1 ≤ j → j < 2 ^ (d + 1) → u < 2 ^ d →
     IsAbove i j → is_below d j u ≡ true → is_below d i u ≡ true
 below_higher d i j u low some node jsome jnode leaf above is =
-    (below_is_above d i u low some node leaf).1 (above_trans i j (2 ^ d + u) above ((below_is_above d j u low jsome jnode leaf).0 is))
+    (below_is_above d i u low some node leaf).1
+    (above_trans i j (2 ^ d + u) above ((below_is_above d j u low jsome jnode leaf).0 is))
 
 -- of three tests, each of which holds where the next does, the differences add up
 adds_up : (a b c : Bool) → (b ≡ true → a ≡ true) → (c ≡ true → b ≡ true) →
-    (if true && (a && not b) then 1 else 0) + (if true && (b && not c) then 1 else 0) ≡ (if true && (a && not c) then 1 else 0)
+    (if true && (a && not b) then 1 else 0) + (if true && (b && not c) then 1 else 0) ≡ (if true && (a && not c) then 1
+    else 0)
 adds_up true true true f g = refl
 adds_up true true false f g = refl
 adds_up true false false f g = refl

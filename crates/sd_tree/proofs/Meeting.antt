@@ -1,5 +1,6 @@
 -- Where the paths of two nodes to the root meet, by the highest bit in which two numbers of one level differ.
-use Rattle.std.proofs.Common.{ℕ, suc, zero, ◌+◌, ◌-◌, ◌/◌, ◌^◌, ◌<◌, ◌≤◌, ◌≡◌, min, max, add-one, sym, refl, ap, ◌∙◌, ⊎_elim, arith}
+use Rattle.std.proofs.Common.{ℕ, suc, zero, ◌+◌, ◌-◌, ◌/◌, ◌^◌, ◌<◌, ◌≤◌, ◌≡◌, min, max, add-one, sym, refl, ap, ◌∙◌}
+use Rattle.std.proofs.Common.{⊎_elim, arith}
 use lib.Bits.{bit_xor, xor_assoc, xor_self, xor_zero_l, xor_zero_r}
 use lib.Count.{count_leading_zeros}
 use Rattle.std.proofs.Math.Nat.{div-eq_of_lt, div-eq_of_lt-le, lt-div-mul-add}
@@ -18,12 +19,16 @@ bits_of z = 32 - count_leading_zeros 32 z
 agree_above : (x y k : ℕ) → bit_xor x y < 2 ^ k → x / 2 ^ k ≡ y / 2 ^ k
 agree_above x y k h =
     let none : bit_xor (x / 2 ^ k) (y / 2 ^ k) ≡ 0 = sym (xor_shr x y k) ∙ div-eq_of_lt h in
-    sym (xor_zero_r (x / 2 ^ k)) ∙ (ap (bit_xor (x / 2 ^ k)) (sym (xor_self (y / 2 ^ k))) ∙ (sym (xor_assoc (x / 2 ^ k) (y / 2 ^ k) (y / 2 ^ k)) ∙ (ap (λ (n : ℕ). bit_xor n (y / 2 ^ k)) none ∙ xor_zero_l (y / 2 ^ k))))
+    sym (xor_zero_r (x / 2 ^ k))
+    ∙ (ap (bit_xor (x / 2 ^ k)) (sym (xor_self (y / 2 ^ k)))
+    ∙ (sym (xor_assoc (x / 2 ^ k) (y / 2 ^ k) (y / 2 ^ k))
+    ∙ (ap (λ (n : ℕ). bit_xor n (y / 2 ^ k)) none ∙ xor_zero_l (y / 2 ^ k))))
 
 -- numbers that agree from bit k on differ only below it
 differ_below : (x y k : ℕ) → x / 2 ^ k ≡ y / 2 ^ k → bit_xor x y < 2 ^ k
 differ_below x y k e =
-    let none : bit_xor x y / 2 ^ k ≡ 0 = xor_shr x y k ∙ (ap (λ (n : ℕ). bit_xor n (y / 2 ^ k)) e ∙ xor_self (y / 2 ^ k)) in
+    let none : bit_xor x y / 2 ^ k ≡ 0 = xor_shr x y k
+    ∙ (ap (λ (n : ℕ). bit_xor n (y / 2 ^ k)) e ∙ xor_self (y / 2 ^ k)) in
     let rest = rw none at (lt-div-mul-add {a = bit_xor x y} {b = 2 ^ k} (pow_pos k)) in
     omega (arith, rest)
 
@@ -41,7 +46,8 @@ bits_within z k h below =
     let l = leading_length 32 z h in
     let m : ℕ = l.0 in
     let e : bits_of z ≡ m = omega (arith, l.1) in
-    rw e (⊎_elim (λ (g : k < m). absurd (omega (arith, pow_mono {i = k + 1} {j = m} (omega arith), doubled k, l.3))) (λ (g : m ≤ k). g) (cases_lt k m))
+    rw e (⊎_elim (λ (g : k < m). absurd (omega (arith, pow_mono {i = k + 1} {j = m} (omega arith), doubled k, l.3)))
+    (λ (g : m ≤ k). g) (cases_lt k m))
 
 -- a node on level k is 1 after k halvings
 halved_to_root : (v k : ℕ) → IsAtLevel v k → v / 2 ^ k ≡ 1
@@ -61,7 +67,8 @@ abbrev pub meeting : ℕ → ℕ → ℕ
 meeting x y = y / 2 ^ bits_of (bit_xor x y)
 
 -- nodes deep and high stand on levels n and m, and n - m halvings lift the deep one to the high one's level
-module _ (deep high n m : ℕ) (p : IsAtLevel deep n) (q : IsAtLevel high m) (le : m ≤ n) (word_deep : deep < 2 ^ 32) (word_high : high < 2 ^ 32) where
+module _ (deep high n m : ℕ) (p : IsAtLevel deep n) (q : IsAtLevel high m) (le : m ≤ n) (word_deep : deep < 2 ^ 32)
+    (word_high : high < 2 ^ 32) where
   lifted_level : IsAtLevel (deep / 2 ^ (n - m)) m
   lifted_level =
       let e : n - (n - m) ≡ m = omega arith in
@@ -73,7 +80,8 @@ module _ (deep high n m : ℕ) (p : IsAtLevel deep n) (q : IsAtLevel high m) (le
   -- their highest bit is common
   pub bits_within_level : bits_of (bit_xor (deep / 2 ^ (n - m)) high) ≤ m
   bits_within_level =
-      bits_within _ m word_differs (differ_below (deep / 2 ^ (n - m)) high m (halved_to_root _ m lifted_level ∙ sym (halved_to_root high m q)))
+      bits_within _ m word_differs (differ_below (deep / 2 ^ (n - m)) high m (halved_to_root _ m lifted_level
+      ∙ sym (halved_to_root high m q)))
 
   -- the paths meet at a node
   pub meeting_is_node : 1 ≤ meeting (deep / 2 ^ (n - m)) high
@@ -101,8 +109,11 @@ module _ (deep high n m : ℕ) (p : IsAtLevel deep n) (q : IsAtLevel high m) (le
       let by_deep = above_by_levels v deep l n at.1 p over_deep in
       let by_high = above_by_levels v high l m at.1 q over_high in
       let steps : n - m + (m - l) ≡ n - l = omega (arith, by_high.0) in
-      let lifted : deep / 2 ^ (n - m) / 2 ^ (m - l) ≡ v = shr-shr deep (n - m) (m - l) ∙ (ap (λ (k : ℕ). deep / 2 ^ k) steps ∙ by_deep.1) in
-      let few : s ≤ m - l = bits_within _ (m - l) word_differs (differ_below (deep / 2 ^ (n - m)) high (m - l) (lifted ∙ sym by_high.1)) in
+      let lifted : deep / 2 ^ (n - m) / 2 ^ (m - l) ≡ v = shr-shr deep (n - m) (m - l)
+      ∙ (ap (λ (k : ℕ). deep / 2 ^ k) steps ∙ by_deep.1) in
+      let few : s ≤ m - l =
+      bits_within _ (m - l) word_differs (differ_below (deep / 2 ^ (n - m)) high (m - l) (lifted
+      ∙ sym by_high.1)) in
       let rest : s + (m - l - s) ≡ m - l = omega arith in
       (m - l - s, shr-shr high s (m - l - s) ∙ (ap (λ (k : ℕ). high / 2 ^ k) rest ∙ by_high.1))
 
@@ -110,7 +121,8 @@ module _ (deep high n m : ℕ) (p : IsAtLevel deep n) (q : IsAtLevel high m) (le
   pub meeting_is_deepest : (v : ℕ) → IsAbove v deep → IsAbove v high → IsAbove v (meeting (deep / 2 ^ (n - m)) high)
   meeting_is_deepest v over_deep over_high =
       ⊎_elim (λ (h : 0 < v). deepest_node v h over_deep over_high)
-      (λ (h : v ≤ 0). let none : v ≡ 0 = omega arith in rw none (nothing_above (meeting (deep / 2 ^ (n - m)) high))) (cases_lt 0 v)
+      (λ (h : v ≤ 0). let none : v ≡ 0 =
+      omega arith in rw none (nothing_above (meeting (deep / 2 ^ (n - m)) high))) (cases_lt 0 v)
 
 -- the greater and the lower of two numbers have what both have
 pub both_ordered : (P : ℕ → Type 0) (a b deep high : ℕ) → deep ≡ max a b → high ≡ min a b → P a → P b → P deep × P high
@@ -122,4 +134,5 @@ both_ordered P a b deep high is_deep is_high p q =
 pub ordered_both : (P : ℕ → Type 0) (a b deep high : ℕ) → deep ≡ max a b → high ≡ min a b → P deep → P high → P a × P b
 ordered_both P a b deep high is_deep is_high p q =
     ⊎_elim (λ (h : a < b). let e : deep ≡ b = omega arith in let f : high ≡ a = omega arith in (rw f at q, rw e at p))
-    (λ (h : b ≤ a). let e : deep ≡ a = omega arith in let f : high ≡ b = omega arith in (rw e at p, rw f at q)) (cases_lt a b)
+    (λ (h : b ≤ a). let e : deep ≡ a = omega arith in let f : high ≡ b =
+    omega arith in (rw e at p, rw f at q)) (cases_lt a b)

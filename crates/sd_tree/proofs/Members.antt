@@ -1,9 +1,11 @@
 -- The leaves of a set, and how many they are.
-use Rattle.std.proofs.Common.{ℕ, ◌+◌, ◌-◌, ◌*◌, ◌^◌, ◌<◌, ◌≤◌, ◌≡◌, Bool, true, false, not, ◌&&◌, cond, ltb, length, sym, refl, ◌∙◌, ⊎_elim, arith}
+use Rattle.std.proofs.Common.{ℕ, ◌+◌, ◌-◌, ◌*◌, ◌^◌, ◌<◌, ◌≤◌, ◌≡◌, Bool, true, false, not, ◌&&◌, cond, ltb, length}
+use Rattle.std.proofs.Common.{sym, refl, ◌∙◌, ⊎_elim, arith}
 use Rattle.std.specs.Prelude.{◌↔◌}
 use Rattle.std.specs.List.{filter}
 use Rattle.std.proofs.lemmas.List.Sums.{length-filter}
-use Rattle.std.proofs.lemmas.Bool.{false≢true, and_parts, and_from, not-true, not_from_false, cases_Bool, lt-ltb, le-ltb, false_from_ne_true}
+use Rattle.std.proofs.lemmas.Bool.{false≢true, and_parts, and_from, not-true, not_from_false, cases_Bool, lt-ltb}
+use Rattle.std.proofs.lemmas.Bool.{le-ltb, false_from_ne_true}
 use Rattle.std.proofs.lemmas.Bool.Decides.{same_from_decides}
 use Rattle.sd_tree.specs.declared.set.SetName.TheVariants.{Whole, Diff}
 use Rattle.sd_tree.specs.Node.{depth, IsAbove}
@@ -11,7 +13,8 @@ use Rattle.sd_tree.specs.Leaves.{leaves, is_below, is_member, members}
 use Rattle.sd_tree.specs.SetNames.{IsPair}
 use Rattle.sd_tree.proofs.Levels.{add-one-mul}
 use Rattle.sd_tree.proofs.Counting.{count_interval, count_split}
-use Rattle.sd_tree.proofs.Ancestors.{above_le, below_is_above, within_from_below, below_from_within, interval_within, leaves_from_above}
+use Rattle.sd_tree.proofs.Ancestors.{above_le, below_is_above, within_from_below, below_from_within, interval_within}
+use Rattle.sd_tree.proofs.Ancestors.{leaves_from_above}
 
 -- the lower node of a pair is a node of the tree
 pub lower_is_node : {d i j : ℕ} → IsPair d i j → 1 ≤ j
@@ -22,34 +25,43 @@ pub upper_is_node : {d i j : ℕ} → IsPair d i j → i < 2 ^ (d + 1)
 upper_is_node {d} {i} {j} p = let le = above_le i j p.above.0 in omega (arith, p.node)
 
 -- a test for a node above a leaf's node is the test for the leaf below the node
-below_by_test : (d v u : ℕ) (b : Bool) → d ≤ 20 → 1 ≤ v → v < 2 ^ (d + 1) → u < 2 ^ d → ((b ≡ true) ↔ IsAbove v (2 ^ d + u)) → is_below d v u ≡ b
-below_by_test d v u b h low high leaf test = same_from_decides (is_below d v u) b (below_is_above d v u h low high leaf) test
+below_by_test : (d v u : ℕ) (b : Bool) → d ≤ 20 → 1 ≤ v → v < 2 ^ (d + 1) → u < 2 ^ d
+    → ((b ≡ true) ↔ IsAbove v (2 ^ d + u)) → is_below d v u ≡ b
+below_by_test d v u b h low high leaf test =
+    same_from_decides (is_below d v u) b (below_is_above d v u h low high leaf) test
 
 -- membership by tests for the two nodes
-pub member_by_tests : (d i j u node : ℕ) (a b : Bool) → d ≤ 20 → IsPair d i j → u < 2 ^ d → node ≡ 2 ^ d + u → ((a ≡ true) ↔ IsAbove i node) → ((b ≡ true) ↔ IsAbove j node) → (a && not b) ≡ is_member d (Diff i j) u
+pub member_by_tests : (d i j u node : ℕ) (a b : Bool) → d ≤ 20 → IsPair d i j → u < 2 ^ d → node ≡ 2 ^ d + u
+    → ((a ≡ true) ↔ IsAbove i node) → ((b ≡ true) ↔ IsAbove j node) → (a && not b) ≡ is_member d (Diff i j) u
 member_by_tests d i j u node a b h pair leaf is upper lower =
     let in_i = below_by_test d i u a h pair.inner.0 (upper_is_node pair) leaf (rw is at upper) in
     let in_j = below_by_test d j u b h (lower_is_node pair) pair.node leaf (rw is at lower) in
     rw (lt-ltb u (2 ^ d) leaf, in_i, in_j) refl
 
 -- a leaf that isn't below i isn't in S(i,j)
-pub no_member_beside : (d i j u node : ℕ) (a : Bool) → d ≤ 20 → IsPair d i j → u < 2 ^ d → node ≡ 2 ^ d + u → ((a ≡ true) ↔ IsAbove i node) → a ≡ false → false ≡ is_member d (Diff i j) u
+pub no_member_beside : (d i j u node : ℕ) (a : Bool) → d ≤ 20 → IsPair d i j → u < 2 ^ d → node ≡ 2 ^ d + u
+    → ((a ≡ true) ↔ IsAbove i node) → a ≡ false → false ≡ is_member d (Diff i j) u
 no_member_beside d i j u node a h pair leaf is upper e =
     let in_i = below_by_test d i u a h pair.inner.0 (upper_is_node pair) leaf (rw is at upper) in
     rw (lt-ltb u (2 ^ d) leaf, in_i, e) refl
 
 -- the leaves of S(i,j) are those below i that aren't below j
-pub member_of_pair : (d i j u : ℕ) → d ≤ 20 → IsPair d i j → u < 2 ^ d → (is_member d (Diff i j) u ≡ true) ↔ (IsAbove i (2 ^ d + u) × ¬ IsAbove j (2 ^ d + u))
+pub member_of_pair : (d i j u : ℕ) → d ≤ 20 → IsPair d i j → u < 2 ^ d → (is_member d (Diff i j) u ≡ true)
+    ↔ (IsAbove i (2 ^ d + u) × ¬ IsAbove j (2 ^ d + u))
 member_of_pair d i j u h pair leaf =
     let in_i = below_is_above d i u h pair.inner.0 (upper_is_node pair) leaf in
     let in_j = below_is_above d j u h (lower_is_node pair) pair.node leaf in
     rw (lt-ltb u (2 ^ d) leaf) (
-      (λ e. let both = and_parts (is_below d i u) (not (is_below d j u)) e in (in_i.0 both.0, λ p. false≢true (sym (not-true _ both.1) ∙ in_j.1 p))),
-      λ p. and_from (is_below d i u) (not (is_below d j u)) (in_i.1 p.0) (not_from_false _ (false_from_ne_true _ (λ e. p.1 (in_j.0 e)))),
+      (λ e. let both =
+          and_parts (is_below d i u) (not (is_below d j u)) e in
+          (in_i.0 both.0, λ p. false≢true (sym (not-true _ both.1) ∙ in_j.1 p))),
+      λ p. and_from (is_below d i u) (not (is_below d j u)) (in_i.1 p.0)
+          (not_from_false _ (false_from_ne_true _ (λ e. p.1 (in_j.0 e)))),
     )
 
 -- below a node k levels above the leaves are 2^k leaves
-pub count_below : (d v : ℕ) → d ≤ 20 → 1 ≤ v → v < 2 ^ (d + 1) → length (filter (is_below d v) (leaves d)) ≡ 2 ^ (d - depth v)
+pub count_below : (d v : ℕ) → d ≤ 20 → 1 ≤ v → v < 2 ^ (d + 1)
+    → length (filter (is_below d v) (leaves d)) ≡ 2 ^ (d - depth v)
 count_below d v h low high =
     let e : ℕ = d - depth v in
     let all = interval_within d v h low high in
@@ -76,7 +88,9 @@ bool_of_and true = refl
 bool_of_and false = refl
 
 -- S(i,j) and the leaves below j are the leaves below i
-pub count_pair : (d i j : ℕ) → d ≤ 20 → IsPair d i j → length (filter (is_below d i) (leaves d)) ≡ length (filter (is_below d j) (leaves d)) + length (members d (Diff i j))
+pub count_pair : (d i j : ℕ) → d ≤ 20 → IsPair d i j
+    → length (filter (is_below d i) (leaves d))
+    ≡ length (filter (is_below d j) (leaves d)) + length (members d (Diff i j))
 count_pair d i j h pair =
     let split = count_split (is_below d i) (is_below d j) (is_member d (Diff i j)) 0 (2 ^ d)
     (λ u near. let leaf : u < 2 ^ d = omega arith in ⊎_elim
@@ -86,4 +100,10 @@ count_pair d i j h pair =
     (λ (beside : is_below d j u ≡ false).
     rw (lt-ltb u (2 ^ d) leaf, beside) (bool_of_and (is_below d i u)))
     (cases_Bool (is_below d j u))) in
-    omega (arith, split, length-filter (is_below d i) (leaves d), length-filter (is_below d j) (leaves d), length-filter (is_member d (Diff i j)) (leaves d))
+    omega (
+      arith,
+      split,
+      length-filter (is_below d i) (leaves d),
+      length-filter (is_below d j) (leaves d),
+      length-filter (is_member d (Diff i j)) (leaves d),
+    )

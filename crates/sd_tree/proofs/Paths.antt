@@ -35,7 +35,9 @@ pub path_above : (d u a b : ℕ) → u < 2 ^ d → a < b → b ≤ d → IsPrope
 path_above d u a b leaf less le =
     let s : d - b + (b - a) ≡ d - a = omega arith in (
       (b - a, shr-shr (2 ^ d + u) (d - b) (b - a) ∙ ap (λ (n : ℕ). (2 ^ d + u) / 2 ^ n) s),
-      λ e. let same = same_level (path_node d u b) a b (rw e at (path_level d u a leaf (omega arith))) (path_level d u b leaf le) in omega arith,
+      λ e. let same =
+          same_level (path_node d u b) a b (rw e at (path_level d u a leaf (omega arith))) (path_level d u b leaf le) in
+          omega arith,
     )
 
 -- a node and its sibling have one parent

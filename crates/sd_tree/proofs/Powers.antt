@@ -10,4 +10,5 @@ leaves_bounds d low high =
 
 -- a height whose leaves are so few is at most 20
 pub height_within : (d : ℕ) → 2 ^ d ≤ 2 ^ 20 → d ≤ 20
-height_within d few = ⊎_elim (λ (h : 20 < d). absurd (omega (arith, pow-lt {i = 20} {j = d} h))) (λ (h : d ≤ 20). h) (cases_lt 20 d)
+height_within d few =
+    ⊎_elim (λ (h : 20 < d). absurd (omega (arith, pow-lt {i = 20} {j = d} h))) (λ (h : d ≤ 20). h) (cases_lt 20 d)

@@ -1,4 +1,5 @@
-ghost use Rattle.std.specs.Prelude.{◌≡◌, ◌+◌, ◌-◌, ◌^◌, ◌<◌, ◌≤◌, ◌↔◌, ◌==◌, if◌then◌else◌, IsNone, IfSome, Some, length, filter};
+ghost use Rattle.std.specs.Prelude.{◌≡◌, ◌+◌, ◌-◌, ◌^◌, ◌<◌, ◌≤◌, ◌↔◌, ◌==◌, if◌then◌else◌};
+ghost use Rattle.std.specs.Prelude.{IsNone, IfSome, Some, length, filter};
 ghost use Rattle.sd_tree.specs.Leaves.{leaves, is_below, is_member, members};
 ghost use Rattle.sd_tree.specs.SetNames.{IsPair, IsOfHeight, set_cmp};
 

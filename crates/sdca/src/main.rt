@@ -4,7 +4,8 @@
 ghost use Rattle.std.specs.Prelude.{◌≡◌, ◌<◌};
 
 use sd_ports::{HostDepot, StdPrint};
-use sd_run::{Status, run, tell};
+use sd_run::run;
+use sd_status::{Status, tell};
 use sd_steps::Steps;
 use std::fs::Files;
 use std::io::ErrorKind;

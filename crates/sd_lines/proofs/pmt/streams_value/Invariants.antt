@@ -1,8 +1,13 @@
-use Rattle.std.proofs.Common.{◌≡◌, take, map}
+use Rattle.std.proofs.Common.{◌≡◌, ◌++◌, length, map}
 use Rattle.serde_json.specs.View.{view}
-use Rattle.sd_psi.specs.Tables.{streams_of}
+use Rattle.sd_psi.specs.Tables.{streams_in, streams_of}
 use Rattle.sd_lines.specs.Lines.{stream_data}
 use Rattle.sd_lines.proofs.pmt.streams_value.Given as goal
 
-abbrev pub invariant-loop-k : goal.invariant-loop-k
-invariant-loop-k l = map view l.streams.items ≡ map stream_data (take l.k (streams_of l.pmt.section.bytes.now))
+abbrev pub invariant-loop-stream : goal.invariant-loop-stream
+invariant-loop-stream l =
+    map view l.streams.items ++ map stream_data (streams_in l.rest.bytes.now)
+    ≡ map stream_data (streams_of l.pmt.section.bytes.now)
+
+abbrev pub decreases-loop-stream : goal.decreases-loop-stream
+decreases-loop-stream l = length (streams_in l.rest.bytes.now)

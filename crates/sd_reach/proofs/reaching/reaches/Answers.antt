@@ -28,5 +28,6 @@ pub returns : goal.returns
 returns c = (
   λ e. absurd (false≢true e),
   λ r. let (name, held, leads) = reached_is_found c.args.held.now (Key c.args.name) r in
-      absurd (none_of_all c.args.held.now (λ (n : Name). LeadsTo n (Key c.args.name)) Whole (λ k h. c.loop-given.invariant k (omega (arith, c.loop-given-test.false))) name held leads),
+      absurd (none_of_all c.args.held.now (λ (n : Name). LeadsTo n (Key c.args.name)) Whole
+      (λ k h. c.loop-given.invariant k (omega (arith, c.loop-given-test.false))) name held leads),
 )

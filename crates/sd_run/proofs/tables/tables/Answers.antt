@@ -1,30 +1,35 @@
-use Rattle.std.proofs.Common.{◌≡◌, Ok, ap, inr}
+use Rattle.std.proofs.Common.{refl}
 use Rattle.std.proofs.lemmas.Result.{err_from_is_err_and}
-use Rattle.sd_run.specs.declared.status.LimitKind.TheVariants.{StreamBytes}
-use Rattle.sd_run.specs.Work.{Inspect}
-use Rattle.sd_run.specs.Meaning.{◌>>=◌, file_in, tables_work}
-use Rattle.sd_run.specs.Answers.{IsRefusedAs}
-use Rattle.sd_run.proofs.Refusals.{told_weaker, refused_first, refusal_obeys}
-use Rattle.sd_run.proofs.Inspected.{inspecting_obeys}
+use Rattle.sd_engine.specs.Stream.{break_of}
+use Rattle.sd_status.specs.declared.status.LimitKind.TheVariants.{StreamBytes}
+use Rattle.sd_status.specs.Outside.{place, page}
+use Rattle.sd_status.specs.Meant.{within, value}
+use Rattle.sd_status.specs.Comes.{status_of}
+use Rattle.sd_status.proofs.Follow.{looks_follows, looks_reads, prints_follows}
+use Rattle.sd_run.specs.declared.files.TheConstants.{MOST_STREAM_BYTES}
+use Rattle.sd_run.specs.Tables.{inspecting, tables_meaning}
+use Rattle.sd_run.specs.Shown.{shown_word}
+use Rattle.sd_run.proofs.Inspected.{stream_ends}
 use Rattle.sd_run.proofs.tables.tables.Goals as goal
 
-pub returns-in_err-bytes-clause-obeys : goal.returns-in_err-bytes-clause-obeys
-unfolding tables_work
-returns-in_err-bytes-clause-obeys g c =
-    let e = c.in_err-bytes.field-0.0 in
+pub returns-in_err-bytes : goal.returns-in_err-bytes
+unfolding tables_meaning
+returns-in_err-bytes g c steps =
     let p = err_from_is_err_and c.from_residual.result c.from_residual.ensures.1 in
-    let stream = c.args.stream.now in
-    rw (p.1, p.2, c.in_err-bytes.ensures.files) (refusal_obeys (λ files. tables_work files stream) _ _ e
-    (told_weaker _ (λ files. IsRefusedAs e (file_in files 1 67108864 StreamBytes stream)) (λ files. IsRefusedAs e (tables_work files stream))
-    (λ files h. refused_first e (file_in files 1 67108864 StreamBytes stream) _ h) c.in_err-bytes.ensures.meant) (inr c.in_err-bytes.ensures.refusal))
+    let stream = shown_word c.args.stream in
+    rw (p.1, p.2) (looks_follows (λ bytes. bytes.items) (within stream.number MOST_STREAM_BYTES StreamBytes) (λ bytes. value (inspecting bytes)) stream
+    (place g.D.Depot c.args.depot.now) (place g.D.Depot c.read_stream.new.depot) (page g.P.Sink c.args.print.now) steps
+    c.in_err-bytes.field-0.0 c.in_err-bytes.ensures)
 
-pub returns-clause-obeys : goal.returns-clause-obeys
-unfolding tables_work
-returns-clause-obeys g c =
-    let stream = c.args.stream.now in
-    let bytes = c.in_ok-bytes.bytes.items in
-    let printed = rw c.deref.ensures.value at c.print_tables.ensures.printed in
-    rw c.in_ok-bytes.ensures.files
-    (inspecting_obeys (λ files. tables_work files stream) _ bytes _ _ _
-    (told_weaker _ (λ files. file_in files 1 67108864 StreamBytes stream ≡ Ok bytes) (λ files. tables_work files stream ≡ Ok (Inspect bytes))
-    (λ files h. ap (λ r. r >>= λ b. Ok (Inspect b)) h) c.in_ok-bytes.ensures.meant) c.print_tables.ensures.only printed)
+pub returns : goal.returns
+unfolding tables_meaning
+returns g c steps =
+    let stream = shown_word c.args.stream in
+    let printed = rw c.deref.ensures.value at c.print_tables.ensures in
+    let p = place g.D.Depot c.args.depot.now in
+    let q = place g.D.Depot c.read_stream.new.depot in
+    let bytes = c.in_ok-bytes.bytes in
+    prints_follows (λ bytes. inspecting bytes.items) (tables_meaning stream) p q
+    (page g.P.Sink c.args.print.now) (page g.P.Sink c.print_tables.new.print) steps bytes (status_of c.print_tables.result)
+    refl (stream_ends (break_of bytes.items))
+    (looks_reads (λ bytes. bytes.items) inspecting (within stream.number MOST_STREAM_BYTES StreamBytes) stream p q bytes c.in_ok-bytes.ensures) printed

@@ -5,7 +5,8 @@ use Rattle.sd_tree.proofs.node.is_above.Goals as goal
 
 pub returns-clause-ancestor : goal.returns-clause-ancestor
 returns-clause-ancestor c =
-    let i : IsAtLevel c.args.i c.depth-2.result = record { low = c.depth-2.ensures.low; high = c.depth-2.ensures.high } in
+    let i : IsAtLevel c.args.i c.depth-2.result =
+    record { low = c.depth-2.ensures.low; high = c.depth-2.ensures.high } in
     let j : IsAtLevel c.args.j c.depth.result = record { low = c.depth.ensures.low; high = c.depth.ensures.high } in
     let tested = above_tested c.args.i c.args.j c.depth-2.result c.depth.result i j in
     rw c.saturating_sub-below.ensures (λ e. tested.0 (eqb-true _ _ e), λ above. eq-eqb _ _ (tested.1 above))

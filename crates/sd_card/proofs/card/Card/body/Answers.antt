@@ -1,7 +1,9 @@
 use Rattle.std.proofs.Common.{◌∙◌, ◌++◌, [], get_or, length, take, List, ℕ, ap, sym, subst}
 use Rattle.std.proofs.lemmas.Grind.{take_at_read}
 use Rattle.sd_card.specs.Fields.{saying, card_body}
-use Rattle.sd_card.proofs.Spellings.{AreLong, body_more, long_more}
+use Rattle.sd_secrets.specs.Files.{AreSecrets}
+use Rattle.sd_secrets.proofs.Joined.{long_more}
+use Rattle.sd_card.proofs.Spellings.{body_more}
 use Rattle.sd_card.proofs.card.Card.body.Goals as goal
 
 pub loop-secret-preserved : goal.loop-secret-preserved
@@ -17,7 +19,11 @@ loop-secret-preserved c =
           c.in_ok-put.ensures.value
           ∙ (ap (λ (s : List ℕ). c.loop-secret.bytes.items ++ s) read
           ∙ (ap (λ (b : List ℕ). b ++ get_or secrets k []) c.loop-secret.invariant.bytes
-          ∙ (body_more c.args.self.now.height c.args.self.now.leaf c.args.self.now.ca (take k secrets) (get_or secrets k [])
-          ∙ ap (λ (ss : List (List ℕ)). card_body (saying c.args.self.now.height c.args.self.now.leaf c.args.self.now.ca ss)) (sym more))));
-      long = subst AreLong (sym more) (long_more (take k secrets) (get_or secrets k []) c.loop-secret.invariant.long (ap length (sym read) ∙ c.put.ensures.long));
+          ∙ (body_more c.args.self.now.height c.args.self.now.leaf c.args.self.now.ca (take k secrets)
+          (get_or secrets k [])
+          ∙ ap (λ (ss : List (List ℕ)). card_body
+          (saying c.args.self.now.height c.args.self.now.leaf c.args.self.now.ca ss)) (sym more))));
+      long = subst AreSecrets (sym more)
+          (long_more (take k secrets) (get_or secrets k []) c.loop-secret.invariant.long (ap length (sym read)
+          ∙ c.put.ensures.length));
     }

@@ -1,30 +1,40 @@
-use Rattle.std.proofs.Common.{◌+◌, ◌-◌, ◌*◌, ◌/◌, ◌≡◌, sym, ap, ◌∙◌, arith}
+use Rattle.std.proofs.Common.{◌≡◌, sym, ap, ◌∙◌, arith}
 use Rattle.std.specs.Prelude.{slice_get, Some}
 use Rattle.std.proofs.lemmas.Option.{slice_get_read}
 use Rattle.sd_tree.specs.Node.{depth}
 use Rattle.sd_tree.proofs.Members.{member_of_pair}
 use Rattle.sd_label.specs.Labels.{middle_of}
-use Rattle.sd_card.specs.Fields.{fields_of}
-use Rattle.sd_card.proofs.Keys.{hangs_below, held_at}
+use Rattle.sd_card.proofs.Keys.{place_of, hangs_below, held_at}
 use Rattle.sd_card.proofs.card.Card.pair_key.Goals as goal
 
 pub hanging_above-held-requires-clause-beside : goal.hanging_above-held-requires-clause-beside
-hanging_above-held-requires-clause-beside g c = ((member_of_pair _ c.args.i c.args.j _ c.args.self.now.height_in.1 c.requires.pair c.args.self.now.leaf_in).0 c.requires.member).1
+hanging_above-held-requires-clause-beside g c =
+    ((member_of_pair _ c.args.i c.args.j _ c.args.self.now.height_in.1 c.requires.pair c.args.self.now.leaf_in).0
+    c.requires.member).1
 
 pub place-requires-clause-above : goal.place-requires-clause-above
 place-requires-clause-above g c =
-    let less = hangs_below c.args.self.now.height c.args.self.now.leaf c.args.i c.args.j c.hanging_above-held.result c.args.self.now.height_in.1 c.args.self.now.leaf_in c.requires.pair c.requires.member c.hanging_above-held.ensures in
+    let less =
+    hangs_below c.args.self.now.height c.args.self.now.leaf c.args.i c.args.j c.hanging_above-held.result
+    c.args.self.now.height_in.1 c.args.self.now.leaf_in c.requires.pair c.requires.member
+    c.hanging_above-held.ensures in
     omega (arith, less, c.depth.ensures.value, c.depth-2.ensures.value)
 
-pub returns-clause-derived : goal.returns-clause-derived
-returns-clause-derived g c =
-    let place : c.place.result ≡ depth c.args.i * (2 * c.args.self.now.height - depth c.args.i + 1) / 2 + (depth c.hanging_above-held.result - depth c.args.i) = rw (← c.depth.ensures.value, ← c.depth-2.ensures.value) c.place.ensures.value in
-    let held : slice_get c.args.self.now.secrets.items c.place.result ≡ Some c.index.result.now = slice_get_read c.args.self.now.secrets.items _ c.place.result c.index.result.now (sym c.args.self.now.count) c.place.ensures.within c.index.ensures in
+pub returns-clause-sound : goal.returns-clause-sound
+returns-clause-sound g c =
+    let card = c.args.self.now in
+    let w = c.hanging_above-held.result in
+    let place : c.place.result ≡ place_of card.height (depth c.args.i) (depth w) =
+    rw (← c.depth.ensures.value, ← c.depth-2.ensures.value) c.place.ensures.value in
+    let held : slice_get card.secrets.items c.place.result ≡ Some c.index.result.now =
+    slice_get_read card.secrets.items _ c.place.result c.index.result.now (sym card.count) c.place.ensures.fits
+    c.index.ensures in
     record {
-      node = c.hanging_above-held.result;
+      node = w;
       label = c.index.result.now;
-      held = held_at (fields_of c.args.self.now) c.args.i c.args.j c.hanging_above-held.result c.place.result c.index.result.now c.args.self.now.height_in.1 c.args.self.now.leaf_in c.requires.pair c.requires.member c.hanging_above-held.ensures place held;
+      held = held_at card.height card.leaf c.args.i c.args.j w c.place.result card.secrets.items c.index.result.now
+          card.height_in.1 card.leaf_in c.requires.pair c.requires.member c.hanging_above-held.ensures place held;
       above = c.hanging_above-held.ensures.above;
-      key = c.middle.ensures.value ∙ ap middle_of c.descend.ensures.value;
+      value = c.middle.ensures.value ∙ ap middle_of c.descend.ensures.value;
       steps = omega arith;
     }

@@ -1,5 +1,5 @@
 use Rattle.sd_card.proofs.Spellings.{read_once}
 use Rattle.sd_card.proofs.card.Card.read.Goals as goal
 
-pub returns-clause-only : goal.returns-clause-only
-returns-clause-only c = read_once c.args.bytes.now c.whole.result c.whole.ensures.found c.whole.ensures.fault
+pub returns-clause-complete : goal.returns-clause-complete
+returns-clause-complete c = read_once c.args.bytes.now c.whole.result c.whole.ensures.sound c.whole.ensures.fault

@@ -14,9 +14,9 @@ pub returns-in-Some : goal.returns-in-Some
 returns-in-Some c =
     pat_learned c.args.pid c.args.section.now c.in-Some.pat.section.bytes.now c.args.self.now.marks.items
     c.learn_programs.new.self.marks.items
-    c.if-pid-ne0.false c.in-Ok.ensures.fault (c.in-Some.ensures.value ∙ c.in-Ok.ensures.section) c.in-Some.pat.form c.learn_programs.ensures
+    c.if-pid-ne0.false c.in-Ok.ensures.fault (c.in-Some.ensures.value ∙ c.in-Ok.ensures.value) c.in-Some.pat.form c.learn_programs.ensures
 
 pub returns-in_default-pat_in : goal.returns-in_default-pat_in
 returns-in_default-pat_in c =
     unlike_learned c.args.pid c.args.section.now c.in-Ok.section.bytes.now c.args.self.now.marks.items c.if-pid-ne0.false
-    c.in-Ok.ensures.section (c.in_default-pat_in.ensures.none.0 refl)
+    c.in-Ok.ensures.value (c.in_default-pat_in.ensures.none.0 refl)

@@ -1,8 +1,13 @@
-use Rattle.std.proofs.Common.{take}
-use Rattle.sd_psi.specs.Tables.{programs_of}
-use Rattle.sd_tables.specs.Watching.{IsTold}
+use Rattle.std.proofs.Common.{length}
+use Rattle.sd_psi.specs.Tables.{programs_in, pmt_pids_in, pmt_pids_of}
+use Rattle.sd_tables.proofs.Learning.{AreAdding}
 use Rattle.sd_tables.proofs.watched.Watched.learn_programs.Given as goal
 
--- the maps of the programs before k are marked
-abbrev pub invariant-loop-k : goal.invariant-loop-k
-invariant-loop-k l = IsTold (take l.k (programs_of l.pat.section.bytes.now)) l.fn.self.marks.items l.self.marks.items
+-- what is marked and what is left come to all PIDs
+abbrev pub invariant-loop-pid : goal.invariant-loop-pid
+invariant-loop-pid l =
+    AreAdding (pmt_pids_of l.pat.section.bytes.now) (pmt_pids_in (programs_in l.pids.programs.bytes.now))
+    l.fn.self.marks.items l.self.marks.items
+
+abbrev pub decreases-loop-pid : goal.decreases-loop-pid
+decreases-loop-pid l = length (pmt_pids_in (programs_in l.pids.programs.bytes.now))

@@ -1,0 +1,86 @@
+-- Good words over good files mean work.
+use Rattle.std.proofs.Common.{◌≡◌, ◌⊎◌, ℕ, ◌≤◌, ◌^◌, cond, List, length, Option, Some, None, Result, Ok, Err, refl, sym, ap, subst, ◌∙◌, le-ltb, lt-ltb}
+use Rattle.sd_site.specs.Fields.{SiteFields}
+use Rattle.sd_site.specs.Text.{site_of}
+use Rattle.sd_site.proofs.Alone.{answered}
+use Rattle.sd_card.specs.Fields.{card_of, card_bytes}
+use Rattle.sd_sample.specs.Sample.{sample_of}
+use Rattle.sd_book.specs.declared.command.Command.{Command}
+use Rattle.sd_book.specs.Text.{book_of}
+use Rattle.sd_book.proofs.Judged.{book_again}
+use Rattle.sd_text.specs.Lines.{lines_of}
+use Rattle.sd_status.specs.declared.status.Status.{Status}
+use Rattle.sd_status.specs.declared.status.Status.TheVariants.{Done, Limit, BadWord}
+use Rattle.sd_status.specs.declared.status.LimitKind.{LimitKind}
+use Rattle.sd_status.specs.declared.status.LimitKind.TheVariants.{SiteBytes, BookBytes, StreamBytes}
+use Rattle.sd_status.specs.Meant.{Meant, Word, Given, after, judged, value, within, ◌>>=◌}
+use Rattle.sd_status.specs.Work.{Work}
+use Rattle.sd_run.specs.declared.files.TheConstants.{MOST_SITE_BYTES, MOST_BOOK_BYTES, MOST_STREAM_BYTES}
+use Rattle.sd_run.specs.Words.{Order, order_of, CoverOf, CardOf, SampleOf, TablesOf}
+use Rattle.sd_run.specs.Files.{told_site, told_book, site_of_file, book_of_file, site_in, book_in, IsGoodSite, IsGoodBook}
+use Rattle.sd_run.specs.Cover.{covering, cover_meaning, IsGoodCover}
+use Rattle.sd_run.specs.Card.{making, told_card, IsGoodCard}
+use Rattle.sd_run.specs.Sample.{IsGoodSample}
+use Rattle.sd_run.specs.Tables.{inspecting, tables_meaning, stream_status, IsGoodTables}
+use Rattle.sd_run.specs.Meaning.{order_meaning, meaning}
+
+then_is : {A B : Type 0} (first : Meant A) (x : A) (next : A → Meant B) → first.result ≡ Ok x → (first >>= next).result ≡ (next x).result
+then_is {A} first x next e = ap (λ (r : Result A Status). (after first.calls r next).result) e
+
+file_read : (word most : ℕ) (kind : LimitKind) (bytes : List ℕ) → length bytes ≤ most → (within word most kind (Some bytes)).result ≡ Ok bytes
+file_read word most kind bytes short = ap (λ b. cond b (Err (Limit kind)) (Ok bytes)) (le-ltb most (length bytes) short)
+
+site_good : (given : Given) (word : Word) (fields : SiteFields) → IsGoodSite given word fields → (site_in given word).result ≡ Ok fields
+unfolding site_of_file
+site_good given word fields good =
+    ap (λ (got : Option (List ℕ)). (site_of_file word.number got).result) good.there
+    ∙ then_is (within word.number MOST_SITE_BYTES SiteBytes (Some good.bytes)) good.bytes (λ bytes. judged (told_site (site_of bytes)))
+    (file_read word.number MOST_SITE_BYTES SiteBytes good.bytes good.short)
+    ∙ ap told_site (answered (lines_of good.bytes) (Ok fields) (good.is_site.text, good.is_site.ranges))
+
+book_good : (given : Given) (d : ℕ) (word : Word) (commands : List Command) → IsGoodBook given d word commands → (book_in given d word).result ≡ Ok commands
+unfolding book_of_file
+book_good given d word commands good =
+    ap (λ (got : Option (List ℕ)). (book_of_file word.number d got).result) good.there
+    ∙ then_is (within word.number MOST_BOOK_BYTES BookBytes (Some good.bytes)) good.bytes (λ bytes. judged (told_book word.number (book_of d bytes)))
+    (file_read word.number MOST_BOOK_BYTES BookBytes good.bytes good.short)
+    ∙ ap (told_book word.number) (book_again d good.bytes commands good.is_book good.within)
+
+-- the work of an order is the words'
+ordered : (words : List (List ℕ)) (given : Given) (order : Order) → order_of words ≡ Ok order → (meaning words given).result ≡ (order_meaning order given).result
+ordered words given order read = ap (λ (r : Result Order Status). (judged r >>= λ o. order_meaning o given).result) read
+
+pub cover_good : (words : List (List ℕ)) (given : Given) (good : IsGoodCover words given) → (meaning words given).result ≡ Ok (covering good.fields.height good.commands)
+unfolding cover_meaning
+cover_good words given good =
+    let d = good.fields.height in
+    ordered words given (CoverOf good.site good.book) good.order
+    ∙ then_is (site_in given good.site) good.fields (λ fields. book_in given fields.height good.book >>= λ commands. value (covering fields.height commands))
+    (site_good given good.site good.fields good.good_site)
+    ∙ then_is (book_in given d good.book) good.commands (λ commands. value (covering d commands)) (book_good given d good.book good.commands good.good_book)
+
+pub card_good : (words : List (List ℕ)) (given : Given) (good : IsGoodCard words given) →
+    (meaning words given).result ≡ Ok (making None good.out (card_bytes (card_of good.fields.master good.fields.ca good.fields.height good.leaf.value)))
+card_good words given good =
+    let fields = good.fields in
+    let bytes = card_bytes (card_of fields.master fields.ca fields.height good.leaf.value) in
+    ordered words given (CardOf good.site good.leaf good.out) good.order
+    ∙ then_is (site_in given good.site) fields (λ fields. judged (told_card fields good.leaf) >>= λ bytes. value (making None good.out bytes))
+    (site_good given good.site fields good.good_site)
+    ∙ then_is (judged (told_card fields good.leaf)) bytes (λ bytes. value (making None good.out bytes))
+    (ap (λ b. cond b (Ok bytes) (Err (BadWord good.leaf.word))) (lt-ltb good.leaf.value (2 ^ fields.height) good.of_tree))
+
+pub sample_good : (words : List (List ℕ)) (given : Given) (good : IsGoodSample words) →
+    (meaning words given).result ≡ Ok (making (Some 0) good.out (sample_of good.number good.packets))
+sample_good words given good = ordered words given (SampleOf good.number good.packets good.out) good.order
+
+pub tables_good : (words : List (List ℕ)) (given : Given) (good : IsGoodTables words given) →
+    ((meaning words given).result ≡ Ok (inspecting good.bytes)) × ((inspecting good.bytes).ends ≡ Done)
+unfolding tables_meaning
+tables_good words given good = (
+  ordered words given (TablesOf good.stream) good.order
+      ∙ ap (λ (got : Option (List ℕ)). (within good.stream.number MOST_STREAM_BYTES StreamBytes got >>= λ bytes. value (inspecting bytes)).result) good.there
+      ∙ then_is (within good.stream.number MOST_STREAM_BYTES StreamBytes (Some good.bytes)) good.bytes (λ bytes. value (inspecting bytes))
+      (file_read good.stream.number MOST_STREAM_BYTES StreamBytes good.bytes good.short),
+  ap stream_status good.unbroken,
+)

@@ -1,0 +1,5 @@
+pub mod Paths
+pub mod Made
+pub mod Joined
+pub mod Once
+pub mod Held

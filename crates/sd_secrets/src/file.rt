@@ -1,0 +1,47 @@
+ghost use Rattle.std.specs.Prelude.{◌≡◌, ◌*◌, ◌/◌, IfOk, length, take};
+ghost use Rattle.std.specs.List.{concat};
+ghost use Rattle.sd_secrets.specs.Files.{AreSecrets, byte_at as byte_of, check_of as check_of_bytes};
+
+use sha2::{Digest, Sha256};
+use std::alloc::{AllocError, Global};
+
+/// The bytes of a secret.
+pub const SECRET_BYTES: usize = 32;
+
+/// The bytes of the check at a file's end.
+pub const CHECK_BYTES: usize = 16;
+
+/// A byte of a file; one that isn't there counts as 0.
+pub fn byte_at(bytes: &[u8], k: usize) -> u8
+    ensures { result ≡ byte_of bytes.now k }
+{
+    bytes.get(k).copied().unwrap_or(0)
+}
+
+/// The check of the bytes before it.
+#[tactic(auto, unfolding(crate::specs::Files::check_of))]
+pub fn check_of(body: &[u8]) -> [u8; 16]
+    ensures { result ≡ check_of_bytes body.now }
+{
+    let digest = Sha256::digest(body);
+    let mut check = [0; CHECK_BYTES];
+    check.copy_from_slice(&digest[..CHECK_BYTES]);
+    check
+}
+
+/// The secrets in these bytes, as many as are whole.
+#[tactic(auto, using(crate::proofs::Joined::cut_more, crate::proofs::Joined::long_more))]
+pub fn secrets_in(alloc: Global, bytes: &[u8]) -> Result<Vec<[u8; 32]>, AllocError>
+    ensures length { IfOk result (λ secrets. length secrets.items ≡ length bytes.now / SECRET_BYTES) }
+    ensures value { IfOk result (λ secrets.
+        concat secrets.items ≡ take (SECRET_BYTES * (length bytes.now / SECRET_BYTES)) bytes.now) }
+    ensures fits { IfOk result (λ secrets. AreSecrets secrets.items) }
+{
+    let mut secrets = Vec::new(alloc);
+    for k in 0..bytes.len() / SECRET_BYTES {
+        let mut secret = [0; SECRET_BYTES];
+        secret.copy_from_slice(&bytes[SECRET_BYTES * k..SECRET_BYTES * k + SECRET_BYTES]);
+        secrets.push(secret)?;
+    }
+    Ok(secrets)
+}

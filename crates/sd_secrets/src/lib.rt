@@ -1,0 +1,11 @@
+//! The secrets that a card holds, whichever labels it is given: their making, the keys they lead to, and their file.
+#![tactic(auto)]
+
+mod file;
+mod hanging;
+mod labels;
+pub mod laws;
+
+pub use file::{CHECK_BYTES, SECRET_BYTES, byte_at, check_of, secrets_in};
+pub use hanging::hanging_above;
+pub use labels::push_labels;

@@ -1,0 +1,5 @@
+pub mod Moves
+pub mod Steps
+pub mod Givens
+pub mod Told
+pub mod Follow

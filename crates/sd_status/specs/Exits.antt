@@ -1,0 +1,17 @@
+use Rattle.std.specs.Prelude.{ℕ}
+use Rattle.sd_status.specs.declared.status.Status.{Status}
+use Rattle.sd_status.specs.declared.status.Status.TheVariants.{Done, Usage, Missing, DepotFault, PrintFault, BadSite, BadBook, BadStream, Limit, NoMemory, BadWord}
+
+-- the exit status of the program [this project, docs/FORMATS.md, Exits]
+abbrev pub code_of : Status → ℕ
+code_of Done = 0
+code_of Usage = 1
+code_of (Missing word) = 2
+code_of DepotFault = 4
+code_of PrintFault = 5
+code_of (BadSite fault) = 6
+code_of (BadBook word line) = 7
+code_of (BadStream packet cause) = 10
+code_of (Limit kind) = 11
+code_of NoMemory = 12
+code_of (BadWord word) = 17

@@ -1,0 +1,10 @@
+pub mod Exits
+pub mod Texts
+pub mod Lines
+pub mod Outside
+pub mod Meant
+pub mod Work
+pub mod Comes
+pub mod Reads
+pub mod Prints
+pub mod Answers

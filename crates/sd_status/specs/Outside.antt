@@ -1,0 +1,60 @@
+-- What stands around a command at one moment: the depot, what was printed, and the steps that were counted.
+use Rattle.std.specs.Prelude.{◌≡◌, ℕ, List, Option}
+use Rattle.sd_cause.specs.Count.{with_added}
+use Rattle.sd_ports.specs.Files.{Files}
+use Rattle.sd_ports.specs.declared.depot.Depot.{Ghosts as DepotMeanings}
+use Rattle.sd_ports.specs.declared.sink.Sink.{Ghosts as SinkMeanings}
+
+-- what a depot means
+pub record Place : Type 0 where
+  -- the files, where they are told
+  pub files : Option Files
+  -- how often the device failed, and how often a file was asked for that isn't there
+  pub faults : ℕ
+  pub misses : ℕ
+  -- how many files were made, how many ports are open, and how many calls there were
+  pub made : ℕ
+  pub opened : ℕ
+  pub calls : ℕ
+
+-- what was printed, where it is told, and how often printing failed
+pub record Page : Type 0 where
+  pub printed : Option (List ℕ)
+  pub faults : ℕ
+
+pub record Outside : Type 0 where
+  pub place : Place
+  pub page : Page
+  -- the steps of the generator
+  pub steps : ℕ
+
+abbrev pub place : {D Inlet Outlet : Type 0} → DepotMeanings D Inlet Outlet → D → Place
+place meanings depot = record {
+  files = meanings.files depot;
+  faults = meanings.faults depot;
+  misses = meanings.misses depot;
+  made = meanings.made depot;
+  opened = meanings.opened depot;
+  calls = meanings.calls depot;
+}
+
+abbrev pub page : {P : Type 0} → SinkMeanings P → P → Page
+page meanings print = record { printed = meanings.held print; faults = meanings.faults print }
+
+abbrev pub outside : Place → Page → ℕ → Outside
+outside place page steps = record { place = place; page = page; steps = steps }
+
+-- the depot with another count of calls
+abbrev pub recalled : ℕ → Place → Place
+recalled calls at = record {
+  files = at.files;
+  faults = at.faults;
+  misses = at.misses;
+  made = at.made;
+  opened = at.opened;
+  calls = calls;
+}
+
+-- the depot after so many more calls that changed nothing else
+abbrev pub called : ℕ → Place → Place
+called n at = recalled (with_added at.calls n) at

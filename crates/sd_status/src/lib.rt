@@ -1,0 +1,11 @@
+//! What a run of the program answers: its statuses, their lines and exits, and how a command comes to one.
+#![tactic(auto)]
+
+mod status;
+mod telling;
+
+pub use status::{LimitKind, Status, StreamCause};
+pub use telling::tell;
+
+#[cfg(test)]
+mod tests;
