@@ -1,20 +1,17 @@
 -- A node counts exactly where it is in the Steiner tree.
-use Rattle.std.proofs.Common.{◌≡◌, ◌≢◌, ◌∙◌, ℕ, zero, suc, ◌+◌, ◌-◌, ◌*◌, ◌/◌, ◌^◌, ◌<◌, ◌≤◌, ◌↔◌, Bool, true, false, ◌&&◌, List, [], ◌∷◌, Contains, count_by, cond, eqb-true, eq-eqb, arith, sym, ap, subst, refl, inl, inr}
-use Rattle.std.specs.Ordering.{nat_cmp}
-use Rattle.std.specs.FinMap.{FinMap}
+use Rattle.std.proofs.Common.{◌≡◌, ◌∙◌, ℕ, suc, ◌+◌, ◌-◌, ◌*◌, ◌^◌, ◌<◌, ◌≤◌, ◌↔◌, Bool, true, List, [], ◌∷◌, Contains}
+use Rattle.std.proofs.Common.{count_by, cond, eqb-true, eq-eqb, arith, sym, inl, inr}
 use Rattle.std.proofs.Math.Pow.{pow_mono}
 use Rattle.std.proofs.lemmas.Nat.{pow_pos}
 use Rattle.std.proofs.lemmas.Bool.{cases_Bool, cond-false}
 use Rattle.std.proofs.lemmas.List.Sums.{sum_by-cons}
 use Rattle.sd_tree.specs.Leaves.{is_below}
-use Rattle.sd_tree.proofs.Levels.{doubled}
 use Rattle.sd_steiner.specs.Chains.{IsInTree}
 use Rattle.sd_steiner.specs.Walk.{node_at}
 use Rattle.sd_steiner.proofs.Ends.{AreLeaves}
-use Rattle.sd_steiner.proofs.Levels.{StandsAt, child_stands, below_by_halvings, below_either, below_one, in_tree_from, in_tree_to}
+use Rattle.sd_steiner.proofs.Levels.{StandsAt, below_by_halvings, below_either, below_one, in_tree_from, in_tree_to}
 use Rattle.sd_steiner.proofs.Lists.{counted_some, counted_either, member_first, member_later}
-use Rattle.sd_cover.specs.Tally.{count_at}
-use Rattle.sd_cover.specs.Index.{count_below, revoked_by, IsIndex}
+use Rattle.sd_cover.specs.Index.{count_below}
 
 -- a count above 0 is of some member
 some_counted : (q : ℕ → Bool) (xs : List ℕ) → 0 < count_by q xs → (u : ℕ) × Contains xs u × (q u ≡ true)
@@ -29,21 +26,26 @@ some_counted q (x ∷ xs) h = elim (cases_Bool (q x)) [
 ]
 
 -- the count is above 0 exactly where the node is in the tree
-pub counts_in_tree : (d level v : ℕ) (revoked : List ℕ) → d < 32 → AreLeaves d revoked → StandsAt d level v → (0 < count_below d revoked v) ↔ IsInTree d revoked v
+pub counts_in_tree : (d level v : ℕ) (revoked : List ℕ) → d < 32 → AreLeaves d revoked → StandsAt d level v →
+    (0 < count_below d revoked v) ↔ IsInTree d revoked v
 unfolding count_below
 counts_in_tree d level v revoked small leaves at = (
   λ h.
-    let some = some_counted (is_below d v) revoked h in
-    in_tree_from d level v some.0 revoked at some.1 (eqb-true (node_at d level some.0) v (sym (below_by_halvings d level v some.0 small at) ∙ some.2)),
+      let some = some_counted (is_below d v) revoked h in
+      in_tree_from d level v some.0 revoked at some.1
+      (eqb-true (node_at d level some.0) v (sym (below_by_halvings d level v some.0 small at) ∙ some.2)),
   λ t.
-    let to = in_tree_to d level v revoked leaves at t in
-    counted_some (is_below d v) revoked to.0 to.1 (below_by_halvings d level v to.0 small at ∙ eq-eqb (node_at d level to.0) v to.2),
+      let to = in_tree_to d level v revoked leaves at t in
+      counted_some (is_below d v) revoked to.0 to.1 (below_by_halvings d level v to.0 small at ∙
+      eq-eqb (node_at d level to.0) v to.2),
 )
 
 -- a node above the leaves counts as its children do together
-pub count_children : (d level v : ℕ) (revoked : List ℕ) → d < 32 → StandsAt d (suc level) v → count_below d revoked v ≡ count_below d revoked (2 * v) + count_below d revoked (2 * v + 1)
+pub count_children : (d level v : ℕ) (revoked : List ℕ) → d < 32 → StandsAt d (suc level) v → count_below d revoked v
+    ≡ count_below d revoked (2 * v) + count_below d revoked (2 * v + 1)
 unfolding count_below
-count_children d level v revoked small at = counted_either (is_below d v) (is_below d (2 * v)) (is_below d (2 * v + 1)) revoked (λ u. below_either d level v u small at) (λ u. below_one d level v u small at)
+count_children d level v revoked small at = counted_either (is_below d v) (is_below d (2 * v)) (is_below d (2 * v + 1))
+    revoked (λ u. below_either d level v u small at) (λ u. below_one d level v u small at)
 
 -- a node that stands so is one of the tree
 pub stands_low : (d level v : ℕ) → StandsAt d level v → 1 ≤ v

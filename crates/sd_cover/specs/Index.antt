@@ -7,7 +7,8 @@ use Rattle.std.specs.FinMap.{FinMap}
 use Rattle.sd_tree.specs.Leaves.{is_below, leaves}
 use Rattle.sd_cover.specs.Tally.{count_at}
 
--- an index as contracts see it: the tree's height, the revoked leaves, ascending, and how many more may be revoked before memory is taken
+-- an index as contracts see it: the tree's height, the revoked leaves, ascending, and how many more may be revoked
+-- before memory is taken
 pub record IndexValue : Type 0 where
   pub height : ℕ
   pub revoked : List ℕ

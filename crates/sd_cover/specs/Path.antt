@@ -1,5 +1,5 @@
 -- The path from a node up to the root.
-use Rattle.std.specs.Prelude.{◌≡◌, ℕ, zero, suc, ◌+◌, ◌/◌, ◌^◌, ◌==◌, if◌then◌else◌}
+use Rattle.std.specs.Prelude.{ℕ, zero, suc, ◌+◌, ◌/◌, ◌^◌, ◌==◌, if◌then◌else◌}
 
 -- how many of the first k nodes of the path from a node upward are v
 abbrev pub met_by : ℕ → ℕ → ℕ → ℕ

@@ -1,5 +1,5 @@
 -- Counts by node number, as contracts see them.
-use Rattle.std.specs.Prelude.{◌≡◌, ℕ, zero, suc, refl}
+use Rattle.std.specs.Prelude.{ℕ, zero, suc, refl}
 use Rattle.std.specs.Coded.{Coded, code_by, coded×, coded_ℕ}
 use Rattle.std.specs.Ordering.{nat_cmp}
 use Rattle.std.specs.Option.{unwrap_or}
@@ -12,7 +12,8 @@ pub record Tally : Type 0 where
 
 -- a tally is stored as the pair of its fields
 abbrev pub tally_code : Coded Tally
-tally_code = code_by (FinMap nat_cmp ℕ × ℕ) (coded× (code coded_ℕ coded_ℕ) coded_ℕ) (λ t. (t.counts, t.room)) (λ p. record { counts = p.0; room = p.1 }) (λ _. refl)
+tally_code = code_by (FinMap nat_cmp ℕ × ℕ) (coded× (code coded_ℕ coded_ℕ) coded_ℕ) (λ t. (t.counts, t.room))
+    (λ p. record { counts = p.0; room = p.1 }) (λ _. refl)
 
 -- the count of a node: 0 where it isn't in the map
 abbrev pub count_at : FinMap nat_cmp ℕ → ℕ → ℕ

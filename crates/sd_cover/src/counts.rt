@@ -1,4 +1,5 @@
-ghost use Rattle.std.specs.Prelude.{◌≡◌, ℕ, ◌+◌, ◌-◌, ◌^◌, ◌<◌, ◌≤◌, ◌⊎◌, ◌↔◌, max, ◌==◌, if◌then◌else◌, length, IsErrOf, vec_len, OnOk, OnErr, IsSome, get_or};
+ghost use Rattle.std.specs.Prelude.{◌≡◌, ℕ, ◌+◌, ◌-◌, ◌^◌, ◌<◌, ◌≤◌, ◌⊎◌, ◌↔◌, ◌==◌, if◌then◌else◌, max};
+ghost use Rattle.std.specs.Prelude.{OnOk, OnErr, IsSome, get_or, vec_len};
 ghost use Rattle.std.specs.FinMap as map;
 ghost use Rattle.sd_cover.specs.declared.counts.TheConstants.{NODES, MOST_ROOM};
 ghost use Rattle.sd_cover.specs.Table.{used};
@@ -19,7 +20,8 @@ pub const MOST_ROOM: u32 = (HIGHEST as u32 + 1) << HIGHEST;
 
 /// A count for each node, with room for some more nodes that count.
 ///
-/// The table is allocated once, with a place for each node. So no place is ever wanting or given back, and room is a number.
+/// The table is allocated once, with a place for each node. So no place is ever wanting or given back, and room is a
+/// number.
 #[derive(Drop)]
 pub struct Counts {
     table: Vec<u32>,
@@ -81,7 +83,7 @@ impl Counts {
     }
 
     /// Adds one to the count of node v, by one visit. It takes no memory.
-    #[tactic(auto, using(crate::proofs::Tables::count_in_table, crate::proofs::Tables::placed, crate::proofs::Tables::map_after_write, crate::proofs::Tables::table_written))]
+    #[tactic(auto, using(crate::proofs::Tables::count_in_table))]
     pub fn raise<L: Ledger>(&mut self, v: u32, steps: &mut Steps<L>)
         requires low { 1 ≤ v }
         requires high { v < NODES }
@@ -98,7 +100,7 @@ impl Counts {
     }
 
     /// Takes one from the count of node v, by one visit. It takes no memory.
-    #[tactic(auto, using(crate::proofs::Tables::count_in_table, crate::proofs::Tables::counted_within, crate::proofs::Tables::map_after_write, crate::proofs::Tables::table_written))]
+    #[tactic(auto, using(crate::proofs::Tables::count_in_table, crate::proofs::Tables::counted_within, crate::proofs::Tables::map_after_write))]
     pub fn lower<L: Ledger>(&mut self, v: u32, steps: &mut Steps<L>)
         requires low { 1 ≤ v }
         requires high { v < NODES }

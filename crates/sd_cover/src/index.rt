@@ -3,7 +3,7 @@ ghost use Rattle.sd_cover.specs.declared.index.TheConstants.{MOST_SPARE};
 ghost use Rattle.sd_cover.specs.Index.{with_leaf, without_leaf};
 
 use crate::counts::Counts;
-use crate::path::{lowest_node, lower_path, raise_path};
+use crate::path::{lower_path, lowest_node, raise_path};
 use sd_cause::NoMemory;
 use sd_steps::Steps;
 use sd_tree::{HIGHEST, Height, Leaf};
@@ -28,9 +28,9 @@ impl Model for CoverIndex {
     ghost Value = { IndexValue };
 
     ghost view = { λ x. record {
-        height = x.height;
-        revoked = revoked_by x.height x.counts.counts;
-        spare = x.counts.room / (x.height + 1)
+      height = x.height;
+      revoked = revoked_by x.height x.counts.counts;
+      spare = x.counts.room / (x.height + 1);
     } };
 
     ghost invariant = { λ x. IsIndex x.height x.counts.counts };

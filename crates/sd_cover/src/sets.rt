@@ -17,7 +17,11 @@ use std::sync::ledger::Ledger;
 
 impl CoverIndex {
     /// The chain cover of the leaves that are not revoked, ascending [Naor, Naor, Lotspiech 2001, 3.2].
-    pub fn sets<L: Ledger>(&self, alloc: Global, steps: &mut Steps<L>) -> Result<Vec<SetName>, NoMemory>
+    pub fn sets<L: Ledger>(
+        &self,
+        alloc: Global,
+        steps: &mut Steps<L>,
+    ) -> Result<Vec<SetName>, NoMemory>
         ensures leaves { AreRevocable self.now.height self.now.revoked }
         ensures value { IfOk result (λ sets. (sets.items ≡ cover_of self.now.height self.now.revoked)
             × IsChainCover self.now.height self.now.revoked sets.items) }
@@ -51,8 +55,8 @@ fn chain_sets<L: Ledger>(
     Ok(sets)
 }
 
-// Adds the sets of the chain that begins at `head` and goes on at node v, and of those that begin below v. Node v stands
-// `level` steps above the leaves, and so many revoked leaves are at or below it.
+// Adds the sets of the chain that begins at `head` and goes on at node v, and of those that begin below v. Node v
+// stands `level` steps above the leaves, and so many revoked leaves are at or below it.
 fn walk<L: Ledger>(
     sets: &mut Vec<SetName>,
     counts: &Counts,
@@ -84,8 +88,26 @@ fn walk<L: Ledger>(
         walk(sets, counts, h, head, right_child, level - 1, right, steps)
     } else {
         push_chain(sets, head, v)?;
-        walk(sets, counts, h, left_child, left_child, level - 1, left, steps)?;
-        walk(sets, counts, h, right_child, right_child, level - 1, right, steps)
+        walk(
+            sets,
+            counts,
+            h,
+            left_child,
+            left_child,
+            level - 1,
+            left,
+            steps,
+        )?;
+        walk(
+            sets,
+            counts,
+            h,
+            right_child,
+            right_child,
+            level - 1,
+            right,
+            steps,
+        )
     }
 }
 

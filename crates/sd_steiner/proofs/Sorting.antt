@@ -123,7 +123,9 @@ all_below_root d revoked leaves = record {
 }
 
 -- the sets of all chains, sorted, are the cover
-pub sorted_chains : (d : ℕ) (revoked : List ℕ) (added sorted : List SetName) → revoked ≢ [] → AreChainsFrom d revoked 1 1 added → IsPermutation added sorted → IsSorted set_cmp sorted → IsChainCover d revoked sorted
+pub sorted_chains : (d : ℕ) (revoked : List ℕ) (added sorted : List SetName) → revoked ≢ [] →
+    AreChainsFrom d revoked 1 1 added → IsPermutation added sorted → IsSorted set_cmp sorted →
+    IsChainCover d revoked sorted
 sorted_chains d revoked added sorted some from moved up = record {
   ascending = sorted_ascends sorted up (once_moved added sorted moved from.once);
   none_revoked = λ e. absurd (some e);
@@ -142,5 +144,7 @@ sorted_cover d level revoked old sets sorted leaves some top none walked moved u
     let more = subst (λ (xs : List SetName). AddsChainsBelow d d 1 1 revoked xs sets) none from_top in
     let part = all_below_root d revoked leaves in
     let not_empty : revoked ≢ [] = λ e. (let n = ap length e in omega arith) in
-    let added = more.adds revoked part (on_chain_begun d revoked 1 (inl refl) (root_in_tree d revoked part.of_height not_empty)) in
-    sorted_chains d revoked added.0 sorted not_empty added.2 (subst (λ (xs : List SetName). IsPermutation xs sorted) added.1 moved) up
+    let added = more.adds revoked part
+    (on_chain_begun d revoked 1 (inl refl) (root_in_tree d revoked part.of_height not_empty)) in
+    sorted_chains d revoked added.0 sorted not_empty added.2
+    (subst (λ (xs : List SetName). IsPermutation xs sorted) added.1 moved) up

@@ -1,4 +1,4 @@
-use Rattle.std.proofs.Common.{◌≡◌, ℕ, ◌+◌, ◌^◌, ◌≤◌}
+use Rattle.std.proofs.Common.{◌≡◌, ℕ, ◌+◌, ◌≤◌}
 use Rattle.sd_cover.specs.Tally.{count_at}
 use Rattle.sd_cover.specs.Path.{met_by}
 use Rattle.sd_cover.proofs.path.lower_path.Given as goal

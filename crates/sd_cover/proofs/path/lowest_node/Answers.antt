@@ -1,4 +1,4 @@
-use Rattle.std.proofs.Common.{◌≤◌, ◌+◌, ◌^◌, arith, rules}
+use Rattle.std.proofs.Common.{◌≤◌, ◌+◌, arith, rules}
 use Rattle.std.proofs.Math.Pow.{pow_mono}
 use Rattle.sd_tree.proofs.Levels.{doubled}
 use Rattle.sd_cover.proofs.path.lowest_node.Goals as goal

@@ -1,5 +1,3 @@
-use Rattle.std.proofs.Common.{sym, ap}
-use Rattle.sd_cover.specs.Index.{revoked_by, IsIndex}
 use Rattle.sd_cover.proofs.Indexes.{revoked_none, index_none}
 use Rattle.sd_cover.proofs.index.CoverIndex.new.Goals as goal
 
