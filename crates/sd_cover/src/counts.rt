@@ -78,8 +78,7 @@ impl Counts {
         ensures some { IsSome (map.get self.now.counts v) ↔ (0 < result) }
         ensures steps { steps.new ≡ steps.old + 1 }
     {
-        steps.tick();
-        count_in(&self.table, v)
+        visit(&self.table, v, steps)
     }
 
     /// Adds one to the count of node v, by one visit. It takes no memory.
@@ -93,8 +92,7 @@ impl Counts {
         ensures room { self.new.room ≡ (if count_at self.old.counts v == 0 then self.old.room - 1 else self.old.room) }
         ensures steps { steps.new ≡ steps.old + 1 }
     {
-        steps.tick();
-        let count = count_in(&self.table, v);
+        let count = visit(&self.table, v, steps);
         self.room -= u32::from(count == 0);
         self.table[v as usize] = count + 1;
     }
@@ -109,8 +107,7 @@ impl Counts {
         ensures room { self.new.room ≡ (if count_at self.old.counts v == 1 then self.old.room + 1 else self.old.room) }
         ensures steps { steps.new ≡ steps.old + 1 }
     {
-        steps.tick();
-        let count = count_in(&self.table, v);
+        let count = visit(&self.table, v, steps);
         self.room += u32::from(count == 1);
         self.table[v as usize] = count - 1;
     }
@@ -131,9 +128,11 @@ fn make(table: &mut Vec<u32>) -> Result<(), NoMemory>
     Ok(())
 }
 
-// The number at the node's place, 0 where there is no table.
-fn count_in(table: &[u32], v: u32) -> u32
+// The number at the node's place, 0 where there is no table: one visit.
+fn visit<L: Ledger>(table: &[u32], v: u32, steps: &mut Steps<L>) -> u32
     ensures value { result ≡ get_or table.now v 0 }
+    ensures steps { steps.new ≡ steps.old + 1 }
 {
+    steps.tick();
     table.get(v as usize).copied().unwrap_or(0)
 }

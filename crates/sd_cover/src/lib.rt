@@ -9,3 +9,6 @@ mod sets;
 
 pub use counts::{Counts, MOST_ROOM, NODES};
 pub use index::{CoverIndex, MOST_SPARE};
+
+#[cfg(test)]
+mod tests;

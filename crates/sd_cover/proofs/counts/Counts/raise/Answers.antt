@@ -21,14 +21,14 @@ index_mut-requires g c =
 pub invariant_of-self : goal.invariant_of-self
 invariant_of-self g c =
     let h = room_for _ _ _ c.args.v c.self.view_is c.self.invariant c.requires.high c.requires.room in
-    let n : c.count_in-count.result ≡ get_or c.self.inside.table.items c.args.v 0 = search rules in
-    raised_table _ _ c.args.v c.count_in-count.result c.from.result c.self.invariant h.0 n (search rules)
+    let n : c.visit-count.result ≡ get_or c.self.inside.table.items c.args.v 0 = search rules in
+    raised_table _ _ c.args.v c.visit-count.result c.from.result c.self.invariant h.0 n (search rules)
     (subst (λ (m : ℕ). (0 < m) ⊎ (0 < c.self.inside.room)) (sym n) h.1)
 
 pub returns-clause-counts : goal.returns-clause-counts
 returns-clause-counts g c =
     let h = room_for _ _ _ c.args.v c.self.view_is c.self.invariant c.requires.high c.requires.room in
-    let n : c.count_in-count.result ≡ get_or c.self.inside.table.items c.args.v 0 = search rules in
-    subst (λ (t : Tally). map_of (set c.self.inside.table.items c.args.v (c.count_in-count.result + 1))
+    let n : c.visit-count.result ≡ get_or c.self.inside.table.items c.args.v 0 = search rules in
+    subst (λ (t : Tally). map_of (set c.self.inside.table.items c.args.v (c.visit-count.result + 1))
     ≡ with_count t.counts c.args.v (count_at t.counts c.args.v + 1)) c.self.view_is
-    (raised_map c.self.inside.table.items c.args.v c.count_in-count.result h.0 n)
+    (raised_map c.self.inside.table.items c.args.v c.visit-count.result h.0 n)
