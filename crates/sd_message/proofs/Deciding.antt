@@ -1,9 +1,9 @@
 -- The tests of a packet tell what stands in it.
-use Rattle.std.proofs.Common.{◌≡◌, ℕ, List, ap, refl}
-use Rattle.std.specs.Prelude.{Bool, true, false, ◌==◌, ◌&&◌, Option, Some, None, is_none, slice_get, drop, take}
+use Rattle.std.proofs.Common.{◌≡◌, ℕ, ◌≤◌, List, ap, refl, arith}
+use Rattle.std.specs.Prelude.{Bool, true, false, ◌==◌, ◌&&◌, nat_le, Option, Some, None, is_none, slice_get, drop}
 use Rattle.std.specs.Bool.{Decides}
-use Rattle.std.proofs.lemmas.Bool.{true≢false, false≢true}
-use Rattle.std.proofs.lemmas.Bool.Decides.{Decides-and, Decides-eqb, Decides-like}
+use Rattle.std.proofs.lemmas.Bool.{false≢true}
+use Rattle.std.proofs.lemmas.Bool.Decides.{Decides-and, Decides-eqb, Decides-like, nat_tests}
 use Rattle.std.proofs.lemmas.Slice.Eq.{bytes_eq-Decides}
 use Rattle.sd_packet.specs.Header.{unit_start_of, payload_of}
 use Rattle.sd_section.specs.Judged.{section_fault}
@@ -33,3 +33,12 @@ tells_section packet =
     (Decides-and (unit_start_of packet == 1) _ (Decides-eqb (unit_start_of packet) 1)
     (Decides-and (is_zero pointer) _ (tells_zero pointer)
     (Decides-and (is_none fault) (is_plain section) (tells_none fault) (bytes_eq-Decides _ _))))
+
+-- a test is false where what it tells is
+pub is_false : {P : Type 0} (r : Bool) → Decides r P → ¬ P → r ≡ false
+is_false true tells unless = absurd (unless (tells.0 refl))
+is_false false tells unless = refl
+
+-- one number is at most the other
+pub tells_le : (a b : ℕ) → Decides (nat_le a b) (a ≤ b)
+tells_le a b = grind (arith, nat_tests)
