@@ -9,7 +9,8 @@
 #
 # It prints for each plain book the times of sdca and awk and their ratio; for each other book the times of sdca and C, their ratio,
 # which is to be at most 3, and the time of sdca for each period; and for the greatest book of each kind the peak memory of sdca, less
-# the book's file, which is to be at most 64 MiB.
+# the book's file, which is to be at most 64 MiB. The last book has one period and as many revoked leaves as there may be, 65,536 of
+# 1,048,576, drawn at random and in ascending order, so that the replay is cheap for both and the cover is what is measured.
 set -eu
 . "$(dirname "$0")/shared.sh"
 compile cover
@@ -56,6 +57,18 @@ make_full_book() {
         }' >book
 }
 
+# The most leaves that may be revoked, at random places, ascending.
+make_widest_book() {
+    awk 'BEGIN {
+        srand(7)
+        for (count = 0; count < 65536; count++) {
+            do leaf = int(rand() * 1048576); while (leaf in revoked)
+            revoked[leaf]
+            print leaf
+        }
+    }' | sort -n | sed 's/^/revoke /' >book
+}
+
 cat >replay.awk <<'SCRIPT'
 $1 == "revoke" { revoked[$2] = 1 }
 $1 == "subscribe" { delete revoked[$2] }
@@ -94,16 +107,25 @@ for lines in 65536 131072 262144 524288 1048576; do
 done
 show_peak
 
-for periods in 1 64 256 1024; do
-    make_full_book $periods
+# PERIODS ROUNDS: the times of sdca and C on the book, after a comparison of what they print.
+compare_with_c() {
     ./sdca cover site book >sdca.output || fail "sdca refuses the book"
     ./cover cover site book >c.output || fail "C refuses the book"
     cmp sdca.output c.output || fail "the covers differ"
     rm sdca.output c.output
-    means=$(time_both "./cover cover site book" $((periods < 20 ? 20 : 1)))
-    echo "$means" | awk -v n=$periods -v lines="$(wc -l <book)" '{
+    means=$(time_both "./cover cover site book" "$2")
+    echo "$means" | awk -v n="$1" -v lines="$(wc -l <book)" '{
         printf "%5d periods, %7d lines: sdca %8.2f ms (%.3f ms a period), C %8.2f ms, ratio %.2f (to reach: 3)\n",
             n, lines, $1 / 1000, $1 / 1000 / n, $2 / 1000, $1 / $2
     }'
+}
+
+for periods in 1 64 256 1024; do
+    make_full_book $periods
+    compare_with_c $periods $((periods < 20 ? 20 : 1))
 done
+show_peak
+
+make_widest_book
+compare_with_c 1 20
 show_peak

@@ -52,6 +52,8 @@ impl<'a> PmtPids<'a> {
         ensures value { IfSome result (λ pid. pmt_pids_in (programs_in self.old.programs.bytes.now)
             ≡ pid ∷ pmt_pids_in (programs_in self.new.programs.bytes.now)) }
         ensures fits { IfSome result (λ pid. pid < 8192) }
+        ensures unchanged { IsNone result → pmt_pids_in (programs_in self.new.programs.bytes.now)
+            ≡ pmt_pids_in (programs_in self.old.programs.bytes.now) }
     {
         while let Some((number, pid)) = self.programs.next() {
             if number != 0 {

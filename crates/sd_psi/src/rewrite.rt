@@ -10,6 +10,7 @@ ghost use Rattle.sd_psi.specs.Rewriting.{ca_descriptor as ca_descriptor_of, with
 ghost use Rattle.sd_psi.specs.Rewriting.{restored, rewrite_fault, restore_fault, removal_fault};
 ghost use Rattle.sd_psi.specs.Undone.{KeepsHeader};
 
+use crate::descriptor::CA_TAG;
 use crate::fault::FormFault;
 use crate::form::{Table, read};
 use crate::pmt::pmt_in;
@@ -123,7 +124,7 @@ fn write_descriptor(bytes: &mut [u8], ca: u16, pid: u16)
 {
     fields! {
         bytes;
-        descriptor_tag: 0, 8 = 0x09;
+        descriptor_tag: 0, 8 = u64::from(CA_TAG);
         descriptor_length: 8, 8 = 4;
         ca_system_id: 16, 16 = u64::from(ca);
         reserved: 32, 3 = 0b111;

@@ -34,7 +34,7 @@ comes_made : (most : Option ℕ) (word : Word) (bytes : List ℕ) (a b : Place) 
     Comes (Ok (making most word bytes)) (outside a page steps) (outside b page steps) (status_of (making_told word.number written))
 comes_made most word bytes a b page steps (Ok done) file cause =
     ended (making most word bytes) refl refl tt (record { files = file.made.0; made = file.made.1 })
-    (record { pieces = []; are = refl; printed = Appends-nil page.printed })
+    (Appends-nil page.printed)
     (record { depot = cause.no_fault (λ e. cc); print = refl }) (cause.no_miss (λ e. cc))
 comes_made most word bytes a b page steps (Err file.Missing) file cause =
     nowhere (making most word bytes) refl (out_of word bytes) refl refl (file.missing refl).1

@@ -5,7 +5,7 @@ use Rattle.sd_card.specs.Fields.{card_of, card_bytes}
 use Rattle.sd_status.specs.declared.status.Status.{Status}
 use Rattle.sd_status.specs.declared.status.Status.TheVariants.{Done, BadWord}
 use Rattle.sd_status.specs.Meant.{Meant, Word, Given, value, judged, ◌>>=◌}
-use Rattle.sd_status.specs.Work.{Work, Exactly}
+use Rattle.sd_status.specs.Work.{Work}
 use Rattle.sd_run.specs.Words.{Number, CardOf, order_of}
 use Rattle.sd_run.specs.Files.{site_in, IsGoodSite}
 
@@ -13,7 +13,7 @@ use Rattle.sd_run.specs.Files.{site_in, IsGoodSite}
 abbrev pub making : Option ℕ → Word → List ℕ → Work
 making steps out bytes = record {
   out = Some (record { word = out.number; name = out.text; bytes = bytes });
-  lines = Exactly [];
+  pieces = [];
   ends = Done;
   breaks = false;
   most_steps = steps;

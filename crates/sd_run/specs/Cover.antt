@@ -1,17 +1,20 @@
 -- `cover SITE BOOK` [this project, docs/FORMATS.md, Cover].
-use Rattle.std.specs.Prelude.{◌≡◌, ℕ, List, false, Some, None, Ok}
+use Rattle.std.specs.Prelude.{◌≡◌, ℕ, ◌+◌, List, false, Some, None, Ok}
 use Rattle.sd_book.specs.declared.command.Command.{Command}
 use Rattle.sd_status.specs.declared.status.Status.TheVariants.{Done}
 use Rattle.sd_status.specs.Meant.{Meant, Word, Given, value, ◌>>=◌}
-use Rattle.sd_status.specs.Work.{Work, Covers}
+use Rattle.sd_status.specs.Work.{Work}
 use Rattle.sd_site.specs.Fields.{SiteFields}
+use Rattle.sd_book.specs.Commands.{last_period}
+use Rattle.sd_run.specs.Periods.{cover_texts}
 use Rattle.sd_run.specs.Words.{CoverOf, order_of}
 use Rattle.sd_run.specs.Files.{site_in, book_in, IsGoodSite, IsGoodBook}
 
 -- prints the sets of each period of a book for a tree of this height
 abbrev pub covering : ℕ → List Command → Work
 covering d commands =
-    record { out = None; lines = Covers d commands; ends = Done; breaks = false; most_steps = Some 0 }
+    let texts = cover_texts d commands (last_period commands + 1) in
+    record { out = None; pieces = texts; ends = Done; breaks = false; most_steps = Some 0 }
 
 -- the work that the two files say
 unfoldable pub cover_meaning : Word → Word → Given → Meant Work

@@ -1,5 +1,6 @@
 pub mod Words
 pub mod Files
+pub mod Periods
 pub mod Cover
 pub mod Card
 pub mod Sample

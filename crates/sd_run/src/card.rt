@@ -7,7 +7,7 @@ ghost use Rattle.sd_run.specs.Card.{card_meaning, told_card};
 ghost use Rattle.sd_run.specs.Shown.{shown_word, shown_number};
 
 use crate::files::read_site;
-use crate::out::make_file;
+use crate::made::make_file;
 use crate::word::{Number, Word};
 use sd_card::Card;
 use sd_ports::Depot;

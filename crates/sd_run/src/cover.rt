@@ -1,11 +1,12 @@
 ghost use Rattle.std.specs.Prelude.{◌≡◌, ◌≢◌, ◌^◌, ◌<◌, ◌≤◌, ℕ, All, length, IfErr, IfOk, string_bytes};
 ghost use Rattle.std.specs.List.Sorted.{IsStrictlyIncreasing};
-ghost use Rattle.sd_status.specs.Outside.{Page, outside, page, place};
-ghost use Rattle.sd_status.specs.Periods.{IsCoverText};
+ghost use Rattle.sd_tree.specs.declared.leaf.TheConstants.{MOST_REVOKED};
+ghost use Rattle.sd_status.specs.Outside.{outside, page, place};
 ghost use Rattle.sd_status.specs.Reads.{Reads};
 ghost use Rattle.sd_status.specs.Comes.{Follows, status_of};
-ghost use Rattle.sd_status.specs.Prints.{Prints, PrintsPeriod, PrintsText};
+ghost use Rattle.sd_status.specs.Prints.{Prints, PrintsPiece, PrintsText};
 ghost use Rattle.sd_run.specs.Cover.{cover_meaning, covering};
+ghost use Rattle.sd_run.specs.Periods.{cover_text as cover_text_of};
 ghost use Rattle.sd_run.specs.Shown.{shown_word};
 
 use crate::files::{read_book, read_site};
@@ -78,8 +79,9 @@ fn print_period<P: Sink>(
     requires height { h ≤ 20 }
     requires leaves { All (λ u. u < 2 ^ h) revoked.now }
     requires ascending { IsStrictlyIncreasing revoked.now }
-    requires few { length revoked.now ≤ 4096 }
-    ensures value { PrintsPeriod h q revoked.now (page P.Sink print.old) (page P.Sink print.new) (status_of result) }
+    requires few { length revoked.now ≤ MOST_REVOKED }
+    ensures value { PrintsPiece (cover_text_of h q revoked.now)
+        (page P.Sink print.old) (page P.Sink print.new) (status_of result) }
     ensures fault { IfErr result (λ status. status ≢ Status.Done) }
 {
     let text = cover_text(alloc, h, q, revoked)?;
@@ -91,8 +93,8 @@ fn cover_text(alloc: Global, h: Height, q: u32, revoked: &[Leaf]) -> Result<Stri
     requires height { h ≤ 20 }
     requires leaves { All (λ u. u < 2 ^ h) revoked.now }
     requires ascending { IsStrictlyIncreasing revoked.now }
-    requires few { length revoked.now ≤ 4096 }
-    ensures value { IfOk result (λ text. IsCoverText h q revoked.now (string_bytes text)) }
+    requires few { length revoked.now ≤ MOST_REVOKED }
+    ensures value { IfOk result (λ text. string_bytes text ≡ cover_text_of h q revoked.now) }
     ensures fault { IfErr result (λ status. status ≡ Status.NoMemory) }
 {
     match cover_of(alloc, h, revoked) {

@@ -1,5 +1,10 @@
 //! Good words over good files mean work, and so `run` does it, or is out of memory, where no device fails.
-ghost use Rattle.std.specs.Prelude.{◌≡◌, ℕ, List, Some, None, Ok};
+ghost use Rattle.std.specs.Prelude.{◌≡◌, ◌≤◌, ℕ, List, Some, None, Ok, length};
+ghost use Rattle.sd_book.specs.Commands.{revoked};
+ghost use Rattle.sd_book.specs.declared.command.Command.{Command};
+ghost use Rattle.sd_steiner.specs.Cover.{cover_of};
+ghost use Rattle.sd_steiner.specs.Partition.{IsPartition, IsSmall};
+ghost use Rattle.sd_tree.specs.Leaves.{unrevoked};
 ghost use Rattle.sd_card.specs.Fields.{card_bytes, card_of};
 ghost use Rattle.sd_ports.specs.Files.{Files};
 ghost use Rattle.sd_sample.specs.Sample.{sample_of};
@@ -39,4 +44,12 @@ pub fn good_tables_are_printed()
     ensures { (words : List (List ℕ)) (files : Files) (good : IsGoodTables words (told_by files)) →
         ((meaning words (told_by files)).result ≡ Ok (inspecting good.bytes))
         × ((inspecting good.bytes).ends ≡ Status.Done) }
+{}
+
+/// The sets of a period are disjoint and unite to just the leaves that are not revoked in it: one where none is, and
+/// at most 2r - 1 where r are [Naor, Naor, Lotspiech 2001, 3.2].
+pub fn printed_sets_unite()
+    ensures { (d q : ℕ) (commands : List Command) → d ≤ 20 →
+        IsPartition d (cover_of d (revoked d commands q)) (unrevoked d (revoked d commands q))
+        × IsSmall (cover_of d (revoked d commands q)) (length (revoked d commands q)) }
 {}

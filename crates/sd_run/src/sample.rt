@@ -7,8 +7,8 @@ ghost use Rattle.sd_status.specs.Comes.{Follows, status_of};
 ghost use Rattle.sd_run.specs.Sample.{sample_meaning};
 ghost use Rattle.sd_run.specs.Shown.{shown_word};
 
+use crate::made::told;
 use crate::order::MOST_PACKETS;
-use crate::out::told;
 use crate::word::Word;
 use sd_ports::{Depot, DepotFault, FileFault};
 use sd_status::Status;
@@ -24,7 +24,8 @@ pub fn sample<D: Depot>(
 ) -> Result<(), Status>
     requires { packets ≤ MOST_PACKETS }
     ensures { (page : Page) (steps : ℕ) → Follows (sample_meaning number packets (shown_word out.entry))
-        (outside (place D.Depot depot.old) page steps) (outside (place D.Depot depot.new) page steps) (status_of result) }
+        (outside (place D.Depot depot.old) page steps) (outside (place D.Depot depot.new) page steps)
+        (status_of result) }
 {
     told(
         out.number,

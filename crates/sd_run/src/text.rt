@@ -1,12 +1,12 @@
 ghost use Rattle.std.specs.Prelude.{◌≡◌, ◌++◌, IfOk, OnOk, string_bytes};
-ghost use Rattle.sd_status.specs.Periods.{set_line, period_text as text_of};
+ghost use Rattle.sd_run.specs.Periods.{set_line, period_text as text_of};
 
 use sd_tree::SetName;
 use std::alloc::{AllocError, Global};
 use std::fmt::Write;
 
 /// The lines of a period with so many revoked leaves and these sets.
-#[tactic(auto, unfolding(sd_status::specs::Periods::period_line))]
+#[tactic(auto, unfolding(crate::specs::Periods::period_line))]
 pub fn period_text(
     alloc: Global,
     q: u32,
@@ -24,7 +24,7 @@ pub fn period_text(
 }
 
 /// The line of a set, after the text.
-#[tactic(auto, unfolding(sd_status::specs::Periods::set_line))]
+#[tactic(auto, unfolding(crate::specs::Periods::set_line))]
 fn push_set(text: &mut String, name: SetName) -> Result<(), AllocError>
     ensures { OnOk result (string_bytes text.new ≡ string_bytes text.old ++ set_line name) }
 {

@@ -9,7 +9,7 @@ use Rattle.sd_status.specs.declared.status.Status.{Status}
 use Rattle.sd_status.specs.declared.status.Status.TheVariants.{Done, Usage, Missing, DepotFault, PrintFault, NoMemory}
 use Rattle.sd_status.specs.Outside.{Place, Page, Outside}
 use Rattle.sd_status.specs.Meant.{Meant, Given, IsGiven}
-use Rattle.sd_status.specs.Work.{Out, Work, IsPieces, files_with, made_with, all_calls, TakesSteps}
+use Rattle.sd_status.specs.Work.{Out, Work, files_with, made_with, all_calls, TakesSteps}
 
 -- the status refuses words or files: it isn't that work is done, and it doesn't come of the outside
 abbrev pub IsRefusal : Status → Type 0
@@ -55,24 +55,17 @@ pub record IsMadeShort (out : Out) (a b : Place) : Type 0 where
   pub files : b.files ≡ with_bytes a.files out.name prefix
   pub made : b.made ≡ with_added a.made 1
 
--- some first pieces of what the work prints were printed
-pub record PrintsSome (work : Work) (a b : Page) : Type 0 where
-  pub pieces : List (List ℕ)
-  pub are : IsPieces work.lines pieces
-  pub count : ℕ
-  pub printed : Appends a.printed b.printed (concat (take count pieces))
+-- all that the work prints was printed
+abbrev pub PrintsAll : Work → Page → Page → Type 0
+PrintsAll work a b = Appends a.printed b.printed (concat work.pieces)
 
--- all of it was printed
-pub record PrintsAll (work : Work) (a b : Page) : Type 0 where
-  pub pieces : List (List ℕ)
-  pub are : IsPieces work.lines pieces
-  pub printed : Appends a.printed b.printed (concat pieces)
+-- some first pieces of it were printed
+abbrev pub PrintsSome : Work → Page → Page → Type 0
+PrintsSome work a b = (count : ℕ) × Appends a.printed b.printed (concat (take count work.pieces))
 
 -- a prefix of it was printed
-pub record PrintsPrefix (work : Work) (a b : Page) : Type 0 where
-  pub pieces : List (List ℕ)
-  pub are : IsPieces work.lines pieces
-  pub printed : AppendsPrefix a.printed b.printed (concat pieces)
+abbrev pub PrintsPrefix : Work → Page → Page → Type 0
+PrintsPrefix work a b = AppendsPrefix a.printed b.printed (concat work.pieces)
 
 -- How far work came: nothing was done; or OUT has a prefix of its bytes and nothing was printed; or OUT is whole, where
 -- there is one, and some first pieces were printed.

@@ -3,7 +3,6 @@ pub mod Texts
 pub mod Lines
 pub mod Outside
 pub mod Meant
-pub mod Periods
 pub mod Work
 pub mod Comes
 pub mod Reads

@@ -6,7 +6,6 @@ use Rattle.sd_ports.specs.Bytes.{AppendsPrefix}
 use Rattle.sd_status.specs.declared.status.Status.{Status}
 use Rattle.sd_status.specs.declared.status.Status.TheVariants.{Done, PrintFault, NoMemory}
 use Rattle.sd_status.specs.Outside.{Page}
-use Rattle.sd_status.specs.Periods.{IsCoverText}
 use Rattle.sd_status.specs.Work.{Work}
 use Rattle.sd_status.specs.Comes.{PrintsAll, PrintsSome, PrintsPrefix}
 
@@ -24,7 +23,6 @@ PrintsText text a b status =
     ((status ≡ Done) × Appends a.printed b.printed text × (b.faults ≡ a.faults))
     ⊎ ((status ≡ PrintFault) × AppendsPrefix a.printed b.printed text × Rose a.faults b.faults)
 
--- the text of a period's cover was printed, or nothing where memory was out, or a prefix, and then printing failed
-abbrev pub PrintsPeriod : ℕ → ℕ → List ℕ → Page → Page → Status → Type 0
-PrintsPeriod d q revoked a b status =
-    ((text : List ℕ) × IsCoverText d q revoked text × PrintsText text a b status) ⊎ ((status ≡ NoMemory) × (b ≡ a))
+-- a text was printed so, or nothing where memory was out for it
+abbrev pub PrintsPiece : List ℕ → Page → Page → Status → Type 0
+PrintsPiece text a b status = PrintsText text a b status ⊎ ((status ≡ NoMemory) × (b ≡ a))

@@ -1,11 +1,8 @@
 -- What a command does.
-use Rattle.std.specs.Prelude.{◌≡◌, ℕ, ◌+◌, ◌≤◌, Bool, List, ◌++◌, Option, Some, None, Result, Ok, Err}
+use Rattle.std.specs.Prelude.{◌≡◌, ℕ, ◌+◌, ◌≤◌, Bool, List, Option, Some, None, Result, Ok, Err}
 use Rattle.sd_cause.specs.Count.{with_added}
 use Rattle.sd_ports.specs.Files.{Files, with_bytes}
-use Rattle.sd_book.specs.declared.command.Command.{Command}
-use Rattle.sd_book.specs.Commands.{last_period}
 use Rattle.sd_status.specs.declared.status.Status.{Status}
-use Rattle.sd_status.specs.Periods.{AreCoverTexts}
 use Rattle.sd_status.specs.Meant.{Meant}
 
 -- a file to be made: the number of its word, its name, and all its bytes
@@ -14,26 +11,16 @@ pub record Out : Type 0 where
   pub name : List ℕ
   pub bytes : List ℕ
 
--- what is printed, in pieces of whole lines
-pub data Lines : Type 0 where
-  -- these pieces
-  Exactly : (pieces : List (List ℕ)) → Lines
-  -- for each period of a book for a tree of this height the sets of its cover
-  Covers : (height : ℕ) (commands : List Command) → Lines
-
 pub record Work : Type 0 where
   pub out : Option Out
-  pub lines : Lines
+  -- what is printed, in pieces of whole lines
+  pub pieces : List (List ℕ)
   -- the status at the end
   pub ends : Status
   -- the status is a refusal in the midst of a stream, which stands though OUT fails to close after it
   pub breaks : Bool
   -- how many steps of the generator it takes at most, where that is said
   pub most_steps : Option ℕ
-
-abbrev pub IsPieces : Lines → List (List ℕ) → Type 0
-IsPieces (Exactly pieces) texts = texts ≡ pieces
-IsPieces (Covers height commands) texts = AreCoverTexts height commands (last_period commands + 1) texts
 
 -- the files once OUT has these of its bytes, where they are told
 abbrev pub files_with : Option Out → Option Files → Option Files

@@ -18,7 +18,7 @@ use Rattle.sd_steiner.proofs.Ancestry.{leaf_to_root}
 use Rattle.sd_steiner.proofs.AtNode.{on_chain_begun}
 use Rattle.sd_steiner.proofs.Walks.{root_in_tree}
 use Rattle.sd_steiner.proofs.Covers.{all_begin}
-use Rattle.sd_steiner.specs.Walk.{AreRevokedBelow, AddsChainsBelow}
+use Rattle.sd_steiner.specs.Walk.{AreChainsFrom, AreRevokedBelow, AddsChainsBelow}
 
 -- names are the same where their numbers are
 first_same : (i j k l : ℕ) → (nat_eq i k && nat_eq j l) ≡ true → i ≡ k
@@ -122,6 +122,19 @@ all_below_root d revoked leaves = record {
   below = λ u. (λ m. (m, leaf_to_root d u (All-contains (λ w. w < 2 ^ d) revoked u leaves m)), λ m. m.0);
 }
 
+-- the sets of all chains, sorted, are the cover
+pub sorted_chains : (d : ℕ) (revoked : List ℕ) (added sorted : List SetName) → revoked ≢ [] →
+    AreChainsFrom d revoked 1 1 added → IsPermutation added sorted → IsSorted set_cmp sorted →
+    IsChainCover d revoked sorted
+sorted_chains d revoked added sorted some from moved up = record {
+  ascending = sorted_ascends sorted up (once_moved added sorted moved from.once);
+  none_revoked = λ e. absurd (some e);
+  chains = λ some' name. (
+    λ m. ((from.chains name).0 (Contains-permutation sorted added name (IsPermutation-sym added sorted moved) m)).0,
+    λ c. Contains-permutation added sorted name moved ((from.chains name).1 (c, all_begin d revoked name c)),
+  );
+}
+
 -- what the walk from the root adds, sorted, is the cover
 pub sorted_cover : (d level : ℕ) (revoked : List ℕ) (old sets sorted : List SetName) → All (λ u. u < 2 ^ d) revoked
     → 0 < length revoked → level ≡ d → old ≡ [] → AddsChainsBelow d level 1 1 revoked old sets
@@ -131,16 +144,7 @@ sorted_cover d level revoked old sets sorted leaves some top none walked moved u
     let more = subst (λ (xs : List SetName). AddsChainsBelow d d 1 1 revoked xs sets) none from_top in
     let part = all_below_root d revoked leaves in
     let not_empty : revoked ≢ [] = λ e. (let n = ap length e in omega arith) in
-    let added =
-    more.adds revoked part (on_chain_begun d revoked 1 (inl refl) (root_in_tree d revoked part.of_height not_empty))
-    in
-    let moved' = subst (λ (xs : List SetName). IsPermutation xs sorted) added.1 moved in
-    record {
-      ascending = sorted_ascends sorted up (once_moved added.0 sorted moved' added.2.once);
-      none_revoked = λ e. absurd (not_empty e);
-      chains = λ some' name. (
-        λ m. ((added.2.chains name).0
-            (Contains-permutation sorted added.0 name (IsPermutation-sym added.0 sorted moved') m)).0,
-        λ c. Contains-permutation added.0 sorted name moved' ((added.2.chains name).1 (c, all_begin d revoked name c)),
-      );
-    }
+    let added = more.adds revoked part
+    (on_chain_begun d revoked 1 (inl refl) (root_in_tree d revoked part.of_height not_empty)) in
+    sorted_chains d revoked added.0 sorted not_empty added.2
+    (subst (λ (xs : List SetName). IsPermutation xs sorted) added.1 moved) up

@@ -9,3 +9,6 @@ pub use laws::{
     same_nodes_same_cover,
 };
 pub use walk::{CoverFault, cover};
+
+#[cfg(test)]
+mod tests;

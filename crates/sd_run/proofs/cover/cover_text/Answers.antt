@@ -1,18 +1,9 @@
-use Rattle.std.proofs.Common.{arith, ◌<◌, ◌^◌}
-use Rattle.std.proofs.lemmas.List.Elements.{All-contains}
-use Rattle.sd_steiner.proofs.Covers.{cover_partition, cover_small}
+use Rattle.std.proofs.Common.{ap, ◌∙◌, length, List}
+use Rattle.sd_tree.specs.declared.set.SetName.{SetName}
+use Rattle.sd_run.specs.Periods.{period_text}
 use Rattle.sd_run.proofs.cover.cover_text.Goals as goal
 
 pub returns-in_ok-period_text-in-Ok-clause-value : goal.returns-in_ok-period_text-in-Ok-clause-value
 returns-in_ok-period_text-in-Ok-clause-value c =
-    let h = c.args.h in
-    let revoked = c.args.revoked.now in
-    let sets = c.in-Ok.sets.items in
-    let low : h < 32 = omega (arith, c.requires.height) in
-    record {
-      sets = sets;
-      chains = c.in-Ok.ensures.value.1;
-      partition = cover_partition h revoked sets low (λ u m. All-contains (λ w. w < 2 ^ h) revoked u c.requires.leaves m) c.in-Ok.ensures.value.1;
-      small = cover_small h revoked sets low (λ u m. All-contains (λ w. w < 2 ^ h) revoked u c.requires.leaves m) c.in-Ok.ensures.value.1;
-      printed = rw c.deref.ensures.value at c.in_ok-period_text-in-Ok.ensures;
-    }
+    let written = rw c.deref.ensures.value at c.in_ok-period_text-in-Ok.ensures in
+    written ∙ ap (λ (sets : List SetName). period_text c.args.q (length c.args.revoked.now) sets) c.in-Ok.ensures.value.0

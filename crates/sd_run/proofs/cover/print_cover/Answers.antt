@@ -10,7 +10,7 @@ returns-in_err-revoked g c =
     let turn = c.loop-periods.invariant in
     let p = err_from_is_err_and c.from_residual.result c.from_residual.ensures.1 in
     rw (p.1, p.2) (covers_some c.args.book.now.height c.args.book.now.commands c.loop-periods.q
-    (page g.P.Sink c.args.print.now) (page g.P.Sink c.loop-periods.print) turn.low turn.within turn.texts)
+    (page g.P.Sink c.args.print.now) (page g.P.Sink c.loop-periods.print) turn.within turn.texts)
 
 pub returns-in_err-print_period : goal.returns-in_err-print_period
 returns-in_err-print_period g c =
@@ -23,7 +23,7 @@ returns-in_err-print_period g c =
     let value = rw (turn.height, turn.commands, turn.next, c.in-Some.is) at c.in_ok-revoked.ensures.value in
     let period = rw (c.height-h.ensures, c.deref.ensures.value, value) at c.in_err-print_period.ensures.value in
     rw (p.1, p.2) (covers_failed d commands q (page g.P.Sink c.args.print.now) (page g.P.Sink c.loop-periods.print)
-    (page g.P.Sink c.print_period.new.print) c.in_err-print_period.field-0.0 turn.low (is_inside commands q end) turn.texts
+    (page g.P.Sink c.print_period.new.print) c.in_err-print_period.field-0.0 (is_inside commands q end) turn.texts
     c.in_err-print_period.ensures.fault period)
 
 pub loop-periods-preserved : goal.loop-periods-preserved

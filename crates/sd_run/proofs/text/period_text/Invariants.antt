@@ -1,6 +1,6 @@
 use Rattle.std.proofs.Common.{◌≡◌, ◌++◌, take, length, string_bytes}
 use Rattle.std.specs.List.{flat_map}
-use Rattle.sd_status.specs.Periods.{set_line, period_line}
+use Rattle.sd_run.specs.Periods.{set_line, period_line}
 use Rattle.sd_run.proofs.text.period_text.Given as goal
 
 -- the text so far has the period's line and those of the sets so far

@@ -1,0 +1,8 @@
+use Rattle.sd_cover.proofs.Indexes.{revoked_none, index_none}
+use Rattle.sd_cover.proofs.index.CoverIndex.new.Goals as goal
+
+pub invariant_of-result : goal.invariant_of-result
+invariant_of-result c = rw c.new.ensures.counts (index_none c.args.h)
+
+pub returns-clause-value : goal.returns-clause-value
+returns-clause-value c = rw c.new.ensures.counts (revoked_none c.args.h)

@@ -1,0 +1,8 @@
+use Rattle.std.proofs.Common.{subst}
+use Rattle.sd_cover.specs.Index.{IndexValue, AreRevocable}
+use Rattle.sd_cover.proofs.Walks.{revocable}
+use Rattle.sd_cover.proofs.index.CoverIndex.sets.Goals as goal
+
+pub returns-clause-leaves : goal.returns-clause-leaves
+returns-clause-leaves g c = subst (λ (x : IndexValue). AreRevocable x.height x.revoked) c.self.view_is
+    (revocable c.self.inside.height c.self.inside.counts.counts)

@@ -1,0 +1,5 @@
+pub mod Tally
+pub mod Table
+pub mod Index
+pub mod Path
+pub mod Changes
