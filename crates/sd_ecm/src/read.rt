@@ -12,8 +12,10 @@ ghost use Rattle.sd_ecm.specs.declared.part.EcmPart.{EcmPart};
 ghost use Rattle.sd_ecm.specs.declared.format.TheConstants.{POSITIONS, PLACES_AT, PLACE_BYTES};
 
 use crate::fault::EcmFault;
-use crate::format::{CHECK_AT, COUNT_AT, PLACE_BYTES, PLACES_AT, POSITIONS, TABLE_ID_2, WRAPPED_AT};
-use crate::format::{even_table_id, flags_at, positions_a_part};
+use crate::format::{
+    CHECK_AT, COUNT_AT, PLACE_BYTES, PLACES_AT, POSITIONS, TABLE_ID_2, WRAPPED_AT, even_table_id,
+    flags_at, positions_a_part,
+};
 use crate::order::are_ascending;
 use crate::part::{EcmPart, NOTHING, Place};
 use sd_bits::fields;

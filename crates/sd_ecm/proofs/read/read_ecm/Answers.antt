@@ -101,8 +101,7 @@ returns-clause-fault c = λ fault.
       is_number = c.number.ensures;
       is_last = c.last_number.ensures;
       is_body = c.body.ensures;
-    } in
-    (
+    } in (
       λ wrong. absurd (cc),
       λ broken. absurd (never_first c.args.packet.now c.in-Some.section.bytes.now c.body.result.now c.table_id.result c.number.result c.last_number.result fault
           c.in-Some.ensures.value are c.in_ok-part.ensures.good broken.1),
