@@ -11,8 +11,10 @@ ghost use Rattle.sd_emm.specs.declared.format.TheConstants.{ENTRIES_AT, MOST_ENT
 
 use crate::emm::{Emm, Entry, NOTHING};
 use crate::fault::EmmFault;
+use crate::format::{
+    CHECK_AT, COUNT_AT, ENTRIES_AT, ENTRY_BYTES, MOST_ENTRIES, TABLE_ID, WRAPPED_AT,
+};
 use crate::order::are_ascending;
-use crate::format::{CHECK_AT, COUNT_AT, ENTRIES_AT, ENTRY_BYTES, MOST_ENTRIES, TABLE_ID, WRAPPED_AT};
 use sd_bits::fields;
 use sd_message::section_in;
 use sd_packet::Packet;
@@ -119,7 +121,10 @@ fn is_counted(emm: &Emm, length: usize) -> bool
 {
     let most = MOST_ENTRIES as u32;
     let sections = emm.sets.div_ceil(most).max(1);
-    let count = emm.sets.saturating_sub(most * u32::from(emm.index)).min(most);
+    let count = emm
+        .sets
+        .saturating_sub(most * u32::from(emm.index))
+        .min(most);
     length == ENTRIES_AT + ENTRY_BYTES * usize::from(emm.count)
         && u32::from(emm.sections) == sections
         && emm.index < emm.sections
@@ -135,7 +140,11 @@ fn read_entries(h: Height, sets: u32, count: usize, bytes: &[u8]) -> Option<[Ent
 {
     let mut entries = [NOTHING; MOST_ENTRIES];
     for k in 0..count {
-        entries[k] = read_entry(h, sets, &bytes[ENTRY_BYTES * k..ENTRY_BYTES * k + ENTRY_BYTES])?;
+        entries[k] = read_entry(
+            h,
+            sets,
+            &bytes[ENTRY_BYTES * k..ENTRY_BYTES * k + ENTRY_BYTES],
+        )?;
     }
     Some(entries)
 }
