@@ -1,5 +1,5 @@
 -- Ascending PIDs, by their neighbours.
-use Rattle.std.proofs.Common.{◌≡◌, ℕ, ◌+◌, ◌-◌, ◌<◌, ◌≤◌, List, length, take, get_or, arith}
+use Rattle.std.proofs.Common.{ℕ, ◌+◌, ◌-◌, ◌<◌, ◌≤◌, List, length, take, get_or, arith}
 use Rattle.sd_message.proofs.Ascending as Pairs
 use Rattle.sd_ecm.specs.Form.{AreAscending}
 use Rattle.sd_ecm.specs.declared.part.Place.{Place}

@@ -1,5 +1,5 @@
 -- Packets of control messages and what they spell.
-use Rattle.std.proofs.Common.{◌≡◌, ◌⊎◌, inl, inr, ℕ, ◌+◌, ◌*◌, ◌%◌, ◌<◌, ◌≤◌, List, length, arith, refl, sym, ap, ◌∙◌, subst}
+use Rattle.std.proofs.Common.{◌≡◌, inl, inr, ℕ, ◌+◌, ◌*◌, ◌%◌, ◌<◌, ◌≤◌, List, length, arith, refl, sym, ap, ◌∙◌, subst}
 use Rattle.std.proofs.lemmas.Bool.{cases_eq}
 use Rattle.sd_packet.specs.Packing.{packed}
 use Rattle.sd_section.specs.Header.{table_id_of, number_of, last_number_of, body_of}
@@ -9,7 +9,7 @@ use Rattle.sd_section.proofs.Spelling.{fields_are_read}
 use Rattle.sd_message.specs.Framed.{section_of, header_of, Begins}
 use Rattle.sd_message.proofs.Numbers.{IsBytes}
 use Rattle.sd_message.proofs.Framing.{packed_begins, begun_is_there, begun_is_read}
-use Rattle.sd_ecm.specs.Versions.{IsVersion, head_length, even_table_id, version_for}
+use Rattle.sd_ecm.specs.Versions.{head_length, even_table_id, version_for}
 use Rattle.sd_ecm.specs.Spelled.{ecm_header, ecm_body, ecm_section, Spells}
 use Rattle.sd_ecm.specs.Form.{IsEcm, Fits}
 use Rattle.sd_ecm.specs.Fields.{version_of, IsTableOf, flags_of, ecm_in, ecm_of, BreaksIn, BreaksFirst, IsEcmSection, IsEcmPacket, IsGoodIn}

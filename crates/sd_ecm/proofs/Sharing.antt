@@ -1,8 +1,8 @@
 -- The positions of a message, as many at a time as fit into a part.
-use Rattle.std.proofs.Common.{◌≡◌, ◌⊎◌, inl, inr, ℕ, ◌+◌, ◌-◌, ◌*◌, ◌<◌, ◌≤◌, ◌^◌, List, length, take, drop, eq-eqb, arith, refl, sym, ap, ◌∙◌, subst}
-use Rattle.std.specs.Prelude.{All, Some, slice_get, min, flat_map, replicate}
+use Rattle.std.proofs.Common.{◌≡◌, inl, inr, ℕ, ◌+◌, ◌-◌, ◌*◌, ◌<◌, ◌≤◌, ◌^◌, List, length, drop, eq-eqb, arith, refl, sym, ap, ◌∙◌, subst}
+use Rattle.std.specs.Prelude.{All, Some, slice_get, flat_map, replicate}
 use Rattle.std.proofs.lemmas.Bool.{cases_eq, ne_eqb}
-use Rattle.sd_message.specs.Pieces.{pieces_for, piece_at}
+use Rattle.sd_message.specs.Pieces.{pieces_for}
 use Rattle.sd_message.proofs.Pieces as Pieces
 use Rattle.sd_message.proofs.Pieces.{room, full_or_last, some_or_first, long_piece, each_of_piece, pairs_of_piece, filled_items, filled_rest, filled_length}
 use Rattle.sd_ecm.specs.Versions.{IsVersion, IsSince, positions_for}

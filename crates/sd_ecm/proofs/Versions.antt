@@ -1,8 +1,8 @@
 -- The numbers in which the versions differ.
-use Rattle.std.proofs.Common.{◌≡◌, ◌⊎◌, inl, inr, ℕ, ◌+◌, ◌-◌, ◌*◌, ◌%◌, ◌<◌, ◌≤◌, eq-eqb, arith, refl, subst, sym}
+use Rattle.std.proofs.Common.{◌≡◌, ◌⊎◌, inl, inr, ℕ, ◌+◌, ◌-◌, ◌*◌, ◌%◌, ◌≤◌, eq-eqb, arith, refl, subst, sym}
 use Rattle.std.specs.Prelude.{Bool, true, false, nat_lt, if◌then◌else◌}
 use Rattle.std.proofs.lemmas.Bool.{cases_eq, ne_eqb}
-use Rattle.sd_ecm.specs.Versions.{IsVersion, IsBefore, IsSince, positions_for, flags_at, even_table_id, version_for}
+use Rattle.sd_ecm.specs.Versions.{IsVersion, IsBefore, positions_for, flags_at, even_table_id, version_for}
 
 -- how many positions fit
 pub few_positions : (v : ℕ) → positions_for v ≤ 13

@@ -1,10 +1,9 @@
 use Rattle.std.proofs.Common.{◌≡◌, refl, sym, subst, ap, ◌∙◌, rules}
-use Rattle.std.specs.Prelude.{Ok, Err, Some}
+use Rattle.std.specs.Prelude.{Err}
 use Rattle.std.proofs.lemmas.Bool.{false≢true}
 use Rattle.sd_message.specs.Framed.{section_of}
 use Rattle.sd_ecm.specs.Fields.{BreaksFirst}
 use Rattle.sd_ecm.specs.declared.fault.EcmFault.{EcmFault}
-use Rattle.sd_ecm.specs.declared.part.EcmPart.{EcmPart}
 use Rattle.sd_ecm.proofs.Reading.{IsParted, spelled_is_packet, read_is_right, breaks_first, never_first, first_once}
 use Rattle.sd_ecm.proofs.Deciding.{other_reads, broken_at, good_at, spelled_reads}
 use Rattle.sd_ecm.proofs.read.read_ecm.Goals as goal
