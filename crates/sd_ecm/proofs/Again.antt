@@ -1,15 +1,21 @@
 -- What is spelled is read as what it was.
-use Rattle.std.proofs.Common.{◌≡◌, ℕ, suc, ◌+◌, ◌-◌, ◌*◌, ◌^◌, ◌<◌, ◌≤◌, Bool, true, false, List, [], ◌∷◌, ◌++◌, length, take, drop, get_or, append_assoc, length-append, length-take-le, arith, refl, sym, ap, ◌∙◌}
-use Rattle.std.specs.Prelude.{◌==◌, nat_le, All, slice_index, replicate}
-use Rattle.std.proofs.lemmas.Bool.{and_parts, leb-true}
-use Rattle.std.proofs.lemmas.List.{take_at, drop_at, get_or_at, take-append-drop}
-use Rattle.sd_message.proofs.Numbers.{half_again, word_again}
-use Rattle.sd_ecm.specs.Spelled.{listed, place_bytes, places_bytes, flags_for, front_bytes, ecm_body}
-use Rattle.sd_ecm.specs.Form.{IsEcm, Fits, nothing}
-use Rattle.sd_ecm.specs.Fields.{place_of, places_in, padded, ecm_in}
+use Rattle.std.proofs.Common.{◌≡◌, ℕ, ◌+◌, ◌*◌, ◌^◌, ◌<◌, ◌≤◌, List, [], ◌∷◌, ◌++◌, length, take, drop, get_or, append_assoc, length-append, length-take-le, eq-eqb, inl, inr, arith, refl, sym, ap, subst, ◌∙◌}
+use Rattle.std.specs.Prelude.{Bool, true, false, ◌==◌, nat_le, All, slice_index, slice_range, flat_map}
+use Rattle.std.specs.Int.{w32, to_be_bytes}
+use Rattle.std.proofs.lemmas.Bool.{and_parts, leb-true, cases_eq, ne_eqb}
+use Rattle.std.proofs.lemmas.List.{take_at, drop_at, get_or_at}
+use Rattle.sd_bits.specs.Bits.{field}
+use Rattle.sd_message.proofs.Numbers.{half_again, word_again, long_again}
+use Rattle.sd_message.proofs.Items.{items_again, long_items}
+use Rattle.sd_message.proofs.Pieces.{filled_again}
+use Rattle.sd_ecm.specs.Versions.{IsVersion, IsSince, flags_at}
+use Rattle.sd_ecm.specs.Spelled.{listed, place_bytes, flags_for, numbers_bytes, since_bytes, word_bytes, head_bytes, ecm_body}
+use Rattle.sd_ecm.specs.Form.{IsEcm, Fits, FitsHead, nothing}
+use Rattle.sd_ecm.specs.Fields.{place_of, places_in, padded, from_flags, flags_of, since_in, ecm_in}
 use Rattle.sd_ecm.specs.declared.part.Place.{Place}
 use Rattle.sd_ecm.specs.declared.part.EcmPart.{EcmPart}
-use Rattle.sd_ecm.proofs.Numbers.{long_again}
+use Rattle.sd_ecm.proofs.Versions.{few_positions}
+use Rattle.sd_ecm.proofs.Spelling.{body_is}
 
 -- the position's fields fit
 record IsSpellable (place : Place) : Type 0 where
@@ -31,32 +37,19 @@ place_alone place fits =
     same_placed _ place.pid _ place.position (half_again xs 0 place.pid fits.pid refl refl)
     (long_again xs 2 place.position fits.position refl refl refl refl refl refl)
 
-long_place : (place : Place) → length (place_bytes place) ≡ 8
+long_place : (place : Place) → IsSpellable place → length (place_bytes place) ≡ 8
 unfolding place_bytes
-long_place place = refl
-
--- all positions
-places_again : (ps : List Place) → All IsSpellable ps → places_in (length ps) (places_bytes ps) ≡ ps
-unfolding places_in places_bytes
-places_again [] fits = refl
-places_again (p ∷ ps) fits =
-    let first = fits 0 p (omega arith) in
-    let long = long_place p in
-    let rest = places_again ps (λ k d h. fits (suc k) d (omega arith)) in
-    rw (take_at (place_bytes p) (places_bytes ps) 8 long, drop_at (place_bytes p) (places_bytes ps) 8 long, place_alone p first, rest) refl
-
-long_places : (ps : List Place) → length (places_bytes ps) ≡ 8 * length ps
-unfolding places_bytes
-long_places [] = refl
-long_places (p ∷ ps) = omega (arith, length-append (place_bytes p) (places_bytes ps), long_place p, long_places ps)
+long_place place fits = refl
 
 -- a part by its fields
-abbrev made : ℕ → ℕ → ℕ → ℕ → Bool → ℕ → ℕ → List ℕ → List ℕ → ℕ → List Place → EcmPart
-made number period word clear closing part last wrapped check count positions = record {
+abbrev made : ℕ → ℕ → ℕ → ℕ → ℕ → ℕ → Bool → ℕ → ℕ → List ℕ → List ℕ → ℕ → List Place → EcmPart
+made version number period word clear since closing part last wrapped check count positions = record {
+  version = version;
   number = number;
   period = period;
   word = word;
   clear = clear;
+  since = since;
   closing = closing;
   part = part;
   last_part = last;
@@ -66,10 +59,10 @@ made number period word clear closing part last wrapped check count positions = 
   positions = positions;
 }
 
-same_made : (a a' b b' c c' d d' : ℕ) (e e' : Bool) (x y : ℕ) (f f' g g' : List ℕ) (k k' : ℕ) (p p' : List Place) → a ≡ a' → b ≡ b' →
-    c ≡ c' →
-    d ≡ d' → e ≡ e' → f ≡ f' → g ≡ g' → k ≡ k' → p ≡ p' → made a b c d e x y f g k p ≡ made a' b' c' d' e' x y f' g' k' p'
-same_made a a' b b' c c' d d' e e' x y f f' g g' k k' p p' h1 h2 h3 h4 h5 h6 h7 h8 h9 = rw (h1, h2, h3, h4, h5, h6, h7, h8, h9) refl
+same_made : (v a a' b b' c c' d d' s s' : ℕ) (e e' : Bool) (x y : ℕ) (f f' g g' : List ℕ) (k k' : ℕ) (p p' : List Place) → a ≡ a' →
+    b ≡ b' → c ≡ c' → d ≡ d' → s ≡ s' → e ≡ e' → f ≡ f' → g ≡ g' → k ≡ k' → p ≡ p' →
+    made v a b c d s e x y f g k p ≡ made v a' b' c' d' s' e' x y f' g' k' p'
+same_made v a a' b b' c c' d d' s s' e e' x y f f' g g' k k' p p' h1 h2 h3 h4 h5 h6 h7 h8 h9 h10 = rw (h1, h2, h3, h4, h5, h6, h7, h8, h9, h10) refl
 
 -- each that there is can be spelled
 all_spellable : (part : EcmPart) → IsEcm part → All IsSpellable (listed part)
@@ -78,69 +71,161 @@ all_spellable part form k d below =
     let parts = and_parts (nat_le 0x0020 pid) (nat_le pid 0x1FEF) (form.places k d below) in
     record { pid = omega (arith, leb-true pid 0x1FEF parts.1); position = form.positions k d below }
 
-listed_long : (part : EcmPart) → Fits part → IsEcm part → length (listed part) ≡ part.count
-listed_long part fits form = length-take-le part.count part.positions (omega (arith, fits.positions, form.counted.few))
-
--- filled up, they are all positions
-padded_again : (part : EcmPart) → Fits part → IsEcm part → padded (listed part) ≡ part.positions
-padded_again part fits form =
-    ap (λ (n : ℕ). listed part ++ replicate (13 - n) nothing) (listed_long part fits form)
-    ∙ (ap (λ (ps : List Place). listed part ++ ps) (sym form.rest) ∙ take-append-drop part.count part.positions)
+-- how many there are
+pub listed_long : (part : EcmPart) → Fits part → IsEcm part → length (listed part) ≡ part.count
+listed_long part fits form =
+    length-take-le part.count part.positions (omega (arith, fits.positions, form.counted.few, few_positions part.version))
 
 -- the flags say whether the message closes the stream
 flags_again : (closing : Bool) → (flags_for closing == 1) ≡ closing
 flags_again true = refl
 flags_again false = refl
 
+-- what stands from the flags on
+tail_after : (v a b c d since : ℕ) (tail : List ℕ) →
+    drop (flags_at v) ((to_be_bytes w32 a ++ (to_be_bytes w32 b ++ (to_be_bytes w32 c ++ to_be_bytes w32 d))) ++ (since_bytes v since ++ tail)) ≡ tail
+unfolding flags_at since_bytes
+tail_after v a b c d since tail = elim (cases_eq v 2) [
+  | inl e ↦ rw (eq-eqb v 2 e) refl
+  | inr g ↦ rw (ne_eqb v 2 g) refl
+]
+
+-- `since` is read where it is written, and else is what it is to be
+since_again : (v a b c d since : ℕ) (tail : List ℕ) → IsVersion v → since < 2 ^ 32 → IsSince v a since →
+    since_in v a ((to_be_bytes w32 a ++ (to_be_bytes w32 b ++ (to_be_bytes w32 c ++ to_be_bytes w32 d))) ++ (since_bytes v since ++ tail)) ≡ since
+unfolding since_in since_bytes
+since_again v a b c d since tail (inl e) fits is =
+    let other : (v == 2) ≡ false = ne_eqb v 2 (λ two. omega arith) in
+    rw other (sym (is.fixed e))
+since_again v a b c d since tail (inr e) fits is =
+    let xs : List ℕ =
+    (to_be_bytes w32 a ++ (to_be_bytes w32 b ++ (to_be_bytes w32 c ++ to_be_bytes w32 d))) ++ (to_be_bytes w32 since ++ tail) in
+    rw (eq-eqb v 2 e) (word_again xs 16 since fits refl refl refl refl)
+
+-- a part's body in its pieces
+body_split : (part : EcmPart) →
+    ecm_body part ≡ numbers_bytes part ++ (since_bytes part.version part.since ++ (word_bytes part ++ flat_map place_bytes (listed part)))
+unfolding ecm_body head_bytes
+body_split part =
+    body_is (numbers_bytes part) (since_bytes part.version part.since) (word_bytes part) (flat_map place_bytes (listed part))
+
+pub tail_again : (part : EcmPart) → from_flags part.version (ecm_body part) ≡ word_bytes part ++ flat_map place_bytes (listed part)
+unfolding numbers_bytes
+tail_again part =
+    ap (drop (flags_at part.version)) (body_split part)
+    ∙ tail_after part.version part.number part.period part.word part.clear part.since (word_bytes part ++ flat_map place_bytes (listed part))
+
+-- what is read from there
+record IsTail (part : EcmPart) (tail : List ℕ) : Type 0 where
+  flags : (slice_index tail 0 == 1) ≡ part.closing
+  wrapped : slice_range tail 1 33 ≡ part.wrapped
+  check : slice_range tail 33 49 ≡ part.check
+  count : slice_index tail 49 ≡ part.count
+  rest : drop 50 tail ≡ flat_map place_bytes (listed part)
+
+tail_read : (part : EcmPart) → FitsHead part → IsTail part (word_bytes part ++ flat_map place_bytes (listed part))
+unfolding word_bytes
+tail_read part fits =
+    let ps : List ℕ = flat_map place_bytes (listed part) in
+    let xs : List ℕ = word_bytes part ++ ps in
+    let end : List ℕ = part.check ++ part.count ∷ [] in
+    let after : drop 1 xs ≡ part.wrapped ++ (part.check ++ part.count ∷ ps) =
+    append_assoc part.wrapped end ps ∙ ap (λ (l : List ℕ). part.wrapped ++ l) (append_assoc part.check (part.count ∷ []) ps) in
+    let tail : drop 33 xs ≡ part.check ++ part.count ∷ ps =
+    ap (drop 32) after ∙ drop_at part.wrapped (part.check ++ part.count ∷ ps) 32 fits.wrapped in
+    let long_end : length end ≡ 17 = omega (arith, length-append part.check (part.count ∷ []), fits.check) in
+    record {
+      flags = flags_again part.closing;
+      wrapped = ap (take 32) after ∙ take_at part.wrapped (part.check ++ part.count ∷ ps) 32 fits.wrapped;
+      check = ap (take 16) tail ∙ take_at part.check (part.count ∷ ps) 16 fits.check;
+      count = ap (λ (l : List ℕ). get_or l 48 0) (after ∙ sym (append_assoc part.wrapped part.check (part.count ∷ ps)))
+          ∙ get_or_at (part.wrapped ++ part.check) part.count ps 0 48 (omega (arith, length-append part.wrapped part.check, fits.wrapped, fits.check));
+      rest = drop_at (part.wrapped ++ end) ps 49 (omega (arith, length-append part.wrapped end, fits.wrapped, long_end));
+    }
+
+-- what is read before
+record IsNumbered (part : EcmPart) (body : List ℕ) : Type 0 where
+  number : field body 0 32 ≡ part.number
+  period : field body 32 32 ≡ part.period
+  word : field body 64 32 ≡ part.word
+  clear : field body 96 32 ≡ part.clear
+  since : since_in part.version part.number body ≡ part.since
+
+numbers_read : (part : EcmPart) (rest : List ℕ) → FitsHead part → IsVersion part.version → IsSince part.version part.number part.since →
+    IsNumbered part (numbers_bytes part ++ (since_bytes part.version part.since ++ rest))
+unfolding numbers_bytes
+numbers_read part rest fits version since =
+    let xs : List ℕ = numbers_bytes part ++ (since_bytes part.version part.since ++ rest) in
+    record {
+      number = word_again xs 0 part.number fits.number refl refl refl refl;
+      period = word_again xs 4 part.period fits.period refl refl refl refl;
+      word = word_again xs 8 part.word fits.word refl refl refl refl;
+      clear = word_again xs 12 part.clear fits.clear refl refl refl refl;
+      since = since_again part.version part.number part.period part.word part.clear part.since rest version fits.since since;
+    }
+
 -- the body is read as what it spells
-pub body_again : (part : EcmPart) → Fits part → IsEcm part → ecm_in part.part part.last_part (ecm_body part) ≡ part
-unfolding ecm_in ecm_body front_bytes
+pub body_again : (part : EcmPart) → Fits part → IsEcm part → ecm_in part.version part.part part.last_part (ecm_body part) ≡ part
+unfolding ecm_in
 body_again part fits form =
     let xs : List ℕ = ecm_body part in
-    let ps : List ℕ = places_bytes (listed part) in
-    let end : List ℕ = part.check ++ part.count ∷ [] in
-    let after : drop 17 xs ≡ part.wrapped ++ (part.check ++ part.count ∷ ps) =
-    append_assoc part.wrapped end ps ∙ ap (λ (l : List ℕ). part.wrapped ++ l) (append_assoc part.check (part.count ∷ []) ps) in
-    let tail : drop 49 xs ≡ part.check ++ part.count ∷ ps =
-    ap (drop 32) after ∙ drop_at part.wrapped (part.check ++ part.count ∷ ps) 32 fits.front.wrapped in
-    let long_end : length end ≡ 17 = omega (arith, length-append part.check (part.count ∷ []), fits.front.check) in
-    let count : slice_index xs 65 ≡ part.count =
-    ap (λ (l : List ℕ). get_or l 48 0) (after ∙ sym (append_assoc part.wrapped part.check (part.count ∷ ps)))
-    ∙ get_or_at (part.wrapped ++ part.check) part.count ps 0 48 (omega (arith, length-append part.wrapped part.check, fits.front.wrapped, fits.front.check)) in
-    let rest : drop 66 xs ≡ ps =
-    drop_at (part.wrapped ++ end) ps 49 (omega (arith, length-append part.wrapped end, fits.front.wrapped, long_end)) in
-    let places : places_in (slice_index xs 65) (drop 66 xs) ≡ listed part =
-    ap (λ (n : ℕ). places_in n (drop 66 xs)) (count ∙ sym (listed_long part fits form))
-    ∙ (ap (places_in (length (listed part))) rest ∙ places_again (listed part) (all_spellable part form)) in
-    same_made _ part.number _ part.period _ part.word _ part.clear _ part.closing part.part part.last_part _ part.wrapped _ part.check _ part.count _
+    let rest : List ℕ = word_bytes part ++ flat_map place_bytes (listed part) in
+    let numbers : IsNumbered part xs = subst (IsNumbered part) (sym (body_split part)) (numbers_read part rest fits.head form.version form.since) in
+    let tail : IsTail part (from_flags part.version xs) = subst (IsTail part) (sym (tail_again part)) (tail_read part fits.head) in
+    let long = listed_long part fits form in
+    let places : places_in (slice_index (from_flags part.version xs) 49) (drop 50 (from_flags part.version xs)) ≡ listed part =
+    ap (λ (n : ℕ). places_in n (drop 50 (from_flags part.version xs))) (tail.count ∙ sym long)
+    ∙ (ap (places_in (length (listed part))) tail.rest
+    ∙ items_again place_of place_bytes IsSpellable 8 (listed part) long_place place_alone (all_spellable part form)) in
+    same_made part.version _ part.number _ part.period _ part.word _ part.clear _ part.since _ part.closing part.part part.last_part _ part.wrapped _ part.check _ part.count _
     part.positions
-    (word_again xs 0 part.number fits.front.number refl refl refl refl)
-    (word_again xs 4 part.period fits.front.period refl refl refl refl)
-    (word_again xs 8 part.word fits.front.word refl refl refl refl)
-    (word_again xs 12 part.clear fits.front.clear refl refl refl refl)
-    (flags_again part.closing)
-    (ap (take 32) after ∙ take_at part.wrapped (part.check ++ part.count ∷ ps) 32 fits.front.wrapped)
-    (ap (take 16) tail ∙ take_at part.check (part.count ∷ ps) 16 fits.front.check)
-    count
-    (ap padded places ∙ padded_again part fits form)
+    numbers.number numbers.period numbers.word numbers.clear
+    (ap (λ (n : ℕ). since_in part.version n xs) numbers.number ∙ numbers.since)
+    tail.flags tail.wrapped tail.check tail.count
+    (ap padded places ∙ filled_again 13 part.count nothing part.positions long form.rest)
 
 -- how long the body is
-long_front : (part : EcmPart) → Fits part → length (front_bytes part) ≡ 66
-unfolding front_bytes
-long_front part fits =
-    let end : List ℕ = part.check ++ part.count ∷ [] in
-    omega (arith, length-append part.wrapped end, length-append part.check (part.count ∷ []), fits.front.wrapped, fits.front.check)
+long_since : (v since : ℕ) (rest : List ℕ) → length (since_bytes v since ++ rest) + 16 ≡ flags_at v + length rest
+unfolding since_bytes flags_at
+long_since v since rest = elim (cases_eq v 2) [
+  | inl e ↦ rw (eq-eqb v 2 e) (omega (arith, length-append (to_be_bytes w32 since) rest))
+  | inr g ↦ rw (ne_eqb v 2 g) (omega arith)
+]
 
-pub long_body : (part : EcmPart) → Fits part → IsEcm part → length (ecm_body part) ≡ 66 + 8 * part.count
-unfolding ecm_body
+long_word : (part : EcmPart) → FitsHead part → length (word_bytes part) ≡ 50
+unfolding word_bytes
+long_word part fits =
+    let end : List ℕ = part.check ++ part.count ∷ [] in
+    omega (arith, length-append part.wrapped end, length-append part.check (part.count ∷ []), fits.wrapped, fits.check)
+
+long_numbers : (part : EcmPart) → length (numbers_bytes part) ≡ 16
+unfolding numbers_bytes
+long_numbers part = refl
+
+pub long_body : (part : EcmPart) → Fits part → IsEcm part → length (ecm_body part) ≡ flags_at part.version + 50 + 8 * part.count
 long_body part fits form =
-    omega (arith, length-append (front_bytes part) (places_bytes (listed part)), long_front part fits, long_places (listed part), listed_long part fits form)
+    let ps : List ℕ = flat_map place_bytes (listed part) in
+    let rest : List ℕ = word_bytes part ++ ps in
+    ap length (body_split part)
+    ∙ omega (
+      arith,
+      length-append (numbers_bytes part) (since_bytes part.version part.since ++ rest),
+      long_numbers part,
+      long_since part.version part.since rest,
+      length-append (word_bytes part) ps,
+      long_word part fits.head,
+      long_items place_bytes IsSpellable 8 (listed part) long_place (all_spellable part form),
+      listed_long part fits form,
+    )
 
 flags_few : (closing : Bool) → flags_for closing ≤ 1
 flags_few true = omega arith
 flags_few false = omega arith
 
+first_few : (part : EcmPart) (ps : List ℕ) → slice_index (word_bytes part ++ ps) 0 ≤ 1
+unfolding word_bytes
+first_few part ps = flags_few part.closing
+
 -- the flags in it
-pub few_flags : (part : EcmPart) → slice_index (ecm_body part) 16 ≤ 1
-unfolding ecm_body front_bytes
-few_flags part = flags_few part.closing
+pub few_flags : (part : EcmPart) → flags_of part.version (ecm_body part) ≤ 1
+few_flags part = rw (tail_again part) (first_few part (flat_map place_bytes (listed part)))

@@ -1,140 +1,195 @@
 -- What is wrong with a part of a control message, by what was read of it.
-use Rattle.std.proofs.Common.{◌≡◌, ℕ, ◌-◌, ◌≤◌, List, length, take, drop, refl, sym, ap, ◌∙◌, subst}
+use Rattle.std.proofs.Common.{◌≡◌, ℕ, ◌-◌, ◌^◌, ◌<◌, ◌≤◌, List, length, take, drop, refl, sym, ap, ◌∙◌, subst}
 use Rattle.std.specs.Prelude.{replicate}
-use Rattle.std.proofs.lemmas.List.{take_at, drop_at}
+use Rattle.sd_bits.proofs.Fields.{field_below}
+use Rattle.sd_message.proofs.Items.{length_items, each_read}
+use Rattle.sd_message.proofs.Pieces.{filled_items, filled_rest}
+use Rattle.sd_ecm.specs.Versions.{IsVersion, IsBefore, IsSince}
 use Rattle.sd_ecm.specs.Spelled.{listed}
-use Rattle.sd_ecm.specs.Form.{nothing, ArePlaces, AreAscending, IsEcm}
-use Rattle.sd_ecm.specs.Fields.{places_in, padded, flags_of, ecm_in, with_places, HasCount, IsMatched, IsGoodIn, BreaksIn}
+use Rattle.sd_ecm.specs.Form.{nothing, ArePositioned, AreAscending, AreShort, IsEcm}
+use Rattle.sd_ecm.specs.Fields.{place_of, places_in, padded, from_flags, flags_of, since_in, ecm_in, with_places, HasCount, IsMatched, IsGoodIn, BreaksIn}
 use Rattle.sd_ecm.specs.declared.part.Place.{Place}
 use Rattle.sd_ecm.specs.declared.part.EcmPart.{EcmPart}
 use Rattle.sd_ecm.specs.declared.fault.EcmFault.{EcmFault}
 use Rattle.sd_ecm.specs.declared.fault.EcmFault.TheVariants.{Count, Order, Pid, Mixed, Back}
-use Rattle.sd_ecm.proofs.Places.{length_places, positions_fit}
 
 -- what stands before the positions was read
 abbrev pub IsPrefix : EcmPart → EcmPart → Type 0
-IsPrefix part front = front ≡ with_places part (replicate 13 nothing)
+IsPrefix part head = head ≡ with_places part (replicate 13 nothing)
+
+-- the bytes of the positions
+abbrev pub places_from : ℕ → List ℕ → List ℕ
+places_from v body = drop 50 (from_flags v body)
 
 -- the positions that a part has are those in its body
-pub listed_in : (number last : ℕ) (body : List ℕ) →
-    listed (ecm_in number last body) ≡ places_in (ecm_in number last body).count (drop 66 body)
+pub listed_in : (v number last : ℕ) (body : List ℕ) →
+    listed (ecm_in v number last body) ≡ places_in (ecm_in v number last body).count (places_from v body)
 unfolding ecm_in
-listed_in number last body =
-    let count : ℕ = (ecm_in number last body).count in
-    take_at (places_in count (drop 66 body)) (replicate (13 - length (places_in count (drop 66 body))) nothing) count (length_places count (drop 66 body))
+listed_in v number last body =
+    let count : ℕ = (ecm_in v number last body).count in
+    let places : List Place = places_in count (places_from v body) in
+    ap (λ (n : ℕ). take n (padded places)) (sym (length_items place_of 8 count (places_from v body))) ∙ filled_items 13 nothing places
 
-positions_are : (number last : ℕ) (body : List ℕ) →
-    (ecm_in number last body).positions ≡ padded (places_in (ecm_in number last body).count (drop 66 body))
+positions_are : (v number last : ℕ) (body : List ℕ) →
+    (ecm_in v number last body).positions ≡ padded (places_in (ecm_in v number last body).count (places_from v body))
 unfolding ecm_in
-positions_are number last body = refl
+positions_are v number last body = refl
 
 -- the same positions by the count that was read
-same_places : (number last : ℕ) (body : List ℕ) (front : EcmPart) (count : ℕ) → IsPrefix (ecm_in number last body) front →
-    count ≡ front.count →
-    places_in count (drop 66 body) ≡ listed (ecm_in number last body)
-same_places number last body front count is counted =
-    ap (λ (n : ℕ). places_in n (drop 66 body)) (counted ∙ ap (λ (p : EcmPart). p.count) is) ∙ sym (listed_in number last body)
+same_places : (v number last : ℕ) (body : List ℕ) (head : EcmPart) (count : ℕ) → IsPrefix (ecm_in v number last body) head →
+    count ≡ head.count → places_in count (places_from v body) ≡ listed (ecm_in v number last body)
+same_places v number last body head count is counted =
+    ap (λ (n : ℕ). places_in n (places_from v body)) (counted ∙ ap (λ (p : EcmPart). p.count) is) ∙ sym (listed_in v number last body)
 
 -- the count isn't what it is to be
-pub count_breaks : (table_id : ℕ) (body : List ℕ) (part front : EcmPart) → IsPrefix part front → ¬ HasCount (length body) front →
+pub count_breaks : (table_id : ℕ) (body : List ℕ) (part head : EcmPart) → IsPrefix part head → ¬ HasCount (length body) head →
     BreaksIn table_id body part Count
-count_breaks table_id body part front is unless has = unless (subst (HasCount (length body)) (sym is) has)
+count_breaks table_id body part head is unless has = unless (subst (HasCount (length body)) (sym is) has)
 
 -- it is
-has_count : (body : List ℕ) (part front : EcmPart) → IsPrefix part front → HasCount (length body) front → HasCount (length body) part
-has_count body part front is has = subst (HasCount (length body)) is has
-
--- a PID has no positions
-pub pid_breaks : (table_id number last : ℕ) (body : List ℕ) (front : EcmPart) (count : ℕ) → IsPrefix (ecm_in number last body) front →
-    HasCount (length body) front → count ≡ front.count → ¬ ArePlaces (places_in count (drop 66 body)) →
-    BreaksIn table_id body (ecm_in number last body) Pid
-pid_breaks table_id number last body front count is has counted unless = (
-  has_count body (ecm_in number last body) front is has,
-  λ all. unless (subst ArePlaces (sym (same_places number last body front count is counted)) all),
-)
+has_count : (body : List ℕ) (part head : EcmPart) → IsPrefix part head → HasCount (length body) head → HasCount (length body) part
+has_count body part head is has = subst (HasCount (length body)) is has
 
 -- what was read is what the section says
-pub is_whole : (number last : ℕ) (body : List ℕ) (front : EcmPart) (count : ℕ) (places : List Place) →
-    IsPrefix (ecm_in number last body) front →
-    count ≡ front.count → places ≡ padded (places_in count (drop 66 body)) → with_places front places ≡ ecm_in number last body
-is_whole number last body front count places is counted read =
-    let same : places ≡ (ecm_in number last body).positions =
-    read ∙ (ap (λ (n : ℕ). padded (places_in n (drop 66 body))) (counted ∙ ap (λ (p : EcmPart). p.count) is) ∙ sym (positions_are number last body)) in
-    ap (λ (f : EcmPart). with_places f places) is ∙ ap (with_places (ecm_in number last body)) same
+pub is_whole : (v number last : ℕ) (body : List ℕ) (head : EcmPart) (count : ℕ) (places : List Place) →
+    IsPrefix (ecm_in v number last body) head → count ≡ head.count → places ≡ padded (places_in count (places_from v body)) →
+    with_places head places ≡ ecm_in v number last body
+is_whole v number last body head count places is counted read =
+    let same : places ≡ (ecm_in v number last body).positions =
+    read ∙ (ap (λ (n : ℕ). padded (places_in n (places_from v body))) (counted ∙ ap (λ (p : EcmPart). p.count) is)
+    ∙ sym (positions_are v number last body)) in
+    ap (λ (f : EcmPart). with_places f places) is ∙ ap (with_places (ecm_in v number last body)) same
 
 -- the positions that were read are those that the part has
-same_listed : (number last : ℕ) (body : List ℕ) (front : EcmPart) (count : ℕ) (places : List Place) →
-    IsPrefix (ecm_in number last body) front →
-    count ≡ front.count → places ≡ padded (places_in count (drop 66 body)) → take count places ≡ listed (ecm_in number last body)
-same_listed number last body front count places is counted read =
-    ap (λ (n : ℕ). take n places) counted ∙ ap listed (is_whole number last body front count places is counted read)
+same_listed : (v number last : ℕ) (body : List ℕ) (head : EcmPart) (count : ℕ) (places : List Place) →
+    IsPrefix (ecm_in v number last body) head → count ≡ head.count → places ≡ padded (places_in count (places_from v body)) →
+    take count places ≡ listed (ecm_in v number last body)
+same_listed v number last body head count places is counted read =
+    ap (λ (n : ℕ). take n places) counted ∙ ap listed (is_whole v number last body head count places is counted read)
+
+-- the head was read, and the count is good
+pub record IsJudged (v number last : ℕ) (body : List ℕ) (head : EcmPart) (count : ℕ) : Type 0 where
+  pub is : IsPrefix (ecm_in v number last body) head
+  pub has : HasCount (length body) head
+  pub counted : count ≡ head.count
+
+-- so were the positions, and the PIDs have them
+pub record AreRead (v : ℕ) (body : List ℕ) (count : ℕ) (places : List Place) : Type 0 where
+  pub all : ArePositioned (places_in count (places_from v body))
+  pub read : places ≡ padded (places_in count (places_from v body))
+
+-- a PID has no positions
+pub pid_breaks : (table_id v number last : ℕ) (body : List ℕ) (head : EcmPart) (count : ℕ) → IsJudged v number last body head count →
+    ¬ ArePositioned (places_in count (places_from v body)) → BreaksIn table_id body (ecm_in v number last body) Pid
+pid_breaks table_id v number last body head count judged unless = (
+  has_count body (ecm_in v number last body) head judged.is judged.has,
+  λ all. unless (subst ArePositioned (sym (same_places v number last body head count judged.is judged.counted)) all),
+)
 
 -- the PIDs don't ascend
-pub order_breaks : (table_id number last : ℕ) (body : List ℕ) (front : EcmPart) (count : ℕ) (places : List Place) →
-    IsPrefix (ecm_in number last body) front → HasCount (length body) front → count ≡ front.count →
-    ArePlaces (places_in count (drop 66 body)) →
-    places ≡ padded (places_in count (drop 66 body)) → ¬ AreAscending (take count places) →
-    BreaksIn table_id body (ecm_in number last body) Order
-order_breaks table_id number last body front count places is has counted all read unless = (
-  has_count body (ecm_in number last body) front is has,
+pub order_breaks : (table_id v number last : ℕ) (body : List ℕ) (head : EcmPart) (count : ℕ) (places : List Place) →
+    IsJudged v number last body head count → AreRead v body count places → ¬ AreAscending (take count places) →
+    BreaksIn table_id body (ecm_in v number last body) Order
+order_breaks table_id v number last body head count places judged are unless = (
+  has_count body (ecm_in v number last body) head judged.is judged.has,
   (
-    subst ArePlaces (same_places number last body front count is counted) all,
-    λ up. unless (subst AreAscending (sym (same_listed number last body front count places is counted read)) up),
+    subst ArePositioned (same_places v number last body head count judged.is judged.counted) are.all,
+    λ up. unless (subst AreAscending (sym (same_listed v number last body head count places judged.is judged.counted are.read)) up),
   ),
 )
 
--- the flags or the table_id don't match
-pub mixed_breaks : (table_id number last : ℕ) (body : List ℕ) (front : EcmPart) (count : ℕ) (places : List Place) →
-    IsPrefix (ecm_in number last body) front → HasCount (length body) front → count ≡ front.count →
-    ArePlaces (places_in count (drop 66 body)) →
-    places ≡ padded (places_in count (drop 66 body)) → AreAscending (take count places) →
-    ¬ IsMatched table_id (flags_of body) front.word →
-    BreaksIn table_id body (ecm_in number last body) Mixed
-mixed_breaks table_id number last body front count places is has counted all read up unless = (
-  has_count body (ecm_in number last body) front is has,
+-- the flags, the table_id or `since` don't match, by what was read
+matched_too : (table_id v number last : ℕ) (body : List ℕ) (head : EcmPart) → IsPrefix (ecm_in v number last body) head →
+    IsMatched table_id (flags_of v body) head →
+    IsMatched table_id (flags_of (ecm_in v number last body).version body) (ecm_in v number last body)
+unfolding ecm_in
+matched_too table_id v number last body head is matched =
+    let same = subst (IsMatched table_id (flags_of v body)) is matched in
+    record { flags_are = same.flags_are; parity = same.parity; since = same.since }
+
+matched_back : (table_id v number last : ℕ) (body : List ℕ) (head : EcmPart) → IsPrefix (ecm_in v number last body) head →
+    IsMatched table_id (flags_of (ecm_in v number last body).version body) (ecm_in v number last body) →
+    IsMatched table_id (flags_of v body) head
+unfolding ecm_in
+matched_back table_id v number last body head is matched =
+    subst (IsMatched table_id (flags_of v body)) (sym is)
+    (record { flags_are = matched.flags_are; parity = matched.parity; since = matched.since })
+
+pub mixed_breaks : (table_id v number last : ℕ) (body : List ℕ) (head : EcmPart) (count : ℕ) (places : List Place) →
+    IsJudged v number last body head count → AreRead v body count places → AreAscending (take count places) →
+    ¬ IsMatched table_id (flags_of v body) head → BreaksIn table_id body (ecm_in v number last body) Mixed
+mixed_breaks table_id v number last body head count places judged are up unless = (
+  has_count body (ecm_in v number last body) head judged.is judged.has,
   (
-    subst ArePlaces (same_places number last body front count is counted) all,
+    subst ArePositioned (same_places v number last body head count judged.is judged.counted) are.all,
     (
-      subst AreAscending (same_listed number last body front count places is counted read) up,
-      λ matched. unless (subst (λ (p : EcmPart). IsMatched table_id (flags_of body) p.word) (sym is) matched),
+      subst AreAscending (same_listed v number last body head count places judged.is judged.counted are.read) up,
+      λ matched. unless (matched_back table_id v number last body head judged.is matched),
     ),
   ),
 )
 
 -- nothing is wrong
-pub is_good : (table_id number last : ℕ) (body : List ℕ) (front : EcmPart) (count : ℕ) (places : List Place) →
-    IsPrefix (ecm_in number last body) front → HasCount (length body) front → count ≡ front.count →
-    ArePlaces (places_in count (drop 66 body)) →
-    places ≡ padded (places_in count (drop 66 body)) → AreAscending (take count places) → IsMatched table_id (flags_of body) front.word →
-    IsGoodIn table_id body (ecm_in number last body)
-is_good table_id number last body front count places is has counted all read up matched = record {
-  has_count = has_count body (ecm_in number last body) front is has;
-  places = subst ArePlaces (same_places number last body front count is counted) all;
-  ascending = subst AreAscending (same_listed number last body front count places is counted read) up;
-  matched = subst (λ (p : EcmPart). IsMatched table_id (flags_of body) p.word) is matched;
+pub is_good : (table_id v number last : ℕ) (body : List ℕ) (head : EcmPart) (count : ℕ) (places : List Place) →
+    IsJudged v number last body head count → AreRead v body count places → AreAscending (take count places) →
+    IsMatched table_id (flags_of v body) head → IsGoodIn table_id body (ecm_in v number last body)
+is_good table_id v number last body head count places judged are up matched = record {
+  has_count = has_count body (ecm_in v number last body) head judged.is judged.has;
+  places = subst ArePositioned (same_places v number last body head count judged.is judged.counted) are.all;
+  ascending = subst AreAscending (same_listed v number last body head count places judged.is judged.counted are.read) up;
+  matched = matched_too table_id v number last body head judged.is matched;
 }
 
 -- what follows the positions is as it is to be
-past_places : (number last : ℕ) (body : List ℕ) →
-    drop (ecm_in number last body).count (ecm_in number last body).positions ≡ replicate (13 - (ecm_in number last body).count) nothing
-past_places number last body =
-    let count : ℕ = (ecm_in number last body).count in
-    let places : List Place = places_in count (drop 66 body) in
-    ap (drop count) (positions_are number last body)
-    ∙ (drop_at places (replicate (13 - length places) nothing) count (length_places count (drop 66 body))
-    ∙ ap (λ (n : ℕ). replicate (13 - n) nothing) (length_places count (drop 66 body)))
+past_places : (v number last : ℕ) (body : List ℕ) →
+    drop (ecm_in v number last body).count (ecm_in v number last body).positions
+    ≡ replicate (13 - (ecm_in v number last body).count) nothing
+past_places v number last body =
+    let count : ℕ = (ecm_in v number last body).count in
+    let places : List Place = places_in count (places_from v body) in
+    ap (drop count) (positions_are v number last body)
+    ∙ subst (λ (n : ℕ). drop n (padded places) ≡ replicate (13 - n) nothing) (length_items place_of 8 count (places_from v body))
+    (filled_rest 13 nothing places)
+
+-- the positions that are read have 48 bits
+short_place : (piece : List ℕ) → (place_of piece).position < 2 ^ 48
+unfolding place_of
+short_place piece = field_below piece 16 48
+
+positions_fit : (n : ℕ) (bytes : List ℕ) → AreShort (places_in n bytes)
+positions_fit n bytes = each_read (λ (place : Place). place.position < 2 ^ 48) place_of 8 n bytes short_place
+
+-- `since` is as it is to be
+since_right : (v number last : ℕ) (body : List ℕ) → IsBefore (ecm_in v number last body).since (ecm_in v number last body).number →
+    IsSince (ecm_in v number last body).version (ecm_in v number last body).number (ecm_in v number last body).since
+unfolding ecm_in since_in
+since_right v number last body before = record { before = before; fixed = λ one. rw one refl }
 
 -- what breaks no rule is in its form
-pub good_is_ecm : (table_id number last : ℕ) (body : List ℕ) → number ≤ last → IsGoodIn table_id body (ecm_in number last body) →
-    IsEcm (ecm_in number last body)
+pub version_in_is : (v number last : ℕ) (body : List ℕ) → (ecm_in v number last body).version ≡ v
 unfolding ecm_in
-good_is_ecm table_id number last body numbered good = record {
-  numbered = numbered;
+version_in_is v number last body = refl
+
+version_read : (v number last : ℕ) (body : List ℕ) → IsVersion v → IsVersion (ecm_in v number last body).version
+unfolding ecm_in
+version_read v number last body is = is
+
+numbers_read : (v number last : ℕ) (body : List ℕ) → number ≤ last →
+    (ecm_in v number last body).part ≤ (ecm_in v number last body).last_part
+unfolding ecm_in
+numbers_read v number last body numbered = numbered
+
+pub good_is_ecm : (table_id v number last : ℕ) (body : List ℕ) → IsVersion v → number ≤ last →
+    IsGoodIn table_id body (ecm_in v number last body) → IsEcm (ecm_in v number last body)
+good_is_ecm table_id v number last body version numbered good = record {
+  version = version_read v number last body version;
+  since = since_right v number last body good.matched.since;
+  numbered = numbers_read v number last body numbered;
   counted = good.has_count.1;
   places = good.places;
   ascending = good.ascending;
-  positions = rw (listed_in number last body) (positions_fit (ecm_in number last body).count (drop 66 body));
-  rest = past_places number last body;
+  positions = rw (listed_in v number last body) (positions_fit (ecm_in v number last body).count (places_from v body));
+  rest = past_places v number last body;
 }
 
 -- one rule alone is broken first

@@ -1,8 +1,8 @@
+pub mod Versions
 pub mod Ascending
-pub mod Numbers
-pub mod Places
+pub mod Judging
 pub mod Spelling
 pub mod Again
-pub mod Judging
 pub mod Reading
+pub mod Deciding
 pub mod Sharing

@@ -1,25 +1,28 @@
--- The positions of a message, thirteen by thirteen.
-use Rattle.std.proofs.Common.{◌≡◌, inl, inr, ℕ, zero, suc, ◌+◌, ◌-◌, ◌*◌, ◌/◌, ◌%◌, ◌^◌, ◌<◌, ◌≤◌, List, [], ◌∷◌, ◌++◌, length, take, drop, get_or, get_or-take, get_or-drop, take-add, drop-drop, length-append, arith, refl, sym, ap, ◌∙◌}
-use Rattle.std.specs.Prelude.{All, Some, slice_get, replicate, min, map, flat_map}
-use Rattle.std.specs.List.{range_with_len}
-use Rattle.std.proofs.lemmas.Bool.{cases_lt}
-use Rattle.std.proofs.lemmas.List.{length-take, length-drop, length-replicate, take_at, drop_at, take_all}
-use Rattle.std.proofs.lemmas.List.FromFn.{length-map-range_with_len, get_or-map-range_with_len}
-use Rattle.std.proofs.lemmas.Option.{slice_get-get_or, slice_get_within, get_or_from_slice_get}
+-- The positions of a message, as many at a time as fit into a part.
+use Rattle.std.proofs.Common.{◌≡◌, inl, inr, ℕ, ◌+◌, ◌-◌, ◌*◌, ◌<◌, ◌≤◌, ◌^◌, List, length, drop, eq-eqb, arith, refl, sym, ap, ◌∙◌, subst}
+use Rattle.std.specs.Prelude.{All, Some, slice_get, flat_map, replicate}
+use Rattle.std.proofs.lemmas.Bool.{cases_eq, ne_eqb}
+use Rattle.sd_message.specs.Pieces.{pieces_for}
+use Rattle.sd_message.proofs.Pieces as Pieces
+use Rattle.sd_message.proofs.Pieces.{room, full_or_last, some_or_first, long_piece, each_of_piece, pairs_of_piece, filled_items, filled_rest, filled_length}
+use Rattle.sd_ecm.specs.Versions.{IsVersion, IsSince, positions_for}
 use Rattle.sd_ecm.specs.Spelled.{listed}
-use Rattle.sd_ecm.specs.Form.{IsCounted, IsPlace, ArePlaces, AreAscending, IsEcm, Fits, nothing}
+use Rattle.sd_ecm.specs.Form.{IsCounted, IsPositioned, ArePositioned, AreAscending, AreShort, IsEcm, Fits, nothing}
 use Rattle.sd_ecm.specs.Fields.{padded}
-use Rattle.sd_ecm.specs.Parts.{Message, parts_for, places_at, part_at, parts_of, IsMessage, IsOfMessage}
+use Rattle.sd_ecm.specs.Parts.{Message, parts_for, part_count_of, places_at, part_at, parts_of, IsMessage, IsOfMessage, header_of}
 use Rattle.sd_ecm.specs.declared.part.Place.{Place}
 use Rattle.sd_ecm.specs.declared.part.EcmPart.{EcmPart}
+use Rattle.sd_ecm.proofs.Versions.{few_positions, some_positions}
 
 -- a part with this last part and these positions
 abbrev pub made : Message → ℕ → ℕ → List Place → List Place → EcmPart
 made message x last own positions = record {
+  version = message.version;
   number = message.number;
   period = message.period;
   word = message.word;
   clear = message.clear;
+  since = message.since;
   closing = message.closing;
   part = x;
   last_part = last;
@@ -29,182 +32,177 @@ made message x last own positions = record {
   positions = positions;
 }
 
--- a part of the message has the positions of its place
-listed_at : (message : Message) (x : ℕ) → listed (part_at message x) ≡ places_at message.places x
+-- a part of the message, by its fields
+pub made_is : (message : Message) (x last : ℕ) (own positions : List Place) → last ≡ part_count_of message - 1 →
+    own ≡ places_at message x → positions ≡ padded own → made message x last own positions ≡ part_at message x
 unfolding part_at
-listed_at message x = take_at (places_at message.places x) _ _ refl
+made_is message x last own positions p q r = rw (r, q, p) refl
 
--- so many parts from one on have 13 times as many positions from 13 times it on
-all_by_thirteen : (places : List Place) (a n : ℕ) →
-    flat_map (places_at places) (range_with_len a n) ≡ take (13 * n) (drop (13 * a) places)
-all_by_thirteen places a zero = refl
-all_by_thirteen places a (suc n) =
-    let more : 13 * suc n ≡ 13 + 13 * n = omega arith in
-    let next : 13 * a + 13 ≡ 13 * (a + 1) = omega arith in
-    ap (λ (l : List Place). places_at places a ++ l) (all_by_thirteen places (a + 1) n)
-    ∙ sym (ap (λ (k : ℕ). take k (drop (13 * a) places)) more
-    ∙ (take-add 13 (13 * n) (drop (13 * a) places)
-    ∙ ap (λ (l : List Place). places_at places a ++ take (13 * n) l) (drop-drop 13 (13 * a) places ∙ ap (λ (k : ℕ). drop k places) next)))
+-- a part has room for some
+some_fit : (version : ℕ) → 1 ≤ positions_for version
+some_fit version = omega (arith, some_positions version)
 
--- what parts have is what stands at their places
-listed_over : (message : Message) (xs : List ℕ) → flat_map listed (map (part_at message) xs) ≡ flat_map (places_at message.places) xs
-listed_over message [] = refl
-listed_over message (x ∷ xs) = rw (listed_at message x, listed_over message xs) refl
+-- a part of the message has the positions of its place
+listed_at : (message : Message) (x : ℕ) → listed (part_at message x) ≡ places_at message x
+unfolding part_at
+listed_at message x = filled_items 13 nothing (places_at message x)
 
 -- joined, the parts have all positions
 pub joined_are_all : (message : Message) → flat_map listed (parts_of message) ≡ message.places
 unfolding parts_of
 joined_are_all message =
-    let parts : ℕ = parts_for (length message.places) in
-    listed_over message (range_with_len 0 parts)
-    ∙ (all_by_thirteen message.places 0 parts
-    ∙ take_all (13 * parts) message.places (omega arith))
+    Pieces.joined_are_all listed (part_at message) (positions_for message.version) message.places (some_fit message.version) (listed_at message)
+
+-- so those ascend over all parts
+pub all_ascend : (message : Message) → AreAscending message.places → AreAscending (flat_map listed (parts_of message))
+all_ascend message up = subst AreAscending (sym (joined_are_all message)) up
 
 -- how many parts there are
-pub as_many : (message : Message) → length (parts_of message) ≡ parts_for (length message.places)
+pub as_many : (message : Message) → length (parts_of message) ≡ part_count_of message
 unfolding parts_of
-as_many message = length-map-range_with_len (part_at message) 0 (parts_for (length message.places))
-
--- which stands at a place, in whatever default
-part_there : (message : Message) (x : ℕ) (d : EcmPart) → x < parts_for (length message.places) →
-    get_or (parts_of message) x d ≡ part_at message x
-unfolding parts_of
-part_there message x d within = get_or-map-range_with_len (part_at message) 0 (parts_for (length message.places)) x x d within (omega arith)
+as_many message = Pieces.as_many (part_at message) (part_count_of message)
 
 -- a fact of each place is one of each part
-each_part : (P : EcmPart → Type 0) (message : Message) → ((x : ℕ) → x < parts_for (length message.places) → P (part_at message x)) →
+each_part : (P : EcmPart → Type 0) (message : Message) → ((x : ℕ) → x < part_count_of message → P (part_at message x)) →
     All P (parts_of message)
-each_part P message each k d below =
-    let within : k < parts_for (length message.places) = omega (arith, as_many message) in
-    rw (part_there message k d within) (each k within)
+unfolding parts_of
+each_part P message each = Pieces.each_made P (part_at message) (part_count_of message) each
 
 -- the part of a number
-pub stands_at : (message : Message) (x : ℕ) → x < parts_for (length message.places) →
-    slice_get (parts_of message) x ≡ Some (part_at message x)
-stands_at message x within =
-    slice_get-get_or (parts_of message) x (part_at message x) (omega (arith, as_many message))
-    ∙ ap (λ (part : EcmPart). Some part) (part_there message x (part_at message x) within)
+pub stands_at : (message : Message) (x : ℕ) → x < part_count_of message → slice_get (parts_of message) x ≡ Some (part_at message x)
+unfolding parts_of
+stands_at message x within = Pieces.stands_at (part_at message) (part_count_of message) x within
 
--- what stands at a number has it
+-- what stands at a number
+made_at : (message : Message) (x : ℕ) (part : EcmPart) → slice_get (parts_of message) x ≡ Some part → part ≡ part_at message x
+unfolding parts_of
+made_at message x part there = Pieces.made_at (part_at message) (part_count_of message) x part there
+
+-- has it
 pub number_is : (message : Message) (x : ℕ) (part : EcmPart) → slice_get (parts_of message) x ≡ Some part → part.part ≡ x
 unfolding part_at
-number_is message x part there =
-    let within : x < parts_for (length message.places) =
-    omega (arith, slice_get_within (parts_of message) x part there, as_many message) in
-    ap (λ (p : EcmPart). p.part) (sym (get_or_from_slice_get (parts_of message) x part (part_at message x) there)
-    ∙ part_there message x (part_at message x) within)
+number_is message x part there = ap (λ (p : EcmPart). p.part) (made_at message x part there)
 
--- how many positions a part has
-long_at : (places : List Place) (x : ℕ) → length (places_at places x) ≡ min 13 (length places - 13 * x)
-long_at places x = length-take 13 (drop (13 * x) places) ∙ ap (λ (n : ℕ). min 13 n) (length-drop (13 * x) places)
+-- two parts of the message say the same of it
+same_at : (message : Message) (x y : ℕ) → header_of (part_at message x) ≡ header_of (part_at message y)
+unfolding part_at
+same_at message x y = refl
 
--- a position of a part is one of the message
-one_of : (places : List Place) (x k : ℕ) (d : Place) → k < 13 → get_or (places_at places x) k d ≡ get_or places (13 * x + k) d
-one_of places x k d few = get_or-take 13 (drop (13 * x) places) k d few ∙ get_or-drop (13 * x) places k d
+pub two_say_the_same : (message : Message) (x y : ℕ) (a b : EcmPart) → slice_get (parts_of message) x ≡ Some a →
+    slice_get (parts_of message) y ≡ Some b → header_of a ≡ header_of b
+two_say_the_same message x y a b p q =
+    ap header_of (made_at message x a p) ∙ (same_at message x y ∙ sym (ap header_of (made_at message y b q)))
 
--- position k stands in part k / 13, at place k mod 13
-pub place_stands : (message : Message) (k : ℕ) → k < length message.places →
-    slice_get (listed (part_at message (k / 13))) (k % 13) ≡ slice_get message.places k
-place_stands message k within =
-    let places : List Place = message.places in
-    let long = long_at places (k / 13) in
-    let place : 13 * (k / 13) + k % 13 ≡ k = omega arith in
-    ap (λ (l : List Place). slice_get l (k % 13)) (listed_at message (k / 13))
-    ∙ (slice_get-get_or (places_at places (k / 13)) (k % 13) nothing (omega arith)
-    ∙ (ap (λ (p : Place). Some p) (one_of places (k / 13) (k % 13) nothing (omega arith) ∙ ap (λ (n : ℕ). get_or places n nothing) place)
-    ∙ sym (slice_get-get_or places k nothing within)))
-
--- what each position of the message is, each of a part is
-each_place : (P : Place → Type 0) (places : List Place) (x : ℕ) → All P places → All P (places_at places x)
-each_place P places x each k d below =
-    let long = long_at places x in
-    rw (one_of places x k d (omega arith)) (each (13 * x + k) d (omega arith))
-
--- a stretch of ascending PIDs ascends
-stretch_ascends : (places : List Place) (x : ℕ) → AreAscending places → AreAscending (places_at places x)
-stretch_ascends places x up i j d before below =
-    let long = long_at places x in
-    rw (one_of places x i d (omega arith), one_of places x j d (omega arith)) (up (13 * x + i) (13 * x + j) d (omega arith) (omega arith))
+-- position k stands in the part of its quotient by the number of positions in a part, at the remainder
+pub place_stands : (message : Message) (q r k : ℕ) → positions_for message.version * q + r ≡ k → r < positions_for message.version →
+    k < length message.places → slice_get (listed (part_at message q)) r ≡ slice_get message.places k
+place_stands message q r k place few within =
+    ap (λ (l : List Place). slice_get l r) (listed_at message q)
+    ∙ Pieces.item_stands (positions_for message.version) q r k message.places nothing place few within
 
 -- the counts of a part are good
-counted_at : (places : List Place) (x : ℕ) → x < parts_for (length places) →
-    IsCounted x (parts_for (length places) - 1) (length (places_at places x))
-counted_at places x within =
-    let long = long_at places x in
+counted_at : (message : Message) (x : ℕ) → x < part_count_of message →
+    IsCounted (positions_for message.version) x (part_count_of message - 1) (length (places_at message x))
+counted_at message x within =
+    let n : ℕ = positions_for message.version in
+    let long = long_piece n message.places x in
+    let full = full_or_last n (length message.places) x (some_fit message.version) within in
+    let some = some_or_first n (length message.places) x (some_fit message.version) within in
+    let least = some_fit message.version in
     record {
       few = omega arith;
-      full = elim (cases_lt x (parts_for (length places) - 1)) [ inl h ↦ inr (omega arith) | inr h ↦ inl (omega arith) ];
-      some = elim (cases_lt 0 x) [ inl h ↦ inr (omega arith) | inr h ↦ inl (omega arith) ];
+      full = elim full [ inl h ↦ inl h | inr h ↦ inr (omega arith) ];
+      some = elim some [ inl h ↦ inl h | inr h ↦ inr (omega arith) ];
     }
 
--- its number is none above the last
-number_within : (message : Message) (x : ℕ) → x < parts_for (length message.places) →
-    (part_at message x).part ≤ (part_at message x).last_part
-unfolding part_at
-number_within message x within = omega arith
+-- what a part says of its version, its number and its rest
+record AreRight (part : EcmPart) : Type 0 where
+  version : IsVersion part.version
+  since : IsSince part.version part.number part.since
+  numbered : part.part ≤ part.last_part
+  counted : IsCounted (positions_for part.version) part.part part.last_part part.count
+  rest : drop part.count part.positions ≡ replicate (13 - part.count) nothing
 
--- its count is good
-counted_in : (message : Message) (x : ℕ) → x < parts_for (length message.places) →
-    IsCounted (part_at message x).part (part_at message x).last_part (part_at message x).count
+are_right : (message : Message) (x : ℕ) → x < part_count_of message → IsVersion message.version →
+    IsSince message.version message.number message.since → AreRight (part_at message x)
 unfolding part_at
-counted_in message x within = counted_at message.places x within
-
--- nothing stands past its positions
-rest_at : (message : Message) (x : ℕ) →
-    drop (part_at message x).count (part_at message x).positions ≡ replicate (13 - (part_at message x).count) nothing
-unfolding part_at
-rest_at message x = drop_at (places_at message.places x) _ _ refl
-
--- a part of the message is one that this project writes
-pub is_ecm : (message : Message) (x : ℕ) → x < parts_for (length message.places) → ArePlaces message.places → AreAscending message.places →
-    All (λ place. place.position < 2 ^ 48) message.places → IsEcm (part_at message x)
-is_ecm message x within places up positions = record {
-  numbered = number_within message x within;
-  counted = counted_in message x within;
-  places = rw (listed_at message x) (each_place IsPlace message.places x places);
-  ascending = rw (listed_at message x) (stretch_ascends message.places x up);
-  positions = rw (listed_at message x) (each_place (λ place. place.position < 2 ^ 48) message.places x positions);
-  rest = rest_at message x;
+are_right message x within version since = record {
+  version = version;
+  since = since;
+  numbered = omega arith;
+  counted = counted_at message x within;
+  rest = filled_rest 13 nothing (places_at message x);
 }
 
--- and it fits its fields
-fits_at : (message : Message) (x : ℕ) → x < parts_for (length message.places) → IsMessage message → Fits (part_at message x)
+-- a part of the message is one that this project writes
+pub is_ecm : (message : Message) (x : ℕ) → x < part_count_of message → IsVersion message.version →
+    IsSince message.version message.number message.since → ArePositioned message.places → AreAscending message.places →
+    AreShort message.places → IsEcm (part_at message x)
+is_ecm message x within version since places up positions =
+    let n : ℕ = positions_for message.version in
+    let parts = are_right message x within version since in
+    record {
+      version = parts.version;
+      since = parts.since;
+      numbered = parts.numbered;
+      counted = parts.counted;
+      places = rw (listed_at message x) (each_of_piece IsPositioned n message.places x places);
+      ascending = rw (listed_at message x) (pairs_of_piece (λ (a b : Place). a.pid < b.pid) n message.places x up);
+      positions = rw (listed_at message x) (each_of_piece (λ (place : Place). place.position < 2 ^ 48) n message.places x positions);
+      rest = parts.rest;
+    }
+
+-- how many parts a message has at most
+few_parts : (version places : ℕ) → places ≤ 256 → parts_for version places ≤ 22
+unfolding pieces_for positions_for
+few_parts version places few = elim (cases_eq version 2) [
+  | inl e ↦ rw (eq-eqb version 2 e) (omega arith)
+  | inr g ↦ rw (ne_eqb version 2 g) (omega arith)
+]
+
+-- and each fits its fields
+fits_at : (message : Message) (x : ℕ) → x < part_count_of message → IsMessage message → Fits (part_at message x)
 unfolding part_at
 fits_at message x within is =
-    let few = is.count in
-    let long = long_at message.places x in
-    let places : List Place = places_at message.places x in
+    let few = few_parts message.version (length message.places) is.count in
+    let long = long_piece (positions_for message.version) message.places x in
+    let most = few_positions message.version in
+    let before : message.since ≤ message.number = elim is.since.before [ inl h ↦ omega arith | inr h ↦ omega (arith, h.0) ] in
+    let number = is.number in
     record {
-      front = record { number = is.number; period = is.period; word = is.word; clear = is.clear; wrapped = is.wrapped; check = is.check };
+      head = record {
+        number = is.number;
+        period = is.period;
+        word = is.word;
+        clear = is.clear;
+        since = omega arith;
+        wrapped = is.wrapped;
+        check = is.check;
+      };
       part_fits = omega arith;
       last_part = omega arith;
-      positions = length-append places (replicate (13 - length places) nothing)
-          ∙ (ap (λ (n : ℕ). length places + n) (length-replicate (13 - length places) nothing) ∙ omega arith);
+      positions = filled_length 13 nothing (places_at message x) (omega arith);
     }
 
 -- each part of the message is one that this project writes, and fits its fields
 pub all_are_ecms : (message : Message) → IsMessage message → All (λ part. IsEcm part × Fits part) (parts_of message)
 all_are_ecms message is =
     each_part (λ part. IsEcm part × Fits part) message
-    (λ x within. (is_ecm message x within is.places is.ascending is.positions, fits_at message x within is))
+    (λ x within. (is_ecm message x within is.version is.since is.places is.ascending is.positions, fits_at message x within is))
 
 -- each says the same of the message
 pub all_are_of : (message : Message) → All (IsOfMessage message) (parts_of message)
 unfolding part_at
 all_are_of message =
     each_part (IsOfMessage message) message (λ x within. record {
+      version = refl;
       number = refl;
       period = refl;
       word = refl;
       clear = refl;
+      since = refl;
       closing = refl;
       wrapped = refl;
       check = refl;
       last_part = refl;
     })
-
--- a part of the message, by its fields
-pub made_is : (message : Message) (x last : ℕ) (own positions : List Place) → last ≡ parts_for (length message.places) - 1 →
-    own ≡ places_at message.places x → positions ≡ padded own → made message x last own positions ≡ part_at message x
-unfolding part_at
-made_is message x last own positions p q r = rw (r, q, p) refl

@@ -1,36 +1,25 @@
 -- What is read from a section's body spells it.
-use Rattle.std.proofs.Common.{◌≡◌, ℕ, zero, suc, ◌+◌, ◌*◌, ◌<◌, ◌≤◌, List, [], ◌∷◌, ◌++◌, length, take, drop, take-add, drop-drop, length-drop, length-take-le, get_or-drop, get_or-take, get_or, append_assoc, append-nil, inl, inr, arith, refl, sym, ap, ◌∙◌}
-use Rattle.std.specs.Prelude.{◌==◌, slice_index, slice_range}
+use Rattle.std.proofs.Common.{◌≡◌, inl, inr, ℕ, ◌+◌, ◌-◌, ◌*◌, ◌<◌, ◌≤◌, List, [], ◌∷◌, ◌++◌, length, take, drop, get_or, take-add, drop-drop, length-drop, append_assoc, eq-eqb, arith, refl, sym, ap, ◌∙◌}
+use Rattle.std.specs.Prelude.{◌==◌, slice_index, slice_range, flat_map}
 use Rattle.std.specs.Int.{w16, w32, w64, to_be_bytes}
-use Rattle.std.proofs.lemmas.Bool.{cases_lt, cases_eq}
-use Rattle.std.proofs.lemmas.List.{take_more, drop_more, take_all, get_or_past, length-take, take-append-drop, nil_from_length}
+use Rattle.std.proofs.lemmas.Bool.{cases_eq, ne_eqb}
+use Rattle.std.proofs.lemmas.List.{drop_more, take_all, take-append-drop}
 use Rattle.sd_bits.specs.Bits.{field}
-use Rattle.sd_message.proofs.Numbers.{IsBytes, word_spelled, half_spelled}
-use Rattle.sd_ecm.specs.Spelled.{listed, place_bytes, places_bytes, flags_for, front_bytes, ecm_body}
-use Rattle.sd_ecm.specs.Fields.{place_of, places_in, flags_of, ecm_in}
+use Rattle.sd_message.proofs.Numbers.{IsBytes, bytes_drop, word_spelled, half_spelled, long_spelled}
+use Rattle.sd_message.proofs.Items as Items
+use Rattle.sd_message.proofs.Items.{items_spelled}
+use Rattle.sd_ecm.specs.Versions.{flags_at}
+use Rattle.sd_ecm.specs.Spelled.{listed, place_bytes, flags_for, numbers_bytes, since_bytes, word_bytes, head_bytes, ecm_body}
+use Rattle.sd_ecm.specs.Fields.{place_of, from_flags, flags_of, since_in, ecm_in}
 use Rattle.sd_ecm.specs.declared.part.Place.{Place}
-use Rattle.sd_ecm.proofs.Numbers.{long_spelled}
+use Rattle.sd_ecm.proofs.Versions.{flags_after}
 use Rattle.sd_ecm.proofs.Judging.{listed_in}
 
--- one position after others
-places_more : (xs : List Place) (x : Place) → places_bytes (xs ++ x ∷ []) ≡ places_bytes xs ++ place_bytes x
-unfolding places_bytes
-places_more [] x = append-nil (place_bytes x)
-places_more (y ∷ ys) x =
-    ap (λ (l : List ℕ). place_bytes y ++ l) (places_more ys x) ∙ sym (append_assoc (place_bytes y) (places_bytes ys) (place_bytes x))
-
--- no position is put
-pub none_put : (front : List ℕ) (places : List Place) → front ≡ front ++ places_bytes (take 0 places)
-unfolding places_bytes
-none_put front places = sym (append-nil front)
-
--- one more is
-pub one_put : (front body : List ℕ) (places : List Place) (k : ℕ) (d : Place) → k < length places →
-    body ≡ front ++ places_bytes (take k places) → body ++ place_bytes (get_or places k d) ≡ front ++ places_bytes (take (k + 1) places)
-one_put front body places k d within is =
-    ap (λ (l : List ℕ). l ++ place_bytes (get_or places k d)) is
-    ∙ (append_assoc front (places_bytes (take k places)) (place_bytes (get_or places k d))
-    ∙ ap (λ (l : List ℕ). front ++ l) (sym (places_more (take k places) (get_or places k d)) ∙ ap places_bytes (sym (take_more places k d within))))
+-- one more position is put
+pub one_put : (head body : List ℕ) (places : List Place) (k : ℕ) (d : Place) → k < length places →
+    body ≡ head ++ flat_map place_bytes (take k places) →
+    body ++ place_bytes (get_or places k d) ≡ head ++ flat_map place_bytes (take (k + 1) places)
+one_put head body places k d within is = Items.one_put place_bytes head body places k d within is
 
 -- a position is spelled as it was read
 place_spelled : (bytes : List ℕ) → IsBytes bytes → length bytes ≡ 8 → place_bytes (place_of bytes) ≡ bytes
@@ -42,25 +31,6 @@ place_spelled bytes each long =
     ap (λ (l : List ℕ). l ++ drop 2 (to_be_bytes w64 (field bytes 16 48))) pid
     ∙ (ap (λ (l : List ℕ). take 2 bytes ++ l) (position ∙ after) ∙ take-append-drop 2 bytes)
 
--- the bytes of a part are bytes
-bytes_drop : (n : ℕ) (bytes : List ℕ) → IsBytes bytes → IsBytes (drop n bytes)
-bytes_drop n bytes each i = omega (arith, get_or-drop n bytes i 0, each (n + i))
-
-bytes_take : (n : ℕ) (bytes : List ℕ) → IsBytes bytes → IsBytes (take n bytes)
-bytes_take n bytes each i = elim (cases_lt i n) [
-  | inl h ↦ omega (arith, get_or-take n bytes i 0 h, each i)
-  | inr g ↦ omega (arith, get_or_past (take n bytes) i 0 (omega (arith, length-take n bytes)))
-]
-
--- positions are spelled as they were read
-places_spelled : (n : ℕ) (bytes : List ℕ) → IsBytes bytes → length bytes ≡ 8 * n → places_bytes (places_in n bytes) ≡ bytes
-unfolding places_bytes places_in
-places_spelled zero bytes each long = sym (nil_from_length bytes (omega arith))
-places_spelled (suc n) bytes each long =
-    let first = place_spelled (take 8 bytes) (bytes_take 8 bytes each) (length-take-le 8 bytes (omega arith)) in
-    let rest = places_spelled n (drop 8 bytes) (bytes_drop 8 bytes each) (omega (arith, length-drop 8 bytes)) in
-    rw (first, rest) (take-append-drop 8 bytes)
-
 -- so are the flags
 flags_spelled : (flags : ℕ) → flags ≤ 1 → flags_for (flags == 1) ≡ flags
 flags_spelled flags few = elim (cases_eq flags 1) [
@@ -68,45 +38,92 @@ flags_spelled flags few = elim (cases_eq flags 1) [
   | inr g ↦ let none : flags ≡ 0 = omega arith in rw none refl
 ]
 
--- pieces that are the same one by one
-same_six : (a a' b b' c c' d d' e e' k l m m' : List ℕ) → a ≡ a' → b ≡ b' → c ≡ c' → d ≡ d' → e ≡ e' → m ≡ m' →
-    a ++ (b ++ (c ++ (d ++ (e ++ (k ++ (l ++ m)))))) ≡ a' ++ (b' ++ (c' ++ (d' ++ (e' ++ (k ++ (l ++ m'))))))
-same_six a a' b b' c c' d d' e e' k l m m' p q r s t u = rw (p, q, r, s, t, u) refl
-
 -- the first bytes of a list in pieces
 piece : (m n : ℕ) (xs : List ℕ) (p : ℕ) → take (m + n) (drop p xs) ≡ take m (drop p xs) ++ take n (drop (p + m) xs)
 piece m n xs p = take-add m n (drop p xs) ∙ ap (λ (l : List ℕ). take m (drop p xs) ++ take n l) (drop-drop m p xs)
 
--- so is the body before its positions
-front_spelled : (number last : ℕ) (body : List ℕ) → IsBytes body → 66 ≤ length body → flags_of body ≤ 1 →
-    front_bytes (ecm_in number last body) ≡ take 66 body
-unfolding front_bytes ecm_in
-front_spelled number last body each long few =
+-- pieces that are the same one by one
+same_four : (a a' b b' c c' d d' : List ℕ) → a ≡ a' → b ≡ b' → c ≡ c' → d ≡ d' → a ++ (b ++ (c ++ d)) ≡ a' ++ (b' ++ (c' ++ d'))
+same_four a a' b b' c c' d d' p q r s = rw (p, q, r, s) refl
+
+-- so are the numbers with which a body begins
+numbers_spelled : (v number last : ℕ) (body : List ℕ) → IsBytes body → 16 ≤ length body →
+    numbers_bytes (ecm_in v number last body) ≡ take 16 body
+unfolding numbers_bytes ecm_in
+numbers_spelled v number last body each long =
     let ecm : to_be_bytes w32 (field body 0 32) ≡ take 4 body = word_spelled body 0 each (omega arith) in
     let period : to_be_bytes w32 (field body 32 32) ≡ take 4 (drop 4 body) = word_spelled body 4 each (omega arith) in
     let word : to_be_bytes w32 (field body 64 32) ≡ take 4 (drop 8 body) = word_spelled body 8 each (omega arith) in
     let clear : to_be_bytes w32 (field body 96 32) ≡ take 4 (drop 12 body) = word_spelled body 12 each (omega arith) in
-    let flags : flags_for (flags_of body == 1) ∷ [] ≡ take 1 (drop 16 body) =
-    ap (λ (n : ℕ). n ∷ []) (flags_spelled (flags_of body) few) ∙ sym (ap (take 1) (drop_more body 16 0 (omega arith))) in
-    let count : slice_index body 65 ∷ [] ≡ take 1 (drop 65 body) = sym (ap (take 1) (drop_more body 65 0 (omega arith))) in
-    same_six _ _ _ _ _ _ _ _ _ _ (slice_range body 17 49) (slice_range body 49 65) _ _ ecm period word clear flags count
-    ∙ sym (piece 4 62 body 0
-    ∙ ap (λ (l : List ℕ). take 4 body ++ l) (piece 4 58 body 4
-    ∙ ap (λ (l : List ℕ). take 4 (drop 4 body) ++ l) (piece 4 54 body 8
-    ∙ ap (λ (l : List ℕ). take 4 (drop 8 body) ++ l) (piece 4 50 body 12
-    ∙ ap (λ (l : List ℕ). take 4 (drop 12 body) ++ l) (piece 1 49 body 16
-    ∙ ap (λ (l : List ℕ). take 1 (drop 16 body) ++ l) (piece 32 17 body 17
-    ∙ ap (λ (l : List ℕ). take 32 (drop 17 body) ++ l) (piece 16 1 body 49)))))))
+    same_four _ _ _ _ _ _ _ _ ecm period word clear
+    ∙ sym (piece 4 12 body 0
+    ∙ ap (λ (l : List ℕ). take 4 body ++ l) (piece 4 8 body 4
+    ∙ ap (λ (l : List ℕ). take 4 (drop 4 body) ++ l) (piece 4 4 body 8)))
+
+-- so is `since`, where it is written
+since_spelled : (v number : ℕ) (body : List ℕ) → IsBytes body → flags_at v ≤ length body →
+    since_bytes v (since_in v number body) ≡ take (flags_at v - 16) (drop 16 body)
+unfolding since_bytes since_in flags_at
+since_spelled v number body each long = elim (cases_eq v 2) [
+  | inl e ↦
+      let long_too : 20 ≤ length body = rw (eq-eqb v 2 e) at long in
+      rw (eq-eqb v 2 e) (word_spelled body 16 each long_too)
+  | inr g ↦ rw (ne_eqb v 2 g) refl
+]
+
+-- so is what stands between them and the positions
+word_again : (v number last : ℕ) (body : List ℕ) → 50 ≤ length (from_flags v body) → flags_of v body ≤ 1 →
+    word_bytes (ecm_in v number last body) ≡ take 50 (from_flags v body)
+unfolding word_bytes ecm_in
+word_again v number last body long few =
+    let tail : List ℕ = from_flags v body in
+    let flags : flags_for (flags_of v body == 1) ∷ [] ≡ take 1 tail =
+    ap (λ (n : ℕ). n ∷ []) (flags_spelled (flags_of v body) few) ∙ sym (ap (take 1) (drop_more tail 0 0 (omega arith))) in
+    let count : slice_index tail 49 ∷ [] ≡ take 1 (drop 49 tail) = sym (ap (take 1) (drop_more tail 49 0 (omega arith))) in
+    same_four _ _ (slice_range tail 1 33) _ (slice_range tail 33 49) _ _ _ flags refl refl count
+    ∙ sym (piece 1 49 tail 0
+    ∙ ap (λ (l : List ℕ). take 1 tail ++ l) (piece 32 17 tail 1
+    ∙ ap (λ (l : List ℕ). take 32 (drop 1 tail) ++ l) (piece 16 1 tail 33)))
+
+since_here : (v number last : ℕ) (body : List ℕ) → IsBytes body → flags_at v ≤ length body →
+    since_bytes (ecm_in v number last body).version (ecm_in v number last body).since ≡ take (flags_at v - 16) (drop 16 body)
+unfolding ecm_in
+since_here v number last body each long = since_spelled v (field body 0 32) body each long
+
+same_three : (a a' b b' c c' : List ℕ) → a ≡ a' → b ≡ b' → c ≡ c' → a ++ (b ++ c) ≡ a' ++ (b' ++ c')
+same_three a a' b b' c c' p q r = rw (p, q, r) refl
+
+-- the three pieces of a list
+three : (a b : ℕ) (xs : List ℕ) → a ≤ b → take a xs ++ (take (b - a) (drop a xs) ++ drop b xs) ≡ xs
+three a b xs low =
+    let e : a + (b - a) ≡ b = omega arith in
+    ap (λ (l : List ℕ). take a xs ++ (take (b - a) (drop a xs) ++ l)) (ap (λ (n : ℕ). drop n xs) (sym e) ∙ sym (drop-drop (b - a) a xs))
+    ∙ (ap (λ (l : List ℕ). take a xs ++ l) (take-append-drop (b - a) (drop a xs)) ∙ take-append-drop a xs)
+
+-- the body in its pieces
+pub body_is : (numbers since word places : List ℕ) →
+    (numbers ++ (since ++ word)) ++ places ≡ numbers ++ (since ++ (word ++ places))
+body_is numbers since word places =
+    append_assoc numbers (since ++ word) places ∙ ap (λ (l : List ℕ). numbers ++ l) (append_assoc since word places)
 
 -- so is the whole body
-pub body_spelled : (number last : ℕ) (body : List ℕ) → IsBytes body → length body ≡ 66 + 8 * (ecm_in number last body).count →
-    flags_of body ≤ 1 →
-    ecm_body (ecm_in number last body) ≡ body
-unfolding ecm_body
-body_spelled number last body each long few =
-    let part = ecm_in number last body in
-    let places : places_bytes (listed part) ≡ drop 66 body =
-    ap places_bytes (listed_in number last body)
-    ∙ places_spelled part.count (drop 66 body) (bytes_drop 66 body each) (omega (arith, length-drop 66 body)) in
-    ap (λ (l : List ℕ). l ++ places_bytes (listed part)) (front_spelled number last body each (omega arith) few)
-    ∙ (ap (λ (l : List ℕ). take 66 body ++ l) places ∙ take-append-drop 66 body)
+pub body_spelled : (v number last : ℕ) (body : List ℕ) → IsBytes body →
+    length body ≡ flags_at v + 50 + 8 * (ecm_in v number last body).count → flags_of v body ≤ 1 →
+    ecm_body (ecm_in v number last body) ≡ body
+unfolding ecm_body head_bytes
+body_spelled v number last body each long few =
+    let part = ecm_in v number last body in
+    let tail : List ℕ = from_flags v body in
+    let ps : List ℕ = flat_map place_bytes (listed part) in
+    let low : 16 ≤ flags_at v = flags_after v in
+    let long_tail : length tail ≡ 50 + 8 * part.count = omega (arith, length-drop (flags_at v) body) in
+    let places : ps ≡ drop 50 tail =
+    ap (flat_map place_bytes) (listed_in v number last body)
+    ∙ items_spelled place_of place_bytes 8 part.count (drop 50 tail) place_spelled (bytes_drop 50 tail (bytes_drop (flags_at v) body each))
+    (omega (arith, length-drop 50 tail)) in
+    let word : word_bytes part ++ ps ≡ tail =
+    ap (λ (l : List ℕ). l ++ ps) (word_again v number last body (omega arith) few)
+    ∙ (ap (λ (l : List ℕ). take 50 tail ++ l) places ∙ take-append-drop 50 tail) in
+    body_is (numbers_bytes part) (since_bytes part.version part.since) (word_bytes part) ps
+    ∙ (same_three _ _ _ _ _ _ (numbers_spelled v number last body each (omega arith)) (since_here v number last body each (omega arith)) word
+    ∙ three 16 (flags_at v) body low)

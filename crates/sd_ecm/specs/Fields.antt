@@ -1,22 +1,34 @@
 -- Parts of entitlement control messages as they are read.
-use Rattle.std.specs.Prelude.{◌≡◌, ℕ, zero, suc, ◌+◌, ◌-◌, ◌*◌, ◌%◌, ◌≤◌, ◌⊎◌, ◌==◌, List, [], ◌∷◌, ◌++◌, length, take, drop, slice_index, slice_range, replicate}
+use Rattle.std.specs.Prelude.{◌≡◌, ℕ, ◌+◌, ◌-◌, ◌*◌, ◌%◌, ◌≤◌, ◌⊎◌, ◌==◌, if◌then◌else◌, List, length, drop, slice_index, slice_range}
 use Rattle.sd_bits.specs.Bits.{field}
-use Rattle.sd_section.specs.Header.{table_id_of, section_length_of, extension_of, number_of, last_number_of, body_of}
+use Rattle.sd_section.specs.Header.{least_length, table_id_of, section_length_of, extension_of, number_of, last_number_of, body_of}
 use Rattle.sd_message.specs.Framed.{HasSection, section_of}
+use Rattle.sd_message.specs.Items.{items_in}
+use Rattle.sd_message.specs.Pieces.{filled}
+use Rattle.sd_ecm.specs.Versions.{IsBefore, positions_for, flags_at, head_length, even_table_id, version_for}
 use Rattle.sd_ecm.specs.Spelled.{listed}
-use Rattle.sd_ecm.specs.Form.{IsCounted, ArePlaces, AreAscending, nothing}
+use Rattle.sd_ecm.specs.Form.{IsCounted, ArePositioned, AreAscending, nothing}
 use Rattle.sd_ecm.specs.declared.part.Place.{Place}
 use Rattle.sd_ecm.specs.declared.part.EcmPart.{EcmPart}
 use Rattle.sd_ecm.specs.declared.fault.EcmFault.{EcmFault}
 use Rattle.sd_ecm.specs.declared.fault.EcmFault.TheVariants.{Count, Order, Pid, Mixed, Back}
+use Rattle.sd_ecm.specs.declared.format.TheConstants.{POSITIONS, WRAPPED_AT, CHECK_AT, COUNT_AT, PLACES_AT, PLACE_BYTES}
+
+-- the version of a section, if it is a part of a control message [this project, docs/FORMATS.md, Messages]
+abbrev pub version_of : List ℕ → ℕ
+version_of section = version_for (table_id_of section)
+
+-- the table_id is the version's for an even or for an odd control word [this project, docs/FORMATS.md, Messages]
+abbrev pub IsTableOf : ℕ → ℕ → Type 0
+IsTableOf version table_id = (table_id ≡ even_table_id version) ⊎ (table_id ≡ even_table_id version + 1)
 
 -- the section is a part of a control message, and has room for all that stands before the positions
 -- [this project, docs/FORMATS.md, Messages]
 pub record IsEcmSection (section : List ℕ) : Type 0 where
-  pub table_id : (table_id_of section ≡ 0x80) ⊎ (table_id_of section ≡ 0x81)
+  pub table_id : IsTableOf (version_of section) (table_id_of section)
   pub extension : extension_of section ≡ 0
   pub numbered : number_of section ≤ last_number_of section
-  pub room : 75 ≤ section_length_of section
+  pub room : head_length (version_of section) + least_length ≤ section_length_of section
 
 -- the packet begins with such a section
 pub record IsEcmPacket (packet : List ℕ) : Type 0 where
@@ -28,41 +40,52 @@ unfoldable pub place_of : List ℕ → Place
 place_of bytes = record { pid = field bytes 0 16; position = field bytes 16 48 }
 
 -- so many positions, one after the other
-unfoldable pub places_in : ℕ → List ℕ → List Place
-places_in zero bytes = []
-places_in (suc n) bytes = place_of (take 8 bytes) ∷ places_in n (drop 8 bytes)
+abbrev pub places_in : ℕ → List ℕ → List Place
+places_in n bytes = items_in place_of PLACE_BYTES n bytes
 
 -- filled up to 13
 abbrev pub padded : List Place → List Place
-padded places = places ++ replicate (13 - length places) nothing
+padded places = filled POSITIONS nothing places
+
+-- what stands in a body from the flags on
+abbrev pub from_flags : ℕ → List ℕ → List ℕ
+from_flags version body = drop (flags_at version) body
 
 -- the flags in a body [this project, docs/FORMATS.md, Messages]
-abbrev pub flags_of : List ℕ → ℕ
-flags_of body = slice_index body 16
+abbrev pub flags_of : ℕ → List ℕ → ℕ
+flags_of version body = slice_index (from_flags version body) 0
 
--- what the section of these numbers and this body says [this project, docs/FORMATS.md, Messages]
-unfoldable pub ecm_in : ℕ → ℕ → List ℕ → EcmPart
-ecm_in number last_number body = record {
+-- `since` in a body: version 1 doesn't write it [this project, docs/FORMATS.md, Messages]
+unfoldable pub since_in : ℕ → ℕ → List ℕ → ℕ
+since_in version number body = if version == 2 then field body 128 32 else number - 1
+
+-- what the section of this version, these numbers and this body says [this project, docs/FORMATS.md, Messages]
+unfoldable pub ecm_in : ℕ → ℕ → ℕ → List ℕ → EcmPart
+ecm_in version number last_number body = record {
+  version = version;
   number = field body 0 32;
   period = field body 32 32;
   word = field body 64 32;
   clear = field body 96 32;
-  closing = flags_of body == 1;
+  since = since_in version (field body 0 32) body;
+  closing = flags_of version body == 1;
   part = number;
   last_part = last_number;
-  wrapped = slice_range body 17 49;
-  check = slice_range body 49 65;
-  count = slice_index body 65;
-  positions = padded (places_in (slice_index body 65) (drop 66 body));
+  wrapped = slice_range (from_flags version body) WRAPPED_AT CHECK_AT;
+  check = slice_range (from_flags version body) CHECK_AT COUNT_AT;
+  count = slice_index (from_flags version body) COUNT_AT;
+  positions = padded (places_in (slice_index (from_flags version body) COUNT_AT) (drop PLACES_AT (from_flags version body)));
 }
 
 -- the same with other positions
 abbrev pub with_places : EcmPart → List Place → EcmPart
 with_places part places = record {
+  version = part.version;
   number = part.number;
   period = part.period;
   word = part.word;
   clear = part.clear;
+  since = part.since;
   closing = part.closing;
   part = part.part;
   last_part = part.last_part;
@@ -74,32 +97,36 @@ with_places part places = record {
 
 -- what a section says
 abbrev pub ecm_of : List ℕ → EcmPart
-ecm_of section = ecm_in (number_of section) (last_number_of section) (body_of section)
+ecm_of section = ecm_in (version_of section) (number_of section) (last_number_of section) (body_of section)
 
--- the count is what the part is to have and what the length of the body comes to: section_length is 75 and 8 for each position
--- [this project, docs/FORMATS.md, Messages]
+-- the count is what the part is to have and what the length of the body comes to [this project, docs/FORMATS.md, Messages]
 abbrev pub HasCount : ℕ → EcmPart → Type 0
-HasCount length part = (length ≡ 66 + 8 * part.count) × IsCounted part.part part.last_part part.count
+HasCount length part =
+    (length ≡ head_length part.version + PLACE_BYTES * part.count)
+    × IsCounted (positions_for part.version) part.part part.last_part part.count
 
--- the flags are 0 or 1, and the table_id is odd where the number of the control word is [this project, docs/FORMATS.md, Messages]
-pub record IsMatched (table_id flags word : ℕ) : Type 0 where
+-- the flags are 0 or 1, the table_id is odd where the number of the control word is, and `since` is below the number of the message,
+-- unless both are 0 [this project, docs/FORMATS.md, Messages]
+pub record IsMatched (table_id flags : ℕ) (part : EcmPart) : Type 0 where
   pub flags_are : flags ≤ 1
-  pub parity : table_id % 2 ≡ word % 2
+  pub parity : table_id % 2 ≡ part.word % 2
+  pub since : IsBefore part.since part.number
 
 -- no rule is broken
 pub record IsGoodIn (table_id : ℕ) (body : List ℕ) (part : EcmPart) : Type 0 where
   pub has_count : HasCount (length body) part
-  pub places : ArePlaces (listed part)
+  pub places : ArePositioned (listed part)
   pub ascending : AreAscending (listed part)
-  pub matched : IsMatched table_id (flags_of body) part.word
+  pub matched : IsMatched table_id (flags_of part.version body) part
 
 -- the rule that a body under this table_id, and what it says, break first [this project, docs/FORMATS.md, Messages]
 abbrev pub BreaksIn : ℕ → List ℕ → EcmPart → EcmFault → Type 0
 BreaksIn table_id body part Count = ¬ HasCount (length body) part
-BreaksIn table_id body part Pid = HasCount (length body) part × (¬ ArePlaces (listed part))
-BreaksIn table_id body part Order = HasCount (length body) part × (ArePlaces (listed part) × (¬ AreAscending (listed part)))
+BreaksIn table_id body part Pid = HasCount (length body) part × (¬ ArePositioned (listed part))
+BreaksIn table_id body part Order = HasCount (length body) part × (ArePositioned (listed part) × (¬ AreAscending (listed part)))
 BreaksIn table_id body part Mixed =
-    HasCount (length body) part × (ArePlaces (listed part) × (AreAscending (listed part) × (¬ IsMatched table_id (flags_of body) part.word)))
+    HasCount (length body) part × (ArePositioned (listed part) × (AreAscending (listed part)
+    × (¬ IsMatched table_id (flags_of part.version body) part)))
 BreaksIn table_id body part Back = ⊥
 
 -- and that a section breaks first

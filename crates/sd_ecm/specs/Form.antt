@@ -1,27 +1,34 @@
 -- Which parts are ones that a control message has.
 use Rattle.std.specs.Prelude.{◌≡◌, ℕ, ◌-◌, ◌^◌, ◌<◌, ◌≤◌, ◌⊎◌, true, List, length, drop, replicate, All, AllPairs}
 use Rattle.sd_packet.specs.Positions.{is_positional}
+use Rattle.sd_ecm.specs.Versions.{IsVersion, IsSince, positions_for}
 use Rattle.sd_ecm.specs.Spelled.{listed}
 use Rattle.sd_ecm.specs.declared.part.Place.{Place}
 use Rattle.sd_ecm.specs.declared.part.EcmPart.{EcmPart}
+use Rattle.sd_ecm.specs.declared.format.TheConstants.{POSITIONS}
 
--- each part has 13 positions but the last, which has 1 to 13, or none where it is part 0 [this project, docs/FORMATS.md, Messages]
-pub record IsCounted (part last count : ℕ) : Type 0 where
-  pub few : count ≤ 13
-  pub full : (part ≡ last) ⊎ (count ≡ 13)
+-- each part has as many positions as fit but the last, which has one or more, or none where it is part 0
+-- [this project, docs/FORMATS.md, Messages]
+pub record IsCounted (most part last count : ℕ) : Type 0 where
+  pub few : count ≤ most
+  pub full : (part ≡ last) ⊎ (count ≡ most)
   pub some : (part ≡ 0) ⊎ (0 < count)
 
 -- the PID is one that has positions [this project, docs/FORMATS.md, Messages]
-abbrev pub IsPlace : Place → Type 0
-IsPlace place = is_positional place.pid ≡ true
+abbrev pub IsPositioned : Place → Type 0
+IsPositioned place = is_positional place.pid ≡ true
 
 -- so is each
-abbrev pub ArePlaces : List Place → Type 0
-ArePlaces places = All IsPlace places
+abbrev pub ArePositioned : List Place → Type 0
+ArePositioned places = All IsPositioned places
 
 -- the PIDs are strictly ascending [this project, docs/FORMATS.md, Messages]
 abbrev pub AreAscending : List Place → Type 0
 AreAscending places = AllPairs (λ a b. a.pid < b.pid) places
+
+-- each position has 48 bits
+abbrev pub AreShort : List Place → Type 0
+AreShort places = All (λ place. place.position < 2 ^ 48) places
 
 -- what stands past the positions
 abbrev pub nothing : Place
@@ -29,25 +36,28 @@ nothing = record { pid = 0; position = 0 }
 
 -- a part of a control message [this project, docs/FORMATS.md, Messages]
 pub record IsEcm (part : EcmPart) : Type 0 where
+  pub version : IsVersion part.version
+  pub since : IsSince part.version part.number part.since
   pub numbered : part.part ≤ part.last_part
-  pub counted : IsCounted part.part part.last_part part.count
-  pub places : ArePlaces (listed part)
+  pub counted : IsCounted (positions_for part.version) part.part part.last_part part.count
+  pub places : ArePositioned (listed part)
   pub ascending : AreAscending (listed part)
-  pub positions : All (λ place. place.position < 2 ^ 48) (listed part)
-  pub rest : drop part.count part.positions ≡ replicate (13 - part.count) nothing
+  pub positions : AreShort (listed part)
+  pub rest : drop part.count part.positions ≡ replicate (POSITIONS - part.count) nothing
 
 -- what stands before the positions fits its fields
-pub record FitsFront (part : EcmPart) : Type 0 where
+pub record FitsHead (part : EcmPart) : Type 0 where
   pub number : part.number < 2 ^ 32
   pub period : part.period < 2 ^ 32
   pub word : part.word < 2 ^ 32
   pub clear : part.clear < 2 ^ 32
+  pub since : part.since < 2 ^ 32
   pub wrapped : length part.wrapped ≡ 32
   pub check : length part.check ≡ 16
 
 -- the numbers and the bytes fit their fields, as those of each value of the type do
 pub record Fits (part : EcmPart) : Type 0 where
-  pub front : FitsFront part
+  pub head : FitsHead part
   pub part_fits : part.part < 2 ^ 8
   pub last_part : part.last_part < 2 ^ 8
-  pub positions : length part.positions ≡ 13
+  pub positions : length part.positions ≡ POSITIONS

@@ -1,4 +1,6 @@
+pub mod Versions
 pub mod Spelled
 pub mod Form
 pub mod Fields
+pub mod Judged
 pub mod Parts

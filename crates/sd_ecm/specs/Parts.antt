@@ -1,86 +1,117 @@
 -- All parts of a control message.
-use Rattle.std.specs.Prelude.{◌≡◌, ℕ, ◌+◌, ◌-◌, ◌*◌, ◌/◌, ◌^◌, ◌<◌, ◌≤◌, Bool, List, length, take, drop, map, max, All}
-use Rattle.std.specs.List.{range_with_len}
-use Rattle.sd_ecm.specs.Form.{ArePlaces, AreAscending}
+use Rattle.std.specs.Prelude.{◌≡◌, ℕ, ◌-◌, ◌^◌, ◌<◌, ◌≤◌, Bool, List, length}
+use Rattle.sd_message.specs.Pieces.{pieces_for, piece_at, each_below}
+use Rattle.sd_ecm.specs.Versions.{IsVersion, IsSince, positions_for}
+use Rattle.sd_ecm.specs.Form.{ArePositioned, AreAscending, AreShort}
 use Rattle.sd_ecm.specs.Fields.{padded}
 use Rattle.sd_ecm.specs.declared.part.Place.{Place}
 use Rattle.sd_ecm.specs.declared.part.EcmPart.{EcmPart}
-use Rattle.sd_ecm.specs.declared.message.EcmFront.{EcmFront}
+use Rattle.sd_ecm.specs.declared.part.EcmHeader.{EcmHeader}
+use Rattle.sd_ecm.specs.declared.message.EcmHead.{EcmHead}
+use Rattle.sd_ecm.specs.declared.format.TheConstants.{MOST_PLACES}
 
 -- what a control message says: the fields that each of its parts has, and all positions
 pub record Message : Type 0 where
+  pub version : ℕ
   pub number : ℕ
   pub period : ℕ
   pub word : ℕ
   pub clear : ℕ
+  pub since : ℕ
   pub closing : Bool
   pub wrapped : List ℕ
   pub check : List ℕ
   pub places : List Place
 
 -- the message of these fields and positions
-abbrev pub message_of : EcmFront → List Place → Message
-message_of front places = record {
-  number = front.number;
-  period = front.period;
-  word = front.word;
-  clear = front.clear;
-  closing = front.closing;
-  wrapped = front.wrapped;
-  check = front.check;
+abbrev pub message_of : EcmHead → List Place → Message
+message_of head places = record {
+  version = head.version;
+  number = head.number;
+  period = head.period;
+  word = head.word;
+  clear = head.clear;
+  since = head.since;
+  closing = head.closing;
+  wrapped = head.wrapped;
+  check = head.check;
   places = places;
 }
 
--- how many parts have room for so many positions, 13 in each; there is one without position where there is none
+-- how many parts of this version have room for so many positions; there is one without position where there is none
 -- [this project, docs/FORMATS.md, Messages]
-abbrev pub parts_for : ℕ → ℕ
-parts_for places = max 1 ((places + 12) / 13)
+abbrev pub parts_for : ℕ → ℕ → ℕ
+parts_for version places = pieces_for (positions_for version) places
 
--- the positions of part x: those from 13x to 13x + 12, as far as they are there [this project, docs/FORMATS.md, Messages]
-abbrev pub places_at : List Place → ℕ → List Place
-places_at places x = take 13 (drop (13 * x) places)
+-- the positions of part x [this project, docs/FORMATS.md, Messages]
+abbrev pub places_at : Message → ℕ → List Place
+places_at message x = piece_at (positions_for message.version) message.places x
+
+-- how many parts the message has
+abbrev pub part_count_of : Message → ℕ
+part_count_of message = parts_for message.version (length message.places)
 
 -- part x of the message [this project, docs/FORMATS.md, Messages]
 unfoldable pub part_at : Message → ℕ → EcmPart
 part_at message x = record {
+  version = message.version;
   number = message.number;
   period = message.period;
   word = message.word;
   clear = message.clear;
+  since = message.since;
   closing = message.closing;
   part = x;
-  last_part = parts_for (length message.places) - 1;
+  last_part = part_count_of message - 1;
   wrapped = message.wrapped;
   check = message.check;
-  count = length (places_at message.places x);
-  positions = padded (places_at message.places x);
+  count = length (places_at message x);
+  positions = padded (places_at message x);
 }
 
 -- all parts of the message, part 0 first [this project, docs/FORMATS.md, Messages]
 unfoldable pub parts_of : Message → List EcmPart
-parts_of message = map (part_at message) (range_with_len 0 (parts_for (length message.places)))
+parts_of message = each_below (part_at message) (part_count_of message)
 
--- the PIDs are ones that have positions, strictly ascending, and what the message says fits the fields of its parts: 255 of them hold
--- 3,315 positions [this project, docs/FORMATS.md, Messages]
+-- the version is one of two, `since` is as it is to be, the PIDs are ones that have positions, strictly ascending and no more than a
+-- message may have, and what the message says fits the fields of its parts [this project, docs/FORMATS.md, Messages]
 pub record IsMessage (message : Message) : Type 0 where
+  pub version : IsVersion message.version
   pub number : message.number < 2 ^ 32
   pub period : message.period < 2 ^ 32
   pub word : message.word < 2 ^ 32
   pub clear : message.clear < 2 ^ 32
+  pub since : IsSince message.version message.number message.since
   pub wrapped : length message.wrapped ≡ 32
   pub check : length message.check ≡ 16
-  pub count : length message.places ≤ 3315
-  pub places : ArePlaces message.places
+  pub count : length message.places ≤ MOST_PLACES
+  pub places : ArePositioned message.places
   pub ascending : AreAscending message.places
-  pub positions : All (λ place. place.position < 2 ^ 48) message.places
+  pub positions : AreShort message.places
+
+-- what each part of a message says of it beside its number, its own number and positions
+abbrev pub header_of : EcmPart → EcmHeader
+header_of part = record {
+  version = part.version;
+  period = part.period;
+  word = part.word;
+  clear = part.clear;
+  since = part.since;
+  closing = part.closing;
+  last_part = part.last_part;
+  wrapped = part.wrapped;
+  check = part.check;
+}
 
 -- the part says of the message what each of its parts does
 pub record IsOfMessage (message : Message) (part : EcmPart) : Type 0 where
+  pub version : part.version ≡ message.version
   pub number : part.number ≡ message.number
   pub period : part.period ≡ message.period
   pub word : part.word ≡ message.word
   pub clear : part.clear ≡ message.clear
+  pub since : part.since ≡ message.since
   pub closing : part.closing ≡ message.closing
   pub wrapped : part.wrapped ≡ message.wrapped
   pub check : part.check ≡ message.check
-  pub last_part : part.last_part ≡ parts_for (length message.places) - 1
+  pub last_part : part.last_part ≡ part_count_of message - 1

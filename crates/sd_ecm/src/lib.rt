@@ -2,6 +2,7 @@
 #![tactic(auto)]
 
 mod fault;
+mod format;
 pub mod laws;
 mod message;
 mod order;
@@ -12,7 +13,8 @@ mod tests;
 mod write;
 
 pub use fault::EcmFault;
-pub use message::{EcmFront, part_count};
-pub use part::{EcmPart, Place};
+pub use format::{MOST_PLACES, POSITIONS, positions_a_part};
+pub use message::{EcmHead, part_count};
+pub use part::{EcmHeader, EcmPart, Place};
 pub use read::read_ecm;
 pub use write::write_ecm;

@@ -1,13 +1,19 @@
-ghost use Rattle.std.specs.Prelude.{◌≡◌, ◌^◌, ◌<◌, ◌≤◌, Some, All, length, slice_get};
-ghost use Rattle.sd_ecm.specs.Form.{ArePlaces, AreAscending, IsEcm};
+ghost use Rattle.std.specs.Prelude.{◌≡◌, ◌<◌, ◌≤◌, Some, length, slice_get};
+ghost use Rattle.sd_message.specs.Pieces.{piece_at};
+ghost use Rattle.sd_ecm.specs.Versions.{IsVersion, IsSince, positions_for};
+ghost use Rattle.sd_ecm.specs.Form.{ArePositioned, AreAscending, AreShort, IsEcm};
 ghost use Rattle.sd_ecm.specs.Fields.{padded};
-ghost use Rattle.sd_ecm.specs.Parts.{message_of, parts_for, parts_of, places_at};
+ghost use Rattle.sd_ecm.specs.Parts.{message_of, parts_for, parts_of};
+ghost use Rattle.sd_ecm.specs.declared.format.TheConstants.{POSITIONS, MOST_PLACES};
 
+use crate::format::{MOST_PLACES, POSITIONS, POSITIONS_2, positions_a_part};
 use crate::part::{EcmPart, NOTHING, Place};
 
 /// What each part of a control message says beside its positions (docs/FORMATS.md, Messages).
 #[derive(Clone, Copy)]
-pub struct EcmFront {
+pub struct EcmHead {
+    /// The version, 1 or 2.
+    pub version: u8,
     /// The number of the message.
     pub number: u32,
     /// The period.
@@ -16,6 +22,8 @@ pub struct EcmFront {
     pub word: u32,
     /// How many clear packets stand before the message.
     pub clear: u32,
+    /// The first message from which on each packet up to this message has its control word.
+    pub since: u32,
     /// Whether the message closes the stream.
     pub closing: bool,
     /// The wrapped control word.
@@ -24,36 +32,43 @@ pub struct EcmFront {
     pub check: [u8; 16],
 }
 
-/// How many parts a message with so many positions has: as many as have room for 13 in each, and at least one.
-pub fn part_count(places: usize) -> u8
-    requires { places ≤ 3315 }
-    ensures { result ≡ parts_for places }
+/// How many parts a message of this version with so many positions has: as many as have room for them, and at least one.
+#[tactic(auto, unfolding(sd_message::specs::Pieces::pieces_for, crate::specs::Versions::positions_for))]
+pub fn part_count(version: u8, places: usize) -> u8
+    requires { places ≤ MOST_PLACES }
+    ensures { result ≡ parts_for version places }
 {
-    places.div_ceil(13).max(1) as u8
+    if version == 2 {
+        places.div_ceil(POSITIONS_2).max(1) as u8
+    } else {
+        places.div_ceil(POSITIONS).max(1) as u8
+    }
 }
 
 impl EcmPart {
     /// The part of this number, below `part_count`, of the message that says this and has these positions: all of them, ascending
-    /// by PID, at most 3,315 (docs/FORMATS.md, Messages).
-    #[tactic(auto, using(crate::proofs::Sharing::stands_at, crate::proofs::Sharing::is_ecm), unfolding(crate::specs::Parts::part_at))]
-    pub fn of_message(front: &EcmFront, places: &[Place], part: u8) -> EcmPart
-        requires places { length places.now ≤ 3315 }
-        requires part { part < parts_for (length places.now) }
-        ensures value { slice_get (parts_of (message_of front.now places.now)) part ≡ Some result }
-        ensures form { ArePlaces places.now → AreAscending places.now → All (λ place. place.position < 2 ^ 48) places.now →
-            IsEcm result }
+    /// by PID, at most [`MOST_PLACES`] (docs/FORMATS.md, Messages).
+    #[tactic(auto, using(crate::proofs::Sharing::stands_at), unfolding(crate::specs::Parts::part_at))]
+    pub fn of_message(head: &EcmHead, places: &[Place], part: u8) -> EcmPart
+        requires places { length places.now ≤ MOST_PLACES }
+        requires part { part < parts_for head.now.version (length places.now) }
+        ensures value { slice_get (parts_of (message_of head.now places.now)) part ≡ Some result }
+        ensures form { IsVersion head.now.version → IsSince head.now.version head.now.number head.now.since →
+            ArePositioned places.now → AreAscending places.now → AreShort places.now → IsEcm result }
     {
-        let own = places_of(places, part);
+        let own = places_of(head.version, places, part);
         EcmPart {
-            number: front.number,
-            period: front.period,
-            word: front.word,
-            clear: front.clear,
-            closing: front.closing,
+            version: head.version,
+            number: head.number,
+            period: head.period,
+            word: head.word,
+            clear: head.clear,
+            since: head.since,
+            closing: head.closing,
             part,
-            last_part: part_count(places.len()) - 1,
-            wrapped: front.wrapped,
-            check: front.check,
+            last_part: part_count(head.version, places.len()) - 1,
+            wrapped: head.wrapped,
+            check: head.check,
             count: own.len() as u8,
             positions: filled_up(own),
         }
@@ -61,20 +76,21 @@ impl EcmPart {
 }
 
 // The positions of the part of this number.
-fn places_of(places: &[Place], part: u8) -> &[Place]
-    ensures value { result.now ≡ places_at places.now part }
-    ensures few { length result.now ≤ 13 }
+fn places_of(version: u8, places: &[Place], part: u8) -> &[Place]
+    ensures value { result.now ≡ piece_at (positions_for version) places.now part }
+    ensures few { length result.now ≤ POSITIONS }
 {
-    let after = &places[places.len().min(13 * usize::from(part))..];
-    &after[..after.len().min(13)]
+    let most = positions_a_part(version);
+    let after = &places[places.len().min(most * usize::from(part))..];
+    &after[..after.len().min(most)]
 }
 
 // Filled up to 13.
-fn filled_up(own: &[Place]) -> [Place; 13]
-    requires { length own.now ≤ 13 }
+fn filled_up(own: &[Place]) -> [Place; POSITIONS]
+    requires { length own.now ≤ POSITIONS }
     ensures { result ≡ padded own.now }
 {
-    let mut places = [NOTHING; 13];
+    let mut places = [NOTHING; POSITIONS];
     places[..own.len()].copy_from_slice(own);
     places
 }

@@ -4,7 +4,6 @@ ghost use Rattle.sd_ecm.specs.Form.{AreAscending};
 use crate::part::Place;
 
 /// Whether each PID is above all before it.
-#[tactic(auto, using(crate::proofs::Ascending::first_ascends))]
 pub fn are_ascending(places: &[Place]) -> bool
     ensures { IsTrue result ↔ AreAscending places.now }
 {

@@ -1,5 +1,9 @@
-ghost use Rattle.std.specs.Prelude.{◌≡◌, ◌≤◌};
+ghost use Rattle.std.specs.Prelude.{◌≡◌, ◌≤◌, ◌↔◌, IsTrue};
 ghost use Rattle.sd_ecm.specs.Spelled.{listed};
+ghost use Rattle.sd_ecm.specs.Parts.{header_of};
+ghost use Rattle.sd_ecm.specs.declared.format.TheConstants.{POSITIONS};
+
+use crate::format::POSITIONS;
 
 /// Where a PID stands: its position, which its packets' counters have come to (docs/FORMATS.md, Positions).
 #[derive(Clone, Copy, Debug, PartialEq, Eq)]
@@ -19,6 +23,8 @@ pub const NOTHING: Place = Place {
 /// One section of a control message (docs/FORMATS.md, Messages).
 #[derive(Clone, Copy, Debug, PartialEq, Eq)]
 pub struct EcmPart {
+    /// The version, 1 or 2.
+    pub version: u8,
     /// The number of the message.
     pub number: u32,
     /// The period.
@@ -27,6 +33,9 @@ pub struct EcmPart {
     pub word: u32,
     /// How many clear packets stand before the message.
     pub clear: u32,
+    /// The first message from which on each packet up to this message has its control word. Version 1 doesn't write it: there it is
+    /// the message before, or 0 for message 0.
+    pub since: u32,
     /// Whether the message closes the stream.
     pub closing: bool,
     /// Which part this is, from 0 on.
@@ -40,15 +49,62 @@ pub struct EcmPart {
     /// How many positions this part has.
     pub count: u8,
     /// The positions. Those past `count` are zeros.
-    pub positions: [Place; 13],
+    pub positions: [Place; POSITIONS],
+}
+
+/// What all parts of one message say alike beside its number.
+#[derive(Clone, Copy, Debug, PartialEq, Eq)]
+pub struct EcmHeader {
+    /// The version.
+    pub version: u8,
+    /// The period.
+    pub period: u32,
+    /// The number of the control word.
+    pub word: u32,
+    /// How many clear packets stand before the message.
+    pub clear: u32,
+    /// The first message from which on each packet has the control word.
+    pub since: u32,
+    /// Whether the message closes the stream.
+    pub closing: bool,
+    /// Which part is the last.
+    pub last_part: u8,
+    /// The wrapped control word.
+    pub wrapped: [u8; 32],
+    /// The check value of the control word.
+    pub check: [u8; 16],
 }
 
 impl EcmPart {
     /// The positions that the part has.
     pub fn listed(&self) -> &[Place]
-        requires { self.now.count ≤ 13 }
+        requires { self.now.count ≤ POSITIONS }
         ensures { result.now ≡ listed self.now }
     {
         &self.positions[..usize::from(self.count)]
+    }
+
+    /// What all parts of its message say.
+    pub fn header(&self) -> EcmHeader
+        ensures { result ≡ header_of self.now }
+    {
+        EcmHeader {
+            version: self.version,
+            period: self.period,
+            word: self.word,
+            clear: self.clear,
+            since: self.since,
+            closing: self.closing,
+            last_part: self.last_part,
+            wrapped: self.wrapped,
+            check: self.check,
+        }
+    }
+
+    /// Whether two parts say alike what all parts of a message do.
+    pub fn same_header(&self, other: &EcmPart) -> bool
+        ensures { IsTrue result ↔ (header_of self.now ≡ header_of other.now) }
+    {
+        self.header() == other.header()
     }
 }

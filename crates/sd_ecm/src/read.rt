@@ -2,15 +2,22 @@ ghost use Rattle.std.specs.Prelude.{◌≡◌, ◌+◌, ◌*◌, ◌%◌, ◌<�
 ghost use Rattle.sd_section.specs.Header.{table_id_of, number_of, last_number_of, body_of};
 ghost use Rattle.sd_section.specs.Written.{section_bytes};
 ghost use Rattle.sd_message.specs.Framed.{section_of, header_of, Begins};
+ghost use Rattle.sd_ecm.specs.Versions.{IsVersion, positions_for, flags_at as flags_place, head_length, version_for};
 ghost use Rattle.sd_ecm.specs.Spelled.{Spells};
-ghost use Rattle.sd_ecm.specs.Form.{Fits, IsCounted, IsPlace, ArePlaces, IsEcm, nothing};
-ghost use Rattle.sd_ecm.specs.Fields.{IsEcmSection, IsEcmPacket, place_of, places_in, padded, flags_of, ecm_in, with_places, IsMatched, IsGoodIn, BreaksIn, BreaksFirst};
+ghost use Rattle.sd_ecm.specs.Form.{Fits, IsCounted, IsPositioned, ArePositioned, IsEcm, nothing};
+ghost use Rattle.sd_ecm.specs.Fields.{IsEcmSection, IsEcmPacket, HasCount, version_of, place_of, places_in, padded};
+ghost use Rattle.sd_ecm.specs.Fields.{from_flags, since_in as since_of, ecm_in, with_places, IsMatched, IsGoodIn, BreaksIn, BreaksFirst};
+ghost use Rattle.sd_ecm.specs.Judged.{ecm_read};
 ghost use Rattle.sd_ecm.specs.declared.part.EcmPart.{EcmPart};
+ghost use Rattle.sd_ecm.specs.declared.format.TheConstants.{POSITIONS, PLACES_AT, PLACE_BYTES};
 
 use crate::fault::EcmFault;
+use crate::format::{
+    CHECK_AT, COUNT_AT, PLACE_BYTES, PLACES_AT, POSITIONS, TABLE_ID_2, WRAPPED_AT, even_table_id,
+    flags_at, positions_a_part,
+};
 use crate::order::are_ascending;
 use crate::part::{EcmPart, NOTHING, Place};
-use crate::write::EVEN_TABLE_ID;
 use sd_bits::fields;
 use sd_message::section_in;
 use sd_packet::{Packet, is_positional};
@@ -19,10 +26,11 @@ use sd_section::Section;
 /// The part of a control message that a packet's section is, or `None` where the packet is of another kind. What stands
 /// after the section isn't read.
 pub fn read_ecm(packet: &Packet) -> Result<Option<EcmPart>, EcmFault>
+    ensures value { result ≡ ecm_read packet.now }
     ensures none { (result ≡ Ok None) ↔ ¬ IsEcmPacket packet.now }
     ensures fault { (fault : EcmFault) →
         (result ≡ Err fault) ↔ (IsEcmPacket packet.now × BreaksFirst (section_of packet.now) fault) }
-    ensures value { IfOk result (λ found. IfSome found (λ part. Spells part packet.now × IsEcm part)) }
+    ensures sound { IfOk result (λ read. IfSome read (λ part. Spells part packet.now × IsEcm part)) }
     ensures complete { (part : EcmPart) → Fits part → IsEcm part → Spells part packet.now → result ≡ Ok (Some part) }
 {
     let Some(section) = ecm_section_in(packet) else {
@@ -45,7 +53,7 @@ fn ecm_section_in(packet: &Packet) -> Option<Section<'_>>
     ensures spelled { IfSome result (λ section.
         section.bytes.now ≡ section_bytes (header_of section.bytes.now) (body_of section.bytes.now)) }
     ensures is { IfSome result (λ section. IsEcmSection section.bytes.now) }
-    ensures room { IfSome result (λ section. 66 ≤ length (body_of section.bytes.now)) }
+    ensures room { IfSome result (λ section. head_length (version_of section.bytes.now) ≤ length (body_of section.bytes.now)) }
 {
     let section = section_in(packet)?;
     if is_ecm(&section) {
@@ -58,107 +66,150 @@ fn ecm_section_in(packet: &Packet) -> Option<Section<'_>>
 // Whether the section is a part of a control message.
 fn is_ecm(section: &Section<'_>) -> bool
     ensures value { IsTrue result ↔ IsEcmSection section.now.bytes.now }
-    ensures room { IsTrue result → 66 ≤ length (body_of section.now.bytes.now) }
+    ensures room { IsTrue result → head_length (version_of section.now.bytes.now) ≤ length (body_of section.now.bytes.now) }
 {
     let table_id = section.table_id();
-    (table_id == EVEN_TABLE_ID || table_id == EVEN_TABLE_ID + 1)
+    let version = version_in(table_id);
+    let even = even_table_id(version);
+    (table_id == even || table_id == even + 1)
         && section.extension() == 0
         && section.number() <= section.last_number()
-        && section.body().len() >= 66
+        && section.body().len() >= flags_at(version) + PLACES_AT
+}
+
+// The version whose table_id this is, if it is one of them.
+#[tactic(auto, unfolding(crate::specs::Versions::version_for))]
+fn version_in(table_id: u8) -> u8
+    ensures value { result ≡ version_for table_id }
+    ensures fits { IsVersion result }
+{
+    if table_id < TABLE_ID_2 { 1 } else { 2 }
 }
 
 // What the section of this table_id, these numbers and this body says.
 #[tactic(auto, using(crate::proofs::Judging::count_breaks))]
 fn read_body(table_id: u8, number: u8, last_number: u8, body: &[u8]) -> Result<EcmPart, EcmFault>
-    requires { 66 ≤ length body.now }
-    ensures value { IfOk result (λ part. part ≡ ecm_in number last_number body.now) }
-    ensures good { IfOk result (λ _. IsGoodIn table_id body.now (ecm_in number last_number body.now)) }
-    ensures fault { IfErr result (λ fault. BreaksIn table_id body.now (ecm_in number last_number body.now) fault) }
+    requires { head_length (version_for table_id) ≤ length body.now }
+    ensures value { IfOk result (λ part. part ≡ ecm_in (version_for table_id) number last_number body.now) }
+    ensures good { IfOk result (λ _. IsGoodIn table_id body.now (ecm_in (version_for table_id) number last_number body.now)) }
+    ensures fault { IfErr result (λ fault. BreaksIn table_id body.now (ecm_in (version_for table_id) number last_number body.now) fault) }
     ensures bytes { (i : ℕ) → slice_index body.now i < 256 }
 {
-    let mut part = read_front(number, last_number, body);
+    let version = version_in(table_id);
+    let tail = tail_of(version, body);
+    let mut part = read_head(version, number, last_number, body, tail);
     if !is_counted(&part, body.len()) {
         return Err(EcmFault::Count);
     }
     let count = usize::from(part.count);
-    let Some(positions) = read_places(count, &body[66..]) else {
+    let Some(positions) = read_places(count, &tail[PLACES_AT..]) else {
         return Err(EcmFault::Pid);
     };
     if !are_ascending(&positions[..count]) {
         return Err(EcmFault::Order);
     }
-    if !is_matched(table_id, body[16], part.word) {
+    if !is_matched(table_id, tail[0], &part) {
         return Err(EcmFault::Mixed);
     }
     part.positions = positions;
     Ok(part)
 }
 
+// What stands in the body from the flags on.
+fn tail_of(version: u8, body: &[u8]) -> &[u8]
+    requires { head_length version ≤ length body.now }
+    ensures value { result.now ≡ from_flags version body.now }
+    ensures length { length result.now + flags_place version ≡ length body.now }
+{
+    &body[flags_at(version)..]
+}
+
 // What stands before the positions.
 #[tactic(auto, unfolding(crate::specs::Fields::ecm_in))]
-fn read_front(number: u8, last_number: u8, body: &[u8]) -> EcmPart
-    requires { 66 ≤ length body.now }
-    ensures { result ≡ with_places (ecm_in number last_number body.now) (replicate 13 nothing) }
+fn read_head(version: u8, number: u8, last_number: u8, body: &[u8], tail: &[u8]) -> EcmPart
+    requires room { head_length version ≤ length body.now }
+    requires tail { tail.now ≡ from_flags version body.now }
+    requires long { length tail.now + flags_place version ≡ length body.now }
+    ensures { result ≡ with_places (ecm_in version number last_number body.now) (replicate POSITIONS nothing) }
 {
     fields! { body; ecm: 0, 32; period: 32, 32; word: 64, 32; clear: 96, 32; }
     let mut wrapped = [0; 32];
-    wrapped.copy_from_slice(&body[17..49]);
+    wrapped.copy_from_slice(&tail[WRAPPED_AT..CHECK_AT]);
     let mut check = [0; 16];
-    check.copy_from_slice(&body[49..65]);
+    check.copy_from_slice(&tail[CHECK_AT..COUNT_AT]);
     EcmPart {
+        version,
         number: ecm as u32,
         period: period as u32,
         word: word as u32,
         clear: clear as u32,
-        closing: body[16] == 1,
+        since: since_in(version, ecm as u32, body),
+        closing: tail[0] == 1,
         part: number,
         last_part: last_number,
         wrapped,
         check,
-        count: body[65],
-        positions: [NOTHING; 13],
+        count: tail[COUNT_AT],
+        positions: [NOTHING; POSITIONS],
+    }
+}
+
+// `since`, which version 1 doesn't write.
+#[tactic(auto, unfolding(crate::specs::Fields::since_in, crate::specs::Versions::flags_at))]
+fn since_in(version: u8, number: u32, body: &[u8]) -> u32
+    requires { head_length version ≤ length body.now }
+    ensures { result ≡ since_of version number body.now }
+{
+    if version == 2 {
+        fields! { body; since: 128, 32; }
+        since as u32
+    } else {
+        number.saturating_sub(1)
     }
 }
 
 // Whether the count is what the body's length comes to, and what the part is to have.
 fn is_counted(part: &EcmPart, length: usize) -> bool
-    ensures { IsTrue result ↔
-        ((length ≡ 66 + 8 * part.now.count) × IsCounted part.now.part part.now.last_part part.now.count) }
+    ensures value { IsTrue result ↔ HasCount length part.now }
+    ensures few { IsTrue result → part.now.count ≤ POSITIONS }
 {
-    length == 66 + 8 * usize::from(part.count)
-        && part.count <= 13
-        && (part.part == part.last_part || part.count == 13)
-        && (part.part == 0 || part.count > 0)
+    let most = positions_a_part(part.version);
+    let count = usize::from(part.count);
+    length == flags_at(part.version) + PLACES_AT + PLACE_BYTES * count
+        && count <= most
+        && (part.part == part.last_part || count == most)
+        && (part.part == 0 || count > 0)
 }
 
-// Whether the flags are good, and the table_id is that of the control word's number.
-fn is_matched(table_id: u8, flags: u8, word: u32) -> bool
-    ensures { IsTrue result ↔ IsMatched table_id flags word }
+// Whether the flags are good, the table_id is that of the control word's number, and `since` is before the message.
+fn is_matched(table_id: u8, flags: u8, part: &EcmPart) -> bool
+    ensures { IsTrue result ↔ IsMatched table_id flags part.now }
 {
-    flags <= 1 && u32::from(table_id % 2) == word % 2
+    flags <= 1
+        && u32::from(table_id) % 2 == part.word % 2
+        && (part.since < part.number || (part.since == 0 && part.number == 0))
 }
 
 // The positions, where each is that of a PID that has positions.
-#[tactic(auto, using(crate::proofs::Places::all_read))]
-fn read_places(count: usize, bytes: &[u8]) -> Option<[Place; 13]>
-    requires few { count ≤ 13 }
-    requires room { length bytes.now ≡ 8 * count }
+fn read_places(count: usize, bytes: &[u8]) -> Option<[Place; POSITIONS]>
+    requires few { count ≤ POSITIONS }
+    requires room { length bytes.now ≡ PLACE_BYTES * count }
     ensures value { IfSome result (λ places. places ≡ padded (places_in count bytes.now)) }
-    ensures places { IsSome result ↔ ArePlaces (places_in count bytes.now) }
+    ensures places { IsSome result ↔ ArePositioned (places_in count bytes.now) }
 {
-    let mut places = [NOTHING; 13];
+    let mut places = [NOTHING; POSITIONS];
     for k in 0..count {
-        places[k] = read_place(&bytes[8 * k..8 * k + 8])?;
+        places[k] = read_place(&bytes[PLACE_BYTES * k..PLACE_BYTES * k + PLACE_BYTES])?;
     }
     Some(places)
 }
 
 // A position, where it is that of a PID that has positions.
-#[tactic(auto, using(crate::proofs::Numbers::long_read), unfolding(crate::specs::Fields::place_of))]
+#[tactic(auto, using(sd_message::proofs::Numbers::long_read), unfolding(crate::specs::Fields::place_of))]
 fn read_place(bytes: &[u8]) -> Option<Place>
-    requires { length bytes.now ≡ 8 }
+    requires { length bytes.now ≡ PLACE_BYTES }
     ensures value { IfSome result (λ place. place ≡ place_of bytes.now) }
-    ensures place { IsSome result ↔ IsPlace (place_of bytes.now) }
+    ensures place { IsSome result ↔ IsPositioned (place_of bytes.now) }
 {
     fields! { bytes; pid: 0, 16; high: 16, 16; low: 32, 32; }
     let position = high << 32 | low;

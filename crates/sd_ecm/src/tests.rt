@@ -6,10 +6,12 @@ use std::test::Fail;
 
 // A part that an independent implementation wrote, and its packet up to its stuffing.
 struct Row {
+    version: u8,
     number: u32,
     period: u32,
     word: u32,
     clear: u32,
+    since: u32,
     closing: bool,
     part: u8,
     last_part: u8,
@@ -19,12 +21,14 @@ struct Row {
     packet: &'static str,
 }
 
-static ROWS: [Row; 9] = [
+static ROWS: [Row; 14] = [
     Row {
+        version: 1,
         number: 0,
         period: 0,
         word: 0,
         clear: 0,
+        since: 0,
         closing: false,
         part: 0,
         last_part: 0,
@@ -35,10 +39,12 @@ static ROWS: [Row; 9] = [
                 f1deeff10f7afb1e7bd5a849c11797519f5f8e11a9080b9ed660727200367490ac",
     },
     Row {
+        version: 1,
         number: 1,
         period: 0,
         word: 0,
         clear: 200,
+        since: 0,
         closing: false,
         part: 0,
         last_part: 0,
@@ -50,10 +56,12 @@ static ROWS: [Row; 9] = [
                 0000119e493e13",
     },
     Row {
+        version: 1,
         number: 3,
         period: 1,
         word: 1,
         clear: 600,
+        since: 2,
         closing: true,
         part: 0,
         last_part: 0,
@@ -64,10 +72,12 @@ static ROWS: [Row; 9] = [
                 ada2c76b00b84d792f900e8b4f7b67895a45d6f3e0f1643b90256e48010100ffffffffffff26362082",
     },
     Row {
+        version: 1,
         number: 1013,
         period: 9,
         word: 27,
         clear: 200000,
+        since: 1012,
         closing: false,
         part: 0,
         last_part: 0,
@@ -94,10 +104,12 @@ static ROWS: [Row; 9] = [
                 e50de9004be0142301109400416e43649311e00000cc7b9d191766008639f8c8007e87a66c",
     },
     Row {
+        version: 1,
         number: 1014,
         period: 9,
         word: 29,
         clear: 200000,
+        since: 1013,
         closing: false,
         part: 0,
         last_part: 1,
@@ -124,10 +136,12 @@ static ROWS: [Row; 9] = [
                 de0fac0042cbf9245a155e002e83b41a18175e00f6a23515a318d1005b5a8b13477337e24e",
     },
     Row {
+        version: 1,
         number: 1014,
         period: 9,
         word: 29,
         clear: 200000,
+        since: 1013,
         closing: false,
         part: 1,
         last_part: 1,
@@ -138,10 +152,12 @@ static ROWS: [Row; 9] = [
                 257a1f16ddcb7562aad6fafbc882e2a41f76bd11f8e94eed67ccbc9f011f69001edd7124b87db89aa8",
     },
     Row {
+        version: 1,
         number: 1030,
         period: 9,
         word: 61,
         clear: 200000,
+        since: 1029,
         closing: false,
         part: 0,
         last_part: 2,
@@ -168,10 +184,12 @@ static ROWS: [Row; 9] = [
                 2e0b9e0081004e76e30bd90010ab6a8de10bdb00786d90a6840c5b00fcff9e60fb706d895d",
     },
     Row {
+        version: 1,
         number: 1030,
         period: 9,
         word: 61,
         clear: 200000,
+        since: 1029,
         closing: false,
         part: 1,
         last_part: 2,
@@ -198,10 +216,12 @@ static ROWS: [Row; 9] = [
                 a7141e004116a85f8315ea003ca86c1cbd17f60083e55150e0189900490c370a567ce72dec",
     },
     Row {
+        version: 1,
         number: 1030,
         period: 9,
         word: 61,
         clear: 200000,
+        since: 1029,
         closing: false,
         part: 2,
         last_part: 2,
@@ -217,11 +237,110 @@ static ROWS: [Row; 9] = [
                 7fc117efa71c4548d4c8015b02e5dc63036fd9385b071da31e4c94830418b9006938bed0451a8900a0b4ebda941ae9001d51\
                 62ee2b1c0100300ba6646d6fc1505c",
     },
+    Row {
+        version: 2,
+        number: 1,
+        period: 0,
+        word: 0,
+        clear: 200,
+        since: 0,
+        closing: false,
+        part: 0,
+        last_part: 0,
+        wrapped: "8229606edb4eb380c6745a1a0ef112fb4f37fd1a5ac322f2eb828187831d8c40",
+        check: "16f21bec8b49a29a6bf944da8fbb98bb",
+        positions: &[(256, 159), (257, 65), (4096, 17)],
+        packet: "4741f1110084b0670000c10000000000010000000000000000000000c800000000008229606edb4eb380c6745a1a0ef112fb\
+                4f37fd1a5ac322f2eb828187831d8c4016f21bec8b49a29a6bf944da8fbb98bb03010000000000009f010100000000004110\
+                000000000000119c817a38",
+    },
+    Row {
+        version: 2,
+        number: 2,
+        period: 1,
+        word: 1,
+        clear: 400,
+        since: 0,
+        closing: false,
+        part: 0,
+        last_part: 0,
+        wrapped: "3933c5b07ef90f02305a8ff3b58c90f2c6a5ba584e42c0eb236e29888aeeb14a",
+        check: "bfa8807f785e1fc8f7f055a5753372b8",
+        positions: &[(256, 303), (257, 115), (4096, 19)],
+        packet: "4741f1120085b0670000c100000000000200000001000000010000019000000000003933c5b07ef90f02305a8ff3b58c90f2\
+                c6a5ba584e42c0eb236e29888aeeb14abfa8807f785e1fc8f7f055a5753372b803010000000000012f010100000000007310\
+                00000000000013807638cc",
+    },
+    Row {
+        version: 2,
+        number: 3,
+        period: 1,
+        word: 1,
+        clear: 600,
+        since: 2,
+        closing: true,
+        part: 0,
+        last_part: 0,
+        wrapped: "3933c5b07ef90f02305a8ff3b58c90f2c6a5ba584e42c0eb236e29888aeeb14a",
+        check: "bfa8807f785e1fc8f7f055a5753372b8",
+        positions: &[(256, 447), (257, 165), (4096, 21)],
+        packet: "4741f1130085b0670000c100000000000300000001000000010000025800000002013933c5b07ef90f02305a8ff3b58c90f2\
+                c6a5ba584e42c0eb236e29888aeeb14abfa8807f785e1fc8f7f055a5753372b80301000000000001bf01010000000000a510\
+                0000000000001554a21909",
+    },
+    Row {
+        version: 2,
+        number: 6,
+        period: 2,
+        word: 2,
+        clear: 240,
+        since: 3,
+        closing: false,
+        part: 0,
+        last_part: 1,
+        wrapped: "ac4874446c195930fb444ed85e64001a816f52753e56b767f7e629e8acd38524",
+        check: "bc169e5df6f281d0db5e496724b6c420",
+        positions: &[
+            (256, 123),
+            (257, 23),
+            (258, 23),
+            (259, 23),
+            (260, 23),
+            (261, 23),
+            (262, 23),
+            (263, 23),
+            (264, 23),
+            (265, 23),
+            (266, 23),
+            (267, 23),
+        ],
+        packet: "4741f1160084b0af0000c10001000000060000000200000002000000f00000000300ac4874446c195930fb444ed85e64001a\
+                816f52753e56b767f7e629e8acd38524bc169e5df6f281d0db5e496724b6c4200c010000000000007b010100000000001701\
+                0200000000001701030000000000170104000000000017010500000000001701060000000000170107000000000017010800\
+                00000000170109000000000017010a000000000017010b00000000001779c6402f",
+    },
+    Row {
+        version: 2,
+        number: 6,
+        period: 2,
+        word: 2,
+        clear: 240,
+        since: 3,
+        closing: false,
+        part: 1,
+        last_part: 1,
+        wrapped: "ac4874446c195930fb444ed85e64001a816f52753e56b767f7e629e8acd38524",
+        check: "bc169e5df6f281d0db5e496724b6c420",
+        positions: &[(268, 23), (269, 23), (270, 23), (271, 22), (4096, 23)],
+        packet: "4741f1170084b0770000c10101000000060000000200000002000000f00000000300ac4874446c195930fb444ed85e64001a\
+                816f52753e56b767f7e629e8acd38524bc169e5df6f281d0db5e496724b6c42005010c000000000017010d00000000001701\
+                0e000000000017010f000000000016100000000000001741884403",
+    },
 ];
 
-fn packet_of(front: &str) -> Option<Packet> {
+fn packet_of(head: &str) -> Option<Packet> {
     let mut bytes = [0xFF; 188];
-    hex::decode_to_slice(front, bytes.get_mut(..front.len() / 2)?).ok()?;
+    hex::decode_to_slice(head, bytes.get_mut(..head.len() / 2)?).ok()?;
     Packet::new(bytes)
 }
 
@@ -238,10 +357,12 @@ fn part_of(row: &Row) -> Option<EcmPart> {
         };
     }
     Some(EcmPart {
+        version: row.version,
         number: row.number,
         period: row.period,
         word: row.word,
         clear: row.clear,
+        since: row.since,
         closing: row.closing,
         part: row.part,
         last_part: row.last_part,
@@ -270,7 +391,7 @@ fn messages_both_ways(rt: HostRuntime) -> Result<(), Fail> {
 #[test]
 fn parts_of_messages(rt: HostRuntime) -> Result<(), Fail> {
     // The first row of each message, and how many rows it has.
-    for (first, count) in [(0, 1), (1, 1), (4, 2), (6, 3)] {
+    for (first, count) in [(0, 1), (1, 1), (4, 2), (6, 3), (9, 1), (12, 2)] {
         let mut places = Vec::new(rt.alloc());
         for row in first..first + count {
             let part = ROWS.get(row).and_then(part_of).ok_or("no row")?;
@@ -279,20 +400,26 @@ fn parts_of_messages(rt: HostRuntime) -> Result<(), Fail> {
             }
         }
         assert!(rt; places.len() <= 30);
-        assert_eq!(rt; usize::from(part_count(places.len())), count);
-        for part in 0..part_count(places.len()) {
+        let version = ROWS.get(first).ok_or("no row")?.version;
+        assert_eq!(rt; usize::from(part_count(version, places.len())), count);
+        for part in 0..part_count(version, places.len()) {
             let row = ROWS.get(first + usize::from(part)).ok_or("no row")?;
             let due = part_of(row).ok_or("no part")?;
-            let front = EcmFront {
+            let head = EcmHead {
+                version,
                 number: row.number,
                 period: row.period,
                 word: row.word,
                 clear: row.clear,
+                since: row.since,
                 closing: row.closing,
                 wrapped: due.wrapped,
                 check: due.check,
             };
-            assert_eq!(rt; EcmPart::of_message(&front, &places, part), due);
+            assert_eq!(rt; EcmPart::of_message(&head, &places, part), due);
+            assert!(rt;
+                due.same_header(&part_of(ROWS.get(first).ok_or("no row")?).ok_or("no part")?)
+            );
         }
     }
     Ok(())
@@ -315,7 +442,7 @@ fn changed(row: &Row, changes: &[(usize, u8)]) -> Option<Packet> {
 #[test]
 fn faults_in_order(rt: HostRuntime) -> Result<(), Fail> {
     // The row, the bytes that are changed, what is read.
-    let table: [(usize, &[(usize, u8)], Result<Option<EcmPart>, EcmFault>); 22] = [
+    let table: [(usize, &[(usize, u8)], Result<Option<EcmPart>, EcmFault>); 27] = [
         // A count, a length, a part that isn't the last with 3 positions, and with 12, a last part with none.
         (1, &[(78, 4)], Err(EcmFault::Count)),
         (1, &[(7, 0x64)], Err(EcmFault::Count)),
@@ -331,6 +458,13 @@ fn faults_in_order(rt: HostRuntime) -> Result<(), Fail> {
         // Flags 2; table_id 0x81 for an even control word.
         (1, &[(29, 2)], Err(EcmFault::Mixed)),
         (1, &[(5, 0x81)], Err(EcmFault::Mixed)),
+        // In version 2 13 positions, a `since` that is the number and one above it, and another parity.
+        (12, &[(82, 13)], Err(EcmFault::Count)),
+        (9, &[(32, 1)], Err(EcmFault::Mixed)),
+        (9, &[(32, 2)], Err(EcmFault::Mixed)),
+        (9, &[(5, 0x85)], Err(EcmFault::Mixed)),
+        // A part of version 2 under a table_id of version 1.
+        (9, &[(5, 0x80)], Err(EcmFault::Count)),
         // The first rule that is broken counts.
         (1, &[(12, 1), (79, 0x20), (29, 2)], Err(EcmFault::Count)),
         (1, &[(80, 1), (95, 0x1F), (96, 0xF0)], Err(EcmFault::Pid)),

@@ -1,15 +1,15 @@
 ghost use Rattle.std.specs.Prelude.{◌≡◌, ◌^◌, ◌<◌, ◌≤◌, ◌+◌, ◌*◌, ◌++◌, length};
 ghost use Rattle.sd_packet.specs.Packing.{packed};
-ghost use Rattle.sd_ecm.specs.Spelled.{place_bytes, front_bytes, ecm_body, ecm_section, ecm_header};
-ghost use Rattle.sd_ecm.specs.Form.{FitsFront, Fits, IsEcm};
+ghost use Rattle.sd_ecm.specs.Versions.{positions_for, flags_at as flags_place, head_length};
+ghost use Rattle.sd_ecm.specs.Spelled.{place_bytes, numbers_bytes, since_bytes, word_bytes, head_bytes, ecm_body, ecm_section, ecm_header};
+ghost use Rattle.sd_ecm.specs.Form.{FitsHead, Fits, IsEcm};
+ghost use Rattle.sd_ecm.specs.declared.format.TheConstants.{POSITIONS, PLACE_BYTES, PLACES_AT};
 
+use crate::format::even_table_id;
 use crate::part::{EcmPart, Place};
 use sd_message::{Body, pack};
 use sd_packet::Packet;
 use sd_section::Header;
-
-/// The table_id of a part whose control word has an even number.
-pub const EVEN_TABLE_ID: u8 = 0x80;
 
 /// The packet that is the section of this part by itself (docs/FORMATS.md, Messages).
 #[tactic(auto, unfolding(crate::specs::Spelled::ecm_section))]
@@ -30,7 +30,7 @@ fn header_of(part: &EcmPart) -> Header
     ensures last_part { part.now.last_part < 2 ^ 8 }
 {
     Header {
-        table_id: EVEN_TABLE_ID + (part.word % 2) as u8,
+        table_id: even_table_id(part.version) + (part.word % 2) as u8,
         extension: 0,
         number: part.part,
         last_number: part.last_part,
@@ -40,13 +40,14 @@ fn header_of(part: &EcmPart) -> Header
 // The section's body.
 #[tactic(auto, using(crate::proofs::Spelling::one_put), unfolding(crate::specs::Spelled::ecm_body))]
 fn body_of(part: &EcmPart) -> Body
-    requires { part.now.count ≤ 13 }
+    requires { part.now.count ≤ positions_for part.now.version }
     ensures value { result ≡ ecm_body part.now }
-    ensures length { length result ≡ 66 + 8 * part.now.count }
-    ensures fits { FitsFront part.now }
-    ensures positions { length part.now.positions ≡ 13 }
+    ensures length { length result ≡ head_length part.now.version + PLACE_BYTES * part.now.count }
+    ensures few { length result ≤ 171 }
+    ensures fits { FitsHead part.now }
+    ensures positions { length part.now.positions ≡ POSITIONS }
 {
-    let mut body = front_of(part);
+    let mut body = head_of(part);
     for k in 0..usize::from(part.count) {
         put_place(&mut body, &part.positions[k]);
     }
@@ -54,30 +55,70 @@ fn body_of(part: &EcmPart) -> Body
 }
 
 // The body before its positions.
-#[tactic(auto, unfolding(crate::specs::Spelled::front_bytes))]
-fn front_of(part: &EcmPart) -> Body
-    ensures value { result ≡ front_bytes part.now }
-    ensures length { length result ≡ 66 }
-    ensures fits { FitsFront part.now }
+#[tactic(auto, unfolding(crate::specs::Spelled::head_bytes))]
+fn head_of(part: &EcmPart) -> Body
+    ensures value { result ≡ head_bytes part.now }
+    ensures length { length result ≡ head_length part.now.version }
+    ensures fits { FitsHead part.now }
+{
+    let mut body = numbers_of(part);
+    put_since(&mut body, part.version, part.since);
+    put_word(&mut body, part);
+    body
+}
+
+// The numbers with which the body begins.
+#[tactic(auto, unfolding(crate::specs::Spelled::numbers_bytes))]
+fn numbers_of(part: &EcmPart) -> Body
+    ensures value { result ≡ numbers_bytes part.now }
+    ensures length { length result ≡ 16 }
+    ensures number { part.now.number < 2 ^ 32 }
+    ensures period { part.now.period < 2 ^ 32 }
+    ensures word { part.now.word < 2 ^ 32 }
+    ensures clear { part.now.clear < 2 ^ 32 }
 {
     let mut body = Body::new();
     body.put(&part.number.to_be_bytes());
     body.put(&part.period.to_be_bytes());
     body.put(&part.word.to_be_bytes());
     body.put(&part.clear.to_be_bytes());
+    body
+}
+
+// Puts `since` after them, where the version writes it.
+#[tactic(auto, unfolding(crate::specs::Spelled::since_bytes, crate::specs::Versions::flags_at))]
+fn put_since(body: &mut Body, version: u8, since: u32)
+    requires { length body.old ≡ 16 }
+    ensures value { body.new ≡ body.old ++ since_bytes version since }
+    ensures length { length body.new ≡ flags_place version }
+    ensures few { length body.new ≤ 20 }
+{
+    if version == 2 {
+        body.put(&since.to_be_bytes());
+    }
+}
+
+// Puts what stands between them and the positions.
+#[tactic(auto, unfolding(crate::specs::Spelled::word_bytes))]
+fn put_word(body: &mut Body, part: &EcmPart)
+    requires { length body.old ≤ 20 }
+    ensures value { body.new ≡ body.old ++ word_bytes part.now }
+    ensures length { length body.new ≡ length body.old + PLACES_AT }
+    ensures wrapped { length part.now.wrapped ≡ 32 }
+    ensures check { length part.now.check ≡ 16 }
+{
     body.put(&[u8::from(part.closing)]);
     body.put(&part.wrapped);
     body.put(&part.check);
     body.put(&[part.count]);
-    body
 }
 
 // Puts a position after the body.
 #[tactic(auto, unfolding(crate::specs::Spelled::place_bytes))]
 fn put_place(body: &mut Body, place: &Place)
-    requires { length body.old + 8 ≤ 171 }
+    requires { length body.old + PLACE_BYTES ≤ 171 }
     ensures value { body.new ≡ body.old ++ place_bytes place.now }
-    ensures length { length body.new ≡ length body.old + 8 }
+    ensures length { length body.new ≡ length body.old + PLACE_BYTES }
 {
     body.put(&place.pid.to_be_bytes());
     body.put(&place.position.to_be_bytes()[2..]);

@@ -1,7 +1,7 @@
 -- What is spelled is read as what it was.
-use Rattle.std.proofs.Common.{◌≡◌, ℕ, suc, ◌+◌, ◌-◌, ◌*◌, ◌≤◌, List, [], ◌∷◌, ◌++◌, length, take, drop, get_or, append_assoc, length-append, length-take-le, arith, refl, sym, ap, ◌∙◌}
+use Rattle.std.proofs.Common.{◌≡◌, ℕ, ◌+◌, ◌*◌, ◌≤◌, List, [], ◌∷◌, ◌++◌, length, take, drop, get_or, append_assoc, length-append, length-take-le, arith, refl, sym, ap, ◌∙◌}
 use Rattle.std.specs.Prelude.{All, slice_index, flat_map}
-use Rattle.std.proofs.lemmas.List.{take_at, drop_at, take_all, get_or_at, take-append-drop}
+use Rattle.std.proofs.lemmas.List.{take_at, drop_at, take_all, get_or_at}
 use Rattle.sd_bits.specs.Bits.{field}
 use Rattle.sd_tree.specs.declared.set.SetName.{SetName}
 use Rattle.sd_tree.specs.declared.set.SetName.TheVariants.{Whole, Diff}

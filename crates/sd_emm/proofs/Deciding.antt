@@ -1,6 +1,6 @@
 -- The tests of what a packet is read as tell what the rules say.
-use Rattle.std.proofs.Common.{◌≡◌, ◌⊎◌, inl, inr, ℕ, zero, suc, ◌+◌, ◌-◌, ◌*◌, ◌/◌, ◌^◌, ◌<◌, ◌≤◌, List, length, arith, refl, sym, ap, ◌∙◌, subst}
-use Rattle.std.specs.Prelude.{Bool, true, false, ◌==◌, ◌&&◌, not, nat_le, nat_lt, if◌then◌else◌, All, min, Option, Some, None, Result, Ok, Err}
+use Rattle.std.proofs.Common.{◌≡◌, inl, inr, ℕ, zero, suc, ◌+◌, ◌-◌, ◌*◌, ◌/◌, ◌^◌, ◌<◌, ◌≤◌, List, length, arith, refl, sym, ap, ◌∙◌, subst}
+use Rattle.std.specs.Prelude.{Bool, true, false, ◌==◌, not, nat_le, nat_lt, if◌then◌else◌, min, Option, Some, None, Result, Ok, Err}
 use Rattle.std.specs.Bool.{Decides}
 use Rattle.std.specs.List.{list_all}
 use Rattle.std.specs.Ordering.{is_lt}
@@ -8,7 +8,7 @@ use Rattle.std.specs.declared.cmp.Ordering.{Ordering}
 use Rattle.std.specs.declared.cmp.Ordering.TheVariants.{Less, Equal, Greater}
 use Rattle.std.proofs.Math.Nat.{div-eq_of_lt, div-one, pow-suc, mul-div-le, mul-le-mul_right}
 use Rattle.std.proofs.Math.Pow.{pow_mono}
-use Rattle.std.proofs.lemmas.Bool.{cases_lt, leb-true, true≢false, false≢true}
+use Rattle.std.proofs.lemmas.Bool.{cases_lt, false≢true}
 use Rattle.std.proofs.lemmas.Bool.Decides.{Decides-and, Decides-eqb, Decides-ltb, Decides-like, Decides-by_and, Decides-below_or}
 use Rattle.sd_packet.specs.Packing.{packed}
 use Rattle.sd_tree.specs.SetNames.{IsPair, set_cmp, AreAscending}
@@ -16,11 +16,11 @@ use Rattle.sd_tree.specs.Node.{IsProperlyAbove}
 use Rattle.sd_tree.specs.declared.set.SetName.{SetName}
 use Rattle.sd_tree.specs.declared.set.SetName.TheVariants.{Whole, Diff}
 use Rattle.sd_section.specs.Header.{extension_of, body_of, section_length_of, table_id_of, number_of, last_number_of}
-use Rattle.sd_message.specs.Framed.{has_section, section_of, HasSection}
+use Rattle.sd_message.specs.Framed.{has_section, section_of}
 use Rattle.sd_message.proofs.Deciding.{tells_section, is_false, tells_le}
 use Rattle.sd_message.proofs.Ascending.{tells_pairs}
 use Rattle.sd_emm.specs.Spelled.{listed, names_in, emm_section, Spells}
-use Rattle.sd_emm.specs.Form.{IsCounted, IsSetBeside, AreSets, IsEmm, Fits, sections_for}
+use Rattle.sd_emm.specs.Form.{IsSetBeside, AreSets, IsEmm, Fits, sections_for}
 use Rattle.sd_emm.specs.Fields.{HasCount, IsEmmSection, IsEmmPacket, IsGoodIn, BreaksIn, BreaksFirst, emm_in, emm_of}
 use Rattle.sd_emm.specs.Judged.{is_halved, is_pair, is_set_beside, are_sets, is_ascending, is_counted, emm_judged, is_emm_section, has_emm, emm_read}
 use Rattle.sd_emm.specs.declared.emm.Entry.{Entry}

@@ -1,9 +1,9 @@
 -- What is read from a section's body spells it.
-use Rattle.std.proofs.Common.{◌≡◌, ℕ, zero, suc, ◌+◌, ◌*◌, ◌<◌, ◌≤◌, List, [], ◌∷◌, ◌++◌, length, take, drop, take-add, drop-drop, length-drop, length-take-le, get_or-drop, get_or-take, get_or, append_assoc, append-nil, inl, inr, arith, refl, sym, ap, ◌∙◌}
+use Rattle.std.proofs.Common.{◌≡◌, ℕ, ◌+◌, ◌*◌, ◌<◌, ◌≤◌, List, [], ◌∷◌, ◌++◌, length, take, drop, take-add, drop-drop, length-drop, length-take-le, get_or-take, get_or, append_assoc, inl, inr, arith, refl, sym, ap, ◌∙◌}
 use Rattle.std.specs.Prelude.{slice_index, slice_range, flat_map}
 use Rattle.std.specs.Int.{w16, w32, to_be_bytes}
 use Rattle.std.proofs.lemmas.Bool.{cases_lt}
-use Rattle.std.proofs.lemmas.List.{get_or_default, take_more, drop_more, take_all, get_or_past, length-take, take-append-drop, nil_from_length}
+use Rattle.std.proofs.lemmas.List.{get_or_default, drop_more, take_all, take-append-drop}
 use Rattle.sd_bits.specs.Bits.{field}
 use Rattle.sd_message.proofs.Numbers.{IsBytes, bytes_drop, word_spelled, half_spelled}
 use Rattle.sd_message.proofs.Items as Items
@@ -15,7 +15,7 @@ use Rattle.sd_section.specs.Written.{section_bytes}
 use Rattle.sd_message.specs.Framed.{header_of}
 use Rattle.sd_emm.specs.Spelled.{listed, emm_body, name_bytes, head_bytes, entry_bytes, emm_header}
 use Rattle.sd_emm.specs.Form.{AreWrapped}
-use Rattle.sd_emm.specs.Fields.{name_of, entry_of, entries_in, emm_in, IsEmmSection}
+use Rattle.sd_emm.specs.Fields.{name_of, entry_of, emm_in, IsEmmSection}
 use Rattle.sd_emm.specs.declared.emm.Entry.{Entry}
 
 -- what is put after something in three pieces

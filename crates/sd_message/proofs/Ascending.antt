@@ -1,6 +1,6 @@
 -- Lists in which each stands after all before it, by their neighbours, and by a test of each two.
-use Rattle.std.proofs.Common.{◌≡◌, inl, inr, ℕ, zero, suc, ◌+◌, ◌-◌, ◌<◌, ◌≤◌, List, [], ◌∷◌, length, take, get_or, get_or-take, length-take-le, arith, refl}
-use Rattle.std.specs.Prelude.{Bool, true, ◌&&◌, All, AllPairs}
+use Rattle.std.proofs.Common.{◌≡◌, inl, inr, ℕ, suc, ◌+◌, ◌-◌, ◌<◌, ◌≤◌, List, [], ◌∷◌, length, take, get_or, get_or-take, length-take-le, arith, refl}
+use Rattle.std.specs.Prelude.{Bool, ◌&&◌, All, AllPairs}
 use Rattle.std.specs.Bool.{Decides}
 use Rattle.std.specs.List.{list_all}
 use Rattle.std.proofs.lemmas.Bool.{cases_lt}

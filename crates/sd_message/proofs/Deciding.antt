@@ -1,6 +1,6 @@
 -- The tests of a packet tell what stands in it.
 use Rattle.std.proofs.Common.{◌≡◌, ℕ, ◌≤◌, List, ap, refl, arith}
-use Rattle.std.specs.Prelude.{Bool, true, false, ◌==◌, ◌&&◌, nat_le, Option, Some, None, is_none, slice_get, drop}
+use Rattle.std.specs.Prelude.{Bool, true, false, ◌==◌, nat_le, Option, Some, None, is_none, slice_get, drop}
 use Rattle.std.specs.Bool.{Decides}
 use Rattle.std.proofs.lemmas.Bool.{false≢true}
 use Rattle.std.proofs.lemmas.Bool.Decides.{Decides-and, Decides-eqb, Decides-like, nat_tests}
@@ -8,7 +8,7 @@ use Rattle.std.proofs.lemmas.Slice.Eq.{bytes_eq-Decides}
 use Rattle.sd_packet.specs.Header.{unit_start_of, payload_of}
 use Rattle.sd_section.specs.Judged.{section_fault}
 use Rattle.sd_section.specs.declared.fault.SectionFault.{SectionFault}
-use Rattle.sd_message.specs.Framed.{HasPointer, HasSection, IsPlain, is_plain, is_zero, has_section, section_of}
+use Rattle.sd_message.specs.Framed.{HasSection, is_plain, is_zero, has_section, section_of}
 
 -- a fault is none
 tells_none : (fault : Option SectionFault) → Decides (is_none fault) (fault ≡ None)

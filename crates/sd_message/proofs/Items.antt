@@ -1,5 +1,5 @@
 -- Items of equally many bytes, one after the other.
-use Rattle.std.proofs.Common.{◌≡◌, inl, inr, ℕ, zero, suc, ◌+◌, ◌-◌, ◌*◌, ◌<◌, ◌≤◌, List, [], ◌∷◌, ◌++◌, length, take, drop, set, get_or, drop-drop, append_assoc, append-nil, length-append, length-drop, length-take-le, arith, refl, sym, ap, ◌∙◌, subst}
+use Rattle.std.proofs.Common.{◌≡◌, inl, inr, ℕ, zero, suc, ◌+◌, ◌-◌, ◌*◌, ◌<◌, List, [], ◌∷◌, ◌++◌, length, take, drop, set, get_or, drop-drop, append_assoc, append-nil, length-append, length-drop, length-take-le, arith, refl, sym, ap, ◌∙◌, subst}
 use Rattle.std.specs.Prelude.{replicate, All, flat_map}
 use Rattle.std.proofs.Math.Nat.{mul-suc, mul-zero}
 use Rattle.std.proofs.lemmas.Bool.{cases_lt}

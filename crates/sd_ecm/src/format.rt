@@ -1,0 +1,68 @@
+//! The numbers of a part of a control message (docs/FORMATS.md, Messages). There are two versions, 1 and 2; places are those of the body.
+
+ghost use Rattle.std.specs.Prelude.{◌≡◌, ◌≤◌};
+ghost use Rattle.sd_ecm.specs.Versions.{positions_for, flags_at as flags_place, even_table_id as even_table};
+ghost use Rattle.sd_ecm.specs.declared.format.TheConstants.{POSITIONS};
+
+/// The table_id of a part of version 1 whose control word has an even number. That of an odd one follows it.
+pub const TABLE_ID_1: u8 = 0x80;
+
+/// The same of version 2.
+pub const TABLE_ID_2: u8 = 0x84;
+
+/// The most positions of a part of version 1, and of any part.
+pub const POSITIONS: usize = 13;
+
+/// The most positions of a part of version 2.
+pub const POSITIONS_2: usize = 12;
+
+/// Where the flags stand in version 1.
+pub const FLAGS_AT_1: usize = 16;
+
+/// Where the flags stand in version 2, in which `since` stands before them.
+pub const FLAGS_AT_2: usize = 20;
+
+/// How many bytes after the flags the wrapped control word stands.
+pub const WRAPPED_AT: usize = 1;
+
+/// How many bytes after them its check value stands.
+pub const CHECK_AT: usize = 33;
+
+/// How many bytes after them the count of positions stands.
+pub const COUNT_AT: usize = 49;
+
+/// How many bytes after them the positions begin.
+pub const PLACES_AT: usize = 50;
+
+/// The bytes of a position.
+pub const PLACE_BYTES: usize = 8;
+
+/// The most positions of a message.
+pub const MOST_PLACES: usize = 256;
+
+/// How many positions a part of this version has at most.
+#[tactic(auto, unfolding(crate::specs::Versions::positions_for))]
+pub fn positions_a_part(version: u8) -> usize
+    ensures value { result ≡ positions_for version }
+    ensures fits { result ≤ POSITIONS }
+{
+    if version == 2 { POSITIONS_2 } else { POSITIONS }
+}
+
+/// Where the flags of this version stand.
+#[tactic(auto, unfolding(crate::specs::Versions::flags_at))]
+pub fn flags_at(version: u8) -> usize
+    ensures value { result ≡ flags_place version }
+    ensures fits { result ≤ 20 }
+{
+    if version == 2 { FLAGS_AT_2 } else { FLAGS_AT_1 }
+}
+
+/// The table_id of a part of this version whose control word has an even number.
+#[tactic(auto, unfolding(crate::specs::Versions::even_table_id))]
+pub fn even_table_id(version: u8) -> u8
+    ensures value { result ≡ even_table version }
+    ensures fits { result ≤ 0x84 }
+{
+    if version == 2 { TABLE_ID_2 } else { TABLE_ID_1 }
+}
