@@ -2,7 +2,7 @@
 
 ghost use Rattle.std.specs.Prelude.{◌≡◌, ◌^◌, ◌<◌, ◌≤◌, IfOk, length, vec_len};
 ghost use Rattle.sd_tree.specs.SetNames.{AreAscending};
-ghost use Rattle.sd_emm.specs.Spelled.{listed, names_of};
+ghost use Rattle.sd_emm.specs.Spelled.{listed, names_in};
 ghost use Rattle.sd_emm.specs.Form.{AreSets, IsEmm};
 
 use sd_emm::{Emm, Entry, are_ascending, read_emm, section_count, write_emm};
@@ -76,7 +76,7 @@ fn entries(alloc: Global) -> Result<Vec<Entry>, AllocError>
 // Writes all sections of the period.
 fn write_all(period: u32, entries: &[Entry], packets: &mut Vec<Packet>) -> Result<(), AllocError>
     requires sets { length entries.now ≤ SETS }
-    requires ascending { AreAscending (names_of entries.now) }
+    requires ascending { AreAscending (names_in entries.now) }
 {
     for index in 0..section_count(entries.len()) {
         let emm = Emm::of_period(period, &[0x5A; 16], entries, index);

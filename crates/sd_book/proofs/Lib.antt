@@ -1,7 +1,9 @@
+pub mod Causes
 pub mod Cuts
+pub mod Followed
 pub mod Judged
 pub mod Kept
-pub mod Longer
+pub mod Places
 pub mod Replays
 pub mod Revocations
 pub mod Tallies

@@ -1,4 +1,5 @@
-use Rattle.std.proofs.Common.{arith, ◌≡◌, ℕ, ◌<◌, ◌≤◌, ◌^◌, true, List, [], ◌∷◌, ◌++◌, map, Some, None, Ok, refl, ap, ◌∙◌, append_assoc, codes}
+use Rattle.std.proofs.Common.{arith, ◌≡◌, ℕ, ◌<◌, ◌≤◌, ◌^◌, true, List, [], ◌∷◌, ◌++◌, map, Some, None, Ok, refl, ap}
+use Rattle.std.proofs.Common.{◌∙◌, append_assoc, codes}
 use Rattle.std.specs.Prelude.{All}
 use Rattle.std.specs.Fmt.{decimal}
 use Rattle.std.proofs.lemmas.Grind.{common_steps}
@@ -12,7 +13,7 @@ use Rattle.sd_book.specs.declared.command.Command.{Command}
 use Rattle.sd_book.specs.declared.command.Command.TheVariants.{Subscribe, Revoke, Period}
 use Rattle.sd_book.specs.Commands.{is_within}
 use Rattle.sd_book.specs.Limits.{IsWithinLimits}
-use Rattle.sd_book.specs.Text.{command_of, SpellsBook, line_of, text_of, book_of}
+use Rattle.sd_book.specs.Text.{command_of, SpellsBook, line_of, text_of, judged, book_of}
 use Rattle.sd_book.proofs.Judged.{book_again}
 
 -- a leaf of a tree is a number of 64 bits
@@ -45,22 +46,35 @@ alone d (Revoke u) small h = decimal_in_line u (leaf_small d u small (grind (ari
 alone d Period small h = refl
 
 -- the lines of a book's text are those of its commands
-lines_written : (d : ℕ) (commands : List Command) → d ≤ 20 → All (λ command. is_within d command ≡ true) commands → lines_of (text_of commands) ≡ map line_of commands
+lines_written : (d : ℕ) (commands : List Command) → d ≤ 20 → All (λ command. is_within d command ≡ true) commands →
+    lines_of (text_of commands) ≡ map line_of commands
 unfolding text_of
 lines_written d [] small leaves = refl
 lines_written d (command ∷ commands) small leaves =
     let line = alone d command small (All-head (λ c. is_within d c ≡ true) command commands leaves) in
     let rest = lines_written d commands small (All-tail (λ c. is_within d c ≡ true) command commands leaves) in
-    rw (append_assoc (line_of command) (10 ∷ []) (text_of commands)) (line_cut (line_of command) (text_of commands) line ∙ ap (λ (lines : List (List ℕ)). line_of command ∷ lines) rest)
+    rw (append_assoc (line_of command) (10 ∷ []) (text_of commands))
+    (line_cut (line_of command) (text_of commands) line ∙ ap (λ (lines : List (List ℕ)). line_of command ∷ lines)
+    rest)
 
 -- and spell them
-spelled : (d : ℕ) (commands : List Command) → d ≤ 20 → All (λ command. is_within d command ≡ true) commands → SpellsBook (map line_of commands) commands
+spelled : (d : ℕ) (commands : List Command) → d ≤ 20 → All (λ command. is_within d command ≡ true) commands →
+    SpellsBook (map line_of commands) commands
 spelled d [] small leaves = refl
 spelled d (command ∷ commands) small leaves =
     let first = says d command small (All-head (λ c. is_within d c ≡ true) command commands leaves) in
     let rest = spelled d commands small (All-tail (λ c. is_within d c ≡ true) command commands leaves) in
     rw (first, rest) refl
 
+-- the text of commands of the tree is judged as these commands are
+pub judged_again : (d : ℕ) (commands : List Command) → d ≤ 20 → All (λ command. is_within d command ≡ true) commands
+    → book_of d (text_of commands) ≡ judged d [] (map Some commands)
+unfolding book_of
+judged_again d commands small leaves =
+    ap (judged d []) (ap (map command_of) (lines_written d commands small leaves) ∙ spelled d commands small leaves)
+
 -- the text of commands within the limits is read as these commands
-pub read_again : (d : ℕ) (commands : List Command) → d ≤ 20 → IsWithinLimits d commands → book_of d (text_of commands) ≡ Ok commands
-read_again d commands small all = book_again d (text_of commands) commands (rw (lines_written d commands small all.leaves) (spelled d commands small all.leaves)) all
+pub read_again : (d : ℕ) (commands : List Command) → d ≤ 20 → IsWithinLimits d commands → book_of d (text_of commands)
+    ≡ Ok commands
+read_again d commands small all = book_again d (text_of commands) commands
+    (rw (lines_written d commands small all.leaves) (spelled d commands small all.leaves)) all

@@ -1,6 +1,8 @@
 pub mod Commands
+pub mod Faults
 pub mod Limits
 pub mod Line
+pub mod Place
 pub mod Replay
 pub mod Tally
 pub mod Text

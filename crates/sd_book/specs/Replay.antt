@@ -1,7 +1,7 @@
--- A replay of a book, which stands between two of its commands or after its end.
-use Rattle.std.specs.Prelude.{◌≡◌, ℕ, ◌+◌, ◌-◌, ◌≤◌, List, take, length}
+-- A replay of a book, one period after the other.
+use Rattle.std.specs.Prelude.{◌≡◌, ℕ, zero, suc, List, [], ◌++◌}
 use Rattle.sd_book.specs.declared.command.Command.{Command}
-use Rattle.sd_book.specs.Commands.{last_period, revoked_after}
+use Rattle.sd_book.specs.Commands.{commands_in, commands_until, is_revoked, revoked_after}
 
 -- a replay as contracts see it: the book's height and commands, and the number of the period that comes next
 pub record ReplayValue : Type 0 where
@@ -9,9 +9,15 @@ pub record ReplayValue : Type 0 where
   pub commands : List Command
   pub next : ℕ
 
--- what is kept when some of a book's commands are taken: the leaves that are revoked after them, and the period that they end in,
--- which is the one after the last where the end of the book is taken too
-pub record IsReplay (d : ℕ) (commands : List Command) (taken number : ℕ) (kept : List ℕ) : Type 0 where
-  pub within : taken ≤ length commands + 1
-  pub period : number ≡ last_period (take taken commands) + (taken - length commands)
-  pub revoked : kept ≡ revoked_after d (take taken commands)
+-- the commands that decide the period before q
+abbrev pub decided_before : List Command → ℕ → List Command
+decided_before commands zero = []
+decided_before commands (suc q) = commands_until q commands
+
+-- What is kept while period q comes next: the leaves that are revoked after some commands. They are those that decide
+-- the period before, and, where memory ran out, some of period q, which are taken anew and come to the same then
+pub record IsReplay (d : ℕ) (commands : List Command) (q : ℕ) (kept : List ℕ) : Type 0 where
+  pub taken : List Command
+  pub revoked : kept ≡ revoked_after d taken
+  pub again : (u : ℕ) → is_revoked (taken ++ commands_in commands q) u
+      ≡ is_revoked (decided_before commands q ++ commands_in commands q) u

@@ -1,15 +1,17 @@
 -- The book file: one command a line [this project, docs/FORMATS.md, Book].
-use Rattle.std.specs.Prelude.{◌≡◌, ℕ, ◌+◌, nat_lt, nat_le, List, [], ◌∷◌, ◌++◌, map, length, codes, bytes_eq, if◌then◌else◌, Option, Some, None, Result, Ok, Err, option_map}
+use Rattle.std.specs.Prelude.{◌≡◌, ℕ, ◌+◌, nat_lt, nat_le, List, [], ◌∷◌, ◌++◌, map, length, codes, bytes_eq}
+use Rattle.std.specs.Prelude.{if◌then◌else◌, Option, Some, None, Result, Ok, Err, option_map}
 use Rattle.std.specs.Fmt.{decimal}
 use Rattle.std.specs.List.{flat_map}
 use Rattle.sd_text.specs.Lines.{lines_of}
 use Rattle.sd_text.specs.Number.{decimal_after}
+use Rattle.sd_tree.specs.declared.leaf.TheConstants.{MOST_REVOKED}
 use Rattle.sd_book.specs.declared.command.Command.{Command}
 use Rattle.sd_book.specs.declared.command.Command.TheVariants.{Subscribe, Revoke, Period}
 use Rattle.sd_book.specs.declared.fault.BookFault.{BookFault}
 use Rattle.sd_book.specs.declared.fault.BookFault.TheVariants.{Line, Leaf, Limit}
-use Rattle.sd_book.specs.declared.fault.BookLimit.{BookLimit}
 use Rattle.sd_book.specs.declared.fault.BookLimit.TheVariants.{Lines, Periods, Revoked}
+use Rattle.sd_book.specs.declared.limits.TheConstants.{MOST_COMMANDS, MOST_PERIODS}
 use Rattle.sd_book.specs.Commands.{is_within, is_period, last_period, revoked_after}
 
 -- the first of two that is there
@@ -17,15 +19,20 @@ abbrev pub first_there : Option Command → Option Command → Option Command
 first_there (Some command) other = Some command
 first_there None other = other
 
--- the command of a line in the grammar, whose leaf is any number
+-- the command of a line in the grammar, whose leaf is any number [this project, docs/FORMATS.md, Book]
 unfoldable pub command_of : List ℕ → Option Command
 command_of line =
     if bytes_eq line (codes "period") then Some Period
-    else first_there (option_map Subscribe (decimal_after (codes "subscribe ") line)) (option_map Revoke (decimal_after (codes "revoke ") line))
+    else first_there (option_map Subscribe (decimal_after (codes "subscribe ") line))
+    (option_map Revoke (decimal_after (codes "revoke ") line))
 
 -- the lines are these commands
 abbrev pub SpellsBook : List (List ℕ) → List Command → Type 0
 SpellsBook lines commands = map command_of lines ≡ map Some commands
+
+-- what each line of a text says: a command, or none
+abbrev pub said_by : List ℕ → List (Option Command)
+said_by bytes = map command_of (lines_of bytes)
 
 -- a step that is taken where the one before found no fault
 infixl 10 ◌>>=◌
@@ -40,38 +47,37 @@ in_tree d k (Some command) = if is_within d command then Ok command else Err (Le
 
 -- the period that these commands end with has no more revoked leaves than a period may have
 abbrev pub ended : {A : Type 0} → ℕ → List Command → A → Result A BookFault
-ended d commands value = if nat_lt 4096 (length (revoked_after d commands)) then Err (Limit (Revoked (last_period commands))) else Ok value
+ended d commands value =
+    if nat_lt MOST_REVOKED (length (revoked_after d commands)) then Err (Limit (Revoked (last_period commands)))
+    else Ok value
 
 -- a Period is to be within the limits on periods after these commands
 abbrev pub period_fits : ℕ → List Command → Command → Result Command BookFault
 period_fits d before command =
-    if is_period command then (if nat_le 1023 (last_period before) then Err (Limit Periods) else ended d before command) else Ok command
+    if is_period command
+    then (if nat_le MOST_PERIODS (last_period before) then Err (Limit Periods) else ended d before command)
+    else Ok command
 
--- a command after those commands, or the limit that it breaks: the number of lines comes first, and then the limits on periods
--- [this project, docs/FORMATS.md, Book]
+-- a command of the tree after those commands, or the limit that it breaks
 abbrev pub command_fits : ℕ → List Command → Command → Result Command BookFault
-command_fits d before command = if nat_le 1048576 (length before) then Err (Limit Lines) else period_fits d before command
+command_fits d before command =
+    if nat_le MOST_COMMANDS (length before) then Err (Limit Lines) else period_fits d before command
 
--- The command on a line after those commands, or what is wrong with it. On one line the number of lines comes first, and then the
--- form, the leaf and the limits on periods [this project, docs/FORMATS.md, Book]
-abbrev pub judged_line : ℕ → List Command → List ℕ → Result Command BookFault
-judged_line d before line =
-    if nat_le 1048576 (length before) then Err (Limit Lines)
-    else (in_tree d (length before + 1) (command_of line) >>= λ command. period_fits d before command)
+-- The command that a line says after those commands, or what is wrong with it. On one line the number of lines comes
+-- first, and then the form, the leaf and the limits on periods [this project, docs/FORMATS.md, Book]
+abbrev pub judged_line : ℕ → List Command → Option Command → Result Command BookFault
+judged_line d before said =
+    if nat_le MOST_COMMANDS (length before) then Err (Limit Lines)
+    else (in_tree d (length before + 1) said >>= λ command. period_fits d before command)
 
--- the commands with those of the lines after them: the first bad line decides, and what is judged after the last line comes last
-abbrev pub judged : ℕ → List Command → List (List ℕ) → Result (List Command) BookFault
+-- the commands with those that the lines after them say: the first bad line decides, and the last period comes last
+abbrev pub judged : ℕ → List Command → List (Option Command) → Result (List Command) BookFault
 judged d before [] = ended d before before
-judged d before (line ∷ lines) = judged_line d before line >>= λ command. judged d (before ++ command ∷ []) lines
+judged d before (said ∷ rest) = judged_line d before said >>= λ command. judged d (before ++ command ∷ []) rest
 
--- the commands with more after them, or the limit that a text of them breaks first [this project, docs/FORMATS.md, Book]
-abbrev pub appended : ℕ → List Command → List Command → Result (List Command) BookFault
-appended d before [] = ended d before before
-appended d before (command ∷ more) = command_fits d before command >>= λ fitting. appended d (before ++ fitting ∷ []) more
-
--- the fault is a broken limit
-abbrev pub IsLimit : BookFault → Type 0
-IsLimit fault = (limit : BookLimit) × (fault ≡ Limit limit)
+-- the commands of a book file for a tree of height d, or its first fault
+unfoldable pub book_of : ℕ → List ℕ → Result (List Command) BookFault
+book_of d bytes = judged d [] (said_by bytes)
 
 -- the line that says a command [this project, docs/FORMATS.md, Book]
 unfoldable pub line_of : Command → List ℕ
@@ -82,7 +88,3 @@ line_of Period = codes "period"
 -- the book file of these commands, a line feed after each line [this project, docs/FORMATS.md, Book]
 unfoldable pub text_of : List Command → List ℕ
 text_of commands = flat_map (λ command. line_of command ++ 10 ∷ []) commands
-
--- the commands of a book file for a tree of height d, or its first fault
-unfoldable pub book_of : ℕ → List ℕ → Result (List Command) BookFault
-book_of d bytes = judged d [] (lines_of bytes)

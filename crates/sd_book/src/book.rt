@@ -1,16 +1,20 @@
-ghost use Rattle.std.specs.Prelude.{◌≡◌, ◌⊎◌, ◌<◌, ◌≤◌, ◌^◌, ◌++◌, [], true, List, All, length, Ok, Err, IfOk, IfErr, OnOk, OnErr, MatchResult};
+ghost use Rattle.std.specs.Prelude.{◌≡◌, ◌⊎◌, ◌<◌, ◌≤◌, ◌^◌, ◌++◌, [], true, List, All, length, Ok, Err, IfOk, IfErr};
+ghost use Rattle.std.specs.Prelude.{OnOk, OnErr, MatchResult};
 ghost use Rattle.std.specs.List.Sorted.{IsStrictlyIncreasing};
 ghost use Rattle.sd_text.specs.Lines.{lines_of};
 ghost use Rattle.sd_book.specs.declared.command.Command.{Command as Commands};
 ghost use Rattle.sd_book.specs.Commands.{is_within, last_period as last_of, revoked as revoked_in};
+ghost use Rattle.sd_tree.specs.declared.leaf.TheConstants.{MOST_REVOKED};
+ghost use Rattle.sd_book.specs.declared.limits.TheConstants.{MOST_PERIODS};
 ghost use Rattle.sd_book.specs.Limits.{IsWithinLimits};
-ghost use Rattle.sd_book.specs.Text.{SpellsBook, IsLimit, appended, book_of, text_of};
+ghost use Rattle.sd_book.specs.Faults.{IsCauseOf, IsFirstLimit};
+ghost use Rattle.sd_book.specs.Text.{SpellsBook, book_of, said_by, text_of};
 
-use crate::appending::fits_after;
 use crate::command::Command;
+use crate::draft::Draft;
 use crate::fault::BookFault;
 use crate::periods::{last_period, until};
-use crate::reading::commands_of;
+use crate::reading::draft_of;
 use crate::replay::Periods;
 use crate::tally::revoked_after;
 use crate::writing::text_of;
@@ -43,7 +47,7 @@ impl Book {
     /// A book with no command. Nothing is allocated.
     pub fn new(alloc: Global, h: Height) -> Book
         ensures height { result.height ≡ h }
-        ensures commands { result.commands ≡ [] }
+        ensures value { result.commands ≡ [] }
     {
         Book {
             height: h,
@@ -51,55 +55,59 @@ impl Book {
         }
     }
 
+    /// The book of these commands.
+    pub(crate) fn of(h: Height, list: Vec<Command>) -> Book
+        requires height { h ≤ 20 }
+        requires fits { IsWithinLimits h list.items }
+        ensures height { result.height ≡ h }
+        ensures value { result.commands ≡ list.items }
+    {
+        Book { height: h, list }
+    }
+
     /// The book that a file's bytes say, one command a line.
     ///
-    /// Lines are judged in order, and the first bad one decides. On one line the order is `Limit(Lines)` at line 1,048,577,
-    /// `Line`, `Leaf`, `Limit(Periods)` at the 1,024th Period, and `Limit(Revoked)` at the Period that ends a period with more
-    /// than 4,096 revoked leaves. The last period is judged after the last line (docs/FORMATS.md, Book).
-    #[tactic(auto, using(crate::proofs::Judged::book_within, crate::proofs::Judged::book_spelled, crate::proofs::Judged::book_again))]
+    /// Lines are judged in order, and the first bad one decides. On one line the order is `Limit(Lines)`, `Line`,
+    /// `Leaf`, `Limit(Periods)`, `Limit(Revoked)`. The last period is judged after the last line
+    /// [this project, docs/FORMATS.md, Book].
+    #[tactic(auto, using(crate::proofs::Causes::end_cause))]
     pub fn read(alloc: Global, bytes: &[u8], h: Height) -> Result<Book, BookFault>
         ensures height { IfOk result (λ book. book.height ≡ h) }
-        ensures limits { IfOk result (λ book. IsWithinLimits h book.commands) }
-        // What is read is spelled so.
-        ensures found { IfOk result (λ book. SpellsBook (lines_of bytes.now) book.commands) }
-        // What is spelled so, within the limits, is read.
-        ensures only { (commands : List Commands) → SpellsBook (lines_of bytes.now) commands → IsWithinLimits h commands →
+        ensures fits { IfOk result (λ book. IsWithinLimits h book.commands) }
+        ensures sound { IfOk result (λ book. SpellsBook (lines_of bytes.now) book.commands) }
+        ensures complete { (commands : List Commands) →
+            SpellsBook (lines_of bytes.now) commands → IsWithinLimits h commands →
             MatchResult result (λ book. book.commands ≡ commands) (λ fault. fault ≡ BookFault.NoMemory) }
-        // Which fault it is.
-        ensures exact { MatchResult result (λ book. book_of h bytes.now ≡ Ok book.commands)
+        ensures fault { IfErr result (λ fault. (fault ≡ BookFault.NoMemory) ⊎ IsCauseOf h (said_by bytes.now) fault) }
+        // The whole answer, as one value.
+        ensures value { MatchResult result (λ book. book_of h bytes.now ≡ Ok book.commands)
             (λ fault. (fault ≡ BookFault.NoMemory) ⊎ (book_of h bytes.now ≡ Err fault)) }
     {
-        let list = commands_of(alloc, bytes, h)?;
-        Ok(Book { height: h, list })
+        draft_of(alloc, bytes, h)?.finish()
     }
 
     /// Appends these commands, all or none.
     ///
     /// The one fault beside `NoMemory` is the limit that a file of the longer book would break first.
-    #[tactic(auto, using(crate::proofs::Longer::longer_within, crate::proofs::Longer::appended_again, crate::proofs::Longer::limits_alone))]
     pub fn apply(&mut self, commands: &[Command]) -> Result<(), BookFault>
         requires leaves { All (λ command. is_within self.old.height command ≡ true) commands.now }
         ensures height { self.new.height ≡ self.old.height }
-        ensures commands { OnOk result (self.new.commands ≡ self.old.commands ++ commands.now) }
+        ensures value { OnOk result (self.new.commands ≡ self.old.commands ++ commands.now) }
         ensures unchanged { OnErr result (self.new ≡ self.old) }
-        // What is within the limits is appended.
-        ensures only { IsWithinLimits self.old.height (self.old.commands ++ commands.now) →
+        ensures complete { IsWithinLimits self.old.height (self.old.commands ++ commands.now) →
             IfErr result (λ fault. fault ≡ BookFault.NoMemory) }
-        // Which limit it is.
-        ensures exact { MatchResult result (λ _. appended self.old.height self.old.commands commands.now ≡ Ok (self.old.commands ++ commands.now))
-            (λ fault. (fault ≡ BookFault.NoMemory) ⊎ (appended self.old.height self.old.commands commands.now ≡ Err fault)) }
-        ensures limit { IfErr result (λ fault. (fault ≡ BookFault.NoMemory) ⊎ IsLimit fault) }
+        ensures fault { IfErr result (λ fault. (fault ≡ BookFault.NoMemory) ⊎
+            IsFirstLimit self.old.height (self.old.commands ++ commands.now) fault) }
     {
         let alloc = *self.list.allocator();
-        fits_after(alloc, self.height, &self.list, commands)?;
-        self.list.extend_from_slice(commands)?;
+        *self = longer(alloc, self.height, &self.list, commands)?;
         Ok(())
     }
 
     /// The commands, in their order.
     pub fn commands(&self) -> &[Command]
         ensures value { result.now ≡ self.now.commands }
-        ensures limits { IsWithinLimits self.now.height self.now.commands }
+        ensures fits { IsWithinLimits self.now.height self.now.commands }
     {
         &self.list
     }
@@ -114,7 +122,7 @@ impl Book {
     /// The number of the last period, counted from 0.
     pub fn last_period(&self) -> u32
         ensures value { result ≡ last_of self.now.commands }
-        ensures limit { result ≤ 1023 }
+        ensures fits { result ≤ MOST_PERIODS }
     {
         last_period(&self.list)
     }
@@ -124,7 +132,7 @@ impl Book {
     pub fn revoked(&self, alloc: Global, q: u32) -> Result<Vec<Leaf>, NoMemory>
         requires { q ≤ last_of self.now.commands }
         ensures value { IfOk result (λ leaves. leaves.items ≡ revoked_in self.now.height self.now.commands q) }
-        ensures count { IfOk result (λ leaves. length leaves.items ≤ 4096) }
+        ensures fits { IfOk result (λ leaves. length leaves.items ≤ MOST_REVOKED) }
         ensures below { IfOk result (λ leaves. All (λ leaf. leaf < 2 ^ self.now.height) leaves.items) }
         ensures ascending { IfOk result (λ leaves. IsStrictlyIncreasing leaves.items) }
     {
@@ -135,7 +143,7 @@ impl Book {
     pub fn periods(&self, alloc: Global) -> Periods<'_>
         ensures height { result.height ≡ self.now.height }
         ensures commands { result.commands ≡ self.now.commands }
-        ensures limits { IsWithinLimits self.now.height self.now.commands }
+        ensures fits { IsWithinLimits self.now.height self.now.commands }
         ensures next { result.next ≡ 0 }
     {
         Periods::new(alloc, self.height, &self.list)
@@ -150,4 +158,21 @@ impl Book {
     {
         text_of(alloc, &self.list).map_err(|_| NoMemory)
     }
+}
+
+/// The book of commands within the limits and of more after them.
+fn longer(alloc: Global, h: Height, before: &[Command], more: &[Command]) -> Result<Book, BookFault>
+    requires height { h ≤ 20 }
+    requires before { IsWithinLimits h before.now }
+    requires leaves { All (λ command. is_within h command ≡ true) more.now }
+    ensures height { IfOk result (λ book. book.height ≡ h) }
+    ensures value { IfOk result (λ book. book.commands ≡ before.now ++ more.now) }
+    ensures fault { IfErr result (λ fault. (fault ≡ BookFault.NoMemory) ⊎
+        IsFirstLimit h (before.now ++ more.now) fault) }
+{
+    let mut draft = Draft::of(alloc, h, before)?;
+    for command in more {
+        draft.push(*command)?;
+    }
+    draft.finish()
 }

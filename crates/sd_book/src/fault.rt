@@ -7,14 +7,14 @@ use thiserror::Error;
 /// A limit of a book.
 #[derive(Clone, Copy, Debug, PartialEq, Eq, Error)]
 pub enum BookLimit {
-    /// It has at most 1,048,576 commands.
-    #[error("it has more than 1048576 commands")]
+    /// It has at most [`MOST_COMMANDS`](crate::MOST_COMMANDS) commands.
+    #[error("it has too many commands")]
     Lines,
-    /// It has at most 1,023 Period commands, so 1,024 periods.
-    #[error("it has more than 1024 periods")]
+    /// It has at most [`MOST_PERIODS`](crate::MOST_PERIODS) Period commands.
+    #[error("it has too many periods")]
     Periods,
-    /// At most 4,096 leaves are revoked at the end of this period.
-    #[error("more than 4096 leaves are revoked in period {0}")]
+    /// At most [`MOST_REVOKED`](sd_tree::MOST_REVOKED) leaves are revoked at the end of this period.
+    #[error("too many leaves are revoked in period {0}")]
     Revoked(u32),
 }
 
@@ -30,8 +30,8 @@ pub enum BookFault {
     /// The book breaks a limit.
     #[error("the book breaks a limit: {0}")]
     Limit(BookLimit),
-    /// Memory is wanting.
-    #[error("memory is wanting")]
+    /// Out of memory.
+    #[error("out of memory")]
     NoMemory,
 }
 
@@ -47,6 +47,14 @@ impl<T: Drop> From<AllocFailed<T>> for BookFault {
     ghost from_gives = { λ _ e. e ≡ NoMemory };
 
     fn from(_error: AllocFailed<T>) -> BookFault {
+        BookFault::NoMemory
+    }
+}
+
+impl From<sd_cause::NoMemory> for BookFault {
+    ghost from_gives = { λ _ e. e ≡ NoMemory };
+
+    fn from(_error: sd_cause::NoMemory) -> BookFault {
         BookFault::NoMemory
     }
 }

@@ -1,13 +1,15 @@
 //! The book of subscribe, revoke and period commands, which says who is revoked in each period.
 #![tactic(auto)]
 
-mod appending;
 mod book;
 mod command;
+mod draft;
 mod fault;
 pub mod laws;
+mod limits;
 mod line;
 mod periods;
+mod place;
 mod reading;
 mod replay;
 mod tally;
@@ -15,7 +17,10 @@ mod writing;
 
 pub use book::Book;
 pub use command::Command;
+pub use draft::Draft;
 pub use fault::{BookFault, BookLimit};
+pub use limits::{MOST_COMMANDS, MOST_PERIODS};
+pub use place::Place;
 pub use replay::Periods;
 
 #[cfg(test)]

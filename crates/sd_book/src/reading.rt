@@ -1,48 +1,47 @@
-ghost use Rattle.std.specs.Prelude.{◌≡◌, ◌≤◌, ◌⊎◌, ◌+◌, Ok, Err, MatchResult, length};
-ghost use Rattle.sd_book.specs.Tally.{IsTally};
-ghost use Rattle.sd_book.specs.Text.{book_of, command_of, in_tree, judged_line};
+ghost use Rattle.std.specs.Prelude.{◌≡◌, ◌≤◌, ◌⊎◌, ◌+◌, [], Ok, Err, IfOk, IfErr, length, nat_le, if◌then◌else◌};
+ghost use Rattle.sd_text.specs.Lines.{lines_of};
+ghost use Rattle.sd_book.specs.declared.limits.TheConstants.{MOST_COMMANDS};
+ghost use Rattle.sd_book.specs.Faults.{IsCauseOf};
+ghost use Rattle.sd_book.specs.Limits.{IsDraft};
+ghost use Rattle.sd_book.specs.Text.{SpellsBook, command_of, in_tree, said_by};
 
 use crate::command::Command;
-use crate::fault::BookFault;
+use crate::draft::Draft;
+use crate::fault::{BookFault, BookLimit};
+use crate::limits::MOST_COMMANDS;
 use crate::line::{LineFault, command_on};
-use crate::tally::{Tally, line_fits};
 use sd_text::next_line;
 use sd_tree::Height;
 use std::alloc::Global;
 
-/// The commands of a book's text.
-#[tactic(auto, using(crate::proofs::Judged::judged_none, crate::proofs::Judged::judged_more), unfolding(crate::specs::Text::book_of))]
-pub(crate) fn commands_of(alloc: Global, bytes: &[u8], h: Height) -> Result<Vec<Command>, BookFault>
-    ensures { MatchResult result (λ list. book_of h bytes.now ≡ Ok list.items)
-        (λ fault. (fault ≡ BookFault.NoMemory) ⊎ (book_of h bytes.now ≡ Err fault)) }
+/// The draft with the commands of a book's text.
+#[tactic(auto, using(crate::proofs::Causes::line_cause, crate::proofs::Causes::push_cause))]
+pub(crate) fn draft_of(alloc: Global, bytes: &[u8], h: Height) -> Result<Draft, BookFault>
+    ensures height { IfOk result (λ draft. draft.height ≡ h) }
+    ensures fits { IfOk result (λ draft. IsDraft h draft.commands) }
+    ensures sound { IfOk result (λ draft. SpellsBook (lines_of bytes.now) draft.commands) }
+    ensures fault { IfErr result (λ fault. (fault ≡ BookFault.NoMemory) ⊎ IsCauseOf h (said_by bytes.now) fault) }
 {
-    let mut list = Vec::new(alloc);
-    let mut tally = Tally::new(alloc, h)?;
+    let mut draft = Draft::new(alloc, h)?;
     let mut rest = bytes;
     while let Some((line, after)) = next_line(rest) {
-        let command = judged_line(line, h, &list, &tally)?;
-        tally.take(&command);
-        list.push(command)?;
+        let command = judged_line(line, h, draft.commands().len())?;
+        draft.push(command)?;
         rest = after;
     }
-    tally.ended()?;
-    Ok(list)
+    Ok(draft)
 }
 
-/// The command on the line after these commands, whose tally this is.
-fn judged_line(
-    line: &[u8],
-    h: Height,
-    before: &[Command],
-    tally: &Tally,
-) -> Result<Command, BookFault>
-    requires { IsTally h before.now tally.now.marks.items tally.now.revoked tally.now.period }
-    ensures { result ≡ judged_line h before.now line.now }
+/// The command on the line after so many.
+fn judged_line(line: &[u8], h: Height, count: usize) -> Result<Command, BookFault>
+    requires { count ≤ MOST_COMMANDS }
+    ensures { result ≡ (if nat_le MOST_COMMANDS count then Err (BookFault.Limit BookLimit.Lines)
+        else in_tree h (count + 1) (command_of line.now)) }
 {
-    line_fits(before.len())?;
-    let command = in_tree(line, h, before.len() as u32 + 1)?;
-    tally.follows(&command)?;
-    Ok(command)
+    if count >= MOST_COMMANDS {
+        return Err(BookFault::Limit(BookLimit::Lines));
+    }
+    in_tree(line, h, count as u32 + 1)
 }
 
 /// The command on line k.

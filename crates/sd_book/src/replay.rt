@@ -1,24 +1,27 @@
-ghost use Rattle.std.specs.Prelude.{◌≡◌, ◌≤◌, ◌<◌, ◌^◌, ◌+◌, ◌++◌, ◌∷◌, [], ◌↔◌, ℕ, true, List, All, length, is_some, if◌then◌else◌, slice_index_or, IfOk, IfSome, OnOk, OnErr, IsNone};
+ghost use Rattle.std.specs.Prelude.{◌≡◌, ◌≤◌, ◌<◌, ◌^◌, ◌+◌, ◌++◌, ◌∷◌, [], ◌↔◌, ℕ, true, List, All, length, is_some};
+ghost use Rattle.std.specs.Prelude.{if◌then◌else◌, take as take_of, IfOk, IfSome, OnOk, OnErr, IsNone};
 ghost use Rattle.std.specs.List.Sorted.{IsStrictlyIncreasing};
+ghost use Rattle.sd_tree.specs.declared.leaf.TheConstants.{MOST_REVOKED};
 ghost use Rattle.sd_book.specs.declared.command.Command.{Command as Commands};
 ghost use Rattle.sd_book.specs.Commands.{is_within, last_period, revoked as revoked_in, revoked_after};
 ghost use Rattle.sd_book.specs.Limits.{IsWithinLimits};
+ghost use Rattle.sd_book.specs.Place.{IsPlaceIn};
 ghost use Rattle.sd_book.specs.Replay.{IsReplay};
 
 use crate::command::Command;
+use crate::place::Place;
 use sd_cause::NoMemory;
 use sd_tree::{Height, Leaf};
 use std::alloc::Global;
 use std::collections::BTreeSet;
 use std::marker::Model;
 
-/// A replay of a book, one period after the other, which takes each command once.
+/// A replay of a book, one period after the other, which takes each command once unless memory runs out.
 #[derive(Drop)]
 pub struct Periods<'a> {
     height: Height,
     commands: &'a [Command],
-    taken: usize,
-    next: u32,
+    place: Place,
     revoked: BTreeSet<Leaf>,
 }
 
@@ -28,11 +31,13 @@ impl<'a> Model for Periods<'a> {
     ghost Value = { ReplayValue };
 
     ghost use Rattle.sd_book.specs.Limits.{IsWithinLimits};
+    ghost use Rattle.sd_book.specs.Place.{IsPlaceIn};
     ghost use Rattle.sd_book.specs.Replay.{IsReplay};
 
-    ghost view = { λ p. record { height = p.height; commands = p.commands.now; next = p.next } };
+    ghost view = { λ p. record { height = p.height; commands = p.commands.now; next = p.place.next } };
 
-    ghost invariant = { λ p. IsWithinLimits p.height p.commands.now × IsReplay p.height p.commands.now p.taken p.next p.revoked.keys };
+    ghost invariant = { λ p. IsWithinLimits p.height p.commands.now × IsPlaceIn p.commands.now p.place
+        × IsReplay p.height p.commands.now p.place.next p.revoked.keys };
 }
 
 impl<'a> Periods<'a> {
@@ -47,8 +52,7 @@ impl<'a> Periods<'a> {
         Periods {
             height,
             commands,
-            taken: 0,
-            next: 0,
+            place: Place::new(),
             revoked: BTreeSet::new(alloc),
         }
     }
@@ -56,47 +60,43 @@ impl<'a> Periods<'a> {
     /// The leaves that are revoked in the next period, ascending, each once, or `None` after the last period.
     ///
     /// After a fault the period is still the next one.
-    #[tactic(auto, using(crate::proofs::Replays::period_within, crate::proofs::Replays::period_after))]
     pub fn next(&mut self, alloc: Global) -> Result<Option<Vec<Leaf>>, NoMemory>
         ensures height { self.new.height ≡ self.old.height }
         ensures commands { self.new.commands ≡ self.old.commands }
-        ensures next { IfOk result (λ found. self.new.next ≡ (if is_some found then self.old.next + 1 else self.old.next)) }
+        ensures next { IfOk result (λ found.
+            self.new.next ≡ (if is_some found then self.old.next + 1 else self.old.next)) }
         ensures end { IfOk result (λ found. IsNone found ↔ (last_period self.old.commands < self.old.next)) }
-        ensures value { IfOk result (λ found. IfSome found (λ leaves. leaves.items ≡ revoked_in self.old.height self.old.commands self.old.next)) }
-        ensures count { IfOk result (λ found. IfSome found (λ leaves. length leaves.items ≤ 4096)) }
-        ensures below { IfOk result (λ found. IfSome found (λ leaves. All (λ leaf. leaf < 2 ^ self.old.height) leaves.items)) }
+        ensures value { IfOk result (λ found. IfSome found (λ leaves.
+            leaves.items ≡ revoked_in self.old.height self.old.commands self.old.next)) }
+        ensures fits { IfOk result (λ found. IfSome found (λ leaves. length leaves.items ≤ MOST_REVOKED)) }
+        ensures below { IfOk result (λ found. IfSome found (λ leaves.
+            All (λ leaf. leaf < 2 ^ self.old.height) leaves.items)) }
         ensures ascending { IfOk result (λ found. IfSome found (λ leaves. IsStrictlyIncreasing leaves.items)) }
         ensures unchanged { OnErr result (self.new ≡ self.old) }
     {
-        if self.taken > self.commands.len() {
+        let mut place = self.place;
+        let Some(commands) = place.next_in(self.commands) else {
             return Ok(None);
-        }
-        take_period(self.commands, &mut self.taken, &mut self.revoked)?;
+        };
+        take_all(&mut self.revoked, commands)?;
         let leaves = listed(alloc, &self.revoked)?;
-        self.taken += 1;
-        self.next += 1;
+        self.place = place;
         Ok(Some(leaves))
     }
 }
 
-/// Takes the commands up to the next Period, or to the end where none comes.
+/// Takes these commands into the revoked leaves, or some of them where memory runs out.
 #[tactic(auto, using(crate::proofs::Replays::one_taken))]
-fn take_period(
-    commands: &[Command],
-    taken: &mut usize,
-    revoked: &mut BTreeSet<Leaf>,
-) -> Result<(), NoMemory>
-    requires { taken.old ≤ length commands.now }
-    ensures within { taken.new ≤ length commands.now }
-    ensures replay { (d number : ℕ) → IsWithinLimits d commands.now → IsReplay d commands.now taken.old number revoked.old.keys →
-        IsReplay d commands.now taken.new number revoked.new.keys }
-    ensures period { OnOk result (slice_index_or commands.now taken.new Commands.Period ≡ Commands.Period) }
+fn take_all(revoked: &mut BTreeSet<Leaf>, commands: &[Command]) -> Result<(), NoMemory>
+    ensures value { (d : ℕ) (before : List Commands) → revoked.old.keys ≡ revoked_after d before →
+        All (λ command. is_within d command ≡ true) commands.now →
+        OnOk result (revoked.new.keys ≡ revoked_after d (before ++ commands.now)) }
+    ensures fault { (d : ℕ) (before : List Commands) → revoked.old.keys ≡ revoked_after d before →
+        All (λ command. is_within d command ≡ true) commands.now →
+        (count : ℕ) × (revoked.new.keys ≡ revoked_after d (before ++ take_of count commands.now)) }
 {
-    while let Some(command) = commands.get(*taken)
-        && *command != Command::Period
-    {
+    for command in commands {
         take(revoked, command)?;
-        *taken += 1;
     }
     Ok(())
 }
@@ -104,7 +104,8 @@ fn take_period(
 /// Takes one more command into the revoked leaves.
 #[tactic(auto, using(crate::proofs::Kept::kept_subscribe, crate::proofs::Kept::kept_revoke, crate::proofs::Kept::kept_period))]
 fn take(revoked: &mut BTreeSet<Leaf>, command: &Command) -> Result<(), NoMemory>
-    ensures ok { (d : ℕ) (commands : List Commands) → revoked.old.keys ≡ revoked_after d commands → is_within d command.now ≡ true →
+    ensures value { (d : ℕ) (commands : List Commands) → revoked.old.keys ≡ revoked_after d commands →
+        is_within d command.now ≡ true →
         OnOk result (revoked.new.keys ≡ revoked_after d (commands ++ command.now ∷ [])) }
     ensures unchanged { OnErr result (revoked.new.keys ≡ revoked.old.keys) }
 {

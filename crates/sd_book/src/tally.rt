@@ -1,18 +1,16 @@
-ghost use Rattle.std.specs.Prelude.{◌≡◌, ◌<◌, ◌≤◌, ◌^◌, ℕ, true, [], ◌∷◌, ◌++◌, List, All, IfOk, slice_set, vec_len, count_by, nat_le, if◌then◌else◌, Ok, Err};
+ghost use Rattle.std.specs.Prelude.{◌≡◌, ◌<◌, ◌≤◌, ◌^◌, ℕ, true, [], ◌∷◌, ◌++◌, List, All, IfOk, slice_set, vec_len};
+ghost use Rattle.std.specs.Prelude.{count_by, nat_le, Ok, Err};
 ghost use Rattle.sd_book.specs.declared.command.Command.{Command as Commands};
-ghost use Rattle.sd_book.specs.Commands.{is_period, is_within, last_period, revoked_after};
-ghost use Rattle.sd_book.specs.Tally.{IsTally, marked_from, limited, followed};
+ghost use Rattle.sd_book.specs.declared.limits.TheConstants.{MOST_PERIODS};
+ghost use Rattle.sd_book.specs.Commands.{is_within, last_period, revoked_after};
+ghost use Rattle.sd_book.specs.Tally.{IsTally, marked_from};
+ghost use Rattle.sd_book.specs.Text.{ended};
 
 use crate::command::Command;
 use crate::fault::{BookFault, BookLimit};
-use sd_tree::{Height, Leaf};
+use crate::limits::MOST_PERIODS;
+use sd_tree::{Height, Leaf, MOST_REVOKED};
 use std::alloc::{AllocError, Global};
-
-const MOST_COMMANDS: usize = 1_048_576;
-
-const MOST_PERIODS: u32 = 1023;
-
-const MOST_REVOKED: u32 = 4096;
 
 /// What some commands come to: the leaves that are revoked after them, and the period that they end in.
 #[derive(Drop)]
@@ -42,10 +40,10 @@ impl Tally {
     }
 
     /// The tally of these commands.
-    #[tactic(auto, using(crate::proofs::Cuts::period_front))]
+    #[tactic(auto, using(crate::proofs::Cuts::period_prefix))]
     pub(crate) fn of(alloc: Global, h: Height, commands: &[Command]) -> Result<Tally, AllocError>
         requires leaves { All (λ command. is_within h command ≡ true) commands.now }
-        requires periods { last_period commands.now ≤ 1023 }
+        requires periods { last_period commands.now ≤ MOST_PERIODS }
         ensures height { IfOk result (λ tally. tally.height ≡ h) }
         ensures tally { IfOk result (λ tally. IsTally h commands.now tally.marks.items tally.revoked tally.period) }
     {
@@ -59,10 +57,12 @@ impl Tally {
     /// Takes one more command.
     pub(crate) fn take(&mut self, command: &Command)
         requires leaf { is_within self.old.height command.now ≡ true }
-        requires period { self.old.period ≤ 1023 }
+        requires period { self.old.period ≤ MOST_PERIODS }
         ensures height { self.new.height ≡ self.old.height }
-        ensures tally { (commands : List Commands) → IsTally self.old.height commands self.old.marks.items self.old.revoked self.old.period →
-            IsTally self.old.height (commands ++ command.now ∷ []) self.new.marks.items self.new.revoked self.new.period }
+        ensures tally { (commands : List Commands) →
+            IsTally self.old.height commands self.old.marks.items self.old.revoked self.old.period →
+            IsTally self.old.height (commands ++ command.now ∷ [])
+            self.new.marks.items self.new.revoked self.new.period }
     {
         match *command {
             Command::Subscribe(leaf) => self.mark(leaf, false),
@@ -85,34 +85,31 @@ impl Tally {
         self.marks[u] = mark;
     }
 
-    /// Whether a Period may come next.
-    pub(crate) fn period_fits(&self) -> Result<(), BookFault>
-        ensures { result ≡ followed self.now.revoked self.now.period }
+    /// The height of the tree.
+    pub(crate) fn height(&self) -> Height
+        ensures { result ≡ self.now.height }
     {
-        if self.period >= MOST_PERIODS {
-            return Err(BookFault::Limit(BookLimit::Periods));
-        }
-        self.ended()
-    }
-
-    /// Whether this command may come next.
-    pub(crate) fn follows(&self, command: &Command) -> Result<(), BookFault>
-        ensures { result ≡ (if is_period command.now then followed self.now.revoked self.now.period else Ok tt) }
-    {
-        if *command == Command::Period {
-            self.period_fits()?;
-        }
-        Ok(())
+        self.height
     }
 
     /// Whether the period may end here.
-    pub(crate) fn ended(&self) -> Result<(), BookFault>
-        ensures { result ≡ limited self.now.revoked self.now.period }
+    #[tactic(auto, using(crate::proofs::Tallies::end_by_tally, crate::proofs::Tallies::crowd_by_tally))]
+    pub(crate) fn may_end(&self) -> Result<(), BookFault>
+        ensures { (commands : List Commands) →
+            IsTally self.now.height commands self.now.marks.items self.now.revoked self.now.period →
+            ended self.now.height commands tt ≡ result }
     {
-        if self.revoked > MOST_REVOKED {
+        if self.revoked as usize > MOST_REVOKED {
             return Err(BookFault::Limit(BookLimit::Revoked(self.period)));
         }
         Ok(())
+    }
+
+    /// Whether this is the last period that a book may have.
+    pub(crate) fn is_last(&self) -> bool
+        ensures { result ≡ nat_le MOST_PERIODS self.now.period }
+    {
+        self.period >= MOST_PERIODS
     }
 
     /// The leaves that are revoked, ascending.
@@ -130,16 +127,6 @@ impl Tally {
     }
 }
 
-/// Whether a line may stand after this number of lines.
-pub(crate) fn line_fits(count: usize) -> Result<(), BookFault>
-    ensures { result ≡ (if nat_le 1048576 count then Err (BookFault.Limit BookLimit.Lines) else Ok tt) }
-{
-    if count >= MOST_COMMANDS {
-        return Err(BookFault::Limit(BookLimit::Lines));
-    }
-    Ok(())
-}
-
 /// The leaves that are revoked after these commands, ascending.
 #[tactic(auto, using(crate::proofs::Tallies::tally_leaves))]
 pub(crate) fn revoked_after(
@@ -148,7 +135,7 @@ pub(crate) fn revoked_after(
     commands: &[Command],
 ) -> Result<Vec<Leaf>, AllocError>
     requires leaves { All (λ command. is_within h command ≡ true) commands.now }
-    requires periods { last_period commands.now ≤ 1023 }
+    requires periods { last_period commands.now ≤ MOST_PERIODS }
     ensures { IfOk result (λ leaves. leaves.items ≡ revoked_after h commands.now) }
 {
     Tally::of(alloc, h, commands)?.leaves(alloc)

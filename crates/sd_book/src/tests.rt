@@ -50,46 +50,25 @@ fn numbers(alloc: Global, leaves: &[Leaf]) -> Result<Vec<u32>, AllocError> {
 }
 
 #[test]
-fn commands_in_order(rt: HostRuntime) -> Result<(), Fail> {
+fn commands_of_each_period(rt: HostRuntime) -> Result<(), Fail> {
     let alloc = rt.alloc();
     let h = height(3)?;
-    let book = Book::read(alloc, b"revoke 5\nperiod\nsubscribe 2\n", h)
-        .ok()
-        .ok_or("a book")?;
-    let five = Leaf::new(h, 5).ok_or("a leaf")?;
-    let two = Leaf::new(h, 2).ok_or("a leaf")?;
-    assert_eq!(rt; book.height(), h);
-    assert_eq!(rt;
-        book.commands(),
-        [
-            Command::Revoke(five),
-            Command::Period,
-            Command::Subscribe(two)
-        ]
-        .as_slice()
-    );
-    assert!(rt; Book::new(alloc, h).commands().is_empty());
-    Ok(())
-}
-
-#[test]
-fn faults(rt: HostRuntime) -> Result<(), Fail> {
-    let rows: [(&[u8], BookFault); 10] = [
-        (b"revoke 8\n", BookFault::Leaf(1)),
-        (b"revoke 05\n", BookFault::Line(1)),
-        (b"revoke 5 \n", BookFault::Line(1)),
-        (b"revoke 5\r\n", BookFault::Line(1)),
-        (b"revoke 5\nperiod\n\nrevoke 6\n", BookFault::Line(3)),
-        (b"revoke 99999999999999999999\n", BookFault::Leaf(1)),
-        (b"Revoke 5\n", BookFault::Line(1)),
-        (b"period 1\n", BookFault::Line(1)),
-        (b"\xff\n", BookFault::Line(1)),
-        (b"revoke 1\nfoo\nrevoke 9\n", BookFault::Line(2)),
-    ];
-    let h = height(3)?;
-    for (text, fault) in rows {
-        assert_eq!(rt; Book::read(rt.alloc(), text, h).err(), Some(fault));
-    }
+    let five = Command::Revoke(Leaf::new(h, 5).ok_or("a leaf")?);
+    let two = Command::Subscribe(Leaf::new(h, 2).ok_or("a leaf")?);
+    let book = Book::read(
+        alloc,
+        b"revoke 5\nperiod\nperiod\nsubscribe 2\nrevoke 5\n",
+        h,
+    )
+    .ok()
+    .ok_or("a book")?;
+    let mut place = Place::new();
+    let none: &[Command] = &[];
+    assert_eq!(rt; place.next_commands(&book), Some([five].as_slice()));
+    assert_eq!(rt; place.next_commands(&book), Some(none));
+    assert_eq!(rt; place.next_commands(&book), Some([two, five].as_slice()));
+    assert_eq!(rt; place.next_commands(&book), None);
+    assert_eq!(rt; place.next_period(), 3);
     Ok(())
 }
 
@@ -106,16 +85,29 @@ fn text_of(alloc: Global, revokes: u32, periods: u32) -> Result<String, AllocErr
 }
 
 #[test]
-fn limits(rt: HostRuntime) -> Result<(), Fail> {
-    let rows = [
+fn faults(rt: HostRuntime) -> Result<(), Fail> {
+    let rows: [(&[u8], BookFault); 9] = [
+        (b"revoke 8\n", BookFault::Leaf(1)),
+        (b"revoke 05\n", BookFault::Line(1)),
+        (b"revoke 5 \n", BookFault::Line(1)),
+        (b"revoke 5\r\n", BookFault::Line(1)),
+        (b"revoke 5\nperiod\n\nrevoke 6\n", BookFault::Line(3)),
+        (b"revoke 99999999999999999999\n", BookFault::Leaf(1)),
+        (b"Revoke 5\n", BookFault::Line(1)),
+        (b"\xff\n", BookFault::Line(1)),
+        (b"revoke 1\nfoo\nrevoke 9\n", BookFault::Line(2)),
+    ];
+    for (text, fault) in rows {
+        assert_eq!(rt; Book::read(rt.alloc(), text, height(3)?).err(), Some(fault));
+    }
+    let limits = [
         (3, 0, 1023, None),
         (3, 0, 1024, Some(BookFault::Limit(BookLimit::Periods))),
-        (13, 4096, 0, None),
-        (13, 4097, 0, Some(BookFault::Limit(BookLimit::Revoked(0)))),
-        (13, 4096, 1, None),
-        (13, 4097, 1, Some(BookFault::Limit(BookLimit::Revoked(0)))),
+        (17, 65_536, 1, None),
+        (17, 65_537, 0, Some(BookFault::Limit(BookLimit::Revoked(0)))),
+        (17, 65_537, 1, Some(BookFault::Limit(BookLimit::Revoked(0)))),
     ];
-    for (d, revokes, periods, fault) in rows {
+    for (d, revokes, periods, fault) in limits {
         let text = text_of(rt.alloc(), revokes, periods)?;
         assert_eq!(rt;
             Book::read(rt.alloc(), text.as_bytes(), height(d)?).err(),
@@ -130,9 +122,9 @@ fn longer_books(rt: HostRuntime) -> Result<(), Fail> {
     let alloc = rt.alloc();
     let h = height(3)?;
     let five = Leaf::new(h, 5).ok_or("a leaf")?;
-    let mut book = Book::new(alloc, h);
-    assert_eq!(rt; book.write(alloc)?.as_slice(), b"".as_slice());
-    assert_eq!(rt; book.apply(&[Command::Revoke(five)]), Ok(()));
+    let mut draft = Draft::new(alloc, h)?;
+    assert_eq!(rt; draft.push(Command::Revoke(five)), Ok(()));
+    let mut book = draft.finish().ok().ok_or("a book")?;
     assert_eq!(rt;
         book.apply(&[Command::Period, Command::Subscribe(five)]),
         Ok(())

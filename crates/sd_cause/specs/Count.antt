@@ -18,3 +18,9 @@ pub record HasCause {T E : Type 0} (before now : ℕ) (result : Result T E) : Ty
   pub later : before ≤ now
   pub failed : OnErr result (Rose before now)
   pub calm : OnOk result (now ≡ before)
+
+-- the count rose where something failed, and else it stands as before
+pub record IsCaused (before now : ℕ) (Failed : Type 0) : Type 0 where
+  pub later : before ≤ now
+  pub failed : Failed → Rose before now
+  pub calm : ¬ Failed → now ≡ before

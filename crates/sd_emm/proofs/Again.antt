@@ -1,12 +1,14 @@
 -- What is spelled is read as what it was.
 use Rattle.std.proofs.Common.{◌≡◌, ℕ, suc, ◌+◌, ◌-◌, ◌*◌, ◌≤◌, List, [], ◌∷◌, ◌++◌, length, take, drop, get_or, append_assoc, length-append, length-take-le, arith, refl, sym, ap, ◌∙◌}
-use Rattle.std.specs.Prelude.{All, slice_index, replicate}
+use Rattle.std.specs.Prelude.{All, slice_index, flat_map}
 use Rattle.std.proofs.lemmas.List.{take_at, drop_at, take_all, get_or_at, take-append-drop}
 use Rattle.sd_bits.specs.Bits.{field}
 use Rattle.sd_tree.specs.declared.set.SetName.{SetName}
 use Rattle.sd_tree.specs.declared.set.SetName.TheVariants.{Whole, Diff}
 use Rattle.sd_message.proofs.Numbers.{half_again, word_again}
-use Rattle.sd_emm.specs.Spelled.{listed, name_bytes, entry_bytes, entries_bytes, front_bytes, emm_body}
+use Rattle.sd_message.proofs.Items.{items_again, long_items}
+use Rattle.sd_message.proofs.Pieces.{filled_again}
+use Rattle.sd_emm.specs.Spelled.{listed, name_bytes, entry_bytes, head_bytes, emm_body}
 use Rattle.sd_emm.specs.Form.{AreSets, IsEmm, Fits, nothing}
 use Rattle.sd_emm.specs.Fields.{name_of, entry_of, entries_in, padded, emm_in}
 use Rattle.sd_emm.specs.declared.emm.Entry.{Entry}
@@ -34,16 +36,6 @@ entry_alone entry fits =
     drop_at (name_bytes entry.name) entry.wrapped 8 (long_name entry.name) in
     rw (fits.name entry.wrapped, after, take_all 32 entry.wrapped (omega (arith, fits.wrapped))) refl
 
--- all entries
-entries_again : (es : List Entry) → All IsSpellable es → entries_in (length es) (entries_bytes es) ≡ es
-unfolding entries_in entries_bytes
-entries_again [] fits = refl
-entries_again (e ∷ es) fits =
-    let first = fits 0 e (omega arith) in
-    let long = long_entry e first in
-    let rest = entries_again es (λ k d h. fits (suc k) d (omega arith)) in
-    rw (take_at (entry_bytes e) (entries_bytes es) 40 long, drop_at (entry_bytes e) (entries_bytes es) 40 long, entry_alone e first, rest) refl
-
 -- entitlements by their fields
 abbrev made : ℕ → ℕ → ℕ → ℕ → List ℕ → ℕ → List Entry → Emm
 made period sets sections index check count entries =
@@ -69,44 +61,36 @@ all_spellable h emm high fits form sets k d below =
 padded_again : (emm : Emm) → Fits emm → IsEmm emm → padded (listed emm) ≡ emm.entries
 padded_again emm fits form =
     let few = few_entries emm form in
-    let long : length (listed emm) ≡ emm.count = length-take-le emm.count emm.entries (omega (arith, fits.entries)) in
-    ap (λ (n : ℕ). listed emm ++ replicate (3 - n) nothing) long
-    ∙ (ap (λ (es : List Entry). listed emm ++ es) (sym form.rest) ∙ take-append-drop emm.count emm.entries)
+    filled_again 3 emm.count nothing emm.entries (length-take-le emm.count emm.entries (omega (arith, fits.entries))) form.rest
 
 -- the body is read as what it spells
 pub body_again : (h : ℕ) (emm : Emm) → h ≤ 20 → Fits emm → IsEmm emm → AreSets h emm.sets (listed emm) →
     emm_in emm.index (emm_body emm) ≡ emm
-unfolding emm_in emm_body front_bytes
+unfolding emm_in emm_body head_bytes
 body_again h emm high fits form sets =
     let xs : List ℕ = emm_body emm in
-    let es : List ℕ = entries_bytes (listed emm) in
+    let es : List ℕ = flat_map entry_bytes (listed emm) in
     let few = few_entries emm form in
     let after : drop 10 xs ≡ emm.check ++ emm.count ∷ es = append_assoc emm.check (emm.count ∷ []) es in
     let count : slice_index xs 26 ≡ emm.count =
-    ap (λ (l : List ℕ). get_or l 16 0) after ∙ get_or_at emm.check emm.count es 0 16 fits.front.check in
+    ap (λ (l : List ℕ). get_or l 16 0) after ∙ get_or_at emm.check emm.count es 0 16 fits.head.check in
     let rest : drop 27 xs ≡ es =
-    drop_at (emm.check ++ emm.count ∷ []) es 17 (omega (arith, length-append emm.check (emm.count ∷ []), fits.front.check)) in
+    drop_at (emm.check ++ emm.count ∷ []) es 17 (omega (arith, length-append emm.check (emm.count ∷ []), fits.head.check)) in
     let long : emm.count ≡ length (listed emm) = sym (length-take-le emm.count emm.entries (omega (arith, fits.entries))) in
     let entries : entries_in (slice_index xs 26) (drop 27 xs) ≡ listed emm =
     ap (λ (n : ℕ). entries_in n (drop 27 xs)) (count ∙ long)
-    ∙ (ap (entries_in (length (listed emm))) rest ∙ entries_again (listed emm) (all_spellable h emm high fits form sets)) in
+    ∙ (ap (entries_in (length (listed emm))) rest ∙ items_again entry_of entry_bytes IsSpellable 40 (listed emm) long_entry entry_alone (all_spellable h emm high fits form sets)) in
     same_made _ emm.period _ emm.sets _ emm.sections emm.index _ emm.check _ emm.count _ emm.entries
-    (word_again xs 0 emm.period fits.front.period refl refl refl refl)
-    (word_again xs 4 emm.sets fits.front.sets refl refl refl refl)
-    (half_again xs 8 emm.sections fits.front.sections refl refl)
-    (ap (take 16) after ∙ take_at emm.check (emm.count ∷ es) 16 fits.front.check)
+    (word_again xs 0 emm.period fits.head.period refl refl refl refl)
+    (word_again xs 4 emm.sets fits.head.sets refl refl refl refl)
+    (half_again xs 8 emm.sections fits.head.sections refl refl)
+    (ap (take 16) after ∙ take_at emm.check (emm.count ∷ es) 16 fits.head.check)
     count
     (ap padded entries ∙ padded_again emm fits form)
 
-long_entries : (es : List Entry) → All IsSpellable es → length (entries_bytes es) ≡ 40 * length es
-unfolding entries_bytes
-long_entries [] fits = refl
-long_entries (e ∷ es) fits =
-    omega (arith, length-append (entry_bytes e) (entries_bytes es), long_entry e (fits 0 e (omega arith)), long_entries es (λ k d h. fits (suc k) d (omega arith)))
-
 -- how long the body is
-pub long_body : (emm : Emm) → length emm.check ≡ 16 → length (front_bytes emm) ≡ 27
-unfolding front_bytes
+pub long_body : (emm : Emm) → length emm.check ≡ 16 → length (head_bytes emm) ≡ 27
+unfolding head_bytes
 long_body emm check = omega (arith, length-append emm.check (emm.count ∷ []))
 
 pub long_whole : (h : ℕ) (emm : Emm) → h ≤ 20 → Fits emm → IsEmm emm → AreSets h emm.sets (listed emm) →
@@ -116,8 +100,8 @@ long_whole h emm high fits form sets =
     let few = few_entries emm form in
     omega (
       arith,
-      length-append (front_bytes emm) (entries_bytes (listed emm)),
-      long_body emm fits.front.check,
-      long_entries (listed emm) (all_spellable h emm high fits form sets),
+      length-append (head_bytes emm) (flat_map entry_bytes (listed emm)),
+      long_body emm fits.head.check,
+      long_items entry_bytes IsSpellable 40 (listed emm) long_entry (all_spellable h emm high fits form sets),
       length-take-le emm.count emm.entries (omega (arith, fits.entries)),
     )

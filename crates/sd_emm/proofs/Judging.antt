@@ -3,98 +3,98 @@ use Rattle.std.proofs.Common.{◌≡◌, ℕ, ◌-◌, List, length, take, drop,
 use Rattle.std.specs.Prelude.{replicate, ◌↔◌}
 use Rattle.std.proofs.lemmas.List.{take_at, drop_at}
 use Rattle.sd_tree.specs.SetNames.{AreAscending}
-use Rattle.sd_emm.specs.Spelled.{listed, names_of}
+use Rattle.sd_emm.specs.Spelled.{listed, names_in}
 use Rattle.sd_emm.specs.Form.{nothing, AreSets, IsEmm}
-use Rattle.sd_emm.specs.Fields.{entries_in, padded, emm_in, with_entries, HasCount, IsGoodIn, BreaksIn}
+use Rattle.sd_emm.specs.Fields.{entry_of, entries_in, padded, emm_in, with_entries, HasCount, IsGoodIn, BreaksIn}
 use Rattle.sd_emm.specs.declared.emm.Entry.{Entry}
 use Rattle.sd_emm.specs.declared.emm.Emm.{Emm}
 use Rattle.sd_emm.specs.declared.fault.EmmFault.{EmmFault}
 use Rattle.sd_emm.specs.declared.fault.EmmFault.TheVariants.{Count, Order, Node, Mixed}
-use Rattle.sd_emm.proofs.Entries.{length_entries}
+use Rattle.sd_message.proofs.Items.{length_items}
 
 -- what stands before the entries was read
 abbrev pub IsPrefix : ℕ → List ℕ → Emm → Type 0
-IsPrefix index body front = front ≡ with_entries (emm_in index body) (replicate 3 nothing)
+IsPrefix index body head = head ≡ with_entries (emm_in index body) (replicate 3 nothing)
 
 -- the entries that a section has are those in its body
 pub listed_in : (index : ℕ) (body : List ℕ) → listed (emm_in index body) ≡ entries_in (emm_in index body).count (drop 27 body)
 unfolding emm_in
 listed_in index body =
     let count : ℕ = (emm_in index body).count in
-    take_at (entries_in count (drop 27 body)) (replicate (3 - length (entries_in count (drop 27 body))) nothing) count (length_entries count (drop 27 body))
+    take_at (entries_in count (drop 27 body)) (replicate (3 - length (entries_in count (drop 27 body))) nothing) count (length_items entry_of 40 count (drop 27 body))
 
 entries_are : (index : ℕ) (body : List ℕ) → (emm_in index body).entries ≡ padded (entries_in (emm_in index body).count (drop 27 body))
 unfolding emm_in
 entries_are index body = refl
 
 -- the same entries by the count that was read
-same_entries : (index : ℕ) (body : List ℕ) (front : Emm) (count : ℕ) → IsPrefix index body front → count ≡ front.count →
+same_entries : (index : ℕ) (body : List ℕ) (head : Emm) (count : ℕ) → IsPrefix index body head → count ≡ head.count →
     entries_in count (drop 27 body) ≡ listed (emm_in index body)
-same_entries index body front count is counted =
+same_entries index body head count is counted =
     ap (λ (n : ℕ). entries_in n (drop 27 body)) (counted ∙ ap (λ (e : Emm). e.count) is) ∙ sym (listed_in index body)
 
 -- the numbers don't come to one another
-pub count_breaks : (h index : ℕ) (body : List ℕ) (front : Emm) → IsPrefix index body front → ¬ HasCount (length body) front →
+pub count_breaks : (h index : ℕ) (body : List ℕ) (head : Emm) → IsPrefix index body head → ¬ HasCount (length body) head →
     BreaksIn h (length body) (emm_in index body) Count
-count_breaks h index body front is unless has = unless (subst (HasCount (length body)) (sym is) has)
+count_breaks h index body head is unless has = unless (subst (HasCount (length body)) (sym is) has)
 
 -- they do
-has_count : (index : ℕ) (body : List ℕ) (front : Emm) → IsPrefix index body front → HasCount (length body) front →
+has_count : (index : ℕ) (body : List ℕ) (head : Emm) → IsPrefix index body head → HasCount (length body) head →
     HasCount (length body) (emm_in index body)
-has_count index body front is has = subst (HasCount (length body)) is has
+has_count index body head is has = subst (HasCount (length body)) is has
 
 -- the entries are sets by the number that was read where they are
-same_sets : (h index : ℕ) (body : List ℕ) (front : Emm) (count : ℕ) → IsPrefix index body front → count ≡ front.count →
-    AreSets h front.sets (entries_in count (drop 27 body)) ↔ AreSets h (emm_in index body).sets (listed (emm_in index body))
-same_sets h index body front count is counted =
-    let entries = same_entries index body front count is counted in
-    let sets : front.sets ≡ (emm_in index body).sets = ap (λ (e : Emm). e.sets) is in (
-      λ all. subst (λ (n : ℕ). AreSets h n (listed (emm_in index body))) sets (subst (λ (es : List Entry). AreSets h front.sets es) entries all),
-      λ all. subst (λ (es : List Entry). AreSets h front.sets es) (sym entries) (subst (λ (n : ℕ). AreSets h n (listed (emm_in index body))) (sym sets) all),
+same_sets : (h index : ℕ) (body : List ℕ) (head : Emm) (count : ℕ) → IsPrefix index body head → count ≡ head.count →
+    AreSets h head.sets (entries_in count (drop 27 body)) ↔ AreSets h (emm_in index body).sets (listed (emm_in index body))
+same_sets h index body head count is counted =
+    let entries = same_entries index body head count is counted in
+    let sets : head.sets ≡ (emm_in index body).sets = ap (λ (e : Emm). e.sets) is in (
+      λ all. subst (λ (n : ℕ). AreSets h n (listed (emm_in index body))) sets (subst (λ (es : List Entry). AreSets h head.sets es) entries all),
+      λ all. subst (λ (es : List Entry). AreSets h head.sets es) (sym entries) (subst (λ (n : ℕ). AreSets h n (listed (emm_in index body))) (sym sets) all),
     )
 
 -- an entry is no set that may stand there
-pub node_breaks : (h index : ℕ) (body : List ℕ) (front : Emm) (count : ℕ) → IsPrefix index body front → HasCount (length body) front →
-    count ≡ front.count → ¬ AreSets h front.sets (entries_in count (drop 27 body)) → BreaksIn h (length body) (emm_in index body) Node
-node_breaks h index body front count is has counted unless =
-    (has_count index body front is has, λ all. unless ((same_sets h index body front count is counted).1 all))
+pub node_breaks : (h index : ℕ) (body : List ℕ) (head : Emm) (count : ℕ) → IsPrefix index body head → HasCount (length body) head →
+    count ≡ head.count → ¬ AreSets h head.sets (entries_in count (drop 27 body)) → BreaksIn h (length body) (emm_in index body) Node
+node_breaks h index body head count is has counted unless =
+    (has_count index body head is has, λ all. unless ((same_sets h index body head count is counted).1 all))
 
 -- what was read is what the section says
-pub is_whole : (index : ℕ) (body : List ℕ) (front : Emm) (count : ℕ) (entries : List Entry) → IsPrefix index body front →
-    count ≡ front.count → entries ≡ padded (entries_in count (drop 27 body)) → with_entries front entries ≡ emm_in index body
-is_whole index body front count entries is counted read =
+pub is_whole : (index : ℕ) (body : List ℕ) (head : Emm) (count : ℕ) (entries : List Entry) → IsPrefix index body head →
+    count ≡ head.count → entries ≡ padded (entries_in count (drop 27 body)) → with_entries head entries ≡ emm_in index body
+is_whole index body head count entries is counted read =
     let same : entries ≡ (emm_in index body).entries =
     read ∙ (ap (λ (n : ℕ). padded (entries_in n (drop 27 body))) (counted ∙ ap (λ (e : Emm). e.count) is) ∙ sym (entries_are index body)) in
     ap (λ (f : Emm). with_entries f entries) is ∙ ap (with_entries (emm_in index body)) same
 
 -- the entries that were read are those that the section has
-same_listed : (index : ℕ) (body : List ℕ) (front : Emm) (count : ℕ) (entries : List Entry) → IsPrefix index body front →
-    count ≡ front.count → entries ≡ padded (entries_in count (drop 27 body)) → take count entries ≡ listed (emm_in index body)
-same_listed index body front count entries is counted read =
-    ap (λ (n : ℕ). take n entries) counted ∙ ap listed (is_whole index body front count entries is counted read)
+same_listed : (index : ℕ) (body : List ℕ) (head : Emm) (count : ℕ) (entries : List Entry) → IsPrefix index body head →
+    count ≡ head.count → entries ≡ padded (entries_in count (drop 27 body)) → take count entries ≡ listed (emm_in index body)
+same_listed index body head count entries is counted read =
+    ap (λ (n : ℕ). take n entries) counted ∙ ap listed (is_whole index body head count entries is counted read)
 
 -- the entries don't ascend
-pub order_breaks : (h index : ℕ) (body : List ℕ) (front : Emm) (count : ℕ) (entries : List Entry) → IsPrefix index body front →
-    HasCount (length body) front → count ≡ front.count → AreSets h front.sets (entries_in count (drop 27 body)) →
-    entries ≡ padded (entries_in count (drop 27 body)) → ¬ AreAscending (names_of (take count entries)) →
+pub order_breaks : (h index : ℕ) (body : List ℕ) (head : Emm) (count : ℕ) (entries : List Entry) → IsPrefix index body head →
+    HasCount (length body) head → count ≡ head.count → AreSets h head.sets (entries_in count (drop 27 body)) →
+    entries ≡ padded (entries_in count (drop 27 body)) → ¬ AreAscending (names_in (take count entries)) →
     BreaksIn h (length body) (emm_in index body) Order
-order_breaks h index body front count entries is has counted sets read unless = (
-  has_count index body front is has,
+order_breaks h index body head count entries is has counted sets read unless = (
+  has_count index body head is has,
   (
-    (same_sets h index body front count is counted).0 sets,
-    λ up. unless (subst (λ (es : List Entry). AreAscending (names_of es)) (sym (same_listed index body front count entries is counted read)) up),
+    (same_sets h index body head count is counted).0 sets,
+    λ up. unless (subst (λ (es : List Entry). AreAscending (names_in es)) (sym (same_listed index body head count entries is counted read)) up),
   ),
 )
 
 -- nothing is wrong
-pub is_good : (h index : ℕ) (body : List ℕ) (front : Emm) (count : ℕ) (entries : List Entry) → IsPrefix index body front →
-    HasCount (length body) front → count ≡ front.count → AreSets h front.sets (entries_in count (drop 27 body)) →
-    entries ≡ padded (entries_in count (drop 27 body)) → AreAscending (names_of (take count entries)) →
+pub is_good : (h index : ℕ) (body : List ℕ) (head : Emm) (count : ℕ) (entries : List Entry) → IsPrefix index body head →
+    HasCount (length body) head → count ≡ head.count → AreSets h head.sets (entries_in count (drop 27 body)) →
+    entries ≡ padded (entries_in count (drop 27 body)) → AreAscending (names_in (take count entries)) →
     IsGoodIn h (length body) (emm_in index body)
-is_good h index body front count entries is has counted sets read up = record {
-  has_count = has_count index body front is has;
-  are_sets = (same_sets h index body front count is counted).0 sets;
-  ascending = subst (λ (es : List Entry). AreAscending (names_of es)) (same_listed index body front count entries is counted read) up;
+is_good h index body head count entries is has counted sets read up = record {
+  has_count = has_count index body head is has;
+  are_sets = (same_sets h index body head count is counted).0 sets;
+  ascending = subst (λ (es : List Entry). AreAscending (names_in es)) (same_listed index body head count entries is counted read) up;
 }
 
 -- what follows the entries is as it is to be
@@ -104,8 +104,8 @@ past_entries index body =
     let count : ℕ = (emm_in index body).count in
     let entries : List Entry = entries_in count (drop 27 body) in
     ap (drop count) (entries_are index body)
-    ∙ (drop_at entries (replicate (3 - length entries) nothing) count (length_entries count (drop 27 body))
-    ∙ ap (λ (n : ℕ). replicate (3 - n) nothing) (length_entries count (drop 27 body)))
+    ∙ (drop_at entries (replicate (3 - length entries) nothing) count (length_items entry_of 40 count (drop 27 body))
+    ∙ ap (λ (n : ℕ). replicate (3 - n) nothing) (length_items entry_of 40 count (drop 27 body)))
 
 -- what breaks no rule is in its form
 pub good_is_emm : (h index : ℕ) (body : List ℕ) → IsGoodIn h (length body) (emm_in index body) → IsEmm (emm_in index body)

@@ -1,8 +1,8 @@
 pub mod Ascending
 pub mod Names
-pub mod Entries
 pub mod Spelling
 pub mod Again
 pub mod Judging
 pub mod Reading
+pub mod Deciding
 pub mod Sharing

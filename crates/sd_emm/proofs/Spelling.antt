@@ -1,17 +1,19 @@
 -- What is read from a section's body spells it.
 use Rattle.std.proofs.Common.{◌≡◌, ℕ, zero, suc, ◌+◌, ◌*◌, ◌<◌, ◌≤◌, List, [], ◌∷◌, ◌++◌, length, take, drop, take-add, drop-drop, length-drop, length-take-le, get_or-drop, get_or-take, get_or, append_assoc, append-nil, inl, inr, arith, refl, sym, ap, ◌∙◌}
-use Rattle.std.specs.Prelude.{slice_index, slice_range}
+use Rattle.std.specs.Prelude.{slice_index, slice_range, flat_map}
 use Rattle.std.specs.Int.{w16, w32, to_be_bytes}
 use Rattle.std.proofs.lemmas.Bool.{cases_lt}
 use Rattle.std.proofs.lemmas.List.{get_or_default, take_more, drop_more, take_all, get_or_past, length-take, take-append-drop, nil_from_length}
 use Rattle.sd_bits.specs.Bits.{field}
-use Rattle.sd_message.proofs.Numbers.{IsBytes, word_spelled, half_spelled}
+use Rattle.sd_message.proofs.Numbers.{IsBytes, bytes_drop, word_spelled, half_spelled}
+use Rattle.sd_message.proofs.Items as Items
+use Rattle.sd_message.proofs.Items.{items_spelled}
 use Rattle.sd_emm.proofs.Names.{name_cases}
 use Rattle.sd_emm.proofs.Judging.{listed_in}
 use Rattle.sd_section.specs.Header.{extension_of, body_of}
 use Rattle.sd_section.specs.Written.{section_bytes}
 use Rattle.sd_message.specs.Framed.{header_of}
-use Rattle.sd_emm.specs.Spelled.{listed, emm_body, name_bytes, front_bytes, entry_bytes, entries_bytes, emm_header}
+use Rattle.sd_emm.specs.Spelled.{listed, emm_body, name_bytes, head_bytes, entry_bytes, emm_header}
 use Rattle.sd_emm.specs.Form.{AreWrapped}
 use Rattle.sd_emm.specs.Fields.{name_of, entry_of, entries_in, emm_in, IsEmmSection}
 use Rattle.sd_emm.specs.declared.emm.Entry.{Entry}
@@ -20,26 +22,11 @@ use Rattle.sd_emm.specs.declared.emm.Entry.{Entry}
 pub put_after : (old a b c : List ℕ) → ((old ++ a) ++ b) ++ c ≡ old ++ ((a ++ b) ++ c)
 put_after old a b c = ap (λ (l : List ℕ). l ++ c) (append_assoc old a b) ∙ append_assoc old (a ++ b) c
 
--- one entry after others
-entries_more : (xs : List Entry) (x : Entry) → entries_bytes (xs ++ x ∷ []) ≡ entries_bytes xs ++ entry_bytes x
-unfolding entries_bytes
-entries_more [] x = append-nil (entry_bytes x)
-entries_more (y ∷ ys) x =
-    ap (λ (l : List ℕ). entry_bytes y ++ l) (entries_more ys x) ∙ sym (append_assoc (entry_bytes y) (entries_bytes ys) (entry_bytes x))
-
--- no entry is put
-pub none_put : (front : List ℕ) (entries : List Entry) → front ≡ front ++ entries_bytes (take 0 entries)
-unfolding entries_bytes
-none_put front entries = sym (append-nil front)
-
--- one more is
-pub one_put : (front body : List ℕ) (entries : List Entry) (k : ℕ) (d : Entry) → k < length entries →
-    body ≡ front ++ entries_bytes (take k entries) →
-    body ++ entry_bytes (get_or entries k d) ≡ front ++ entries_bytes (take (k + 1) entries)
-one_put front body entries k d within is =
-    ap (λ (l : List ℕ). l ++ entry_bytes (get_or entries k d)) is
-    ∙ (append_assoc front (entries_bytes (take k entries)) (entry_bytes (get_or entries k d))
-    ∙ ap (λ (l : List ℕ). front ++ l) (sym (entries_more (take k entries) (get_or entries k d)) ∙ ap entries_bytes (sym (take_more entries k d within))))
+-- one more entry is put
+pub one_put : (head body : List ℕ) (entries : List Entry) (k : ℕ) (d : Entry) → k < length entries →
+    body ≡ head ++ flat_map entry_bytes (take k entries) →
+    body ++ entry_bytes (get_or entries k d) ≡ head ++ flat_map entry_bytes (take (k + 1) entries)
+one_put head body entries k d within is = Items.one_put entry_bytes head body entries k d within is
 
 -- no key is wrapped yet
 pub none_wrapped : (entries : List Entry) → AreWrapped (take 0 entries)
@@ -83,34 +70,15 @@ entry_spelled bytes each long =
     let after : take 32 (drop 8 bytes) ≡ drop 8 bytes = take_all 32 (drop 8 bytes) (omega (arith, length-drop 8 bytes)) in
     rw (name, after) (take-append-drop 8 bytes)
 
--- the bytes of a part are bytes
-bytes_drop : (n : ℕ) (bytes : List ℕ) → IsBytes bytes → IsBytes (drop n bytes)
-bytes_drop n bytes each i = omega (arith, get_or-drop n bytes i 0, each (n + i))
-
-bytes_take : (n : ℕ) (bytes : List ℕ) → IsBytes bytes → IsBytes (take n bytes)
-bytes_take n bytes each i = elim (cases_lt i n) [
-  | inl h ↦ omega (arith, get_or-take n bytes i 0 h, each i)
-  | inr g ↦ omega (arith, get_or_past (take n bytes) i 0 (omega (arith, length-take n bytes)))
-]
-
--- entries are spelled as they were read
-entries_spelled : (n : ℕ) (bytes : List ℕ) → IsBytes bytes → length bytes ≡ 40 * n → entries_bytes (entries_in n bytes) ≡ bytes
-unfolding entries_bytes entries_in
-entries_spelled zero bytes each long = sym (nil_from_length bytes (omega arith))
-entries_spelled (suc n) bytes each long =
-    let first = entry_spelled (take 40 bytes) (bytes_take 40 bytes each) (length-take-le 40 bytes (omega arith)) in
-    let rest = entries_spelled n (drop 40 bytes) (bytes_drop 40 bytes each) (omega (arith, length-drop 40 bytes)) in
-    rw (first, rest) (take-append-drop 40 bytes)
-
 -- five pieces are as four of them are
 same_five : (a a' b b' c c' k d d' : List ℕ) → a ≡ a' → b ≡ b' → c ≡ c' → d ≡ d' →
     a ++ (b ++ (c ++ (k ++ d))) ≡ a' ++ (b' ++ (c' ++ (k ++ d')))
 same_five a a' b b' c c' k d d' p q r s = rw (p, q, r, s) refl
 
 -- so is the body before its entries
-front_spelled : (index : ℕ) (body : List ℕ) → IsBytes body → 27 ≤ length body → front_bytes (emm_in index body) ≡ take 27 body
-unfolding front_bytes emm_in
-front_spelled index body each long =
+head_spelled : (index : ℕ) (body : List ℕ) → IsBytes body → 27 ≤ length body → head_bytes (emm_in index body) ≡ take 27 body
+unfolding head_bytes emm_in
+head_spelled index body each long =
     let period : to_be_bytes w32 (field body 0 32) ≡ take 4 body = word_spelled body 0 each (omega arith) in
     let sets : to_be_bytes w32 (field body 32 32) ≡ take 4 (drop 4 body) = word_spelled body 4 each (omega arith) in
     let sections : to_be_bytes w16 (field body 64 16) ≡ take 2 (drop 8 body) = half_spelled body 8 each (omega arith) in
@@ -128,8 +96,8 @@ pub body_spelled : (index : ℕ) (body : List ℕ) → IsBytes body → length b
 unfolding emm_body
 body_spelled index body each long =
     let count : ℕ = (emm_in index body).count in
-    let entries : entries_bytes (listed (emm_in index body)) ≡ drop 27 body =
-    ap entries_bytes (listed_in index body)
-    ∙ entries_spelled count (drop 27 body) (bytes_drop 27 body each) (omega (arith, length-drop 27 body)) in
-    ap (λ (l : List ℕ). l ++ entries_bytes (listed (emm_in index body))) (front_spelled index body each (omega arith))
+    let entries : flat_map entry_bytes (listed (emm_in index body)) ≡ drop 27 body =
+    ap (flat_map entry_bytes) (listed_in index body)
+    ∙ items_spelled entry_of entry_bytes 40 count (drop 27 body) entry_spelled (bytes_drop 27 body each) (omega (arith, length-drop 27 body)) in
+    ap (λ (l : List ℕ). l ++ flat_map entry_bytes (listed (emm_in index body))) (head_spelled index body each (omega arith))
     ∙ (ap (λ (l : List ℕ). take 27 body ++ l) entries ∙ take-append-drop 27 body)

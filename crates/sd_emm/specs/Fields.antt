@@ -1,24 +1,27 @@
 -- Entitlement management messages as they are read.
-use Rattle.std.specs.Prelude.{◌≡◌, ℕ, zero, suc, ◌+◌, ◌-◌, ◌*◌, ◌≤◌, ◌==◌, ◌&&◌, if◌then◌else◌, List, [], ◌∷◌, ◌++◌, length, take, drop, slice_index, slice_range, replicate}
+use Rattle.std.specs.Prelude.{◌≡◌, ℕ, ◌+◌, ◌*◌, ◌≤◌, ◌==◌, ◌&&◌, if◌then◌else◌, List, length, drop, slice_index, slice_range}
 use Rattle.sd_bits.specs.Bits.{field}
 use Rattle.sd_tree.specs.SetNames.{AreAscending}
 use Rattle.sd_tree.specs.declared.set.SetName.{SetName}
 use Rattle.sd_tree.specs.declared.set.SetName.TheVariants.{Whole, Diff}
-use Rattle.sd_section.specs.Header.{table_id_of, section_length_of, extension_of, number_of, last_number_of, body_of}
+use Rattle.sd_section.specs.Header.{least_length, table_id_of, section_length_of, extension_of, number_of, last_number_of, body_of}
 use Rattle.sd_message.specs.Framed.{HasSection, section_of}
-use Rattle.sd_emm.specs.Spelled.{listed, names_of}
+use Rattle.sd_emm.specs.Spelled.{listed, names_in}
 use Rattle.sd_emm.specs.Form.{IsCounted, nothing, AreSets}
 use Rattle.sd_emm.specs.declared.emm.Entry.{Entry}
 use Rattle.sd_emm.specs.declared.emm.Emm.{Emm}
 use Rattle.sd_emm.specs.declared.fault.EmmFault.{EmmFault}
+use Rattle.sd_emm.specs.declared.format.TheConstants.{TABLE_ID, CHECK_AT, COUNT_AT, ENTRIES_AT, MOST_ENTRIES, ENTRY_BYTES, WRAPPED_AT}
+use Rattle.sd_message.specs.Items.{items_in}
+use Rattle.sd_message.specs.Pieces.{filled}
 use Rattle.sd_emm.specs.declared.fault.EmmFault.TheVariants.{Count, Order, Node, Mixed}
 
 -- the section is one of entitlements, and has room for all that stands before the entries [this project, docs/FORMATS.md, Messages]
 pub record IsEmmSection (section : List ℕ) : Type 0 where
-  pub table_id : table_id_of section ≡ 0x82
+  pub table_id : table_id_of section ≡ TABLE_ID
   pub number : number_of section ≡ 0
   pub last_number : last_number_of section ≡ 0
-  pub room : 36 ≤ section_length_of section
+  pub room : ENTRIES_AT + least_length ≤ section_length_of section
 
 -- the packet begins with such a section
 pub record IsEmmPacket (packet : List ℕ) : Type 0 where
@@ -31,16 +34,15 @@ name_of i j = if (i == 0) && (j == 0) then Whole else Diff i j
 
 -- an entry of 40 bytes [this project, docs/FORMATS.md, Messages]
 unfoldable pub entry_of : List ℕ → Entry
-entry_of bytes = record { name = name_of (field bytes 0 32) (field bytes 32 32); wrapped = slice_range bytes 8 40 }
+entry_of bytes = record { name = name_of (field bytes 0 32) (field bytes 32 32); wrapped = slice_range bytes WRAPPED_AT ENTRY_BYTES }
 
 -- so many entries, one after the other
-unfoldable pub entries_in : ℕ → List ℕ → List Entry
-entries_in zero bytes = []
-entries_in (suc n) bytes = entry_of (take 40 bytes) ∷ entries_in n (drop 40 bytes)
+abbrev pub entries_in : ℕ → List ℕ → List Entry
+entries_in n bytes = items_in entry_of ENTRY_BYTES n bytes
 
 -- filled up to three
 abbrev pub padded : List Entry → List Entry
-padded entries = entries ++ replicate (3 - length entries) nothing
+padded entries = filled MOST_ENTRIES nothing entries
 
 -- what the section of this index and body says [this project, docs/FORMATS.md, Messages]
 unfoldable pub emm_in : ℕ → List ℕ → Emm
@@ -49,9 +51,9 @@ emm_in index body = record {
   sets = field body 32 32;
   sections = field body 64 16;
   index = index;
-  check = slice_range body 10 26;
-  count = slice_index body 26;
-  entries = padded (entries_in (slice_index body 26) (drop 27 body));
+  check = slice_range body CHECK_AT COUNT_AT;
+  count = slice_index body COUNT_AT;
+  entries = padded (entries_in (slice_index body COUNT_AT) (drop ENTRIES_AT body));
 }
 
 -- what a section says
@@ -73,19 +75,19 @@ with_entries emm entries = record {
 -- the numbers come to one another and to the length of the body: section_length is 36 and 40 for each entry
 -- [this project, docs/FORMATS.md, Messages]
 abbrev pub HasCount : ℕ → Emm → Type 0
-HasCount length emm = (length ≡ 27 + 40 * emm.count) × IsCounted emm.sets emm.sections emm.index emm.count
+HasCount length emm = (length ≡ ENTRIES_AT + ENTRY_BYTES * emm.count) × IsCounted emm.sets emm.sections emm.index emm.count
 
 -- no rule is broken
 pub record IsGoodIn (h length : ℕ) (emm : Emm) : Type 0 where
   pub has_count : HasCount length emm
   pub are_sets : AreSets h emm.sets (listed emm)
-  pub ascending : AreAscending (names_of (listed emm))
+  pub ascending : AreAscending (names_in (listed emm))
 
 -- the rule that a body of this length and its entitlements break first [this project, docs/FORMATS.md, Messages]
 abbrev pub BreaksIn : ℕ → ℕ → Emm → EmmFault → Type 0
 BreaksIn h length emm Count = ¬ HasCount length emm
 BreaksIn h length emm Node = HasCount length emm × (¬ AreSets h emm.sets (listed emm))
-BreaksIn h length emm Order = HasCount length emm × (AreSets h emm.sets (listed emm) × (¬ AreAscending (names_of (listed emm))))
+BreaksIn h length emm Order = HasCount length emm × (AreSets h emm.sets (listed emm) × (¬ AreAscending (names_in (listed emm))))
 BreaksIn h length emm Mixed = ⊥
 
 -- and that a section breaks first

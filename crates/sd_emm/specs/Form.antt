@@ -1,23 +1,25 @@
 -- Which entitlements are ones that a period has.
-use Rattle.std.specs.Prelude.{◌≡◌, ℕ, ◌+◌, ◌-◌, ◌*◌, ◌/◌, ◌^◌, ◌<◌, ◌≤◌, List, length, drop, min, max, replicate, All}
+use Rattle.std.specs.Prelude.{◌≡◌, ℕ, ◌-◌, ◌*◌, ◌^◌, ◌<◌, ◌≤◌, List, length, drop, min, replicate, All}
 use Rattle.sd_tree.specs.SetNames.{IsOfHeight, AreAscending}
 use Rattle.sd_tree.specs.declared.set.SetName.{SetName}
 use Rattle.sd_tree.specs.declared.set.SetName.TheVariants.{Whole}
-use Rattle.sd_emm.specs.Spelled.{listed, names_of}
+use Rattle.sd_emm.specs.Spelled.{listed, names_in}
 use Rattle.sd_emm.specs.declared.emm.Entry.{Entry}
 use Rattle.sd_emm.specs.declared.emm.Emm.{Emm}
+use Rattle.sd_emm.specs.declared.format.TheConstants.{MOST_ENTRIES}
+use Rattle.sd_message.specs.Pieces.{pieces_for}
 
 -- how many sections have room for so many sets, three in each; there is one without entry where there is no set
 -- [this project, docs/FORMATS.md, Messages]
 abbrev pub sections_for : ℕ → ℕ
-sections_for sets = max 1 ((sets + 2) / 3)
+sections_for sets = pieces_for MOST_ENTRIES sets
 
 -- the numbers come to one another: section x has the sets 3x to 3x + 2, as far as they are there
 -- [this project, docs/FORMATS.md, Messages]
 pub record IsCounted (sets sections index count : ℕ) : Type 0 where
   pub sections_are : sections ≡ sections_for sets
   pub index_is : index < sections
-  pub count_is : count ≡ min 3 (sets - 3 * index)
+  pub count_is : count ≡ min MOST_ENTRIES (sets - MOST_ENTRIES * index)
 
 -- what stands past the entries: the whole set with zeros
 abbrev pub nothing : Entry
@@ -26,8 +28,8 @@ nothing = record { name = Whole; wrapped = replicate 32 0 }
 -- a section's entitlements, for whatever tree [this project, docs/FORMATS.md, Messages]
 pub record IsEmm (emm : Emm) : Type 0 where
   pub counted : IsCounted emm.sets emm.sections emm.index emm.count
-  pub ascending : AreAscending (names_of (listed emm))
-  pub rest : drop emm.count emm.entries ≡ replicate (3 - emm.count) nothing
+  pub ascending : AreAscending (names_in (listed emm))
+  pub rest : drop emm.count emm.entries ≡ replicate (MOST_ENTRIES - emm.count) nothing
 
 -- a set of the height, and the whole set only alone [this project, docs/FORMATS.md, Messages]
 pub record IsSetBeside (h sets : ℕ) (name : SetName) : Type 0 where
@@ -43,7 +45,7 @@ abbrev pub AreWrapped : List Entry → Type 0
 AreWrapped entries = All (λ entry. length entry.wrapped ≡ 32) entries
 
 -- what stands before the entries fits its fields
-pub record FitsFront (emm : Emm) : Type 0 where
+pub record FitsHead (emm : Emm) : Type 0 where
   pub period : emm.period < 2 ^ 32
   pub sets : emm.sets < 2 ^ 32
   pub sections : emm.sections < 2 ^ 16
@@ -51,7 +53,7 @@ pub record FitsFront (emm : Emm) : Type 0 where
 
 -- the numbers and the bytes fit their fields, as those of each value of the type do
 pub record Fits (emm : Emm) : Type 0 where
-  pub front : FitsFront emm
+  pub head : FitsHead emm
   pub index : emm.index < 2 ^ 16
-  pub entries : length emm.entries ≡ 3
+  pub entries : length emm.entries ≡ MOST_ENTRIES
   pub wrapped : AreWrapped (listed emm)

@@ -1,4 +1,5 @@
 pub mod Spelled
 pub mod Form
 pub mod Fields
+pub mod Judged
 pub mod Period

@@ -1,12 +1,13 @@
 -- All sections of a period's entitlements.
-use Rattle.std.specs.Prelude.{◌≡◌, ℕ, ◌*◌, ◌^◌, ◌<◌, ◌≤◌, List, length, take, drop, map}
-use Rattle.std.specs.List.{range_with_len}
+use Rattle.std.specs.Prelude.{◌≡◌, ℕ, ◌^◌, ◌<◌, ◌≤◌, List, length}
 use Rattle.sd_tree.specs.SetNames.{AreAscending}
-use Rattle.sd_emm.specs.Spelled.{names_of}
+use Rattle.sd_emm.specs.Spelled.{names_in}
 use Rattle.sd_emm.specs.Form.{sections_for, AreWrapped}
 use Rattle.sd_emm.specs.Fields.{padded}
 use Rattle.sd_emm.specs.declared.emm.Entry.{Entry}
 use Rattle.sd_emm.specs.declared.emm.Emm.{Emm}
+use Rattle.sd_emm.specs.declared.format.TheConstants.{MOST_ENTRIES, MOST_SETS}
+use Rattle.sd_message.specs.Pieces.{piece_at, each_below}
 
 -- what a period's sections say: its number, the check value of its key, and all of its sets, each with the wrapped key
 pub record Period : Type 0 where
@@ -16,7 +17,7 @@ pub record Period : Type 0 where
 
 -- the entries of section x: the sets 3x, 3x + 1 and 3x + 2, as far as they are there [this project, docs/FORMATS.md, Messages]
 abbrev pub entries_at : List Entry → ℕ → List Entry
-entries_at entries x = take 3 (drop (3 * x) entries)
+entries_at entries x = piece_at MOST_ENTRIES entries x
 
 -- section x of the period [this project, docs/FORMATS.md, Messages]
 unfoldable pub emm_at : Period → ℕ → Emm
@@ -32,15 +33,15 @@ emm_at period x = record {
 
 -- all sections of the period, section 0 first [this project, docs/FORMATS.md, Messages]
 unfoldable pub emms_of : Period → List Emm
-emms_of period = map (emm_at period) (range_with_len 0 (sections_for (length period.entries)))
+emms_of period = each_below (emm_at period) (sections_for (length period.entries))
 
--- the sets are strictly ascending, and what the period says fits the fields of its sections: 65,535 of them hold 196,605 sets
+-- the sets are strictly ascending and no more than a cover has, and what the period says fits the fields of its sections
 -- [this project, docs/FORMATS.md, Messages]
 pub record IsPeriod (period : Period) : Type 0 where
-  pub ascending : AreAscending (names_of period.entries)
+  pub ascending : AreAscending (names_in period.entries)
   pub number : period.number < 2 ^ 32
   pub check : length period.check ≡ 16
-  pub sets : length period.entries ≤ 196605
+  pub sets : length period.entries ≤ MOST_SETS
   pub wrapped : AreWrapped period.entries
 
 -- the section says of the period what each of its sections does
@@ -49,3 +50,10 @@ pub record IsOfPeriod (period : Period) (emm : Emm) : Type 0 where
   pub sets : emm.sets ≡ length period.entries
   pub sections : emm.sections ≡ sections_for (length period.entries)
   pub check : emm.check ≡ period.check
+
+-- two sections say the same of a period
+pub record SaysSame (a b : Emm) : Type 0 where
+  pub period : a.period ≡ b.period
+  pub sets : a.sets ≡ b.sets
+  pub sections : a.sections ≡ b.sections
+  pub check : a.check ≡ b.check

@@ -1,5 +1,5 @@
 -- Entitlement management messages as bytes.
-use Rattle.std.specs.Prelude.{ℕ, List, [], ◌∷◌, ◌++◌, take, map}
+use Rattle.std.specs.Prelude.{ℕ, List, [], ◌∷◌, ◌++◌, take, map, flat_map}
 use Rattle.std.specs.Int.{w16, w32, to_be_bytes}
 use Rattle.sd_tree.specs.declared.set.SetName.{SetName}
 use Rattle.sd_tree.specs.declared.set.SetName.TheVariants.{Whole, Diff}
@@ -8,14 +8,15 @@ use Rattle.sd_section.specs.declared.write.Header.{Header}
 use Rattle.sd_message.specs.Framed.{Begins}
 use Rattle.sd_emm.specs.declared.emm.Entry.{Entry}
 use Rattle.sd_emm.specs.declared.emm.Emm.{Emm}
+use Rattle.sd_emm.specs.declared.format.TheConstants.{TABLE_ID}
 
 -- the entries that a section has
 abbrev pub listed : Emm → List Entry
 listed emm = take emm.count emm.entries
 
 -- the sets that entries name
-abbrev pub names_of : List Entry → List SetName
-names_of entries = map (λ entry. entry.name) entries
+abbrev pub names_in : List Entry → List SetName
+names_in entries = map (λ entry. entry.name) entries
 
 -- i and j in 32 bits each; both are 0 for the whole set [this project, docs/FORMATS.md, Messages]
 abbrev pub name_bytes : SetName → List ℕ
@@ -26,24 +27,19 @@ name_bytes (Diff i j) = to_be_bytes w32 i ++ to_be_bytes w32 j
 unfoldable pub entry_bytes : Entry → List ℕ
 entry_bytes entry = name_bytes entry.name ++ entry.wrapped
 
--- one entry after the other
-unfoldable pub entries_bytes : List Entry → List ℕ
-entries_bytes [] = []
-entries_bytes (entry ∷ entries) = entry_bytes entry ++ entries_bytes entries
-
 -- the period, the number of its sets, that of its sections, the check value of its key, the count of entries
 -- [this project, docs/FORMATS.md, Messages]
-unfoldable pub front_bytes : Emm → List ℕ
-front_bytes emm =
+unfoldable pub head_bytes : Emm → List ℕ
+head_bytes emm =
     to_be_bytes w32 emm.period ++ (to_be_bytes w32 emm.sets ++ (to_be_bytes w16 emm.sections ++ (emm.check ++ emm.count ∷ [])))
 
--- the section's body [this project, docs/FORMATS.md, Messages]
+-- the section's body: its head, and one entry after the other [this project, docs/FORMATS.md, Messages]
 unfoldable pub emm_body : Emm → List ℕ
-emm_body emm = front_bytes emm ++ entries_bytes (listed emm)
+emm_body emm = head_bytes emm ++ flat_map entry_bytes (listed emm)
 
--- its table_id is 0x82, its extension the index, and both section numbers are 0 [this project, docs/FORMATS.md, Messages]
+-- its extension is the index, and both section numbers are 0 [this project, docs/FORMATS.md, Messages]
 abbrev pub emm_header : ℕ → Header
-emm_header index = record { table_id = 0x82; extension = index; number = 0; last_number = 0 }
+emm_header index = record { table_id = TABLE_ID; extension = index; number = 0; last_number = 0 }
 
 -- the one spelling of entitlements [this project, docs/FORMATS.md, Messages]
 unfoldable pub emm_section : Emm → List ℕ

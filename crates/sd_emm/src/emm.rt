@@ -1,6 +1,8 @@
 ghost use Rattle.std.specs.Prelude.{◌≡◌, ◌≤◌};
 ghost use Rattle.sd_emm.specs.Spelled.{listed};
+ghost use Rattle.sd_emm.specs.declared.format.TheConstants.{MOST_ENTRIES};
 
+use crate::format::MOST_ENTRIES;
 use sd_tree::SetName;
 
 /// A set of receivers, and the period key wrapped under the set's key.
@@ -34,13 +36,13 @@ pub struct Emm {
     /// How many entries this section has.
     pub count: u8,
     /// The entries. Those past `count` are the whole set with zeros.
-    pub entries: [Entry; 3],
+    pub entries: [Entry; MOST_ENTRIES],
 }
 
 impl Emm {
     /// The entries that the section has.
     pub fn listed(&self) -> &[Entry]
-        requires { self.now.count ≤ 3 }
+        requires { self.now.count ≤ MOST_ENTRIES }
         ensures { result.now ≡ listed self.now }
     {
         &self.entries[..usize::from(self.count)]

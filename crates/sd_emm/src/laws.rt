@@ -1,10 +1,11 @@
 //! What writing and reading come to.
 
-ghost use Rattle.std.specs.Prelude.{◌≡◌, ◌<◌, ◌/◌, ◌%◌, ℕ, Ok, Some, All, length, flat_map, slice_get};
+ghost use Rattle.std.specs.Prelude.{◌≡◌, ◌<◌, ◌≤◌, ◌/◌, ◌%◌, ℕ, List, Ok, Some, All, length, flat_map, slice_get};
 ghost use Rattle.sd_packet.specs.Packing.{packed};
 ghost use Rattle.sd_emm.specs.Spelled.{listed, emm_section, Spells};
 ghost use Rattle.sd_emm.specs.Form.{AreSets, IsEmm, Fits, sections_for};
-ghost use Rattle.sd_emm.specs.Period.{Period, emm_at, emms_of, IsPeriod, IsOfPeriod};
+ghost use Rattle.sd_emm.specs.Judged.{emm_read};
+ghost use Rattle.sd_emm.specs.Period.{Period, emm_at, emms_of, IsPeriod, IsOfPeriod, SaysSame};
 ghost use Rattle.sd_emm.specs.declared.emm.Emm.{Emm};
 
 use crate::emm::Emm;
@@ -33,7 +34,7 @@ pub fn written_packets_spell()
 /// A period's sections share out its sets: there are as many as have room for them, each stands at its index and says the same of the
 /// period, set k stands in section k / 3, and joined they have all sets. Of a period with ascending sets each section is one that is
 /// written, and that is read at each height at which the period's sets may stand.
-#[tactic(auto, using(crate::proofs::Sharing::as_many, crate::proofs::Sharing::stands_at, crate::proofs::Sharing::index_is, crate::proofs::Sharing::set_stands, crate::proofs::Sharing::joined_are_all, crate::proofs::Sharing::all_are_of, crate::proofs::Sharing::all_are_emms))]
+#[tactic(auto, using(crate::proofs::Sharing::as_many, crate::proofs::Sharing::stands_at, crate::proofs::Sharing::index_is, crate::proofs::Sharing::set_stands, crate::proofs::Sharing::joined_are_all, crate::proofs::Sharing::all_are_of, crate::proofs::Sharing::two_say_the_same, crate::proofs::Sharing::all_are_emms))]
 pub fn periods_are_shared_out()
     ensures sections { (period : Period) → length (emms_of period) ≡ sections_for (length period.entries) }
     ensures at { (period : Period) (x : ℕ) → x < sections_for (length period.entries) →
@@ -43,7 +44,21 @@ pub fn periods_are_shared_out()
         slice_get (listed (emm_at period (k / 3))) (k % 3) ≡ slice_get period.entries k }
     ensures entries { (period : Period) → flat_map listed (emms_of period) ≡ period.entries }
     ensures says { (period : Period) → All (IsOfPeriod period) (emms_of period) }
+    ensures same { (period : Period) (x y : ℕ) (a b : Emm) → slice_get (emms_of period) x ≡ Some a →
+        slice_get (emms_of period) y ≡ Some b → SaysSame a b }
     ensures form { (period : Period) → IsPeriod period → All (λ emm. IsEmm emm × Fits emm) (emms_of period) }
     ensures sets { (h : ℕ) (period : Period) → AreSets h (length period.entries) period.entries →
         All (λ emm. AreSets h emm.sets (listed emm)) (emms_of period) }
+{}
+
+/// The reader as a function: each packet that begins with the section of entitlements in their form is read as them, at each height at
+/// which their sets may stand, and what is read is in its form.
+#[tactic(auto, using(crate::proofs::Deciding::spelled_reads, crate::proofs::Deciding::packed_reads))]
+pub fn spelled_entitlements_are_read()
+    ensures spelled { (h : ℕ) (emm : Emm) (packet : List ℕ) → h ≤ 20 → Fits emm → IsEmm emm → AreSets h emm.sets (listed emm) →
+        Spells emm packet → emm_read h packet ≡ Ok (Some emm) }
+    ensures packed { (h : ℕ) (emm : Emm) (pid counter : ℕ) → h ≤ 20 → Fits emm → IsEmm emm → AreSets h emm.sets (listed emm) →
+        pid < 8192 → counter < 16 → emm_read h (packed (emm_section emm) pid counter) ≡ Ok (Some emm) }
+    ensures form { (h : ℕ) (packet : List ℕ) (emm : Emm) → emm_read h packet ≡ Ok (Some emm) →
+        IsEmm emm × AreSets h emm.sets (listed emm) }
 {}

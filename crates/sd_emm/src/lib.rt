@@ -3,6 +3,7 @@
 
 mod emm;
 mod fault;
+mod format;
 pub mod laws;
 mod order;
 mod period;
@@ -13,6 +14,7 @@ mod write;
 
 pub use emm::{Emm, Entry};
 pub use fault::EmmFault;
+pub use format::{MOST_ENTRIES, MOST_SETS, TABLE_ID};
 pub use order::are_ascending;
 pub use period::section_count;
 pub use read::read_emm;

@@ -1,16 +1,15 @@
 ghost use Rattle.std.specs.Prelude.{◌≡◌, ◌↔◌, IsTrue};
 ghost use Rattle.sd_tree.specs.SetNames.{set_cmp, AreAscending};
 ghost use Rattle.std.specs.declared.cmp.Ordering.TheVariants.{Less};
-ghost use Rattle.sd_emm.specs.Spelled.{names_of};
+ghost use Rattle.sd_emm.specs.Spelled.{names_in};
 
 use crate::emm::Entry;
 use sd_tree::compare_names;
 use std::cmp::Ordering;
 
 /// Whether each entry's set stands after all before it.
-#[tactic(auto, using(crate::proofs::Ascending::first_ascends))]
 pub fn are_ascending(entries: &[Entry]) -> bool
-    ensures { IsTrue result ↔ AreAscending (names_of entries.now) }
+    ensures { IsTrue result ↔ AreAscending (names_in entries.now) }
 {
     for k in 1..entries.len() {
         if !is_before(&entries[k - 1], &entries[k]) {

@@ -1,29 +1,32 @@
-ghost use Rattle.std.specs.Prelude.{◌≡◌, ◌*◌, ◌<◌, ◌≤◌, Some, length, slice_get};
-ghost use Rattle.sd_emm.specs.Spelled.{names_of};
+ghost use Rattle.std.specs.Prelude.{◌≡◌, ◌<◌, ◌≤◌, Some, length, slice_get};
+ghost use Rattle.sd_emm.specs.Spelled.{names_in};
 ghost use Rattle.sd_emm.specs.Form.{IsEmm, sections_for};
 ghost use Rattle.sd_emm.specs.Fields.{padded};
 ghost use Rattle.sd_emm.specs.Period.{entries_at, emms_of};
 ghost use Rattle.sd_tree.specs.SetNames.{AreAscending};
+ghost use Rattle.sd_emm.specs.declared.format.TheConstants.{MOST_ENTRIES, MOST_SETS};
 
 use crate::emm::{Emm, Entry, NOTHING};
+use crate::format::{MOST_ENTRIES, MOST_SETS};
 
 /// How many sections a period with so many sets has: as many as have room for three in each, and at least one.
+#[tactic(auto, unfolding(sd_message::specs::Pieces::pieces_for))]
 pub fn section_count(sets: usize) -> u16
-    requires { sets ≤ 196605 }
+    requires { sets ≤ MOST_SETS }
     ensures { result ≡ sections_for sets }
 {
-    sets.div_ceil(3).max(1) as u16
+    sets.div_ceil(MOST_ENTRIES).max(1) as u16
 }
 
 impl Emm {
     /// The section of this index, below `section_count`, of the period that has this number, this check value of its key and
-    /// these sets: all of them, ascending, at most 196,605 (docs/FORMATS.md, Messages).
-    #[tactic(auto, using(crate::proofs::Sharing::stands_at, crate::proofs::Sharing::is_emm), unfolding(crate::specs::Period::emm_at))]
+    /// these sets: all of them, ascending, at most [`MOST_SETS`] (docs/FORMATS.md, Messages).
+    #[tactic(auto, using(crate::proofs::Sharing::stands_at), unfolding(crate::specs::Period::emm_at))]
     pub fn of_period(period: u32, check: &[u8; 16], entries: &[Entry], index: u16) -> Emm
-        requires sets { length entries.now ≤ 196605 }
+        requires sets { length entries.now ≤ MOST_SETS }
         requires index { index < sections_for (length entries.now) }
         ensures value { slice_get (emms_of (record { number = period; check = check.now; entries = entries.now })) index ≡ Some result }
-        ensures form { AreAscending (names_of entries.now) → IsEmm result }
+        ensures form { AreAscending (names_in entries.now) → IsEmm result }
     {
         let own = entries_of(entries, index);
         Emm {
@@ -41,18 +44,18 @@ impl Emm {
 // The entries of the section of this index.
 fn entries_of(entries: &[Entry], index: u16) -> &[Entry]
     ensures value { result.now ≡ entries_at entries.now index }
-    ensures few { length result.now ≤ 3 }
+    ensures few { length result.now ≤ MOST_ENTRIES }
 {
-    let after = &entries[entries.len().min(3 * usize::from(index))..];
-    &after[..after.len().min(3)]
+    let after = &entries[entries.len().min(MOST_ENTRIES * usize::from(index))..];
+    &after[..after.len().min(MOST_ENTRIES)]
 }
 
 // Filled up to three.
-fn filled_up(own: &[Entry]) -> [Entry; 3]
-    requires { length own.now ≤ 3 }
+fn filled_up(own: &[Entry]) -> [Entry; MOST_ENTRIES]
+    requires { length own.now ≤ MOST_ENTRIES }
     ensures { result ≡ padded own.now }
 {
-    let mut entries = [NOTHING; 3];
+    let mut entries = [NOTHING; MOST_ENTRIES];
     entries[..own.len()].copy_from_slice(own);
     entries
 }

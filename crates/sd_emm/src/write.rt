@@ -1,17 +1,16 @@
 ghost use Rattle.std.specs.Prelude.{◌≡◌, ◌<◌, ◌≤◌, ◌+◌, ◌*◌, ◌++◌, length, take};
 ghost use Rattle.std.specs.Int.{w32, to_be_bytes};
 ghost use Rattle.sd_packet.specs.Packing.{packed};
-ghost use Rattle.sd_emm.specs.Spelled.{listed, entry_bytes, name_bytes, front_bytes, emm_body, emm_section};
-ghost use Rattle.sd_emm.specs.Form.{AreWrapped, FitsFront, Fits, IsEmm};
+ghost use Rattle.sd_emm.specs.Spelled.{listed, entry_bytes, name_bytes, head_bytes, emm_body, emm_section};
+ghost use Rattle.sd_emm.specs.declared.format.TheConstants.{ENTRIES_AT, MOST_ENTRIES, ENTRY_BYTES};
+ghost use Rattle.sd_emm.specs.Form.{AreWrapped, FitsHead, Fits, IsEmm};
 
 use crate::emm::{Emm, Entry};
+use crate::format::TABLE_ID;
 use sd_message::{Body, pack};
 use sd_packet::Packet;
 use sd_section::Header;
 use sd_tree::SetName;
-
-/// The table_id of a section of entitlements.
-pub const TABLE_ID: u8 = 0x82;
 
 /// The packet that is the section of these entitlements by itself (docs/FORMATS.md, Messages).
 #[tactic(auto, unfolding(crate::specs::Spelled::emm_section))]
@@ -32,15 +31,15 @@ pub fn write_emm(emm: &Emm, pid: u16, counter: u8) -> Packet
 }
 
 // The section's body.
-#[tactic(auto, using(crate::proofs::Spelling::none_put, crate::proofs::Spelling::one_put, crate::proofs::Spelling::none_wrapped, crate::proofs::Spelling::one_wrapped), unfolding(crate::specs::Spelled::emm_body))]
+#[tactic(auto, using(crate::proofs::Spelling::one_put, crate::proofs::Spelling::none_wrapped, crate::proofs::Spelling::one_wrapped), unfolding(crate::specs::Spelled::emm_body))]
 fn body_of(emm: &Emm) -> Body
-    requires { emm.now.count ≤ 3 }
+    requires { emm.now.count ≤ MOST_ENTRIES }
     ensures value { result ≡ emm_body emm.now }
-    ensures length { length result ≡ 27 + 40 * emm.now.count }
-    ensures front { FitsFront emm.now }
+    ensures length { length result ≡ ENTRIES_AT + ENTRY_BYTES * emm.now.count }
+    ensures head { FitsHead emm.now }
     ensures wrapped { AreWrapped (listed emm.now) }
 {
-    let mut body = front_of(emm);
+    let mut body = head_of(emm);
     for k in 0..usize::from(emm.count) {
         put_entry(&mut body, &emm.entries[k]);
     }
@@ -48,11 +47,11 @@ fn body_of(emm: &Emm) -> Body
 }
 
 // The body before its entries.
-#[tactic(auto, unfolding(crate::specs::Spelled::front_bytes))]
-fn front_of(emm: &Emm) -> Body
-    ensures value { result ≡ front_bytes emm.now }
-    ensures length { length result ≡ 27 }
-    ensures fits { FitsFront emm.now }
+#[tactic(auto, unfolding(crate::specs::Spelled::head_bytes))]
+fn head_of(emm: &Emm) -> Body
+    ensures value { result ≡ head_bytes emm.now }
+    ensures length { length result ≡ ENTRIES_AT }
+    ensures fits { FitsHead emm.now }
 {
     let mut body = Body::new();
     body.put(&emm.period.to_be_bytes());
@@ -66,9 +65,9 @@ fn front_of(emm: &Emm) -> Body
 // Puts an entry after the body.
 #[tactic(auto, using(crate::proofs::Spelling::put_after), unfolding(crate::specs::Spelled::entry_bytes))]
 fn put_entry(body: &mut Body, entry: &Entry)
-    requires { length body.old + 40 ≤ 171 }
+    requires { length body.old + ENTRY_BYTES ≤ 171 }
     ensures value { body.new ≡ body.old ++ entry_bytes entry.now }
-    ensures length { length body.new ≡ length body.old + 40 }
+    ensures length { length body.new ≡ length body.old + ENTRY_BYTES }
     ensures wrapped { length entry.now.wrapped ≡ 32 }
 {
     let (i, j) = pair_of(entry.name);

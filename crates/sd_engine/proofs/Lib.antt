@@ -1,1 +1,5 @@
 pub mod Walking
+pub mod Feeding
+pub mod Fronts
+pub mod Chains
+pub mod Driving

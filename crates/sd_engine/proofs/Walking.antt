@@ -5,15 +5,14 @@ use Rattle.std.specs.List.{take_while}
 use Rattle.std.proofs.lemmas.Bool.{eq-eqb, ne_eqb, eqb-false, lt-ltb, le-ltb, cond-true, cond-false, cases_lt, cases_eq}
 use Rattle.std.proofs.lemmas.List.{get_or-take, get_or-drop, drop-drop, take_rest, nil_from_length}
 use Rattle.std.proofs.lemmas.List.Sums.{take_while-cons}
-use Rattle.sd_engine.specs.Stream.{pieces, is_packet, packets_of, break_after, break_of, ArePackets}
+use Rattle.sd_engine.specs.Stream.{pieces, is_packet, packets_of, break_after, break_of, ArePackets, torn, no_sync}
 use Rattle.sd_engine.specs.Walk.{Walk, TakesOne, IsAtBreak}
 use Rattle.sd_engine.specs.declared.fault.StreamBreak.{StreamBreak}
-use Rattle.sd_engine.specs.declared.fault.StreamBreak.TheVariants.{Torn, NoSync}
 
 -- why bytes break, by how many packets and whole packets' bytes there are, and how many bytes are left over
 abbrev break_by : ℕ → ℕ → ℕ → ℕ → Option StreamBreak
 break_by k packets whole left =
-    if nat_lt packets whole then Some (NoSync (k + packets)) else if left == 0 then None else Some (Torn (k + whole))
+    if nat_lt packets whole then Some (no_sync (k + packets)) else if left == 0 then None else Some (torn (k + whole))
 
 break_is : (k : ℕ) (bytes : List ℕ) → break_after k bytes ≡ break_by k (length (packets_of bytes)) (length bytes / 188) (length bytes % 188)
 unfolding break_after
@@ -43,10 +42,10 @@ break_more k packets whole left =
     elim (cases_lt packets whole) [
       | inl few ↦
           cond-true (nat_lt (suc packets) (suc whole)) _ _ (lt-ltb (suc packets) (suc whole) (omega arith))
-          ∙ ap (λ (n : ℕ). Some (NoSync n)) p ∙ sym (cond-true (nat_lt packets whole) _ _ (lt-ltb packets whole few))
+          ∙ ap (λ (n : ℕ). Some (no_sync n)) p ∙ sym (cond-true (nat_lt packets whole) _ _ (lt-ltb packets whole few))
       | inr all ↦
           cond-false (nat_lt (suc packets) (suc whole)) _ _ (le-ltb (suc packets) (suc whole) (omega arith))
-          ∙ ap (λ (n : ℕ). if left == 0 then None else Some (Torn n)) w ∙ sym (cond-false (nat_lt packets whole) _ _ (le-ltb packets whole all))
+          ∙ ap (λ (n : ℕ). if left == 0 then None else Some (torn n)) w ∙ sym (cond-false (nat_lt packets whole) _ _ (le-ltb packets whole all))
     ]
 
 -- at the end there is no packet, and no break
@@ -56,17 +55,17 @@ none_at_end k = refl
 
 -- fewer bytes than a packet has
 pub torn_here : (w : Walk) (rest : List ℕ) (number : ℕ) → rest ≡ w.rest → number ≡ w.taken → 0 < length rest → length rest < 188 →
-    IsAtBreak w w (Torn number)
+    IsAtBreak w w (torn number)
 torn_here w rest number is numbered some few =
     let none : packets_of rest ≡ [] = no_piece rest few in
     let whole : length rest / 188 ≡ 0 = omega arith in
     let left : (length rest % 188 == 0) ≡ false = ne_eqb (length rest % 188) 0 (λ e. omega arith) in
-    let here : break_after number rest ≡ Some (Torn number) =
+    let here : break_after number rest ≡ Some (torn number) =
     break_is number rest
     ∙ ap (λ (p : List (List ℕ)). break_by number (length p) (length rest / 188) (length rest % 188)) none
     ∙ ap (λ (n : ℕ). break_by number 0 n (length rest % 188)) whole
     ∙ cond-false (length rest % 188 == 0) _ _ left
-    ∙ ap (λ (n : ℕ). Some (Torn n)) (omega arith) in
+    ∙ ap (λ (n : ℕ). Some (torn n)) (omega arith) in
     record {
       none = ap packets_of (sym is) ∙ none;
       break = ap (λ (k : ℕ). break_after k w.rest) (sym numbered) ∙ ap (break_after number) (sym is) ∙ here;
@@ -75,16 +74,16 @@ torn_here w rest number is numbered some few =
 
 -- bytes of a packet that don't begin with the sync byte
 pub no_sync_here : (w : Walk) (rest piece : List ℕ) (number : ℕ) → rest ≡ w.rest → number ≡ w.taken → 188 ≤ length rest →
-    piece ≡ take 188 rest → slice_index piece 0 ≢ 0x47 → IsAtBreak w w (NoSync number)
-no_sync_here w rest piece number is numbered long front no_sync =
+    piece ≡ take 188 rest → slice_index piece 0 ≢ 0x47 → IsAtBreak w w (no_sync number)
+no_sync_here w rest piece number is numbered long front apart =
     let same : slice_index piece 0 ≡ slice_index rest 0 = ap (λ (p : List ℕ). slice_index p 0) front ∙ get_or-take 188 rest 0 0 (omega arith) in
-    let other : (slice_index rest 0 == 0x47) ≡ false = ne_eqb (slice_index rest 0) 0x47 (λ e. no_sync (same ∙ e)) in
+    let other : (slice_index rest 0 == 0x47) ≡ false = ne_eqb (slice_index rest 0) 0x47 (λ e. apart (same ∙ e)) in
     let none : packets_of rest ≡ [] = one_piece rest long ∙ cond-false (slice_index rest 0 == 0x47) _ _ other in
-    let here : break_after number rest ≡ Some (NoSync number) =
+    let here : break_after number rest ≡ Some (no_sync number) =
     break_is number rest
     ∙ ap (λ (p : List (List ℕ)). break_by number (length p) (length rest / 188) (length rest % 188)) none
     ∙ cond-true (nat_lt 0 (length rest / 188)) _ _ (lt-ltb 0 (length rest / 188) (omega arith))
-    ∙ ap (λ (n : ℕ). Some (NoSync n)) (omega arith) in
+    ∙ ap (λ (n : ℕ). Some (no_sync n)) (omega arith) in
     record {
       none = ap packets_of (sym is) ∙ none;
       break = ap (λ (k : ℕ). break_after k w.rest) (sym numbered) ∙ ap (break_after number) (sym is) ∙ here;
@@ -92,10 +91,10 @@ no_sync_here w rest piece number is numbered long front no_sync =
     }
 
 -- the packets and the break, where a packet stands in front
-packets_more : (bytes : List ℕ) → 188 ≤ length bytes → slice_index bytes 0 ≡ 0x47 → packets_of bytes ≡ take 188 bytes ∷ packets_of (drop 188 bytes)
+pub packets_more : (bytes : List ℕ) → 188 ≤ length bytes → slice_index bytes 0 ≡ 0x47 → packets_of bytes ≡ take 188 bytes ∷ packets_of (drop 188 bytes)
 packets_more bytes long sync = one_piece bytes long ∙ cond-true (slice_index bytes 0 == 0x47) _ _ (eq-eqb (slice_index bytes 0) 0x47 sync)
 
-break_after_more : (k : ℕ) (bytes : List ℕ) → 188 ≤ length bytes → slice_index bytes 0 ≡ 0x47 →
+pub break_after_more : (k : ℕ) (bytes : List ℕ) → 188 ≤ length bytes → slice_index bytes 0 ≡ 0x47 →
     break_after k bytes ≡ break_after (k + 1) (drop 188 bytes)
 break_after_more k bytes long sync =
     let after : List ℕ = drop 188 bytes in
@@ -134,7 +133,7 @@ packet_here w v rest piece packet is cut made long sync after counted =
     }
 
 -- after the first of some packets stand the others
-others : (n : ℕ) (bytes : List ℕ) → ArePackets (suc n) bytes → ArePackets n (drop 188 bytes)
+pub others : (n : ℕ) (bytes : List ℕ) → ArePackets (suc n) bytes → ArePackets n (drop 188 bytes)
 others n bytes are = record {
   long = omega (arith, are.long, length-drop 188 bytes);
   sync = λ k h. get_or-drop 188 bytes (188 * k) 0 ∙ ap (λ (i : ℕ). slice_index bytes i) (omega arith) ∙ are.sync (suc k) (omega arith);

@@ -1,2 +1,5 @@
 pub mod Stream
+pub mod Stage
+pub mod Feeding
+pub mod Driving
 pub mod Walk

@@ -1,7 +1,7 @@
 -- A stream of bytes, cut into transport packets.
 use Rattle.std.specs.Prelude.{◌≡◌, ℕ, zero, suc, ◌+◌, ◌*◌, ◌/◌, ◌%◌, ◌<◌, ◌==◌, Bool, List, [], ◌∷◌, length, take, drop, take_while, slice_index, nat_lt, if◌then◌else◌, Option, Some, None}
 use Rattle.sd_engine.specs.declared.fault.StreamBreak.{StreamBreak}
-use Rattle.sd_engine.specs.declared.fault.StreamBreak.TheVariants.{Torn, NoSync}
+use Rattle.sd_engine.specs.declared.fault.BreakCause.TheVariants.{Torn, NoSync}
 
 -- how many whole packets' bytes there are [ISO/IEC 13818-1, 2.4.3.2]
 abbrev pub whole_in : List ℕ → ℕ
@@ -20,13 +20,21 @@ is_packet piece = slice_index piece 0 == 0x47
 unfoldable pub packets_of : List ℕ → List (List ℕ)
 packets_of bytes = take_while is_packet (pieces (whole_in bytes) bytes)
 
+-- fewer bytes than a packet has are left over as packet k
+abbrev pub torn : ℕ → StreamBreak
+torn k = record { packet = k; cause = Torn }
+
+-- packet k doesn't begin with the sync byte
+abbrev pub no_sync : ℕ → StreamBreak
+no_sync k = record { packet = k; cause = NoSync }
+
 -- Why what stands after k packets is no stream: a piece that doesn't begin with the sync byte, or else bytes left over at the end. The
 -- number is that of the packet at which it breaks [this project, docs/FORMATS.md, Streams].
 unfoldable pub break_after : ℕ → List ℕ → Option StreamBreak
 break_after k bytes =
-    if nat_lt (length (packets_of bytes)) (whole_in bytes) then Some (NoSync (k + length (packets_of bytes)))
+    if nat_lt (length (packets_of bytes)) (whole_in bytes) then Some (no_sync (k + length (packets_of bytes)))
     else if length bytes % 188 == 0 then None
-    else Some (Torn (k + whole_in bytes))
+    else Some (torn (k + whole_in bytes))
 
 -- why bytes are no stream
 abbrev pub break_of : List ℕ → Option StreamBreak

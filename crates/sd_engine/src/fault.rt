@@ -1,8 +1,16 @@
-/// Why bytes are no stream of packets, with the number of the packet at which they break (ISO/IEC 13818-1, 2.4.3.2).
+/// Why bytes are no stream of packets (ISO/IEC 13818-1, 2.4.3.2).
 #[derive(Clone, Copy, Debug, PartialEq, Eq)]
-pub enum StreamBreak {
+pub enum BreakCause {
     /// Fewer than 188 bytes are left over at the end.
-    Torn(u64),
+    Torn,
     /// The 188 bytes of a packet don't begin with the sync byte.
-    NoSync(u64),
+    NoSync,
+}
+
+/// Where and why bytes are no stream of packets.
+#[derive(Clone, Copy, Debug, PartialEq, Eq)]
+pub struct StreamBreak {
+    /// The number of the packet at which they break.
+    pub packet: u64,
+    pub cause: BreakCause,
 }

@@ -1,11 +1,16 @@
-//! A stream of bytes as transport packets, one after the other.
+//! A stream of transport packets, driven one by one from a source through a stage to a sink.
 #![tactic(auto)]
 
+mod driver;
 mod fault;
+mod feed;
 pub mod laws;
 mod packets;
+mod stage;
 #[cfg(test)]
 mod tests;
 
-pub use fault::StreamBreak;
+pub use driver::{DriveFault, MOST_PACKETS, drive};
+pub use fault::{BreakCause, StreamBreak};
 pub use packets::Packets;
+pub use stage::{Stage, StageFault};

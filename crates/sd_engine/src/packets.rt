@@ -1,7 +1,7 @@
 ghost use Rattle.std.specs.Prelude.{◌≡◌};
 ghost use Rattle.sd_engine.specs.Walk.{Walks};
 
-use crate::fault::StreamBreak;
+use crate::fault::{BreakCause, StreamBreak};
 use sd_packet::Packet;
 use std::marker::Model;
 
@@ -45,10 +45,16 @@ impl<'a> Packets<'a> {
             return Ok(None);
         }
         let Some(piece) = rest.first_chunk::<SIZE>() else {
-            return Err(StreamBreak::Torn(self.taken()));
+            return Err(StreamBreak {
+                packet: self.taken(),
+                cause: BreakCause::Torn,
+            });
         };
         let Some(packet) = Packet::new(*piece) else {
-            return Err(StreamBreak::NoSync(self.taken()));
+            return Err(StreamBreak {
+                packet: self.taken(),
+                cause: BreakCause::NoSync,
+            });
         };
         self.at += SIZE;
         Ok(Some(packet))

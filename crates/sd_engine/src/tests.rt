@@ -12,10 +12,38 @@ fn streams_are_walked(rt: HostRuntime) {
     let table: [(&[u8], u64, Result<Option<Packet>, StreamBreak>); 6] = [
         (&[], 0, Ok(None)),
         (&bytes, 2, Ok(None)),
-        (&bytes[..189], 1, Err(StreamBreak::Torn(1))),
-        (&bytes[..187], 0, Err(StreamBreak::Torn(0))),
-        (&bytes[1..], 0, Err(StreamBreak::NoSync(0))),
-        (&wrong, 0, Err(StreamBreak::NoSync(0))),
+        (
+            &bytes[..189],
+            1,
+            Err(StreamBreak {
+                packet: 1,
+                cause: BreakCause::Torn,
+            }),
+        ),
+        (
+            &bytes[..187],
+            0,
+            Err(StreamBreak {
+                packet: 0,
+                cause: BreakCause::Torn,
+            }),
+        ),
+        (
+            &bytes[1..],
+            0,
+            Err(StreamBreak {
+                packet: 0,
+                cause: BreakCause::NoSync,
+            }),
+        ),
+        (
+            &wrong,
+            0,
+            Err(StreamBreak {
+                packet: 0,
+                cause: BreakCause::NoSync,
+            }),
+        ),
     ];
     for (bytes, count, end) in table {
         let mut packets = Packets::new(bytes);

@@ -1,5 +1,5 @@
 -- Packets that begin with a section of this project.
-use Rattle.std.specs.Prelude.{◌≡◌, ℕ, ◌+◌, ◌-◌, List, ◌∷◌, length, take, drop, Some, None, slice_get}
+use Rattle.std.specs.Prelude.{◌≡◌, ℕ, ◌+◌, ◌-◌, Bool, false, ◌==◌, ◌&&◌, bytes_eq, List, ◌∷◌, length, take, drop, Option, Some, None, is_none, slice_get}
 use Rattle.sd_packet.specs.Header.{unit_start_of, payload_of}
 use Rattle.sd_section.specs.Header.{table_id_of, extension_of, number_of, last_number_of, whole_of}
 use Rattle.sd_section.specs.Judged.{section_fault}
@@ -29,11 +29,27 @@ header_of section = record {
 abbrev pub IsPlain : List ℕ → Type 0
 IsPlain section = take 8 section ≡ header_bytes (header_of section) (length section - 12)
 
+-- whether it is
+abbrev pub is_plain : List ℕ → Bool
+is_plain section = bytes_eq (take 8 section) (header_bytes (header_of section) (length section - 12))
+
+-- a byte is there, and is 0
+abbrev pub is_zero : Option ℕ → Bool
+is_zero None = false
+is_zero (Some byte) = byte == 0
+
 -- the packet begins with such a section, whose CRC is right [this project, docs/FORMATS.md, Messages]
 pub record HasSection (packet : List ℕ) : Type 0 where
   pub starts : HasPointer packet
   pub good : section_fault (drop 1 (payload_of packet)) ≡ None
   pub plain : IsPlain (section_of packet)
+
+-- whether it does, by tests [this project, docs/FORMATS.md, Messages]
+unfoldable pub has_section : List ℕ → Bool
+has_section packet =
+    (unit_start_of packet == 1)
+    && (is_zero (slice_get (payload_of packet) 0)
+    && (is_none (section_fault (drop 1 (payload_of packet))) && is_plain (section_of packet)))
 
 -- the packet begins with this section, after pointer 0, whatever stands after it [ISO/IEC 13818-1, 2.4.4]
 pub record Begins (section packet : List ℕ) : Type 0 where

@@ -1,1 +1,3 @@
 pub mod Framed
+pub mod Pieces
+pub mod Items

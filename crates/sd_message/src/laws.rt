@@ -4,7 +4,8 @@ ghost use Rattle.std.specs.Prelude.{◌≡◌, ◌<◌, ◌≤◌, ℕ, List, le
 ghost use Rattle.sd_packet.specs.Packing.{packed};
 ghost use Rattle.sd_section.specs.Written.{section_bytes, Fits};
 ghost use Rattle.sd_section.specs.declared.write.Header.{Header};
-ghost use Rattle.sd_message.specs.Framed.{HasSection, Begins, section_of};
+ghost use Rattle.std.specs.Bool.{Decides};
+ghost use Rattle.sd_message.specs.Framed.{HasSection, has_section, Begins, section_of};
 
 /// A section that this project writes is read from each packet that begins with it, and the packet that is packed of it does.
 #[tactic(auto, using(crate::proofs::Framing::packed_begins, crate::proofs::Framing::begun_is_there, crate::proofs::Framing::begun_is_read))]
@@ -15,4 +16,10 @@ pub fn framed_sections_are_read()
         Begins (section_bytes header body) packet → HasSection packet }
     ensures value { (header : Header) (body packet : List ℕ) → Fits header → length body ≤ 4084 →
         Begins (section_bytes header body) packet → section_of packet ≡ section_bytes header body }
+{}
+
+/// Whether a packet begins with a section of this project is told by tests.
+#[tactic(auto, using(crate::proofs::Deciding::tells_section))]
+pub fn sections_are_told()
+    ensures { (packet : List ℕ) → Decides (has_section packet) (HasSection packet) }
 {}

@@ -1,5 +1,5 @@
 -- Two calls, of which the second closes what the first opened.
-use Rattle.std.proofs.Common.{◌≡◌, ℕ, ◌+◌, ◌-◌, ◌%◌, ◌^◌, ◌<◌, ◌≤◌, min, arith}
+use Rattle.std.proofs.Common.{◌≡◌, ℕ, ◌^◌, ◌<◌, arith}
 use Rattle.std.proofs.Common.{sym, subst}
 use Rattle.std.specs.Prelude.{Option, None, Some, IsSome, List}
 use Rattle.sd_ports.specs.Files.{Files, Opens, IsThere}

@@ -30,7 +30,7 @@ pub there_after : (a b : Option Files) (name bytes : List ℕ) → b ≡ with_by
 there_after None b name bytes e = subst (λ c. IsThere c name) (sym e) tt
 there_after (Some m) b name bytes e =
     let found : get (insert m name bytes) name ≡ Some bytes = get-insert nat_list_cmp_total m name bytes name
-        ∙ ap (λ c. cond c (Some bytes) (get m name)) ((eq_by_cmp_equiv nat_list_cmp_total).refl name) in
+    ∙ ap (λ c. cond c (Some bytes) (get m name)) ((eq_by_cmp_equiv nat_list_cmp_total).refl name) in
     subst (λ c. IsThere c name) (sym e) (subst (λ o. IsSome o) (sym found) refl)
 
 -- what a port of told files took is what its file has
@@ -48,30 +48,33 @@ closed_whole (Some m) b c name bytes h k e f w p =
     told_whole m c name bytes k (subst (λ (h : Option (List ℕ)). Appends h k bytes) f w)
     (subst (λ (b : Option Files). Closes b c name k) e p)
 
--- all is a front, too
-pub closes_front : (b c : Option Files) (name : List ℕ) (k : Option (List ℕ)) → Closes b c name k
+-- all is a prefix, too
+pub closes_prefix : (b c : Option Files) (name : List ℕ) (k : Option (List ℕ)) → Closes b c name k
     → LeavesPrefix b c name k
-closes_front None c name k p = p
-closes_front (Some m) c name None p = p
-closes_front (Some m) c name (Some y) p = (y, ([], append-nil y), p)
+closes_prefix None c name k p = p
+closes_prefix (Some m) c name None p = p
+closes_prefix (Some m) c name (Some y) p = (y, ([], append-nil y), p)
 
--- a front of a front is a front
-front_of_front : (a b c : List ℕ) → IsPrefix a b → IsPrefix b c → IsPrefix a c
-front_of_front a b c p q = (p.0 ++ q.0, sym (append_assoc a p.0 q.0) ∙ ap (λ (r : List ℕ). r ++ q.0) p.1 ∙ q.1)
+-- a prefix of a prefix is a prefix
+prefix_of_prefix : (a b c : List ℕ) → IsPrefix a b → IsPrefix b c → IsPrefix a c
+prefix_of_prefix a b c p q = (p.0 ++ q.0, sym (append_assoc a p.0 q.0) ∙ ap (λ (r : List ℕ). r ++ q.0) p.1 ∙ q.1)
 
--- a front of what a port of told files took is what its file has
+-- a prefix of what a port of told files took is what its file has
 told_short : (m : Files) (c : Option Files) (name bytes : List ℕ) (k : Option (List ℕ))
-    → AppendsPrefix (Some []) k bytes → LeavesPrefix (Some (insert m name [])) c name k → (front : List ℕ)
-    × IsPrefix front bytes × (c ≡ Some (insert m name front))
+    → AppendsPrefix (Some []) k bytes → LeavesPrefix (Some (insert m name [])) c name k → (prefix : List ℕ)
+    × IsPrefix prefix bytes × (c ≡ Some (insert m name prefix))
 told_short m c name bytes None w p = absurd w.2
-told_short m c name bytes (Some y) w p =
-    (p.0, front_of_front p.0 w.0 bytes (subst (λ (r : List ℕ). IsPrefix p.0 r) w.2 p.1) w.1, p.2
-    ∙ ap (λ (r : Files). Some r) (insert_twice m name [] p.0))
+told_short m c name bytes (Some y) w p = (
+  p.0,
+  prefix_of_prefix p.0 w.0 bytes (subst (λ (r : List ℕ). IsPrefix p.0 r) w.2 p.1) w.1,
+  p.2
+      ∙ ap (λ (r : Files). Some r) (insert_twice m name [] p.0),
+)
 
--- a port that took a front of these bytes and was closed leaves a front of them, and so does one that was cut off
+-- a port that took a prefix of these bytes and was closed leaves a prefix of them, and so does one that was cut off
 pub cut_short : (a b c : Option Files) (name bytes : List ℕ) (h k : Option (List ℕ)) → b ≡ with_bytes a name []
-    → IsFresh a h → AppendsPrefix h k bytes → LeavesPrefix b c name k → (front : List ℕ) × IsPrefix front bytes
-    × (c ≡ with_bytes a name front)
+    → IsFresh a h → AppendsPrefix h k bytes → LeavesPrefix b c name k → (prefix : List ℕ) × IsPrefix prefix bytes
+    × (c ≡ with_bytes a name prefix)
 cut_short None b c name bytes h k e f w p =
     ([], (bytes, refl), subst (λ (b : Option Files). LeavesPrefix b c name k) e p)
 cut_short (Some m) b c name bytes h k e f w p =
@@ -91,7 +94,7 @@ written_whole a b c i j k name bytes h held e f w p m l n = record {
   fits = search rules;
 }
 
--- a port that took a front of these bytes and was closed leaves a front of them in a file that was made
+-- a port that took a prefix of these bytes and was closed leaves a prefix of them in a file that was made
 pub written_front : (a b c : Option Files) (i j k : ℕ) (name bytes : List ℕ) (h held : Option (List ℕ))
     → b ≡ with_bytes a name [] → IsFresh a h → AppendsPrefix h held bytes → LeavesPrefix b c name held
     → j ≡ with_added i 1 → i ≤ j → k ≡ j → WritesFile {T = Unit {0}} a c i k name bytes (Err Failed)

@@ -14,15 +14,15 @@ pub appends_more : (a b c : Option (List ℕ)) (bs : List ℕ) (done more : ℕ)
     → Appends b c (take more (take (length bs - done) (drop done bs))) → Appends a c (take (done + more) bs)
 appends_more a b c bs done more p q =
     let all : take (length bs - done) (drop done bs) ≡ drop done bs =
-        take_all _ _ (omega (arith, length-drop done bs)) in
+    take_all _ _ (omega (arith, length-drop done bs)) in
     let joined : take done bs ++ take more (take (length bs - done) (drop done bs)) ≡ take (done + more) bs =
-        ap (λ (r : List ℕ). take done bs ++ take more r) all ∙ sym (take-add done more bs) in
+    ap (λ (r : List ℕ). take done bs ++ take more r) all ∙ sym (take-add done more bs) in
     subst (Appends a c) joined (Appends-trans a b c _ _ p q)
 
 -- after a write that failed, the first `done` bytes stay written
-pub appends_front : (a b c : Option (List ℕ)) (bs : List ℕ) (done : ℕ) → Appends a b (take done bs) → Keeps b c
+pub appends_prefix : (a b c : Option (List ℕ)) (bs : List ℕ) (done : ℕ) → Appends a b (take done bs) → Keeps b c
     → AppendsPrefix a c bs
-appends_front a b c bs done p q = (take done bs, (drop done bs, take-append-drop done bs), Appends-kept a b c _ p q)
+appends_prefix a b c bs done p q = (take done bs, (drop done bs, take-append-drop done bs), Appends-kept a b c _ p q)
 
 -- bytes were read after those that were read before
 pub loses_more : (a b c : Option (List ℕ)) (bs cs : List ℕ) → Consumes a b bs → Consumes b c cs → LosesPrefix a c
@@ -62,12 +62,12 @@ pub kept_moved : (a b c : Option (List ℕ)) (xs bs : List ℕ) (done more : ℕ
     → Keeps a (append_known c (drop (done + more) bs))
 kept_moved a b c xs bs done more e p q =
     let all : take (length xs - done) (drop done xs) ≡ drop done xs =
-        take_all _ _ (omega (arith, length-drop done xs)) in
+    take_all _ _ (omega (arith, length-drop done xs)) in
     let moved : Appends b c (take more (drop done bs)) =
-        subst (λ (ys : List ℕ). Appends b c (take more ys)) (all ∙ ap (drop done) e) q in
+    subst (λ (ys : List ℕ). Appends b c (take more ys)) (all ∙ ap (drop done) e) q in
     let halves : drop done bs ≡ take more (drop done bs) ++ drop (done + more) bs =
-        sym (take-append-drop more (drop done bs))
-        ∙ ap (λ (r : List ℕ). take more (drop done bs) ++ r) (drop-drop more done bs) in
+    sym (take-append-drop more (drop done bs))
+    ∙ ap (λ (r : List ℕ). take more (drop done bs) ++ r) (drop-drop more done bs) in
     Keeps-trans a _ _ p (append_known-moved b c _ _ _ moved halves)
 
 -- more bytes wait after those that wait after the first `done`

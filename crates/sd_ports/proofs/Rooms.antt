@@ -1,6 +1,6 @@
 -- What is taken into a room in portions is taken in all.
-use Rattle.std.proofs.Common.{◌≡◌, ◌<◌, ◌≤◌, ℕ, ◌+◌, ◌-◌, arith, ap, subst, ◌∙◌}
-use Rattle.std.specs.Prelude.{Option, None, Some, Result, Ok, Err}
+use Rattle.std.proofs.Common.{◌≡◌, ◌≤◌, ℕ, ◌+◌, ◌-◌, arith, ap, subst, ◌∙◌}
+use Rattle.std.specs.Prelude.{Option, None, Some, Ok, Err}
 use Rattle.sd_ports.specs.Rooms.{TakesRoom, HasTaken, FillsRoom}
 use Rattle.sd_ports.specs.declared.fault.PortFault.{PortFault}
 

@@ -23,9 +23,9 @@ find_told : (es : List (String Global × Vec ℕ Global)) (q : List ℕ)
 find_told [] q = refl
 find_told (e ∷ es) q =
     elim (eq_by_cmp (slice_cmp nat_cmp) q (string_bytes e.0)) as
-        (λ b. cond b (Some e.1.items) (find (slice_cmp nat_cmp) q (map (λ e. (string_bytes e.0, e.1.items)) es))
-        ≡ option_map (λ b. b.items) (cond b (Some e.1) (lookup (is_at (λ k. slice_cmp nat_cmp q (string_bytes k))) es)))
-        [ true ↦ refl | false ↦ find_told es q ]
+    (λ b. cond b (Some e.1.items) (find (slice_cmp nat_cmp) q (map (λ e. (string_bytes e.0, e.1.items)) es))
+    ≡ option_map (λ b. b.items) (cond b (Some e.1) (lookup (is_at (λ k. slice_cmp nat_cmp q (string_bytes k))) es)))
+    [ true ↦ refl | false ↦ find_told es q ]
 
 -- the told files have at a name what the texts have there
 pub told_at : (m : BTreeMap (String Global) (Vec ℕ Global)) (q : List ℕ)
@@ -59,10 +59,10 @@ told_update : (name : List ℕ) (m n : BTreeMap (String Global) (Vec ℕ Global)
     → told_files n ≡ insert (told_files m) name v.items
 told_update name m n v h = same_map nat_list_cmp_total (slice_cmp-IsAntisymmetric nat_cmp-IsAntisymmetric) _ _ (λ q.
     told_at n q ∙ ap (option_map (λ b. b.items)) (btree_map_updates_text name m n (Some v) h q)
-        ∙ chosen (bytes_eq name q) v (get_by_text m q)
+    ∙ chosen (bytes_eq name q) v (get_by_text m q)
     ∙ ap (λ b. cond b (Some v.items) (option_map (λ b. b.items) (get_by_text m q))) (same_name name q)
     ∙ ap (cond (eq_by_cmp (slice_cmp nat_cmp) q name) (Some v.items)) (sym (told_at m q))
-        ∙ sym (get-insert nat_list_cmp_total (told_files m) name v.items q))
+    ∙ sym (get-insert nat_list_cmp_total (told_files m) name v.items q))
 
 -- a text that is set sets the told file
 pub told_after : (key : String Global) (m n : BTreeMap (String Global) (Vec ℕ Global)) (v : Vec ℕ Global)

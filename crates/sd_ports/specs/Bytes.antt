@@ -1,17 +1,17 @@
-use Rattle.std.specs.Prelude.{◌≡◌, ℕ, ◌<◌, List, ◌++◌, length, Option, None, Some}
-use Rattle.std.specs.Io.KnownBytes.{Appends, Consumes, IsAtEnd}
+use Rattle.std.specs.Prelude.{◌≡◌, ℕ, ◌<◌, List, ◌++◌, length, drop, Option, None, Some}
+use Rattle.std.specs.Io.KnownBytes.{Appends, Consumes, IsAtEnd, append_known}
 
--- the front of a list
+-- the first bytes of others
 abbrev pub IsPrefix : List ℕ → List ℕ → Type 0
-IsPrefix front whole = (rest : List ℕ) × (front ++ rest ≡ whole)
+IsPrefix prefix whole = (rest : List ℕ) × (prefix ++ rest ≡ whole)
 
--- what is held grew by a front of these bytes
+-- what is held grew by a prefix of these bytes
 abbrev pub AppendsPrefix : Option (List ℕ) → Option (List ℕ) → List ℕ → Type 0
-AppendsPrefix old new bytes = (front : List ℕ) × IsPrefix front bytes × Appends old new front
+AppendsPrefix old new bytes = (prefix : List ℕ) × IsPrefix prefix bytes × Appends old new prefix
 
--- what is left lost some bytes at its front
+-- what is left lost its first bytes, some or none
 abbrev pub LosesPrefix : Option (List ℕ) → Option (List ℕ) → Type 0
-LosesPrefix old new = (front : List ℕ) × Consumes old new front
+LosesPrefix old new = (prefix : List ℕ) × Consumes old new prefix
 
 -- these were all the bytes that were left
 abbrev pub GivesAll : Option (List ℕ) → Option (List ℕ) → List ℕ → Type 0
@@ -21,3 +21,7 @@ GivesAll old new bytes = Consumes old new bytes × IsAtEnd new
 abbrev pub IsLonger : Option (List ℕ) → ℕ → Type 0
 IsLonger None most = Unit {0}
 IsLonger (Some bytes) most = most < length bytes
+
+-- what a port with a buffer was given: what its writer holds, and then the bytes that wait from this place on
+abbrev pub given_to : Option (List ℕ) → List ℕ → ℕ → Option (List ℕ)
+given_to contents waiting sent = append_known contents (drop sent waiting)

@@ -54,12 +54,12 @@ Closes None now name held = now ≡ None
 Closes (Some files) now name None = (bytes : List ℕ) × (now ≡ Some (insert files name bytes))
 Closes (Some files) now name (Some held) = now ≡ Some (insert files name held)
 
--- the file of that name has a front of what its port held, where files are told, and the other files stay
+-- the file of that name has a prefix of what its port held, where files are told, and the other files stay
 abbrev pub LeavesPrefix : Option Files → Option Files → List ℕ → Option (List ℕ) → Type 0
 LeavesPrefix None now name held = now ≡ None
 LeavesPrefix (Some files) now name None = (bytes : List ℕ) × (now ≡ Some (insert files name bytes))
-LeavesPrefix (Some files) now name (Some held) = (front : List ℕ) × IsPrefix front held
-    × (now ≡ Some (insert files name front))
+LeavesPrefix (Some files) now name (Some held) = (prefix : List ℕ) × IsPrefix prefix held
+    × (now ≡ Some (insert files name prefix))
 
 -- the file was made with these bytes: the other files stay, and the count of those made rose by one
 abbrev pub IsMade : Option Files → Option Files → ℕ → ℕ → List ℕ → List ℕ → Type 0
@@ -70,12 +70,12 @@ IsMade files_before files_now made_before made_now name bytes = (files_now ≡ w
 abbrev pub IsUnmade : Option Files → Option Files → ℕ → ℕ → Type 0
 IsUnmade files_before files_now made_before made_now = (files_now ≡ files_before) × (made_now ≡ made_before)
 
--- the file was made with a front of these bytes
+-- the file was made with a prefix of these bytes
 abbrev pub IsMadeShort : Option Files → Option Files → ℕ → ℕ → List ℕ → List ℕ → Type 0
-IsMadeShort files_before files_now made_before made_now name bytes = (front : List ℕ) × IsPrefix front bytes
-    × IsMade files_before files_now made_before made_now name front
+IsMadeShort files_before files_now made_before made_now name bytes = (prefix : List ℕ) × IsPrefix prefix bytes
+    × IsMade files_before files_now made_before made_now name prefix
 
--- What writing a whole file did: `Ok` made it with these bytes, `Failed` may have made it with a front of them, and
+-- What writing a whole file did: `Ok` made it with these bytes, `Failed` may have made it with a prefix of them, and
 -- other faults made none.
 -- Where files are told, `Missing` never comes, and `TooBig` never does.
 pub record WritesFile {T : Type 0} (files_before files_now : Option Files) (made_before made_now : ℕ)

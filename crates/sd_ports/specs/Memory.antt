@@ -115,10 +115,22 @@ given s space = min s.most (min space (length s.left))
 -- a source after a read into so much space
 abbrev pub after_read : Supply → ℕ → Supply
 after_read s space =
-    if read_fails s then record { left = s.left; most = s.most; fails = s.fails; reads = with_added s.reads 1; faults =
-        with_added s.faults 1 }
-    else record { left = drop (given s space) s.left; most = s.most; fails = s.fails; reads =
-        with_added s.reads 1; faults = s.faults }
+    if read_fails s then record {
+      left = s.left;
+      most = s.most;
+      fails = s.fails;
+      reads = with_added s.reads 1;
+      faults =
+          with_added s.faults 1;
+    }
+    else record {
+      left = drop (given s space) s.left;
+      most = s.most;
+      fails = s.fails;
+      reads =
+          with_added s.reads 1;
+      faults = s.faults;
+    }
 
 -- how many more bytes there is room for, told where no write is to fail by its number
 abbrev pub room_by : List ℕ → ℕ → Option ℕ

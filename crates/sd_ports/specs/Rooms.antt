@@ -1,7 +1,8 @@
 -- How much room a sink has left, where it tells it.
 use Rattle.std.specs.Prelude.{◌≡◌, ℕ, ◌-◌, ◌<◌, ◌≤◌, Option, Some, None, Result, Ok, Err}
 
--- A write of a piece of this size: where so many bytes of room are told, a piece that is no longer is taken, and the room
+-- A write of a piece of this size: where so many bytes of room are told, a piece that is no longer is taken, and the
+-- room
 -- is less by what was taken of it.
 abbrev pub TakesRoom : {E : Type 0} → Option ℕ → Option ℕ → ℕ → Result ℕ E → Type 0
 TakesRoom None now size result = Unit {0}

@@ -9,6 +9,6 @@ pub enum DepotFault {
     Missing = 1,
     /// The device failed.
     Failed = 2,
-    /// Memory is wanting.
+    /// Out of memory.
     NoMemory = 3,
 }

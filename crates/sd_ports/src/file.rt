@@ -17,7 +17,7 @@ pub enum FileFault {
     TooBig = 2,
     /// The device failed.
     Failed = 3,
-    /// Memory is wanting.
+    /// Out of memory.
     NoMemory = 4,
 }
 
@@ -35,7 +35,8 @@ pub fn read_file<D: Depot>(
     ensures within { IfOk result (λ bytes. length bytes.items ≤ most) }
     ensures too_big { IsErrOf result FileFault.TooBig → IsLongFile (D.files depot.old) name.now most }
     ensures missing { IsErrOf result FileFault.Missing → IsNotThere (D.files depot.old) name.now }
-    ensures cause { HasFileCause (D.faults depot.old) (D.faults depot.new) (D.misses depot.old) (D.misses depot.new) result }
+    ensures cause { HasFileCause (D.faults depot.old) (D.faults depot.new) (D.misses depot.old) (D.misses depot.new)
+        result }
     ensures ports { D.opened depot.new ≡ D.opened depot.old }
     ensures calls { CountsCalls (D.calls depot.old) (D.calls depot.new) result }
     ensures once { (D.calls depot.new ≤ with_added (D.calls depot.old) 1) ⊎ IsThere (D.files depot.old) name.now }
@@ -57,7 +58,7 @@ pub fn read_file<D: Depot>(
 }
 
 /// Makes a file with these bytes, in place of one that had the name: it makes, writes and closes it, and only then
-/// answers. `Failed` may leave a front of them.
+/// answers. `Failed` may leave a prefix of them.
 #[tactic(auto, using(crate::proofs::Outlets::there_after, crate::proofs::Calls::twice_called, crate::proofs::Calls::open_as_before))]
 pub fn write_file<D: Depot>(
     alloc: Global,
@@ -65,9 +66,10 @@ pub fn write_file<D: Depot>(
     name: &str,
     bytes: &[u8],
 ) -> Result<(), FileFault>
-    ensures file { WritesFile (D.files depot.old) (D.files depot.new) (D.made depot.old) (D.made depot.new) name.now bytes.now
+    ensures file { WritesFile (D.files depot.old) (D.files depot.new) (D.made depot.old) (D.made depot.new) name.now
+        bytes.now result }
+    ensures cause { HasFileCause (D.faults depot.old) (D.faults depot.new) (D.misses depot.old) (D.misses depot.new)
         result }
-    ensures cause { HasFileCause (D.faults depot.old) (D.faults depot.new) (D.misses depot.old) (D.misses depot.new) result }
     ensures ports { D.opened depot.new ≡ D.opened depot.old }
     ensures calls { CountsCalls (D.calls depot.old) (D.calls depot.new) result }
 {

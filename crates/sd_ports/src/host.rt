@@ -1,24 +1,27 @@
-ghost use Rattle.std.specs.Prelude.{◌≡◌, ◌<◌, ◌≤◌, None, [], drop, vec_len, vec_capacity, IfOk, IsErr, OnOk, OnErr};
+ghost use Rattle.std.specs.Prelude.{◌≡◌, ◌<◌, ◌≤◌, None, [], vec_len, vec_capacity, IfOk, IsErr, OnOk, OnErr};
 ghost use Rattle.std.specs.Prelude.{length};
 ghost use Rattle.std.specs.Io.{ReadsAtMost, WritesAtMost};
-ghost use Rattle.std.specs.Io.KnownBytes.{Keeps, ReadConsumes, WriteAppends, append_known};
+ghost use Rattle.std.specs.Io.KnownBytes.{Keeps, ReadConsumes, WriteAppends};
 ghost use Rattle.sd_cause.specs.Count.{HasCause, with_added};
+ghost use Rattle.sd_ports.specs.Bytes.{given_to};
 ghost use Rattle.sd_ports.specs.Rooms.{TakesRoom};
 ghost use Rattle.sd_ports.specs.Causes.{HasDepotCause};
 
 use crate::depot::Depot;
 use crate::fault::{DepotFault, PortFault};
+use crate::identity;
+use crate::identity::Identity;
 use crate::sink::Sink;
 use crate::source::Source;
 use std::alloc::Global;
 use std::fs::Files;
 use std::io::{ErrorKind, Read, Write};
-use std::{fs, io};
 
 /// The files of the machine, by their paths.
 #[derive(Drop)]
 pub struct HostDepot<'a, R> {
     files: &'a R,
+    inputs: Vec<Identity>,
     faults: u64,
     misses: u64,
     made: u64,
@@ -28,7 +31,7 @@ pub struct HostDepot<'a, R> {
 
 impl<'a, R: Files> HostDepot<'a, R> {
     /// The files, with counts of 0.
-    pub fn new(files: &'a R) -> HostDepot<'a, R>
+    pub fn new(alloc: Global, files: &'a R) -> HostDepot<'a, R>
         ensures faults { result.faults ≡ 0 }
         ensures misses { result.misses ≡ 0 }
         ensures made { result.made ≡ 0 }
@@ -37,6 +40,7 @@ impl<'a, R: Files> HostDepot<'a, R> {
     {
         HostDepot {
             files,
+            inputs: Vec::new(alloc),
             faults: 0,
             misses: 0,
             made: 0,
@@ -86,7 +90,7 @@ impl<'a, R: Files> Depot for HostDepot<'a, R> {
 
     fn open_in(&mut self, _alloc: Global, name: &str) -> Result<HostInlet<R::File>, DepotFault> {
         self.calls = self.calls.saturating_add(1);
-        match fs::open(self.files, name) {
+        match identity::open(self.files, &mut self.inputs, name) {
             Ok(file) => {
                 self.opened = self.opened.wrapping_add(1);
                 Ok(HostInlet { file, faults: 0 })
@@ -95,13 +99,14 @@ impl<'a, R: Files> Depot for HostDepot<'a, R> {
         }
     }
 
-    /// The memory is taken before the file is made.
+    /// The memory is taken before the file is made. A file that was opened for reading is never made anew, whatever
+    /// path leads to it: it stays as it is, and that is a fault.
     fn create_out(&mut self, alloc: Global, name: &str) -> Result<HostOutlet<R::File>, DepotFault> {
         self.calls = self.calls.saturating_add(1);
         let Ok(buffer) = Vec::with_capacity(alloc, BUFFER) else {
             return Err(DepotFault::NoMemory);
         };
-        match fs::create(self.files, name) {
+        match identity::create(self.files, &self.inputs, name) {
             Ok(file) => {
                 self.made = self.made.saturating_add(1);
                 self.opened = self.opened.wrapping_add(1);
@@ -196,9 +201,8 @@ impl<F: Write + Drop> HostOutlet<F> {
 
     /// Writes what waits. After a fault, what wasn't written waits still.
     fn send(&mut self) -> Result<(), PortFault>
-        ensures passed
-            { Keeps (append_known (F.Write.contents self.old.file.writer) (drop self.old.sent self.old.waiting.items))
-            (append_known (F.Write.contents self.new.file.writer) (drop self.new.sent self.new.waiting.items)) }
+        ensures passed { Keeps (given_to (F.Write.contents self.old.file.writer) self.old.waiting.items self.old.sent)
+            (given_to (F.Write.contents self.new.file.writer) self.new.waiting.items self.new.sent) }
         ensures all { OnOk result (self.new.waiting.items ≡ []) }
         ensures cause { HasCause self.old.file.faults self.new.file.faults result }
         ensures one { OnErr result (self.new.file.faults ≡ with_added self.old.file.faults 1) }
@@ -217,9 +221,8 @@ impl<F: Write + Drop> HostOutlet<F> {
     /// Sees to it that the buffer has room for a byte.
     #[tactic(auto, using(crate::proofs::Portions::kept_same))]
     fn make_room(&mut self) -> Result<(), PortFault>
-        ensures passed
-            { Keeps (append_known (F.Write.contents self.old.file.writer) (drop self.old.sent self.old.waiting.items))
-            (append_known (F.Write.contents self.new.file.writer) (drop self.new.sent self.new.waiting.items)) }
+        ensures passed { Keeps (given_to (F.Write.contents self.old.file.writer) self.old.waiting.items self.old.sent)
+            (given_to (F.Write.contents self.new.file.writer) self.new.waiting.items self.new.sent) }
         ensures room { OnOk result (vec_len self.new.waiting < BUFFER) }
         ensures cause { HasCause self.old.file.faults self.new.file.faults result }
         ensures one { OnErr result (self.new.file.faults ≡ with_added self.old.file.faults 1) }
@@ -247,11 +250,9 @@ impl<F: Write + Drop> Sink for HostOutlet<F> {
         ensures bytes { WriteAppends None None result piece.now }
         ensures cause { HasCause self.old.file.faults self.new.file.faults result }
         ensures room { TakesRoom None None (length piece.now) result }
-        ensures passed
-            { WriteAppends
-            (append_known (F.Write.contents self.old.file.writer) (drop self.old.sent self.old.waiting.items))
-            (append_known (F.Write.contents self.new.file.writer) (drop self.new.sent self.new.waiting.items)) result
-            piece.now }
+        ensures passed { WriteAppends
+            (given_to (F.Write.contents self.old.file.writer) self.old.waiting.items self.old.sent)
+            (given_to (F.Write.contents self.new.file.writer) self.new.waiting.items self.new.sent) result piece.now }
         ensures one { OnErr result (self.new.file.faults ≡ with_added self.old.file.faults 1) }
     {
         self.make_room()?;
@@ -293,8 +294,8 @@ impl<W: Write + Drop> Sink for StdPrint<W> {
         ensures bytes { WriteAppends None None result piece.now }
         ensures cause { HasCause self.old.faults self.new.faults result }
         ensures room { TakesRoom None None (length piece.now) result }
-        ensures passed
-            { WriteAppends (W.Write.contents self.old.writer) (W.Write.contents self.new.writer) result piece.now }
+        ensures passed { WriteAppends (W.Write.contents self.old.writer) (W.Write.contents self.new.writer) result
+            piece.now }
         ensures one { OnErr result (self.new.faults ≡ with_added self.old.faults 1) }
     {
         for _turn in 0..u64::MAX {

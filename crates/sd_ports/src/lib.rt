@@ -5,6 +5,7 @@ mod depot;
 mod fault;
 mod file;
 mod host;
+mod identity;
 mod shelf;
 mod sink;
 mod source;

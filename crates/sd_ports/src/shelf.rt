@@ -140,8 +140,14 @@ impl Depot for MemDepot {
         ensures unchanged { self.new ≡ with_inlet self.old self.new.misses self.new.opened }
         ensures miss { IsErrOf result DepotFault.Missing → self.new.misses ≡ with_added self.old.misses 1 }
         ensures works { ¬ IsErrOf result DepotFault.Failed }
-        ensures port { IfOk result (λ port. port ≡ record { left = port.left; most = self.old.most; fails = []; reads =
-            0; faults = 0 }) }
+        ensures port { IfOk result (λ port. port ≡ record {
+          left = port.left;
+          most = self.old.most;
+          fails = [];
+          reads =
+              0;
+          faults = 0;
+        }) }
     {
         self.calls = self.calls.saturating_add(1);
         let Some(file) = look_up(&self.files, name) else {
@@ -171,9 +177,15 @@ impl Depot for MemDepot {
         ensures ok { OnOk result (self.new ≡ with_outlet self.old name.now) }
         ensures err { OnErr result (self.new ≡ with_call self.old) }
         ensures works { OnErr result (IsErrOf result DepotFault.NoMemory) }
-        ensures port
-            { IfOk result (λ port. port ≡ record { held = []; room = self.old.room; most = self.old.most; fails =
-            []; writes = 0; faults = 0 }) }
+        ensures port { IfOk result (λ port. port ≡ record {
+          held = [];
+          room = self.old.room;
+          most = self.old.most;
+          fails =
+              [];
+          writes = 0;
+          faults = 0;
+        }) }
     {
         self.calls = self.calls.saturating_add(1);
         let Ok(port) = MemSink::new(alloc, self.room, self.most, Vec::new(alloc)) else {
@@ -205,7 +217,7 @@ impl Depot for MemDepot {
     }
 
     /// It takes no memory, and never fails.
-    #[tactic(auto, using(crate::proofs::Outlets::closes_front))]
+    #[tactic(auto, using(crate::proofs::Outlets::closes_prefix))]
     fn close_out(&mut self, name: &str, port: MemSink) -> Result<(), DepotFault>
         requires { IsThere (Some self.old.files) name.now }
         ensures closed { OnOk result (Closes (Some self.old.files) (Some self.new.files) name.now (Some port.held)) }

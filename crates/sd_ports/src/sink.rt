@@ -17,7 +17,7 @@ pub trait Sink: Drop {
     /// How many more bytes there is room for, where the sink tells it.
     ghost room: { Self → Option ℕ };
 
-    /// Takes at least one byte of the front of `piece`, and answers how many.
+    /// Takes at least one byte from the beginning of `piece`, and answers how many.
     fn write(&mut self, piece: &[u8]) -> Result<usize, PortFault>
         requires { 0 < length piece.now }
         ensures some { IfOk result (λ k. 0 < k) }

@@ -13,7 +13,7 @@ pub trait Source: Drop {
     /// How many reads failed.
     ghost faults: { Self → ℕ };
 
-    /// Reads the next bytes into the front of `buf` and answers how many. `Ok(0)` is the end of the input.
+    /// Reads the next bytes to the beginning of `buf` and answers how many. `Ok(0)` is the end of the input.
     fn read(&mut self, buf: &mut [u8]) -> Result<usize, PortFault>
         requires { 0 < length buf.old }
         ensures bound { ReadsAtMost result buf.new }

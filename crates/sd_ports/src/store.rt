@@ -29,9 +29,15 @@ impl Model for MemSink {
 
     ghost Value = { Store };
 
-    ghost view =
-        { λ s. record { held = s.bytes.items; room = s.room; most = s.most; fails = s.fails.items; writes =
-        s.writes; faults = s.faults } };
+    ghost view = { λ s. record {
+      held = s.bytes.items;
+      room = s.room;
+      most = s.most;
+      fails = s.fails.items;
+      writes =
+          s.writes;
+      faults = s.faults;
+    } };
 
     ghost invariant = { λ s. (vec_len s.bytes ≤ s.room) × (s.room ≤ vec_capacity s.bytes) × (0 < s.most) };
 }
@@ -46,8 +52,15 @@ impl MemSink {
         fails: Vec<u32>,
     ) -> Result<MemSink, NoMemory>
         requires { 1 ≤ most }
-        ensures { IfOk result (λ s. s ≡ record { held = []; room = room; most = most; fails = fails.items; writes =
-            0; faults = 0 }) }
+        ensures { IfOk result (λ s. s ≡ record {
+          held = [];
+          room = room;
+          most = most;
+          fails = fails.items;
+          writes =
+              0;
+          faults = 0;
+        }) }
     {
         match Vec::with_capacity(alloc, room) {
             Ok(bytes) => Ok(MemSink {

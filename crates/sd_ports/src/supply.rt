@@ -25,9 +25,14 @@ impl Model for MemSource {
 
     ghost Value = { Supply };
 
-    ghost view =
-        { λ s. record { left = drop s.at s.bytes.items; most = s.most; fails = s.fails.items; reads = s.reads; faults =
-        s.faults } };
+    ghost view = { λ s. record {
+      left = drop s.at s.bytes.items;
+      most = s.most;
+      fails = s.fails.items;
+      reads = s.reads;
+      faults =
+          s.faults;
+    } };
 
     ghost invariant = { λ s. (s.at ≤ vec_len s.bytes) × (0 < s.most) };
 }
@@ -82,7 +87,7 @@ impl Source for MemSource {
     }
 }
 
-/// Copies a front of the bytes into the buffer's front, and answers its length.
+/// Copies a prefix of the bytes to the buffer's beginning, and answers its length.
 fn give(bytes: &[u8], most: usize, buf: &mut [u8]) -> usize
     ensures count { result ≡ min most (min (length buf.old) (length bytes.now)) }
     ensures front { take result buf.new ≡ take result bytes.now }

@@ -4,6 +4,7 @@ use crate::{
 };
 use std::alloc::{AllocError, Global};
 use std::fs;
+use std::os::unix::fs::symlink;
 
 const TEXT: &[u8] = b"abcdefg";
 
@@ -124,7 +125,7 @@ fn depots_keep_files_apart(rt: HostRuntime) -> Result<(), AllocError> {
 
 #[test]
 fn the_host_opens_files(rt: HostRuntime) {
-    let mut depot = HostDepot::new(&rt);
+    let mut depot = HostDepot::new(rt.alloc(), &rt);
     for (name, want) in [
         ("/dev/null", Ok("")),
         ("/dev/zero", Err(FileFault::TooBig)),
@@ -155,7 +156,7 @@ fn files_are_made_and_replaced(rt: HostRuntime) -> Result<(), AllocError> {
 #[test]
 fn the_host_writes_files(rt: HostRuntime) {
     let alloc = rt.alloc();
-    let mut depot = HostDepot::new(&rt);
+    let mut depot = HostDepot::new(rt.alloc(), &rt);
     let bytes = [7; 70000];
     for (name, size, want) in [
         ("sd_ports_written", 70000, Ok(())),
@@ -168,4 +169,23 @@ fn the_host_writes_files(rt: HostRuntime) {
     let read = read_file(alloc, &mut depot, "sd_ports_written", 70000);
     assert!(rt; read.is_ok_and(|read| read.as_slice() == bytes.as_slice()));
     assert!(rt; fs::remove_file(&rt, "sd_ports_written").is_ok());
+}
+
+#[test]
+fn an_input_is_never_made_anew(rt: HostRuntime) {
+    let alloc = rt.alloc();
+    let (name, hard, symbolic) = ("sd_ports_input", "sd_ports_hard", "sd_ports_symbolic");
+    let mut depot = HostDepot::new(alloc, &rt);
+    assert!(rt; write_file(alloc, &mut depot, name, TEXT) == Ok(()));
+    assert!(rt; fs::hard_link(&rt, name, hard).is_ok() && symlink(&rt, name, symbolic).is_ok());
+    // Until the file is opened for reading, it is made anew.
+    assert!(rt; write_file(alloc, &mut depot, hard, b"abc") == Ok(()));
+    assert!(rt; gives(alloc, &mut depot, name, 7, Ok("abc")));
+    for alias in [name, "./sd_ports_input", hard, symbolic] {
+        assert!(rt; write_file(alloc, &mut depot, alias, TEXT) == Err(FileFault::Failed));
+        assert!(rt; gives(alloc, &mut depot, name, 7, Ok("abc")));
+    }
+    for file in [name, hard, symbolic] {
+        assert!(rt; fs::remove_file(&rt, file).is_ok());
+    }
 }

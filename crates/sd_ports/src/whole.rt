@@ -16,15 +16,15 @@ pub enum ReadAllFault {
     TooBig,
     /// A read failed.
     Failed,
-    /// Memory is wanting.
+    /// Out of memory.
     NoMemory,
 }
 
 /// The most bytes of one read, which are on the stack.
 const BUFFER: usize = 16384;
 
-/// Reads all that is left, at most `most` bytes, and stops as soon as more were read. After a fault a front of what was
-/// left is gone.
+/// Reads all that is left, at most `most` bytes, and stops as soon as more were read. After a fault a prefix of what
+/// was left is gone.
 #[tactic(auto, using(crate::proofs::Portions::loses_more))]
 pub fn read_all<S: Source>(
     alloc: Global,
@@ -68,7 +68,7 @@ fn keep(bytes: &mut Vec<u8>, more: &[u8], most: usize) -> Result<(), ReadAllFaul
     }
 }
 
-/// Writes all the bytes. After a fault a front of them was written.
+/// Writes all the bytes. After a fault a prefix of them was written.
 #[tactic(auto, using(crate::proofs::Portions::appends_more, crate::proofs::Rooms::none_taken, crate::proofs::Rooms::more_taken, crate::proofs::Rooms::too_long))]
 pub fn write_all<K: Sink>(sink: &mut K, bytes: &[u8]) -> Result<(), PortFault>
     ensures all { OnOk result (Appends (K.held sink.old) (K.held sink.new) bytes.now) }

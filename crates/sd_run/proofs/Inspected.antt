@@ -1,28 +1,23 @@
 -- The lines of the tables in a stream, packet by packet.
-use Rattle.std.proofs.Common.{◌≡◌, ℕ, zero, suc, List, [], ◌∷◌, ◌++◌, length, take, reverse, append-nil, append_assoc, Option, Some, None, Result, Ok, Err, refl, sym, ap, subst, ◌∙◌, inl, inr, take_all, arith}
+use Rattle.std.proofs.Common.{◌≡◌, ℕ, zero, suc, List, [], ◌∷◌, ◌++◌, length, take, reverse, append-nil, append_assoc, Option, Some, None, refl, sym, ap, subst, ◌∙◌, take_all, arith}
 use Rattle.std.proofs.lemmas.List.{reverse-append}
 use Rattle.std.specs.List.{concat, flat_map}
 use Rattle.std.specs.Io.KnownBytes.{Appends}
-use Rattle.sd_cause.specs.Count.{Rose}
 use Rattle.sd_packet.specs.Header.{pid_of}
 use Rattle.sd_lines.specs.Lines.{line_of}
 use Rattle.sd_ports.specs.Bytes.{AppendsPrefix}
-use Rattle.sd_engine.specs.Stream.{packets_of, break_of}
+use Rattle.sd_engine.specs.Stream.{packets_of}
 use Rattle.sd_engine.specs.declared.fault.StreamBreak.{StreamBreak}
-use Rattle.sd_engine.specs.declared.fault.StreamBreak.TheVariants as stream
 use Rattle.sd_tables.specs.Inspected.{lines_in, sections_at}
-use Rattle.sd_tables.specs.Whole.{lines_of, lines_up_to, PrintsTables}
-use Rattle.sd_status.specs.declared.status.Status.{Status}
+use Rattle.sd_tables.specs.Whole.{lines_of, lines_up_to}
 use Rattle.sd_status.specs.Outside.{Page}
 use Rattle.sd_status.specs.Comes.{IsEnding, PrintsAll, PrintsSome, PrintsPrefix}
-use Rattle.sd_status.specs.Prints.{Prints}
 use Rattle.sd_run.specs.Tables.{packet_lines, inspecting, stream_status}
 
 -- the end of a stream may stand at the end of work
 pub stream_ends : (found : Option StreamBreak) → IsEnding (stream_status found)
 stream_ends None = tt
-stream_ends (Some (stream.Torn packet)) = tt
-stream_ends (Some (stream.NoSync packet)) = tt
+stream_ends (Some found) = tt
 
 -- after a packet the lines go on with those of the next ones
 grown : (k : ℕ) (before packets : List (List ℕ)) →

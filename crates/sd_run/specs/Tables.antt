@@ -4,23 +4,29 @@ use Rattle.std.specs.List.{flat_map}
 use Rattle.sd_packet.specs.Header.{pid_of}
 use Rattle.sd_engine.specs.Stream.{packets_of, break_of}
 use Rattle.sd_engine.specs.declared.fault.StreamBreak.{StreamBreak}
-use Rattle.sd_engine.specs.declared.fault.StreamBreak.TheVariants as stream
+use Rattle.sd_engine.specs.declared.fault.BreakCause.{BreakCause}
+use Rattle.sd_engine.specs.declared.fault.BreakCause.TheVariants as stream
 use Rattle.sd_lines.specs.Lines.{line_of}
 use Rattle.sd_tables.specs.Inspected.{sections_at}
 use Rattle.sd_status.specs.declared.status.Status.{Status}
 use Rattle.sd_status.specs.declared.status.Status.TheVariants.{Done, BadStream}
 use Rattle.sd_status.specs.declared.status.LimitKind.TheVariants.{StreamBytes}
+use Rattle.sd_status.specs.declared.status.StreamCause.{StreamCause}
 use Rattle.sd_status.specs.declared.status.StreamCause.TheVariants.{Torn, NoSync}
 use Rattle.sd_status.specs.Meant.{Meant, Word, Given, within, value, ◌>>=◌}
 use Rattle.sd_status.specs.Work.{Work}
 use Rattle.sd_run.specs.Words.{TablesOf, order_of}
 use Rattle.sd_run.specs.declared.files.TheConstants.{MOST_STREAM_BYTES}
 
+-- the cause as the status tells it
+abbrev pub told_cause : BreakCause → StreamCause
+told_cause stream.Torn = Torn
+told_cause stream.NoSync = NoSync
+
 -- the status that comes of a break of a stream
 abbrev pub stream_status : Option StreamBreak → Status
 stream_status None = Done
-stream_status (Some (stream.Torn packet)) = BadStream packet Torn
-stream_status (Some (stream.NoSync packet)) = BadStream packet NoSync
+stream_status (Some found) = BadStream found.packet (told_cause found.cause)
 
 -- the lines of each packet in turn, where these came before them, of which the last comes first
 abbrev pub packet_lines : List (List ℕ) → List (List ℕ) → List (List ℕ)

@@ -1,12 +1,13 @@
-ghost use Rattle.std.specs.Prelude.{ℕ};
+ghost use Rattle.std.specs.Prelude.{◌≡◌, ℕ};
 ghost use Rattle.sd_status.specs.Outside.{outside, page, place};
 ghost use Rattle.sd_status.specs.Comes.{Follows, status_of};
 ghost use Rattle.sd_status.specs.Prints.{Prints};
-ghost use Rattle.sd_run.specs.Tables.{inspecting, tables_meaning};
+ghost use Rattle.sd_run.specs.Tables.{inspecting, told_cause, tables_meaning};
 ghost use Rattle.sd_run.specs.Shown.{shown_word};
 
 use crate::files::read_stream;
 use crate::word::Word;
+use sd_engine::BreakCause;
 use sd_ports::{Depot, Sink};
 use sd_status::{Status, StreamCause};
 use sd_tables::{WholeTablesFault, whole};
@@ -33,15 +34,21 @@ fn print_tables<P: Sink>(alloc: Global, print: &mut P, bytes: &[u8]) -> Result<(
 {
     match whole(alloc, bytes, print) {
         Ok(()) => Ok(()),
-        Err(WholeTablesFault::Torn(packet)) => Err(Status::BadStream {
-            packet,
-            cause: StreamCause::Torn,
-        }),
-        Err(WholeTablesFault::NoSync(packet)) => Err(Status::BadStream {
-            packet,
-            cause: StreamCause::NoSync,
+        Err(WholeTablesFault::Broken(found)) => Err(Status::BadStream {
+            packet: found.packet,
+            cause: cause_of(found.cause),
         }),
         Err(WholeTablesFault::Write) => Err(Status::PrintFault),
         Err(WholeTablesFault::NoMemory) => Err(Status::NoMemory),
+    }
+}
+
+/// The cause as the status tells it.
+fn cause_of(cause: BreakCause) -> StreamCause
+    ensures { result ≡ told_cause cause }
+{
+    match cause {
+        BreakCause::Torn => StreamCause::Torn,
+        BreakCause::NoSync => StreamCause::NoSync,
     }
 }

@@ -439,19 +439,19 @@ fn books_have_limits(rt: HostRuntime) -> Result<(), AllocError> {
 #[test]
 fn many_are_revoked(rt: HostRuntime) -> Result<(), AllocError> {
     let alloc = rt.alloc();
-    let mut site = Vec::from_slice(alloc, b"height 13")?;
+    let mut site = Vec::from_slice(alloc, b"height 17")?;
     site.extend_from_slice(&SITE[8..])?;
     let mut book = String::new(alloc);
-    for u in 0..4096 {
+    for u in 0..65_536 {
         write!(book, "revoke {u}\n")?;
     }
     let (status, printed) = answer(alloc, &site, book.as_bytes(), 65_536, &[])?;
     assert_eq!(rt; status, Status::Done);
     assert_eq!(rt;
         printed.as_slice(),
-        b"period 0 revoked 4096 sets 1\n1 2\n".as_slice()
+        b"period 0 revoked 65536 sets 1\n1 2\n".as_slice()
     );
-    book.push_str("revoke 4096\n")?;
+    book.push_str("revoke 65536\n")?;
     let (status, printed) = answer(alloc, &site, book.as_bytes(), 65_536, &[])?;
     assert_eq!(rt;
         status,

@@ -11,7 +11,6 @@ use Rattle.sd_section.specs.Assembled.{Assembling}
 use Rattle.sd_engine.specs.Stream.{pieces, packets_of, break_after, break_of}
 use Rattle.sd_engine.specs.Walk.{Walk, TakesOne, IsAtEnd, IsAtBreak}
 use Rattle.sd_engine.specs.declared.fault.StreamBreak.{StreamBreak}
-use Rattle.sd_engine.specs.declared.fault.StreamBreak.TheVariants as stream
 use Rattle.sd_engine.proofs.Walking.{none_at_end}
 use Rattle.sd_lines.specs.Lines.{line_of}
 use Rattle.sd_tables.specs.Inspected.{sections_at, lines_in}
@@ -19,7 +18,7 @@ use Rattle.sd_tables.specs.Watching.{IsAfter}
 use Rattle.sd_tables.specs.Whole.{lines_up_to, lines_of, PrintsTables}
 use Rattle.sd_tables.specs.Progress.{IsPrinted, IsPrintedOrKept, IsGoneOver, LeavesText, answer_of}
 use Rattle.sd_tables.specs.declared.fault.WholeTablesFault.{WholeTablesFault}
-use Rattle.sd_tables.specs.declared.fault.WholeTablesFault.TheVariants.{Torn, NoSync, Write, NoMemory}
+use Rattle.sd_tables.specs.declared.fault.WholeTablesFault.TheVariants.{Broken, Write, NoMemory}
 
 -- before the first packet
 pub none_gone_over : (bytes : List ℕ) (walk : Walk) (marks : List Bool) (places : List (Option Assembling)) → walk.rest ≡ bytes →
@@ -183,23 +182,15 @@ front_printed bytes text lines before now new begin front printed =
 -- what an answer says of the break
 of_ok : (found : Option StreamBreak) (done : Unit {0}) → Ok done ≡ answer_of found → found ≡ None
 of_ok None done is = refl
-of_ok (Some (stream.Torn k)) done is = absurd (cc)
-of_ok (Some (stream.NoSync k)) done is = absurd (cc)
+of_ok (Some found) done is = absurd (cc)
 
-of_torn : (found : Option StreamBreak) (n : ℕ) → Err (Torn n) ≡ answer_of found → found ≡ Some (stream.Torn n)
-of_torn None n is = absurd (cc)
-of_torn (Some (stream.Torn k)) n is = let same : k ≡ n = cc in ap (λ (m : ℕ). Some (stream.Torn m)) same
-of_torn (Some (stream.NoSync k)) n is = absurd (cc)
-
-of_no_sync : (found : Option StreamBreak) (n : ℕ) → Err (NoSync n) ≡ answer_of found → found ≡ Some (stream.NoSync n)
-of_no_sync None n is = absurd (cc)
-of_no_sync (Some (stream.Torn k)) n is = absurd (cc)
-of_no_sync (Some (stream.NoSync k)) n is = let same : k ≡ n = cc in ap (λ (m : ℕ). Some (stream.NoSync m)) same
+of_broken : (found : Option StreamBreak) (at : StreamBreak) → Err (Broken at) ≡ answer_of found → found ≡ Some at
+of_broken None at is = absurd (cc)
+of_broken (Some found) at is = let same : found ≡ at = cc in ap (λ (b : StreamBreak). Some b) same
 
 of_no_memory : (found : Option StreamBreak) → Err NoMemory ≡ answer_of found → ⊥
 of_no_memory None is = cc
-of_no_memory (Some (stream.Torn k)) is = cc
-of_no_memory (Some (stream.NoSync k)) is = cc
+of_no_memory (Some found) is = cc
 
 -- the text that was left is printed after the others
 all_printed : (bytes text : List ℕ) (before now new : Option (List ℕ)) → Appends now new text →
@@ -216,26 +207,14 @@ pub finished : (bytes text : List ℕ) (before now new : Option (List ℕ)) (fou
     PrintsTables bytes before new result
 finished bytes text before now new found (Ok done) is printed rest front answer = record {
   done = (sym is ∙ of_ok found done (answer (λ e. cc)), all_printed bytes text before now new (rest (λ e. cc)) printed);
-  torn = λ k e. absurd (cc);
-  no_sync = λ k e. absurd (cc);
+  broken = λ b e. absurd (cc);
   no_memory = λ e. absurd (cc);
   cut_off = λ e. absurd (cc);
 }
-finished bytes text before now new found (Err (Torn n)) is printed rest front answer = record {
+finished bytes text before now new found (Err (Broken at)) is printed rest front answer = record {
   done = tt;
-  torn = λ k e. (
-    sym is ∙ of_torn found n (answer (λ f. cc)) ∙ ap (λ (m : ℕ). Some (stream.Torn m)) (cc),
-    all_printed bytes text before now new (rest (λ f. cc)) printed,
-  );
-  no_sync = λ k e. absurd (cc);
-  no_memory = λ e. absurd (cc);
-  cut_off = λ e. absurd (cc);
-}
-finished bytes text before now new found (Err (NoSync n)) is printed rest front answer = record {
-  done = tt;
-  torn = λ k e. absurd (cc);
-  no_sync = λ k e. (
-    sym is ∙ of_no_sync found n (answer (λ f. cc)) ∙ ap (λ (m : ℕ). Some (stream.NoSync m)) (cc),
+  broken = λ b e. (
+    sym is ∙ of_broken found at (answer (λ f. cc)) ∙ ap (λ (c : StreamBreak). Some c) (cc),
     all_printed bytes text before now new (rest (λ f. cc)) printed,
   );
   no_memory = λ e. absurd (cc);
@@ -243,15 +222,13 @@ finished bytes text before now new found (Err (NoSync n)) is printed rest front 
 }
 finished bytes text before now new found (Err NoMemory) is printed rest front answer = record {
   done = tt;
-  torn = λ k e. absurd (cc);
-  no_sync = λ k e. absurd (cc);
+  broken = λ b e. absurd (cc);
   no_memory = λ e. absurd (of_no_memory found (answer (λ f. cc)));
   cut_off = λ e. absurd (cc);
 }
 finished bytes text before now new found (Err Write) is printed rest front answer = record {
   done = tt;
-  torn = λ k e. absurd (cc);
-  no_sync = λ k e. absurd (cc);
+  broken = λ b e. absurd (cc);
   no_memory = λ e. absurd (cc);
   cut_off = λ e. front_printed bytes text (lines_of bytes) before now new ([], append-nil (lines_of bytes)) (front refl) printed;
 }

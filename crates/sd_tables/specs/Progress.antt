@@ -6,11 +6,10 @@ use Rattle.sd_section.specs.Assembled.{Assembling}
 use Rattle.sd_engine.specs.Stream.{packets_of, break_after, break_of}
 use Rattle.sd_engine.specs.Walk.{Walk}
 use Rattle.sd_engine.specs.declared.fault.StreamBreak.{StreamBreak}
-use Rattle.sd_engine.specs.declared.fault.StreamBreak.TheVariants as stream
 use Rattle.sd_tables.specs.Watching.{IsAfter}
 use Rattle.sd_tables.specs.Whole.{lines_up_to, lines_of}
 use Rattle.sd_tables.specs.declared.fault.WholeTablesFault.{WholeTablesFault}
-use Rattle.sd_tables.specs.declared.fault.WholeTablesFault.TheVariants.{Torn, NoSync, Write, NoMemory}
+use Rattle.sd_tables.specs.declared.fault.WholeTablesFault.TheVariants.{Broken, Write, NoMemory}
 
 -- the lines of some first packets were printed, and the text has those of the packets after them, up to these lines
 abbrev pub IsPrinted : List ℕ → Option (List ℕ) → Option (List ℕ) → List ℕ → List ℕ → Type 0
@@ -40,5 +39,4 @@ pub record LeavesText (bytes : List ℕ) (old new : Option (List ℕ)) (text : L
 -- what is answered once all lines are printed
 abbrev pub answer_of : Option StreamBreak → Result (Unit {0}) WholeTablesFault
 answer_of None = Ok tt
-answer_of (Some (stream.Torn packet)) = Err (Torn packet)
-answer_of (Some (stream.NoSync packet)) = Err (NoSync packet)
+answer_of (Some found) = Err (Broken found)

@@ -3,10 +3,10 @@ use Rattle.std.specs.Prelude.{◌≡◌, ℕ, List, take, reverse, Option, Some,
 use Rattle.std.specs.Io.KnownBytes.{Appends}
 use Rattle.sd_ports.specs.Bytes.{AppendsPrefix}
 use Rattle.sd_engine.specs.Stream.{packets_of, break_of}
-use Rattle.sd_engine.specs.declared.fault.StreamBreak.TheVariants as stream
+use Rattle.sd_engine.specs.declared.fault.StreamBreak.{StreamBreak}
 use Rattle.sd_tables.specs.Inspected.{lines_in}
 use Rattle.sd_tables.specs.declared.fault.WholeTablesFault.{WholeTablesFault}
-use Rattle.sd_tables.specs.declared.fault.WholeTablesFault.TheVariants.{Torn, NoSync, Write, NoMemory}
+use Rattle.sd_tables.specs.declared.fault.WholeTablesFault.TheVariants.{Broken, Write, NoMemory}
 
 -- the lines of the first k packets of a stream
 unfoldable pub lines_up_to : ℕ → List ℕ → List ℕ
@@ -20,7 +20,6 @@ lines_of bytes = lines_in (reverse (packets_of bytes))
 -- packets before memory was wanting; a front of all where print failed.
 pub record PrintsTables (bytes : List ℕ) (old new : Option (List ℕ)) (result : Result (Unit {0}) WholeTablesFault) : Type 0 where
   pub done : OnOk result ((break_of bytes ≡ None) × Appends old new (lines_of bytes))
-  pub torn : (k : ℕ) → IsErrOf result (Torn k) → (break_of bytes ≡ Some (stream.Torn k)) × Appends old new (lines_of bytes)
-  pub no_sync : (k : ℕ) → IsErrOf result (NoSync k) → (break_of bytes ≡ Some (stream.NoSync k)) × Appends old new (lines_of bytes)
+  pub broken : (found : StreamBreak) → IsErrOf result (Broken found) → (break_of bytes ≡ Some found) × Appends old new (lines_of bytes)
   pub no_memory : IsErrOf result NoMemory → (k : ℕ) × Appends old new (lines_up_to k bytes)
   pub cut_off : IsErrOf result Write → AppendsPrefix old new (lines_of bytes)

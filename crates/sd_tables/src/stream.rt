@@ -94,8 +94,7 @@ fn finish<K: Sink>(
     print(out, text)?;
     match found {
         None => Ok(()),
-        Some(StreamBreak::Torn(packet)) => Err(WholeTablesFault::Torn(packet)),
-        Some(StreamBreak::NoSync(packet)) => Err(WholeTablesFault::NoSync(packet)),
+        Some(found) => Err(WholeTablesFault::Broken(found)),
     }
 }
 

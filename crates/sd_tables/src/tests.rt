@@ -1,4 +1,5 @@
 use super::*;
+use sd_engine::{BreakCause, StreamBreak};
 use sd_packet::pack_section;
 use sd_ports::MemSink;
 use std::alloc::{AllocError, Global};
@@ -44,6 +45,11 @@ fn sample() -> [[u8; 188]; 3] {
     ]
 }
 
+// The answer at a stream's break.
+fn broken(packet: u64, cause: BreakCause) -> Result<(), WholeTablesFault> {
+    Err(WholeTablesFault::Broken(StreamBreak { packet, cause }))
+}
+
 #[test]
 fn sections_are_printed(rt: HostRuntime) -> Result<(), AllocError> {
     let all = LINES.len();
@@ -52,10 +58,10 @@ fn sections_are_printed(rt: HostRuntime) -> Result<(), AllocError> {
     let table = [
         (0x47, 0, 564, 1000, Ok(()), all),
         (0x47, 188, 564, 1000, Ok(()), 0),
-        (0x47, 0, 563, 1000, Err(WholeTablesFault::Torn(2)), all),
-        (0x47, 0, 189, 1000, Err(WholeTablesFault::Torn(1)), FIRST),
-        (0x46, 0, 564, 1000, Err(WholeTablesFault::NoSync(2)), all),
-        (0x47, 1, 564, 1000, Err(WholeTablesFault::NoSync(0)), 0),
+        (0x47, 0, 563, 1000, broken(2, BreakCause::Torn), all),
+        (0x47, 0, 189, 1000, broken(1, BreakCause::Torn), FIRST),
+        (0x46, 0, 564, 1000, broken(2, BreakCause::NoSync), all),
+        (0x47, 1, 564, 1000, broken(0, BreakCause::NoSync), 0),
         (0x46, 0, 564, 150, Err(WholeTablesFault::Write), 150),
     ];
     for (sync, start, end, room, answer, count) in table {

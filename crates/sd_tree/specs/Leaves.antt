@@ -1,5 +1,5 @@
 -- In a tree of height d leaf u is node 2^d + u, and the leaves below a node are an interval of numbers.
-use Rattle.std.specs.Prelude.{◌≡◌, true, ℕ, ◌+◌, ◌-◌, ◌*◌, ◌^◌, ◌<◌, ◌&&◌, Bool, not, nat_eq, nat_le, nat_lt, List}
+use Rattle.std.specs.Prelude.{◌≡◌, true, ℕ, ◌+◌, ◌-◌, ◌*◌, ◌^◌, ◌<◌, ◌&&◌, ◌||◌, ◌==◌, Bool, not, nat_eq, nat_le, nat_lt, List}
 use Rattle.std.specs.Prelude.{filter}
 use Rattle.std.specs.List.{list_any, range_with_len}
 use Rattle.sd_tree.specs.declared.set.SetName.{SetName}
@@ -13,6 +13,14 @@ leaves d = range_with_len 0 (2 ^ d)
 -- the leaves of the tree that aren't among these, ascending
 abbrev pub unrevoked : ℕ → List ℕ → List ℕ
 unrevoked d revoked = filter (λ u. not (list_any (nat_eq u) revoked)) (leaves d)
+
+-- the leaves that are u or among these, ascending
+unfoldable pub with_leaf : ℕ → ℕ → List ℕ → List ℕ
+with_leaf d u revoked = filter (λ w. w == u || list_any (nat_eq w) revoked) (leaves d)
+
+-- these leaves but for u
+unfoldable pub without_leaf : ℕ → List ℕ → List ℕ
+without_leaf u revoked = filter (λ w. not (w == u)) revoked
 
 -- leaf u stands at or below node v: its node is in the interval that v has at depth d [Naor, Naor, Lotspiech 2001, 3.2]
 unfoldable pub is_below : ℕ → ℕ → ℕ → Bool

@@ -1,6 +1,6 @@
-use Rattle.std.proofs.Common.{refl}
+use Rattle.std.proofs.Common.{refl, arith}
 use Rattle.std.proofs.lemmas.Bool.{false≢true}
-use Rattle.sd_emm.proofs.Ascending.{next_entry, not_after, all_ascend}
+use Rattle.sd_emm.proofs.Ascending.{first_ascends, next_entry, not_after, all_ascend}
 use Rattle.sd_emm.proofs.order.are_ascending.Goals as goal
 
 pub returns-then-not-is_before : goal.returns-then-not-is_before
@@ -8,6 +8,9 @@ returns-then-not-is_before c = (
   λ yes. absurd (false≢true yes),
   λ up. absurd (not_after c.args.entries.now c.loop-k.k _ _ c.loop-k.auto.k c.loop-k-test.true (λ less. false≢true (c.if-not-is_before.ensures.1 less)) up),
 )
+
+pub loop-k-init : goal.loop-k-init
+loop-k-init c = first_ascends c.args.entries.now 1 (omega arith)
 
 pub loop-k-preserved : goal.loop-k-preserved
 loop-k-preserved c =

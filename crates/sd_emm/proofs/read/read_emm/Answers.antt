@@ -1,9 +1,10 @@
-use Rattle.std.proofs.Common.{◌≤◌, ap, ◌∙◌, rules}
-use Rattle.std.specs.Prelude.{Ok, Some}
+use Rattle.std.proofs.Common.{◌≡◌, ◌≤◌, refl, sym, ap, ◌∙◌, rules}
+use Rattle.std.specs.Prelude.{Ok, Err, Some}
 use Rattle.std.proofs.lemmas.Bool.{false≢true}
 use Rattle.sd_emm.specs.declared.emm.Emm.{Emm}
 use Rattle.sd_emm.proofs.Judging.{good_never}
 use Rattle.sd_emm.proofs.Reading.{spelled_is_packet, spelled_is_read, spelled_is_good, read_is_right}
+use Rattle.sd_emm.proofs.Deciding.{other_reads, broken_at, good_at}
 use Rattle.sd_emm.proofs.read.read_emm.Goals as goal
 
 pub returns-in_default-clause-complete : goal.returns-in_default-clause-complete
@@ -17,8 +18,8 @@ returns-in_err-emm-clause-complete c = λ emm fits form sets spells.
     absurd (good_never _ _ _ _ (spelled_is_good c.args.h emm c.args.packet.now c.in-Some.section.bytes.now c.body.result.now c.extension.result high
     fits form sets spells c.in-Some.ensures.value c.extension.ensures c.body.ensures) c.in_err-emm.ensures.fault)
 
-pub returns-clause-value : goal.returns-clause-value
-returns-clause-value c =
+pub returns-clause-sound : goal.returns-clause-sound
+returns-clause-sound c =
     read_is_right c.args.h c.args.packet.now c.in-Some.section.bytes.now c.body.result.now c.extension.result c.in_ok-emm.emm c.in_ok-emm.ensures.value
     c.in_ok-emm.ensures.bytes c.in_ok-emm.ensures.good c.extension.ensures c.body.ensures c.in-Some.ensures.begins c.in-Some.ensures.spelled
 
@@ -27,3 +28,18 @@ returns-clause-complete c = λ emm fits form sets spells.
     let high : c.args.h ≤ 20 = search rules in
     ap (λ (e : Emm). Ok (Some e)) (c.in_ok-emm.ensures.value ∙ spelled_is_read c.args.h emm c.args.packet.now c.in-Some.section.bytes.now
     c.body.result.now c.extension.result high fits form sets spells c.in-Some.ensures.value c.extension.ensures c.body.ensures)
+
+pub returns-in_default-clause-value : goal.returns-in_default-clause-value
+returns-in_default-clause-value c =
+    sym (other_reads c.args.h c.args.packet.now (λ is. false≢true (c.in_default.ensures.some.1 is)))
+
+pub returns-in_err-emm-clause-value : goal.returns-in_err-emm-clause-value
+returns-in_err-emm-clause-value c =
+    let fault : c.from_residual.result ≡ Err c.in_err-emm.field-0.0 = search rules in
+    fault ∙ sym (broken_at c.args.h c.args.packet.now c.in-Some.section.bytes.now c.body.result.now c.extension.result _ (c.in-Some.ensures.some.0 refl)
+    c.in-Some.ensures.value c.extension.ensures c.body.ensures c.in_err-emm.ensures.fault)
+
+pub returns-clause-value : goal.returns-clause-value
+returns-clause-value c =
+    sym (good_at c.args.h c.args.packet.now c.in-Some.section.bytes.now c.body.result.now c.extension.result c.in_ok-emm.emm (c.in-Some.ensures.some.0 refl)
+    c.in-Some.ensures.value c.extension.ensures c.body.ensures c.in_ok-emm.ensures.value c.in_ok-emm.ensures.good)

@@ -1,10 +1,12 @@
 use Rattle.std.proofs.Common.{◌∙◌}
-use Rattle.sd_emm.proofs.Spelling.{none_put, none_wrapped}
+use Rattle.sd_message.proofs.Items.{none_put}
+use Rattle.sd_emm.specs.Spelled.{entry_bytes}
+use Rattle.sd_emm.proofs.Spelling.{none_wrapped}
 use Rattle.sd_emm.proofs.write.body_of.Goals as goal
 
 pub loop-k-init : goal.loop-k-init
 loop-k-init c = record {
-  value = c.front_of-body.ensures.value ∙ none_put _ c.args.emm.now.entries;
+  value = c.head_of-body.ensures.value ∙ none_put entry_bytes _ c.args.emm.now.entries;
   wrapped = none_wrapped c.args.emm.now.entries;
-  length = c.front_of-body.ensures.length;
+  length = c.head_of-body.ensures.length;
 }

@@ -1,4 +1,4 @@
-use Rattle.std.proofs.Common.{refl, inl, inr, ap, sym, ◌∙◌}
+use Rattle.std.proofs.Common.{refl, inl, inr, ap, sym}
 use Rattle.sd_status.specs.Outside.{page}
 use Rattle.sd_run.specs.Tables.{stream_status}
 use Rattle.sd_run.proofs.Inspected.{prints_all, prints_some, prints_prefix}
@@ -9,17 +9,11 @@ returns-in-Ok g c =
     let h = c.in-Ok.ensures in
     inl (ap stream_status (sym h.told.done.0), prints_all c.args.bytes.now (page g.P.Sink c.args.print.now) (page g.P.Sink c.whole.new.out) h.told.done.1, h.calm (λ e. cc))
 
-pub returns-in-Err-Torn : goal.returns-in-Err-Torn
-returns-in-Err-Torn g c =
-    let h = rw c.in-Err-Torn.field-0-is at c.in-Err-Torn.ensures in
-    let told = h.told.torn c.in-Err-Torn.packet refl in
-    inl (ap stream_status (sym told.0), prints_all c.args.bytes.now (page g.P.Sink c.args.print.now) (page g.P.Sink c.whole.new.out) told.1, h.calm (λ e. cc))
-
-pub returns-in-Err-NoSync : goal.returns-in-Err-NoSync
-returns-in-Err-NoSync g c =
-    let h = rw c.in-Err-NoSync.field-0-is at c.in-Err-NoSync.ensures in
-    let told = h.told.no_sync c.in-Err-NoSync.packet refl in
-    inl (ap stream_status (sym told.0), prints_all c.args.bytes.now (page g.P.Sink c.args.print.now) (page g.P.Sink c.whole.new.out) told.1, h.calm (λ e. cc))
+pub returns-in-Err-Broken : goal.returns-in-Err-Broken
+returns-in-Err-Broken g c =
+    let h = rw c.in-Err-Broken.field-0-is at c.in-Err-Broken.ensures in
+    let told = h.told.broken c.in-Err-Broken.found refl in
+    inl (rw (c.cause_of.ensures) (ap stream_status (sym told.0)), prints_all c.args.bytes.now (page g.P.Sink c.args.print.now) (page g.P.Sink c.whole.new.out) told.1, h.calm (λ e. cc))
 
 pub returns-in-Err-Write : goal.returns-in-Err-Write
 returns-in-Err-Write g c =

@@ -1,0 +1,65 @@
+-- What a stage of packets writes and counts, from one packet to the next.
+use Rattle.std.specs.Prelude.{◌≡◌, ◌⊎◌, ℕ, ◌+◌, ◌<◌, ◌≤◌, List, [], ◌∷◌, ◌++◌, length, Option, Some, None}
+use Rattle.std.specs.Io.KnownBytes.{Appends}
+use Rattle.sd_ports.specs.Bytes.{IsPrefix}
+use Rattle.sd_ports.specs.Rooms.{HasTaken}
+use Rattle.sd_ports.specs.declared.sink.Sink.{Ghosts as SinkMeanings}
+
+-- a sink at one moment: the bytes taken so far and the room that is left, where it tells them
+pub record Vessel : Type 0 where
+  pub held : Option (List ℕ)
+  pub room : Option ℕ
+
+abbrev pub vessel : {K : Type 0} → SinkMeanings K → K → Vessel
+vessel meanings sink = record { held = meanings.held sink; room = meanings.room sink }
+
+-- The sink grew by some bytes, in at most so many steps of the generator, of both of which something is said; and the room
+-- is less by them.
+pub record Grew (old new : Vessel) (from to : ℕ) (Says : List ℕ → ℕ → Type 0) : Type 0 where
+  pub bytes : List ℕ
+  pub steps : ℕ
+  pub says : Says bytes steps
+  pub taken : Appends old.held new.held bytes
+  pub room : HasTaken old.room new.room (length bytes)
+  pub counted : to ≤ from + steps
+
+-- there is less room than so many bytes, where it is told
+abbrev pub IsTooShort : Option ℕ → ℕ → Type 0
+IsTooShort None size = Unit {0}
+IsTooShort (Some room) size = room < size
+
+-- A write failed: the sink grew by a prefix of some bytes, of which something is said; and they pass the room that there was.
+pub record CutShort (old new : Vessel) (Says : List ℕ → Type 0) : Type 0 where
+  pub bytes : List ℕ
+  pub says : Says bytes
+  pub prefix : List ℕ
+  pub short : IsPrefix prefix bytes
+  pub taken : Appends old.held new.held prefix
+  pub room : IsTooShort old.room (length bytes)
+
+-- what holds of the refusal that a stage keeps
+abbrev pub ForKept : {F : Type 0} → Option F → (F → Type 0) → Type 0
+ForKept None Says = Unit {0}
+ForKept (Some fault) Says = Says fault
+
+-- the bytes that a stage may write of a packet, or of the end: those of what it does, or of a refusal
+abbrev pub IsAllowed : {S F : Type 0} → (S → List ℕ → ℕ → Type 0) → (F → S → List ℕ → ℕ → Type 0) → List ℕ → Type 0
+IsAllowed {S} {F} Does Refuses bytes =
+    ((t : S) × (n : ℕ) × Does t bytes n) ⊎ ((fault : F) × (t : S) × (n : ℕ) × Refuses fault t bytes n)
+
+-- packets one after the other, from a stage to a stage: the bytes are those of all of them, and the steps are added up
+abbrev pub Chain : {S : Type 0} → (S → List ℕ → S → List ℕ → ℕ → Type 0) → S → List (List ℕ) → S → List ℕ → ℕ → Type 0
+Chain does s [] t bytes n = (s ≡ t) × (bytes ≡ []) × (n ≡ 0)
+Chain {S} does s (packet ∷ packets) t bytes n =
+    (mid : S) × (first : List ℕ) × (rest : List ℕ) × (m : ℕ) × (k : ℕ)
+    × does s packet mid first m × Chain does mid packets t rest k × (bytes ≡ first ++ rest) × (n ≡ m + k)
+
+-- what packets write after others, by what each writes after those before it
+abbrev pub all_from : (List (List ℕ) → List ℕ → List ℕ) → List (List ℕ) → List (List ℕ) → List ℕ
+all_from wrote before [] = []
+all_from wrote before (packet ∷ packets) = wrote before packet ++ all_from wrote (before ++ packet ∷ []) packets
+
+-- the steps that packets take after others, by how many each takes at most after those before it
+abbrev pub all_steps : (List (List ℕ) → List ℕ → ℕ) → List (List ℕ) → List (List ℕ) → ℕ
+all_steps takes before [] = 0
+all_steps takes before (packet ∷ packets) = takes before packet + all_steps takes (before ++ packet ∷ []) packets

@@ -1,0 +1,120 @@
+ghost use Rattle.std.specs.Prelude.{◌≡◌, ℕ, Err, IsErrOf};
+ghost use Rattle.sd_cause.specs.Count.{IsCaused};
+ghost use Rattle.sd_engine.specs.Stage.{vessel};
+ghost use Rattle.sd_engine.specs.Driving.{moment, Drives, IsClosed, broken_by, overrun_by, stopped_by};
+
+use crate::fault::StreamBreak;
+use crate::feed::{FeedFault, SIZE, Span, next};
+use crate::stage::{Stage, StageFault};
+use sd_ports::{Sink, Source};
+use sd_steps::Steps;
+use std::sync::ledger::Ledger;
+
+/// The most packets of a stream.
+pub const MOST_PACKETS: u64 = 1 << 48;
+
+/// The bytes that are kept at once. A read has room for at least 64 KiB of them.
+const ROOM: usize = 352 * SIZE;
+
+/// Why a stream was not driven to its end.
+#[derive(Clone, Copy, Debug, PartialEq, Eq)]
+pub enum DriveFault<F> {
+    /// Its bytes are no packets from here on.
+    Broken(StreamBreak),
+    /// More bytes stand after 2^48 packets.
+    TooLong,
+    /// A read failed.
+    ReadFault,
+    /// A write failed.
+    WriteFault,
+    /// The stage refused a packet, or the end.
+    Refused(F),
+}
+
+/// Reads a stream to its end and offers its packets to the stage, one after the other, and then its end; answers how
+/// many packets they were. It takes no memory.
+#[tactic(auto, using(crate::proofs::Driving::not_begun, crate::proofs::Driving::one_more, crate::proofs::Driving::not_fed, crate::proofs::Driving::packet_stopped, crate::proofs::Driving::all_closed, crate::proofs::Driving::packet_too_many, crate::proofs::Driving::not_ended))]
+pub fn drive<S: Source, K: Sink, L: Ledger, G: Stage<K, L>>(
+    source: &mut S,
+    sink: &mut K,
+    stage: &mut G,
+    steps: &mut Steps<L>,
+) -> Result<u64, DriveFault<G::Fault>>
+    requires live { G.live stage.old }
+    ensures value { Drives G.does G.ends G.refuses
+        (moment (S.left source.old) (vessel K.Sink sink.old) stage.old steps.old)
+        (moment (S.left source.new) (vessel K.Sink sink.new) stage.new steps.new) result }
+    ensures read { IsCaused (S.faults source.old) (S.faults source.new) (IsErrOf result DriveFault.ReadFault) }
+    ensures written { IsCaused (K.faults sink.old) (K.faults sink.new) (IsErrOf result DriveFault.WriteFault) }
+{
+    let mut piece = [0u8; ROOM];
+    let mut span = Span { at: 0, filled: 0 };
+    for count in 0..MOST_PACKETS {
+        match next(source, &mut piece, span) {
+            Ok((Some(packet), rest)) => {
+                span = rest;
+                if let Err(fault) = stage.offer(&packet, sink, steps) {
+                    return Err(stopped(fault));
+                }
+            }
+            Ok((None, _)) => return close(sink, stage, steps, count),
+            Err(fault) => return Err(broken(fault, count)),
+        }
+    }
+    match next(source, &mut piece, span) {
+        Ok((None, _)) => close(sink, stage, steps, MOST_PACKETS),
+        Ok((Some(_), _)) => Err(DriveFault::TooLong),
+        Err(fault) => Err(overrun(fault)),
+    }
+}
+
+/// Takes the stage to the end, after so many packets.
+fn close<K: Sink, L: Ledger, G: Stage<K, L>>(
+    sink: &mut K,
+    stage: &mut G,
+    steps: &mut Steps<L>,
+    count: u64,
+) -> Result<u64, DriveFault<G::Fault>>
+    requires live { G.live stage.old }
+    ensures value { IsClosed G.ends G.refuses (vessel K.Sink sink.old) (vessel K.Sink sink.new) stage.old stage.new
+        steps.old steps.new count result }
+    ensures written { IsCaused (K.faults sink.old) (K.faults sink.new) (IsErrOf result DriveFault.WriteFault) }
+{
+    match stage.close(sink, steps) {
+        Ok(()) => Ok(count),
+        Err(fault) => Err(stopped(fault)),
+    }
+}
+
+/// Why no packet came after so many.
+fn broken<F>(fault: FeedFault, count: u64) -> DriveFault<F>
+    ensures { result ≡ broken_by count fault }
+{
+    match fault {
+        FeedFault::Read => DriveFault::ReadFault,
+        FeedFault::Break(cause) => DriveFault::Broken(StreamBreak {
+            packet: count,
+            cause,
+        }),
+    }
+}
+
+/// Why no packet came after the most that a stream has.
+fn overrun<F>(fault: FeedFault) -> DriveFault<F>
+    ensures { result ≡ overrun_by fault }
+{
+    match fault {
+        FeedFault::Read => DriveFault::ReadFault,
+        FeedFault::Break(_) => DriveFault::TooLong,
+    }
+}
+
+/// Why the stage stopped the drive.
+fn stopped<F: Copy>(fault: StageFault<F>) -> DriveFault<F>
+    ensures { result ≡ stopped_by fault }
+{
+    match fault {
+        StageFault::Write => DriveFault::WriteFault,
+        StageFault::Refused(fault) => DriveFault::Refused(fault),
+    }
+}
