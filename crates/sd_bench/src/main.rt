@@ -3,6 +3,7 @@
 
 ghost use Rattle.std.specs.Prelude.{◌≡◌, length};
 
+mod covers;
 mod crcs;
 mod emms;
 
@@ -44,6 +45,9 @@ fn measured(alloc: Global, words: &[String]) -> Result<Option<u64>, AllocError> 
         "crcs" => return Ok(Some(crcs::summed(count))),
         "emms" => return emms::searched(alloc, count),
         _ => {}
+    }
+    if let Some(number) = covers::measured(alloc, work.as_str(), count)? {
+        return Ok(Some(number));
     }
     let Ok(mut sink) = MemSink::new(alloc, PACKETS * 188, PACKETS * 188, Vec::new(alloc)) else {
         return Err(AllocError);

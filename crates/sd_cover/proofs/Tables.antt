@@ -180,3 +180,10 @@ pub raised_map : (ns : List ℕ) (v n : ℕ) → v < length ns → n ≡ get_or 
 raised_map ns v n h is =
     let e : n ≡ count_at (map_of ns) v = is ∙ sym (count_in_table ns v) in
     subst (λ (m : ℕ). map_of (set ns v (n + 1)) ≡ with_count (map_of ns) v (m + 1)) e (map_after_write ns v (n + 1) h)
+
+-- a count lowered by one
+pub lowered_map : (ns : List ℕ) (v n : ℕ) → v < length ns → n ≡ get_or ns v 0 →
+    map_of (set ns v (n - 1)) ≡ with_count (map_of ns) v (count_at (map_of ns) v - 1)
+lowered_map ns v n h is =
+    let e : n ≡ count_at (map_of ns) v = is ∙ sym (count_in_table ns v) in
+    subst (λ (m : ℕ). map_of (set ns v (n - 1)) ≡ with_count (map_of ns) v (m - 1)) e (map_after_write ns v (n - 1) h)

@@ -3,6 +3,7 @@ use Rattle.std.specs.Prelude.{ℕ, ◌==◌, ◌&&◌, ◌||◌, not, Bool, fals
 use Rattle.sd_tree.specs.Leaves.{leaves}
 use Rattle.sd_cover.specs.Index.{with_leaf, without_leaf}
 
+-- a change of the revoked leaves: a leaf is revoked, or revoked no more [this project, docs/FORMATS.md, Book]
 pub data Change : Type 0 where
   Revokes : ℕ → Change
   Subscribes : ℕ → Change

@@ -14,7 +14,7 @@ pub record IndexValue : Type 0 where
   pub revoked : List ℕ
   pub spare : ℕ
 
--- how many of these leaves are at or below the node
+-- how many of these leaves are at or below the node [Naor, Naor, Lotspiech 2001, 3.2]
 unfoldable pub count_below : ℕ → List ℕ → ℕ → ℕ
 count_below d revoked v = count_by (is_below d v) revoked
 

@@ -47,8 +47,8 @@ impl Counts {
     /// No node counts, and there is no room. It takes no memory.
     #[tactic(auto, using(crate::proofs::Tables::no_table, crate::proofs::Tables::table_none))]
     pub fn new(alloc: Global) -> Counts
-        ensures counts { result.counts ≡ map.empty }
-        ensures room { result.room ≡ 0 }
+        ensures value { result.counts ≡ map.empty }
+        ensures fits { result.room ≡ 0 }
     {
         Counts {
             table: Vec::new(alloc),
@@ -60,7 +60,7 @@ impl Counts {
     #[tactic(auto, using(crate::proofs::Tables::same_counts, crate::proofs::Tables::table_reserved))]
     pub fn reserve(&mut self, more: u32) -> Result<(), NoMemory>
         requires fits { more ≤ MOST_ROOM }
-        ensures counts { self.new.counts ≡ self.old.counts }
+        ensures value { self.new.counts ≡ self.old.counts }
         ensures ok { OnOk result (self.new.room ≡ max self.old.room more) }
         ensures unchanged { OnErr result (self.new.room ≡ self.old.room) }
     {
@@ -88,8 +88,8 @@ impl Counts {
         requires high { v < NODES }
         requires fits { count_at self.old.counts v < 2 ^ 32 - 1 }
         requires room { (0 < count_at self.old.counts v) ⊎ (0 < self.old.room) }
-        ensures counts { self.new.counts ≡ with_count self.old.counts v (count_at self.old.counts v + 1) }
-        ensures room { self.new.room ≡ (if count_at self.old.counts v == 0 then self.old.room - 1 else self.old.room) }
+        ensures value { self.new.counts ≡ with_count self.old.counts v (count_at self.old.counts v + 1) }
+        ensures fits { self.new.room ≡ (if count_at self.old.counts v == 0 then self.old.room - 1 else self.old.room) }
         ensures steps { steps.new ≡ steps.old + 1 }
     {
         let count = visit(&self.table, v, steps);
@@ -98,13 +98,13 @@ impl Counts {
     }
 
     /// Takes one from the count of node v, by one visit. It takes no memory.
-    #[tactic(auto, using(crate::proofs::Tables::count_in_table, crate::proofs::Tables::counted_within, crate::proofs::Tables::map_after_write))]
+    #[tactic(auto, using(crate::proofs::Tables::count_in_table, crate::proofs::Tables::counted_within))]
     pub fn lower<L: Ledger>(&mut self, v: u32, steps: &mut Steps<L>)
         requires low { 1 ≤ v }
         requires high { v < NODES }
         requires some { 0 < count_at self.old.counts v }
-        ensures counts { self.new.counts ≡ with_count self.old.counts v (count_at self.old.counts v - 1) }
-        ensures room { self.new.room ≡ (if count_at self.old.counts v == 1 then self.old.room + 1 else self.old.room) }
+        ensures value { self.new.counts ≡ with_count self.old.counts v (count_at self.old.counts v - 1) }
+        ensures fits { self.new.room ≡ (if count_at self.old.counts v == 1 then self.old.room + 1 else self.old.room) }
         ensures steps { steps.new ≡ steps.old + 1 }
     {
         let count = visit(&self.table, v, steps);

@@ -39,9 +39,8 @@ impl Model for CoverIndex {
 impl CoverIndex {
     /// No leaf is revoked. It takes no memory.
     pub fn new(alloc: Global, h: Height) -> CoverIndex
-        ensures height { result.height ≡ h }
-        ensures value { result.revoked ≡ [] }
-        ensures spare { result.spare ≡ 0 }
+        ensures value { (result.height ≡ h) × (result.revoked ≡ []) }
+        ensures fits { result.spare ≡ 0 }
     {
         CoverIndex {
             height: h,
@@ -52,11 +51,10 @@ impl CoverIndex {
     /// Makes room for so many more revocations, which then take no memory.
     pub fn reserve(&mut self, more: u32) -> Result<(), NoMemory>
         requires fits { more ≤ MOST_SPARE }
-        ensures height { self.new.height ≡ self.old.height }
-        ensures value { self.new.revoked ≡ self.old.revoked }
+        ensures value { (self.new.height ≡ self.old.height) × (self.new.revoked ≡ self.old.revoked) }
         ensures ok { OnOk result (more ≤ self.new.spare) }
-        ensures spare { self.old.spare ≤ self.new.spare }
-        ensures unchanged { OnErr result (self.new.spare ≡ self.old.spare) }
+        ensures fits { self.old.spare ≤ self.new.spare }
+        ensures unchanged { OnErr result (self.new ≡ self.old) }
     {
         let nodes = u32::from(self.height.get()) + 1;
         self.counts.reserve(more * nodes)
@@ -76,9 +74,9 @@ impl CoverIndex {
         requires leaf { u < 2 ^ self.old.height }
         requires other { ¬ Contains self.old.revoked u }
         requires spare { 1 ≤ self.old.spare }
-        ensures height { self.new.height ≡ self.old.height }
+        ensures unchanged { self.new.height ≡ self.old.height }
         ensures value { self.new.revoked ≡ with_leaf self.old.height u self.old.revoked }
-        ensures spare { self.old.spare ≤ self.new.spare + 1 }
+        ensures fits { self.old.spare ≤ self.new.spare + 1 }
         ensures steps { steps.new ≡ steps.old + (self.old.height + 1) }
     {
         let node = lowest_node(self.height, u);
@@ -89,9 +87,9 @@ impl CoverIndex {
     pub fn subscribe<L: Ledger>(&mut self, u: Leaf, steps: &mut Steps<L>)
         requires leaf { u < 2 ^ self.old.height }
         requires revoked { Contains self.old.revoked u }
-        ensures height { self.new.height ≡ self.old.height }
+        ensures unchanged { self.new.height ≡ self.old.height }
         ensures value { self.new.revoked ≡ without_leaf u self.old.revoked }
-        ensures spare { self.old.spare ≤ self.new.spare }
+        ensures fits { self.old.spare ≤ self.new.spare }
         ensures steps { steps.new ≡ steps.old + (self.old.height + 1) }
     {
         let node = lowest_node(self.height, u);

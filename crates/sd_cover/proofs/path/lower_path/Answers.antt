@@ -30,7 +30,7 @@ loop-level-preserved g c =
     (omega arith)) (path_high c.args.h c.args.node c.loop-level.level c.requires.low c.requires.high (omega arith)))
     within in
     record {
-      value = λ v. rw c.lower.ensures.counts (lowered_next c.loop-level.counts.counts c.args.node c.loop-level.level _ v
+      value = λ v. rw c.lower.ensures.value (lowered_next c.loop-level.counts.counts c.args.node c.loop-level.level _ v
           some (c.loop-level.invariant.value v));
       room = search rules;
       steps = search rules;

@@ -21,11 +21,11 @@ raise-requires-clause-fits g c =
 
 pub loop-level-preserved : goal.loop-level-preserved
 loop-level-preserved g c = record {
-  value = λ v. rw c.raise.ensures.counts (raised_next c.loop-level.counts.counts c.args.node c.loop-level.level _ v
+  value = λ v. rw c.raise.ensures.value (raised_next c.loop-level.counts.counts c.args.node c.loop-level.level _ v
       (c.loop-level.invariant.value v));
   room = (
       let before = c.loop-level.invariant.room in
-      let after = c.raise.ensures.room in
+      let after = c.raise.ensures.fits in
       search rules);
   steps = search rules;
 }

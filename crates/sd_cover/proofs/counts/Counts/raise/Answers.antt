@@ -25,8 +25,8 @@ invariant_of-self g c =
     raised_table _ _ c.args.v c.visit-count.result c.from.result c.self.invariant h.0 n (search rules)
     (subst (λ (m : ℕ). (0 < m) ⊎ (0 < c.self.inside.room)) (sym n) h.1)
 
-pub returns-clause-counts : goal.returns-clause-counts
-returns-clause-counts g c =
+pub returns-clause-value : goal.returns-clause-value
+returns-clause-value g c =
     let h = room_for _ _ _ c.args.v c.self.view_is c.self.invariant c.requires.high c.requires.room in
     let n : c.visit-count.result ≡ get_or c.self.inside.table.items c.args.v 0 = search rules in
     subst (λ (t : Tally). map_of (set c.self.inside.table.items c.args.v (c.visit-count.result + 1))
