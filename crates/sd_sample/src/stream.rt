@@ -137,7 +137,7 @@ mod tests {
         assert!(rt; result.is_ok() && whole.len() == 37600);
         // Room, bytes a write, the write that fails, and what is held then.
         for (room, most, failing, front) in [
-            (20000, 40000, 9, 20000),
+            (20000, 40000, 9, 12032),
             (40000, 1000, 20, 19032),
             (40000, 40000, 2, 24064),
             (40000, 40000, 0, 0),

@@ -2,3 +2,4 @@ pub mod Inspected
 pub mod Watching
 pub mod Whole
 pub mod Progress
+pub mod Staged

@@ -3,10 +3,13 @@
 
 mod fault;
 mod inspector;
+pub mod laws;
+mod stage;
 mod stream;
 #[cfg(test)]
 mod tests;
 mod watched;
 
 pub use fault::WholeTablesFault;
+pub use stage::TableStage;
 pub use stream::whole;

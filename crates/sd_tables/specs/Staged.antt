@@ -1,0 +1,55 @@
+-- The inspector as a stage of packets.
+use Rattle.std.specs.Prelude.{◌≡◌, ℕ, ◌-◌, ◌^◌, ◌<◌, Bool, false, List, [], ◌∷◌, length, Option}
+use Rattle.std.specs.List.{flat_map}
+use Rattle.sd_packet.specs.Header.{pid_of}
+use Rattle.sd_section.specs.Assembled.{Assembling}
+use Rattle.sd_lines.specs.Lines.{line_of}
+use Rattle.sd_tables.specs.Inspected.{sections_at}
+use Rattle.sd_tables.specs.Watching.{IsAfter}
+use Rattle.sd_tables.specs.declared.stage.TableStage.{TableStage}
+
+-- what the inspector keeps: marks of the watched PIDs, their assemblers, how many packets it was offered, and whether memory was wanting
+pub record Inspecting : Type 0 where
+  pub marks : List Bool
+  pub places : List (Option Assembling)
+  pub number : ℕ
+  pub wanting : Bool
+
+abbrev pub seen : TableStage → Inspecting
+seen stage = record {
+  marks = stage.inspector.watched.marks.items;
+  places = stage.inspector.assemblers.items;
+  number = stage.number;
+  wanting = stage.wanting;
+}
+
+-- it stands after these packets, of which the last comes first
+pub record StandsAfter (before : List (List ℕ)) (state : Inspecting) : Type 0 where
+  pub after : IsAfter before state.marks state.places
+  pub number : state.number ≡ length before
+
+-- a packet's lines are written, those of the sections that it completes, and no step is taken
+pub record Inspects (s : Inspecting) (packet : List ℕ) (t : Inspecting) (bytes : List ℕ) (steps : ℕ) : Type 0 where
+  pub lines : (before : List (List ℕ)) → StandsAfter before s →
+      bytes ≡ flat_map (line_of s.number (pid_of packet)) (sections_at packet before)
+  pub after : (before : List (List ℕ)) → StandsAfter before s → s.number < 2 ^ 64 - 1 → StandsAfter (packet ∷ before) t
+  pub no_steps : steps ≡ 0
+
+-- at the end nothing is written
+pub record Ends (s t : Inspecting) (bytes : List ℕ) (steps : ℕ) : Type 0 where
+  pub nothing : bytes ≡ []
+  pub same : t ≡ s
+  pub no_steps : steps ≡ 0
+
+-- where memory was wanting nothing is written
+pub record Refuses (bytes : List ℕ) (steps : ℕ) : Type 0 where
+  pub nothing : bytes ≡ []
+  pub no_steps : steps ≡ 0
+
+-- it may be offered a packet: it stands after some, unless memory was wanting
+abbrev pub IsReady : Inspecting → Type 0
+IsReady s = s.wanting ≡ false → (before : List (List ℕ)) × IsAfter before s.marks s.places
+
+-- what a packet comes to
+abbrev pub inspector_does : TableStage → List ℕ → TableStage → List ℕ → ℕ → Type 0
+inspector_does s packet t bytes steps = Inspects (seen s) packet (seen t) bytes steps

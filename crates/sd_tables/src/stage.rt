@@ -1,0 +1,80 @@
+ghost use Rattle.std.specs.Prelude.{[], None, Some, IfOk, if◌then◌else◌};
+ghost use Rattle.sd_tables.specs.Staged.{inspector_does, seen, Ends, IsReady, Refuses, StandsAfter};
+
+use crate::inspector::Inspector;
+use sd_cause::NoMemory;
+use sd_engine::{Stage, StageFault};
+use sd_packet::Packet;
+use sd_ports::{Sink, write_all};
+use sd_steps::Steps;
+use std::alloc::Global;
+use std::sync::ledger::Ledger;
+
+/// The inspector as a stage: it writes a line for each section that a packet completes on a watched PID (this project,
+/// docs/FORMATS.md, Inspector).
+#[derive(Drop)]
+pub struct TableStage {
+    alloc: Global,
+    inspector: Inspector,
+    number: u64,
+    wanting: bool,
+}
+
+impl TableStage {
+    /// Before the first packet.
+    pub fn new(alloc: Global) -> Result<TableStage, NoMemory>
+        ensures value { IfOk result (λ stage. StandsAfter [] (seen stage)) }
+    {
+        Ok(TableStage {
+            alloc,
+            inspector: Inspector::new(alloc)?,
+            number: 0,
+            wanting: false,
+        })
+    }
+}
+
+impl<K: Sink, L: Ledger> Stage<K, L> for TableStage {
+    type Fault = NoMemory;
+
+    ghost live = { λ s. IsReady (seen s) };
+
+    ghost kept = { λ s. if s.wanting then Some (record {}) else None };
+
+    ghost does = { inspector_does };
+
+    ghost ends = { λ s t bytes steps. Ends (seen s) (seen t) bytes steps };
+
+    ghost refuses = { λ s packet fault t bytes steps. Refuses bytes steps };
+
+    fn offer(
+        &mut self,
+        packet: &Packet,
+        out: &mut K,
+        steps: &mut Steps<L>,
+    ) -> Result<(), StageFault<NoMemory>> {
+        if self.wanting {
+            return Err(StageFault::Refused(NoMemory));
+        }
+        let mut text = String::new(self.alloc);
+        if let Err(fault) = self
+            .inspector
+            .take(self.alloc, self.number, packet, &mut text)
+        {
+            self.wanting = true;
+            return Err(StageFault::Refused(fault));
+        }
+        self.number = self.number.saturating_add(1);
+        match write_all(out, text.as_bytes()) {
+            Ok(()) => Ok(()),
+            Err(_) => Err(StageFault::Write),
+        }
+    }
+
+    fn close(&mut self, out: &mut K, steps: &mut Steps<L>) -> Result<(), StageFault<NoMemory>> {
+        if self.wanting {
+            return Err(StageFault::Refused(NoMemory));
+        }
+        Ok(())
+    }
+}
