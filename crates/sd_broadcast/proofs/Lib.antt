@@ -1,0 +1,6 @@
+pub mod Schedule
+pub mod Following
+pub mod Sending
+pub mod Bodies
+pub mod Items
+pub mod Standing

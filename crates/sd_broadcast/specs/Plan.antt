@@ -1,0 +1,48 @@
+-- What a broadcast is made of, and its schedule.
+use Rattle.std.specs.Prelude.{ℕ, zero, suc, ◌+◌, ◌-◌, ◌*◌, ◌/◌, ◌^◌, ◌<◌, min, List}
+use Rattle.sd_tree.specs.declared.set.SetName.{SetName}
+use Rattle.sd_site.specs.Fields.{SiteFields, AreInRange}
+use Rattle.sd_book.specs.declared.command.Command.{Command}
+use Rattle.sd_book.specs.Commands.{last_period, revoked}
+use Rattle.sd_book.specs.Limits.{IsWithinLimits}
+use Rattle.sd_steiner.specs.Cover.{cover_of}
+
+-- a site and the commands of a book
+pub record Plan : Type 0 where
+  pub site : SiteFields
+  pub commands : List Command
+
+-- the sets of period q: the cover of the leaves that are revoked in it [Naor, Naor, Lotspiech 2001, 3.2]
+unfoldable pub sets_at : Plan → ℕ → List SetName
+sets_at plan q = cover_of plan.site.height (revoked plan.site.height plan.commands q)
+
+-- the site is in its ranges, and the book is one of its height within the limits
+pub record IsPlan (plan : Plan) : Type 0 where
+  pub site : AreInRange plan.site
+  pub ca : plan.site.ca < 2 ^ 16
+  pub book : IsWithinLimits plan.site.height plan.commands
+
+-- how many clear packets a crypto period has [this project, docs/FORMATS.md, Broadcast]
+abbrev pub crypto_length : SiteFields → ℕ
+crypto_length site = site.every * site.cryptos
+
+-- the crypto period of packet k [this project, docs/FORMATS.md, Broadcast]
+unfoldable pub crypto_of : SiteFields → ℕ → ℕ
+crypto_of site k = k / crypto_length site
+
+-- the period of packet k: the last one goes on to the end [this project, docs/FORMATS.md, Broadcast]
+unfoldable pub period_of : Plan → ℕ → ℕ
+period_of plan k = min (crypto_of plan.site k / plan.site.span) (last_period plan.commands)
+
+-- the first control message from which on all packets up to message b have one control word, in version 2; in version 1
+-- the one before
+-- [this project, docs/FORMATS.md, Messages]
+abbrev pub since_of : ℕ → ℕ → ℕ → ℕ
+since_of version cryptos zero = 0
+since_of (suc (suc zero)) cryptos (suc b) = (b / cryptos) * cryptos
+since_of version cryptos (suc b) = b
+
+-- the number of the closing message after m packets: as many as there are begun stretches of e packets
+-- [this project, docs/FORMATS.md, Broadcast]
+abbrev pub closing_number : SiteFields → ℕ → ℕ
+closing_number site m = (m + site.every - 1) / site.every

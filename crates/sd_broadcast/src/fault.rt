@@ -1,0 +1,18 @@
+use sd_psi::FormFault;
+
+/// Why a clear packet is refused. The first number is the packet's.
+#[derive(Clone, Copy, Debug, PartialEq, Eq)]
+pub enum ClearFault {
+    /// It is scrambled.
+    AlreadyScrambled(u64),
+    /// Its PID is 1 or one of the broadcast's own messages.
+    PidTaken(u64, u16),
+    /// It is on PID 0 and no PAT by itself.
+    PatForm(u64, FormFault),
+    /// It is a PMT without room that begins with the project's CA_descriptor.
+    PmtForm(u64, FormFault),
+    /// It would be the 257th PID with a position.
+    TooManyPids(u64),
+    /// It would be packet 2^32 - 1.
+    TooLong(u64),
+}

@@ -1,0 +1,68 @@
+-- What is written between two control messages.
+use Rattle.std.specs.Prelude.{ℕ, ◌+◌, ◌%◌, ◌==◌, ◌&&◌, ◌||◌, Bool, false, not, nat_le, List, [], ◌∷◌, ◌++◌}
+use Rattle.std.specs.Prelude.{find, is_none, if◌then◌else◌, Option, Some, None, option_map, Result, Ok, Err}
+use Rattle.std.specs.Option.{option_map_or}
+use Rattle.sd_packet.specs.Header.{pid_of, scrambling_of}
+use Rattle.sd_packet.specs.Positions.{is_placed, first_position, moved_by}
+use Rattle.sd_psi.specs.Rewriting.{restored, restore_fault}
+use Rattle.sd_scramble.specs.Scrambling.{descrambled}
+use Rattle.sd_ecm.specs.Parts.{Message}
+use Rattle.sd_ecm.specs.declared.part.Place.{Place}
+
+-- two messages, the control word of the first, the system and the PID of control messages, and the packets held between
+-- them
+pub record Segment : Type 0 where
+  pub first : Message
+  pub last : Message
+  pub word : List ℕ
+  pub ca : ℕ
+  pub ecm : ℕ
+  pub packets : List (List ℕ)
+
+-- the position of a PID
+unfoldable pub position_in : List Place → ℕ → Option ℕ
+position_in places pid = option_map (λ place. place.position) (find (λ place. place.pid == pid) places)
+
+-- the tracked position of a PID after some of the packets [this project, docs/FORMATS.md, Receiver]
+unfoldable pub tracked : Message → ℕ → List (List ℕ) → ℕ
+tracked first pid packets = moved_by pid (option_map_or (λ p. p) (position_in first.places pid) first_position) packets
+
+-- the PID is confirmed: the second message's position is 0 to 15 above the tracked one [this project, docs/FORMATS.md,
+-- Receiver]
+unfoldable pub is_confirmed : Segment → ℕ → Bool
+is_confirmed segment pid =
+    option_map_or (λ position. nat_le (tracked segment.first pid segment.packets) position
+    && nat_le position (tracked segment.first pid segment.packets + 15)) (position_in segment.last.places pid) false
+
+-- a clear packet: without the project's descriptor where it is a PMT that has it
+unfoldable pub unmarked : Segment → List ℕ → List ℕ
+unmarked segment packet =
+    if is_placed packet && is_none (restore_fault segment.ca segment.ecm packet) then restored packet else packet
+
+-- the packet can't be one under the control word
+abbrev pub is_odd : Segment → List ℕ → Bool
+is_odd segment packet = not (is_placed packet) || not (scrambling_of packet == 2 + segment.first.word % 2)
+
+-- what a packet becomes after those held before it: itself, or nothing, or the number with which it is refused [this
+-- project, docs/FORMATS.md, Receiver]
+unfoldable pub judged : Segment → List (List ℕ) → ℕ × List ℕ → Result (List (List ℕ)) ℕ
+judged segment before held =
+    if scrambling_of held.1 == 0 then Ok (unmarked segment held.1 ∷ [])
+    else if is_odd segment held.1 then Err held.0
+    else if is_confirmed segment (pid_of held.1)
+    then Ok (descrambled held.1 segment.word (tracked segment.first (pid_of held.1) (before ++ held.1 ∷ [])) ∷ [])
+    else Ok []
+
+-- what was written, and the number of the packet that was refused
+pub record Wrote : Type 0 where
+  pub packets : List (List ℕ)
+  pub refused : Option ℕ
+
+abbrev pub then_wrote : Result (List (List ℕ)) ℕ → Wrote → Wrote
+then_wrote (Err n) rest = record { packets = []; refused = Some n }
+then_wrote (Ok packets) rest = record { packets = packets ++ rest.packets; refused = rest.refused }
+
+unfoldable pub written_from : Segment → List (List ℕ) → List (ℕ × List ℕ) → Wrote
+written_from segment before [] = record { packets = []; refused = None }
+written_from segment before (held ∷ more) =
+    then_wrote (judged segment before held) (written_from segment (before ++ held.1 ∷ []) more)

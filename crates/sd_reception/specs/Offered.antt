@@ -1,0 +1,180 @@
+-- What a packet makes a receiver write, and why it is refused, for whatever packets came before it.
+use Rattle.std.specs.Prelude.{ℕ, ◌==◌, ◌&&◌, ◌||◌, Bool, true, false, not, nat_le, nat_lt, List, [], ◌∷◌}
+use Rattle.std.specs.Prelude.{◌++◌, length, map, bytes_eq, flat_map, if◌then◌else◌, is_none, Option, Some}
+use Rattle.std.specs.Prelude.{None}
+use Rattle.std.specs.List.{list_any}
+use Rattle.std.specs.Option.{option_map_or}
+use Rattle.sd_label.specs.Keys.{check_value_of}
+use Rattle.sd_card.specs.Fields.{CardFields}
+use Rattle.sd_wrap.specs.Wrapping.{wrapped as under}
+use Rattle.sd_emm.specs.declared.emm.Emm.{Emm}
+use Rattle.sd_emm.specs.declared.fault.EmmFault.TheVariants as Emms
+use Rattle.sd_ecm.specs.Spelled.{listed}
+use Rattle.sd_ecm.specs.Parts.{Message}
+use Rattle.sd_ecm.specs.declared.part.EcmPart.{EcmPart}
+use Rattle.sd_ecm.specs.declared.fault.EcmFault.{EcmFault}
+use Rattle.sd_ecm.specs.declared.fault.EcmFault.TheVariants.{Count, Order, Mixed, Back}
+use Rattle.sd_reception.specs.declared.fault.StreamFault.{StreamFault}
+use Rattle.sd_reception.specs.declared.fault.StreamFault.TheVariants as Fault
+use Rattle.sd_reception.specs.Tuned.{Tuning, tuning_of}
+use Rattle.sd_reception.specs.Heard.{Heard, Dropped, Entitles, Controls, BadEmm, BadEcm, Other, hears}
+use Rattle.sd_reception.specs.Stretches.{Stretch, newest, run_to, completes, is_closed, current, seen, held_in}
+use Rattle.sd_reception.specs.Keys.{key_from, key_at}
+use Rattle.sd_reception.specs.Confirmed.{Wrote, position_in, written_from}
+
+abbrev pub heard_with : CardFields → Option Tuning → ℕ → List ℕ → List Heard → List Heard
+heard_with card None n packet past = past
+heard_with card (Some tuning) n packet past = if is_closed past then past else hears card.height tuning n packet ∷ past
+
+-- what is heard of these packets, the newest first of both: nothing before the CAT is taken, and nothing after a
+-- closing message
+unfoldable pub heard : CardFields → List (List ℕ) → List Heard
+heard card [] = []
+heard card (packet ∷ past) = heard_with card (tuning_of card.ca past) (length past) packet (heard card past)
+
+-- what an offered packet comes to
+pub record Offering : Type 0 where
+  pub wrote : List (List ℕ)
+  pub fault : Option StreamFault
+
+abbrev pub nothing : Offering
+nothing = record { wrote = []; fault = None }
+
+abbrev pub refuses : StreamFault → Offering
+refuses fault = record { wrote = []; fault = Some fault }
+
+-- two sections of a period say the same of it
+abbrev pub says_same : Emm → Emm → Bool
+says_same a b = (a.sets == b.sets) && ((a.sections == b.sections) && bytes_eq a.check b.check)
+
+-- a section differs from the sections seen before it
+abbrev pub is_mixed : List Emm → Emm → Bool
+is_mixed sections emm = list_any (λ other. not (says_same other emm)) sections
+
+abbrev pub key_offering : ℕ → Emm → Option (List ℕ) → Offering
+key_offering n emm None = nothing
+key_offering n emm (Some key) =
+    if bytes_eq (check_value_of key) emm.check then nothing
+    else refuses (Fault.WrongKey n emm.period (check_value_of key) emm.check)
+
+abbrev pub key_if_none : ℕ → Emm → Option (List ℕ) → Option (List ℕ) → Offering
+key_if_none n emm (Some key) found = nothing
+key_if_none n emm None found = key_offering n emm found
+
+-- a section of entitlements
+unfoldable pub emm_offering : CardFields → ℕ → List Heard → Emm → Offering
+emm_offering card n past emm =
+    if nat_lt emm.period (current past) then nothing
+    else if is_mixed (seen emm.period past) emm then refuses (Fault.BadEmm n Emms.Mixed)
+    else key_if_none n emm (key_at card past emm.period) (key_from card emm)
+
+-- the parts' headers are the same
+abbrev pub same_header : EcmPart → EcmPart → Bool
+same_header a b =
+    (a.version == b.version)
+    && ((a.since == b.since)
+    && ((a.period == b.period)
+    && ((a.word == b.word) && ((a.clear == b.clear) && ((if a.closing then b.closing else not b.closing)
+    && ((a.last_part == b.last_part) && (bytes_eq a.wrapped b.wrapped && bytes_eq a.check b.check)))))))
+
+-- every PID of the parts before is below every one of this part
+abbrev pub is_after : EcmPart → List EcmPart → Bool
+is_after part [] = true
+is_after part (before ∷ run) =
+    not (list_any (λ place. list_any (λ old. nat_le place.pid old.pid) (listed before)) (listed part))
+
+-- what is wrong with a part after those of its message
+unfoldable pub part_fault : List EcmPart → Option EcmFault
+part_fault [] = None
+part_fault (part ∷ run) =
+    if list_any (λ other. not (same_header other part)) run then Some Mixed
+    else if not (is_after part run) then Some Order
+    else if nat_lt 256 (length (flat_map listed (part ∷ run))) then Some Count
+    else None
+
+-- the second message goes back behind the first
+unfoldable pub is_before : Message → Message → Bool
+is_before b a = nat_lt b.period a.period || (nat_lt b.word a.word || (nat_lt b.clear a.clear
+    || list_any
+    (λ place. option_map_or (λ position. nat_lt position place.position) (position_in b.places place.pid) true)
+    a.places))
+
+unfoldable pub is_back : List Heard → Message → Bool
+is_back past b = nat_lt b.period (current past) || option_map_or (is_before b) (newest past).message false
+
+-- what is written where a control word is had, or not, and not too many packets are to be held
+abbrev pub segment_wrote : CardFields → Tuning → Stretch → Message → Message → Option (List ℕ) → Wrote
+segment_wrote card tuning stretch a b None = record { packets = []; refused = None }
+segment_wrote card tuning stretch a b (Some key) =
+    if nat_lt 4096 (length (held_in stretch)) then record { packets = []; refused = None }
+    else written_from (record {
+      first = a;
+      last = b;
+      word = under key a.word a.wrapped;
+      ca = card.ca;
+      ecm = tuning.ecm;
+      packets = map (λ held. held.1) (held_in stretch);
+    }) [] (held_in stretch)
+
+-- what is written between the newest message and the next one
+abbrev pub stretch_wrote : CardFields → Tuning → Stretch → Option Message → Message → Wrote
+stretch_wrote card tuning stretch None b = record { packets = []; refused = None }
+stretch_wrote card tuning stretch (Some a) b =
+    if nat_le b.since a.number then segment_wrote card tuning stretch a b (key_at card stretch.before a.period)
+    else record { packets = []; refused = None }
+
+-- the control word that a message gives is not the one that it is to be
+abbrev pub word_fault : ℕ → Message → Option (List ℕ) → Option StreamFault
+word_fault n b None = None
+word_fault n b (Some key) =
+    if bytes_eq (check_value_of (under key b.word b.wrapped)) b.check then None
+    else Some (Fault.WrongWord n b.word (check_value_of (under key b.word b.wrapped)) b.check)
+
+abbrev pub wrote_or : Wrote → Option StreamFault → Offering
+wrote_or wrote fault =
+    record { wrote = wrote.packets; fault = option_map_or (λ n. Some (Fault.Parity n)) wrote.refused fault }
+
+-- a message that is complete, or a part that completes none
+abbrev pub message_offering : CardFields → Tuning → ℕ → List Heard → Option Message → Offering
+message_offering card tuning n past None = nothing
+message_offering card tuning n past (Some b) =
+    if is_back past b then refuses (Fault.BadEcm n Back)
+    else wrote_or (stretch_wrote card tuning (newest past) (newest past).message b)
+    (word_fault n b (key_at card past b.period))
+
+abbrev pub part_offering : ℕ → Option EcmFault → Offering → Offering
+part_offering n None next = next
+part_offering n (Some fault) next = refuses (Fault.BadEcm n fault)
+
+-- what comes of a thing that is heard as packet n after the past [this project, docs/FORMATS.md, Receiver]
+abbrev pub heard_offering : CardFields → Tuning → ℕ → List Heard → Heard → Offering
+heard_offering card tuning n past Dropped = nothing
+heard_offering card tuning n past (Entitles emm) = emm_offering card n past emm
+heard_offering card tuning n past (Controls part) =
+    part_offering n (part_fault (run_to (newest past) part))
+    (message_offering card tuning n past (completes past (Controls part)))
+heard_offering card tuning n past (BadEmm fault) = refuses (Fault.BadEmm n fault)
+heard_offering card tuning n past (BadEcm fault) = refuses (Fault.BadEcm n fault)
+heard_offering card tuning n past (Other k packet) = nothing
+
+abbrev pub tuned_offering : CardFields → Option Tuning → ℕ → List Heard → List ℕ → Offering
+tuned_offering card None n past packet = nothing
+tuned_offering card (Some tuning) n past packet =
+    if is_closed past then nothing else heard_offering card tuning n past (hears card.height tuning n packet)
+
+-- what comes of a packet after these packets, the newest first
+unfoldable pub offered : CardFields → List (List ℕ) → List ℕ → Offering
+offered card past packet = tuned_offering card (tuning_of card.ca past) (length past) (heard card past) packet
+
+-- what is written of packets after others, up to the first that is refused
+unfoldable pub out_from : CardFields → List (List ℕ) → List (List ℕ) → List (List ℕ)
+out_from card past [] = []
+out_from card past (packet ∷ packets) =
+    (offered card past packet).wrote
+    ++ (if is_none (offered card past packet).fault then out_from card (packet ∷ past) packets else [])
+
+-- why the first of these packets that is refused is refused, after others
+unfoldable pub break_from : CardFields → List (List ℕ) → List (List ℕ) → Option StreamFault
+break_from card past [] = None
+break_from card past (packet ∷ packets) =
+    option_map_or Some (offered card past packet).fault (break_from card (packet ∷ past) packets)
