@@ -1,12 +1,8 @@
 use super::*;
-use sd_cause::NoMemory;
-use sd_engine::{BreakCause, DriveFault, StreamBreak, drive};
+use sd_engine::{BreakCause, StreamBreak};
 use sd_packet::pack_section;
-use sd_ports::{MemSink, MemSource};
-use sd_steps::Steps;
+use sd_ports::MemSink;
 use std::alloc::{AllocError, Global};
-use std::marker::Brand;
-use std::sync::ledger::{Blank, Ledger};
 
 const PAT: [u8; 16] = [
     0x00, 0xB0, 0x0D, 0x00, 0x01, 0xC1, 0x00, 0x00, 0x00, 0x01, 0xF0, 0x00, 0x2A, 0xB1, 0x04, 0xB2,
@@ -75,70 +71,6 @@ fn sections_are_printed(rt: HostRuntime) -> Result<(), AllocError> {
         assert!(rt; start <= end && end <= bytes.len() && count <= all);
         let (result, lines) = printed(rt.alloc(), &bytes[start..end], room)?;
         assert_eq!(rt; result, answer);
-        assert!(rt; lines.as_slice() == &LINES.as_bytes()[..count]);
-    }
-    Ok(())
-}
-
-// What a drive answers, and what a sink with so much room takes, where a read gives at most so many bytes and read 2 fails.
-fn driven<L: Ledger>(
-    alloc: Global,
-    blank: Blank,
-    bytes: &[u8],
-    most: usize,
-    room: usize,
-) -> Result<(Result<u64, DriveFault<NoMemory>>, Vec<u8>), AllocError>
-    requires most { 1 ≤ most }
-    requires name { blank.name ≡ L.name }
-    requires parts { blank.parts ≡ L.parts }
-    requires some { 0 < blank.parts }
-{
-    let mut left = Vec::new(alloc);
-    left.extend_from_slice(bytes)?;
-    let mut fails = Vec::new(alloc);
-    if most == 300 {
-        fails.push(2)?;
-    }
-    let mut source = MemSource::new(left, most, fails);
-    let Ok(mut sink) = MemSink::new(alloc, room, 100, Vec::new(alloc)) else {
-        return Err(AllocError);
-    };
-    let Ok(mut stage) = TableStage::new(alloc) else {
-        return Err(AllocError);
-    };
-    let mut steps = Steps::<L>::new(blank);
-    let result = drive(&mut source, &mut sink, &mut stage, &mut steps);
-    Ok((result, sink.into_bytes()))
-}
-
-#[test]
-fn sections_are_printed_as_they_are_read(rt: HostRuntime) -> Result<(), AllocError> {
-    let all = LINES.len();
-    let torn = StreamBreak {
-        packet: 1,
-        cause: BreakCause::Torn,
-    };
-    // The bytes of a read, which bytes are gone over, the room for lines, the answer, and how many bytes of lines are printed.
-    let table = [
-        (1, 564, 1000, Ok(3), all),
-        (187, 564, 1000, Ok(3), all),
-        (189, 564, 1000, Ok(3), all),
-        (376, 375, 1000, Err(DriveFault::Broken(torn)), FIRST),
-        (300, 564, 1000, Err(DriveFault::ReadFault), all),
-        (376, 564, 100, Err(DriveFault::WriteFault), FIRST),
-    ];
-    for (most, end, room, answer, count) in table {
-        let packets = sample();
-        let bytes = packets.as_flattened();
-        assert!(rt; most >= 1 && end <= bytes.len() && count <= all);
-        let (result, lines) = driven::<Brand>(
-            rt.alloc(),
-            Blank::new(1),
-            &bytes[..end],
-            most,
-            room,
-        )?;
-        assert!(rt; result == answer);
         assert!(rt; lines.as_slice() == &LINES.as_bytes()[..count]);
     }
     Ok(())
