@@ -1,5 +1,5 @@
 #!/bin/sh
-# Measures `tables` on a sample stream of 60 MB beside cat, a C program that copies each packet, and (where they are installed) tsinfo and
+# Measures `tables` on a sample stream of 188 MB beside cat, a C program that copies each packet, and (where they are installed) tsinfo and
 # dvbinfo; the CRC of sections beside a C program with a table of 256 entries; and compares the lines of the streams in a folder with those
 # that an independent program printed. To be run by hand, from any folder: bench/tables.sh [FOLDER]. FOLDER has NAME.ts, and beside it
 # NAME.ts.exit-N.stdout, what `tables` is to print for it, and its exit status N.
@@ -8,13 +8,15 @@ set -eu
 folder=${1:+$(CDPATH='' cd "$1" && pwd -P)}
 . "$(dirname "$0")/shared.sh"
 rounds=5
-packets=320000
+packets=1000000
+few=32000
 sections=50000
 
 build_bench
 compile tables
 
 ./sdca sample 1 $packets stream.ts
+./sdca sample 1 $few short.ts
 bytes=$((packets * 188))
 
 tables_ours() { ./sdca tables stream.ts >lines; }
@@ -55,8 +57,11 @@ awk -v t="$(median times.tables_ours)" -v c="$(median times.packets_c)" -v n=$by
     printf "tables: %.2f of what is to be reached (%.0f MB/s); CRC: %.2f times the speed of C\n", n / t / least, least, b / a
 }'
 if [ -x /usr/bin/time ]; then
-    /usr/bin/time -f %M ./sdca tables stream.ts >lines 2>peak
-    echo "peak memory of tables: $(($(cat peak) / 1024)) MiB for a file of $((bytes / 1048576)) MiB"
+    for each in short stream; do
+        /usr/bin/time -f %M ./sdca tables $each.ts >lines 2>peak
+        echo "peak memory of tables: $(cat peak) KiB for a file of $(($(wc -c <$each.ts) / 1000000)) MB"
+        [ "$(cat peak)" -le 16384 ] || fail "tables takes more than 16 MiB"
+    done
 fi
 
 [ -n "$folder" ] || exit 0

@@ -3,6 +3,7 @@ use Rattle.std.proofs.Common.{◌≡◌, ℕ, zero, suc, ◌+◌, ◌-◌, ◌*�
 use Rattle.std.proofs.Common.{arith}
 use Rattle.std.proofs.Math.Nat.{div-mul-le_self, lt-div-mul-add, div-eq_of_lt-le, le-div_iff_mul-le, div-lt_iff_lt-mul}
 use Rattle.std.proofs.Math.Nat.{div-div-eq-div-mul, mul-div_cancel, add-div_right, div-eq_of_lt, mul-pos}
+use native.Mathlib.Nat.{zero-div}
 use Rattle.std.proofs.Math.Nat.{mul-le-mul_right}
 use Rattle.std.proofs.lemmas.Nat.{div-add-mod'}
 use Rattle.sd_site.specs.Fields.{SiteFields, AreInRange}
@@ -29,6 +30,20 @@ periods_rise plan j k r below =
     let up = quotients_rise plan.site.span (crypto_of plan.site j) (crypto_of plan.site k) (omega (arith, r.span.0))
     (cryptos_rise plan.site j k r below) in
     omega (arith, up)
+
+-- the first packet is of the first period
+pub period_of_first : (plan : Plan) → period_of plan 0 ≡ 0
+unfolding period_of crypto_of
+period_of_first plan =
+    let begins : crypto_of plan.site 0 ≡ 0 = zero-div (crypto_length plan.site) in
+    let first : crypto_of plan.site 0 / plan.site.span ≡ 0 =
+    ap (λ (t : ℕ). t / plan.site.span) begins ∙ zero-div plan.site.span in
+    omega (arith, first)
+
+-- no packet is of a period after the last
+pub period_within : (plan : Plan) (k : ℕ) → period_of plan k ≤ last_period plan.commands
+unfolding period_of
+period_within plan k = omega arith
 
 -- the number from which on a message's word holds is below its own
 pub since_is_below : (version cryptos b : ℕ) → 0 < b → since_of version cryptos b < b

@@ -7,13 +7,15 @@ ghost use Rattle.std.specs.List.{concat};
 ghost use Rattle.sd_packet.specs.Header.{pid_of};
 ghost use Rattle.sd_packet.specs.Positions.{is_placed};
 ghost use Rattle.sd_site.specs.Fields.{SiteFields, AreInRange};
+ghost use Rattle.sd_book.specs.Commands.{last_period};
 ghost use Rattle.sd_broadcast.specs.Sent.{Item, tables_at, added, sent, sent_from, closing_of, body, bytes_from};
 ghost use Rattle.sd_broadcast.specs.Items.{IsOfBroadcast};
 ghost use Rattle.sd_broadcast.specs.Plan.{Plan, crypto_length, crypto_of, period_of, since_of, closing_number};
 ghost use Rattle.sd_broadcast.specs.Kinds.{is_current_pat, pat_in_force, has_moved, moved_pids, put_in};
 
 /// Crypto periods and periods never fall. The crypto period after one is the next, and its period the same or the next.
-#[tactic(auto, using(crate::proofs::Schedule::cryptos_rise, crate::proofs::Schedule::periods_rise, crate::proofs::Schedule::cryptos_step, crate::proofs::Schedule::periods_step))]
+/// The first packet is of period 0, and no packet of a period after the book's last.
+#[tactic(auto, using(crate::proofs::Schedule::cryptos_rise, crate::proofs::Schedule::periods_rise, crate::proofs::Schedule::cryptos_step, crate::proofs::Schedule::periods_step, crate::proofs::Schedule::period_of_first, crate::proofs::Schedule::period_within))]
 pub fn periods_never_fall()
     ensures cryptos { (site : SiteFields) (j k : ℕ) → AreInRange site → j ≤ k → crypto_of site j ≤ crypto_of site k }
     ensures periods { (plan : Plan) (j k : ℕ) → AreInRange plan.site → j ≤ k → period_of plan j ≤ period_of plan k }
@@ -21,6 +23,8 @@ pub fn periods_never_fall()
         crypto_of site (k + crypto_length site) ≡ crypto_of site k + 1 }
     ensures next_period { (plan : Plan) (k : ℕ) → AreInRange plan.site →
         period_of plan (k + crypto_length plan.site) ≤ period_of plan k + 1 }
+    ensures first { (plan : Plan) → period_of plan 0 ≡ 0 }
+    ensures last { (plan : Plan) (k : ℕ) → period_of plan k ≤ last_period plan.commands }
 {}
 
 /// A packet is of the crypto period and of the period with whose first packet its crypto period begins.
@@ -83,8 +87,7 @@ pub fn packets_are_sent_in_turn()
 {}
 
 /// Each thing that is sent for a clear stream is the CAT, a section of a period's entitlements, a part of a message in
-/// its
-/// place, or a clear packet as it is carried.
+/// its place, or a clear packet as it is carried.
 #[tactic(auto, using(crate::proofs::Items::all_are_of_broadcast))]
 pub fn all_is_of_the_broadcast()
     ensures { (plan : Plan) (clear : List (List ℕ))
@@ -95,6 +98,6 @@ pub fn all_is_of_the_broadcast()
 #[tactic(auto, using(crate::proofs::Standing::tables_stand))]
 pub fn tables_stand_before_packets()
     ensures { (plan : Plan) (clear : List (List ℕ)) (k : ℕ) → k < length clear →
-        (later : List Item) × (sent plan (take (k + 1) clear) ≡
-        sent plan (take (k - k % crypto_length plan.site) clear) ++ (tables_at plan (k - k % crypto_length plan.site) ++ later)) }
+        (later : List Item) × (sent plan (take (k + 1) clear) ≡ sent plan (take (k - k % crypto_length plan.site) clear)
+        ++ (tables_at plan (k - k % crypto_length plan.site) ++ later)) }
 {}

@@ -8,7 +8,6 @@ use Rattle.std.proofs.Math.Seq.{take-append_seam, get_or-append_seam}
 use Rattle.std.proofs.lemmas.List.{take_all}
 use Rattle.std.proofs.lemmas.Option.{slice_get-get_or, slice_get_past}
 use Rattle.std.specs.Prelude.{slice_index}
-use Rattle.std.proofs.lemmas.List.{get_or-take}
 use Rattle.sd_ports.specs.Bytes.{LosesPrefix}
 use Rattle.sd_engine.specs.declared.fault.BreakCause.{BreakCause}
 use Rattle.sd_engine.specs.declared.fault.BreakCause.TheVariants.{Torn, NoSync}
@@ -71,9 +70,9 @@ one_more does a left left' sink sink' stage stage' steps steps' count old new pa
 pub all_driven : {S : Type 0} (does : S → List ℕ → S → List ℕ → ℕ → Type 0) (ends : S → S → List ℕ → ℕ → Type 0) (a : Moment S)
     (left left' : Option (List ℕ)) (sink sink' : Vessel) (stage stage' : S) (steps steps' count : ℕ) (old new : List ℕ)
     → IsUnderWay does a (moment left sink stage steps) count old → GivesNone left left' old new
-    → Grew sink sink' steps steps' (ends stage stage')
+    → Grew sink sink' steps steps' (ends stage stage') → count ≤ most_packets
     → IsWhole does ends a (moment left' sink' stage' steps') count
-all_driven does ends a left left' sink sink' stage stage' steps steps' count old new way gives grew =
+all_driven does ends a left left' sink sink' stage stage' steps steps' count old new way gives grew few =
     let whole = all_taken count way.taken way.packets in
     record {
       bytes = way.taken;
@@ -82,6 +81,8 @@ all_driven does ends a left left' sink sink' stage stage' steps steps' count old
       end = gives.end;
       unbroken = none_broken count way.taken way.packets;
       counted = sym (ap (λ (ps : List (List ℕ)). length ps) whole ∙ all_counted count way.taken);
+      few = few;
+      long = way.packets.long;
       passed = subst (λ (ps : List (List ℕ)). Grew a.sink sink' a.steps steps' (Closes does ends a.stage ps stage')) (sym whole)
           (grew_on (Chain does a.stage (pieces count way.taken) stage) (ends stage stage')
           (Closes does ends a.stage (pieces count way.taken) stage') a.sink sink sink' a.steps steps steps'
@@ -103,9 +104,9 @@ front_of count taken rest are =
 -- a read failed
 pub read_failed : {S : Type 0} (does : S → List ℕ → S → List ℕ → ℕ → Type 0) (a : Moment S)
     (left left' : Option (List ℕ)) (sink : Vessel) (stage : S) (steps count : ℕ) (old : List ℕ)
-    → IsUnderWay does a (moment left sink stage steps) count old → LosesPrefix left left'
+    → IsUnderWay does a (moment left sink stage steps) count old → LosesPrefix left left' → count ≤ most_packets
     → (n : ℕ) × IsStopped does a (moment left' sink stage steps) n
-read_failed does a left left' sink stage steps count old way lost =
+read_failed does a left left' sink stage steps count old way lost few =
     let front = front_of count way.taken (old ++ lost.0) way.packets in (
       count,
       record {
@@ -113,6 +114,7 @@ read_failed does a left left' sink stage steps count old way lost =
         read = reads_on a.left left left' way.taken old (old ++ lost.0) way.read
             (record { bytes = lost.0; consumed = lost.1; joined = refl });
         enough = front.1;
+        few = few;
         passed = subst (λ (ps : List (List ℕ)). Passes does a ps (moment left' sink stage steps)) (sym front.0) way.passed;
       },
     )
@@ -120,18 +122,14 @@ read_failed does a left left' sink stage steps count old way lost =
 -- what is left is no packet
 break_here : (count : ℕ) (rest : List ℕ) (cause : BreakCause) → Takes rest (Err cause) →
     (packets_of rest ≡ []) × (break_after count rest ≡ Some (record { packet = count; cause = cause }))
-break_here count rest Torn takes =
-    let here = torn_here (record { rest = rest; taken = count }) rest count refl refl takes.0 takes.1 in (here.none, here.break)
-break_here count rest NoSync takes =
-    let same : slice_index (take 188 rest) 0 ≡ slice_index rest 0 = get_or-take 188 rest 0 0 (omega arith) in
-    let here = no_sync_here (record { rest = rest; taken = count }) rest (take 188 rest) count refl refl takes.0 refl
-    (λ e. takes.1 (sym same ∙ e)) in (here.none, here.break)
+break_here count rest Torn takes = torn_here rest count takes.0 takes.1
+break_here count rest NoSync takes = no_sync_here rest count takes.0 takes.1
 
 pub stream_broken : {S : Type 0} (does : S → List ℕ → S → List ℕ → ℕ → Type 0) (a : Moment S)
     (left left' : Option (List ℕ)) (sink : Vessel) (stage : S) (steps count : ℕ) (old : List ℕ) (cause : BreakCause)
-    → IsUnderWay does a (moment left sink stage steps) count old → IsBroken left left' old cause
+    → IsUnderWay does a (moment left sink stage steps) count old → IsBroken left left' old cause → count < most_packets
     → IsStreamBroken does a (moment left' sink stage steps) (record { packet = count; cause = cause })
-stream_broken does a left left' sink stage steps count old cause way found =
+stream_broken does a left left' sink stage steps count old cause way found few =
     let here = break_here count found.left cause found.broken in
     let all : packets_of (way.taken ++ found.left) ≡ pieces count way.taken =
     packets_first count way.taken found.left way.packets
@@ -142,6 +140,8 @@ stream_broken does a left left' sink stage steps count old cause way found =
       end = found.end;
       broken = break_first count 0 way.taken found.left way.packets
           ∙ (ap (λ (n : ℕ). break_after n found.left) (let none : 0 + count ≡ count = omega arith in none) ∙ here.1);
+      counted = sym (ap (λ (ps : List (List ℕ)). length ps) all ∙ all_counted count way.taken);
+      few = few;
       passed = subst (λ (ps : List (List ℕ)). Passes does a ps (moment left' sink stage steps)) (sym all) way.passed;
     }
 
@@ -186,16 +186,16 @@ pub packet_refused : {S F : Type 0} (does : S → List ℕ → S → List ℕ �
     (refuses : S → Option (List ℕ) → F → S → List ℕ → ℕ → Type 0) (a : Moment S)
     (left left' : Option (List ℕ)) (sink sink' : Vessel) (stage stage' : S) (steps steps' count : ℕ) (old new packet : List ℕ) (fault : F)
     → IsUnderWay does a (moment left sink stage steps) count old → GivesPacket left left' old new packet
-    → Grew sink sink' steps steps' (refuses stage (Some packet) fault stage')
+    → Grew sink sink' steps steps' (refuses stage (Some packet) fault stage') → count < most_packets
     → IsRefused does refuses a (moment left' sink' stage' steps') fault
-packet_refused does refuses a left left' sink sink' stage stage' steps steps' count old new packet fault way gives grew =
+packet_refused does refuses a left left' sink sink' stage stage' steps steps' count old new packet fault way gives grew few =
     let here = packet_at count way.taken packet new way.packets gives.long gives.sync in
     let front = front_of count way.taken (packet ++ new) way.packets in
     record {
       bytes = way.taken ++ (packet ++ new);
       count = count;
       read = read_to_packet a.left left left' way.taken old new packet way.read gives;
-      place = record { within = front.1; end = λ e. absurd (omega (arith, e, here.1)) };
+      place = record { within = front.1; few = omega (arith, few); fewer = λ h. few; end = λ e. absurd (omega (arith, e, here.1)) };
       passed =
           subst (λ (p : Option (List ℕ)). Grew a.sink sink' a.steps steps'
           (Refuses does refuses a.stage (take count (packets_of (way.taken ++ (packet ++ new)))) p fault stage')) (sym here.0)
@@ -224,16 +224,21 @@ pub end_refused : {S F : Type 0} (does : S → List ℕ → S → List ℕ → �
     (refuses : S → Option (List ℕ) → F → S → List ℕ → ℕ → Type 0) (a : Moment S)
     (left left' : Option (List ℕ)) (sink sink' : Vessel) (stage stage' : S) (steps steps' count : ℕ) (old new : List ℕ) (fault : F)
     → IsUnderWay does a (moment left sink stage steps) count old → GivesNone left left' old new
-    → Grew sink sink' steps steps' (refuses stage None fault stage')
+    → Grew sink sink' steps steps' (refuses stage None fault stage') → count ≤ most_packets
     → IsRefused does refuses a (moment left' sink' stage' steps') fault
-end_refused does refuses a left left' sink sink' stage stage' steps steps' count old new fault way gives grew =
+end_refused does refuses a left left' sink sink' stage stage' steps steps' count old new fault way gives grew few =
     let all = all_of count way.taken way.packets in
     record {
       bytes = way.taken;
       count = count;
       read = subst (Consumes a.left left') (append-nil way.taken)
           (reads_on a.left left left' way.taken old [] way.read gives.read);
-      place = record { within = omega (arith, all.2); end = λ e. (gives.end, none_broken count way.taken way.packets) };
+      place = record {
+        within = omega (arith, all.2);
+        few = few;
+        fewer = λ h. absurd (omega (arith, h, all.2));
+        end = λ e. (gives.end, none_broken count way.taken way.packets, way.packets.long);
+      };
       passed =
           subst (λ (p : Option (List ℕ)). Grew a.sink sink' a.steps steps'
           (Refuses does refuses a.stage (take count (packets_of way.taken)) p fault stage')) (sym all.1)
@@ -250,16 +255,16 @@ pub packet_cut : {S F : Type 0} (does : S → List ℕ → S → List ℕ → �
     (refuses : S → Option (List ℕ) → F → S → List ℕ → ℕ → Type 0) (a : Moment S)
     (left left' : Option (List ℕ)) (sink sink' : Vessel) (stage stage' : S) (steps steps' count : ℕ) (old new packet : List ℕ)
     → IsUnderWay does a (moment left sink stage steps) count old → GivesPacket left left' old new packet
-    → CutShort sink sink' (IsAllowed (does stage packet) (refuses stage (Some packet)))
+    → CutShort sink sink' (IsAllowed (does stage packet) (refuses stage (Some packet))) → count < most_packets
     → IsCutOff does ends refuses a (moment left' sink' stage' steps')
-packet_cut does ends refuses a left left' sink sink' stage stage' steps steps' count old new packet way gives cut =
+packet_cut does ends refuses a left left' sink sink' stage stage' steps steps' count old new packet way gives cut few =
     let here = packet_at count way.taken packet new way.packets gives.long gives.sync in
     let front = front_of count way.taken (packet ++ new) way.packets in
     record {
       bytes = way.taken ++ (packet ++ new);
       count = count;
       read = read_to_packet a.left left left' way.taken old new packet way.read gives;
-      place = record { within = front.1; end = λ e. absurd (omega (arith, e, here.1)) };
+      place = record { within = front.1; few = omega (arith, few); fewer = λ h. few; end = λ e. absurd (omega (arith, e, here.1)) };
       mid = moment left sink stage steps;
       passed = subst (λ (ps : List (List ℕ)). Passes does a ps (moment left sink stage steps)) (sym front.0) way.passed;
       cut = subst (λ (p : Option (List ℕ)). CutShort sink sink' (IsAllowedAt does ends refuses stage p)) (sym here.0) cut;
@@ -270,16 +275,21 @@ pub end_cut : {S F : Type 0} (does : S → List ℕ → S → List ℕ → ℕ �
     (refuses : S → Option (List ℕ) → F → S → List ℕ → ℕ → Type 0) (a : Moment S)
     (left left' : Option (List ℕ)) (sink sink' : Vessel) (stage stage' : S) (steps steps' count : ℕ) (old new : List ℕ)
     → IsUnderWay does a (moment left sink stage steps) count old → GivesNone left left' old new
-    → CutShort sink sink' (IsAllowed (ends stage) (refuses stage None))
+    → CutShort sink sink' (IsAllowed (ends stage) (refuses stage None)) → count ≤ most_packets
     → IsCutOff does ends refuses a (moment left' sink' stage' steps')
-end_cut does ends refuses a left left' sink sink' stage stage' steps steps' count old new way gives cut =
+end_cut does ends refuses a left left' sink sink' stage stage' steps steps' count old new way gives cut few =
     let all = all_of count way.taken way.packets in
     record {
       bytes = way.taken;
       count = count;
       read = subst (Consumes a.left left') (append-nil way.taken)
           (reads_on a.left left left' way.taken old [] way.read gives.read);
-      place = record { within = omega (arith, all.2); end = λ e. (gives.end, none_broken count way.taken way.packets) };
+      place = record {
+        within = omega (arith, all.2);
+        few = few;
+        fewer = λ h. absurd (omega (arith, h, all.2));
+        end = λ e. (gives.end, none_broken count way.taken way.packets, way.packets.long);
+      };
       mid = moment left sink stage steps;
       passed = subst (λ (ps : List (List ℕ)). Passes does a ps (moment left sink stage steps)) (sym all.0) way.passed;
       cut = subst (λ (p : Option (List ℕ)). CutShort sink sink' (IsAllowedAt does ends refuses stage p)) (sym all.1) cut;
@@ -326,13 +336,14 @@ pub packet_stopped : {S F : Type 0} (does : S → List ℕ → S → List ℕ �
     (result : Result (Unit {0}) (StageFault F)) (fault : StageFault F)
     → IsUnderWay does a (moment left sink stage steps) count old → GivesPacket left left' old new packet → result ≡ Err fault
     → ((f : F) → result ≡ Err (StageRefused f) → Grew sink sink' steps steps' (refuses stage (Some packet) f stage'))
-    → (result ≡ Err Write → CutShort sink sink' (IsAllowed (does stage packet) (refuses stage (Some packet))))
+    → (result ≡ Err Write → CutShort sink sink' (IsAllowed (does stage packet) (refuses stage (Some packet)))) → count < most_packets
     → Drives does ends refuses a (moment left' sink' stage' steps') (Err (stopped_by fault))
 packet_stopped does ends refuses a left left' sink sink' stage stage' steps steps' count old new packet result Write way gives is
-    refused cut = packet_cut does ends refuses a left left' sink sink' stage stage' steps steps' count old new packet way gives (cut is)
+    refused cut few =
+    packet_cut does ends refuses a left left' sink sink' stage stage' steps steps' count old new packet way gives (cut is) few
 packet_stopped does ends refuses a left left' sink sink' stage stage' steps steps' count old new packet result (StageRefused f) way
-    gives is refused cut =
-    packet_refused does refuses a left left' sink sink' stage stage' steps steps' count old new packet f way gives (refused f is)
+    gives is refused cut few =
+    packet_refused does refuses a left left' sink sink' stage stage' steps steps' count old new packet f way gives (refused f is) few
 
 -- the stage took the end, or stopped there
 pub all_closed : {S F : Type 0} (does : S → List ℕ → S → List ℕ → ℕ → Type 0) (ends : S → S → List ℕ → ℕ → Type 0)
@@ -340,32 +351,32 @@ pub all_closed : {S F : Type 0} (does : S → List ℕ → S → List ℕ → �
     (left left' : Option (List ℕ)) (sink sink' : Vessel) (stage stage' : S) (steps steps' count : ℕ) (old new : List ℕ)
     (result : Result ℕ (DriveFault F))
     → IsUnderWay does a (moment left sink stage steps) count old → GivesNone left left' old new
-    → IsClosed ends refuses sink sink' stage stage' steps steps' count result
+    → IsClosed ends refuses sink sink' stage stage' steps steps' count result → count ≤ most_packets
     → Drives does ends refuses a (moment left' sink' stage' steps') result
-all_closed does ends refuses a left left' sink sink' stage stage' steps steps' count old new (Ok n) way gives closed =
+all_closed does ends refuses a left left' sink sink' stage stage' steps steps' count old new (Ok n) way gives closed few =
     subst (λ (k : ℕ). IsWhole does ends a (moment left' sink' stage' steps') k) (sym closed.0)
-    (all_driven does ends a left left' sink sink' stage stage' steps steps' count old new way gives closed.1)
-all_closed does ends refuses a left left' sink sink' stage stage' steps steps' count old new (Err (Broken found)) way gives closed =
+    (all_driven does ends a left left' sink sink' stage stage' steps steps' count old new way gives closed.1 few)
+all_closed does ends refuses a left left' sink sink' stage stage' steps steps' count old new (Err (Broken found)) way gives closed few =
     absurd closed
-all_closed does ends refuses a left left' sink sink' stage stage' steps steps' count old new (Err TooLong) way gives closed =
+all_closed does ends refuses a left left' sink sink' stage stage' steps steps' count old new (Err TooLong) way gives closed few =
     absurd closed
-all_closed does ends refuses a left left' sink sink' stage stage' steps steps' count old new (Err ReadFault) way gives closed =
+all_closed does ends refuses a left left' sink sink' stage stage' steps steps' count old new (Err ReadFault) way gives closed few =
     absurd closed
-all_closed does ends refuses a left left' sink sink' stage stage' steps steps' count old new (Err WriteFault) way gives closed =
-    end_cut does ends refuses a left left' sink sink' stage stage' steps steps' count old new way gives closed
-all_closed does ends refuses a left left' sink sink' stage stage' steps steps' count old new (Err (Refused fault)) way gives closed =
-    end_refused does refuses a left left' sink sink' stage stage' steps steps' count old new fault way gives closed
+all_closed does ends refuses a left left' sink sink' stage stage' steps steps' count old new (Err WriteFault) way gives closed few =
+    end_cut does ends refuses a left left' sink sink' stage stage' steps steps' count old new way gives closed few
+all_closed does ends refuses a left left' sink sink' stage stage' steps steps' count old new (Err (Refused fault)) way gives closed few =
+    end_refused does refuses a left left' sink sink' stage stage' steps steps' count old new fault way gives closed few
 
 -- no packet came
 pub not_fed : {S F : Type 0} (does : S → List ℕ → S → List ℕ → ℕ → Type 0) (ends : S → S → List ℕ → ℕ → Type 0)
     (refuses : S → Option (List ℕ) → F → S → List ℕ → ℕ → Type 0) (a : Moment S)
     (left left' : Option (List ℕ)) (sink : Vessel) (stage : S) (steps count : ℕ) (old : List ℕ) (fault : FeedFault)
-    → IsUnderWay does a (moment left sink stage steps) count old → Stops left left' old fault
+    → IsUnderWay does a (moment left sink stage steps) count old → Stops left left' old fault → count < most_packets
     → Drives does ends refuses a (moment left' sink stage steps) (Err (broken_by count fault))
-not_fed does ends refuses a left left' sink stage steps count old Read way stops =
-    read_failed does a left left' sink stage steps count old way stops
-not_fed does ends refuses a left left' sink stage steps count old (Break cause) way stops =
-    stream_broken does a left left' sink stage steps count old cause way stops
+not_fed does ends refuses a left left' sink stage steps count old Read way stops few =
+    read_failed does a left left' sink stage steps count old way stops (omega (arith, few))
+not_fed does ends refuses a left left' sink stage steps count old (Break cause) way stops few =
+    stream_broken does a left left' sink stage steps count old cause way stops few
 
 -- nor the end, after the most packets
 pub not_ended : {S F : Type 0} (does : S → List ℕ → S → List ℕ → ℕ → Type 0) (ends : S → S → List ℕ → ℕ → Type 0)
@@ -374,7 +385,7 @@ pub not_ended : {S F : Type 0} (does : S → List ℕ → S → List ℕ → ℕ
     → IsUnderWay does a (moment left sink stage steps) most_packets old → Stops left left' old fault
     → Drives does ends refuses a (moment left' sink stage steps) (Err (overrun_by fault))
 not_ended does ends refuses a left left' sink stage steps old Read way stops =
-    read_failed does a left left' sink stage steps most_packets old way stops
+    read_failed does a left left' sink stage steps most_packets old way stops (omega arith)
 not_ended does ends refuses a left left' sink stage steps old (Break cause) way stops =
     break_too_many does a left left' sink stage steps old cause way stops
 

@@ -3,3 +3,5 @@ pub mod Feeding
 pub mod Fronts
 pub mod Chains
 pub mod Driving
+pub mod Longer
+pub mod Taken

@@ -1,12 +1,11 @@
--- One step over a stream, by what stands in front.
-use Rattle.std.proofs.Common.{ℕ, zero, suc, ◌+◌, ◌-◌, ◌*◌, ◌/◌, ◌%◌, ◌<◌, ◌≤◌, ◌≡◌, ◌≢◌, false, ◌==◌, List, [], ◌∷◌, length, take, drop, length-drop, cond, refl, sym, ap, ◌∙◌, arith, inl, inr}
+-- What the packets and the break of a stream are, by what stands in front.
+use Rattle.std.proofs.Common.{ℕ, zero, suc, ◌+◌, ◌*◌, ◌/◌, ◌%◌, ◌<◌, ◌≤◌, ◌≡◌, ◌≢◌, false, ◌==◌, List, [], ◌∷◌, length, take, drop, length-drop, cond, refl, sym, ap, ◌∙◌, arith, inl, inr}
 use Rattle.std.specs.Prelude.{nat_lt, slice_index, if◌then◌else◌, Option, Some, None}
 use Rattle.std.specs.List.{take_while}
-use Rattle.std.proofs.lemmas.Bool.{eq-eqb, ne_eqb, eqb-false, lt-ltb, le-ltb, cond-true, cond-false, cases_lt, cases_eq}
-use Rattle.std.proofs.lemmas.List.{get_or-take, get_or-drop, drop-drop, take_rest, nil_from_length}
+use Rattle.std.proofs.lemmas.Bool.{eq-eqb, ne_eqb, lt-ltb, le-ltb, cond-true, cond-false, cases_lt}
+use Rattle.std.proofs.lemmas.List.{get_or-take, get_or-drop, nil_from_length}
 use Rattle.std.proofs.lemmas.List.Sums.{take_while-cons}
 use Rattle.sd_engine.specs.Stream.{pieces, is_packet, packets_of, break_after, break_of, ArePackets, torn, no_sync}
-use Rattle.sd_engine.specs.Walk.{Walk, TakesOne, IsAtBreak}
 use Rattle.sd_engine.specs.declared.fault.StreamBreak.{StreamBreak}
 
 -- why bytes break, by how many packets and whole packets' bytes there are, and how many bytes are left over
@@ -19,7 +18,7 @@ unfolding break_after
 break_is k bytes = refl
 
 -- no whole packet's bytes are there
-no_piece : (bytes : List ℕ) → length bytes < 188 → packets_of bytes ≡ []
+pub no_piece : (bytes : List ℕ) → length bytes < 188 → packets_of bytes ≡ []
 unfolding packets_of pieces
 no_piece bytes h = let none : length bytes / 188 ≡ 0 = omega arith in ap (λ (n : ℕ). take_while is_packet (pieces n bytes)) none
 
@@ -54,41 +53,32 @@ unfolding break_after packets_of pieces
 none_at_end k = refl
 
 -- fewer bytes than a packet has
-pub torn_here : (w : Walk) (rest : List ℕ) (number : ℕ) → rest ≡ w.rest → number ≡ w.taken → 0 < length rest → length rest < 188 →
-    IsAtBreak w w (torn number)
-torn_here w rest number is numbered some few =
+pub torn_here : (rest : List ℕ) (number : ℕ) → 0 < length rest → length rest < 188 →
+    (packets_of rest ≡ []) × (break_after number rest ≡ Some (torn number))
+torn_here rest number some few =
     let none : packets_of rest ≡ [] = no_piece rest few in
-    let whole : length rest / 188 ≡ 0 = omega arith in
-    let left : (length rest % 188 == 0) ≡ false = ne_eqb (length rest % 188) 0 (λ e. omega arith) in
-    let here : break_after number rest ≡ Some (torn number) =
-    break_is number rest
-    ∙ ap (λ (p : List (List ℕ)). break_by number (length p) (length rest / 188) (length rest % 188)) none
-    ∙ ap (λ (n : ℕ). break_by number 0 n (length rest % 188)) whole
-    ∙ cond-false (length rest % 188 == 0) _ _ left
-    ∙ ap (λ (n : ℕ). Some (torn n)) (omega arith) in
-    record {
-      none = ap packets_of (sym is) ∙ none;
-      break = ap (λ (k : ℕ). break_after k w.rest) (sym numbered) ∙ ap (break_after number) (sym is) ∙ here;
-      unchanged = refl;
-    }
+    let whole : length rest / 188 ≡ 0 = omega (arith, few) in
+    let left : (length rest % 188 == 0) ≡ false = ne_eqb (length rest % 188) 0 (λ e. omega (arith, e, some, few)) in (
+      none,
+      break_is number rest
+          ∙ ap (λ (p : List (List ℕ)). break_by number (length p) (length rest / 188) (length rest % 188)) none
+          ∙ ap (λ (n : ℕ). break_by number 0 n (length rest % 188)) whole
+          ∙ cond-false (length rest % 188 == 0) _ _ left
+          ∙ ap (λ (n : ℕ). Some (torn n)) (omega arith),
+    )
 
 -- bytes of a packet that don't begin with the sync byte
-pub no_sync_here : (w : Walk) (rest piece : List ℕ) (number : ℕ) → rest ≡ w.rest → number ≡ w.taken → 188 ≤ length rest →
-    piece ≡ take 188 rest → slice_index piece 0 ≢ 0x47 → IsAtBreak w w (no_sync number)
-no_sync_here w rest piece number is numbered long front apart =
-    let same : slice_index piece 0 ≡ slice_index rest 0 = ap (λ (p : List ℕ). slice_index p 0) front ∙ get_or-take 188 rest 0 0 (omega arith) in
-    let other : (slice_index rest 0 == 0x47) ≡ false = ne_eqb (slice_index rest 0) 0x47 (λ e. apart (same ∙ e)) in
-    let none : packets_of rest ≡ [] = one_piece rest long ∙ cond-false (slice_index rest 0 == 0x47) _ _ other in
-    let here : break_after number rest ≡ Some (no_sync number) =
-    break_is number rest
-    ∙ ap (λ (p : List (List ℕ)). break_by number (length p) (length rest / 188) (length rest % 188)) none
-    ∙ cond-true (nat_lt 0 (length rest / 188)) _ _ (lt-ltb 0 (length rest / 188) (omega arith))
-    ∙ ap (λ (n : ℕ). Some (no_sync n)) (omega arith) in
-    record {
-      none = ap packets_of (sym is) ∙ none;
-      break = ap (λ (k : ℕ). break_after k w.rest) (sym numbered) ∙ ap (break_after number) (sym is) ∙ here;
-      unchanged = refl;
-    }
+pub no_sync_here : (rest : List ℕ) (number : ℕ) → 188 ≤ length rest → slice_index rest 0 ≢ 0x47 →
+    (packets_of rest ≡ []) × (break_after number rest ≡ Some (no_sync number))
+no_sync_here rest number long apart =
+    let other : (slice_index rest 0 == 0x47) ≡ false = ne_eqb (slice_index rest 0) 0x47 apart in
+    let none : packets_of rest ≡ [] = one_piece rest long ∙ cond-false (slice_index rest 0 == 0x47) _ _ other in (
+      none,
+      break_is number rest
+          ∙ ap (λ (p : List (List ℕ)). break_by number (length p) (length rest / 188) (length rest % 188)) none
+          ∙ cond-true (nat_lt 0 (length rest / 188)) _ _ (lt-ltb 0 (length rest / 188) (omega (arith, long)))
+          ∙ ap (λ (n : ℕ). Some (no_sync n)) (omega arith),
+    )
 
 -- the packets and the break, where a packet stands in front
 pub packets_more : (bytes : List ℕ) → 188 ≤ length bytes → slice_index bytes 0 ≡ 0x47 → packets_of bytes ≡ take 188 bytes ∷ packets_of (drop 188 bytes)
@@ -106,31 +96,6 @@ break_after_more k bytes long sync =
     ∙ ap (λ (n : ℕ). break_by k (suc (length (packets_of after))) (suc (length after / 188)) n) left
     ∙ break_more k (length (packets_of after)) (length after / 188) (length after % 188)
     ∙ sym (break_is (k + 1) after)
-
--- it is the sync byte where it isn't another
-sync_byte : (byte : ℕ) → (byte ≢ 0x47 → ⊥) → byte ≡ 0x47
-sync_byte byte sure = elim (cases_eq byte 0x47) [ inl is ↦ is | inr isnt ↦ absurd (sure isnt) ]
-
--- a packet
-pub packet_here : (w v : Walk) (rest piece packet : List ℕ) → rest ≡ w.rest → piece ≡ take 188 rest → packet ≡ piece → 188 ≤ length rest →
-    (slice_index piece 0 ≢ 0x47 → ⊥) → v.rest ≡ drop 188 w.rest → v.taken ≡ w.taken + 1 → TakesOne w v packet
-packet_here w v rest piece packet is cut made long sync after counted =
-    let front : packet ≡ take 188 rest = made ∙ cut in
-    let room : 188 ≤ length w.rest = omega (arith, ap length is) in
-    let same : slice_index piece 0 ≡ slice_index w.rest 0 =
-    ap (λ (p : List ℕ). slice_index p 0) (cut ∙ ap (take 188) is) ∙ get_or-take 188 w.rest 0 0 (omega arith) in
-    let begins : slice_index w.rest 0 ≡ 0x47 = sym same ∙ sync_byte (slice_index piece 0) sync in
-    record {
-      first =
-          packets_more w.rest room begins
-          ∙ ap (λ (p : List ℕ). p ∷ packets_of (drop 188 w.rest)) (sym (front ∙ ap (take 188) is))
-          ∙ ap (λ (r : List ℕ). packet ∷ packets_of r) (sym after);
-      counted = counted;
-      same_break =
-          break_after_more w.taken w.rest room begins
-          ∙ ap (λ (k : ℕ). break_after k (drop 188 w.rest)) (sym counted)
-          ∙ ap (break_after v.taken) (sym after);
-    }
 
 -- after the first of some packets stand the others
 pub others : (n : ℕ) (bytes : List ℕ) → ArePackets (suc n) bytes → ArePackets n (drop 188 bytes)
@@ -162,22 +127,3 @@ pub all_counted : (n : ℕ) (bytes : List ℕ) → length (pieces n bytes) ≡ n
 unfolding pieces
 all_counted zero bytes = refl
 all_counted (suc n) bytes = ap suc (all_counted n (drop 188 bytes))
-
--- bytes that aren't none are some
-pub some_left : (n : ℕ) → false ≡ (n == 0) → 0 < n
-some_left n h = elim (cases_lt 0 n) [ inl some ↦ some | inr none ↦ absurd (eqb-false n 0 (sym h) (omega arith)) ]
-
--- the bytes from a place on are those to come
-pub rest_is : (w : Walk) (bytes : List ℕ) (at : ℕ) → record { rest = drop at bytes; taken = at / 188 } ≡ w →
-    take (length bytes - at) (drop at bytes) ≡ w.rest
-rest_is w bytes at is = take_rest bytes at ∙ ap (λ (v : Walk). v.rest) is
-
--- those after the next packet
-pub after_is : (w : Walk) (bytes : List ℕ) (at : ℕ) → record { rest = drop at bytes; taken = at / 188 } ≡ w →
-    drop (at + 188) bytes ≡ drop 188 w.rest
-after_is w bytes at is = sym (drop-drop 188 at bytes) ∙ ap (λ (v : Walk). drop 188 v.rest) is
-
--- and the count of those that were taken
-pub counted_is : (w : Walk) (bytes : List ℕ) (at : ℕ) → record { rest = drop at bytes; taken = at / 188 } ≡ w →
-    (at + 188) / 188 ≡ w.taken + 1
-counted_is w bytes at is = let was : at / 188 ≡ w.taken = ap (λ (v : Walk). v.taken) is in omega arith

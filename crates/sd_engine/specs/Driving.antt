@@ -13,6 +13,10 @@ use Rattle.sd_engine.specs.declared.stage.StageFault.TheVariants.{Write, Refused
 use Rattle.sd_engine.specs.declared.driver.DriveFault.{DriveFault}
 use Rattle.sd_engine.specs.declared.driver.DriveFault.TheVariants.{Broken, TooLong, ReadFault, WriteFault, Refused}
 
+-- the most packets of a stream
+abbrev pub most_packets : ℕ
+most_packets = 2 ^ 48
+
 -- one moment of a drive: what is left of the source, the sink, the stage, and the steps that were counted
 pub record Moment (S : Type 0) : Type 0 where
   pub left : Option (List ℕ)
@@ -50,6 +54,8 @@ pub record IsWhole {S : Type 0} (does : S → List ℕ → S → List ℕ → �
   pub end : IsAtEnd b.left
   pub unbroken : break_of bytes ≡ None
   pub counted : count ≡ length (packets_of bytes)
+  pub few : count ≤ most_packets
+  pub long : length bytes ≡ 188 * count
   pub passed : Grew a.sink b.sink a.steps b.steps (Closes does ends a.stage (packets_of bytes) b.stage)
 
 -- the bytes that were read break, and the packets before the break went through
@@ -59,6 +65,8 @@ pub record IsStreamBroken {S : Type 0} (does : S → List ℕ → S → List ℕ
   pub read : Consumes a.left b.left bytes
   pub end : found.cause ≡ Torn → IsAtEnd b.left
   pub broken : break_of bytes ≡ Some found
+  pub counted : found.packet ≡ length (packets_of bytes)
+  pub few : found.packet < most_packets
   pub passed : Passes does a (packets_of bytes) b
 
 -- some first packets of the bytes that were read went through
@@ -67,11 +75,8 @@ pub record IsStopped {S : Type 0} (does : S → List ℕ → S → List ℕ → 
   pub bytes : List ℕ
   pub read : Consumes a.left b.left bytes
   pub enough : count ≤ length (packets_of bytes)
+  pub few : count ≤ most_packets
   pub passed : Passes does a (take count (packets_of bytes)) b
-
--- the most packets of a stream
-abbrev pub most_packets : ℕ
-most_packets = 2 ^ 48
 
 -- the most packets of a stream went through, and a byte more was read
 pub record IsTooLong {S : Type 0} (does : S → List ℕ → S → List ℕ → ℕ → Type 0) (a b : Moment S) : Type 0 where
@@ -84,7 +89,10 @@ pub record IsTooLong {S : Type 0} (does : S → List ℕ → S → List ℕ → 
 -- the place of a packet in the bytes that were read, or their end where they have no more packets
 pub record IsPlace (left : Option (List ℕ)) (bytes : List ℕ) (count : ℕ) : Type 0 where
   pub within : count ≤ length (packets_of bytes)
-  pub end : count ≡ length (packets_of bytes) → IsAtEnd left × (break_of bytes ≡ None)
+  pub few : count ≤ most_packets
+  -- a packet is offered only where fewer than the most went through
+  pub fewer : count < length (packets_of bytes) → count < most_packets
+  pub end : count ≡ length (packets_of bytes) → IsAtEnd left × (break_of bytes ≡ None) × (length bytes ≡ 188 * count)
 
 -- packets, and then a refusal, of a packet or of the end
 abbrev pub Refuses : {S F : Type 0} → (S → List ℕ → S → List ℕ → ℕ → Type 0)

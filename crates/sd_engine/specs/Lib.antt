@@ -2,4 +2,4 @@ pub mod Stream
 pub mod Stage
 pub mod Feeding
 pub mod Driving
-pub mod Walk
+pub mod Taken

@@ -5,12 +5,8 @@ mod driver;
 mod fault;
 mod feed;
 pub mod laws;
-mod packets;
 mod stage;
-#[cfg(test)]
-mod tests;
 
 pub use driver::{DriveFault, MOST_PACKETS, drive};
 pub use fault::{BreakCause, StreamBreak};
-pub use packets::Packets;
 pub use stage::{Stage, StageFault};

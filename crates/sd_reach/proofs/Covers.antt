@@ -20,50 +20,13 @@ use Rattle.sd_book.proofs.Revocations.{below}
 use Rattle.sd_label.specs.Names.{given}
 use Rattle.sd_steiner.specs.Chains.{IsChainCover, AreLinked, EndsChain, last_of}
 use Rattle.sd_steiner.proofs.Covers.{cover_partition}
+use Rattle.sd_steiner.proofs.Heights.{of_height}
 use Rattle.sd_steiner.proofs.Partitions.{among_unrevoked}
 use Rattle.sd_steiner.proofs.Ends.{AreLeaves, within_tree, linked_start, linked_end, chain_leads}
 use Rattle.sd_steiner.proofs.Lists.{counted_some, found_member, member_cases, no_member}
 use Rattle.sd_reach.specs.Reach.{IsReached, Named, Key, ReachesNoneOf, source_of}
 use Rattle.sd_reach.proofs.Reached.{reached_by_one}
 use Rattle.sd_reach.proofs.Own.{reaches_its_sets}
-
--- the first node of a chain is above the last
-linked_above : (d : ℕ) (leaves nodes : List ℕ) (v : ℕ) → AreLinked d leaves (v ∷ nodes) → IsAbove v (last_of v nodes)
-linked_above d leaves [] v l = above_self v
-linked_above d leaves (w ∷ nodes) v l = above_trans v w (last_of w nodes) (1, l.2) (linked_above d leaves nodes w l.3)
-
--- the first and the last node of a chain make a set of the tree
-ends_are_pair : (d : ℕ) (leaves : List ℕ) (i j : ℕ) → AreLeaves d leaves → EndsChain d leaves i j → IsPair d i j
-ends_are_pair d leaves i j all chain =
-    let start = linked_start d leaves chain.nodes i chain.linked in
-    let end = linked_end d leaves chain.nodes i chain.linked in
-    let above : IsAbove i j = subst (IsAbove i) chain.last (linked_above d leaves chain.nodes i chain.linked) in
-    let apart = (chain_leads d leaves i j chain).1 in
-    let within : j < 2 * 2 ^ d =
-    subst (λ (v : ℕ). v < 2 * 2 ^ d) chain.last (within_tree d leaves (last_of i chain.nodes) all end.0) in
-    let half = above_le i (j / 2) (above_parent i j (above, apart)) in
-    record {
-      inner = (start.0, omega arith);
-      node = omega (arith, doubled d);
-      above = (above, apart);
-    }
-
--- the whole set alone has no other set
-only_whole : (name : SetName) → Contains (WholeSet ∷ []) name → WholeSet ≡ name
-only_whole name m = elim (member_cases WholeSet [] name m) [
-  | inl same ↦ same
-  | inr none ↦ absurd (no_member name none)
-]
-
--- each set of a chain cover is of the tree's height
-pub of_height : (d : ℕ) (leaves : List ℕ) (sets : List SetName) → AreLeaves d leaves → IsChainCover d leaves sets
-    → (name : SetName) → Contains sets name → IsOfHeight d name
-of_height d [] sets all cover name m =
-    subst (IsOfHeight d)
-    (only_whole name (subst (λ (names : List SetName). Contains names name) (cover.none_revoked refl) m)) tt
-of_height d (u ∷ us) sets all cover WholeSet m = tt
-of_height d (u ∷ us) sets all cover (Diff i j) m =
-    ends_are_pair d (u ∷ us) i j all ((cover.chains (λ e. absurd (cc)) (Diff i j)).0 m)
 
 -- a number in a list is found by the test
 is_found : (leaves : List ℕ) (u : ℕ) → Contains leaves u → list_any (nat_eq u) leaves ≡ true

@@ -12,16 +12,21 @@ use Rattle.sd_text.specs.Lines.{lines_of}
 use Rattle.sd_status.specs.declared.status.Status.{Status}
 use Rattle.sd_status.specs.declared.status.Status.TheVariants.{Done, Limit, BadWord}
 use Rattle.sd_status.specs.declared.status.LimitKind.{LimitKind}
-use Rattle.sd_status.specs.declared.status.LimitKind.TheVariants.{SiteBytes, BookBytes, StreamBytes}
-use Rattle.sd_status.specs.Meant.{Meant, Word, Given, after, judged, value, within, ◌>>=◌}
-use Rattle.sd_status.specs.Work.{Work}
-use Rattle.sd_run.specs.declared.files.TheConstants.{MOST_SITE_BYTES, MOST_BOOK_BYTES, MOST_STREAM_BYTES}
-use Rattle.sd_run.specs.Words.{Order, order_of, CoverOf, CardOf, SampleOf, TablesOf}
+use Rattle.sd_status.specs.declared.status.LimitKind.TheVariants.{SiteBytes, BookBytes}
+use Rattle.sd_status.specs.Meant.{Meant, Word, Given, after, all_of, judged, value, within, ◌>>=◌}
+use Rattle.sd_status.specs.Work.{Uncounted, NoSteps, Work}
+use Rattle.sd_run.specs.declared.files.TheConstants.{MOST_SITE_BYTES, MOST_BOOK_BYTES}
+use Rattle.sd_run.specs.Words.{Order, order_of, CoverOf, CardOf, SampleOf, TablesOf, HeadOf}
 use Rattle.sd_run.specs.Files.{told_site, told_book, site_of_file, book_of_file, site_in, book_in, IsGoodSite, IsGoodBook}
 use Rattle.sd_run.specs.Cover.{covering, cover_meaning, IsGoodCover}
 use Rattle.sd_run.specs.Card.{making, told_card, IsGoodCard}
 use Rattle.sd_run.specs.Sample.{IsGoodSample}
 use Rattle.sd_run.specs.Tables.{inspecting, tables_meaning, stream_status, IsGoodTables}
+use Rattle.std.specs.List.{concat}
+use Rattle.sd_engine.specs.Taken.{Whole, taken_of}
+use Rattle.sd_broadcast.specs.Sent.{broadcast}
+use Rattle.sd_run.specs.Head.{plan_by, plan_meaning, plan_told, sending, sending_of, sent_of, sent_status, head_meaning, IsGoodHead}
+use Rattle.sd_run.proofs.Sending.{sent_unrefused}
 use Rattle.sd_run.specs.Meaning.{order_meaning, meaning}
 
 then_is : {A B : Type 0} (first : Meant A) (x : A) (next : A → Meant B) → first.result ≡ Ok x → (first >>= next).result ≡ (next x).result
@@ -60,18 +65,18 @@ cover_good words given good =
     ∙ then_is (book_in given d good.book) good.commands (λ commands. value (covering d commands)) (book_good given d good.book good.commands good.good_book)
 
 pub card_good : (words : List (List ℕ)) (given : Given) (good : IsGoodCard words given) →
-    (meaning words given).result ≡ Ok (making None good.out (card_bytes (card_of good.fields.master good.fields.ca good.fields.height good.leaf.value)))
+    (meaning words given).result ≡ Ok (making Uncounted good.out (card_bytes (card_of good.fields.master good.fields.ca good.fields.height good.leaf.value)))
 card_good words given good =
     let fields = good.fields in
     let bytes = card_bytes (card_of fields.master fields.ca fields.height good.leaf.value) in
     ordered words given (CardOf good.site good.leaf good.out) good.order
-    ∙ then_is (site_in given good.site) fields (λ fields. judged (told_card fields good.leaf) >>= λ bytes. value (making None good.out bytes))
+    ∙ then_is (site_in given good.site) fields (λ fields. judged (told_card fields good.leaf) >>= λ bytes. value (making Uncounted good.out bytes))
     (site_good given good.site fields good.good_site)
-    ∙ then_is (judged (told_card fields good.leaf)) bytes (λ bytes. value (making None good.out bytes))
+    ∙ then_is (judged (told_card fields good.leaf)) bytes (λ bytes. value (making Uncounted good.out bytes))
     (ap (λ b. cond b (Ok bytes) (Err (BadWord good.leaf.word))) (lt-ltb good.leaf.value (2 ^ fields.height) good.of_tree))
 
 pub sample_good : (words : List (List ℕ)) (given : Given) (good : IsGoodSample words) →
-    (meaning words given).result ≡ Ok (making (Some 0) good.out (sample_of good.number good.packets))
+    (meaning words given).result ≡ Ok (making NoSteps good.out (sample_of good.number good.packets))
 sample_good words given good = ordered words given (SampleOf good.number good.packets good.out) good.order
 
 pub tables_good : (words : List (List ℕ)) (given : Given) (good : IsGoodTables words given) →
@@ -79,8 +84,33 @@ pub tables_good : (words : List (List ℕ)) (given : Given) (good : IsGoodTables
 unfolding tables_meaning
 tables_good words given good = (
   ordered words given (TablesOf good.stream) good.order
-      ∙ ap (λ (got : Option (List ℕ)). (within good.stream.number MOST_STREAM_BYTES StreamBytes got >>= λ bytes. value (inspecting bytes)).result) good.there
-      ∙ then_is (within good.stream.number MOST_STREAM_BYTES StreamBytes (Some good.bytes)) good.bytes (λ bytes. value (inspecting bytes))
-      (file_read good.stream.number MOST_STREAM_BYTES StreamBytes good.bytes good.short),
-  ap stream_status good.unbroken,
+      ∙ ap (λ (got : Option (List ℕ)). (all_of good.stream.number got >>= λ bytes. value (inspecting bytes)).result) good.there,
+  ap stream_status good.whole,
 )
+
+plan_good : (given : Given) (site book : Word) (fields : SiteFields) (commands : List Command) → IsGoodSite given site fields →
+    IsGoodBook given fields.height book commands →
+    (plan_meaning site book given).result ≡ Ok (record { site = fields; commands = commands })
+unfolding plan_by
+plan_good given site book fields commands good_site good_book =
+    then_is (site_in given site) fields
+    (λ fields. book_in given fields.height book >>= λ commands. value (record { site = fields; commands = commands }))
+    (site_good given site fields good_site)
+    ∙ then_is (book_in given fields.height book) commands (λ commands. value (record { site = fields; commands = commands }))
+    (book_good given fields.height book commands good_book)
+
+pub head_good : (words : List (List ℕ)) (given : Given) (good : IsGoodHead words given) →
+    ((meaning words given).result ≡ Ok (sending (plan_told good) good.out good.bytes))
+    × (concat (broadcast (plan_told good) (taken_of good.bytes)) ≡ sent_of (plan_told good) good.bytes)
+    × (Done ≡ sent_status (plan_told good) good.bytes)
+unfolding head_meaning
+head_good words given good =
+    let plan = plan_told good in
+    let sent = sent_unrefused plan good.bytes Whole good.is_clear good.whole in (
+      ordered words given (HeadOf good.site good.book good.clear good.out) good.order
+          ∙ then_is (plan_meaning good.site good.book given) plan (sending_of good.clear good.out (given good.clear))
+          (plan_good given good.site good.book good.fields good.commands good.good_site good.good_book)
+          ∙ ap (λ (got : Option (List ℕ)). (sending_of good.clear good.out got plan).result) good.there,
+      sent.0,
+      sent.1,
+    )

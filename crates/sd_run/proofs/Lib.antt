@@ -7,3 +7,11 @@ pub mod Inspected
 pub mod Covers
 pub mod Ordered
 pub mod Goodness
+pub mod Turning
+pub mod Sending
+pub mod Heading
+pub mod Cards
+pub mod Received
+pub mod Streamed
+pub mod Keyed
+pub mod Broadcasts

@@ -3,20 +3,22 @@ use Rattle.std.proofs.Common.{◌≡◌, ◌≢◌, ◌⊎◌, ℕ, zero, suc, �
 use Rattle.std.specs.Prelude.{IsSome, IfSome, nat_lt}
 use Rattle.std.specs.FinMap.{get}
 use Rattle.sd_cause.specs.Count.{Rose, with_added}
-use Rattle.sd_ports.specs.Files.{Files, IsFile, IsLongFile, IsNotThere, IsThere}
+use Rattle.sd_ports.specs.Files.{Files, Opens, IsFile, IsLongFile, IsNotThere, IsThere}
 use Rattle.sd_status.specs.declared.status.Status.{Status}
 use Rattle.sd_status.specs.declared.status.Status.TheVariants.{Missing, Limit, DepotFault, NoMemory}
 use Rattle.sd_status.specs.declared.status.LimitKind.{LimitKind}
 use Rattle.sd_status.specs.Outside.{Place, called}
-use Rattle.sd_status.specs.Meant.{within, IsGot}
+use Rattle.sd_status.specs.Meant.{within, all_of, IsGot}
 use Rattle.sd_status.specs.Comes.{HasMiss}
+use Rattle.sd_status.proofs.Givens.{some_got as any_got}
+use Rattle.sd_engine.specs.Taken.{IsLeft}
 use Rattle.sd_status.specs.Reads.{IsAsked, IsRefused, IsStopped, Looks}
 
 file_got : (files : Option Files) (name bytes : List ℕ) → IsFile files name bytes → IsGot files name (Some bytes)
 file_got None name bytes h = tt
 file_got (Some m) name bytes h = sym h
 
-none_got : (files : Option Files) (name : List ℕ) → IsNotThere files name → IsGot files name None
+pub none_got : (files : Option Files) (name : List ℕ) → IsNotThere files name → IsGot files name None
 none_got None name h = tt
 none_got (Some m) name h = sym h
 
@@ -109,6 +111,56 @@ looks_stopped view word most kind name a b status cause once asked misses =
       gives = inr (record {
         cause = cause;
         asked = record { files = asked.files; made = asked.made; ports = asked.ports; calls = g.calls };
+        misses = misses;
+      });
+    }
+
+-- bytes are seen as they are
+abbrev pub bytes_seen : List ℕ → List ℕ
+bytes_seen bytes = bytes
+
+-- the bytes to come from the port of a file are the file's
+pub opened_got : (files : Option Files) (name : List ℕ) (left : Option (List ℕ)) (bytes : List ℕ) → Opens files name left →
+    IsLeft left bytes → IsGot files name (Some bytes)
+opened_got None name left bytes opens is = tt
+opened_got (Some m) name None bytes opens is = absurd (let h = opens.0 in cc)
+opened_got (Some m) name (Some xs) bytes opens is = sym (opens.1 ∙ ap Some is)
+
+-- there is no such file to be opened
+pub opens_missing : (word : ℕ) (name : List ℕ) (a b : Place) → IsNotThere a.files name → IsAsked 1 a b → b.faults ≡ a.faults →
+    Rose a.misses b.misses → Looks bytes_seen (all_of word) name a b (Err (Missing word))
+opens_missing word name a b none asked calm rose = record {
+  got = None;
+  is_got = none_got a.files name none;
+  gives = inl (record {
+    value = refl;
+    refusal = tt;
+    asked = asked;
+    calm = calm;
+    miss = record { missing = λ w e. rose; there = λ other. absurd (other word refl) };
+  });
+}
+
+pub all_calls : (word : ℕ) (got : Option (List ℕ)) → 1 ≤ (all_of word got).calls
+all_calls word None = omega arith
+all_calls word (Some bytes) = omega arith
+
+-- the outside stopped it before it was opened
+pub opens_stopped : (word : ℕ) (name : List ℕ) (a b : Place) (status : Status) →
+    ((status ≡ NoMemory) × (b.faults ≡ a.faults)) ⊎ ((status ≡ DepotFault) × Rose a.faults b.faults) →
+    IsAsked 1 a b → b.misses ≡ a.misses → Looks bytes_seen (all_of word) name a b (Err status)
+opens_stopped word name a b status cause asked misses =
+    let g = any_got a.files name in record {
+      got = g.0;
+      is_got = g.1;
+      gives = inr (record {
+        cause = cause;
+        asked = record {
+          files = asked.files;
+          made = asked.made;
+          ports = asked.ports;
+          calls = let one = asked.calls in omega (arith, one, all_calls word g.0);
+        };
         misses = misses;
       });
     }

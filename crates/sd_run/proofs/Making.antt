@@ -10,7 +10,7 @@ use Rattle.sd_status.specs.declared.status.Status.{Status}
 use Rattle.sd_status.specs.declared.status.Status.TheVariants.{Done, Missing, DepotFault, NoMemory}
 use Rattle.sd_status.specs.Outside.{Place, Page, Outside, outside, recalled}
 use Rattle.sd_status.specs.Meant.{Meant, Word, value}
-use Rattle.sd_status.specs.Work.{Out, Work}
+use Rattle.sd_status.specs.Work.{StepBound, Uncounted, Out, Work}
 use Rattle.sd_status.specs.Comes.{IsCalm, IsUnmade, IsMade, IsMadeShort, PrintsAll, Stands, untouched, writing, Comes, ended, exhausted, failed, nowhere, Obeys, status_of}
 use Rattle.sd_status.proofs.Steps.{takes_none}
 use Rattle.sd_status.proofs.Moves.{comes_moved}
@@ -21,7 +21,7 @@ use Rattle.sd_run.specs.Shown.{making_told}
 abbrev out_of : Word → List ℕ → Out
 out_of word bytes = record { word = word.number; name = word.text; bytes = bytes }
 
-stands_short : (most : Option ℕ) (word : Word) (bytes : List ℕ) (a b : Place) (page : Page) (steps : ℕ) →
+stands_short : (most : StepBound) (word : Word) (bytes : List ℕ) (a b : Place) (page : Page) (steps : ℕ) →
     IsNoFile a.files b.files a.made b.made ⊎ IsShortFile a.files b.files a.made b.made word.text bytes →
     Stands (Ok (making most word bytes)) (outside a page steps) (outside b page steps)
 stands_short most word bytes a b page steps (inl none) = untouched (record { files = none.0; made = none.1 }) refl
@@ -29,7 +29,7 @@ stands_short most word bytes a b page steps (inr cut) =
     writing (making most word bytes) refl (out_of word bytes) refl
     (record { prefix = cut.0; short = cut.1; files = cut.2.0; made = cut.2.1 }) refl
 
-comes_made : (most : Option ℕ) (word : Word) (bytes : List ℕ) (a b : Place) (page : Page) (steps : ℕ) (written : Result (Unit {0}) FileFault) →
+comes_made : (most : StepBound) (word : Word) (bytes : List ℕ) (a b : Place) (page : Page) (steps : ℕ) (written : Result (Unit {0}) FileFault) →
     WritesFile a.files b.files a.made b.made word.text bytes written → HasFileCause a.faults b.faults a.misses b.misses written →
     Comes (Ok (making most word bytes)) (outside a page steps) (outside b page steps) (status_of (making_told word.number written))
 comes_made most word bytes a b page steps (Ok done) file cause =
@@ -48,7 +48,7 @@ comes_made most word bytes a b page steps (Err file.NoMemory) file cause =
     (record { depot = cause.no_fault (λ e. cc); print = refl }) (cause.no_miss (λ e. cc))
 
 -- a file that is meant to be made was made, or a prefix of it
-pub made_obeys : (most : Option ℕ) (word : Word) (bytes : List ℕ) (a b : Place) (page : Page) (steps : ℕ) (written : Result (Unit {0}) FileFault)
+pub made_obeys : (most : StepBound) (word : Word) (bytes : List ℕ) (a b : Place) (page : Page) (steps : ℕ) (written : Result (Unit {0}) FileFault)
     (result : Result (Unit {0}) Status) → result ≡ making_told word.number written →
     WritesFile a.files b.files a.made b.made word.text bytes written → HasFileCause a.faults b.faults a.misses b.misses written →
     b.opened ≡ a.opened → b.calls ≤ with_added a.calls 2 →
@@ -59,15 +59,15 @@ made_obeys most word bytes a b page steps written result told file cause ports c
       comes = comes_made most word bytes a b page steps written file cause;
       ports = ports;
       calls = omega arith;
-      steps = takes_none (Ok (making most word bytes)) steps;
+      steps = takes_none (Ok (making most word bytes)) (status_of (making_told word.number written)) steps;
     })
 
 -- where no number of steps is said it doesn't matter how many were taken before
 pub any_steps : (word : Word) (bytes : List ℕ) (a : Place) (page : Page) (steps other : ℕ) (b : Outside) (status : Status) →
-    Obeys (value (making None word bytes)) (outside a page steps) b status →
-    Obeys (value (making None word bytes)) (outside a page other) b status
+    Obeys (value (making Uncounted word bytes)) (outside a page steps) b status →
+    Obeys (value (making Uncounted word bytes)) (outside a page other) b status
 any_steps word bytes a page steps other b status h = record {
-  comes = comes_moved (Ok (making None word bytes)) a page a.calls steps other b status h.comes;
+  comes = comes_moved (Ok (making Uncounted word bytes)) a page a.calls steps other b status h.comes;
   ports = h.ports;
   calls = h.calls;
   steps = tt;

@@ -12,20 +12,26 @@ use Rattle.sd_sample.specs.Sample.{sample_of}
 use Rattle.sd_status.specs.declared.status.Status.{Status}
 use Rattle.sd_status.specs.declared.status.Status.TheVariants.{Usage, Missing, Limit, BadWord}
 use Rattle.sd_status.specs.declared.status.LimitKind.{LimitKind}
-use Rattle.sd_status.specs.declared.status.LimitKind.TheVariants.{SiteBytes, BookBytes, StreamBytes}
-use Rattle.sd_run.specs.declared.files.TheConstants.{MOST_SITE_BYTES, MOST_BOOK_BYTES, MOST_STREAM_BYTES}
+use Rattle.sd_status.specs.declared.status.LimitKind.TheVariants.{SiteBytes, BookBytes, CardBytes}
+use Rattle.sd_run.specs.declared.files.TheConstants.{MOST_SITE_BYTES, MOST_BOOK_BYTES}
 use Rattle.sd_card.specs.Fields.{card_of, card_bytes}
 use Rattle.sd_status.specs.Outside.{Outside}
-use Rattle.sd_status.specs.Meant.{Meant, Word, Given, after, judged, value, within, ◌>>=◌}
-use Rattle.sd_status.specs.Work.{Work}
+use Rattle.sd_status.specs.Meant.{Meant, Word, Given, after, all_of, judged, value, within, ◌>>=◌}
+use Rattle.sd_status.specs.Work.{Uncounted, Work}
 use Rattle.sd_status.specs.Comes.{IsRefusal, IsEnding, Comes, refused, Obeys, Follows}
 use Rattle.sd_status.proofs.Steps.{takes_none}
 use Rattle.sd_status.proofs.Givens.{any_given}
-use Rattle.sd_run.specs.Words.{Order, CoverOf, CardOf, SampleOf, TablesOf, Number, order_of}
+use Rattle.sd_run.specs.Words.{Order, CoverOf, CardOf, SampleOf, TablesOf, HeadOf, ReceiveOf, Number, order_of}
 use Rattle.sd_run.specs.Files.{told_site, told_book, site_of_file, book_of_file}
 use Rattle.sd_run.specs.Cover.{covering, cover_meaning}
 use Rattle.sd_run.specs.Card.{making, told_card}
 use Rattle.sd_run.specs.Tables.{inspecting, tables_meaning}
+use Rattle.sd_run.specs.Head.{plan_by, sending, sending_of, head_meaning}
+use Rattle.sd_card.specs.declared.fault.CardFault.{CardFault}
+use Rattle.sd_card.specs.Fields.{CardFields}
+use Rattle.sd_card.specs.Faults.{fault_in}
+use Rattle.sd_run.specs.declared.receive.TheConstants.{MOST_CARD_BYTES}
+use Rattle.sd_run.specs.Receive.{card_said, card_unless, told_card as told_receiver, card_of_file, receiving, stream_meaning, receive_meaning}
 use Rattle.sd_run.specs.Meaning.{order_meaning, meaning}
 use Rattle.sd_run.specs.Shown.{RefusesWords}
 
@@ -91,6 +97,10 @@ other_file : (word most : ℕ) (kind : LimitKind) (got : Option (List ℕ)) → 
 other_file word most kind None = λ e. cc
 other_file word most kind (Some bytes) = other_limit (nat_lt most (length bytes)) (Limit kind) bytes (λ e. cc)
 
+other_stream : (word : ℕ) (got : Option (List ℕ)) → IsOther (all_of word got).result
+other_stream word None = λ e. cc
+other_stream word (Some bytes) = tt
+
 other_site : (r : Result SiteFields SiteFault) → IsOther (told_site r)
 other_site (Ok site) = tt
 other_site (Err fault) = λ e. cc
@@ -123,8 +133,31 @@ other_card : (fields : SiteFields) (leaf : Number) → IsOther (told_card fields
 other_card fields leaf =
     other_leaf (nat_lt leaf.value (2 ^ fields.height)) (card_bytes (card_of fields.master fields.ca fields.height leaf.value)) leaf.word
 
+other_plan : (site book : ℕ) (site_got book_got : Option (List ℕ)) → IsOther (plan_by site book site_got book_got).result
+unfolding plan_by
+other_plan site book site_got book_got =
+    other_after (site_of_file site site_got).calls (site_of_file site site_got).result
+    (λ fields. book_of_file book fields.height book_got >>= λ commands. value (record { site = fields; commands = commands }))
+    (other_site_file site site_got)
+    (λ fields. other_after (book_of_file book fields.height book_got).calls (book_of_file book fields.height book_got).result
+    (λ commands. value (record { site = fields; commands = commands })) (other_book_file book fields.height book_got) (λ commands. tt))
+
+other_unless : (fault : Option CardFault) (card : CardFields) → IsOther (card_unless fault card)
+other_unless None card = tt
+other_unless (Some fault) card = λ e. cc
+
+other_receiver : (bytes : List ℕ) → IsOther (told_receiver bytes)
+unfolding told_receiver
+other_receiver bytes = other_unless (fault_in bytes) (card_said bytes)
+
+other_card_file : (word : ℕ) (got : Option (List ℕ)) → IsOther (card_of_file word got).result
+unfolding card_of_file
+other_card_file word got =
+    other_after (within word MOST_CARD_BYTES CardBytes got).calls (within word MOST_CARD_BYTES CardBytes got).result
+    (λ bytes. judged (told_receiver bytes)) (other_file word MOST_CARD_BYTES CardBytes got) other_receiver
+
 other_order : (order : Order) (given : Given) → IsOther (order_meaning order given).result
-unfolding cover_meaning tables_meaning
+unfolding cover_meaning tables_meaning head_meaning receive_meaning
 other_order (CoverOf site book) given =
     other_after (site_of_file site.number (given site)).calls (site_of_file site.number (given site)).result
     (λ fields. book_of_file book.number fields.height (given book) >>= λ commands. value (covering fields.height commands))
@@ -133,14 +166,24 @@ other_order (CoverOf site book) given =
     (λ commands. value (covering fields.height commands)) (other_book_file book.number fields.height (given book)) (λ commands. tt))
 other_order (CardOf site leaf out) given =
     other_after (site_of_file site.number (given site)).calls (site_of_file site.number (given site)).result
-    (λ fields. judged (told_card fields leaf) >>= λ bytes. value (making None out bytes))
+    (λ fields. judged (told_card fields leaf) >>= λ bytes. value (making Uncounted out bytes))
     (other_site_file site.number (given site))
-    (λ fields. other_after 0 (told_card fields leaf) (λ bytes. value (making None out bytes)) (other_card fields leaf) (λ bytes. tt))
+    (λ fields. other_after 0 (told_card fields leaf) (λ bytes. value (making Uncounted out bytes)) (other_card fields leaf) (λ bytes. tt))
 other_order (SampleOf number packets out) given = tt
 other_order (TablesOf stream) given =
-    other_after (within stream.number MOST_STREAM_BYTES StreamBytes (given stream)).calls
-    (within stream.number MOST_STREAM_BYTES StreamBytes (given stream)).result
-    (λ bytes. value (inspecting bytes)) (other_file stream.number MOST_STREAM_BYTES StreamBytes (given stream)) (λ bytes. tt)
+    other_after (all_of stream.number (given stream)).calls (all_of stream.number (given stream)).result
+    (λ bytes. value (inspecting bytes)) (other_stream stream.number (given stream)) (λ bytes. tt)
+other_order (HeadOf site book clear out) given =
+    other_after (plan_by site.number book.number (given site) (given book)).calls
+    (plan_by site.number book.number (given site) (given book)).result (sending_of clear out (given clear))
+    (other_plan site.number book.number (given site) (given book))
+    (λ plan. other_after (all_of clear.number (given clear)).calls (all_of clear.number (given clear)).result
+    (λ bytes. value (sending plan out bytes)) (other_stream clear.number (given clear)) (λ bytes. tt))
+other_order (ReceiveOf card stream out) given =
+    other_after (card_of_file card.number (given card)).calls (card_of_file card.number (given card)).result
+    (λ fields. stream_meaning fields stream out given) (other_card_file card.number (given card))
+    (λ fields. other_after (all_of stream.number (given stream)).calls (all_of stream.number (given stream)).result
+    (λ bytes. value (receiving fields out bytes)) (other_stream stream.number (given stream)) (λ bytes. tt))
 
 other_is : {A : Type 0} (r : Result A Status) → IsOther r → r ≡ Err Usage → ⊥
 other_is (Ok x) h e = absurd (cc)

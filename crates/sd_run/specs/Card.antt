@@ -5,18 +5,18 @@ use Rattle.sd_card.specs.Fields.{card_of, card_bytes}
 use Rattle.sd_status.specs.declared.status.Status.{Status}
 use Rattle.sd_status.specs.declared.status.Status.TheVariants.{Done, BadWord}
 use Rattle.sd_status.specs.Meant.{Meant, Word, Given, value, judged, ◌>>=◌}
-use Rattle.sd_status.specs.Work.{Work}
+use Rattle.sd_status.specs.Work.{StepBound, Uncounted, Work}
 use Rattle.sd_run.specs.Words.{Number, CardOf, order_of}
 use Rattle.sd_run.specs.Files.{site_in, IsGoodSite}
 
 -- makes a file of these bytes, by so many steps at most
-abbrev pub making : Option ℕ → Word → List ℕ → Work
+abbrev pub making : StepBound → Word → List ℕ → Work
 making steps out bytes = record {
   out = Some (record { word = out.number; name = out.text; bytes = bytes });
   pieces = [];
   ends = Done;
   breaks = false;
-  most_steps = steps;
+  steps = steps;
 }
 
 -- the bytes of the card of a site's leaf, which is to be one of its tree
@@ -30,7 +30,7 @@ abbrev pub card_meaning : Word → Number → Word → Given → Meant Work
 card_meaning site leaf out given = do
   fields ← site_in given site
   bytes ← judged (told_card fields leaf)
-  value (making None out bytes)
+  value (making Uncounted out bytes)
 
 -- the words are `card SITE LEAF OUT`, the file is there and a site, and its tree has the leaf
 pub record IsGoodCard (words : List (List ℕ)) (given : Given) : Type 0 where

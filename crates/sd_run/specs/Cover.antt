@@ -3,7 +3,7 @@ use Rattle.std.specs.Prelude.{◌≡◌, ℕ, ◌+◌, List, false, Some, None, 
 use Rattle.sd_book.specs.declared.command.Command.{Command}
 use Rattle.sd_status.specs.declared.status.Status.TheVariants.{Done}
 use Rattle.sd_status.specs.Meant.{Meant, Word, Given, value, ◌>>=◌}
-use Rattle.sd_status.specs.Work.{Work}
+use Rattle.sd_status.specs.Work.{NoSteps, Work}
 use Rattle.sd_site.specs.Fields.{SiteFields}
 use Rattle.sd_book.specs.Commands.{last_period}
 use Rattle.sd_run.specs.Periods.{cover_texts}
@@ -14,7 +14,7 @@ use Rattle.sd_run.specs.Files.{site_in, book_in, IsGoodSite, IsGoodBook}
 abbrev pub covering : ℕ → List Command → Work
 covering d commands =
     let texts = cover_texts d commands (last_period commands + 1) in
-    record { out = None; pieces = texts; ends = Done; breaks = false; most_steps = Some 0 }
+    record { out = None; pieces = texts; ends = Done; breaks = false; steps = NoSteps }
 
 -- the work that the two files say
 unfoldable pub cover_meaning : Word → Word → Given → Meant Work

@@ -5,5 +5,9 @@ pub mod Cover
 pub mod Card
 pub mod Sample
 pub mod Tables
+pub mod Receive
+pub mod Opened
 pub mod Meaning
 pub mod Shown
+pub mod Turned
+pub mod Head

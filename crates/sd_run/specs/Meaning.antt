@@ -2,11 +2,13 @@
 use Rattle.std.specs.Prelude.{List, ℕ}
 use Rattle.sd_status.specs.Meant.{Meant, Given, judged, ◌>>=◌}
 use Rattle.sd_status.specs.Work.{Work}
-use Rattle.sd_run.specs.Words.{Order, CoverOf, CardOf, SampleOf, TablesOf, order_of}
+use Rattle.sd_run.specs.Words.{Order, CoverOf, CardOf, SampleOf, TablesOf, HeadOf, ReceiveOf, order_of}
 use Rattle.sd_run.specs.Cover.{cover_meaning}
 use Rattle.sd_run.specs.Card.{card_meaning}
 use Rattle.sd_run.specs.Sample.{sample_meaning}
 use Rattle.sd_run.specs.Tables.{tables_meaning}
+use Rattle.sd_run.specs.Head.{head_meaning}
+use Rattle.sd_run.specs.Receive.{receive_meaning}
 
 -- the work of an order
 abbrev pub order_meaning : Order → Given → Meant Work
@@ -14,6 +16,8 @@ order_meaning (CoverOf site book) given = cover_meaning site book given
 order_meaning (CardOf site leaf out) given = card_meaning site leaf out given
 order_meaning (SampleOf number packets out) given = sample_meaning number packets out given
 order_meaning (TablesOf stream) given = tables_meaning stream given
+order_meaning (HeadOf site book clear out) given = head_meaning site book clear out given
+order_meaning (ReceiveOf card stream out) given = receive_meaning card stream out given
 
 -- the work that the words ask for, or the status of their refusal
 abbrev pub meaning : List (List ℕ) → Given → Meant Work

@@ -7,7 +7,7 @@ use Rattle.sd_status.specs.Meant as meant
 use Rattle.sd_run.specs.declared.word.Word.{Word}
 use Rattle.sd_run.specs.declared.word.Number.{Number}
 use Rattle.sd_run.specs.declared.order.Order.{Order}
-use Rattle.sd_run.specs.declared.order.Order.TheVariants.{Cover, Card, Sample, Tables}
+use Rattle.sd_run.specs.declared.order.Order.TheVariants.{Cover, Card, Sample, Tables, Head, Receive}
 use Rattle.sd_run.specs.Words as words
 use Rattle.sd_ports.specs.declared.file.FileFault.{FileFault}
 use Rattle.sd_ports.specs.declared.file.FileFault.TheVariants as file
@@ -23,6 +23,8 @@ told (Cover site book) = words.CoverOf (shown_word site) (shown_word book)
 told (Card site leaf out) = words.CardOf (shown_word site) (shown_number leaf) (shown_word out)
 told (Sample number packets out) = words.SampleOf number packets (shown_word out)
 told (Tables stream) = words.TablesOf (shown_word stream)
+told (Head site book clear out) = words.HeadOf (shown_word site) (shown_word book) (shown_word clear) (shown_word out)
+told (Receive card stream out) = words.ReceiveOf (shown_word card) (shown_word stream) (shown_word out)
 
 -- the same of an answer
 abbrev pub shown : Result Order Status → Result words.Order Status
@@ -35,6 +37,9 @@ IsSound (Cover site book) = site.number ≢ book.number
 IsSound (Card site leaf out) = Unit {0}
 IsSound (Sample number packets out) = packets ≤ MOST_PACKETS
 IsSound (Tables stream) = Unit {0}
+IsSound (Head site book clear out) =
+    (site.number ≢ book.number) × (site.number ≢ clear.number) × (book.number ≢ clear.number)
+IsSound (Receive card stream out) = card.number ≢ stream.number
 
 -- the two refusals of words
 abbrev pub RefusesWords : Status → Type 0

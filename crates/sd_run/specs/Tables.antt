@@ -1,32 +1,36 @@
 -- `tables STREAM` [this project, docs/FORMATS.md, Inspector].
-use Rattle.std.specs.Prelude.{◌≡◌, ◌≤◌, ℕ, List, [], ◌∷◌, length, false, Option, Some, None, Ok}
+use Rattle.std.specs.Prelude.{◌≡◌, ℕ, List, [], ◌∷◌, length, false, Option, Some, None, Result, Ok, Err}
 use Rattle.std.specs.List.{flat_map}
+use Rattle.sd_cause.specs.declared.memory.NoMemory.{NoMemory as OutOfMemory}
 use Rattle.sd_packet.specs.Header.{pid_of}
-use Rattle.sd_engine.specs.Stream.{packets_of, break_of}
-use Rattle.sd_engine.specs.declared.fault.StreamBreak.{StreamBreak}
+use Rattle.sd_engine.specs.Driving.{most_packets}
+use Rattle.sd_engine.specs.Taken.{StreamEnd, Whole, Breaks, RunsOn, taken_of, end_of, IsLeft}
 use Rattle.sd_engine.specs.declared.fault.BreakCause.{BreakCause}
 use Rattle.sd_engine.specs.declared.fault.BreakCause.TheVariants as stream
+use Rattle.sd_engine.specs.declared.driver.DriveFault.{DriveFault}
+use Rattle.sd_engine.specs.declared.driver.DriveFault.TheVariants as drive
 use Rattle.sd_lines.specs.Lines.{line_of}
 use Rattle.sd_tables.specs.Inspected.{sections_at}
 use Rattle.sd_status.specs.declared.status.Status.{Status}
-use Rattle.sd_status.specs.declared.status.Status.TheVariants.{Done, BadStream}
-use Rattle.sd_status.specs.declared.status.LimitKind.TheVariants.{StreamBytes}
+use Rattle.sd_status.specs.declared.status.Status.TheVariants.{Done, BadStream, DepotFault, PrintFault, NoMemory}
 use Rattle.sd_status.specs.declared.status.StreamCause.{StreamCause}
-use Rattle.sd_status.specs.declared.status.StreamCause.TheVariants.{Torn, NoSync}
-use Rattle.sd_status.specs.Meant.{Meant, Word, Given, within, value, ◌>>=◌}
-use Rattle.sd_status.specs.Work.{Work}
+use Rattle.sd_status.specs.declared.status.StreamCause.TheVariants.{Torn, NoSync, TooLong}
+use Rattle.sd_status.specs.Outside.{Page}
+use Rattle.sd_status.specs.Meant.{Meant, Word, Given, all_of, value, ◌>>=◌}
+use Rattle.sd_status.specs.Work.{NoSteps, Work}
+use Rattle.sd_status.specs.Prints.{PrintsReading}
 use Rattle.sd_run.specs.Words.{TablesOf, order_of}
-use Rattle.sd_run.specs.declared.files.TheConstants.{MOST_STREAM_BYTES}
 
 -- the cause as the status tells it
 abbrev pub told_cause : BreakCause → StreamCause
 told_cause stream.Torn = Torn
 told_cause stream.NoSync = NoSync
 
--- the status that comes of a break of a stream
-abbrev pub stream_status : Option StreamBreak → Status
-stream_status None = Done
-stream_status (Some found) = BadStream found.packet (told_cause found.cause)
+-- the status that comes of the end of a stream
+abbrev pub stream_status : StreamEnd → Status
+stream_status Whole = Done
+stream_status (Breaks found) = BadStream found.packet (told_cause found.cause)
+stream_status RunsOn = BadStream most_packets TooLong
 
 -- the lines of each packet in turn, where these came before them, of which the last comes first
 abbrev pub packet_lines : List (List ℕ) → List (List ℕ) → List (List ℕ)
@@ -38,21 +42,34 @@ packet_lines before (packet ∷ packets) =
 abbrev pub inspecting : List ℕ → Work
 inspecting bytes = record {
   out = None;
-  pieces = packet_lines [] (packets_of bytes);
-  ends = stream_status (break_of bytes);
+  pieces = packet_lines [] (taken_of bytes);
+  ends = stream_status (end_of bytes);
   breaks = false;
-  most_steps = Some 0;
+  steps = NoSteps;
 }
 
 unfoldable pub tables_meaning : Word → Given → Meant Work
-tables_meaning stream given =
-    within stream.number MOST_STREAM_BYTES StreamBytes (given stream) >>= λ bytes. value (inspecting bytes)
+tables_meaning stream given = all_of stream.number (given stream) >>= λ bytes. value (inspecting bytes)
 
--- the words are `tables STREAM`, and the file is there, within the limit and nothing but packets
+-- the words are `tables STREAM`, and the file is there and nothing but packets, and no more than a stream has
 pub record IsGoodTables (words : List (List ℕ)) (given : Given) : Type 0 where
   pub stream : Word
   pub order : order_of words ≡ Ok (TablesOf stream)
   pub bytes : List ℕ
   pub there : given stream ≡ Some bytes
-  pub short : length bytes ≤ MOST_STREAM_BYTES
-  pub unbroken : break_of bytes ≡ None
+  pub whole : end_of bytes ≡ Whole
+
+-- the status of a stream that was driven
+abbrev pub drive_status : Result ℕ (DriveFault OutOfMemory) → Status
+drive_status (Ok count) = Done
+drive_status (Err (drive.Broken found)) = BadStream found.packet (told_cause found.cause)
+drive_status (Err drive.TooLong) = BadStream most_packets TooLong
+drive_status (Err drive.ReadFault) = DepotFault
+drive_status (Err drive.WriteFault) = PrintFault
+drive_status (Err (drive.Refused fault)) = NoMemory
+
+-- the lines of the stream that was left were printed, as far as its source and print went
+pub record InspectsLeft (left : Option (List ℕ)) (a b : Page) (status : Status) : Type 0 where
+  pub bytes : List ℕ
+  pub is_left : IsLeft left bytes
+  pub prints : PrintsReading (inspecting bytes) a b status

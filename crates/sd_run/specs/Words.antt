@@ -1,5 +1,5 @@
 -- What the words after the program's name say [this project, docs/FORMATS.md, Commands].
-use Rattle.std.specs.Prelude.{ℕ, ◌-◌, ◌^◌, nat_lt, List, [], ◌∷◌, codes, bytes_eq, if◌then◌else◌, Option, Some, None, Result, Ok, Err}
+use Rattle.std.specs.Prelude.{ℕ, ◌-◌, ◌^◌, nat_lt, List, [], ◌∷◌, codes, bytes_eq, ◌||◌, if◌then◌else◌, Option, Some, None, Result, Ok, Err}
 use Rattle.sd_text.specs.Number.{number_of}
 use Rattle.sd_run.specs.declared.order.TheConstants.{MOST_PACKETS}
 use Rattle.sd_status.specs.Meant.{Word}
@@ -17,6 +17,8 @@ pub data Order : Type 0 where
   CardOf : (site : Word) (leaf : Number) (out : Word) → Order
   SampleOf : (number packets : ℕ) (out : Word) → Order
   TablesOf : (stream : Word) → Order
+  HeadOf : (site book clear out : Word) → Order
+  ReceiveOf : (card stream out : Word) → Order
 
 abbrev pub word_at : ℕ → List ℕ → Word
 word_at number text = record { number = number; text = text }
@@ -47,6 +49,19 @@ sample_words number packets out =
     with_number (number_in 1 (2 ^ 32 - 1) number) (λ n.
     with_number (number_in 2 MOST_PACKETS packets) (λ k. Ok (SampleOf n k (word_at 3 out))))
 
+-- `head SITE BOOK CLEAR OUT`, where OUT is to differ from the other files
+unfoldable pub head_words : List ℕ → List ℕ → List ℕ → List ℕ → Result Order Status
+head_words site book clear out =
+    if bytes_eq site out || (bytes_eq book out || bytes_eq clear out) then Err Usage
+    else Ok (HeadOf (word_at 1 site) (word_at 2 book) (word_at 3 clear) (word_at 4 out))
+
+-- `receive CARD STREAM OUT`, where OUT is to differ from the two files that are read
+unfoldable pub receive_words : List ℕ → List ℕ → List ℕ → Result Order Status
+receive_words card stream out =
+    if bytes_eq card out then Err Usage
+    else if bytes_eq stream out then Err Usage
+    else Ok (ReceiveOf (word_at 1 card) (word_at 2 stream) (word_at 3 out))
+
 -- Whether the words are a command with as many words as it takes comes first, and then the numbers.
 abbrev pub order_of : List (List ℕ) → Result Order Status
 order_of [] = Err Usage
@@ -58,5 +73,8 @@ order_of (command ∷ a ∷ b ∷ []) =
 order_of (command ∷ a ∷ b ∷ c ∷ []) =
     if bytes_eq command (codes "card") then card_words a b c
     else if bytes_eq command (codes "sample") then sample_words a b c
+    else if bytes_eq command (codes "receive") then receive_words a b c
     else Err Usage
-order_of (command ∷ a ∷ b ∷ c ∷ e ∷ words) = Err Usage
+order_of (command ∷ a ∷ b ∷ c ∷ e ∷ []) =
+    if bytes_eq command (codes "head") then head_words a b c e else Err Usage
+order_of (command ∷ a ∷ b ∷ c ∷ e ∷ f ∷ words) = Err Usage

@@ -22,9 +22,6 @@ const MOST_SITE_BYTES: usize = 4_096;
 /// As many bytes as a book file may have.
 const MOST_BOOK_BYTES: usize = 33_554_432;
 
-/// As many bytes as a stream file may have.
-const MOST_STREAM_BYTES: usize = 67_108_864;
-
 /// The site of the word's file.
 pub fn read_site<D: Depot>(alloc: Global, depot: &mut D, word: Word<'_>) -> Result<Site, Status>
     ensures { Looks fields_of (site_of_file word.entry.number) word.entry.text.now
@@ -81,26 +78,8 @@ fn refused(word: u8, fault: BookFault) -> Status
     }
 }
 
-/// The bytes of the word's stream file.
-pub fn read_stream<D: Depot>(
-    alloc: Global,
-    depot: &mut D,
-    word: Word<'_>,
-) -> Result<Vec<u8>, Status>
-    ensures { Looks (λ bytes. bytes.items) (within word.entry.number MOST_STREAM_BYTES LimitKind.StreamBytes)
-        word.entry.text.now (place D.Depot depot.old) (place D.Depot depot.new) result }
-{
-    read_bytes(
-        alloc,
-        depot,
-        word,
-        MOST_STREAM_BYTES,
-        LimitKind::StreamBytes,
-    )
-}
-
 /// The bytes of the word's file, at most `most`.
-fn read_bytes<D: Depot>(
+pub fn read_bytes<D: Depot>(
     alloc: Global,
     depot: &mut D,
     word: Word<'_>,

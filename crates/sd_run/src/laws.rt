@@ -1,5 +1,5 @@
 //! Good words over good files mean work, and so `run` does it, or is out of memory, where no device fails.
-ghost use Rattle.std.specs.Prelude.{◌≡◌, ◌≤◌, ℕ, List, Some, None, Ok, length};
+ghost use Rattle.std.specs.Prelude.{◌≡◌, ◌≤◌, ◌<◌, ◌^◌, ℕ, List, Some, None, Ok, length};
 ghost use Rattle.sd_book.specs.Commands.{revoked};
 ghost use Rattle.sd_book.specs.declared.command.Command.{Command};
 ghost use Rattle.sd_steiner.specs.Cover.{cover_of};
@@ -9,11 +9,22 @@ ghost use Rattle.sd_card.specs.Fields.{card_bytes, card_of};
 ghost use Rattle.sd_ports.specs.Files.{Files};
 ghost use Rattle.sd_sample.specs.Sample.{sample_of};
 ghost use Rattle.sd_status.specs.Meant.{told_by};
+ghost use Rattle.sd_status.specs.Work.{NoSteps, Uncounted};
 ghost use Rattle.sd_run.specs.Cover.{covering, IsGoodCover};
 ghost use Rattle.sd_run.specs.Card.{making, IsGoodCard};
 ghost use Rattle.sd_run.specs.Sample.{IsGoodSample};
 ghost use Rattle.sd_run.specs.Tables.{inspecting, IsGoodTables};
+ghost use Rattle.std.specs.List.{concat};
+ghost use Rattle.sd_engine.specs.Taken.{taken_of};
+ghost use Rattle.sd_broadcast.specs.Sent.{broadcast};
+ghost use Rattle.sd_run.specs.Head.{plan_told, sending, sent_of, sent_status, IsGoodHead};
 ghost use Rattle.sd_run.specs.Meaning.{meaning};
+ghost use Rattle.sd_broadcast.specs.Plan.{Plan, IsPlan};
+ghost use Rattle.sd_broadcast.specs.Refused.{IsClear};
+ghost use Rattle.sd_sent.specs.Packets.{AreWholePackets};
+ghost use Rattle.sd_status.specs.Work.{Work};
+ghost use Rattle.sd_run.specs.Receive.{receiving, IsGoodReceive};
+ghost use Rattle.sd_run.specs.Opened.{IsBroadcastTo, IsOpened};
 
 use sd_status::Status;
 
@@ -27,7 +38,7 @@ pub fn good_covers_are_printed()
 #[tactic(auto, using(crate::proofs::Goodness::card_good))]
 pub fn good_cards_are_made()
     ensures { (words : List (List ℕ)) (files : Files) (good : IsGoodCard words (told_by files)) →
-        (meaning words (told_by files)).result ≡ Ok (making None good.out
+        (meaning words (told_by files)).result ≡ Ok (making Uncounted good.out
         (card_bytes (card_of good.fields.master good.fields.ca good.fields.height good.leaf.value))) }
 {}
 
@@ -35,7 +46,7 @@ pub fn good_cards_are_made()
 #[tactic(auto, using(crate::proofs::Goodness::sample_good))]
 pub fn samples_are_made()
     ensures { (words : List (List ℕ)) (files : Files) (good : IsGoodSample words) →
-        (meaning words (told_by files)).result ≡ Ok (making (Some 0) good.out (sample_of good.number good.packets)) }
+        (meaning words (told_by files)).result ≡ Ok (making NoSteps good.out (sample_of good.number good.packets)) }
 {}
 
 /// `tables STREAM` over a stream of packets prints the lines of its tables, and is done.
@@ -46,10 +57,37 @@ pub fn good_tables_are_printed()
         × ((inspecting good.bytes).ends ≡ Status.Done) }
 {}
 
+/// `head SITE BOOK CLEAR OUT` over a site, a book and a clear stream makes its broadcast, and is done.
+pub fn good_streams_are_broadcast()
+    ensures { (words : List (List ℕ)) (files : Files) (good : IsGoodHead words (told_by files)) →
+        ((meaning words (told_by files)).result ≡ Ok (sending (plan_told good) good.out good.bytes))
+        × (concat (broadcast (plan_told good) (taken_of good.bytes)) ≡ sent_of (plan_told good) good.bytes)
+        × (Status.Done ≡ sent_status (plan_told good) good.bytes) }
+{}
+
 /// The sets of a period are disjoint and unite to just the leaves that are not revoked in it: one where none is, and
 /// at most 2r - 1 where r are [Naor, Naor, Lotspiech 2001, 3.2].
 pub fn printed_sets_unite()
     ensures { (d q : ℕ) (commands : List Command) → d ≤ 20 →
         IsPartition d (cover_of d (revoked d commands q)) (unrevoked d (revoked d commands q))
         × IsSmall (cover_of d (revoked d commands q)) (length (revoked d commands q)) }
+{}
+
+/// `receive CARD STREAM OUT` over a card and any stream makes what the card opens of it, and ends as the stream does.
+#[tactic(auto, using(crate::proofs::Broadcasts::receive_good))]
+pub fn streams_are_received()
+    ensures { (words : List (List ℕ)) (files : Files) (good : IsGoodReceive words (told_by files)) →
+        (meaning words (told_by files)).result ≡ Ok (receiving good.fields good.out good.bytes) }
+{}
+
+/// Of every broadcast, to whatever site, book within the limits and clear stream, `receive` with the card of a leaf
+/// makes just the clear packets of the periods in which the leaf isn't revoked. It ends done, or revoked in the first
+/// of the broadcast's periods in which the leaf is. For each period in which the leaf isn't revoked it takes at most as
+/// many steps of the generator as the tree is high, and none else.
+#[tactic(auto, using(crate::proofs::Broadcasts::broadcast_opened))]
+pub fn broadcasts_are_opened_by_the_entitled()
+    ensures { (plan : Plan) (u : ℕ) (clear : List (List ℕ)) (words : List (List ℕ)) (files : Files) → IsPlan plan →
+        IsClear plan.site clear → AreWholePackets clear → u < 2 ^ plan.site.height →
+        (sent : IsBroadcastTo plan u clear words (told_by files)) →
+        (work : Work) × ((meaning words (told_by files)).result ≡ Ok work) × IsOpened plan u clear sent.out work }
 {}

@@ -4,13 +4,16 @@
 mod card;
 mod cover;
 mod files;
+mod head;
 pub mod laws;
 mod made;
 mod order;
+mod receive;
 mod sample;
 mod tables;
 mod text;
 mod top;
+mod turn;
 mod word;
 
 pub use top::run;

@@ -1,6 +1,7 @@
 ghost use Rattle.std.specs.Prelude.{◌≡◌, ℕ, IsErrOf, Option};
 ghost use Rattle.sd_status.specs.Outside.{Page, place, outside};
 ghost use Rattle.sd_status.specs.Meant.{value};
+ghost use Rattle.sd_status.specs.Work.{StepBound};
 ghost use Rattle.sd_status.specs.Comes.{Obeys, status_of};
 ghost use Rattle.sd_run.specs.Card.{making};
 ghost use Rattle.sd_run.specs.Shown.{shown_word, making_told};
@@ -17,7 +18,7 @@ pub fn make_file<D: Depot>(
     word: Word<'_>,
     bytes: &[u8],
 ) -> Result<(), Status>
-    ensures { (page : Page) (steps : ℕ) (most : Option ℕ) →
+    ensures { (page : Page) (steps : ℕ) (most : StepBound) →
         Obeys (value (making most (shown_word word.entry) bytes.now))
         (outside (place D.Depot depot.old) page steps) (outside (place D.Depot depot.new) page steps)
         (status_of result) }

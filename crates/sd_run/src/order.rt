@@ -1,5 +1,5 @@
 ghost use Rattle.std.specs.Prelude.{◌≡◌, ◌≤◌, ◌⊎◌, ℕ, IfOk, IfErr, map, string_bytes};
-ghost use Rattle.sd_run.specs.Words.{order_of, card_words, sample_words, number_in};
+ghost use Rattle.sd_run.specs.Words.{order_of, card_words, head_words, receive_words, sample_words, number_in};
 ghost use Rattle.sd_run.specs.Shown.{shown, IsSound, RefusesWords};
 
 use crate::word::{Number, Word};
@@ -29,6 +29,17 @@ pub enum Order<'a> {
     Tables {
         stream: Word<'a>,
     },
+    Head {
+        site: Word<'a>,
+        book: Word<'a>,
+        clear: Word<'a>,
+        out: Word<'a>,
+    },
+    Receive {
+        card: Word<'a>,
+        stream: Word<'a>,
+        out: Word<'a>,
+    },
 }
 
 /// What the words say, or the status of their refusal.
@@ -54,14 +65,55 @@ pub fn read_words(words: &[String]) -> Result<Order<'_>, Status>
         [command, number, packets, out] if command.as_str() == "sample" => {
             read_sample(number.as_str(), packets.as_str(), out.as_str())
         }
+        [command, card, stream, out] if command.as_str() == "receive" => {
+            read_receive(card.as_str(), stream.as_str(), out.as_str())
+        }
         [command, stream] if command.as_str() == "tables" => Ok(Order::Tables {
             stream: Word {
                 number: 1,
                 text: stream.as_str(),
             },
         }),
+        [command, site, book, clear, out] if command.as_str() == "head" => {
+            read_head(site.as_str(), book.as_str(), clear.as_str(), out.as_str())
+        }
         _ => Err(Status::Usage),
     }
+}
+
+/// What the words of `head` say.
+#[tactic(auto, unfolding(crate::specs::Words::head_words))]
+fn read_head<'a>(
+    site: &'a str,
+    book: &'a str,
+    clear: &'a str,
+    out: &'a str,
+) -> Result<Order<'a>, Status>
+    ensures value { shown result ≡ head_words site.now book.now clear.now out.now }
+    ensures fits { IfOk result IsSound }
+    ensures fault { IfErr result RefusesWords }
+{
+    if site == out || book == out || clear == out {
+        return Err(Status::Usage);
+    }
+    Ok(Order::Head {
+        site: Word {
+            number: 1,
+            text: site,
+        },
+        book: Word {
+            number: 2,
+            text: book,
+        },
+        clear: Word {
+            number: 3,
+            text: clear,
+        },
+        out: Word {
+            number: 4,
+            text: out,
+        },
+    })
 }
 
 /// What the words of `card` say.
@@ -100,6 +152,35 @@ fn read_sample<'a>(number: &str, packets: &str, out: &'a str) -> Result<Order<'a
     Ok(Order::Sample {
         number,
         packets,
+        out: Word {
+            number: 3,
+            text: out,
+        },
+    })
+}
+
+/// What the words of `receive` say.
+#[tactic(auto, unfolding(crate::specs::Words::receive_words))]
+fn read_receive<'a>(card: &'a str, stream: &'a str, out: &'a str) -> Result<Order<'a>, Status>
+    ensures value { shown result ≡ receive_words card.now stream.now out.now }
+    ensures fits { IfOk result IsSound }
+    ensures fault { IfErr result RefusesWords }
+{
+    if card == out {
+        return Err(Status::Usage);
+    }
+    if stream == out {
+        return Err(Status::Usage);
+    }
+    Ok(Order::Receive {
+        card: Word {
+            number: 1,
+            text: card,
+        },
+        stream: Word {
+            number: 2,
+            text: stream,
+        },
         out: Word {
             number: 3,
             text: out,

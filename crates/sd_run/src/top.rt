@@ -11,7 +11,9 @@ ghost use Rattle.sd_run.specs.Shown.{told, IsSound};
 
 use crate::card::card;
 use crate::cover::cover;
+use crate::head::head;
 use crate::order::{Order, read_words};
+use crate::receive::receive;
 use crate::sample::sample;
 use crate::tables::tables;
 use sd_ports::{Depot, Sink};
@@ -93,5 +95,12 @@ fn work<D: Depot, P: Sink, L: Ledger>(
             out,
         } => sample(alloc, depot, number, packets, out),
         Order::Tables { stream } => tables(alloc, depot, print, stream),
+        Order::Head {
+            site,
+            book,
+            clear,
+            out,
+        } => head(alloc, depot, site, book, clear, out, steps),
+        Order::Receive { card, stream, out } => receive(alloc, depot, card, stream, out, steps),
     }
 }

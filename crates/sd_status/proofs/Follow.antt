@@ -1,14 +1,13 @@
 -- What a command that reads files comes to.
-use Rattle.std.proofs.Common.{◌≡◌, ◌≢◌, ◌⊎◌, ℕ, ◌+◌, ◌-◌, ◌^◌, ◌≤◌, min, Option, Some, None, List, Result, Ok, Err, refl, sym, ap, subst, ◌∙◌, inl, inr, arith}
+use Rattle.std.proofs.Common.{◌≡◌, ◌≢◌, ◌⊎◌, ℕ, Option, None, List, Result, Ok, Err, refl, sym, ap, subst, inl, inr, arith}
 use Rattle.std.specs.Prelude.{IfOk}
-use Rattle.sd_cause.specs.Count.{with_added, Rose}
+use Rattle.sd_cause.specs.Count.{with_added}
 use Rattle.sd_ports.specs.Files.{Files}
 use Rattle.sd_status.specs.declared.status.Status.{Status}
-use Rattle.sd_status.specs.declared.status.Status.TheVariants.{Missing, DepotFault, NoMemory}
 use Rattle.sd_status.specs.Outside.{Place, Page, Outside, outside, called}
-use Rattle.sd_status.specs.Meant.{Meant, Word, Given, IsGiven, IsGot, after, judged, value, ◌>>=◌}
-use Rattle.sd_status.specs.Work.{Out, Work, TakesSteps, all_calls, work_calls}
-use Rattle.sd_status.specs.Comes.{IsRefusal, IsEnding, HasMiss, IsCalm, IsUnmade, IsMade, Stands, untouched, printing, Comes, refused, ended, exhausted, failed, cut_off, Obeys, Follows}
+use Rattle.sd_status.specs.Meant.{Meant, Word, Given, IsGot, judged, value, ◌>>=◌}
+use Rattle.sd_status.specs.Work.{Out, Work}
+use Rattle.sd_status.specs.Comes.{IsEnding, HasMiss, IsMade, printing, refused, ended, exhausted, cut_off, Obeys, Follows}
 use Rattle.sd_status.specs.Reads.{IsAsked, IsRefused, IsStopped, Gives, Looks, Reads, Judges}
 use Rattle.sd_status.specs.Prints.{Prints}
 use Rattle.sd_status.proofs.Moves.{then_obeys}
@@ -78,13 +77,13 @@ given_obeys meant p q page steps status (inl h) = record {
   comes = refused h.value h.refusal (record { files = h.asked.files; made = h.asked.made }) refl (record { depot = h.calm; print = refl }) h.miss;
   ports = h.asked.ports;
   calls = let c = h.asked.calls in omega arith;
-  steps = takes_none meant.result steps;
+  steps = takes_none meant.result status steps;
 }
 given_obeys meant p q page steps status (inr h) = record {
   comes = stopped_comes meant.result meant.calls p q page steps steps status h h.cause;
   ports = h.asked.ports;
   calls = let c = h.asked.calls in omega arith;
-  steps = takes_none meant.result steps;
+  steps = takes_none meant.result status steps;
 }
 
 -- files that were refused, or not read
@@ -141,7 +140,7 @@ printed_obeys meant work p q page now steps status is none ending e prints = rec
   ];
   ports = ap (λ (z : Place). z.opened) e;
   calls = let same = ap (λ (z : Place). z.calls) e in omega (arith, same);
-  steps = takes_none meant.result steps;
+  steps = takes_none meant.result status steps;
 }
 
 -- two files that were read, one after the other

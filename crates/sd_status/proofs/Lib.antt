@@ -3,3 +3,4 @@ pub mod Steps
 pub mod Givens
 pub mod Told
 pub mod Follow
+pub mod Streams

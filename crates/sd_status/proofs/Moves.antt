@@ -1,10 +1,10 @@
 -- What a command does after calls that only asked.
-use Rattle.std.proofs.Common.{◌≡◌, ℕ, ◌+◌, ◌-◌, ◌^◌, ◌≤◌, min, Option, Some, None, Result, Ok, Err, refl, sym, ap, subst, ◌∙◌, arith}
+use Rattle.std.proofs.Common.{◌≡◌, ℕ, ◌+◌, ◌≤◌, Option, Result, Ok, sym, subst, arith}
 use Rattle.sd_cause.specs.Count.{with_added}
 use Rattle.sd_status.specs.declared.status.Status.{Status}
 use Rattle.sd_status.specs.Outside.{Place, Page, Outside, outside, recalled, called}
 use Rattle.sd_status.specs.Meant.{Meant, after, ◌>>=◌}
-use Rattle.sd_status.specs.Work.{Out, Work, IsWithinSteps, TakesSteps, all_calls, work_calls}
+use Rattle.sd_status.specs.Work.{Out, Work, work_calls}
 use Rattle.sd_status.specs.Comes.{IsCalm, IsUnmade, IsMade, IsMadeShort, Stands, untouched, writing, printing, Comes, refused, ended, unclosed, exhausted, failed, nowhere, cut_off, Obeys}
 
 unmade_moved : (calls : ℕ) (p q : Place) → IsUnmade (recalled calls p) q → IsUnmade p q

@@ -1,21 +1,22 @@
 -- What becomes of a command whose first step was refused or stopped.
-use Rattle.std.proofs.Common.{◌≡◌, ◌⊎◌, ℕ, ◌+◌, ◌-◌, ◌^◌, ◌≤◌, min, Option, Some, None, Result, Ok, Err, refl, sym, ap, subst, ◌∙◌, inl, inr, arith, add-zero}
+use Rattle.std.proofs.Common.{◌≡◌, ◌⊎◌, ℕ, ◌+◌, ◌≤◌, Result, Ok, Err, refl, sym, ap, subst, ◌∙◌, inl, inr, arith}
 use Rattle.sd_cause.specs.Count.{with_added, Rose}
 use Rattle.sd_status.specs.declared.status.Status.{Status}
 use Rattle.sd_status.specs.declared.status.Status.TheVariants.{DepotFault, NoMemory}
-use Rattle.sd_status.specs.Outside.{Place, Page, Outside, outside, called}
-use Rattle.sd_status.specs.Meant.{Meant, after, judged, ◌>>=◌}
-use Rattle.sd_status.specs.Work.{Work, IsWithinSteps, TakesSteps, all_calls}
-use Rattle.sd_status.specs.Comes.{IsRefusal, HasMiss, IsCalm, IsUnmade, Stands, untouched, Comes, refused, exhausted, failed, Obeys}
-use Rattle.sd_status.specs.Reads.{IsAsked, IsRefused, IsStopped, Gives, Judges, TakesFor}
+use Rattle.sd_status.specs.Outside.{Place, Page, outside, called}
+use Rattle.sd_status.specs.Meant.{Meant, after, ◌>>=◌}
+use Rattle.sd_status.specs.Work.{StepBound, Uncounted, NoSteps, UpTo, Work, IsWithinSteps, TakesSteps, all_calls}
+use Rattle.sd_status.specs.Comes.{IsUnmade, untouched, Comes, refused, exhausted, failed, Obeys}
+use Rattle.sd_status.specs.Reads.{IsAsked, IsRefused, IsStopped, Gives}
 
-no_more_steps : (most : Option ℕ) (steps : ℕ) → IsWithinSteps most steps steps
-no_more_steps None steps = tt
-no_more_steps (Some most) steps = (omega arith, omega arith)
+no_more_steps : (most : StepBound) (status : Status) (steps : ℕ) → IsWithinSteps most status steps steps
+no_more_steps Uncounted status steps = tt
+no_more_steps NoSteps status steps = refl
+no_more_steps (UpTo most) status steps = λ calm. omega arith
 
-pub takes_none : (meant : Result Work Status) (steps : ℕ) → TakesSteps meant steps steps
-takes_none (Ok work) steps = no_more_steps work.most_steps steps
-takes_none (Err status) steps = refl
+pub takes_none : (meant : Result Work Status) (status : Status) (steps : ℕ) → TakesSteps meant status steps steps
+takes_none (Ok work) status steps = no_more_steps work.steps status steps
+takes_none (Err refusal) status steps = refl
 
 -- calls of the first step are calls of all
 at_least : {A : Type 0} (n x now : ℕ) (r : Result A Status) (next : A → Meant Work) → now ≤ x + n → now ≤ x + all_calls (after n r next)
@@ -53,7 +54,7 @@ first_obeys first next p q page steps status (inr h) = record {
   comes = stopped_comes (first >>= next).result first.calls p q page steps steps status h h.cause;
   ports = h.asked.ports;
   calls = at_least first.calls p.calls q.calls first.result next h.asked.calls;
-  steps = takes_none (first >>= next).result steps;
+  steps = takes_none (first >>= next).result status steps;
 }
 
 -- a step that goes on where a first step ended

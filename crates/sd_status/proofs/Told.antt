@@ -1,5 +1,5 @@
 -- What a run's answer says, once the line of the status is told.
-use Rattle.std.proofs.Common.{◌≡◌, ◌≢◌, ◌⊎◌, ℕ, ◌+◌, ◌-◌, ◌^◌, ◌<◌, ◌≤◌, min, Option, Some, None, List, [], ◌++◌, Result, Ok, Err, refl, sym, ap, subst, ◌∙◌, inl, inr, ⊎_elim, arith}
+use Rattle.std.proofs.Common.{◌≡◌, ◌≢◌, ◌⊎◌, ℕ, Option, Some, List, [], Result, Ok, Err, refl, sym, ap, subst, ◌∙◌, inl, inr, arith}
 use Rattle.std.proofs.KnownBytes.{Appends-nil}
 use Rattle.std.specs.Io.KnownBytes.{Appends}
 use Rattle.sd_cause.specs.Count.{Rose, IsCalm as IsStill}
@@ -7,11 +7,11 @@ use Rattle.sd_ports.specs.Files.{Files}
 use Rattle.sd_status.specs.declared.status.Status.{Status}
 use Rattle.sd_status.specs.declared.status.Status.TheVariants.{Done, Usage, Missing, DepotFault, PrintFault, NoMemory}
 use Rattle.sd_status.specs.Texts.{line_of}
-use Rattle.sd_status.specs.Outside.{Place, Page, Outside, outside}
+use Rattle.sd_status.specs.Outside.{Page, Outside}
 use Rattle.sd_status.specs.Meant.{Meant, Given, told_by, IsGiven}
 use Rattle.sd_status.specs.Work.{Work}
-use Rattle.sd_status.specs.Comes.{IsRefusal, IsEnding, HasMiss, Comes, refused, ended, unclosed, exhausted, failed, nowhere, cut_off, Obeys, Follows}
-use Rattle.sd_status.specs.Answers.{TakesMemory, Says, Tells, with_page, Answers, HasCause, IsMeant, IsToldAs}
+use Rattle.sd_status.specs.Comes.{IsRefusal, IsEnding, Comes, refused, ended, unclosed, exhausted, failed, nowhere, cut_off, Follows}
+use Rattle.sd_status.specs.Answers.{TakesMemory, Tells, with_page, Answers, HasCause, IsMeant, IsToldAs}
 
 -- work that is done has no line, and so has a failed print
 pub no_line : (page : Page) (status : Status) → line_of status ≡ [] → Tells page page status status

@@ -1,10 +1,10 @@
 -- What a run answers, and what it leaves after it.
-use Rattle.std.specs.Prelude.{◌≡◌, ◌≢◌, ◌⊎◌, ℕ, Option, Some, None, List, Result, Ok, Err}
+use Rattle.std.specs.Prelude.{◌≡◌, ◌≢◌, ◌⊎◌, ℕ, Result, Ok, Err}
 use Rattle.std.specs.Io.KnownBytes.{Appends}
 use Rattle.sd_cause.specs.Count.{Rose}
 use Rattle.sd_ports.specs.Bytes.{AppendsPrefix}
 use Rattle.sd_status.specs.declared.status.Status.{Status}
-use Rattle.sd_status.specs.declared.status.Status.TheVariants.{Done, Usage, Missing, DepotFault, PrintFault, NoMemory}
+use Rattle.sd_status.specs.declared.status.Status.TheVariants.{Done, Usage, Missing, DepotFault, PrintFault, NoMemory, NoCat}
 use Rattle.sd_status.specs.Texts.{line_of}
 use Rattle.sd_status.specs.Outside.{Page, Outside}
 use Rattle.sd_status.specs.Meant.{Meant, Given}
@@ -18,6 +18,7 @@ TakesMemory Usage = ⊥
 TakesMemory DepotFault = ⊥
 TakesMemory PrintFault = ⊥
 TakesMemory NoMemory = ⊥
+TakesMemory NoCat = ⊥
 TakesMemory _ = Unit {0}
 
 -- the line of a status was printed and is answered, or printing failed at it

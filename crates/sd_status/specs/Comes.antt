@@ -1,12 +1,13 @@
 -- How a command comes to its status, before the line of the status is told.
-use Rattle.std.specs.Prelude.{◌≡◌, ◌≢◌, ℕ, ◌+◌, ◌≤◌, true, List, [], take, Option, Some, None, Result, Ok, Err}
+use Rattle.std.specs.Prelude.{◌≡◌, ◌≢◌, ℕ, ◌+◌, ◌≤◌, true, List, take, Option, Some, None, Result, Ok, Err}
 use Rattle.std.specs.List.{concat}
 use Rattle.std.specs.Io.KnownBytes.{Appends}
 use Rattle.sd_cause.specs.Count.{Rose, with_added}
 use Rattle.sd_ports.specs.Files.{with_bytes}
 use Rattle.sd_ports.specs.Bytes.{IsPrefix, AppendsPrefix}
 use Rattle.sd_status.specs.declared.status.Status.{Status}
-use Rattle.sd_status.specs.declared.status.Status.TheVariants.{Done, Usage, Missing, DepotFault, PrintFault, NoMemory}
+use Rattle.sd_status.specs.declared.status.Status.TheVariants.{Done, Usage, Missing, Revoked, DepotFault, PrintFault}
+use Rattle.sd_status.specs.declared.status.Status.TheVariants.{NoMemory, Unheard, Unclosed, Gaps, NoCat}
 use Rattle.sd_status.specs.Outside.{Place, Page, Outside}
 use Rattle.sd_status.specs.Meant.{Meant, Given, IsGiven}
 use Rattle.sd_status.specs.Work.{Out, Work, files_with, made_with, all_calls, TakesSteps}
@@ -14,9 +15,14 @@ use Rattle.sd_status.specs.Work.{Out, Work, files_with, made_with, all_calls, Ta
 -- the status refuses words or files: it isn't that work is done, and it doesn't come of the outside
 abbrev pub IsRefusal : Status → Type 0
 IsRefusal Done = ⊥
+IsRefusal (Revoked leaf period) = ⊥
 IsRefusal DepotFault = ⊥
 IsRefusal PrintFault = ⊥
 IsRefusal NoMemory = ⊥
+IsRefusal (Unheard leaf period) = ⊥
+IsRefusal (Unclosed number) = ⊥
+IsRefusal (Gaps packets) = ⊥
+IsRefusal NoCat = ⊥
 IsRefusal _ = Unit {0}
 
 -- the status may stand at the end of work
@@ -82,7 +88,8 @@ pub data Comes (meant : Result Work Status) (a b : Outside) (status : Status) : 
       IsCalm a b → HasMiss status a.place.misses b.place.misses → Comes meant a b status
   -- the work came to its end: OUT is whole, and all is printed
   ended : (work : Work) → meant ≡ Ok work → status ≡ work.ends → IsEnding status →
-      IsMade work.out a.place b.place → PrintsAll work a.page b.page → IsCalm a b → b.place.misses ≡ a.place.misses → Comes meant a b status
+      IsMade work.out a.place b.place → PrintsAll work a.page b.page → IsCalm a b → b.place.misses ≡ a.place.misses →
+      Comes meant a b status
   -- a refusal in the midst of a stream stands, though OUT failed to close after it
   unclosed : (work : Work) → meant ≡ Ok work → status ≡ work.ends → IsEnding status → IsRefusal status →
       work.breaks ≡ true → (out : Out) → work.out ≡ Some out → IsMadeShort out a.place b.place →
@@ -111,7 +118,7 @@ pub record Obeys (meant : Meant Work) (a b : Outside) (status : Status) : Type 0
   pub ports : b.place.opened ≡ a.place.opened
   -- no more calls were made than what is meant takes
   pub calls : b.place.calls ≤ a.place.calls + all_calls meant
-  pub steps : TakesSteps meant.result a.steps b.steps
+  pub steps : TakesSteps meant.result status a.steps b.steps
 
 -- a command did what is meant by what the files gave
 pub record Follows (meant : Given → Meant Work) (a b : Outside) (status : Status) : Type 0 where

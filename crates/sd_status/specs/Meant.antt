@@ -49,6 +49,11 @@ abbrev pub IsGot : Option Files → List ℕ → Option (List ℕ) → Type 0
 IsGot None name got = Unit {0}
 IsGot (Some files) name got = got ≡ get files name
 
+-- the bytes of a word's file, however many: it is opened, read and closed
+abbrev pub all_of : ℕ → Option (List ℕ) → Meant (List ℕ)
+all_of word None = record { calls = 1; result = Err (Missing word) }
+all_of word (Some bytes) = record { calls = 2; result = Ok bytes }
+
 -- the bytes of a word's file, which are to be at most so many: it is opened, read and closed
 abbrev pub within : ℕ → ℕ → LimitKind → Option (List ℕ) → Meant (List ℕ)
 within word most kind None = record { calls = 1; result = Err (Missing word) }

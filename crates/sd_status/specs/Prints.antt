@@ -4,7 +4,7 @@ use Rattle.std.specs.Io.KnownBytes.{Appends}
 use Rattle.sd_cause.specs.Count.{Rose}
 use Rattle.sd_ports.specs.Bytes.{AppendsPrefix}
 use Rattle.sd_status.specs.declared.status.Status.{Status}
-use Rattle.sd_status.specs.declared.status.Status.TheVariants.{Done, PrintFault, NoMemory}
+use Rattle.sd_status.specs.declared.status.Status.TheVariants.{Done, DepotFault, PrintFault, NoMemory}
 use Rattle.sd_status.specs.Outside.{Page}
 use Rattle.sd_status.specs.Work.{Work}
 use Rattle.sd_status.specs.Comes.{PrintsAll, PrintsSome, PrintsPrefix}
@@ -16,6 +16,11 @@ Prints work a b status =
     ((status ≡ work.ends) × PrintsAll work a b × (b.faults ≡ a.faults))
     ⊎ (((status ≡ NoMemory) × PrintsSome work a b × (b.faults ≡ a.faults))
     ⊎ ((status ≡ PrintFault) × PrintsPrefix work a b × Rose a.faults b.faults))
+
+-- so it is of work whose file is read meanwhile: or some first pieces of it were printed, and then reading failed
+abbrev pub PrintsReading : Work → Page → Page → Status → Type 0
+PrintsReading work a b status =
+    Prints work a b status ⊎ ((status ≡ DepotFault) × PrintsSome work a b × (b.faults ≡ a.faults))
 
 -- a text was printed, or a prefix of it, and then printing failed
 abbrev pub PrintsText : List ℕ → Page → Page → Status → Type 0

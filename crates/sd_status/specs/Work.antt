@@ -1,8 +1,9 @@
 -- What a command does.
-use Rattle.std.specs.Prelude.{◌≡◌, ℕ, ◌+◌, ◌≤◌, Bool, List, Option, Some, None, Result, Ok, Err}
+use Rattle.std.specs.Prelude.{◌≡◌, ◌≢◌, ℕ, ◌+◌, ◌≤◌, Bool, List, Option, Some, None, Result, Ok, Err}
 use Rattle.sd_cause.specs.Count.{with_added}
 use Rattle.sd_ports.specs.Files.{Files, with_bytes}
 use Rattle.sd_status.specs.declared.status.Status.{Status}
+use Rattle.sd_status.specs.declared.status.Status.TheVariants.{DepotFault}
 use Rattle.sd_status.specs.Meant.{Meant}
 
 -- a file to be made: the number of its word, its name, and all its bytes
@@ -10,6 +11,12 @@ pub record Out : Type 0 where
   pub word : ℕ
   pub name : List ℕ
   pub bytes : List ℕ
+
+-- what is said of the steps of the generator that work takes: nothing, that there are none, or at most so many
+pub data StepBound : Type 0 where
+  Uncounted : StepBound
+  NoSteps : StepBound
+  UpTo : ℕ → StepBound
 
 pub record Work : Type 0 where
   pub out : Option Out
@@ -19,8 +26,7 @@ pub record Work : Type 0 where
   pub ends : Status
   -- the status is a refusal in the midst of a stream, which stands though OUT fails to close after it
   pub breaks : Bool
-  -- how many steps of the generator it takes at most, where that is said
-  pub most_steps : Option ℕ
+  pub steps : StepBound
 
 -- the files once OUT has these of its bytes, where they are told
 abbrev pub files_with : Option Out → Option Files → Option Files
@@ -45,11 +51,13 @@ work_calls (Err status) = 0
 abbrev pub all_calls : Meant Work → ℕ
 all_calls meant = meant.calls + work_calls meant.result
 
-abbrev pub IsWithinSteps : Option ℕ → ℕ → ℕ → Type 0
-IsWithinSteps None before now = Unit {0}
-IsWithinSteps (Some most) before now = (before ≤ now) × (now ≤ before + most)
+-- the steps that were counted are within the bound, which is said of most work where its device didn't fail
+abbrev pub IsWithinSteps : StepBound → Status → ℕ → ℕ → Type 0
+IsWithinSteps Uncounted status before now = Unit {0}
+IsWithinSteps NoSteps status before now = now ≡ before
+IsWithinSteps (UpTo most) status before now = status ≢ DepotFault → now ≤ before + most
 
 -- a refusal takes no step of the generator, and work at most its own
-abbrev pub TakesSteps : Result Work Status → ℕ → ℕ → Type 0
-TakesSteps (Ok work) before now = IsWithinSteps work.most_steps before now
-TakesSteps (Err status) before now = now ≡ before
+abbrev pub TakesSteps : Result Work Status → Status → ℕ → ℕ → Type 0
+TakesSteps (Ok work) status before now = IsWithinSteps work.steps status before now
+TakesSteps (Err refusal) status before now = now ≡ before

@@ -4,7 +4,7 @@
 mod status;
 mod telling;
 
-pub use status::{LimitKind, Status, StreamCause};
+pub use status::{ClearCause, LimitKind, Status, StreamCause};
 pub use telling::tell;
 
 #[cfg(test)]

@@ -2,7 +2,11 @@ ghost use Rattle.std.specs.Prelude.{◌≡◌};
 ghost use Rattle.sd_status.specs.Exits.{code_of};
 
 use sd_book::BookLimit;
+use sd_card::CardFault;
 use sd_cause::NoMemory;
+use sd_ecm::EcmFault;
+use sd_emm::EmmFault;
+use sd_psi::FormFault;
 use sd_site::SiteFault;
 use std::alloc::AllocError;
 
@@ -15,6 +19,8 @@ pub enum Status {
     Usage,
     /// There is no file of the name that this word is, or no folder for a file to be made.
     Missing(u8),
+    /// The stream is closed, and the card's leaf is revoked in this period of it, before which it is in none.
+    Revoked { leaf: u32, period: u32 },
     /// The device failed at a file.
     DepotFault,
     /// The device failed at printing.
@@ -23,12 +29,24 @@ pub enum Status {
     BadSite(SiteFault),
     /// This line of the file that this word names is the first refused one.
     BadBook { word: u8, line: u32 },
+    /// The card's file is refused.
+    BadCard(CardFault),
+    /// This packet of the clear stream is the first that is refused.
+    BadClear { packet: u64, cause: ClearCause },
     /// This packet of the stream is the first that breaks a rule.
     BadStream { packet: u64, cause: StreamCause },
     /// Something is over its limit.
     Limit(LimitKind),
     /// Memory is wanting.
     NoMemory,
+    /// The stream is closed, and of this period some section was never seen and none that entitles the leaf.
+    Unheard { leaf: u32, period: u32 },
+    /// The stream ends before this control message, which is the next one awaited.
+    Unclosed(u64),
+    /// The stream is closed, and so many of the clear packets that its closing message counts were not written.
+    Gaps(u64),
+    /// No CAT of the stream is for the card's system.
+    NoCat,
     /// This word is no decimal, or its number is out of its range.
     BadWord(u8),
 }
@@ -42,16 +60,44 @@ impl Status {
             Status::Done => 0,
             Status::Usage => 1,
             Status::Missing(_) => 2,
+            Status::Revoked { .. } => 3,
             Status::DepotFault => 4,
             Status::PrintFault => 5,
             Status::BadSite(_) => 6,
             Status::BadBook { .. } => 7,
+            Status::BadCard(_) => 8,
+            Status::BadClear { .. } => 9,
             Status::BadStream { .. } => 10,
             Status::Limit(_) => 11,
             Status::NoMemory => 12,
+            Status::Unheard { .. } => 13,
+            Status::Unclosed(_) => 14,
+            Status::Gaps(_) => 15,
+            Status::NoCat => 16,
             Status::BadWord(_) => 17,
         }
     }
+}
+
+/// Why a packet of a clear stream is refused.
+#[derive(Clone, Copy, Debug, PartialEq, Eq)]
+pub enum ClearCause {
+    /// The stream ends within it: fewer than 188 bytes are left.
+    Torn,
+    /// It does not begin with the sync byte.
+    NoSync,
+    /// It is scrambled.
+    AlreadyScrambled,
+    /// Its PID is 1 or one of the broadcast's own messages.
+    PidTaken(u16),
+    /// It is on PID 0 and no PAT by itself.
+    PatForm(FormFault),
+    /// It is a PMT without room that begins with the project's CA_descriptor.
+    PmtForm(FormFault),
+    /// It would be the 257th PID with a position.
+    TooManyPids,
+    /// As many packets as a clear stream may have stand before it.
+    TooLong,
 }
 
 /// Why a packet of a stream is refused.
@@ -61,6 +107,26 @@ pub enum StreamCause {
     Torn,
     /// It does not begin with the sync byte.
     NoSync,
+    /// As many packets as a stream may have stand before it.
+    TooLong,
+    /// The key that it gives for this period isn't the one that it is to be.
+    WrongKey {
+        period: u32,
+        found: [u8; 16],
+        due: [u8; 16],
+    },
+    /// The control word of this number that it gives isn't the one that it is to be.
+    WrongWord {
+        word: u32,
+        found: [u8; 16],
+        due: [u8; 16],
+    },
+    /// It is a faulty section of entitlements.
+    BadEmm(EmmFault),
+    /// It is a faulty part of a control message.
+    BadEcm(EcmFault),
+    /// It is scrambled as none is under the control word.
+    Parity,
 }
 
 /// What is over its limit.
@@ -70,8 +136,8 @@ pub enum LimitKind {
     SiteBytes,
     /// A book file has at most 33,554,432 bytes.
     BookBytes,
-    /// A stream file has at most 67,108,864 bytes.
-    StreamBytes,
+    /// A card's file has at most 8,192 bytes.
+    CardBytes,
     /// A limit of a book.
     Book(BookLimit),
 }

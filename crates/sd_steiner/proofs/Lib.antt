@@ -13,3 +13,4 @@ pub mod Cuts
 pub mod Added
 pub mod Sorting
 pub mod There
+pub mod Heights

@@ -3,6 +3,7 @@
 ghost use Rattle.std.specs.Prelude.{◌≡◌, ℕ, ◌+◌, ◌^◌, ◌<◌, ◌≤◌, ◌↔◌, Bool, List, Contains, length, All};
 ghost use Rattle.sd_tree.specs.declared.set.SetName.{SetName};
 ghost use Rattle.sd_tree.specs.Leaves.{unrevoked};
+ghost use Rattle.sd_tree.specs.SetNames.{IsOfHeight};
 ghost use Rattle.sd_steiner.specs.Partition.{IsPartition, IsSmall};
 ghost use Rattle.sd_steiner.specs.Chains.{IsChainCover};
 ghost use Rattle.sd_steiner.specs.Cover.{cover_by, cover_of};
@@ -42,4 +43,10 @@ pub fn cover_unites()
 pub fn cover_is_small()
     ensures { (d : ℕ) (revoked : List ℕ) (sets : List SetName) → d < 32 → All (λ u. u < 2 ^ d) revoked →
         IsChainCover d revoked sets → IsSmall sets (length revoked) }
+{}
+
+/// The sets of a chain cover are of the tree's height.
+pub fn sets_are_of_height()
+    ensures { (d : ℕ) (revoked : List ℕ) (sets : List SetName) → All (λ u. u < 2 ^ d) revoked →
+        IsChainCover d revoked sets → All (IsOfHeight d) sets }
 {}

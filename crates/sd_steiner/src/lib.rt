@@ -6,7 +6,7 @@ mod walk;
 
 pub use laws::{
     cover_is_listed, cover_is_small, cover_unites, one_cover, same_leaves_same_cover,
-    same_nodes_same_cover,
+    same_nodes_same_cover, sets_are_of_height,
 };
 pub use walk::{CoverFault, cover};
 

@@ -1,5 +1,3 @@
 pub mod Inspected
 pub mod Watching
-pub mod Whole
-pub mod Progress
 pub mod Staged

@@ -1,12 +1,13 @@
 -- The inspector as a stage of packets.
-use Rattle.std.specs.Prelude.{◌≡◌, ℕ, ◌-◌, ◌^◌, ◌<◌, Bool, false, List, [], ◌∷◌, length, Option}
+use Rattle.std.specs.Prelude.{◌≡◌, ℕ, ◌-◌, ◌^◌, ◌<◌, Bool, true, false, List, [], ◌∷◌, length, Option}
 use Rattle.std.specs.List.{flat_map}
+use Rattle.sd_cause.specs.declared.memory.NoMemory.{NoMemory}
 use Rattle.sd_packet.specs.Header.{pid_of}
 use Rattle.sd_section.specs.Assembled.{Assembling}
 use Rattle.sd_lines.specs.Lines.{line_of}
 use Rattle.sd_tables.specs.Inspected.{sections_at}
 use Rattle.sd_tables.specs.Watching.{IsAfter}
-use Rattle.sd_tables.specs.declared.stage.TableStage.{TableStage}
+use Rattle.sd_tables.specs.declared.inspector.Inspector.{Inspector}
 
 -- what the inspector keeps: marks of the watched PIDs, their assemblers, how many packets it was offered, and whether memory was wanting
 pub record Inspecting : Type 0 where
@@ -15,10 +16,10 @@ pub record Inspecting : Type 0 where
   pub number : ℕ
   pub wanting : Bool
 
-abbrev pub seen : TableStage → Inspecting
+abbrev pub seen : Inspector → Inspecting
 seen stage = record {
-  marks = stage.inspector.watched.marks.items;
-  places = stage.inspector.assemblers.items;
+  marks = stage.assemblies.watched.marks.items;
+  places = stage.assemblies.assemblers.items;
   number = stage.number;
   wanting = stage.wanting;
 }
@@ -41,9 +42,10 @@ pub record Ends (s t : Inspecting) (bytes : List ℕ) (steps : ℕ) : Type 0 whe
   pub same : t ≡ s
   pub no_steps : steps ≡ 0
 
--- where memory was wanting nothing is written
-pub record Refuses (bytes : List ℕ) (steps : ℕ) : Type 0 where
+-- where memory is wanting nothing is written, and that is kept
+pub record Refuses (t : Inspecting) (bytes : List ℕ) (steps : ℕ) : Type 0 where
   pub nothing : bytes ≡ []
+  pub kept : t.wanting ≡ true
   pub no_steps : steps ≡ 0
 
 -- it may be offered a packet: it stands after some, unless memory was wanting
@@ -51,5 +53,13 @@ abbrev pub IsReady : Inspecting → Type 0
 IsReady s = s.wanting ≡ false → (before : List (List ℕ)) × IsAfter before s.marks s.places
 
 -- what a packet comes to
-abbrev pub inspector_does : TableStage → List ℕ → TableStage → List ℕ → ℕ → Type 0
+abbrev pub inspector_does : Inspector → List ℕ → Inspector → List ℕ → ℕ → Type 0
 inspector_does s packet t bytes steps = Inspects (seen s) packet (seen t) bytes steps
+
+-- what the end of the stream comes to
+abbrev pub inspector_ends : Inspector → Inspector → List ℕ → ℕ → Type 0
+inspector_ends s t bytes steps = Ends (seen s) (seen t) bytes steps
+
+-- what a refusal comes to
+abbrev pub inspector_refuses : Inspector → Option (List ℕ) → NoMemory → Inspector → List ℕ → ℕ → Type 0
+inspector_refuses s packet fault t bytes steps = Refuses (seen t) bytes steps

@@ -1,110 +1,80 @@
-ghost use Rattle.std.specs.Prelude.{◌≡◌, ◌<◌, ◌++◌, ◌∷◌, [], ℕ, List, None, IfOk, OnOk, get_or, replicate, slice_set, string_bytes, vec_len};
-ghost use Rattle.std.specs.List.{flat_map};
-ghost use Rattle.sd_packet.specs.Header.{pid_of};
-ghost use Rattle.sd_section.specs.Assembled.{Fed, after, all_lent};
-ghost use Rattle.sd_lines.specs.Lines.{line_of};
-ghost use Rattle.sd_tables.specs.Inspected.{sections_at};
-ghost use Rattle.sd_tables.specs.Watching.{naming, IsLearned, IsPlace, AreIdle, IsAfter};
+ghost use Rattle.std.specs.Prelude.{[], None, Some, IfOk, if◌then◌else◌};
+ghost use Rattle.sd_tables.specs.Staged.{inspector_does, inspector_ends, inspector_refuses, seen, IsReady, StandsAfter};
 
-use crate::watched::{PIDS, Watched};
+use crate::assemblies::Assemblies;
 use sd_cause::NoMemory;
-use sd_lines::push_line;
+use sd_engine::{Stage, StageFault};
 use sd_packet::Packet;
-use sd_section::Assembler;
+use sd_ports::{Sink, write_all};
+use sd_steps::Steps;
 use std::alloc::Global;
+use std::sync::ledger::Ledger;
 
-/// What the inspector keeps of the packets so far.
+/// The inspector as a stage: it writes a line for each section that a packet completes on a watched PID (this project,
+/// docs/FORMATS.md, Inspector).
 #[derive(Drop)]
 pub struct Inspector {
-    watched: Watched,
-    assemblers: Vec<Option<Assembler>>,
-    pub ghost places: { vec_len assemblers ≡ 8192 },
+    alloc: Global,
+    assemblies: Assemblies,
+    number: u64,
+    wanting: bool,
 }
 
 impl Inspector {
     /// Before the first packet.
     pub fn new(alloc: Global) -> Result<Inspector, NoMemory>
-        ensures { IfOk result (λ inspector. IsAfter [] inspector.watched.marks.items inspector.assemblers.items) }
+        ensures value { IfOk result (λ stage. StandsAfter [] (seen stage)) }
     {
         Ok(Inspector {
-            watched: Watched::new(alloc)?,
-            assemblers: no_assemblers(alloc)?,
+            alloc,
+            assemblies: Assemblies::new(alloc)?,
+            number: 0,
+            wanting: false,
         })
     }
+}
 
-    /// Puts the lines of the sections that a packet completes after the text.
-    pub fn take(
+impl<K: Sink, L: Ledger> Stage<K, L> for Inspector {
+    type Fault = NoMemory;
+
+    ghost live = { λ s. IsReady (seen s) };
+
+    ghost kept = { λ s. if s.wanting then Some (record {}) else None };
+
+    ghost does = { inspector_does };
+
+    ghost ends = { inspector_ends };
+
+    ghost refuses = { inspector_refuses };
+
+    fn offer(
         &mut self,
-        alloc: Global,
-        number: u64,
         packet: &Packet,
-        text: &mut String,
-    ) -> Result<(), NoMemory>
-        requires { AreIdle self.old.assemblers.items }
-        ensures lines { (before : List (List ℕ)) → IsAfter before self.old.watched.marks.items self.old.assemblers.items →
-            OnOk result (string_bytes text.new
-            ≡ string_bytes text.old ++ flat_map (line_of number (pid_of packet.now)) (sections_at packet.now before)) }
-        ensures after { (before : List (List ℕ)) → IsAfter before self.old.watched.marks.items self.old.assemblers.items →
-            OnOk result (IsAfter (packet.now ∷ before) self.new.watched.marks.items self.new.assemblers.items) }
-    {
-        let pid = packet.pid();
-        if !self.watched.has(pid) {
-            return Ok(());
+        out: &mut K,
+        steps: &mut Steps<L>,
+    ) -> Result<(), StageFault<NoMemory>> {
+        if self.wanting {
+            return Err(StageFault::Refused(NoMemory));
         }
-        let mut assembler = self.take_out(alloc, pid)?;
-        assembler.feed(packet.unit_start(), packet.counter(), packet.payload());
-        show(alloc, number, pid, &mut assembler, &mut self.watched, text)?;
-        self.assemblers[usize::from(pid)] = Some(assembler);
+        let mut text = String::new(self.alloc);
+        if let Err(fault) = self
+            .assemblies
+            .take(self.alloc, self.number, packet, &mut text)
+        {
+            self.wanting = true;
+            return Err(StageFault::Refused(fault));
+        }
+        self.number = self.number.saturating_add(1);
+        match write_all(out, text.as_bytes()) {
+            Ok(()) => Ok(()),
+            Err(_) => Err(StageFault::Write),
+        }
+    }
+
+    fn close(&mut self, out: &mut K, steps: &mut Steps<L>) -> Result<(), StageFault<NoMemory>> {
+        if self.wanting {
+            return Err(StageFault::Refused(NoMemory));
+        }
         Ok(())
     }
-
-    // Takes the assembler of a PID out of its place.
-    fn take_out(&mut self, alloc: Global, pid: u16) -> Result<Assembler, NoMemory>
-        requires pid { pid < 8192 }
-        requires idle { AreIdle self.old.assemblers.items }
-        ensures lent { IfOk result (λ assembler. assembler.waiting ≡ []) }
-        ensures place { (packets : List Fed) → IsPlace packets (get_or self.old.assemblers.items pid None) →
-            IfOk result (λ assembler. assembler ≡ all_lent (after packets)) }
-        ensures others { self.new.assemblers.items ≡ slice_set self.old.assemblers.items pid None }
-        ensures watched { self.new.watched.marks.items ≡ self.old.watched.marks.items }
-    {
-        match self.assemblers[usize::from(pid)].take() {
-            Some(assembler) => Ok(assembler),
-            None => Assembler::new(alloc),
-        }
-    }
-}
-
-// A place for the assembler of each PID.
-fn no_assemblers(alloc: Global) -> Result<Vec<Option<Assembler>>, NoMemory>
-    ensures { IfOk result (λ places. places.items ≡ replicate 8192 None) }
-{
-    let Ok(mut places) = Vec::with_capacity(alloc, PIDS) else {
-        return Err(NoMemory);
-    };
-    for _pid in 0..PIDS {
-        places.push(None).unwrap();
-    }
-    Ok(places)
-}
-
-// Puts the lines of the sections that an assembler lends after the text, as completed by the packet of this number on this
-// PID, and watches the PIDs that they name.
-fn show(
-    alloc: Global,
-    number: u64,
-    pid: u16,
-    assembler: &mut Assembler,
-    watched: &mut Watched,
-    text: &mut String,
-) -> Result<(), NoMemory>
-    ensures lines { OnOk result (string_bytes text.new ≡ string_bytes text.old ++ flat_map (line_of number pid) assembler.old.waiting) }
-    ensures learned { OnOk result (IsLearned (naming pid assembler.old.waiting) watched.old.marks.items watched.new.marks.items) }
-    ensures lent { OnOk result (assembler.new ≡ all_lent assembler.old) }
-{
-    while let Some(section) = assembler.next() {
-        push_line(alloc, text, number, pid, section)?;
-        watched.learn(pid, section);
-    }
-    Ok(())
 }

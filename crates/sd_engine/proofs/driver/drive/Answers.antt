@@ -20,17 +20,19 @@ pub returns-in-Ok-None-default-clause-value : goal.returns-in-Ok-None-default-cl
 returns-in-Ok-None-default-clause-value g c =
     all_closed _ _ _ _ _ _ _ _ _ _ _ _ _ _ _ _ c.loop-count.invariant.way
     (subst (Gives _ _ _ _) c.in-Ok-None-default.field-0-0-is c.in-Ok-None-default.ensures.value) c.close.ensures.value
+    (omega (arith, c.loop-count-test.true))
 
 pub returns-in-Err-offer-clause-value : goal.returns-in-Err-offer-clause-value
 returns-in-Err-offer-clause-value g c =
     rw c.stopped.ensures (
     packet_stopped _ _ _ _ _ _ _ _ _ _ _ _ _ _ _ _ c.offer.result _ c.loop-count.invariant.way
     (subst (Gives _ _ _ _) c.in-Ok-Some-default.field-0-0-is c.in-Ok-Some-default.ensures.value) c.in-Err-offer.is c.offer.ensures.fault
-    c.offer.ensures.prefix)
+    c.offer.ensures.prefix (omega (arith, c.loop-count-test.true)))
 
 pub returns-in-Err-clause-value : goal.returns-in-Err-clause-value
 returns-in-Err-clause-value g c =
-    rw c.broken.ensures (not_fed _ _ _ _ _ _ _ _ _ _ _ _ c.loop-count.invariant.way c.in-Err.ensures.fault)
+    rw c.broken.ensures (not_fed _ _ _ _ _ _ _ _ _ _ _ _ c.loop-count.invariant.way c.in-Err.ensures.fault
+    (omega (arith, c.loop-count-test.true)))
 
 pub returns-in-Ok-None-default-next-clause-value :
     goal.returns-in-Ok-None-default-next-clause-value
@@ -38,7 +40,7 @@ returns-in-Ok-None-default-next-clause-value g c =
     let most : c.loop-count.count ≡ most_packets = omega (arith, c.loop-count-test.false, c.loop-count.auto.count-end) in
     all_closed _ _ _ _ _ _ _ _ _ _ _ _ _ _ _ _ (recounted _ _ _ _ _ _ c.loop-count.invariant.way most)
     (subst (Gives _ _ _ _) c.in-Ok-None-default-next.field-0-0-is c.in-Ok-None-default-next.ensures.value)
-    c.close-in-Ok-None-default-next.ensures.value
+    c.close-in-Ok-None-default-next.ensures.value (omega arith)
 
 pub returns-in-Ok-Some-default-next-clause-value :
     goal.returns-in-Ok-Some-default-next-clause-value

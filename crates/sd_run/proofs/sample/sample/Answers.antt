@@ -1,7 +1,7 @@
 use Rattle.sd_sample.specs.Sample.{sample_of}
 use Rattle.sd_status.specs.Outside.{place}
+use Rattle.sd_status.specs.Work.{NoSteps}
 use Rattle.sd_run.specs.Shown.{shown_word}
-use Rattle.std.proofs.Common.{Some}
 use Rattle.sd_status.proofs.Givens.{any_given}
 use Rattle.sd_run.proofs.Making.{made_obeys}
 use Rattle.sd_run.proofs.sample.sample.Goals as goal
@@ -14,6 +14,6 @@ returns g c page steps =
     record {
       given = given.given;
       is_given = given.is_given;
-      obeyed = made_obeys (Some 0) (shown_word c.args.out) (sample_of c.args.number c.args.packets) a (place g.D.Depot c.write_sample.new.depot)
+      obeyed = made_obeys NoSteps (shown_word c.args.out) (sample_of c.args.number c.args.packets) a (place g.D.Depot c.write_sample.new.depot)
           page steps c.write_sample.result c.told.result c.told.ensures w.file w.cause w.ports w.calls.most;
     }

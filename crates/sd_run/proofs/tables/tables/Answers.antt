@@ -1,35 +1,76 @@
-use Rattle.std.proofs.Common.{refl}
-use Rattle.std.proofs.lemmas.Result.{err_from_is_err_and}
-use Rattle.sd_engine.specs.Stream.{break_of}
-use Rattle.sd_status.specs.declared.status.LimitKind.TheVariants.{StreamBytes}
+use Rattle.std.proofs.Common.{refl, sym, ◌∙◌, ◌≡◌, ℕ, inl, inr, arith}
+use Rattle.sd_ports.proofs.Calls.{twice_called, open_as_before}
+use Rattle.sd_engine.specs.Taken.{end_of}
+use Rattle.sd_status.specs.declared.status.Status.TheVariants.{DepotFault, NoMemory}
 use Rattle.sd_status.specs.Outside.{place, page}
-use Rattle.sd_status.specs.Meant.{within, value}
+use Rattle.sd_status.specs.Meant.{all_of, value}
 use Rattle.sd_status.specs.Comes.{status_of}
-use Rattle.sd_status.proofs.Follow.{looks_follows, looks_reads, prints_follows}
-use Rattle.sd_run.specs.declared.files.TheConstants.{MOST_STREAM_BYTES}
+use Rattle.sd_status.proofs.Follow.{looks_follows}
+use Rattle.sd_status.proofs.Streams.{faults_added, reading_follows}
 use Rattle.sd_run.specs.Tables.{inspecting, tables_meaning}
 use Rattle.sd_run.specs.Shown.{shown_word}
 use Rattle.sd_run.proofs.Inspected.{stream_ends}
+use Rattle.sd_run.proofs.Looked.{bytes_seen, opened_got, opens_missing, opens_stopped}
 use Rattle.sd_run.proofs.tables.tables.Goals as goal
 
-pub returns-in_err-bytes : goal.returns-in_err-bytes
+pub returns-in-Err-Missing : goal.returns-in-Err-Missing
 unfolding tables_meaning
-returns-in_err-bytes g c steps =
-    let p = err_from_is_err_and c.from_residual.result c.from_residual.ensures.1 in
+returns-in-Err-Missing g c steps =
     let stream = shown_word c.args.stream in
-    rw (p.1, p.2) (looks_follows (λ bytes. bytes.items) (within stream.number MOST_STREAM_BYTES StreamBytes) (λ bytes. value (inspecting bytes)) stream
-    (place g.D.Depot c.args.depot.now) (place g.D.Depot c.read_stream.new.depot) (page g.P.Sink c.args.print.now) steps
-    c.in_err-bytes.field-0.0 c.in_err-bytes.ensures)
+    let p = place g.D.Depot c.args.depot.now in
+    let q = place g.D.Depot c.open_in.new.self in
+    let h = rw c.in-Err-Missing.field-0-is at c.in-Err-Missing.ensures in
+    looks_follows bytes_seen (all_of stream.number) (λ bytes. value (inspecting bytes)) stream p q
+    (page g.P.Sink c.args.print.now) steps _
+    (opens_missing stream.number stream.text p q (h.not_there refl)
+    (record { files = h.files; made = h.made; ports = h.ports.refused; calls = let n = h.calls in omega (arith, n) })
+    (h.cause.no_fault (λ e. cc)) (h.cause.missing refl))
+
+pub returns-in-Err-Failed : goal.returns-in-Err-Failed
+unfolding tables_meaning
+returns-in-Err-Failed g c steps =
+    let stream = shown_word c.args.stream in
+    let p = place g.D.Depot c.args.depot.now in
+    let q = place g.D.Depot c.open_in.new.self in
+    let h = rw c.in-Err-Failed.field-0-is at c.in-Err-Failed.ensures in
+    looks_follows bytes_seen (all_of stream.number) (λ bytes. value (inspecting bytes)) stream p q
+    (page g.P.Sink c.args.print.now) steps _
+    (opens_stopped stream.number stream.text p q DepotFault (inr (refl, h.cause.failed refl))
+    (record { files = h.files; made = h.made; ports = h.ports.refused; calls = let n = h.calls in omega (arith, n) })
+    (h.cause.no_miss (λ e. cc)))
+
+pub returns-in-Err-NoMemory : goal.returns-in-Err-NoMemory
+unfolding tables_meaning
+returns-in-Err-NoMemory g c steps =
+    let stream = shown_word c.args.stream in
+    let p = place g.D.Depot c.args.depot.now in
+    let q = place g.D.Depot c.open_in.new.self in
+    let h = rw c.in-Err-NoMemory.field-0-is at c.in-Err-NoMemory.ensures in
+    looks_follows bytes_seen (all_of stream.number) (λ bytes. value (inspecting bytes)) stream p q
+    (page g.P.Sink c.args.print.now) steps _
+    (opens_stopped stream.number stream.text p q NoMemory (inl (refl, h.cause.no_fault (λ e. cc)))
+    (record { files = h.files; made = h.made; ports = h.ports.refused; calls = let n = h.calls in omega (arith, n) })
+    (h.cause.no_miss (λ e. cc)))
 
 pub returns : goal.returns
 unfolding tables_meaning
 returns g c steps =
     let stream = shown_word c.args.stream in
-    let printed = rw c.deref.ensures.value at c.print_tables.ensures in
     let p = place g.D.Depot c.args.depot.now in
-    let q = place g.D.Depot c.read_stream.new.depot in
-    let bytes = c.in_ok-bytes.bytes in
-    prints_follows (λ bytes. inspecting bytes.items) (tables_meaning stream) p q
-    (page g.P.Sink c.args.print.now) (page g.P.Sink c.print_tables.new.print) steps bytes (status_of c.print_tables.result)
-    refl (stream_ends (break_of bytes.items))
-    (looks_reads (λ bytes. bytes.items) inspecting (within stream.number MOST_STREAM_BYTES StreamBytes) stream p q bytes c.in_ok-bytes.ensures) printed
+    let q = place g.D.Depot c.close_in.new.self in
+    let status = status_of c.print_tables-printed.result in
+    let h = c.in-Ok.ensures in
+    let k = c.close_in.ensures in
+    let seen = c.print_tables-printed.ensures.value in
+    reading_follows inspecting stream seen.bytes p q (page g.P.Sink c.args.print.now) (page g.P.Sink c.print_tables-printed.new.print)
+    steps status refl (stream_ends (end_of seen.bytes)) (opened_got p.files stream.text _ seen.bytes h.opened seen.is_left)
+    (record {
+      files = k.files ∙ h.files;
+      made = k.made ∙ h.made;
+      misses = k.misses ∙ h.cause.no_miss (λ e. cc);
+      ports = open_as_before _ _ _ h.ports.given k.ports;
+      calls = let n : q.calls ≡ _ = twice_called p.calls _ q.calls h.calls k.calls in omega (arith, n);
+      faults = faults_added p.faults _ q.faults _ _ status (h.cause.no_fault (λ e. cc)) k.within k.faults h.fresh
+          c.print_tables-printed.ensures.cause;
+    })
+    seen.prints

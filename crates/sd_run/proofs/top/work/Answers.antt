@@ -12,3 +12,9 @@ returns-in-Sample g c = rw c.in-Sample.is (c.sample.ensures (page g.P.Sink c.arg
 
 pub returns-in-Tables : goal.returns-in-Tables
 returns-in-Tables g c = rw c.in-Tables.is (c.tables.ensures c.args.steps.now)
+
+pub returns-in-Head : goal.returns-in-Head
+returns-in-Head g c = rw c.in-Head.is (c.head.ensures (page g.P.Sink c.args.print.now))
+
+pub returns-in-Receive : goal.returns-in-Receive
+returns-in-Receive g c = rw c.in-Receive.is (c.receive.ensures (page g.P.Sink c.args.print.now))

@@ -1,0 +1,154 @@
+ghost use Rattle.std.specs.Prelude.{◌≡◌, ◌≢◌, ◌-◌, ◌^◌, ◌<◌, ◌==◌, ◌&&◌, ℕ, List, true, false, IsNone, nat_le};
+ghost use Rattle.std.specs.Prelude.{length, get_or, slice_index};
+ghost use Rattle.sd_packet.specs.Header.{pid_of, payload_start_of};
+ghost use Rattle.sd_packet.specs.Positions.{is_placed, first_position};
+ghost use Rattle.sd_site.specs.Fields.{fields_of};
+ghost use Rattle.sd_broadcast.specs.Kinds.{kind_of};
+ghost use Rattle.sd_broadcast.specs.declared.kind.Kind.TheVariants.{Passed, Pmt};
+ghost use Rattle.sd_broadcast.specs.Refused.{refusal_of, is_taken as is_taken_pid, pat_wrong, is_full_own};
+ghost use Rattle.sd_broadcast.specs.Refused.{is_one_too_many};
+ghost use Rattle.sd_clear.specs.After.{IsAfter, MayFollow};
+
+use crate::clear::{Clear, FIRST_POSITION};
+use sd_broadcast::{ClearFault, Kind};
+use sd_ecm::MOST_PLACES;
+use sd_packet::Packet;
+use sd_psi::{FormFault, pat_of, restore_pmt, rewrite_pmt};
+use sd_site::Site;
+
+impl Clear {
+    /// How many packets were taken.
+    pub fn count(&self) -> u32
+        ensures { result ≡ self.now.count }
+    {
+        self.count
+    }
+
+    // Whether the PAT in force gives the PID to a PMT.
+    fn is_pmt(&self, pid: u16) -> bool
+        requires { pid < 8192 }
+        ensures { result ≡ get_or self.now.pmts.items pid false }
+    {
+        self.pmts[usize::from(pid)]
+    }
+
+    // The position of the PID.
+    pub(crate) fn position_of(&self, pid: u16) -> u64
+        requires { pid < 8192 }
+        ensures { result ≡ slice_index self.now.positions.items pid }
+    {
+        self.positions[usize::from(pid)]
+    }
+
+    // What becomes of the packet.
+    pub(crate) fn kind(&self, packet: &Packet) -> Kind
+        ensures value { (before : List (List ℕ)) → IsAfter before self.now → result ≡ kind_of before packet.now }
+        ensures placed { result ≢ Passed → is_placed packet.now ≡ true }
+    {
+        if !packet.is_placed() {
+            Kind::Passed
+        } else if self.is_pmt(packet.pid()) {
+            Kind::Pmt
+        } else {
+            Kind::Scrambled
+        }
+    }
+
+    /// Why the packet is refused, by the first rule that it breaks (docs/FORMATS.md, Broadcast).
+    pub fn refusal(&self, site: &Site, packet: &Packet) -> Option<ClearFault>
+        ensures value { (before : List (List ℕ)) → IsAfter before self.now →
+            result ≡ refusal_of (fields_of site.now) before packet.now }
+        ensures follows { IsNone result → MayFollow self.now packet.now }
+    {
+        let number = u64::from(self.count);
+        let pid = packet.pid();
+        if packet.scrambling() != 0 {
+            return Some(ClearFault::AlreadyScrambled(number));
+        }
+        if is_taken(site, pid) {
+            return Some(ClearFault::PidTaken(number, pid));
+        }
+        if let Some(fault) = pat_fault(packet) {
+            return Some(ClearFault::PatForm(number, fault));
+        }
+        if self.is_full_own(site, packet) {
+            return Some(ClearFault::PmtForm(number, FormFault::NoRoom));
+        }
+        if self.is_one_too_many(packet) {
+            return Some(ClearFault::TooManyPids(number));
+        }
+        if self.is_at_end() {
+            return Some(ClearFault::TooLong(number));
+        }
+        None
+    }
+
+    // Whether it is a PMT that can't be rewritten, and that could be restored all the same.
+    fn is_full_own(&self, site: &Site, packet: &Packet) -> bool
+        ensures { (before : List (List ℕ)) → IsAfter before self.now →
+            result ≡ is_full_own (fields_of site.now) (kind_of before packet.now) packet.now }
+    {
+        self.kind(packet) == Kind::Pmt && is_full(site, packet)
+    }
+
+    // Whether another PID would have a position than those that may have one.
+    fn is_one_too_many(&self, packet: &Packet) -> bool
+        ensures value { (before : List (List ℕ)) → IsAfter before self.now →
+            result ≡ is_one_too_many before packet.now }
+        ensures room { result ≡ false → is_placed packet.now ≡ true →
+            slice_index self.now.positions.items (pid_of packet.now) ≡ first_position →
+            length self.now.pids.items < MOST_PLACES }
+    {
+        self.is_first(packet) && self.is_crowded()
+    }
+
+    // Whether as many PIDs have positions as may.
+    fn is_crowded(&self) -> bool
+        ensures { result ≡ nat_le MOST_PLACES (length self.now.pids.items) }
+    {
+        self.pids.len() >= MOST_PLACES
+    }
+
+    // Whether as many packets were taken as may be.
+    fn is_at_end(&self) -> bool
+        ensures { result ≡ (self.now.count == 2 ^ 32 - 1) }
+    {
+        self.count == u32::MAX
+    }
+
+    // Whether the packet is the first that moves its PID's position.
+    fn is_first(&self, packet: &Packet) -> bool
+        ensures { result ≡ (is_placed packet.now
+            && (slice_index self.now.positions.items (pid_of packet.now) == first_position)) }
+    {
+        packet.is_placed() && self.position_of(packet.pid()) == FIRST_POSITION
+    }
+}
+
+// Whether the PID is 1 or that of the site's messages.
+fn is_taken(site: &Site, pid: u16) -> bool
+    ensures { result ≡ is_taken_pid (fields_of site.now) pid }
+{
+    pid == 1 || pid == site.emm || pid == site.ecm
+}
+
+// What is wrong with a packet that is to be a PAT.
+fn pat_fault(packet: &Packet) -> Option<FormFault>
+    ensures { result ≡ pat_wrong packet.now }
+{
+    if packet.pid() == 0 && !packet.payload().is_empty() {
+        pat_of(packet).err()
+    } else {
+        None
+    }
+}
+
+// Whether a PMT can't be rewritten, and could be restored all the same.
+fn is_full(site: &Site, packet: &Packet) -> bool
+    requires { payload_start_of packet.now < 188 }
+    ensures { result ≡ is_full_own (fields_of site.now) Pmt packet.now }
+{
+    let mut copy = *packet;
+    rewrite_pmt(&mut copy, site.ca, site.ecm).is_err()
+        && restore_pmt(&mut copy, site.ca, site.ecm).is_ok()
+}

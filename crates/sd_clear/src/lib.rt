@@ -1,0 +1,14 @@
+//! What a head end keeps of the clear packets that it has taken, and what it makes of the next one.
+#![tactic(auto)]
+
+mod carry;
+mod clear;
+mod judge;
+pub mod laws;
+mod make;
+mod places;
+mod take;
+#[cfg(test)]
+mod tests;
+
+pub use clear::Clear;

@@ -1,0 +1,62 @@
+-- What is kept of control messages after what was heard.
+use Rattle.std.specs.Prelude.{◌≡◌, List, ◌∷◌, Option, Some, None, option_map, if◌then◌else◌, Result, Ok, Err}
+use Rattle.std.specs.Option.{option_map_or}
+use Rattle.sd_ecm.specs.Parts.{Message, message_of}
+use Rattle.sd_ecm.specs.declared.part.Place.{Place}
+use Rattle.sd_ecm.specs.declared.part.EcmPart.{EcmPart}
+use Rattle.sd_ecm.specs.declared.message.EcmHead.{EcmHead}
+use Rattle.sd_ecm.specs.declared.fault.EcmFault.{EcmFault}
+use Rattle.sd_ecm.specs.declared.fault.EcmFault.TheVariants.{Back}
+use Rattle.sd_reception.specs.Heard.{Heard, Controls}
+use Rattle.sd_reception.specs.Stretches.{counted, run_of, run_to, newest, completes}
+use Rattle.sd_reception.specs.Offered.{part_fault, is_back}
+use Rattle.sd_collect.specs.Gathered.{ArePlaces, Gathers, said_by}
+use Rattle.sd_collect.specs.declared.collect.Collect.{Collect}
+use Rattle.sd_collect.specs.declared.collect.Taken.{Taken}
+use Rattle.sd_collect.specs.declared.collect.Taken.TheVariants.{Waits, Complete}
+
+-- the parts that are being collected, the newest first
+unfoldable pub run_in : List Heard → List EcmPart
+run_in past = run_of (counted (newest past).message (newest past).after)
+
+-- kept are what a message says and its positions, or that there is no message
+pub record Keeps (message : Option Message) (head : Option EcmHead) (all : List Place) : Type 0 where
+  pub says : message ≡ option_map (λ kept. message_of kept all) head
+  pub good : ArePlaces all
+
+-- kept are the newest complete message and the parts that came of the next one
+pub record Collects (past : List Heard) (state : Collect) : Type 0 where
+  pub run : Gathers (run_in past) state.run.part state.run.places.items
+  pub last : Keeps (newest past).message state.last state.places.items
+
+-- why a message that is complete is refused
+abbrev pub back_fault : List Heard → Option Message → Option EcmFault
+back_fault past None = None
+back_fault past (Some message) = if is_back past message then Some Back else None
+
+-- why a part is refused: by itself, or as the last of its message [this project, docs/FORMATS.md, Receiver]
+unfoldable pub fault_of : List Heard → EcmPart → Option EcmFault
+fault_of past part =
+    option_map_or Some (part_fault (run_to (newest past) part)) (back_fault past (completes past (Controls part)))
+
+-- Nothing is wrong with a part, and it completes no message.
+pub record IsWaiting (past : List Heard) (part : EcmPart) (state : Collect) : Type 0 where
+  pub fault : fault_of past part ≡ None
+  pub incomplete : completes past (Controls part) ≡ None
+  pub after : Collects (Controls part ∷ past) state
+
+-- Nothing is wrong with a part, and it completes the message that says this; kept are its positions and the message
+-- before it.
+pub record IsComplete (past : List Heard) (part : EcmPart) (head : EcmHead) (state : Collect) : Type 0 where
+  pub fault : fault_of past part ≡ None
+  pub complete : completes past (Controls part) ≡ Some (message_of head state.run.places.items)
+  pub ends : state.run.part ≡ Some part
+  pub says : head ≡ said_by part
+  pub good : ArePlaces state.run.places.items
+  pub last : Keeps (newest past).message state.last state.places.items
+
+-- what a part comes to
+abbrev pub Takes : List Heard → EcmPart → Collect → Result Taken EcmFault → Type 0
+Takes past part state (Ok Waits) = IsWaiting past part state
+Takes past part state (Ok (Complete head)) = IsComplete past part head state
+Takes past part state (Err fault) = fault_of past part ≡ Some fault

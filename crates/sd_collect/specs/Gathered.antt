@@ -1,0 +1,80 @@
+-- The parts that are collected of one control message.
+use Rattle.std.specs.Prelude.{◌≡◌, ◌+◌, ◌≤◌, ◌==◌, if◌then◌else◌, List, [], ◌∷◌, length, reverse, flat_map, All}
+use Rattle.std.specs.Prelude.{Option, Some, None}
+use Rattle.std.specs.Prelude.{Result, Ok, Err}
+use Rattle.sd_ecm.specs.Spelled.{listed}
+use Rattle.sd_ecm.specs.Form.{ArePositioned, AreAscending, AreShort, IsEcm}
+use Rattle.sd_ecm.specs.Parts.{header_of}
+use Rattle.sd_ecm.specs.declared.format.TheConstants.{MOST_PLACES, POSITIONS}
+use Rattle.sd_ecm.specs.declared.part.Place.{Place}
+use Rattle.sd_ecm.specs.declared.part.EcmPart.{EcmPart}
+use Rattle.sd_ecm.specs.declared.message.EcmHead.{EcmHead}
+use Rattle.sd_ecm.specs.declared.fault.EcmFault.{EcmFault}
+use Rattle.sd_reception.specs.Stretches.{run_with}
+use Rattle.sd_reception.specs.Offered.{part_fault}
+
+-- all positions of parts, the newest part first, in the order of the message [this project, docs/FORMATS.md, Messages]
+unfoldable pub places_of : List EcmPart → List Place
+places_of run = flat_map listed (reverse run)
+
+-- what a part says of its message, but for the positions
+abbrev pub said_by : EcmPart → EcmHead
+said_by part = record {
+  version = part.version;
+  number = part.number;
+  period = part.period;
+  word = part.word;
+  clear = part.clear;
+  since = part.since;
+  closing = part.closing;
+  wrapped = part.wrapped;
+  check = part.check;
+}
+
+-- the newest of some parts
+abbrev pub newest_of : List EcmPart → Option EcmPart
+newest_of [] = None
+newest_of (part ∷ run) = Some part
+
+-- positions that a message may have [this project, docs/FORMATS.md, Messages]
+pub record ArePlaces (all : List Place) : Type 0 where
+  pub few : length all ≤ MOST_PLACES
+  pub positioned : ArePositioned all
+  pub ascending : AreAscending all
+  pub short : AreShort all
+
+-- a part in its form, with room for as many positions as a part may have
+pub record IsPart (part : EcmPart) : Type 0 where
+  pub form : IsEcm part
+  pub long : length part.positions ≡ POSITIONS
+
+-- the part stands right after the newest of these, if there is one
+abbrev pub IsNext : List EcmPart → EcmPart → Type 0
+IsNext [] part = Unit {0}
+IsNext (before ∷ run) part = before.part + 1 ≡ part.part
+
+-- each part before says of the message what the newest says
+abbrev pub AreAlike : List EcmPart → Type 0
+AreAlike [] = Unit {0}
+AreAlike (part ∷ run) = All (λ other. header_of other ≡ header_of part) run
+
+-- parts of one message with nothing wrong in them, the newest first
+pub record IsRun (run : List EcmPart) : Type 0 where
+  pub form : All IsPart run
+  pub alike : AreAlike run
+  pub places : ArePlaces (places_of run)
+
+-- kept are the newest of these parts and the positions of all of them
+pub record Gathers (run : List EcmPart) (kept : Option EcmPart) (all : List Place) : Type 0 where
+  pub part : kept ≡ newest_of run
+  pub places : all ≡ places_of run
+  pub good : IsRun run
+
+-- the parts of the message that a part that counts belongs to: it begins one, goes on with these, or ends them
+unfoldable pub next_run : List EcmPart → EcmPart → List EcmPart
+next_run run part = if part.part == 0 then part ∷ [] else run_with part run
+
+-- what parts come to: something is wrong with the newest, or they are kept
+abbrev pub Becomes : List EcmPart → Option EcmPart → List Place → Result Unit EcmFault → Type 0
+Becomes run kept all (Ok done) = (part_fault run ≡ None) × Gathers run kept all
+Becomes run kept all (Err fault) = part_fault run ≡ Some fault

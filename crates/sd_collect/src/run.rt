@@ -1,0 +1,14 @@
+ghost use Rattle.std.specs.Prelude.{◌≤◌, vec_capacity, IfSome};
+ghost use Rattle.std.proofs.Props.{props};
+ghost use Rattle.sd_ecm.specs.declared.format.TheConstants.{POSITIONS, MOST_PLACES};
+
+use sd_ecm::{EcmPart, Place};
+
+/// The parts that came of one control message, one after the other: the newest, and the positions of all.
+#[derive(Drop)]
+pub struct Run {
+    pub(crate) part: Option<EcmPart>,
+    pub(crate) places: Vec<Place>,
+    ghost counted: { IfSome part (λ kept. kept.count ≤ POSITIONS) } by { Prim.hlevel props },
+    ghost room: { MOST_PLACES ≤ vec_capacity places },
+}

@@ -1,0 +1,119 @@
+ghost use Rattle.std.specs.Prelude.{◌≡◌, ◌≤◌, ◌∷◌, [], List, Option, IfOk};
+ghost use Rattle.sd_ecm.specs.Form.{IsEcm, AreAscending};
+ghost use Rattle.sd_ecm.specs.Parts.{Message, message_of};
+ghost use Rattle.sd_ecm.specs.declared.part.EcmPart.{EcmPart};
+ghost use Rattle.sd_reception.specs.Heard.{Heard, Controls};
+ghost use Rattle.sd_reception.specs.Stretches.{current as current_period, exceeds, newest};
+ghost use Rattle.sd_reception.specs.Offered.{is_back as back};
+ghost use Rattle.sd_ecm.specs.declared.message.EcmHead.{EcmHead};
+ghost use Rattle.sd_collect.specs.Collected.{Keeps, Collects, IsComplete, Takes};
+
+use crate::collect::{Collect, Taken};
+use crate::gather::head_of;
+use crate::order::goes_back;
+use crate::run::Run;
+use sd_cause::NoMemory;
+use sd_ecm::{EcmFault, EcmHead, EcmPart, MOST_PLACES, Place};
+use std::alloc::Global;
+use std::mem::swap;
+
+impl Collect {
+    /// Nothing was heard. All memory is taken here.
+    pub fn new(alloc: Global) -> Result<Collect, NoMemory>
+        ensures { IfOk result (λ state. Collects [] state) }
+    {
+        let run = Run::new(alloc)?;
+        match Vec::with_capacity(alloc, MOST_PLACES) {
+            Ok(places) => Ok(Collect {
+                run,
+                last: None,
+                places,
+            }),
+            Err(_) => Err(NoMemory),
+        }
+    }
+
+    /// Takes a part in the current period, or says why it is refused. Where it completes a message, `settle` is to come
+    /// before the next part [this project, docs/FORMATS.md, Receiver].
+    pub fn take(&mut self, current: u32, part: &EcmPart) -> Result<Taken, EcmFault>
+        requires form { IsEcm part.now }
+        ensures value { (past : List Heard) → Collects past self.old → current_period past ≡ current →
+            Takes past part.now self.new result }
+    {
+        if !self.counts(part) {
+            return Ok(Taken::Waits);
+        }
+        if let Err(fault) = self.run.take(part) {
+            return Err(fault);
+        }
+        if self.run.is_empty() || part.part != part.last_part {
+            return Ok(Taken::Waits);
+        }
+        let head = head_of(part);
+        if self.is_back(current, &head) {
+            return Err(EcmFault::Back);
+        }
+        Ok(Taken::Complete(head))
+    }
+}
+
+impl Collect {
+    /// Keeps the message that the last part completed, in place of the one before it.
+    pub fn settle(&mut self)
+        ensures places { self.new.places.items ≡ self.old.run.places.items }
+        ensures value { (past : List Heard) (part : EcmPart) (head : EcmHead) → IsComplete past part head self.old →
+            Collects (Controls part ∷ past) self.new }
+    {
+        swap(&mut self.places, &mut self.run.places);
+        self.last = self.run.head();
+        self.run.clear();
+    }
+
+    /// What the newest complete message says.
+    pub fn last(&self) -> Option<EcmHead>
+        ensures { result ≡ self.now.last }
+    {
+        self.last
+    }
+
+    /// The positions of the newest complete message.
+    pub fn places(&self) -> &[Place]
+        ensures { result.now ≡ self.now.places.items }
+    {
+        &self.places
+    }
+
+    /// The positions that came of the next message.
+    pub fn coming(&self) -> &[Place]
+        ensures { result.now ≡ self.now.run.places.items }
+    {
+        &self.run.places
+    }
+
+    // Whether the part is of a later message than the newest complete one.
+    fn counts(&self, part: &EcmPart) -> bool
+        ensures { (message : Option Message) → Keeps message self.now.last self.now.places.items →
+            result ≡ exceeds message part.now }
+    {
+        match &self.last {
+            Some(last) => last.number < part.number,
+            None => true,
+        }
+    }
+
+    // Whether the message that came goes back.
+    #[tactic(auto, unfolding(sd_reception::specs::Offered::is_back))]
+    fn is_back(&self, current: u32, head: &EcmHead) -> bool
+        ensures { (past : List Heard) → Keeps (newest past).message self.now.last self.now.places.items →
+            AreAscending self.now.run.places.items → current_period past ≡ current →
+            result ≡ back past (message_of head.now self.now.run.places.items) }
+    {
+        if head.period < current {
+            return true;
+        }
+        match &self.last {
+            Some(last) => goes_back(head, &self.run.places, last, &self.places),
+            None => false,
+        }
+    }
+}

@@ -1,0 +1,79 @@
+-- What a drive takes of all the bytes of a stream, and what it answers.
+use Rattle.std.specs.Prelude.{◌≡◌, ℕ, ◌*◌, ◌≤◌, nat_lt, List, length, take, slice_get, if◌then◌else◌, Option, Some, None}
+use Rattle.std.specs.Prelude.{Result, Ok, Err}
+use Rattle.sd_engine.specs.Stream.{packets_of, break_of}
+use Rattle.sd_engine.specs.Stage.{Grew, CutShort}
+use Rattle.sd_engine.specs.Driving.{Moment, most_packets, Passes, Closes, Refuses, IsAllowedAt}
+use Rattle.sd_engine.specs.declared.fault.StreamBreak.{StreamBreak}
+use Rattle.sd_engine.specs.declared.driver.DriveFault.{DriveFault}
+use Rattle.sd_engine.specs.declared.driver.DriveFault.TheVariants.{Broken, TooLong, ReadFault, WriteFault, Refused}
+
+-- how a stream of bytes ends: whole, with a break, or with more bytes after the most packets
+pub data StreamEnd : Type 0 where
+  Whole : StreamEnd
+  Breaks : StreamBreak → StreamEnd
+  RunsOn : StreamEnd
+
+-- the packets of a stream that are taken: those before its break, and no more than the most [this project, docs/FORMATS.md, Streams]
+unfoldable pub taken_of : List ℕ → List (List ℕ)
+taken_of bytes = take most_packets (packets_of bytes)
+
+abbrev pub ended_by : Option StreamBreak → StreamEnd
+ended_by None = Whole
+ended_by (Some found) = Breaks found
+
+-- how it ends [this project, docs/FORMATS.md, Streams]
+unfoldable pub end_of : List ℕ → StreamEnd
+end_of bytes =
+    if nat_lt (length (packets_of bytes)) most_packets then ended_by (break_of bytes)
+    else if nat_lt (188 * most_packets) (length bytes) then RunsOn
+    else Whole
+
+-- these are the bytes to come, where they are told
+abbrev pub IsLeft : Option (List ℕ) → List ℕ → Type 0
+IsLeft None bytes = Unit {0}
+IsLeft (Some left) bytes = left ≡ bytes
+
+-- a packet of the stream, or its end, before which all went through
+pub record IsAt (bytes : List ℕ) (count : ℕ) : Type 0 where
+  pub within : count ≤ length (taken_of bytes)
+  pub end : count ≡ length (taken_of bytes) → end_of bytes ≡ Whole
+
+-- the stage refused there
+pub record RefusesAt {S F : Type 0} (does : S → List ℕ → S → List ℕ → ℕ → Type 0)
+    (refuses : S → Option (List ℕ) → F → S → List ℕ → ℕ → Type 0) (bytes : List ℕ) (a b : Moment S) (fault : F) : Type 0 where
+  pub count : ℕ
+  pub place : IsAt bytes count
+  pub passed : Grew a.sink b.sink a.steps b.steps
+      (Refuses does refuses a.stage (take count (taken_of bytes)) (slice_get (taken_of bytes) count) fault b.stage)
+
+-- a write failed there
+pub record CutAt {S F : Type 0} (does : S → List ℕ → S → List ℕ → ℕ → Type 0) (ends : S → S → List ℕ → ℕ → Type 0)
+    (refuses : S → Option (List ℕ) → F → S → List ℕ → ℕ → Type 0) (bytes : List ℕ) (a b : Moment S) : Type 0 where
+  pub count : ℕ
+  pub place : IsAt bytes count
+  pub mid : Moment S
+  pub passed : Passes does a (take count (taken_of bytes)) mid
+  pub cut : CutShort mid.sink b.sink (IsAllowedAt does ends refuses mid.stage (slice_get (taken_of bytes) count))
+
+-- what the drive of a stream of these bytes answers
+abbrev pub DrivesOver : {S F : Type 0} → (S → List ℕ → S → List ℕ → ℕ → Type 0) → (S → S → List ℕ → ℕ → Type 0)
+    → (S → Option (List ℕ) → F → S → List ℕ → ℕ → Type 0) → List ℕ → Moment S → Moment S → Result ℕ (DriveFault F) → Type 0
+DrivesOver does ends refuses bytes a b (Ok count) =
+    (end_of bytes ≡ Whole) × (count ≡ length (taken_of bytes))
+    × Grew a.sink b.sink a.steps b.steps (Closes does ends a.stage (taken_of bytes) b.stage)
+DrivesOver does ends refuses bytes a b (Err (Broken found)) =
+    (end_of bytes ≡ Breaks found) × Passes does a (taken_of bytes) b
+DrivesOver does ends refuses bytes a b (Err TooLong) = (end_of bytes ≡ RunsOn) × Passes does a (taken_of bytes) b
+DrivesOver does ends refuses bytes a b (Err ReadFault) =
+    (count : ℕ) × (count ≤ length (taken_of bytes)) × Passes does a (take count (taken_of bytes)) b
+DrivesOver does ends refuses bytes a b (Err WriteFault) = CutAt does ends refuses bytes a b
+DrivesOver does ends refuses bytes a b (Err (Refused fault)) = RefusesAt does refuses bytes a b fault
+
+-- the drive is one of a stream whose bytes are all that was left of the source
+pub record IsOver {S F : Type 0} (does : S → List ℕ → S → List ℕ → ℕ → Type 0) (ends : S → S → List ℕ → ℕ → Type 0)
+    (refuses : S → Option (List ℕ) → F → S → List ℕ → ℕ → Type 0) (a b : Moment S) (result : Result ℕ (DriveFault F)) :
+    Type 0 where
+  pub bytes : List ℕ
+  pub left : IsLeft a.left bytes
+  pub drives : DrivesOver does ends refuses bytes a b result

@@ -1,0 +1,4 @@
+pub mod Periods
+pub mod Keeping
+pub mod Finding
+pub mod Judging

@@ -1,0 +1,5 @@
+mod Replayed
+mod Listing
+pub mod Packing
+mod Sets
+mod Periods

@@ -1,0 +1,17 @@
+use Rattle.std.proofs.Common.{refl}
+use Rattle.sd_entitling.specs.Kept.{plan_of}
+use Rattle.sd_entitling.proofs.Periods.{period_is, at_work}
+use Rattle.sd_entitling.proofs.entitling.Entitling.begin.Goals as goal
+
+pub reach_period-requires-clause-period : goal.reach_period-requires-clause-period
+reach_period-requires-clause-period g c =
+    period_is (plan_of c.args.site.now c.args.self.now.book) c.args.t c.min-q.result c.last_period.result
+    c.min-q.ensures
+    c.last_period.ensures.value
+
+pub returns-clause-value : goal.returns-clause-value
+returns-clause-value g c =
+    let plan = plan_of c.args.site.now c.args.self.now.book in
+    at_work plan c.args.t c.min-q.result c.reach_period.new.self _ c.in_ok-reach_period.ensures.value
+    (period_is plan c.args.t c.min-q.result c.last_period.result c.min-q.ensures c.last_period.ensures.value)
+    refl refl refl refl c.new-self.ensures

@@ -1,0 +1,3 @@
+pub mod Crypto
+pub mod Packets
+pub mod Kept

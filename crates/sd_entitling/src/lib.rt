@@ -1,0 +1,13 @@
+//! The period and the crypto period at work in a head end, and what is kept of them.
+#![tactic(auto)]
+
+mod crypto;
+mod entitling;
+mod entries;
+mod replay;
+mod sections;
+#[cfg(test)]
+mod tests;
+
+pub use crypto::CryptoPeriod;
+pub use entitling::Entitling;

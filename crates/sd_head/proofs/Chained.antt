@@ -1,0 +1,128 @@
+-- What a head end writes of packets, one after the other.
+use Rattle.std.proofs.Common.{◌≡◌, ℕ, List, [], ◌∷◌, ◌++◌, refl, sym, ap, subst, ◌∙◌, append_assoc, append-nil, inl}
+use Rattle.std.proofs.Common.{inr}
+use Rattle.std.specs.Prelude.{Option, Some, None}
+use Rattle.std.specs.List.{concat}
+use Rattle.std.specs.Option.{option_map_or}
+use Rattle.std.proofs.lemmas.List.Folds.{concat-append}
+use Rattle.sd_engine.specs.Stage.{Chain, all_from}
+use Rattle.sd_engine.specs.Driving.{Closes, Refuses as Refused}
+use Rattle.sd_engine.proofs.Chains.{chain_writes}
+use Rattle.sd_site.specs.Fields.{SiteFields}
+use Rattle.sd_broadcast.specs.declared.fault.ClearFault.{ClearFault}
+use Rattle.sd_broadcast.specs.Plan.{Plan}
+use Rattle.sd_broadcast.specs.Refused.{refusal_of, refusal_from, IsClear}
+use Rattle.sd_broadcast.specs.Sent.{sent, body, broadcast, bytes_added, bytes_from, closing_of, packets_from}
+use Rattle.sd_broadcast.proofs.Bodies.{body_bytes}
+use Rattle.sd_broadcast.proofs.Sending.{packets_in_turn}
+use Rattle.sd_head.specs.Staged.{head_does, head_ends, head_refuses, IsAfter}
+use Rattle.sd_head.specs.declared.fault.HeadFault.{HeadFault}
+use Rattle.sd_head.specs.declared.fault.HeadFault.TheVariants.{Clear}
+use Rattle.sd_head.specs.declared.head.Head.{Head}
+
+-- the bytes of packets, each after those before it
+all_bytes : (plan : Plan) (before packets : List (List ℕ)) →
+    all_from (bytes_added plan) before packets ≡ bytes_from plan before packets
+unfolding bytes_from
+all_bytes plan before [] = refl
+all_bytes plan before (packet ∷ packets) =
+    ap (λ (rest : List ℕ). bytes_added plan before packet ++ rest) (all_bytes plan (before ++ packet ∷ []) packets)
+
+-- a chain from the beginning
+chained : (plan : Plan) (packets : List (List ℕ)) (s t : Head) (bytes : List ℕ) (steps : ℕ) → IsAfter plan [] s →
+    Chain head_does s packets t bytes steps → (bytes ≡ concat (body plan packets)) × IsAfter plan packets t
+chained plan packets s t bytes steps after chain =
+    let there = chain_writes head_does (IsAfter plan) (bytes_added plan)
+    (λ before u packet v wrote n stands does. ((does plan before stands).1, (does plan before stands).2))
+    [] s packets t bytes steps after chain in
+    (there.0 ∙ (all_bytes plan [] packets ∙ sym (body_bytes plan packets)), there.1)
+
+pub all_written : (plan : Plan) (packets : List (List ℕ)) (s t : Head) (bytes : List ℕ) (steps : ℕ) →
+    IsAfter plan [] s →
+    Chain head_does s packets t bytes steps → bytes ≡ concat (body plan packets)
+all_written plan packets s t bytes steps after chain = (chained plan packets s t bytes steps after chain).0
+
+pub all_after : (plan : Plan) (packets : List (List ℕ)) (s t : Head) (bytes : List ℕ) (steps : ℕ) → IsAfter plan [] s →
+    Chain head_does s packets t bytes steps → IsAfter plan packets t
+all_after plan packets s t bytes steps after chain = (chained plan packets s t bytes steps after chain).1
+
+pub all_clear : (plan : Plan) (packets : List (List ℕ)) (s t : Head) (bytes : List ℕ) (steps : ℕ) → IsAfter plan [] s →
+    Chain head_does s packets t bytes steps → IsClear plan.site packets
+all_clear plan packets s t bytes steps after chain = (all_after plan packets s t bytes steps after chain).are_clear
+
+-- a broadcast is its body and the closing message
+closed : (plan : Plan) (packets : List (List ℕ)) → concat (broadcast plan packets)
+    ≡ concat (body plan packets) ++ concat (packets_from plan.site (sent plan packets) (closing_of plan packets))
+unfolding broadcast body
+closed plan packets =
+    ap concat (packets_in_turn plan.site [] (sent plan packets) (closing_of plan packets))
+    ∙ concat-append (packets_from plan.site [] (sent plan packets))
+    (packets_from plan.site (sent plan packets) (closing_of plan packets))
+
+pub whole_written : (plan : Plan) (packets : List (List ℕ)) (s t : Head) (bytes : List ℕ) (steps : ℕ) →
+    IsAfter plan [] s →
+    Closes head_does head_ends s packets t bytes steps → bytes ≡ concat (broadcast plan packets)
+whole_written plan packets s t bytes steps after (mid, first, last, m, k, chain, end, joined, counted) =
+    let there = chained plan packets s mid first m after chain in
+    joined ∙ (ap (λ (xs : List ℕ). xs ++ last) there.0
+    ∙ (ap (λ (xs : List ℕ). concat (body plan packets) ++ xs) (end plan packets there.1).0 ∙ sym (closed plan packets)))
+
+pub whole_clear : (plan : Plan) (packets : List (List ℕ)) (s t : Head) (bytes : List ℕ) (steps : ℕ) →
+    IsAfter plan [] s →
+    Closes head_does head_ends s packets t bytes steps → IsClear plan.site packets
+whole_clear plan packets s t bytes steps after (mid, first, last, m, k, chain, end, joined, counted) =
+    all_clear plan packets s mid first m after chain
+
+pub refused_written : (plan : Plan) (packets : List (List ℕ)) (refused : Option (List ℕ)) (fault : HeadFault)
+    (s t : Head)
+    (bytes : List ℕ) (steps : ℕ) → IsAfter plan [] s →
+    Refused head_does head_refuses s packets refused fault t bytes steps →
+    bytes ≡ concat (body plan packets)
+refused_written plan packets refused fault s t bytes steps after
+    (mid, first, last, m, k, chain, refuses, joined, counted) =
+    joined ∙ (ap (λ (xs : List ℕ). first ++ xs) refuses.nothing
+    ∙ (append-nil first ∙ all_written plan packets s mid first m after chain))
+
+pub refused_clear : (plan : Plan) (packets : List (List ℕ)) (refused : Option (List ℕ)) (fault : HeadFault) (s t : Head)
+    (bytes : List ℕ) (steps : ℕ) → IsAfter plan [] s →
+    Refused head_does head_refuses s packets refused fault t bytes steps →
+    IsClear plan.site packets
+refused_clear plan packets refused fault s t bytes steps after
+    (mid, first, last, m, k, chain, refuses, joined, counted) =
+    all_clear plan packets s mid first m after chain
+
+-- where none of some is refused, the next one's refusal is the first
+refused_then : {F : Type 0} → (first : Option F) (rest more found : Option F) → option_map_or Some first rest ≡ None →
+    (rest ≡ None → more ≡ found) → option_map_or Some first more ≡ found
+refused_then None rest more found h f = f h
+refused_then (Some x) rest more found h f = absurd cc
+
+first_after : (site : SiteFields) (start packets rest : List (List ℕ)) (packet : List ℕ) (fault : ClearFault) →
+    refusal_from site start packets ≡ None → refusal_of site (start ++ packets) packet ≡ Some fault →
+    refusal_from site start (packets ++ packet ∷ rest) ≡ Some fault
+unfolding refusal_from
+first_after site start [] rest packet fault h now =
+    ap (λ (r : Option ClearFault). option_map_or Some r (refusal_from site (start ++ packet ∷ []) rest))
+    (subst (λ (b : List (List ℕ)). refusal_of site b packet ≡ Some fault) (append-nil start) now)
+first_after site start (first ∷ packets) rest packet fault h now =
+    refused_then (refusal_of site start first) (refusal_from site (start ++ first ∷ []) packets)
+    (refusal_from site (start ++ first ∷ []) (packets ++ packet ∷ rest)) (Some fault) h
+    (λ none. first_after site (start ++ first ∷ []) packets rest packet fault none
+    (subst (λ (b : List (List ℕ)). refusal_of site b packet ≡ Some fault)
+    (sym (append_assoc start (first ∷ []) packets)) now))
+
+pub first_refused : (plan : Plan) (packets rest : List (List ℕ)) (packet : List ℕ) (fault : ClearFault) (s t : Head)
+    (bytes : List ℕ)
+    (steps : ℕ) → IsAfter plan [] s →
+    Refused head_does head_refuses s packets (Some packet) (Clear fault) t bytes steps →
+    refusal_from plan.site [] (packets ++ packet ∷ rest) ≡ Some fault
+first_refused plan packets rest packet fault s t bytes steps after
+    (mid, first, last, m, k, chain, refuses, joined, counted) =
+    let there = all_after plan packets s mid first m after chain in
+    first_after plan.site [] packets rest packet fault there.are_clear (elim refuses.cause [
+      | inl kept ↦ absurd (apart mid.refusal (Clear fault) there.unrefused kept)
+      | inr due ↦ due plan packets there
+    ])
+  where
+    apart : (refusal : Option HeadFault) (fault : HeadFault) → refusal ≡ None → refusal ≡ Some fault → ⊥
+    apart refusal fault none some = absurd cc

@@ -1,0 +1,122 @@
+-- Which crypto period is at work after so many packets.
+use Rattle.std.proofs.Common.{◌≡◌, ◌≢◌, ℕ, zero, suc, ◌+◌, ◌-◌, ◌*◌, ◌/◌, ◌%◌, ◌<◌, ◌==◌, true}
+use Rattle.std.proofs.Common.{refl, sym, ap, subst, ◌∙◌, arith, eq-eqb}
+use Rattle.std.proofs.Math.Nat.{zero-div, div-eq_of_lt-le, mod-lt}
+use Rattle.std.proofs.lemmas.Nat.{div-add-mod'}
+use Rattle.sd_broadcast.specs.Plan.{Plan, IsPlan, crypto_length, crypto_of, period_of}
+use Rattle.sd_broadcast.proofs.Schedule.{crypto_length_some}
+use Rattle.sd_entitling.specs.Kept.{IsOf, IsBefore, begins_period, period_in, revoked_before}
+use Rattle.sd_entitling.specs.declared.entitling.Entitling.{Entitling}
+use Rattle.sd_head.specs.Schedule.{IsAt, begins_with, periods_begun}
+use Rattle.sd_book.specs.Commands.{revoked}
+
+-- the plan of what is kept
+pub plan_is : (plan : Plan) (k : ℕ) (entitling : Entitling) → IsAt plan k entitling → IsPlan plan
+plan_is plan zero entitling at = at.is_plan
+plan_is plan (suc k) entitling at = at.period.begun.is_plan
+
+-- the quotient of a whole multiple is one more than that of the number before
+next_quotient : (n j : ℕ) → 0 < n → suc j % n ≡ 0 → suc j / n ≡ suc (j / n)
+next_quotient n j some whole =
+    let q = suc j / n in
+    let is : q * n ≡ suc j = omega (arith, div-add-mod' (suc j) n, whole) in
+    go q is
+  where
+    go : (q : ℕ) → q * n ≡ suc j → q ≡ suc (j / n)
+    go zero is = absurd (omega (arith, is))
+    go (suc p) is =
+        let parts : suc p * n ≡ p * n + n = grind (arith) in
+        let top : (p + 1) * n ≡ p * n + n = grind (arith) in
+        let before : j / n ≡ p = div-eq_of_lt-le n (omega (arith, is, parts, some)) (omega (arith, is, parts, top)) in
+        ap (λ (k : ℕ). suc k) (sym before)
+
+-- and that of any other number is the same
+same_quotient : (n j : ℕ) → 0 < n → suc j % n ≢ 0 → j / n ≡ suc j / n
+same_quotient n j some other =
+    let q = suc j / n in
+    let is = div-add-mod' (suc j) n in
+    let below : suc j % n < n = mod-lt (suc j) some in
+    let more : 0 < suc j % n = grind (arith, other) in
+    let top : (q + 1) * n ≡ q * n + n = grind (arith) in
+    div-eq_of_lt-le n (omega (arith, is, more)) (omega (arith, is, below, top))
+
+-- where a crypto period begins with packet k, it is the next
+pub starts : (plan : Plan) (k length : ℕ) (entitling : Entitling) → IsAt plan k entitling →
+    length ≡ crypto_length plan.site →
+    k % length ≡ 0 → IsBefore plan (k / length) entitling
+unfolding crypto_of
+starts plan zero length entitling at is whole = subst (λ (t : ℕ). IsBefore plan t entitling) (sym (zero-div length)) at
+starts plan (suc j) length entitling at is whole =
+    let some : 0 < length =
+    subst (λ (n : ℕ). 0 < n) (sym is) (crypto_length_some plan.site at.period.begun.is_plan.site) in
+    subst (λ (t : ℕ). IsBefore plan t entitling) (sym (next_quotient length j some whole))
+    (subst (λ (n : ℕ). IsOf plan (j / n) entitling) (sym is) at)
+
+-- and where none does, it is that of the packet before
+pub stays : (plan : Plan) (k length : ℕ) (entitling : Entitling) → IsAt plan k entitling →
+    length ≡ crypto_length plan.site →
+    k % length ≢ 0 → IsOf plan (crypto_of plan.site k) entitling
+unfolding crypto_of
+stays plan zero length entitling at is other =
+    let some : 0 < length = subst (λ (n : ℕ). 0 < n) (sym is) (crypto_length_some plan.site at.is_plan.site) in
+    absurd (other (omega (arith, some)))
+stays plan (suc j) length entitling at is other =
+    let some : 0 < length =
+    subst (λ (n : ℕ). 0 < n) (sym is) (crypto_length_some plan.site at.period.begun.is_plan.site) in
+    subst (λ (t : ℕ). IsOf plan t entitling)
+    (ap (λ (n : ℕ). j / n) (sym is) ∙ (same_quotient length j some other ∙ ap (λ (n : ℕ). suc j / n) is)) at
+
+-- the crypto period that began is that of packet k
+pub begun_at : (plan : Plan) (k length : ℕ) (entitling : Entitling) → length ≡ crypto_length plan.site →
+    IsOf plan (k / length) entitling → IsOf plan (crypto_of plan.site k) entitling
+unfolding crypto_of
+begun_at plan k length entitling is of = subst (λ (n : ℕ). IsOf plan (k / n) entitling) is of
+
+-- and a period begins with that packet where one begins with the crypto period
+pub begins_there : (plan : Plan) (k length : ℕ) → length ≡ crypto_length plan.site → k % length ≡ 0 →
+    begins_period plan (k / length) ≡ true → begins_with plan k ≡ true
+unfolding begins_with crypto_of
+begins_there plan k length is whole begins =
+    let zero' : (k % crypto_length plan.site == 0) ≡ true =
+    eq-eqb (k % crypto_length plan.site) 0 (subst (λ (n : ℕ). k % n ≡ 0) is whole) in
+    let period : begins_period plan (k / crypto_length plan.site) ≡ true =
+    subst (λ (n : ℕ). begins_period plan (k / n) ≡ true) is begins in
+    rw zero' period
+
+-- packet 0 is of crypto period 0
+pub first_at : (plan : Plan) (count : ℕ) (entitling : Entitling) → count ≡ 0 → IsOf plan 0 entitling →
+    IsOf plan (crypto_of plan.site (count - 1)) entitling
+unfolding crypto_of
+first_at plan count entitling none of =
+    let before : count - 1 ≡ 0 = omega (arith, none) in
+    rw before (subst (λ (t : ℕ). IsOf plan t entitling) (sym (zero-div (crypto_length plan.site))) of)
+
+-- after some packets the crypto period of the last is at work
+pub last_at : (plan : Plan) (count : ℕ) (entitling : Entitling) → IsAt plan count entitling → count ≢ 0 →
+    IsOf plan (crypto_of plan.site (count - 1)) entitling
+last_at plan zero entitling at some = absurd (some refl)
+last_at plan (suc k) entitling at some =
+    let back : suc k - 1 ≡ k = omega arith in
+    rw back at
+
+-- and they are at work after a packet of that crypto period
+pub at_next : (plan : Plan) (k : ℕ) (entitling : Entitling) → IsOf plan (crypto_of plan.site k) entitling →
+    IsAt plan (k + 1) entitling
+at_next plan k entitling of =
+    let one : k + 1 ≡ suc k = omega arith in
+    rw one of
+
+-- the index has the leaves that are revoked in the period at work
+pub revoked_now : (plan : Plan) (k : ℕ) (entitling : Entitling) → IsOf plan (crypto_of plan.site k) entitling →
+    entitling.index.revoked ≡ revoked plan.site.height plan.commands (period_of plan k)
+unfolding period_of period_in
+revoked_now plan k entitling of =
+    let one : period_of plan k + 1 ≡ suc (period_of plan k) = omega arith in
+    of.period.begun.revoked_are ∙ ap (revoked_before plan.site.height plan.commands) one
+
+-- and none before the first
+pub revoked_at : (plan : Plan) (k : ℕ) (entitling : Entitling) → IsAt plan k entitling →
+    entitling.index.revoked ≡ revoked_before plan.site.height plan.commands (periods_begun plan k)
+unfolding period_of period_in
+revoked_at plan zero entitling at = at.revoked_are
+revoked_at plan (suc k) entitling at = at.period.begun.revoked_are

@@ -1,0 +1,108 @@
+-- What a control message says.
+use Rattle.std.proofs.Common.{◌≡◌, ℕ, zero, suc, ◌-◌, ◌*◌, ◌/◌, ◌<◌, ◌≢◌, refl, ap, ◌∙◌, arith, subst}
+use Rattle.std.proofs.Common.{◌≤◌, ◌^◌, ◌%◌, ◌==◌, Bool, true, false, List, length, inl, inr, eq-eqb}
+use Rattle.std.specs.Prelude.{Option, Some, None}
+use Rattle.std.proofs.lemmas.Bool.{ne_eqb}
+use Rattle.sd_site.specs.Fields.{SiteFields}
+use Rattle.sd_ecm.specs.declared.format.TheConstants.{MOST_PLACES}
+use Rattle.sd_ecm.specs.declared.message.EcmHead.{EcmHead}
+use Rattle.sd_ecm.specs.declared.part.Place.{Place}
+use Rattle.sd_clear.proofs.Placing.{positioned, ascending, short}
+use Rattle.sd_broadcast.specs.Messages.{places_after}
+use Rattle.sd_entitling.specs.declared.crypto.CryptoPeriod.{CryptoPeriod}
+use Rattle.sd_head.specs.Messages.{head_of, message_due}
+use Rattle.std.specs.List.{concat}
+use Rattle.std.proofs.Common.{Vec, Global}
+use Rattle.sd_ecm.specs.Parts.{message_of, parts_of}
+use Rattle.sd_head.specs.Sending.{numbered, packed_part}
+use Rattle.sd_head.specs.Items.{MayBeSent, message_bytes}
+use Rattle.sd_head.specs.declared.sender.Sender.{Sender}
+use Rattle.sd_ecm.specs.Versions.{IsVersion, IsSince, IsBefore}
+use Rattle.sd_broadcast.specs.Plan.{since_of}
+use Rattle.sd_broadcast.proofs.Schedule.{since_is_below}
+
+-- message 0 has no message before it
+pub since_first : (version cryptos number : ℕ) → number ≡ 0 → since_of version cryptos number ≡ 0
+since_first version cryptos zero h = refl
+since_first version cryptos (suc b) h = absurd (omega (arith, h))
+
+-- in version 2 its control word goes back to the first message of the crypto period of the one before
+pub since_two : (version cryptos number : ℕ) → version ≡ 2 → 0 < number →
+    since_of version cryptos number ≡ (number - 1) / cryptos * cryptos
+since_two version cryptos zero is some = absurd (omega (arith, some))
+since_two version cryptos (suc b) is some =
+    let back : suc b - 1 ≡ b = omega arith in
+    rw is (rw back refl)
+
+-- in version 1 it is the one before
+pub since_one : (version cryptos number : ℕ) → version ≢ 2 → 0 < number → since_of version cryptos number ≡ number - 1
+since_one version cryptos zero other some = absurd (omega (arith, some))
+since_one zero cryptos (suc b) other some = omega arith
+since_one (suc zero) cryptos (suc b) other some = omega arith
+since_one (suc (suc zero)) cryptos (suc b) other some = absurd (other refl)
+since_one (suc (suc (suc v))) cryptos (suc b) other some = omega arith
+
+-- a site's messages are of one of the two versions
+pub version_is : (version : ℕ) → 1 ≤ version → version ≤ 2 → IsVersion version
+version_is zero low high = absurd (omega (arith, low))
+version_is (suc zero) low high = inl refl
+version_is (suc (suc zero)) low high = inr refl
+version_is (suc (suc (suc v))) low high = absurd (omega (arith, high))
+
+-- and say since which message their control word holds
+pub since_fits : (version cryptos number : ℕ) → IsSince version number (since_of version cryptos number)
+since_fits version cryptos number = record { before = before number; fixed = fixed version number }
+  where
+    before : (number : ℕ) → IsBefore (since_of version cryptos number) number
+    before zero = inr (refl, refl)
+    before (suc b) = inl (since_is_below version cryptos (suc b) (omega arith))
+
+    fixed : (version number : ℕ) → version ≡ 1 → since_of version cryptos number ≡ number - 1
+    fixed version zero is = refl
+    fixed zero (suc b) is = absurd (omega (arith, is))
+    fixed (suc zero) (suc b) is = omega arith
+    fixed (suc (suc v)) (suc b) is = absurd (omega (arith, is))
+
+-- the message with the positions after these packets may be sent
+pub may_be_sent : (site : SiteFields) (crypto : CryptoPeriod) (clear number : ℕ) (closing : Bool) (head : EcmHead)
+    (places : List Place)
+    (before : List (List ℕ)) → head ≡ head_of site crypto clear number closing → 1 ≤ site.messages → site.messages ≤ 2 →
+    places ≡ places_after before → length before < 2 ^ 32 → length places ≤ MOST_PLACES → MayBeSent head places
+unfolding head_of
+may_be_sent site crypto clear number closing head places before is low high are counted few = rw is (rw are (record {
+  version = version_is site.messages low high;
+  since = since_fits site.messages site.cryptos number;
+  few = subst (λ (ps : List Place). length ps ≤ MOST_PLACES) are few;
+  positioned = positioned before;
+  ascending = ascending before;
+  short = short before counted;
+}))
+
+-- no message stands before the next packet
+pub none_due : (site : SiteFields) (crypto : CryptoPeriod) (count clear : ℕ) → count ≡ clear → count % site.every ≢ 0 →
+    None ≡ message_due site crypto clear
+unfolding message_due
+none_due site crypto count clear is other =
+    let test : (clear % site.every == 0) ≡ false =
+    ne_eqb (clear % site.every) 0 (subst (λ (n : ℕ). n % site.every ≢ 0) is other) in
+    rw test refl
+
+-- one does
+pub some_due : (site : SiteFields) (crypto : CryptoPeriod) (count clear : ℕ) (head : EcmHead) → count ≡ clear →
+    count % site.every ≡ 0 →
+    head ≡ head_of site crypto clear (count / site.every) false → Some head ≡ message_due site crypto clear
+unfolding message_due
+some_due site crypto count clear head is whole says =
+    let test : (clear % site.every == 0) ≡ true =
+    eq-eqb (clear % site.every) 0 (subst (λ (n : ℕ). n % site.every ≡ 0) is whole) in
+    rw test (ap (λ (h : EcmHead). Some h) (says ∙ ap (λ (n : ℕ). head_of site crypto clear (n / site.every) false) is))
+
+-- a message's bytes are of its counter and positions alone
+pub same_message : (pid : ℕ) (old new : Sender) (message : Option EcmHead) → new.ecms ≡ old.ecms →
+    new.places ≡ old.places →
+    message_bytes pid new message ≡ message_bytes pid old message
+same_message pid old new None ecms places = refl
+same_message pid old new (Some head) ecms places =
+    ap (λ (c : ℕ). concat (numbered (packed_part pid) c (parts_of (message_of head new.places.items)))) ecms
+    ∙ ap (λ (ps : Vec Place Global). concat
+    (numbered (packed_part pid) old.ecms (parts_of (message_of head ps.items)))) places

@@ -1,0 +1,106 @@
+use Rattle.std.proofs.Common.{◌∙◌, ◌++◌, ◌-◌, ◌==◌, ℕ, true, [], inl, inr, refl, ap, subst, arith}
+use Rattle.std.specs.Prelude.{Some, None}
+use Rattle.sd_site.specs.Fields.{fields_of}
+use Rattle.sd_engine.specs.Stage.{vessel}
+use Rattle.sd_broadcast.specs.Plan.{closing_number, crypto_of}
+use Rattle.sd_entitling.specs.Kept.{IsOf}
+use Rattle.sd_head.specs.Staged.{plan_in}
+use Rattle.sd_entitling.specs.declared.crypto.CryptoPeriod.{CryptoPeriod}
+use Rattle.sd_head.specs.Messages.{head_of}
+use Rattle.sd_head.specs.Items.{tables_bytes, message_bytes}
+use Rattle.sd_head.specs.Schedule.{IsDue}
+use Rattle.sd_head.proofs.Sends.{takes_none}
+use Rattle.sd_head.proofs.Stepping.{ends, same_refusal, none_long}
+use Rattle.sd_head.proofs.head.HeadStage.close.Goals as goal
+
+pub returns-in-Err-clause-fault : goal.returns-in-Err-clause-fault
+returns-in-Err-clause-fault g c = λ fault same.
+    let none = takes_none (vessel g.K.Sink c.args.out.now) in
+    record {
+      bytes = [];
+      steps = c.finish.new.steps;
+      says = record {
+        nothing = refl;
+        cause = inr (λ plan before after.
+            subst (IsDue plan before None) (same_refusal _ fault same)
+            (none_long before (omega (arith, c.in-Err.ensures.fault, c.count-count.ensures, after.clear_is.number))));
+      };
+      taken = none.taken;
+      room = none.room;
+      counted = omega arith;
+    }
+
+pub returns-in-Ok-clause-value : goal.returns-in-Ok-clause-value
+returns-in-Ok-clause-value g c = record {
+  bytes = tables_bytes c.prepare_closing-message.new.self (c.count-count.result == 0) c.emms-emms.result.now
+      ++ message_bytes c.args.self.now.site.ecm c.prepare_closing-message.new.self
+      (Some c.prepare_closing-message.result);
+  steps = c.finish.new.steps;
+  says = ends c.args.self.now (record {
+    site = c.args.self.now.site;
+    clear = c.args.self.now.clear;
+    entitling = c.finish.new.entitling;
+    sender = c.send_front.new.self;
+    refusal = c.args.self.now.refusal;
+  }) c.prepare_closing-message.new.self
+      (c.count-count.result == 0) c.emms-emms.result.now
+      c.prepare_closing-message.result c.finish.new.steps
+      (record {
+        at_work = subst (λ (n : ℕ). IsOf (plan_in c.args.self.now)
+            (crypto_of (fields_of c.args.self.now.site) (n - 1)) c.finish.new.entitling)
+            c.count-count.ensures c.in_default-finish.ensures.value;
+        placed = c.prepare_closing-message.ensures.unchanged;
+        due_is = ap (λ (n : ℕ). n == 0) c.count-count.ensures;
+        emms_of = c.emms-emms.ensures;
+        head_is = c.prepare_closing-message.ensures.value
+            ∙ ap (λ (x : CryptoPeriod). head_of (fields_of c.args.self.now.site) x c.args.self.now.clear.count
+            (closing_number (fields_of c.args.self.now.site) c.args.self.now.clear.count) true) c.crypto-crypto.ensures;
+        places_are = c.prepare_closing-message.ensures.places;
+      });
+  taken = c.in-Ok.ensures.value.taken;
+  room = c.in-Ok.ensures.value.room;
+  counted = omega arith;
+}
+
+pub returns-in-Err-send_front-clause-prefix : goal.returns-in-Err-send_front-clause-prefix
+returns-in-Err-send_front-clause-prefix g c = λ fails. record {
+  bytes = tables_bytes c.prepare_closing-message.new.self (c.count-count.result == 0) c.emms-emms.result.now
+      ++ message_bytes c.args.self.now.site.ecm c.prepare_closing-message.new.self
+      (Some c.prepare_closing-message.result);
+  says = inl (
+    (record {
+      site = c.args.self.now.site;
+      clear = c.args.self.now.clear;
+      entitling = c.finish.new.entitling;
+      sender = c.args.self.now.sender;
+      refusal = c.args.self.now.refusal;
+    }),
+    0,
+    ends c.args.self.now (record {
+      site = c.args.self.now.site;
+      clear = c.args.self.now.clear;
+      entitling = c.finish.new.entitling;
+      sender = c.args.self.now.sender;
+      refusal = c.args.self.now.refusal;
+    }) c.prepare_closing-message.new.self
+        (c.count-count.result == 0) c.emms-emms.result.now
+        c.prepare_closing-message.result 0
+        (record {
+          at_work = subst (λ (n : ℕ). IsOf (plan_in c.args.self.now)
+              (crypto_of (fields_of c.args.self.now.site) (n - 1)) c.finish.new.entitling)
+              c.count-count.ensures c.in_default-finish.ensures.value;
+          placed = c.prepare_closing-message.ensures.unchanged;
+          due_is = ap (λ (n : ℕ). n == 0) c.count-count.ensures;
+          emms_of = c.emms-emms.ensures;
+          head_is = c.prepare_closing-message.ensures.value
+              ∙ ap (λ (x : CryptoPeriod). head_of (fields_of c.args.self.now.site) x c.args.self.now.clear.count
+              (closing_number (fields_of c.args.self.now.site) c.args.self.now.clear.count) true)
+              c.crypto-crypto.ensures;
+          places_are = c.prepare_closing-message.ensures.places;
+        }),
+  );
+  prefix = c.in-Err-send_front.ensures.value.prefix;
+  short = c.in-Err-send_front.ensures.value.short;
+  taken = c.in-Err-send_front.ensures.value.taken;
+  room = c.in-Err-send_front.ensures.value.room;
+}

@@ -1,0 +1,194 @@
+use Rattle.std.proofs.Common.{◌∙◌, ◌++◌, ◌+◌, ◌%◌, ◌==◌, ℕ, [], length, inl, inr, refl, sym, ap, subst, arith}
+use Rattle.std.specs.Prelude.{Some, if◌then◌else◌}
+use Rattle.sd_label.specs.Keys.{control_word_of}
+use Rattle.sd_site.specs.Fields.{fields_of}
+use Rattle.sd_engine.specs.Stage.{vessel}
+use Rattle.sd_broadcast.specs.Plan.{crypto_length}
+use Rattle.sd_broadcast.specs.Plan.{Plan}
+use Rattle.sd_entitling.specs.declared.crypto.CryptoPeriod.{CryptoPeriod}
+use Rattle.sd_head.specs.Messages.{message_due}
+use Rattle.sd_head.specs.Sending.{counter_after}
+use Rattle.sd_head.specs.Items.{tables_bytes, message_bytes, parts_in}
+use Rattle.sd_head.specs.Schedule.{IsDue}
+use Rattle.sd_head.specs.Staged.{plan_in}
+use Rattle.sd_head.proofs.Sends.{takes_none}
+use Rattle.sd_head.proofs.Stepping.{does, ready, same_refusal}
+use Rattle.sd_head.proofs.head.HeadStage.offer.Goals as goal
+
+pub returns-in-Err-clause-fault : goal.returns-in-Err-clause-fault
+returns-in-Err-clause-fault g c = λ fault same.
+    let none = takes_none (vessel g.K.Sink c.args.out.now) in
+    record {
+      bytes = [];
+      steps = c.admit.new.steps;
+      says = record {
+        nothing = refl;
+        cause = inr (λ plan before after.
+            subst (λ (q : Plan). IsDue q before (Some c.args.packet.now) fault) after.keeps_to
+            (subst (IsDue (plan_in c.args.self.now) before (Some c.args.packet.now))
+            (same_refusal c.in-Err.fault fault same)
+            (c.admit.ensures.fault before c.in-Err.fault after.clear_is c.in-Err.is)));
+      };
+      taken = none.taken;
+      room = none.room;
+      counted = omega arith;
+    }
+
+pub returns-in-Ok-clause-value : goal.returns-in-Ok-clause-value
+returns-in-Ok-clause-value g c = record {
+  bytes = (tables_bytes c.prepare-message.new.self c.begins_crypto-due.result c.emms-emms.result.now
+      ++ message_bytes c.args.self.now.site.ecm c.prepare-message.new.self c.prepare-message.result)
+      ++ c.carry-carried.result;
+  steps = c.admit.new.steps;
+  says = does c.args.self.now (record {
+    site = c.args.self.now.site;
+    clear = c.take.new.self;
+    entitling = c.admit.new.entitling;
+    sender = c.send_packet.new.self;
+    refusal = c.args.self.now.refusal;
+  }) c.args.packet.now c.prepare-message.new.self c.begins_crypto-due.result c.emms-emms.result.now
+      c.prepare-message.result c.carry-carried.result
+      (record {
+        judged = c.in_default-admit.ensures.judged;
+        at_work = c.in_default-admit.ensures.value;
+        placed = c.prepare-message.ensures.unchanged;
+        due_is = c.begins_crypto-due.ensures
+            ∙ ap (λ (n : ℕ). n % crypto_length (fields_of c.args.self.now.site) == 0) c.count.ensures;
+        emms_of = c.emms-emms.ensures;
+        message_of = c.prepare-message.ensures.value
+            ∙ ap (λ (x : CryptoPeriod). message_due (fields_of c.args.self.now.site) x c.args.self.now.clear.count)
+            c.crypto-crypto.ensures;
+        places_are = c.prepare-message.ensures.places;
+        carried_is = λ before kept number word. c.carry-carried.ensures before kept
+            (ap (λ (x : CryptoPeriod). x.number) c.crypto-crypto.ensures ∙ number)
+            (ap (λ (x : CryptoPeriod). x.word) c.crypto-crypto.ensures ∙ (word
+            ∙ ap (control_word_of c.args.self.now.site.master)
+            (sym (ap (λ (x : CryptoPeriod). x.number) c.crypto-crypto.ensures))));
+      })
+      (record {
+        site_is = refl;
+        book_is = c.admit.ensures.book;
+        refusal_is = refl;
+        taken = c.take.ensures;
+        follows = c.in-Ok.ensures.next;
+      })
+      c.admit.new.steps;
+  taken = c.in-Ok.ensures.value.taken;
+  room = c.in-Ok.ensures.value.room;
+  counted = omega arith;
+}
+
+pub returns-in-Ok-clause-ok : goal.returns-in-Ok-clause-ok
+returns-in-Ok-clause-ok g c =
+    let live = c.requires.live c.in_default.is in (
+      λ calm. ready c.args.self.now (record {
+        site = c.args.self.now.site;
+        clear = c.take.new.self;
+        entitling = c.admit.new.entitling;
+        sender = c.send_packet.new.self;
+        refusal = c.args.self.now.refusal;
+      }) c.args.packet.now c.prepare-message.new.self c.begins_crypto-due.result c.emms-emms.result.now
+          c.prepare-message.result c.carry-carried.result
+          (record {
+            judged = c.in_default-admit.ensures.judged;
+            at_work = c.in_default-admit.ensures.value;
+            placed = c.prepare-message.ensures.unchanged;
+            due_is = c.begins_crypto-due.ensures
+                ∙ ap (λ (n : ℕ). n % crypto_length (fields_of c.args.self.now.site) == 0) c.count.ensures;
+            emms_of = c.emms-emms.ensures;
+            message_of = c.prepare-message.ensures.value
+                ∙ ap (λ (x : CryptoPeriod). message_due
+                (fields_of c.args.self.now.site) x c.args.self.now.clear.count) c.crypto-crypto.ensures;
+            places_are = c.prepare-message.ensures.places;
+            carried_is = λ before kept number word. c.carry-carried.ensures before kept
+                (ap (λ (x : CryptoPeriod). x.number) c.crypto-crypto.ensures ∙ number)
+                (ap (λ (x : CryptoPeriod). x.word) c.crypto-crypto.ensures ∙ (word
+                ∙ ap (control_word_of c.args.self.now.site.master)
+                (sym (ap (λ (x : CryptoPeriod). x.number) c.crypto-crypto.ensures))));
+          })
+          (record {
+            site_is = refl;
+            book_is = c.admit.ensures.book;
+            refusal_is = refl;
+            taken = c.take.ensures;
+            follows = c.in-Ok.ensures.next;
+          })
+          live.0 live.1,
+      c.in_default.is,
+    )
+
+pub returns-in-Err-send_packet-clause-prefix : goal.returns-in-Err-send_packet-clause-prefix
+returns-in-Err-send_packet-clause-prefix g c = λ fails. record {
+  bytes = (tables_bytes c.prepare-message.new.self c.begins_crypto-due.result c.emms-emms.result.now
+      ++ message_bytes c.args.self.now.site.ecm c.prepare-message.new.self c.prepare-message.result)
+      ++ c.carry-carried.result;
+  says = inl (
+    (record {
+      site = c.args.self.now.site;
+      clear = c.take.new.self;
+      entitling = c.admit.new.entitling;
+      sender = record {
+        cat = c.prepare-message.new.self.cat;
+        cats = if c.begins_crypto-due.result then
+            (c.prepare-message.new.self.cats + 1) % 16 else c.prepare-message.new.self.cats;
+        emms = if c.begins_crypto-due.result
+            then counter_after c.prepare-message.new.self.emms (length c.emms-emms.result.now)
+            else c.prepare-message.new.self.emms;
+        ecms = counter_after c.prepare-message.new.self.ecms
+            (parts_in c.prepare-message.new.self c.prepare-message.result);
+        places = c.prepare-message.new.self.places;
+        places_room = c.prepare-message.new.self.places_room;
+      };
+      refusal = c.args.self.now.refusal;
+    }),
+    0,
+    does c.args.self.now (record {
+      site = c.args.self.now.site;
+      clear = c.take.new.self;
+      entitling = c.admit.new.entitling;
+      sender = record {
+        cat = c.prepare-message.new.self.cat;
+        cats = if c.begins_crypto-due.result then
+            (c.prepare-message.new.self.cats + 1) % 16 else c.prepare-message.new.self.cats;
+        emms = if c.begins_crypto-due.result
+            then counter_after c.prepare-message.new.self.emms (length c.emms-emms.result.now)
+            else c.prepare-message.new.self.emms;
+        ecms = counter_after c.prepare-message.new.self.ecms
+            (parts_in c.prepare-message.new.self c.prepare-message.result);
+        places = c.prepare-message.new.self.places;
+        places_room = c.prepare-message.new.self.places_room;
+      };
+      refusal = c.args.self.now.refusal;
+    }) c.args.packet.now c.prepare-message.new.self c.begins_crypto-due.result c.emms-emms.result.now
+        c.prepare-message.result c.carry-carried.result
+        (record {
+          judged = c.in_default-admit.ensures.judged;
+          at_work = c.in_default-admit.ensures.value;
+          placed = c.prepare-message.ensures.unchanged;
+          due_is = c.begins_crypto-due.ensures
+              ∙ ap (λ (n : ℕ). n % crypto_length (fields_of c.args.self.now.site) == 0) c.count.ensures;
+          emms_of = c.emms-emms.ensures;
+          message_of = c.prepare-message.ensures.value
+              ∙ ap (λ (x : CryptoPeriod). message_due (fields_of c.args.self.now.site) x c.args.self.now.clear.count)
+              c.crypto-crypto.ensures;
+          places_are = c.prepare-message.ensures.places;
+          carried_is = λ before kept number word. c.carry-carried.ensures before kept
+              (ap (λ (x : CryptoPeriod). x.number) c.crypto-crypto.ensures ∙ number)
+              (ap (λ (x : CryptoPeriod). x.word) c.crypto-crypto.ensures ∙ (word
+              ∙ ap (control_word_of c.args.self.now.site.master)
+              (sym (ap (λ (x : CryptoPeriod). x.number) c.crypto-crypto.ensures))));
+        })
+        (record {
+          site_is = refl;
+          book_is = c.admit.ensures.book;
+          refusal_is = refl;
+          taken = c.take.ensures;
+          follows = record { cat = refl; cats = refl; emms_next = refl; ecms = refl };
+        })
+        0,
+  );
+  prefix = c.in-Err-send_packet.ensures.value.prefix;
+  short = c.in-Err-send_packet.ensures.value.short;
+  taken = c.in-Err-send_packet.ensures.value.taken;
+  room = c.in-Err-send_packet.ensures.value.room;
+}

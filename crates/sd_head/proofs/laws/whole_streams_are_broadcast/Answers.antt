@@ -1,0 +1,5 @@
+use Rattle.sd_head.proofs.Chained.{whole_written, whole_clear}
+use Rattle.sd_head.proofs.laws.whole_streams_are_broadcast.Goals as goal
+
+pub returns : goal.returns
+returns c = record { value = whole_written; clear = whole_clear }

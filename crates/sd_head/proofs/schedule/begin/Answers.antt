@@ -1,0 +1,29 @@
+use Rattle.std.proofs.lemmas.Result.{on_ok_weaker, on_err_weaker}
+use Rattle.sd_entitling.specs.Kept.{plan_of}
+use Rattle.sd_head.proofs.Starting.{starts, stays, begun_at, begins_there}
+use Rattle.sd_head.proofs.schedule.begin.Goals as goal
+
+pub returns-then-k-length-ne0-clause-value : goal.returns-then-k-length-ne0-clause-value
+returns-then-k-length-ne0-clause-value g c =
+    stays (plan_of c.args.site.now c.args.entitling.now.book) c.args.k c.crypto_length-length.result
+    c.args.entitling.now c.requires
+    c.crypto_length-length.ensures.value c.if-k-length-ne0.true
+
+pub begin-requires : goal.begin-requires
+begin-requires g c =
+    starts (plan_of c.args.site.now c.args.entitling.now.book) c.args.k c.crypto_length-length.result
+    c.args.entitling.now c.requires
+    c.crypto_length-length.ensures.value c.if-k-length-ne0.false
+
+pub returns-clause-value : goal.returns-clause-value
+returns-clause-value g c =
+    on_ok_weaker c.begin.result
+    (begun_at (plan_of c.args.site.now c.args.entitling.now.book) c.args.k c.crypto_length-length.result
+    c.begin.new.self
+    c.crypto_length-length.ensures.value) c.begin.ensures.value
+
+pub returns-clause-fault : goal.returns-clause-fault
+returns-clause-fault g c =
+    on_err_weaker c.begin.result
+    (begins_there (plan_of c.args.site.now c.args.entitling.now.book) c.args.k c.crypto_length-length.result
+    c.crypto_length-length.ensures.value c.if-k-length-ne0.false) c.begin.ensures.fault

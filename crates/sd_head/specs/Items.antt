@@ -1,0 +1,89 @@
+-- The things that a head end has sent, and the counters of its own messages after them.
+use Rattle.std.specs.Prelude.{◌≡◌, ℕ, ◌+◌, ◌%◌, ◌≤◌, Bool, true, false, List, [], ◌++◌, length, count_by, if◌then◌else◌}
+use Rattle.std.specs.Prelude.{Option, Some, None}
+use Rattle.std.specs.List.{concat}
+use Rattle.sd_packet.specs.Packing.{packed}
+use Rattle.sd_psi.specs.Access.{cat_section}
+use Rattle.sd_site.specs.Fields.{SiteFields}
+use Rattle.sd_ecm.specs.declared.format.TheConstants.{MOST_PLACES}
+use Rattle.sd_ecm.specs.Versions.{IsVersion, IsSince}
+use Rattle.sd_ecm.specs.Form.{ArePositioned, AreAscending, AreShort}
+use Rattle.sd_ecm.specs.Parts.{message_of, parts_of}
+use Rattle.sd_ecm.specs.declared.message.EcmHead.{EcmHead}
+use Rattle.sd_ecm.specs.declared.part.Place.{Place}
+use Rattle.sd_broadcast.specs.Sent.{Item, Cat, Entitles, Controls, Carries}
+use Rattle.sd_head.specs.Sending.{counter_after, numbered, recounted, packed_part}
+use Rattle.sd_head.specs.declared.sender.Sender.{Sender}
+
+-- the thing is the CAT
+abbrev pub is_cat : Item → Bool
+is_cat Cat = true
+is_cat (Entitles emm) = false
+is_cat (Controls part) = false
+is_cat (Carries k packet) = false
+
+-- it is a section of entitlements
+abbrev pub is_entitlement : Item → Bool
+is_entitlement Cat = false
+is_entitlement (Entitles emm) = true
+is_entitlement (Controls part) = false
+is_entitlement (Carries k packet) = false
+
+-- it is a part of a control message
+abbrev pub is_control : Item → Bool
+is_control Cat = false
+is_control (Entitles emm) = false
+is_control (Controls part) = true
+is_control (Carries k packet) = false
+
+-- the counters that come next after these things [this project, docs/FORMATS.md, Sections]
+pub record HasSent (site : SiteFields) (earlier : List Item) (sender : Sender) : Type 0 where
+  pub cat_is : sender.cat ≡ packed (cat_section site.ca site.emm site.ecm) 1 0
+  pub cats_are : sender.cats ≡ count_by is_cat earlier % 16
+  pub emms_are : sender.emms ≡ count_by is_entitlement earlier % 16
+  pub ecms_are : sender.ecms ≡ count_by is_control earlier % 16
+
+-- the message with these positions may be sent [this project, docs/FORMATS.md, Messages]
+pub record MayBeSent (head : EcmHead) (places : List Place) : Type 0 where
+  pub version : IsVersion head.version
+  pub since : IsSince head.version head.number head.since
+  pub few : length places ≤ MOST_PLACES
+  pub positioned : ArePositioned places
+  pub ascending : AreAscending places
+  pub short : AreShort places
+
+-- so may a message, if there is one
+abbrev pub AllMayBeSent : Option EcmHead → List Place → Type 0
+AllMayBeSent None places = Unit {0}
+AllMayBeSent (Some head) places = MayBeSent head places
+
+-- the bytes of the tables, where they are due
+abbrev pub tables_bytes : Sender → Bool → List (List ℕ) → List ℕ
+tables_bytes sender due emms =
+    if due then recounted sender.cat sender.cats ++ concat (numbered recounted sender.emms emms) else []
+
+-- the bytes of a message, if there is one
+abbrev pub message_bytes : ℕ → Sender → Option EcmHead → List ℕ
+message_bytes pid sender None = []
+message_bytes pid sender (Some head) =
+    concat (numbered (packed_part pid) sender.ecms (parts_of (message_of head sender.places.items)))
+
+-- how many parts it has
+abbrev pub parts_in : Sender → Option EcmHead → ℕ
+parts_in sender None = 0
+parts_in sender (Some head) = length (parts_of (message_of head sender.places.items))
+
+-- the counters after tables and a message
+pub record Follows (old : Sender) (due : Bool) (emms : List (List ℕ)) (message : Option EcmHead)
+    (new : Sender) : Type 0 where
+  pub cat : new.cat ≡ old.cat
+  pub cats : new.cats ≡ (if due then (old.cats + 1) % 16 else old.cats)
+  pub emms_next : new.emms ≡ (if due then counter_after old.emms (length emms) else old.emms)
+  pub ecms : new.ecms ≡ counter_after old.ecms (parts_in old message)
+
+-- the positions alone changed
+pub record HasPlaced (old new : Sender) : Type 0 where
+  pub cat : new.cat ≡ old.cat
+  pub cats : new.cats ≡ old.cats
+  pub emms : new.emms ≡ old.emms
+  pub ecms : new.ecms ≡ old.ecms

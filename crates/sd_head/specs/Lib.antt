@@ -1,0 +1,5 @@
+pub mod Sending
+pub mod Messages
+pub mod Items
+pub mod Schedule
+pub mod Staged

@@ -1,0 +1,25 @@
+-- What a control message says beside its positions.
+use Rattle.std.specs.Prelude.{ℕ, ◌/◌, ◌%◌, ◌==◌, Bool, false, if◌then◌else◌, Option, Some, None}
+use Rattle.sd_site.specs.Fields.{SiteFields}
+use Rattle.sd_ecm.specs.declared.message.EcmHead.{EcmHead}
+use Rattle.sd_broadcast.specs.Plan.{since_of}
+use Rattle.sd_entitling.specs.declared.crypto.CryptoPeriod.{CryptoPeriod}
+
+-- the message of this number in a crypto period, after so many clear packets [this project, docs/FORMATS.md, Messages]
+unfoldable pub head_of : SiteFields → CryptoPeriod → ℕ → ℕ → Bool → EcmHead
+head_of site crypto clear number closing = record {
+  version = site.messages;
+  number = number;
+  period = crypto.period;
+  word = crypto.number;
+  clear = clear;
+  since = since_of site.messages site.cryptos number;
+  closing = closing;
+  wrapped = crypto.wrapped;
+  check = crypto.check;
+}
+
+-- the message that stands before the next packet after so many, if one does [this project, docs/FORMATS.md, Broadcast]
+unfoldable pub message_due : SiteFields → CryptoPeriod → ℕ → Option EcmHead
+message_due site crypto count =
+    if count % site.every == 0 then Some (head_of site crypto count (count / site.every) false) else None

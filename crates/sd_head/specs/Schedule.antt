@@ -1,0 +1,30 @@
+-- When crypto periods and periods begin, and why a head end refuses.
+use Rattle.std.specs.Prelude.{◌≡◌, ℕ, zero, suc, ◌+◌, ◌%◌, ◌==◌, ◌&&◌, Bool, true, List, [], length, Option, Some, None}
+use Rattle.sd_broadcast.specs.Plan.{Plan, crypto_length, crypto_of, period_of}
+use Rattle.sd_broadcast.specs.Refused.{refusal_of}
+use Rattle.sd_entitling.specs.declared.entitling.Entitling.{Entitling}
+use Rattle.sd_entitling.specs.Kept.{begins_period, IsNew, IsOf}
+use Rattle.sd_head.specs.declared.fault.HeadFault.{HeadFault}
+use Rattle.sd_head.specs.declared.fault.HeadFault.TheVariants.{Clear, NoMemory}
+
+-- after so many packets the crypto period of the last is at work
+abbrev pub IsAt : Plan → ℕ → Entitling → Type 0
+IsAt plan zero entitling = IsNew plan entitling
+IsAt plan (suc k) entitling = IsOf plan (crypto_of plan.site k) entitling
+
+-- how many periods have begun after so many packets
+abbrev pub periods_begun : Plan → ℕ → ℕ
+periods_begun plan zero = 0
+periods_begun plan (suc k) = period_of plan k + 1
+
+-- a period begins with packet k
+unfoldable pub begins_with : Plan → ℕ → Bool
+begins_with plan k = (k % crypto_length plan.site == 0) && begins_period plan (crypto_of plan.site k)
+
+-- why a packet, or the end, is refused after these packets: it breaks a rule, or memory ran out where a period begins
+abbrev pub IsDue : Plan → List (List ℕ) → Option (List ℕ) → HeadFault → Type 0
+IsDue plan before (Some packet) (Clear fault) = refusal_of plan.site before packet ≡ Some fault
+IsDue plan before (Some packet) NoMemory =
+    (refusal_of plan.site before packet ≡ None) × (begins_with plan (length before) ≡ true)
+IsDue plan before None (Clear fault) = ⊥
+IsDue plan before None NoMemory = before ≡ []

@@ -1,0 +1,44 @@
+-- What is sent into a sink, and the counters of inserted packets.
+use Rattle.std.specs.Prelude.{ℕ, zero, suc, ◌+◌, ◌%◌, List, [], ◌∷◌, length, slice_set, Result, Ok, Err}
+use Rattle.std.specs.Io.KnownBytes.{Appends}
+use Rattle.sd_packet.specs.Packing.{packed}
+use Rattle.sd_ecm.specs.Spelled.{ecm_section}
+use Rattle.sd_ecm.specs.declared.part.EcmPart.{EcmPart}
+use Rattle.sd_ports.specs.Bytes.{IsPrefix}
+use Rattle.sd_ports.specs.Rooms.{HasTaken}
+use Rattle.sd_engine.specs.Stage.{Vessel, IsTooShort}
+
+-- the sink took these bytes
+pub record Takes (old new : Vessel) (bytes : List ℕ) : Type 0 where
+  pub taken : Appends old.held new.held bytes
+  pub room : HasTaken old.room new.room (length bytes)
+
+-- a write failed within these bytes: a prefix of them was taken, and there was no room for all of them
+pub record CutsOff (old new : Vessel) (bytes : List ℕ) : Type 0 where
+  pub prefix : List ℕ
+  pub short : IsPrefix prefix bytes
+  pub taken : Appends old.held new.held prefix
+  pub room : IsTooShort old.room (length bytes)
+
+-- the bytes were sent, unless a write failed within them
+abbrev pub Sends : {T E : Type 0} → Vessel → Vessel → List ℕ → Result T E → Type 0
+Sends old new bytes (Ok done) = Takes old new bytes
+Sends old new bytes (Err fault) = CutsOff old new bytes
+
+-- the counter after so many packets [ISO/IEC 13818-1, 2.4.3.3]
+abbrev pub counter_after : ℕ → ℕ → ℕ
+counter_after counter zero = counter
+counter_after counter (suc n) = (counter_after counter n + 1) % 16
+
+-- what is made of each of these things with a counter, which rises from this one on [ISO/IEC 13818-1, 2.4.3.3]
+abbrev pub numbered : {A : Type 0} → (A → ℕ → List ℕ) → ℕ → List A → List (List ℕ)
+numbered make counter [] = []
+numbered make counter (x ∷ xs) = make x counter ∷ numbered make ((counter + 1) % 16) xs
+
+-- the packet under another counter [ISO/IEC 13818-1, 2.4.3.2]
+abbrev pub recounted : List ℕ → ℕ → List ℕ
+recounted packet counter = slice_set packet 3 (0x10 + counter)
+
+-- the packet of a part on this PID
+abbrev pub packed_part : ℕ → EcmPart → ℕ → List ℕ
+packed_part pid part counter = packed (ecm_section part) pid counter

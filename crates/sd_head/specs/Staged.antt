@@ -1,0 +1,52 @@
+-- The head end as a stage of packets.
+use Rattle.std.specs.Prelude.{◌≡◌, ◌⊎◌, ℕ, ◌-◌, List, [], ◌∷◌, ◌++◌, length, Option, Some, None}
+use Rattle.std.specs.List.{concat}
+use Rattle.sd_broadcast.specs.Plan.{Plan, period_of}
+use Rattle.sd_book.specs.Commands.{revoked}
+use Rattle.sd_broadcast.specs.Refused.{refusal_of, IsClear}
+use Rattle.sd_broadcast.specs.Sent.{sent, closing_of, bytes_added, packets_from}
+use Rattle.sd_clear.specs.After.{IsAfter as IsKept}
+use Rattle.sd_entitling.specs.Kept.{plan_of}
+use Rattle.sd_head.specs.Items.{HasSent}
+use Rattle.sd_head.specs.Schedule.{IsAt, IsDue}
+use Rattle.sd_head.specs.declared.fault.HeadFault.{HeadFault}
+use Rattle.sd_head.specs.declared.head.Head.{Head}
+
+-- the plan that a head end keeps to
+abbrev pub plan_in : Head → Plan
+plan_in head = plan_of head.site head.entitling.book
+
+-- the head end has sent the broadcast of these packets, which are clear, up to where the next one's part begins
+pub record IsAfter (plan : Plan) (before : List (List ℕ)) (head : Head) : Type 0 where
+  pub keeps_to : plan_in head ≡ plan
+  pub unrefused : head.refusal ≡ None
+  pub are_clear : IsClear plan.site before
+  pub clear_is : IsKept before head.clear
+  pub entitled : IsAt plan (length before) head.entitling
+  pub has_sent : HasSent plan.site (sent plan before) head.sender
+
+-- a clear packet comes to what it adds to the broadcast after those before it
+abbrev pub head_does : Head → List ℕ → Head → List ℕ → ℕ → Type 0
+head_does s packet t bytes steps =
+    (plan : Plan) (before : List (List ℕ)) → IsAfter plan before s → (refusal_of plan.site before packet ≡ None)
+    × (bytes ≡ bytes_added plan before packet) × IsAfter plan (before ++ packet ∷ []) t
+
+-- the end comes to the closing message, and the index has the leaves that are revoked in the last period
+abbrev pub head_ends : Head → Head → List ℕ → ℕ → Type 0
+head_ends s t bytes steps =
+    (plan : Plan) (before : List (List ℕ)) → IsAfter plan before s →
+    (bytes ≡ concat (packets_from plan.site (sent plan before) (closing_of plan before)))
+    × (t.entitling.index.revoked ≡ revoked plan.site.height plan.commands (period_of plan (length before - 1)))
+
+-- A refusal writes nothing. It is the one that is kept, or it is due.
+pub record Refuses (s : Head) (packet : Option (List ℕ)) (fault : HeadFault) (bytes : List ℕ) : Type 0 where
+  pub nothing : bytes ≡ []
+  pub cause : (s.refusal ≡ Some fault) ⊎ ((plan : Plan) (before : List (List ℕ)) → IsAfter plan before s →
+      IsDue plan before packet fault)
+
+abbrev pub head_refuses : Head → Option (List ℕ) → HeadFault → Head → List ℕ → ℕ → Type 0
+head_refuses s packet fault t bytes steps = Refuses s packet fault bytes
+
+-- it may be offered a packet: it stands after some, or keeps a refusal
+abbrev pub IsReady : Head → Type 0
+IsReady head = head.refusal ≡ None → (before : List (List ℕ)) × IsAfter (plan_in head) before head

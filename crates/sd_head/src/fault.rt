@@ -1,0 +1,10 @@
+use sd_broadcast::ClearFault;
+
+/// Why the head end stopped.
+#[derive(Clone, Copy, Debug, PartialEq, Eq)]
+pub enum HeadFault {
+    /// A clear packet is refused.
+    Clear(ClearFault),
+    /// Out of memory, where a period begins.
+    NoMemory,
+}

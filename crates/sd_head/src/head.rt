@@ -1,0 +1,123 @@
+ghost use Rattle.std.specs.Prelude.{◌≡◌, ℕ, List, [], IfOk, length};
+ghost use Rattle.sd_broadcast.specs.Plan.{Plan};
+ghost use Rattle.sd_entitling.specs.Kept.{plan_of, revoked_before};
+ghost use Rattle.sd_head.specs.Schedule.{periods_begun};
+ghost use Rattle.sd_head.specs.Staged.{head_does, head_ends, head_refuses, IsAfter, IsReady};
+
+use crate::fault::HeadFault;
+use crate::schedule::{admit, begins_crypto, finish};
+use crate::sender::Sender;
+use sd_book::Book;
+use sd_cause::NoMemory;
+use sd_clear::Clear;
+use sd_cover::CoverIndex;
+use sd_engine::{Stage, StageFault};
+use sd_entitling::Entitling;
+use sd_packet::Packet;
+use sd_ports::Sink;
+use sd_site::Site;
+use sd_steps::Steps;
+use std::alloc::Global;
+use std::sync::ledger::Ledger;
+
+/// The head end as a stage: it sends each clear packet as it is carried, with the tables and the message that stand in
+/// front of it, and at the end the closing message (this project, docs/FORMATS.md, Broadcast).
+#[derive(Drop)]
+pub struct Head {
+    site: Site,
+    clear: Clear,
+    entitling: Entitling,
+    sender: Sender,
+    refusal: Option<HeadFault>,
+}
+
+impl Head {
+    /// Before the first packet.
+    pub fn new(alloc: Global, site: Site, book: Book) -> Result<Head, NoMemory>
+        requires { book.height ≡ site.height }
+        ensures value { IfOk result (λ head. IsAfter (plan_of site book) [] head) }
+        ensures live { IfOk result IsReady }
+    {
+        Ok(Head {
+            clear: Clear::new(alloc)?,
+            entitling: Entitling::new(alloc, &site, book),
+            sender: Sender::new(alloc, &site)?,
+            refusal: None,
+            site,
+        })
+    }
+
+    /// The index of the revoked leaves: those of the last period that has begun, and none where none has.
+    pub fn index(&self) -> &CoverIndex
+        ensures value { result.now ≡ self.now.entitling.index }
+        ensures revoked { (plan : Plan) (before : List (List ℕ)) → IsAfter plan before self.now → result.now.revoked
+            ≡ revoked_before plan.site.height plan.commands (periods_begun plan (length before)) }
+    {
+        self.entitling.index()
+    }
+}
+
+impl<K: Sink, L: Ledger> Stage<K, L> for Head {
+    type Fault = HeadFault;
+
+    ghost live = { λ s. IsReady s };
+
+    ghost kept = { λ s. s.refusal };
+
+    ghost does = { head_does };
+
+    ghost ends = { head_ends };
+
+    ghost refuses = { head_refuses };
+
+    fn offer(
+        &mut self,
+        packet: &Packet,
+        out: &mut K,
+        steps: &mut Steps<L>,
+    ) -> Result<(), StageFault<HeadFault>> {
+        if let Some(fault) = self.refusal {
+            return Err(StageFault::Refused(fault));
+        }
+        if let Err(fault) = admit(&mut self.entitling, &self.clear, &self.site, packet, steps) {
+            self.refusal = Some(fault);
+            return Err(StageFault::Refused(fault));
+        }
+        let due = begins_crypto(&self.site, self.clear.count());
+        let crypto = self.entitling.crypto();
+        let message = self.sender.prepare(&self.site, crypto, &self.clear);
+        let carried = self
+            .clear
+            .carry(&self.site, packet, crypto.number, &crypto.word);
+        self.clear.take(packet);
+        let emms = self.entitling.emms();
+        match self
+            .sender
+            .send_packet(due, emms, message, self.site.ecm, &carried, out)
+        {
+            Ok(()) => Ok(()),
+            Err(_) => Err(StageFault::Write),
+        }
+    }
+
+    fn close(&mut self, out: &mut K, steps: &mut Steps<L>) -> Result<(), StageFault<HeadFault>> {
+        if let Some(fault) = self.refusal {
+            return Err(StageFault::Refused(fault));
+        }
+        let count = self.clear.count();
+        if let Err(NoMemory) = finish(&mut self.entitling, &self.site, count, steps) {
+            self.refusal = Some(HeadFault::NoMemory);
+            return Err(StageFault::Refused(HeadFault::NoMemory));
+        }
+        let crypto = self.entitling.crypto();
+        let message = self.sender.prepare_closing(&self.site, crypto, &self.clear);
+        let emms = self.entitling.emms();
+        match self
+            .sender
+            .send_front(count == 0, emms, Some(message), self.site.ecm, out)
+        {
+            Ok(()) => Ok(()),
+            Err(_) => Err(StageFault::Write),
+        }
+    }
+}

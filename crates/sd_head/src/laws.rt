@@ -1,0 +1,53 @@
+//! What a head end writes of the packets of a stream.
+
+ghost use Rattle.std.specs.Prelude.{◌≡◌, ◌++◌, ◌∷◌, [], ℕ, List, Option, Some};
+ghost use Rattle.std.specs.List.{concat};
+ghost use Rattle.sd_engine.specs.Stage.{Chain};
+ghost use Rattle.sd_engine.specs.Driving.{Closes, Refuses};
+ghost use Rattle.sd_broadcast.specs.declared.fault.ClearFault.{ClearFault as ClearFaults};
+ghost use Rattle.sd_broadcast.specs.Plan.{Plan};
+ghost use Rattle.sd_broadcast.specs.Refused.{refusal_from, IsClear};
+ghost use Rattle.sd_broadcast.specs.Sent.{body, broadcast};
+ghost use Rattle.sd_head.specs.declared.fault.HeadFault.{HeadFault as Faults};
+ghost use Rattle.sd_head.specs.declared.fault.HeadFault.TheVariants.{Clear as ClearOf};
+ghost use Rattle.sd_head.specs.declared.head.Head.{Head as Heads};
+ghost use Rattle.sd_head.specs.Staged.{head_does, head_ends, head_refuses, IsAfter};
+
+/// Of packets that it is offered one after the other from its beginning a head end writes the broadcast but for the
+/// closing message, and the packets are clear.
+pub fn chains_write_bodies()
+    ensures body { (plan : Plan) (packets : List (List ℕ)) (s t : Heads) (bytes : List ℕ) (steps : ℕ) →
+        IsAfter plan [] s →
+        Chain head_does s packets t bytes steps → bytes ≡ concat (body plan packets) }
+    ensures clear { (plan : Plan) (packets : List (List ℕ)) (s t : Heads) (bytes : List ℕ) (steps : ℕ) →
+        IsAfter plan [] s →
+        Chain head_does s packets t bytes steps → IsClear plan.site packets }
+    ensures after { (plan : Plan) (packets : List (List ℕ)) (s t : Heads) (bytes : List ℕ) (steps : ℕ) →
+        IsAfter plan [] s →
+        Chain head_does s packets t bytes steps → IsAfter plan packets t }
+{}
+
+/// With the end after them it writes the whole broadcast of the packets, which are clear.
+pub fn whole_streams_are_broadcast()
+    ensures value { (plan : Plan) (packets : List (List ℕ)) (s t : Heads) (bytes : List ℕ) (steps : ℕ) →
+        IsAfter plan [] s →
+        Closes head_does head_ends s packets t bytes steps → bytes ≡ concat (broadcast plan packets) }
+    ensures clear { (plan : Plan) (packets : List (List ℕ)) (s t : Heads) (bytes : List ℕ) (steps : ℕ) →
+        IsAfter plan [] s →
+        Closes head_does head_ends s packets t bytes steps → IsClear plan.site packets }
+{}
+
+/// A refusal, of a packet or of the end, leaves the broadcast of the packets before it but for the closing message. A
+/// packet is refused by the first rule that the stream breaks, or where memory ran out.
+pub fn refusals_leave_bodies()
+    ensures body { (plan : Plan) (packets : List (List ℕ)) (refused : Option (List ℕ)) (fault : Faults) (s t : Heads)
+        (bytes : List ℕ) (steps : ℕ) → IsAfter plan [] s →
+        Refuses head_does head_refuses s packets refused fault t bytes steps → bytes ≡ concat (body plan packets) }
+    ensures clear { (plan : Plan) (packets : List (List ℕ)) (refused : Option (List ℕ)) (fault : Faults) (s t : Heads)
+        (bytes : List ℕ) (steps : ℕ) → IsAfter plan [] s →
+        Refuses head_does head_refuses s packets refused fault t bytes steps → IsClear plan.site packets }
+    ensures fault { (plan : Plan) (packets rest : List (List ℕ)) (packet : List ℕ) (fault : ClearFaults) (s t : Heads)
+        (bytes : List ℕ) (steps : ℕ) → IsAfter plan [] s →
+        Refuses head_does head_refuses s packets (Some packet) (ClearOf fault) t bytes steps →
+        refusal_from plan.site [] (packets ++ packet ∷ rest) ≡ Some fault }
+{}

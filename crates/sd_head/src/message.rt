@@ -1,0 +1,48 @@
+ghost use Rattle.std.specs.Prelude.{◌≡◌, ◌≤◌};
+ghost use Rattle.sd_site.specs.Fields.{fields_of};
+ghost use Rattle.sd_broadcast.specs.Plan.{since_of};
+ghost use Rattle.sd_head.specs.Messages.{head_of};
+
+use sd_ecm::EcmHead;
+use sd_entitling::CryptoPeriod;
+use sd_site::Site;
+
+/// What the control message of this number says in a crypto period after so many clear packets, beside its positions
+/// (this project, docs/FORMATS.md, Messages).
+#[tactic(auto, unfolding(crate::specs::Messages::head_of))]
+pub fn message_head(
+    site: &Site,
+    crypto: &CryptoPeriod,
+    clear: u32,
+    number: u32,
+    closing: bool,
+) -> EcmHead
+    ensures { result ≡ head_of (fields_of site.now) crypto.now clear number closing }
+{
+    EcmHead {
+        version: site.messages,
+        number,
+        period: crypto.period,
+        word: crypto.number,
+        clear,
+        since: since(site.messages, site.cryptos, number),
+        closing,
+        wrapped: crypto.wrapped,
+        check: crypto.check,
+    }
+}
+
+// The first message from which on each packet up to this message has its control word.
+#[tactic(auto, using(crate::proofs::Telling::since_first, crate::proofs::Telling::since_two, crate::proofs::Telling::since_one))]
+fn since(version: u8, cryptos: u32, number: u32) -> u32
+    requires some { 1 ≤ cryptos }
+    ensures { result ≡ since_of version cryptos number }
+{
+    if number == 0 {
+        0
+    } else if version == 2 {
+        (number - 1) / cryptos * cryptos
+    } else {
+        number - 1
+    }
+}

@@ -1,0 +1,19 @@
+ghost use Rattle.std.specs.Prelude.{◌≤◌, vec_capacity};
+ghost use Rattle.sd_ecm.specs.declared.format.TheConstants.{MOST_PLACES};
+
+use crate::counter::Counter;
+use sd_ecm::Place;
+use sd_packet::Packet;
+
+/// Sends the site's own messages, each PID's packets under counters that rise from 0 on (this project,
+/// docs/FORMATS.md, Sections).
+#[derive(Drop)]
+pub struct Sender {
+    pub(crate) cat: Packet,
+    pub(crate) cats: Counter,
+    pub(crate) emms: Counter,
+    pub(crate) ecms: Counter,
+    // Room for the positions of a message.
+    pub(crate) places: Vec<Place>,
+    pub ghost places_room: { MOST_PLACES ≤ vec_capacity places },
+}

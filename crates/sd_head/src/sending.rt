@@ -1,0 +1,82 @@
+ghost use Rattle.std.specs.Prelude.{◌≡◌, ◌+◌, ◌%◌, ◌<◌, ◌≤◌, OnOk, length};
+ghost use Rattle.std.specs.List.{concat};
+ghost use Rattle.sd_cause.specs.Count.{HasCause};
+ghost use Rattle.sd_engine.specs.Stage.{vessel};
+ghost use Rattle.sd_ecm.specs.declared.format.TheConstants.{MOST_PLACES};
+ghost use Rattle.sd_ecm.specs.Versions.{IsVersion, IsSince};
+ghost use Rattle.sd_ecm.specs.Form.{ArePositioned, AreAscending, AreShort};
+ghost use Rattle.sd_ecm.specs.Parts.{message_of, parts_of};
+ghost use Rattle.sd_head.specs.Sending.{Sends, counter_after, numbered, packed_part, recounted};
+
+use crate::counter::Counter;
+use sd_ecm::{EcmHead, EcmPart, Place, part_count, write_ecm};
+use sd_packet::Packet;
+use sd_ports::{PortFault, Sink, write_all};
+
+/// Sends the packet under the next counter.
+pub fn send_counted<K: Sink>(
+    out: &mut K,
+    packet: &Packet,
+    counter: &mut Counter,
+) -> Result<(), PortFault>
+    ensures value { Sends (vessel K.Sink out.old) (vessel K.Sink out.new) (recounted packet.now counter.old) result }
+    ensures next { counter.new ≡ (counter.old + 1) % 16 }
+    ensures cause { HasCause (K.faults out.old) (K.faults out.new) result }
+{
+    let mut bytes = *packet.bytes();
+    bytes[3] = 0x10 + counter.take();
+    write_all(out, &bytes)
+}
+
+/// Sends the packets one after the other, each under the next counter.
+pub fn send_all<K: Sink>(
+    out: &mut K,
+    packets: &[Packet],
+    counter: &mut Counter,
+) -> Result<(), PortFault>
+    ensures value { Sends (vessel K.Sink out.old) (vessel K.Sink out.new)
+        (concat (numbered recounted counter.old packets.now)) result }
+    ensures next { OnOk result (counter.new ≡ counter_after counter.old (length packets.now)) }
+    ensures cause { HasCause (K.faults out.old) (K.faults out.new) result }
+{
+    for packet in packets {
+        send_counted(out, packet, counter)?;
+    }
+    Ok(())
+}
+
+/// Sends the parts of a control message one after the other, each under the next counter.
+pub fn send_message<K: Sink>(
+    out: &mut K,
+    head: &EcmHead,
+    places: &[Place],
+    pid: u16,
+    counter: &mut Counter,
+) -> Result<(), PortFault>
+    requires pid { pid < 8192 }
+    requires version { IsVersion head.now.version }
+    requires since { IsSince head.now.version head.now.number head.now.since }
+    requires few { length places.now ≤ MOST_PLACES }
+    requires positioned { ArePositioned places.now }
+    requires ascending { AreAscending places.now }
+    requires short { AreShort places.now }
+    ensures value { Sends (vessel K.Sink out.old) (vessel K.Sink out.new)
+        (concat (numbered (packed_part pid) counter.old (parts_of (message_of head.now places.now)))) result }
+    ensures next { OnOk result
+        (counter.new ≡ counter_after counter.old (length (parts_of (message_of head.now places.now)))) }
+    ensures cause { HasCause (K.faults out.old) (K.faults out.new) result }
+{
+    for number in 0..part_count(head.version, places.len()) {
+        let part = EcmPart::of_message(head, places, number);
+        send(out, &write_ecm(&part, pid, counter.take()))?;
+    }
+    Ok(())
+}
+
+/// Sends the packet.
+pub fn send<K: Sink>(out: &mut K, packet: &Packet) -> Result<(), PortFault>
+    ensures value { Sends (vessel K.Sink out.old) (vessel K.Sink out.new) packet.now result }
+    ensures cause { HasCause (K.faults out.old) (K.faults out.new) result }
+{
+    write_all(out, packet.bytes())
+}

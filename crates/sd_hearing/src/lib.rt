@@ -1,0 +1,10 @@
+//! What a receiver hears: the CAT that it takes, and one thing for each packet after it.
+#![tactic(auto)]
+
+mod ears;
+#[cfg(test)]
+mod tests;
+mod tune;
+
+pub use ears::{Heard, hear};
+pub use tune::{Tuning, cat_tuning};

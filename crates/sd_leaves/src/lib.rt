@@ -1,0 +1,9 @@
+//! The file of leaves whose cards were found.
+#![tactic(auto)]
+
+mod reading;
+
+pub use reading::{LeavesFault, read};
+
+#[cfg(test)]
+mod tests;

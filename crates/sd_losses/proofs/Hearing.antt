@@ -1,0 +1,161 @@
+-- How the packets of a broadcast are heard and what they make a receiver write.
+use Rattle.std.proofs.Common.{◌≡◌, refl, ℕ, suc, ◌+◌, Bool, true, false, List, [], ◌∷◌, ◌++◌, map, length}
+use Rattle.std.proofs.Common.{Option, Some, None, is_none, arith, sym, ap, ◌∙◌, subst, append_assoc}
+use Rattle.std.specs.Prelude.{if◌then◌else◌, All}
+use Rattle.std.specs.Option.{option_map_or}
+use Rattle.std.proofs.lemmas.List.Elements.{All-head, All-tail}
+use Rattle.sd_card.specs.Fields.{CardFields}
+use Rattle.sd_emm.specs.declared.emm.Emm.{Emm}
+use Rattle.sd_ecm.specs.declared.part.EcmPart.{EcmPart}
+use Rattle.sd_broadcast.specs.Sent.{Item, Cat, Entitles, Controls, Carries, packet_of, packets_from}
+use Rattle.sd_broadcast.specs.Items.{IsOfBroadcast}
+use Rattle.sd_reception.specs.Tuned.{Tuning, tuning_of, cat_tuning, tuned_by}
+use Rattle.sd_reception.specs.Heard.{Heard, Dropped, Entitles as HeardEntitles, Controls as HeardControls, Other, hears}
+use Rattle.sd_reception.specs.Stretches.{is_closed}
+use Rattle.sd_reception.specs.Offered.{Offering, heard, heard_with, heard_offering, offered, tuned_offering, out_from}
+use Rattle.sd_reception.specs.Offered.{break_from}
+use Rattle.sd_losses.specs.Chosen.{chosen}
+pub use Rattle.sd_losses.specs.Kept.{is_cat}
+use Rattle.sd_losses.proofs.Writing.{onto, Writes, IsOpenUpto}
+use Rattle.sd_losses.proofs.Setting.{Setting, tuning_at}
+
+-- what a thing that is sent is heard as, as packet number n
+abbrev pub heard_as : ℕ → Item → Heard
+heard_as n Cat = Dropped
+heard_as n (Entitles emm) = HeardEntitles emm
+heard_as n (Controls part) = HeardControls part
+heard_as n (Carries k packet) = Other n packet
+
+-- and things one after the other, from number n on
+abbrev pub heard_from : ℕ → List Item → List Heard
+heard_from n [] = []
+heard_from n (item ∷ items) = heard_as n item ∷ heard_from (suc n) items
+
+-- how the things of a broadcast are heard
+pub record AreHearable (s : Setting) : Type 0 where
+  pub heard_is : (n : ℕ) (earlier : List Item) (item : Item) → IsOfBroadcast s.plan s.clear item →
+      hears s.card.height (tuning_at s) n (packet_of s.plan.site earlier item) ≡ heard_as n item
+  pub tuning : (earlier : List Item) → cat_tuning s.card.ca (packet_of s.plan.site earlier Cat) ≡ Some (tuning_at s)
+  pub untuned : (earlier : List Item) (item : Item) → IsOfBroadcast s.plan s.clear item → is_cat item ≡ false →
+      cat_tuning s.card.ca (packet_of s.plan.site earlier item) ≡ None
+
+pub heard_append : (n : ℕ) (xs ys : List Item) →
+    heard_from n (xs ++ ys) ≡ heard_from n xs ++ heard_from (length xs + n) ys
+heard_append n [] ys = let same : 0 + n ≡ n = omega arith in rw same refl
+heard_append n (x ∷ xs) ys =
+    let same : suc (length xs) + n ≡ length xs + suc n = omega arith in
+    rw same (ap (λ (hs : List Heard). heard_as n x ∷ hs) (heard_append (suc n) xs ys))
+
+pub heard_sections : (n : ℕ) (emms : List Emm) → heard_from n (map Entitles emms) ≡ map HeardEntitles emms
+heard_sections n [] = refl
+heard_sections n (emm ∷ emms) = ap (λ (hs : List Heard). HeardEntitles emm ∷ hs) (heard_sections (suc n) emms)
+
+pub heard_parts : (n : ℕ) (parts : List EcmPart) → heard_from n (map Controls parts) ≡ map HeardControls parts
+heard_parts n [] = refl
+heard_parts n (part ∷ parts) = ap (λ (hs : List Heard). HeardControls part ∷ hs) (heard_parts (suc n) parts)
+
+-- what packets come to after others, before further ones
+pub record ComesTo (card : CardFields) (tuning : Tuning) (past packets more : List (List ℕ)) (things : List Heard)
+    (wrote : List (List ℕ)) : Type 0 where
+  pub out : out_from card past (packets ++ more) ≡ wrote ++ out_from card (onto packets past) more
+  pub breaks : break_from card past (packets ++ more) ≡ break_from card (onto packets past) more
+  pub heard_is : heard card (onto packets past) ≡ onto things (heard card past)
+  pub tuned : tuning_of card.ca (onto packets past) ≡ Some tuning
+
+-- one packet that is heard
+offered_is : (card : CardFields) (tuning : Tuning) (past : List (List ℕ)) (packet : List ℕ) (thing : Heard)
+    (first : List (List ℕ)) → tuning_of card.ca past ≡ Some tuning → is_closed (heard card past) ≡ false →
+    hears card.height tuning (length past) packet ≡ thing →
+    ((n : ℕ) → heard_offering card tuning n (heard card past) thing ≡ record { wrote = first; fault = None }) →
+    offered card past packet ≡ record { wrote = first; fault = None }
+unfolding offered
+offered_is card tuning past packet thing first tuned opened is offers =
+    ap (λ (t : Option Tuning). tuned_offering card t (length past) (heard card past) packet) tuned
+    ∙ rw opened (ap (heard_offering card tuning (length past) (heard card past)) is ∙ offers (length past))
+
+heard_is_more : (card : CardFields) (tuning : Tuning) (past : List (List ℕ)) (packet : List ℕ) (thing : Heard) →
+    tuning_of card.ca past ≡ Some tuning → is_closed (heard card past) ≡ false →
+    hears card.height tuning (length past) packet ≡ thing → heard card (packet ∷ past) ≡ thing ∷ heard card past
+unfolding heard
+heard_is_more card tuning past packet thing tuned opened is =
+    ap (λ (t : Option Tuning). heard_with card t (length past) packet (heard card past)) tuned
+    ∙ rw opened (ap (λ (h : Heard). h ∷ heard card past) is)
+
+tuned_more : (card : CardFields) (tuning : Tuning) (past : List (List ℕ)) (packet : List ℕ) →
+    tuning_of card.ca past ≡ Some tuning → tuning_of card.ca (packet ∷ past) ≡ Some tuning
+unfolding tuning_of
+tuned_more card tuning past packet tuned = ap (λ (t : Option Tuning). tuned_by t (cat_tuning card.ca packet)) tuned
+
+-- and those after it
+comes_first : (card : CardFields) (tuning : Tuning) (past packets more : List (List ℕ)) (packet : List ℕ)
+    (thing : Heard)
+    (things : List Heard) (first rest wrote : List (List ℕ)) →
+    offered card past packet ≡ record { wrote = first; fault = None } → heard card
+    (packet ∷ past) ≡ thing ∷ heard card past →
+    wrote ≡ first ++ rest → ComesTo card tuning (packet ∷ past) packets more things rest →
+    ComesTo card tuning past (packet ∷ packets) more (thing ∷ things) wrote
+unfolding out_from break_from
+comes_first card tuning past packets more packet thing things first rest wrote is hears all come = record {
+  out = ap (λ (o : Offering). o.wrote ++ (if is_none o.fault then out_from card (packet ∷ past)
+      (packets ++ more) else [])) is
+      ∙ (ap (λ (ps : List (List ℕ)). first ++ ps) come.out
+      ∙ (sym (append_assoc first rest (out_from card (onto packets (packet ∷ past)) more))
+      ∙ ap (λ (ps : List (List ℕ)). ps ++ out_from card (onto packets (packet ∷ past)) more) (sym all)));
+  breaks = ap (λ (o : Offering). option_map_or Some o.fault (break_from card (packet ∷ past) (packets ++ more))) is
+      ∙ come.breaks;
+  heard_is = come.heard_is ∙ ap (onto things) hears;
+  tuned = come.tuned;
+}
+
+-- So packets of a broadcast come to what the things come to that are heard in them.
+pub packets_come : (s : Setting) (able : AreHearable s) (items earlier : List Item) (fs : List Bool)
+    (past more : List (List ℕ)) (wrote : List (List ℕ)) → All (IsOfBroadcast s.plan s.clear) items →
+    tuning_of s.card.ca past ≡ Some (tuning_at s) →
+    IsOpenUpto (heard s.card past) (heard_from (length past) (chosen fs items)) →
+    Writes s.card (tuning_at s) (heard s.card past) (heard_from (length past) (chosen fs items)) wrote →
+    ComesTo s.card (tuning_at s) past (chosen fs (packets_from s.plan.site earlier items)) more
+    (heard_from (length past) (chosen fs items)) wrote
+unfolding chosen packets_from
+packets_come s able [] earlier [] past more wrote all tuned opened writes =
+    record {
+      out = ap (λ (ps : List (List ℕ)). ps ++ out_from s.card past more)
+          (sym writes);
+      breaks = refl;
+      heard_is = refl;
+      tuned = tuned;
+    }
+packets_come s able [] earlier (f ∷ fs) past more wrote all tuned opened writes =
+    record {
+      out = ap (λ (ps : List (List ℕ)). ps ++ out_from s.card past more)
+          (sym writes);
+      breaks = refl;
+      heard_is = refl;
+      tuned = tuned;
+    }
+packets_come s able (item ∷ items) earlier [] past more wrote all tuned opened writes =
+    record {
+      out = ap (λ (ps : List (List ℕ)). ps ++ out_from s.card past more)
+          (sym writes);
+      breaks = refl;
+      heard_is = refl;
+      tuned = tuned;
+    }
+packets_come s able (item ∷ items) earlier (false ∷ fs) past more wrote all tuned opened writes =
+    packets_come s able items (earlier ++ item ∷ []) fs past more wrote (All-tail
+    (IsOfBroadcast s.plan s.clear) item items all)
+    tuned opened writes
+packets_come s able (item ∷ items) earlier (true ∷ fs) past more wrote all tuned opened
+    (first, rest, offers, others, is) =
+    let packet = packet_of s.plan.site earlier item in
+    let hears_it = able.heard_is (length past) earlier item (All-head (IsOfBroadcast s.plan s.clear) item items all) in
+    let now = heard_is_more s.card (tuning_at s) past packet (heard_as (length past) item) tuned opened.0 hears_it in
+    comes_first s.card (tuning_at s) past (chosen fs (packets_from s.plan.site
+    (earlier ++ item ∷ []) items)) more packet
+    (heard_as (length past) item) (heard_from (suc (length past)) (chosen fs items)) first rest wrote
+    (offered_is s.card (tuning_at s) past packet (heard_as (length past) item) first tuned opened.0 hears_it offers)
+    now is
+    (packets_come s able items (earlier ++ item ∷ []) fs (packet ∷ past) more rest
+    (All-tail (IsOfBroadcast s.plan s.clear) item items all) (tuned_more s.card (tuning_at s) past packet tuned)
+    (subst (λ (hs : List Heard). IsOpenUpto hs (heard_from (suc (length past)) (chosen fs items))) (sym now) opened.1)
+    (subst (λ (hs : List Heard). Writes s.card (tuning_at s) hs (heard_from (suc (length past))
+    (chosen fs items)) rest) (sym now) others))

@@ -1,0 +1,113 @@
+-- How many keys were taken.
+use Rattle.std.proofs.Common.{◌≡◌, refl, ℕ, zero, suc, ◌+◌, ◌<◌, ◌≤◌, ◌==◌, ◌&&◌, ◌||◌, Bool, true, false, not}
+use Rattle.std.proofs.Common.{List, [], ◌∷◌, length, Option, Some, None, arith, ap, ◌∙◌, inl, inr, ◌⊎◌}
+use Rattle.std.proofs.Common.{if◌then◌else◌}
+use Rattle.std.specs.Option.{option_map_or}
+use Rattle.std.proofs.lemmas.Bool.{cases_Bool, cases_eq}
+use Rattle.std.proofs.lemmas.Bool.Decides.{nat_tests}
+use Rattle.sd_card.specs.Fields.{CardFields}
+use Rattle.sd_reception.specs.Tuned.{Tuning, tuning_of}
+use Rattle.sd_reception.specs.Heard.{Heard, hears}
+use Rattle.sd_reception.specs.Stretches.{is_closed}
+use Rattle.sd_reception.specs.Offered.{heard, heard_with}
+use Rattle.sd_losses.specs.Taken.{takes_key_of, takes_key_at, taken_keys, how_many}
+use Rattle.sd_losses.proofs.Writing.{onto}
+
+-- the keys that were taken of what was heard
+abbrev pub keys_of : CardFields → List Heard → ℕ
+keys_of card [] = 0
+keys_of card (thing ∷ past) = keys_of card past + (if takes_key_of card past thing then 1 else 0)
+
+-- tests that agree count the same
+pub how_many_agree : (f g : ℕ → Bool) (n : ℕ) → ((q : ℕ) → f q ≡ g q) → how_many f n ≡ how_many g n
+unfolding how_many
+how_many_agree f g zero same = refl
+how_many_agree f g (suc n) same = rw (same n) (ap (λ (m : ℕ). m + (if g n then 1 else 0)) (how_many_agree f g n same))
+
+-- the test that number p passes too
+abbrev pub with_one : (ℕ → Bool) → ℕ → Bool → ℕ → Bool
+with_one f p b q = f q || ((p == q) && b)
+
+below_it : (f : ℕ → Bool) (p n : ℕ) (b : Bool) → n ≤ p → how_many (with_one f p b) n ≡ how_many f n
+unfolding how_many
+below_it f p zero b low = refl
+below_it f p (suc n) b low =
+    let other : (p == n) ≡ false = grind (arith, nat_tests, low) in
+    rw other (ap (λ (c : Bool). how_many (with_one f p b) n + (if c then 1 else 0)) (or_none (f n))
+    ∙ ap (λ (m : ℕ). m + (if f n then 1 else 0)) (below_it f p n b (omega (arith, low))))
+  where
+    or_none : (c : Bool) → (c || false) ≡ c
+    or_none true = refl
+    or_none false = refl
+
+-- one number more passes where it didn't
+pub how_many_more : (f : ℕ → Bool) (p n : ℕ) (b : Bool) → p < n →
+    how_many (with_one f p b) n ≡ how_many f n + (if not (f p) && b then 1 else 0)
+unfolding how_many
+how_many_more f p zero b within = absurd (omega (arith, within))
+how_many_more f p (suc n) b within = by_place (cases_eq p n) (λ less. how_many_more f p n b less)
+  where
+    at_it : (c : Bool) → (if c || b then 1 else 0) ≡ (if c then 1 else 0) + (if not c && b then 1 else 0)
+    at_it true = refl
+    at_it false = by_b b
+      where
+        by_b : (b : Bool) → (if b then 1 else 0) ≡ 0 + (if b then 1 else 0)
+        by_b true = refl
+        by_b false = refl
+
+    or_none : (c : Bool) → (c || false) ≡ c
+    or_none true = refl
+    or_none false = refl
+
+    by_place : (p ≡ n) ⊎ (p ≡ n → ⊥) →
+        (p < n → how_many (with_one f p b) n ≡ how_many f n + (if not (f p) && b then 1 else 0)) →
+        how_many (with_one f p b) n + (if with_one f p b n then 1 else 0)
+        ≡ (how_many f n + (if f n then 1 else 0)) + (if not (f p) && b then 1 else 0)
+    by_place (inl here) rest =
+        let itself : (p == n) ≡ true = grind (arith, nat_tests, here) in
+        let same : f p ≡ f n = ap f here in
+        let before = below_it f p n b (omega (arith, here)) in
+        rw itself (rw same (omega (arith, before, at_it (f n))))
+    by_place (inr other) rest =
+        let apart : (p == n) ≡ false = grind (arith, nat_tests, other) in
+        let before = rest (omega (arith, within, other)) in
+        rw apart (rw (or_none (f n)) (omega (arith, before)))
+
+-- none passes
+pub how_many_none : (f : ℕ → Bool) (n : ℕ) → ((q : ℕ) → f q ≡ false) → how_many f n ≡ 0
+unfolding how_many
+how_many_none f zero none = refl
+how_many_none f (suc n) none = rw (none n) (omega (arith, how_many_none f n none))
+
+-- tests that agree below a bound
+pub how_many_below : (f g : ℕ → Bool) (n : ℕ) → ((q : ℕ) → q < n → f q ≡ g q) → how_many f n ≡ how_many g n
+unfolding how_many
+how_many_below f g zero same = refl
+how_many_below f g (suc n) same =
+    rw (same n (omega arith)) (ap (λ (m : ℕ). m + (if g n then 1 else 0)) (how_many_below f g n (λ q below. same q
+    (omega (arith, below)))))
+
+-- one packet more of what is heard
+one_taken : (card : CardFields) (past : List (List ℕ)) (packet : List ℕ) → keys_of card (heard card (packet ∷ past))
+    ≡ keys_of card (heard card past) + (if takes_key_at card past packet then 1 else 0)
+unfolding heard takes_key_at
+one_taken card past packet = by_tuning (tuning_of card.ca past) (cases_Bool (is_closed (heard card past)))
+  where
+    by_tuning : (t : Option Tuning) → (is_closed (heard card past) ≡ true) ⊎ (is_closed (heard card past) ≡ false) →
+        keys_of card (heard_with card t (length past) packet (heard card past))
+        ≡ keys_of card (heard card past) + (if (if is_closed (heard card past) then false
+        else option_map_or (λ tuning. takes_key_of card (heard card past) (hears card.height tuning
+        (length past) packet)) t false)
+        then 1 else 0)
+    by_tuning None (inl closed) = rw closed (omega arith)
+    by_tuning None (inr opened) = rw opened (omega arith)
+    by_tuning (Some tuning) (inl closed) = rw closed (omega arith)
+    by_tuning (Some tuning) (inr opened) = rw opened refl
+
+-- the keys that packets take are those of what is heard of them
+pub taken_heard : (card : CardFields) (packets past : List (List ℕ)) →
+    taken_keys card past packets + keys_of card (heard card past) ≡ keys_of card (heard card (onto packets past))
+unfolding taken_keys
+taken_heard card [] past = omega arith
+taken_heard card (packet ∷ packets) past =
+    omega (arith, taken_heard card packets (packet ∷ past), one_taken card past packet)

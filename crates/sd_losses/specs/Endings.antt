@@ -1,0 +1,62 @@
+-- How a broadcast of which packets are lost ends for a receiver.
+use Rattle.std.specs.Prelude.{ℕ, ◌+◌, ◌-◌, ◌*◌, ◌&&◌, Bool, not, min, List, length, map, find}
+use Rattle.std.specs.Prelude.{if◌then◌else◌, Option, Some, None}
+use Rattle.std.specs.List.{list_any, list_all, range_with_len}
+use Rattle.std.specs.Option.{option_map_or}
+use Rattle.sd_emm.specs.Form.{sections_for}
+use Rattle.sd_broadcast.specs.Plan.{Plan, sets_at, period_of, closing_number}
+use Rattle.sd_broadcast.specs.Sent.{Item}
+use Rattle.sd_reception.specs.Ending.{ending_with}
+use Rattle.sd_reception.specs.declared.ending.Ending.{Ending}
+use Rattle.sd_reception.specs.declared.ending.Ending.TheVariants.{Opened, Revoked, NoCat, Unclosed}
+use Rattle.sd_losses.specs.Kept.{is_cat, after_cat, has_arrived, arrived, greatest_at_most, entitles, is_section}
+use Rattle.sd_losses.specs.Confirmed.{confirmed, is_revoked_in}
+
+-- the period of control message a: that of the packet that it stands before, or of the last one
+abbrev pub period_told : Plan → List (List ℕ) → ℕ → ℕ
+period_told plan clear a = period_of plan (min (a * plan.site.every) (length clear - 1))
+
+-- the periods of the messages that have arrived, in order
+unfoldable pub periods_arrived : Plan → List (List ℕ) → List Item → List ℕ
+periods_arrived plan clear kept =
+    map (period_told plan clear) (arrived (closing_number plan.site (length clear)) kept)
+
+-- no section of the period that is kept has a set with the leaf
+abbrev pub is_untold : Plan → ℕ → List Item → ℕ → Bool
+is_untold plan u kept q = not (list_any (entitles plan.site.height u q) kept)
+
+-- all sections of the period are kept
+unfoldable pub has_all : Plan → List Item → ℕ → Bool
+has_all plan kept q =
+    list_all (λ x. list_any (is_section q x) kept) (range_with_len 0 (sections_for (length (sets_at plan q))))
+
+-- how it ends where the closing message arrives, with so many clear packets that are confirmed
+-- [this project, docs/FORMATS.md, Receiver]
+unfoldable pub closed_told : Plan → ℕ → List (List ℕ) → List Item → ℕ → Ending
+closed_told plan u clear kept written =
+    ending_with (find (λ q. is_untold plan u kept q && has_all plan kept q) (periods_arrived plan clear kept))
+    (find (is_untold plan u kept) (periods_arrived plan clear kept)) (length clear - written)
+
+-- the number after that of the last message that has arrived
+unfoldable pub next_number : Plan → List (List ℕ) → List Item → ℕ
+next_number plan clear kept = option_map_or (λ a. a + 1)
+    (greatest_at_most (closing_number plan.site (length clear))
+    (arrived (closing_number plan.site (length clear)) kept)) 0
+
+-- how it ends where these things are kept [this project, docs/FORMATS.md, Receiver]
+unfoldable pub ending_told : Plan → ℕ → List (List ℕ) → List Item → Ending
+ending_told plan u clear kept =
+    if list_any is_cat kept
+    then (if has_arrived (after_cat kept) (closing_number plan.site (length clear))
+    then closed_told plan u clear (after_cat kept) (length (confirmed plan u clear kept))
+    else Unclosed (next_number plan clear (after_cat kept)))
+    else NoCat
+
+-- the first period of the broadcast in which the leaf is revoked
+unfoldable pub first_revoked : Plan → ℕ → List (List ℕ) → Option ℕ
+first_revoked plan u clear = find (is_revoked_in plan u) (range_with_len 0 (period_of plan (length clear - 1) + 1))
+
+-- how a whole broadcast ends for the receiver of a leaf
+abbrev pub whole_ending : Option ℕ → Ending
+whole_ending None = Opened
+whole_ending (Some q) = Revoked q

@@ -1,0 +1,9 @@
+pub mod Stretching
+pub mod Holding
+pub mod Offering
+pub mod Turns
+pub mod Messages
+pub mod Listening
+pub mod Receiving
+pub mod Endings
+pub mod Chained

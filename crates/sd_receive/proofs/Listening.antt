@@ -1,0 +1,244 @@
+-- What things that are heard come to.
+use Rattle.std.proofs.Common.{◌≡◌, inl, inr, ℕ, List, [], ◌∷◌, length, refl, sym, ap, ◌∙◌, subst, true, false, Bool}
+use Rattle.std.proofs.Common.{arith}
+use Rattle.std.specs.Prelude.{Option, Some, None, is_none, nat_lt, Result, Ok, Err, if◌then◌else◌, bytes_eq}
+use Rattle.std.specs.List.{concat}
+use Rattle.sd_card.specs.Fields.{CardFields}
+use Rattle.sd_label.specs.Keys.{check_value_of}
+use Rattle.sd_emm.specs.declared.emm.Emm.{Emm}
+use Rattle.sd_emm.specs.declared.fault.EmmFault.{EmmFault}
+use Rattle.sd_emm.specs.declared.fault.EmmFault.TheVariants as Emms
+use Rattle.sd_ecm.specs.declared.part.EcmPart.{EcmPart}
+use Rattle.sd_ecm.specs.declared.message.EcmHead.{EcmHead}
+use Rattle.sd_ecm.specs.declared.fault.EcmFault.{EcmFault}
+use Rattle.sd_engine.specs.Stage.{Vessel}
+use Rattle.sd_engine.specs.declared.stage.StageFault.{StageFault}
+use Rattle.sd_engine.specs.declared.stage.StageFault.TheVariants.{Write, Refused}
+use Rattle.sd_reception.specs.declared.fault.StreamFault.{StreamFault}
+use Rattle.sd_reception.specs.declared.fault.StreamFault.TheVariants as Fault
+use Rattle.sd_reception.specs.Tuned.{Tuning}
+use Rattle.sd_reception.specs.Heard.{Heard, Dropped, Entitles, Controls, BadEmm, BadEcm, Other}
+use Rattle.sd_reception.specs.Stretches.{completes, current, seen, is_closed}
+use Rattle.sd_reception.specs.Keys.{key_from, key_at}
+use Rattle.sd_reception.specs.Offered.{Offering, nothing, refuses, key_offering, key_if_none, is_mixed, emm_offering}
+use Rattle.sd_reception.specs.Offered.{heard_offering}
+use Rattle.sd_entitled.specs.Entitled.{IsEntitled}
+use Rattle.sd_entitled.specs.declared.entitled.Entitled.{Entitled}
+use Rattle.sd_entitled.proofs.Keeping.{nothing_told}
+use Rattle.sd_collect.specs.Collected.{Collects, IsWaiting, IsComplete, fault_of}
+use Rattle.sd_collect.specs.declared.collect.Collect.{Collect}
+use Rattle.sd_collect.proofs.Collecting as Collecting
+use Rattle.sd_segment.specs.Holding.{Holding, held_more}
+use Rattle.sd_segment.proofs.Sinks.{took_none}
+use Rattle.sd_receive.specs.Listening.{Follows, Completes, Counts, Passes, Stops, TakesHeard, RefusesHeard, TookSome}
+use Rattle.sd_receive.specs.Listening.{Comes}
+use Rattle.sd_receive.specs.declared.listener.Listener.{Listener}
+use Rattle.sd_receive.proofs.Stretching.{stays_open}
+use Rattle.sd_receive.proofs.Holding.{nothing_held, held_same, held_other}
+use Rattle.sd_receive.proofs.Offering.{part_waits, part_refused}
+
+-- nothing more is counted
+none_more : (n : ℕ) → Counts n n 0
+none_more n total h = omega (arith, h)
+
+-- a thing of which nothing is written and nothing refused
+pub passes_none : (offering : Offering) (n : ℕ) → offering.fault ≡ None → offering.wrote ≡ [] → Passes offering n n []
+passes_none offering n fault wrote = record {
+  fault = fault;
+  bytes_are = ap concat (sym wrote);
+  counted = subst (λ (ps : List (List ℕ)). Counts n n (length ps)) (sym wrote) (none_more n);
+}
+
+pub stops_none : (offering : Offering) (why : StreamFault) → offering.fault ≡ Some why → offering.wrote ≡ [] →
+    Stops offering why []
+stops_none offering why fault wrote = record { fault = fault; bytes_are = ap concat (sym wrote) }
+
+-- no byte is taken
+pub took_nothing : (u : Vessel) (Says : List ℕ → Type 0) → Says [] → TookSome u u Says
+took_nothing u Says says = record { bytes = []; says = says; took = took_none u }
+
+-- a packet that is dropped
+pub dropped_heard : (card : CardFields) (tuning : Tuning) (n : ℕ) (s : Listener) →
+    TakesHeard card tuning n Dropped s s []
+dropped_heard card tuning n s = λ past follows unclosed. (
+  passes_none (heard_offering card tuning n past Dropped) s.written refl refl,
+  record {
+    closed = follows.closed ∙ (unclosed ∙ sym (stays_open past Dropped unclosed refl));
+    entitled = nothing_told card Dropped past s.entitled refl follows.entitled;
+    collect = Collecting.dropped past s.collect follows.collect;
+    segment = follows.segment ∙ sym (held_same card past Dropped refl refl);
+  },
+)
+
+-- the listener with another segment
+pub with_segment : Listener → Option Holding → Listener
+with_segment s segment = record {
+  closed = s.closed;
+  entitled = s.entitled;
+  collect = s.collect;
+  segment = segment;
+  written = s.written;
+}
+
+-- any other packet
+pub other_heard : (card : CardFields) (tuning : Tuning) (n : ℕ) (packet : List ℕ) (s t : Listener) →
+    t.closed ≡ s.closed →
+    t.entitled ≡ s.entitled → t.collect ≡ s.collect → t.written ≡ s.written → t.segment ≡ held_more s.segment n packet →
+    TakesHeard card tuning n (Other n packet) s t []
+other_heard card tuning n packet s t closed entitled collect written segment = λ past follows unclosed. (
+  subst (λ (k : ℕ). Passes (heard_offering card tuning n past (Other n packet)) s.written k []) (sym written)
+      (passes_none (heard_offering card tuning n past (Other n packet)) s.written refl refl),
+  record {
+    closed = closed ∙ (follows.closed ∙ (unclosed ∙ sym (stays_open past (Other n packet) unclosed refl)));
+    entitled = subst (λ (e : Entitled). IsEntitled card (Other n packet ∷ past) e) (sym entitled)
+        (nothing_told card (Other n packet) past s.entitled refl follows.entitled);
+    collect = subst (λ (c : Collect). Collects (Other n packet ∷ past) c) (sym collect)
+        (Collecting.other past n packet s.collect follows.collect);
+    segment = segment ∙ (ap (λ (h : Option Holding). held_more h n packet) follows.segment ∙
+        sym (held_other card past n packet));
+  },
+)
+
+-- a section writes nothing
+wrote_none : (test : Bool) (a b : Offering) → a.wrote ≡ [] → b.wrote ≡ [] → (if test then a else b).wrote ≡ []
+wrote_none true a b p q = p
+wrote_none false a b p q = q
+
+key_writes_none : (n : ℕ) (emm : Emm) (key : Option (List ℕ)) → (key_offering n emm key).wrote ≡ []
+key_writes_none n emm None = refl
+key_writes_none n emm (Some key) =
+    wrote_none (bytes_eq (check_value_of key) emm.check) nothing
+    (refuses (Fault.WrongKey n emm.period (check_value_of key) emm.check)) refl refl
+
+keys_write_none : (n : ℕ) (emm : Emm) (key found : Option (List ℕ)) → (key_if_none n emm key found).wrote ≡ []
+keys_write_none n emm (Some key) found = refl
+keys_write_none n emm None found = key_writes_none n emm found
+
+pub section_writes_none : (card : CardFields) (n : ℕ) (past : List Heard) (emm : Emm) →
+    (emm_offering card n past emm).wrote ≡ []
+unfolding emm_offering
+section_writes_none card n past emm =
+    wrote_none (nat_lt emm.period (current past)) nothing
+    (if is_mixed (seen emm.period past) emm then refuses (Fault.BadEmm n Emms.Mixed)
+    else key_if_none n emm (key_at card past emm.period) (key_from card emm)) refl
+    (wrote_none (is_mixed (seen emm.period past) emm) (refuses (Fault.BadEmm n Emms.Mixed))
+    (key_if_none n emm (key_at card past emm.period) (key_from card emm)) refl
+    (keys_write_none n emm (key_at card past emm.period) (key_from card emm)))
+
+-- a section that is taken, and one that is refused
+pub section_taken : (card : CardFields) (tuning : Tuning) (n : ℕ) (emm : Emm) (s t : Listener) → t.closed ≡ s.closed →
+    t.segment ≡ s.segment → t.collect ≡ s.collect → t.written ≡ s.written →
+    ((past : List Heard) → IsEntitled card past s.entitled → IsEntitled card (Entitles emm ∷ past) t.entitled) →
+    ((past : List Heard) → IsEntitled card past s.entitled → (emm_offering card n past emm).fault ≡ None) →
+    TakesHeard card tuning n (Entitles emm) s t []
+section_taken card tuning n emm s t closed segment collect written entitled good = λ past follows unclosed. (
+  subst (λ (k : ℕ). Passes (heard_offering card tuning n past (Entitles emm)) s.written k []) (sym written)
+      (passes_none (emm_offering card n past emm) s.written (good past follows.entitled)
+      (section_writes_none card n past emm)),
+  record {
+    closed = closed ∙ (follows.closed ∙ (unclosed ∙ sym (stays_open past (Entitles emm) unclosed refl)));
+    entitled = entitled past follows.entitled;
+    collect = subst (λ (c : Collect). Collects (Entitles emm ∷ past) c) (sym collect)
+        (Collecting.entitles past emm s.collect follows.collect);
+    segment = segment ∙ (follows.segment ∙ sym (held_same card past (Entitles emm) refl refl));
+  },
+)
+
+pub section_refused : (card : CardFields) (tuning : Tuning) (n : ℕ) (emm : Emm) (s : Listener) (why : StreamFault) →
+    ((past : List Heard) → IsEntitled card past s.entitled → (emm_offering card n past emm).fault ≡ Some why) →
+    RefusesHeard card tuning n (Entitles emm) s why []
+section_refused card tuning n emm s why bad = λ past follows unclosed.
+    stops_none (emm_offering card n past emm) why (bad past follows.entitled) (section_writes_none card n past emm)
+
+-- a part that completes nothing, and one that is refused
+none_is : {A : Type 0} (o : Option A) → o ≡ None → is_none o ≡ true
+none_is o none = ap is_none none
+
+pub part_waiting : (card : CardFields) (tuning : Tuning) (n : ℕ) (part : EcmPart) (s t : Listener) →
+    t.closed ≡ s.closed →
+    t.entitled ≡ s.entitled → t.segment ≡ s.segment → t.written ≡ s.written →
+    ((past : List Heard) → Collects past s.collect → current past ≡ s.entitled.period → IsWaiting past part t.collect) →
+    TakesHeard card tuning n (Controls part) s t []
+part_waiting card tuning n part s t closed entitled segment written waits = λ past follows unclosed.
+    let waiting = waits past follows.collect (sym follows.entitled.period) in
+    let offers = part_waits card tuning n past part waiting.fault waiting.incomplete in (
+      subst (λ (k : ℕ). Passes (heard_offering card tuning n past (Controls part)) s.written k []) (sym written)
+          (passes_none (heard_offering card tuning n past (Controls part)) s.written
+          (ap (λ (o : Offering). o.fault) offers)
+          (ap (λ (o : Offering). o.wrote) offers)),
+      record {
+        closed = closed ∙ (follows.closed ∙ (unclosed ∙ sym (stays_open past (Controls part) unclosed
+            waiting.incomplete)));
+        entitled = subst (λ (e : Entitled). IsEntitled card (Controls part ∷ past) e) (sym entitled)
+            (nothing_told card (Controls part) past s.entitled
+            (none_is (completes past (Controls part)) waiting.incomplete) follows.entitled);
+        collect = waiting.after;
+        segment = segment ∙ (follows.segment ∙ sym (held_same card past (Controls part) waiting.incomplete refl));
+      },
+    )
+
+pub part_bad : (card : CardFields) (tuning : Tuning) (n : ℕ) (part : EcmPart) (s : Listener) (fault : EcmFault) →
+    ((past : List Heard) → Collects past s.collect → current past ≡ s.entitled.period →
+    fault_of past part ≡ Some fault) →
+    RefusesHeard card tuning n (Controls part) s (Fault.BadEcm n fault) []
+part_bad card tuning n part s fault bad = λ past follows unclosed.
+    let offers = part_refused card tuning n past part fault (bad past follows.collect (sym follows.entitled.period)) in
+    stops_none (heard_offering card tuning n past (Controls part)) (Fault.BadEcm n fault)
+    (ap (λ (o : Offering). o.fault) offers)
+    (ap (λ (o : Offering). o.wrote) offers)
+
+-- faulty sections and parts
+pub bad_section : (card : CardFields) (tuning : Tuning) (n : ℕ) (fault : EmmFault) (s : Listener) →
+    RefusesHeard card tuning n (BadEmm fault) s (Fault.BadEmm n fault) []
+bad_section card tuning n fault s = λ past follows unclosed. record { fault = refl; bytes_are = refl }
+
+pub bad_part : (card : CardFields) (tuning : Tuning) (n : ℕ) (fault : EcmFault) (s : Listener) →
+    RefusesHeard card tuning n (BadEcm fault) s (Fault.BadEcm n fault) []
+bad_part card tuning n fault s = λ past follows unclosed. record { fault = refl; bytes_are = refl }
+
+-- what more is said of what comes
+pub comes_weaker : (T S : Listener → List ℕ → Type 0) (R Q : StreamFault → List ℕ → Type 0) (u v : Vessel)
+    (t : Listener)
+    (result : Result (Unit {0}) (StageFault StreamFault)) → ((x : Listener) (bytes : List ℕ) → T x bytes → S x bytes) →
+    ((fault : StreamFault) (bytes : List ℕ) → R fault bytes → Q fault bytes) → Comes T R u v t result →
+    Comes S Q u v t result
+comes_weaker T S R Q u v t (Ok done) takes refuses comes =
+    record { bytes = comes.bytes; says = takes t comes.bytes comes.says; took = comes.took }
+comes_weaker T S R Q u v t (Err (Refused fault)) takes refuses comes =
+    record { bytes = comes.bytes; says = refuses fault comes.bytes comes.says; took = comes.took }
+comes_weaker T S R Q u v t (Err Write) takes refuses comes = record {
+  bytes = comes.bytes;
+  says = elim comes.says [
+    | inl h ↦ inl (h.0, takes h.0 comes.bytes h.1)
+    | inr h ↦ inr (h.0, refuses h.0 comes.bytes h.1)
+  ];
+  prefix = comes.prefix;
+  short = comes.short;
+  taken = comes.taken;
+  room = comes.room;
+}
+
+-- a part that completes a message is taken as the message is
+pub message_heard : (card : CardFields) (tuning : Tuning) (n : ℕ) (part : EcmPart) (head : EcmHead) (s t : Listener) →
+    t.entitled ≡ s.entitled → t.segment ≡ s.segment → t.written ≡ s.written →
+    ((past : List Heard) → Collects past s.collect → current past ≡ s.entitled.period →
+    IsComplete past part head t.collect) →
+    (past : List Heard) → Follows card past s → is_closed past ≡ false → Completes card past part head t
+message_heard card tuning n part head s t entitled segment written complete = λ past follows unclosed. record {
+  unclosed = unclosed;
+  entitled = subst (λ (e : Entitled). IsEntitled card past e) (sym entitled) follows.entitled;
+  collect = complete past follows.collect (sym follows.entitled.period);
+  segment = segment ∙ follows.segment;
+}
+
+-- nothing was heard
+pub follows_none : (card : CardFields) (t : Listener) → t.closed ≡ false → IsEntitled card [] t.entitled →
+    Collects [] t.collect →
+    t.segment ≡ None → Follows card [] t
+unfolding is_closed
+follows_none card t closed entitled collect segment = record {
+  closed = closed;
+  entitled = entitled;
+  collect = collect;
+  segment = segment ∙ sym (nothing_held card);
+}

@@ -1,0 +1,310 @@
+-- What a message that is complete comes to.
+use Rattle.std.proofs.Common.{◌≡◌, ◌⊎◌, inl, inr, ℕ, ◌+◌, ◌≤◌, List, [], ◌∷◌, length, refl, sym, ap, ◌∙◌, subst, arith}
+use Rattle.std.specs.Prelude.{Option, Some, None, max, option_map, Result, Ok, Err}
+use Rattle.std.specs.List.{concat}
+use Rattle.std.specs.Option.{option_map_or}
+use Rattle.std.specs.Result.{MatchResult}
+use Rattle.sd_cause.specs.Count.{with_added}
+use Rattle.sd_card.specs.Fields.{CardFields}
+use Rattle.sd_ecm.specs.Parts.{Message, message_of}
+use Rattle.sd_ecm.specs.declared.part.Place.{Place}
+use Rattle.sd_ecm.specs.declared.part.EcmPart.{EcmPart}
+use Rattle.sd_ecm.specs.declared.message.EcmHead.{EcmHead}
+use Rattle.sd_engine.specs.Stage.{Vessel, CutShort}
+use Rattle.sd_reception.specs.declared.fault.StreamFault.{StreamFault}
+use Rattle.sd_reception.specs.declared.fault.StreamFault.TheVariants as Fault
+use Rattle.sd_reception.specs.Tuned.{Tuning}
+use Rattle.sd_reception.specs.Heard.{Heard, Controls}
+use Rattle.sd_reception.specs.Stretches.{newest, completes, current}
+use Rattle.sd_reception.specs.Keys.{key_at}
+use Rattle.sd_reception.specs.Confirmed.{Wrote}
+use Rattle.sd_reception.specs.Offered.{Offering, word_fault, wrote_or, heard_offering}
+use Rattle.sd_entitled.specs.Entitled.{IsEntitled}
+use Rattle.sd_entitled.specs.declared.entitled.Entitled.{Entitled}
+use Rattle.sd_collect.specs.Gathered.{ArePlaces}
+use Rattle.sd_collect.specs.Collected.{Collects}
+use Rattle.sd_collect.specs.declared.collect.Collect.{Collect}
+use Rattle.sd_segment.specs.Writing.{Took}
+use Rattle.sd_segment.specs.Holding as Segments
+use Rattle.sd_segment.specs.Holding.{Holding, after_message}
+use Rattle.sd_receive.specs.Held.{word_under, holding_in, pair_wrote}
+use Rattle.sd_receive.specs.Listening.{Follows, Completes, capped, Counts, Passes, TookSome, Stops, TakesMessage}
+use Rattle.sd_receive.specs.Listening.{RefusesMessage}
+use Rattle.sd_receive.specs.declared.listener.Listener.{Listener}
+use Rattle.sd_receive.proofs.Stretching.{closes}
+use Rattle.sd_receive.proofs.Holding.{held_begun, same_key, wrote_is}
+use Rattle.sd_receive.proofs.Offering.{part_completes, not_past}
+
+-- the positions of a message are ones after which packets may be held
+pub same_places : (all : List Place) → ArePlaces all → Segments.ArePlaces all
+same_places all are = record {
+  few = are.few;
+  positioned = are.positioned;
+  ascending = are.ascending;
+  short =
+      are.short;
+}
+
+pub kept_places : (past : List Heard) (state : Collect) → Collects past state → Segments.ArePlaces state.places.items
+kept_places past state collects = same_places state.places.items collects.last.good
+
+-- the message is of no past period
+pub in_turn : (card : CardFields) (past : List Heard) (part : EcmPart) (head : EcmHead) (state : Listener) →
+    Completes card past part head state → state.entitled.period ≤ head.period
+in_turn card past part head state done =
+    let now = not_past past part (message_of head state.collect.run.places.items) done.collect.fault
+    done.collect.complete in
+    omega (arith, now, done.entitled.period)
+
+-- the key that is kept is that of the message's period
+max_right : (a b : ℕ) → b ≤ a → max a b ≡ a
+max_right a b h = omega (arith, h)
+
+current_is : (past : List Heard) (part : EcmPart) (message : Message) → completes past (Controls part) ≡ Some message →
+    current past ≤ message.period → current (Controls part ∷ past) ≡ message.period
+unfolding current
+current_is past part message done high =
+    ap (λ (m : Option Message). max (option_map_or (λ (b : Message). b.period) m 0) (current past)) done
+    ∙ max_right message.period (current past) high
+
+pub key_now : (card : CardFields) (past : List Heard) (part : EcmPart) (message : Message) (state : Entitled) →
+    completes past (Controls part) ≡ Some message → current past ≤ message.period →
+    IsEntitled card (Controls part ∷ past) state → state.key ≡ key_at card past message.period
+key_now card past part message state done high entitled =
+    entitled.key
+    ∙ (ap (λ (q : ℕ). key_at card (Controls part ∷ past) q) (current_is past part message done high)
+    ∙ same_key card past part message.period)
+
+-- what the part offers, by what is kept
+pub offering_is : (card : CardFields) (tuning : Tuning) (n : ℕ) (past : List Heard) (part : EcmPart) (head : EcmHead)
+    (state : Listener) →
+    Completes card past part head state → heard_offering card tuning n past (Controls part)
+    ≡ wrote_or (pair_wrote state.collect.last state.segment head.since card.ca tuning.ecm
+    state.collect.run.places.items)
+    (word_fault n (message_of head state.collect.run.places.items) (key_at card past head.period))
+unfolding holding_in
+offering_is card tuning n past part head state done =
+    let message = message_of head state.collect.run.places.items in
+    let fault = word_fault n message (key_at card past head.period) in
+    part_completes card tuning n past part message done.collect.fault done.collect.complete
+    ∙ ap (λ (w : Wrote). wrote_or w fault)
+    (wrote_is card tuning (newest past) state.collect.last state.collect.places.items message done.collect.last.says
+    ∙ ap (λ (held : Option Holding). pair_wrote state.collect.last held head.since card.ca tuning.ecm
+    state.collect.run.places.items)
+    (sym done.segment))
+
+-- what the message offers where a held packet is refused, where its word is, and where nothing is
+pub refuses_parity : (offering : Offering) (wrote : Wrote) (fault : Option StreamFault) (k : ℕ) (bytes : List ℕ) →
+    offering ≡ wrote_or wrote fault → wrote.refused ≡ Some k → bytes ≡ concat wrote.packets →
+    Stops offering (Fault.Parity k) bytes
+refuses_parity offering wrote fault k bytes is refused written = record {
+  fault = ap (λ (o : Offering). o.fault) is ∙ ap (λ (r : Option ℕ). option_map_or (λ m. Some (Fault.Parity m)) r
+      fault) refused;
+  bytes_are = written ∙ ap (λ (o : Offering). concat o.wrote) (sym is);
+}
+
+pub refuses_word : (offering : Offering) (wrote : Wrote) (fault : Option StreamFault) (why : StreamFault)
+    (bytes : List ℕ) →
+    offering ≡ wrote_or wrote fault → wrote.refused ≡ None → fault ≡ Some why → bytes ≡ concat wrote.packets →
+    Stops offering why bytes
+refuses_word offering wrote fault why bytes is refused bad written = record {
+  fault = ap (λ (o : Offering). o.fault) is ∙ (ap (λ (r : Option ℕ). option_map_or (λ m. Some (Fault.Parity m)) r
+      fault) refused ∙ bad);
+  bytes_are = written ∙ ap (λ (o : Offering). concat o.wrote) (sym is);
+}
+
+pub passes_all : (offering : Offering) (wrote : Wrote) (fault : Option StreamFault) (before after : ℕ)
+    (bytes : List ℕ) →
+    offering ≡ wrote_or wrote fault → wrote.refused ≡ None → fault ≡ None → bytes ≡ concat wrote.packets →
+    Counts before after (length wrote.packets) → Passes offering before after bytes
+passes_all offering wrote fault before after bytes is refused good written counted = record {
+  fault = ap (λ (o : Offering). o.fault) is ∙ (ap (λ (r : Option ℕ). option_map_or (λ m. Some (Fault.Parity m)) r
+      fault) refused ∙ good);
+  bytes_are = written ∙ ap (λ (o : Offering). concat o.wrote) (sym is);
+  counted = subst (λ (o : Offering). Counts before after (length o.wrote)) (sym is) counted;
+}
+
+-- a count that is added to counts
+pub added_counts : (before more total : ℕ) → before ≡ capped total → with_added before more ≡ capped (total + more)
+added_counts before more total h = omega (arith, h)
+
+-- what is kept after the message
+pub renewed : (card : CardFields) (past : List Heard) (part : EcmPart) (head : EcmHead) (s t : Listener)
+    (key : Option (List ℕ)) →
+    Completes card past part head s → IsEntitled card (Controls part ∷ past) t.entitled →
+    Collects (Controls part ∷ past) t.collect →
+    key ≡ key_at card past head.period →
+    t.segment ≡ option_map (λ w. after_message (message_of head s.collect.run.places.items) w [])
+    (word_under (message_of head s.collect.run.places.items) key) →
+    t.closed ≡ head.closing → Follows card (Controls part ∷ past) t
+renewed card past part head s t key done entitled collects is segment closed =
+    let message = message_of head s.collect.run.places.items in
+    record {
+      closed = closed ∙ sym (closes past (Controls part) message done.unclosed done.collect.complete);
+      entitled = entitled;
+      collect = collects;
+      segment = segment
+          ∙ (ap (λ (k : Option (List ℕ)). option_map (λ (w : List ℕ). after_message message w [])
+          (word_under message k)) is
+          ∙ sym (held_begun card past (Controls part) message done.collect.complete));
+    }
+
+-- the same listener with another count of what was written
+unfoldable pub counting : Listener → ℕ → Listener
+counting t n = record {
+  closed = t.closed;
+  entitled = t.entitled;
+  collect = t.collect;
+  segment = t.segment;
+  written =
+      n;
+}
+
+counting_is : (t : Listener) (n : ℕ) → (counting t n).written ≡ n
+unfolding counting
+counting_is t n = refl
+
+counted_follows : (card : CardFields) (past : List Heard) (t : Listener) (n : ℕ) → Follows card past t →
+    Follows card past (counting t n)
+unfolding counting
+counted_follows card past t n follows = record {
+  closed = follows.closed;
+  entitled = follows.entitled;
+  collect = follows.collect;
+  segment = follows.segment;
+}
+
+-- what the word's test told of the message, and what is kept then
+abbrev pub Begins : CardFields → ℕ → EcmHead → Listener → Listener → Result (Unit {0}) StreamFault → Type 0
+Begins card n head s t result = (past : List Heard) (part : EcmPart) → Completes card past part head s →
+    MatchResult result
+    (λ _. (word_fault n (message_of head s.collect.run.places.items) (key_at card past head.period) ≡ None)
+    × Follows card (Controls part ∷ past) t)
+    (λ fault. word_fault n (message_of head s.collect.run.places.items) (key_at card past head.period) ≡ Some fault)
+
+-- all bytes that the message may write are of what it comes to
+allowed : (card : CardFields) (tuning : Tuning) (n : ℕ) (head : EcmHead) (s t : Listener) (wrote : Wrote)
+    (refused : Option ℕ)
+    (result : Result (Unit {0}) StreamFault) (bytes : List ℕ) →
+    wrote ≡ pair_wrote s.collect.last s.segment head.since card.ca tuning.ecm s.collect.run.places.items →
+    wrote.refused ≡ refused →
+    Begins card n head s t result → bytes ≡ concat wrote.packets →
+    ((x : Listener) × TakesMessage card tuning n head s x bytes) ⊎
+    ((fault : StreamFault) × RefusesMessage card tuning n head s fault bytes)
+allowed card tuning n head s t wrote (Some k) result bytes is told begins written =
+    inr (
+      Fault.Parity k,
+      λ past part done.
+          refuses_parity (heard_offering card tuning n past (Controls part)) wrote
+          (word_fault n (message_of head s.collect.run.places.items) (key_at card past head.period)) k bytes
+          (offering_is card tuning n past part head s done
+          ∙ ap (λ (w : Wrote). wrote_or w (word_fault n (message_of head s.collect.run.places.items)
+          (key_at card past head.period))) (sym is))
+          told written,
+    )
+allowed card tuning n head s t wrote None (Err fault) bytes is told begins written =
+    inr (
+      fault,
+      λ past part done.
+          refuses_word (heard_offering card tuning n past (Controls part)) wrote
+          (word_fault n (message_of head s.collect.run.places.items) (key_at card past head.period)) fault bytes
+          (offering_is card tuning n past part head s done
+          ∙ ap (λ (w : Wrote). wrote_or w (word_fault n (message_of head s.collect.run.places.items)
+          (key_at card past head.period))) (sym is))
+          told (begins past part done) written,
+    )
+allowed card tuning n head s t wrote None (Ok done) bytes is told begins written =
+    inl (
+      counting t (with_added s.written (length wrote.packets)),
+      λ past part completes. (
+        passes_all (heard_offering card tuning n past (Controls part)) wrote
+            (word_fault n (message_of head s.collect.run.places.items) (key_at card past head.period)) s.written
+            (counting t (with_added s.written (length wrote.packets))).written bytes
+            (offering_is card tuning n past part head s completes
+            ∙ ap (λ (w : Wrote). wrote_or w (word_fault n (message_of head s.collect.run.places.items)
+            (key_at card past head.period))) (sym is))
+            told (begins past part completes).0 written
+            (λ total h. counting_is t (with_added s.written (length wrote.packets)) ∙
+            added_counts s.written (length wrote.packets) total h),
+        counted_follows card (Controls part ∷ past) t (with_added s.written (length wrote.packets))
+            (begins past part completes).1,
+      ),
+    )
+
+-- a write that failed amid them
+pub cut_message : (card : CardFields) (tuning : Tuning) (n : ℕ) (head : EcmHead) (s t : Listener) (wrote : Wrote)
+    (result : Result (Unit {0}) StreamFault) (u v : Vessel) →
+    wrote ≡ pair_wrote s.collect.last s.segment head.since card.ca tuning.ecm s.collect.run.places.items →
+    Begins card n head s t result → CutShort u v (λ bytes. bytes ≡ concat wrote.packets) →
+    CutShort u v (λ bytes. ((x : Listener) × TakesMessage card tuning n head s x bytes)
+    ⊎ ((fault : StreamFault) × RefusesMessage card tuning n head s fault bytes))
+cut_message card tuning n head s t wrote result u v is begins cut = record {
+  bytes = cut.bytes;
+  says = allowed card tuning n head s t wrote wrote.refused result cut.bytes is refl begins cut.says;
+  prefix = cut.prefix;
+  short = cut.short;
+  taken = cut.taken;
+  room = cut.room;
+}
+
+-- what the message comes to where a held packet is refused, where its word is, and where nothing is
+pub parity_message : (card : CardFields) (tuning : Tuning) (n : ℕ) (head : EcmHead) (s : Listener) (wrote : Wrote)
+    (k : ℕ) (u v : Vessel) →
+    wrote ≡ pair_wrote s.collect.last s.segment head.since card.ca tuning.ecm s.collect.run.places.items →
+    (wrote.refused ≡ Some k) × Took u v (concat wrote.packets) →
+    TookSome u v (RefusesMessage card tuning n head s (Fault.Parity k))
+parity_message card tuning n head s wrote k u v is told = record {
+  bytes = concat wrote.packets;
+  says = λ past part done.
+      refuses_parity (heard_offering card tuning n past (Controls part)) wrote
+      (word_fault n (message_of head s.collect.run.places.items) (key_at card past head.period)) k
+      (concat wrote.packets)
+      (offering_is card tuning n past part head s done
+      ∙ ap (λ (w : Wrote). wrote_or w (word_fault n (message_of head s.collect.run.places.items)
+      (key_at card past head.period))) (sym is))
+      told.0 refl;
+  took = told.1;
+}
+
+pub word_message : (card : CardFields) (tuning : Tuning) (n : ℕ) (head : EcmHead) (s t : Listener) (wrote : Wrote)
+    (fault : StreamFault)
+    (count : ℕ) (u v : Vessel) →
+    wrote ≡ pair_wrote s.collect.last s.segment head.since card.ca tuning.ecm s.collect.run.places.items →
+    (wrote.refused ≡ None) × (count ≡ length wrote.packets) × Took u v (concat wrote.packets) →
+    Begins card n head s t (Err fault) → TookSome u v (RefusesMessage card tuning n head s fault)
+word_message card tuning n head s t wrote fault count u v is told begins = record {
+  bytes = concat wrote.packets;
+  says = λ past part done.
+      refuses_word (heard_offering card tuning n past (Controls part)) wrote
+      (word_fault n (message_of head s.collect.run.places.items) (key_at card past head.period)) fault
+      (concat wrote.packets)
+      (offering_is card tuning n past part head s done
+      ∙ ap (λ (w : Wrote). wrote_or w (word_fault n (message_of head s.collect.run.places.items)
+      (key_at card past head.period))) (sym is))
+      told.0 (begins past part done) refl;
+  took = told.2;
+}
+
+pub taken_message : (card : CardFields) (tuning : Tuning) (n : ℕ) (head : EcmHead) (s t x : Listener) (wrote : Wrote)
+    (count : ℕ) (u v : Vessel) →
+    wrote ≡ pair_wrote s.collect.last s.segment head.since card.ca tuning.ecm s.collect.run.places.items →
+    (wrote.refused ≡ None) × (count ≡ length wrote.packets) × Took u v (concat wrote.packets) →
+    Begins card n head s t (Ok tt) → x ≡ counting t (with_added s.written count) →
+    TookSome u v (TakesMessage card tuning n head s x)
+taken_message card tuning n head s t x wrote count u v is told begins same = record {
+  bytes = concat wrote.packets;
+  says = λ past part done. (
+    passes_all (heard_offering card tuning n past (Controls part)) wrote
+        (word_fault n (message_of head s.collect.run.places.items) (key_at card past head.period)) s.written x.written
+        (concat wrote.packets)
+        (offering_is card tuning n past part head s done
+        ∙ ap (λ (w : Wrote). wrote_or w (word_fault n (message_of head s.collect.run.places.items)
+        (key_at card past head.period))) (sym is))
+        told.0 (begins past part done).0 refl
+        (λ total h. ap (λ (l : Listener). l.written) same ∙ (counting_is t (with_added s.written count)
+        ∙ (ap (λ (k : ℕ). with_added s.written k) told.1 ∙ added_counts s.written (length wrote.packets) total h))),
+    subst (λ (l : Listener). Follows card (Controls part ∷ past) l) (sym same)
+        (counted_follows card (Controls part ∷ past) t (with_added s.written count) (begins past part done).1),
+  );
+  took = told.2;
+}

@@ -1,0 +1,56 @@
+-- What one thing more that is heard changes.
+use Rattle.std.proofs.Common.{◌≡◌, ℕ, ◌++◌, List, [], ◌∷◌, refl, ap, ◌∙◌, false}
+use Rattle.std.specs.Prelude.{Some, None, reverse}
+use Rattle.std.proofs.lemmas.List.{reverse-append}
+use Rattle.sd_ecm.specs.Parts.{Message}
+use Rattle.sd_ecm.specs.declared.part.EcmPart.{EcmPart}
+use Rattle.sd_reception.specs.Heard.{Heard, Controls, Other}
+use Rattle.sd_reception.specs.Stretches.{newest, stretched, completes, is_closed, seen, others, other_with, held_in}
+
+-- what completes nothing is heard after the newest message
+pub newest_waits : (past : List Heard) (heard : Heard) → completes past heard ≡ None →
+    newest (heard ∷ past) ≡ record {
+      message = (newest past).message;
+      before = (newest past).before;
+      after =
+          heard ∷ (newest past).after;
+    }
+unfolding newest
+newest_waits past heard none = ap (stretched past (newest past) heard) none
+
+pub newest_completes : (past : List Heard) (heard : Heard) (message : Message) → completes past heard ≡ Some message →
+    newest (heard ∷ past) ≡ record { message = Some message; before = past; after = [] }
+unfolding newest
+newest_completes past heard message done = ap (stretched past (newest past) heard) done
+
+-- the stream is closed by a closing message alone
+pub stays_open : (past : List Heard) (heard : Heard) → is_closed past ≡ false → completes past heard ≡ None →
+    is_closed (heard ∷ past) ≡ false
+unfolding is_closed
+stays_open past heard unclosed none = rw (unclosed, none) refl
+
+pub closes : (past : List Heard) (heard : Heard) (message : Message) → is_closed past ≡ false →
+    completes past heard ≡ Some message →
+    is_closed (heard ∷ past) ≡ message.closing
+unfolding is_closed
+closes past heard message unclosed done = rw (unclosed, done) refl
+
+-- the packets to hold
+pub holds_more : (past : List Heard) (n : ℕ) (packet : List ℕ) →
+    held_in (newest (Other n packet ∷ past)) ≡ held_in (newest past) ++ (n, packet) ∷ []
+unfolding others
+holds_more past n packet =
+    ap held_in (newest_waits past (Other n packet) refl) ∙ reverse-append ((n, packet) ∷ [])
+    (others (newest past).after)
+
+pub holds_same : (past : List Heard) (heard : Heard) → completes past heard ≡ None →
+    other_with heard (others (newest past).after) ≡ others (newest past).after →
+    held_in (newest (heard ∷ past)) ≡ held_in (newest past)
+unfolding others
+holds_same past heard none same = ap held_in (newest_waits past heard none) ∙
+    ap (λ (o : List (ℕ × List ℕ)). reverse o) same
+
+-- a part is no section
+pub sees_same : (q : ℕ) (past : List Heard) (part : EcmPart) → seen q (Controls part ∷ past) ≡ seen q past
+unfolding seen
+sees_same q past part = refl

@@ -1,0 +1,39 @@
+use Rattle.std.proofs.Common.{◌≡◌, ◌∙◌, subst, sym, ap, refl, ◌∷◌, List, ℕ, Option, []}
+use Rattle.std.specs.Prelude.{Some, None, option_map}
+use Rattle.sd_ecm.specs.Parts.{message_of}
+use Rattle.sd_reception.specs.Heard.{Controls}
+use Rattle.sd_reception.specs.Offered.{word_fault}
+use Rattle.sd_entitled.specs.Entitled.{IsEntitled}
+use Rattle.sd_entitled.specs.declared.entitled.Entitled.{Entitled}
+use Rattle.sd_segment.specs.Holding.{after_message}
+use Rattle.sd_receive.proofs.Offering.{not_past}
+use Rattle.sd_receive.proofs.Messages.{in_turn, key_now, renewed}
+use Rattle.sd_receive.proofs.listener.Listener.begin.Goals as goal
+
+pub message-requires : goal.message-requires
+message-requires c =
+    let l = c.requires.live in in_turn l.0 l.1 l.2 c.args.head.now c.args.self.now l.3
+
+pub returns-in-Ok-clause-value : goal.returns-in-Ok-clause-value
+returns-in-Ok-clause-value c = λ card past part done.
+    let message = message_of c.args.head.now c.args.self.now.collect.run.places.items in
+    let high = not_past past part message done.collect.fault done.collect.complete in
+    let entitled = c.message.ensures card past part message done.entitled done.collect.complete refl in
+    let key = c.key.ensures ∙ key_now card past part message c.message.new.self done.collect.complete high entitled in
+    let word = c.in-Ok.ensures in (
+      subst (λ (k : Option (List ℕ)). word_fault c.args.number message k ≡ None) key word.1,
+      renewed card past part c.args.head.now c.args.self.now c.renew.new.self c.key.result done
+          (subst (λ (e : Entitled). IsEntitled card (Controls part ∷ past) e) (sym c.renew.ensures.same.0) entitled)
+          (c.renew.ensures.collect past part done.collect) key
+          (c.renew.ensures.segment ∙ ap (λ (w : Option (List ℕ)). option_map
+          (λ (k : List ℕ). after_message message k []) w) word.0)
+          c.renew.ensures.closed,
+    )
+
+pub returns-in-Err-clause-value : goal.returns-in-Err-clause-value
+returns-in-Err-clause-value c = λ card past part done.
+    let message = message_of c.args.head.now c.args.self.now.collect.run.places.items in
+    let high = not_past past part message done.collect.fault done.collect.complete in
+    let entitled = c.message.ensures card past part message done.entitled done.collect.complete refl in
+    let key = c.key.ensures ∙ key_now card past part message c.message.new.self done.collect.complete high entitled in
+    subst (λ (k : Option (List ℕ)). word_fault c.args.number message k ≡ Some c.in-Err.fault) key c.in-Err.ensures

@@ -1,0 +1,96 @@
+use Rattle.std.proofs.Common.{◌≡◌, ◌∙◌, refl, sym, subst, List}
+use Rattle.std.specs.Prelude.{Ok}
+use Rattle.sd_card.specs.Fields.{fields_of}
+use Rattle.sd_engine.specs.Stage.{vessel}
+use Rattle.sd_reception.specs.declared.fault.StreamFault.TheVariants.{BadEcm}
+use Rattle.sd_reception.specs.Heard.{Heard, Controls}
+use Rattle.sd_reception.specs.Stretches.{current}
+use Rattle.sd_hearing.specs.Ears.{tuned}
+use Rattle.sd_collect.specs.Collected.{Collects, IsComplete, Takes}
+use Rattle.sd_collect.specs.declared.collect.Taken.{Taken}
+use Rattle.sd_receive.specs.Listening.{TakesHeard, RefusesHeard, TakesMessage, RefusesMessage}
+use Rattle.sd_receive.specs.declared.listener.Listener.{Listener}
+use Rattle.sd_receive.proofs.Listening.{took_nothing, part_waiting, part_bad, comes_weaker, message_heard}
+use Rattle.sd_receive.proofs.listener.Listener.control.Goals as goal
+
+pub returns-in-Ok-Waits-clause-value : goal.returns-in-Ok-Waits-clause-value
+returns-in-Ok-Waits-clause-value g c =
+    let s = c.args.self.now in
+    let t : Listener = record {
+      closed = s.closed;
+      entitled = s.entitled;
+      collect = c.take.new.self;
+      segment =
+          s.segment;
+      written = s.written;
+    } in
+    took_nothing (vessel g.K.Sink c.args.out.now)
+    (TakesHeard (fields_of c.args.card.now) (tuned c.args.tuning) c.args.number (Controls c.args.part.now) s t)
+    (part_waiting (fields_of c.args.card.now) (tuned c.args.tuning) c.args.number c.args.part.now s t refl refl refl
+    refl
+    (λ past collects now. subst (λ (taken : Taken). Takes past c.args.part.now c.take.new.self (Ok taken))
+    c.in-Ok-Waits.field-0-is
+    (c.in-Ok-Waits.ensures.value past collects (now ∙ sym c.period.ensures))))
+
+pub complete-requires-clause-live : goal.complete-requires-clause-live
+complete-requires-clause-live g c =
+    let s = c.args.self.now in
+    let t : Listener = record {
+      closed = s.closed;
+      entitled = s.entitled;
+      collect = c.take.new.self;
+      segment =
+          s.segment;
+      written = s.written;
+    } in
+    let l = c.requires.live in (
+      l.0,
+      c.args.part.now,
+      message_heard (fields_of c.args.card.now) (tuned c.args.tuning) c.args.number c.args.part.now
+          c.in-Ok-Complete.head s t refl refl refl
+          (λ past collects now. subst (λ (taken : Taken). Takes past c.args.part.now c.take.new.self (Ok taken))
+          c.in-Ok-Complete.field-0-is
+          (c.in-Ok-Complete.ensures.value past collects (now ∙ sym c.period.ensures))) l.0 l.1
+          (sym l.1.closed ∙ c.requires.open),
+    )
+
+pub returns-in-Ok-Complete-clause-value : goal.returns-in-Ok-Complete-clause-value
+returns-in-Ok-Complete-clause-value g c =
+    let s = c.args.self.now in
+    let t : Listener = record {
+      closed = s.closed;
+      entitled = s.entitled;
+      collect = c.take.new.self;
+      segment =
+          s.segment;
+      written = s.written;
+    } in
+    let card = fields_of c.args.card.now in
+    let head = c.in-Ok-Complete.head in
+    let done : (past : List Heard) → Collects past s.collect → current past ≡ s.entitled.period →
+    IsComplete past c.args.part.now head t.collect =
+    λ past collects now. subst (λ (taken : Taken). Takes past c.args.part.now c.take.new.self (Ok taken))
+    c.in-Ok-Complete.field-0-is
+    (c.in-Ok-Complete.ensures.value past collects (now ∙ sym c.period.ensures)) in
+    comes_weaker (TakesMessage card (tuned c.args.tuning) c.args.number head t)
+    (TakesHeard card (tuned c.args.tuning) c.args.number (Controls c.args.part.now) s)
+    (RefusesMessage card (tuned c.args.tuning) c.args.number head t)
+    (RefusesHeard card (tuned c.args.tuning) c.args.number (Controls c.args.part.now) s)
+    (vessel g.K.Sink c.args.out.now) (vessel g.K.Sink c.complete.new.out) c.complete.new.self c.complete.result
+    (λ x bytes takes past follows unclosed. takes past c.args.part.now
+    (message_heard card (tuned c.args.tuning) c.args.number c.args.part.now head s t refl refl refl done past follows
+    unclosed))
+    (λ fault bytes refuses past follows unclosed. refuses past c.args.part.now
+    (message_heard card (tuned c.args.tuning) c.args.number c.args.part.now head s t refl refl refl done past follows
+    unclosed))
+    c.complete.ensures.value
+
+pub returns-in-Err-clause-value : goal.returns-in-Err-clause-value
+returns-in-Err-clause-value g c =
+    took_nothing (vessel g.K.Sink c.args.out.now)
+    (RefusesHeard (fields_of c.args.card.now) (tuned c.args.tuning) c.args.number (Controls c.args.part.now)
+    c.args.self.now
+    (BadEcm c.args.number c.in-Err.fault))
+    (part_bad (fields_of c.args.card.now) (tuned c.args.tuning) c.args.number c.args.part.now c.args.self.now
+    c.in-Err.fault
+    (λ past collects now. c.in-Err.ensures.value past collects (now ∙ sym c.period.ensures)))

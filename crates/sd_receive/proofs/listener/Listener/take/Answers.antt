@@ -1,0 +1,75 @@
+use Rattle.std.proofs.Common.{◌∙◌, refl, ap, subst, ℕ, []}
+use Rattle.sd_card.specs.Fields.{fields_of}
+use Rattle.sd_engine.specs.Stage.{vessel}
+use Rattle.sd_reception.specs.Heard.{Heard, hears}
+use Rattle.sd_hearing.specs.Ears.{tuned}
+use Rattle.sd_receive.specs.Listening.{TakesHeard, RefusesHeard}
+use Rattle.sd_receive.specs.declared.listener.Listener.{Listener}
+use Rattle.sd_receive.proofs.Listening.{took_nothing, dropped_heard, other_heard, section_taken, section_refused}
+use Rattle.sd_receive.proofs.listener.Listener.take.Goals as goal
+
+pub returns-in-Dropped-clause-value : goal.returns-in-Dropped-clause-value
+returns-in-Dropped-clause-value g c =
+    let s = c.args.self.now in
+    let card = fields_of c.args.card.now in
+    took_nothing (vessel g.K.Sink c.args.out.now)
+    (TakesHeard card (tuned c.args.tuning) c.args.number (hears c.args.card.now.height (tuned c.args.tuning)
+    c.args.number c.args.packet.now) s s)
+    (subst (λ (h : Heard). TakesHeard card (tuned c.args.tuning) c.args.number h s s [])
+    (c.in-Dropped.ensures.value c.args.number
+    ∙ ap (λ (h : ℕ). hears h (tuned c.args.tuning) c.args.number c.args.packet.now) c.height.ensures)
+    (dropped_heard card (tuned c.args.tuning) c.args.number s))
+
+pub returns-in-Other-clause-value : goal.returns-in-Other-clause-value
+returns-in-Other-clause-value g c =
+    let s = c.args.self.now in
+    let card = fields_of c.args.card.now in
+    let t : Listener = record {
+      closed = s.closed;
+      entitled = s.entitled;
+      collect = s.collect;
+      segment =
+          c.hold.new.self;
+      written = s.written;
+    } in
+    took_nothing (vessel g.K.Sink c.args.out.now)
+    (TakesHeard card (tuned c.args.tuning) c.args.number (hears c.args.card.now.height (tuned c.args.tuning)
+    c.args.number c.args.packet.now) s t)
+    (subst (λ (h : Heard). TakesHeard card (tuned c.args.tuning) c.args.number h s t [])
+    (c.in-Other.ensures.value c.args.number
+    ∙ ap (λ (h : ℕ). hears h (tuned c.args.tuning) c.args.number c.args.packet.now) c.height.ensures)
+    (other_heard card (tuned c.args.tuning) c.args.number c.args.packet.now s t refl refl refl refl c.hold.ensures))
+
+pub returns-in-Ok-clause-value : goal.returns-in-Ok-clause-value
+returns-in-Ok-clause-value g c =
+    let s = c.args.self.now in
+    let card = fields_of c.args.card.now in
+    let t : Listener = record {
+      closed = s.closed;
+      entitled = c.section.new.self;
+      collect = s.collect;
+      segment =
+          s.segment;
+      written = s.written;
+    } in
+    took_nothing (vessel g.K.Sink c.args.out.now)
+    (TakesHeard card (tuned c.args.tuning) c.args.number (hears c.args.card.now.height (tuned c.args.tuning)
+    c.args.number c.args.packet.now) s t)
+    (subst (λ (h : Heard). TakesHeard card (tuned c.args.tuning) c.args.number h s t [])
+    (c.in-Entitles.ensures.value c.args.number
+    ∙ ap (λ (h : ℕ). hears h (tuned c.args.tuning) c.args.number c.args.packet.now) c.height.ensures)
+    (section_taken card (tuned c.args.tuning) c.args.number c.in-Entitles.emm s t refl refl refl refl
+    (λ past entitled. c.in-Ok.ensures.ok past entitled) (λ past entitled. c.in-Ok.ensures.fault past entitled)))
+
+pub returns-in-Err-clause-value : goal.returns-in-Err-clause-value
+returns-in-Err-clause-value g c =
+    let s = c.args.self.now in
+    let card = fields_of c.args.card.now in
+    took_nothing (vessel g.K.Sink c.args.out.now)
+    (RefusesHeard card (tuned c.args.tuning) c.args.number (hears c.args.card.now.height (tuned c.args.tuning)
+    c.args.number c.args.packet.now) s c.in-Err.fault)
+    (subst (λ (h : Heard). RefusesHeard card (tuned c.args.tuning) c.args.number h s c.in-Err.fault [])
+    (c.in-Entitles.ensures.value c.args.number
+    ∙ ap (λ (h : ℕ). hears h (tuned c.args.tuning) c.args.number c.args.packet.now) c.height.ensures)
+    (section_refused card (tuned c.args.tuning) c.args.number c.in-Entitles.emm s c.in-Err.fault
+    (λ past entitled. c.in-Err.ensures.fault past entitled)))

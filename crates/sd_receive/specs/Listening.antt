@@ -1,0 +1,87 @@
+-- What a tuned receiver makes of what it hears.
+use Rattle.std.specs.Prelude.{◌≡◌, ◌⊎◌, ℕ, ◌+◌, ◌-◌, ◌^◌, min, false, List, ◌∷◌, length, Some, None, Result, Ok, Err}
+use Rattle.std.specs.List.{concat}
+use Rattle.sd_card.specs.Fields.{CardFields}
+use Rattle.sd_ecm.specs.declared.part.EcmPart.{EcmPart}
+use Rattle.sd_ecm.specs.declared.message.EcmHead.{EcmHead}
+use Rattle.sd_engine.specs.Stage.{Vessel, CutShort}
+use Rattle.sd_engine.specs.declared.stage.StageFault.{StageFault}
+use Rattle.sd_engine.specs.declared.stage.StageFault.TheVariants.{Write, Refused}
+use Rattle.sd_reception.specs.declared.fault.StreamFault.{StreamFault}
+use Rattle.sd_reception.specs.Tuned.{Tuning}
+use Rattle.sd_reception.specs.Heard.{Heard, Controls}
+use Rattle.sd_reception.specs.Stretches.{is_closed}
+use Rattle.sd_reception.specs.Offered.{Offering, heard_offering}
+use Rattle.sd_entitled.specs.Entitled.{IsEntitled}
+use Rattle.sd_collect.specs.Collected.{Collects, IsComplete}
+use Rattle.sd_segment.specs.Writing.{Took}
+use Rattle.sd_receive.specs.Held.{holding_in}
+use Rattle.sd_receive.specs.declared.listener.Listener.{Listener}
+
+-- what is kept of what was heard [this project, docs/FORMATS.md, Receiver]
+pub record Follows (card : CardFields) (past : List Heard) (state : Listener) : Type 0 where
+  pub closed : state.closed ≡ is_closed past
+  pub entitled : IsEntitled card past state.entitled
+  pub collect : Collects past state.collect
+  pub segment : state.segment ≡ holding_in card past
+
+-- the same once a part came that completes the message that says this
+pub record Completes (card : CardFields) (past : List Heard) (part : EcmPart) (head : EcmHead) (state : Listener) :
+    Type 0 where
+  pub unclosed : is_closed past ≡ false
+  pub entitled : IsEntitled card past state.entitled
+  pub collect : IsComplete past part head state.collect
+  pub segment : state.segment ≡ holding_in card past
+
+-- as far as a count of 64 bits goes
+abbrev pub capped : ℕ → ℕ
+capped n = min n (2 ^ 64 - 1)
+
+-- a count that was that of so many is that of some more
+abbrev pub Counts : ℕ → ℕ → ℕ → Type 0
+Counts before after more = (total : ℕ) → before ≡ capped total → after ≡ capped (total + more)
+
+-- these bytes are what an offering writes, its packets are counted, and it refuses nothing
+pub record Passes (offering : Offering) (before after : ℕ) (bytes : List ℕ) : Type 0 where
+  pub fault : offering.fault ≡ None
+  pub bytes_are : bytes ≡ concat offering.wrote
+  pub counted : Counts before after (length offering.wrote)
+
+-- these bytes are what an offering writes, and it refuses the packet
+pub record Stops (offering : Offering) (why : StreamFault) (bytes : List ℕ) : Type 0 where
+  pub fault : offering.fault ≡ Some why
+  pub bytes_are : bytes ≡ concat offering.wrote
+
+-- a thing that is heard as packet n is taken, or refused
+abbrev pub TakesHeard : CardFields → Tuning → ℕ → Heard → Listener → Listener → List ℕ → Type 0
+TakesHeard card tuning n heard s t bytes = (past : List Heard) → Follows card past s → is_closed past ≡ false →
+    Passes (heard_offering card tuning n past heard) s.written t.written bytes × Follows card (heard ∷ past) t
+
+abbrev pub RefusesHeard : CardFields → Tuning → ℕ → Heard → Listener → StreamFault → List ℕ → Type 0
+RefusesHeard card tuning n heard s fault bytes = (past : List Heard) → Follows card past s → is_closed past ≡ false →
+    Stops (heard_offering card tuning n past heard) fault bytes
+
+-- the message that a part completes is taken, or refused
+abbrev pub TakesMessage : CardFields → Tuning → ℕ → EcmHead → Listener → Listener → List ℕ → Type 0
+TakesMessage card tuning n head s t bytes = (past : List Heard) (part : EcmPart) → Completes card past part head s →
+    Passes (heard_offering card tuning n past (Controls part)) s.written t.written bytes ×
+    Follows card (Controls part ∷ past) t
+
+abbrev pub RefusesMessage : CardFields → Tuning → ℕ → EcmHead → Listener → StreamFault → List ℕ → Type 0
+RefusesMessage card tuning n head s fault bytes = (past : List Heard) (part : EcmPart) →
+    Completes card past part head s →
+    Stops (heard_offering card tuning n past (Controls part)) fault bytes
+
+-- a sink took some bytes, of which something is said
+pub record TookSome (old new : Vessel) (Says : List ℕ → Type 0) : Type 0 where
+  pub bytes : List ℕ
+  pub says : Says bytes
+  pub took : Took old new bytes
+
+-- what comes of a packet: what it writes is taken whole, or up to a write that failed
+abbrev pub Comes : (Listener → List ℕ → Type 0) → (StreamFault → List ℕ → Type 0) → Vessel → Vessel → Listener
+    → Result Unit (StageFault StreamFault) → Type 0
+Comes Takes Refuses old new t (Ok done) = TookSome old new (Takes t)
+Comes Takes Refuses old new t (Err (Refused fault)) = TookSome old new (Refuses fault)
+Comes Takes Refuses old new t (Err Write) =
+    CutShort old new (λ bytes. ((u : Listener) × Takes u bytes) ⊎ ((fault : StreamFault) × Refuses fault bytes))

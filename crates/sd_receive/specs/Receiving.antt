@@ -1,0 +1,139 @@
+-- The receiver as a stage of packets.
+use Rattle.std.specs.Prelude.{◌≡◌, ℕ, ◌+◌, ◌-◌, ◌*◌, ◌^◌, ◌<◌, ◌≤◌, Bool, false, List, [], ◌∷◌, ◌++◌, length, reverse}
+use Rattle.std.specs.Prelude.{if◌then◌else◌, Option, Some, None, option_map, IfSome}
+use Rattle.std.specs.List.{concat}
+use Rattle.std.specs.Option.{option_map_or}
+use Rattle.sd_card.specs.Fields.{CardFields, fields_of}
+use Rattle.sd_reception.specs.declared.fault.StreamFault.{StreamFault}
+use Rattle.sd_reception.specs.Tuned.{tuning_of}
+use Rattle.sd_reception.specs.Heard.{Heard, Dropped, Entitles, Controls, BadEmm, BadEcm, Other, hears}
+use Rattle.sd_reception.specs.Stretches.{is_closed}
+use Rattle.sd_reception.specs.Offered.{heard, offered, out_from, break_from}
+use Rattle.sd_hearing.specs.Ears.{tuned}
+use Rattle.sd_entitled.specs.Entitled.{takes_key}
+use Rattle.sd_receive.specs.Listening.{Follows, capped}
+use Rattle.sd_receive.specs.declared.receiver.Receiver.{Receiver}
+
+abbrev pub card_in : Receiver → CardFields
+card_in receiver = fields_of receiver.card
+
+-- how many packets are written of these, as far as a count of 64 bits goes
+abbrev pub written_of : CardFields → List (List ℕ) → ℕ
+written_of card packets = capped (length (out_from card [] packets))
+
+-- what is kept after these packets, of which the last comes first, and none was refused
+-- [this project, docs/FORMATS.md, Receiver]
+pub record IsAfter (past : List (List ℕ)) (receiver : Receiver) : Type 0 where
+  pub count : receiver.count ≡ length past
+  pub tuning : option_map tuned receiver.tuning ≡ tuning_of receiver.card.ca past
+  pub follows : Follows (card_in receiver) (heard (card_in receiver) past) receiver.listener
+  pub written : receiver.listener.written ≡ written_of (card_in receiver) (reverse past)
+  pub unbroken : break_from (card_in receiver) [] (reverse past) ≡ None
+  pub unrefused : receiver.refusal ≡ None
+
+-- a thing that is heard takes a key
+abbrev pub takes_key_of : CardFields → List Heard → Heard → Bool
+takes_key_of card past (Entitles emm) = takes_key card past emm
+takes_key_of card past Dropped = false
+takes_key_of card past (Controls part) = false
+takes_key_of card past (BadEmm fault) = false
+takes_key_of card past (BadEcm fault) = false
+takes_key_of card past (Other n packet) = false
+
+-- a packet takes a key: it is heard as a section that does
+unfoldable pub takes_key_at : CardFields → List (List ℕ) → List ℕ → Bool
+takes_key_at card past packet =
+    if is_closed (heard card past) then false
+    else option_map_or
+    (λ tuning. takes_key_of card (heard card past) (hears card.height tuning (length past) packet))
+    (tuning_of card.ca past) false
+
+-- the most steps that a packet takes: as many as the tree is high where it takes a key, and else none
+abbrev pub steps_at : CardFields → List (List ℕ) → List ℕ → ℕ
+steps_at card past packet = if takes_key_at card past packet then card.height else 0
+
+-- how many of these packets take a key, after others
+unfoldable pub taken_keys : CardFields → List (List ℕ) → List (List ℕ) → ℕ
+taken_keys card past [] = 0
+taken_keys card past (packet ∷ packets) =
+    (if takes_key_at card past packet then 1 else 0) + taken_keys card (packet ∷ past) packets
+
+-- what comes of a packet that is taken
+pub record DoesTake (past : List (List ℕ)) (s : Receiver) (packet : List ℕ) (t : Receiver) (bytes : List ℕ)
+    (steps : ℕ) :
+    Type 0 where
+  pub fault : (offered (card_in s) past packet).fault ≡ None
+  pub bytes_are : bytes ≡ concat (offered (card_in s) past packet).wrote
+  pub few : steps ≤ steps_at (card_in s) past packet
+  pub after : IsAfter (packet ∷ past) t
+  pub same : t.card ≡ s.card
+
+-- and of one that is refused
+pub record DoesRefuse (past : List (List ℕ)) (s : Receiver) (packet : List ℕ) (why : StreamFault) (bytes : List ℕ)
+    (steps : ℕ) :
+    Type 0 where
+  pub fault : (offered (card_in s) past packet).fault ≡ Some why
+  pub bytes_are : bytes ≡ concat (offered (card_in s) past packet).wrote
+  pub few : steps ≤ steps_at (card_in s) past packet
+
+-- it kept a refusal already: it answers the same, and writes nothing
+pub record KeepsRefusal (s : Receiver) (why : StreamFault) (bytes : List ℕ) (steps : ℕ) : Type 0 where
+  pub kept : s.refusal ≡ Some why
+  pub bytes_are : bytes ≡ []
+  pub none : steps ≡ 0
+
+-- more packets may come than were counted
+abbrev pub IsCountable : List (List ℕ) → Type 0
+IsCountable past = length past < 2 ^ 64 - 1
+
+abbrev pub receiver_does : Receiver → List ℕ → Receiver → List ℕ → ℕ → Type 0
+receiver_does s packet t bytes steps = (past : List (List ℕ)) → IsAfter past s → IsCountable past →
+    DoesTake past s packet t bytes steps
+
+-- a packet is refused
+abbrev pub Refusing : Receiver → List ℕ → StreamFault → List ℕ → ℕ → Type 0
+Refusing s packet fault bytes steps =
+    (past : List (List ℕ)) → IsAfter past s → IsCountable past → DoesRefuse past s packet fault bytes steps
+
+abbrev pub receiver_ends : Receiver → Receiver → List ℕ → ℕ → Type 0
+receiver_ends s t bytes steps = (t ≡ s) × (bytes ≡ []) × (steps ≡ 0)
+
+abbrev pub receiver_refuses : Receiver → Option (List ℕ) → StreamFault → Receiver → List ℕ → ℕ → Type 0
+receiver_refuses s None fault t bytes steps = KeepsRefusal s fault bytes steps
+receiver_refuses s (Some packet) fault t bytes steps = Refusing s packet fault bytes steps
+
+-- the PID of control messages is one, and what is kept is of what was heard
+pub record IsFit (receiver : Receiver) : Type 0 where
+  pub ecm : IfSome receiver.tuning (λ tuning. tuning.ecm < 8192)
+  pub follows : (past : List Heard) × Follows (card_in receiver) past receiver.listener
+
+-- it may be offered a packet
+abbrev pub IsLive : Receiver → Type 0
+IsLive receiver = receiver.refusal ≡ None → IsFit receiver
+
+-- what packets came to after others, none of which was refused: what is written, the receiver after them, and the
+-- steps that were taken [this project, docs/FORMATS.md, Receiver]
+pub record CameToAfter (card : CardFields) (past packets : List (List ℕ)) (t : Receiver) (bytes : List ℕ) (steps : ℕ)
+    : Type 0 where
+  pub written : bytes ≡ concat (out_from card past packets)
+  pub unbroken : break_from card past packets ≡ None
+  pub after : IsAfter (reverse packets ++ past) t
+  pub few : steps ≤ card.height * taken_keys card past packets
+  pub same : card_in t ≡ card
+
+-- the same of packets that are the first
+pub record CameTo (card : CardFields) (packets : List (List ℕ)) (t : Receiver) (bytes : List ℕ) (steps : ℕ) : Type 0
+  where
+    pub written : bytes ≡ concat (out_from card [] packets)
+    pub unbroken : break_from card [] packets ≡ None
+    pub after : IsAfter (reverse packets) t
+    pub few : steps ≤ card.height * taken_keys card [] packets
+    pub same : card_in t ≡ card
+
+-- what packets came to of which one is refused, whatever comes after it
+pub record BrokeAt (card : CardFields) (packets : List (List ℕ)) (packet : List ℕ) (more : List (List ℕ))
+    (why : StreamFault)
+    (bytes : List ℕ) (steps : ℕ) : Type 0 where
+  pub written : bytes ≡ concat (out_from card [] (packets ++ packet ∷ more))
+  pub broken : break_from card [] (packets ++ packet ∷ more) ≡ Some why
+  pub few : steps ≤ card.height * taken_keys card [] (packets ++ packet ∷ [])

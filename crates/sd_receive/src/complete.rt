@@ -1,0 +1,128 @@
+ghost use Rattle.std.specs.Prelude.{◌≡◌, ◌<◌, ◌∷◌, [], List, option_map, Some, None, MatchResult, IsErrOf};
+ghost use Rattle.sd_cause.specs.Count.{IsCaused};
+ghost use Rattle.sd_card.specs.Fields.{CardFields, fields_of};
+ghost use Rattle.sd_ecm.specs.Form.{AreShort};
+ghost use Rattle.sd_ecm.specs.Parts.{message_of};
+ghost use Rattle.sd_ecm.specs.declared.part.EcmPart.{EcmPart};
+ghost use Rattle.sd_engine.specs.Stage.{vessel};
+ghost use Rattle.sd_reception.specs.Heard.{Heard, Controls};
+ghost use Rattle.sd_reception.specs.Keys.{key_at};
+ghost use Rattle.sd_reception.specs.Offered.{word_fault};
+ghost use Rattle.sd_hearing.specs.Ears.{tuned};
+ghost use Rattle.sd_collect.specs.Collected.{Collects, IsComplete};
+ghost use Rattle.sd_segment.specs.Holding.{after_message};
+ghost use Rattle.sd_segment.specs.Writing.{Writes};
+ghost use Rattle.sd_receive.specs.Held.{pair_wrote};
+ghost use Rattle.sd_receive.specs.Listening.{Follows, Completes, TakesMessage, RefusesMessage, Comes};
+
+use crate::listener::Listener;
+use crate::word::word_of;
+use sd_card::Card;
+use sd_ecm::EcmHead;
+use sd_engine::StageFault;
+use sd_hearing::Tuning;
+use sd_ports::Sink;
+use sd_reception::StreamFault;
+use sd_segment::SegmentFault;
+
+impl Listener {
+    // Takes a message that the packet of this number completes.
+    pub fn complete<K: Sink>(
+        &mut self,
+        card: &Card,
+        number: u64,
+        tuning: Tuning,
+        head: &EcmHead,
+        out: &mut K,
+    ) -> Result<(), StageFault<StreamFault>>
+        requires ecm { tuning.ecm < 8192 }
+        requires live { (past : List Heard) × (part : EcmPart) ×
+            Completes (fields_of card.now) past part head.now self.old }
+        ensures value { Comes (TakesMessage (fields_of card.now) (tuned tuning) number head.now self.old)
+            (RefusesMessage (fields_of card.now) (tuned tuning) number head.now self.old)
+            (vessel K.Sink out.old) (vessel K.Sink out.new) self.new result }
+        ensures cause { IsCaused (K.faults out.old) (K.faults out.new) (IsErrOf result StageFault.Write) }
+    {
+        match self.write(card, tuning, head, out) {
+            Ok(count) => match self.begin(number, head) {
+                Ok(()) => {
+                    self.written = self.written.saturating_add(count);
+                    Ok(())
+                }
+                Err(fault) => Err(StageFault::Refused(fault)),
+            },
+            Err(SegmentFault::Parity(held)) => Err(StageFault::Refused(StreamFault::Parity(held))),
+            Err(SegmentFault::Write) => {
+                // What the packet comes to doesn't depend on the write that failed.
+                let _ = self.begin(number, head);
+                Err(StageFault::Write)
+            }
+        }
+    }
+
+    // Writes what the message confirms of what is held, where no message that it needs is missing before it.
+    fn write<K: Sink>(
+        &self,
+        card: &Card,
+        tuning: Tuning,
+        head: &EcmHead,
+        out: &mut K,
+    ) -> Result<u64, SegmentFault>
+        requires ecm { tuning.ecm < 8192 }
+        requires short { AreShort self.now.collect.run.places.items }
+        ensures value { Writes (pair_wrote self.now.collect.last self.now.segment head.now.since card.now.ca tuning.ecm
+            self.now.collect.run.places.items) (vessel K.Sink out.old) (vessel K.Sink out.new) result }
+        ensures cause { IsCaused (K.faults out.old) (K.faults out.new) (IsErrOf result SegmentFault.Write) }
+    {
+        match self.collect.last() {
+            Some(last) if head.since <= last.number => {
+                self.segment
+                    .write(card.ca(), tuning.ecm, self.collect.coming(), out)
+            }
+            _ => Ok(0),
+        }
+    }
+
+    // Begins to hold packets after the message, where its control word is had.
+    fn begin(&mut self, number: u64, head: &EcmHead) -> Result<(), StreamFault>
+        requires live { (card : CardFields) × (past : List Heard) × (part : EcmPart) ×
+            Completes card past part head.now self.old }
+        ensures value { (card : CardFields) (past : List Heard) (part : EcmPart) →
+            Completes card past part head.now self.old →
+            MatchResult result
+            (λ _. (word_fault number (message_of head.now self.old.collect.run.places.items)
+            (key_at card past head.now.period) ≡ None)
+            × Follows card (Controls part ∷ past) self.new)
+            (λ fault. word_fault number (message_of head.now self.old.collect.run.places.items)
+            (key_at card past head.now.period)
+            ≡ Some fault) }
+        ensures written { self.new.written ≡ self.old.written }
+    {
+        self.entitled.message(head.period);
+        match word_of(number, head, self.entitled.key()) {
+            Ok(word) => {
+                self.renew(head, word);
+                Ok(())
+            }
+            Err(fault) => Err(fault),
+        }
+    }
+
+    // Keeps the message, and holds packets from now on where its control word is had.
+    fn renew(&mut self, head: &EcmHead, word: Option<[u8; 32]>)
+        requires live { (past : List Heard) × (part : EcmPart) × IsComplete past part head.now self.old.collect }
+        ensures collect { (past : List Heard) (part : EcmPart) → IsComplete past part head.now self.old.collect →
+            Collects (Controls part ∷ past) self.new.collect }
+        ensures segment { self.new.segment ≡
+            option_map (λ w. after_message (message_of head.now self.old.collect.run.places.items) w []) word }
+        ensures closed { self.new.closed ≡ head.now.closing }
+        ensures same { (self.new.entitled ≡ self.old.entitled) × (self.new.written ≡ self.old.written) }
+    {
+        self.collect.settle();
+        match word {
+            Some(word) => self.segment.open(head.word, word, self.collect.places()),
+            None => self.segment.shut(),
+        }
+        self.closed = head.closing;
+    }
+}

@@ -1,0 +1,13 @@
+ghost use Rattle.std.specs.Prelude.{◌≡◌};
+
+use crate::receiver::Receiver;
+use sd_tree::Leaf;
+
+impl Receiver {
+    /// The leaf of its card.
+    pub fn leaf(&self) -> Leaf
+        ensures { result ≡ self.now.card.leaf }
+    {
+        self.card.leaf()
+    }
+}

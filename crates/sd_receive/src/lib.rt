@@ -1,0 +1,18 @@
+//! The receiver: a stage of packets that writes what a card opens of a broadcast.
+#![tactic(auto)]
+
+mod complete;
+mod ending;
+pub mod laws;
+mod leaf;
+mod listen;
+mod listener;
+mod receiver;
+mod stage;
+mod word;
+
+pub use receiver::Receiver;
+pub use sd_reception::{Ending, StreamFault};
+
+#[cfg(test)]
+mod tests;

@@ -1,0 +1,112 @@
+ghost use Rattle.std.specs.Prelude.{◌≡◌, ◌+◌, ◌≤◌, ◌<◌, ◌∷◌, [], false, List, Option, Some, None, IfOk, IsErrOf};
+ghost use Rattle.std.specs.Prelude.{if◌then◌else◌};
+ghost use Rattle.sd_cause.specs.Count.{IsCaused};
+ghost use Rattle.sd_card.specs.Fields.{CardFields, fields_of};
+ghost use Rattle.sd_ecm.specs.Form.{IsEcm};
+ghost use Rattle.sd_emm.specs.Form.{IsEmm, AreSets};
+ghost use Rattle.sd_emm.specs.Spelled.{listed};
+ghost use Rattle.sd_engine.specs.Stage.{vessel};
+ghost use Rattle.sd_reception.specs.Heard.{Heard as Thing, Controls, hears};
+ghost use Rattle.sd_reception.specs.Stretches.{is_closed};
+ghost use Rattle.sd_hearing.specs.Ears.{tuned};
+ghost use Rattle.sd_receive.specs.Listening.{Follows, TakesHeard, RefusesHeard, Comes};
+ghost use Rattle.sd_receive.specs.Receiving.{takes_key_of};
+
+use crate::listener::Listener;
+use sd_card::Card;
+use sd_cause::NoMemory;
+use sd_collect::{Collect, Taken};
+use sd_ecm::EcmPart;
+use sd_engine::StageFault;
+use sd_entitled::Entitled;
+use sd_hearing::{Heard, Tuning, hear};
+use sd_packet::Packet;
+use sd_ports::Sink;
+use sd_reception::StreamFault;
+use sd_segment::Segment;
+use sd_steps::Steps;
+use std::alloc::Global;
+use std::sync::ledger::Ledger;
+
+impl Listener {
+    // Nothing was heard. All memory is taken here.
+    pub fn new(alloc: Global) -> Result<Listener, NoMemory>
+        ensures { IfOk result (λ listener. (listener.written ≡ 0) × ((card : CardFields) → Follows card [] listener)) }
+    {
+        let entitled = Entitled::new(alloc)?;
+        let collect = Collect::new(alloc)?;
+        let segment = Segment::new(alloc)?;
+        Ok(Listener {
+            closed: false,
+            entitled,
+            collect,
+            segment,
+            written: 0,
+        })
+    }
+
+    // Takes a packet with this number, before the stream is closed.
+    pub fn take<K: Sink, L: Ledger>(
+        &mut self,
+        card: &Card,
+        number: u64,
+        tuning: Tuning,
+        packet: &Packet,
+        out: &mut K,
+        steps: &mut Steps<L>,
+    ) -> Result<(), StageFault<StreamFault>>
+        requires ecm { tuning.ecm < 8192 }
+        requires live { (past : List Thing) × Follows (fields_of card.now) past self.old }
+        requires open { self.old.closed ≡ false }
+        ensures value { Comes
+            (TakesHeard (fields_of card.now) (tuned tuning) number
+            (hears card.now.height (tuned tuning) number packet.now) self.old)
+            (RefusesHeard (fields_of card.now) (tuned tuning) number
+            (hears card.now.height (tuned tuning) number packet.now) self.old)
+            (vessel K.Sink out.old) (vessel K.Sink out.new) self.new result }
+        ensures steps { (past : List Thing) → Follows (fields_of card.now) past self.old → steps.new ≤ steps.old
+            + (if takes_key_of (fields_of card.now) past (hears card.now.height (tuned tuning) number packet.now)
+            then card.now.height else 0) }
+        ensures cause { IsCaused (K.faults out.old) (K.faults out.new) (IsErrOf result StageFault.Write) }
+    {
+        match hear(card.height(), tuning, packet) {
+            Heard::Dropped => Ok(()),
+            Heard::Other => {
+                self.segment.hold(number, packet);
+                Ok(())
+            }
+            Heard::Entitles(emm) => match self.entitled.section(card, number, &emm, steps) {
+                Ok(()) => Ok(()),
+                Err(fault) => Err(StageFault::Refused(fault)),
+            },
+            Heard::Controls(part) => self.control(card, number, tuning, &part, out),
+            Heard::BadEmm(fault) => Err(StageFault::Refused(StreamFault::BadEmm(number, fault))),
+            Heard::BadEcm(fault) => Err(StageFault::Refused(StreamFault::BadEcm(number, fault))),
+        }
+    }
+
+    // Takes a part of a control message.
+    fn control<K: Sink>(
+        &mut self,
+        card: &Card,
+        number: u64,
+        tuning: Tuning,
+        part: &EcmPart,
+        out: &mut K,
+    ) -> Result<(), StageFault<StreamFault>>
+        requires ecm { tuning.ecm < 8192 }
+        requires live { (past : List Thing) × Follows (fields_of card.now) past self.old }
+        requires open { self.old.closed ≡ false }
+        requires form { IsEcm part.now }
+        ensures value { Comes (TakesHeard (fields_of card.now) (tuned tuning) number (Controls part.now) self.old)
+            (RefusesHeard (fields_of card.now) (tuned tuning) number (Controls part.now) self.old)
+            (vessel K.Sink out.old) (vessel K.Sink out.new) self.new result }
+        ensures cause { IsCaused (K.faults out.old) (K.faults out.new) (IsErrOf result StageFault.Write) }
+    {
+        match self.collect.take(self.entitled.period(), part) {
+            Ok(Taken::Waits) => Ok(()),
+            Ok(Taken::Complete(head)) => self.complete(card, number, tuning, &head, out),
+            Err(fault) => Err(StageFault::Refused(StreamFault::BadEcm(number, fault))),
+        }
+    }
+}

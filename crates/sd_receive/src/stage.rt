@@ -1,0 +1,106 @@
+ghost use Rattle.std.specs.Prelude.{◌≡◌, [], Some, None, Err, IfOk, OnOk, IsErrOf};
+ghost use Rattle.sd_cause.specs.Count.{IsCaused};
+ghost use Rattle.sd_engine.specs.Stage.{vessel, Grew, CutShort, IsAllowed};
+ghost use Rattle.sd_receive.specs.Receiving.{IsAfter, IsFit, IsLive, Refusing, receiver_does, receiver_ends};
+ghost use Rattle.sd_receive.specs.Receiving.{receiver_refuses};
+
+use crate::listener::Listener;
+use crate::receiver::Receiver;
+use sd_card::Card;
+use sd_cause::NoMemory;
+use sd_engine::{Stage, StageFault};
+use sd_hearing::cat_tuning;
+use sd_packet::Packet;
+use sd_ports::Sink;
+use sd_reception::StreamFault;
+use sd_steps::Steps;
+use std::alloc::Global;
+use std::sync::ledger::Ledger;
+
+impl Receiver {
+    /// Before the first packet. It takes all memory that it ever does, at most 1 MB.
+    pub fn new(alloc: Global, card: Card) -> Result<Receiver, NoMemory>
+        ensures value { IfOk result (IsAfter []) }
+        ensures card { IfOk result (λ receiver. receiver.card ≡ card) }
+        ensures live { IfOk result IsLive }
+    {
+        let listener = Listener::new(alloc)?;
+        Ok(Receiver {
+            card,
+            count: 0,
+            tuning: None,
+            listener,
+            refusal: None,
+        })
+    }
+
+    // Takes a packet, where none was refused.
+    fn take<K: Sink, L: Ledger>(
+        &mut self,
+        packet: &Packet,
+        out: &mut K,
+        steps: &mut Steps<L>,
+    ) -> Result<(), StageFault<StreamFault>>
+        requires fit { IsFit self.old }
+        requires unrefused { self.old.refusal ≡ None }
+        ensures value { OnOk result (Grew (vessel K.Sink out.old) (vessel K.Sink out.new) steps.old steps.new
+            (receiver_does self.old packet.now self.new)) }
+        ensures ok { OnOk result (IsFit self.new) }
+        ensures unrefused { self.new.refusal ≡ None }
+        ensures fault { (fault : StreamFault) → result ≡ Err (StageFault.Refused fault) →
+            Grew (vessel K.Sink out.old) (vessel K.Sink out.new) steps.old steps.new
+            (Refusing self.old packet.now fault) }
+        ensures prefix { IsErrOf result StageFault.Write → CutShort (vessel K.Sink out.old) (vessel K.Sink out.new)
+            (IsAllowed (receiver_does self.old packet.now) (receiver_refuses self.old (Some packet.now))) }
+        ensures cause { IsCaused (K.faults out.old) (K.faults out.new) (IsErrOf result StageFault.Write) }
+    {
+        let number = self.count;
+        self.count = number.saturating_add(1);
+        let Some(tuning) = self.tuning else {
+            self.tuning = cat_tuning(self.card.ca(), packet);
+            return Ok(());
+        };
+        if self.listener.closed {
+            return Ok(());
+        }
+        self.listener
+            .take(&self.card, number, tuning, packet, out, steps)
+    }
+}
+
+impl<K: Sink, L: Ledger> Stage<K, L> for Receiver {
+    type Fault = StreamFault;
+
+    ghost live = { λ s. IsLive s };
+
+    ghost kept = { λ s. s.refusal };
+
+    ghost does = { receiver_does };
+
+    ghost ends = { receiver_ends };
+
+    ghost refuses = { receiver_refuses };
+
+    fn offer(
+        &mut self,
+        packet: &Packet,
+        out: &mut K,
+        steps: &mut Steps<L>,
+    ) -> Result<(), StageFault<StreamFault>> {
+        if let Some(fault) = self.refusal {
+            return Err(StageFault::Refused(fault));
+        }
+        let result = self.take(packet, out, steps);
+        if let Err(StageFault::Refused(fault)) = result {
+            self.refusal = Some(fault);
+        }
+        result
+    }
+
+    fn close(&mut self, out: &mut K, steps: &mut Steps<L>) -> Result<(), StageFault<StreamFault>> {
+        match self.refusal {
+            Some(fault) => Err(StageFault::Refused(fault)),
+            None => Ok(()),
+        }
+    }
+}

@@ -1,0 +1,38 @@
+ghost use Rattle.std.specs.Prelude.{◌≡◌, [], None, Some, MatchResult};
+ghost use Rattle.sd_ecm.specs.Parts.{message_of};
+ghost use Rattle.sd_reception.specs.Offered.{word_fault};
+ghost use Rattle.sd_receive.specs.Held.{word_under};
+
+use sd_ecm::EcmHead;
+use sd_label::check_value;
+use sd_reception::StreamFault;
+use sd_wrap::wrap;
+
+/// The control word that a message gives under the key of its period, where that was found; or that its check value is
+/// another than the message says, in the packet of this number.
+pub fn word_of(
+    number: u64,
+    head: &EcmHead,
+    key: Option<[u8; 32]>,
+) -> Result<Option<[u8; 32]>, StreamFault>
+    ensures { MatchResult result
+        (λ word. (word ≡ word_under (message_of head.now []) key) ×
+        (word_fault number (message_of head.now []) key ≡ None))
+        (λ fault. word_fault number (message_of head.now []) key ≡ Some fault) }
+{
+    let Some(key) = key else {
+        return Ok(None);
+    };
+    let word = wrap(&key, u64::from(head.word), &head.wrapped);
+    let found = check_value(&word);
+    if found == head.check {
+        Ok(Some(word))
+    } else {
+        Err(StreamFault::WrongWord {
+            packet: number,
+            word: head.word,
+            found,
+            due: head.check,
+        })
+    }
+}

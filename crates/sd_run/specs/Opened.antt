@@ -1,0 +1,49 @@
+-- What `receive` makes of a broadcast [this project, docs/FORMATS.md, Receiver].
+use Rattle.std.specs.Prelude.{◌≡◌, ℕ, ◌+◌, ◌-◌, ◌*◌, ◌≤◌, not, List, [], length, Option, Some, None, Ok}
+use Rattle.std.specs.List.{concat}
+use Rattle.sd_card.specs.Fields.{card_of, card_bytes}
+use Rattle.sd_engine.specs.Taken.{Whole, taken_of, end_of}
+use Rattle.sd_broadcast.specs.Plan.{Plan, period_of}
+use Rattle.sd_broadcast.specs.Sent.{broadcast}
+use Rattle.sd_losses.specs.Confirmed.{is_revoked_in, opened_by}
+use Rattle.sd_losses.specs.Endings.{first_revoked}
+use Rattle.sd_losses.specs.Taken.{how_many}
+use Rattle.sd_status.specs.declared.status.Status.{Status}
+use Rattle.sd_status.specs.declared.status.Status.TheVariants.{Done, Revoked}
+use Rattle.sd_status.specs.Meant.{Word, Given}
+use Rattle.sd_status.specs.Work.{UpTo, Work}
+use Rattle.sd_run.specs.Words.{ReceiveOf, order_of}
+
+-- how many periods of the broadcast there are in which leaf u isn't revoked
+unfoldable pub entitled_periods : Plan → ℕ → List (List ℕ) → ℕ
+entitled_periods plan u clear = how_many (λ q. not (is_revoked_in plan u q)) (period_of plan (length clear - 1) + 1)
+
+-- done, or leaf u is revoked in this period
+abbrev pub revoked_status : ℕ → Option ℕ → Status
+revoked_status u None = Done
+revoked_status u (Some q) = Revoked u q
+
+-- the words are `receive CARD STREAM OUT`, the first file is the card of leaf u of the site, and the packets of the
+-- second are the broadcast of the clear ones
+pub record IsBroadcastTo (plan : Plan) (u : ℕ) (clear : List (List ℕ)) (words : List (List ℕ)) (given : Given) : Type 0
+  where
+    pub card : Word
+    pub stream : Word
+    pub out : Word
+    pub order : order_of words ≡ Ok (ReceiveOf card stream out)
+    pub card_there : given card ≡ Some (card_bytes (card_of plan.site.master plan.site.ca plan.site.height u))
+    pub bytes : List ℕ
+    pub there : given stream ≡ Some bytes
+    pub packets : taken_of bytes ≡ broadcast plan clear
+    pub whole : end_of bytes ≡ Whole
+
+-- OUT is the clear packets of the periods in which leaf u isn't revoked, and the status is that it is done, or that the
+-- leaf is revoked in the first of the broadcast's periods in which it is; for each period in which it isn't, as many
+-- steps are taken as the tree is high, or fewer
+pub record IsOpened (plan : Plan) (u : ℕ) (clear : List (List ℕ)) (out : Word) (work : Work) : Type 0 where
+  pub file : work.out ≡ Some (record { word = out.number; name = out.text; bytes = concat (opened_by plan u clear) })
+  pub printed : work.pieces ≡ []
+  pub ends : work.ends ≡ revoked_status u (first_revoked plan u clear)
+  pub most : ℕ
+  pub counted : work.steps ≡ UpTo most
+  pub few : most ≤ plan.site.height * entitled_periods plan u clear

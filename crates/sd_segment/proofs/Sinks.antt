@@ -1,0 +1,61 @@
+-- What sinks took, one piece after the other.
+use Rattle.std.proofs.Common.{◌≡◌, ◌≤◌, ℕ, ◌+◌, ◌-◌, List, [], ◌++◌, length, refl, sym, ap, subst, ◌∙◌, arith}
+use Rattle.std.proofs.Common.{append_assoc, length-append}
+use Rattle.std.specs.Prelude.{Option, Some, None, Err}
+use Rattle.std.proofs.KnownBytes.{Appends-trans, Appends-nil}
+use Rattle.sd_ports.specs.Rooms.{HasTaken, FillsRoom}
+use Rattle.sd_engine.specs.Stage.{Vessel, CutShort, IsTooShort}
+use Rattle.sd_segment.specs.Writing.{Took, Stopped}
+
+-- where not all bytes were written there was less room
+pub too_short : {E : Type 0} (a b : Option ℕ) (size : ℕ) (fault : E) → FillsRoom a b size (Err fault) →
+    IsTooShort a size
+too_short None b size fault h = tt
+too_short (Some room) b size fault h = h
+
+-- nothing was taken
+none_taken : (a : Option ℕ) → HasTaken a a 0
+none_taken None = tt
+none_taken (Some room) = (omega arith, ap (λ (n : ℕ). Some n) (let e : room ≡ room - 0 = omega arith in e))
+
+pub took_none : (u : Vessel) → Took u u []
+took_none u = record { taken = Appends-nil u.held; room = none_taken u.room }
+
+taken_more : (a b c : Option ℕ) (m n : ℕ) → HasTaken a b m → HasTaken b c n → HasTaken a c (m + n)
+taken_more None b c m n p q = tt
+taken_more (Some room) b c m n p q =
+    let then = subst (λ (left : Option ℕ). HasTaken left c n) p.1 q in
+    let same : room - m - n ≡ room - (m + n) = omega arith in
+    (omega (arith, p.0, then.0), then.1 ∙ ap (λ (k : ℕ). Some k) same)
+
+-- and then more bytes
+pub took_more : (u v w : Vessel) (xs ys : List ℕ) → Took u v xs → Took v w ys → Took u w (xs ++ ys)
+took_more u v w xs ys p q = record {
+  taken = Appends-trans u.held v.held w.held xs ys p.taken q.taken;
+  room = subst (λ (n : ℕ). HasTaken u.room w.room n) (sym (length-append xs ys))
+      (taken_more u.room v.room w.room (length xs) (length ys) p.room q.room);
+}
+
+still_short : (a b : Option ℕ) (m n k : ℕ) → HasTaken a b m → IsTooShort b n → m + n ≤ k → IsTooShort a k
+still_short None b m n k p q h = tt
+still_short (Some room) b m n k p q h =
+    let then = subst (λ (left : Option ℕ). IsTooShort left n) p.1 q in
+    omega (arith, then, h)
+
+-- and then not all of a piece, after which others were to come
+pub cut_after : (u v w : Vessel) (xs ys rest : List ℕ) → Took u v xs → Stopped v w ys →
+    CutShort u w (λ bytes. bytes ≡ xs ++ (ys ++ rest))
+cut_after u v w xs ys rest p q = record {
+  bytes = xs ++ (ys ++ rest);
+  says = refl;
+  prefix = xs ++ q.front.0;
+  short = (
+    q.front.1.0 ++ rest,
+    append_assoc xs q.front.0 (q.front.1.0 ++ rest)
+        ∙ ap (λ (bs : List ℕ). xs ++ bs) (sym (append_assoc q.front.0 q.front.1.0 rest)
+        ∙ ap (λ (bs : List ℕ). bs ++ rest) q.front.1.1),
+  );
+  taken = Appends-trans u.held v.held w.held xs q.front.0 p.taken q.front.2;
+  room = still_short u.room v.room (length xs) (length ys) (length (xs ++ (ys ++ rest))) p.room q.room
+      (omega (arith, length-append xs (ys ++ rest), length-append ys rest));
+}

@@ -1,0 +1,99 @@
+-- What is written of what is held.
+use Rattle.std.specs.Prelude.{◌≡◌, ℕ, ◌<◌, ◌++◌, ◌∷◌, false, List, [], length, map, take, Option, Some, None, Result}
+use Rattle.std.specs.Prelude.{Ok, Err}
+use Rattle.std.specs.List.{concat}
+use Rattle.std.specs.Io.KnownBytes.{Appends}
+use Rattle.sd_packet.specs.Header.{pid_of}
+use Rattle.sd_ports.specs.Bytes.{AppendsPrefix}
+use Rattle.sd_ports.specs.Rooms.{HasTaken}
+use Rattle.sd_engine.specs.Stage.{Vessel, CutShort, IsTooShort}
+use Rattle.sd_ecm.specs.Form.{AreShort}
+use Rattle.sd_ecm.specs.Parts.{Message}
+use Rattle.sd_ecm.specs.declared.part.Place.{Place}
+use Rattle.sd_reception.specs.Confirmed.{Segment, Wrote, written_from}
+use Rattle.sd_segment.specs.Holding.{Holding, entry_of}
+use Rattle.sd_segment.specs.Tracking.{led_to, IsKept}
+use Rattle.sd_segment.specs.declared.held.Held.{Held}
+use Rattle.sd_segment.specs.declared.confirm.Confirming.{Confirming}
+use Rattle.sd_segment.specs.declared.fault.SegmentFault.{SegmentFault}
+use Rattle.sd_segment.specs.declared.fault.SegmentFault.TheVariants as Fault
+
+-- a message of which no more is said than the number of its control word and its places
+abbrev pub bare : ℕ → List Place → Message
+bare word places = record {
+  version = 0;
+  number = 0;
+  period = 0;
+  word = word;
+  clear = 0;
+  since = 0;
+  closing = false;
+  wrapped = [];
+  check = [];
+  places = places;
+}
+
+-- what is held, with the places of the next message
+unfoldable pub segment_of : Holding → ℕ → ℕ → List Place → Segment
+segment_of h ca ecm places = record {
+  first = bare h.number h.places;
+  last = bare 0 places;
+  word = h.word;
+  ca = ca;
+  ecm = ecm;
+  packets = map (λ e. e.1) h.held;
+}
+
+-- what is written of what is held, once the next message has these places [this project, docs/FORMATS.md, Receiver]
+abbrev pub wrote_of : Option Holding → ℕ → ℕ → List Place → Wrote
+wrote_of None ca ecm places = record { packets = []; refused = None }
+wrote_of (Some h) ca ecm places = written_from (segment_of h ca ecm places) [] h.held
+
+-- a sink took these bytes
+pub record Took (old new : Vessel) (bytes : List ℕ) : Type 0 where
+  pub taken : Appends old.held new.held bytes
+  pub room : HasTaken old.room new.room (length bytes)
+
+-- a sink took not all of these bytes
+pub record Stopped (old new : Vessel) (bytes : List ℕ) : Type 0 where
+  pub front : AppendsPrefix old.held new.held bytes
+  pub room : IsTooShort old.room (length bytes)
+
+-- this was written into a sink, with this answer
+abbrev pub Writes : Wrote → Vessel → Vessel → Result ℕ SegmentFault → Type 0
+Writes wrote old new (Ok n) = (wrote.refused ≡ None) × (n ≡ length wrote.packets) × Took old new (concat wrote.packets)
+Writes wrote old new (Err (Fault.Parity k)) = (wrote.refused ≡ Some k) × Took old new (concat wrote.packets)
+Writes wrote old new (Err Fault.Write) = CutShort old new (λ bytes. bytes ≡ concat wrote.packets)
+
+-- what is to be confirmed
+abbrev pub holding_in : Confirming → Holding
+holding_in c = record {
+  number = c.word.now.number;
+  word = c.word.now.bytes;
+  places = c.tracks.now.places.items;
+  held = map entry_of c.tracks.now.held.items;
+}
+
+-- and the segment that it is
+unfoldable pub segment_in : Confirming → Segment
+segment_in c = segment_of (holding_in c) c.ca c.ecm c.last.now
+
+-- what the first of its packets come to
+unfoldable pub first_wrote : Confirming → ℕ → Wrote
+first_wrote c k = written_from (segment_in c) [] (take k (holding_in c).held)
+
+-- and this was written, of so many packets
+pub record IsWritten (c : Confirming) (k : ℕ) (old new : Vessel) (count : ℕ) : Type 0 where
+  pub calm : (first_wrote c k).refused ≡ None
+  pub counted : count ≡ length (first_wrote c k).packets
+  pub took : Took old new (concat (first_wrote c k).packets)
+
+-- the PID of control messages has 13 bits, and the positions of the next one 48
+pub record IsReady (c : Confirming) : Type 0 where
+  pub ecm : c.ecm < 8192
+  pub short : AreShort c.last.now
+  pub kept : IsKept c.tracks.now
+
+-- a held packet after others has the position to which it led its PID
+pub record IsOwn (c : Confirming) (before : List (List ℕ)) (held : Held) : Type 0 where
+  pub position : held.position ≡ led_to c.tracks.now.places.items (before ++ held.packet ∷ []) (pid_of held.packet)

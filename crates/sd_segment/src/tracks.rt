@@ -1,0 +1,129 @@
+ghost use Rattle.std.specs.Prelude.{◌≡◌, ◌+◌, ◌<◌, ◌^◌, ◌++◌, ◌∷◌, [], IfOk, get_or, length, map, slice_set};
+ghost use Rattle.sd_packet.specs.Header.{pid_of};
+ghost use Rattle.sd_packet.specs.Positions.{moved};
+ghost use Rattle.sd_ecm.specs.Form.{AreAscending};
+ghost use Rattle.sd_segment.specs.Holding.{ArePlaces, entry_of};
+ghost use Rattle.sd_segment.specs.Tracking.{IsClear, IsTracked, IsKept, AreKnown, packets_in};
+ghost use Rattle.sd_segment.specs.declared.tracks.TheConstants.{PIDS};
+
+use crate::held::{Held, MOST_HELD};
+use sd_ecm::{MOST_PLACES, Place};
+use sd_packet::{Packet, advance};
+use std::alloc::{AllocError, Global};
+
+/// How many PIDs there are.
+pub const PIDS: usize = 8192;
+
+// The position that no packet has moved.
+const FIRST_POSITION: u64 = 15;
+
+/// Packets that are held, and where they lead the PIDs from their places.
+#[derive(Drop)]
+pub struct Tracks {
+    pub places: Vec<Place>,
+    pub held: Vec<Held>,
+    /// Positions by PID.
+    pub table: Vec<u64>,
+}
+
+impl Tracks {
+    /// Nothing is held. It takes all memory that it ever does.
+    pub fn new(alloc: Global) -> Result<Tracks, AllocError>
+        ensures { IfOk result (λ tracks. IsKept tracks) }
+    {
+        let places = Vec::with_capacity(alloc, MOST_PLACES)?;
+        let held = Vec::with_capacity(alloc, MOST_HELD)?;
+        let mut table = Vec::new(alloc);
+        table.resize(PIDS, FIRST_POSITION)?;
+        Ok(Tracks {
+            places,
+            held,
+            table,
+        })
+    }
+
+    /// Drops what is held.
+    pub fn empty(&mut self)
+        requires { IsKept self.old }
+        ensures kept { IsKept self.new }
+        ensures places { self.new.places.items ≡ [] }
+        ensures held { self.new.held.items ≡ [] }
+    {
+        clear(&mut self.table, &self.places, &self.held);
+        self.places.clear();
+        self.held.clear();
+    }
+
+    /// Drops what is held, and begins at these places.
+    pub fn begin(&mut self, places: &[Place])
+        requires kept { IsKept self.old }
+        requires places { ArePlaces places.now }
+        ensures kept { IsKept self.new }
+        ensures places { self.new.places.items ≡ places.now }
+        ensures held { self.new.held.items ≡ [] }
+    {
+        self.empty();
+        start(&mut self.table, places);
+        self.places.extend_from_slice(places).unwrap();
+    }
+
+    /// Holds one packet more.
+    pub fn hold(&mut self, number: u64, packet: &Packet)
+        requires kept { IsKept self.old }
+        requires room { length self.old.held.items < MOST_HELD }
+        ensures kept { IsKept self.new }
+        ensures places { self.new.places.items ≡ self.old.places.items }
+        ensures held { map entry_of self.new.held.items
+            ≡ map entry_of self.old.held.items ++ (number, packet.now) ∷ [] }
+    {
+        let position = step(&mut self.table, packet);
+        let held = Held {
+            number,
+            position,
+            packet: *packet,
+        };
+        self.held.push(held).unwrap();
+    }
+}
+
+// Puts the positions of these places into a table of first positions.
+#[tactic(auto, using(crate::proofs::Tables::none_started, crate::proofs::Tables::next_started))]
+fn start(table: &mut [u64], places: &[Place])
+    requires clear { IsClear table.old }
+    requires known { AreKnown places.now }
+    requires ascending { AreAscending places.now }
+    ensures { IsTracked places.now [] table.new }
+{
+    for place in places {
+        table[usize::from(place.pid)] = place.position;
+    }
+}
+
+// Moves the position of a packet's PID, which it answers.
+fn step(table: &mut [u64], packet: &Packet) -> u64
+    requires long { length table.old ≡ PIDS }
+    requires low { get_or table.old (pid_of packet.now) 0 < 2 ^ 63 }
+    ensures value { result ≡ moved (pid_of packet.now) (get_or table.old (pid_of packet.now) 0) packet.now }
+    ensures table { table.new ≡ slice_set table.old (pid_of packet.now) result }
+{
+    let pid = usize::from(packet.pid());
+    if !packet.payload().is_empty() {
+        table[pid] = advance(table[pid], packet.counter());
+    }
+    table[pid]
+}
+
+// Puts the first position for the PIDs of the places and packets that a table is of.
+#[tactic(auto, using(crate::proofs::Tables::tracked_but, crate::proofs::Tables::cleared))]
+fn clear(table: &mut [u64], places: &[Place], held: &[Held])
+    requires tracked { IsTracked places.now (packets_in held.now) table.old }
+    requires known { AreKnown places.now }
+    ensures { IsClear table.new }
+{
+    for place in places {
+        table[usize::from(place.pid)] = FIRST_POSITION;
+    }
+    for one in held {
+        table[usize::from(one.packet.pid())] = FIRST_POSITION;
+    }
+}

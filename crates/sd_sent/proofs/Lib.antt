@@ -1,0 +1,9 @@
+pub mod Clear
+pub mod Fitting
+pub mod Carrying
+pub mod Sections
+pub mod Reached
+pub mod Naming
+pub mod Covering
+pub mod Numbers
+pub mod Coming

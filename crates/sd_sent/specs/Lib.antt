@@ -1,0 +1,6 @@
+pub mod Accepted
+pub mod Packets
+pub mod Named
+pub mod Numbered
+pub mod Rest
+pub mod Headers

@@ -1,0 +1,4 @@
+//! What a receiver is told by the things that a broadcast sends.
+#![tactic(auto)]
+
+pub mod laws;

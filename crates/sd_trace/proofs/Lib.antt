@@ -1,0 +1,12 @@
+pub mod Cuts
+pub mod Searches
+pub mod Told
+pub mod Narrowing
+pub mod Narrowed
+pub mod Joining
+pub mod Opening
+pub mod Rounds
+pub mod Chained
+pub mod Leaving
+pub mod Inside
+pub mod Boxes

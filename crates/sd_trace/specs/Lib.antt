@@ -1,0 +1,4 @@
+pub mod Halves
+pub mod Search
+pub mod Trace
+pub mod Rounds

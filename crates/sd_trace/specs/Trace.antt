@@ -1,0 +1,40 @@
+-- The leaves that a box still opens for, in the order in which they are found [Naor, Naor, Lotspiech 2001, 5].
+use Rattle.std.specs.Prelude.{◌≡◌, ◌&&◌, not, nat_eq, filter, ℕ, ◌+◌, ◌-◌, ◌*◌, ◌^◌, ◌<◌, ◌≤◌, List, [], ◌∷◌}
+use Rattle.std.specs.Prelude.{Contains, length, get_or}
+use Rattle.std.specs.List.{list_any}
+use Rattle.sd_tree.specs.Leaves.{leaves}
+use Rattle.sd_tree.specs.declared.set.SetName.TheVariants.{Whole}
+use Rattle.sd_steiner.specs.Cover.{cover_of}
+use Rattle.sd_trace.specs.declared.found.Found.{Found}
+use Rattle.sd_trace.specs.Halves.{narrowed}
+use Rattle.sd_trace.specs.Search.{halvings, IsLastOpen}
+
+-- What one round finds where these leaves are revoked or found: of the cover's sets the last that opens is cut down to a
+-- leaf [Naor, Naor, Lotspiech 2001, 5; this project, docs/FORMATS.md, Tracing].
+pub record IsRound (d : ℕ) (coalition gone : List ℕ) (found : Found) : Type 0 where
+  pub place : ℕ
+  pub opened : IsLastOpen d coalition (cover_of d gone) place
+  pub leaf : (found.leaf, found.splits) ≡ narrowed d coalition d (get_or (cover_of d gone) place Whole)
+  pub trials : found.trials ≡ 1 + halvings (length (cover_of d gone)) 0 (length (cover_of d gone)) place + found.splits
+
+-- what all rounds find, until no leaf of the coalition is left
+unfoldable pub IsTrace : ℕ → List ℕ → List ℕ → List Found → Type 0
+IsTrace d coalition gone [] = (u : ℕ) → u < 2 ^ d → Contains coalition u → Contains gone u
+IsTrace d coalition gone (found ∷ later) = IsRound d coalition gone found × IsTrace d coalition (found.leaf ∷ gone) later
+
+-- what one round keeps to, whatever the box answers
+pub record IsAnyRound (d : ℕ) (gone : List ℕ) (found : Found) : Type 0 where
+  pub leaf : found.leaf < 2 ^ d
+  pub fresh : ¬ Contains gone found.leaf
+  pub splits : found.splits ≤ d
+  pub trials : found.splits + 1 ≤ found.trials
+  pub turns : 2 ^ (found.trials - found.splits - 1) < 2 * length (cover_of d gone)
+
+-- what all rounds keep to, whatever the box answers
+unfoldable pub AreAnyRounds : ℕ → List ℕ → List Found → Type 0
+AreAnyRounds d gone [] = Unit {0}
+AreAnyRounds d gone (found ∷ later) = IsAnyRound d gone found × AreAnyRounds d (found.leaf ∷ gone) later
+
+-- the leaves of the coalition that aren't among these, ascending
+abbrev pub outside : ℕ → List ℕ → List ℕ → List ℕ
+outside d gone coalition = filter (λ u. list_any (nat_eq u) coalition && not (list_any (nat_eq u) gone)) (leaves d)
