@@ -23,15 +23,16 @@ use Rattle.sd_status.specs.declared.status.Status.TheVariants.{Limit}
 use Rattle.sd_status.specs.declared.status.LimitKind.TheVariants.{CardBytes}
 use Rattle.sd_status.specs.Meant.{Meant, Word, Given, after, all_of, judged, value, within, ◌>>=◌}
 use Rattle.sd_status.specs.Work.{UpTo, Work}
-use Rattle.sd_run.specs.declared.receive.TheConstants.{MOST_CARD_BYTES}
-use Rattle.sd_run.specs.Words.{Order, order_of, ReceiveOf}
-use Rattle.sd_run.specs.Receive.{told_card, card_of_file, ending_status, ended_status, status_at, unless_refused}
-use Rattle.sd_run.specs.Receive.{received_of, received_status, received_steps, receiving, stream_meaning}
-use Rattle.sd_run.specs.Receive.{receive_meaning, IsGoodReceive}
+use Rattle.sd_run_receive.specs.declared.command.TheConstants.{MOST_CARD_BYTES}
+use Rattle.sd_words.specs.Words.{Order, order_of, ReceiveOf}
+use Rattle.sd_run_receive.specs.Receive.{told_card, card_of_file, ending_status, ended_status, status_at, unless_refused}
+use Rattle.sd_run_receive.specs.Receive.{received_of, received_status, received_steps, receiving, stream_meaning}
+use Rattle.sd_run_receive.specs.Receive.{receive_meaning}
+use Rattle.sd_run.specs.Good.{IsGoodReceive}
 use Rattle.sd_run.specs.Opened.{entitled_periods, revoked_status, IsBroadcastTo, IsOpened}
 use Rattle.sd_run.specs.Meaning.{order_meaning, meaning}
-use Rattle.sd_run.proofs.Cards.{card_read}
-use Rattle.sd_run.proofs.Received.{none_refused, bytes_are, steps_are, scaled}
+use Rattle.sd_run_receive.proofs.Cards.{card_read}
+use Rattle.sd_run_receive.proofs.Received.{none_refused, bytes_are, steps_are, scaled}
 use Rattle.sd_run.proofs.Keyed.{keys_taken}
 
 then_is : {A B : Type 0} (first : Meant A) (x : A) (next : A → Meant B) → first.result ≡ Ok x →

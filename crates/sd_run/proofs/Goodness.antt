@@ -15,18 +15,25 @@ use Rattle.sd_status.specs.declared.status.LimitKind.{LimitKind}
 use Rattle.sd_status.specs.declared.status.LimitKind.TheVariants.{SiteBytes, BookBytes}
 use Rattle.sd_status.specs.Meant.{Meant, Word, Given, after, all_of, judged, value, within, ◌>>=◌}
 use Rattle.sd_status.specs.Work.{Uncounted, NoSteps, Work}
-use Rattle.sd_run.specs.declared.files.TheConstants.{MOST_SITE_BYTES, MOST_BOOK_BYTES}
-use Rattle.sd_run.specs.Words.{Order, order_of, CoverOf, CardOf, SampleOf, TablesOf, HeadOf}
-use Rattle.sd_run.specs.Files.{told_site, told_book, site_of_file, book_of_file, site_in, book_in, IsGoodSite, IsGoodBook}
-use Rattle.sd_run.specs.Cover.{covering, cover_meaning, IsGoodCover}
-use Rattle.sd_run.specs.Card.{making, told_card, IsGoodCard}
-use Rattle.sd_run.specs.Sample.{IsGoodSample}
-use Rattle.sd_run.specs.Tables.{inspecting, tables_meaning, stream_status, IsGoodTables}
+use Rattle.sd_files.specs.declared.files.TheConstants.{MOST_SITE_BYTES, MOST_BOOK_BYTES}
+use Rattle.sd_words.specs.Words.{Order, order_of, CoverOf, CardOf, SampleOf, TablesOf, HeadOf}
+use Rattle.sd_files.specs.Files.{told_site, told_book, site_of_file, book_of_file, site_in, book_in}
+use Rattle.sd_run.specs.Good.{IsGoodSite, IsGoodBook}
+use Rattle.sd_run_cover.specs.Cover.{covering, cover_meaning}
+use Rattle.sd_run.specs.Good.{IsGoodCover}
+use Rattle.sd_files.specs.Made.{making}
+use Rattle.sd_run_card.specs.Card.{told_card}
+use Rattle.sd_run.specs.Good.{IsGoodCard}
+use Rattle.sd_run.specs.Good.{IsGoodSample}
+use Rattle.sd_run_tables.specs.Tables.{inspecting, tables_meaning}
+use Rattle.sd_files.specs.Streams.{stream_status}
+use Rattle.sd_run.specs.Good.{IsGoodTables}
 use Rattle.std.specs.List.{concat}
 use Rattle.sd_engine.specs.Taken.{Whole, taken_of}
 use Rattle.sd_broadcast.specs.Sent.{broadcast}
-use Rattle.sd_run.specs.Head.{plan_by, plan_meaning, plan_told, sending, sending_of, sent_of, sent_status, head_meaning, IsGoodHead}
-use Rattle.sd_run.proofs.Sending.{sent_unrefused}
+use Rattle.sd_run_head.specs.Head.{plan_by, plan_meaning, sending, sending_of, sent_of, sent_status, head_meaning}
+use Rattle.sd_run.specs.Good.{plan_told, IsGoodHead}
+use Rattle.sd_run_head.proofs.Sending.{sent_unrefused}
 use Rattle.sd_run.specs.Meaning.{order_meaning, meaning}
 
 then_is : {A B : Type 0} (first : Meant A) (x : A) (next : A → Meant B) → first.result ≡ Ok x → (first >>= next).result ≡ (next x).result

@@ -1,17 +1,4 @@
-pub mod Places
-pub mod Looked
-pub mod Words
-pub mod Making
-pub mod Carding
-pub mod Inspected
-pub mod Covers
 pub mod Ordered
 pub mod Goodness
-pub mod Turning
-pub mod Sending
-pub mod Heading
-pub mod Cards
-pub mod Received
-pub mod Streamed
 pub mod Keyed
 pub mod Broadcasts

@@ -1,39 +1,21 @@
 -- What words that are an order, or none, come to.
-use Rattle.std.proofs.Common.{◌≡◌, ◌≢◌, ◌⊎◌, ℕ, ◌+◌, ◌^◌, ◌≤◌, Bool, true, false, cond, List, length, Option, Some, None, Result, Ok, Err, refl, sym, ap, subst, ◌∙◌, inl, inr, arith}
-use Rattle.std.specs.Prelude.{nat_lt, IfErr}
-use Rattle.sd_site.specs.Fields.{SiteFields}
-use Rattle.sd_site.specs.Text.{site_of}
-use Rattle.sd_site.specs.declared.fault.SiteFault.{SiteFault}
-use Rattle.sd_book.specs.declared.command.Command.{Command}
-use Rattle.sd_book.specs.declared.fault.BookFault.{BookFault}
-use Rattle.sd_book.specs.declared.fault.BookFault.TheVariants as book
-use Rattle.sd_book.specs.Text.{book_of}
-use Rattle.sd_sample.specs.Sample.{sample_of}
+use Rattle.std.proofs.Common.{◌≡◌, ◌≢◌, ◌⊎◌, ℕ, ◌+◌, List, Result, Ok, Err, refl, sym, subst, ◌∙◌, inl, inr, arith}
 use Rattle.sd_status.specs.declared.status.Status.{Status}
-use Rattle.sd_status.specs.declared.status.Status.TheVariants.{Usage, Missing, Limit, BadWord}
-use Rattle.sd_status.specs.declared.status.LimitKind.{LimitKind}
-use Rattle.sd_status.specs.declared.status.LimitKind.TheVariants.{SiteBytes, BookBytes, CardBytes}
-use Rattle.sd_run.specs.declared.files.TheConstants.{MOST_SITE_BYTES, MOST_BOOK_BYTES}
-use Rattle.sd_card.specs.Fields.{card_of, card_bytes}
+use Rattle.sd_status.specs.declared.status.Status.TheVariants.{Usage, Missing}
 use Rattle.sd_status.specs.Outside.{Outside}
-use Rattle.sd_status.specs.Meant.{Meant, Word, Given, after, all_of, judged, value, within, ◌>>=◌}
-use Rattle.sd_status.specs.Work.{Uncounted, Work}
-use Rattle.sd_status.specs.Comes.{IsRefusal, IsEnding, Comes, refused, Obeys, Follows}
-use Rattle.sd_status.proofs.Steps.{takes_none}
+use Rattle.sd_status.specs.Meant.{Meant, Given, judged, ◌>>=◌}
+use Rattle.sd_status.specs.Work.{Work}
+use Rattle.sd_status.specs.Comes.{IsRefusal, refused, Obeys, Follows}
 use Rattle.sd_status.proofs.Givens.{any_given}
-use Rattle.sd_run.specs.Words.{Order, CoverOf, CardOf, SampleOf, TablesOf, HeadOf, ReceiveOf, Number, order_of}
-use Rattle.sd_run.specs.Files.{told_site, told_book, site_of_file, book_of_file}
-use Rattle.sd_run.specs.Cover.{covering, cover_meaning}
-use Rattle.sd_run.specs.Card.{making, told_card}
-use Rattle.sd_run.specs.Tables.{inspecting, tables_meaning}
-use Rattle.sd_run.specs.Head.{plan_by, sending, sending_of, head_meaning}
-use Rattle.sd_card.specs.declared.fault.CardFault.{CardFault}
-use Rattle.sd_card.specs.Fields.{CardFields}
-use Rattle.sd_card.specs.Faults.{fault_in}
-use Rattle.sd_run.specs.declared.receive.TheConstants.{MOST_CARD_BYTES}
-use Rattle.sd_run.specs.Receive.{card_said, card_unless, told_card as told_receiver, card_of_file, receiving, stream_meaning, receive_meaning}
+use Rattle.sd_files.proofs.Others.{IsOther}
+use Rattle.sd_run_cover.proofs.Others.{other_cover}
+use Rattle.sd_run_card.proofs.Others.{other_card_order}
+use Rattle.sd_run_tables.proofs.Others.{other_tables}
+use Rattle.sd_run_head.proofs.Others.{other_head}
+use Rattle.sd_run_receive.proofs.Others.{other_receive}
+use Rattle.sd_words.specs.Words.{Order, CoverOf, CardOf, SampleOf, TablesOf, HeadOf, ReceiveOf, order_of}
+use Rattle.sd_words.specs.Orders.{RefusesWords}
 use Rattle.sd_run.specs.Meaning.{order_meaning, meaning}
-use Rattle.sd_run.specs.Shown.{RefusesWords}
 
 err_is : {A : Type 0} (a b : Status) (r : Result A Status) → r ≡ Err a → r ≡ Err b → a ≡ b
 err_is a b r e f = cc
@@ -80,110 +62,14 @@ words_follow words status a read h =
       };
     })
 
--- no step but the words' own answers `Usage`
-abbrev pub IsOther : {A : Type 0} → Result A Status → Type 0
-IsOther r = IfErr r (λ status. status ≢ Usage)
-
-other_after : {A B : Type 0} (n : ℕ) (r : Result A Status) (next : A → Meant B) → IsOther r → ((x : A) → IsOther (next x).result) →
-    IsOther (after n r next).result
-other_after n (Ok x) next h step = step x
-other_after n (Err status) next h step = h
-
-other_limit : (b : Bool) (status : Status) (bytes : List ℕ) → status ≢ Usage → IsOther (cond b (Err status) (Ok bytes))
-other_limit true status bytes h = h
-other_limit false status bytes h = tt
-
-other_file : (word most : ℕ) (kind : LimitKind) (got : Option (List ℕ)) → IsOther (within word most kind got).result
-other_file word most kind None = λ e. cc
-other_file word most kind (Some bytes) = other_limit (nat_lt most (length bytes)) (Limit kind) bytes (λ e. cc)
-
-other_stream : (word : ℕ) (got : Option (List ℕ)) → IsOther (all_of word got).result
-other_stream word None = λ e. cc
-other_stream word (Some bytes) = tt
-
-other_site : (r : Result SiteFields SiteFault) → IsOther (told_site r)
-other_site (Ok site) = tt
-other_site (Err fault) = λ e. cc
-
-other_book : (word : ℕ) (r : Result (List Command) BookFault) → IsOther (told_book word r)
-other_book word (Ok commands) = tt
-other_book word (Err (book.Line k)) = λ e. cc
-other_book word (Err (book.Leaf k)) = λ e. cc
-other_book word (Err (book.Limit limit)) = λ e. cc
-other_book word (Err book.NoMemory) = λ e. cc
-
-other_site_file : (word : ℕ) (got : Option (List ℕ)) → IsOther (site_of_file word got).result
-unfolding site_of_file
-other_site_file word got =
-    other_after (within word MOST_SITE_BYTES SiteBytes got).calls (within word MOST_SITE_BYTES SiteBytes got).result
-    (λ bytes. judged (told_site (site_of bytes))) (other_file word MOST_SITE_BYTES SiteBytes got) (λ bytes. other_site (site_of bytes))
-
-other_book_file : (word d : ℕ) (got : Option (List ℕ)) → IsOther (book_of_file word d got).result
-unfolding book_of_file
-other_book_file word d got =
-    other_after (within word MOST_BOOK_BYTES BookBytes got).calls (within word MOST_BOOK_BYTES BookBytes got).result
-    (λ bytes. judged (told_book word (book_of d bytes))) (other_file word MOST_BOOK_BYTES BookBytes got)
-    (λ bytes. other_book word (book_of d bytes))
-
-other_leaf : (b : Bool) (bytes : List ℕ) (word : ℕ) → IsOther (cond b (Ok bytes) (Err (BadWord word)))
-other_leaf true bytes word = tt
-other_leaf false bytes word = λ e. cc
-
-other_card : (fields : SiteFields) (leaf : Number) → IsOther (told_card fields leaf)
-other_card fields leaf =
-    other_leaf (nat_lt leaf.value (2 ^ fields.height)) (card_bytes (card_of fields.master fields.ca fields.height leaf.value)) leaf.word
-
-other_plan : (site book : ℕ) (site_got book_got : Option (List ℕ)) → IsOther (plan_by site book site_got book_got).result
-unfolding plan_by
-other_plan site book site_got book_got =
-    other_after (site_of_file site site_got).calls (site_of_file site site_got).result
-    (λ fields. book_of_file book fields.height book_got >>= λ commands. value (record { site = fields; commands = commands }))
-    (other_site_file site site_got)
-    (λ fields. other_after (book_of_file book fields.height book_got).calls (book_of_file book fields.height book_got).result
-    (λ commands. value (record { site = fields; commands = commands })) (other_book_file book fields.height book_got) (λ commands. tt))
-
-other_unless : (fault : Option CardFault) (card : CardFields) → IsOther (card_unless fault card)
-other_unless None card = tt
-other_unless (Some fault) card = λ e. cc
-
-other_receiver : (bytes : List ℕ) → IsOther (told_receiver bytes)
-unfolding told_receiver
-other_receiver bytes = other_unless (fault_in bytes) (card_said bytes)
-
-other_card_file : (word : ℕ) (got : Option (List ℕ)) → IsOther (card_of_file word got).result
-unfolding card_of_file
-other_card_file word got =
-    other_after (within word MOST_CARD_BYTES CardBytes got).calls (within word MOST_CARD_BYTES CardBytes got).result
-    (λ bytes. judged (told_receiver bytes)) (other_file word MOST_CARD_BYTES CardBytes got) other_receiver
-
+-- no order answers `Usage`
 other_order : (order : Order) (given : Given) → IsOther (order_meaning order given).result
-unfolding cover_meaning tables_meaning head_meaning receive_meaning
-other_order (CoverOf site book) given =
-    other_after (site_of_file site.number (given site)).calls (site_of_file site.number (given site)).result
-    (λ fields. book_of_file book.number fields.height (given book) >>= λ commands. value (covering fields.height commands))
-    (other_site_file site.number (given site))
-    (λ fields. other_after (book_of_file book.number fields.height (given book)).calls (book_of_file book.number fields.height (given book)).result
-    (λ commands. value (covering fields.height commands)) (other_book_file book.number fields.height (given book)) (λ commands. tt))
-other_order (CardOf site leaf out) given =
-    other_after (site_of_file site.number (given site)).calls (site_of_file site.number (given site)).result
-    (λ fields. judged (told_card fields leaf) >>= λ bytes. value (making Uncounted out bytes))
-    (other_site_file site.number (given site))
-    (λ fields. other_after 0 (told_card fields leaf) (λ bytes. value (making Uncounted out bytes)) (other_card fields leaf) (λ bytes. tt))
+other_order (CoverOf site book) given = other_cover site book given
+other_order (CardOf site leaf out) given = other_card_order site leaf out given
 other_order (SampleOf number packets out) given = tt
-other_order (TablesOf stream) given =
-    other_after (all_of stream.number (given stream)).calls (all_of stream.number (given stream)).result
-    (λ bytes. value (inspecting bytes)) (other_stream stream.number (given stream)) (λ bytes. tt)
-other_order (HeadOf site book clear out) given =
-    other_after (plan_by site.number book.number (given site) (given book)).calls
-    (plan_by site.number book.number (given site) (given book)).result (sending_of clear out (given clear))
-    (other_plan site.number book.number (given site) (given book))
-    (λ plan. other_after (all_of clear.number (given clear)).calls (all_of clear.number (given clear)).result
-    (λ bytes. value (sending plan out bytes)) (other_stream clear.number (given clear)) (λ bytes. tt))
-other_order (ReceiveOf card stream out) given =
-    other_after (card_of_file card.number (given card)).calls (card_of_file card.number (given card)).result
-    (λ fields. stream_meaning fields stream out given) (other_card_file card.number (given card))
-    (λ fields. other_after (all_of stream.number (given stream)).calls (all_of stream.number (given stream)).result
-    (λ bytes. value (receiving fields out bytes)) (other_stream stream.number (given stream)) (λ bytes. tt))
+other_order (TablesOf stream) given = other_tables stream given
+other_order (HeadOf site book clear out) given = other_head site book clear out given
+other_order (ReceiveOf card stream out) given = other_receive card stream out given
 
 other_is : {A : Type 0} (r : Result A Status) → IsOther r → r ≡ Err Usage → ⊥
 other_is (Ok x) h e = absurd (cc)

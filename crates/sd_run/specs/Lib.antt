@@ -1,13 +1,3 @@
-pub mod Words
-pub mod Files
-pub mod Periods
-pub mod Cover
-pub mod Card
-pub mod Sample
-pub mod Tables
-pub mod Receive
-pub mod Opened
+pub mod Good
 pub mod Meaning
-pub mod Shown
-pub mod Turned
-pub mod Head
+pub mod Opened

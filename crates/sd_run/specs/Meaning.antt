@@ -2,13 +2,13 @@
 use Rattle.std.specs.Prelude.{List, ℕ}
 use Rattle.sd_status.specs.Meant.{Meant, Given, judged, ◌>>=◌}
 use Rattle.sd_status.specs.Work.{Work}
-use Rattle.sd_run.specs.Words.{Order, CoverOf, CardOf, SampleOf, TablesOf, HeadOf, ReceiveOf, order_of}
-use Rattle.sd_run.specs.Cover.{cover_meaning}
-use Rattle.sd_run.specs.Card.{card_meaning}
-use Rattle.sd_run.specs.Sample.{sample_meaning}
-use Rattle.sd_run.specs.Tables.{tables_meaning}
-use Rattle.sd_run.specs.Head.{head_meaning}
-use Rattle.sd_run.specs.Receive.{receive_meaning}
+use Rattle.sd_words.specs.Words.{Order, CoverOf, CardOf, SampleOf, TablesOf, HeadOf, ReceiveOf, order_of}
+use Rattle.sd_run_cover.specs.Cover.{cover_meaning}
+use Rattle.sd_run_card.specs.Card.{card_meaning}
+use Rattle.sd_run_sample.specs.Sample.{sample_meaning}
+use Rattle.sd_run_tables.specs.Tables.{tables_meaning}
+use Rattle.sd_run_head.specs.Head.{head_meaning}
+use Rattle.sd_run_receive.specs.Receive.{receive_meaning}
 
 -- the work of an order
 abbrev pub order_meaning : Order → Given → Meant Work

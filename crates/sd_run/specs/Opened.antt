@@ -12,7 +12,7 @@ use Rattle.sd_status.specs.declared.status.Status.{Status}
 use Rattle.sd_status.specs.declared.status.Status.TheVariants.{Done, Revoked}
 use Rattle.sd_status.specs.Meant.{Word, Given}
 use Rattle.sd_status.specs.Work.{UpTo, Work}
-use Rattle.sd_run.specs.Words.{ReceiveOf, order_of}
+use Rattle.sd_words.specs.Words.{ReceiveOf, order_of}
 
 -- how many periods of the broadcast there are in which leaf u isn't revoked
 unfoldable pub entitled_periods : Plan → ℕ → List (List ℕ) → ℕ

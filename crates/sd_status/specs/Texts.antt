@@ -20,7 +20,7 @@ use Rattle.sd_status.specs.declared.status.Status.TheVariants.{Done, Usage, Miss
 use Rattle.sd_status.specs.declared.status.Status.TheVariants.{BadSite, BadBook, BadCard, BadClear, BadStream}
 use Rattle.sd_status.specs.declared.status.Status.TheVariants.{Limit, NoMemory, Unheard, Unclosed, Gaps, NoCat, BadWord}
 use Rattle.sd_status.specs.declared.status.LimitKind.{LimitKind}
-use Rattle.sd_status.specs.declared.status.LimitKind.TheVariants.{SiteBytes, BookBytes, CardBytes, Book}
+use Rattle.sd_status.specs.declared.status.LimitKind.TheVariants.{SiteBytes, BookBytes, CardBytes, Book, TrialHeight, TrialPackets, Traced}
 use Rattle.sd_status.specs.declared.status.ClearCause.{ClearCause}
 use Rattle.sd_status.specs.declared.status.ClearCause.TheVariants as clear
 use Rattle.sd_status.specs.declared.status.StreamCause.{StreamCause}
@@ -123,6 +123,9 @@ limit_line SiteBytes = codes "limit: site bytes\n"
 limit_line BookBytes = codes "limit: book bytes\n"
 limit_line CardBytes = codes "limit: card bytes\n"
 limit_line (Book limit) = book_limit_line limit
+limit_line TrialHeight = codes "limit: trial height\n"
+limit_line TrialPackets = codes "limit: trial packets\n"
+limit_line Traced = codes "limit: traced\n"
 
 -- the line of a leaf that is revoked
 unfoldable pub revoked_line : ℕ → ℕ → List ℕ

@@ -140,6 +140,12 @@ pub enum LimitKind {
     CardBytes,
     /// A limit of a book.
     Book(BookLimit),
+    /// A site's tree may be at most 6 high for a trial.
+    TrialHeight,
+    /// A clear stream may have at most 65,536 packets for a trial.
+    TrialPackets,
+    /// At most 65,536 leaves may be revoked while leaves are traced.
+    Traced,
 }
 
 impl From<NoMemory> for Status {

@@ -308,5 +308,8 @@ fn limit_line(alloc: Global, kind: LimitKind) -> Result<Line, AllocError>
         LimitKind::Book(BookLimit::Revoked(q)) => {
             Line::Made(format!(in alloc; "limit: revoked in period {q}\n")?)
         }
+        LimitKind::TrialHeight => Line::Fixed("limit: trial height\n"),
+        LimitKind::TrialPackets => Line::Fixed("limit: trial packets\n"),
+        LimitKind::Traced => Line::Fixed("limit: traced\n"),
     })
 }

@@ -115,6 +115,17 @@ fn each_status_has_its_line(rt: HostRuntime) -> Result<(), AllocError> {
             11,
             "limit: card bytes\n",
         ),
+        (
+            Status::Limit(LimitKind::TrialHeight),
+            11,
+            "limit: trial height\n",
+        ),
+        (
+            Status::Limit(LimitKind::TrialPackets),
+            11,
+            "limit: trial packets\n",
+        ),
+        (Status::Limit(LimitKind::Traced), 11, "limit: traced\n"),
         (Status::NoMemory, 12, "no memory\n"),
         (
             Status::Unheard { leaf: 2, period: 1 },

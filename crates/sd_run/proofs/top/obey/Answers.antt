@@ -1,9 +1,8 @@
-use Rattle.std.proofs.Common.{sym}
 use Rattle.std.specs.Prelude.{map, string_bytes}
 use Rattle.std.proofs.lemmas.Result.{err_from_is_err_and}
 use Rattle.sd_status.specs.Outside.{place, page, outside}
 use Rattle.sd_status.specs.Comes.{status_of}
-use Rattle.sd_run.specs.Shown.{told}
+use Rattle.sd_words.specs.Orders.{told}
 use Rattle.sd_run.proofs.Ordered.{order_follows, words_follow}
 use Rattle.sd_run.proofs.top.obey.Goals as goal
 

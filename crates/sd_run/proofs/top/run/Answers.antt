@@ -6,7 +6,7 @@ use Rattle.sd_status.specs.Texts.{line_of}
 use Rattle.sd_status.specs.Outside.{place, page, outside}
 use Rattle.sd_status.specs.Answers.{Answers}
 use Rattle.sd_status.proofs.Told.{done_line, cut_line, lineless_answers, usage_meant}
-use Rattle.sd_run.specs.Words.{order_of}
+use Rattle.sd_words.specs.Words.{order_of}
 use Rattle.sd_run.proofs.Ordered.{only_words}
 use Rattle.sd_run.specs.Meaning.{meaning}
 use Rattle.sd_run.proofs.top.run.Goals as goal

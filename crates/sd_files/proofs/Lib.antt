@@ -1,0 +1,5 @@
+pub mod Places
+pub mod Looked
+pub mod Making
+pub mod Turning
+pub mod Others

@@ -1,0 +1,5 @@
+pub mod Files
+pub mod Made
+pub mod Shown
+pub mod Streams
+pub mod Turned

@@ -1,0 +1,16 @@
+//! What commands share: their words, the files that they read and make, and how they print.
+#![tactic(auto)]
+
+mod files;
+mod made;
+mod print;
+mod stream;
+mod turn;
+mod word;
+
+pub use files::{read_book, read_bytes, read_site};
+pub use made::{make_file, told};
+pub use print::print_text;
+pub use stream::cause_of;
+pub use turn::{close_both, open_both};
+pub use word::{Number, Word};

@@ -1,0 +1,6 @@
+//! `cover SITE BOOK`: the sets of each period of a book.
+#![tactic(auto)]
+
+mod command;
+
+pub use command::cover;

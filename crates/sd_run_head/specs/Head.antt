@@ -1,0 +1,122 @@
+-- `head SITE BOOK CLEAR OUT` [this project, docs/FORMATS.md, Broadcast].
+use Rattle.std.specs.Prelude.{ℕ, List, [], take, Option, Some, None, Result, Ok, Err}
+use Rattle.std.specs.List.{concat}
+use Rattle.sd_engine.specs.Driving.{most_packets}
+use Rattle.sd_engine.specs.Taken.{StreamEnd, Whole, Breaks, RunsOn, taken_of, end_of, IsLeft}
+use Rattle.sd_engine.specs.declared.driver.DriveFault.{DriveFault}
+use Rattle.sd_engine.specs.declared.driver.DriveFault.TheVariants as drive
+use Rattle.sd_head.specs.declared.fault.HeadFault.{HeadFault}
+use Rattle.sd_head.specs.declared.fault.HeadFault.TheVariants as head
+use Rattle.sd_engine.specs.declared.fault.BreakCause.{BreakCause}
+use Rattle.sd_engine.specs.declared.fault.BreakCause.TheVariants as stream
+use Rattle.sd_broadcast.specs.Plan.{Plan}
+use Rattle.sd_broadcast.specs.Refused.{refusal_from}
+use Rattle.sd_broadcast.specs.Sent.{body, broadcast}
+use Rattle.sd_broadcast.specs.declared.fault.ClearFault.{ClearFault}
+use Rattle.sd_broadcast.specs.declared.fault.ClearFault.TheVariants as fault
+use Rattle.sd_status.specs.declared.status.Status.{Status}
+use Rattle.sd_status.specs.declared.status.Status.TheVariants.{Done, BadClear, DepotFault, NoMemory}
+use Rattle.sd_status.specs.declared.status.ClearCause.{ClearCause}
+use Rattle.sd_status.specs.declared.status.ClearCause.TheVariants.{Torn, NoSync, AlreadyScrambled, PidTaken, PatForm, PmtForm, TooManyPids, TooLong}
+use Rattle.sd_status.specs.Meant.{Meant, Word, Given, all_of, value, ◌>>=◌}
+use Rattle.sd_status.specs.Work.{Uncounted, Work}
+use Rattle.sd_files.specs.Files.{site_of_file, book_of_file}
+use Rattle.sd_files.specs.Turned.{turning, Wrote}
+
+-- the packet that is refused
+abbrev pub packet_in : ClearFault → ℕ
+packet_in (fault.AlreadyScrambled k) = k
+packet_in (fault.PidTaken k pid) = k
+packet_in (fault.PatForm k form) = k
+packet_in (fault.PmtForm k form) = k
+packet_in (fault.TooManyPids k) = k
+packet_in (fault.TooLong k) = k
+
+-- and why, as the status tells it
+abbrev pub cause_in : ClearFault → ClearCause
+cause_in (fault.AlreadyScrambled k) = AlreadyScrambled
+cause_in (fault.PidTaken k pid) = PidTaken pid
+cause_in (fault.PatForm k form) = PatForm form
+cause_in (fault.PmtForm k form) = PmtForm form
+cause_in (fault.TooManyPids k) = TooManyPids
+cause_in (fault.TooLong k) = TooLong
+
+abbrev pub broken_cause : BreakCause → ClearCause
+broken_cause stream.Torn = Torn
+broken_cause stream.NoSync = NoSync
+
+-- the status that comes of a refused packet, and of the end of a clear stream of which none is refused
+abbrev pub refused_status : ClearFault → Status
+refused_status fault = BadClear (packet_in fault) (cause_in fault)
+
+abbrev pub clear_status : StreamEnd → Status
+clear_status Whole = Done
+clear_status (Breaks found) = BadClear found.packet (broken_cause found.cause)
+clear_status RunsOn = BadClear most_packets TooLong
+
+abbrev pub status_where : StreamEnd → Option ClearFault → Status
+status_where end None = clear_status end
+status_where end (Some fault) = refused_status fault
+
+-- what is sent for a clear stream: the broadcast, or its body alone where the stream breaks, or that of the packets
+-- before the first one that is refused
+abbrev pub sent_by : Plan → List (List ℕ) → StreamEnd → List (List ℕ)
+sent_by plan clear Whole = broadcast plan clear
+sent_by plan clear (Breaks found) = body plan clear
+sent_by plan clear RunsOn = body plan clear
+
+abbrev pub sent_where : Plan → List (List ℕ) → StreamEnd → Option ClearFault → List (List ℕ)
+sent_where plan clear end None = sent_by plan clear end
+sent_where plan clear end (Some fault) = body plan (take (packet_in fault) clear)
+
+unfoldable pub sent_of : Plan → List ℕ → List ℕ
+sent_of plan bytes =
+    concat (sent_where plan (taken_of bytes) (end_of bytes) (refusal_from plan.site [] (taken_of bytes)))
+
+unfoldable pub sent_status : Plan → List ℕ → Status
+sent_status plan bytes = status_where (end_of bytes) (refusal_from plan.site [] (taken_of bytes))
+
+-- makes OUT of what is sent for a clear stream of these bytes
+abbrev pub sending : Plan → Word → List ℕ → Work
+sending plan out bytes = turning Uncounted out (sent_of plan bytes) (sent_status plan bytes)
+
+-- the site and the book of what their files gave
+unfoldable pub plan_by : ℕ → ℕ → Option (List ℕ) → Option (List ℕ) → Meant Plan
+plan_by site book site_got book_got = do
+  fields ← site_of_file site site_got
+  commands ← book_of_file book fields.height book_got
+  value (record { site = fields; commands = commands })
+
+abbrev pub plan_meaning : Word → Word → Given → Meant Plan
+plan_meaning site book given = plan_by site.number book.number (given site) (given book)
+
+-- what is sent of what the file of this word gave
+abbrev pub sending_of : Word → Word → Option (List ℕ) → Plan → Meant Work
+sending_of clear out got plan = all_of clear.number got >>= λ bytes. value (sending plan out bytes)
+
+unfoldable pub head_meaning : Word → Word → Word → Word → Given → Meant Work
+head_meaning site book clear out given = plan_meaning site book given >>= sending_of clear out (given clear)
+
+-- the status of a clear stream that was driven
+abbrev pub stop_status : Option ClearFault → Status
+stop_status None = NoMemory
+stop_status (Some fault) = refused_status fault
+
+abbrev pub sent_told : {F : Type 0} → (F → Option ClearFault) → Result ℕ (DriveFault F) → Status
+sent_told told (Ok count) = Done
+sent_told told (Err (drive.Broken found)) = BadClear found.packet (broken_cause found.cause)
+sent_told told (Err drive.TooLong) = BadClear most_packets TooLong
+sent_told told (Err drive.ReadFault) = DepotFault
+sent_told told (Err drive.WriteFault) = DepotFault
+sent_told told (Err (drive.Refused fault)) = stop_status (told fault)
+
+-- the refusal of a packet, where it is none for want of memory
+abbrev pub refusal_in : HeadFault → Option ClearFault
+refusal_in (head.Clear fault) = Some fault
+refusal_in head.NoMemory = None
+
+-- what is sent for the stream that was left was written, as far as its source and sink went
+pub record SendsLeft (plan : Plan) (left before now : Option (List ℕ)) (status : Status) : Type 0 where
+  pub bytes : List ℕ
+  pub is_left : IsLeft left bytes
+  pub wrote : Wrote (sent_of plan bytes) (sent_status plan bytes) before now status

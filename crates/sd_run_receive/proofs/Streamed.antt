@@ -1,0 +1,79 @@
+-- What comes of a file that is turned into OUT once another one was read.
+use Rattle.std.proofs.Common.{◌≡◌, ◌≢◌, ℕ, List, Option, Some, None, Result, Ok, Err, refl, sym, ap, subst, ◌∙◌}
+use Rattle.std.proofs.Common.{inl, inr}
+use Rattle.sd_ports.specs.Files.{Files}
+use Rattle.sd_status.specs.declared.status.Status.{Status}
+use Rattle.sd_status.specs.Outside.{Place, Page, Outside, outside}
+use Rattle.sd_status.specs.Meant.{Meant, Word, Given, IsGiven, IsGot, ◌>>=◌}
+use Rattle.sd_status.specs.Work.{Work}
+use Rattle.sd_status.specs.declared.status.Status.TheVariants.{DepotFault}
+use Rattle.sd_status.specs.Comes.{Obeys, Follows, status_of}
+use Rattle.sd_status.specs.Reads.{Looks}
+use Rattle.sd_files.specs.Turned.{IsClosed, unclosed_status, unclosed_by}
+use Rattle.sd_status.proofs.Moves.{then_obeys}
+use Rattle.sd_status.proofs.Givens.{one_given, two_given}
+use Rattle.sd_status.proofs.Follow.{reads_first, reads_follows}
+
+-- what a command is by what one file gave
+pub got_follows : (meant : Option (List ℕ) → Meant Work) (word : Word) (got : Option (List ℕ)) (a b : Outside)
+    (status : Status) →
+    IsGot a.place.files word.text got → Obeys (meant got) a b status → Follows (λ given. meant (given word)) a b status
+got_follows meant word got a b status is obeys =
+    let g = one_given a.place.files word got is in record {
+      given = g.given;
+      is_given = g.is_given;
+      obeyed = subst (λ (o : Option (List ℕ)). Obeys (meant o) a b status) (sym g.gave) obeys;
+    }
+
+given_got : (files : Option Files) (given : Given) (word : Word) → IsGiven files given →
+    IsGot files word.text (given word)
+given_got None given word is = tt
+given_got (Some files) given word is = ap (λ (g : Given). g word) is
+
+-- a first file that was read, and a command by a second one
+pub then_follows : {X Y : Type 0} (view : X → Y) (first : Option (List ℕ) → Meant Y)
+    (second : Y → Option (List ℕ) → Meant Work)
+    (one two : Word) (p q : Place) (page : Page) (steps : ℕ) (b : Outside) (x : X) (status : Status) →
+    one.number ≢ two.number →
+    Looks view first one.text p q (Ok x) → Follows (λ given. second (view x) (given two)) (outside q page steps) b
+    status →
+    Follows (λ given. first (given one) >>= λ y. second y (given two)) (outside p page steps) b status
+then_follows view first second one two p q page steps b x status apart h f =
+    let got = f.given two in
+    let is_more : IsGot p.files two.text got =
+    subst (λ (files : Option Files). IsGot files two.text got) (ap (λ (z : Place). z.files) h.gives.1)
+    (given_got q.files f.given two f.is_given) in
+    let g = two_given p.files one two h.got got apart h.is_got is_more in record {
+      given = g.given;
+      is_given = g.is_given;
+      obeyed = subst (λ (o : Option (List ℕ)). Obeys (first o >>= λ y. second y (g.given two)) (outside p page steps)
+          b status)
+          (sym g.gave)
+          (subst (λ (o : Option (List ℕ)). Obeys (first h.got >>= λ y. second y o) (outside p page steps) b status)
+          (sym g.gave_more)
+          (then_obeys (first h.got) (view x) (λ y. second y got) p q page steps b status h.gives.0 h.gives.1 f.obeyed));
+    }
+
+-- a first file that was refused, or not read
+pub first_follows : {X Y : Type 0} (view : X → Y) (first : Option (List ℕ) → Meant Y) (next : Given → Y → Meant Work)
+    (one : Word)
+    (p q : Place) (page : Page) (steps : ℕ) (status : Status) → Looks view first one.text p q (Err status) →
+    Follows (λ given. first (given one) >>= next given) (outside p page steps) (outside q page steps) status
+first_follows view first next one p q page steps status h =
+    reads_follows (λ (work : Work). work) (λ given. first (given one) >>= next given) p q page steps status
+    (reads_first view (λ (work : Work). work) first next one p q status h)
+
+unclosed_of : (over : Result (Unit {0}) Status) → status_of over ≡ DepotFault →
+    status_of (unclosed_by over) ≡ DepotFault
+unclosed_of (Ok done) is = refl
+unclosed_of (Err status) is = ap unclosed_status is
+
+-- a device that failed before the ports were closed is told
+pub closed_other : (a b : Place) (out : List ℕ) (held : Option (List ℕ)) (i o : ℕ)
+    (over result : Result (Unit {0}) Status) →
+    IsClosed a b out held i o over result → status_of result ≢ DepotFault → status_of over ≢ DepotFault
+closed_other a b out held i o over result closed other =
+    elim closed.ends [
+      | inl whole ↦ λ is. other (ap status_of whole.0 ∙ is)
+      | inr cut ↦ λ is. other (ap status_of cut.0 ∙ unclosed_of over is)
+    ]

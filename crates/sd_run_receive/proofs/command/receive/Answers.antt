@@ -1,0 +1,31 @@
+use Rattle.std.proofs.lemmas.Result.{err_from_is_err_and}
+use Rattle.sd_receive.specs.Receiving.{card_in}
+use Rattle.sd_status.specs.Outside.{place, outside}
+use Rattle.sd_status.specs.Meant.{all_of, value, ◌>>=◌}
+use Rattle.sd_status.specs.Comes.{status_of}
+use Rattle.sd_run_receive.specs.Receive.{card_of_file, receiving, stream_meaning, receive_meaning}
+use Rattle.sd_files.specs.Shown.{shown_word}
+use Rattle.sd_run_receive.proofs.Streamed.{first_follows, then_follows}
+use Rattle.sd_run_receive.proofs.command.receive.Goals as goal
+
+pub returns-in_err-receiver : goal.returns-in_err-receiver
+unfolding receive_meaning
+returns-in_err-receiver g c page =
+    let p = err_from_is_err_and c.from_residual.result c.from_residual.ensures.1 in
+    let card = shown_word c.args.card in
+    rw (p.1, p.2) (first_follows card_in (card_of_file card.number)
+    (λ given fields. stream_meaning fields (shown_word c.args.stream) (shown_word c.args.out) given) card
+    (place g.D.Depot c.args.depot.now) (place g.D.Depot c.read_receiver.new.depot) page c.args.steps.now
+    c.in_err-receiver.field-0.0 c.in_err-receiver.ensures.value)
+
+pub returns : goal.returns
+unfolding receive_meaning
+returns g c page =
+    let card = shown_word c.args.card in
+    let stream = shown_word c.args.stream in
+    then_follows card_in (card_of_file card.number)
+    (λ fields got. all_of stream.number got >>= λ bytes. value (receiving fields (shown_word c.args.out) bytes)) card
+    stream
+    (place g.D.Depot c.args.depot.now) (place g.D.Depot c.read_receiver.new.depot) page c.args.steps.now
+    (outside (place g.D.Depot c.receive_file.new.depot) page c.receive_file.new.steps) c.in_ok-receiver.receiver
+    (status_of c.receive_file.result) c.requires c.in_ok-receiver.ensures.value (c.receive_file.ensures page)

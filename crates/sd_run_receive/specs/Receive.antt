@@ -1,0 +1,132 @@
+-- `receive CARD STREAM OUT` [this project, docs/FORMATS.md, Receiver].
+use Rattle.std.specs.Prelude.{◌≢◌, ℕ, zero, suc, ◌+◌, ◌*◌, ◌/◌, ◌≤◌, List, [], ◌∷◌, length, take, drop, reverse, Option, Some, None, Result, Ok, Err}
+use Rattle.std.specs.List.{concat}
+use Rattle.sd_engine.specs.Taken.{StreamEnd, Whole, Breaks, RunsOn, taken_of, end_of, IsLeft}
+use Rattle.sd_engine.specs.Driving.{most_packets}
+use Rattle.sd_engine.specs.declared.driver.DriveFault.{DriveFault}
+use Rattle.sd_engine.specs.declared.driver.DriveFault.TheVariants as drive
+use Rattle.sd_secrets.specs.declared.file.TheConstants.{SECRET_BYTES}
+use Rattle.sd_card.specs.declared.format.TheConstants.{SECRETS_AT}
+use Rattle.sd_card.specs.declared.fault.CardFault.{CardFault}
+use Rattle.sd_card.specs.declared.fault.CardFault.TheVariants as card
+use Rattle.sd_card.specs.Faults.{height_in, leaf_in, ca_in, fault_in}
+use Rattle.sd_card.specs.Fields.{CardFields, saying}
+use Rattle.sd_reception.specs.declared.fault.StreamFault.{StreamFault}
+use Rattle.sd_reception.specs.declared.fault.StreamFault.TheVariants as fault
+use Rattle.sd_reception.specs.declared.ending.Ending.{Ending}
+use Rattle.sd_reception.specs.declared.ending.Ending.TheVariants as end
+use Rattle.sd_reception.specs.Offered.{out_from, break_from}
+use Rattle.sd_reception.specs.Ending.{ending_of}
+use Rattle.sd_receive.specs.Receiving.{taken_keys}
+use Rattle.sd_status.specs.declared.status.Status.{Status}
+use Rattle.sd_status.specs.declared.status.Status.TheVariants.{Done, Revoked, DepotFault, BadCard, BadStream, Unheard, Unclosed, Gaps, NoCat, NoMemory}
+use Rattle.sd_status.specs.declared.status.StreamCause.TheVariants.{TooLong, WrongKey, WrongWord, BadEmm, BadEcm, Parity}
+use Rattle.sd_status.specs.declared.status.LimitKind.TheVariants.{CardBytes}
+use Rattle.sd_status.specs.Meant.{Meant, Word, Given, all_of, within, judged, value, ◌>>=◌}
+use Rattle.sd_status.specs.Work.{UpTo, Work}
+use Rattle.sd_run_receive.specs.declared.command.TheConstants.{MOST_CARD_BYTES}
+use Rattle.sd_files.specs.Streams.{told_cause}
+use Rattle.sd_files.specs.Turned.{turning, Wrote}
+
+-- the first n secrets in these bytes
+unfoldable pub secrets_of : ℕ → List ℕ → List (List ℕ)
+secrets_of zero bytes = []
+secrets_of (suc n) bytes = take SECRET_BYTES bytes ∷ secrets_of n (drop SECRET_BYTES bytes)
+
+-- what a card's file says by its fields [this project, docs/FORMATS.md, Card]
+unfoldable pub card_said : List ℕ → CardFields
+card_said bytes =
+    saying (height_in bytes) (leaf_in bytes) (ca_in bytes)
+    (secrets_of (height_in bytes * (height_in bytes + 1) / 2 + 1) (drop SECRETS_AT bytes))
+
+abbrev pub card_unless : Option CardFault → CardFields → Result CardFields Status
+card_unless None card = Ok card
+card_unless (Some fault) card = Err (BadCard fault)
+
+-- the status of bytes that are no card
+abbrev pub refused_card : CardFault → Status
+refused_card card.NoMemory = NoMemory
+refused_card found = BadCard found
+
+-- the card that a file's bytes say
+unfoldable pub told_card : List ℕ → Result CardFields Status
+told_card bytes = card_unless (fault_in bytes) (card_said bytes)
+
+-- the card of what the file of this word gave
+unfoldable pub card_of_file : ℕ → Option (List ℕ) → Meant CardFields
+card_of_file word got = within word MOST_CARD_BYTES CardBytes got >>= λ bytes. judged (told_card bytes)
+
+abbrev pub card_in : Given → Word → Meant CardFields
+card_in given word = card_of_file word.number (given word)
+
+-- the status of a packet that is refused
+abbrev pub refused_status : StreamFault → Status
+refused_status (fault.WrongKey packet period found due) = BadStream packet (WrongKey period found due)
+refused_status (fault.WrongWord packet word found due) = BadStream packet (WrongWord word found due)
+refused_status (fault.BadEmm packet emm) = BadStream packet (BadEmm emm)
+refused_status (fault.BadEcm packet ecm) = BadStream packet (BadEcm ecm)
+refused_status (fault.Parity packet) = BadStream packet Parity
+
+-- the status of how a stream ended for the receiver of this leaf
+abbrev pub ending_status : ℕ → Ending → Status
+ending_status leaf end.Opened = Done
+ending_status leaf (end.Revoked period) = Revoked leaf period
+ending_status leaf (end.Unheard period) = Unheard leaf period
+ending_status leaf end.NoCat = NoCat
+ending_status leaf (end.Unclosed number) = Unclosed number
+ending_status leaf (end.Gaps packets) = Gaps packets
+
+-- how a stream ended for a card after all its packets
+unfoldable pub ended_status : CardFields → List (List ℕ) → Status
+ended_status card packets =
+    ending_status card.leaf (ending_of card (reverse packets) (length (out_from card [] packets)))
+
+-- the status of a stream of which no packet is refused
+abbrev pub status_at : CardFields → List (List ℕ) → StreamEnd → Status
+status_at card packets Whole = ended_status card packets
+status_at card packets (Breaks found) = BadStream found.packet (told_cause found.cause)
+status_at card packets RunsOn = BadStream most_packets TooLong
+
+abbrev pub unless_refused : Option StreamFault → Status → Status
+unless_refused None status = status
+unless_refused (Some fault) status = refused_status fault
+
+-- what the receiver of a card writes of a stream of these bytes, and how it ends
+unfoldable pub received_of : CardFields → List ℕ → List ℕ
+received_of card bytes = concat (out_from card [] (taken_of bytes))
+
+unfoldable pub received_status : CardFields → List ℕ → Status
+received_status card bytes =
+    unless_refused (break_from card [] (taken_of bytes)) (status_at card (taken_of bytes) (end_of bytes))
+
+-- as many steps as the tree is high for each key that is taken
+unfoldable pub received_steps : CardFields → List ℕ → ℕ
+received_steps card bytes = card.height * taken_keys card [] (taken_of bytes)
+
+-- makes OUT of what a card opens of a stream of these bytes
+abbrev pub receiving : CardFields → Word → List ℕ → Work
+receiving card out bytes =
+    turning (UpTo (received_steps card bytes)) out (received_of card bytes) (received_status card bytes)
+
+-- the same once the card is known
+abbrev pub stream_meaning : CardFields → Word → Word → Given → Meant Work
+stream_meaning card stream out given = all_of stream.number (given stream) >>= λ bytes. value (receiving card out bytes)
+
+unfoldable pub receive_meaning : Word → Word → Word → Given → Meant Work
+receive_meaning card stream out given = card_in given card >>= λ fields. stream_meaning fields stream out given
+
+-- the status of a drive that didn't come to the end of its stream
+abbrev pub stopped_status : DriveFault StreamFault → Status
+stopped_status (drive.Broken found) = BadStream found.packet (told_cause found.cause)
+stopped_status drive.TooLong = BadStream most_packets TooLong
+stopped_status drive.ReadFault = DepotFault
+stopped_status drive.WriteFault = DepotFault
+stopped_status (drive.Refused fault) = refused_status fault
+
+-- what a card opens of the stream that was left was written, as far as the two ports went, within its steps
+pub record ReceivesLeft (card : CardFields) (left held now : Option (List ℕ)) (from to : ℕ) (status : Status) : Type 0
+  where
+    pub bytes : List ℕ
+    pub is_left : IsLeft left bytes
+    pub wrote : Wrote (received_of card bytes) (received_status card bytes) held now status
+    pub steps : status ≢ DepotFault → to ≤ from + received_steps card bytes

@@ -1,0 +1,176 @@
+ghost use Rattle.std.specs.Prelude.{◌≡◌, ◌≢◌, [], List, ℕ, IfOk, length, reverse};
+ghost use Rattle.sd_engine.specs.Stage.{vessel};
+ghost use Rattle.sd_engine.specs.Driving.{moment, Drives};
+ghost use Rattle.sd_reception.specs.Offered.{out_from};
+ghost use Rattle.sd_reception.specs.Ending.{ending_of};
+ghost use Rattle.sd_receive.specs.Receiving.{IsAfter, card_in, receiver_does, receiver_ends, receiver_refuses};
+ghost use Rattle.sd_status.specs.Outside.{Page, outside, place};
+ghost use Rattle.sd_status.specs.Reads.{Judges, Looks};
+ghost use Rattle.sd_status.specs.Comes.{Follows, IsEnding, status_of};
+ghost use Rattle.sd_files.specs.Streams.{told_cause};
+ghost use Rattle.sd_files.specs.Turned.{HasPortCause};
+ghost use Rattle.sd_run_receive.specs.Receive.{ReceivesLeft, card_of_file, told_card, receive_meaning, stream_meaning};
+ghost use Rattle.sd_run_receive.specs.Receive.{ending_status, refused_card, refused_status, stopped_status};
+ghost use Rattle.sd_files.specs.Shown.{shown_word};
+
+use sd_card::{Card, CardFault};
+use sd_engine::{DriveFault, MOST_PACKETS, drive};
+use sd_files::{Word, cause_of, close_both, open_both, read_bytes};
+use sd_ports::{Depot, Sink, Source};
+use sd_receive::{Ending, Receiver, StreamFault};
+use sd_status::{LimitKind, Status, StreamCause};
+use sd_steps::Steps;
+use std::alloc::Global;
+use std::sync::ledger::Ledger;
+
+/// As many bytes as a card's file may have.
+pub const MOST_CARD_BYTES: usize = 8_192;
+
+/// Does `receive CARD STREAM OUT`: the stream goes through the receiver of the card into OUT.
+pub fn receive<D: Depot, L: Ledger>(
+    alloc: Global,
+    depot: &mut D,
+    card: Word<'_>,
+    stream: Word<'_>,
+    out: Word<'_>,
+    steps: &mut Steps<L>,
+) -> Result<(), Status>
+    requires { card.number ≢ stream.number }
+    ensures { (page : Page) →
+        Follows (receive_meaning (shown_word card.entry) (shown_word stream.entry) (shown_word out.entry))
+        (outside (place D.Depot depot.old) page steps.old) (outside (place D.Depot depot.new) page steps.new)
+        (status_of result) }
+{
+    let receiver = read_receiver(alloc, depot, card)?;
+    receive_file(alloc, depot, receiver, stream, out, steps)
+}
+
+/// The receiver of the card in the word's file, before the first packet. It takes all memory that it ever does.
+fn read_receiver<D: Depot>(alloc: Global, depot: &mut D, word: Word<'_>) -> Result<Receiver, Status>
+    ensures value { Looks card_in (card_of_file word.entry.number) word.entry.text.now
+        (place D.Depot depot.old) (place D.Depot depot.new) result }
+    ensures new { IfOk result (IsAfter []) }
+{
+    let bytes = read_bytes(alloc, depot, word, MOST_CARD_BYTES, LimitKind::CardBytes)?;
+    judge_card(alloc, &bytes)
+}
+
+/// The receiver of the card that a file's bytes say.
+fn judge_card(alloc: Global, bytes: &[u8]) -> Result<Receiver, Status>
+    ensures value { Judges card_in (told_card bytes.now) result }
+    ensures new { IfOk result (IsAfter []) }
+{
+    match Card::read(alloc, bytes) {
+        Ok(card) => Ok(Receiver::new(alloc, card)?),
+        Err(fault) => Err(card_status(fault)),
+    }
+}
+
+/// What is answered to bytes that are no card, or where memory is wanting.
+fn card_status(fault: CardFault) -> Status
+    ensures { result ≡ refused_card fault }
+{
+    match fault {
+        CardFault::NoMemory => Status::NoMemory,
+        _ => Status::BadCard(fault),
+    }
+}
+
+/// Turns the file of a stream into OUT, through the receiver.
+fn receive_file<D: Depot, L: Ledger>(
+    alloc: Global,
+    depot: &mut D,
+    receiver: Receiver,
+    stream: Word<'_>,
+    out: Word<'_>,
+    steps: &mut Steps<L>,
+) -> Result<(), Status>
+    requires new { IsAfter [] receiver }
+    ensures { (page : Page) →
+        Follows (stream_meaning (card_in receiver) (shown_word stream.entry) (shown_word out.entry))
+        (outside (place D.Depot depot.old) page steps.old) (outside (place D.Depot depot.new) page steps.new)
+        (status_of result) }
+{
+    let (mut inlet, mut outlet) = open_both(alloc, depot, stream, out)?;
+    let ended = receive_all(&mut inlet, &mut outlet, receiver, steps);
+    close_both(depot, inlet, outlet, out, ended)
+}
+
+/// Writes what the receiver opens of the stream that is left of a source, and answers how the stream ended.
+fn receive_all<S: Source, K: Sink, L: Ledger>(
+    source: &mut S,
+    sink: &mut K,
+    mut receiver: Receiver,
+    steps: &mut Steps<L>,
+) -> Result<(), Status>
+    requires new { IsAfter [] receiver }
+    ensures value { ReceivesLeft (card_in receiver) (S.left source.old) (K.held sink.old) (K.held sink.new)
+        steps.old steps.new (status_of result) }
+    ensures cause { HasPortCause (S.faults source.old) (S.faults source.new) (K.faults sink.old) (K.faults sink.new)
+        (status_of result) }
+{
+    match drive(source, sink, &mut receiver, steps) {
+        Ok(_) => ended(&receiver),
+        Err(fault) => Err(stopped(fault)),
+    }
+}
+
+/// What is answered where the stream came to its end.
+fn ended(receiver: &Receiver) -> Result<(), Status>
+    ensures ending { IsEnding (status_of result) }
+    ensures value { (past : List (List ℕ)) → IsAfter past receiver.now → status_of result
+        ≡ ending_status receiver.now.card.leaf (ending_of (card_in receiver.now) past
+        (length (out_from (card_in receiver.now) [] (reverse past)))) }
+{
+    let leaf = receiver.leaf().get();
+    match receiver.ending() {
+        Ending::Opened => Ok(()),
+        Ending::Revoked(period) => Err(Status::Revoked { leaf, period }),
+        Ending::Unheard(period) => Err(Status::Unheard { leaf, period }),
+        Ending::NoCat => Err(Status::NoCat),
+        Ending::Unclosed(number) => Err(Status::Unclosed(number)),
+        Ending::Gaps(packets) => Err(Status::Gaps(packets)),
+    }
+}
+
+/// What is answered where it didn't.
+fn stopped(fault: DriveFault<StreamFault>) -> Status
+    ensures { result ≡ stopped_status fault }
+{
+    match fault {
+        DriveFault::Broken(found) => Status::BadStream {
+            packet: found.packet,
+            cause: cause_of(found.cause),
+        },
+        DriveFault::TooLong => Status::BadStream {
+            packet: MOST_PACKETS,
+            cause: StreamCause::TooLong,
+        },
+        DriveFault::ReadFault | DriveFault::WriteFault => Status::DepotFault,
+        DriveFault::Refused(fault) => refused(fault),
+    }
+}
+
+/// What is answered to a packet that is refused.
+fn refused(fault: StreamFault) -> Status
+    ensures { result ≡ refused_status fault }
+{
+    let (packet, cause) = match fault {
+        StreamFault::WrongKey {
+            packet,
+            period,
+            found,
+            due,
+        } => (packet, StreamCause::WrongKey { period, found, due }),
+        StreamFault::WrongWord {
+            packet,
+            word,
+            found,
+            due,
+        } => (packet, StreamCause::WrongWord { word, found, due }),
+        StreamFault::BadEmm(packet, fault) => (packet, StreamCause::BadEmm(fault)),
+        StreamFault::BadEcm(packet, fault) => (packet, StreamCause::BadEcm(fault)),
+        StreamFault::Parity(packet) => (packet, StreamCause::Parity),
+    };
+    Status::BadStream { packet, cause }
+}

@@ -1,0 +1,69 @@
+ghost use Rattle.std.specs.Prelude.{◌≡◌, ◌≤◌, ℕ};
+ghost use Rattle.sd_ports.specs.Causes.{CountsCalls, HasFileCause};
+ghost use Rattle.sd_ports.specs.Files.{WritesFile};
+ghost use Rattle.sd_sample.specs.Sample.{sample_of};
+ghost use Rattle.sd_status.specs.Outside.{Page, outside, place};
+ghost use Rattle.sd_status.specs.Comes.{Follows, status_of};
+ghost use Rattle.sd_run_sample.specs.Sample.{sample_meaning};
+ghost use Rattle.sd_files.specs.Shown.{shown_word};
+
+use sd_files::{Word, told};
+use sd_ports::{Depot, DepotFault, FileFault};
+use sd_status::Status;
+use std::alloc::Global;
+
+/// As many packets as a sample stream may have.
+pub const MOST_PACKETS: u32 = 1_000_000;
+
+/// Does `sample NUMBER PACKETS OUT`.
+pub fn sample<D: Depot>(
+    alloc: Global,
+    depot: &mut D,
+    number: u32,
+    packets: u32,
+    out: Word<'_>,
+) -> Result<(), Status>
+    requires { packets ≤ MOST_PACKETS }
+    ensures { (page : Page) (steps : ℕ) → Follows (sample_meaning number packets (shown_word out.entry))
+        (outside (place D.Depot depot.old) page steps) (outside (place D.Depot depot.new) page steps)
+        (status_of result) }
+{
+    told(
+        out.number,
+        write_sample(alloc, depot, out.text, number, packets),
+    )
+}
+
+/// Makes a file, writes the stream to it and closes it, and only then answers.
+#[tactic(auto, using(sd_ports::proofs::Outlets::there_after, sd_ports::proofs::Calls::twice_called, sd_ports::proofs::Calls::open_as_before))]
+fn write_sample<D: Depot>(
+    alloc: Global,
+    depot: &mut D,
+    name: &str,
+    number: u32,
+    packets: u32,
+) -> Result<(), FileFault>
+    requires { packets ≤ MOST_PACKETS }
+    ensures file { WritesFile (D.files depot.old) (D.files depot.new) (D.made depot.old) (D.made depot.new)
+        name.now (sample_of number packets) result }
+    ensures cause { HasFileCause
+        (D.faults depot.old) (D.faults depot.new) (D.misses depot.old) (D.misses depot.new) result }
+    ensures ports { D.opened depot.new ≡ D.opened depot.old }
+    ensures calls { CountsCalls (D.calls depot.old) (D.calls depot.new) result }
+{
+    let mut port = match depot.create_out(alloc, name) {
+        Ok(port) => port,
+        Err(DepotFault::Missing) => return Err(FileFault::Missing),
+        Err(DepotFault::Failed) => return Err(FileFault::Failed),
+        Err(DepotFault::NoMemory) => return Err(FileFault::NoMemory),
+    };
+    let written = sd_sample::sample(number, packets, &mut port);
+    let closed = depot.close_out(name, port);
+    match written {
+        Ok(()) => match closed {
+            Ok(()) => Ok(()),
+            Err(_) => Err(FileFault::Failed),
+        },
+        Err(_) => Err(FileFault::Failed),
+    }
+}

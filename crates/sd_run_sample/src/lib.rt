@@ -1,0 +1,6 @@
+//! `sample NUMBER PACKETS OUT`: a clear stream from a number.
+#![tactic(auto)]
+
+mod command;
+
+pub use command::{MOST_PACKETS, sample};

@@ -1,0 +1,53 @@
+-- `tables STREAM` [this project, docs/FORMATS.md, Inspector].
+use Rattle.std.specs.Prelude.{ℕ, List, [], ◌∷◌, length, false, Option, None, Result, Ok, Err}
+use Rattle.std.specs.List.{flat_map}
+use Rattle.sd_cause.specs.declared.memory.NoMemory.{NoMemory as OutOfMemory}
+use Rattle.sd_packet.specs.Header.{pid_of}
+use Rattle.sd_engine.specs.Driving.{most_packets}
+use Rattle.sd_engine.specs.Taken.{taken_of, end_of, IsLeft}
+use Rattle.sd_engine.specs.declared.driver.DriveFault.{DriveFault}
+use Rattle.sd_engine.specs.declared.driver.DriveFault.TheVariants as drive
+use Rattle.sd_lines.specs.Lines.{line_of}
+use Rattle.sd_tables.specs.Inspected.{sections_at}
+use Rattle.sd_status.specs.declared.status.Status.{Status}
+use Rattle.sd_status.specs.declared.status.Status.TheVariants.{Done, BadStream, DepotFault, PrintFault, NoMemory}
+use Rattle.sd_status.specs.declared.status.StreamCause.TheVariants.{TooLong}
+use Rattle.sd_status.specs.Outside.{Page}
+use Rattle.sd_status.specs.Meant.{Meant, Word, Given, all_of, value, ◌>>=◌}
+use Rattle.sd_status.specs.Work.{NoSteps, Work}
+use Rattle.sd_status.specs.Prints.{PrintsReading}
+use Rattle.sd_files.specs.Streams.{told_cause, stream_status}
+
+-- the lines of each packet in turn, where these came before them, of which the last comes first
+abbrev pub packet_lines : List (List ℕ) → List (List ℕ) → List (List ℕ)
+packet_lines before [] = []
+packet_lines before (packet ∷ packets) =
+    flat_map (line_of (length before) (pid_of packet)) (sections_at packet before) ∷ packet_lines (packet ∷ before) packets
+
+-- prints the lines of the tables in a stream of these bytes
+abbrev pub inspecting : List ℕ → Work
+inspecting bytes = record {
+  out = None;
+  pieces = packet_lines [] (taken_of bytes);
+  ends = stream_status (end_of bytes);
+  breaks = false;
+  steps = NoSteps;
+}
+
+unfoldable pub tables_meaning : Word → Given → Meant Work
+tables_meaning stream given = all_of stream.number (given stream) >>= λ bytes. value (inspecting bytes)
+
+-- the status of a stream that was driven
+abbrev pub drive_status : Result ℕ (DriveFault OutOfMemory) → Status
+drive_status (Ok count) = Done
+drive_status (Err (drive.Broken found)) = BadStream found.packet (told_cause found.cause)
+drive_status (Err drive.TooLong) = BadStream most_packets TooLong
+drive_status (Err drive.ReadFault) = DepotFault
+drive_status (Err drive.WriteFault) = PrintFault
+drive_status (Err (drive.Refused fault)) = NoMemory
+
+-- the lines of the stream that was left were printed, as far as its source and print went
+pub record InspectsLeft (left : Option (List ℕ)) (a b : Page) (status : Status) : Type 0 where
+  pub bytes : List ℕ
+  pub is_left : IsLeft left bytes
+  pub prints : PrintsReading (inspecting bytes) a b status

@@ -1,0 +1,95 @@
+ghost use Rattle.std.specs.Prelude.{◌≡◌, ◌<◌, ℕ, IsErrOf};
+ghost use Rattle.sd_cause.specs.Count.{IsCaused};
+ghost use Rattle.sd_cause.specs.declared.memory.NoMemory.{NoMemory};
+ghost use Rattle.sd_engine.specs.Stage.{vessel};
+ghost use Rattle.sd_engine.specs.Driving.{moment, Drives};
+ghost use Rattle.sd_status.specs.Outside.{outside, page, place};
+ghost use Rattle.sd_status.specs.Comes.{Follows, status_of};
+ghost use Rattle.sd_run_tables.specs.Tables.{InspectsLeft, drive_status, tables_meaning};
+ghost use Rattle.sd_files.specs.Streams.{told_cause};
+ghost use Rattle.sd_files.specs.Shown.{shown_word};
+
+use sd_cause::NoMemory;
+use sd_engine::{BreakCause, DriveFault, MOST_PACKETS, drive};
+use sd_files::{Word, cause_of};
+use sd_ports::{Depot, DepotFault, Sink, Source};
+use sd_status::{Status, StreamCause};
+use sd_steps::Steps;
+use sd_tables::Inspector;
+use std::alloc::Global;
+use std::marker::Brand;
+use std::sync::ledger::{Blank, Ledger};
+
+/// Does `tables STREAM`: the stream is read and its lines are printed in turn.
+pub fn tables<D: Depot, P: Sink>(
+    alloc: Global,
+    depot: &mut D,
+    print: &mut P,
+    stream: Word<'_>,
+) -> Result<(), Status>
+    ensures { (steps : ℕ) → Follows (tables_meaning (shown_word stream.entry))
+        (outside (place D.Depot depot.old) (page P.Sink print.old) steps)
+        (outside (place D.Depot depot.new) (page P.Sink print.new) steps) (status_of result) }
+{
+    let mut port = match depot.open_in(alloc, stream.text) {
+        Ok(port) => port,
+        Err(DepotFault::Missing) => return Err(Status::Missing(stream.number)),
+        Err(DepotFault::Failed) => return Err(Status::DepotFault),
+        Err(DepotFault::NoMemory) => return Err(Status::NoMemory),
+    };
+    let printed = print_tables(alloc, &mut port, print);
+    depot.close_in(port);
+    printed
+}
+
+/// Prints the lines of the tables in the stream that is left of a source. It counts no steps.
+fn print_tables<S: Source, P: Sink>(
+    alloc: Global,
+    source: &mut S,
+    print: &mut P,
+) -> Result<(), Status>
+    ensures value { InspectsLeft (S.left source.old) (page P.Sink print.old) (page P.Sink print.new)
+        (status_of result) }
+    ensures cause { IsCaused (S.faults source.old) (S.faults source.new) (status_of result ≡ Status.DepotFault) }
+{
+    inspect::<Brand, S, P>(alloc, source, print, Blank::new(1))
+}
+
+/// So it does with a counter over a new ledger.
+fn inspect<L: Ledger, S: Source, P: Sink>(
+    alloc: Global,
+    source: &mut S,
+    print: &mut P,
+    blank: Blank,
+) -> Result<(), Status>
+    requires name { blank.name ≡ L.name }
+    requires parts { blank.parts ≡ L.parts }
+    requires some { 0 < blank.parts }
+    ensures value { InspectsLeft (S.left source.old) (page P.Sink print.old) (page P.Sink print.new)
+        (status_of result) }
+    ensures cause { IsCaused (S.faults source.old) (S.faults source.new) (status_of result ≡ Status.DepotFault) }
+{
+    let mut inspector = Inspector::new(alloc)?;
+    let mut steps = Steps::<L>::new(blank);
+    told(drive(source, print, &mut inspector, &mut steps))
+}
+
+/// What is answered once the stream was driven.
+fn told(driven: Result<u64, DriveFault<NoMemory>>) -> Result<(), Status>
+    ensures { status_of result ≡ drive_status driven }
+{
+    match driven {
+        Ok(_) => Ok(()),
+        Err(DriveFault::Broken(found)) => Err(Status::BadStream {
+            packet: found.packet,
+            cause: cause_of(found.cause),
+        }),
+        Err(DriveFault::TooLong) => Err(Status::BadStream {
+            packet: MOST_PACKETS,
+            cause: StreamCause::TooLong,
+        }),
+        Err(DriveFault::ReadFault) => Err(Status::DepotFault),
+        Err(DriveFault::WriteFault) => Err(Status::PrintFault),
+        Err(DriveFault::Refused(NoMemory)) => Err(Status::NoMemory),
+    }
+}

@@ -1,0 +1,6 @@
+//! `tables STREAM`: the tables of a stream, a line each.
+#![tactic(auto)]
+
+mod command;
+
+pub use command::tables;

@@ -1,0 +1,44 @@
+-- What an order that was read is, and when its words are refused.
+use Rattle.std.specs.Prelude.{◌≡◌, ◌≢◌, ◌≤◌, ◌⊎◌, ℕ, Result, Ok, Err}
+use Rattle.sd_run_sample.specs.declared.command.TheConstants.{MOST_PACKETS}
+use Rattle.sd_status.specs.declared.status.Status.{Status}
+use Rattle.sd_status.specs.declared.status.Status.TheVariants.{Usage, BadWord}
+use Rattle.sd_files.specs.Shown.{shown_word, shown_number}
+use Rattle.sd_files.specs.declared.word.Word.{Word}
+use Rattle.sd_words.specs.declared.order.Order.{Order}
+use Rattle.sd_words.specs.declared.order.Order.TheVariants.{Cover, Card, Sample, Tables, Head, Receive}
+use Rattle.sd_words.specs.Words as words
+
+-- the order as the words say it
+abbrev pub told : Order → words.Order
+told (Cover site book) = words.CoverOf (shown_word site) (shown_word book)
+told (Card site leaf out) = words.CardOf (shown_word site) (shown_number leaf) (shown_word out)
+told (Sample number packets out) = words.SampleOf number packets (shown_word out)
+told (Tables stream) = words.TablesOf (shown_word stream)
+told (Head site book clear out) = words.HeadOf (shown_word site) (shown_word book) (shown_word clear) (shown_word out)
+told (Receive card stream out) = words.ReceiveOf (shown_word card) (shown_word stream) (shown_word out)
+
+-- the same of an answer
+abbrev pub shown : Result Order Status → Result words.Order Status
+shown (Ok order) = Ok (told order)
+shown (Err status) = Err status
+
+-- words of two files or of three have numbers of their own
+abbrev pub AreTwo : Word → Word → Type 0
+AreTwo a b = a.number ≢ b.number
+
+abbrev pub AreThree : Word → Word → Word → Type 0
+AreThree a b c = AreTwo a b × AreTwo a c × AreTwo b c
+
+-- the words of the files that are read have numbers of their own, and a sample stream's packets are within their limit
+abbrev pub IsSound : Order → Type 0
+IsSound (Cover site book) = AreTwo site book
+IsSound (Card site leaf out) = Unit {0}
+IsSound (Sample number packets out) = packets ≤ MOST_PACKETS
+IsSound (Tables stream) = Unit {0}
+IsSound (Head site book clear out) = AreThree site book clear
+IsSound (Receive card stream out) = AreTwo card stream
+
+-- the two refusals of words
+abbrev pub RefusesWords : Status → Type 0
+RefusesWords status = (status ≡ Usage) ⊎ ((word : ℕ) × (status ≡ BadWord word))

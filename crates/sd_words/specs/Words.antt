@@ -1,0 +1,81 @@
+-- What the words after the program's name say [this project, docs/FORMATS.md, Commands].
+use Rattle.std.specs.Prelude.{ℕ, ◌-◌, ◌^◌, nat_lt, List, [], ◌∷◌, codes, bytes_eq, ◌||◌, if◌then◌else◌, Option, Some, None, Result, Ok, Err}
+use Rattle.sd_text.specs.Number.{number_of}
+use Rattle.sd_run_sample.specs.declared.command.TheConstants.{MOST_PACKETS}
+use Rattle.sd_status.specs.Meant.{Word}
+use Rattle.sd_files.specs.Shown.{Number, word_at}
+use Rattle.sd_status.specs.declared.status.Status.{Status}
+use Rattle.sd_status.specs.declared.status.Status.TheVariants.{Usage, BadWord}
+
+-- a command and what its words say
+pub data Order : Type 0 where
+  CoverOf : (site book : Word) → Order
+  CardOf : (site : Word) (leaf : Number) (out : Word) → Order
+  SampleOf : (number packets : ℕ) (out : Word) → Order
+  TablesOf : (stream : Word) → Order
+  HeadOf : (site book clear out : Word) → Order
+  ReceiveOf : (card stream out : Word) → Order
+
+-- what is done with a number, where there is one
+abbrev pub with_number : {A : Type 0} → Result ℕ Status → (ℕ → Result A Status) → Result A Status
+with_number (Ok n) next = next n
+with_number (Err status) next = Err status
+
+abbrev pub at_most : ℕ → ℕ → Option ℕ → Result ℕ Status
+at_most word most None = Err (BadWord word)
+at_most word most (Some n) = if nat_lt most n then Err (BadWord word) else Ok n
+
+-- the number of a word, which is to be a decimal and at most so large
+abbrev pub number_in : ℕ → ℕ → List ℕ → Result ℕ Status
+number_in word most text = at_most word most (number_of text)
+
+-- `card SITE LEAF OUT`, where the two files are to differ; LEAF is a number of 32 bits before the site is known
+unfoldable pub card_words : List ℕ → List ℕ → List ℕ → Result Order Status
+card_words site leaf out =
+    if bytes_eq site out then Err Usage
+    else with_number (number_in 2 (2 ^ 32 - 1) leaf) (λ u.
+    Ok (CardOf (word_at 1 site) (record { word = 2; value = u }) (word_at 3 out)))
+
+-- `sample NUMBER PACKETS OUT`
+unfoldable pub sample_words : List ℕ → List ℕ → List ℕ → Result Order Status
+sample_words number packets out =
+    with_number (number_in 1 (2 ^ 32 - 1) number) (λ n.
+    with_number (number_in 2 MOST_PACKETS packets) (λ k. Ok (SampleOf n k (word_at 3 out))))
+
+-- `head SITE BOOK CLEAR OUT`, where OUT is to differ from the other files
+unfoldable pub head_words : List ℕ → List ℕ → List ℕ → List ℕ → Result Order Status
+head_words site book clear out =
+    if bytes_eq site out || (bytes_eq book out || bytes_eq clear out) then Err Usage
+    else Ok (HeadOf (word_at 1 site) (word_at 2 book) (word_at 3 clear) (word_at 4 out))
+
+-- `receive CARD STREAM OUT`, where OUT is to differ from the two files that are read
+unfoldable pub receive_words : List ℕ → List ℕ → List ℕ → Result Order Status
+receive_words card stream out =
+    if bytes_eq card out || bytes_eq stream out then Err Usage
+    else Ok (ReceiveOf (word_at 1 card) (word_at 2 stream) (word_at 3 out))
+
+-- a command of three words
+unfoldable pub three_words : List ℕ → List ℕ → List ℕ → List ℕ → Result Order Status
+three_words command a b c =
+    if bytes_eq command (codes "card") then card_words a b c
+    else if bytes_eq command (codes "sample") then sample_words a b c
+    else if bytes_eq command (codes "receive") then receive_words a b c
+    else Err Usage
+
+-- a command of four words
+unfoldable pub four_words : List ℕ → List ℕ → List ℕ → List ℕ → List ℕ → Result Order Status
+four_words command a b c e =
+    if bytes_eq command (codes "head") then head_words a b c e
+    else Err Usage
+
+-- Whether the words are a command with as many words as it takes comes first, and then the numbers.
+abbrev pub order_of : List (List ℕ) → Result Order Status
+order_of [] = Err Usage
+order_of (command ∷ []) = Err Usage
+order_of (command ∷ a ∷ []) =
+    if bytes_eq command (codes "tables") then Ok (TablesOf (word_at 1 a)) else Err Usage
+order_of (command ∷ a ∷ b ∷ []) =
+    if bytes_eq command (codes "cover") then Ok (CoverOf (word_at 1 a) (word_at 2 b)) else Err Usage
+order_of (command ∷ a ∷ b ∷ c ∷ []) = three_words command a b c
+order_of (command ∷ a ∷ b ∷ c ∷ e ∷ []) = four_words command a b c e
+order_of (command ∷ a ∷ b ∷ c ∷ e ∷ f ∷ words) = Err Usage
