@@ -8,7 +8,7 @@ ghost use Rattle.sd_tables.specs.Watching.{naming, IsLearned, IsPlace, AreIdle, 
 
 use crate::watched::{PIDS, Watched};
 use sd_cause::NoMemory;
-use sd_lines::push_line;
+use sd_lines::{push_line, table_on};
 use sd_packet::Packet;
 use sd_section::Assembler;
 use std::alloc::Global;
@@ -103,8 +103,9 @@ fn show(
     ensures lent { OnOk result (assembler.new ≡ all_lent assembler.old) }
 {
     while let Some(section) = assembler.next() {
-        push_line(alloc, text, number, pid, section)?;
-        watched.learn(pid, section);
+        let table = table_on(pid, section);
+        push_line(alloc, text, number, pid, &table)?;
+        watched.learn(&table);
     }
     Ok(())
 }
