@@ -1,5 +1,7 @@
 -- The PIDs that sections name.
-use Rattle.std.proofs.Common.{ℕ, ◌<◌, ◌≡◌, ◌≢◌, Bool, true, false, ◌==◌, ◌&&◌, ◌||◌, List, [], ◌∷◌, ◌++◌, length, get_or, set, replicate, cond, length-set, refl, sym, ap, subst, ◌∙◌, append-nil, inl, inr, arith}
+use Rattle.std.proofs.Common.{ℕ, ◌<◌, ◌≡◌, ◌≢◌, Bool, true, false, ◌==◌, ◌&&◌, ◌||◌, List, [], ◌∷◌, ◌++◌, length}
+use Rattle.std.proofs.Common.{get_or, set, replicate, cond, length-set, refl, sym, ap, subst, ◌∙◌, append-nil, inl, inr}
+use Rattle.std.proofs.Common.{arith}
 use Rattle.std.specs.Prelude.{Option, Some, None, is_none, Result, Ok, Err}
 use Rattle.std.specs.List.{list_any}
 use Rattle.std.proofs.lemmas.Bool.{eq-eqb, ne_eqb, cases_eq}
@@ -55,7 +57,10 @@ pub record AreAdding (all left : List ℕ) (old marks : List Bool) : Type 0 wher
 
 pub none_added : (all left : List ℕ) (marks : List Bool) → left ≡ all → AreAdding all left marks marks
 none_added all left marks is =
-    record { at = λ pid h. ap (λ (pids : List ℕ). get_or marks pid false || list_any (λ (named : ℕ). named == pid) pids) is }
+    record {
+      at = λ pid h. ap (λ (pids : List ℕ). get_or marks pid false || list_any (λ (named : ℕ). named == pid) pids)
+          is;
+    }
 
 pub one_added : (all left rest : List ℕ) (pid : ℕ) (old marks : List Bool) → left ≡ pid ∷ rest → pid < length marks →
     AreAdding all left old marks → AreAdding all rest old (set marks pid true)
@@ -67,7 +72,8 @@ one_added all left rest pid old marks first room adding = record {
       ∙ adding.at q h));
 }
 
-pub all_added : (all left : List ℕ) (old marks : List Bool) → left ≡ [] → AreAdding all left old marks → AreAdded all old marks
+pub all_added : (all left : List ℕ) (old marks : List Bool) → left ≡ [] → AreAdding all left old marks →
+    AreAdded all old marks
 all_added all left old marks none adding = record {
   at = λ q h.
       sym (or_false (get_or marks q false))
@@ -80,7 +86,8 @@ none_named : (section : List ℕ) (pid : ℕ) → pids_named_by section ≡ [] �
 unfolding is_named
 none_named section pid none = ap (λ (maps : List ℕ). list_any (λ (named : ℕ). named == pid) (maps ++ [])) none
 
-none_learned : (section : List ℕ) (marks : List Bool) → pids_named_by section ≡ [] → IsLearned (section ∷ []) marks marks
+none_learned : (section : List ℕ) (marks : List Bool) → pids_named_by section ≡ [] → IsLearned (section ∷ []) marks
+    marks
 none_learned section marks none = record {
   at = λ pid h. or_stay (get_or marks pid false) (is_named pid (section ∷ [])) _ (none_named section pid none) refl;
 }
@@ -117,7 +124,8 @@ no_pat : (sound pat : Bool) (maps : List ℕ) → pat ≡ false → cond (sound 
 no_pat true pat maps h = ap (λ (b : Bool). cond b maps []) h
 no_pat false pat maps h = refl
 
-a_pat : (o : Option SectionFault) (pat : Bool) (maps : List ℕ) → o ≡ None → pat ≡ true → cond (is_none o && pat) maps [] ≡ maps
+a_pat : (o : Option SectionFault) (pat : Bool) (maps : List ℕ) → o ≡ None → pat ≡ true → cond (is_none o && pat) maps []
+    ≡ maps
 a_pat None pat maps is h = ap (λ (b : Bool). cond b maps []) h
 a_pat (Some f) pat maps is h = absurd (cc)
 
@@ -205,7 +213,8 @@ or_turned true b = refl
 or_turned false b = sym (or_false b)
 
 -- before the first packet PID 0 and PID 1 are watched
-pub first_marked : (marks : List Bool) → length marks ≡ 8192 → marks ≡ replicate 8192 false → AreMarked [] (set (set marks 0 true) 1 true)
+pub first_marked : (marks : List Bool) → length marks ≡ 8192 → marks ≡ replicate 8192 false →
+    AreMarked [] (set (set marks 0 true) 1 true)
 unfolding is_watched named_in
 first_marked marks long is = record {
   at = λ pid h.
