@@ -73,7 +73,8 @@ grew_none P u i says = record {
 -- what stands after each step stands after the chain, and its bytes are those of all steps
 pub chain_writes : {S : Type 0} (does : S → List ℕ → S → List ℕ → ℕ → Type 0) (After : List (List ℕ) → S → Type 0)
     (wrote : List (List ℕ) → List ℕ → List ℕ)
-    → ((before : List (List ℕ)) (s : S) (p : List ℕ) (t : S) (bytes : List ℕ) (n : ℕ) → After before s → does s p t bytes n →
+    → ((before : List (List ℕ)) (s : S) (p : List ℕ) (t : S) (bytes : List ℕ) (n : ℕ) → After before s →
+    does s p t bytes n →
     (bytes ≡ wrote before p) × After (before ++ p ∷ []) t)
     → (before : List (List ℕ)) (s : S) (ps : List (List ℕ)) (t : S) (bytes : List ℕ) (n : ℕ) → After before s →
     Chain does s ps t bytes n → (bytes ≡ all_from wrote before ps) × After (before ++ ps) t
@@ -89,7 +90,8 @@ chain_writes does After wrote step before s (p ∷ ps) t bytes n a (mid, first, 
 -- and its steps are at most those of all steps
 pub chain_steps : {S : Type 0} (does : S → List ℕ → S → List ℕ → ℕ → Type 0) (After : List (List ℕ) → S → Type 0)
     (takes : List (List ℕ) → List ℕ → ℕ)
-    → ((before : List (List ℕ)) (s : S) (p : List ℕ) (t : S) (bytes : List ℕ) (n : ℕ) → After before s → does s p t bytes n →
+    → ((before : List (List ℕ)) (s : S) (p : List ℕ) (t : S) (bytes : List ℕ) (n : ℕ) → After before s →
+    does s p t bytes n →
     (n ≤ takes before p) × After (before ++ p ∷ []) t)
     → (before : List (List ℕ)) (s : S) (ps : List (List ℕ)) (t : S) (bytes : List ℕ) (n : ℕ) → After before s →
     Chain does s ps t bytes n → n ≤ all_steps takes before ps

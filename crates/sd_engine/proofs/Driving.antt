@@ -21,7 +21,8 @@ use Rattle.sd_engine.specs.declared.stage.StageFault.{StageFault}
 use Rattle.sd_engine.specs.declared.stage.StageFault.TheVariants.{Write, Refused as StageRefused}
 use Rattle.sd_engine.specs.declared.driver.DriveFault.{DriveFault}
 use Rattle.sd_engine.specs.declared.driver.DriveFault.TheVariants.{Broken, TooLong, ReadFault, WriteFault, Refused}
-use Rattle.sd_engine.specs.Driving.{Drives, IsClosed, stopped_by, broken_by, overrun_by, IsRefused, Refuses, IsCutOff, IsAllowedAt, IsTooLong, most_packets}
+use Rattle.sd_engine.specs.Driving.{Drives, IsClosed, stopped_by, broken_by, overrun_by, IsRefused, Refuses, IsCutOff}
+use Rattle.sd_engine.specs.Driving.{IsAllowedAt, IsTooLong, most_packets}
 use Rattle.sd_engine.proofs.Walking.{all_counted, all_taken, none_broken, torn_here, no_sync_here}
 use Rattle.sd_engine.proofs.Fronts.{packets_first, break_first, packets_on, pieces_on}
 use Rattle.sd_engine.proofs.Chains.{chain_on, grew_on, grew_none}
@@ -47,7 +48,8 @@ reads_on a b c taken old new before reads =
 
 -- one packet more
 pub one_more : {S : Type 0} (does : S → List ℕ → S → List ℕ → ℕ → Type 0) (a : Moment S)
-    (left left' : Option (List ℕ)) (sink sink' : Vessel) (stage stage' : S) (steps steps' count : ℕ) (old new packet : List ℕ)
+    (left left' : Option (List ℕ)) (sink sink' : Vessel) (stage stage' : S) (steps steps' count : ℕ)
+    (old new packet : List ℕ)
     → IsUnderWay does a (moment left sink stage steps) count old → GivesPacket left left' old new packet
     → Grew sink sink' steps steps' (does stage packet stage')
     → IsUnderWay does a (moment left' sink' stage' steps') (count + 1) new
@@ -59,7 +61,8 @@ one_more does a left left' sink sink' stage stage' steps steps' count old new pa
       read = subst (Consumes a.left left') (sym (append_assoc way.taken packet new))
           (reads_on a.left left left' way.taken old (packet ++ new) way.read gives.read);
       passed = subst (λ (ps : List (List ℕ)). Grew a.sink sink' a.steps steps' (Chain does a.stage ps stage'))
-          (sym (ap (λ (n : ℕ). pieces n (way.taken ++ packet)) more ∙ pieces_on count way.taken packet way.packets gives.long))
+          (sym (ap (λ (n : ℕ). pieces n (way.taken ++ packet)) more ∙ pieces_on count way.taken packet way.packets
+          gives.long))
           (grew_on (Chain does a.stage (pieces count way.taken) stage) (does stage packet stage')
           (Chain does a.stage (pieces count way.taken ++ packet ∷ []) stage') a.sink sink sink' a.steps steps steps'
           (λ x y n m first last. chain_on does a.stage (pieces count way.taken) stage x n packet stage' y m first last)
@@ -67,7 +70,8 @@ one_more does a left left' sink sink' stage stage' steps steps' count old new pa
     }
 
 -- the end of a whole stream
-pub all_driven : {S : Type 0} (does : S → List ℕ → S → List ℕ → ℕ → Type 0) (ends : S → S → List ℕ → ℕ → Type 0) (a : Moment S)
+pub all_driven : {S : Type 0} (does : S → List ℕ → S → List ℕ → ℕ → Type 0) (ends : S → S → List ℕ → ℕ → Type 0)
+    (a : Moment S)
     (left left' : Option (List ℕ)) (sink sink' : Vessel) (stage stage' : S) (steps steps' count : ℕ) (old new : List ℕ)
     → IsUnderWay does a (moment left sink stage steps) count old → GivesNone left left' old new
     → Grew sink sink' steps steps' (ends stage stage') → count ≤ most_packets
@@ -83,7 +87,8 @@ all_driven does ends a left left' sink sink' stage stage' steps steps' count old
       counted = sym (ap (λ (ps : List (List ℕ)). length ps) whole ∙ all_counted count way.taken);
       few = few;
       long = way.packets.long;
-      passed = subst (λ (ps : List (List ℕ)). Grew a.sink sink' a.steps steps' (Closes does ends a.stage ps stage')) (sym whole)
+      passed = subst (λ (ps : List (List ℕ)). Grew a.sink sink' a.steps steps' (Closes does ends a.stage ps stage'))
+          (sym whole)
           (grew_on (Chain does a.stage (pieces count way.taken) stage) (ends stage stage')
           (Closes does ends a.stage (pieces count way.taken) stage') a.sink sink sink' a.steps steps steps'
           (λ x y n m first last. (stage, x, y, n, m, first, last, refl, refl))
@@ -98,7 +103,11 @@ front_of count taken rest are =
     let long : length (pieces count taken) ≡ count = all_counted count taken in (
       ap (take count) all ∙ subst (λ (n : ℕ). take n (pieces count taken ++ packets_of rest) ≡ pieces count taken) long
           (take-append_seam (pieces count taken) (packets_of rest)),
-      omega (arith, ap (λ (ps : List (List ℕ)). length ps) all ∙ length-append (pieces count taken) (packets_of rest), long),
+      omega (
+        arith,
+        ap (λ (ps : List (List ℕ)). length ps) all ∙ length-append (pieces count taken) (packets_of rest),
+        long,
+      ),
     )
 
 -- a read failed
@@ -115,7 +124,8 @@ read_failed does a left left' sink stage steps count old way lost few =
             (record { bytes = lost.0; consumed = lost.1; joined = refl });
         enough = front.1;
         few = few;
-        passed = subst (λ (ps : List (List ℕ)). Passes does a ps (moment left' sink stage steps)) (sym front.0) way.passed;
+        passed = subst (λ (ps : List (List ℕ)). Passes does a ps (moment left' sink stage steps)) (sym front.0)
+            way.passed;
       },
     )
 
@@ -149,12 +159,15 @@ stream_broken does a left left' sink stage steps count old cause way found few =
 one_packet : (packet : List ℕ) → length packet ≡ 188 → slice_index packet 0 ≡ 0x47 → ArePackets 1 packet
 one_packet packet long sync = record {
   long = omega (arith, long);
-  sync = λ k within. let first : 188 * k ≡ 0 = omega (arith, within) in ap (λ (i : ℕ). slice_index packet i) first ∙ sync;
+  sync = λ k within. let first : 188 * k ≡ 0 = omega (arith, within) in ap (λ (i : ℕ). slice_index packet i) first
+      ∙ sync;
 }
 
 -- the packet after some first ones
-packet_at : (count : ℕ) (taken packet new : List ℕ) → ArePackets count taken → length packet ≡ 188 → slice_index packet 0 ≡ 0x47 →
-    (slice_get (packets_of (taken ++ (packet ++ new))) count ≡ Some packet) × (count < length (packets_of (taken ++ (packet ++ new))))
+packet_at : (count : ℕ) (taken packet new : List ℕ) → ArePackets count taken → length packet ≡ 188 →
+    slice_index packet 0 ≡ 0x47 →
+    (slice_get (packets_of (taken ++ (packet ++ new))) count ≡ Some packet)
+    × (count < length (packets_of (taken ++ (packet ++ new))))
 unfolding pieces
 packet_at count taken packet new are long sync =
     let whole : take 188 packet ≡ packet = take_all 188 packet (omega (arith, long)) in
@@ -179,30 +192,42 @@ packet_at count taken packet new are long sync =
 -- what was read, as far as a packet and what waits after it
 read_to_packet : (a left left' : Option (List ℕ)) (taken old new packet : List ℕ) → Consumes a left (taken ++ old) →
     GivesPacket left left' old new packet → Consumes a left' (taken ++ (packet ++ new))
-read_to_packet a left left' taken old new packet before gives = reads_on a left left' taken old (packet ++ new) before gives.read
+read_to_packet a left left' taken old new packet before gives = reads_on a left left' taken old (packet ++ new) before
+    gives.read
 
 -- the stage refused a packet
 pub packet_refused : {S F : Type 0} (does : S → List ℕ → S → List ℕ → ℕ → Type 0)
     (refuses : S → Option (List ℕ) → F → S → List ℕ → ℕ → Type 0) (a : Moment S)
-    (left left' : Option (List ℕ)) (sink sink' : Vessel) (stage stage' : S) (steps steps' count : ℕ) (old new packet : List ℕ) (fault : F)
+    (left left' : Option (List ℕ)) (sink sink' : Vessel) (stage stage' : S) (steps steps' count : ℕ)
+    (old new packet : List ℕ) (fault : F)
     → IsUnderWay does a (moment left sink stage steps) count old → GivesPacket left left' old new packet
     → Grew sink sink' steps steps' (refuses stage (Some packet) fault stage') → count < most_packets
     → IsRefused does refuses a (moment left' sink' stage' steps') fault
-packet_refused does refuses a left left' sink sink' stage stage' steps steps' count old new packet fault way gives grew few =
+packet_refused does refuses a left left' sink sink' stage stage' steps steps' count old new packet fault way gives grew
+    few =
     let here = packet_at count way.taken packet new way.packets gives.long gives.sync in
     let front = front_of count way.taken (packet ++ new) way.packets in
     record {
       bytes = way.taken ++ (packet ++ new);
       count = count;
       read = read_to_packet a.left left left' way.taken old new packet way.read gives;
-      place = record { within = front.1; few = omega (arith, few); fewer = λ h. few; end = λ e. absurd (omega (arith, e, here.1)) };
+      place = record {
+        within = front.1;
+        few = omega (arith, few);
+        fewer = λ h. few;
+        end = λ e. absurd
+            (omega (arith, e, here.1));
+      };
       passed =
           subst (λ (p : Option (List ℕ)). Grew a.sink sink' a.steps steps'
-          (Refuses does refuses a.stage (take count (packets_of (way.taken ++ (packet ++ new)))) p fault stage')) (sym here.0)
-          (subst (λ (ps : List (List ℕ)). Grew a.sink sink' a.steps steps' (Refuses does refuses a.stage ps (Some packet) fault stage'))
+          (Refuses does refuses a.stage (take count (packets_of (way.taken ++ (packet ++ new)))) p fault stage'))
+          (sym here.0)
+          (subst (λ (ps : List (List ℕ)). Grew a.sink sink' a.steps steps'
+          (Refuses does refuses a.stage ps (Some packet) fault stage'))
           (sym front.0)
           (grew_on (Chain does a.stage (pieces count way.taken) stage) (refuses stage (Some packet) fault stage')
-          (Refuses does refuses a.stage (pieces count way.taken) (Some packet) fault stage') a.sink sink sink' a.steps steps steps'
+          (Refuses does refuses a.stage (pieces count way.taken) (Some packet) fault stage') a.sink sink sink' a.steps
+          steps steps'
           (λ x y n m first last. (stage, x, y, n, m, first, last, refl, refl))
           way.passed grew));
     }
@@ -213,7 +238,8 @@ all_of : (count : ℕ) (taken : List ℕ) → ArePackets count taken →
     × (count ≡ length (packets_of taken))
 all_of count taken are =
     let whole = all_taken count taken are in
-    let counted : length (packets_of taken) ≡ count = ap (λ (ps : List (List ℕ)). length ps) whole ∙ all_counted count taken in (
+    let counted : length (packets_of taken) ≡ count = ap (λ (ps : List (List ℕ)). length ps) whole
+    ∙ all_counted count taken in (
       take_all count (packets_of taken) (omega (arith, counted)) ∙ whole,
       slice_get_past (packets_of taken) count (omega (arith, counted)),
       sym counted,
@@ -222,7 +248,8 @@ all_of count taken are =
 -- the stage refused the end
 pub end_refused : {S F : Type 0} (does : S → List ℕ → S → List ℕ → ℕ → Type 0)
     (refuses : S → Option (List ℕ) → F → S → List ℕ → ℕ → Type 0) (a : Moment S)
-    (left left' : Option (List ℕ)) (sink sink' : Vessel) (stage stage' : S) (steps steps' count : ℕ) (old new : List ℕ) (fault : F)
+    (left left' : Option (List ℕ)) (sink sink' : Vessel) (stage stage' : S) (steps steps' count : ℕ) (old new : List ℕ)
+    (fault : F)
     → IsUnderWay does a (moment left sink stage steps) count old → GivesNone left left' old new
     → Grew sink sink' steps steps' (refuses stage None fault stage') → count ≤ most_packets
     → IsRefused does refuses a (moment left' sink' stage' steps') fault
@@ -242,10 +269,12 @@ end_refused does refuses a left left' sink sink' stage stage' steps steps' count
       passed =
           subst (λ (p : Option (List ℕ)). Grew a.sink sink' a.steps steps'
           (Refuses does refuses a.stage (take count (packets_of way.taken)) p fault stage')) (sym all.1)
-          (subst (λ (ps : List (List ℕ)). Grew a.sink sink' a.steps steps' (Refuses does refuses a.stage ps None fault stage'))
+          (subst (λ (ps : List (List ℕ)). Grew a.sink sink' a.steps steps'
+          (Refuses does refuses a.stage ps None fault stage'))
           (sym all.0)
           (grew_on (Chain does a.stage (pieces count way.taken) stage) (refuses stage None fault stage')
-          (Refuses does refuses a.stage (pieces count way.taken) None fault stage') a.sink sink sink' a.steps steps steps'
+          (Refuses does refuses a.stage (pieces count way.taken) None fault stage') a.sink sink sink' a.steps steps
+          steps'
           (λ x y n m first last. (stage, x, y, n, m, first, last, refl, refl))
           way.passed grew));
     }
@@ -253,7 +282,8 @@ end_refused does refuses a left left' sink sink' stage stage' steps steps' count
 -- a write failed at a packet
 pub packet_cut : {S F : Type 0} (does : S → List ℕ → S → List ℕ → ℕ → Type 0) (ends : S → S → List ℕ → ℕ → Type 0)
     (refuses : S → Option (List ℕ) → F → S → List ℕ → ℕ → Type 0) (a : Moment S)
-    (left left' : Option (List ℕ)) (sink sink' : Vessel) (stage stage' : S) (steps steps' count : ℕ) (old new packet : List ℕ)
+    (left left' : Option (List ℕ)) (sink sink' : Vessel) (stage stage' : S) (steps steps' count : ℕ)
+    (old new packet : List ℕ)
     → IsUnderWay does a (moment left sink stage steps) count old → GivesPacket left left' old new packet
     → CutShort sink sink' (IsAllowed (does stage packet) (refuses stage (Some packet))) → count < most_packets
     → IsCutOff does ends refuses a (moment left' sink' stage' steps')
@@ -264,10 +294,17 @@ packet_cut does ends refuses a left left' sink sink' stage stage' steps steps' c
       bytes = way.taken ++ (packet ++ new);
       count = count;
       read = read_to_packet a.left left left' way.taken old new packet way.read gives;
-      place = record { within = front.1; few = omega (arith, few); fewer = λ h. few; end = λ e. absurd (omega (arith, e, here.1)) };
+      place = record {
+        within = front.1;
+        few = omega (arith, few);
+        fewer = λ h. few;
+        end = λ e. absurd
+            (omega (arith, e, here.1));
+      };
       mid = moment left sink stage steps;
       passed = subst (λ (ps : List (List ℕ)). Passes does a ps (moment left sink stage steps)) (sym front.0) way.passed;
-      cut = subst (λ (p : Option (List ℕ)). CutShort sink sink' (IsAllowedAt does ends refuses stage p)) (sym here.0) cut;
+      cut = subst (λ (p : Option (List ℕ)). CutShort sink sink' (IsAllowedAt does ends refuses stage p)) (sym here.0)
+          cut;
     }
 
 -- a write failed at the end
@@ -292,7 +329,8 @@ end_cut does ends refuses a left left' sink sink' stage stage' steps steps' coun
       };
       mid = moment left sink stage steps;
       passed = subst (λ (ps : List (List ℕ)). Passes does a ps (moment left sink stage steps)) (sym all.0) way.passed;
-      cut = subst (λ (p : Option (List ℕ)). CutShort sink sink' (IsAllowedAt does ends refuses stage p)) (sym all.1) cut;
+      cut = subst (λ (p : Option (List ℕ)). CutShort sink sink' (IsAllowedAt does ends refuses stage p)) (sym all.1)
+          cut;
     }
 
 -- more bytes stand after the most packets
@@ -307,7 +345,8 @@ too_many does a left left' sink stage steps old more way reads some =
       read = reads_on a.left left left' way.taken old more way.read reads;
       enough = front.1;
       longer = omega (arith, way.packets.long, length-append way.taken more, some);
-      passed = subst (λ (ps : List (List ℕ)). Passes does a ps (moment left' sink stage steps)) (sym front.0) way.passed;
+      passed = subst (λ (ps : List (List ℕ)). Passes does a ps (moment left' sink stage steps)) (sym front.0)
+          way.passed;
     }
 
 pub packet_too_many : {S : Type 0} (does : S → List ℕ → S → List ℕ → ℕ → Type 0) (a : Moment S)
@@ -332,18 +371,25 @@ break_too_many does a left left' sink stage steps old cause way found =
 -- the stage stopped at a packet
 pub packet_stopped : {S F : Type 0} (does : S → List ℕ → S → List ℕ → ℕ → Type 0) (ends : S → S → List ℕ → ℕ → Type 0)
     (refuses : S → Option (List ℕ) → F → S → List ℕ → ℕ → Type 0) (a : Moment S)
-    (left left' : Option (List ℕ)) (sink sink' : Vessel) (stage stage' : S) (steps steps' count : ℕ) (old new packet : List ℕ)
+    (left left' : Option (List ℕ)) (sink sink' : Vessel) (stage stage' : S) (steps steps' count : ℕ)
+    (old new packet : List ℕ)
     (result : Result (Unit {0}) (StageFault F)) (fault : StageFault F)
-    → IsUnderWay does a (moment left sink stage steps) count old → GivesPacket left left' old new packet → result ≡ Err fault
+    → IsUnderWay does a (moment left sink stage steps) count old → GivesPacket left left' old new packet →
+    result ≡ Err fault
     → ((f : F) → result ≡ Err (StageRefused f) → Grew sink sink' steps steps' (refuses stage (Some packet) f stage'))
-    → (result ≡ Err Write → CutShort sink sink' (IsAllowed (does stage packet) (refuses stage (Some packet)))) → count < most_packets
+    → (result ≡ Err Write → CutShort sink sink' (IsAllowed (does stage packet) (refuses stage (Some packet)))) →
+    count < most_packets
     → Drives does ends refuses a (moment left' sink' stage' steps') (Err (stopped_by fault))
-packet_stopped does ends refuses a left left' sink sink' stage stage' steps steps' count old new packet result Write way gives is
+packet_stopped does ends refuses a left left' sink sink' stage stage' steps steps' count old new packet result Write way
+    gives is
     refused cut few =
-    packet_cut does ends refuses a left left' sink sink' stage stage' steps steps' count old new packet way gives (cut is) few
-packet_stopped does ends refuses a left left' sink sink' stage stage' steps steps' count old new packet result (StageRefused f) way
+    packet_cut does ends refuses a left left' sink sink' stage stage' steps steps' count old new packet way gives
+    (cut is) few
+packet_stopped does ends refuses a left left' sink sink' stage stage' steps steps' count old new packet result
+    (StageRefused f) way
     gives is refused cut few =
-    packet_refused does refuses a left left' sink sink' stage stage' steps steps' count old new packet f way gives (refused f is) few
+    packet_refused does refuses a left left' sink sink' stage stage' steps steps' count old new packet f way gives
+    (refused f is) few
 
 -- the stage took the end, or stopped there
 pub all_closed : {S F : Type 0} (does : S → List ℕ → S → List ℕ → ℕ → Type 0) (ends : S → S → List ℕ → ℕ → Type 0)
@@ -353,18 +399,24 @@ pub all_closed : {S F : Type 0} (does : S → List ℕ → S → List ℕ → �
     → IsUnderWay does a (moment left sink stage steps) count old → GivesNone left left' old new
     → IsClosed ends refuses sink sink' stage stage' steps steps' count result → count ≤ most_packets
     → Drives does ends refuses a (moment left' sink' stage' steps') result
-all_closed does ends refuses a left left' sink sink' stage stage' steps steps' count old new (Ok n) way gives closed few =
+all_closed does ends refuses a left left' sink sink' stage stage' steps steps' count old new (Ok n) way gives closed
+    few =
     subst (λ (k : ℕ). IsWhole does ends a (moment left' sink' stage' steps') k) (sym closed.0)
     (all_driven does ends a left left' sink sink' stage stage' steps steps' count old new way gives closed.1 few)
-all_closed does ends refuses a left left' sink sink' stage stage' steps steps' count old new (Err (Broken found)) way gives closed few =
+all_closed does ends refuses a left left' sink sink' stage stage' steps steps' count old new (Err (Broken found)) way
+    gives closed few =
     absurd closed
-all_closed does ends refuses a left left' sink sink' stage stage' steps steps' count old new (Err TooLong) way gives closed few =
+all_closed does ends refuses a left left' sink sink' stage stage' steps steps' count old new (Err TooLong) way gives
+    closed few =
     absurd closed
-all_closed does ends refuses a left left' sink sink' stage stage' steps steps' count old new (Err ReadFault) way gives closed few =
+all_closed does ends refuses a left left' sink sink' stage stage' steps steps' count old new (Err ReadFault) way gives
+    closed few =
     absurd closed
-all_closed does ends refuses a left left' sink sink' stage stage' steps steps' count old new (Err WriteFault) way gives closed few =
+all_closed does ends refuses a left left' sink sink' stage stage' steps steps' count old new (Err WriteFault) way gives
+    closed few =
     end_cut does ends refuses a left left' sink sink' stage stage' steps steps' count old new way gives closed few
-all_closed does ends refuses a left left' sink sink' stage stage' steps steps' count old new (Err (Refused fault)) way gives closed few =
+all_closed does ends refuses a left left' sink sink' stage stage' steps steps' count old new (Err (Refused fault)) way
+    gives closed few =
     end_refused does refuses a left left' sink sink' stage stage' steps steps' count old new fault way gives closed few
 
 -- no packet came
@@ -390,6 +442,7 @@ not_ended does ends refuses a left left' sink stage steps old (Break cause) way 
     break_too_many does a left left' sink stage steps old cause way stops
 
 -- the same under another name of the count
-pub recounted : {S : Type 0} (does : S → List ℕ → S → List ℕ → ℕ → Type 0) (a b : Moment S) (count other : ℕ) (waiting : List ℕ)
+pub recounted : {S : Type 0} (does : S → List ℕ → S → List ℕ → ℕ → Type 0) (a b : Moment S) (count other : ℕ)
+    (waiting : List ℕ)
     → IsUnderWay does a b count waiting → count ≡ other → IsUnderWay does a b other waiting
 recounted does a b count other waiting way same = subst (λ (n : ℕ). IsUnderWay does a b n waiting) same way

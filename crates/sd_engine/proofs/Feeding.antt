@@ -1,5 +1,6 @@
 -- What waits, when more is read and when some of it is taken.
-use Rattle.std.proofs.Common.{◌≡◌, ℕ, ◌+◌, ◌-◌, ◌≤◌, List, [], ◌++◌, length, take, drop, refl, sym, ap, subst, ◌∙◌, arith}
+use Rattle.std.proofs.Common.{◌≡◌, ℕ, ◌+◌, ◌-◌, ◌≤◌, List, [], ◌++◌, length, take, drop, refl, sym, ap, subst, ◌∙◌}
+use Rattle.std.proofs.Common.{arith}
 use Rattle.std.proofs.Common.{append_assoc, append-nil, length-take-le}
 use Rattle.std.specs.Prelude.{Option, Some}
 use Rattle.std.proofs.lemmas.List.{take-append-le, take-append-drop, drop-drop, drop-take}
@@ -17,7 +18,8 @@ pub none_read : (a : Option (List ℕ)) (old new : List ℕ) → new ≡ old →
 none_read a old new same = record { bytes = []; consumed = Consumes-nil a; joined = same ∙ sym (append-nil old) }
 
 -- some bytes were read, and then more
-pub more_read : (a b c : Option (List ℕ)) (old mid new bytes : List ℕ) → Reads a b old mid → Consumes b c bytes → new ≡ mid ++ bytes →
+pub more_read : (a b c : Option (List ℕ)) (old mid new bytes : List ℕ) → Reads a b old mid → Consumes b c bytes →
+    new ≡ mid ++ bytes →
     Reads a c old new
 more_read a b c old mid new bytes first then joined = record {
   bytes = first.bytes ++ bytes;
@@ -35,7 +37,8 @@ read_into : (piece buf : List ℕ) (filled more k : ℕ) → filled ≤ length p
 read_into piece buf filled more k within few =
     let long : length (take filled piece) ≡ filled = length-take-le filled piece within in
     from_beginning (put_mid filled k piece buf) (filled + more)
-    ∙ (subst (λ (n : ℕ). take (n + more) (put_mid filled k piece buf) ≡ take filled piece ++ take more (buf ++ post_of filled k piece))
+    ∙ (subst (λ (n : ℕ). take (n + more) (put_mid filled k piece buf) ≡ take filled piece ++ take more
+    (buf ++ post_of filled k piece))
     long (take-append-add (take filled piece) (buf ++ post_of filled k piece) more)
     ∙ (ap (λ (xs : List ℕ). take filled piece ++ xs) (take-append-le more buf (post_of filled k piece) few)
     ∙ ap (λ (xs : List ℕ). xs ++ take more buf) (sym (from_beginning piece filled))))
@@ -45,12 +48,14 @@ pub more_waits : (a b c : Option (List ℕ)) (old piece buf : List ℕ) (filled 
     more ≤ length buf → Reads a b old (waiting piece 0 filled) → Consumes b c (take more buf) →
     Reads a c old (waiting (put_mid filled k piece buf) 0 (filled + more))
 more_waits a b c old piece buf filled more k within few before then =
-    more_read a b c old (waiting piece 0 filled) (waiting (put_mid filled k piece buf) 0 (filled + more)) (take more buf)
+    more_read a b c old (waiting piece 0 filled) (waiting (put_mid filled k piece buf) 0 (filled + more))
+    (take more buf)
     before then (read_into piece buf filled more k within few)
 
 -- the first packet of what waits, and what waits after it
 pub packet_given : (a b : Option (List ℕ)) (old piece packet : List ℕ) (at filled : ℕ) →
-    Fills a b old (waiting piece at filled) → filled ≤ length piece → Takes (waiting piece at filled) (Ok (Some packet)) →
+    Fills a b old (waiting piece at filled) → filled ≤ length piece → Takes (waiting piece at filled)
+    (Ok (Some packet)) →
     GivesPacket a b old (waiting piece (at + 188) filled) packet
 packet_given a b old piece packet at filled fills within takes =
     let enough : 188 ≤ filled - at = omega (arith, takes.1, length-take (filled - at) (drop at piece)) in
@@ -66,5 +71,6 @@ packet_given a b old piece packet at filled fills within takes =
     record {
       read = record { bytes = fills.read.bytes; consumed = fills.read.consumed; joined = whole ∙ fills.read.joined };
       long = ap (λ (xs : List ℕ). length xs) (sym takes.0) ∙ length-take-le 188 (waiting piece at filled) takes.1;
-      sync = ap (λ (xs : List ℕ). slice_index xs 0) (sym takes.0) ∙ (get_or-take 188 (waiting piece at filled) 0 0 (omega arith) ∙ takes.2);
+      sync = ap (λ (xs : List ℕ). slice_index xs 0) (sym takes.0)
+          ∙ (get_or-take 188 (waiting piece at filled) 0 0 (omega arith) ∙ takes.2);
     }

@@ -1,7 +1,8 @@
 -- What stands after some first packets of a stream.
 use Rattle.std.proofs.Common.{◌≡◌, ℕ, zero, suc, ◌+◌, ◌-◌, ◌*◌, ◌≤◌, List, [], ◌∷◌, ◌++◌, length, take, drop}
 use Rattle.std.proofs.Common.{ap, ◌∙◌, inl, inr, arith, length-append}
-use Rattle.std.proofs.lemmas.List.{take-append-le, drop-append-le, take_all, get_or_append_left, get_or-append_right, nil_from_length}
+use Rattle.std.proofs.lemmas.List.{take-append-le, drop-append-le, take_all, get_or_append_left, get_or-append_right}
+use Rattle.std.proofs.lemmas.List.{nil_from_length}
 use Rattle.std.proofs.lemmas.Bool.{cases_lt}
 use Rattle.std.specs.Prelude.{slice_index}
 use Rattle.sd_engine.specs.Stream.{ArePackets, pieces, packets_of, break_after}
@@ -42,7 +43,8 @@ break_first (suc n) k taken rest are =
     ∙ ap (λ (m : ℕ). break_after m rest) same))
 
 -- one packet more
-pub packets_on : (n : ℕ) (taken packet : List ℕ) → ArePackets n taken → length packet ≡ 188 → slice_index packet 0 ≡ 0x47 →
+pub packets_on : (n : ℕ) (taken packet : List ℕ) → ArePackets n taken → length packet ≡ 188 → slice_index packet 0
+    ≡ 0x47 →
     ArePackets (n + 1) (taken ++ packet)
 packets_on n taken packet are long sync = record {
   long = length-append taken packet ∙ omega (arith, are.long, long);
@@ -66,4 +68,5 @@ pieces_on (suc n) taken packet are long =
     let enough : 188 ≤ length taken = omega (arith, are.long) in
     ap (λ (p : List ℕ). p ∷ pieces (suc n) (drop 188 (taken ++ packet))) (take-append-le 188 taken packet enough)
     ∙ ap (λ (ps : List (List ℕ)). take 188 taken ∷ ps)
-    (ap (pieces (suc n)) (drop-append-le 188 taken packet enough) ∙ pieces_on n (drop 188 taken) packet (others n taken are) long)
+    (ap (pieces (suc n)) (drop-append-le 188 taken packet enough) ∙ pieces_on n (drop 188 taken) packet
+    (others n taken are) long)

@@ -5,3 +5,4 @@ pub mod Chains
 pub mod Driving
 pub mod Longer
 pub mod Taken
+pub mod Vessels

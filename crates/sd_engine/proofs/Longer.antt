@@ -1,5 +1,6 @@
 -- What stays of the packets and the break of a stream where more bytes come after it.
-use Rattle.std.proofs.Common.{◌≡◌, ◌≢◌, ℕ, zero, suc, ◌+◌, ◌<◌, ◌≤◌, List, [], ◌∷◌, ◌++◌, length, take, drop, refl, sym, ap, subst, ◌∙◌, arith, inl, inr}
+use Rattle.std.proofs.Common.{◌≡◌, ◌≢◌, ℕ, zero, suc, ◌+◌, ◌<◌, ◌≤◌, List, [], ◌∷◌, ◌++◌, length, take, drop, refl, sym}
+use Rattle.std.proofs.Common.{ap, subst, ◌∙◌, arith, inl, inr}
 use Rattle.std.proofs.lemmas.List.{get_or_append_left}
 use Rattle.std.proofs.Common.{length-append}
 use Rattle.std.specs.Prelude.{Option, Some, None, slice_index}
@@ -81,14 +82,16 @@ short_apart n k (byte ∷ bytes) few is =
 
 -- the packets and the break of bytes stay where more come after them
 abbrev Stays : ℕ → ℕ → List ℕ → List ℕ → Type 0
-Stays n k bytes more = (packets_of (bytes ++ more) ≡ packets_of bytes) × (break_after n (bytes ++ more) ≡ Some (no_sync k))
+Stays n k bytes more = (packets_of (bytes ++ more) ≡ packets_of bytes)
+    × (break_after n (bytes ++ more) ≡ Some (no_sync k))
 
 -- where no packet stands in front
 other_stays : (n k : ℕ) (bytes more : List ℕ) → break_after n bytes ≡ Some (no_sync k) → 188 ≤ length bytes →
     slice_index bytes 0 ≢ 0x47 → Stays n k bytes more
 other_stays n k bytes more is long apart =
     let here = no_sync_here bytes n long apart in
-    let there = no_sync_here (bytes ++ more) n (longer bytes more long) (λ e. apart (sym (begins_same bytes more long) ∙ e)) in
+    let there = no_sync_here (bytes ++ more) n (longer bytes more long)
+    (λ e. apart (sym (begins_same bytes more long) ∙ e)) in
     (there.0 ∙ sym here.0, there.1 ∙ sym here.1 ∙ is)
 
 -- where one does, and so it is of those after it
@@ -120,8 +123,10 @@ broken_on (suc m) n k bytes more most is = elim (front_of bytes) [
   | short few ↦ absurd (short_apart n k bytes few is)
 ]
 
-pub packets_stay : (k : ℕ) (bytes more : List ℕ) → break_of bytes ≡ Some (no_sync k) → packets_of (bytes ++ more) ≡ packets_of bytes
+pub packets_stay : (k : ℕ) (bytes more : List ℕ) → break_of bytes ≡ Some (no_sync k) → packets_of (bytes ++ more)
+    ≡ packets_of bytes
 packets_stay k bytes more is = (broken_on (length (packets_of bytes)) 0 k bytes more (omega arith) is).0
 
-pub break_stays : (k : ℕ) (bytes more : List ℕ) → break_of bytes ≡ Some (no_sync k) → break_of (bytes ++ more) ≡ Some (no_sync k)
+pub break_stays : (k : ℕ) (bytes more : List ℕ) → break_of bytes ≡ Some (no_sync k) → break_of (bytes ++ more)
+    ≡ Some (no_sync k)
 break_stays k bytes more is = (broken_on (length (packets_of bytes)) 0 k bytes more (omega arith) is).1

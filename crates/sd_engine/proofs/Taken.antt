@@ -1,5 +1,6 @@
 -- What a drive takes of all the bytes of a stream.
-use Rattle.std.proofs.Common.{◌≡◌, ℕ, ◌+◌, ◌*◌, ◌<◌, ◌≤◌, List, [], ◌++◌, length, take, get_or, cond, min, le_trans, lt_of_lt_of_le, Bool, length-append, nat_lt}
+use Rattle.std.proofs.Common.{◌≡◌, ℕ, ◌+◌, ◌*◌, ◌<◌, ◌≤◌, List, [], ◌++◌, length, take, get_or, cond, min, le_trans}
+use Rattle.std.proofs.Common.{lt_of_lt_of_le, Bool, length-append, nat_lt}
 use Rattle.std.proofs.Common.{refl, sym, ap, subst, ◌∙◌, arith, append-nil, lt-ltb, le-ltb, inl, inr}
 use Rattle.std.specs.Prelude.{Option, None, Some, Result, Ok, Err, slice_get}
 use Rattle.std.specs.Io.KnownBytes.{Consumes, IsAtEnd}
@@ -56,14 +57,17 @@ late bytes = cond (nat_lt (188 * most_packets) (length bytes)) RunsOn Whole
 ends_early : (bytes : List ℕ) → length (packets_of bytes) < most_packets → end_of bytes ≡ ended_by (break_of bytes)
 unfolding end_of
 ends_early bytes few =
-    ap (λ (b : Bool). cond b (ended_by (break_of bytes)) (late bytes)) (lt-ltb (length (packets_of bytes)) most_packets few)
+    ap (λ (b : Bool). cond b (ended_by (break_of bytes)) (late bytes))
+    (lt-ltb (length (packets_of bytes)) most_packets few)
 
 ends_late : (bytes : List ℕ) → most_packets ≤ length (packets_of bytes) → end_of bytes ≡ late bytes
 unfolding end_of
 ends_late bytes many =
-    ap (λ (b : Bool). cond b (ended_by (break_of bytes)) (late bytes)) (le-ltb (length (packets_of bytes)) most_packets many)
+    ap (λ (b : Bool). cond b (ended_by (break_of bytes)) (late bytes))
+    (le-ltb (length (packets_of bytes)) most_packets many)
 
-runs_on : (bytes : List ℕ) → most_packets ≤ length (packets_of bytes) → 188 * most_packets < length bytes → end_of bytes ≡ RunsOn
+runs_on : (bytes : List ℕ) → most_packets ≤ length (packets_of bytes) → 188 * most_packets < length bytes → end_of bytes
+    ≡ RunsOn
 runs_on bytes many long =
     ends_late bytes many ∙ ap (λ (b : Bool). cond b RunsOn Whole) (lt-ltb (188 * most_packets) (length bytes) long)
 
@@ -82,7 +86,8 @@ first_taken k bytes more some few =
     take-take k most_packets (packets_of (bytes ++ more)) few ∙ first_stay k bytes more some
 
 -- and there are as many at least
-as_many : (k : ℕ) (bytes more : List ℕ) → k ≤ length (packets_of bytes) → k ≤ most_packets → k ≤ length (taken_of (bytes ++ more))
+as_many : (k : ℕ) (bytes more : List ℕ) → k ≤ length (packets_of bytes) → k ≤ most_packets →
+    k ≤ length (taken_of (bytes ++ more))
 as_many k bytes more some few =
     omega (
       arith,
@@ -97,11 +102,13 @@ same_packet : (k : ℕ) (bytes more : List ℕ) → k < length (packets_of bytes
     slice_get (taken_of (bytes ++ more)) k ≡ slice_get (packets_of bytes) k
 same_packet k bytes more some few =
     let taken = taken_of (bytes ++ more) in
-    let inside : k < length taken = omega (arith, as_many (k + 1) bytes more (omega (arith, some)) (omega (arith, few))) in
+    let inside : k < length taken = omega (arith, as_many (k + 1) bytes more (omega (arith, some)) (omega (arith, few)))
+    in
     slice_get-get_or taken k [] inside
     ∙ ap (λ (p : List ℕ). Some p)
     (sym (get_or-take (k + 1) taken k [] (omega arith))
-    ∙ ap (λ (ps : List (List ℕ)). get_or ps k []) (first_taken (k + 1) bytes more (omega (arith, some)) (omega (arith, few)))
+    ∙ ap (λ (ps : List (List ℕ)). get_or ps k []) (first_taken (k + 1) bytes more (omega (arith, some))
+    (omega (arith, few)))
     ∙ get_or-take (k + 1) (packets_of bytes) k [] (omega arith))
     ∙ sym (slice_get-get_or (packets_of bytes) k [] some)
 
@@ -121,7 +128,8 @@ at_packet bytes more count some few =
       here = same_packet count bytes more some few;
     }
 
-at_end : (bytes : List ℕ) (count : ℕ) → count ≡ length (packets_of bytes) → count ≤ most_packets → break_of bytes ≡ None →
+at_end : (bytes : List ℕ) (count : ℕ) → count ≡ length (packets_of bytes) → count ≤ most_packets → break_of bytes
+    ≡ None →
     length bytes ≡ 188 * count → IsSamePlace bytes bytes count
 at_end bytes count all few unbroken long =
     let taken = all_taken bytes (omega (arith, all, few)) in
@@ -184,7 +192,8 @@ broke left now bytes packet NoSync read end broken few =
     record { all = bytes ++ r.rest; left = r.all; end = here.0; taken = here.1 }
 
 -- how many packets are taken
-pub least_of : (bytes : List ℕ) → (length (taken_of bytes) ≤ length (packets_of bytes)) × (length (taken_of bytes) ≤ most_packets)
+pub least_of : (bytes : List ℕ) → (length (taken_of bytes) ≤ length (packets_of bytes))
+    × (length (taken_of bytes) ≤ most_packets)
 unfolding taken_of
 least_of bytes =
     let n = length-take most_packets (packets_of bytes) in (
@@ -201,7 +210,8 @@ too_long : {S : Type 0} (does : S → List ℕ → S → List ℕ → ℕ → Ty
 too_long does a b bytes more first many longer passed =
     let all = bytes ++ more in
     let least = least_of all in
-    let same : taken_of all ≡ take most_packets (packets_of bytes) = sym (take_all most_packets (taken_of all) least.1) ∙ first in (
+    let same : taken_of all ≡ take most_packets (packets_of bytes) = sym (take_all most_packets (taken_of all) least.1)
+    ∙ first in (
       runs_on all (le_trans many least.0) (lt_of_lt_of_le longer (longer_by bytes more)),
       subst (λ (ps : List (List ℕ)). Passes does a ps b) (sym same) passed,
     )
@@ -218,11 +228,13 @@ is_over does ends refuses a b (Ok count) h =
       drives = (
         is_whole h.bytes h.unbroken (omega (arith, h.long, h.few)),
         h.counted ∙ sym (ap (λ (ps : List (List ℕ)). length ps) taken),
-        subst (λ (ps : List (List ℕ)). Grew a.sink b.sink a.steps b.steps (Closes does ends a.stage ps b.stage)) (sym taken) h.passed,
+        subst (λ (ps : List (List ℕ)). Grew a.sink b.sink a.steps b.steps (Closes does ends a.stage ps b.stage))
+            (sym taken) h.passed,
       );
     }
 is_over does ends refuses a b (Err (Broken found)) h =
-    let o = broke a.left b.left h.bytes found.packet found.cause h.read h.end h.broken (omega (arith, h.counted, h.few)) in
+    let o = broke a.left b.left h.bytes found.packet found.cause h.read h.end h.broken (omega (arith, h.counted, h.few))
+    in
     record {
       bytes = o.all;
       left = o.left;
@@ -245,7 +257,8 @@ is_over does ends refuses a b (Err ReadFault) (count, h) =
       drives = (
         count,
         as_many count h.bytes r.rest h.enough h.few,
-        subst (λ (ps : List (List ℕ)). Passes does a ps b) (sym (first_taken count h.bytes r.rest h.enough h.few)) h.passed,
+        subst (λ (ps : List (List ℕ)). Passes does a ps b) (sym (first_taken count h.bytes r.rest h.enough h.few))
+            h.passed,
       );
     }
 is_over does ends refuses a b (Err WriteFault) h =
@@ -274,6 +287,7 @@ is_over does ends refuses a b (Err (Refused fault)) h =
             subst (λ (p : Option (List ℕ)). Grew a.sink b.sink a.steps b.steps
             (Refuses does refuses a.stage (take h.count (taken_of o.all)) p fault b.stage)) (sym o.same.here)
             (subst (λ (ps : List (List ℕ)). Grew a.sink b.sink a.steps b.steps
-            (Refuses does refuses a.stage ps (slice_get (packets_of h.bytes) h.count) fault b.stage)) (sym o.same.first) h.passed);
+            (Refuses does refuses a.stage ps (slice_get (packets_of h.bytes) h.count) fault b.stage)) (sym o.same.first)
+            h.passed);
       };
     }

@@ -1,5 +1,6 @@
 -- What the packets and the break of a stream are, by what stands in front.
-use Rattle.std.proofs.Common.{ℕ, zero, suc, ◌+◌, ◌*◌, ◌/◌, ◌%◌, ◌<◌, ◌≤◌, ◌≡◌, ◌≢◌, false, ◌==◌, List, [], ◌∷◌, length, take, drop, length-drop, cond, refl, sym, ap, ◌∙◌, arith, inl, inr}
+use Rattle.std.proofs.Common.{ℕ, zero, suc, ◌+◌, ◌*◌, ◌/◌, ◌%◌, ◌<◌, ◌≤◌, ◌≡◌, ◌≢◌, false, ◌==◌, List, [], ◌∷◌, length}
+use Rattle.std.proofs.Common.{take, drop, length-drop, cond, refl, sym, ap, ◌∙◌, arith, inl, inr}
 use Rattle.std.specs.Prelude.{nat_lt, slice_index, if◌then◌else◌, Option, Some, None}
 use Rattle.std.specs.List.{take_while}
 use Rattle.std.proofs.lemmas.Bool.{eq-eqb, ne_eqb, lt-ltb, le-ltb, cond-true, cond-false, cases_lt}
@@ -13,14 +14,16 @@ abbrev break_by : ℕ → ℕ → ℕ → ℕ → Option StreamBreak
 break_by k packets whole left =
     if nat_lt packets whole then Some (no_sync (k + packets)) else if left == 0 then None else Some (torn (k + whole))
 
-break_is : (k : ℕ) (bytes : List ℕ) → break_after k bytes ≡ break_by k (length (packets_of bytes)) (length bytes / 188) (length bytes % 188)
+break_is : (k : ℕ) (bytes : List ℕ) → break_after k bytes ≡ break_by k (length (packets_of bytes)) (length bytes / 188)
+    (length bytes % 188)
 unfolding break_after
 break_is k bytes = refl
 
 -- no whole packet's bytes are there
 pub no_piece : (bytes : List ℕ) → length bytes < 188 → packets_of bytes ≡ []
 unfolding packets_of pieces
-no_piece bytes h = let none : length bytes / 188 ≡ 0 = omega arith in ap (λ (n : ℕ). take_while is_packet (pieces n bytes)) none
+no_piece bytes h = let none : length bytes / 188 ≡ 0 = omega arith in ap
+    (λ (n : ℕ). take_while is_packet (pieces n bytes)) none
 
 -- those of one are there
 one_piece : (bytes : List ℕ) → 188 ≤ length bytes →
@@ -34,7 +37,8 @@ one_piece bytes h =
     ∙ ap (λ (b : ℕ). cond (b == 0x47) (take 188 bytes ∷ packets_of (drop 188 bytes)) []) first
 
 -- a packet more in front changes only the numbers
-break_more : (k packets whole left : ℕ) → break_by k (suc packets) (suc whole) left ≡ break_by (k + 1) packets whole left
+break_more : (k packets whole left : ℕ) → break_by k (suc packets) (suc whole) left ≡ break_by (k + 1) packets whole
+    left
 break_more k packets whole left =
     let p : k + suc packets ≡ k + 1 + packets = omega arith in
     let w : k + suc whole ≡ k + 1 + whole = omega arith in
@@ -44,7 +48,8 @@ break_more k packets whole left =
           ∙ ap (λ (n : ℕ). Some (no_sync n)) p ∙ sym (cond-true (nat_lt packets whole) _ _ (lt-ltb packets whole few))
       | inr all ↦
           cond-false (nat_lt (suc packets) (suc whole)) _ _ (le-ltb (suc packets) (suc whole) (omega arith))
-          ∙ ap (λ (n : ℕ). if left == 0 then None else Some (torn n)) w ∙ sym (cond-false (nat_lt packets whole) _ _ (le-ltb packets whole all))
+          ∙ ap (λ (n : ℕ). if left == 0 then None else Some (torn n)) w
+          ∙ sym (cond-false (nat_lt packets whole) _ _ (le-ltb packets whole all))
     ]
 
 -- at the end there is no packet, and no break
@@ -81,8 +86,10 @@ no_sync_here rest number long apart =
     )
 
 -- the packets and the break, where a packet stands in front
-pub packets_more : (bytes : List ℕ) → 188 ≤ length bytes → slice_index bytes 0 ≡ 0x47 → packets_of bytes ≡ take 188 bytes ∷ packets_of (drop 188 bytes)
-packets_more bytes long sync = one_piece bytes long ∙ cond-true (slice_index bytes 0 == 0x47) _ _ (eq-eqb (slice_index bytes 0) 0x47 sync)
+pub packets_more : (bytes : List ℕ) → 188 ≤ length bytes → slice_index bytes 0 ≡ 0x47 → packets_of bytes
+    ≡ take 188 bytes ∷ packets_of (drop 188 bytes)
+packets_more bytes long sync = one_piece bytes long ∙ cond-true (slice_index bytes 0 == 0x47) _ _
+    (eq-eqb (slice_index bytes 0) 0x47 sync)
 
 pub break_after_more : (k : ℕ) (bytes : List ℕ) → 188 ≤ length bytes → slice_index bytes 0 ≡ 0x47 →
     break_after k bytes ≡ break_after (k + 1) (drop 188 bytes)
@@ -91,7 +98,8 @@ break_after_more k bytes long sync =
     let whole : length bytes / 188 ≡ suc (length after / 188) = omega (arith, length-drop 188 bytes) in
     let left : length bytes % 188 ≡ length after % 188 = omega (arith, length-drop 188 bytes) in
     break_is k bytes
-    ∙ ap (λ (p : List (List ℕ)). break_by k (length p) (length bytes / 188) (length bytes % 188)) (packets_more bytes long sync)
+    ∙ ap (λ (p : List (List ℕ)). break_by k (length p) (length bytes / 188) (length bytes % 188))
+    (packets_more bytes long sync)
     ∙ ap (λ (n : ℕ). break_by k (suc (length (packets_of after))) n (length bytes % 188)) whole
     ∙ ap (λ (n : ℕ). break_by k (suc (length (packets_of after))) (suc (length after / 188)) n) left
     ∙ break_more k (length (packets_of after)) (length after / 188) (length after % 188)
@@ -101,7 +109,8 @@ break_after_more k bytes long sync =
 pub others : (n : ℕ) (bytes : List ℕ) → ArePackets (suc n) bytes → ArePackets n (drop 188 bytes)
 others n bytes are = record {
   long = omega (arith, are.long, length-drop 188 bytes);
-  sync = λ k h. get_or-drop 188 bytes (188 * k) 0 ∙ ap (λ (i : ℕ). slice_index bytes i) (omega arith) ∙ are.sync (suc k) (omega arith);
+  sync = λ k h. get_or-drop 188 bytes (188 * k) 0 ∙ ap (λ (i : ℕ). slice_index bytes i) (omega arith) ∙ are.sync (suc k)
+      (omega arith);
 }
 
 -- all of them are taken
@@ -115,9 +124,11 @@ all_taken (suc n) bytes are =
 -- no break stands after them
 all_unbroken : (n k : ℕ) (bytes : List ℕ) → ArePackets n bytes → break_after k bytes ≡ None
 all_unbroken zero k bytes are =
-    let nothing : bytes ≡ [] = nil_from_length bytes (omega (arith, are.long)) in ap (break_after k) nothing ∙ none_at_end k
+    let nothing : bytes ≡ [] = nil_from_length bytes (omega (arith, are.long)) in ap (break_after k) nothing
+    ∙ none_at_end k
 all_unbroken (suc n) k bytes are =
-    break_after_more k bytes (omega (arith, are.long)) (are.sync 0 (omega arith)) ∙ all_unbroken n (k + 1) (drop 188 bytes) (others n bytes are)
+    break_after_more k bytes (omega (arith, are.long)) (are.sync 0 (omega arith)) ∙ all_unbroken n (k + 1)
+    (drop 188 bytes) (others n bytes are)
 
 pub none_broken : (n : ℕ) (bytes : List ℕ) → ArePackets n bytes → break_of bytes ≡ None
 none_broken n bytes are = all_unbroken n 0 bytes are

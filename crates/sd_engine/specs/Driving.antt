@@ -59,7 +59,8 @@ pub record IsWhole {S : Type 0} (does : S → List ℕ → S → List ℕ → �
   pub passed : Grew a.sink b.sink a.steps b.steps (Closes does ends a.stage (packets_of bytes) b.stage)
 
 -- the bytes that were read break, and the packets before the break went through
-pub record IsStreamBroken {S : Type 0} (does : S → List ℕ → S → List ℕ → ℕ → Type 0) (a b : Moment S) (found : StreamBreak) :
+pub record IsStreamBroken {S : Type 0} (does : S → List ℕ → S → List ℕ → ℕ → Type 0) (a b : Moment S)
+    (found : StreamBreak) :
     Type 0 where
   pub bytes : List ℕ
   pub read : Consumes a.left b.left bytes
@@ -146,7 +147,8 @@ stopped_by Write = WriteFault
 stopped_by (StageRefused fault) = Refused fault
 
 -- what a stage answers at the end, after so many packets
-abbrev pub IsClosed : {S F : Type 0} → (S → S → List ℕ → ℕ → Type 0) → (S → Option (List ℕ) → F → S → List ℕ → ℕ → Type 0)
+abbrev pub IsClosed : {S F : Type 0} → (S → S → List ℕ → ℕ → Type 0) →
+    (S → Option (List ℕ) → F → S → List ℕ → ℕ → Type 0)
     → Vessel → Vessel → S → S → ℕ → ℕ → ℕ → Result ℕ (DriveFault F) → Type 0
 IsClosed ends refuses u v s t from to count (Ok n) = (n ≡ count) × Grew u v from to (ends s t)
 IsClosed ends refuses u v s t from to count (Err (Broken found)) = ⊥

@@ -13,8 +13,8 @@ pub record Vessel : Type 0 where
 abbrev pub vessel : {K : Type 0} → SinkMeanings K → K → Vessel
 vessel meanings sink = record { held = meanings.held sink; room = meanings.room sink }
 
--- The sink grew by some bytes, in at most so many steps of the generator, of both of which something is said; and the room
--- is less by them.
+-- The sink grew by some bytes, in at most so many steps of the generator, of both of which something is said; and the
+-- room is less by them.
 pub record Grew (old new : Vessel) (from to : ℕ) (Says : List ℕ → ℕ → Type 0) : Type 0 where
   pub bytes : List ℕ
   pub steps : ℕ
@@ -28,7 +28,8 @@ abbrev pub IsTooShort : Option ℕ → ℕ → Type 0
 IsTooShort None size = Unit {0}
 IsTooShort (Some room) size = room < size
 
--- A write failed: the sink grew by a prefix of some bytes, of which something is said; and they pass the room that there was.
+-- A write failed: the sink grew by a prefix of some bytes, of which something is said; and they pass the room that
+-- there was.
 pub record CutShort (old new : Vessel) (Says : List ℕ → Type 0) : Type 0 where
   pub bytes : List ℕ
   pub says : Says bytes

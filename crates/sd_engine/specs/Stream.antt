@@ -1,5 +1,6 @@
 -- A stream of bytes, cut into transport packets.
-use Rattle.std.specs.Prelude.{◌≡◌, ℕ, zero, suc, ◌+◌, ◌*◌, ◌/◌, ◌%◌, ◌<◌, ◌==◌, Bool, List, [], ◌∷◌, length, take, drop, take_while, slice_index, nat_lt, if◌then◌else◌, Option, Some, None}
+use Rattle.std.specs.Prelude.{◌≡◌, ℕ, zero, suc, ◌+◌, ◌*◌, ◌/◌, ◌%◌, ◌<◌, ◌==◌, Bool, List, [], ◌∷◌, length, take, drop}
+use Rattle.std.specs.Prelude.{take_while, slice_index, nat_lt, if◌then◌else◌, Option, Some, None}
 use Rattle.sd_engine.specs.declared.fault.StreamBreak.{StreamBreak}
 use Rattle.sd_engine.specs.declared.fault.BreakCause.TheVariants.{Torn, NoSync}
 
@@ -16,7 +17,8 @@ pieces (suc n) bytes = take 188 bytes ∷ pieces n (drop 188 bytes)
 abbrev pub is_packet : List ℕ → Bool
 is_packet piece = slice_index piece 0 == 0x47
 
--- the packets of a stream: its pieces of 188 bytes, up to the first that doesn't begin with the sync byte [ISO/IEC 13818-1, 2.4.3.2]
+-- the packets of a stream: its pieces of 188 bytes, up to the first that doesn't begin with the sync byte
+-- [ISO/IEC 13818-1, 2.4.3.2]
 unfoldable pub packets_of : List ℕ → List (List ℕ)
 packets_of bytes = take_while is_packet (pieces (whole_in bytes) bytes)
 
@@ -28,8 +30,8 @@ torn k = record { packet = k; cause = Torn }
 abbrev pub no_sync : ℕ → StreamBreak
 no_sync k = record { packet = k; cause = NoSync }
 
--- Why what stands after k packets is no stream: a piece that doesn't begin with the sync byte, or else bytes left over at the end. The
--- number is that of the packet at which it breaks [this project, docs/FORMATS.md, Streams].
+-- Why what stands after k packets is no stream: a piece that doesn't begin with the sync byte, or else bytes left over
+-- at the end. The number is that of the packet at which it breaks [this project, docs/FORMATS.md, Streams].
 unfoldable pub break_after : ℕ → List ℕ → Option StreamBreak
 break_after k bytes =
     if nat_lt (length (packets_of bytes)) (whole_in bytes) then Some (no_sync (k + length (packets_of bytes)))

@@ -1,5 +1,6 @@
 -- What a drive takes of all the bytes of a stream, and what it answers.
-use Rattle.std.specs.Prelude.{◌≡◌, ℕ, ◌*◌, ◌≤◌, nat_lt, List, length, take, slice_get, if◌then◌else◌, Option, Some, None}
+use Rattle.std.specs.Prelude.{◌≡◌, ℕ, ◌*◌, ◌≤◌, nat_lt, List, length, take, slice_get, if◌then◌else◌, Option, Some}
+use Rattle.std.specs.Prelude.{None}
 use Rattle.std.specs.Prelude.{Result, Ok, Err}
 use Rattle.sd_engine.specs.Stream.{packets_of, break_of}
 use Rattle.sd_engine.specs.Stage.{Grew, CutShort}
@@ -14,7 +15,8 @@ pub data StreamEnd : Type 0 where
   Breaks : StreamBreak → StreamEnd
   RunsOn : StreamEnd
 
--- the packets of a stream that are taken: those before its break, and no more than the most [this project, docs/FORMATS.md, Streams]
+-- the packets of a stream that are taken: those before its break, and no more than the most
+-- [this project, docs/FORMATS.md, Streams]
 unfoldable pub taken_of : List ℕ → List (List ℕ)
 taken_of bytes = take most_packets (packets_of bytes)
 
@@ -41,11 +43,12 @@ pub record IsAt (bytes : List ℕ) (count : ℕ) : Type 0 where
 
 -- the stage refused there
 pub record RefusesAt {S F : Type 0} (does : S → List ℕ → S → List ℕ → ℕ → Type 0)
-    (refuses : S → Option (List ℕ) → F → S → List ℕ → ℕ → Type 0) (bytes : List ℕ) (a b : Moment S) (fault : F) : Type 0 where
-  pub count : ℕ
-  pub place : IsAt bytes count
-  pub passed : Grew a.sink b.sink a.steps b.steps
-      (Refuses does refuses a.stage (take count (taken_of bytes)) (slice_get (taken_of bytes) count) fault b.stage)
+    (refuses : S → Option (List ℕ) → F → S → List ℕ → ℕ → Type 0) (bytes : List ℕ) (a b : Moment S) (fault : F) : Type 0
+  where
+    pub count : ℕ
+    pub place : IsAt bytes count
+    pub passed : Grew a.sink b.sink a.steps b.steps
+        (Refuses does refuses a.stage (take count (taken_of bytes)) (slice_get (taken_of bytes) count) fault b.stage)
 
 -- a write failed there
 pub record CutAt {S F : Type 0} (does : S → List ℕ → S → List ℕ → ℕ → Type 0) (ends : S → S → List ℕ → ℕ → Type 0)
@@ -58,7 +61,8 @@ pub record CutAt {S F : Type 0} (does : S → List ℕ → S → List ℕ → �
 
 -- what the drive of a stream of these bytes answers
 abbrev pub DrivesOver : {S F : Type 0} → (S → List ℕ → S → List ℕ → ℕ → Type 0) → (S → S → List ℕ → ℕ → Type 0)
-    → (S → Option (List ℕ) → F → S → List ℕ → ℕ → Type 0) → List ℕ → Moment S → Moment S → Result ℕ (DriveFault F) → Type 0
+    → (S → Option (List ℕ) → F → S → List ℕ → ℕ → Type 0) → List ℕ → Moment S → Moment S → Result ℕ (DriveFault F) →
+    Type 0
 DrivesOver does ends refuses bytes a b (Ok count) =
     (end_of bytes ≡ Whole) × (count ≡ length (taken_of bytes))
     × Grew a.sink b.sink a.steps b.steps (Closes does ends a.stage (taken_of bytes) b.stage)

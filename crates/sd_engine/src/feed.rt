@@ -104,7 +104,8 @@ pub fn next<S: Source>(
     ensures length { length piece.new ≡ length piece.old }
     ensures value { IfOk result (λ given. Gives (S.left source.old) (S.left source.new)
         (waiting piece.old span.at span.filled) (waiting piece.new given.1.at given.1.filled) given.0) }
-    ensures fault { IfErr result (Stops (S.left source.old) (S.left source.new) (waiting piece.old span.at span.filled)) }
+    ensures fault { IfErr result
+        (Stops (S.left source.old) (S.left source.new) (waiting piece.old span.at span.filled)) }
     ensures cause { IsCaused (S.faults source.old) (S.faults source.new) (IsErrOf result FeedFault.Read) }
 {
     let span = match fill(source, piece, span) {

@@ -1,17 +1,18 @@
 -- Nothing that is shown is a float.
-use Rattle.std.proofs.Common.{ℕ, ◌≡◌, Bool, true, false, ◌==◌, List, [], ◌∷◌, map, refl}
-use Rattle.std.specs.Prelude.{codes, filter, if◌then◌else◌, Option, Some, None}
-use Rattle.serde_json.specs.Data.{Data}
+use Rattle.std.proofs.Common.{ℕ, ◌≡◌, false, List, [], ◌∷◌, map, refl}
+use Rattle.std.specs.Prelude.{codes, filter, Result, Ok, Err}
 use Rattle.serde_json.specs.View.{items_of}
 use Rattle.serde_json.specs.Written.{has_float, items_have_float}
-use Rattle.sd_section.specs.Header.{body_of, whole_of}
-use Rattle.sd_section.specs.Judged.{section_fault}
-use Rattle.sd_section.specs.declared.fault.SectionFault.{SectionFault}
-use Rattle.sd_section.specs.declared.fault.SectionFault.TheVariants.{Short, Length, Crc}
-use Rattle.sd_psi.specs.Tables.{Stream, descriptors_of, programs_of, info_of, streams_of, is_pat, is_cat, is_pmt}
+use Rattle.sd_section.specs.Header.{body_of}
+use Rattle.sd_psi.specs.Tables.{Stream, descriptors_of, programs_of, info_of, streams_of}
 use Rattle.sd_psi.specs.Access.{is_ca}
 use Rattle.sd_lines.specs.Lines.{ca_data, cas_of, cas_data, program_data, stream_data, pat_data, cat_data, pmt_data}
-use Rattle.sd_lines.specs.Lines.{fault_data, table_data, data_by, section_data}
+use Rattle.sd_lines.specs.Lines.{fault_data}
+use Rattle.sd_lines.specs.Judged.{data_as}
+use Rattle.sd_lines.specs.declared.table.Table.{Table}
+use Rattle.sd_lines.specs.declared.table.Table.TheVariants.{Pat, Cat, Pmt}
+use Rattle.sd_lines.specs.declared.table.TableFault.{TableFault}
+use Rattle.sd_lines.specs.declared.table.TableFault.TheVariants.{Length, Crc, Form}
 
 -- some CA_descriptors
 plain_ca : (descriptors : List (List ℕ)) → items_have_float (items_of (map ca_data descriptors)) ≡ false
@@ -56,30 +57,11 @@ plain_fault : (fault : List ℕ) (packet pid : ℕ) → has_float (fault_data fa
 unfolding fault_data
 plain_fault fault packet pid = refl
 
--- one of two that are plain
-plain_either : (test : Bool) (this that : Data) → has_float this ≡ false → has_float that ≡ false →
-    has_float (if test then this else that) ≡ false
-plain_either true this that h k = h
-plain_either false this that h k = k
-
--- a section that is whole
-plain_table : (packet pid : ℕ) (section : List ℕ) → has_float (table_data packet pid section) ≡ false
-unfolding table_data
-plain_table packet pid section =
-    let fault = plain_fault (codes "table") packet pid in
-    plain_either (pid == 0) _ _ (plain_either (is_pat section) _ _ (plain_pat packet pid section) fault)
-    (plain_either (pid == 1) _ _ (plain_either (is_cat section) _ _ (plain_cat packet pid section) fault)
-    (plain_either (is_pmt section) _ _ (plain_pmt packet pid section) fault))
-
--- bytes, by what is wrong with them
-plain_by : (fault : Option SectionFault) (packet pid : ℕ) (section : List ℕ) →
-    has_float (data_by fault packet pid section) ≡ false
-plain_by None packet pid section = plain_table packet pid (whole_of section)
-plain_by (Some Short) packet pid section = plain_fault (codes "length") packet pid
-plain_by (Some Length) packet pid section = plain_fault (codes "length") packet pid
-plain_by (Some (Crc found due)) packet pid section = plain_fault (codes "crc") packet pid
-
--- any section
-pub plain_section : (packet pid : ℕ) (section : List ℕ) → has_float (section_data packet pid section) ≡ false
-unfolding section_data
-plain_section packet pid section = plain_by (section_fault section) packet pid section
+-- anything that was judged
+pub plain_as : (packet pid : ℕ) (table : Result Table TableFault) → has_float (data_as packet pid table) ≡ false
+plain_as packet pid (Ok (Pat pat)) = plain_pat packet pid pat.section.bytes.now
+plain_as packet pid (Ok (Cat cat)) = plain_cat packet pid cat.section.bytes.now
+plain_as packet pid (Ok (Pmt pmt)) = plain_pmt packet pid pmt.section.bytes.now
+plain_as packet pid (Err Length) = plain_fault (codes "length") packet pid
+plain_as packet pid (Err Crc) = plain_fault (codes "crc") packet pid
+plain_as packet pid (Err Form) = plain_fault (codes "table") packet pid

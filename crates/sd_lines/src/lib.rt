@@ -1,4 +1,4 @@
-//! The inspector's line of a section: what stands in it, as compact JSON.
+//! The inspector's line of a section: which table it is, and what stands in it, as compact JSON.
 #![tactic(auto)]
 
 mod ca;
@@ -6,7 +6,9 @@ mod cat;
 mod line;
 mod pat;
 mod pmt;
+mod table;
 #[cfg(test)]
 mod tests;
 
 pub use line::push_line;
+pub use table::{Table, TableFault, table_on};

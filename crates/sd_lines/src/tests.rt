@@ -92,7 +92,7 @@ fn sections_are_shown(rt: HostRuntime) -> Result<(), Fail> {
     let mut text = String::new(alloc);
     let mut due = String::new(alloc);
     for (packet, pid, section, line) in rows {
-        assert!(rt; push_line(alloc, &mut text, packet, pid, section).is_ok());
+        assert!(rt; push_line(alloc, &mut text, packet, pid, &table_on(pid, section)).is_ok());
         due.push_str(line)?;
         due.push('\n')?;
     }
@@ -119,7 +119,7 @@ fn faults_are_shown(rt: HostRuntime) -> Result<(), Fail> {
     ];
     for (pid, section, fault) in rows {
         let mut text = String::new(alloc);
-        assert!(rt; push_line(alloc, &mut text, 7, pid, section).is_ok());
+        assert!(rt; push_line(alloc, &mut text, 7, pid, &table_on(pid, section)).is_ok());
         let due = format!(in alloc; "{{\"fault\":\"{fault}\",\"packet\":7,\"pid\":{pid}}}\n")?;
         assert_eq!(rt; text, due);
     }

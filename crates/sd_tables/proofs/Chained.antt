@@ -1,5 +1,6 @@
 -- What the inspector writes of packets, one after the other.
-use Rattle.std.proofs.Common.{◌≡◌, ℕ, ◌+◌, ◌-◌, ◌^◌, ◌≤◌, List, [], ◌∷◌, ◌++◌, length, reverse, sym, ap, subst, ◌∙◌, append-nil, append_assoc, arith}
+use Rattle.std.proofs.Common.{◌≡◌, ℕ, ◌+◌, ◌-◌, ◌^◌, ◌≤◌, List, [], ◌∷◌, ◌++◌, length, reverse, sym, ap, subst, ◌∙◌}
+use Rattle.std.proofs.Common.{append-nil, append_assoc, arith}
 use Rattle.std.proofs.lemmas.List.{reverse-append}
 use Rattle.std.specs.List.{flat_map}
 use Rattle.sd_packet.specs.Header.{pid_of}
@@ -25,9 +26,11 @@ first_lines packet before first number is h =
     ap (λ (l : List ℕ). lines_in before ++ l)
     (ap (λ (n : ℕ). flat_map (line_of n (pid_of packet)) (sections_at packet before)) (sym is) ∙ sym h)
 
-pub chain_lines : (before packets : List (List ℕ)) (s t : Inspector) (bytes : List ℕ) (n : ℕ) → StandsAfter before (seen s) →
+pub chain_lines : (before packets : List (List ℕ)) (s t : Inspector) (bytes : List ℕ) (n : ℕ) →
+    StandsAfter before (seen s) →
     length before + length packets ≤ 2 ^ 64 - 1 → Chain inspector_does s packets t bytes n →
-    (lines_in (reverse packets ++ before) ≡ lines_in before ++ bytes) × StandsAfter (reverse packets ++ before) (seen t) × (n ≡ 0)
+    (lines_in (reverse packets ++ before) ≡ lines_in before ++ bytes) × StandsAfter (reverse packets ++ before) (seen t)
+    × (n ≡ 0)
 chain_lines before [] s t bytes n stands few (same, none, zero) = (
   sym (ap (λ (l : List ℕ). lines_in before ++ l) none ∙ append-nil (lines_in before)),
   subst (λ (u : Inspector). StandsAfter before (seen u)) same stands,
@@ -38,7 +41,8 @@ chain_lines before (packet ∷ packets) s t bytes n stands few (mid, first, rest
     let then = chain_lines (packet ∷ before) packets mid t rest k next (omega (arith, few)) more in (
       ap lines_in (reversed packet packets before)
           ∙ then.0
-          ∙ ap (λ (l : List ℕ). l ++ rest) (first_lines packet before first s.number stands.number (one.lines before stands))
+          ∙ ap (λ (l : List ℕ). l ++ rest) (first_lines packet before first s.number stands.number
+          (one.lines before stands))
           ∙ append_assoc (lines_in before) first rest
           ∙ ap (λ (l : List ℕ). lines_in before ++ l) (sym joined),
       subst (λ (ps : List (List ℕ)). StandsAfter ps (seen t)) (sym (reversed packet packets before)) then.1,
@@ -49,7 +53,8 @@ pub all_written : (packets : List (List ℕ)) (s t : Inspector) (bytes : List �
     length packets ≤ 2 ^ 64 - 1 → Chain inspector_does s packets t bytes n → bytes ≡ lines_in (reverse packets)
 unfolding lines_in
 all_written packets s t bytes n stands few chain =
-    sym (chain_lines [] packets s t bytes n stands (omega (arith, few)) chain).0 ∙ ap lines_in (append-nil (reverse packets))
+    sym (chain_lines [] packets s t bytes n stands (omega (arith, few)) chain).0
+    ∙ ap lines_in (append-nil (reverse packets))
 
 pub all_after : (packets : List (List ℕ)) (s t : Inspector) (bytes : List ℕ) (n : ℕ) → StandsAfter [] (seen s) →
     length packets ≤ 2 ^ 64 - 1 → Chain inspector_does s packets t bytes n → StandsAfter (reverse packets) (seen t)
@@ -59,4 +64,5 @@ all_after packets s t bytes n stands few chain =
 
 pub none_counted : (packets : List (List ℕ)) (s t : Inspector) (bytes : List ℕ) (n : ℕ) → StandsAfter [] (seen s) →
     length packets ≤ 2 ^ 64 - 1 → Chain inspector_does s packets t bytes n → n ≡ 0
-none_counted packets s t bytes n stands few chain = (chain_lines [] packets s t bytes n stands (omega (arith, few)) chain).2
+none_counted packets s t bytes n stands few chain = (chain_lines [] packets s t bytes n stands (omega (arith, few))
+    chain).2

@@ -1,5 +1,6 @@
 -- What an assembler lends is shown and learned, one section after the other.
-use Rattle.std.proofs.Common.{ℕ, ◌≡◌, Bool, true, false, ◌==◌, ◌||◌, List, [], ◌∷◌, ◌++◌, get_or, cond, refl, sym, ap, ◌∙◌, append_assoc, append-nil}
+use Rattle.std.proofs.Common.{ℕ, ◌≡◌, Bool, true, false, ◌==◌, ◌||◌, List, [], ◌∷◌, ◌++◌, get_or, cond, refl, sym, ap}
+use Rattle.std.proofs.Common.{◌∙◌, append_assoc, append-nil}
 use Rattle.std.specs.Prelude.{Option, Some, slice_get, drop}
 use Rattle.std.specs.List.{flat_map, list_any}
 use Rattle.std.proofs.lemmas.List.Folds.{list_any-append}
@@ -10,7 +11,8 @@ use Rattle.sd_tables.specs.Watching.{is_named, naming, IsLearned, IsLearning}
 use Rattle.sd_tables.proofs.Learning.{or_false, or_assoc}
 
 -- the section that is lent is the first that waits
-pub front_is : (waiting rest : List (List ℕ)) (section : List ℕ) → Some section ≡ slice_get waiting 0 → rest ≡ drop 1 waiting →
+pub front_is : (waiting rest : List (List ℕ)) (section : List ℕ) → Some section ≡ slice_get waiting 0 →
+    rest ≡ drop 1 waiting →
     waiting ≡ section ∷ rest
 front_is [] rest section is after = absurd (cc)
 front_is (first ∷ waiting) rest section is after =
@@ -18,7 +20,8 @@ front_is (first ∷ waiting) rest section is after =
     ap (λ (s : List ℕ). s ∷ waiting) same ∙ ap (λ (r : List (List ℕ)). section ∷ r) (sym after)
 
 -- a line more
-pub lines_more : (number pid : ℕ) (all text new section : List ℕ) (waiting rest : List (List ℕ)) → waiting ≡ section ∷ rest →
+pub lines_more : (number pid : ℕ) (all text new section : List ℕ) (waiting rest : List (List ℕ)) →
+    waiting ≡ section ∷ rest →
     new ≡ text ++ line_of number pid section → text ++ flat_map (line_of number pid) waiting ≡ all →
     new ++ flat_map (line_of number pid) rest ≡ all
 lines_more number pid all text new section waiting rest is pushed so_far =
@@ -39,7 +42,8 @@ named_by : (b : Bool) (q : ℕ) (section : List ℕ) (rest : List (List ℕ)) �
     (is_named q (cond b (section ∷ []) []) || is_named q (cond b rest [])) ≡ is_named q (cond b (section ∷ rest) [])
 unfolding is_named
 named_by true q section rest =
-    ap (λ (maps : List ℕ). list_any (λ (named : ℕ). named == q) maps || list_any (λ (named : ℕ). named == q) (flat_map pids_named_by rest))
+    ap (λ (maps : List ℕ). list_any (λ (named : ℕ). named == q) maps || list_any (λ (named : ℕ). named == q)
+    (flat_map pids_named_by rest))
     (append-nil (pids_named_by section))
     ∙ sym (list_any-append (λ (named : ℕ). named == q) (pids_named_by section) (flat_map pids_named_by rest))
 named_by false q section rest = refl
@@ -59,8 +63,10 @@ pub nothing_learned : (pid : ℕ) (all : List (List ℕ)) (marks : List Bool) �
 nothing_learned pid all marks = record { at = λ q h. refl }
 
 -- a section more
-pub learned_more : (pid : ℕ) (all waiting rest : List (List ℕ)) (section : List ℕ) (old marks new : List Bool) → waiting ≡ section ∷ rest →
-    IsLearned (naming pid (section ∷ [])) marks new → IsLearning pid all waiting old marks → IsLearning pid all rest old new
+pub learned_more : (pid : ℕ) (all waiting rest : List (List ℕ)) (section : List ℕ) (old marks new : List Bool) →
+    waiting ≡ section ∷ rest →
+    IsLearned (naming pid (section ∷ [])) marks new → IsLearning pid all waiting old marks →
+    IsLearning pid all rest old new
 learned_more pid all waiting rest section old marks new is learned so_far = record {
   at = λ q h.
       ap (λ (a : Bool). a || is_named q (naming pid rest)) (learned.at q h)
@@ -71,7 +77,8 @@ learned_more pid all waiting rest section old marks new is learned so_far = reco
 }
 
 -- all sections
-pub all_learned : (pid : ℕ) (all waiting : List (List ℕ)) (old marks : List Bool) → waiting ≡ [] → IsLearning pid all waiting old marks →
+pub all_learned : (pid : ℕ) (all waiting : List (List ℕ)) (old marks : List Bool) → waiting ≡ [] →
+    IsLearning pid all waiting old marks →
     IsLearned (naming pid all) old marks
 all_learned pid all waiting old marks none so_far = record {
   at = λ q h.
@@ -82,7 +89,8 @@ all_learned pid all waiting old marks none so_far = record {
 }
 
 -- nothing is left to lend
-pub is_lent : (now all : Assembling) → now.counter ≡ all.counter → now.making ≡ all.making → now.waiting ≡ [] → now ≡ all_lent all
+pub is_lent : (now all : Assembling) → now.counter ≡ all.counter → now.making ≡ all.making → now.waiting ≡ [] →
+    now ≡ all_lent all
 is_lent now all counter making none =
     ap (λ (c : Option ℕ). record { counter = c; making = now.making; waiting = now.waiting }) counter
     ∙ ap (λ (m : List ℕ). record { counter = all.counter; making = m; waiting = now.waiting }) making

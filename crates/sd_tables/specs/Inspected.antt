@@ -1,5 +1,6 @@
 -- What the inspector prints of packets. In each list of packets the last comes first.
-use Rattle.std.specs.Prelude.{ℕ, ◌==◌, ◌&&◌, ◌||◌, Bool, List, [], ◌∷◌, ◌++◌, length, map, filter, flat_map, if◌then◌else◌, is_none}
+use Rattle.std.specs.Prelude.{ℕ, ◌==◌, ◌&&◌, ◌||◌, Bool, List, [], ◌∷◌, ◌++◌, length, map, filter, flat_map}
+use Rattle.std.specs.Prelude.{if◌then◌else◌, is_none}
 use Rattle.std.specs.List.{list_any}
 use Rattle.sd_packet.specs.Header.{pid_of, unit_start_of, counter_of, payload_of}
 use Rattle.sd_section.specs.Header.{whole_of}
@@ -10,7 +11,12 @@ use Rattle.sd_lines.specs.Lines.{line_of}
 
 -- what an assembler takes of a packet
 abbrev pub fed_of : List ℕ → Fed
-fed_of packet = record { unit_start = unit_start_of packet == 1; counter = counter_of packet; payload = payload_of packet }
+fed_of packet = record {
+  unit_start = unit_start_of packet == 1;
+  counter = counter_of packet;
+  payload = payload_of
+      packet;
+}
 
 -- the packets of a PID
 unfoldable pub on_pid : ℕ → List (List ℕ) → List Fed
@@ -42,7 +48,8 @@ is_watched pid packets = (pid == 0) || ((pid == 1) || list_any (λ named. named 
 unfoldable pub watched_on : ℕ → List (List ℕ) → List Fed
 watched_on pid [] = []
 watched_on pid (packet ∷ before) =
-    if (pid_of packet == pid) && is_watched pid before then fed_of packet ∷ watched_on pid before else watched_on pid before
+    if (pid_of packet == pid) && is_watched pid before then fed_of packet ∷ watched_on pid before else watched_on pid
+    before
 
 -- the sections that the last packet completes on its PID
 unfoldable pub sections_at : List ℕ → List (List ℕ) → List (List ℕ)
@@ -52,4 +59,5 @@ sections_at packet before =
 -- a line for each section; packets are numbered from 0 [this project, docs/FORMATS.md, Inspector]
 unfoldable pub lines_in : List (List ℕ) → List ℕ
 lines_in [] = []
-lines_in (packet ∷ before) = lines_in before ++ flat_map (line_of (length before) (pid_of packet)) (sections_at packet before)
+lines_in (packet ∷ before) = lines_in before ++ flat_map (line_of (length before) (pid_of packet))
+    (sections_at packet before)

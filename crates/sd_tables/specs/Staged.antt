@@ -9,7 +9,8 @@ use Rattle.sd_tables.specs.Inspected.{sections_at}
 use Rattle.sd_tables.specs.Watching.{IsAfter}
 use Rattle.sd_tables.specs.declared.inspector.Inspector.{Inspector}
 
--- what the inspector keeps: marks of the watched PIDs, their assemblers, how many packets it was offered, and whether memory was wanting
+-- what the inspector keeps: marks of the watched PIDs, their assemblers, how many packets it was offered, and whether
+-- memory was wanting
 pub record Inspecting : Type 0 where
   pub marks : List Bool
   pub places : List (Option Assembling)

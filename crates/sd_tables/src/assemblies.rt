@@ -1,4 +1,5 @@
-ghost use Rattle.std.specs.Prelude.{◌≡◌, ◌<◌, ◌++◌, ◌∷◌, [], ℕ, List, None, IfOk, OnOk, get_or, replicate, slice_set, string_bytes, vec_len};
+ghost use Rattle.std.specs.Prelude.{◌≡◌, ◌<◌, ◌++◌, ◌∷◌, [], ℕ, List, None, IfOk, OnOk, get_or, replicate, slice_set};
+ghost use Rattle.std.specs.Prelude.{string_bytes, vec_len};
 ghost use Rattle.std.specs.List.{flat_map};
 ghost use Rattle.sd_packet.specs.Header.{pid_of};
 ghost use Rattle.sd_section.specs.Assembled.{Fed, after, all_lent};
@@ -8,7 +9,7 @@ ghost use Rattle.sd_tables.specs.Watching.{naming, IsLearned, IsPlace, AreIdle, 
 
 use crate::watched::{PIDS, Watched};
 use sd_cause::NoMemory;
-use sd_lines::push_line;
+use sd_lines::{push_line, table_on};
 use sd_packet::Packet;
 use sd_section::Assembler;
 use std::alloc::Global;
@@ -41,10 +42,12 @@ impl Assemblies {
         text: &mut String,
     ) -> Result<(), NoMemory>
         requires { AreIdle self.old.assemblers.items }
-        ensures lines { (before : List (List ℕ)) → IsAfter before self.old.watched.marks.items self.old.assemblers.items →
+        ensures lines { (before : List (List ℕ)) →
+            IsAfter before self.old.watched.marks.items self.old.assemblers.items →
             OnOk result (string_bytes text.new
             ≡ string_bytes text.old ++ flat_map (line_of number (pid_of packet.now)) (sections_at packet.now before)) }
-        ensures after { (before : List (List ℕ)) → IsAfter before self.old.watched.marks.items self.old.assemblers.items →
+        ensures after { (before : List (List ℕ)) →
+            IsAfter before self.old.watched.marks.items self.old.assemblers.items →
             OnOk result (IsAfter (packet.now ∷ before) self.new.watched.marks.items self.new.assemblers.items) }
     {
         let pid = packet.pid();
@@ -88,8 +91,8 @@ fn no_assemblers(alloc: Global) -> Result<Vec<Option<Assembler>>, NoMemory>
     Ok(places)
 }
 
-// Puts the lines of the sections that an assembler lends after the text, as completed by the packet of this number on this
-// PID, and watches the PIDs that they name.
+// Puts the lines of the sections that an assembler lends after the text, as completed by the packet of this number on
+// this PID, and watches the PIDs that they name.
 fn show(
     alloc: Global,
     number: u64,
@@ -98,13 +101,16 @@ fn show(
     watched: &mut Watched,
     text: &mut String,
 ) -> Result<(), NoMemory>
-    ensures lines { OnOk result (string_bytes text.new ≡ string_bytes text.old ++ flat_map (line_of number pid) assembler.old.waiting) }
-    ensures learned { OnOk result (IsLearned (naming pid assembler.old.waiting) watched.old.marks.items watched.new.marks.items) }
+    ensures lines { OnOk result
+        (string_bytes text.new ≡ string_bytes text.old ++ flat_map (line_of number pid) assembler.old.waiting) }
+    ensures learned { OnOk result
+        (IsLearned (naming pid assembler.old.waiting) watched.old.marks.items watched.new.marks.items) }
     ensures lent { OnOk result (assembler.new ≡ all_lent assembler.old) }
 {
     while let Some(section) = assembler.next() {
-        push_line(alloc, text, number, pid, section)?;
-        watched.learn(pid, section);
+        let table = table_on(pid, section);
+        push_line(alloc, text, number, pid, &table)?;
+        watched.learn(&table);
     }
     Ok(())
 }

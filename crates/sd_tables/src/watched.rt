@@ -1,10 +1,13 @@
-ghost use Rattle.std.specs.Prelude.{◌≡◌, ◌<◌, false, IfOk, [], ◌∷◌, get_or, vec_len};
+ghost use Rattle.std.specs.Prelude.{◌≡◌, ◌<◌, ℕ, List, false, None, IfOk, [], ◌∷◌, get_or, vec_len};
+ghost use Rattle.sd_section.specs.Header.{whole_of};
+ghost use Rattle.sd_section.specs.Judged.{section_fault};
 ghost use Rattle.sd_psi.specs.Tables.{pmt_pids_of};
+ghost use Rattle.sd_lines.specs.Judged.{IsTableOf, IsTableOn};
 ghost use Rattle.sd_tables.specs.Watching.{naming, AreMarked, AreAdded, IsLearned};
 
 use sd_cause::NoMemory;
-use sd_psi::{Pat, pat_in};
-use sd_section::read_one;
+use sd_lines::{Table, TableFault};
+use sd_psi::Pat;
 use std::alloc::Global;
 
 /// How many PIDs there are.
@@ -38,18 +41,29 @@ impl Watched {
         self.marks[usize::from(pid)]
     }
 
-    /// Watches the PIDs of the PMTs that a section of a PID names, where it is a PAT.
-    pub fn learn(&mut self, pid: u16, section: &[u8])
-        ensures { IsLearned (naming pid (section.now ∷ [])) self.old.marks.items self.new.marks.items }
+    /// Watches the PIDs of the PMTs that a section names, judged as one of its PID, where it is a PAT.
+    #[tactic(auto, using(crate::proofs::Learning::is_sound_table, crate::proofs::Learning::is_table_of))]
+    pub fn learn(&mut self, table: &Result<Table, TableFault>)
+        ensures { (pid : ℕ) (section : List ℕ) → IsTableOn pid section table.now →
+            IsLearned (naming pid (section ∷ [])) self.old.marks.items self.new.marks.items }
     {
-        if pid != 0 {
-            return;
+        match table {
+            Ok(table) => self.learn_table(table),
+            Err(_fault) => {}
         }
-        let Ok(section) = read_one(section) else {
-            return;
-        };
-        if let Some(pat) = pat_in(&section) {
-            self.learn_programs(&pat);
+    }
+
+    // Watches those that a table of its PID names.
+    #[tactic(auto, using(crate::proofs::Learning::pat_learned))]
+    fn learn_table(&mut self, table: &Table)
+        ensures { (pid : ℕ) (section : List ℕ) → section_fault section ≡ None →
+            IsTableOf pid (whole_of section) table.now →
+            IsLearned (naming pid (section ∷ [])) self.old.marks.items self.new.marks.items }
+    {
+        match table {
+            Table::Pat(pat) => self.learn_programs(pat),
+            Table::Cat(_cat) => {}
+            Table::Pmt(_pmt) => {}
         }
     }
 

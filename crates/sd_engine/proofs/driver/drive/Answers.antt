@@ -1,17 +1,24 @@
 use Rattle.std.proofs.Common.{◌≡◌, ◌∙◌, subst, arith}
 use Rattle.sd_engine.specs.Feeding.{Gives}
 use Rattle.sd_engine.specs.Driving.{most_packets}
-use Rattle.sd_engine.proofs.Driving.{one_more, recounted, not_fed, not_ended, packet_stopped, all_closed, packet_too_many}
+use Rattle.sd_engine.proofs.Driving.{one_more, recounted, not_fed, not_ended, packet_stopped, all_closed}
+use Rattle.sd_engine.proofs.Driving.{packet_too_many}
 use Rattle.sd_engine.proofs.driver.drive.Goals as goal
 
 pub loop-count-preserved : goal.loop-count-preserved
 loop-count-preserved g c = record {
   live = c.in_default.ensures.ok.0;
   begun = c.in-Ok-Some-default.ensures.begun;
-  within = omega (arith, c.in-Ok-Some-default.ensures.within, c.in-Ok-Some-default.ensures.length, c.loop-count.invariant.long);
+  within = omega (
+    arith,
+    c.in-Ok-Some-default.ensures.within,
+    c.in-Ok-Some-default.ensures.length,
+    c.loop-count.invariant.long,
+  );
   long = c.in-Ok-Some-default.ensures.length ∙ c.loop-count.invariant.long;
   way = one_more _ _ _ _ _ _ _ _ _ _ _ _ _ _ c.loop-count.invariant.way
-      (subst (Gives _ _ _ _) c.in-Ok-Some-default.field-0-0-is c.in-Ok-Some-default.ensures.value) c.in_default.ensures.value;
+      (subst (Gives _ _ _ _) c.in-Ok-Some-default.field-0-0-is c.in-Ok-Some-default.ensures.value)
+      c.in_default.ensures.value;
   read = c.in-Ok-Some-default.ensures.cause.calm (λ e. absurd (cc)) ∙ c.loop-count.invariant.read;
   written = c.offer.ensures.cause.calm (λ e. c.in_default.not-Err _ e) ∙ c.loop-count.invariant.written;
 }
@@ -26,7 +33,8 @@ pub returns-in-Err-offer-clause-value : goal.returns-in-Err-offer-clause-value
 returns-in-Err-offer-clause-value g c =
     rw c.stopped.ensures (
     packet_stopped _ _ _ _ _ _ _ _ _ _ _ _ _ _ _ _ c.offer.result _ c.loop-count.invariant.way
-    (subst (Gives _ _ _ _) c.in-Ok-Some-default.field-0-0-is c.in-Ok-Some-default.ensures.value) c.in-Err-offer.is c.offer.ensures.fault
+    (subst (Gives _ _ _ _) c.in-Ok-Some-default.field-0-0-is c.in-Ok-Some-default.ensures.value) c.in-Err-offer.is
+    c.offer.ensures.fault
     c.offer.ensures.prefix (omega (arith, c.loop-count-test.true)))
 
 pub returns-in-Err-clause-value : goal.returns-in-Err-clause-value
@@ -37,7 +45,8 @@ returns-in-Err-clause-value g c =
 pub returns-in-Ok-None-default-next-clause-value :
     goal.returns-in-Ok-None-default-next-clause-value
 returns-in-Ok-None-default-next-clause-value g c =
-    let most : c.loop-count.count ≡ most_packets = omega (arith, c.loop-count-test.false, c.loop-count.auto.count-end) in
+    let most : c.loop-count.count ≡ most_packets = omega (arith, c.loop-count-test.false, c.loop-count.auto.count-end)
+    in
     all_closed _ _ _ _ _ _ _ _ _ _ _ _ _ _ _ _ (recounted _ _ _ _ _ _ c.loop-count.invariant.way most)
     (subst (Gives _ _ _ _) c.in-Ok-None-default-next.field-0-0-is c.in-Ok-None-default-next.ensures.value)
     c.close-in-Ok-None-default-next.ensures.value (omega arith)
@@ -45,12 +54,14 @@ returns-in-Ok-None-default-next-clause-value g c =
 pub returns-in-Ok-Some-default-next-clause-value :
     goal.returns-in-Ok-Some-default-next-clause-value
 returns-in-Ok-Some-default-next-clause-value g c =
-    let most : c.loop-count.count ≡ most_packets = omega (arith, c.loop-count-test.false, c.loop-count.auto.count-end) in
+    let most : c.loop-count.count ≡ most_packets = omega (arith, c.loop-count-test.false, c.loop-count.auto.count-end)
+    in
     packet_too_many _ _ _ _ _ _ _ _ _ _ (recounted _ _ _ _ _ _ c.loop-count.invariant.way most)
     (subst (Gives _ _ _ _) c.in-Ok-Some-default-next.field-0-0-is c.in-Ok-Some-default-next.ensures.value)
 
 pub returns-in-Err-next-clause-value : goal.returns-in-Err-next-clause-value
 returns-in-Err-next-clause-value g c =
-    let most : c.loop-count.count ≡ most_packets = omega (arith, c.loop-count-test.false, c.loop-count.auto.count-end) in
+    let most : c.loop-count.count ≡ most_packets = omega (arith, c.loop-count-test.false, c.loop-count.auto.count-end)
+    in
     rw c.overrun.ensures (not_ended _ _ _ _ _ _ _ _ _ _ _ (recounted _ _ _ _ _ _ c.loop-count.invariant.way most)
     c.in-Err-next.ensures.fault)

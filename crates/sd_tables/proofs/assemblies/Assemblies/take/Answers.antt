@@ -11,7 +11,8 @@ feed-requires-clause-payload c = omega (arith, c.payload.ensures.length, (start_
 pub returns-then-not-has-clause-lines : goal.returns-then-not-has-clause-lines
 returns-then-not-has-clause-lines c = λ before are.
     let self = c.args.self.now in
-    unwatched_lines c.args.packet.now _ before self.watched.marks.items self.assemblers.items c.args.number c.pid-pid.result
+    unwatched_lines c.args.packet.now _ before self.watched.marks.items self.assemblers.items c.args.number
+    c.pid-pid.result
     c.pid-pid.ensures.value c.pid-pid.ensures.fits (sym c.has.ensures ∙ c.if-not-has.true) are
 
 pub returns-then-not-has-clause-after : goal.returns-then-not-has-clause-after
@@ -27,11 +28,13 @@ returns-clause-lines c = λ before are.
     let pid = c.pid-pid.result in
     let place = c.in_ok-assembler.ensures.place (watched_on pid before) (are.placed.at pid c.pid-pid.ensures.fits) in
     let fed = fed_after packet before c.feed.new.self _ pid c.pid-pid.ensures.value
-    (fed_is c.unit_start.result c.counter.result c.payload.result.now packet c.unit_start.ensures c.counter.ensures.value
+    (fed_is c.unit_start.result c.counter.result c.payload.result.now packet c.unit_start.ensures
+    c.counter.ensures.value
     c.payload.ensures.value)
     (c.feed.ensures (watched_on pid before) place) in
     watched_lines packet _ _ before self.watched.marks.items self.assemblers.items c.feed.new.self c.args.number pid
-    c.pid-pid.ensures.value c.pid-pid.ensures.fits (sym c.has.ensures ∙ c.if-not-has.false) are fed c.in_ok-show.ensures.lines
+    c.pid-pid.ensures.value c.pid-pid.ensures.fits (sym c.has.ensures ∙ c.if-not-has.false) are fed
+    c.in_ok-show.ensures.lines
 
 pub returns-clause-after : goal.returns-clause-after
 returns-clause-after c = λ before are.
@@ -40,7 +43,8 @@ returns-clause-after c = λ before are.
     let pid = c.pid-pid.result in
     let place = c.in_ok-assembler.ensures.place (watched_on pid before) (are.placed.at pid c.pid-pid.ensures.fits) in
     let fed = fed_after packet before c.feed.new.self _ pid c.pid-pid.ensures.value
-    (fed_is c.unit_start.result c.counter.result c.payload.result.now packet c.unit_start.ensures c.counter.ensures.value
+    (fed_is c.unit_start.result c.counter.result c.payload.result.now packet c.unit_start.ensures
+    c.counter.ensures.value
     c.payload.ensures.value)
     (c.feed.ensures (watched_on pid before) place) in
     watched_after packet before self.watched.marks.items c.show.new.watched.marks.items self.assemblers.items
