@@ -1,5 +1,5 @@
 -- What a box of some leaves opens, set by set.
-use Rattle.std.proofs.Common.{◌≡◌, ℕ, zero, suc, ◌+◌, ◌*◌, ◌-◌, ◌<◌, Bool, true, false, ◌&&◌, ◌||◌, List, [], ◌∷◌, length, get_or, drop, refl, arith}
+use Rattle.std.proofs.Common.{◌≡◌, ℕ, zero, suc, ◌+◌, ◌<◌, Bool, true, false, ◌&&◌, ◌||◌, List, [], ◌∷◌, length, get_or, drop, refl, arith}
 use Rattle.sd_tree.specs.declared.set.SetName.{SetName}
 use Rattle.sd_trace.specs.Halves.{has_some}
 use Rattle.sd_trace.specs.Search.{opens_some}

@@ -1,21 +1,17 @@
 -- One round more, and those to come.
-use Rattle.std.proofs.Common.{◌≡◌, ℕ, zero, suc, ◌+◌, ◌*◌, ◌-◌, ◌^◌, ◌<◌, ◌≤◌, Bool, true, false, not, ◌&&◌, nat_eq, List, [], ◌∷◌, ◌++◌, length}
-use Rattle.std.proofs.Common.{get_or, refl, sym, ap, subst, ◌∙◌, inl, inr, arith, eqb-true, eq-eqb}
-use Rattle.std.specs.Prelude.{◌⊎◌, ◌↔◌, All, Contains, filter, cond}
-use Rattle.std.specs.List.{list_any, range_with_len}
+use Rattle.std.proofs.Common.{◌≡◌, ℕ, ◌+◌, ◌*◌, ◌-◌, ◌^◌, ◌<◌, List, [], ◌∷◌, length}
+use Rattle.std.proofs.Common.{get_or, sym, subst, inl, inr}
+use Rattle.std.specs.Prelude.{◌↔◌, All, Contains}
 use Rattle.std.proofs.lemmas.List.Elements.{All-contains, Contains-get_or}
-use Rattle.sd_tree.specs.Leaves.{leaves}
 use Rattle.sd_tree.specs.declared.set.SetName.{SetName}
 use Rattle.sd_tree.specs.declared.set.SetName.TheVariants.{Whole}
-use Rattle.sd_steiner.specs.Cover.{cover_of}
-use Rattle.sd_steiner.proofs.Lists.{found_member, member_cases, member_first, member_later}
+use Rattle.sd_steiner.proofs.Lists.{member_cases, member_first, member_later}
 use Rattle.sd_steiner.proofs.There.{same_leaves}
 use Rattle.sd_trace.specs.declared.found.Found.{Found}
 use Rattle.sd_trace.specs.Halves.{narrowed}
 use Rattle.sd_trace.specs.Search.{halvings, IsLastOpen}
 use Rattle.sd_trace.specs.Rounds.{Joined}
-use Rattle.sd_trace.specs.Trace.{IsRound, IsAnyRound, IsTrace, AreAnyRounds, outside}
-use Rattle.sd_trace.proofs.Opening.{is_found}
+use Rattle.sd_trace.specs.Trace.{IsRound, IsAnyRound, IsTrace, AreAnyRounds}
 
 -- lists of the same leaves
 abbrev pub SameLeaves : List ℕ → List ℕ → Type 0

@@ -1,15 +1,14 @@
 -- What a coalition's sets are cut down to is a leaf of the coalition.
-use Rattle.std.proofs.Common.{◌≡◌, ℕ, zero, suc, ◌+◌, ◌*◌, ◌-◌, ◌/◌, ◌^◌, ◌<◌, ◌≤◌, Bool, true, false, not, cond, ◌&&◌, ◌||◌, List, [], ◌∷◌}
-use Rattle.std.proofs.Common.{length, get_or, refl, sym, ap, subst, ◌∙◌, inl, inr, arith}
-use Rattle.std.specs.Prelude.{◌⊎◌, ◌↔◌, All, Contains, map, Option, Some, None, nat_le, nat_lt, if◌then◌else◌}
-use Rattle.std.specs.List.{list_any}
+use Rattle.std.proofs.Common.{◌≡◌, ℕ, zero, suc, ◌+◌, ◌*◌, ◌-◌, ◌^◌, ◌<◌, ◌≤◌, Bool, true, false, not, cond, ◌&&◌, ◌||◌, List, [], ◌∷◌}
+use Rattle.std.proofs.Common.{get_or, refl, sym, ap, subst, ◌∙◌, inl, inr, arith}
+use Rattle.std.specs.Prelude.{◌↔◌, All, Contains, map, Option, Some, None, nat_le, nat_lt, if◌then◌else◌}
 use Rattle.std.proofs.lemmas.Bool.{leb-true, ltb-true, cases_eq}
 use Rattle.std.proofs.lemmas.List.Elements.{All-cons, All-contains, Contains-get_or}
 use Rattle.std.proofs.lemmas.List.Folds.{list_any_at, Any-from_list_any}
 use Rattle.sd_tree.specs.Node.{depth}
 use Rattle.sd_tree.specs.Paths.{sibling_of}
 use Rattle.sd_tree.specs.Leaves.{is_member, is_below}
-use Rattle.sd_tree.specs.SetNames.{IsPair, IsOfHeight}
+use Rattle.sd_tree.specs.SetNames.{IsOfHeight}
 use Rattle.sd_tree.specs.declared.set.SetName.{SetName}
 use Rattle.sd_tree.specs.declared.set.SetName.TheVariants.{Whole, Diff}
 use Rattle.sd_tree.proofs.Levels.{depth_at}
@@ -22,9 +21,9 @@ use Rattle.sd_steiner.proofs.There.{the_cover}
 use Rattle.sd_trace.specs.declared.found.Found.{Found}
 use Rattle.sd_trace.specs.Trace.{IsRound, IsTrace}
 use Rattle.sd_trace.proofs.Opening.{leaf_is_fresh}
-use Rattle.sd_trace.specs.Halves.{halves_of, cuts_left, only_leaf, narrowed, has_some, open_half, cut_once_more}
+use Rattle.sd_trace.specs.Halves.{halves_of, cuts_left, only_leaf, narrowed, has_some}
 use Rattle.sd_trace.proofs.Narrowing.{IfCounted, halves_counted, siblings}
-use Rattle.sd_trace.proofs.Narrowed.{IsAlone, is_alone, whole_is_cut, half_fits, first_holds, second_holds, narrowed_uncut}
+use Rattle.sd_trace.proofs.Narrowed.{is_alone, whole_is_cut, half_fits, first_holds, second_holds, narrowed_uncut}
 use Rattle.sd_trace.proofs.Narrowed.{narrowed_more, cuts_few}
 
 -- the leaf that is below its own node is the node's

@@ -1,5 +1,5 @@
 -- The list of leaves that are revoked or found, with one more.
-use Rattle.std.proofs.Common.{◌≡◌, ◌≢◌, ℕ, ◌+◌, ◌<◌, ◌≤◌, Bool, nat_eq, List, [], ◌∷◌, ◌++◌, length, arith, refl, sym, subst, inl, inr}
+use Rattle.std.proofs.Common.{◌≡◌, ◌≢◌, ℕ, nat_eq, List, [], ◌∷◌, ◌++◌, arith, sym, subst, inl, inr}
 use Rattle.std.proofs.Common.{Decides, eq-eqb, eqb-true}
 use Rattle.std.specs.Prelude.{◌⊎◌, ◌↔◌, Contains, AllPairs}
 use Rattle.std.specs.Ordering.{nat_cmp}
@@ -11,7 +11,6 @@ use Rattle.std.proofs.lemmas.List.Sorted.{Contains-permutation, IsPermutation-sy
 use Rattle.std.proofs.lemmas.Map.Keys.{IsDistinct-IsPermutation, IsStrictlyIncreasing-from_distinct}
 use Rattle.std.proofs.lemmas.Map.Made.{IsDistinct-from_AllPairs}
 use Rattle.sd_steiner.proofs.Lists.{once_append, member_cases, no_member}
-use Rattle.sd_trace.specs.Rounds.{Joined}
 
 number_tells : (x y : ℕ) → Decides (nat_eq x y) (x ≡ y)
 number_tells x y = (λ e. eqb-true x y e, λ e. eq-eqb x y e)

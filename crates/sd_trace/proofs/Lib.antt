@@ -10,3 +10,4 @@ pub mod Chained
 pub mod Leaving
 pub mod Inside
 pub mod Boxes
+pub mod Anyway

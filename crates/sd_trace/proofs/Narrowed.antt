@@ -10,9 +10,7 @@ use Rattle.sd_tree.specs.Leaves.{is_member, is_below}
 use Rattle.sd_tree.specs.SetNames.{IsPair, IsOfHeight}
 use Rattle.sd_tree.specs.declared.set.SetName.{SetName}
 use Rattle.sd_tree.specs.declared.set.SetName.TheVariants.{Whole, Diff}
-use Rattle.sd_tree.proofs.Levels.{IsAtLevel, depth_at, doubled}
-use Rattle.sd_tree.proofs.Members.{lower_is_node}
-use Rattle.sd_steiner.proofs.Ends.{sibling_cases}
+use Rattle.sd_tree.proofs.Levels.{depth_at, doubled}
 use Rattle.sd_trace.specs.Halves.{halves_of, halves_below, child_to, cuts_left, only_leaf, narrowed}
 use Rattle.sd_trace.specs.Halves.{has_some, open_half, cut_once_more, AreHalves, IfHalves}
 use Rattle.sd_trace.specs.Search.{opens_some}

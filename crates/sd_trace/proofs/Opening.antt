@@ -1,20 +1,19 @@
 -- The last set of a cover that opens, and what is left where none does.
-use Rattle.std.proofs.Common.{◌≡◌, ℕ, zero, suc, ◌+◌, ◌*◌, ◌-◌, ◌^◌, ◌<◌, ◌≤◌, Bool, true, false, not, ◌||◌, ◌&&◌, nat_eq, List, [], ◌∷◌}
-use Rattle.std.proofs.Common.{◌++◌, length, get_or, take, drop, cond, count_by, arith, refl, sym, ap, subst, ◌∙◌, inl, inr, eq-eqb}
+use Rattle.std.proofs.Common.{◌≡◌, ℕ, zero, suc, ◌+◌, ◌-◌, ◌^◌, ◌<◌, Bool, true, false, not, ◌||◌, nat_eq, List, [], ◌∷◌}
+use Rattle.std.proofs.Common.{length, get_or, take, drop, cond, count_by, arith, refl, sym, ap, subst, ◌∙◌, inl, inr, eq-eqb}
 use Rattle.std.specs.Prelude.{◌⊎◌, Contains, All, replicate, if◌then◌else◌}
 use Rattle.std.specs.List.{list_any}
-use Rattle.std.proofs.lemmas.Bool.{cases_Bool, false_from_ne_true}
 use Rattle.std.proofs.lemmas.List.{drop-append-le, drop-replicate, take-replicate, length-replicate, length-append}
 use Rattle.std.proofs.lemmas.List.Elements.{All-contains}
 use Rattle.std.proofs.lemmas.List.Folds.{list_any_at}
 use Rattle.std.proofs.lemmas.List.Sums.{sum_by-cons}
-use Rattle.sd_tree.specs.Leaves.{is_member, unrevoked}
+use Rattle.sd_tree.specs.Leaves.{is_member}
 use Rattle.sd_tree.specs.declared.set.SetName.{SetName}
 use Rattle.sd_tree.specs.declared.set.SetName.TheVariants.{Whole}
 use Rattle.sd_steiner.specs.Chains.{IsChainCover}
 use Rattle.sd_steiner.proofs.Covers.{cover_partition}
 use Rattle.sd_steiner.proofs.Partitions.{among_unrevoked}
-use Rattle.sd_steiner.proofs.Lists.{counted_some, found_member, member_first, member_later}
+use Rattle.sd_steiner.proofs.Lists.{counted_some, found_member}
 use Rattle.sd_trace.specs.declared.found.Found.{Found}
 use Rattle.sd_trace.specs.Halves.{has_some, narrowed}
 use Rattle.sd_trace.specs.Search.{IsLastOpen, halvings, opens_some, right_from}

@@ -1,11 +1,9 @@
 -- What a round finds.
-use Rattle.std.proofs.Common.{◌≡◌, ℕ, ◌+◌, ◌*◌, ◌-◌, ◌^◌, ◌<◌, ◌≤◌, Bool, true, false, List, [], ◌∷◌, ◌++◌, length, get_or, drop, replicate}
-use Rattle.std.proofs.Common.{refl, sym, ap, subst, ◌∙◌, inl, inr, arith}
-use Rattle.std.specs.Prelude.{All, Contains, Option, Some, None}
-use Rattle.std.specs.List.{list_any}
+use Rattle.std.proofs.Common.{◌≡◌, ℕ, ◌*◌, ◌-◌, ◌^◌, ◌<◌, ◌≤◌, List, length, get_or}
+use Rattle.std.proofs.Common.{refl, subst, inl, inr, arith}
+use Rattle.std.specs.Prelude.{All, Option, Some, None}
 use Rattle.std.proofs.lemmas.Bool.{cases_lt}
 use Rattle.std.proofs.lemmas.List.Elements.{All-contains, Contains-get_or}
-use Rattle.sd_tree.specs.SetNames.{IsOfHeight}
 use Rattle.sd_tree.specs.declared.set.SetName.{SetName}
 use Rattle.sd_tree.specs.declared.set.SetName.TheVariants.{Whole}
 use Rattle.sd_tree.specs.declared.leaf.TheConstants.{MOST_REVOKED}
@@ -15,12 +13,10 @@ use Rattle.sd_steiner.proofs.Covers.{cover_small}
 use Rattle.sd_steiner.proofs.Heights.{of_height}
 use Rattle.sd_steiner.proofs.There.{the_cover}
 use Rattle.sd_trace.specs.declared.found.Found.{Found}
-use Rattle.sd_trace.specs.Halves.{has_some}
-use Rattle.sd_trace.specs.Search.{right_from, opens_some, IsLastOpen, halvings}
-use Rattle.sd_trace.specs.Rounds.{IsRoundCover, IsFoundIn, FindsIn, IsLastIn, FindsLast, RoundOf, TellsRound}
-use Rattle.sd_trace.specs.Trace.{IsRound, IsAnyRound}
+use Rattle.sd_trace.specs.Rounds.{IsRoundCover, FindsIn, IsLastIn, FindsLast, RoundOf, TellsRound}
+use Rattle.sd_trace.specs.Trace.{IsAnyRound}
 use Rattle.sd_trace.proofs.Searches.{few_probes}
-use Rattle.sd_trace.proofs.Opening.{all_right, last_opened, none_is_left, leaf_is_fresh}
+use Rattle.sd_trace.proofs.Opening.{none_is_left, leaf_is_fresh}
 
 -- a found leaf of the cover is one of a round
 pub round_of : (d : ℕ) (gone : List ℕ) (sets : List SetName) (before after : ℕ) (found : Option Found) → d ≤ 20 →

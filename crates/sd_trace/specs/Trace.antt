@@ -1,5 +1,5 @@
 -- The leaves that a box still opens for, in the order in which they are found [Naor, Naor, Lotspiech 2001, 5].
-use Rattle.std.specs.Prelude.{◌≡◌, ◌&&◌, not, nat_eq, filter, ℕ, ◌+◌, ◌-◌, ◌*◌, ◌^◌, ◌<◌, ◌≤◌, List, [], ◌∷◌}
+use Rattle.std.specs.Prelude.{◌≡◌, ◌&&◌, not, nat_eq, filter, ℕ, ◌+◌, ◌-◌, ◌*◌, ◌^◌, ◌<◌, ◌≤◌, max, List, [], ◌∷◌}
 use Rattle.std.specs.Prelude.{Contains, length, get_or}
 use Rattle.std.specs.List.{list_any}
 use Rattle.sd_tree.specs.Leaves.{leaves}
@@ -38,3 +38,10 @@ AreAnyRounds d gone (found ∷ later) = IsAnyRound d gone found × AreAnyRounds 
 -- the leaves of the coalition that aren't among these, ascending
 abbrev pub outside : ℕ → List ℕ → List ℕ → List ℕ
 outside d gone coalition = filter (λ u. list_any (nat_eq u) coalition && not (list_any (nat_eq u) gone)) (leaves d)
+
+-- the leaf was found by few probes where n leaves were revoked or found before: one, at most d cuts, and x halvings,
+-- where 2^x is below twice the greatest number of sets that a cover of n leaves has [Naor, Naor, Lotspiech 2001, 3.2 and 5]
+pub record IsCheap (d n : ℕ) (found : Found) : Type 0 where
+  pub splits : found.splits ≤ d
+  pub trials : found.splits + 1 ≤ found.trials
+  pub turns : 2 ^ (found.trials - found.splits - 1) < 2 * max 1 (2 * n - 1)

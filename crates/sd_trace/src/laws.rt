@@ -1,7 +1,8 @@
 //! What a trace comes to.
 
-ghost use Rattle.std.specs.Prelude.{ℕ, ◌^◌, ◌<◌, ◌≤◌, ◌↔◌, List, All, Contains, map};
-ghost use Rattle.sd_trace.specs.Trace.{IsTrace};
+ghost use Rattle.std.specs.Prelude.{◌≡◌, ◌≢◌, ℕ, ◌+◌, ◌^◌, ◌<◌, ◌≤◌, ◌↔◌, ◌++◌, ◌∷◌, List, All, AllPairs, Contains};
+ghost use Rattle.std.specs.Prelude.{length, map};
+ghost use Rattle.sd_trace.specs.Trace.{IsTrace, AreAnyRounds, IsCheap};
 ghost use Rattle.sd_trace.specs.declared.found.Found.{Found};
 
 /// What is found of a coalition are its leaves that aren't revoked, and no other leaves.
@@ -9,4 +10,22 @@ pub fn a_trace_finds_the_coalition()
     ensures { (d : ℕ) (coalition revoked : List ℕ) (found : List Found) → 1 ≤ d → d ≤ 20 →
         All (λ u. u < 2 ^ d) revoked → IsTrace d coalition revoked found → (u : ℕ) → u < 2 ^ d →
         Contains (map (λ f. f.leaf) found) u ↔ (Contains coalition u × ¬ Contains revoked u) }
+{}
+
+/// A coalition has one trace: what is found, in its order, and by how many trials and splits.
+#[tactic(auto, using(crate::proofs::Anyway::one_trace))]
+pub fn one_trace()
+    ensures { (d : ℕ) (coalition revoked : List ℕ) (a b : List Found) → 1 ≤ d → d ≤ 20 →
+        All (λ u. u < 2 ^ d) revoked → IsTrace d coalition revoked a → IsTrace d coalition revoked b → a ≡ b }
+{}
+
+/// Whatever a box answers, what is found are different leaves of the tree, none of them revoked, each by few probes.
+pub fn found_leaves_are_new()
+    ensures leaves { (d : ℕ) (revoked : List ℕ) (found : List Found) → AreAnyRounds d revoked found →
+        All (λ f. (f.leaf < 2 ^ d) × ¬ Contains revoked f.leaf) found }
+    ensures once { (d : ℕ) (revoked : List ℕ) (found : List Found) → AreAnyRounds d revoked found →
+        AllPairs (λ f g. f.leaf ≢ g.leaf) found }
+    ensures cheap { (d : ℕ) (revoked : List ℕ) (before : List Found) (f : Found) (later : List Found) → d ≤ 20 →
+        All (λ u. u < 2 ^ d) revoked → AreAnyRounds d revoked (before ++ f ∷ later) →
+        IsCheap d (length revoked + length before) f }
 {}

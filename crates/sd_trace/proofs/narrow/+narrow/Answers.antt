@@ -1,4 +1,4 @@
-use Rattle.std.proofs.Common.{◌≡◌, ℕ, ◌+◌, ◌≤◌, List, Some, true, false, Bool, [], ◌∷◌, ◌∙◌, sym, ap, subst}
+use Rattle.std.proofs.Common.{ℕ, true, false, [], ◌∷◌, ◌∙◌, sym, ap}
 use Rattle.sd_trace.specs.Search.{opens_some}
 use Rattle.sd_trace.proofs.Narrowed.{told_more}
 use Rattle.sd_trace.proofs.narrow.+narrow.Goals as goal

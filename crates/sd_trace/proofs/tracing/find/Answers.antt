@@ -1,4 +1,4 @@
-use Rattle.std.proofs.Common.{◌≡◌, ℕ, ◌+◌, ◌<◌, ◌^◌, List, Some, true, false, Bool, take, drop, ◌-◌, length, inl, inr, refl, sym, ap, subst, ◌∙◌, arith, Fits, w32}
+use Rattle.std.proofs.Common.{ℕ, List, Bool, take, drop, ◌-◌, length, inl, inr, refl, sym, ap, subst, ◌∙◌, arith}
 use Rattle.std.proofs.lemmas.Bool.{eqb-true}
 use Rattle.sd_tree.specs.declared.set.SetName.TheVariants.{Whole}
 use Rattle.sd_trace.specs.Search.{opens_some, IsLastOpen}

@@ -1,9 +1,9 @@
-use Rattle.std.proofs.Common.{◌≡◌, ℕ, ◌+◌, ◌*◌, ◌<◌, ◌≤◌, List, [], ◌∷◌, ◌++◌, length, sum_by, refl, sym, ap, subst, ◌∙◌, arith}
+use Rattle.std.proofs.Common.{◌≡◌, ℕ, ◌<◌, List, [], ◌∷◌, ◌++◌, length, sum_by, sym, ap, subst, ◌∙◌, arith}
 use Rattle.std.specs.Prelude.{Option, Some, None}
 use Rattle.std.proofs.lemmas.List.{append-nil, append_assoc, length_push}
 use Rattle.std.proofs.lemmas.List.Sums.{sum_by_push}
 use Rattle.sd_trace.specs.declared.found.Found.{Found}
-use Rattle.sd_trace.specs.Trace.{IsTrace, AreAnyRounds, outside, IsRound, IsAnyRound}
+use Rattle.sd_trace.specs.Trace.{IsTrace, AreAnyRounds}
 use Rattle.sd_trace.specs.Rounds.{RoundOf, TellsRound, Joined}
 use Rattle.sd_trace.proofs.Chained.{rounds_more, trace_more, joined_leaves, none_any, none_traced}
 use Rattle.sd_trace.proofs.Rounds.{round_few}
