@@ -1,0 +1,10 @@
+pub mod Kept
+pub mod Leaves
+pub mod Limits
+pub mod Listed
+pub mod Reading
+pub mod Reports
+pub mod Spaces
+pub mod Spellings
+pub mod Steps
+pub mod Taking

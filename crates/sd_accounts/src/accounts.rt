@@ -1,0 +1,72 @@
+ghost use Rattle.std.specs.Prelude.{◌≡◌, ◌⊎◌, false, IfOk, Ok, Err, MatchResult};
+ghost use Rattle.serde_json.specs.View.{view};
+ghost use Rattle.serde_json.specs.Written.{has_float};
+ghost use Rattle.sd_book.specs.Limits.{IsWithinLimits};
+ghost use Rattle.sd_accounts.specs.Accounts.{IsListOf};
+ghost use Rattle.sd_accounts.specs.Judged.{book_of};
+ghost use Rattle.sd_accounts.specs.Line.{said_by};
+ghost use Rattle.sd_accounts.specs.Report.{report_data};
+
+use crate::fault::AccountFault;
+use crate::register::Register;
+use crate::report::report;
+use sd_book::Book;
+use sd_cause::NoMemory;
+use sd_tree::{Height, Leaf};
+use serde_json::Value;
+use std::alloc::Global;
+use std::collections::BTreeMap;
+use std::marker::Model;
+
+/// The book that the lines of an accounts file make, and the names that they bind.
+#[derive(Drop)]
+pub struct Accounts {
+    book: Book,
+    leaves: BTreeMap<String, Leaf>,
+}
+
+impl Model for Accounts {
+    ghost use Rattle.sd_accounts.specs.Accounts.{AccountsValue};
+    ghost use Rattle.sd_accounts.specs.Kept.{accounts_in};
+
+    ghost Value = { AccountsValue };
+
+    ghost view = { λ inside. record { book = inside.book; accounts = accounts_in inside.leaves.entries } };
+}
+
+impl Accounts {
+    /// The accounts that a file's bytes say for a tree of this height, one change a line.
+    ///
+    /// Lines are judged in order, and the first bad one decides. On one line the order is `Line`, `Unknown`, `Taken`,
+    /// `Limit`. The last period is judged after the last line [this project, docs/FORMATS.md, Accounts].
+    pub fn read(alloc: Global, bytes: &[u8], h: Height) -> Result<Accounts, AccountFault>
+        ensures height { IfOk result (λ accounts. accounts.book.height ≡ h) }
+        ensures fits { IfOk result (λ accounts. IsWithinLimits h accounts.book.commands) }
+        ensures accounts { IfOk result (λ accounts. IsListOf (said_by h bytes.now) accounts.accounts) }
+        // The book, or the first fault.
+        ensures value { MatchResult result (λ accounts. book_of h bytes.now ≡ Ok accounts.book.commands)
+            (λ fault. (fault ≡ AccountFault.NoMemory) ⊎ (book_of h bytes.now ≡ Err fault)) }
+    {
+        let register = Register::read(alloc, bytes, h)?;
+        let (book, leaves) = register.finish()?;
+        Ok(Accounts { book, leaves })
+    }
+
+    /// The book that the lines make.
+    pub fn book(&self) -> &Book
+        ensures { result.now ≡ self.now.book }
+    {
+        &self.book
+    }
+
+    /// The report: each account by name with its leaf and whether the leaf is active, not revoked, in the last period;
+    /// the height of the tree; the number of the last period.
+    #[tactic(auto, using(crate::proofs::Reports::plain_report))]
+    pub fn report(&self, alloc: Global) -> Result<Value, NoMemory>
+        ensures value { IfOk result (λ value. view value ≡ report_data self.now) }
+        // So it is written as compact JSON.
+        ensures plain { has_float (report_data self.now) ≡ false }
+    {
+        report(alloc, &self.book, &self.leaves).map_err(|_| NoMemory)
+    }
+}
