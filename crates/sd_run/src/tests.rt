@@ -5,7 +5,7 @@ use sd_book::BookLimit;
 use sd_ports::{Depot, MemDepot, MemSink, Sink};
 use sd_sample::sample;
 use sd_site::SiteFault;
-use sd_status::{ClearCause, LimitKind, Status, StreamCause};
+use sd_status::{LimitKind, Status, StreamCause};
 use sd_steps::Steps;
 use std::alloc::{AllocError, Global};
 use std::marker::Brand;
@@ -20,35 +20,6 @@ ecm-every 200
 crypto-ecms 2
 period-cryptos 1
 ";
-
-/// The card of leaf 5 of this site.
-const CARD_5: &str =
-    "5344434401030000000512349a9aea255b8e54be50fc2cb5d0b83ebf64120b12e68d82699face4ee860511dc0957476ca37572a1dcc65a3f00d57deed46e69c2e91426478f712417fb92a56bb3b4a9ec141e3e6c5f7f1d34c7932d34ee14f724fd68a98b2f9fdcb508de0f48aa94e29d22fc6666b24e1ad2794a4f1f1519d5126f9de69bdeaf722cfee0075900407c5f5709ab0b475c92082dca33bfd94d089bfb1948a03cae4d5b75ad14e548954a872ea73ecca7c88349a7d5558ea323dfebd65bf59142ace49371da03b064c53490a01b870e7120925ffd7ce8b20d840d83d052c5668db762ab8dbdeede813ac7b7ad90ee38b89d1475ba747af7";
-
-/// The card of leaf 0 of this site.
-const CARD_0: &str =
-    "5344434401030000000012349a9aea255b8e54be50fc2cb5d0b83ebf64120b12e68d82699face4ee860511dc0938f5db1e2e38332732e7da82f1ad3e4ce6cfe09cd3dfda4ac268d6eabfa59ab342ded9ec0c6429af0728e4d7cc230aa9b240bd7b6685508645c9c756f37c6f0135799ab8c694ef3440af71e7b6efda56a9b412a3317dbcf9a6176da916bf13294ece16c2e41604c23e8fe92448dbb6167694cc2436ee322f6615c94c8e9028fb6a8a9230ac0c7e65288d89f5c32b2bab5fbaf35e3602c60446efa84f2b9563f16ef9480a25e9576d5fc3023e24ba9f562a4a309d483a4724be88217fed2d1c81ab7160c1c8841c3e07b388132bd63b";
-
-/// A broadcast of a PAT and a PMT to all leaves: its packets without the bytes 0xFF at their ends.
-const OPENED: [&str; 6] = [
-    "474001100001b011ffffc1000009061234e1f0e1f192f94eeb",
-    "4741f0100082b04c0000c10000000000000000000100018e7c98755d4f1259303e2c26f84665c7010000000000000000a96fc38d45af14016d8f9f0d1688616d0d70f5ba661218fb326af486ddaa0354cdb2897d",
-    "4741f1100080b04b0000c1000000000000000000000000000000000000008229606edb4eb380c6745a1a0ef112fb4f37fd1a5ac322f2eb828187831d8c4016f21bec8b49a29a6bf944da8fbb98bb002a26ffa7",
-    "474000100000b00d0001c100000001f0002ab104b2",
-    "475000100002b0170001c10000e100f0001ce100f0000fe101f0002f44b99b",
-    "4741f1110080b0530000c1000000000001000000000000000000000002018229606edb4eb380c6745a1a0ef112fb4f37fd1a5ac322f2eb828187831d8c4016f21bec8b49a29a6bf944da8fbb98bb011000000000000010d5aa8db5",
-];
-
-/// One of three packets, of which the first control message has another last byte and is dropped.
-const MISSING: [&str; 7] = [
-    "474001100001b011ffffc1000009061234e1f0e1f192f94eeb",
-    "4741f0100082b04c0000c10000000000000000000100018e7c98755d4f1259303e2c26f84665c7010000000000000000a96fc38d45af14016d8f9f0d1688616d0d70f5ba661218fb326af486ddaa0354cdb2897d",
-    "4741f1100080b04b0000c1000000000000000000000000000000000000008229606edb4eb380c6745a1a0ef112fb4f37fd1a5ac322f2eb828187831d8c4016f21bec8b49a29a6bf944da8fbb98bb002a26ffa6",
-    "474000100000b00d0001c100000001f0002ab104b2",
-    "475000100002b01d0001c10000e100f00609041234e1f11be100f0000fe101f000b06cc7bd",
-    "471fff10",
-    "4741f1110080b0530000c1000000000001000000000000000000000003018229606edb4eb380c6745a1a0ef112fb4f37fd1a5ac322f2eb828187831d8c4016f21bec8b49a29a6bf944da8fbb98bb011000000000000010428a56a6",
-];
 
 /// The lines of the tables in a sample stream of three packets, and how long the first is.
 const TABLES: &str =
@@ -334,7 +305,7 @@ fn words_and_sites_are_judged(rt: HostRuntime) -> Result<(), AllocError> {
 #[test]
 fn files_are_made(rt: HostRuntime) -> Result<(), AllocError> {
     let alloc = rt.alloc();
-    let card = hex::decode(alloc, CARD_5).map_err(|_| AllocError)?;
+    let card = card_5(alloc)?;
     let words = ["card", "S", "5", "O"];
     let made = left(alloc, &words, (SITE, b""), 100, 252, &[0])?;
     assert_eq!(rt; made.status, Status::Done);
@@ -411,31 +382,6 @@ fn tables_are_printed(rt: HostRuntime) -> Result<(), AllocError> {
     let left = left(alloc, &["tables", "S"], (&whole, b""), 100, 0, &[1])?;
     assert_eq!(rt; left.status, Status::PrintFault);
     assert_eq!(rt; left.printed.as_slice(), &TABLES.as_bytes()[..PAT_LINE]);
-    Ok(())
-}
-
-#[test]
-fn broadcasts_are_made(rt: HostRuntime) -> Result<(), AllocError> {
-    let alloc = rt.alloc();
-    let words = ["head", "S", "B", "B", "O"];
-    for most in [1, 1000] {
-        let made = left(alloc, &words, (SITE, b""), most, 1000, &[])?;
-        assert_eq!(rt; made.status, Status::Done);
-        let out = made.out.expect(&rt, "a broadcast");
-        assert_eq!(rt; out.len(), 564);
-        assert!(rt; out.as_slice().starts_with(&[0x47, 0x40, 0x01, 0x10, 0x00]));
-        let torn = left(alloc, &words, (SITE, b"period\n"), most, 1000, &[])?;
-        let cause = ClearCause::Torn;
-        assert_eq!(rt; torn.status, Status::BadClear { packet: 0, cause });
-        assert_eq!(rt;
-            torn.printed.as_slice(),
-            b"clear packet 0: torn\n".as_slice()
-        );
-        assert!(rt; torn.out.is_some_and(|out| out.is_empty()));
-    }
-    let cut = left(alloc, &words, (SITE, b""), 100, 200, &[])?;
-    assert_eq!(rt; cut.status, Status::DepotFault);
-    assert!(rt; cut.out.is_some_and(|out| out.len() < 564));
     Ok(())
 }
 
@@ -580,70 +526,11 @@ fn covers_are_those_of_the_definition(rt: HostRuntime) -> Result<(), AllocError>
     Ok(())
 }
 
-/// These packets, with bytes 0xFF up to their ends.
-fn stream_of(alloc: Global, packets: &[&str]) -> Result<Vec<u8>, AllocError> {
-    let mut bytes = Vec::new(alloc);
-    for packet in packets {
-        let head = hex::decode(alloc, packet).map_err(|_| AllocError)?;
-        for k in 0..188 {
-            bytes.push(match head.get(k) {
-                Some(byte) => *byte,
-                None => 0xFF,
-            })?;
-        }
-    }
-    Ok(bytes)
-}
-
-#[test]
-fn broadcasts_are_received(rt: HostRuntime) -> Result<(), AllocError> {
-    let alloc = rt.alloc();
-    let card = hex::decode(alloc, CARD_0).map_err(|_| AllocError)?;
-    let opened = stream_of(alloc, &OPENED)?;
-    let clear = stream_of(
+/// The card of leaf 5 of this site.
+fn card_5(alloc: Global) -> Result<Vec<u8>, AllocError> {
+    hex::decode(
         alloc,
-        &[
-            "474000100000b00d0001c100000001f0002ab104b2",
-            "475000100002b0170001c10000e100f0001ce100f0000fe101f0002f44b99b",
-        ],
-    )?;
-    let missing = stream_of(alloc, &MISSING)?;
-    let cases: [(&[u8], Status, &str, &[u8]); 5] = [
-        (&opened, Status::Done, "", &clear),
-        (
-            &opened[..940],
-            Status::Unclosed(1),
-            "stream ends before message 1\n",
-            b"",
-        ),
-        (
-            &missing,
-            Status::Gaps(3),
-            "3 clear packets are missing\n",
-            b"",
-        ),
-        (b"", Status::NoCat, "no CAT for this card\n", b""),
-        (
-            &opened[..200],
-            Status::BadStream {
-                packet: 1,
-                cause: StreamCause::Torn,
-            },
-            "stream packet 1: torn\n",
-            b"",
-        ),
-    ];
-    for (stream, status, text, out) in cases {
-        for most in [1, 188, 1000] {
-            let words = ["receive", "S", "B", "O"];
-            let left = left(alloc, &words, (&card, stream), most, 376, &[])?;
-            assert_eq!(rt; left.status, status);
-            assert_eq!(rt; left.printed.as_slice(), text.as_bytes());
-            assert!(rt; left.out.is_some_and(|bytes| bytes.as_slice() == out));
-        }
-    }
-    let words = ["receive", "S", "B", "B"];
-    let same = left(alloc, &words, (&card, b""), 9, 0, &[])?;
-    assert_eq!(rt; same.status, Status::Usage);
-    Ok(())
+        "5344434401030000000512349a9aea255b8e54be50fc2cb5d0b83ebf64120b12e68d82699face4ee860511dc0957476ca37572a1dcc65a3f00d57deed46e69c2e91426478f712417fb92a56bb3b4a9ec141e3e6c5f7f1d34c7932d34ee14f724fd68a98b2f9fdcb508de0f48aa94e29d22fc6666b24e1ad2794a4f1f1519d5126f9de69bdeaf722cfee0075900407c5f5709ab0b475c92082dca33bfd94d089bfb1948a03cae4d5b75ad14e548954a872ea73ecca7c88349a7d5558ea323dfebd65bf59142ace49371da03b064c53490a01b870e7120925ffd7ce8b20d840d83d052c5668db762ab8dbdeede813ac7b7ad90ee38b89d1475ba747af7",
+    )
+    .map_err(|_| AllocError)
 }

@@ -4,3 +4,6 @@
 mod command;
 
 pub use command::head;
+
+#[cfg(test)]
+mod tests;

@@ -4,3 +4,6 @@
 mod command;
 
 pub use command::receive;
+
+#[cfg(test)]
+mod tests;
