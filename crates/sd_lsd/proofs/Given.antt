@@ -1,0 +1,198 @@
+-- The names that a leaf is given in layers.
+use Rattle.std.proofs.Common.{ℕ, zero, suc, ◌+◌, ◌-◌, ◌/◌, ◌%◌, ◌^◌, ◌<◌, ◌≤◌, ◌≡◌, ◌||◌, ◌==◌, ◌⊎◌, Bool, true}
+use Rattle.std.proofs.Common.{false, cond, min, List, ◌∷◌, map, take, length, get_or, refl, sym, ap, ◌∙◌, ⊎_elim}
+use Rattle.std.proofs.Common.{arith}
+use Rattle.std.specs.Prelude.{All, Contains, filter, sum_by, nat_le, slice_get, Some}
+use Rattle.std.proofs.lemmas.List.Elements.{Contains-get_or}
+use Rattle.std.specs.List.{range_with_len, flat_map}
+use Rattle.std.proofs.Math.Nat.{le-min, min-le_left, min-le_right}
+use Rattle.std.proofs.Math.Pow.{pow_mono}
+use Rattle.std.proofs.lemmas.Bool.{le-leb, lt-leb, cases_lt}
+use Rattle.std.proofs.lemmas.Option.{slice_get-get_or}
+use Rattle.std.proofs.lemmas.List.{length-take-le, get_or-take}
+use Rattle.std.proofs.lemmas.List.Concat.{length-flat_map, get_or-flat_map}
+use Rattle.std.proofs.lemmas.List.FromFn.{length-range_with_len, get_or-range_with_len, get_or-map-range_with_len}
+use Rattle.sd_tree.specs.Node.{depth}
+use Rattle.sd_tree.specs.Paths.{path_node, sibling_of}
+use Rattle.sd_tree.specs.SetNames.{IsOfHeight, IsPair}
+use Rattle.sd_tree.proofs.Levels.{doubled}
+use Rattle.sd_tree.proofs.Ancestors.{above_le, above_parent, properly_above_from_parent}
+use Rattle.sd_tree.proofs.Paths.{path_depth, path_level, path_is_node, sibling_half}
+use Rattle.sd_label.specs.declared.name.Name.{Name}
+use Rattle.sd_label.specs.declared.name.Name.TheVariants.{Whole, Pair}
+use Rattle.sd_label.specs.Names.{given, given_under, IsGivenPair}
+use Rattle.sd_label.proofs.Counts.{length_given_under}
+use Rattle.sd_label.proofs.Descents.{child_level}
+use Rattle.sd_label.proofs.Pairs.{given_is_hanging}
+use Rattle.sd_secrets.proofs.Made.{path_half}
+use Rattle.sd_layers.specs.Layers.{is_useful, layer_end}
+use Rattle.sd_layers.proofs.Layers.{useful_everywhere}
+use Rattle.sd_lsd.specs.LayerNames.{set_of, is_useful_name, layer_given, pairs_under, pairs_above, layer_count}
+use Rattle.sd_lsd.proofs.Pairs.{under_within, place_within}
+use Rattle.sd_lsd.proofs.Filters.{all_kept, front_kept, lists_kept}
+
+-- ---- sets of names
+
+-- a pair that a leaf is given is of a set of the tree
+pub given_is_pair : (d u i x : ℕ) → u < 2 ^ d → IsGivenPair d u i x → IsPair d i x
+given_is_pair d u i x leaf pair =
+    let v : ℕ = pair.node in
+    let on_path = above_le v (2 ^ d + u) pair.path in
+    let up = above_parent i v pair.ancestor in
+    let high = above_le i (v / 2) up in
+    let half : x / 2 ≡ v / 2 = rw pair.hanging (sibling_half v) in
+    let low = pair.inner in
+    record {
+      inner = (low, omega arith);
+      node = omega (arith, half, doubled d);
+      above = properly_above_from_parent i x (omega (arith, half)) (rw half up);
+    }
+
+-- and each name that it is given
+pub given_of_height : (d u : ℕ) → u < 2 ^ d → (name : Name) → Contains (given d u) name → IsOfHeight d (set_of name)
+given_of_height d u leaf Whole m = tt
+given_of_height d u leaf (Pair i x) m = given_is_pair d u i x leaf (given_is_hanging d u i x leaf m)
+
+-- so all are
+pub all_of_height : (d u : ℕ) → u < 2 ^ d → All (λ name. IsOfHeight d (set_of name)) (given d u)
+all_of_height d u leaf = λ k x within.
+    given_of_height d u leaf (get_or (given d u) k x) (Contains-get_or (given d u) k x within)
+
+-- of width 1, and of the tree's height, a leaf is given all names
+pub all_given : (d w u : ℕ) → d ≤ 20 → u < 2 ^ d → (w ≡ 1) ⊎ (w ≡ d) → layer_given d w u ≡ given d u
+unfolding layer_given
+all_given d w u low leaf wide =
+    all_kept (is_useful_name w) (given d u)
+    (λ name m. useful_everywhere d w (set_of name) low (given_of_height d u leaf name m) wide)
+
+-- ---- the pairs of an ancestor
+
+-- a path node's sibling stands as deep
+sibling_depth : (d u b : ℕ) → d ≤ 20 → u < 2 ^ d → 1 ≤ b → b ≤ d → depth (sibling_of (path_node d u b)) ≡ b
+sibling_depth d u b low leaf some le =
+    let v : ℕ = path_node d u b in
+    let x : ℕ = sibling_of v in
+    let e : b - 1 + 1 ≡ b = omega arith in
+    let up : v / 2 ≡ path_node d u (b - 1) = rw e at (path_half d u (b - 1) (omega arith)) in
+    let half : x / 2 ≡ v / 2 = sibling_half v in
+    let parent = path_is_node d u (b - 1) leaf (omega arith) in
+    let level = path_level d u b leaf le in
+    let word = pow_mono {i = b + 1} {j = 21} (omega arith) in
+    let at_x = child_level x (omega (arith, half, up, parent)) (omega (arith, half, level.high, word)) in
+    let at_v = child_level v (omega (arith, up, parent)) (omega (arith, level.high, word)) in
+    let same : depth x ≡ depth v = rw half at at_x ∙ sym at_v in
+    same ∙ path_depth d u b low leaf le
+
+-- the pair of the path node at depth a and the node that hangs at depth b
+abbrev pub pair_of : ℕ → ℕ → ℕ → ℕ → Name
+pair_of d u a b = Pair (path_node d u a) (sibling_of (path_node d u b))
+
+-- whether it is of a useful set
+pair_useful : (d w u a b : ℕ) → d ≤ 20 → u < 2 ^ d → a < b → b ≤ d
+    → is_useful_name w (pair_of d u a b) ≡ ((a % w == 0) || nat_le b (layer_end w a))
+unfolding is_useful
+pair_useful d w u a b low leaf less le =
+    let upper = path_depth d u a low leaf (omega arith) in
+    let lower = sibling_depth d u b low leaf (omega arith) le in
+    rw (upper, lower) refl
+
+-- the pairs of an ancestor that are of useful sets are the first
+abbrev pub front : ℕ → ℕ → ℕ → ℕ → List Name
+front d w u a = take (pairs_under d w a) (given_under d u a)
+
+either_true : (b : Bool) → (true || b) ≡ true
+either_true b = refl
+
+front_by : (d w u a : ℕ) (t : Bool) → (a % w == 0) ≡ t → d ≤ 20 → u < 2 ^ d → a < d
+    → filter (is_useful_name w) (map (pair_of d u a) (range_with_len (a + 1) (d - a)))
+    ≡ take (cond t (d - a) (min (layer_end w a) d - a)) (map (pair_of d u a) (range_with_len (a + 1) (d - a)))
+front_by d w u a true e low leaf less =
+    front_kept (is_useful_name w) (pair_of d u a) (a + 1) (d - a) (d - a) (omega arith)
+    (λ b from to. pair_useful d w u a b low leaf (omega arith) (omega arith) ∙ rw e refl)
+    (λ b from to. absurd (omega arith))
+front_by d w u a false e low leaf less =
+    let end : ℕ = layer_end w a in
+    front_kept (is_useful_name w) (pair_of d u a) (a + 1) (d - a) (min end d - a)
+    (omega (arith, min-le_right end d))
+    (λ b from to. pair_useful d w u a b low leaf (omega arith) (omega (arith, min-le_right end d))
+    ∙ rw e (le-leb b end (omega (arith, min-le_left end d))))
+    (λ b from to. pair_useful d w u a b low leaf (omega arith) (omega arith)
+    ∙ rw e (lt-leb b end (past b end d a from (omega arith) (omega arith))))
+  where
+    past : (b end d a : ℕ) → a + 1 + (min end d - a) ≤ b → b ≤ d → a < d → end < b
+    past b end d a from le less =
+        ⊎_elim (λ (h : end < b). h)
+        (λ (h : b ≤ end). absurd (omega (arith, le-min h le)))
+        (cases_lt end b)
+
+pub useful_front : (d w u a : ℕ) → d ≤ 20 → u < 2 ^ d → a < d
+    → filter (is_useful_name w) (given_under d u a) ≡ front d w u a
+unfolding given_under pairs_under
+useful_front d w u a low leaf less = front_by d w u a (a % w == 0) refl low leaf less
+
+-- what a leaf is given in layers under its first k ancestors, and the whole set
+abbrev pub layer_first : ℕ → ℕ → ℕ → ℕ → List Name
+layer_first d w u k = Whole ∷ flat_map (front d w u) (range_with_len 0 k)
+
+-- under all ancestors it is all
+pub layer_given_parts : (d w u : ℕ) → d ≤ 20 → u < 2 ^ d → layer_given d w u ≡ layer_first d w u d
+unfolding layer_given given is_useful
+layer_given_parts d w u low leaf =
+    ap (λ (names : List Name). Whole ∷ names)
+    (lists_kept (is_useful_name w) (given_under d u) (front d w u) 0 d
+    (λ a from to. useful_front d w u a low leaf (omega arith)))
+
+-- ---- their number
+
+length_front : (d w u a : ℕ) → length (front d w u a) ≡ pairs_under d w a
+length_front d w u a =
+    length-take-le (pairs_under d w a) (given_under d u a)
+    (omega (arith, under_within d w a, length_given_under d u a))
+
+length_first : (d w u k : ℕ) → length (flat_map (front d w u) (range_with_len 0 k)) ≡ pairs_above d w k
+unfolding pairs_above
+length_first d w u k =
+    length-flat_map (front d w u) (range_with_len 0 k)
+    ∙ ap (λ (f : ℕ → ℕ). sum_by f (range_with_len 0 k)) (λ i a. length_front d w u a i)
+
+pub length_layer_given : (d w u : ℕ) → d ≤ 20 → u < 2 ^ d → length (layer_given d w u) ≡ layer_count d w + 1
+unfolding layer_count
+length_layer_given d w u low leaf =
+    ap length (layer_given_parts d w u low leaf) ∙ omega (arith, length_first d w u d)
+
+-- ---- their places
+
+take_range : (s n k : ℕ) → k ≤ n → take k (range_with_len s n) ≡ range_with_len s k
+take_range s n zero le = refl
+take_range s zero (suc k) le = absurd (omega arith)
+take_range s (suc n) (suc k) le = ap (λ (ks : List ℕ). s ∷ ks) (take_range (s + 1) n k (omega arith))
+
+-- the pair among those of its ancestor
+pair_in_front : (d w u a b r : ℕ) → a + 1 + r ≡ b → b ≤ d → r < pairs_under d w a
+    → get_or (front d w u a) r Whole ≡ pair_of d u a b
+unfolding given_under
+pair_in_front d w u a b r at le within =
+    get_or-take (pairs_under d w a) (given_under d u a) r Whole within
+    ∙ get_or-map-range_with_len (pair_of d u a) (a + 1) (d - a) r b Whole (omega arith) at
+
+-- the pair among all names
+pub pair_at : (d w u a b : ℕ) → d ≤ 20 → u < 2 ^ d → a < b → b ≤ d → b - a ≤ pairs_under d w a
+    → slice_get (layer_given d w u) (pairs_above d w a + (b - a)) ≡ Some (pair_of d u a b)
+pair_at d w u a b low leaf less le within =
+    let r : ℕ = b - a - 1 in
+    let all : List ℕ = range_with_len 0 d in
+    let F : ℕ → List Name = front d w u in
+    let k : ℕ = pairs_above d w a + (b - a) in
+    let place : k ≡ suc (pairs_above d w a + r) = omega arith in
+    let here : get_or all a 0 ≡ a = get_or-range_with_len 0 d a 0 (omega arith) ∙ omega arith in
+    let before : length (flat_map F (take a all)) ≡ pairs_above d w a =
+    ap (λ (ks : List ℕ). length (flat_map F ks)) (take_range 0 d a (omega arith)) ∙ length_first d w u a in
+    let long : r < length (F a) = omega (arith, length_front d w u a) in
+    let there = get_or-flat_map F all a r 0 Whole (omega (arith, length-range_with_len 0 d)) (rw here long) in
+    let found : get_or (flat_map F all) (pairs_above d w a + r) Whole ≡ pair_of d u a b =
+    rw (before, here) at there ∙ pair_in_front d w u a b r (omega arith) le (omega arith) in
+    let inside : k < length (layer_given d w u) =
+    omega (arith, place_within d w a b less le within, length_layer_given d w u low leaf) in
+    slice_get-get_or (layer_given d w u) k Whole inside
+    ∙ ap Some (ap (λ (names : List Name). get_or names k Whole) (layer_given_parts d w u low leaf)
+    ∙ (ap (λ (n : ℕ). get_or (layer_first d w u d) n Whole) place ∙ found))

@@ -1,0 +1,49 @@
+use Rattle.std.proofs.Common.{◌≡◌, sym, ap, ◌∙◌, arith}
+use Rattle.std.specs.Prelude.{slice_get, Some}
+use Rattle.std.proofs.lemmas.Option.{slice_get_read}
+use Rattle.sd_tree.specs.Node.{depth}
+use Rattle.sd_tree.proofs.Members.{member_of_pair}
+use Rattle.sd_label.specs.Labels.{middle_of}
+use Rattle.sd_lsd.proofs.Keys.{place_of, hangs_within, held_at}
+use Rattle.sd_lsd.proofs.card.LayerCard.pair_key.Goals as goal
+
+pub hanging_above-held-requires-clause-beside : goal.hanging_above-held-requires-clause-beside
+hanging_above-held-requires-clause-beside g c =
+    ((member_of_pair _ c.args.i c.args.j _ c.args.self.now.height_in.1 c.requires.pair c.args.self.now.leaf_in).0
+    c.requires.member).1
+
+pub place-requires-clause-above : goal.place-requires-clause-above
+place-requires-clause-above g c =
+    let card = c.args.self.now in
+    let within =
+    hangs_within card.height card.width card.leaf c.args.i c.args.j c.hanging_above-held.result card.height_in.1
+    card.leaf_in c.requires.pair c.requires.useful c.requires.member c.hanging_above-held.ensures in
+    omega (arith, within.0, c.depth.ensures.value, c.depth-2.ensures.value)
+
+pub place-requires-clause-given : goal.place-requires-clause-given
+place-requires-clause-given g c =
+    let card = c.args.self.now in
+    let within =
+    hangs_within card.height card.width card.leaf c.args.i c.args.j c.hanging_above-held.result card.height_in.1
+    card.leaf_in c.requires.pair c.requires.useful c.requires.member c.hanging_above-held.ensures in
+    rw (c.depth.ensures.value, c.depth-2.ensures.value) within.1
+
+pub returns-clause-sound : goal.returns-clause-sound
+returns-clause-sound g c =
+    let card = c.args.self.now in
+    let w = c.hanging_above-held.result in
+    let place : c.place.result ≡ place_of card.height card.width (depth c.args.i) (depth w) =
+    rw (← c.depth.ensures.value, ← c.depth-2.ensures.value) c.place.ensures.value in
+    let held : slice_get card.secrets.items c.place.result ≡ Some c.index.result.now =
+    slice_get_read card.secrets.items _ c.place.result c.index.result.now (sym card.count) c.place.ensures.fits
+    c.index.ensures in
+    record {
+      node = w;
+      label = c.index.result.now;
+      held = held_at card.height card.width card.leaf c.args.i c.args.j w c.place.result card.secrets.items
+          c.index.result.now card.height_in.1 card.leaf_in c.requires.pair c.requires.useful c.requires.member
+          c.hanging_above-held.ensures place held;
+      above = c.hanging_above-held.ensures.above;
+      value = c.middle.ensures.value ∙ ap middle_of c.descend.ensures.value;
+      steps = omega arith;
+    }

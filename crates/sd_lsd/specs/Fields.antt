@@ -1,0 +1,64 @@
+-- The layer card of a receiver, and the file that it is kept in.
+use Rattle.std.specs.Prelude.{◌≡◌, ℕ, ◌+◌, ◌^◌, ◌<◌, ◌≤◌, List, ◌∷◌, ◌++◌, length, map}
+use Rattle.std.specs.List.{concat}
+use Rattle.byteorder.specs.Endian.{big_bytes}
+use Rattle.sd_tree.specs.declared.height.TheConstants.{HIGHEST}
+use Rattle.sd_tree.specs.declared.set.SetName.{SetName}
+use Rattle.sd_secrets.specs.Files.{AreSecrets, check_of}
+use Rattle.sd_secrets.specs.Secrets.{secret_of, Derives, key_held}
+use Rattle.sd_lsd.specs.LayerNames.{layer_given, layer_count}
+use Rattle.sd_lsd.specs.declared.card.LayerCard.{LayerCard}
+use Rattle.sd_lsd.specs.declared.format.TheConstants.{MAGIC, VERSION}
+
+-- what a layer card says: the tree's height, the layers' width, its leaf, the conditional access system, and a secret
+-- for each name that the leaf is given in layers
+pub record LayerFields : Type 0 where
+  pub height : ℕ
+  pub width : ℕ
+  pub leaf : ℕ
+  pub ca : ℕ
+  pub secrets : List (List ℕ)
+
+-- a layer card that says this
+abbrev pub saying : ℕ → ℕ → ℕ → ℕ → List (List ℕ) → LayerFields
+saying d w u ca secrets = record { height = d; width = w; leaf = u; ca = ca; secrets = secrets }
+
+-- the same of a layer card as the program keeps it
+abbrev pub fields_of : LayerCard → LayerFields
+fields_of card = saying card.height card.width card.leaf card.ca card.secrets.items
+
+-- the numbers are in their ranges, and there are as many secrets as a leaf is given names in layers
+-- [this project, docs/FORMATS.md, Layer card]
+pub record IsLayerCard (card : LayerFields) : Type 0 where
+  pub height : (1 ≤ card.height) × (card.height ≤ HIGHEST)
+  pub width : (1 ≤ card.width) × (card.width ≤ card.height)
+  pub leaf : card.leaf < 2 ^ card.height
+  pub ca : card.ca < 2 ^ 16
+  pub count : length card.secrets ≡ layer_count card.height card.width + 1
+  pub secrets : AreSecrets card.secrets
+
+-- the layer card of a leaf: the secrets of the names that it is given in layers, in their order
+-- [Halevy, Shamir 2002, 3]
+unfoldable pub layer_card_of : List ℕ → ℕ → ℕ → ℕ → ℕ → LayerFields
+layer_card_of master ca d w u = saying d w u ca (map (secret_of master) (layer_given d w u))
+
+-- the file before its secrets [this project, docs/FORMATS.md, Layer card]
+unfoldable pub layer_head : ℕ → ℕ → ℕ → ℕ → List ℕ
+layer_head d w u ca = MAGIC ++ (VERSION ∷ d ∷ w ∷ (big_bytes 4 u ++ big_bytes 2 ca))
+
+-- the file before its check [this project, docs/FORMATS.md, Layer card]
+unfoldable pub layer_body : LayerFields → List ℕ
+layer_body card = layer_head card.height card.width card.leaf card.ca ++ concat card.secrets
+
+-- a layer card's file: the check stands at its end [this project, docs/FORMATS.md, Layer card]
+unfoldable pub layer_bytes : LayerFields → List ℕ
+layer_bytes card = layer_body card ++ check_of (layer_body card)
+
+-- the key that a layer card gives for a set [Halevy, Shamir 2002, 3]
+abbrev pub layer_key : LayerFields → SetName → List ℕ
+layer_key card name = key_held (layer_given card.height card.width card.leaf) card.secrets name
+
+-- the key is derived from what the layer card holds, by so many steps
+abbrev pub LayerDerives : LayerFields → SetName → List ℕ → ℕ → Type 0
+LayerDerives card name key taken =
+    Derives (layer_given card.height card.width card.leaf) card.secrets name key taken

@@ -1,0 +1,3 @@
+pub mod LayerNames
+pub mod Fields
+pub mod Faults

@@ -1,0 +1,77 @@
+ghost use Rattle.std.specs.Prelude.{◌≡◌, ◌+◌, ◌^◌, ◌<◌, ◌≤◌, length, IfOk, map};
+ghost use Rattle.sd_tree.specs.declared.height.TheConstants.{HIGHEST};
+ghost use Rattle.sd_secrets.specs.Secrets.{secret_of};
+ghost use Rattle.sd_lsd.specs.LayerNames.{layer_given, layer_count};
+ghost use Rattle.sd_lsd.specs.Fields.{fields_of, layer_card_of};
+
+use crate::card::LayerCard;
+use crate::counts::pairs_under;
+use sd_cause::NoMemory;
+use sd_label::whole_key;
+use sd_layers::Width;
+use sd_secrets::push_labels;
+use sd_site::Site;
+use sd_steps::Steps;
+use sd_tree::Leaf;
+use std::alloc::{AllocError, Global};
+use std::sync::ledger::Ledger;
+
+impl LayerCard {
+    /// The layer card of a site's leaf.
+    #[tactic(auto, unfolding(crate::specs::Fields::layer_card_of))]
+    pub fn make<L: Ledger>(
+        alloc: Global,
+        site: &Site,
+        w: Width,
+        u: Leaf,
+        steps: &mut Steps<L>,
+    ) -> Result<LayerCard, NoMemory>
+        requires width { w ≤ site.now.height }
+        requires leaf { u < 2 ^ site.now.height }
+        ensures { IfOk result (λ card.
+            fields_of card ≡ layer_card_of site.now.master site.now.ca site.now.height w u) }
+    {
+        let secrets = secrets(alloc, site, w, u, steps).map_err(|_| NoMemory)?;
+        Ok(LayerCard {
+            height: site.height,
+            width: w,
+            leaf: u,
+            ca: site.ca,
+            secrets,
+        })
+    }
+}
+
+// The secrets that the leaf is given in layers, in their order.
+fn secrets<L: Ledger>(
+    alloc: Global,
+    site: &Site,
+    w: Width,
+    u: Leaf,
+    steps: &mut Steps<L>,
+) -> Result<Vec<[u8; 32]>, AllocError>
+    requires width { w ≤ site.now.height }
+    requires leaf { u < 2 ^ site.now.height }
+    ensures value { IfOk result (λ secrets.
+        secrets.items ≡ map (secret_of site.now.master) (layer_given site.now.height w u)) }
+    ensures length { IfOk result (λ secrets. length secrets.items ≡ layer_count site.now.height w + 1) }
+    ensures fits { IfOk result (λ _. (1 ≤ site.now.height) × (site.now.height ≤ HIGHEST)) }
+    ensures some { IfOk result (λ _. 1 ≤ w) }
+{
+    let mut secrets = Vec::new(alloc);
+    secrets.push(whole_key(&site.master))?;
+    for depth in 0..u32::from(site.height.get()) {
+        let levels = pairs_under(site.height, w, depth);
+        push_labels(
+            &mut secrets,
+            &site.master,
+            site.height,
+            u,
+            depth,
+            levels,
+            steps,
+        )?;
+    }
+    prove!(1 <= w.get());
+    Ok(secrets)
+}

@@ -1,0 +1,108 @@
+ghost use Rattle.std.specs.Prelude.{◌≡◌, ◌+◌, ◌≤◌, Some, None, length, IfOk, MatchResult};
+ghost use Rattle.sd_secrets.specs.Files.{byte_at as byte_of};
+ghost use Rattle.sd_lsd.specs.Fields.{LayerFields, IsLayerCard, fields_of, layer_bytes};
+ghost use Rattle.sd_lsd.specs.Faults.{height_in, width_in, leaf_in, ca_in, length_at as length_of, fault_in, IsFaultOf};
+
+use crate::card::LayerCard;
+use crate::counts::layer_count;
+use crate::fault::LayerFault;
+use crate::format::{CA_AT, HEIGHT_AT, LEAF_AT, MAGIC, SECRETS_AT, VERSION, VERSION_AT, WIDTH_AT};
+use byteorder::{BigEndian, ByteOrder};
+use sd_layers::Width;
+use sd_secrets::{CHECK_BYTES, SECRET_BYTES, byte_at, check_of, secrets_in};
+use sd_tree::{Height, Leaf};
+use std::alloc::Global;
+
+impl LayerCard {
+    /// The layer card that a file's bytes say.
+    pub fn read(alloc: Global, bytes: &[u8]) -> Result<LayerCard, LayerFault>
+        // What is read is a layer card's file that says this.
+        ensures sound { IfOk result (λ card.
+            IsLayerCard (fields_of card) × (bytes.now ≡ layer_bytes (fields_of card))) }
+        // What is a layer card's file is read, unless memory is out.
+        ensures complete { (card : LayerFields) → IsLayerCard card → bytes.now ≡ layer_bytes card →
+            MatchResult result (λ read. fields_of read ≡ card) (λ fault. fault ≡ LayerFault.NoMemory) }
+        // Which fault it is.
+        ensures fault { MatchResult result (λ _. fault_in bytes.now ≡ None) (λ fault. IsFaultOf bytes.now fault) }
+    {
+        whole(alloc, bytes)
+    }
+}
+
+// The clause `complete` of `read` follows from these.
+fn whole(alloc: Global, bytes: &[u8]) -> Result<LayerCard, LayerFault>
+    ensures sound { IfOk result (λ card.
+        IsLayerCard (fields_of card) × (bytes.now ≡ layer_bytes (fields_of card))) }
+    ensures fault { MatchResult result (λ _. fault_in bytes.now ≡ None) (λ fault. IsFaultOf bytes.now fault) }
+{
+    let (height, width, leaf) = judge(bytes)?;
+    let inner = &bytes[SECRETS_AT..bytes.len() - CHECK_BYTES];
+    let secrets = secrets_in(alloc, inner)?;
+    Ok(LayerCard {
+        height,
+        width,
+        leaf,
+        ca: ca_at(bytes),
+        secrets,
+    })
+}
+
+// The conditional access system that the file names.
+#[tactic(auto, unfolding(crate::specs::Faults::ca_in))]
+fn ca_at(bytes: &[u8]) -> u16
+    ensures { result ≡ ca_in bytes.now }
+{
+    BigEndian::read_u16(&[byte_at(bytes, CA_AT), byte_at(bytes, CA_AT + 1)])
+}
+
+// The leaf that the file names.
+#[tactic(auto, unfolding(crate::specs::Faults::leaf_in))]
+fn leaf_at(bytes: &[u8]) -> u32
+    ensures { result ≡ leaf_in bytes.now }
+{
+    BigEndian::read_u32(&[
+        byte_at(bytes, LEAF_AT),
+        byte_at(bytes, LEAF_AT + 1),
+        byte_at(bytes, LEAF_AT + 2),
+        byte_at(bytes, LEAF_AT + 3),
+    ])
+}
+
+// The height, the width and the leaf of bytes with which nothing is wrong.
+#[tactic(auto, unfolding(crate::specs::Faults::fault_in, sd_secrets::specs::Files::check_in, sd_secrets::specs::Files::check_due))]
+fn judge(bytes: &[u8]) -> Result<(Height, Width, Leaf), LayerFault>
+    ensures fault { MatchResult result (λ _. fault_in bytes.now ≡ None) (λ fault. fault_in bytes.now ≡ Some fault) }
+    ensures value { IfOk result (λ named.
+        (named.0 ≡ height_in bytes.now) × ((named.1 ≡ width_in bytes.now) × (named.2 ≡ leaf_in bytes.now))) }
+    ensures length { IfOk result (λ _. SECRETS_AT + CHECK_BYTES ≤ length bytes.now) }
+{
+    if !bytes.starts_with(&MAGIC) {
+        return Err(LayerFault::Magic);
+    }
+    if byte_at(bytes, VERSION_AT) != VERSION {
+        return Err(LayerFault::Version);
+    }
+    let height = Height::new(byte_at(bytes, HEIGHT_AT)).ok_or(LayerFault::Height)?;
+    let width = Width::new(height, byte_at(bytes, WIDTH_AT)).ok_or(LayerFault::Width)?;
+    let leaf = Leaf::new(height, leaf_at(bytes)).ok_or(LayerFault::Leaf)?;
+    if bytes.len() != length_at(height, width) {
+        return Err(LayerFault::Length);
+    }
+    let (body, end) = bytes.split_at(bytes.len() - CHECK_BYTES);
+    let mut found = [0; CHECK_BYTES];
+    found.copy_from_slice(end);
+    let due = check_of(body);
+    if found != due {
+        return Err(LayerFault::Check { found, due });
+    }
+    Ok((height, width, leaf))
+}
+
+// The number of bytes of a layer card at this height and width.
+#[tactic(auto, unfolding(crate::specs::Faults::length_at))]
+fn length_at(h: Height, w: Width) -> usize
+    ensures value { result ≡ length_of h w }
+    ensures fits { SECRETS_AT + CHECK_BYTES ≤ result }
+{
+    SECRETS_AT + SECRET_BYTES * (layer_count(h, w) + 1) + CHECK_BYTES
+}
