@@ -15,3 +15,8 @@ pub mod Received
 pub mod Streamed
 pub mod Keyed
 pub mod Broadcasts
+pub mod Runs
+pub mod Shelf
+pub mod Plans
+pub mod Sent
+pub mod Together

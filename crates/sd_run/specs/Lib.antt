@@ -11,3 +11,5 @@ pub mod Meaning
 pub mod Shown
 pub mod Turned
 pub mod Head
+pub mod Headline
+pub mod Sent

@@ -5,6 +5,7 @@ mod card;
 mod cover;
 mod files;
 mod head;
+pub mod headline;
 pub mod laws;
 mod made;
 mod order;
