@@ -2,3 +2,8 @@ pub mod Ordered
 pub mod Goodness
 pub mod Keyed
 pub mod Broadcasts
+pub mod Runs
+pub mod Shelf
+pub mod Plans
+pub mod Sent
+pub mod Together

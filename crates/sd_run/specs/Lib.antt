@@ -1,3 +1,5 @@
 pub mod Good
 pub mod Meaning
 pub mod Opened
+pub mod Headline
+pub mod Sent

@@ -1,6 +1,7 @@
 //! The one call that the program makes: words in, files read and made, text printed, a status answered.
 #![tactic(auto)]
 
+pub mod headline;
 pub mod laws;
 mod top;
 
