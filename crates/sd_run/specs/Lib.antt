@@ -1,3 +1,4 @@
 pub mod Good
 pub mod Meaning
 pub mod Opened
+pub mod Lost

@@ -2,6 +2,7 @@
 #![tactic(auto)]
 
 pub mod laws;
+pub mod losses;
 mod top;
 
 pub use top::run;
