@@ -132,8 +132,8 @@ pub fn is_confirmed(heard: &[Thing], layout: Layout, k: usize) -> bool {
         && (!is_scrambled || is_near(heard, a, b))
 }
 
-/// How it ends for the leaf where these things are heard after the first CAT, if there is one, and so many clear packets
-/// are confirmed.
+/// How it ends for the leaf where these things are heard after the first CAT, if there is one, and so many clear
+/// packets are confirmed.
 pub fn ending(heard: Option<&[Thing]>, layout: Layout, confirmed: usize) -> Ending {
     let Some(heard) = heard else {
         return Ending::NoCat;

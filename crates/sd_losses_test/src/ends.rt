@@ -50,8 +50,8 @@ fn sent<L: Ledger>(
     Some(sink.into_bytes())
 }
 
-/// How a stream ends for the card of a leaf, and what is written of it, where there is room for so many bytes and nothing
-/// is refused.
+/// How a stream ends for the card of a leaf, and what is written of it, where there is room for so many bytes and
+/// nothing is refused.
 pub fn received(
     alloc: Global,
     site: &[u8],

@@ -30,7 +30,8 @@ use Rattle.sd_losses.proofs.Opened.{confirmed_are_opened}
 use Rattle.sd_status.specs.declared.status.Status.TheVariants.{Revoked}
 use Rattle.sd_status.specs.Meant.{Given}
 use Rattle.sd_status.specs.Work.{Work}
-use Rattle.sd_run_receive.specs.Receive.{ending_status, ended_status, received_of, received_status, received_steps, receiving}
+use Rattle.sd_run_receive.specs.Receive.{ending_status, ended_status, received_of, received_status, received_steps}
+use Rattle.sd_run_receive.specs.Receive.{receiving}
 use Rattle.sd_run.specs.Good.{IsGoodReceive}
 use Rattle.sd_files.specs.Turned.{is_break}
 use Rattle.sd_run.specs.Lost.{kept_of, kept_periods, IsRestTo, IsConfirmed}
