@@ -18,7 +18,7 @@ same_at : (card : CardFields) (past : List (List ℕ)) (packet : List ℕ) →
 unfolding takes_key_at takes_key lost.takes_key_at lost.takes_key
 same_at card past packet = refl
 
-same_keys : (card : CardFields) (past packets : List (List ℕ)) →
+pub same_keys : (card : CardFields) (past packets : List (List ℕ)) →
     taken_keys card past packets ≡ lost.taken_keys card past packets
 unfolding taken_keys lost.taken_keys
 same_keys card past [] = refl

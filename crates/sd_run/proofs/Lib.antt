@@ -7,3 +7,4 @@ pub mod Shelf
 pub mod Plans
 pub mod Sent
 pub mod Together
+pub mod Lost

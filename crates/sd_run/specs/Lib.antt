@@ -3,3 +3,4 @@ pub mod Meaning
 pub mod Opened
 pub mod Headline
 pub mod Sent
+pub mod Lost

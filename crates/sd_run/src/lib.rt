@@ -3,6 +3,7 @@
 
 pub mod headline;
 pub mod laws;
+pub mod losses;
 mod top;
 
 pub use top::run;

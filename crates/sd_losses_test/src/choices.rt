@@ -1,0 +1,153 @@
+use crate::due::{CLEAR, COUNTERS, Layout, Thing, ending, is_confirmed};
+use crate::ends::{broadcast, received};
+use sd_packet::pack_section;
+use std::alloc::{AllocError, Global};
+use std::test::Fail;
+
+const PAT: [u8; 16] = [
+    0x00, 0xB0, 0x0D, 0x00, 0x01, 0xC1, 0x00, 0x00, 0x00, 0x01, 0xF0, 0x00, 0x2A, 0xB1, 0x04, 0xB2,
+];
+
+const PMT: [u8; 26] = [
+    0x02, 0xB0, 0x17, 0x00, 0x01, 0xC1, 0x00, 0x00, 0xE1, 0x00, 0xF0, 0x00, 0x1B, 0xE1, 0x00, 0xF0,
+    0x00, 0x0F, 0xE1, 0x01, 0xF0, 0x00, 0x2F, 0x44, 0xB9, 0x9B,
+];
+
+/// How many packets are sent.
+const SENT: usize = 14;
+
+/// The site's lines: a message before each second clear packet and a control word for two of them, of this version; and
+/// a period for so many control words.
+fn site(alloc: Global, version: u32, span: u32) -> Result<String, AllocError> {
+    format!(in alloc;
+        "height 3\nmaster 000102030405060708090a0b0c0d0e0f101112131415161718191a1b1c1d1e1f\n\
+        ca 1234\nemm 496\necm 497\necm-every 2\ncrypto-ecms 2\nperiod-cryptos {span}\nmessages {version}\n"
+    )
+}
+
+/// The clear packets: a PAT, its PMT, and four of a PID that is scrambled.
+fn clear() -> [[u8; 188]; CLEAR] {
+    let mut packets = [[0; 188]; CLEAR];
+    packets[0] = *pack_section(&PAT, 0, 0).bytes();
+    packets[1] = *pack_section(&PMT, 0x1000, 7).bytes();
+    for k in 0..CLEAR {
+        if let Some(counter) = COUNTERS[k] {
+            packets[k] = [counter; 188];
+            packets[k][..4].copy_from_slice(&[0x47, 0x01, 0x00, 0x10 | counter]);
+        }
+    }
+    packets
+}
+
+/// The bytes with the PID on which a thing is sent.
+fn pid_of(thing: Thing) -> [u8; 2] {
+    match thing {
+        Thing::Cat => [0x40, 0x01],
+        Thing::Section(_) => [0x41, 0xF0],
+        Thing::Message(_) => [0x41, 0xF1],
+        Thing::Clear(0) => [0x40, 0x00],
+        Thing::Clear(1) => [0x50, 0x00],
+        Thing::Clear(_) => [0x01, 0x00],
+    }
+}
+
+/// The packets of a stream, where it has as many as are sent.
+fn packets_of(stream: &[u8]) -> Option<[[u8; 188]; SENT]> {
+    let mut packets = [[0; 188]; SENT];
+    for place in 0..SENT {
+        packets[place] = *stream.get(place * 188..)?.first_chunk()?;
+    }
+    (stream.len() == SENT * 188).then_some(packets)
+}
+
+/// A broadcast, and who hears it.
+#[derive(Clone, Copy)]
+struct Trial<'a> {
+    site: &'a [u8],
+    leaf: u32,
+    layout: Layout,
+    packets: &'a [[u8; 188]; SENT],
+    clear: &'a [[u8; 188]; CLEAR],
+}
+
+impl<'a> Trial<'a> {
+    /// Whether what is sent is what the layout says.
+    fn is_laid_out(&self) -> bool {
+        let sent = self.layout.sent();
+        for place in 0..SENT {
+            if !self.packets[place][1..].starts_with(&pid_of(sent[place])) {
+                return false;
+            }
+        }
+        true
+    }
+
+    /// Whether the receiver makes what is due of the packets whose bits are 1.
+    fn is_due(&self, alloc: Global, choice: u32) -> Result<bool, AllocError> {
+        let sent = self.layout.sent();
+        let mut stream = Vec::new(alloc);
+        let mut heard = Vec::new(alloc);
+        let mut is_tuned = false;
+        for place in 0..SENT {
+            if choice.wrapping_shr(place as u32) & 1 == 1 {
+                stream.extend_from_slice(&self.packets[place])?;
+                if is_tuned {
+                    heard.push(sent[place])?;
+                }
+                is_tuned = is_tuned || sent[place] == Thing::Cat;
+            }
+        }
+        let mut out = Vec::new(alloc);
+        for k in 0..CLEAR {
+            if is_confirmed(&heard, self.layout, k) {
+                out.extend_from_slice(&self.clear[k])?;
+            }
+        }
+        let count = out.len() / 188;
+        let due = ending(is_tuned.then_some(heard.as_slice()), self.layout, count);
+        let told = received(alloc, self.site, self.leaf, stream, CLEAR * 188);
+        Ok(told == Some((due, out)))
+    }
+}
+
+/// The first choice of the packets of a broadcast of which the receiver makes something else than is due.
+fn first_wrong(alloc: Global, layout: Layout) -> Result<Option<u32>, Fail> {
+    let (book, span): (&[u8], u32) = if layout.later == 1 {
+        (b"period\nrevoke 5\n", 1)
+    } else {
+        (b"", 2)
+    };
+    let site = site(alloc, layout.version, span)?;
+    let clear = clear();
+    let bytes = Vec::from_slice(alloc, clear.as_flattened())?;
+    let stream = broadcast(alloc, site.as_bytes(), book, bytes, SENT * 188).ok_or("no broadcast")?;
+    let trial = Trial {
+        site: site.as_bytes(),
+        leaf: if layout.revoked { 5 } else { 0 },
+        layout,
+        packets: &packets_of(&stream).ok_or("another count of packets")?,
+        clear: &clear,
+    };
+    if !trial.is_laid_out() {
+        return Err("another order of packets".into());
+    }
+    for choice in 0..1u32 << SENT {
+        if !trial.is_due(alloc, choice)? {
+            return Ok(Some(choice));
+        }
+    }
+    Ok(None)
+}
+
+#[test]
+fn every_choice_of_packets_gives_what_is_confirmed(rt: HostRuntime) -> Result<(), Fail> {
+    for (version, later, revoked) in [(1, 0, false), (1, 1, true), (2, 1, false)] {
+        let layout = Layout {
+            version,
+            later,
+            revoked,
+        };
+        assert_eq!(rt; first_wrong(rt.alloc(), layout)?, None);
+    }
+    Ok(())
+}

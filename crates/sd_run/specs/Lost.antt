@@ -1,0 +1,53 @@
+-- What `receive` makes of any choice of a broadcast's packets [this project, docs/FORMATS.md, Receiver].
+use Rattle.std.specs.Prelude.{◌≡◌, ℕ, ◌+◌, ◌-◌, ◌*◌, ◌≤◌, ◌++◌, Bool, true, false, List, [], length, Some, Ok}
+use Rattle.std.specs.List.{concat, list_any}
+use Rattle.sd_card.specs.Fields.{card_of, card_bytes}
+use Rattle.sd_broadcast.specs.Plan.{Plan, period_of}
+use Rattle.sd_broadcast.specs.Sent.{Item, sent, closing_of, broadcast}
+use Rattle.sd_losses.specs.Chosen.{chosen}
+use Rattle.sd_losses.specs.Kept.{after_cat, entitles}
+use Rattle.sd_losses.specs.Confirmed.{confirmed, opened_by, is_revoked_in}
+use Rattle.sd_losses.specs.Endings.{ending_told}
+use Rattle.sd_losses.specs.Taken.{how_many}
+use Rattle.sd_status.specs.declared.status.Status.TheVariants.{Revoked}
+use Rattle.sd_status.specs.Meant.{Word, Given}
+use Rattle.sd_status.specs.Work.{UpTo, Work}
+use Rattle.sd_words.specs.Words.{ReceiveOf, order_of}
+use Rattle.sd_run_receive.specs.Receive.{ending_status}
+
+-- the things of a broadcast that are kept
+unfoldable pub kept_of : Plan → List (List ℕ) → List Bool → List Item
+kept_of plan clear flags = chosen flags (sent plan clear ++ closing_of plan clear)
+
+-- of how many periods a section that has a set with leaf u is kept after the CAT
+unfoldable pub kept_periods : Plan → ℕ → List (List ℕ) → List Item → ℕ
+kept_periods plan u clear kept =
+    how_many (λ q. list_any (entitles plan.site.height u q) (after_cat kept)) (period_of plan (length clear - 1) + 1)
+
+-- the words are `receive CARD STREAM OUT`, the first file is the card of leaf u of the site, and the second is the
+-- packets that are kept of the broadcast of the clear ones, one after the other
+pub record IsRestTo (plan : Plan) (u : ℕ) (clear : List (List ℕ)) (flags : List Bool) (words : List (List ℕ))
+    (given : Given) : Type 0 where
+  pub card : Word
+  pub stream : Word
+  pub out : Word
+  pub order : order_of words ≡ Ok (ReceiveOf card stream out)
+  pub card_there : given card ≡ Some (card_bytes (card_of plan.site.master plan.site.ca plan.site.height u))
+  pub there : given stream ≡ Some (concat (chosen flags (broadcast plan clear)))
+
+-- OUT is the clear packets that are confirmed to leaf u where these things are kept, a part of what it is entitled to,
+-- in its order; no packet is refused, and the status is how it ends for the leaf, which is revoked where it says so; for
+-- each period of which a section that has it is kept, as many steps are taken as the tree is high, or fewer
+pub record IsConfirmed (plan : Plan) (u : ℕ) (clear : List (List ℕ)) (kept : List Item) (out : Word) (work : Work) :
+    Type 0 where
+  pub file : work.out
+      ≡ Some (record { word = out.number; name = out.text; bytes = concat (confirmed plan u clear kept) })
+  pub parts : List Bool
+  pub part : confirmed plan u clear kept ≡ chosen parts (opened_by plan u clear)
+  pub printed : work.pieces ≡ []
+  pub ends : work.ends ≡ ending_status u (ending_told plan u clear kept)
+  pub unrefused : work.breaks ≡ false
+  pub revoked : (q : ℕ) → work.ends ≡ Revoked u q → is_revoked_in plan u q ≡ true
+  pub most : ℕ
+  pub counted : work.steps ≡ UpTo most
+  pub few : most ≤ plan.site.height * kept_periods plan u clear kept
