@@ -1,10 +1,11 @@
 -- Two calls, of which the second closes what the first opened.
-use Rattle.std.proofs.Common.{◌≡◌, ℕ, ◌^◌, ◌<◌, arith}
+use Rattle.std.proofs.Common.{rules, ◌≡◌, ℕ, ◌^◌, ◌<◌, arith, refl}
 use Rattle.std.proofs.Common.{sym, subst}
-use Rattle.std.specs.Prelude.{Option, None, Some, IsSome, List}
+use Rattle.std.specs.Prelude.{Option, None, Some, IsSome, List, Err}
 use Rattle.sd_ports.specs.Files.{Files, Opens, IsThere}
 use Rattle.sd_cause.specs.Count.{with_added}
-use Rattle.sd_ports.specs.Causes.{one_more, CountsClosed}
+use Rattle.sd_ports.specs.Causes.{one_more, CountsClosed, HasDepotCause}
+use Rattle.sd_ports.specs.declared.fault.DepotFault.TheVariants.{Failed}
 
 pub twice_called : (a b c : ℕ) → b ≡ with_added a 1 → c ≡ with_added b 1 → c ≡ with_added a 2
 twice_called a b c e f = omega arith
@@ -16,3 +17,15 @@ open_as_before a b c o h = let w = o.0 in let e = o.1 in let x = h.within in let
 pub opened_there : (files : Option Files) (name : List ℕ) (left : Option (List ℕ)) → Opens files name left → IsThere files name
 opened_there None name left h = tt
 opened_there (Some m) name left h = subst (λ (o : Option (List ℕ)). IsSome o) (sym h.1) h.0
+
+-- a call that failed counted one fault and no miss
+pub failed_once : {T : Type 0} (a b c d : ℕ) → a < 2 ^ 64 → b ≡ with_added a 1 → d ≡ c
+    → HasDepotCause {T = T} a b c d (Err Failed)
+failed_once a b c d within e f = record {
+  faults_later = omega (arith, within, e);
+  misses_later = omega (arith, f);
+  missing = search rules;
+  failed = λ _. omega (arith, e);
+  no_miss = λ _. f;
+  no_fault = λ n. absurd (n refl);
+}

@@ -3,3 +3,5 @@ pub mod Portions
 pub mod Shelves
 pub mod Calls
 pub mod Rooms
+pub mod Failings
+pub mod Fronts

@@ -1,6 +1,7 @@
 -- What stands in a file once its port is closed.
 use Rattle.std.proofs.Common.{rules, ◌≡◌, ◌≤◌, ◌++◌, ℕ, List, [], Bool, true, false, cond, refl, ap, sym, subst, inr}
-use Rattle.std.proofs.Common.{◌∙◌, append-nil, append_assoc}
+use Rattle.std.proofs.Common.{◌∙◌, append-nil, append_assoc, take, drop}
+use Rattle.std.proofs.lemmas.List.{take-append-drop}
 use Rattle.std.specs.Prelude.{Option, None, Some, IsSome, Ok, Err}
 use Rattle.std.specs.Ordering.{nat_cmp, eq_by_cmp}
 use Rattle.std.specs.Cmp.Lexicographic.{slice_cmp}
@@ -115,3 +116,9 @@ pub written_cut : (a b c : Option Files) (i j k : ℕ) (name bytes : List ℕ) (
     → i ≤ j → k ≡ j → WritesFile {T = Unit {0}} a c i k name bytes (Err Failed)
 written_cut a b c i j k name bytes h held e f w p m l n =
     written_front a b c i j k name bytes h held e f (bytes, ([], append-nil bytes), w) p m l n
+
+-- the first of what a port of told files held are a prefix of it
+pub half_stays : (m n : Files) (name held : List ℕ) (k : ℕ) → n ≡ insert m name (take k held)
+    → LeavesPrefix (Some m) (Some n) name (Some held)
+half_stays m n name held k e =
+    (take k held, (drop k held, take-append-drop k held), ap (λ (r : Files). Some r) e)

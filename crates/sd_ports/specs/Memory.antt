@@ -1,7 +1,6 @@
 use Rattle.std.specs.Prelude.{refl, ℕ, map, string_bytes, String, Vec, ◌-◌, Bool, ◌||◌, if◌then◌else◌}
 use Rattle.std.specs.Prelude.{nat_eq, nat_lt, min, List, [], ◌++◌, length, take, drop, Option, Some, None}
-use Rattle.std.specs.Prelude.{◌∷◌}
-use Rattle.std.specs.List.{list_any}
+use Rattle.std.specs.Prelude.{◌∷◌, ◌+◌, ◌/◌}
 use Rattle.std.specs.FinMap.{from_entries, code, empty, insert}
 use Rattle.std.specs.Coded.{Coded, code_by, coded×, coded_ℕ, coded_list}
 use Rattle.std.specs.BTreeMap.{BTreeMap}
@@ -9,6 +8,8 @@ use Rattle.std.specs.declared.alloc.Global.{Global}
 use Rattle.sd_cause.specs.Count.{with_added}
 use Rattle.sd_ports.specs.Files.{Files}
 use Rattle.sd_ports.specs.Causes.{one_more}
+use Rattle.sd_ports.specs.Failing.{Failures, failures_code, no_failures, with_failing_call, with_failing_port, is_listed}
+use Rattle.sd_ports.specs.Failing.{next_fails, after_call, numbers_of}
 
 -- a source in memory: the bytes to come, the most bytes of a read, which reads fail, and how many reads there were and
 -- failed
@@ -18,6 +19,12 @@ pub record Supply : Type 0 where
   pub fails : List ℕ
   pub reads : ℕ
   pub faults : ℕ
+
+-- a source in memory whose reads never fail: all its bytes, those to come, and the most bytes of a read
+pub record Stock : Type 0 where
+  pub whole : List ℕ
+  pub left : List ℕ
+  pub most : ℕ
 
 -- a sink in memory: the bytes taken, how many it has room for, the most bytes of a write, which writes fail, and how
 -- many writes there were and failed
@@ -29,13 +36,13 @@ pub record Store : Type 0 where
   pub writes : ℕ
   pub faults : ℕ
 
--- a depot in memory: its files, the room of a sink, the most bytes of a read or a write, the counts of faults, of
--- misses and
--- of sinks made, how many ports are open, and how many calls there were
+-- a depot in memory: its files, the room of a sink, the most bytes of a read or a write, the calls that are to fail,
+-- the counts of faults, of misses and of sinks made, how many ports are open, and how many calls there were
 pub record Shelf : Type 0 where
   pub files : Files
   pub room : ℕ
   pub most : ℕ
+  pub failing : Failures
   pub faults : ℕ
   pub misses : ℕ
   pub made : ℕ
@@ -45,19 +52,20 @@ pub record Shelf : Type 0 where
 -- a depot in memory is stored as the pairs of its parts
 abbrev pub shelf_code : Coded Shelf
 shelf_code =
-    code_by (Files × (ℕ × (ℕ × (ℕ × (ℕ × (ℕ × (ℕ × ℕ)))))))
-    (coded× (code (coded_list coded_ℕ) (coded_list coded_ℕ)) (coded× coded_ℕ (coded× coded_ℕ (coded× coded_ℕ
-    (coded× coded_ℕ (coded× coded_ℕ (coded× coded_ℕ coded_ℕ)))))))
-    (λ s. (s.files, (s.room, (s.most, (s.faults, (s.misses, (s.made, (s.opened, s.calls))))))))
+    code_by (Files × (ℕ × (ℕ × (Failures × (ℕ × (ℕ × (ℕ × (ℕ × ℕ))))))))
+    (coded× (code (coded_list coded_ℕ) (coded_list coded_ℕ)) (coded× coded_ℕ (coded× coded_ℕ (coded× failures_code
+    (coded× coded_ℕ (coded× coded_ℕ (coded× coded_ℕ (coded× coded_ℕ coded_ℕ))))))))
+    (λ s. (s.files, (s.room, (s.most, (s.failing, (s.faults, (s.misses, (s.made, (s.opened, s.calls)))))))))
     (λ p. record {
       files = p.0;
       room = p.1.0;
       most = p.1.1.0;
-      faults = p.1.1.1.0;
-      misses = p.1.1.1.1.0;
-      made = p.1.1.1.1.1.0;
-      opened = p.1.1.1.1.1.1.0;
-      calls = p.1.1.1.1.1.1.1;
+      failing = p.1.1.1.0;
+      faults = p.1.1.1.1.0;
+      misses = p.1.1.1.1.1.0;
+      made = p.1.1.1.1.1.1.0;
+      opened = p.1.1.1.1.1.1.1.0;
+      calls = p.1.1.1.1.1.1.1.1;
     })
     (λ _. refl)
 
@@ -65,44 +73,89 @@ shelf_code =
 unfoldable pub told_files : BTreeMap (String Global) (Vec ℕ Global) → Files
 told_files m = from_entries (map (λ e. (string_bytes e.0, e.1.items)) m.entries)
 
--- a depot with no file
+-- a depot with no file, of which no call is to fail
 abbrev pub empty_shelf : ℕ → ℕ → Shelf
-empty_shelf room most =
-    record { files = empty; room = room; most = most; faults = 0; misses = 0; made = 0; opened = 0; calls = 0 }
+empty_shelf room most = record {
+  files = empty;
+  room = room;
+  most = most;
+  failing = no_failures;
+  faults = 0;
+  misses = 0;
+  made = 0;
+  opened = 0;
+  calls = 0;
+}
 
 -- the depot with a file of these bytes, in place of one that had the name
 abbrev pub with_file : Shelf → List ℕ → List ℕ → Shelf
 with_file s name bytes = record s { files = insert s.files name bytes }
 
--- the depot after a call that opened a file, or found that there is none of that name, or wanted memory
-abbrev pub with_inlet : Shelf → ℕ → ℕ → Shelf
-with_inlet s misses opened = record s { misses = misses; opened = opened; calls = with_added s.calls 1 }
+-- the depot, of which the call of this number is to fail, too
+abbrev pub with_fault : Shelf → ℕ → Shelf
+with_fault s number = record s { failing = with_failing_call s.failing number }
 
--- the depot after a call that made an empty file
+-- the depot, on whose ports of this name the call of this number is to fail, too
+abbrev pub with_port_fault : Shelf → List ℕ → ℕ → Shelf
+with_port_fault s name number = record s { failing = with_failing_port s.failing name number }
+
+-- whether the depot's next numbered call fails
+abbrev pub call_fails : Shelf → Bool
+call_fails s = next_fails s.failing
+
+-- the numbers of the calls that are to fail on ports of this name
+abbrev pub fails_of : Shelf → List ℕ → List ℕ
+fails_of s name = numbers_of name s.failing.ports
+
+-- the depot after a numbered call that opened a file, or found that there is none of that name, or failed, or wanted
+-- memory
+abbrev pub with_inlet : Shelf → ℕ → ℕ → ℕ → Shelf
+with_inlet s faults misses opened = record s {
+  failing = after_call s.failing;
+  faults = faults;
+  misses = misses;
+  opened = opened;
+  calls = with_added s.calls 1;
+}
+
+-- the depot after a numbered call that made an empty file
 abbrev pub with_outlet : Shelf → List ℕ → Shelf
 with_outlet s name = record s {
   files = insert s.files name [];
+  failing = after_call s.failing;
   made = with_added s.made 1;
   opened = one_more s.opened;
   calls = with_added s.calls 1;
 }
 
--- the depot after a call that wanted memory
-abbrev pub with_call : Shelf → Shelf
-with_call s = record s { calls = with_added s.calls 1 }
+-- the depot after a numbered call that failed, or wanted memory
+abbrev pub with_call : Shelf → ℕ → Shelf
+with_call s faults =
+    record s { failing = after_call s.failing; faults = faults; calls = with_added s.calls 1 }
 
 -- the depot after a call that closed a port with this count of faults
 abbrev pub without_port : Shelf → ℕ → ℕ → Shelf
 without_port s faults opened =
     record s { faults = with_added s.faults faults; opened = opened; calls = with_added s.calls 1 }
 
--- so it is of a file's port, whose bytes the file then has
-abbrev pub with_closed : Shelf → List ℕ → Store → ℕ → Shelf
-with_closed s name port opened = with_file (without_port s port.faults opened) name port.held
+-- what a numbered call that closes a file's port leaves of the bytes that the port held: all, or where it fails the
+-- first half
+abbrev pub kept_of : Shelf → List ℕ → List ℕ
+kept_of s held = if call_fails s then take (length held / 2) held else held
 
--- whether a call's number stands in the list of those that fail
-abbrev pub is_listed : List ℕ → ℕ → Bool
-is_listed fails number = list_any (λ n. nat_eq n number) fails
+-- so many faults a numbered call adds: none, or one where it fails
+abbrev pub fault_of : Shelf → ℕ
+fault_of s = if call_fails s then 1 else 0
+
+-- the depot after a numbered call that closed a file's port
+abbrev pub with_closed : Shelf → List ℕ → Store → ℕ → Shelf
+with_closed s name port opened = record s {
+  files = insert s.files name (kept_of s port.held);
+  failing = after_call s.failing;
+  faults = with_added (with_added s.faults port.faults) (fault_of s);
+  opened = opened;
+  calls = with_added s.calls 1;
+}
 
 -- whether the next read fails
 abbrev pub read_fails : Supply → Bool
@@ -131,6 +184,18 @@ after_read s space =
           with_added s.reads 1;
       faults = s.faults;
     }
+
+-- how many bytes a read that can't fail gives into so much space
+abbrev pub given_of : Stock → ℕ → ℕ
+given_of s space = min s.most (min space (length s.left))
+
+-- a source whose reads never fail, after a read into so much space
+abbrev pub after_take : Stock → ℕ → Stock
+after_take s space = record s { left = drop (given_of s space) s.left }
+
+-- such a source, once it begins again
+abbrev pub rewound : Stock → Stock
+rewound s = record s { left = s.whole }
 
 -- how many more bytes there is room for, told where no write is to fail by its number
 abbrev pub room_by : List ℕ → ℕ → Option ℕ

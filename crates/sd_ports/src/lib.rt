@@ -2,10 +2,13 @@
 #![tactic(auto)]
 
 mod depot;
+mod failing;
 mod fault;
 mod file;
+mod front;
 mod host;
 mod identity;
+mod never;
 mod shelf;
 mod sink;
 mod source;
@@ -18,7 +21,9 @@ mod whole;
 pub use depot::Depot;
 pub use fault::{DepotFault, PortFault};
 pub use file::{FileFault, read_file, write_file};
+pub use front::{ReadMostFault, Taken, read_most};
 pub use host::{HostDepot, HostInlet, HostOutlet, StdPrint};
+pub use never::{NeverSink, NeverSource};
 pub use shelf::MemDepot;
 pub use sink::Sink;
 pub use source::Source;

@@ -1,13 +1,15 @@
-ghost use Rattle.std.specs.Prelude.{◌≡◌, ◌≤◌, ◌<◌, ◌^◌, ◌↔◌, IfOk, IsOk, IsSome, OnOk, OnErr, IsErrOf, Some, None, []};
+ghost use Rattle.std.specs.Prelude.{◌≡◌, ◌≤◌, ◌<◌, ◌^◌, ◌↔◌, IfOk, IsErr, IsSome, OnOk, OnErr, IsErrOf, Some, None, []};
+ghost use Rattle.std.specs.Prelude.{true, false, string_bytes};
 ghost use Rattle.std.specs.Option.{option_map};
 ghost use Rattle.std.specs.FinMap as map;
 ghost use Rattle.sd_cause.specs.Count.{HasCause, with_added};
 ghost use Rattle.sd_ports.specs.Causes.{CountsClosed, CountsMade, CountsOpen, HasDepotCause};
 ghost use Rattle.sd_ports.specs.Files.{Closes, IsFresh, IsNotThere, IsThere, LeavesPrefix, Opens, with_bytes};
-ghost use Rattle.sd_ports.specs.Memory.{empty_shelf, told_files, with_call, with_closed, with_file, with_inlet};
-ghost use Rattle.sd_ports.specs.Memory.{with_outlet, without_port};
+ghost use Rattle.sd_ports.specs.Memory.{call_fails, empty_shelf, fails_of, told_files, with_call, with_closed};
+ghost use Rattle.sd_ports.specs.Memory.{with_fault, with_file, with_inlet, with_outlet, with_port_fault, without_port};
 
 use crate::depot::Depot;
+use crate::failing::Failing;
 use crate::fault::DepotFault;
 use crate::store::MemSink;
 use crate::supply::MemSource;
@@ -16,13 +18,14 @@ use std::alloc::Global;
 use std::collections::BTreeMap;
 use std::marker::Model;
 
-/// A depot in memory.
+/// A depot in memory. Calls of it and of its ports can be made to fail by their numbers.
 #[derive(Drop)]
 pub struct MemDepot {
     alloc: Global,
     files: BTreeMap<String, Vec<u8>>,
     room: usize,
     most: usize,
+    failing: Failing,
     faults: u64,
     misses: u64,
     made: u64,
@@ -42,6 +45,7 @@ impl Model for MemDepot {
       files = told_files d.files;
       room = d.room;
       most = d.most;
+      failing = d.failing;
       faults = d.faults;
       misses = d.misses;
       made = d.made;
@@ -64,6 +68,7 @@ impl MemDepot {
             files: BTreeMap::new(alloc),
             room,
             most,
+            failing: Failing::new(alloc)?,
             faults: 0,
             misses: 0,
             made: 0,
@@ -87,7 +92,23 @@ impl MemDepot {
         look_up(&self.files, name)
     }
 
-    /// How often the device failed, in the ports that were closed.
+    /// Makes the depot's call of this number fail. Its calls are numbered from 0 over `open_in`, `create_out` and
+    /// `close_out`. The newest 16 numbers are kept. It takes no memory.
+    pub fn fail_call(&mut self, number: u32)
+        ensures { self.new ≡ with_fault self.old number }
+    {
+        self.failing.add_call(number);
+    }
+
+    /// Makes the call of this number fail on each port of this name that is opened from now on. A port's calls, its
+    /// reads or its writes, are numbered from 0. The newest 16 pairs are kept. It takes no memory.
+    pub fn fail_port(&mut self, name: String, number: u32)
+        ensures { self.new ≡ with_port_fault self.old (string_bytes name) number }
+    {
+        self.failing.add_port(name, number);
+    }
+
+    /// How often the device failed, in its own calls and in the ports that were closed.
     pub fn faults(&self) -> u64
         ensures { result ≡ self.now.faults }
     {
@@ -106,6 +127,22 @@ impl MemDepot {
         ensures { result ≡ self.now.made }
     {
         self.made
+    }
+
+    /// Counts and numbers one more call, and counts a fault where it is to fail.
+    fn begin(&mut self) -> Result<(), DepotFault>
+        ensures ok { OnOk result (self.new ≡ with_call self.old self.old.faults) }
+        ensures err { OnErr result (self.new ≡ with_call self.old (with_added self.old.faults 1)) }
+        ensures fails { IsErr result ↔ (call_fails self.old ≡ true) }
+        ensures failed { OnErr result (IsErrOf result DepotFault.Failed) }
+        ensures within { self.old.faults < 2 ^ 64 }
+    {
+        self.calls = self.calls.saturating_add(1);
+        if self.failing.next() {
+            self.faults = self.faults.saturating_add(1);
+            return Err(DepotFault::Failed);
+        }
+        Ok(())
     }
 }
 
@@ -134,30 +171,37 @@ impl Depot for MemDepot {
         ensures not_there { IsErrOf result DepotFault.Missing → IsNotThere (Some self.old.files) name.now }
         ensures cause { HasDepotCause self.old.faults self.new.faults self.old.misses self.new.misses result }
         ensures made { self.new.made ≡ self.old.made }
-        ensures missing { IsErrOf result DepotFault.Missing ↔ (map.get self.old.files name.now ≡ None) }
+        ensures fails { IsErrOf result DepotFault.Failed ↔ (call_fails self.old ≡ true) }
+        ensures missing { IsErrOf result DepotFault.Missing ↔ (call_fails self.old ≡ false)
+            × (map.get self.old.files name.now ≡ None) }
         ensures ports { CountsOpen self.old.opened self.new.opened result }
         ensures calls { self.new.calls ≡ with_added self.old.calls 1 }
-        ensures unchanged { self.new ≡ with_inlet self.old self.new.misses self.new.opened }
+        ensures unchanged { self.new ≡ with_inlet self.old self.new.faults self.new.misses self.new.opened }
         ensures miss { IsErrOf result DepotFault.Missing → self.new.misses ≡ with_added self.old.misses 1 }
-        ensures works { ¬ IsErrOf result DepotFault.Failed }
+        ensures fault { IsErrOf result DepotFault.Failed → self.new.faults ≡ with_added self.old.faults 1 }
         ensures port { IfOk result (λ port. port ≡ record {
           left = port.left;
           most = self.old.most;
-          fails = [];
+          fails = fails_of self.old name.now;
           reads =
               0;
           faults = 0;
         }) }
     {
-        self.calls = self.calls.saturating_add(1);
+        if let Err(_) = self.begin() {
+            return Err(DepotFault::Failed);
+        }
         let Some(file) = look_up(&self.files, name) else {
             self.misses = self.misses.saturating_add(1);
             return Err(DepotFault::Missing);
         };
+        let Ok(fails) = self.failing.numbers_of(alloc, name) else {
+            return Err(DepotFault::NoMemory);
+        };
         match Vec::from_slice(alloc, file) {
             Ok(bytes) => {
                 self.opened = self.opened.wrapping_add(1);
-                Ok(MemSource::new(bytes, self.most, Vec::new(alloc)))
+                Ok(MemSource::new(bytes, self.most, fails))
             }
             Err(_) => Err(DepotFault::NoMemory),
         }
@@ -175,20 +219,25 @@ impl Depot for MemDepot {
         ensures ports { CountsOpen self.old.opened self.new.opened result }
         ensures calls { self.new.calls ≡ with_added self.old.calls 1 }
         ensures ok { OnOk result (self.new ≡ with_outlet self.old name.now) }
-        ensures err { OnErr result (self.new ≡ with_call self.old) }
-        ensures works { OnErr result (IsErrOf result DepotFault.NoMemory) }
+        ensures err { OnErr result (self.new ≡ with_call self.old self.new.faults) }
+        ensures fails { IsErrOf result DepotFault.Failed ↔ (call_fails self.old ≡ true) }
+        ensures fault { IsErrOf result DepotFault.Failed → self.new.faults ≡ with_added self.old.faults 1 }
         ensures port { IfOk result (λ port. port ≡ record {
           held = [];
           room = self.old.room;
           most = self.old.most;
-          fails =
-              [];
+          fails = fails_of self.old name.now;
           writes = 0;
           faults = 0;
         }) }
     {
-        self.calls = self.calls.saturating_add(1);
-        let Ok(port) = MemSink::new(alloc, self.room, self.most, Vec::new(alloc)) else {
+        if let Err(_) = self.begin() {
+            return Err(DepotFault::Failed);
+        }
+        let Ok(fails) = self.failing.numbers_of(alloc, name) else {
+            return Err(DepotFault::NoMemory);
+        };
+        let Ok(port) = MemSink::new(alloc, self.room, self.most, fails) else {
             return Err(DepotFault::NoMemory);
         };
         match set(alloc, &mut self.files, name, Vec::new(alloc)) {
@@ -216,8 +265,8 @@ impl Depot for MemDepot {
         self.faults = self.faults.saturating_add(port.faults());
     }
 
-    /// It takes no memory, and never fails.
-    #[tactic(auto, using(crate::proofs::Outlets::closes_prefix))]
+    /// It takes no memory. Where it fails, the file has the first half of what the port held.
+    #[tactic(auto, using(crate::proofs::Outlets::closes_prefix, crate::proofs::Outlets::half_stays))]
     fn close_out(&mut self, name: &str, port: MemSink) -> Result<(), DepotFault>
         requires { IsThere (Some self.old.files) name.now }
         ensures closed { OnOk result (Closes (Some self.old.files) (Some self.new.files) name.now (Some port.held)) }
@@ -229,14 +278,20 @@ impl Depot for MemDepot {
         ensures made { self.new.made ≡ self.old.made }
         ensures ports { CountsClosed self.old.opened self.new.opened }
         ensures calls { self.new.calls ≡ with_added self.old.calls 1 }
-        ensures works { IsOk result }
+        ensures fails { IsErr result ↔ (call_fails self.old ≡ true) }
         ensures after { self.new ≡ with_closed self.old name.now port self.new.opened }
     {
-        self.calls = self.calls.saturating_add(1);
         self.opened = self.opened.wrapping_sub(1);
         let faults = port.faults();
-        replace(&mut self.files, name, port.into_bytes());
         self.faults = self.faults.saturating_add(faults);
+        let begun = self.begin();
+        let mut bytes = port.into_bytes();
+        if let Err(fault) = begun {
+            bytes.truncate(bytes.len() / 2);
+            replace(&mut self.files, name, bytes);
+            return Err(fault);
+        }
+        replace(&mut self.files, name, bytes);
         Ok(())
     }
 }

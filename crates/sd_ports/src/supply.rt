@@ -2,7 +2,8 @@ ghost use Rattle.std.specs.Prelude.{◌≡◌, ◌<◌, ◌≤◌, ◌↔◌, If
 ghost use Rattle.std.specs.Io.{ReadsAtMost};
 ghost use Rattle.std.specs.Io.KnownBytes.{ReadConsumes};
 ghost use Rattle.sd_cause.specs.Count.{HasCause};
-ghost use Rattle.sd_ports.specs.Memory.{after_read, given, is_listed, read_fails};
+ghost use Rattle.sd_ports.specs.Failing.{is_listed};
+ghost use Rattle.sd_ports.specs.Memory.{after_read, given, read_fails};
 
 use crate::fault::PortFault;
 use crate::source::Source;
@@ -88,7 +89,7 @@ impl Source for MemSource {
 }
 
 /// Copies a prefix of the bytes to the buffer's beginning, and answers its length.
-fn give(bytes: &[u8], most: usize, buf: &mut [u8]) -> usize
+pub(crate) fn give(bytes: &[u8], most: usize, buf: &mut [u8]) -> usize
     ensures count { result ≡ min most (min (length buf.old) (length bytes.now)) }
     ensures front { take result buf.new ≡ take result bytes.now }
 {

@@ -1,6 +1,7 @@
 use crate::{
-    Depot, FileFault, HostDepot, MemDepot, MemSink, MemSource, PortFault, ReadAllFault, Source,
-    StdPrint, read_all, read_file, write_all, write_file,
+    Depot, FileFault, HostDepot, MemDepot, MemSink, MemSource, NeverSink, NeverSource, PortFault,
+    ReadAllFault, ReadMostFault, Source, StdPrint, read_all, read_file, read_most, write_all,
+    write_file,
 };
 use std::alloc::{AllocError, Global};
 use std::fs;
@@ -23,6 +24,24 @@ fn reads(
     };
     let faults = u64::from(want == Err(ReadAllFault::Failed));
     Ok(same && source.faults() == faults)
+}
+
+// Whether so much is taken from the front of a source of TEXT, of which one read fails.
+fn begins(
+    alloc: Global,
+    (part, failing, most): (usize, u32, usize),
+    want: Result<(&str, bool), ReadMostFault>,
+) -> Result<bool, AllocError> {
+    let bytes = Vec::from_slice(alloc, TEXT)?;
+    let fails = Vec::from_slice(alloc, &[failing])?;
+    let mut source = MemSource::new(bytes, part.max(1), fails);
+    Ok(match read_most(alloc, &mut source, most) {
+        Ok(taken) => {
+            want.map(|(text, more)| (text.as_bytes(), more)) == Ok((taken.bytes(), taken.more()))
+                && want.is_ok_and(|(text, _)| taken.into_bytes().as_slice() == text.as_bytes())
+        }
+        Err(fault) => want == Err(fault),
+    })
 }
 
 // Whether a sink, of which one write fails, takes this much of TEXT, and counts a fault where that isn't all.
@@ -99,6 +118,77 @@ fn bytes_go_through_in_portions(rt: HostRuntime) -> Result<(), AllocError> {
     let mut paper = [0u8; 3];
     let printed = write_all(&mut StdPrint::new(&mut paper[..]), TEXT);
     assert!(rt; printed == Err(PortFault) && &paper == b"abc");
+    Ok(())
+}
+
+#[test]
+fn the_front_of_an_input_is_taken(rt: HostRuntime) -> Result<(), AllocError> {
+    for (case, want) in [
+        ((1, 9, 7), Ok(("abcdefg", false))),
+        ((3, 9, 8), Ok(("abcdefg", false))),
+        ((1, 9, 6), Ok(("abcdef", true))),
+        ((1000, 9, 6), Ok(("abcdef", true))),
+        ((2, 9, 3), Ok(("abc", true))),
+        ((3, 9, 0), Ok(("", true))),
+        ((3, 1, 7), Err(ReadMostFault::Failed)),
+        ((3, 1, 2), Ok(("ab", true))),
+    ] {
+        assert!(rt; begins(rt.alloc(), case, want)?);
+    }
+    Ok(())
+}
+
+#[test]
+fn some_ports_never_fail(rt: HostRuntime) -> Result<(), AllocError> {
+    let mut source = NeverSource::new(Vec::from_slice(rt.alloc(), TEXT)?, 3);
+    for _ in 0..2 {
+        let read = read_all(rt.alloc(), &mut source, 7);
+        assert!(rt; read.is_ok_and(|read| read.as_slice() == TEXT));
+        source.rewind();
+    }
+    assert!(rt; write_all(&mut NeverSink::new(), TEXT) == Ok(()));
+    Ok(())
+}
+
+#[test]
+fn chosen_calls_fail(rt: HostRuntime) -> Result<(), AllocError> {
+    let alloc = rt.alloc();
+    let failed = FileFault::Failed;
+    // Opening, making and closing "a" are the calls 0, 1 and 2. Two bytes go through a call of a port.
+    for (call, (name, port), read, wrote, left, faults) in [
+        (9, ("b", 0), Ok(true), Ok(()), "abcdefg", 0),
+        (0, ("b", 0), Err(failed), Ok(()), "abcdefg", 1),
+        (1, ("b", 0), Ok(true), Err(failed), "new", 1),
+        (2, ("b", 0), Ok(true), Err(failed), "abc", 1),
+        (9, ("a", 0), Err(failed), Err(failed), "", 2),
+        (9, ("a", 1), Err(failed), Err(failed), "ab", 2),
+        (9, ("a", 3), Ok(true), Err(failed), "abcdef", 1),
+        (2, ("a", 1), Err(failed), Err(failed), "a", 3),
+    ] {
+        let mut depot = shelf(alloc)?;
+        depot.fail_call(call);
+        depot.fail_port(String::from_str(alloc, name)?, port);
+        let bytes = read_file(alloc, &mut depot, "a", 9);
+        assert!(rt; bytes.map(|bytes| bytes.as_slice() == b"new".as_slice()) == read);
+        assert!(rt; write_file(alloc, &mut depot, "a", TEXT) == wrote);
+        assert!(rt; depot.get("a") == Some(left.as_bytes()) && depot.faults() == faults);
+    }
+    Ok(())
+}
+
+#[test]
+fn the_newest_choices_are_kept(rt: HostRuntime) -> Result<(), AllocError> {
+    let mut depot = shelf(rt.alloc())?;
+    for number in 0..17 {
+        depot.fail_call(number);
+        depot.fail_port(String::from_str(rt.alloc(), "a")?, number);
+    }
+    // Call 0 and the first read work again.
+    let Ok(mut port) = depot.open_in(rt.alloc(), "a") else {
+        return Err(AllocError);
+    };
+    assert!(rt; port.read(&mut [0]) == Ok(1) && port.read(&mut [0]) == Err(PortFault));
+    assert!(rt; depot.open_in(rt.alloc(), "a").is_err() && depot.faults() == 1);
     Ok(())
 }
 

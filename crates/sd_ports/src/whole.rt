@@ -1,10 +1,11 @@
-ghost use Rattle.std.specs.Prelude.{◌≡◌, ◌<◌, ◌≤◌, ◌++◌, vec_len, IfOk, OnOk, OnErr, IsErrOf, length};
+ghost use Rattle.std.specs.Prelude.{◌≡◌, ◌≤◌, IfOk, OnOk, OnErr, IsErrOf, length};
 ghost use Rattle.std.specs.Io.KnownBytes.{Appends};
 ghost use Rattle.sd_cause.specs.Count.{HasCause, Rose};
 ghost use Rattle.sd_ports.specs.Rooms.{FillsRoom};
 ghost use Rattle.sd_ports.specs.Bytes.{AppendsPrefix, LosesPrefix, GivesAll, IsLonger};
 
 use crate::fault::PortFault;
+use crate::front::{ReadMostFault, read_most};
 use crate::sink::Sink;
 use crate::source::Source;
 use std::alloc::Global;
@@ -20,12 +21,8 @@ pub enum ReadAllFault {
     NoMemory,
 }
 
-/// The most bytes of one read, which are on the stack.
-const BUFFER: usize = 16384;
-
 /// Reads all that is left, at most `most` bytes, and stops as soon as more were read. After a fault a prefix of what
 /// was left is gone.
-#[tactic(auto, using(crate::proofs::Portions::loses_more))]
 pub fn read_all<S: Source>(
     alloc: Global,
     source: &mut S,
@@ -39,32 +36,11 @@ pub fn read_all<S: Source>(
     ensures calm { ¬ IsErrOf result ReadAllFault.Failed → S.faults source.new ≡ S.faults source.old }
     ensures lost { OnErr result (LosesPrefix (S.left source.old) (S.left source.new)) }
 {
-    let mut bytes = Vec::new(alloc);
-    let mut buffer = [0u8; BUFFER];
-    for _turn in 0..u64::MAX {
-        match source.read(&mut buffer) {
-            Ok(0) => return Ok(bytes),
-            Ok(count) => keep(&mut bytes, &buffer[..count], most)?,
-            Err(_) => return Err(ReadAllFault::Failed),
-        }
-    }
-    unreachable!()
-}
-
-/// Puts more bytes after those that were read, where there may be so many.
-fn keep(bytes: &mut Vec<u8>, more: &[u8], most: usize) -> Result<(), ReadAllFault>
-    requires { vec_len bytes.old ≤ most }
-    ensures kept { OnOk result (bytes.new.items ≡ bytes.old.items ++ more.now) }
-    ensures within { OnOk result (vec_len bytes.new ≤ most) }
-    ensures too_big { IsErrOf result ReadAllFault.TooBig → most < length (bytes.old.items ++ more.now) }
-    ensures calm { ¬ IsErrOf result ReadAllFault.Failed }
-{
-    if more.len() > most - bytes.len() {
-        return Err(ReadAllFault::TooBig);
-    }
-    match bytes.extend_from_slice(more) {
-        Ok(()) => Ok(()),
-        Err(_) => Err(ReadAllFault::NoMemory),
+    match read_most(alloc, source, most) {
+        Ok(taken) if taken.more() => Err(ReadAllFault::TooBig),
+        Ok(taken) => Ok(taken.into_bytes()),
+        Err(ReadMostFault::Failed) => Err(ReadAllFault::Failed),
+        Err(ReadMostFault::NoMemory) => Err(ReadAllFault::NoMemory),
     }
 }
 

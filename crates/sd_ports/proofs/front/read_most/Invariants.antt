@@ -1,6 +1,6 @@
 use Rattle.std.proofs.Common.{◌≡◌, ◌≤◌, vec_len}
 use Rattle.std.specs.Io.KnownBytes.{Consumes}
-use Rattle.sd_ports.proofs.whole.read_all.Given as goal
+use Rattle.sd_ports.proofs.front.read_most.Given as goal
 
 -- what was read is the front that is gone, a byte or more each turn, and nothing failed
 abbrev pub invariant-loop-turn : goal.invariant-loop-turn

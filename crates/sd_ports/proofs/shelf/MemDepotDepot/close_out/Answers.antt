@@ -1,0 +1,18 @@
+use Rattle.std.proofs.Common.{◌≡◌, ◌∙◌, ◌/◌, List, ℕ, take, ap}
+use Rattle.std.specs.FinMap.{insert}
+use Rattle.sd_ports.specs.Files.{Files}
+use Rattle.sd_ports.specs.Memory.{Shelf, told_files}
+use Rattle.sd_ports.proofs.Outlets.{half_stays}
+use Rattle.sd_ports.proofs.shelf.MemDepotDepot.close_out.Goals as goal
+
+pub returns-in-Err-clause-front : goal.returns-in-Err-clause-front
+returns-in-Err-clause-front c =
+    let seen = ap (λ (s : Shelf). s.files) c.self-2.view_is in
+    let begun = ap (λ (s : Shelf). s.files) c.in-Err.ensures.err in
+    let entered = ap (λ (s : Shelf). s.files) c.self.view_is in
+    let files : told_files c.self-2.inside.files ≡ c.args.self.now.files = search (seen, begun, entered) in
+    half_stays _ _ c.args.name.now c.args.port.held (c.len.result / 2)
+    (c.replace.ensures
+    ∙ ap (λ (m : Files). insert m c.args.name.now c.truncate.new.self.items) files
+    ∙ ap (insert c.args.self.now.files c.args.name.now)
+    (c.truncate.ensures.items ∙ ap (λ (bytes : List ℕ). take (c.len.result / 2) bytes) c.into_bytes-bytes.ensures))
