@@ -23,7 +23,7 @@ use sd_status::Status;
 #[tactic(auto, using(crate::proofs::Together::three_runs))]
 pub fn exactly_the_unrevoked_receive()
     ensures { (names : Names) (plan : Plan) (u : ℕ) (clear : List (List ℕ)) (files : Files) (a b c d : Outside)
-        (sent carded received : Status) → AreGiven files names plan u clear →
+        (sent carded received : Status) → AreGiven files names plan u clear → AreApart names →
         a.place.files ≡ Some files → Runs (head_run names) a b sent → Runs (card_run names) b c carded →
         Runs (receive_run names) c d received → IsHeadline names plan u clear b c d sent carded received }
 {}
