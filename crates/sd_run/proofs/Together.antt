@@ -31,7 +31,7 @@ use Rattle.sd_status.specs.Outside.{Outside}
 use Rattle.sd_status.specs.Work.{StepBound, Uncounted, Out, Work, files_with, IsWithinSteps}
 use Rattle.sd_words.specs.Words.{Order, HeadOf, CardOf, ReceiveOf, with_number, at_most, number_in}
 use Rattle.sd_files.specs.Shown.{word_at}
-use Rattle.sd_words.specs.Words.{card_words, head_words, receive_words, order_of}
+use Rattle.sd_words.specs.Words.{card_words, four_words, head_words, receive_words, three_words, order_of}
 use Rattle.sd_files.specs.Made.{making}
 use Rattle.sd_run.specs.Good.{IsGoodCard}
 use Rattle.sd_run_head.specs.Head.{sent_status}
@@ -61,7 +61,7 @@ one_apart : (p : Bool) (order : Result Order Status) → p ≡ false → (if p t
 one_apart p order a = rw a refl
 
 two_apart : (p q : Bool) (order : Result Order Status) → p ≡ false → q ≡ false →
-    (if p then Err Usage else if q then Err Usage else order) ≡ order
+    (if p || q then Err Usage else order) ≡ order
 two_apart p q order a b = rw (a, b) refl
 
 three_apart : (p q r : Bool) (order : Result Order Status) → p ≡ false → q ≡ false → r ≡ false →
@@ -106,7 +106,7 @@ module _ (names : Names) (plan : Plan) (u : ℕ) (clear : List (List ℕ)) (file
   -- `head`
   head_order : order_of (head_run names)
       ≡ Ok (HeadOf (word_at 1 names.site) (word_at 2 names.book) (word_at 3 names.clear) (word_at 4 names.stream))
-  unfolding head_words
+  unfolding four_words head_words
   head_order =
       three_apart (bytes_eq names.site names.stream) (bytes_eq names.book names.stream)
       (bytes_eq names.clear names.stream)
@@ -167,7 +167,7 @@ module _ (names : Names) (plan : Plan) (u : ℕ) (clear : List (List ℕ)) (file
 
   card_order : order_of (card_run names)
       ≡ Ok (CardOf (word_at 1 names.site) (record { word = 2; value = u }) (word_at 3 names.card))
-  unfolding card_words
+  unfolding three_words card_words
   card_order =
       one_apart (bytes_eq names.site names.card)
       (with_number (number_in 2 (2 ^ 32 - 1) names.leaf) leaf_order)
@@ -206,7 +206,7 @@ module _ (names : Names) (plan : Plan) (u : ℕ) (clear : List (List ℕ)) (file
   -- `receive`
   receive_order : order_of (receive_run names)
       ≡ Ok (ReceiveOf (word_at 1 names.card) (word_at 2 names.stream) (word_at 3 names.out))
-  unfolding receive_words
+  unfolding three_words receive_words
   receive_order =
       two_apart (bytes_eq names.card names.out) (bytes_eq names.stream names.out)
       (Ok (ReceiveOf (word_at 1 names.card) (word_at 2 names.stream) (word_at 3 names.out)))

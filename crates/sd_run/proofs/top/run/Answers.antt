@@ -1,4 +1,4 @@
-use Rattle.std.proofs.Common.{rules, ◌≡◌, List, ℕ, [], sym, subst, Ok, Err, ap, ◌∙◌}
+use Rattle.std.proofs.Common.{rules, ◌≡◌, [], sym, subst}
 use Rattle.std.specs.Prelude.{map, string_bytes}
 use Rattle.sd_status.specs.declared.status.Status.{Status}
 use Rattle.sd_status.specs.declared.status.Status.TheVariants.{Done, PrintFault}
