@@ -2,4 +2,5 @@ pub mod Places
 pub mod Looked
 pub mod Making
 pub mod Turning
+pub mod Thirds
 pub mod Others

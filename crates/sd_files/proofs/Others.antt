@@ -12,8 +12,9 @@ use Rattle.sd_status.specs.declared.status.Status.{Status}
 use Rattle.sd_status.specs.declared.status.Status.TheVariants.{Usage, Limit}
 use Rattle.sd_status.specs.declared.status.LimitKind.{LimitKind}
 use Rattle.sd_status.specs.declared.status.LimitKind.TheVariants.{SiteBytes, BookBytes}
-use Rattle.sd_status.specs.Meant.{Meant, after, all_of, judged, within}
+use Rattle.sd_status.specs.Meant.{Meant, after, all_of, judged, value, within, ◌>>=◌}
 use Rattle.sd_files.specs.declared.files.TheConstants.{MOST_SITE_BYTES, MOST_BOOK_BYTES}
+use Rattle.sd_files.specs.Both.{both_by}
 use Rattle.sd_files.specs.Files.{told_site, told_book, site_of_file, book_of_file}
 
 -- no step but the words' own answers `Usage`
@@ -41,7 +42,7 @@ other_site : (r : Result SiteFields SiteFault) → IsOther (told_site r)
 other_site (Ok site) = tt
 other_site (Err fault) = λ e. cc
 
-other_book : (word : ℕ) (r : Result (List Command) BookFault) → IsOther (told_book word r)
+pub other_book : (word : ℕ) (r : Result (List Command) BookFault) → IsOther (told_book word r)
 other_book word (Ok commands) = tt
 other_book word (Err (book.Line k)) = λ e. cc
 other_book word (Err (book.Leaf k)) = λ e. cc
@@ -60,3 +61,15 @@ other_book_file word d got =
     other_after (within word MOST_BOOK_BYTES BookBytes got).calls (within word MOST_BOOK_BYTES BookBytes got).result
     (λ bytes. judged (told_book word (book_of d bytes))) (other_file word MOST_BOOK_BYTES BookBytes got)
     (λ bytes. other_book word (book_of d bytes))
+
+pub other_both : (site book : ℕ) (site_got book_got : Option (List ℕ)) →
+    IsOther (both_by site book site_got book_got).result
+unfolding both_by
+other_both site book site_got book_got =
+    other_after (site_of_file site site_got).calls (site_of_file site site_got).result
+    (λ fields. book_of_file book fields.height book_got
+    >>= λ commands. value (record { site = fields; commands = commands })) (other_site_file site site_got)
+    (λ fields. other_after (book_of_file book fields.height book_got).calls
+    (book_of_file book fields.height book_got).result
+    (λ commands. value (record { site = fields; commands = commands })) (other_book_file book fields.height book_got)
+    (λ commands. tt))

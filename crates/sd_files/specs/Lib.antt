@@ -1,4 +1,5 @@
 pub mod Files
+pub mod Both
 pub mod Made
 pub mod Shown
 pub mod Streams

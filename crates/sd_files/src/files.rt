@@ -63,12 +63,12 @@ fn judge_book(alloc: Global, word: u8, bytes: &[u8], h: Height) -> Result<Book, 
 {
     match Book::read(alloc, bytes, h) {
         Ok(book) => Ok(book),
-        Err(fault) => Err(refused(word, fault)),
+        Err(fault) => Err(book_fault(word, fault)),
     }
 }
 
-/// What the program answers to a book that is refused.
-fn refused(word: u8, fault: BookFault) -> Status
+/// What the program answers to a book that is refused, which this word's file says.
+pub fn book_fault(word: u8, fault: BookFault) -> Status
     ensures { result ≡ refused_book word fault }
 {
     match fault {

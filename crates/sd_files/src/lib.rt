@@ -1,6 +1,7 @@
 //! What commands share: their words, the files that they read and make, and how they print.
 #![tactic(auto)]
 
+mod both;
 mod files;
 mod made;
 mod print;
@@ -8,7 +9,8 @@ mod stream;
 mod turn;
 mod word;
 
-pub use files::{read_book, read_bytes, read_site};
+pub use both::read_both;
+pub use files::{book_fault, read_book, read_bytes, read_site};
 pub use made::{make_file, told};
 pub use print::print_text;
 pub use stream::cause_of;
