@@ -10,7 +10,7 @@ mod turn;
 mod word;
 
 pub use both::read_both;
-pub use files::{book_fault, read_book, read_bytes, read_site};
+pub use files::{MOST_BOOK_BYTES, book_fault, read_book, read_bytes, read_site};
 pub use made::{make_file, told};
 pub use print::print_text;
 pub use stream::cause_of;

@@ -1,0 +1,4 @@
+pub mod Good
+pub mod Listed
+pub mod Made
+pub mod Others

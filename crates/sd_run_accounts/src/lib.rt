@@ -1,0 +1,9 @@
+//! `accounts SITE ACCOUNTS OUT`: the book that accounts make, and their report.
+#![tactic(auto)]
+
+mod command;
+
+pub use command::accounts;
+
+#[cfg(test)]
+mod tests;
