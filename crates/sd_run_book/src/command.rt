@@ -1,0 +1,53 @@
+ghost use Rattle.std.specs.Prelude.{◌≡◌, ◌≢◌, ℕ};
+ghost use Rattle.sd_status.specs.Outside.{Page, outside, place};
+ghost use Rattle.sd_status.specs.Reads.{Judges};
+ghost use Rattle.sd_status.specs.Comes.{Follows, status_of};
+ghost use Rattle.sd_files.specs.Shown.{shown_word};
+ghost use Rattle.sd_run_book.specs.Book.{book_meaning, longer_book};
+
+use sd_book::Book;
+use sd_files::{Word, book_fault, make_file, read_book, read_both};
+use sd_ports::Depot;
+use sd_status::Status;
+use std::alloc::Global;
+
+/// Does `book SITE BOOK COMMANDS OUT`: COMMANDS is a book by itself, and OUT is BOOK with its commands at the end.
+pub fn book<D: Depot>(
+    alloc: Global,
+    depot: &mut D,
+    site: Word<'_>,
+    book: Word<'_>,
+    commands: Word<'_>,
+    out: Word<'_>,
+) -> Result<(), Status>
+    requires { (site.number ≢ book.number) × (site.number ≢ commands.number) × (book.number ≢ commands.number) }
+    ensures { (page : Page) (steps : ℕ) →
+        Follows (book_meaning (shown_word site.entry) (shown_word book.entry) (shown_word commands.entry)
+        (shown_word out.entry))
+        (outside (place D.Depot depot.old) page steps) (outside (place D.Depot depot.new) page steps)
+        (status_of result) }
+{
+    let (site, book) = read_both(alloc, depot, site, book)?;
+    let added = read_book(alloc, depot, commands, site.height)?;
+    let whole = longer(commands.number, book, &added)?;
+    let bytes = whole.write(alloc)?;
+    make_file(alloc, depot, out, &bytes)
+}
+
+/// The book with the commands of another one after its own, which this word's file says.
+#[tactic(auto, using(crate::proofs::Longer::longer_refused))]
+fn longer(word: u8, mut book: Book, added: &Book) -> Result<Book, Status>
+    requires { added.now.height ≡ book.height }
+    ensures { Judges (λ whole. whole.commands)
+        (longer_book word book.height book.commands added.now.commands) result }
+{
+    let more = added.commands();
+    match book.apply(more) {
+        Ok(()) => {
+            // It is within the limits of a book.
+            let _ = book.commands();
+            Ok(book)
+        }
+        Err(fault) => Err(book_fault(word, fault)),
+    }
+}
