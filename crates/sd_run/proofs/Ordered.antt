@@ -13,7 +13,11 @@ use Rattle.sd_run_card.proofs.Others.{other_card_order}
 use Rattle.sd_run_tables.proofs.Others.{other_tables}
 use Rattle.sd_run_head.proofs.Others.{other_head}
 use Rattle.sd_run_receive.proofs.Others.{other_receive}
+use Rattle.sd_run_accounts.proofs.Others.{other_accounts}
+use Rattle.sd_run_book.proofs.Others.{other_book_order}
+use Rattle.sd_run_lcard.proofs.Others.{other_lcard}
 use Rattle.sd_words.specs.Words.{Order, CoverOf, CardOf, SampleOf, TablesOf, HeadOf, ReceiveOf, order_of}
+use Rattle.sd_words.specs.Words.{AccountsOf, BookOf, LcardOf}
 use Rattle.sd_words.specs.Orders.{RefusesWords}
 use Rattle.sd_run.specs.Meaning.{order_meaning, meaning}
 
@@ -70,6 +74,9 @@ other_order (SampleOf number packets out) given = tt
 other_order (TablesOf stream) given = other_tables stream given
 other_order (HeadOf site book clear out) given = other_head site book clear out given
 other_order (ReceiveOf card stream out) given = other_receive card stream out given
+other_order (AccountsOf site accounts out) given = other_accounts site accounts out given
+other_order (BookOf site book commands out) given = other_book_order site book commands out given
+other_order (LcardOf site leaf width out) given = other_lcard site leaf width out given
 
 other_is : {A : Type 0} (r : Result A Status) → IsOther r → r ≡ Err Usage → ⊥
 other_is (Ok x) h e = absurd (cc)

@@ -3,12 +3,16 @@ use Rattle.std.specs.Prelude.{List, ℕ}
 use Rattle.sd_status.specs.Meant.{Meant, Given, judged, ◌>>=◌}
 use Rattle.sd_status.specs.Work.{Work}
 use Rattle.sd_words.specs.Words.{Order, CoverOf, CardOf, SampleOf, TablesOf, HeadOf, ReceiveOf, order_of}
+use Rattle.sd_words.specs.Words.{AccountsOf, BookOf, LcardOf}
 use Rattle.sd_run_cover.specs.Cover.{cover_meaning}
 use Rattle.sd_run_card.specs.Card.{card_meaning}
 use Rattle.sd_run_sample.specs.Sample.{sample_meaning}
 use Rattle.sd_run_tables.specs.Tables.{tables_meaning}
 use Rattle.sd_run_head.specs.Head.{head_meaning}
 use Rattle.sd_run_receive.specs.Receive.{receive_meaning}
+use Rattle.sd_run_accounts.specs.Accounts.{accounts_meaning}
+use Rattle.sd_run_book.specs.Book.{book_meaning}
+use Rattle.sd_run_lcard.specs.Lcard.{lcard_meaning}
 
 -- the work of an order
 abbrev pub order_meaning : Order → Given → Meant Work
@@ -18,6 +22,9 @@ order_meaning (SampleOf number packets out) given = sample_meaning number packet
 order_meaning (TablesOf stream) given = tables_meaning stream given
 order_meaning (HeadOf site book clear out) given = head_meaning site book clear out given
 order_meaning (ReceiveOf card stream out) given = receive_meaning card stream out given
+order_meaning (AccountsOf site accounts out) given = accounts_meaning site accounts out given
+order_meaning (BookOf site book commands out) given = book_meaning site book commands out given
+order_meaning (LcardOf site leaf width out) given = lcard_meaning site leaf width out given
 
 -- the work that the words ask for, or the status of their refusal
 abbrev pub meaning : List (List ℕ) → Given → Meant Work

@@ -10,9 +10,11 @@ ghost use Rattle.sd_run.specs.Meaning.{meaning, order_meaning};
 ghost use Rattle.sd_words.specs.Orders.{told, IsSound};
 
 use sd_ports::{Depot, Sink};
+use sd_run_accounts::accounts;
 use sd_run_card::card;
 use sd_run_cover::cover;
 use sd_run_head::head;
+use sd_run_lcard::lcard;
 use sd_run_receive::receive;
 use sd_run_sample::sample;
 use sd_run_tables::tables;
@@ -102,5 +104,22 @@ fn work<D: Depot, P: Sink, L: Ledger>(
             out,
         } => head(alloc, depot, site, book, clear, out, steps),
         Order::Receive { card, stream, out } => receive(alloc, depot, card, stream, out, steps),
+        Order::Accounts {
+            site,
+            accounts,
+            out,
+        } => accounts(alloc, depot, print, site, accounts, out),
+        Order::Book {
+            site,
+            book,
+            commands,
+            out,
+        } => sd_run_book::book(alloc, depot, site, book, commands, out),
+        Order::Lcard {
+            site,
+            leaf,
+            width,
+            out,
+        } => lcard(alloc, depot, site, leaf, width, out, steps),
     }
 }

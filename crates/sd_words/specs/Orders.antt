@@ -6,7 +6,7 @@ use Rattle.sd_status.specs.declared.status.Status.TheVariants.{Usage, BadWord}
 use Rattle.sd_files.specs.Shown.{shown_word, shown_number}
 use Rattle.sd_files.specs.declared.word.Word.{Word}
 use Rattle.sd_words.specs.declared.order.Order.{Order}
-use Rattle.sd_words.specs.declared.order.Order.TheVariants.{Cover, Card, Sample, Tables, Head, Receive}
+use Rattle.sd_words.specs.declared.order.Order.TheVariants.{Cover, Card, Sample, Tables, Head, Receive, Accounts, Book, Lcard}
 use Rattle.sd_words.specs.Words as words
 
 -- the order as the words say it
@@ -17,6 +17,11 @@ told (Sample number packets out) = words.SampleOf number packets (shown_word out
 told (Tables stream) = words.TablesOf (shown_word stream)
 told (Head site book clear out) = words.HeadOf (shown_word site) (shown_word book) (shown_word clear) (shown_word out)
 told (Receive card stream out) = words.ReceiveOf (shown_word card) (shown_word stream) (shown_word out)
+told (Accounts site accounts out) = words.AccountsOf (shown_word site) (shown_word accounts) (shown_word out)
+told (Book site book commands out) =
+    words.BookOf (shown_word site) (shown_word book) (shown_word commands) (shown_word out)
+told (Lcard site leaf width out) =
+    words.LcardOf (shown_word site) (shown_number leaf) (shown_number width) (shown_word out)
 
 -- the same of an answer
 abbrev pub shown : Result Order Status → Result words.Order Status
@@ -38,6 +43,9 @@ IsSound (Sample number packets out) = packets ≤ MOST_PACKETS
 IsSound (Tables stream) = Unit {0}
 IsSound (Head site book clear out) = AreThree site book clear
 IsSound (Receive card stream out) = AreTwo card stream
+IsSound (Accounts site accounts out) = AreTwo site accounts
+IsSound (Book site book commands out) = AreThree site book commands
+IsSound (Lcard site leaf width out) = Unit {0}
 
 -- the two refusals of words
 abbrev pub RefusesWords : Status → Type 0

@@ -15,6 +15,9 @@ pub data Order : Type 0 where
   TablesOf : (stream : Word) → Order
   HeadOf : (site book clear out : Word) → Order
   ReceiveOf : (card stream out : Word) → Order
+  AccountsOf : (site accounts out : Word) → Order
+  BookOf : (site book commands out : Word) → Order
+  LcardOf : (site : Word) (leaf width : Number) (out : Word) → Order
 
 -- what is done with a number, where there is one
 abbrev pub with_number : {A : Type 0} → Result ℕ Status → (ℕ → Result A Status) → Result A Status
@@ -54,18 +57,41 @@ receive_words card stream out =
     if bytes_eq card out || bytes_eq stream out then Err Usage
     else Ok (ReceiveOf (word_at 1 card) (word_at 2 stream) (word_at 3 out))
 
+-- `accounts SITE ACCOUNTS OUT`, where OUT is to differ from the two files that are read
+unfoldable pub accounts_words : List ℕ → List ℕ → List ℕ → Result Order Status
+accounts_words site accounts out =
+    if bytes_eq site out || bytes_eq accounts out then Err Usage
+    else Ok (AccountsOf (word_at 1 site) (word_at 2 accounts) (word_at 3 out))
+
+-- `book SITE BOOK COMMANDS OUT`, where OUT is to differ from the other files
+unfoldable pub book_words : List ℕ → List ℕ → List ℕ → List ℕ → Result Order Status
+book_words site book commands out =
+    if bytes_eq site out || (bytes_eq book out || bytes_eq commands out) then Err Usage
+    else Ok (BookOf (word_at 1 site) (word_at 2 book) (word_at 3 commands) (word_at 4 out))
+
+-- `lcard SITE LEAF WIDTH OUT`, where the two files are to differ
+unfoldable pub lcard_words : List ℕ → List ℕ → List ℕ → List ℕ → Result Order Status
+lcard_words site leaf width out =
+    if bytes_eq site out then Err Usage
+    else with_number (number_in 2 (2 ^ 32 - 1) leaf) (λ u.
+    with_number (number_in 3 (2 ^ 32 - 1) width) (λ w.
+    Ok (LcardOf (word_at 1 site) (record { word = 2; value = u }) (record { word = 3; value = w }) (word_at 4 out))))
+
 -- a command of three words
 unfoldable pub three_words : List ℕ → List ℕ → List ℕ → List ℕ → Result Order Status
 three_words command a b c =
     if bytes_eq command (codes "card") then card_words a b c
     else if bytes_eq command (codes "sample") then sample_words a b c
     else if bytes_eq command (codes "receive") then receive_words a b c
+    else if bytes_eq command (codes "accounts") then accounts_words a b c
     else Err Usage
 
 -- a command of four words
 unfoldable pub four_words : List ℕ → List ℕ → List ℕ → List ℕ → List ℕ → Result Order Status
 four_words command a b c e =
     if bytes_eq command (codes "head") then head_words a b c e
+    else if bytes_eq command (codes "book") then book_words a b c e
+    else if bytes_eq command (codes "lcard") then lcard_words a b c e
     else Err Usage
 
 -- Whether the words are a command with as many words as it takes comes first, and then the numbers.

@@ -1,6 +1,6 @@
 ghost use Rattle.std.specs.Prelude.{◌≡◌, ◌≤◌, ◌-◌, ◌^◌, map, string_bytes, IfOk, IfErr};
-ghost use Rattle.sd_words.specs.Words.{card_words, four_words, head_words};
-ghost use Rattle.sd_words.specs.Words.{number_in, order_of, receive_words, sample_words, three_words};
+ghost use Rattle.sd_words.specs.Words.{accounts_words, book_words, card_words, four_words, head_words};
+ghost use Rattle.sd_words.specs.Words.{lcard_words, number_in, order_of, receive_words, sample_words, three_words};
 ghost use Rattle.sd_words.specs.Orders.{shown, IsSound, RefusesWords};
 
 use sd_files::{Number, Word};
@@ -37,6 +37,23 @@ pub enum Order<'a> {
     Receive {
         card: Word<'a>,
         stream: Word<'a>,
+        out: Word<'a>,
+    },
+    Accounts {
+        site: Word<'a>,
+        accounts: Word<'a>,
+        out: Word<'a>,
+    },
+    Book {
+        site: Word<'a>,
+        book: Word<'a>,
+        commands: Word<'a>,
+        out: Word<'a>,
+    },
+    Lcard {
+        site: Word<'a>,
+        leaf: Number,
+        width: Number,
         out: Word<'a>,
     },
 }
@@ -78,6 +95,7 @@ fn read_three<'a>(command: &str, a: &'a str, b: &'a str, c: &'a str) -> Result<O
         "card" => read_card(a, b, c),
         "sample" => read_sample(a, b, c),
         "receive" => read_receive(a, b, c),
+        "accounts" => read_accounts(a, b, c),
         _ => Err(Status::Usage),
     }
 }
@@ -97,6 +115,8 @@ fn read_four<'a>(
 {
     match command {
         "head" => read_head(a, b, c, e),
+        "book" => read_book(a, b, c, e),
+        "lcard" => read_lcard(a, b, c, e),
         _ => Err(Status::Usage),
     }
 }
@@ -124,6 +144,29 @@ fn read_head<'a>(
     })
 }
 
+/// What the words of `book` say.
+#[tactic(auto, unfolding(crate::specs::Words::book_words))]
+fn read_book<'a>(
+    site: &'a str,
+    book: &'a str,
+    commands: &'a str,
+    out: &'a str,
+) -> Result<Order<'a>, Status>
+    ensures value { shown result ≡ book_words site.now book.now commands.now out.now }
+    ensures fits { IfOk result IsSound }
+    ensures fault { IfErr result RefusesWords }
+{
+    if site == out || book == out || commands == out {
+        return Err(Status::Usage);
+    }
+    Ok(Order::Book {
+        site: Word::at(1, site),
+        book: Word::at(2, book),
+        commands: Word::at(3, commands),
+        out: Word::at(4, out),
+    })
+}
+
 /// What the words of `card` say.
 #[tactic(auto, unfolding(crate::specs::Words::card_words))]
 fn read_card<'a>(site: &'a str, leaf: &str, out: &'a str) -> Result<Order<'a>, Status>
@@ -139,6 +182,26 @@ fn read_card<'a>(site: &'a str, leaf: &str, out: &'a str) -> Result<Order<'a>, S
         site: Word::at(1, site),
         leaf,
         out: Word::at(3, out),
+    })
+}
+
+/// What the words of `lcard` say.
+#[tactic(auto, unfolding(crate::specs::Words::lcard_words))]
+fn read_lcard<'a>(site: &'a str, leaf: &str, width: &str, out: &'a str) -> Result<Order<'a>, Status>
+    ensures value { shown result ≡ lcard_words site.now leaf.now width.now out.now }
+    ensures fits { IfOk result IsSound }
+    ensures fault { IfErr result RefusesWords }
+{
+    if site == out {
+        return Err(Status::Usage);
+    }
+    let leaf = read_word(2, leaf)?;
+    let width = read_word(3, width)?;
+    Ok(Order::Lcard {
+        site: Word::at(1, site),
+        leaf,
+        width,
+        out: Word::at(4, out),
     })
 }
 
@@ -171,6 +234,23 @@ fn read_receive<'a>(card: &'a str, stream: &'a str, out: &'a str) -> Result<Orde
     Ok(Order::Receive {
         card: Word::at(1, card),
         stream: Word::at(2, stream),
+        out: Word::at(3, out),
+    })
+}
+
+/// What the words of `accounts` say.
+#[tactic(auto, unfolding(crate::specs::Words::accounts_words))]
+fn read_accounts<'a>(site: &'a str, accounts: &'a str, out: &'a str) -> Result<Order<'a>, Status>
+    ensures value { shown result ≡ accounts_words site.now accounts.now out.now }
+    ensures fits { IfOk result IsSound }
+    ensures fault { IfErr result RefusesWords }
+{
+    if site == out || accounts == out {
+        return Err(Status::Usage);
+    }
+    Ok(Order::Accounts {
+        site: Word::at(1, site),
+        accounts: Word::at(2, accounts),
         out: Word::at(3, out),
     })
 }

@@ -18,3 +18,12 @@ returns-in-Head g c = rw c.in-Head.is (c.head.ensures (page g.P.Sink c.args.prin
 
 pub returns-in-Receive : goal.returns-in-Receive
 returns-in-Receive g c = rw c.in-Receive.is (c.receive.ensures (page g.P.Sink c.args.print.now))
+
+pub returns-in-Accounts : goal.returns-in-Accounts
+returns-in-Accounts g c = rw c.in-Accounts.is (c.accounts.ensures c.args.steps.now)
+
+pub returns-in-Book : goal.returns-in-Book
+returns-in-Book g c = rw c.in-Book.is (c.book.ensures (page g.P.Sink c.args.print.now) c.args.steps.now)
+
+pub returns-in-Lcard : goal.returns-in-Lcard
+returns-in-Lcard g c = rw c.in-Lcard.is (c.lcard.ensures (page g.P.Sink c.args.print.now))
