@@ -1,0 +1,63 @@
+-- `layered SITE BOOK WIDTH` [this project, docs/FORMATS.md, Layers].
+use Rattle.std.specs.Prelude.{ℕ, zero, suc, ◌+◌, ◌&&◌, nat_le, if◌then◌else◌, List, [], ◌∷◌, ◌++◌, length, false}
+use Rattle.std.specs.Prelude.{Option, None, Result, Ok, Err}
+use Rattle.sd_book.specs.declared.command.Command.{Command}
+use Rattle.sd_book.specs.Commands.{last_period, revoked}
+use Rattle.sd_layers.specs.Cover.{layer_cover_of}
+use Rattle.sd_status.specs.declared.status.Status.{Status}
+use Rattle.sd_status.specs.declared.status.Status.TheVariants.{Done, BadWord}
+use Rattle.sd_status.specs.Meant.{Meant, Word, Given, judged, value, ◌>>=◌}
+use Rattle.sd_status.specs.Work.{NoSteps, Work}
+use Rattle.sd_periods.specs.Periods.{period_text}
+use Rattle.sd_files.specs.Shown.{Number}
+use Rattle.sd_files.specs.Files.{site_of_file, book_in}
+
+-- the height of a tree, and the width of its layers
+pub record Layers : Type 0 where
+  pub height : ℕ
+  pub width : ℕ
+
+abbrev pub layers : ℕ → ℕ → Layers
+layers d w = record { height = d; width = w }
+
+abbrev pub shown_layers : ℕ × ℕ → Layers
+shown_layers both = layers both.0 both.1
+
+-- the layers of a tree of height d whose width is this number, which is to be 1 to the height
+abbrev pub told_layers : ℕ → Number → Result Layers Status
+told_layers d width =
+    if nat_le 1 width.value && nat_le width.value d then Ok (layers d width.value) else Err (BadWord width.word)
+
+-- the layers of the site that the file of this word gave
+abbrev pub layers_of_file : ℕ → Number → Option (List ℕ) → Meant Layers
+layers_of_file word width got = site_of_file word got >>= λ fields. judged (told_layers fields.height width)
+
+-- the text of period q, in which these leaves are revoked: the sets of their cover by useful ones
+-- [Halevy, Shamir 2002, 3]
+abbrev pub layered_text : ℕ → ℕ → ℕ → List ℕ → List ℕ
+layered_text d w q revoked = period_text q (length revoked) (layer_cover_of d w revoked)
+
+-- the text of period q of a book for a tree of height d
+abbrev pub text_at : ℕ → ℕ → List Command → ℕ → List ℕ
+text_at d w commands q = layered_text d w q (revoked d commands q)
+
+-- the first n of some texts
+abbrev pub first_texts : (ℕ → List ℕ) → ℕ → List (List ℕ)
+first_texts text zero = []
+first_texts text (suc n) = first_texts text n ++ text n ∷ []
+
+-- prints these texts, from number 0 to the last
+abbrev pub printing : (ℕ → List ℕ) → ℕ → Work
+printing text last =
+    record { out = None; pieces = first_texts text (last + 1); ends = Done; breaks = false; steps = NoSteps }
+
+-- prints the useful sets of each period of a book for a tree of this height and layers of this width
+abbrev pub layering : ℕ → ℕ → List Command → Work
+layering d w commands = printing (text_at d w commands) (last_period commands)
+
+-- the work that the words and the two files say
+abbrev pub layered_meaning : Word → Word → Number → Given → Meant Work
+layered_meaning site book width given = do
+  layers ← layers_of_file site.number width (given site)
+  commands ← book_in given layers.height book
+  value (layering layers.height layers.width commands)
