@@ -15,9 +15,10 @@ use Rattle.sd_run_head.proofs.Others.{other_head}
 use Rattle.sd_run_receive.proofs.Others.{other_receive}
 use Rattle.sd_run_accounts.proofs.Others.{other_accounts}
 use Rattle.sd_run_book.proofs.Others.{other_book_order}
+use Rattle.sd_run_layered.proofs.Others.{other_layered}
 use Rattle.sd_run_lcard.proofs.Others.{other_lcard}
 use Rattle.sd_words.specs.Words.{Order, CoverOf, CardOf, SampleOf, TablesOf, HeadOf, ReceiveOf, order_of}
-use Rattle.sd_words.specs.Words.{AccountsOf, BookOf, LcardOf}
+use Rattle.sd_words.specs.Words.{AccountsOf, BookOf, LayeredOf, LcardOf}
 use Rattle.sd_words.specs.Orders.{RefusesWords}
 use Rattle.sd_run.specs.Meaning.{order_meaning, meaning}
 
@@ -76,6 +77,7 @@ other_order (HeadOf site book clear out) given = other_head site book clear out 
 other_order (ReceiveOf card stream out) given = other_receive card stream out given
 other_order (AccountsOf site accounts out) given = other_accounts site accounts out given
 other_order (BookOf site book commands out) given = other_book_order site book commands out given
+other_order (LayeredOf site book width) given = other_layered site book width given
 other_order (LcardOf site leaf width out) given = other_lcard site leaf width out given
 
 other_is : {A : Type 0} (r : Result A Status) → IsOther r → r ≡ Err Usage → ⊥

@@ -3,7 +3,7 @@ use Rattle.std.specs.Prelude.{List, ℕ}
 use Rattle.sd_status.specs.Meant.{Meant, Given, judged, ◌>>=◌}
 use Rattle.sd_status.specs.Work.{Work}
 use Rattle.sd_words.specs.Words.{Order, CoverOf, CardOf, SampleOf, TablesOf, HeadOf, ReceiveOf, order_of}
-use Rattle.sd_words.specs.Words.{AccountsOf, BookOf, LcardOf}
+use Rattle.sd_words.specs.Words.{AccountsOf, BookOf, LayeredOf, LcardOf}
 use Rattle.sd_run_cover.specs.Cover.{cover_meaning}
 use Rattle.sd_run_card.specs.Card.{card_meaning}
 use Rattle.sd_run_sample.specs.Sample.{sample_meaning}
@@ -12,6 +12,7 @@ use Rattle.sd_run_head.specs.Head.{head_meaning}
 use Rattle.sd_run_receive.specs.Receive.{receive_meaning}
 use Rattle.sd_run_accounts.specs.Accounts.{accounts_meaning}
 use Rattle.sd_run_book.specs.Book.{book_meaning}
+use Rattle.sd_run_layered.specs.Layered.{layered_meaning}
 use Rattle.sd_run_lcard.specs.Lcard.{lcard_meaning}
 
 -- the work of an order
@@ -24,6 +25,7 @@ order_meaning (HeadOf site book clear out) given = head_meaning site book clear 
 order_meaning (ReceiveOf card stream out) given = receive_meaning card stream out given
 order_meaning (AccountsOf site accounts out) given = accounts_meaning site accounts out given
 order_meaning (BookOf site book commands out) given = book_meaning site book commands out given
+order_meaning (LayeredOf site book width) given = layered_meaning site book width given
 order_meaning (LcardOf site leaf width out) given = lcard_meaning site leaf width out given
 
 -- the work that the words ask for, or the status of their refusal

@@ -14,6 +14,7 @@ use sd_run_accounts::accounts;
 use sd_run_card::card;
 use sd_run_cover::cover;
 use sd_run_head::head;
+use sd_run_layered::layered;
 use sd_run_lcard::lcard;
 use sd_run_receive::receive;
 use sd_run_sample::sample;
@@ -115,6 +116,7 @@ fn work<D: Depot, P: Sink, L: Ledger>(
             commands,
             out,
         } => sd_run_book::book(alloc, depot, site, book, commands, out),
+        Order::Layered { site, book, width } => layered(alloc, depot, print, site, book, width),
         Order::Lcard {
             site,
             leaf,

@@ -6,7 +6,7 @@ use Rattle.sd_status.specs.declared.status.Status.TheVariants.{Usage, BadWord}
 use Rattle.sd_files.specs.Shown.{shown_word, shown_number}
 use Rattle.sd_files.specs.declared.word.Word.{Word}
 use Rattle.sd_words.specs.declared.order.Order.{Order}
-use Rattle.sd_words.specs.declared.order.Order.TheVariants.{Cover, Card, Sample, Tables, Head, Receive, Accounts, Book, Lcard}
+use Rattle.sd_words.specs.declared.order.Order.TheVariants.{Cover, Card, Sample, Tables, Head, Receive, Accounts, Book, Layered, Lcard}
 use Rattle.sd_words.specs.Words as words
 
 -- the order as the words say it
@@ -20,6 +20,7 @@ told (Receive card stream out) = words.ReceiveOf (shown_word card) (shown_word s
 told (Accounts site accounts out) = words.AccountsOf (shown_word site) (shown_word accounts) (shown_word out)
 told (Book site book commands out) =
     words.BookOf (shown_word site) (shown_word book) (shown_word commands) (shown_word out)
+told (Layered site book width) = words.LayeredOf (shown_word site) (shown_word book) (shown_number width)
 told (Lcard site leaf width out) =
     words.LcardOf (shown_word site) (shown_number leaf) (shown_number width) (shown_word out)
 
@@ -45,6 +46,7 @@ IsSound (Head site book clear out) = AreThree site book clear
 IsSound (Receive card stream out) = AreTwo card stream
 IsSound (Accounts site accounts out) = AreTwo site accounts
 IsSound (Book site book commands out) = AreThree site book commands
+IsSound (Layered site book width) = AreTwo site book
 IsSound (Lcard site leaf width out) = Unit {0}
 
 -- the two refusals of words

@@ -17,6 +17,7 @@ pub data Order : Type 0 where
   ReceiveOf : (card stream out : Word) → Order
   AccountsOf : (site accounts out : Word) → Order
   BookOf : (site book commands out : Word) → Order
+  LayeredOf : (site book : Word) (width : Number) → Order
   LcardOf : (site : Word) (leaf width : Number) (out : Word) → Order
 
 -- what is done with a number, where there is one
@@ -69,6 +70,12 @@ book_words site book commands out =
     if bytes_eq site out || (bytes_eq book out || bytes_eq commands out) then Err Usage
     else Ok (BookOf (word_at 1 site) (word_at 2 book) (word_at 3 commands) (word_at 4 out))
 
+-- `layered SITE BOOK WIDTH`; WIDTH is a number of 32 bits before the site is known
+unfoldable pub layered_words : List ℕ → List ℕ → List ℕ → Result Order Status
+layered_words site book width =
+    with_number (number_in 3 (2 ^ 32 - 1) width) (λ w.
+    Ok (LayeredOf (word_at 1 site) (word_at 2 book) (record { word = 3; value = w })))
+
 -- `lcard SITE LEAF WIDTH OUT`, where the two files are to differ
 unfoldable pub lcard_words : List ℕ → List ℕ → List ℕ → List ℕ → Result Order Status
 lcard_words site leaf width out =
@@ -84,6 +91,7 @@ three_words command a b c =
     else if bytes_eq command (codes "sample") then sample_words a b c
     else if bytes_eq command (codes "receive") then receive_words a b c
     else if bytes_eq command (codes "accounts") then accounts_words a b c
+    else if bytes_eq command (codes "layered") then layered_words a b c
     else Err Usage
 
 -- a command of four words

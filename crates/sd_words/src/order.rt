@@ -1,5 +1,5 @@
 ghost use Rattle.std.specs.Prelude.{◌≡◌, ◌≤◌, ◌-◌, ◌^◌, map, string_bytes, IfOk, IfErr};
-ghost use Rattle.sd_words.specs.Words.{accounts_words, book_words, card_words, four_words, head_words};
+ghost use Rattle.sd_words.specs.Words.{accounts_words, book_words, card_words, four_words, head_words, layered_words};
 ghost use Rattle.sd_words.specs.Words.{lcard_words, number_in, order_of, receive_words, sample_words, three_words};
 ghost use Rattle.sd_words.specs.Orders.{shown, IsSound, RefusesWords};
 
@@ -50,6 +50,11 @@ pub enum Order<'a> {
         commands: Word<'a>,
         out: Word<'a>,
     },
+    Layered {
+        site: Word<'a>,
+        book: Word<'a>,
+        width: Number,
+    },
     Lcard {
         site: Word<'a>,
         leaf: Number,
@@ -96,6 +101,7 @@ fn read_three<'a>(command: &str, a: &'a str, b: &'a str, c: &'a str) -> Result<O
         "sample" => read_sample(a, b, c),
         "receive" => read_receive(a, b, c),
         "accounts" => read_accounts(a, b, c),
+        "layered" => read_layered(a, b, c),
         _ => Err(Status::Usage),
     }
 }
@@ -202,6 +208,21 @@ fn read_lcard<'a>(site: &'a str, leaf: &str, width: &str, out: &'a str) -> Resul
         leaf,
         width,
         out: Word::at(4, out),
+    })
+}
+
+/// What the words of `layered` say.
+#[tactic(auto, unfolding(crate::specs::Words::layered_words))]
+fn read_layered<'a>(site: &'a str, book: &'a str, width: &str) -> Result<Order<'a>, Status>
+    ensures value { shown result ≡ layered_words site.now book.now width.now }
+    ensures fits { IfOk result IsSound }
+    ensures fault { IfErr result RefusesWords }
+{
+    let width = read_word(3, width)?;
+    Ok(Order::Layered {
+        site: Word::at(1, site),
+        book: Word::at(2, book),
+        width,
     })
 }
 

@@ -25,5 +25,8 @@ returns-in-Accounts g c = rw c.in-Accounts.is (c.accounts.ensures c.args.steps.n
 pub returns-in-Book : goal.returns-in-Book
 returns-in-Book g c = rw c.in-Book.is (c.book.ensures (page g.P.Sink c.args.print.now) c.args.steps.now)
 
+pub returns-in-Layered : goal.returns-in-Layered
+returns-in-Layered g c = rw c.in-Layered.is (c.layered.ensures c.args.steps.now)
+
 pub returns-in-Lcard : goal.returns-in-Lcard
 returns-in-Lcard g c = rw c.in-Lcard.is (c.lcard.ensures (page g.P.Sink c.args.print.now))
