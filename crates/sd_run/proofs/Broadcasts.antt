@@ -1,17 +1,16 @@
 -- What `receive` makes of a stream, and of a broadcast.
-use Rattle.std.proofs.Common.{◌≡◌, ℕ, ◌+◌, ◌-◌, ◌*◌, ◌/◌, ◌^◌, ◌<◌, ◌≤◌, cond, List, [], length, reverse, Option}
-use Rattle.std.proofs.Common.{Some, None, Result, Ok, Err, refl, sym, ap, subst, ◌∙◌, le-ltb, arith}
+use Rattle.std.proofs.Common.{◌≡◌, ℕ, ◌+◌, ◌*◌, ◌^◌, ◌<◌, ◌≤◌, cond, List, [], length, reverse, Option}
+use Rattle.std.proofs.Common.{Some, None, Result, Ok, Err, refl, ap, ◌∙◌, le-ltb, arith}
 use Rattle.std.specs.List.{concat}
-use Rattle.sd_card.specs.Fields.{CardFields, IsCard, card_of, card_bytes, card_body}
-use Rattle.sd_card.specs.Faults.{height_in, length_at, fault_in}
+use Rattle.sd_card.specs.Fields.{CardFields, IsCard, card_of, card_bytes}
+use Rattle.sd_card.specs.Faults.{height_in, length_at}
 use Rattle.sd_card.proofs.Spellings.{written_is_good, good_parts}
 use Rattle.sd_card.proofs.Made.{made_is_card}
-use Rattle.sd_engine.specs.Taken.{StreamEnd, Whole, taken_of, end_of}
+use Rattle.sd_engine.specs.Taken.{Whole, taken_of, end_of}
 use Rattle.sd_broadcast.specs.Plan.{Plan, IsPlan}
 use Rattle.sd_broadcast.specs.Refused.{IsClear}
 use Rattle.sd_broadcast.specs.Sent.{broadcast}
 use Rattle.sd_sent.specs.Packets.{AreWholePackets}
-use Rattle.sd_reception.specs.declared.ending.Ending.{Ending}
 use Rattle.sd_reception.specs.Offered.{out_from, break_from}
 use Rattle.sd_reception.specs.Ending.{ending_of}
 use Rattle.sd_receive.specs.Receiving.{taken_keys}
@@ -22,10 +21,10 @@ use Rattle.sd_status.specs.declared.status.Status.{Status}
 use Rattle.sd_status.specs.declared.status.Status.TheVariants.{Limit}
 use Rattle.sd_status.specs.declared.status.LimitKind.TheVariants.{CardBytes}
 use Rattle.sd_status.specs.Meant.{Meant, Word, Given, after, all_of, judged, value, within, ◌>>=◌}
-use Rattle.sd_status.specs.Work.{UpTo, Work}
+use Rattle.sd_status.specs.Work.{Work}
 use Rattle.sd_run_receive.specs.declared.command.TheConstants.{MOST_CARD_BYTES}
 use Rattle.sd_words.specs.Words.{Order, order_of, ReceiveOf}
-use Rattle.sd_run_receive.specs.Receive.{told_card, card_of_file, ending_status, ended_status, status_at, unless_refused}
+use Rattle.sd_run_receive.specs.Receive.{told_card, card_of_file, ending_status, ended_status}
 use Rattle.sd_run_receive.specs.Receive.{received_of, received_status, received_steps, receiving, stream_meaning}
 use Rattle.sd_run_receive.specs.Receive.{receive_meaning}
 use Rattle.sd_run.specs.Good.{IsGoodReceive}

@@ -1,5 +1,5 @@
 -- Good words over good files mean work.
-use Rattle.std.proofs.Common.{◌≡◌, ◌⊎◌, ℕ, ◌≤◌, ◌^◌, cond, List, length, Option, Some, None, Result, Ok, Err, refl, sym, ap, subst, ◌∙◌, le-ltb, lt-ltb}
+use Rattle.std.proofs.Common.{◌≡◌, ℕ, ◌≤◌, ◌^◌, cond, List, length, Option, Some, Result, Ok, Err, ap, ◌∙◌, le-ltb, lt-ltb}
 use Rattle.sd_site.specs.Fields.{SiteFields}
 use Rattle.sd_site.specs.Text.{site_of}
 use Rattle.sd_site.proofs.Alone.{answered}
@@ -14,7 +14,7 @@ use Rattle.sd_status.specs.declared.status.Status.TheVariants.{Done, Limit, BadW
 use Rattle.sd_status.specs.declared.status.LimitKind.{LimitKind}
 use Rattle.sd_status.specs.declared.status.LimitKind.TheVariants.{SiteBytes, BookBytes}
 use Rattle.sd_status.specs.Meant.{Meant, Word, Given, after, all_of, judged, value, within, ◌>>=◌}
-use Rattle.sd_status.specs.Work.{Uncounted, NoSteps, Work}
+use Rattle.sd_status.specs.Work.{Uncounted, NoSteps}
 use Rattle.sd_files.specs.declared.files.TheConstants.{MOST_SITE_BYTES, MOST_BOOK_BYTES}
 use Rattle.sd_words.specs.Words.{Order, order_of, CoverOf, CardOf, SampleOf, TablesOf, HeadOf}
 use Rattle.sd_files.specs.Files.{told_site, told_book, site_of_file, book_of_file, site_in, book_in}

@@ -10,7 +10,6 @@ ghost use Rattle.sd_run.specs.Meaning.{meaning, order_meaning};
 ghost use Rattle.sd_words.specs.Orders.{told, IsSound};
 
 use sd_ports::{Depot, Sink};
-use sd_run_accounts::accounts;
 use sd_run_card::card;
 use sd_run_cover::cover;
 use sd_run_head::head;
@@ -109,7 +108,7 @@ fn work<D: Depot, P: Sink, L: Ledger>(
             site,
             accounts,
             out,
-        } => accounts(alloc, depot, print, site, accounts, out),
+        } => sd_run_accounts::accounts(alloc, depot, print, site, accounts, out),
         Order::Book {
             site,
             book,
