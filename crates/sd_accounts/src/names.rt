@@ -43,7 +43,8 @@ impl Names {
     ) -> Result<Command, AccountFault>
         requires leaf { IsBelow (vec_len self.old.marks) (entry_in line) }
         ensures value { MatchResult result
-            (λ command. command_by (get_by_text self.old.leaves) (mark_of self.old.marks.items) k (Some (entry_in line.entry))
+            (λ command.
+            command_by (get_by_text self.old.leaves) (mark_of self.old.marks.items) k (Some (entry_in line.entry))
             ≡ Ok command)
             (λ fault. (fault ≡ AccountFault.NoMemory) ⊎
             (command_by (get_by_text self.old.leaves) (mark_of self.old.marks.items) k (Some (entry_in line.entry))

@@ -22,7 +22,8 @@ const LEAF: u32 = ((FIRST + SETS - 1) * 2 + 1) * 64 - (1 << 20);
 /// The PID of the packets.
 const PID: u16 = 496;
 
-/// A number of so many periods: all sections of each are written, and read until one names a set of the leaf, which the last does.
+/// A number of so many periods: all sections of each are written, and read until one names a set of the leaf, which the
+/// last does.
 pub fn searched(alloc: Global, count: u32) -> Result<Option<u64>, AllocError> {
     let entries = entries(alloc)?;
     let Some(h) = Height::new(20) else {

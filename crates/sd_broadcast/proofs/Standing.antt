@@ -64,5 +64,6 @@ tables_stand plan clear k within =
           ∙ ap (λ (xs : List Item). sent plan (take from clear) ++ xs)
           (begun.1 ∙ ap (λ (n : ℕ). tables_at plan n ++ begun.0) long))
           ∙ (append_assoc (sent plan (take from clear)) (tables_at plan from ++ begun.0) more.0
-          ∙ ap (λ (xs : List Item). sent plan (take from clear) ++ xs) (append_assoc (tables_at plan from) begun.0 more.0))),
+          ∙ ap (λ (xs : List Item). sent plan (take from clear) ++ xs)
+          (append_assoc (tables_at plan from) begun.0 more.0))),
     )

@@ -1,5 +1,7 @@
 -- What is spelled is read as what it was.
-use Rattle.std.proofs.Common.{◌≡◌, ℕ, ◌+◌, ◌*◌, ◌^◌, ◌<◌, ◌≤◌, List, [], ◌∷◌, ◌++◌, length, take, drop, get_or, append_assoc, length-append, length-take-le, eq-eqb, inl, inr, arith, refl, sym, ap, subst, ◌∙◌}
+use Rattle.std.proofs.Common.{◌≡◌, ℕ, ◌+◌, ◌*◌, ◌^◌, ◌<◌, ◌≤◌, List, [], ◌∷◌, ◌++◌, length, take, drop, get_or}
+use Rattle.std.proofs.Common.{append_assoc, length-append, length-take-le, eq-eqb, inl, inr, arith, refl, sym, ap}
+use Rattle.std.proofs.Common.{subst, ◌∙◌}
 use Rattle.std.specs.Prelude.{Bool, true, false, ◌==◌, nat_le, All, slice_index, slice_range, flat_map}
 use Rattle.std.specs.Int.{w32, to_be_bytes}
 use Rattle.std.proofs.lemmas.Bool.{and_parts, leb-true, cases_eq, ne_eqb}
@@ -9,7 +11,8 @@ use Rattle.sd_message.proofs.Numbers.{half_again, word_again, long_again}
 use Rattle.sd_message.proofs.Items.{items_again, long_items}
 use Rattle.sd_message.proofs.Pieces.{filled_again}
 use Rattle.sd_ecm.specs.Versions.{IsVersion, IsSince, flags_at}
-use Rattle.sd_ecm.specs.Spelled.{listed, place_bytes, flags_for, numbers_bytes, since_bytes, word_bytes, head_bytes, ecm_body}
+use Rattle.sd_ecm.specs.Spelled.{listed, place_bytes, flags_for, numbers_bytes, since_bytes, word_bytes, head_bytes}
+use Rattle.sd_ecm.specs.Spelled.{ecm_body}
 use Rattle.sd_ecm.specs.Form.{IsEcm, Fits, FitsHead, nothing}
 use Rattle.sd_ecm.specs.Fields.{place_of, places_in, padded, from_flags, flags_of, since_in, ecm_in}
 use Rattle.sd_ecm.specs.declared.part.Place.{Place}
@@ -59,10 +62,12 @@ made version number period word clear since closing part last wrapped check coun
   positions = positions;
 }
 
-same_made : (v a a' b b' c c' d d' s s' : ℕ) (e e' : Bool) (x y : ℕ) (f f' g g' : List ℕ) (k k' : ℕ) (p p' : List Place) → a ≡ a' →
+same_made : (v a a' b b' c c' d d' s s' : ℕ) (e e' : Bool) (x y : ℕ) (f f' g g' : List ℕ) (k k' : ℕ)
+    (p p' : List Place) → a ≡ a' →
     b ≡ b' → c ≡ c' → d ≡ d' → s ≡ s' → e ≡ e' → f ≡ f' → g ≡ g' → k ≡ k' → p ≡ p' →
     made v a b c d s e x y f g k p ≡ made v a' b' c' d' s' e' x y f' g' k' p'
-same_made v a a' b b' c c' d d' s s' e e' x y f f' g g' k k' p p' h1 h2 h3 h4 h5 h6 h7 h8 h9 h10 = rw (h1, h2, h3, h4, h5, h6, h7, h8, h9, h10) refl
+same_made v a a' b b' c c' d d' s s' e e' x y f f' g g' k k' p p' h1 h2 h3 h4 h5 h6 h7 h8 h9 h10 = rw
+    (h1, h2, h3, h4, h5, h6, h7, h8, h9, h10) refl
 
 -- each that there is can be spelled
 all_spellable : (part : EcmPart) → IsEcm part → All IsSpellable (listed part)
@@ -74,7 +79,8 @@ all_spellable part form k d below =
 -- how many there are
 pub listed_long : (part : EcmPart) → Fits part → IsEcm part → length (listed part) ≡ part.count
 listed_long part fits form =
-    length-take-le part.count part.positions (omega (arith, fits.positions, form.counted.few, few_positions part.version))
+    length-take-le part.count part.positions
+    (omega (arith, fits.positions, form.counted.few, few_positions part.version))
 
 -- the flags say whether the message closes the stream
 flags_again : (closing : Bool) → (flags_for closing == 1) ≡ closing
@@ -83,7 +89,8 @@ flags_again false = refl
 
 -- what stands from the flags on
 tail_after : (v a b c d since : ℕ) (tail : List ℕ) →
-    drop (flags_at v) ((to_be_bytes w32 a ++ (to_be_bytes w32 b ++ (to_be_bytes w32 c ++ to_be_bytes w32 d))) ++ (since_bytes v since ++ tail)) ≡ tail
+    drop (flags_at v) ((to_be_bytes w32 a ++ (to_be_bytes w32 b ++ (to_be_bytes w32 c ++ to_be_bytes w32 d)))
+    ++ (since_bytes v since ++ tail)) ≡ tail
 unfolding flags_at since_bytes
 tail_after v a b c d since tail = elim (cases_eq v 2) [
   | inl e ↦ rw (eq-eqb v 2 e) refl
@@ -92,28 +99,34 @@ tail_after v a b c d since tail = elim (cases_eq v 2) [
 
 -- `since` is read where it is written, and else is what it is to be
 since_again : (v a b c d since : ℕ) (tail : List ℕ) → IsVersion v → since < 2 ^ 32 → IsSince v a since →
-    since_in v a ((to_be_bytes w32 a ++ (to_be_bytes w32 b ++ (to_be_bytes w32 c ++ to_be_bytes w32 d))) ++ (since_bytes v since ++ tail)) ≡ since
+    since_in v a ((to_be_bytes w32 a ++ (to_be_bytes w32 b ++ (to_be_bytes w32 c ++ to_be_bytes w32 d)))
+    ++ (since_bytes v since ++ tail)) ≡ since
 unfolding since_in since_bytes
 since_again v a b c d since tail (inl e) fits is =
     let other : (v == 2) ≡ false = ne_eqb v 2 (λ two. omega arith) in
     rw other (sym (is.fixed e))
 since_again v a b c d since tail (inr e) fits is =
     let xs : List ℕ =
-    (to_be_bytes w32 a ++ (to_be_bytes w32 b ++ (to_be_bytes w32 c ++ to_be_bytes w32 d))) ++ (to_be_bytes w32 since ++ tail) in
+    (to_be_bytes w32 a ++ (to_be_bytes w32 b ++ (to_be_bytes w32 c ++ to_be_bytes w32 d)))
+    ++ (to_be_bytes w32 since ++ tail) in
     rw (eq-eqb v 2 e) (word_again xs 16 since fits refl refl refl refl)
 
 -- a part's body in its pieces
 body_split : (part : EcmPart) →
-    ecm_body part ≡ numbers_bytes part ++ (since_bytes part.version part.since ++ (word_bytes part ++ flat_map place_bytes (listed part)))
+    ecm_body part ≡ numbers_bytes part
+    ++ (since_bytes part.version part.since ++ (word_bytes part ++ flat_map place_bytes (listed part)))
 unfolding ecm_body head_bytes
 body_split part =
-    body_is (numbers_bytes part) (since_bytes part.version part.since) (word_bytes part) (flat_map place_bytes (listed part))
+    body_is (numbers_bytes part) (since_bytes part.version part.since) (word_bytes part)
+    (flat_map place_bytes (listed part))
 
-pub tail_again : (part : EcmPart) → from_flags part.version (ecm_body part) ≡ word_bytes part ++ flat_map place_bytes (listed part)
+pub tail_again : (part : EcmPart) → from_flags part.version (ecm_body part) ≡ word_bytes part ++ flat_map place_bytes
+    (listed part)
 unfolding numbers_bytes
 tail_again part =
     ap (drop (flags_at part.version)) (body_split part)
-    ∙ tail_after part.version part.number part.period part.word part.clear part.since (word_bytes part ++ flat_map place_bytes (listed part))
+    ∙ tail_after part.version part.number part.period part.word part.clear part.since
+    (word_bytes part ++ flat_map place_bytes (listed part))
 
 -- what is read from there
 record IsTail (part : EcmPart) (tail : List ℕ) : Type 0 where
@@ -130,7 +143,8 @@ tail_read part fits =
     let xs : List ℕ = word_bytes part ++ ps in
     let end : List ℕ = part.check ++ part.count ∷ [] in
     let after : drop 1 xs ≡ part.wrapped ++ (part.check ++ part.count ∷ ps) =
-    append_assoc part.wrapped end ps ∙ ap (λ (l : List ℕ). part.wrapped ++ l) (append_assoc part.check (part.count ∷ []) ps) in
+    append_assoc part.wrapped end ps ∙ ap (λ (l : List ℕ). part.wrapped ++ l)
+    (append_assoc part.check (part.count ∷ []) ps) in
     let tail : drop 33 xs ≡ part.check ++ part.count ∷ ps =
     ap (drop 32) after ∙ drop_at part.wrapped (part.check ++ part.count ∷ ps) 32 fits.wrapped in
     let long_end : length end ≡ 17 = omega (arith, length-append part.check (part.count ∷ []), fits.check) in
@@ -139,8 +153,10 @@ tail_read part fits =
       wrapped = ap (take 32) after ∙ take_at part.wrapped (part.check ++ part.count ∷ ps) 32 fits.wrapped;
       check = ap (take 16) tail ∙ take_at part.check (part.count ∷ ps) 16 fits.check;
       count = ap (λ (l : List ℕ). get_or l 48 0) (after ∙ sym (append_assoc part.wrapped part.check (part.count ∷ ps)))
-          ∙ get_or_at (part.wrapped ++ part.check) part.count ps 0 48 (omega (arith, length-append part.wrapped part.check, fits.wrapped, fits.check));
-      rest = drop_at (part.wrapped ++ end) ps 49 (omega (arith, length-append part.wrapped end, fits.wrapped, long_end));
+          ∙ get_or_at (part.wrapped ++ part.check) part.count ps 0 48
+          (omega (arith, length-append part.wrapped part.check, fits.wrapped, fits.check));
+      rest = drop_at (part.wrapped ++ end) ps 49
+          (omega (arith, length-append part.wrapped end, fits.wrapped, long_end));
     }
 
 -- what is read before
@@ -151,7 +167,8 @@ record IsNumbered (part : EcmPart) (body : List ℕ) : Type 0 where
   clear : field body 96 32 ≡ part.clear
   since : since_in part.version part.number body ≡ part.since
 
-numbers_read : (part : EcmPart) (rest : List ℕ) → FitsHead part → IsVersion part.version → IsSince part.version part.number part.since →
+numbers_read : (part : EcmPart) (rest : List ℕ) → FitsHead part → IsVersion part.version →
+    IsSince part.version part.number part.since →
     IsNumbered part (numbers_bytes part ++ (since_bytes part.version part.since ++ rest))
 unfolding numbers_bytes
 numbers_read part rest fits version since =
@@ -161,23 +178,29 @@ numbers_read part rest fits version since =
       period = word_again xs 4 part.period fits.period refl refl refl refl;
       word = word_again xs 8 part.word fits.word refl refl refl refl;
       clear = word_again xs 12 part.clear fits.clear refl refl refl refl;
-      since = since_again part.version part.number part.period part.word part.clear part.since rest version fits.since since;
+      since = since_again part.version part.number part.period part.word part.clear part.since rest version fits.since
+          since;
     }
 
 -- the body is read as what it spells
-pub body_again : (part : EcmPart) → Fits part → IsEcm part → ecm_in part.version part.part part.last_part (ecm_body part) ≡ part
+pub body_again : (part : EcmPart) → Fits part → IsEcm part → ecm_in part.version part.part part.last_part
+    (ecm_body part) ≡ part
 unfolding ecm_in
 body_again part fits form =
     let xs : List ℕ = ecm_body part in
     let rest : List ℕ = word_bytes part ++ flat_map place_bytes (listed part) in
-    let numbers : IsNumbered part xs = subst (IsNumbered part) (sym (body_split part)) (numbers_read part rest fits.head form.version form.since) in
-    let tail : IsTail part (from_flags part.version xs) = subst (IsTail part) (sym (tail_again part)) (tail_read part fits.head) in
+    let numbers : IsNumbered part xs = subst (IsNumbered part) (sym (body_split part))
+    (numbers_read part rest fits.head form.version form.since) in
+    let tail : IsTail part (from_flags part.version xs) = subst (IsTail part) (sym (tail_again part))
+    (tail_read part fits.head) in
     let long = listed_long part fits form in
-    let places : places_in (slice_index (from_flags part.version xs) 49) (drop 50 (from_flags part.version xs)) ≡ listed part =
+    let places : places_in (slice_index (from_flags part.version xs) 49) (drop 50 (from_flags part.version xs))
+    ≡ listed part =
     ap (λ (n : ℕ). places_in n (drop 50 (from_flags part.version xs))) (tail.count ∙ sym long)
     ∙ (ap (places_in (length (listed part))) tail.rest
     ∙ items_again place_of place_bytes IsSpellable 8 (listed part) long_place place_alone (all_spellable part form)) in
-    same_made part.version _ part.number _ part.period _ part.word _ part.clear _ part.since _ part.closing part.part part.last_part _ part.wrapped _ part.check _ part.count _
+    same_made part.version _ part.number _ part.period _ part.word _ part.clear _ part.since _ part.closing part.part
+    part.last_part _ part.wrapped _ part.check _ part.count _
     part.positions
     numbers.number numbers.period numbers.word numbers.clear
     (ap (λ (n : ℕ). since_in part.version n xs) numbers.number ∙ numbers.since)
@@ -202,7 +225,8 @@ long_numbers : (part : EcmPart) → length (numbers_bytes part) ≡ 16
 unfolding numbers_bytes
 long_numbers part = refl
 
-pub long_body : (part : EcmPart) → Fits part → IsEcm part → length (ecm_body part) ≡ flags_at part.version + 50 + 8 * part.count
+pub long_body : (part : EcmPart) → Fits part → IsEcm part → length (ecm_body part) ≡ flags_at part.version + 50
+    + 8 * part.count
 long_body part fits form =
     let ps : List ℕ = flat_map place_bytes (listed part) in
     let rest : List ℕ = word_bytes part ++ ps in

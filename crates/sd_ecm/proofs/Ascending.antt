@@ -16,7 +16,8 @@ pub first_ascends : (places : List Place) (k : ℕ) → k ≤ 1 → AreAscending
 first_ascends places k few = Pairs.first_ascends IsBelow places k few
 
 -- with one more that is above the last
-pub next_place : (places : List Place) (k : ℕ) (d e : Place) → 1 ≤ k → k < length places → AreAscending (take k places) →
+pub next_place : (places : List Place) (k : ℕ) (d e : Place) → 1 ≤ k → k < length places →
+    AreAscending (take k places) →
     (get_or places (k - 1) d).pid < (get_or places k e).pid → AreAscending (take (k + 1) places)
 next_place places k d e some within up less = Pairs.next_ascends IsBelow places k d e below_chain some within up less
 

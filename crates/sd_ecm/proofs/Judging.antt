@@ -7,7 +7,8 @@ use Rattle.sd_message.proofs.Pieces.{filled_items, filled_rest}
 use Rattle.sd_ecm.specs.Versions.{IsVersion, IsBefore, IsSince}
 use Rattle.sd_ecm.specs.Spelled.{listed}
 use Rattle.sd_ecm.specs.Form.{nothing, ArePositioned, AreAscending, AreShort, IsEcm}
-use Rattle.sd_ecm.specs.Fields.{place_of, places_in, padded, from_flags, flags_of, since_in, ecm_in, with_places, HasCount, IsMatched, IsGoodIn, BreaksIn}
+use Rattle.sd_ecm.specs.Fields.{place_of, places_in, padded, from_flags, flags_of, since_in, ecm_in, with_places}
+use Rattle.sd_ecm.specs.Fields.{HasCount, IsMatched, IsGoodIn, BreaksIn}
 use Rattle.sd_ecm.specs.declared.part.Place.{Place}
 use Rattle.sd_ecm.specs.declared.part.EcmPart.{EcmPart}
 use Rattle.sd_ecm.specs.declared.fault.EcmFault.{EcmFault}
@@ -28,7 +29,8 @@ unfolding ecm_in
 listed_in v number last body =
     let count : ℕ = (ecm_in v number last body).count in
     let places : List Place = places_in count (places_from v body) in
-    ap (λ (n : ℕ). take n (padded places)) (sym (length_items place_of 8 count (places_from v body))) ∙ filled_items 13 nothing places
+    ap (λ (n : ℕ). take n (padded places)) (sym (length_items place_of 8 count (places_from v body)))
+    ∙ filled_items 13 nothing places
 
 positions_are : (v number last : ℕ) (body : List ℕ) →
     (ecm_in v number last body).positions ≡ padded (places_in (ecm_in v number last body).count (places_from v body))
@@ -36,23 +38,28 @@ unfolding ecm_in
 positions_are v number last body = refl
 
 -- the same positions by the count that was read
-same_places : (v number last : ℕ) (body : List ℕ) (head : EcmPart) (count : ℕ) → IsPrefix (ecm_in v number last body) head →
+same_places : (v number last : ℕ) (body : List ℕ) (head : EcmPart) (count : ℕ) → IsPrefix (ecm_in v number last body)
+    head →
     count ≡ head.count → places_in count (places_from v body) ≡ listed (ecm_in v number last body)
 same_places v number last body head count is counted =
-    ap (λ (n : ℕ). places_in n (places_from v body)) (counted ∙ ap (λ (p : EcmPart). p.count) is) ∙ sym (listed_in v number last body)
+    ap (λ (n : ℕ). places_in n (places_from v body)) (counted ∙ ap (λ (p : EcmPart). p.count) is)
+    ∙ sym (listed_in v number last body)
 
 -- the count isn't what it is to be
-pub count_breaks : (table_id : ℕ) (body : List ℕ) (part head : EcmPart) → IsPrefix part head → ¬ HasCount (length body) head →
+pub count_breaks : (table_id : ℕ) (body : List ℕ) (part head : EcmPart) → IsPrefix part head →
+    ¬ HasCount (length body) head →
     BreaksIn table_id body part Count
 count_breaks table_id body part head is unless has = unless (subst (HasCount (length body)) (sym is) has)
 
 -- it is
-has_count : (body : List ℕ) (part head : EcmPart) → IsPrefix part head → HasCount (length body) head → HasCount (length body) part
+has_count : (body : List ℕ) (part head : EcmPart) → IsPrefix part head → HasCount (length body) head →
+    HasCount (length body) part
 has_count body part head is has = subst (HasCount (length body)) is has
 
 -- what was read is what the section says
 pub is_whole : (v number last : ℕ) (body : List ℕ) (head : EcmPart) (count : ℕ) (places : List Place) →
-    IsPrefix (ecm_in v number last body) head → count ≡ head.count → places ≡ padded (places_in count (places_from v body)) →
+    IsPrefix (ecm_in v number last body) head → count ≡ head.count →
+    places ≡ padded (places_in count (places_from v body)) →
     with_places head places ≡ ecm_in v number last body
 is_whole v number last body head count places is counted read =
     let same : places ≡ (ecm_in v number last body).positions =
@@ -62,7 +69,8 @@ is_whole v number last body head count places is counted read =
 
 -- the positions that were read are those that the part has
 same_listed : (v number last : ℕ) (body : List ℕ) (head : EcmPart) (count : ℕ) (places : List Place) →
-    IsPrefix (ecm_in v number last body) head → count ≡ head.count → places ≡ padded (places_in count (places_from v body)) →
+    IsPrefix (ecm_in v number last body) head → count ≡ head.count →
+    places ≡ padded (places_in count (places_from v body)) →
     take count places ≡ listed (ecm_in v number last body)
 same_listed v number last body head count places is counted read =
     ap (λ (n : ℕ). take n places) counted ∙ ap listed (is_whole v number last body head count places is counted read)
@@ -79,7 +87,8 @@ pub record AreRead (v : ℕ) (body : List ℕ) (count : ℕ) (places : List Plac
   pub read : places ≡ padded (places_in count (places_from v body))
 
 -- a PID has no positions
-pub pid_breaks : (table_id v number last : ℕ) (body : List ℕ) (head : EcmPart) (count : ℕ) → IsJudged v number last body head count →
+pub pid_breaks : (table_id v number last : ℕ) (body : List ℕ) (head : EcmPart) (count : ℕ) →
+    IsJudged v number last body head count →
     ¬ ArePositioned (places_in count (places_from v body)) → BreaksIn table_id body (ecm_in v number last body) Pid
 pid_breaks table_id v number last body head count judged unless = (
   has_count body (ecm_in v number last body) head judged.is judged.has,
@@ -94,12 +103,14 @@ order_breaks table_id v number last body head count places judged are unless = (
   has_count body (ecm_in v number last body) head judged.is judged.has,
   (
     subst ArePositioned (same_places v number last body head count judged.is judged.counted) are.all,
-    λ up. unless (subst AreAscending (sym (same_listed v number last body head count places judged.is judged.counted are.read)) up),
+    λ up. unless
+        (subst AreAscending (sym (same_listed v number last body head count places judged.is judged.counted are.read)) up),
   ),
 )
 
 -- the flags, the table_id or `since` don't match, by what was read
-matched_too : (table_id v number last : ℕ) (body : List ℕ) (head : EcmPart) → IsPrefix (ecm_in v number last body) head →
+matched_too : (table_id v number last : ℕ) (body : List ℕ) (head : EcmPart) → IsPrefix (ecm_in v number last body)
+    head →
     IsMatched table_id (flags_of v body) head →
     IsMatched table_id (flags_of (ecm_in v number last body).version body) (ecm_in v number last body)
 unfolding ecm_in
@@ -107,7 +118,8 @@ matched_too table_id v number last body head is matched =
     let same = subst (IsMatched table_id (flags_of v body)) is matched in
     record { flags_are = same.flags_are; parity = same.parity; since = same.since }
 
-matched_back : (table_id v number last : ℕ) (body : List ℕ) (head : EcmPart) → IsPrefix (ecm_in v number last body) head →
+matched_back : (table_id v number last : ℕ) (body : List ℕ) (head : EcmPart) → IsPrefix (ecm_in v number last body)
+    head →
     IsMatched table_id (flags_of (ecm_in v number last body).version body) (ecm_in v number last body) →
     IsMatched table_id (flags_of v body) head
 unfolding ecm_in
@@ -136,7 +148,8 @@ pub is_good : (table_id v number last : ℕ) (body : List ℕ) (head : EcmPart) 
 is_good table_id v number last body head count places judged are up matched = record {
   has_count = has_count body (ecm_in v number last body) head judged.is judged.has;
   places = subst ArePositioned (same_places v number last body head count judged.is judged.counted) are.all;
-  ascending = subst AreAscending (same_listed v number last body head count places judged.is judged.counted are.read) up;
+  ascending = subst AreAscending (same_listed v number last body head count places judged.is judged.counted are.read)
+      up;
   matched = matched_too table_id v number last body head judged.is matched;
 }
 
@@ -148,7 +161,8 @@ past_places v number last body =
     let count : ℕ = (ecm_in v number last body).count in
     let places : List Place = places_in count (places_from v body) in
     ap (drop count) (positions_are v number last body)
-    ∙ subst (λ (n : ℕ). drop n (padded places) ≡ replicate (13 - n) nothing) (length_items place_of 8 count (places_from v body))
+    ∙ subst (λ (n : ℕ). drop n (padded places) ≡ replicate (13 - n) nothing)
+    (length_items place_of 8 count (places_from v body))
     (filled_rest 13 nothing places)
 
 -- the positions that are read have 48 bits
@@ -160,7 +174,8 @@ positions_fit : (n : ℕ) (bytes : List ℕ) → AreShort (places_in n bytes)
 positions_fit n bytes = each_read (λ (place : Place). place.position < 2 ^ 48) place_of 8 n bytes short_place
 
 -- `since` is as it is to be
-since_right : (v number last : ℕ) (body : List ℕ) → IsBefore (ecm_in v number last body).since (ecm_in v number last body).number →
+since_right : (v number last : ℕ) (body : List ℕ) → IsBefore (ecm_in v number last body).since
+    (ecm_in v number last body).number →
     IsSince (ecm_in v number last body).version (ecm_in v number last body).number (ecm_in v number last body).since
 unfolding ecm_in since_in
 since_right v number last body before = record { before = before; fixed = λ one. rw one refl }

@@ -12,7 +12,8 @@ use Rattle.sd_message.proofs.Framing.{packed_begins, begun_is_there, begun_is_re
 use Rattle.sd_ecm.specs.Versions.{head_length, even_table_id, version_for}
 use Rattle.sd_ecm.specs.Spelled.{ecm_header, ecm_body, ecm_section, Spells}
 use Rattle.sd_ecm.specs.Form.{IsEcm, Fits}
-use Rattle.sd_ecm.specs.Fields.{version_of, IsTableOf, flags_of, ecm_in, ecm_of, BreaksIn, BreaksFirst, IsEcmSection, IsEcmPacket, IsGoodIn}
+use Rattle.sd_ecm.specs.Fields.{version_of, IsTableOf, flags_of, ecm_in, ecm_of, BreaksIn, BreaksFirst, IsEcmSection}
+use Rattle.sd_ecm.specs.Fields.{IsEcmPacket, IsGoodIn}
 use Rattle.sd_ecm.specs.declared.part.EcmPart.{EcmPart}
 use Rattle.sd_ecm.specs.declared.fault.EcmFault.{EcmFault}
 use Rattle.sd_ecm.proofs.Versions.{even_fits, even_is_even, version_again, version_is, fits_packet}
@@ -76,20 +77,23 @@ table_cases table_id version word is = elim (cases_eq (word % 2) 0) [
 ]
 
 -- such a packet is one of control messages
-pub spelled_is_packet : (part : EcmPart) (packet : List ℕ) → Fits part → IsEcm part → Spells part packet → IsEcmPacket packet
+pub spelled_is_packet : (part : EcmPart) (packet : List ℕ) → Fits part → IsEcm part → Spells part packet →
+    IsEcmPacket packet
 unfolding ecm_section
 spelled_is_packet part packet fits form spells =
     let section : List ℕ = section_bytes (ecm_header part) (ecm_body part) in
     let read = fields_are_read (ecm_header part) (ecm_body part) (header_fits part fits) (short_body part fits form) in
     let is = part_read part fits form in
     let is_ecm : IsEcmSection section = record {
-      table_id = subst (λ (v : ℕ). IsTableOf v (table_id_of section)) (sym is.version) (table_cases _ part.version part.word is.table_id);
+      table_id = subst (λ (v : ℕ). IsTableOf v (table_id_of section)) (sym is.version)
+          (table_cases _ part.version part.word is.table_id);
       extension = read.extension;
       numbered = omega (arith, is.number, is.last_number, form.numbered);
       room = rw is.version (omega (arith, read.section_length, long_body part fits form));
     } in
     record {
-      has = begun_is_there (ecm_header part) (ecm_body part) packet (header_fits part fits) (short_body part fits form) spells;
+      has = begun_is_there (ecm_header part) (ecm_body part) packet (header_fits part fits) (short_body part fits form)
+          spells;
       ecm = subst IsEcmSection (sym (spelled_section part packet fits form spells)) is_ecm;
     }
 
@@ -97,14 +101,16 @@ spelled_is_packet part packet fits form spells =
 pub spelled_is_read : (part : EcmPart) (packet section : List ℕ) → Fits part → IsEcm part → Spells part packet →
     section ≡ section_of packet → ecm_of section ≡ part
 spelled_is_read part packet section fits form spells is_section =
-    let is = subst (IsPart part) (sym (is_section ∙ spelled_section part packet fits form spells)) (part_read part fits form) in
+    let is = subst (IsPart part) (sym (is_section ∙ spelled_section part packet fits form spells))
+    (part_read part fits form) in
     rw (is.version, is.number, is.last_number, is.inner) (body_again part fits form)
 
 -- and nothing is wrong with it
 pub spelled_is_good : (part : EcmPart) (packet section : List ℕ) → Fits part → IsEcm part → Spells part packet →
     section ≡ section_of packet → IsGoodIn (table_id_of section) (body_of section) (ecm_of section)
 spelled_is_good part packet section fits form spells is_section =
-    let is = subst (IsPart part) (sym (is_section ∙ spelled_section part packet fits form spells)) (part_read part fits form) in
+    let is = subst (IsPart part) (sym (is_section ∙ spelled_section part packet fits form spells))
+    (part_read part fits form) in
     let same = spelled_is_read part packet section fits form spells is_section in
     subst (IsGoodIn (table_id_of section) (body_of section)) (sym same) (record {
       has_count = (ap length is.inner ∙ long_body part fits form, form.counted);
@@ -119,13 +125,19 @@ spelled_is_good part packet section fits form spells is_section =
 
 -- a header by its fields
 abbrev headed : ℕ → ℕ → ℕ → ℕ → Header
-headed table_id extension number last = record { table_id = table_id; extension = extension; number = number; last_number = last }
+headed table_id extension number last = record {
+  table_id = table_id;
+  extension = extension;
+  number = number;
+  last_number = last;
+}
 
 same_headed : (t t' e e' n n' l l' : ℕ) → t ≡ t' → e ≡ e' → n ≡ n' → l ≡ l' → headed t e n l ≡ headed t' e' n' l'
 same_headed t t' e e' n n' l l' f g h i = rw (f, g, h, i) refl
 
 -- the table_id is that of the control word
-table_of : (table_id version word : ℕ) → IsTableOf version table_id → table_id % 2 ≡ word % 2 → table_id ≡ even_table_id version + word % 2
+table_of : (table_id version word : ℕ) → IsTableOf version table_id → table_id % 2 ≡ word % 2 →
+    table_id ≡ even_table_id version + word % 2
 table_of table_id version word (inl e) parity = omega (arith, even_is_even version)
 table_of table_id version word (inr e) parity = omega (arith, even_is_even version)
 
@@ -148,7 +160,8 @@ header_is section ecm parity =
     same_headed _ _ _ _ _ _ _ _ table ecm.extension (sym are.1) (sym are.2)
 
 -- the packet spells what was read of it
-read_spells : (packet section : List ℕ) → IsBytes (body_of section) → IsGoodIn (table_id_of section) (body_of section) (ecm_of section) →
+read_spells : (packet section : List ℕ) → IsBytes (body_of section) → IsGoodIn (table_id_of section) (body_of section)
+    (ecm_of section) →
     IsEcmSection section → Begins section packet → section ≡ section_bytes (header_of section) (body_of section) →
     Spells (ecm_of section) packet
 unfolding ecm_section
@@ -163,14 +176,17 @@ read_spells packet section each good ecm begins spelled =
     body_spelled (version_of section) (number_of section) (last_number_of section) (body_of section) each long few in
     let head : header_of section ≡ ecm_header part = header_is section ecm good.matched.parity in
     let same : section ≡ section_bytes (ecm_header part) (ecm_body part) =
-    spelled ∙ (ap (λ (h : Header). section_bytes h (body_of section)) head ∙ ap (section_bytes (ecm_header part)) (sym same_body)) in
+    spelled ∙ (ap (λ (h : Header). section_bytes h (body_of section)) head ∙ ap (section_bytes (ecm_header part))
+    (sym same_body)) in
     subst (λ (s : List ℕ). Begins s packet) same begins
 
 -- which is in its form
-pub good_form : (section : List ℕ) → IsEcmSection section → IsGoodIn (table_id_of section) (body_of section) (ecm_of section) →
+pub good_form : (section : List ℕ) → IsEcmSection section → IsGoodIn (table_id_of section) (body_of section)
+    (ecm_of section) →
     IsEcm (ecm_of section)
 good_form section ecm good =
-    good_is_ecm (table_id_of section) (version_of section) (number_of section) (last_number_of section) (body_of section)
+    good_is_ecm (table_id_of section) (version_of section) (number_of section) (last_number_of section)
+    (body_of section)
     (version_is (table_id_of section)) ecm.numbered good
 
 -- what was read of a section's parts, which are those of the section
@@ -185,54 +201,71 @@ pub at_section : (P : ℕ → List ℕ → EcmPart → Type 0) (section body : L
     IsParted section body table_id number last → P table_id body (ecm_in (version_for table_id) number last body) →
     P (table_id_of section) (body_of section) (ecm_of section)
 at_section P section body table_id number last are known =
-    subst (λ (b : List ℕ). P (table_id_of section) b (ecm_in (version_of section) (number_of section) (last_number_of section) b)) are.is_body
-    (subst (λ (l : ℕ). P (table_id_of section) body (ecm_in (version_of section) (number_of section) l body)) are.is_last
+    subst (λ (b : List ℕ). P (table_id_of section) b (ecm_in (version_of section) (number_of section)
+    (last_number_of section) b)) are.is_body
+    (subst (λ (l : ℕ). P (table_id_of section) body (ecm_in (version_of section) (number_of section) l body))
+    are.is_last
     (subst (λ (n : ℕ). P (table_id_of section) body (ecm_in (version_of section) n last body)) are.is_number
     (subst (λ (t : ℕ). P t body (ecm_in (version_for t) number last body)) are.is_table known)))
 
 abbrev pub IsRead : List ℕ → EcmPart → Type 0
 IsRead packet part = Spells part packet × IsEcm part
 
-pub read_is_right : (packet section body : List ℕ) (table_id number last : ℕ) (part : EcmPart) → IsParted section body table_id number last →
+pub read_is_right : (packet section body : List ℕ) (table_id number last : ℕ) (part : EcmPart) →
+    IsParted section body table_id number last →
     part ≡ ecm_in (version_for table_id) number last body → IsBytes body →
-    IsGoodIn table_id body (ecm_in (version_for table_id) number last body) → IsEcmSection section → Begins section packet →
+    IsGoodIn table_id body (ecm_in (version_for table_id) number last body) → IsEcmSection section →
+    Begins section packet →
     section ≡ section_bytes (header_of section) (body_of section) → IsRead packet part
 read_is_right packet section body table_id number last part are is each good ecm begins spelled =
     let good_too = at_section IsGoodIn section body table_id number last are good in
-    let same : part ≡ ecm_of section = at_section (λ (t : ℕ) (b : List ℕ) (p : EcmPart). part ≡ p) section body table_id number last are is in
-    subst (IsRead packet) (sym same)
-    (read_spells packet section (subst IsBytes are.is_body each) good_too ecm begins spelled, good_form section ecm good_too)
+    let same : part ≡ ecm_of section = at_section (λ (t : ℕ) (b : List ℕ) (p : EcmPart). part ≡ p) section body table_id
+    number last are is in
+    subst (IsRead packet) (sym same) (
+      read_spells packet section (subst IsBytes are.is_body each) good_too ecm begins spelled,
+      good_form section ecm
+          good_too,
+    )
 
 -- the packet of a part begins with its section
-pub written_spells : (part : EcmPart) (pid counter : ℕ) → pid < 8192 → counter < 16 → Spells part (packed (ecm_section part) pid counter)
+pub written_spells : (part : EcmPart) (pid counter : ℕ) → pid < 8192 → counter < 16 →
+    Spells part (packed (ecm_section part) pid counter)
 written_spells part pid counter h k = packed_begins (ecm_section part) pid counter h k
 
 -- the rule that was broken is the one that the packet's section breaks first
-pub breaks_first : (packet section body : List ℕ) (table_id number last : ℕ) (fault : EcmFault) → section ≡ section_of packet →
-    IsParted section body table_id number last → BreaksIn table_id body (ecm_in (version_for table_id) number last body) fault →
+pub breaks_first : (packet section body : List ℕ) (table_id number last : ℕ) (fault : EcmFault) →
+    section ≡ section_of packet →
+    IsParted section body table_id number last → BreaksIn table_id body (ecm_in (version_for table_id) number last body)
+    fault →
     BreaksFirst (section_of packet) fault
 breaks_first packet section body table_id number last fault is_section are breaks =
     subst (λ (s : List ℕ). BreaksFirst s fault) is_section
-    (at_section (λ (t : ℕ) (b : List ℕ) (p : EcmPart). BreaksIn t b p fault) section body table_id number last are breaks)
+    (at_section (λ (t : ℕ) (b : List ℕ) (p : EcmPart). BreaksIn t b p fault) section body table_id number last are
+    breaks)
 
 -- and a section that breaks none
 pub good_first : (packet section body : List ℕ) (table_id number last : ℕ) → section ≡ section_of packet →
-    IsParted section body table_id number last → IsGoodIn table_id body (ecm_in (version_for table_id) number last body) →
+    IsParted section body table_id number last → IsGoodIn table_id body
+    (ecm_in (version_for table_id) number last body) →
     IsGoodIn (table_id_of (section_of packet)) (body_of (section_of packet)) (ecm_of (section_of packet))
 good_first packet section body table_id number last is_section are good =
     subst (λ (s : List ℕ). IsGoodIn (table_id_of s) (body_of s) (ecm_of s)) is_section
     (at_section IsGoodIn section body table_id number last are good)
 
 -- no rule is broken where none was
-pub never_first : (packet section body : List ℕ) (table_id number last : ℕ) (fault : EcmFault) → section ≡ section_of packet →
-    IsParted section body table_id number last → IsGoodIn table_id body (ecm_in (version_for table_id) number last body) →
+pub never_first : (packet section body : List ℕ) (table_id number last : ℕ) (fault : EcmFault) →
+    section ≡ section_of packet →
+    IsParted section body table_id number last → IsGoodIn table_id body
+    (ecm_in (version_for table_id) number last body) →
     ¬ BreaksFirst (section_of packet) fault
 never_first packet section body table_id number last fault is_section are good breaks =
     good_never _ _ _ fault (good_first packet section body table_id number last is_section are good) breaks
 
 -- so the fault that was found is the first
-pub first_once : (packet section body : List ℕ) (table_id number last : ℕ) (found fault : EcmFault) → section ≡ section_of packet →
-    IsParted section body table_id number last → BreaksIn table_id body (ecm_in (version_for table_id) number last body) found →
+pub first_once : (packet section body : List ℕ) (table_id number last : ℕ) (found fault : EcmFault) →
+    section ≡ section_of packet →
+    IsParted section body table_id number last → BreaksIn table_id body (ecm_in (version_for table_id) number last body)
+    found →
     BreaksFirst (section_of packet) fault → found ≡ fault
 first_once packet section body table_id number last found fault is_section are breaks first =
     let s : List ℕ = section_of packet in

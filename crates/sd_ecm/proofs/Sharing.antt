@@ -1,15 +1,18 @@
 -- The positions of a message, as many at a time as fit into a part.
-use Rattle.std.proofs.Common.{◌≡◌, inl, inr, ℕ, ◌+◌, ◌-◌, ◌*◌, ◌<◌, ◌≤◌, ◌^◌, List, length, drop, eq-eqb, arith, refl, sym, ap, ◌∙◌, subst}
+use Rattle.std.proofs.Common.{◌≡◌, inl, inr, ℕ, ◌+◌, ◌-◌, ◌*◌, ◌<◌, ◌≤◌, ◌^◌, List, length, drop, eq-eqb, arith, refl}
+use Rattle.std.proofs.Common.{sym, ap, ◌∙◌, subst}
 use Rattle.std.specs.Prelude.{All, Some, slice_get, flat_map, replicate}
 use Rattle.std.proofs.lemmas.Bool.{cases_eq, ne_eqb}
 use Rattle.sd_message.specs.Pieces.{pieces_for}
 use Rattle.sd_message.proofs.Pieces as Pieces
-use Rattle.sd_message.proofs.Pieces.{room, full_or_last, some_or_first, long_piece, each_of_piece, pairs_of_piece, filled_items, filled_rest, filled_length}
+use Rattle.sd_message.proofs.Pieces.{room, full_or_last, some_or_first, long_piece, each_of_piece, pairs_of_piece}
+use Rattle.sd_message.proofs.Pieces.{filled_items, filled_rest, filled_length}
 use Rattle.sd_ecm.specs.Versions.{IsVersion, IsSince, positions_for}
 use Rattle.sd_ecm.specs.Spelled.{listed}
 use Rattle.sd_ecm.specs.Form.{IsCounted, IsPositioned, ArePositioned, AreAscending, AreShort, IsEcm, Fits, nothing}
 use Rattle.sd_ecm.specs.Fields.{padded}
-use Rattle.sd_ecm.specs.Parts.{Message, parts_for, part_count_of, places_at, part_at, parts_of, IsMessage, IsOfMessage, header_of}
+use Rattle.sd_ecm.specs.Parts.{Message, parts_for, part_count_of, places_at, part_at, parts_of, IsMessage, IsOfMessage}
+use Rattle.sd_ecm.specs.Parts.{header_of}
 use Rattle.sd_ecm.specs.declared.part.Place.{Place}
 use Rattle.sd_ecm.specs.declared.part.EcmPart.{EcmPart}
 use Rattle.sd_ecm.proofs.Versions.{few_positions, some_positions}
@@ -51,7 +54,8 @@ listed_at message x = filled_items 13 nothing (places_at message x)
 pub joined_are_all : (message : Message) → flat_map listed (parts_of message) ≡ message.places
 unfolding parts_of
 joined_are_all message =
-    Pieces.joined_are_all listed (part_at message) (positions_for message.version) message.places (some_fit message.version) (listed_at message)
+    Pieces.joined_are_all listed (part_at message) (positions_for message.version) message.places
+    (some_fit message.version) (listed_at message)
 
 -- so those ascend over all parts
 pub all_ascend : (message : Message) → AreAscending message.places → AreAscending (flat_map listed (parts_of message))
@@ -69,17 +73,20 @@ unfolding parts_of
 each_part P message each = Pieces.each_made P (part_at message) (part_count_of message) each
 
 -- the part of a number
-pub stands_at : (message : Message) (x : ℕ) → x < part_count_of message → slice_get (parts_of message) x ≡ Some (part_at message x)
+pub stands_at : (message : Message) (x : ℕ) → x < part_count_of message → slice_get (parts_of message) x
+    ≡ Some (part_at message x)
 unfolding parts_of
 stands_at message x within = Pieces.stands_at (part_at message) (part_count_of message) x within
 
 -- what stands at a number
-made_at : (message : Message) (x : ℕ) (part : EcmPart) → slice_get (parts_of message) x ≡ Some part → part ≡ part_at message x
+made_at : (message : Message) (x : ℕ) (part : EcmPart) → slice_get (parts_of message) x ≡ Some part →
+    part ≡ part_at message x
 unfolding parts_of
 made_at message x part there = Pieces.made_at (part_at message) (part_count_of message) x part there
 
 -- has it
-pub number_is : (message : Message) (x : ℕ) (part : EcmPart) → slice_get (parts_of message) x ≡ Some part → part.part ≡ x
+pub number_is : (message : Message) (x : ℕ) (part : EcmPart) → slice_get (parts_of message) x ≡ Some part →
+    part.part ≡ x
 unfolding part_at
 number_is message x part there = ap (λ (p : EcmPart). p.part) (made_at message x part there)
 
@@ -94,7 +101,8 @@ two_say_the_same message x y a b p q =
     ap header_of (made_at message x a p) ∙ (same_at message x y ∙ sym (ap header_of (made_at message y b q)))
 
 -- position k stands in the part of its quotient by the number of positions in a part, at the remainder
-pub place_stands : (message : Message) (q r k : ℕ) → positions_for message.version * q + r ≡ k → r < positions_for message.version →
+pub place_stands : (message : Message) (q r k : ℕ) → positions_for message.version * q + r ≡ k →
+    r < positions_for message.version →
     k < length message.places → slice_get (listed (part_at message q)) r ≡ slice_get message.places k
 place_stands message q r k place few within =
     ap (λ (l : List Place). slice_get l r) (listed_at message q)
@@ -148,7 +156,8 @@ is_ecm message x within version since places up positions =
       counted = parts.counted;
       places = rw (listed_at message x) (each_of_piece IsPositioned n message.places x places);
       ascending = rw (listed_at message x) (pairs_of_piece (λ (a b : Place). a.pid < b.pid) n message.places x up);
-      positions = rw (listed_at message x) (each_of_piece (λ (place : Place). place.position < 2 ^ 48) n message.places x positions);
+      positions = rw (listed_at message x) (each_of_piece (λ (place : Place). place.position < 2 ^ 48) n message.places
+          x positions);
       rest = parts.rest;
     }
 
@@ -167,7 +176,11 @@ fits_at message x within is =
     let few = few_parts message.version (length message.places) is.count in
     let long = long_piece (positions_for message.version) message.places x in
     let most = few_positions message.version in
-    let before : message.since ≤ message.number = elim is.since.before [ inl h ↦ omega arith | inr h ↦ omega (arith, h.0) ] in
+    let before : message.since ≤ message.number = elim is.since.before [
+      | inl h ↦ omega arith
+      | inr h ↦ omega
+          (arith, h.0)
+    ] in
     let number = is.number in
     record {
       head = record {
@@ -188,7 +201,11 @@ fits_at message x within is =
 pub all_are_ecms : (message : Message) → IsMessage message → All (λ part. IsEcm part × Fits part) (parts_of message)
 all_are_ecms message is =
     each_part (λ part. IsEcm part × Fits part) message
-    (λ x within. (is_ecm message x within is.version is.since is.places is.ascending is.positions, fits_at message x within is))
+    (λ x within. (
+      is_ecm message x within is.version is.since is.places is.ascending is.positions,
+      fits_at message x
+          within is,
+    ))
 
 -- each says the same of the message
 pub all_are_of : (message : Message) → All (IsOfMessage message) (parts_of message)

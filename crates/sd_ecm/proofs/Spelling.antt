@@ -1,5 +1,6 @@
 -- What is read from a section's body spells it.
-use Rattle.std.proofs.Common.{◌≡◌, inl, inr, ℕ, ◌+◌, ◌-◌, ◌*◌, ◌<◌, ◌≤◌, List, [], ◌∷◌, ◌++◌, length, take, drop, get_or, take-add, drop-drop, length-drop, append_assoc, eq-eqb, arith, refl, sym, ap, ◌∙◌}
+use Rattle.std.proofs.Common.{◌≡◌, inl, inr, ℕ, ◌+◌, ◌-◌, ◌*◌, ◌<◌, ◌≤◌, List, [], ◌∷◌, ◌++◌, length, take, drop}
+use Rattle.std.proofs.Common.{get_or, take-add, drop-drop, length-drop, append_assoc, eq-eqb, arith, refl, sym, ap, ◌∙◌}
 use Rattle.std.specs.Prelude.{◌==◌, slice_index, slice_range, flat_map}
 use Rattle.std.specs.Int.{w16, w32, w64, to_be_bytes}
 use Rattle.std.proofs.lemmas.Bool.{cases_eq, ne_eqb}
@@ -9,7 +10,8 @@ use Rattle.sd_message.proofs.Numbers.{IsBytes, bytes_drop, word_spelled, half_sp
 use Rattle.sd_message.proofs.Items as Items
 use Rattle.sd_message.proofs.Items.{items_spelled}
 use Rattle.sd_ecm.specs.Versions.{flags_at}
-use Rattle.sd_ecm.specs.Spelled.{listed, place_bytes, flags_for, numbers_bytes, since_bytes, word_bytes, head_bytes, ecm_body}
+use Rattle.sd_ecm.specs.Spelled.{listed, place_bytes, flags_for, numbers_bytes, since_bytes, word_bytes, head_bytes}
+use Rattle.sd_ecm.specs.Spelled.{ecm_body}
 use Rattle.sd_ecm.specs.Fields.{place_of, from_flags, flags_of, since_in, ecm_in}
 use Rattle.sd_ecm.specs.declared.part.Place.{Place}
 use Rattle.sd_ecm.proofs.Versions.{flags_after}
@@ -26,7 +28,8 @@ place_spelled : (bytes : List ℕ) → IsBytes bytes → length bytes ≡ 8 → 
 unfolding place_bytes place_of
 place_spelled bytes each long =
     let pid : to_be_bytes w16 (field bytes 0 16) ≡ take 2 bytes = half_spelled bytes 0 each (omega arith) in
-    let position : drop 2 (to_be_bytes w64 (field bytes 16 48)) ≡ take 6 (drop 2 bytes) = long_spelled bytes 2 each (omega arith) in
+    let position : drop 2 (to_be_bytes w64 (field bytes 16 48)) ≡ take 6 (drop 2 bytes) = long_spelled bytes 2 each
+    (omega arith) in
     let after : take 6 (drop 2 bytes) ≡ drop 2 bytes = take_all 6 (drop 2 bytes) (omega (arith, length-drop 2 bytes)) in
     ap (λ (l : List ℕ). l ++ drop 2 (to_be_bytes w64 (field bytes 16 48))) pid
     ∙ (ap (λ (l : List ℕ). take 2 bytes ++ l) (position ∙ after) ∙ take-append-drop 2 bytes)
@@ -43,7 +46,8 @@ piece : (m n : ℕ) (xs : List ℕ) (p : ℕ) → take (m + n) (drop p xs) ≡ t
 piece m n xs p = take-add m n (drop p xs) ∙ ap (λ (l : List ℕ). take m (drop p xs) ++ take n l) (drop-drop m p xs)
 
 -- pieces that are the same one by one
-same_four : (a a' b b' c c' d d' : List ℕ) → a ≡ a' → b ≡ b' → c ≡ c' → d ≡ d' → a ++ (b ++ (c ++ d)) ≡ a' ++ (b' ++ (c' ++ d'))
+same_four : (a a' b b' c c' d d' : List ℕ) → a ≡ a' → b ≡ b' → c ≡ c' → d ≡ d' → a ++ (b ++ (c ++ d)) ≡ a'
+    ++ (b' ++ (c' ++ d'))
 same_four a a' b b' c c' d d' p q r s = rw (p, q, r, s) refl
 
 -- so are the numbers with which a body begins
@@ -78,15 +82,18 @@ unfolding word_bytes ecm_in
 word_again v number last body long few =
     let tail : List ℕ = from_flags v body in
     let flags : flags_for (flags_of v body == 1) ∷ [] ≡ take 1 tail =
-    ap (λ (n : ℕ). n ∷ []) (flags_spelled (flags_of v body) few) ∙ sym (ap (take 1) (drop_more tail 0 0 (omega arith))) in
-    let count : slice_index tail 49 ∷ [] ≡ take 1 (drop 49 tail) = sym (ap (take 1) (drop_more tail 49 0 (omega arith))) in
+    ap (λ (n : ℕ). n ∷ []) (flags_spelled (flags_of v body) few) ∙ sym (ap (take 1) (drop_more tail 0 0 (omega arith)))
+    in
+    let count : slice_index tail 49 ∷ [] ≡ take 1 (drop 49 tail) = sym (ap (take 1) (drop_more tail 49 0 (omega arith)))
+    in
     same_four _ _ (slice_range tail 1 33) _ (slice_range tail 33 49) _ _ _ flags refl refl count
     ∙ sym (piece 1 49 tail 0
     ∙ ap (λ (l : List ℕ). take 1 tail ++ l) (piece 32 17 tail 1
     ∙ ap (λ (l : List ℕ). take 32 (drop 1 tail) ++ l) (piece 16 1 tail 33)))
 
 since_here : (v number last : ℕ) (body : List ℕ) → IsBytes body → flags_at v ≤ length body →
-    since_bytes (ecm_in v number last body).version (ecm_in v number last body).since ≡ take (flags_at v - 16) (drop 16 body)
+    since_bytes (ecm_in v number last body).version (ecm_in v number last body).since ≡ take (flags_at v - 16)
+    (drop 16 body)
 unfolding ecm_in
 since_here v number last body each long = since_spelled v (field body 0 32) body each long
 
@@ -97,7 +104,8 @@ same_three a a' b b' c c' p q r = rw (p, q, r) refl
 three : (a b : ℕ) (xs : List ℕ) → a ≤ b → take a xs ++ (take (b - a) (drop a xs) ++ drop b xs) ≡ xs
 three a b xs low =
     let e : a + (b - a) ≡ b = omega arith in
-    ap (λ (l : List ℕ). take a xs ++ (take (b - a) (drop a xs) ++ l)) (ap (λ (n : ℕ). drop n xs) (sym e) ∙ sym (drop-drop (b - a) a xs))
+    ap (λ (l : List ℕ). take a xs ++ (take (b - a) (drop a xs) ++ l)) (ap (λ (n : ℕ). drop n xs) (sym e)
+    ∙ sym (drop-drop (b - a) a xs))
     ∙ (ap (λ (l : List ℕ). take a xs ++ l) (take-append-drop (b - a) (drop a xs)) ∙ take-append-drop a xs)
 
 -- the body in its pieces
@@ -119,11 +127,13 @@ body_spelled v number last body each long few =
     let long_tail : length tail ≡ 50 + 8 * part.count = omega (arith, length-drop (flags_at v) body) in
     let places : ps ≡ drop 50 tail =
     ap (flat_map place_bytes) (listed_in v number last body)
-    ∙ items_spelled place_of place_bytes 8 part.count (drop 50 tail) place_spelled (bytes_drop 50 tail (bytes_drop (flags_at v) body each))
+    ∙ items_spelled place_of place_bytes 8 part.count (drop 50 tail) place_spelled
+    (bytes_drop 50 tail (bytes_drop (flags_at v) body each))
     (omega (arith, length-drop 50 tail)) in
     let word : word_bytes part ++ ps ≡ tail =
     ap (λ (l : List ℕ). l ++ ps) (word_again v number last body (omega arith) few)
     ∙ (ap (λ (l : List ℕ). take 50 tail ++ l) places ∙ take-append-drop 50 tail) in
     body_is (numbers_bytes part) (since_bytes part.version part.since) (word_bytes part) ps
-    ∙ (same_three _ _ _ _ _ _ (numbers_spelled v number last body each (omega arith)) (since_here v number last body each (omega arith)) word
+    ∙ (same_three _ _ _ _ _ _ (numbers_spelled v number last body each (omega arith))
+    (since_here v number last body each (omega arith)) word
     ∙ three 16 (flags_at v) body low)

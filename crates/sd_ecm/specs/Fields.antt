@@ -1,7 +1,9 @@
 -- Parts of entitlement control messages as they are read.
-use Rattle.std.specs.Prelude.{◌≡◌, ℕ, ◌+◌, ◌-◌, ◌*◌, ◌%◌, ◌≤◌, ◌⊎◌, ◌==◌, if◌then◌else◌, List, length, drop, slice_index, slice_range}
+use Rattle.std.specs.Prelude.{◌≡◌, ℕ, ◌+◌, ◌-◌, ◌*◌, ◌%◌, ◌≤◌, ◌⊎◌, ◌==◌, if◌then◌else◌, List, length, drop}
+use Rattle.std.specs.Prelude.{slice_index, slice_range}
 use Rattle.sd_bits.specs.Bits.{field}
-use Rattle.sd_section.specs.Header.{least_length, table_id_of, section_length_of, extension_of, number_of, last_number_of, body_of}
+use Rattle.sd_section.specs.Header.{least_length, table_id_of, section_length_of, extension_of, number_of}
+use Rattle.sd_section.specs.Header.{last_number_of, body_of}
 use Rattle.sd_message.specs.Framed.{HasSection, section_of}
 use Rattle.sd_message.specs.Items.{items_in}
 use Rattle.sd_message.specs.Pieces.{filled}
@@ -74,7 +76,8 @@ ecm_in version number last_number body = record {
   wrapped = slice_range (from_flags version body) WRAPPED_AT CHECK_AT;
   check = slice_range (from_flags version body) CHECK_AT COUNT_AT;
   count = slice_index (from_flags version body) COUNT_AT;
-  positions = padded (places_in (slice_index (from_flags version body) COUNT_AT) (drop PLACES_AT (from_flags version body)));
+  positions = padded (places_in (slice_index (from_flags version body) COUNT_AT)
+      (drop PLACES_AT (from_flags version body)));
 }
 
 -- the same with other positions
@@ -99,13 +102,15 @@ with_places part places = record {
 abbrev pub ecm_of : List ℕ → EcmPart
 ecm_of section = ecm_in (version_of section) (number_of section) (last_number_of section) (body_of section)
 
--- the count is what the part is to have and what the length of the body comes to [this project, docs/FORMATS.md, Messages]
+-- the count is what the part is to have and what the length of the body comes to [this project, docs/FORMATS.md,
+-- Messages]
 abbrev pub HasCount : ℕ → EcmPart → Type 0
 HasCount length part =
     (length ≡ head_length part.version + PLACE_BYTES * part.count)
     × IsCounted (positions_for part.version) part.part part.last_part part.count
 
--- the flags are 0 or 1, the table_id is odd where the number of the control word is, and `since` is below the number of the message,
+-- the flags are 0 or 1, the table_id is odd where the number of the control word is, and `since` is below the number of
+-- the message,
 -- unless both are 0 [this project, docs/FORMATS.md, Messages]
 pub record IsMatched (table_id flags : ℕ) (part : EcmPart) : Type 0 where
   pub flags_are : flags ≤ 1
@@ -123,7 +128,8 @@ pub record IsGoodIn (table_id : ℕ) (body : List ℕ) (part : EcmPart) : Type 0
 abbrev pub BreaksIn : ℕ → List ℕ → EcmPart → EcmFault → Type 0
 BreaksIn table_id body part Count = ¬ HasCount (length body) part
 BreaksIn table_id body part Pid = HasCount (length body) part × (¬ ArePositioned (listed part))
-BreaksIn table_id body part Order = HasCount (length body) part × (ArePositioned (listed part) × (¬ AreAscending (listed part)))
+BreaksIn table_id body part Order = HasCount (length body) part
+    × (ArePositioned (listed part) × (¬ AreAscending (listed part)))
 BreaksIn table_id body part Mixed =
     HasCount (length body) part × (ArePositioned (listed part) × (AreAscending (listed part)
     × (¬ IsMatched table_id (flags_of part.version body) part)))

@@ -1,8 +1,10 @@
 -- Parts of entitlement control messages as they are read, by tests.
-use Rattle.std.specs.Prelude.{ℕ, ◌+◌, ◌*◌, ◌%◌, Bool, ◌==◌, ◌&&◌, ◌||◌, not, nat_le, nat_lt, if◌then◌else◌, List, length, Option, Some, None, Result, Ok, Err}
+use Rattle.std.specs.Prelude.{ℕ, ◌+◌, ◌*◌, ◌%◌, Bool, ◌==◌, ◌&&◌, ◌||◌, not, nat_le, nat_lt, if◌then◌else◌, List}
+use Rattle.std.specs.Prelude.{length, Option, Some, None, Result, Ok, Err}
 use Rattle.std.specs.List.{list_all}
 use Rattle.sd_packet.specs.Positions.{is_positional}
-use Rattle.sd_section.specs.Header.{least_length, table_id_of, section_length_of, extension_of, number_of, last_number_of, body_of}
+use Rattle.sd_section.specs.Header.{least_length, table_id_of, section_length_of, extension_of, number_of}
+use Rattle.sd_section.specs.Header.{last_number_of, body_of}
 use Rattle.sd_message.specs.Framed.{has_section, section_of}
 use Rattle.sd_message.specs.Items.{all_pairs}
 use Rattle.sd_ecm.specs.Versions.{positions_for, head_length, even_table_id}
@@ -14,12 +16,14 @@ use Rattle.sd_ecm.specs.declared.fault.EcmFault.{EcmFault}
 use Rattle.sd_ecm.specs.declared.fault.EcmFault.TheVariants.{Count, Order, Pid, Mixed}
 use Rattle.sd_ecm.specs.declared.format.TheConstants.{PLACE_BYTES}
 
--- whether the count is what the part is to have and what the length of the body comes to [this project, docs/FORMATS.md, Messages]
+-- whether the count is what the part is to have and what the length of the body comes to [this project,
+-- docs/FORMATS.md, Messages]
 abbrev pub is_counted : ℕ → EcmPart → Bool
 is_counted length part =
     (length == head_length part.version + PLACE_BYTES * part.count)
     && (nat_le part.count (positions_for part.version)
-    && (((part.part == part.last_part) || (part.count == positions_for part.version)) && ((part.part == 0) || nat_lt 0 part.count)))
+    && (((part.part == part.last_part) || (part.count == positions_for part.version))
+    && ((part.part == 0) || nat_lt 0 part.count)))
 
 -- whether each PID is one that has positions [this project, docs/FORMATS.md, Messages]
 abbrev pub are_positioned : List Place → Bool
@@ -29,14 +33,16 @@ are_positioned places = list_all (λ place. is_positional place.pid) places
 abbrev pub is_ascending : List Place → Bool
 is_ascending places = all_pairs (λ a b. nat_lt a.pid b.pid) places
 
--- whether the flags are 0 or 1, the table_id is odd where the number of the control word is, and `since` is below the number of the
+-- whether the flags are 0 or 1, the table_id is odd where the number of the control word is, and `since` is below the
+-- number of the
 -- message, unless both are 0 [this project, docs/FORMATS.md, Messages]
 abbrev pub is_matched : ℕ → ℕ → EcmPart → Bool
 is_matched table_id flags part =
     nat_le flags 1
     && ((table_id % 2 == part.word % 2) && (nat_lt part.since part.number || ((part.since == 0) && (part.number == 0))))
 
--- what a body under this table_id is read as, by the first rule that it breaks [this project, docs/FORMATS.md, Messages]
+-- what a body under this table_id is read as, by the first rule that it breaks [this project, docs/FORMATS.md,
+-- Messages]
 unfoldable pub ecm_judged : ℕ → List ℕ → EcmPart → Result (Option EcmPart) EcmFault
 ecm_judged table_id body part =
     if not (is_counted (length body) part) then Err Count
@@ -48,7 +54,8 @@ ecm_judged table_id body part =
 -- whether a section is a part of a control message
 abbrev pub is_ecm_section : List ℕ → Bool
 is_ecm_section section =
-    ((table_id_of section == even_table_id (version_of section)) || (table_id_of section == even_table_id (version_of section) + 1))
+    ((table_id_of section == even_table_id (version_of section))
+    || (table_id_of section == even_table_id (version_of section) + 1))
     && ((extension_of section == 0)
     && (nat_le (number_of section) (last_number_of section)
     && nat_le (head_length (version_of section) + least_length) (section_length_of section)))

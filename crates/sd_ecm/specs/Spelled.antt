@@ -20,7 +20,8 @@ place_bytes place = to_be_bytes w16 place.pid ++ drop 2 (to_be_bytes w64 place.p
 -- [this project, docs/FORMATS.md, Messages]
 unfoldable pub numbers_bytes : EcmPart → List ℕ
 numbers_bytes part =
-    to_be_bytes w32 part.number ++ (to_be_bytes w32 part.period ++ (to_be_bytes w32 part.word ++ to_be_bytes w32 part.clear))
+    to_be_bytes w32 part.number
+    ++ (to_be_bytes w32 part.period ++ (to_be_bytes w32 part.word ++ to_be_bytes w32 part.clear))
 
 -- `since`, which version 2 alone writes [this project, docs/FORMATS.md, Messages]
 unfoldable pub since_bytes : ℕ → ℕ → List ℕ
@@ -30,7 +31,8 @@ since_bytes version since = if version == 2 then to_be_bytes w32 since else []
 abbrev pub flags_for : Bool → ℕ
 flags_for closing = if closing then 1 else 0
 
--- the flags, the wrapped control word, its check value, the count of positions [this project, docs/FORMATS.md, Messages]
+-- the flags, the wrapped control word, its check value, the count of positions [this project, docs/FORMATS.md,
+-- Messages]
 unfoldable pub word_bytes : EcmPart → List ℕ
 word_bytes part = flags_for part.closing ∷ [] ++ (part.wrapped ++ (part.check ++ part.count ∷ []))
 
@@ -42,7 +44,8 @@ head_bytes part = numbers_bytes part ++ (since_bytes part.version part.since ++ 
 unfoldable pub ecm_body : EcmPart → List ℕ
 ecm_body part = head_bytes part ++ flat_map place_bytes (listed part)
 
--- its table_id is the version's for an even control word and the next for an odd one, its extension 0, and the section numbers are
+-- its table_id is the version's for an even control word and the next for an odd one, its extension 0, and the section
+-- numbers are
 -- the part's [this project, docs/FORMATS.md, Messages]
 abbrev pub ecm_header : EcmPart → Header
 ecm_header part = record {

@@ -1,6 +1,7 @@
 -- The two versions of control messages, and the numbers in which they differ.
 use Rattle.std.specs.Prelude.{◌≡◌, ℕ, ◌+◌, ◌-◌, ◌<◌, ◌⊎◌, ◌==◌, nat_lt, if◌then◌else◌}
-use Rattle.sd_ecm.specs.declared.format.TheConstants.{TABLE_ID_1, TABLE_ID_2, POSITIONS, POSITIONS_2, FLAGS_AT_1, FLAGS_AT_2, PLACES_AT}
+use Rattle.sd_ecm.specs.declared.format.TheConstants.{TABLE_ID_1, TABLE_ID_2, POSITIONS, POSITIONS_2, FLAGS_AT_1}
+use Rattle.sd_ecm.specs.declared.format.TheConstants.{FLAGS_AT_2, PLACES_AT}
 
 -- there are two [this project, docs/FORMATS.md, Messages]
 abbrev pub IsVersion : ℕ → Type 0
@@ -26,12 +27,14 @@ even_table_id version = if version == 2 then TABLE_ID_2 else TABLE_ID_1
 unfoldable pub version_for : ℕ → ℕ
 version_for table_id = if nat_lt table_id TABLE_ID_2 then 1 else 2
 
--- from message `since` on each packet up to this message has its control word: `since` is below the number, unless both are 0
+-- from message `since` on each packet up to this message has its control word: `since` is below the number, unless both
+-- are 0
 -- [this project, docs/FORMATS.md, Messages]
 abbrev pub IsBefore : ℕ → ℕ → Type 0
 IsBefore since number = (since < number) ⊎ ((since ≡ 0) × (number ≡ 0))
 
--- version 1 doesn't write it: there it is the message before, or 0 for message 0 [this project, docs/FORMATS.md, Messages]
+-- version 1 doesn't write it: there it is the message before, or 0 for message 0 [this project, docs/FORMATS.md,
+-- Messages]
 pub record IsSince (version number since : ℕ) : Type 0 where
   pub before : IsBefore since number
   pub fixed : version ≡ 1 → since ≡ number - 1

@@ -1,4 +1,5 @@
-//! The numbers of a part of a control message (docs/FORMATS.md, Messages). There are two versions, 1 and 2; places are those of the body.
+//! The numbers of a part of a control message (docs/FORMATS.md, Messages). There are two versions, 1 and 2; places are
+//! those of the body.
 
 ghost use Rattle.std.specs.Prelude.{◌≡◌, ◌≤◌};
 ghost use Rattle.sd_ecm.specs.Versions.{positions_for, flags_at as flags_place, even_table_id as even_table};

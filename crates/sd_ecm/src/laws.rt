@@ -28,39 +28,46 @@ pub fn written_is_read(part: &EcmPart, pid: u16, counter: u8) -> Result<Option<E
 
 /// The packet of a part begins with its section.
 pub fn written_packets_spell()
-    ensures { (part : EcmPart) (pid counter : ℕ) → pid < 8192 → counter < 16 → Spells part (packed (ecm_section part) pid counter) }
+    ensures { (part : EcmPart) (pid counter : ℕ) → pid < 8192 → counter < 16 →
+        Spells part (packed (ecm_section part) pid counter) }
 {}
 
-/// A message's parts share out its positions: there are as many as have room for them, each stands at its number and says the same of
-/// the message, position k stands in part k / n at place k mod n, n being how many fit into a part, and joined they have all positions,
-/// in their order. Of a message with ascending PIDs each part is one that is written, and that is read.
+/// A message's parts share out its positions: there are as many as have room for them, each stands at its number and
+/// says the same of the message, position k stands in part k / n at place k mod n, n being how many fit into a part,
+/// and joined they have all positions, in their order. Of a message with ascending PIDs each part is one that is
+/// written, and that is read.
 #[tactic(auto, using(crate::proofs::Sharing::as_many, crate::proofs::Sharing::stands_at, crate::proofs::Sharing::number_is, crate::proofs::Sharing::place_stands, crate::proofs::Sharing::joined_are_all, crate::proofs::Sharing::all_ascend, crate::proofs::Sharing::all_are_of, crate::proofs::Sharing::two_say_the_same, crate::proofs::Sharing::all_are_ecms))]
 pub fn messages_are_shared_out()
     ensures parts { (message : Message) → length (parts_of message) ≡ part_count_of message }
     ensures at { (message : Message) (x : ℕ) → x < part_count_of message →
         slice_get (parts_of message) x ≡ Some (part_at message x) }
-    ensures number { (message : Message) (x : ℕ) (part : EcmPart) → slice_get (parts_of message) x ≡ Some part → part.part ≡ x }
-    ensures place { (message : Message) (q r k : ℕ) → positions_for message.version * q + r ≡ k → r < positions_for message.version →
+    ensures number { (message : Message) (x : ℕ) (part : EcmPart) → slice_get (parts_of message) x ≡ Some part →
+        part.part ≡ x }
+    ensures place { (message : Message) (q r k : ℕ) → positions_for message.version * q + r ≡ k →
+        r < positions_for message.version →
         k < length message.places → slice_get (listed (part_at message q)) r ≡ slice_get message.places k }
     ensures places { (message : Message) → flat_map listed (parts_of message) ≡ message.places }
-    ensures ascending { (message : Message) → AreAscending message.places → AreAscending (flat_map listed (parts_of message)) }
+    ensures ascending { (message : Message) → AreAscending message.places →
+        AreAscending (flat_map listed (parts_of message)) }
     ensures says { (message : Message) → All (IsOfMessage message) (parts_of message) }
     ensures same { (message : Message) (x y : ℕ) (a b : EcmPart) → slice_get (parts_of message) x ≡ Some a →
         slice_get (parts_of message) y ≡ Some b → header_of a ≡ header_of b }
     ensures form { (message : Message) → IsMessage message → All (λ part. IsEcm part × Fits part) (parts_of message) }
 {}
 
-/// The reader as a function: each packet that begins with the section of a part in its form is read as that part, and what is read is
-/// in its form.
+/// The reader as a function: each packet that begins with the section of a part in its form is read as that part, and
+/// what is read is in its form.
 #[tactic(auto, using(crate::proofs::Deciding::spelled_reads, crate::proofs::Deciding::packed_reads))]
 pub fn spelled_parts_are_read()
-    ensures spelled { (part : EcmPart) (packet : List ℕ) → Fits part → IsEcm part → Spells part packet → ecm_read packet ≡ Ok (Some part) }
+    ensures spelled { (part : EcmPart) (packet : List ℕ) → Fits part → IsEcm part → Spells part packet →
+        ecm_read packet ≡ Ok (Some part) }
     ensures packed { (part : EcmPart) (pid counter : ℕ) → Fits part → IsEcm part → pid < 8192 → counter < 16 →
         ecm_read (packed (ecm_section part) pid counter) ≡ Ok (Some part) }
     ensures form { (packet : List ℕ) (part : EcmPart) → ecm_read packet ≡ Ok (Some part) → IsEcm part }
 {}
 
-/// The table_id of a part is the version's for an even control word and the next for an odd one, as it is written and as it is read.
+/// The table_id of a part is the version's for an even control word and the next for an odd one, as it is written and
+/// as it is read.
 #[tactic(auto, using(crate::proofs::Reading::table_of_section, crate::proofs::Reading::parity_of_section, crate::proofs::Deciding::read_parity))]
 pub fn table_ids_tell_parity()
     ensures table_id { (part : EcmPart) → Fits part → IsEcm part →

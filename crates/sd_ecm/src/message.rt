@@ -32,7 +32,8 @@ pub struct EcmHead {
     pub check: [u8; 16],
 }
 
-/// How many parts a message of this version with so many positions has: as many as have room for them, and at least one.
+/// How many parts a message of this version with so many positions has: as many as have room for them, and at least
+/// one.
 #[tactic(auto, unfolding(sd_message::specs::Pieces::pieces_for, crate::specs::Versions::positions_for))]
 pub fn part_count(version: u8, places: usize) -> u8
     requires { places ≤ MOST_PLACES }
@@ -46,8 +47,8 @@ pub fn part_count(version: u8, places: usize) -> u8
 }
 
 impl EcmPart {
-    /// The part of this number, below `part_count`, of the message that says this and has these positions: all of them, ascending
-    /// by PID, at most [`MOST_PLACES`] (docs/FORMATS.md, Messages).
+    /// The part of this number, below `part_count`, of the message that says this and has these positions: all of them,
+    /// ascending by PID, at most [`MOST_PLACES`] (docs/FORMATS.md, Messages).
     #[tactic(auto, using(crate::proofs::Sharing::stands_at), unfolding(crate::specs::Parts::part_at))]
     pub fn of_message(head: &EcmHead, places: &[Place], part: u8) -> EcmPart
         requires places { length places.now ≤ MOST_PLACES }

@@ -33,8 +33,8 @@ pub struct EcmPart {
     pub word: u32,
     /// How many clear packets stand before the message.
     pub clear: u32,
-    /// The first message from which on each packet up to this message has its control word. Version 1 doesn't write it: there it is
-    /// the message before, or 0 for message 0.
+    /// The first message from which on each packet up to this message has its control word. Version 1 doesn't write it:
+    /// there it is the message before, or 0 for message 0.
     pub since: u32,
     /// Whether the message closes the stream.
     pub closing: bool,

@@ -1,4 +1,5 @@
-ghost use Rattle.std.specs.Prelude.{◌≡◌, ◌+◌, ◌*◌, ◌%◌, ◌<◌, ◌≤◌, ◌↔◌, ℕ, Some, None, Ok, Err, IsSome, IsTrue, IfOk, IfErr, IfSome, slice_index, length, replicate};
+ghost use Rattle.std.specs.Prelude.{◌≡◌, ◌+◌, ◌*◌, ◌%◌, ◌<◌, ◌≤◌, ◌↔◌, ℕ, Some, None, Ok, Err, IsSome, IsTrue, IfOk};
+ghost use Rattle.std.specs.Prelude.{IfErr, IfSome, slice_index, length, replicate};
 ghost use Rattle.sd_section.specs.Header.{table_id_of, number_of, last_number_of, body_of};
 ghost use Rattle.sd_section.specs.Written.{section_bytes};
 ghost use Rattle.sd_message.specs.Framed.{section_of, header_of, Begins};
@@ -6,7 +7,8 @@ ghost use Rattle.sd_ecm.specs.Versions.{IsVersion, positions_for, flags_at as fl
 ghost use Rattle.sd_ecm.specs.Spelled.{Spells};
 ghost use Rattle.sd_ecm.specs.Form.{Fits, IsCounted, IsPositioned, ArePositioned, IsEcm, nothing};
 ghost use Rattle.sd_ecm.specs.Fields.{IsEcmSection, IsEcmPacket, HasCount, version_of, place_of, places_in, padded};
-ghost use Rattle.sd_ecm.specs.Fields.{from_flags, since_in as since_of, ecm_in, with_places, IsMatched, IsGoodIn, BreaksIn, BreaksFirst};
+ghost use Rattle.sd_ecm.specs.Fields.{from_flags, since_in as since_of, ecm_in, with_places, IsMatched, IsGoodIn};
+ghost use Rattle.sd_ecm.specs.Fields.{BreaksIn, BreaksFirst};
 ghost use Rattle.sd_ecm.specs.Judged.{ecm_read};
 ghost use Rattle.sd_ecm.specs.declared.part.EcmPart.{EcmPart};
 ghost use Rattle.sd_ecm.specs.declared.format.TheConstants.{POSITIONS, PLACES_AT, PLACE_BYTES};
@@ -53,7 +55,8 @@ fn ecm_section_in(packet: &Packet) -> Option<Section<'_>>
     ensures spelled { IfSome result (λ section.
         section.bytes.now ≡ section_bytes (header_of section.bytes.now) (body_of section.bytes.now)) }
     ensures is { IfSome result (λ section. IsEcmSection section.bytes.now) }
-    ensures room { IfSome result (λ section. head_length (version_of section.bytes.now) ≤ length (body_of section.bytes.now)) }
+    ensures room { IfSome result (λ section.
+        head_length (version_of section.bytes.now) ≤ length (body_of section.bytes.now)) }
 {
     let section = section_in(packet)?;
     if is_ecm(&section) {
@@ -66,7 +69,8 @@ fn ecm_section_in(packet: &Packet) -> Option<Section<'_>>
 // Whether the section is a part of a control message.
 fn is_ecm(section: &Section<'_>) -> bool
     ensures value { IsTrue result ↔ IsEcmSection section.now.bytes.now }
-    ensures room { IsTrue result → head_length (version_of section.now.bytes.now) ≤ length (body_of section.now.bytes.now) }
+    ensures room { IsTrue result → head_length (version_of section.now.bytes.now)
+        ≤ length (body_of section.now.bytes.now) }
 {
     let table_id = section.table_id();
     let version = version_in(table_id);
@@ -91,8 +95,10 @@ fn version_in(table_id: u8) -> u8
 fn read_body(table_id: u8, number: u8, last_number: u8, body: &[u8]) -> Result<EcmPart, EcmFault>
     requires { head_length (version_for table_id) ≤ length body.now }
     ensures value { IfOk result (λ part. part ≡ ecm_in (version_for table_id) number last_number body.now) }
-    ensures good { IfOk result (λ _. IsGoodIn table_id body.now (ecm_in (version_for table_id) number last_number body.now)) }
-    ensures fault { IfErr result (λ fault. BreaksIn table_id body.now (ecm_in (version_for table_id) number last_number body.now) fault) }
+    ensures good { IfOk result (λ _.
+        IsGoodIn table_id body.now (ecm_in (version_for table_id) number last_number body.now)) }
+    ensures fault { IfErr result (λ fault.
+        BreaksIn table_id body.now (ecm_in (version_for table_id) number last_number body.now) fault) }
     ensures bytes { (i : ℕ) → slice_index body.now i < 256 }
 {
     let version = version_in(table_id);

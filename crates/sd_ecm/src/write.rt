@@ -1,7 +1,8 @@
 ghost use Rattle.std.specs.Prelude.{◌≡◌, ◌^◌, ◌<◌, ◌≤◌, ◌+◌, ◌*◌, ◌++◌, length};
 ghost use Rattle.sd_packet.specs.Packing.{packed};
 ghost use Rattle.sd_ecm.specs.Versions.{positions_for, flags_at as flags_place, head_length};
-ghost use Rattle.sd_ecm.specs.Spelled.{place_bytes, numbers_bytes, since_bytes, word_bytes, head_bytes, ecm_body, ecm_section, ecm_header};
+ghost use Rattle.sd_ecm.specs.Spelled.{place_bytes, numbers_bytes, since_bytes, word_bytes, head_bytes, ecm_body};
+ghost use Rattle.sd_ecm.specs.Spelled.{ecm_section, ecm_header};
 ghost use Rattle.sd_ecm.specs.Form.{FitsHead, Fits, IsEcm};
 ghost use Rattle.sd_ecm.specs.declared.format.TheConstants.{POSITIONS, PLACE_BYTES, PLACES_AT};
 

@@ -1,5 +1,6 @@
 -- What is spelled is read as what it was.
-use Rattle.std.proofs.Common.{◌≡◌, ℕ, ◌+◌, ◌*◌, ◌≤◌, List, [], ◌∷◌, ◌++◌, length, take, drop, get_or, append_assoc, length-append, length-take-le, arith, refl, sym, ap, ◌∙◌}
+use Rattle.std.proofs.Common.{◌≡◌, ℕ, ◌+◌, ◌*◌, ◌≤◌, List, [], ◌∷◌, ◌++◌, length, take, drop, get_or, append_assoc}
+use Rattle.std.proofs.Common.{length-append, length-take-le, arith, refl, sym, ap, ◌∙◌}
 use Rattle.std.specs.Prelude.{All, slice_index, flat_map}
 use Rattle.std.proofs.lemmas.List.{take_at, drop_at, take_all, get_or_at}
 use Rattle.sd_bits.specs.Bits.{field}
@@ -17,7 +18,8 @@ use Rattle.sd_emm.proofs.Names.{name_again}
 
 -- the entry's fields fit
 record IsSpellable (entry : Entry) : Type 0 where
-  name : (rest : List ℕ) → name_of (field (name_bytes entry.name ++ rest) 0 32) (field (name_bytes entry.name ++ rest) 32 32) ≡ entry.name
+  name : (rest : List ℕ) → name_of (field (name_bytes entry.name ++ rest) 0 32)
+      (field (name_bytes entry.name ++ rest) 32 32) ≡ entry.name
   wrapped : length entry.wrapped ≡ 32
 
 long_name : (name : SetName) → length (name_bytes name) ≡ 8
@@ -26,7 +28,12 @@ long_name (Diff i j) = refl
 
 long_entry : (entry : Entry) → IsSpellable entry → length (entry_bytes entry) ≡ 40
 unfolding entry_bytes
-long_entry entry fits = omega (arith, length-append (name_bytes entry.name) entry.wrapped, long_name entry.name, fits.wrapped)
+long_entry entry fits = omega (
+  arith,
+  length-append (name_bytes entry.name) entry.wrapped,
+  long_name entry.name,
+  fits.wrapped,
+)
 
 -- an entry alone
 entry_alone : (entry : Entry) → IsSpellable entry → entry_of (entry_bytes entry) ≡ entry
@@ -39,9 +46,19 @@ entry_alone entry fits =
 -- entitlements by their fields
 abbrev made : ℕ → ℕ → ℕ → ℕ → List ℕ → ℕ → List Entry → Emm
 made period sets sections index check count entries =
-    record { period = period; sets = sets; sections = sections; index = index; check = check; count = count; entries = entries }
+    record {
+      period = period;
+      sets = sets;
+      sections = sections;
+      index = index;
+      check = check;
+      count = count;
+      entries =
+          entries;
+    }
 
-same_made : (p p' s s' n n' x : ℕ) (c c' : List ℕ) (k k' : ℕ) (e e' : List Entry) → p ≡ p' → s ≡ s' → n ≡ n' → c ≡ c' → k ≡ k' → e ≡ e' →
+same_made : (p p' s s' n n' x : ℕ) (c c' : List ℕ) (k k' : ℕ) (e e' : List Entry) → p ≡ p' → s ≡ s' → n ≡ n' → c ≡ c' →
+    k ≡ k' → e ≡ e' →
     made p s n x c k e ≡ made p' s' n' x c' k' e'
 same_made p p' s s' n n' x c c' k k' e e' f g h i j l = rw (f, g, h, i, j, l) refl
 
@@ -50,7 +67,8 @@ pub few_entries : (emm : Emm) → IsEmm emm → emm.count ≤ 3
 few_entries emm form = omega (arith, form.counted.count_is)
 
 -- each that there is can be spelled
-all_spellable : (h : ℕ) (emm : Emm) → h ≤ 20 → Fits emm → IsEmm emm → AreSets h emm.sets (listed emm) → All IsSpellable (listed emm)
+all_spellable : (h : ℕ) (emm : Emm) → h ≤ 20 → Fits emm → IsEmm emm → AreSets h emm.sets (listed emm) →
+    All IsSpellable (listed emm)
 all_spellable h emm high fits form sets k d below =
     record {
       name = λ rest. name_again h emm.sets (get_or (listed emm) k d).name rest high (sets k d below);
@@ -61,7 +79,8 @@ all_spellable h emm high fits form sets k d below =
 padded_again : (emm : Emm) → Fits emm → IsEmm emm → padded (listed emm) ≡ emm.entries
 padded_again emm fits form =
     let few = few_entries emm form in
-    filled_again 3 emm.count nothing emm.entries (length-take-le emm.count emm.entries (omega (arith, fits.entries))) form.rest
+    filled_again 3 emm.count nothing emm.entries (length-take-le emm.count emm.entries (omega (arith, fits.entries)))
+    form.rest
 
 -- the body is read as what it spells
 pub body_again : (h : ℕ) (emm : Emm) → h ≤ 20 → Fits emm → IsEmm emm → AreSets h emm.sets (listed emm) →
@@ -75,11 +94,14 @@ body_again h emm high fits form sets =
     let count : slice_index xs 26 ≡ emm.count =
     ap (λ (l : List ℕ). get_or l 16 0) after ∙ get_or_at emm.check emm.count es 0 16 fits.head.check in
     let rest : drop 27 xs ≡ es =
-    drop_at (emm.check ++ emm.count ∷ []) es 17 (omega (arith, length-append emm.check (emm.count ∷ []), fits.head.check)) in
-    let long : emm.count ≡ length (listed emm) = sym (length-take-le emm.count emm.entries (omega (arith, fits.entries))) in
+    drop_at (emm.check ++ emm.count ∷ []) es 17
+    (omega (arith, length-append emm.check (emm.count ∷ []), fits.head.check)) in
+    let long : emm.count ≡ length (listed emm) = sym
+    (length-take-le emm.count emm.entries (omega (arith, fits.entries))) in
     let entries : entries_in (slice_index xs 26) (drop 27 xs) ≡ listed emm =
     ap (λ (n : ℕ). entries_in n (drop 27 xs)) (count ∙ long)
-    ∙ (ap (entries_in (length (listed emm))) rest ∙ items_again entry_of entry_bytes IsSpellable 40 (listed emm) long_entry entry_alone (all_spellable h emm high fits form sets)) in
+    ∙ (ap (entries_in (length (listed emm))) rest ∙ items_again entry_of entry_bytes IsSpellable 40 (listed emm)
+    long_entry entry_alone (all_spellable h emm high fits form sets)) in
     same_made _ emm.period _ emm.sets _ emm.sections emm.index _ emm.check _ emm.count _ emm.entries
     (word_again xs 0 emm.period fits.head.period refl refl refl refl)
     (word_again xs 4 emm.sets fits.head.sets refl refl refl refl)

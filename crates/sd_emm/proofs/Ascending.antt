@@ -34,8 +34,10 @@ named_at (x ∷ xs) zero d e h = refl
 named_at (x ∷ xs) (suc i) d e h = named_at xs i d e (omega arith)
 
 -- the sets of entries ascend with one more that stands after the last
-pub next_entry : (entries : List Entry) (k : ℕ) (d e : Entry) → 1 ≤ k → k < length entries → AreAscending (take k (names_in entries)) →
-    set_cmp (get_or entries (k - 1) d).name (get_or entries k e).name ≡ Less → AreAscending (take (k + 1) (names_in entries))
+pub next_entry : (entries : List Entry) (k : ℕ) (d e : Entry) → 1 ≤ k → k < length entries →
+    AreAscending (take k (names_in entries)) →
+    set_cmp (get_or entries (k - 1) d).name (get_or entries k e).name ≡ Less →
+    AreAscending (take (k + 1) (names_in entries))
 next_entry entries k d e some within up less =
     let long = length-map entries (λ (entry : Entry). entry.name) in
     Pairs.next_ascends IsBefore (names_in entries) k Whole Whole less_chain some (omega arith) up

@@ -1,6 +1,8 @@
 -- The tests of what a packet is read as tell what the rules say.
-use Rattle.std.proofs.Common.{◌≡◌, inl, inr, ℕ, zero, suc, ◌+◌, ◌-◌, ◌*◌, ◌/◌, ◌^◌, ◌<◌, ◌≤◌, List, length, arith, refl, sym, ap, ◌∙◌, subst}
-use Rattle.std.specs.Prelude.{Bool, true, false, ◌==◌, not, nat_le, nat_lt, if◌then◌else◌, min, Option, Some, None, Result, Ok, Err}
+use Rattle.std.proofs.Common.{◌≡◌, inl, inr, ℕ, zero, suc, ◌+◌, ◌-◌, ◌*◌, ◌/◌, ◌^◌, ◌<◌, ◌≤◌, List, length, arith, refl}
+use Rattle.std.proofs.Common.{sym, ap, ◌∙◌, subst}
+use Rattle.std.specs.Prelude.{Bool, true, false, ◌==◌, not, nat_le, nat_lt, if◌then◌else◌, min, Option, Some, None}
+use Rattle.std.specs.Prelude.{Result, Ok, Err}
 use Rattle.std.specs.Bool.{Decides}
 use Rattle.std.specs.List.{list_all}
 use Rattle.std.specs.Ordering.{is_lt}
@@ -9,7 +11,8 @@ use Rattle.std.specs.declared.cmp.Ordering.TheVariants.{Less, Equal, Greater}
 use Rattle.std.proofs.Math.Nat.{div-eq_of_lt, div-one, pow-suc, mul-div-le, mul-le-mul_right}
 use Rattle.std.proofs.Math.Pow.{pow_mono}
 use Rattle.std.proofs.lemmas.Bool.{cases_lt, false≢true}
-use Rattle.std.proofs.lemmas.Bool.Decides.{Decides-and, Decides-eqb, Decides-ltb, Decides-like, Decides-by_and, Decides-below_or}
+use Rattle.std.proofs.lemmas.Bool.Decides.{Decides-and, Decides-eqb, Decides-ltb, Decides-like, Decides-by_and}
+use Rattle.std.proofs.lemmas.Bool.Decides.{Decides-below_or}
 use Rattle.sd_packet.specs.Packing.{packed}
 use Rattle.sd_tree.specs.SetNames.{IsPair, set_cmp, AreAscending}
 use Rattle.sd_tree.specs.Node.{IsProperlyAbove}
@@ -22,7 +25,8 @@ use Rattle.sd_message.proofs.Ascending.{tells_pairs}
 use Rattle.sd_emm.specs.Spelled.{listed, names_in, emm_section, Spells}
 use Rattle.sd_emm.specs.Form.{IsSetBeside, AreSets, IsEmm, Fits, sections_for}
 use Rattle.sd_emm.specs.Fields.{HasCount, IsEmmSection, IsEmmPacket, IsGoodIn, BreaksIn, BreaksFirst, emm_in, emm_of}
-use Rattle.sd_emm.specs.Judged.{is_halved, is_pair, is_set_beside, are_sets, is_ascending, is_counted, emm_judged, is_emm_section, has_emm, emm_read}
+use Rattle.sd_emm.specs.Judged.{is_halved, is_pair, is_set_beside, are_sets, is_ascending, is_counted, emm_judged}
+use Rattle.sd_emm.specs.Judged.{is_emm_section, has_emm, emm_read}
 use Rattle.sd_emm.specs.declared.emm.Entry.{Entry}
 use Rattle.sd_emm.specs.declared.emm.Emm.{Emm}
 use Rattle.sd_emm.specs.declared.fault.EmmFault.{EmmFault}
@@ -37,7 +41,8 @@ IsHalved n i j = (k : ℕ) × (k < n) × (j / 2 ^ suc k ≡ i)
 tells_halved : (n i j : ℕ) → Decides (is_halved n i j) (IsHalved n i j)
 unfolding is_halved
 tells_halved n i j =
-    Decides-below_or (λ k. j / 2 ^ suc k == i) (λ k. j / 2 ^ suc k ≡ i) (λ m. is_halved m i j) (λ k. Decides-eqb (j / 2 ^ suc k) i)
+    Decides-below_or (λ k. j / 2 ^ suc k == i) (λ k. j / 2 ^ suc k ≡ i) (λ m. is_halved m i j)
+    (λ k. Decides-eqb (j / 2 ^ suc k) i)
     refl (λ m. refl) n
 
 -- halved at least once it is another
@@ -83,12 +88,14 @@ tells_beside : (h sets : ℕ) (name : SetName) → Decides (is_set_beside h sets
 tells_beside h sets Whole =
     Decides-like _ (λ few. record { of_height = tt; alone = λ same. few }) (λ set. set.alone refl) (tells_le sets 1)
 tells_beside h sets (Diff i j) =
-    Decides-like _ (λ pair. record { of_height = pair; alone = λ same. absurd (cc) }) (λ set. set.of_height) (tells_pair h i j)
+    Decides-like _ (λ pair. record { of_height = pair; alone = λ same. absurd (cc) }) (λ set. set.of_height)
+    (tells_pair h i j)
 
 tells_sets : (h sets : ℕ) (entries : List Entry) → Decides (are_sets h sets entries) (AreSets h sets entries)
 tells_sets h sets entries =
     Decides-by_and (λ (entry : Entry). is_set_beside h sets entry.name) (λ entry. IsSetBeside h sets entry.name)
-    (list_all (λ entry. is_set_beside h sets entry.name)) (λ entry. tells_beside h sets entry.name) refl (λ _ _. refl) entries
+    (list_all (λ entry. is_set_beside h sets entry.name)) (λ entry. tells_beside h sets entry.name) refl (λ _ _. refl)
+    entries
 
 -- the sets ascend
 tells_less : (o : Ordering) → Decides (is_lt o) (o ≡ Less)
@@ -98,7 +105,8 @@ tells_less Greater = (λ yes. absurd (false≢true yes), λ same. absurd (false�
 
 tells_ascending : (names : List SetName) → Decides (is_ascending names) (AreAscending names)
 tells_ascending names =
-    tells_pairs (λ (a b : SetName). is_lt (set_cmp a b)) (λ a b. set_cmp a b ≡ Less) (λ a b. tells_less (set_cmp a b)) names
+    tells_pairs (λ (a b : SetName). is_lt (set_cmp a b)) (λ a b. set_cmp a b ≡ Less) (λ a b. tells_less (set_cmp a b))
+    names
 
 -- the numbers come to one another
 tells_counted : (length : ℕ) (emm : Emm) → Decides (is_counted length emm) (HasCount length emm)
@@ -108,7 +116,8 @@ tells_counted length emm =
     (λ has. (has.0, (has.1.sections_are, (has.1.index_is, has.1.count_is))))
     (Decides-and (length == 27 + 40 * emm.count) _ (Decides-eqb length (27 + 40 * emm.count))
     (Decides-and (emm.sections == sections_for emm.sets) _ (Decides-eqb emm.sections (sections_for emm.sets))
-    (Decides-and (nat_lt emm.index emm.sections) (emm.count == min 3 (emm.sets - 3 * emm.index)) (Decides-ltb emm.index emm.sections)
+    (Decides-and (nat_lt emm.index emm.sections) (emm.count == min 3 (emm.sets - 3 * emm.index))
+    (Decides-ltb emm.index emm.sections)
     (Decides-eqb emm.count (min 3 (emm.sets - 3 * emm.index))))))
 
 -- the section is one of entitlements
@@ -119,7 +128,8 @@ tells_emm_section section =
     (λ is. (is.table_id, (is.number, (is.last_number, is.room))))
     (Decides-and (table_id_of section == 0x82) _ (Decides-eqb (table_id_of section) 0x82)
     (Decides-and (number_of section == 0) _ (Decides-eqb (number_of section) 0)
-    (Decides-and (last_number_of section == 0) (nat_le 36 (section_length_of section)) (Decides-eqb (last_number_of section) 0)
+    (Decides-and (last_number_of section == 0) (nat_le 36 (section_length_of section))
+    (Decides-eqb (last_number_of section) 0)
     (tells_le 36 (section_length_of section)))))
 
 -- the packet begins with one
@@ -127,29 +137,41 @@ tells_emm : (packet : List ℕ) → Decides (has_emm packet) (IsEmmPacket packet
 unfolding has_emm
 tells_emm packet =
     Decides-like _ (λ both. record { has = both.0; emm = both.1 }) (λ is. (is.has, is.emm))
-    (Decides-and (has_section packet) (is_emm_section (section_of packet)) (tells_section packet) (tells_emm_section (section_of packet)))
+    (Decides-and (has_section packet) (is_emm_section (section_of packet)) (tells_section packet)
+    (tells_emm_section (section_of packet)))
 
 -- what breaks no rule is taken
 judged_good : (h length : ℕ) (emm : Emm) → IsGoodIn h length emm → emm_judged h length emm ≡ Ok (Some emm)
 unfolding emm_judged
 judged_good h length emm good =
-    rw ((tells_counted length emm).1 good.has_count, (tells_sets h emm.sets (listed emm)).1 good.are_sets, (tells_ascending (names_in (listed emm))).1 good.ascending)
+    rw (
+      (tells_counted length emm).1 good.has_count,
+      (tells_sets h emm.sets (listed emm)).1 good.are_sets,
+      (tells_ascending (names_in (listed emm))).1 good.ascending,
+    )
     refl
 
 -- the rule that is broken first is the fault
-judged_bad : (h length : ℕ) (emm : Emm) (fault : EmmFault) → BreaksIn h length emm fault → emm_judged h length emm ≡ Err fault
+judged_bad : (h length : ℕ) (emm : Emm) (fault : EmmFault) → BreaksIn h length emm fault → emm_judged h length emm
+    ≡ Err fault
 unfolding emm_judged
 judged_bad h length emm Count breaks = rw (is_false _ (tells_counted length emm) breaks) refl
 judged_bad h length emm Node breaks =
     rw ((tells_counted length emm).1 breaks.0, is_false _ (tells_sets h emm.sets (listed emm)) breaks.1) refl
 judged_bad h length emm Order breaks =
-    rw ((tells_counted length emm).1 breaks.0, (tells_sets h emm.sets (listed emm)).1 breaks.1.0, is_false _ (tells_ascending (names_in (listed emm))) breaks.1.1)
+    rw (
+      (tells_counted length emm).1 breaks.0,
+      (tells_sets h emm.sets (listed emm)).1 breaks.1.0,
+      is_false _
+          (tells_ascending (names_in (listed emm))) breaks.1.1,
+    )
     refl
 judged_bad h length emm Mixed breaks = absurd breaks
 
 -- where something is taken, each test is passed
 all_passed : (a b c : Bool) (emm read : Emm) →
-    (if not a then Err Count else if not b then Err Node else if not c then Err Order else Ok (Some emm)) ≡ Ok (Some read) →
+    (if not a then Err Count else if not b then Err Node else if not c then Err Order else Ok (Some emm))
+    ≡ Ok (Some read) →
     ((a ≡ true) × (b ≡ true)) × ((c ≡ true) × (emm ≡ read))
 all_passed false b c emm read is = absurd (cc)
 all_passed true false c emm read is = absurd (cc)
@@ -157,15 +179,18 @@ all_passed true true false emm read is = absurd (cc)
 all_passed true true true emm read is = ((refl, refl), (refl, cc))
 
 -- something is read of a packet of this kind alone
-taken : (has : Bool) (read : Result (Option Emm) EmmFault) (emm : Emm) → (if has then read else Ok None) ≡ Ok (Some emm) → read ≡ Ok (Some emm)
+taken : (has : Bool) (read : Result (Option Emm) EmmFault) (emm : Emm) → (if has then read else Ok None)
+    ≡ Ok (Some emm) → read ≡ Ok (Some emm)
 taken true read emm is = is
 taken false read emm is = absurd (cc)
 
 -- what is taken breaks no rule
-good_judged : (h length : ℕ) (emm read : Emm) → emm_judged h length emm ≡ Ok (Some read) → (emm ≡ read) × IsGoodIn h length emm
+good_judged : (h length : ℕ) (emm read : Emm) → emm_judged h length emm ≡ Ok (Some read) →
+    (emm ≡ read) × IsGoodIn h length emm
 unfolding emm_judged
 good_judged h length emm read is =
-    let all = all_passed (is_counted length emm) (are_sets h emm.sets (listed emm)) (is_ascending (names_in (listed emm))) emm read is in (
+    let all = all_passed (is_counted length emm) (are_sets h emm.sets (listed emm))
+    (is_ascending (names_in (listed emm))) emm read is in (
       all.1.1,
       record {
         has_count = (tells_counted length emm).0 all.0.0;
@@ -180,56 +205,71 @@ unfolding emm_read
 other_reads h packet other = rw (is_false _ (tells_emm packet) other) refl
 
 -- one that breaks a rule as the first that it breaks
-pub broken_reads : (h : ℕ) (packet : List ℕ) (fault : EmmFault) → IsEmmPacket packet → BreaksFirst h (section_of packet) fault →
+pub broken_reads : (h : ℕ) (packet : List ℕ) (fault : EmmFault) → IsEmmPacket packet → BreaksFirst h (section_of packet)
+    fault →
     emm_read h packet ≡ Err fault
 unfolding emm_read
-broken_reads h packet fault is breaks = rw ((tells_emm packet).1 is) (judged_bad h _ (emm_of (section_of packet)) fault breaks)
+broken_reads h packet fault is breaks = rw ((tells_emm packet).1 is) (judged_bad h _ (emm_of (section_of packet)) fault
+    breaks)
 
 -- one that breaks none as what it says
 pub good_reads : (h : ℕ) (packet : List ℕ) → IsEmmPacket packet →
-    IsGoodIn h (length (body_of (section_of packet))) (emm_of (section_of packet)) → emm_read h packet ≡ Ok (Some (emm_of (section_of packet)))
+    IsGoodIn h (length (body_of (section_of packet))) (emm_of (section_of packet)) → emm_read h packet
+    ≡ Ok (Some (emm_of (section_of packet)))
 unfolding emm_read
 good_reads h packet is good = rw ((tells_emm packet).1 is) (judged_good h _ (emm_of (section_of packet)) good)
 
 -- what is known of the parts of a packet's section, by themselves
 at_section : (P : ℕ → List ℕ → Type 0) (packet section body : List ℕ) (index : ℕ) → section ≡ section_of packet →
-    index ≡ extension_of section → body ≡ body_of section → P index body → P (extension_of (section_of packet)) (body_of (section_of packet))
+    index ≡ extension_of section → body ≡ body_of section → P index body → P (extension_of (section_of packet))
+    (body_of (section_of packet))
 at_section P packet section body index is_section is_index is_body known =
     subst (λ (s : List ℕ). P (extension_of s) (body_of s)) is_section
     (subst (P (extension_of section)) is_body (subst (λ (n : ℕ). P n body) is_index known))
 
-pub broken_at : (h : ℕ) (packet section body : List ℕ) (index : ℕ) (fault : EmmFault) → IsEmmPacket packet → section ≡ section_of packet →
+pub broken_at : (h : ℕ) (packet section body : List ℕ) (index : ℕ) (fault : EmmFault) → IsEmmPacket packet →
+    section ≡ section_of packet →
     index ≡ extension_of section → body ≡ body_of section → BreaksIn h (length body) (emm_in index body) fault →
     emm_read h packet ≡ Err fault
 broken_at h packet section body index fault is is_section is_index is_body breaks =
     broken_reads h packet fault is
-    (at_section (λ (n : ℕ) (b : List ℕ). BreaksIn h (length b) (emm_in n b) fault) packet section body index is_section is_index is_body breaks)
+    (at_section (λ (n : ℕ) (b : List ℕ). BreaksIn h (length b) (emm_in n b) fault) packet section body index is_section
+    is_index is_body breaks)
 
-pub good_at : (h : ℕ) (packet section body : List ℕ) (index : ℕ) (emm : Emm) → IsEmmPacket packet → section ≡ section_of packet →
-    index ≡ extension_of section → body ≡ body_of section → emm ≡ emm_in index body → IsGoodIn h (length body) (emm_in index body) →
+pub good_at : (h : ℕ) (packet section body : List ℕ) (index : ℕ) (emm : Emm) → IsEmmPacket packet →
+    section ≡ section_of packet →
+    index ≡ extension_of section → body ≡ body_of section → emm ≡ emm_in index body → IsGoodIn h (length body)
+    (emm_in index body) →
     emm_read h packet ≡ Ok (Some emm)
 good_at h packet section body index emm is is_section is_index is_body is_emm good =
     good_reads h packet is
-    (at_section (λ (n : ℕ) (b : List ℕ). IsGoodIn h (length b) (emm_in n b)) packet section body index is_section is_index is_body good)
+    (at_section (λ (n : ℕ) (b : List ℕ). IsGoodIn h (length b) (emm_in n b)) packet section body index is_section
+    is_index is_body good)
     ∙ ap (λ (e : Emm). Ok (Some e))
-    (sym (at_section (λ (n : ℕ) (b : List ℕ). emm ≡ emm_in n b) packet section body index is_section is_index is_body is_emm))
+    (sym (at_section (λ (n : ℕ) (b : List ℕ). emm ≡ emm_in n b) packet section body index is_section is_index is_body
+    is_emm))
 
 -- a packet that spells entitlements is read as them
-pub spelled_reads : (h : ℕ) (emm : Emm) (packet : List ℕ) → h ≤ 20 → Fits emm → IsEmm emm → AreSets h emm.sets (listed emm) →
+pub spelled_reads : (h : ℕ) (emm : Emm) (packet : List ℕ) → h ≤ 20 → Fits emm → IsEmm emm →
+    AreSets h emm.sets (listed emm) →
     Spells emm packet → emm_read h packet ≡ Ok (Some emm)
 spelled_reads h emm packet high fits form sets spells =
     let section : List ℕ = section_of packet in
     good_reads h packet (spelled_is_packet h emm packet high fits form sets spells)
-    (spelled_is_good h emm packet section (body_of section) (extension_of section) high fits form sets spells refl refl refl)
-    ∙ ap (λ (e : Emm). Ok (Some e)) (spelled_is_read h emm packet section (body_of section) (extension_of section) high fits form sets spells refl refl refl)
+    (spelled_is_good h emm packet section (body_of section) (extension_of section) high fits form sets spells refl refl
+    refl)
+    ∙ ap (λ (e : Emm). Ok (Some e)) (spelled_is_read h emm packet section (body_of section) (extension_of section) high
+    fits form sets spells refl refl refl)
 
-pub packed_reads : (h : ℕ) (emm : Emm) (pid counter : ℕ) → h ≤ 20 → Fits emm → IsEmm emm → AreSets h emm.sets (listed emm) →
+pub packed_reads : (h : ℕ) (emm : Emm) (pid counter : ℕ) → h ≤ 20 → Fits emm → IsEmm emm →
+    AreSets h emm.sets (listed emm) →
     pid < 8192 → counter < 16 → emm_read h (packed (emm_section emm) pid counter) ≡ Ok (Some emm)
 packed_reads h emm pid counter high fits form sets p c =
     spelled_reads h emm (packed (emm_section emm) pid counter) high fits form sets (written_spells emm pid counter p c)
 
 -- what is read is in its form
-pub read_form : (h : ℕ) (packet : List ℕ) (emm : Emm) → emm_read h packet ≡ Ok (Some emm) → IsEmm emm × AreSets h emm.sets (listed emm)
+pub read_form : (h : ℕ) (packet : List ℕ) (emm : Emm) → emm_read h packet ≡ Ok (Some emm) →
+    IsEmm emm × AreSets h emm.sets (listed emm)
 unfolding emm_read
 read_form h packet emm is =
     let section : List ℕ = section_of packet in

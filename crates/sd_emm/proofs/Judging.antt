@@ -17,13 +17,16 @@ abbrev pub IsPrefix : ℕ → List ℕ → Emm → Type 0
 IsPrefix index body head = head ≡ with_entries (emm_in index body) (replicate 3 nothing)
 
 -- the entries that a section has are those in its body
-pub listed_in : (index : ℕ) (body : List ℕ) → listed (emm_in index body) ≡ entries_in (emm_in index body).count (drop 27 body)
+pub listed_in : (index : ℕ) (body : List ℕ) → listed (emm_in index body) ≡ entries_in (emm_in index body).count
+    (drop 27 body)
 unfolding emm_in
 listed_in index body =
     let count : ℕ = (emm_in index body).count in
-    take_at (entries_in count (drop 27 body)) (replicate (3 - length (entries_in count (drop 27 body))) nothing) count (length_items entry_of 40 count (drop 27 body))
+    take_at (entries_in count (drop 27 body)) (replicate (3 - length (entries_in count (drop 27 body))) nothing) count
+    (length_items entry_of 40 count (drop 27 body))
 
-entries_are : (index : ℕ) (body : List ℕ) → (emm_in index body).entries ≡ padded (entries_in (emm_in index body).count (drop 27 body))
+entries_are : (index : ℕ) (body : List ℕ) → (emm_in index body).entries
+    ≡ padded (entries_in (emm_in index body).count (drop 27 body))
 unfolding emm_in
 entries_are index body = refl
 
@@ -34,7 +37,8 @@ same_entries index body head count is counted =
     ap (λ (n : ℕ). entries_in n (drop 27 body)) (counted ∙ ap (λ (e : Emm). e.count) is) ∙ sym (listed_in index body)
 
 -- the numbers don't come to one another
-pub count_breaks : (h index : ℕ) (body : List ℕ) (head : Emm) → IsPrefix index body head → ¬ HasCount (length body) head →
+pub count_breaks : (h index : ℕ) (body : List ℕ) (head : Emm) → IsPrefix index body head →
+    ¬ HasCount (length body) head →
     BreaksIn h (length body) (emm_in index body) Count
 count_breaks h index body head is unless has = unless (subst (HasCount (length body)) (sym is) has)
 
@@ -45,36 +49,45 @@ has_count index body head is has = subst (HasCount (length body)) is has
 
 -- the entries are sets by the number that was read where they are
 same_sets : (h index : ℕ) (body : List ℕ) (head : Emm) (count : ℕ) → IsPrefix index body head → count ≡ head.count →
-    AreSets h head.sets (entries_in count (drop 27 body)) ↔ AreSets h (emm_in index body).sets (listed (emm_in index body))
+    AreSets h head.sets (entries_in count (drop 27 body)) ↔ AreSets h (emm_in index body).sets
+    (listed (emm_in index body))
 same_sets h index body head count is counted =
     let entries = same_entries index body head count is counted in
     let sets : head.sets ≡ (emm_in index body).sets = ap (λ (e : Emm). e.sets) is in (
-      λ all. subst (λ (n : ℕ). AreSets h n (listed (emm_in index body))) sets (subst (λ (es : List Entry). AreSets h head.sets es) entries all),
-      λ all. subst (λ (es : List Entry). AreSets h head.sets es) (sym entries) (subst (λ (n : ℕ). AreSets h n (listed (emm_in index body))) (sym sets) all),
+      λ all. subst (λ (n : ℕ). AreSets h n (listed (emm_in index body))) sets
+          (subst (λ (es : List Entry). AreSets h head.sets es) entries all),
+      λ all. subst (λ (es : List Entry). AreSets h head.sets es) (sym entries)
+          (subst (λ (n : ℕ). AreSets h n (listed (emm_in index body))) (sym sets) all),
     )
 
 -- an entry is no set that may stand there
-pub node_breaks : (h index : ℕ) (body : List ℕ) (head : Emm) (count : ℕ) → IsPrefix index body head → HasCount (length body) head →
-    count ≡ head.count → ¬ AreSets h head.sets (entries_in count (drop 27 body)) → BreaksIn h (length body) (emm_in index body) Node
+pub node_breaks : (h index : ℕ) (body : List ℕ) (head : Emm) (count : ℕ) → IsPrefix index body head →
+    HasCount (length body) head →
+    count ≡ head.count → ¬ AreSets h head.sets (entries_in count (drop 27 body)) → BreaksIn h (length body)
+    (emm_in index body) Node
 node_breaks h index body head count is has counted unless =
     (has_count index body head is has, λ all. unless ((same_sets h index body head count is counted).1 all))
 
 -- what was read is what the section says
 pub is_whole : (index : ℕ) (body : List ℕ) (head : Emm) (count : ℕ) (entries : List Entry) → IsPrefix index body head →
-    count ≡ head.count → entries ≡ padded (entries_in count (drop 27 body)) → with_entries head entries ≡ emm_in index body
+    count ≡ head.count → entries ≡ padded (entries_in count (drop 27 body)) → with_entries head entries
+    ≡ emm_in index body
 is_whole index body head count entries is counted read =
     let same : entries ≡ (emm_in index body).entries =
-    read ∙ (ap (λ (n : ℕ). padded (entries_in n (drop 27 body))) (counted ∙ ap (λ (e : Emm). e.count) is) ∙ sym (entries_are index body)) in
+    read ∙ (ap (λ (n : ℕ). padded (entries_in n (drop 27 body))) (counted ∙ ap (λ (e : Emm). e.count) is)
+    ∙ sym (entries_are index body)) in
     ap (λ (f : Emm). with_entries f entries) is ∙ ap (with_entries (emm_in index body)) same
 
 -- the entries that were read are those that the section has
 same_listed : (index : ℕ) (body : List ℕ) (head : Emm) (count : ℕ) (entries : List Entry) → IsPrefix index body head →
-    count ≡ head.count → entries ≡ padded (entries_in count (drop 27 body)) → take count entries ≡ listed (emm_in index body)
+    count ≡ head.count → entries ≡ padded (entries_in count (drop 27 body)) → take count entries
+    ≡ listed (emm_in index body)
 same_listed index body head count entries is counted read =
     ap (λ (n : ℕ). take n entries) counted ∙ ap listed (is_whole index body head count entries is counted read)
 
 -- the entries don't ascend
-pub order_breaks : (h index : ℕ) (body : List ℕ) (head : Emm) (count : ℕ) (entries : List Entry) → IsPrefix index body head →
+pub order_breaks : (h index : ℕ) (body : List ℕ) (head : Emm) (count : ℕ) (entries : List Entry) →
+    IsPrefix index body head →
     HasCount (length body) head → count ≡ head.count → AreSets h head.sets (entries_in count (drop 27 body)) →
     entries ≡ padded (entries_in count (drop 27 body)) → ¬ AreAscending (names_in (take count entries)) →
     BreaksIn h (length body) (emm_in index body) Order
@@ -82,7 +95,8 @@ order_breaks h index body head count entries is has counted sets read unless = (
   has_count index body head is has,
   (
     (same_sets h index body head count is counted).0 sets,
-    λ up. unless (subst (λ (es : List Entry). AreAscending (names_in es)) (sym (same_listed index body head count entries is counted read)) up),
+    λ up. unless (subst (λ (es : List Entry). AreAscending (names_in es))
+        (sym (same_listed index body head count entries is counted read)) up),
   ),
 )
 
@@ -94,7 +108,8 @@ pub is_good : (h index : ℕ) (body : List ℕ) (head : Emm) (count : ℕ) (entr
 is_good h index body head count entries is has counted sets read up = record {
   has_count = has_count index body head is has;
   are_sets = (same_sets h index body head count is counted).0 sets;
-  ascending = subst (λ (es : List Entry). AreAscending (names_in es)) (same_listed index body head count entries is counted read) up;
+  ascending = subst (λ (es : List Entry). AreAscending (names_in es))
+      (same_listed index body head count entries is counted read) up;
 }
 
 -- what follows the entries is as it is to be
@@ -108,11 +123,18 @@ past_entries index body =
     ∙ ap (λ (n : ℕ). replicate (3 - n) nothing) (length_items entry_of 40 count (drop 27 body)))
 
 -- what breaks no rule is in its form
-pub good_is_emm : (h index : ℕ) (body : List ℕ) → IsGoodIn h (length body) (emm_in index body) → IsEmm (emm_in index body)
-good_is_emm h index body good = record { counted = good.has_count.1; ascending = good.ascending; rest = past_entries index body }
+pub good_is_emm : (h index : ℕ) (body : List ℕ) → IsGoodIn h (length body) (emm_in index body) →
+    IsEmm (emm_in index body)
+good_is_emm h index body good = record {
+  counted = good.has_count.1;
+  ascending = good.ascending;
+  rest = past_entries
+      index body;
+}
 
 -- one rule alone is broken first
-pub breaks_once : (h length : ℕ) (emm : Emm) (f g : EmmFault) → BreaksIn h length emm f → BreaksIn h length emm g → f ≡ g
+pub breaks_once : (h length : ℕ) (emm : Emm) (f g : EmmFault) → BreaksIn h length emm f → BreaksIn h length emm g →
+    f ≡ g
 breaks_once h length emm Count Count a b = refl
 breaks_once h length emm Count Node a b = absurd (a b.0)
 breaks_once h length emm Count Order a b = absurd (a b.0)

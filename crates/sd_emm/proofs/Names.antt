@@ -1,5 +1,6 @@
 -- Which pairs of numbers name sets.
-use Rattle.std.proofs.Common.{◌≡◌, ◌⊎◌, inl, inr, ℕ, ◌+◌, ◌^◌, ◌<◌, List, ◌++◌, ◌≤◌, arith, refl, sym, ap, ◌∙◌, subst, eq-eqb}
+use Rattle.std.proofs.Common.{◌≡◌, ◌⊎◌, inl, inr, ℕ, ◌+◌, ◌^◌, ◌<◌, List, ◌++◌, ◌≤◌, arith, refl, sym, ap, ◌∙◌, subst}
+use Rattle.std.proofs.Common.{eq-eqb}
 use Rattle.std.specs.Prelude.{Bool, ◌==◌, if◌then◌else◌, true, false}
 use Rattle.std.proofs.lemmas.Bool.{cases_eq, ne_eqb}
 use Rattle.sd_tree.specs.declared.set.SetName.{SetName}
@@ -13,7 +14,8 @@ use Rattle.sd_emm.specs.Form.{IsSetBeside}
 use Rattle.sd_emm.specs.Fields.{name_of}
 
 -- the pair (0,0) is the whole set, and each other its own
-pub name_cases : (i j : ℕ) → (((i ≡ 0) × (j ≡ 0)) × (name_of i j ≡ Whole)) ⊎ ((¬ ((i ≡ 0) × (j ≡ 0))) × (name_of i j ≡ Diff i j))
+pub name_cases : (i j : ℕ) → (((i ≡ 0) × (j ≡ 0)) × (name_of i j ≡ Whole))
+    ⊎ ((¬ ((i ≡ 0) × (j ≡ 0))) × (name_of i j ≡ Diff i j))
 name_cases i j = elim (cases_eq i 0) [
   | inl e ↦ elim (cases_eq j 0) [
     | inl f ↦ inl ((e, f), rw (e, f) refl)
@@ -29,7 +31,8 @@ not_named h sets i j other no_pair set = elim (name_cases i j) [
   | inr diff ↦ no_pair (subst (IsOfHeight h) diff.1 set.of_height)
 ]
 
-when : (i j : ℕ) (zero : Bool) → (i == 0) ≡ zero → (if i == 0 then Whole else Diff i j) ≡ (if zero then Whole else Diff i j)
+when : (i j : ℕ) (zero : Bool) → (i == 0) ≡ zero → (if i == 0 then Whole else Diff i j)
+    ≡ (if zero then Whole else Diff i j)
 when i j zero e = ap (λ (b : Bool). if b then Whole else Diff i j) e
 
 -- what is given for a pair is its name

@@ -17,19 +17,28 @@ use Rattle.sd_emm.proofs.Spelling.{body_spelled}
 
 -- the header's numbers fit
 header_fits : (emm : Emm) → Fits emm → FitsHeader (emm_header emm.index)
-header_fits emm fits = record { table_id = omega arith; extension = fits.index; number = omega arith; last_number = omega arith }
+header_fits emm fits = record {
+  table_id = omega arith;
+  extension = fits.index;
+  number = omega arith;
+  last_number =
+      omega arith;
+}
 
 -- the section of a packet that spells entitlements
-spelled_section : (h : ℕ) (emm : Emm) (packet : List ℕ) → h ≤ 20 → Fits emm → IsEmm emm → AreSets h emm.sets (listed emm) →
+spelled_section : (h : ℕ) (emm : Emm) (packet : List ℕ) → h ≤ 20 → Fits emm → IsEmm emm →
+    AreSets h emm.sets (listed emm) →
     Spells emm packet →
     section_of packet ≡ section_bytes (emm_header emm.index) (emm_body emm)
 unfolding emm_section
 spelled_section h emm packet high fits form sets spells =
     let few = few_entries emm form in
-    begun_is_read (emm_header emm.index) (emm_body emm) packet (header_fits emm fits) (omega (arith, long_whole h emm high fits form sets)) spells
+    begun_is_read (emm_header emm.index) (emm_body emm) packet (header_fits emm fits)
+    (omega (arith, long_whole h emm high fits form sets)) spells
 
 -- such a packet is one of entitlements
-pub spelled_is_packet : (h : ℕ) (emm : Emm) (packet : List ℕ) → h ≤ 20 → Fits emm → IsEmm emm → AreSets h emm.sets (listed emm) →
+pub spelled_is_packet : (h : ℕ) (emm : Emm) (packet : List ℕ) → h ≤ 20 → Fits emm → IsEmm emm →
+    AreSets h emm.sets (listed emm) →
     Spells emm packet →
     IsEmmPacket packet
 unfolding emm_section
@@ -53,7 +62,8 @@ spelled_is_packet h emm packet high fits form sets spells =
 -- what is read of it is what it spells
 pub spelled_is_read : (h : ℕ) (emm : Emm) (packet section body : List ℕ) (index : ℕ) → h ≤ 20 → Fits emm → IsEmm emm →
     AreSets h emm.sets (listed emm) →
-    Spells emm packet → section ≡ section_of packet → index ≡ extension_of section → body ≡ body_of section → emm_in index body ≡ emm
+    Spells emm packet → section ≡ section_of packet → index ≡ extension_of section → body ≡ body_of section →
+    emm_in index body ≡ emm
 spelled_is_read h emm packet section body index high fits form sets spells is_section is_index is_body =
     let few = few_entries emm form in
     let long = long_whole h emm high fits form sets in
@@ -79,27 +89,35 @@ spelled_is_good h emm packet section body index high fits form sets spells is_se
     (record { has_count = (ap length body_read ∙ long, form.counted); are_sets = sets; ascending = form.ascending })
 
 -- the packet spells what was read of it
-read_spells : (h : ℕ) (packet section body : List ℕ) (index : ℕ) → IsBytes body → IsGoodIn h (length body) (emm_in index body) →
+read_spells : (h : ℕ) (packet section body : List ℕ) (index : ℕ) → IsBytes body → IsGoodIn h (length body)
+    (emm_in index body) →
     index ≡ extension_of section → body ≡ body_of section → Begins section packet →
     section ≡ section_bytes (emm_header (extension_of section)) (body_of section) → Spells (emm_in index body) packet
 unfolding emm_section emm_in
 read_spells h packet section body index each good is_index is_body begins spelled =
-    let same_body : emm_body (emm_in index body) ≡ body_of section = body_spelled index body each good.has_count.0 ∙ is_body in
+    let same_body : emm_body (emm_in index body) ≡ body_of section = body_spelled index body each good.has_count.0
+    ∙ is_body in
     let same : section ≡ section_bytes (emm_header index) (emm_body (emm_in index body)) =
-    spelled ∙ (ap (λ (n : ℕ). section_bytes (emm_header n) (body_of section)) (sym is_index) ∙ ap (section_bytes (emm_header index)) (sym same_body)) in
+    spelled ∙ (ap (λ (n : ℕ). section_bytes (emm_header n) (body_of section)) (sym is_index)
+    ∙ ap (section_bytes (emm_header index)) (sym same_body)) in
     subst (λ (s : List ℕ). Begins s packet) same begins
 
 -- which is in its form
 abbrev pub IsRead : ℕ → List ℕ → Emm → Type 0
 IsRead h packet emm = Spells emm packet × (IsEmm emm × AreSets h emm.sets (listed emm))
 
-pub read_is_right : (h : ℕ) (packet section body : List ℕ) (index : ℕ) (emm : Emm) → emm ≡ emm_in index body → IsBytes body →
-    IsGoodIn h (length body) (emm_in index body) → index ≡ extension_of section → body ≡ body_of section → Begins section packet →
+pub read_is_right : (h : ℕ) (packet section body : List ℕ) (index : ℕ) (emm : Emm) → emm ≡ emm_in index body →
+    IsBytes body →
+    IsGoodIn h (length body) (emm_in index body) → index ≡ extension_of section → body ≡ body_of section →
+    Begins section packet →
     section ≡ section_bytes (emm_header (extension_of section)) (body_of section) → IsRead h packet emm
 read_is_right h packet section body index emm is each good is_index is_body begins spelled =
-    subst (IsRead h packet) (sym is)
-    (read_spells h packet section body index each good is_index is_body begins spelled, (good_is_emm h index body good, good.are_sets))
+    subst (IsRead h packet) (sym is) (
+      read_spells h packet section body index each good is_index is_body begins spelled,
+      (good_is_emm h index body good, good.are_sets),
+    )
 
 -- the packet of entitlements begins with their section
-pub written_spells : (emm : Emm) (pid counter : ℕ) → pid < 8192 → counter < 16 → Spells emm (packed (emm_section emm) pid counter)
+pub written_spells : (emm : Emm) (pid counter : ℕ) → pid < 8192 → counter < 16 →
+    Spells emm (packed (emm_section emm) pid counter)
 written_spells emm pid counter h k = packed_begins (emm_section emm) pid counter h k

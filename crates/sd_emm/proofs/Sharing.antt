@@ -7,7 +7,8 @@ use Rattle.sd_tree.specs.declared.set.SetName.{SetName}
 use Rattle.sd_tree.specs.SetNames.{set_cmp, AreAscending}
 use Rattle.sd_message.specs.Pieces.{pieces_for, piece_at}
 use Rattle.sd_message.proofs.Pieces as Pieces
-use Rattle.sd_message.proofs.Pieces.{long_piece, each_of_piece, pairs_of_piece, filled_items, filled_rest, filled_length}
+use Rattle.sd_message.proofs.Pieces.{long_piece, each_of_piece, pairs_of_piece, filled_items, filled_rest}
+use Rattle.sd_message.proofs.Pieces.{filled_length}
 use Rattle.sd_emm.specs.Spelled.{listed, names_in}
 use Rattle.sd_emm.specs.Form.{sections_for, IsSetBeside, AreSets, AreWrapped, IsEmm, Fits, nothing}
 use Rattle.sd_emm.specs.Fields.{padded}
@@ -28,7 +29,8 @@ made period x sections own entries = record {
 }
 
 -- a section of the period, by its fields
-pub made_is : (period : Period) (x sections : ℕ) (own entries : List Entry) → sections ≡ sections_for (length period.entries) →
+pub made_is : (period : Period) (x sections : ℕ) (own entries : List Entry) → sections ≡ sections_for
+    (length period.entries) →
     own ≡ entries_at period.entries x → entries ≡ padded own → made period x sections own entries ≡ emm_at period x
 unfolding emm_at
 made_is period x sections own entries p q r = rw (r, q, p) refl
@@ -49,13 +51,15 @@ unfolding emms_of
 as_many period = Pieces.as_many (emm_at period) (sections_for (length period.entries))
 
 -- a fact of each place is one of each section
-each_section : (P : Emm → Type 0) (period : Period) → ((x : ℕ) → x < sections_for (length period.entries) → P (emm_at period x)) →
+each_section : (P : Emm → Type 0) (period : Period) → ((x : ℕ) → x < sections_for (length period.entries) →
+    P (emm_at period x)) →
     All P (emms_of period)
 unfolding emms_of
 each_section P period each = Pieces.each_made P (emm_at period) (sections_for (length period.entries)) each
 
 -- the section of an index
-pub stands_at : (period : Period) (x : ℕ) → x < sections_for (length period.entries) → slice_get (emms_of period) x ≡ Some (emm_at period x)
+pub stands_at : (period : Period) (x : ℕ) → x < sections_for (length period.entries) → slice_get (emms_of period) x
+    ≡ Some (emm_at period x)
 unfolding emms_of
 stands_at period x within = Pieces.stands_at (emm_at period) (sections_for (length period.entries)) x within
 
@@ -92,13 +96,15 @@ names_at entries x =
     ∙ take-map (λ (entry : Entry). entry.name) 3 (drop (3 * x) entries))
 
 -- ascend
-names_ascend : (period : Period) (x : ℕ) → AreAscending (names_in period.entries) → AreAscending (names_in (listed (emm_at period x)))
+names_ascend : (period : Period) (x : ℕ) → AreAscending (names_in period.entries) →
+    AreAscending (names_in (listed (emm_at period x)))
 names_ascend period x up =
     subst AreAscending (sym (ap names_in (listed_at period x) ∙ names_at period.entries x))
     (pairs_of_piece (λ (a b : SetName). set_cmp a b ≡ Less) 3 (names_in period.entries) x up)
 
 -- a section of the period is one that this project writes
-pub is_emm : (period : Period) (x : ℕ) → x < sections_for (length period.entries) → AreAscending (names_in period.entries) →
+pub is_emm : (period : Period) (x : ℕ) → x < sections_for (length period.entries) →
+    AreAscending (names_in period.entries) →
     IsEmm (emm_at period x)
 unfolding emm_at
 is_emm period x within up = record {
@@ -110,10 +116,12 @@ is_emm period x within up = record {
 -- each wrapped key of it has 32 bytes
 wrapped_at : (period : Period) (x : ℕ) → AreWrapped period.entries → AreWrapped (listed (emm_at period x))
 wrapped_at period x wrapped =
-    subst AreWrapped (sym (listed_at period x)) (each_of_piece (λ (entry : Entry). length entry.wrapped ≡ 32) 3 period.entries x wrapped)
+    subst AreWrapped (sym (listed_at period x)) (each_of_piece (λ (entry : Entry). length entry.wrapped ≡ 32) 3
+    period.entries x wrapped)
 
 -- and it fits its fields
-fits_at : (period : Period) (x : ℕ) → x < sections_for (length period.entries) → IsPeriod period → Fits (emm_at period x)
+fits_at : (period : Period) (x : ℕ) → x < sections_for (length period.entries) → IsPeriod period →
+    Fits (emm_at period x)
 unfolding emm_at pieces_for
 fits_at period x within is =
     let few = is.sets in
@@ -128,7 +136,8 @@ fits_at period x within is =
 -- each section of the period is one that this project writes, and fits its fields
 pub all_are_emms : (period : Period) → IsPeriod period → All (λ emm. IsEmm emm × Fits emm) (emms_of period)
 all_are_emms period is =
-    each_section (λ emm. IsEmm emm × Fits emm) period (λ x within. (is_emm period x within is.ascending, fits_at period x within is))
+    each_section (λ emm. IsEmm emm × Fits emm) period
+    (λ x within. (is_emm period x within is.ascending, fits_at period x within is))
 
 -- its sets may stand where the period's may
 sets_stand : (h : ℕ) (period : Period) (x : ℕ) → AreSets h (length period.entries) period.entries →
@@ -148,4 +157,5 @@ all_sets_stand h period sets =
 pub all_are_of : (period : Period) → All (IsOfPeriod period) (emms_of period)
 unfolding emm_at
 all_are_of period =
-    each_section (IsOfPeriod period) period (λ x within. record { number = refl; sets = refl; sections = refl; check = refl })
+    each_section (IsOfPeriod period) period
+    (λ x within. record { number = refl; sets = refl; sections = refl; check = refl })

@@ -1,22 +1,26 @@
 -- Entitlement management messages as they are read.
-use Rattle.std.specs.Prelude.{◌≡◌, ℕ, ◌+◌, ◌*◌, ◌≤◌, ◌==◌, ◌&&◌, if◌then◌else◌, List, length, drop, slice_index, slice_range}
+use Rattle.std.specs.Prelude.{◌≡◌, ℕ, ◌+◌, ◌*◌, ◌≤◌, ◌==◌, ◌&&◌, if◌then◌else◌, List, length, drop, slice_index}
+use Rattle.std.specs.Prelude.{slice_range}
 use Rattle.sd_bits.specs.Bits.{field}
 use Rattle.sd_tree.specs.SetNames.{AreAscending}
 use Rattle.sd_tree.specs.declared.set.SetName.{SetName}
 use Rattle.sd_tree.specs.declared.set.SetName.TheVariants.{Whole, Diff}
-use Rattle.sd_section.specs.Header.{least_length, table_id_of, section_length_of, extension_of, number_of, last_number_of, body_of}
+use Rattle.sd_section.specs.Header.{least_length, table_id_of, section_length_of, extension_of, number_of}
+use Rattle.sd_section.specs.Header.{last_number_of, body_of}
 use Rattle.sd_message.specs.Framed.{HasSection, section_of}
 use Rattle.sd_emm.specs.Spelled.{listed, names_in}
 use Rattle.sd_emm.specs.Form.{IsCounted, nothing, AreSets}
 use Rattle.sd_emm.specs.declared.emm.Entry.{Entry}
 use Rattle.sd_emm.specs.declared.emm.Emm.{Emm}
 use Rattle.sd_emm.specs.declared.fault.EmmFault.{EmmFault}
-use Rattle.sd_emm.specs.declared.format.TheConstants.{TABLE_ID, CHECK_AT, COUNT_AT, ENTRIES_AT, MOST_ENTRIES, ENTRY_BYTES, WRAPPED_AT}
+use Rattle.sd_emm.specs.declared.format.TheConstants.{TABLE_ID, CHECK_AT, COUNT_AT, ENTRIES_AT, MOST_ENTRIES}
+use Rattle.sd_emm.specs.declared.format.TheConstants.{ENTRY_BYTES, WRAPPED_AT}
 use Rattle.sd_message.specs.Items.{items_in}
 use Rattle.sd_message.specs.Pieces.{filled}
 use Rattle.sd_emm.specs.declared.fault.EmmFault.TheVariants.{Count, Order, Node, Mixed}
 
--- the section is one of entitlements, and has room for all that stands before the entries [this project, docs/FORMATS.md, Messages]
+-- the section is one of entitlements, and has room for all that stands before the entries [this project,
+-- docs/FORMATS.md, Messages]
 pub record IsEmmSection (section : List ℕ) : Type 0 where
   pub table_id : table_id_of section ≡ TABLE_ID
   pub number : number_of section ≡ 0
@@ -34,7 +38,11 @@ name_of i j = if (i == 0) && (j == 0) then Whole else Diff i j
 
 -- an entry of 40 bytes [this project, docs/FORMATS.md, Messages]
 unfoldable pub entry_of : List ℕ → Entry
-entry_of bytes = record { name = name_of (field bytes 0 32) (field bytes 32 32); wrapped = slice_range bytes WRAPPED_AT ENTRY_BYTES }
+entry_of bytes = record {
+  name = name_of (field bytes 0 32) (field bytes 32 32);
+  wrapped = slice_range bytes WRAPPED_AT
+      ENTRY_BYTES;
+}
 
 -- so many entries, one after the other
 abbrev pub entries_in : ℕ → List ℕ → List Entry
@@ -75,7 +83,8 @@ with_entries emm entries = record {
 -- the numbers come to one another and to the length of the body: section_length is 36 and 40 for each entry
 -- [this project, docs/FORMATS.md, Messages]
 abbrev pub HasCount : ℕ → Emm → Type 0
-HasCount length emm = (length ≡ ENTRIES_AT + ENTRY_BYTES * emm.count) × IsCounted emm.sets emm.sections emm.index emm.count
+HasCount length emm = (length ≡ ENTRIES_AT + ENTRY_BYTES * emm.count) × IsCounted emm.sets emm.sections emm.index
+    emm.count
 
 -- no rule is broken
 pub record IsGoodIn (h length : ℕ) (emm : Emm) : Type 0 where
@@ -87,7 +96,8 @@ pub record IsGoodIn (h length : ℕ) (emm : Emm) : Type 0 where
 abbrev pub BreaksIn : ℕ → ℕ → Emm → EmmFault → Type 0
 BreaksIn h length emm Count = ¬ HasCount length emm
 BreaksIn h length emm Node = HasCount length emm × (¬ AreSets h emm.sets (listed emm))
-BreaksIn h length emm Order = HasCount length emm × (AreSets h emm.sets (listed emm) × (¬ AreAscending (names_in (listed emm))))
+BreaksIn h length emm Order = HasCount length emm
+    × (AreSets h emm.sets (listed emm) × (¬ AreAscending (names_in (listed emm))))
 BreaksIn h length emm Mixed = ⊥
 
 -- and that a section breaks first

@@ -15,7 +15,8 @@ pub record Period : Type 0 where
   pub check : List ℕ
   pub entries : List Entry
 
--- the entries of section x: the sets 3x, 3x + 1 and 3x + 2, as far as they are there [this project, docs/FORMATS.md, Messages]
+-- the entries of section x: the sets 3x, 3x + 1 and 3x + 2, as far as they are there [this project, docs/FORMATS.md,
+-- Messages]
 abbrev pub entries_at : List Entry → ℕ → List Entry
 entries_at entries x = piece_at MOST_ENTRIES entries x
 
@@ -35,7 +36,8 @@ emm_at period x = record {
 unfoldable pub emms_of : Period → List Emm
 emms_of period = each_below (emm_at period) (sections_for (length period.entries))
 
--- the sets are strictly ascending and no more than a cover has, and what the period says fits the fields of its sections
+-- the sets are strictly ascending and no more than a cover has, and what the period says fits the fields of its
+-- sections
 -- [this project, docs/FORMATS.md, Messages]
 pub record IsPeriod (period : Period) : Type 0 where
   pub ascending : AreAscending (names_in period.entries)

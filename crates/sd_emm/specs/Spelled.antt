@@ -31,7 +31,8 @@ entry_bytes entry = name_bytes entry.name ++ entry.wrapped
 -- [this project, docs/FORMATS.md, Messages]
 unfoldable pub head_bytes : Emm → List ℕ
 head_bytes emm =
-    to_be_bytes w32 emm.period ++ (to_be_bytes w32 emm.sets ++ (to_be_bytes w16 emm.sections ++ (emm.check ++ emm.count ∷ [])))
+    to_be_bytes w32 emm.period
+    ++ (to_be_bytes w32 emm.sets ++ (to_be_bytes w16 emm.sections ++ (emm.check ++ emm.count ∷ [])))
 
 -- the section's body: its head, and one entry after the other [this project, docs/FORMATS.md, Messages]
 unfoldable pub emm_body : Emm → List ℕ

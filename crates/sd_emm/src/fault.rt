@@ -7,6 +7,7 @@ pub enum EmmFault {
     Order,
     /// An entry is no set of the height, or it is the whole set beside others.
     Node,
-    /// Sections of one period say different things of it. It isn't a fault of one section, so reading one never gives it.
+    /// Sections of one period say different things of it. It isn't a fault of one section, so reading one never gives
+    /// it.
     Mixed,
 }

@@ -28,12 +28,13 @@ pub fn written_is_read(h: Height, emm: &Emm, pid: u16, counter: u8) -> Result<Op
 /// The packet of entitlements begins with their section.
 #[tactic(auto, using(crate::proofs::Reading::written_spells))]
 pub fn written_packets_spell()
-    ensures { (emm : Emm) (pid counter : ℕ) → pid < 8192 → counter < 16 → Spells emm (packed (emm_section emm) pid counter) }
+    ensures { (emm : Emm) (pid counter : ℕ) → pid < 8192 → counter < 16 →
+        Spells emm (packed (emm_section emm) pid counter) }
 {}
 
-/// A period's sections share out its sets: there are as many as have room for them, each stands at its index and says the same of the
-/// period, set k stands in section k / 3, and joined they have all sets. Of a period with ascending sets each section is one that is
-/// written, and that is read at each height at which the period's sets may stand.
+/// A period's sections share out its sets: there are as many as have room for them, each stands at its index and says
+/// the same of the period, set k stands in section k / 3, and joined they have all sets. Of a period with ascending
+/// sets each section is one that is written, and that is read at each height at which the period's sets may stand.
 #[tactic(auto, using(crate::proofs::Sharing::as_many, crate::proofs::Sharing::stands_at, crate::proofs::Sharing::index_is, crate::proofs::Sharing::set_stands, crate::proofs::Sharing::joined_are_all, crate::proofs::Sharing::all_are_of, crate::proofs::Sharing::two_say_the_same, crate::proofs::Sharing::all_are_emms))]
 pub fn periods_are_shared_out()
     ensures sections { (period : Period) → length (emms_of period) ≡ sections_for (length period.entries) }
@@ -51,13 +52,15 @@ pub fn periods_are_shared_out()
         All (λ emm. AreSets h emm.sets (listed emm)) (emms_of period) }
 {}
 
-/// The reader as a function: each packet that begins with the section of entitlements in their form is read as them, at each height at
-/// which their sets may stand, and what is read is in its form.
+/// The reader as a function: each packet that begins with the section of entitlements in their form is read as them, at
+/// each height at which their sets may stand, and what is read is in its form.
 #[tactic(auto, using(crate::proofs::Deciding::spelled_reads, crate::proofs::Deciding::packed_reads))]
 pub fn spelled_entitlements_are_read()
-    ensures spelled { (h : ℕ) (emm : Emm) (packet : List ℕ) → h ≤ 20 → Fits emm → IsEmm emm → AreSets h emm.sets (listed emm) →
+    ensures spelled { (h : ℕ) (emm : Emm) (packet : List ℕ) → h ≤ 20 → Fits emm → IsEmm emm →
+        AreSets h emm.sets (listed emm) →
         Spells emm packet → emm_read h packet ≡ Ok (Some emm) }
-    ensures packed { (h : ℕ) (emm : Emm) (pid counter : ℕ) → h ≤ 20 → Fits emm → IsEmm emm → AreSets h emm.sets (listed emm) →
+    ensures packed { (h : ℕ) (emm : Emm) (pid counter : ℕ) → h ≤ 20 → Fits emm → IsEmm emm →
+        AreSets h emm.sets (listed emm) →
         pid < 8192 → counter < 16 → emm_read h (packed (emm_section emm) pid counter) ≡ Ok (Some emm) }
     ensures form { (h : ℕ) (packet : List ℕ) (emm : Emm) → emm_read h packet ≡ Ok (Some emm) →
         IsEmm emm × AreSets h emm.sets (listed emm) }

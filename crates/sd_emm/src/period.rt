@@ -19,13 +19,14 @@ pub fn section_count(sets: usize) -> u16
 }
 
 impl Emm {
-    /// The section of this index, below `section_count`, of the period that has this number, this check value of its key and
-    /// these sets: all of them, ascending, at most [`MOST_SETS`] (docs/FORMATS.md, Messages).
+    /// The section of this index, below `section_count`, of the period that has this number, this check value of its
+    /// key and these sets: all of them, ascending, at most [`MOST_SETS`] (docs/FORMATS.md, Messages).
     #[tactic(auto, using(crate::proofs::Sharing::stands_at), unfolding(crate::specs::Period::emm_at))]
     pub fn of_period(period: u32, check: &[u8; 16], entries: &[Entry], index: u16) -> Emm
         requires sets { length entries.now ≤ MOST_SETS }
         requires index { index < sections_for (length entries.now) }
-        ensures value { slice_get (emms_of (record { number = period; check = check.now; entries = entries.now })) index ≡ Some result }
+        ensures value { slice_get (emms_of (record { number = period; check = check.now; entries = entries.now }))
+            index ≡ Some result }
         ensures form { AreAscending (names_in entries.now) → IsEmm result }
     {
         let own = entries_of(entries, index);

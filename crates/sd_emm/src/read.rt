@@ -1,10 +1,12 @@
-ghost use Rattle.std.specs.Prelude.{◌≡◌, ◌+◌, ◌*◌, ◌≤◌, ◌↔◌, ℕ, List, Some, None, Ok, Err, IsNone, IsSome, IsTrue, IfOk, IfErr, IfSome, slice_index, ◌<◌, length, replicate};
+ghost use Rattle.std.specs.Prelude.{◌≡◌, ◌+◌, ◌*◌, ◌≤◌, ◌↔◌, ℕ, List, Some, None, Ok, Err, IsNone, IsSome, IsTrue};
+ghost use Rattle.std.specs.Prelude.{IfOk, IfErr, IfSome, slice_index, ◌<◌, length, replicate};
 ghost use Rattle.sd_section.specs.Header.{extension_of, body_of};
 ghost use Rattle.sd_section.specs.Written.{section_bytes};
 ghost use Rattle.sd_message.specs.Framed.{section_of, Begins};
 ghost use Rattle.sd_emm.specs.Spelled.{listed, emm_header, emm_body, Spells};
 ghost use Rattle.sd_emm.specs.Form.{Fits, IsCounted, IsSetBeside, AreSets, IsEmm, nothing};
-ghost use Rattle.sd_emm.specs.Fields.{IsEmmSection, IsEmmPacket, name_of, entry_of, entries_in, padded, emm_in, with_entries, IsGoodIn, BreaksIn, BreaksFirst};
+ghost use Rattle.sd_emm.specs.Fields.{IsEmmSection, IsEmmPacket, name_of, entry_of, entries_in, padded, emm_in};
+ghost use Rattle.sd_emm.specs.Fields.{with_entries, IsGoodIn, BreaksIn, BreaksFirst};
 ghost use Rattle.sd_emm.specs.Judged.{emm_read};
 ghost use Rattle.sd_emm.specs.declared.emm.Emm.{Emm};
 ghost use Rattle.sd_emm.specs.declared.format.TheConstants.{ENTRIES_AT, MOST_ENTRIES, ENTRY_BYTES};
@@ -117,7 +119,8 @@ fn read_head(index: u16, body: &[u8]) -> Emm
 #[tactic(auto, unfolding(sd_message::specs::Pieces::pieces_for))]
 fn is_counted(emm: &Emm, length: usize) -> bool
     ensures { IsTrue result ↔
-        ((length ≡ ENTRIES_AT + ENTRY_BYTES * emm.now.count) × IsCounted emm.now.sets emm.now.sections emm.now.index emm.now.count) }
+        ((length ≡ ENTRIES_AT + ENTRY_BYTES * emm.now.count) × IsCounted emm.now.sets emm.now.sections emm.now.index
+        emm.now.count) }
 {
     let most = MOST_ENTRIES as u32;
     let sections = emm.sets.div_ceil(most).max(1);

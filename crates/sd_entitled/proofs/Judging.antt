@@ -25,7 +25,8 @@ use Rattle.sd_reception.specs.Ending.{periods_told, is_unkeyed, is_all_seen, are
 use Rattle.sd_entitled.specs.declared.says.Says.{Says}
 use Rattle.sd_entitled.specs.declared.entitled.Entitled.{Entitled}
 use Rattle.sd_entitled.specs.Entitled.{says_in, said, SayAlike, is_said_otherwise, key_kept, has_index, all_marked}
-use Rattle.sd_entitled.specs.Entitled.{cleared, is_revoked, told_below, takes_key, IsEntitled}
+use Rattle.sd_reception.specs.Taken.{takes_key}
+use Rattle.sd_entitled.specs.Entitled.{cleared, is_revoked, told_below, IsEntitled}
 use Rattle.sd_entitled.proofs.Periods.{closes, ahead_none}
 
 -- all marks up to a place are set where all tests up to it hold

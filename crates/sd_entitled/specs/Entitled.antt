@@ -88,11 +88,6 @@ key_kept state q = if state.period == q then state.key else None
 abbrev pub HasFault : {X : Type 0} → Result X StreamFault → Option StreamFault → Type 0
 HasFault result due = MatchResult result (λ _. due ≡ None) (λ fault. due ≡ Some fault)
 
--- a section takes a key: it is of the current period or a later one, of which no key is had, and gives one
-unfoldable pub takes_key : CardFields → List Heard → Emm → Bool
-takes_key card tr emm = nat_le (current tr) emm.period
-    && (is_none (key_at card tr emm.period) && not (is_none (key_from card emm)))
-
 -- what comes is no section, and completes no message
 abbrev pub tells_nothing : List Heard → Heard → Bool
 tells_nothing tr (Entitles emm) = false

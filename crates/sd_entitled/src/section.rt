@@ -8,7 +8,8 @@ ghost use Rattle.sd_reception.specs.Heard.{Heard, Entitles};
 ghost use Rattle.sd_reception.specs.Stretches.{current, seen};
 ghost use Rattle.sd_reception.specs.Keys.{first_key, key_from, key_at};
 ghost use Rattle.sd_reception.specs.Offered.{emm_offering, is_mixed, key_if_none};
-ghost use Rattle.sd_entitled.specs.Entitled.{IsEntitled, StandsAt, HasFault, is_said_otherwise, key_kept, takes_key};
+ghost use Rattle.sd_entitled.specs.Entitled.{IsEntitled, StandsAt, HasFault, is_said_otherwise, key_kept};
+ghost use Rattle.sd_reception.specs.Taken.{takes_key};
 
 use crate::entitled::Entitled;
 use crate::key::good_key_in;

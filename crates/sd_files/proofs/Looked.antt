@@ -1,5 +1,6 @@
 -- What reading one file gives.
-use Rattle.std.proofs.Common.{◌≡◌, ◌⊎◌, ℕ, zero, suc, ◌+◌, ◌<◌, ◌≤◌, cond, List, [], ◌∷◌, length, Option, Some, None, Ok, Err, refl, sym, ap, ◌∙◌, inl, inr, arith, le-ltb, lt-ltb}
+use Rattle.std.proofs.Common.{◌≡◌, ◌⊎◌, ℕ, zero, suc, ◌+◌, ◌<◌, ◌≤◌, cond, List, [], ◌∷◌, length, Option, Some, None}
+use Rattle.std.proofs.Common.{Ok, Err, refl, sym, ap, ◌∙◌, inl, inr, arith, le-ltb, lt-ltb}
 use Rattle.std.specs.Prelude.{IsSome, IfSome}
 use Rattle.std.specs.FinMap.{get}
 use Rattle.sd_cause.specs.Count.{Rose, with_added}
@@ -22,8 +23,10 @@ none_got None name h = tt
 none_got (Some m) name h = sym h
 
 -- the file was read
-pub looks_read : {X : Type 0} (view : X → List ℕ) (x : X) (word most : ℕ) (kind : LimitKind) (name : List ℕ) (a b : Place) →
-    IsFile a.files name (view x) → length (view x) ≤ most → b ≡ called 2 a → Looks view (within word most kind) name a b (Ok x)
+pub looks_read : {X : Type 0} (view : X → List ℕ) (x : X) (word most : ℕ) (kind : LimitKind) (name : List ℕ)
+    (a b : Place) →
+    IsFile a.files name (view x) → length (view x) ≤ most → b ≡ called 2 a → Looks view (within word most kind) name a b
+    (Ok x)
 looks_read view x word most kind name a b there short same = record {
   got = Some (view x);
   is_got = file_got a.files name (view x) there;
@@ -60,13 +63,15 @@ record LongGot (files : Option Files) (name : List ℕ) (most : ℕ) : Type 0 wh
   got : IsGot files name (Some bytes)
   long : most < length bytes
 
-long_of : (o : Option (List ℕ)) (most : ℕ) → IsSome o → IfSome o (λ bytes. most < length bytes) → (bytes : List ℕ) × (Some bytes ≡ o) × (most < length bytes)
+long_of : (o : Option (List ℕ)) (most : ℕ) → IsSome o → IfSome o (λ bytes. most < length bytes) →
+    (bytes : List ℕ) × (Some bytes ≡ o) × (most < length bytes)
 long_of None most there long = absurd (let h = there in cc)
 long_of (Some bytes) most there long = (bytes, refl, long)
 
 long_got : (files : Option Files) (name : List ℕ) (most : ℕ) → IsLongFile files name most → LongGot files name most
 long_got None name most h = record { bytes = zeros most; got = tt; long = more_zeros most }
-long_got (Some m) name most h = let l = long_of (get m name) most h.0 h.1 in record { bytes = l.0; got = l.1; long = l.2 }
+long_got (Some m) name most h = let l = long_of (get m name) most h.0 h.1 in record
+    { bytes = l.0; got = l.1; long = l.2 }
 
 -- the file is too long
 pub looks_long : {X : Type 0} (view : X → List ℕ) (word most : ℕ) (kind : LimitKind) (name : List ℕ) (a b : Place) →
@@ -89,17 +94,25 @@ record SomeGot (files : Option Files) (name : List ℕ) (word most : ℕ) (kind 
   is_got : IsGot files name got
   calls : now ≤ before + (within word most kind got).calls
 
-got_of : (o : Option (List ℕ)) (word most : ℕ) (kind : LimitKind) (before now : ℕ) → (now ≤ with_added before 1) ⊎ IsSome o → now ≤ before + 2 → now ≤ before + (within word most kind o).calls
+got_of : (o : Option (List ℕ)) (word most : ℕ) (kind : LimitKind) (before now : ℕ) → (now ≤ with_added before 1)
+    ⊎ IsSome o → now ≤ before + 2 → now ≤ before + (within word most kind o).calls
 got_of None word most kind before now (inl one) two = omega arith
 got_of None word most kind before now (inr there) two = absurd (let h = there in cc)
 got_of (Some bytes) word most kind before now once two = two
 
-some_got : (files : Option Files) (name : List ℕ) (word most : ℕ) (kind : LimitKind) (before now : ℕ) → (now ≤ with_added before 1) ⊎ IsThere files name → now ≤ before + 2 → SomeGot files name word most kind before now
+some_got : (files : Option Files) (name : List ℕ) (word most : ℕ) (kind : LimitKind) (before now : ℕ) →
+    (now ≤ with_added before 1) ⊎ IsThere files name → now ≤ before + 2 → SomeGot files name word most kind before now
 some_got None name word most kind before now once two = record { got = Some []; is_got = tt; calls = two }
-some_got (Some m) name word most kind before now once two = record { got = get m name; is_got = refl; calls = got_of (get m name) word most kind before now once two }
+some_got (Some m) name word most kind before now once two = record {
+  got = get m name;
+  is_got = refl;
+  calls = got_of
+      (get m name) word most kind before now once two;
+}
 
 -- the outside stopped it
-pub looks_stopped : {X : Type 0} (view : X → List ℕ) (word most : ℕ) (kind : LimitKind) (name : List ℕ) (a b : Place) (status : Status) →
+pub looks_stopped : {X : Type 0} (view : X → List ℕ) (word most : ℕ) (kind : LimitKind) (name : List ℕ) (a b : Place)
+    (status : Status) →
     ((status ≡ NoMemory) × (b.faults ≡ a.faults)) ⊎ ((status ≡ DepotFault) × Rose a.faults b.faults) →
     (b.calls ≤ with_added a.calls 1) ⊎ IsThere a.files name → IsAsked 2 a b → b.misses ≡ a.misses →
     Looks view (within word most kind) name a b (Err status)
@@ -119,14 +132,16 @@ abbrev pub bytes_seen : List ℕ → List ℕ
 bytes_seen bytes = bytes
 
 -- the bytes to come from the port of a file are the file's
-pub opened_got : (files : Option Files) (name : List ℕ) (left : Option (List ℕ)) (bytes : List ℕ) → Opens files name left →
+pub opened_got : (files : Option Files) (name : List ℕ) (left : Option (List ℕ)) (bytes : List ℕ) →
+    Opens files name left →
     IsLeft left bytes → IsGot files name (Some bytes)
 opened_got None name left bytes opens is = tt
 opened_got (Some m) name None bytes opens is = absurd (let h = opens.0 in cc)
 opened_got (Some m) name (Some xs) bytes opens is = sym (opens.1 ∙ ap Some is)
 
 -- there is no such file to be opened
-pub opens_missing : (word : ℕ) (name : List ℕ) (a b : Place) → IsNotThere a.files name → IsAsked 1 a b → b.faults ≡ a.faults →
+pub opens_missing : (word : ℕ) (name : List ℕ) (a b : Place) → IsNotThere a.files name → IsAsked 1 a b →
+    b.faults ≡ a.faults →
     Rose a.misses b.misses → Looks bytes_seen (all_of word) name a b (Err (Missing word))
 opens_missing word name a b none asked calm rose = record {
   got = None;

@@ -10,7 +10,8 @@ use Rattle.sd_status.specs.declared.status.Status.{Status}
 use Rattle.sd_status.specs.Outside.{Place, Page, Outside, outside}
 use Rattle.sd_status.specs.Meant.{Word, value}
 use Rattle.sd_status.specs.Work.{StepBound, Uncounted, Out}
-use Rattle.sd_status.specs.Comes.{Stands, untouched, writing, Comes, ended, exhausted, failed, nowhere, Obeys, status_of}
+use Rattle.sd_status.specs.Comes.{Stands, untouched, writing, Comes, ended, exhausted, failed, nowhere, Obeys}
+use Rattle.sd_status.specs.Comes.{status_of}
 use Rattle.sd_status.proofs.Steps.{takes_none}
 use Rattle.sd_status.proofs.Moves.{comes_moved}
 use Rattle.sd_files.specs.Made.{making}
@@ -28,9 +29,12 @@ stands_short most word bytes a b page steps (inr cut) =
     writing (making most word bytes) refl (out_of word bytes) refl
     (record { prefix = cut.0; short = cut.1; files = cut.2.0; made = cut.2.1 }) refl
 
-comes_made : (most : StepBound) (word : Word) (bytes : List ℕ) (a b : Place) (page : Page) (steps : ℕ) (written : Result (Unit {0}) FileFault) →
-    WritesFile a.files b.files a.made b.made word.text bytes written → HasFileCause a.faults b.faults a.misses b.misses written →
-    Comes (Ok (making most word bytes)) (outside a page steps) (outside b page steps) (status_of (making_told word.number written))
+comes_made : (most : StepBound) (word : Word) (bytes : List ℕ) (a b : Place) (page : Page) (steps : ℕ)
+    (written : Result (Unit {0}) FileFault) →
+    WritesFile a.files b.files a.made b.made word.text bytes written → HasFileCause a.faults b.faults a.misses b.misses
+    written →
+    Comes (Ok (making most word bytes)) (outside a page steps) (outside b page steps)
+    (status_of (making_told word.number written))
 comes_made most word bytes a b page steps (Ok done) file cause =
     ended (making most word bytes) refl refl tt (record { files = file.made.0; made = file.made.1 })
     (Appends-nil page.printed)
@@ -41,19 +45,23 @@ comes_made most word bytes a b page steps (Err file.Missing) file cause =
     (record { depot = cause.no_fault (λ e. cc); print = refl }) (cause.missing refl)
 comes_made most word bytes a b page steps (Err file.TooBig) file cause = absurd (file.fits refl)
 comes_made most word bytes a b page steps (Err file.Failed) file cause =
-    failed refl (stands_short most word bytes a b page steps (file.failed refl)) (cause.failed refl) refl (cause.no_miss (λ e. cc))
+    failed refl (stands_short most word bytes a b page steps (file.failed refl)) (cause.failed refl) refl
+    (cause.no_miss (λ e. cc))
 comes_made most word bytes a b page steps (Err file.NoMemory) file cause =
     exhausted refl (untouched (record { files = (file.no_memory refl).0; made = (file.no_memory refl).1 }) refl)
     (record { depot = cause.no_fault (λ e. cc); print = refl }) (cause.no_miss (λ e. cc))
 
 -- a file that is meant to be made was made, or a prefix of it
-pub made_obeys : (most : StepBound) (word : Word) (bytes : List ℕ) (a b : Place) (page : Page) (steps : ℕ) (written : Result (Unit {0}) FileFault)
+pub made_obeys : (most : StepBound) (word : Word) (bytes : List ℕ) (a b : Place) (page : Page) (steps : ℕ)
+    (written : Result (Unit {0}) FileFault)
     (result : Result (Unit {0}) Status) → result ≡ making_told word.number written →
-    WritesFile a.files b.files a.made b.made word.text bytes written → HasFileCause a.faults b.faults a.misses b.misses written →
+    WritesFile a.files b.files a.made b.made word.text bytes written → HasFileCause a.faults b.faults a.misses b.misses
+    written →
     b.opened ≡ a.opened → b.calls ≤ with_added a.calls 2 →
     Obeys (value (making most word bytes)) (outside a page steps) (outside b page steps) (status_of result)
 made_obeys most word bytes a b page steps written result told file cause ports calls =
-    subst (λ (r : Result (Unit {0}) Status). Obeys (value (making most word bytes)) (outside a page steps) (outside b page steps) (status_of r)) (sym told)
+    subst (λ (r : Result (Unit {0}) Status). Obeys (value (making most word bytes)) (outside a page steps)
+    (outside b page steps) (status_of r)) (sym told)
     (record {
       comes = comes_made most word bytes a b page steps written file cause;
       ports = ports;
@@ -62,7 +70,8 @@ made_obeys most word bytes a b page steps written result told file cause ports c
     })
 
 -- where no number of steps is said it doesn't matter how many were taken before
-pub any_steps : (word : Word) (bytes : List ℕ) (a : Place) (page : Page) (steps other : ℕ) (b : Outside) (status : Status) →
+pub any_steps : (word : Word) (bytes : List ℕ) (a : Place) (page : Page) (steps other : ℕ) (b : Outside)
+    (status : Status) →
     Obeys (value (making Uncounted word bytes)) (outside a page steps) b status →
     Obeys (value (making Uncounted word bytes)) (outside a page other) b status
 any_steps word bytes a page steps other b status h = record {

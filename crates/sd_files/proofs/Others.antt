@@ -16,12 +16,15 @@ use Rattle.sd_status.specs.Meant.{Meant, after, all_of, judged, value, within, �
 use Rattle.sd_files.specs.declared.files.TheConstants.{MOST_SITE_BYTES, MOST_BOOK_BYTES}
 use Rattle.sd_files.specs.Both.{both_by}
 use Rattle.sd_files.specs.Files.{told_site, told_book, site_of_file, book_of_file}
+use Rattle.sd_files.specs.Leaves.{told_leaves, leaves_of_file}
+use Rattle.sd_leaves.specs.Text.{leaves_of_text}
 
 -- no step but the words' own answers `Usage`
 abbrev pub IsOther : {A : Type 0} → Result A Status → Type 0
 IsOther r = IfErr r (λ status. status ≢ Usage)
 
-pub other_after : {A B : Type 0} (n : ℕ) (r : Result A Status) (next : A → Meant B) → IsOther r → ((x : A) → IsOther (next x).result) →
+pub other_after : {A B : Type 0} (n : ℕ) (r : Result A Status) (next : A → Meant B) → IsOther r →
+    ((x : A) → IsOther (next x).result) →
     IsOther (after n r next).result
 other_after n (Ok x) next h step = step x
 other_after n (Err status) next h step = h
@@ -53,7 +56,8 @@ pub other_site_file : (word : ℕ) (got : Option (List ℕ)) → IsOther (site_o
 unfolding site_of_file
 other_site_file word got =
     other_after (within word MOST_SITE_BYTES SiteBytes got).calls (within word MOST_SITE_BYTES SiteBytes got).result
-    (λ bytes. judged (told_site (site_of bytes))) (other_file word MOST_SITE_BYTES SiteBytes got) (λ bytes. other_site (site_of bytes))
+    (λ bytes. judged (told_site (site_of bytes))) (other_file word MOST_SITE_BYTES SiteBytes got)
+    (λ bytes. other_site (site_of bytes))
 
 pub other_book_file : (word d : ℕ) (got : Option (List ℕ)) → IsOther (book_of_file word d got).result
 unfolding book_of_file
@@ -73,3 +77,14 @@ other_both site book site_got book_got =
     (book_of_file book fields.height book_got).result
     (λ commands. value (record { site = fields; commands = commands })) (other_book_file book fields.height book_got)
     (λ commands. tt))
+
+pub other_leaves : (word : ℕ) (r : Result (List ℕ) ℕ) → IsOther (told_leaves word r)
+other_leaves word (Ok leaves) = tt
+other_leaves word (Err k) = λ e. cc
+
+pub other_leaves_file : (word d : ℕ) (got : Option (List ℕ)) → IsOther (leaves_of_file word d got).result
+unfolding leaves_of_file
+other_leaves_file word d got =
+    other_after (within word MOST_BOOK_BYTES BookBytes got).calls (within word MOST_BOOK_BYTES BookBytes got).result
+    (λ bytes. judged (told_leaves word (leaves_of_text d bytes))) (other_file word MOST_BOOK_BYTES BookBytes got)
+    (λ bytes. other_leaves word (leaves_of_text d bytes))

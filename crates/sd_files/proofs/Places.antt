@@ -8,7 +8,8 @@ abbrev moment : Option Files → ℕ → ℕ → ℕ → ℕ → ℕ → Place
 moment files faults misses made opened calls =
     record { files = files; faults = faults; misses = misses; made = made; opened = opened; calls = calls }
 
-pub only_called : (n : ℕ) (a b : Place) → b.files ≡ a.files → b.faults ≡ a.faults → b.misses ≡ a.misses → b.made ≡ a.made →
+pub only_called : (n : ℕ) (a b : Place) → b.files ≡ a.files → b.faults ≡ a.faults → b.misses ≡ a.misses →
+    b.made ≡ a.made →
     b.opened ≡ a.opened → b.calls ≡ with_added a.calls n → b ≡ called n a
 only_called n a b files faults misses made opened calls =
     ap (λ (x : Option Files). moment x b.faults b.misses b.made b.opened b.calls) files

@@ -1,5 +1,6 @@
 -- What comes of a file that goes through a stage into OUT.
-use Rattle.std.proofs.Common.{◌≡◌, ◌≢◌, ◌⊎◌, ℕ, ◌^◌, ◌<◌, true, List, [], Option, Some, None, Result, Ok, Err, refl, sym, ap, subst, ◌∙◌, inl, inr, arith, append-nil}
+use Rattle.std.proofs.Common.{◌≡◌, ◌≢◌, ◌⊎◌, ℕ, ◌^◌, ◌<◌, true, List, [], Option, Some, None, Result, Ok, Err, refl}
+use Rattle.std.proofs.Common.{sym, ap, subst, ◌∙◌, inl, inr, arith, append-nil}
 use Rattle.std.specs.Prelude.{IsSome}
 use Rattle.std.specs.FinMap.{get}
 use Rattle.std.specs.Io.KnownBytes.{Appends}
@@ -10,15 +11,20 @@ use Rattle.sd_ports.specs.Causes.{one_more}
 use Rattle.sd_ports.specs.Files.{Files, IsThere, Closes}
 use Rattle.sd_ports.proofs.Outlets.{closed_whole, cut_short}
 use Rattle.sd_status.specs.declared.status.Status.{Status}
-use Rattle.sd_status.specs.declared.status.Status.TheVariants.{Done, Usage, Missing, Revoked, DepotFault, PrintFault, BadSite, BadBook, BadCard, BadClear, BadStream, Limit, NoMemory, Unheard, Unclosed, Gaps, NoCat, BadWord}
+use Rattle.sd_status.specs.declared.status.Status.TheVariants.{Done, Usage, Missing, Revoked, DepotFault, PrintFault}
+use Rattle.sd_status.specs.declared.status.Status.TheVariants.{BadSite, BadBook, BadCard, BadClear, BadStream, Limit}
+use Rattle.sd_status.specs.declared.status.Status.TheVariants.{NoMemory, Unheard, Unclosed, Gaps, NoCat, BadWord}
 use Rattle.sd_status.specs.Outside.{Place, Page, Outside, outside}
 use Rattle.sd_status.specs.Meant.{Meant, Word, IsGot, all_of, value, ◌>>=◌}
 use Rattle.sd_status.specs.Work.{StepBound, Work, TakesSteps}
-use Rattle.sd_status.specs.Comes.{IsRefusal, IsEnding, IsUnmade, IsMadeShort, writing, Comes, ended, unclosed, exhausted, failed, nowhere, Obeys, status_of}
+use Rattle.sd_status.specs.Comes.{IsRefusal, IsEnding, IsUnmade, IsMadeShort, writing, Comes, ended, unclosed}
+use Rattle.sd_status.specs.Comes.{exhausted, failed, nowhere, Obeys, status_of}
 use Rattle.sd_status.specs.Reads.{IsAsked}
 use Rattle.sd_status.proofs.Steps.{takes_none, stopped_comes, first_obeys}
 use Rattle.sd_status.proofs.Givens.{some_got as any_got}
-use Rattle.sd_files.specs.Turned.{IsOpened, NotOpened, no_input, no_folder, stopped_first, stopped_then, unclosed_status, unclosed_by, IsClosed, is_break, turning, Wrote, all_written, some_written, HasPortCause}
+use Rattle.sd_files.specs.Turned.{IsOpened, NotOpened, no_input, no_folder, stopped_first, stopped_then}
+use Rattle.sd_files.specs.Turned.{unclosed_status, unclosed_by, IsClosed, is_break, turning, Wrote, all_written}
+use Rattle.sd_files.specs.Turned.{some_written, HasPortCause}
 use Rattle.sd_files.proofs.Looked.{none_got, all_calls as opening_calls}
 
 -- the counts of faults of a depot that took over those of two ports
@@ -41,13 +47,15 @@ all_prefix : (before now : Option (List ℕ)) (bytes : List ℕ) → Appends bef
 all_prefix before now bytes h = (bytes, ([], append-nil bytes), h)
 
 -- the prefix of what was written
-wrote_prefix : (bytes : List ℕ) (ends : Status) (before now : Option (List ℕ)) (status : Status) → Wrote bytes ends before now status →
+wrote_prefix : (bytes : List ℕ) (ends : Status) (before now : Option (List ℕ)) (status : Status) →
+    Wrote bytes ends before now status →
     AppendsPrefix before now bytes
 wrote_prefix bytes ends before now status (all_written e i h) = all_prefix before now bytes h
 wrote_prefix bytes ends before now status (some_written c h) = h
 
 -- what is known of a stream whose ports were opened and closed
-record IsThrough (out : Word) (bytes : List ℕ) (ends : Status) (p q r : Place) (left held held' : Option (List ℕ)) (from : List ℕ)
+record IsThrough (out : Word) (bytes : List ℕ) (ends : Status) (p q r : Place) (left held held' : Option (List ℕ))
+    (from : List ℕ)
     (f f' o o' : ℕ) (over result : Result (Unit {0}) Status) : Type 0 where
   opened : IsOpened p q from out.text left held f o
   cause : HasPortCause f f' o o' (status_of over)
@@ -55,7 +63,8 @@ record IsThrough (out : Word) (bytes : List ℕ) (ends : Status) (p q r : Place)
   closed : IsClosed q r out.text held' f' o' over result
 
 -- OUT has a prefix of its bytes
-made_short : (out : Word) (bytes : List ℕ) (ends : Status) (p q r : Place) (left held held' : Option (List ℕ)) (from : List ℕ)
+made_short : (out : Word) (bytes : List ℕ) (ends : Status) (p q r : Place) (left held held' : Option (List ℕ))
+    (from : List ℕ)
     (f f' o o' : ℕ) (over result : Result (Unit {0}) Status) →
     IsThrough out bytes ends p q r left held held' from f f' o o' over result →
     IsMadeShort (record { word = out.number; name = out.text; bytes = bytes }) p r
@@ -64,20 +73,23 @@ made_short out bytes ends p q r left held held' from f f' o o' over result h =
     (wrote_prefix bytes ends held held' (status_of over) h.wrote) h.closed.front in
     record { prefix = cut.0; short = cut.1; files = cut.2; made = h.closed.made ∙ h.opened.made }
 
-missed : (out : Word) (bytes : List ℕ) (ends : Status) (p q r : Place) (left held held' : Option (List ℕ)) (from : List ℕ)
+missed : (out : Word) (bytes : List ℕ) (ends : Status) (p q r : Place) (left held held' : Option (List ℕ))
+    (from : List ℕ)
     (f f' o o' : ℕ) (over result : Result (Unit {0}) Status) →
     IsThrough out bytes ends p q r left held held' from f f' o o' over result → r.misses ≡ p.misses
 missed out bytes ends p q r left held held' from f f' o o' over result h = h.closed.misses ∙ h.opened.misses
 
 -- no device failed where the status doesn't say so and OUT was closed
 still : (p q r : Place) (f f' o o' : ℕ) (status : Status) → q.faults ≡ p.faults → q.faults < 2 ^ 64 → f ≡ 0 → o ≡ 0 →
-    HasPortCause f f' o o' status → status ≢ DepotFault → r.faults ≡ with_added (with_added q.faults f') o' → r.faults ≡ p.faults
+    HasPortCause f f' o o' status → status ≢ DepotFault → r.faults ≡ with_added (with_added q.faults f') o' →
+    r.faults ≡ p.faults
 still p q r f f' o o' status same within fresh empty cause other added =
     let calm = cause.calm other in
     added ∙ added_none q.faults f' o' within (calm.0 ∙ fresh) (calm.1 ∙ empty) ∙ same
 
 -- one did where it does
-rises : (p q r : Place) (f f' o o' : ℕ) (status : Status) → q.faults ≡ p.faults → f ≡ 0 → o ≡ 0 → HasPortCause f f' o o' status →
+rises : (p q r : Place) (f f' o o' : ℕ) (status : Status) → q.faults ≡ p.faults → f ≡ 0 → o ≡ 0 →
+    HasPortCause f f' o o' status →
     status ≡ DepotFault → r.faults ≡ with_added (with_added q.faults f') o' → Rose p.faults r.faults
 rises p q r f f' o o' status same fresh empty cause is added =
     subst (λ (n : ℕ). Rose n r.faults) same
@@ -92,7 +104,8 @@ ending_other : (status : Status) → IsEnding status → status ≢ DepotFault
 ending_other status ending is = absurd (subst IsEnding is ending)
 
 -- a refusal in the midst of a stream stands where OUT wasn't closed, and every other status gives way
-by_break : (s : Status) → ((unclosed_status s ≡ s) × (is_break s ≡ true) × IsRefusal s) ⊎ (unclosed_status s ≡ DepotFault)
+by_break : (s : Status) → ((unclosed_status s ≡ s) × (is_break s ≡ true) × IsRefusal s)
+    ⊎ (unclosed_status s ≡ DepotFault)
 by_break Done = inr refl
 by_break Usage = inr refl
 by_break (Missing word) = inr refl
@@ -122,12 +135,14 @@ unclosed_told (Err status) = refl
 
 -- what was written, and OUT closed with it
 closed_comes : (steps : StepBound) (out : Word) (bytes : List ℕ) (ends : Status) (p q r : Place) (page : Page) (i j : ℕ)
-    (left held held' : Option (List ℕ)) (from : List ℕ) (f f' o o' : ℕ) (over result : Result (Unit {0}) Status) (status : Status) →
+    (left held held' : Option (List ℕ)) (from : List ℕ) (f f' o o' : ℕ) (over result : Result (Unit {0}) Status)
+    (status : Status) →
     (h : IsThrough out bytes ends p q r left held held' from f f' o o' over result) → status ≡ status_of over →
     Wrote bytes ends held held' status → Closes q.files r.files out.text held' →
     r.faults ≡ with_added (with_added q.faults f') o' →
     Comes (Ok (turning steps out bytes ends)) (outside p page i) (outside r page j) status
-closed_comes steps out bytes ends p q r page i j left held held' from f f' o o' over result status h is (all_written e ending w) closes added =
+closed_comes steps out bytes ends p q r page i j left held held' from f f' o o' over result status h is
+    (all_written e ending w) closes added =
     ended (turning steps out bytes ends) refl e ending
     (record {
       files = closed_whole p.files q.files r.files out.text bytes held held' h.opened.files h.opened.empty w closes;
@@ -135,69 +150,85 @@ closed_comes steps out bytes ends p q r page i j left held held' from f f' o o' 
     })
     (Appends-nil page.printed)
     (record {
-      depot = still p q r f f' o o' (status_of over) h.opened.faults h.closed.within h.opened.from_fresh h.opened.out_fresh h.cause
+      depot = still p q r f f' o o' (status_of over) h.opened.faults h.closed.within h.opened.from_fresh
+          h.opened.out_fresh h.cause
           (λ e. ending_other status ending (is ∙ e)) added;
       print = refl;
     })
     (missed out bytes ends p q r left held held' from f f' o o' over result h)
-closed_comes steps out bytes ends p q r page i j left held held' from f f' o o' over result status h is (some_written (inl e) w) closes added =
+closed_comes steps out bytes ends p q r page i j left held held' from f f' o o' over result status h is
+    (some_written (inl e) w) closes added =
     exhausted e
     (writing (turning steps out bytes ends) refl (record { word = out.number; name = out.text; bytes = bytes }) refl
     (made_short out bytes ends p q r left held held' from f f' o o' over result h) refl)
     (record {
-      depot = still p q r f f' o o' (status_of over) h.opened.faults h.closed.within h.opened.from_fresh h.opened.out_fresh h.cause
+      depot = still p q r f f' o o' (status_of over) h.opened.faults h.closed.within h.opened.from_fresh
+          h.opened.out_fresh h.cause
           (λ d. let same = sym e ∙ is ∙ d in cc) added;
       print = refl;
     })
     (missed out bytes ends p q r left held held' from f f' o o' over result h)
-closed_comes steps out bytes ends p q r page i j left held held' from f f' o o' over result status h is (some_written (inr e) w) closes added =
+closed_comes steps out bytes ends p q r page i j left held held' from f f' o o' over result status h is
+    (some_written (inr e) w) closes added =
     failed e
     (writing (turning steps out bytes ends) refl (record { word = out.number; name = out.text; bytes = bytes }) refl
     (made_short out bytes ends p q r left held held' from f f' o o' over result h) refl)
-    (rises p q r f f' o o' (status_of over) h.opened.faults h.opened.from_fresh h.opened.out_fresh h.cause (sym is ∙ e) added)
+    (rises p q r f f' o o' (status_of over) h.opened.faults h.opened.from_fresh h.opened.out_fresh h.cause (sym is ∙ e)
+    added)
     refl (missed out bytes ends p q r left held held' from f f' o o' over result h)
 
 -- and where OUT was not closed a refusal stands
 break_comes : (steps : StepBound) (out : Word) (bytes : List ℕ) (ends : Status) (p q r : Place) (page : Page) (i j : ℕ)
-    (left held held' : Option (List ℕ)) (from : List ℕ) (f f' o o' : ℕ) (over result : Result (Unit {0}) Status) (status : Status) →
-    (h : IsThrough out bytes ends p q r left held held' from f f' o o' over result) → Wrote bytes ends held held' status →
+    (left held held' : Option (List ℕ)) (from : List ℕ) (f f' o o' : ℕ) (over result : Result (Unit {0}) Status)
+    (status : Status) →
+    (h : IsThrough out bytes ends p q r left held held' from f f' o o' over result) →
+    Wrote bytes ends held held' status →
     is_break status ≡ true → IsRefusal status → Rose p.faults r.faults →
     Comes (Ok (turning steps out bytes ends)) (outside p page i) (outside r page j) status
-break_comes steps out bytes ends p q r page i j left held held' from f f' o o' over result status h (all_written e ending w) breaks refuses rose =
+break_comes steps out bytes ends p q r page i j left held held' from f f' o o' over result status h
+    (all_written e ending w) breaks refuses rose =
     unclosed (turning steps out bytes ends) refl e ending refuses (ap is_break (sym e) ∙ breaks)
     (record { word = out.number; name = out.text; bytes = bytes }) refl
     (made_short out bytes ends p q r left held held' from f f' o o' over result h) refl rose refl
     (missed out bytes ends p q r left held held' from f f' o o' over result h)
-break_comes steps out bytes ends p q r page i j left held held' from f f' o o' over result status h (some_written c w) breaks refuses rose =
+break_comes steps out bytes ends p q r page i j left held held' from f f' o o' over result status h (some_written c w)
+    breaks refuses rose =
     absurd (no_break status c breaks)
 
-unclosed_comes : (steps : StepBound) (out : Word) (bytes : List ℕ) (ends : Status) (p q r : Place) (page : Page) (i j : ℕ)
+unclosed_comes : (steps : StepBound) (out : Word) (bytes : List ℕ) (ends : Status) (p q r : Place) (page : Page)
+    (i j : ℕ)
     (left held held' : Option (List ℕ)) (from : List ℕ) (f f' o o' : ℕ) (over result : Result (Unit {0}) Status) →
     (h : IsThrough out bytes ends p q r left held held' from f f' o o' over result) → Rose p.faults r.faults →
     Comes (Ok (turning steps out bytes ends)) (outside p page i) (outside r page j) (unclosed_status (status_of over))
 unclosed_comes steps out bytes ends p q r page i j left held held' from f f' o o' over result h rose =
     elim (by_break (status_of over)) [
       | inl stands ↦
-          subst (λ (s : Status). Comes (Ok (turning steps out bytes ends)) (outside p page i) (outside r page j) s) (sym stands.0)
-          (break_comes steps out bytes ends p q r page i j left held held' from f f' o o' over result (status_of over) h h.wrote stands.1
+          subst (λ (s : Status). Comes (Ok (turning steps out bytes ends)) (outside p page i) (outside r page j) s)
+          (sym stands.0)
+          (break_comes steps out bytes ends p q r page i j left held held' from f f' o o' over result (status_of over) h
+          h.wrote stands.1
           stands.2 rose)
       | inr gives ↦
           failed gives
-          (writing (turning steps out bytes ends) refl (record { word = out.number; name = out.text; bytes = bytes }) refl
+          (writing (turning steps out bytes ends) refl (record { word = out.number; name = out.text; bytes = bytes })
+          refl
           (made_short out bytes ends p q r left held held' from f f' o o' over result h) refl)
           rose refl (missed out bytes ends p q r left held held' from f f' o o' over result h)
     ]
 
-through_comes : (steps : StepBound) (out : Word) (bytes : List ℕ) (ends : Status) (p q r : Place) (page : Page) (i j : ℕ)
+through_comes : (steps : StepBound) (out : Word) (bytes : List ℕ) (ends : Status) (p q r : Place) (page : Page)
+    (i j : ℕ)
     (left held held' : Option (List ℕ)) (from : List ℕ) (f f' o o' : ℕ) (over result : Result (Unit {0}) Status) →
     IsThrough out bytes ends p q r left held held' from f f' o o' over result →
     Comes (Ok (turning steps out bytes ends)) (outside p page i) (outside r page j) (status_of result)
 through_comes steps out bytes ends p q r page i j left held held' from f f' o o' over result h =
     elim h.closed.ends [
       | inl whole ↦
-          subst (λ (e : Result (Unit {0}) Status). Comes (Ok (turning steps out bytes ends)) (outside p page i) (outside r page j) (status_of e))
+          subst (λ (e : Result (Unit {0}) Status). Comes (Ok (turning steps out bytes ends)) (outside p page i)
+          (outside r page j) (status_of e))
           (sym whole.0)
-          (closed_comes steps out bytes ends p q r page i j left held held' from f f' o o' over result (status_of over) h refl h.wrote
+          (closed_comes steps out bytes ends p q r page i j left held held' from f f' o o' over result (status_of over)
+          h refl h.wrote
           whole.1 whole.2)
       | inr cut ↦
           subst (λ (s : Status). Comes (Ok (turning steps out bytes ends)) (outside p page i) (outside r page j) s)
@@ -207,29 +238,35 @@ through_comes steps out bytes ends p q r page i j left held held' from f f' o o'
     ]
 
 -- a stream that went through a stage into OUT is what is meant by its bytes
-pub turned_obeys : (steps : List ℕ → StepBound) (written : List ℕ → List ℕ) (ends : List ℕ → Status) (word out : Word) (bytes : List ℕ)
-    (p q r : Place) (page : Page) (i j : ℕ) (left held held' : Option (List ℕ)) (f f' o o' : ℕ) (over result : Result (Unit {0}) Status) →
+pub turned_obeys : (steps : List ℕ → StepBound) (written : List ℕ → List ℕ) (ends : List ℕ → Status) (word out : Word)
+    (bytes : List ℕ)
+    (p q r : Place) (page : Page) (i j : ℕ) (left held held' : Option (List ℕ)) (f f' o o' : ℕ)
+    (over result : Result (Unit {0}) Status) →
     IsOpened p q word.text out.text left held f o → HasPortCause f f' o o' (status_of over) →
     Wrote (written bytes) (ends bytes) held held' (status_of over) → IsClosed q r out.text held' f' o' over result →
     TakesSteps (Ok (turning (steps bytes) out (written bytes) (ends bytes))) (status_of result) i j →
     Obeys (all_of word.number (Some bytes) >>= λ bytes. value (turning (steps bytes) out (written bytes) (ends bytes)))
     (outside p page i) (outside r page j) (status_of result)
-turned_obeys steps written ends word out bytes p q r page i j left held held' f f' o o' over result opened cause wrote closed takes = record {
-  comes = through_comes (steps bytes) out (written bytes) (ends bytes) p q r page i j left held held' word.text f f' o o' over result
-      (record { opened = opened; cause = cause; wrote = wrote; closed = closed });
-  ports = both_closed p.opened q.opened r.opened opened.within opened.ports closed.low closed.ports;
-  calls = let a = opened.calls in let b = closed.calls in omega (arith, a, b);
-  steps = takes;
-}
+turned_obeys steps written ends word out bytes p q r page i j left held held' f f' o o' over result opened cause wrote
+    closed takes = record {
+      comes = through_comes (steps bytes) out (written bytes) (ends bytes) p q r page i j left held held' word.text f f' o
+          o' over result
+          (record { opened = opened; cause = cause; wrote = wrote; closed = closed });
+      ports = both_closed p.opened q.opened r.opened opened.within opened.ports closed.low closed.ports;
+      calls = let a = opened.calls in let b = closed.calls in omega (arith, a, b);
+      steps = takes;
+    }
 
 -- what the file gave where a port was not opened, and what is obeyed by it
-pub record NotTurned (files : Option Files) (name : List ℕ) (meant : Option (List ℕ) → Meant Work) (a b : Outside) (status : Status) :
+pub record NotTurned (files : Option Files) (name : List ℕ) (meant : Option (List ℕ) → Meant Work) (a b : Outside)
+    (status : Status) :
     Type 0 where
   pub got : Option (List ℕ)
   pub is_got : IsGot files name got
   pub obeys : Obeys (meant got) a b status
 
-there_got : (files : Option Files) (name : List ℕ) → IsThere files name → (bytes : List ℕ) × IsGot files name (Some bytes)
+there_got : (files : Option Files) (name : List ℕ) → IsThere files name → (bytes : List ℕ) × IsGot files name
+    (Some bytes)
 there_got None name there = ([], tt)
 there_got (Some m) name there = some_of (get m name) there
   where
@@ -245,12 +282,14 @@ unasked most p q h = record { files = h.files; made = h.made }
 
 pub not_turned : (steps : List ℕ → StepBound) (written : List ℕ → List ℕ) (ends : List ℕ → Status) (word out : Word)
     (p q : Place) (page : Page) (i : ℕ) (status : Status) → NotOpened word out p q status →
-    NotTurned p.files word.text (λ got. all_of word.number got >>= λ bytes. value (turning (steps bytes) out (written bytes) (ends bytes)))
+    NotTurned p.files word.text (λ got. all_of word.number got >>= λ bytes. value
+    (turning (steps bytes) out (written bytes) (ends bytes)))
     (outside p page i) (outside q page i) status
 not_turned steps written ends word out p q page i status (no_input is none asked calm rose) = record {
   got = None;
   is_got = none_got p.files word.text none;
-  obeys = first_obeys (all_of word.number None) (λ bytes. value (turning (steps bytes) out (written bytes) (ends bytes))) p q page i status
+  obeys = first_obeys (all_of word.number None)
+      (λ bytes. value (turning (steps bytes) out (written bytes) (ends bytes))) p q page i status
       (inl (record {
         value = ap Err (sym is);
         refusal = subst IsRefusal (sym is) tt;
@@ -263,7 +302,8 @@ not_turned steps written ends word out p q page i status (no_folder is none aske
   got = Some [];
   is_got = untold_got p.files word.text [] none;
   obeys = record {
-    comes = nowhere (turning (steps []) out (written []) (ends [])) refl (record { word = out.number; name = out.text; bytes = written [] }) refl
+    comes = nowhere (turning (steps []) out (written []) (ends [])) refl
+        (record { word = out.number; name = out.text; bytes = written [] }) refl
         is none (unasked 3 p q asked) refl (record { depot = calm; print = refl }) rose;
     ports = asked.ports;
     calls = let c = asked.calls in omega (arith, c);
@@ -274,7 +314,8 @@ not_turned steps written ends word out p q page i status (stopped_first stopped)
     let g = any_got p.files word.text in record {
       got = g.0;
       is_got = g.1;
-      obeys = first_obeys (all_of word.number g.0) (λ bytes. value (turning (steps bytes) out (written bytes) (ends bytes))) p q page i status
+      obeys = first_obeys (all_of word.number g.0)
+          (λ bytes. value (turning (steps bytes) out (written bytes) (ends bytes))) p q page i status
           (inr (record {
             cause = stopped.cause;
             asked = record {

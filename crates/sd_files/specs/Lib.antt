@@ -1,5 +1,6 @@
 pub mod Files
 pub mod Both
+pub mod Leaves
 pub mod Made
 pub mod Shown
 pub mod Streams

@@ -1,5 +1,6 @@
 -- A file that goes through a stage into OUT: both are opened, and then both are closed.
-use Rattle.std.specs.Prelude.{◌≡◌, ◌≢◌, ◌⊎◌, ℕ, ◌^◌, ◌<◌, Bool, true, false, List, [], Option, Some, None, Result, Ok, Err}
+use Rattle.std.specs.Prelude.{◌≡◌, ◌≢◌, ◌⊎◌, ℕ, ◌^◌, ◌<◌, Bool, true, false, List, [], Option, Some, None, Result, Ok}
+use Rattle.std.specs.Prelude.{Err}
 use Rattle.std.specs.Io.KnownBytes.{Appends}
 use Rattle.sd_cause.specs.Count.{with_added, Rose}
 use Rattle.sd_ports.specs.Bytes.{AppendsPrefix}
@@ -60,7 +61,8 @@ unclosed_by (Err status) = Err (unclosed_status status)
 
 -- OUT was closed with all that its port holds, and what was known is answered; or it has a prefix of it, and the device
 -- failed
-abbrev pub EndsClosed : Place → Place → List ℕ → Option (List ℕ) → ℕ → Result (Unit {0}) Status → Result (Unit {0}) Status
+abbrev pub EndsClosed : Place → Place → List ℕ → Option (List ℕ) → ℕ → Result (Unit {0}) Status →
+    Result (Unit {0}) Status
     → Type 0
 EndsClosed a b out held faults ended result =
     ((result ≡ ended) × Closes a.files b.files out held × (b.faults ≡ faults))
@@ -94,7 +96,8 @@ turning steps out bytes ends = record {
   steps = steps;
 }
 
--- What came of a stream before its ports were closed: all the bytes were written, and this is how it ends; or a prefix of
+-- What came of a stream before its ports were closed: all the bytes were written, and this is how it ends; or a prefix
+-- of
 -- them, and the outside stopped it.
 pub data Wrote (bytes : List ℕ) (ends : Status) (before now : Option (List ℕ)) (status : Status) : Type 0 where
   all_written : status ≡ ends → IsEnding status → Appends before now bytes → Wrote bytes ends before now status

@@ -3,6 +3,7 @@
 
 mod both;
 mod files;
+mod leaves;
 mod made;
 mod print;
 mod stream;
@@ -11,6 +12,7 @@ mod word;
 
 pub use both::read_both;
 pub use files::{MOST_BOOK_BYTES, book_fault, read_book, read_bytes, read_site};
+pub use leaves::read_leaves;
 pub use made::{make_file, told};
 pub use print::print_text;
 pub use stream::cause_of;

@@ -1,8 +1,10 @@
 -- The lines of a text of leaves, one after the other.
-use Rattle.std.proofs.Common.{◌≡◌, ℕ, zero, suc, ◌+◌, ◌-◌, ◌^◌, ◌<◌, ◌≤◌, ◌&&◌, Bool, true, false, not, List, [], ◌∷◌, ◌++◌, length}
+use Rattle.std.proofs.Common.{◌≡◌, ℕ, zero, suc, ◌+◌, ◌-◌, ◌^◌, ◌<◌, ◌≤◌, ◌&&◌, Bool, true, false, not, List, [], ◌∷◌}
+use Rattle.std.proofs.Common.{◌++◌, length}
 use Rattle.std.proofs.Common.{get_or, drop, refl, sym, ap, ◌∙◌, subst, inl, inr, pow_mono, arith}
 use Rattle.std.proofs.lemmas.Bool.{cases_lt, lt-ltb, le-ltb, ltb-true, ltb-false}
-use Rattle.std.specs.Prelude.{◌⊎◌, All, find, is_some, map, slice_get, slice_index, nat_lt, if◌then◌else◌, Option, Some, None, Result, Ok, Err}
+use Rattle.std.specs.Prelude.{◌⊎◌, All, find, is_some, map, slice_get, slice_index, nat_lt, if◌then◌else◌, Option, Some}
+use Rattle.std.specs.Prelude.{None, Result, Ok, Err}
 use Rattle.std.specs.List.{range_with_len}
 use Rattle.std.specs.List.Sorted.{IsStrictlyIncreasing}
 use Rattle.std.proofs.lemmas.List.{append_assoc, append-nil, map-append, length-append, length_push, get_or_append_left}
@@ -52,7 +54,8 @@ said h u line before e = ap (leaf_after h before) (sym (said_by (number_of line)
         by false e = absurd (cc)
 
 -- another is no leaf
-pub unsaid : (h : ℕ) (line before : List ℕ) (fault : NumberFault) → h ≤ 20 → fitting (decimal_after [] line) ≡ Err fault →
+pub unsaid : (h : ℕ) (line before : List ℕ) (fault : NumberFault) → h ≤ 20 → fitting (decimal_after [] line)
+    ≡ Err fault →
     leaf_after h before (number_of line) ≡ None
 unfolding after
 unsaid h line before fault low e = unsaid_by (number_of line) e
@@ -61,20 +64,24 @@ unsaid h line before fault low e = unsaid_by (number_of line) e
     unsaid_by None e = refl
     unsaid_by (Some n) e = by (nat_lt n (2 ^ 32)) refl e
       where
-        by : (b : Bool) → nat_lt n (2 ^ 32) ≡ b → (if b then Ok n else Err TooLarge) ≡ Err fault → leaf_after h before (Some n) ≡ None
+        by : (b : Bool) → nat_lt n (2 ^ 32) ≡ b → (if b then Ok n else Err TooLarge) ≡ Err fault →
+            leaf_after h before (Some n) ≡ None
         by true t e = absurd (cc)
         by false t e =
             let high = ltb-false n (2 ^ 32) t in
-            let above : nat_lt n (2 ^ h) ≡ false = le-ltb n (2 ^ h) (omega (arith, high, pow_mono {i = h} {j = 20} low)) in
+            let above : nat_lt n (2 ^ h) ≡ false = le-ltb n (2 ^ h) (omega (arith, high, pow_mono {i = h} {j = 20} low))
+            in
             rw above refl
 
 -- a number of the tree above the last
 pub taken : (h u : ℕ) (before : List ℕ) → u < 2 ^ h →
-    true ≡ option_map_or (λ w. nat_lt w u) (slice_get before (length before - 1)) true → Some u ≡ leaf_after h before (Some u)
+    true ≡ option_map_or (λ w. nat_lt w u) (slice_get before (length before - 1)) true → Some u ≡ leaf_after h before
+    (Some u)
 taken h u before leaf above = rw (lt-ltb u (2 ^ h) leaf, sym above) refl
 
 pub not_above : (h u : ℕ) (before : List ℕ) →
-    false ≡ option_map_or (λ w. nat_lt w u) (slice_get before (length before - 1)) true → None ≡ leaf_after h before (Some u)
+    false ≡ option_map_or (λ w. nat_lt w u) (slice_get before (length before - 1)) true → None ≡ leaf_after h before
+    (Some u)
 not_above h u before above = rw (sym above) (by (nat_lt u (2 ^ h)))
   where
     by : (b : Bool) → None ≡ (if b && false then Some u else None)
@@ -104,14 +111,16 @@ read_none h text = record {
 }
 
 -- as many lines as leaves
-as_many : (lines : List (List ℕ)) (leaves : List ℕ) → map number_of lines ≡ map Some leaves → length lines ≡ length leaves
+as_many : (lines : List (List ℕ)) (leaves : List ℕ) → map number_of lines ≡ map Some leaves → length lines
+    ≡ length leaves
 as_many [] [] e = refl
 as_many [] (u ∷ us) e = absurd (cc)
 as_many (l ∷ ls) [] e = absurd (cc)
 as_many (l ∷ ls) (u ∷ us) e = omega (arith, as_many ls us (ap (drop 1) e))
 
 -- the number on each of these lines
-number_read : (lines : List (List ℕ)) (leaves : List ℕ) (k : ℕ) → map number_of lines ≡ map Some leaves → k < length leaves →
+number_read : (lines : List (List ℕ)) (leaves : List ℕ) (k : ℕ) → map number_of lines ≡ map Some leaves →
+    k < length leaves →
     number_of (get_or lines k []) ≡ slice_get leaves k
 number_read [] [] k e within = absurd (omega (arith, within))
 number_read [] (u ∷ us) k e within = absurd (cc)
@@ -126,7 +135,8 @@ last_is u [] k within = absurd (omega (arith, within))
 last_is u (w ∷ ws) zero within = refl
 last_is u (w ∷ ws) (suc k) within = last_is u ws k (omega (arith, within))
 
-no_last : (u : ℕ) (us : List ℕ) → length us ≡ 0 → true ≡ option_map_or (λ w. nat_lt w u) (slice_get us (length us - 1)) true
+no_last : (u : ℕ) (us : List ℕ) → length us ≡ 0 → true ≡ option_map_or (λ w. nat_lt w u) (slice_get us (length us - 1))
+    true
 no_last u [] none = refl
 no_last u (w ∷ ws) none = absurd (omega (arith, none))
 
@@ -137,7 +147,8 @@ above_same : (u : ℕ) (lines later : List (List ℕ)) (leaves : List ℕ) (n : 
 above_same u lines later leaves zero e is = no_last u leaves (sym is)
 above_same u lines later leaves (suc n) e is =
     let count = as_many lines leaves e in
-    let before : get_or (lines ++ later) n [] ≡ get_or lines n [] = get_or_append_left lines later [] n (omega (arith, count, is)) in
+    let before : get_or (lines ++ later) n [] ≡ get_or lines n [] = get_or_append_left lines later [] n
+    (omega (arith, count, is)) in
     let last : length leaves - 1 ≡ n = omega (arith, is) in
     let number = ap number_of before ∙ number_read lines leaves n e (omega (arith, is)) in
     rw (last, number) (last_is u leaves n (omega (arith, is)))
@@ -151,7 +162,8 @@ taken_is : (b : Bool) (u : ℕ) → b ≡ is_some (if b then Some u else None)
 taken_is true u = refl
 taken_is false u = refl
 
-line_by : (h : ℕ) (lines later : List (List ℕ)) (leaves : List ℕ) (n : Option ℕ) → map number_of lines ≡ map Some leaves →
+line_by : (h : ℕ) (lines later : List (List ℕ)) (leaves : List ℕ) (n : Option ℕ) → map number_of lines
+    ≡ map Some leaves →
     option_map_or (λ u. nat_lt u (2 ^ h) && stands_above (lines ++ later) (length lines) u) n false
     ≡ is_some (leaf_after h leaves n)
 line_by h lines later leaves None e = refl
@@ -160,10 +172,12 @@ line_by h lines later leaves (Some u) e =
     (taken_is (nat_lt u (2 ^ h) && option_map_or (λ w. nat_lt w u) (slice_get leaves (length leaves - 1)) true) u)
 
 -- whether the next line is one of a leaf
-line_is : (h : ℕ) (lines later : List (List ℕ)) (line : List ℕ) (leaves : List ℕ) → map number_of lines ≡ map Some leaves →
+line_is : (h : ℕ) (lines later : List (List ℕ)) (line : List ℕ) (leaves : List ℕ) → map number_of lines
+    ≡ map Some leaves →
     is_leaf_line h (lines ++ line ∷ later) (length lines) ≡ is_some (leaf_after h leaves (number_of line))
 unfolding is_leaf_line
-line_is h lines later line leaves e = rw (line_at lines later line) (line_by h lines (line ∷ later) leaves (number_of line) e)
+line_is h lines later line leaves e = rw (line_at lines later line)
+    (line_by h lines (line ∷ later) leaves (number_of line) e)
 
 said_leaf : (h leaf : ℕ) (leaves : List ℕ) (n : Option ℕ) → leaf_after h leaves n ≡ Some leaf → n ≡ Some leaf
 said_leaf h leaf leaves None e = absurd (cc)
@@ -183,7 +197,8 @@ good_more h text lines later line leaves leaf k whole e is good within (inl befo
 good_more h text lines later line leaves leaf k whole e is good within (inr here) =
     let long = length_push lines line in
     let same : k ≡ length lines = omega (arith, within, here, long) in
-    ap (λ (i : ℕ). is_leaf_line h (lines_of text) i) same ∙ (ap (λ (ls : List (List ℕ)). is_leaf_line h ls (length lines)) whole
+    ap (λ (i : ℕ). is_leaf_line h (lines_of text) i) same
+    ∙ (ap (λ (ls : List (List ℕ)). is_leaf_line h ls (length lines)) whole
     ∙ (line_is h lines later line leaves e ∙ ap is_some is))
 
 -- one line more
@@ -191,14 +206,17 @@ pub read_more : (h : ℕ) (text rest more line leaves : List ℕ) (leaf : ℕ) �
     lines_of rest ≡ line ∷ lines_of more → leaf_after h leaves (number_of line) ≡ Some leaf →
     AreRead h text more (leaves ++ leaf ∷ [])
 read_more h text rest more line leaves leaf read first is =
-    let whole : lines_of text ≡ read.lines ++ line ∷ lines_of more = read.split ∙ ap (λ (ls : List (List ℕ)). read.lines ++ ls) first in
+    let whole : lines_of text ≡ read.lines ++ line ∷ lines_of more = read.split ∙ ap (λ (ls : List (List ℕ)). read.lines
+    ++ ls) first in
     record {
       lines = read.lines ++ line ∷ [];
       split = whole ∙ sym (append_assoc read.lines (line ∷ []) (lines_of more));
-      numbers = map-append number_of read.lines (line ∷ []) ∙ (ap (λ (ns : List (Option ℕ)). ns ++ number_of line ∷ []) read.numbers
+      numbers = map-append number_of read.lines (line ∷ [])
+          ∙ (ap (λ (ns : List (Option ℕ)). ns ++ number_of line ∷ []) read.numbers
           ∙ (ap (λ (n : Option ℕ). map Some leaves ++ n ∷ []) (said_leaf h leaf leaves (number_of line) is)
           ∙ sym (map-append Some leaves (leaf ∷ []))));
-      good = λ k within. good_more h text read.lines (lines_of more) line leaves leaf k whole read.numbers is read.good within
+      good = λ k within. good_more h text read.lines (lines_of more) line leaves leaf k whole read.numbers is read.good
+          within
           (cases_lt k (length read.lines));
     }
 
@@ -208,7 +226,8 @@ pub read_fault : (h : ℕ) (text rest more line leaves : List ℕ) → AreRead h
     leaves_of_text h text ≡ Err (length leaves + 1)
 unfolding leaves_of_text first_fault
 read_fault h text rest more line leaves read first none =
-    let whole : lines_of text ≡ read.lines ++ line ∷ lines_of more = read.split ∙ ap (λ (ls : List (List ℕ)). read.lines ++ ls) first in
+    let whole : lines_of text ≡ read.lines ++ line ∷ lines_of more = read.split ∙ ap (λ (ls : List (List ℕ)). read.lines
+    ++ ls) first in
     let n : ℕ = length read.lines in
     let count : n ≡ length leaves = as_many read.lines leaves read.numbers in
     let bad : is_leaf_line h (lines_of text) n ≡ false =
@@ -233,7 +252,8 @@ map_back (l ∷ ls) (u ∷ us) e =
     rw first (ap (λ (vs : List ℕ). u ∷ vs) (map_back ls us (ap (drop 1) e)))
 
 -- at the end they are all that the text says
-pub read_all : (h : ℕ) (text rest leaves : List ℕ) → AreRead h text rest leaves → rest ≡ [] → leaves_of_text h text ≡ Ok leaves
+pub read_all : (h : ℕ) (text rest leaves : List ℕ) → AreRead h text rest leaves → rest ≡ [] → leaves_of_text h text
+    ≡ Ok leaves
 unfolding leaves_of_text first_fault
 read_all h text rest leaves read ended =
     let whole : lines_of text ≡ read.lines =
@@ -241,7 +261,8 @@ read_all h text rest leaves read ended =
     let none = none_found (λ k. not (is_leaf_line h (lines_of text) k)) 0 (length (lines_of text))
     (λ i below. let e : 0 + i ≡ i = omega arith in
     let good = read.good i (subst (λ (ls : List (List ℕ)). i < length ls) whole below) in rw (e, good) refl) in
-    rw none (ap Ok (ap (map (λ line. option_map_or (λ u. u) (number_of line) 0)) whole ∙ map_back read.lines leaves read.numbers))
+    rw none (ap Ok (ap (map (λ line. option_map_or (λ u. u) (number_of line) 0)) whole ∙ map_back read.lines leaves
+    read.numbers))
 
 -- there are no more ascending leaves than the tree has
 rank_below : (xs : List ℕ) (k : ℕ) → IsStrictlyIncreasing xs → k < length xs → k ≤ slice_index xs k
@@ -250,7 +271,8 @@ rank_below xs (suc k) up within =
     let before = rank_below xs k up (omega (arith, within)) in
     let next = up k (omega (arith, within)) in
     let e : k + 1 ≡ suc k = omega arith in
-    let less : slice_index xs k < slice_index xs (suc k) = subst (λ (n : ℕ). slice_index xs k < slice_index xs n) e next in
+    let less : slice_index xs k < slice_index xs (suc k) = subst (λ (n : ℕ). slice_index xs k < slice_index xs n) e next
+    in
     omega (arith, before, less)
 
 few_by : (h : ℕ) (xs : List ℕ) (n : ℕ) → IsStrictlyIncreasing xs → All (λ u. u < 2 ^ h) xs → length xs ≡ n → n ≤ 2 ^ h
@@ -280,13 +302,15 @@ taken_fits : (h leaf : ℕ) (leaves : List ℕ) (n : Option ℕ) → leaf_after 
     (leaf < 2 ^ h) × (option_map_or (λ w. nat_lt w leaf) (slice_get leaves (length leaves - 1)) true ≡ true)
 taken_fits h leaf leaves None e = absurd (cc)
 taken_fits h leaf leaves (Some u) e =
-    taken_by h leaf u leaves (nat_lt u (2 ^ h)) (option_map_or (λ w. nat_lt w u) (slice_get leaves (length leaves - 1)) true) refl refl e
+    taken_by h leaf u leaves (nat_lt u (2 ^ h)) (option_map_or (λ w. nat_lt w u) (slice_get leaves (length leaves - 1))
+    true) refl refl e
 
 pub leaf_fits : (h leaf : ℕ) (leaves : List ℕ) (n : Option ℕ) → leaf_after h leaves n ≡ Some leaf → leaf < 2 ^ h
 leaf_fits h leaf leaves n e = (taken_fits h leaf leaves n e).0
 
 -- a number of the list that is below another by the test
-below_at : (u : ℕ) (us : List ℕ) (k : ℕ) → k < length us → option_map_or (λ w. nat_lt w u) (slice_get us k) true ≡ true →
+below_at : (u : ℕ) (us : List ℕ) (k : ℕ) → k < length us → option_map_or (λ w. nat_lt w u) (slice_get us k) true
+    ≡ true →
     slice_index us k < u
 below_at u [] k within e = absurd (omega (arith, within))
 below_at u (w ∷ ws) zero within e = ltb-true w u e
@@ -302,7 +326,11 @@ above_by : (leaf : ℕ) (leaves : List ℕ) (k : ℕ) → IsStrictlyIncreasing l
     (k + 1 < length leaves) ⊎ (length leaves ≤ k + 1) →
     slice_index (leaves ++ leaf ∷ []) k < slice_index (leaves ++ leaf ∷ []) (k + 1)
 above_by leaf leaves k up within above (inl before) =
-    rw (get_or_append_left leaves (leaf ∷ []) 0 k (omega (arith, before)), get_or_append_left leaves (leaf ∷ []) 0 (k + 1) before) (up k before)
+    rw (
+      get_or_append_left leaves (leaf ∷ []) 0 k (omega (arith, before)),
+      get_or_append_left leaves (leaf ∷ []) 0
+          (k + 1) before,
+    ) (up k before)
 above_by leaf leaves k up within above (inr last) =
     let same : length leaves - 1 ≡ k = omega (arith, within, last) in
     let end : k + 1 ≡ length leaves = omega (arith, within, last) in
@@ -310,8 +338,10 @@ above_by leaf leaves k up within above (inr last) =
     rw (get_or_append_left leaves (leaf ∷ []) 0 k (omega (arith, within)), end, last_at leaves leaf) below
 
 -- an ascending list goes on with a leaf above its last
-pub above_more : (h leaf : ℕ) (leaves : List ℕ) (n : Option ℕ) → leaf_after h leaves n ≡ Some leaf → IsStrictlyIncreasing leaves →
+pub above_more : (h leaf : ℕ) (leaves : List ℕ) (n : Option ℕ) → leaf_after h leaves n ≡ Some leaf →
+    IsStrictlyIncreasing leaves →
     IsStrictlyIncreasing (leaves ++ leaf ∷ [])
 above_more h leaf leaves n is up k within =
     let long = length_push leaves leaf in
-    above_by leaf leaves k up (omega (arith, within, long)) (taken_fits h leaf leaves n is).1 (cases_lt (k + 1) (length leaves))
+    above_by leaf leaves k up (omega (arith, within, long)) (taken_fits h leaf leaves n is).1
+    (cases_lt (k + 1) (length leaves))

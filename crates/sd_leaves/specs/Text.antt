@@ -1,5 +1,6 @@
 -- What a text of leaves says.
-use Rattle.std.specs.Prelude.{◌≡◌, ℕ, zero, suc, ◌+◌, ◌-◌, ◌^◌, ◌&&◌, Bool, true, false, not, nat_lt, List, [], ◌∷◌, length, get_or, map, slice_get}
+use Rattle.std.specs.Prelude.{◌≡◌, ℕ, zero, suc, ◌+◌, ◌-◌, ◌^◌, ◌&&◌, Bool, true, false, not, nat_lt, List, [], ◌∷◌}
+use Rattle.std.specs.Prelude.{length, get_or, map, slice_get}
 use Rattle.std.specs.Prelude.{find, if◌then◌else◌, Option, Some, None, Result, Ok, Err}
 use Rattle.std.specs.List.{range_with_len}
 use Rattle.std.specs.Option.{option_map_or}
@@ -35,4 +36,5 @@ leaves_of_text h text = option_map_or (λ k. Err (k + 1))
 abbrev pub leaf_after : ℕ → List ℕ → Option ℕ → Option ℕ
 leaf_after h before None = None
 leaf_after h before (Some u) =
-    if nat_lt u (2 ^ h) && option_map_or (λ w. nat_lt w u) (slice_get before (length before - 1)) true then Some u else None
+    if nat_lt u (2 ^ h) && option_map_or (λ w. nat_lt w u) (slice_get before (length before - 1)) true then Some u else
+    None

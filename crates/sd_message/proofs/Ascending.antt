@@ -1,5 +1,6 @@
 -- Lists in which each stands after all before it, by their neighbours, and by a test of each two.
-use Rattle.std.proofs.Common.{◌≡◌, inl, inr, ℕ, suc, ◌+◌, ◌-◌, ◌<◌, ◌≤◌, List, [], ◌∷◌, length, take, get_or, get_or-take, length-take-le, arith, refl}
+use Rattle.std.proofs.Common.{◌≡◌, inl, inr, ℕ, suc, ◌+◌, ◌-◌, ◌<◌, ◌≤◌, List, [], ◌∷◌, length, take, get_or}
+use Rattle.std.proofs.Common.{get_or-take, length-take-le, arith, refl}
 use Rattle.std.specs.Prelude.{Bool, ◌&&◌, All, AllPairs}
 use Rattle.std.specs.Bool.{Decides}
 use Rattle.std.specs.List.{list_all}
@@ -18,7 +19,8 @@ pub first_ascends : {A : Type 0} (R : A → A → Type 0) (xs : List A) (k : ℕ
 first_ascends R xs k h i j d below within = absurd (omega (arith, length-take k xs))
 
 -- with one more that stands after the last
-pub next_ascends : {A : Type 0} (R : A → A → Type 0) (xs : List A) (k : ℕ) (d e : A) → IsChained R → 1 ≤ k → k < length xs →
+pub next_ascends : {A : Type 0} (R : A → A → Type 0) (xs : List A) (k : ℕ) (d e : A) → IsChained R → 1 ≤ k →
+    k < length xs →
     AllPairs R (take k xs) → R (get_or xs (k - 1) d) (get_or xs k e) → AllPairs R (take (k + 1) xs)
 next_ascends R xs k d e chained some within up less i j f below j_within =
     let long : length (take (k + 1) xs) ≡ k + 1 = length-take-le (k + 1) xs (omega arith) in
@@ -46,18 +48,21 @@ not_after R xs k d e some within unless up =
     unless (rw (get_or_default xs k d e within) at (up (k - 1) k d (omega arith) within))
 
 -- all of them
-pub all_ascend : {A : Type 0} (R : A → A → Type 0) (xs : List A) (k : ℕ) → length xs ≤ k → AllPairs R (take k xs) → AllPairs R xs
+pub all_ascend : {A : Type 0} (R : A → A → Type 0) (xs : List A) (k : ℕ) → length xs ≤ k → AllPairs R (take k xs) →
+    AllPairs R xs
 all_ascend R xs k past up = rw (take_all k xs past) at up
 
 -- the first stands so to all after it, and those to one another
-parts_of_pairs : {A : Type 0} (R : A → A → Type 0) (x : A) (xs : List A) → AllPairs R (x ∷ xs) → All (R x) xs × AllPairs R xs
+parts_of_pairs : {A : Type 0} (R : A → A → Type 0) (x : A) (xs : List A) → AllPairs R (x ∷ xs) → All (R x) xs
+    × AllPairs R xs
 parts_of_pairs R x xs up = (
   λ k d below. up 0 (suc k) d (omega arith) (omega arith),
   λ i j d before within. up (suc i) (suc j) d (omega arith) (omega arith),
 )
 
 -- the test of each two tells whether they do
-pub tells_pairs : {A : Type 0} (stands : A → A → Bool) (R : A → A → Type 0) → ((a b : A) → Decides (stands a b) (R a b)) →
+pub tells_pairs : {A : Type 0} (stands : A → A → Bool) (R : A → A → Type 0) →
+    ((a b : A) → Decides (stands a b) (R a b)) →
     (xs : List A) → Decides (all_pairs stands xs) (AllPairs R xs)
 unfolding all_pairs
 tells_pairs stands R each [] = (λ yes i j d below within. absurd (omega arith), λ up. refl)

@@ -1,5 +1,6 @@
 -- What a packet that begins with a section of this project is read as.
-use Rattle.std.proofs.Common.{ℕ, suc, ◌+◌, ◌-◌, ◌<◌, ◌≤◌, ◌≡◌, List, ◌∷◌, ◌++◌, length, take, drop, length-append, refl, sym, ap, subst, ◌∙◌, arith}
+use Rattle.std.proofs.Common.{ℕ, suc, ◌+◌, ◌-◌, ◌<◌, ◌≤◌, ◌≡◌, List, ◌∷◌, ◌++◌, length, take, drop, length-append, refl}
+use Rattle.std.proofs.Common.{sym, ap, subst, ◌∙◌, arith}
 use Rattle.std.specs.Prelude.{replicate, slice_get}
 use Rattle.std.specs.Int.{w32, to_be_bytes}
 use Rattle.std.proofs.lemmas.List.{take_at, take-append-drop}
@@ -15,7 +16,8 @@ use Rattle.sd_section.proofs.Spelling.{whole_is_read, none_is_wrong, fields_are_
 use Rattle.sd_message.specs.Framed.{header_of, IsPlain, HasSection, Begins, section_of}
 
 -- a packet that is packed of a section begins with it
-pub packed_begins : (section : List ℕ) (pid counter : ℕ) → pid < 8192 → counter < 16 → Begins section (packed section pid counter)
+pub packed_begins : (section : List ℕ) (pid counter : ℕ) → pid < 8192 → counter < 16 →
+    Begins section (packed section pid counter)
 packed_begins section pid counter h k =
     let read = packet_reads section pid counter h k in
     let stuffing : List ℕ = replicate (183 - length section) 0xFF in
@@ -47,7 +49,8 @@ begun_is_read header body packet fits few begins =
     ap whole_of (after_split (section_bytes header body) packet begins) ∙ whole_is_read header body _ fits few
 
 -- what is read from the header of a section is what was written
-pub header_again : (header : Header) (body : List ℕ) → Fits header → length body ≤ 4084 → header_of (section_bytes header body) ≡ header
+pub header_again : (header : Header) (body : List ℕ) → Fits header → length body ≤ 4084 →
+    header_of (section_bytes header body) ≡ header
 unfolding header_of
 header_again header body fits few =
     let read = fields_are_read header body fits few in
@@ -56,13 +59,15 @@ header_again header body fits few =
 -- how long the section is
 section_long : (header : Header) (body : List ℕ) → length (section_bytes header body) - 12 ≡ length body
 unfolding section_bytes
-section_long header body = omega (arith, length-append body (to_be_bytes w32 (crc_of (header_bytes header (length body) ++ body))))
+section_long header body = omega
+    (arith, length-append body (to_be_bytes w32 (crc_of (header_bytes header (length body) ++ body))))
 
 head_is : (header : Header) (body : List ℕ) → take 8 (section_bytes header body) ≡ header_bytes header (length body)
 unfolding section_bytes
 head_is header body = refl
 
-written_is_plain : (header : Header) (body : List ℕ) → Fits header → length body ≤ 4084 → IsPlain (section_bytes header body)
+written_is_plain : (header : Header) (body : List ℕ) → Fits header → length body ≤ 4084 →
+    IsPlain (section_bytes header body)
 written_is_plain header body fits few =
     rw (header_again header body fits few, section_long header body) (head_is header body)
 
@@ -71,7 +76,12 @@ pub begun_is_there : (header : Header) (body packet : List ℕ) → Fits header 
     Begins (section_bytes header body) packet → HasSection packet
 begun_is_there header body packet fits few begins =
     record {
-      starts = record { unit_start = begins.unit_start; pointer = ap (λ (l : List ℕ). slice_get l 0) (payload_split _ packet begins) };
+      starts = record {
+        unit_start = begins.unit_start;
+        pointer = ap (λ (l : List ℕ). slice_get l 0)
+            (payload_split _ packet begins);
+      };
       good = ap section_fault (after_split _ packet begins) ∙ none_is_wrong header body _ fits few;
-      plain = subst IsPlain (sym (begun_is_read header body packet fits few begins)) (written_is_plain header body fits few);
+      plain = subst IsPlain (sym (begun_is_read header body packet fits few begins))
+          (written_is_plain header body fits few);
     }

@@ -1,5 +1,6 @@
 -- Numbers of whole bytes: what is read from them is spelled as they are.
-use Rattle.std.proofs.Common.{inl, inr, ℕ, ◌+◌, ◌*◌, ◌/◌, ◌%◌, ◌^◌, ◌<◌, ◌≤◌, ◌≡◌, List, [], ◌∷◌, length, take, drop, get_or, get_or-drop, get_or-take, sym, ap, ◌∙◌, arith}
+use Rattle.std.proofs.Common.{inl, inr, ℕ, ◌+◌, ◌*◌, ◌/◌, ◌%◌, ◌^◌, ◌<◌, ◌≤◌, ◌≡◌, List, [], ◌∷◌, length, take, drop}
+use Rattle.std.proofs.Common.{get_or, get_or-drop, get_or-take, sym, ap, ◌∙◌, arith}
 use Rattle.std.specs.Prelude.{bit_or}
 use Rattle.std.specs.Int.{w16, w32, w64, to_be_bytes}
 use Rattle.std.proofs.lemmas.Bool.{cases_lt}
@@ -33,20 +34,24 @@ two_at : (xs : List ℕ) (p : ℕ) → p + 2 ≤ length xs → get_or xs (p + 0)
 two_at xs p h =
     let here : p + 0 ≡ p = omega arith in
     let all : take 2 (drop (p + 0) xs) ≡ get_or xs (p + 0) 0 ∷ get_or xs (p + 1) 0 ∷ [] =
-    ap (take 2) (one_at xs p 0 (omega arith) ∙ ap (λ (l : List ℕ). get_or xs (p + 0) 0 ∷ l) (one_at xs p 1 (omega arith))) in
+    ap (take 2) (one_at xs p 0 (omega arith) ∙ ap (λ (l : List ℕ). get_or xs (p + 0) 0 ∷ l)
+    (one_at xs p 1 (omega arith))) in
     sym all ∙ ap (λ (n : ℕ). take 2 (drop n xs)) here
 
 four_at : (xs : List ℕ) (p : ℕ) → p + 4 ≤ length xs →
     get_or xs (p + 0) 0 ∷ get_or xs (p + 1) 0 ∷ get_or xs (p + 2) 0 ∷ get_or xs (p + 3) 0 ∷ [] ≡ take 4 (drop p xs)
 four_at xs p h =
     let here : p + 0 ≡ p = omega arith in
-    let all : take 4 (drop (p + 0) xs) ≡ get_or xs (p + 0) 0 ∷ get_or xs (p + 1) 0 ∷ get_or xs (p + 2) 0 ∷ get_or xs (p + 3) 0 ∷ [] =
+    let all : take 4 (drop (p + 0) xs) ≡ get_or xs (p + 0) 0 ∷ get_or xs (p + 1) 0 ∷ get_or xs (p + 2) 0 ∷ get_or xs
+    (p + 3) 0 ∷ [] =
     ap (take 4) (one_at xs p 0 (omega arith) ∙ ap (λ (l : List ℕ). get_or xs (p + 0) 0 ∷ l) (one_at xs p 1 (omega arith)
-    ∙ ap (λ (l : List ℕ). get_or xs (p + 1) 0 ∷ l) (one_at xs p 2 (omega arith) ∙ ap (λ (l : List ℕ). get_or xs (p + 2) 0 ∷ l) (one_at xs p 3 (omega arith))))) in
+    ∙ ap (λ (l : List ℕ). get_or xs (p + 1) 0 ∷ l)
+    (one_at xs p 2 (omega arith) ∙ ap (λ (l : List ℕ). get_or xs (p + 2) 0 ∷ l) (one_at xs p 3 (omega arith))))) in
     sym all ∙ ap (λ (n : ℕ). take 4 (drop n xs)) here
 
 -- a number of 16 bits is spelled as the two bytes that it was read from
-pub half_spelled : (xs : List ℕ) (p : ℕ) → IsBytes xs → p + 2 ≤ length xs → to_be_bytes w16 (field xs (8 * p) 16) ≡ take 2 (drop p xs)
+pub half_spelled : (xs : List ℕ) (p : ℕ) → IsBytes xs → p + 2 ≤ length xs → to_be_bytes w16 (field xs (8 * p) 16)
+    ≡ take 2 (drop p xs)
 half_spelled xs p bytes h =
     let none = no_byte xs (8 * p) in
     let h0 = bytes (p + 0) in
@@ -59,7 +64,8 @@ half_spelled xs p bytes h =
     rw (e0, e1) (two_at xs p h)
 
 -- a number of 32 bits is spelled as the four bytes that it was read from
-pub word_spelled : (xs : List ℕ) (p : ℕ) → IsBytes xs → p + 4 ≤ length xs → to_be_bytes w32 (field xs (8 * p) 32) ≡ take 4 (drop p xs)
+pub word_spelled : (xs : List ℕ) (p : ℕ) → IsBytes xs → p + 4 ≤ length xs → to_be_bytes w32 (field xs (8 * p) 32)
+    ≡ take 4 (drop p xs)
 word_spelled xs p bytes h =
     let none = no_byte xs (8 * p) in
     let h0 = bytes (p + 0) in
@@ -78,12 +84,20 @@ word_spelled xs p bytes h =
     rw (e0, e1, e2, e3) (four_at xs p h)
 
 -- what two bytes spell is read from them, whatever stands before and after
-pub half_again : (xs : List ℕ) (p n : ℕ) → n < 2 ^ 16 → get_or xs (p + 0) 0 ≡ n / 256 % 256 → get_or xs (p + 1) 0 ≡ n % 256 →
+pub half_again : (xs : List ℕ) (p n : ℕ) → n < 2 ^ 16 → get_or xs (p + 0) 0 ≡ n / 256 % 256 → get_or xs (p + 1) 0
+    ≡ n % 256 →
     field xs (8 * p) 16 ≡ n
-half_again xs p n h e0 e1 = omega (arith, no_byte xs (8 * p), byte_more xs p 0 (omega arith), byte_more xs p 1 (omega arith))
+half_again xs p n h e0 e1 = omega (
+  arith,
+  no_byte xs (8 * p),
+  byte_more xs p 0 (omega arith),
+  byte_more xs p 1
+      (omega arith),
+)
 
 -- and what four bytes spell
-pub word_again : (xs : List ℕ) (p n : ℕ) → n < 2 ^ 32 → get_or xs (p + 0) 0 ≡ n / 16777216 % 256 → get_or xs (p + 1) 0 ≡ n / 65536 % 256 →
+pub word_again : (xs : List ℕ) (p n : ℕ) → n < 2 ^ 32 → get_or xs (p + 0) 0 ≡ n / 16777216 % 256 → get_or xs (p + 1) 0
+    ≡ n / 65536 % 256 →
     get_or xs (p + 2) 0 ≡ n / 256 % 256 → get_or xs (p + 3) 0 ≡ n % 256 → field xs (8 * p) 32 ≡ n
 word_again xs p n h e0 e1 e2 e3 =
     omega (
@@ -105,15 +119,18 @@ long_read bytes high low is_high is_low =
     rw whole (or_shifted high 32 low below ∙ omega (arith, field_split bytes 16 16 32))
 
 six_at : (xs : List ℕ) (p : ℕ) → p + 6 ≤ length xs →
-    get_or xs (p + 0) 0 ∷ get_or xs (p + 1) 0 ∷ get_or xs (p + 2) 0 ∷ get_or xs (p + 3) 0 ∷ get_or xs (p + 4) 0 ∷ get_or xs (p + 5) 0 ∷ []
+    get_or xs (p + 0) 0 ∷ get_or xs (p + 1) 0 ∷ get_or xs (p + 2) 0 ∷ get_or xs (p + 3) 0 ∷ get_or xs (p + 4) 0 ∷ get_or
+    xs (p + 5) 0 ∷ []
     ≡ take 6 (drop p xs)
 six_at xs p h =
     let here : p + 0 ≡ p = omega arith in
     let byte : (n : ℕ) → ℕ = λ n. get_or xs (p + n) 0 in
     let all : take 6 (drop (p + 0) xs) ≡ byte 0 ∷ byte 1 ∷ byte 2 ∷ byte 3 ∷ byte 4 ∷ byte 5 ∷ [] =
     ap (take 6) (one_at xs p 0 (omega arith) ∙ ap (λ (l : List ℕ). byte 0 ∷ l) (one_at xs p 1 (omega arith)
-    ∙ ap (λ (l : List ℕ). byte 1 ∷ l) (one_at xs p 2 (omega arith) ∙ ap (λ (l : List ℕ). byte 2 ∷ l) (one_at xs p 3 (omega arith)
-    ∙ ap (λ (l : List ℕ). byte 3 ∷ l) (one_at xs p 4 (omega arith) ∙ ap (λ (l : List ℕ). byte 4 ∷ l) (one_at xs p 5 (omega arith))))))) in
+    ∙ ap (λ (l : List ℕ). byte 1 ∷ l) (one_at xs p 2 (omega arith) ∙ ap (λ (l : List ℕ). byte 2 ∷ l)
+    (one_at xs p 3 (omega arith)
+    ∙ ap (λ (l : List ℕ). byte 3 ∷ l) (one_at xs p 4 (omega arith) ∙ ap (λ (l : List ℕ). byte 4 ∷ l)
+    (one_at xs p 5 (omega arith))))))) in
     sym all ∙ ap (λ (n : ℕ). take 6 (drop n xs)) here
 
 -- a number of 48 bits is spelled as the six bytes that it was read from
@@ -144,7 +161,8 @@ long_spelled xs p bytes h =
 
 -- what six bytes spell is read from them, whatever stands before and after
 pub long_again : (xs : List ℕ) (p n : ℕ) → n < 2 ^ 48 → get_or xs (p + 0) 0 ≡ n / 1099511627776 % 256 →
-    get_or xs (p + 1) 0 ≡ n / 4294967296 % 256 → get_or xs (p + 2) 0 ≡ n / 16777216 % 256 → get_or xs (p + 3) 0 ≡ n / 65536 % 256 →
+    get_or xs (p + 1) 0 ≡ n / 4294967296 % 256 → get_or xs (p + 2) 0 ≡ n / 16777216 % 256 → get_or xs (p + 3) 0
+    ≡ n / 65536 % 256 →
     get_or xs (p + 4) 0 ≡ n / 256 % 256 → get_or xs (p + 5) 0 ≡ n % 256 → field xs (8 * p) 48 ≡ n
 long_again xs p n h e0 e1 e2 e3 e4 e5 =
     omega (

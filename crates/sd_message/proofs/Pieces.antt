@@ -1,10 +1,13 @@
 -- A list shared out, so many at a time.
-use Rattle.std.proofs.Common.{◌≡◌, ◌⊎◌, inl, inr, ℕ, zero, suc, ◌+◌, ◌-◌, ◌*◌, ◌/◌, ◌<◌, ◌≤◌, List, [], ◌∷◌, ◌++◌, length, take, drop, get_or, get_or-take, get_or-drop, take-add, drop-drop, arith, refl, sym, ap, ◌∙◌}
+use Rattle.std.proofs.Common.{◌≡◌, ◌⊎◌, inl, inr, ℕ, zero, suc, ◌+◌, ◌-◌, ◌*◌, ◌/◌, ◌<◌, ◌≤◌, List, [], ◌∷◌, ◌++◌}
+use Rattle.std.proofs.Common.{length, take, drop, get_or, get_or-take, get_or-drop, take-add, drop-drop, arith, refl}
+use Rattle.std.proofs.Common.{sym, ap, ◌∙◌}
 use Rattle.std.specs.Prelude.{All, AllPairs, Some, slice_get, replicate, min, max, map, flat_map}
 use Rattle.std.specs.List.{range_with_len}
 use Rattle.std.proofs.Math.Nat.{mul-suc, mul-zero, mul-div-le, lt-mul-div-succ, mul-le-mul_left}
 use Rattle.std.proofs.lemmas.Bool.{cases_lt}
-use Rattle.std.proofs.lemmas.List.{length-take, length-drop, length-append, length-replicate, take_at, drop_at, take_all, take-append-drop}
+use Rattle.std.proofs.lemmas.List.{length-take, length-drop, length-append, length-replicate, take_at, drop_at}
+use Rattle.std.proofs.lemmas.List.{take_all, take-append-drop}
 use Rattle.std.proofs.lemmas.List.FromFn.{length-map-range_with_len, get_or-map-range_with_len}
 use Rattle.std.proofs.lemmas.Option.{slice_get-get_or, slice_get_within, get_or_from_slice_get}
 use Rattle.sd_message.specs.Pieces.{pieces_for, piece_at, filled, each_below}
@@ -72,22 +75,26 @@ pieces_from {A = A} n items a (suc k) =
     ap (λ (l : List A). piece_at n items a ++ l) (pieces_from n items (a + 1) k)
     ∙ sym (ap (λ (m : ℕ). take m (drop (n * a) items)) more
     ∙ (take-add n (n * k) (drop (n * a) items)
-    ∙ ap (λ (l : List A). piece_at n items a ++ take (n * k) l) (drop-drop n (n * a) items ∙ ap (λ (m : ℕ). drop m items) next)))
+    ∙ ap (λ (l : List A). piece_at n items a ++ take (n * k) l)
+    (drop-drop n (n * a) items ∙ ap (λ (m : ℕ). drop m items) next)))
 
 -- what things made by their numbers have is what stands at those numbers
-over : {A B : Type 0} (listed : B → List A) (make : ℕ → B) (n : ℕ) (items : List A) → ((x : ℕ) → listed (make x) ≡ piece_at n items x) →
+over : {A B : Type 0} (listed : B → List A) (make : ℕ → B) (n : ℕ) (items : List A) →
+    ((x : ℕ) → listed (make x) ≡ piece_at n items x) →
     (xs : List ℕ) → flat_map listed (map make xs) ≡ flat_map (piece_at n items) xs
 over listed make n items each [] = refl
 over listed make n items each (x ∷ xs) = rw (each x, over listed make n items each xs) refl
 
 -- joined, they have all items
 pub joined_are_all : {A B : Type 0} (listed : B → List A) (make : ℕ → B) (n : ℕ) (items : List A) → 1 ≤ n →
-    ((x : ℕ) → listed (make x) ≡ piece_at n items x) → flat_map listed (each_below make (pieces_for n (length items))) ≡ items
+    ((x : ℕ) → listed (make x) ≡ piece_at n items x) → flat_map listed (each_below make (pieces_for n (length items)))
+    ≡ items
 joined_are_all {A = A} listed make n items some each =
     let pieces : ℕ = pieces_for n (length items) in
     over listed make n items each (range_with_len 0 pieces)
     ∙ (pieces_from n items 0 pieces
-    ∙ (ap (λ (m : ℕ). take (n * pieces) (drop m items)) (mul-zero n) ∙ take_all (n * pieces) items (room n (length items) some)))
+    ∙ (ap (λ (m : ℕ). take (n * pieces) (drop m items)) (mul-zero n) ∙ take_all (n * pieces) items
+    (room n (length items) some)))
 
 -- how many things are made
 pub as_many : {B : Type 0} (make : ℕ → B) (k : ℕ) → length (each_below make k) ≡ k
@@ -98,7 +105,8 @@ pub made_there : {B : Type 0} (make : ℕ → B) (k x : ℕ) (d : B) → x < k �
 made_there make k x d within = get_or-map-range_with_len make 0 k x x d within (omega arith)
 
 -- a fact of each number is one of each thing that is made
-pub each_made : {B : Type 0} (P : B → Type 0) (make : ℕ → B) (k : ℕ) → ((x : ℕ) → x < k → P (make x)) → All P (each_below make k)
+pub each_made : {B : Type 0} (P : B → Type 0) (make : ℕ → B) (k : ℕ) → ((x : ℕ) → x < k → P (make x)) →
+    All P (each_below make k)
 each_made P make k each x d below =
     let within : x < k = omega (arith, as_many make k) in
     rw (made_there make k x d within) (each x within)
@@ -116,7 +124,8 @@ made_at make k x b there =
     sym (get_or_from_slice_get (each_below make k) x b (make x) there) ∙ made_there make k x (make x) within
 
 -- how many items a piece has
-pub long_piece : {A : Type 0} (n : ℕ) (items : List A) (x : ℕ) → length (piece_at n items x) ≡ min n (length items - n * x)
+pub long_piece : {A : Type 0} (n : ℕ) (items : List A) (x : ℕ) → length (piece_at n items x)
+    ≡ min n (length items - n * x)
 long_piece n items x = length-take n (drop (n * x) items) ∙ ap (λ (m : ℕ). min n m) (length-drop (n * x) items)
 
 -- an item of a piece is one of all
@@ -134,7 +143,8 @@ item_stands {A = A} n q r k items d place few within =
     ∙ sym (slice_get-get_or items k d within))
 
 -- what each item is, each of a piece is
-pub each_of_piece : {A : Type 0} (P : A → Type 0) (n : ℕ) (items : List A) (x : ℕ) → All P items → All P (piece_at n items x)
+pub each_of_piece : {A : Type 0} (P : A → Type 0) (n : ℕ) (items : List A) (x : ℕ) → All P items →
+    All P (piece_at n items x)
 each_of_piece P n items x each k d below =
     let long = long_piece n items x in
     rw (one_of n items x k d (omega arith)) (each (n * x + k) d (omega arith))
@@ -144,19 +154,27 @@ pub pairs_of_piece : {A : Type 0} (R : A → A → Type 0) (n : ℕ) (items : Li
     AllPairs R (piece_at n items x)
 pairs_of_piece R n items x pairs i j d before below =
     let long = long_piece n items x in
-    rw (one_of n items x i d (omega arith), one_of n items x j d (omega arith)) (pairs (n * x + i) (n * x + j) d (omega arith) (omega arith))
+    rw (one_of n items x i d (omega arith), one_of n items x j d (omega arith))
+    (pairs (n * x + i) (n * x + j) d (omega arith) (omega arith))
 
 -- what a filled list has after its items
-pub filled_items : {A : Type 0} (n : ℕ) (nothing : A) (items : List A) → take (length items) (filled n nothing items) ≡ items
+pub filled_items : {A : Type 0} (n : ℕ) (nothing : A) (items : List A) → take (length items) (filled n nothing items)
+    ≡ items
 filled_items n nothing items = take_at items (replicate (n - length items) nothing) (length items) refl
 
 pub filled_rest : {A : Type 0} (n : ℕ) (nothing : A) (items : List A) →
     drop (length items) (filled n nothing items) ≡ replicate (n - length items) nothing
 filled_rest n nothing items = drop_at items (replicate (n - length items) nothing) (length items) refl
 
-pub filled_length : {A : Type 0} (n : ℕ) (nothing : A) (items : List A) → length items ≤ n → length (filled n nothing items) ≡ n
+pub filled_length : {A : Type 0} (n : ℕ) (nothing : A) (items : List A) → length items ≤ n →
+    length (filled n nothing items) ≡ n
 filled_length n nothing items few =
-    omega (arith, length-append items (replicate (n - length items) nothing), length-replicate (n - length items) nothing)
+    omega (
+      arith,
+      length-append items (replicate (n - length items) nothing),
+      length-replicate (n - length items)
+          nothing,
+    )
 
 -- a list whose rest is nothing is its items filled up
 pub filled_again : {A : Type 0} (n count : ℕ) (nothing : A) (all : List A) → length (take count all) ≡ count →

@@ -1,5 +1,6 @@
 -- Sections with a plain header are spelled as this project spells them.
-use Rattle.std.proofs.Common.{ℕ, ◌+◌, ◌-◌, ◌≤◌, ◌≡◌, List, ◌++◌, length, take, drop, take-add, length-take-le, length-drop, length-append, append_assoc, get_or-drop, sym, ap, ◌∙◌, arith}
+use Rattle.std.proofs.Common.{ℕ, ◌+◌, ◌-◌, ◌≤◌, ◌≡◌, List, ◌++◌, length, take, drop, take-add, length-take-le}
+use Rattle.std.proofs.Common.{length-drop, length-append, append_assoc, get_or-drop, sym, ap, ◌∙◌, arith}
 use Rattle.std.specs.Int.{w32, to_be_bytes}
 use Rattle.std.proofs.lemmas.List.{take_at, take_all, take-append-drop}
 use Rattle.sd_section.specs.Header.{crc_of}
@@ -21,7 +22,8 @@ front_spelled section long plain =
     let e : length section - 4 ≡ 8 + (length section - 4 - 8) = omega arith in
     ap (λ (k : ℕ). take k section) e
     ∙ (take-add 8 (length section - 4 - 8) section
-    ∙ ap (λ (head : List ℕ). head ++ body_of section) (plain ∙ ap (header_bytes (header_of section)) (sym (body_long section))))
+    ∙ ap (λ (head : List ℕ). head ++ body_of section) (plain ∙ ap (header_bytes (header_of section))
+    (sym (body_long section))))
 
 -- the last four bytes are the CRC
 back_spelled : (section : List ℕ) → IsBytes section → 12 ≤ length section →
@@ -30,7 +32,12 @@ unfolding crc_in
 back_spelled section bytes long =
     let back : List ℕ = drop (length section - 4) section in
     let four : length back ≡ 4 = omega (arith, length-drop (length section - 4) section) in
-    let each : IsBytes back = λ i. omega (arith, get_or-drop (length section - 4) section i 0, bytes (length section - 4 + i)) in
+    let each : IsBytes back = λ i. omega (
+      arith,
+      get_or-drop (length section - 4) section i 0,
+      bytes
+          (length section - 4 + i),
+    ) in
     word_spelled back 0 each (omega arith) ∙ take_all 4 back (omega arith)
 
 -- a section with a plain header and a right CRC is the section of what its header says, and of its body
@@ -44,13 +51,15 @@ plain_spelled section bytes whole low plain right =
     let after : to_be_bytes w32 (crc_of front) ≡ drop (length section - 4) section =
     ap (λ (l : List ℕ). to_be_bytes w32 (crc_of l)) (sym in_front)
     ∙ (ap (λ (n : ℕ). to_be_bytes w32 n) (sym right) ∙ back_spelled section bytes (omega arith)) in
-    sym (ap (λ (l : List ℕ). front ++ l) after ∙ (ap (λ (l : List ℕ). l ++ drop (length section - 4) section) (sym in_front)
+    sym (ap (λ (l : List ℕ). front ++ l) after ∙ (ap (λ (l : List ℕ). l ++ drop (length section - 4) section)
+    (sym in_front)
     ∙ take-append-drop (length section - 4) section))
 
 -- the header and the body laid into as many bytes, and sealed
 pub section_laid : (header : Header) (body old head first second new : List ℕ) → length old ≡ length body + 12 →
     head ≡ header_bytes header (length body) → first ≡ take 0 old ++ (head ++ drop (0 + length head) old) →
-    second ≡ take 8 first ++ (body ++ drop (8 + length body) first) → length second ≡ length first → length first ≡ length old →
+    second ≡ take 8 first ++ (body ++ drop (8 + length body) first) → length second ≡ length first → length first
+    ≡ length old →
     new ≡ sealed (take (length second - 4) second) → new ≡ section_bytes header body
 unfolding section_bytes
 section_laid header body old head first second new room is_head is_first is_second same_second same_first is_new =
@@ -61,4 +70,5 @@ section_laid header body old head first second new room is_head is_first is_seco
     is_second ∙ (ap (λ (l : List ℕ). l ++ (body ++ rest)) front ∙ sym (append_assoc head body rest)) in
     let count : length (head ++ body) ≡ length second - 4 = omega (arith, length-append head body) in
     is_new
-    ∙ ap sealed (ap (take (length second - 4)) all ∙ (take_at (head ++ body) rest (length second - 4) count ∙ ap (λ (l : List ℕ). l ++ body) is_head))
+    ∙ ap sealed (ap (take (length second - 4)) all ∙ (take_at (head ++ body) rest (length second - 4) count
+    ∙ ap (λ (l : List ℕ). l ++ body) is_head))

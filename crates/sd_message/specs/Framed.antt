@@ -1,5 +1,6 @@
 -- Packets that begin with a section of this project.
-use Rattle.std.specs.Prelude.{◌≡◌, ℕ, ◌+◌, ◌-◌, Bool, false, ◌==◌, ◌&&◌, bytes_eq, List, ◌∷◌, length, take, drop, Option, Some, None, is_none, slice_get}
+use Rattle.std.specs.Prelude.{◌≡◌, ℕ, ◌+◌, ◌-◌, Bool, false, ◌==◌, ◌&&◌, bytes_eq, List, ◌∷◌, length, take, drop}
+use Rattle.std.specs.Prelude.{Option, Some, None, is_none, slice_get}
 use Rattle.sd_packet.specs.Header.{unit_start_of, payload_of}
 use Rattle.sd_section.specs.Header.{table_id_of, extension_of, number_of, last_number_of, whole_of}
 use Rattle.sd_section.specs.Judged.{section_fault}
@@ -24,7 +25,8 @@ header_of section = record {
   last_number = last_number_of section;
 }
 
--- each other bit of the header is as this project writes it: the syntax indicator is 1, the bit after it 0, reserved bits are 1, the
+-- each other bit of the header is as this project writes it: the syntax indicator is 1, the bit after it 0, reserved
+-- bits are 1, the
 -- version is 0, the section is current [ISO/IEC 13818-1, 2.4.4; this project, docs/FORMATS.md, Sections]
 abbrev pub IsPlain : List ℕ → Type 0
 IsPlain section = take 8 section ≡ header_bytes (header_of section) (length section - 12)

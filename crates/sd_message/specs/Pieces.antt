@@ -7,7 +7,8 @@ use Rattle.std.specs.List.{range_with_len}
 unfoldable pub pieces_for : ℕ → ℕ → ℕ
 pieces_for n items = max 1 ((items + (n - 1)) / n)
 
--- the items of section x: those from n x on, n of them as far as they are there [this project, docs/FORMATS.md, Messages]
+-- the items of section x: those from n x on, n of them as far as they are there [this project, docs/FORMATS.md,
+-- Messages]
 abbrev pub piece_at : {A : Type 0} → ℕ → List A → ℕ → List A
 piece_at n items x = take n (drop (n * x) items)
 

@@ -1,9 +1,11 @@
-ghost use Rattle.std.specs.Prelude.{ℕ, slice_index, ◌≡◌, ◌<◌, ◌≤◌, ◌↔◌, IsNone, IsSome, IsTrue, IfSome, length, take, drop, ◌+◌, ◌++◌};
+ghost use Rattle.std.specs.Prelude.{ℕ, slice_index, ◌≡◌, ◌<◌, ◌≤◌, ◌↔◌, IsNone, IsSome, IsTrue, IfSome, length, take};
+ghost use Rattle.std.specs.Prelude.{drop, ◌+◌, ◌++◌};
 ghost use Rattle.sd_packet.specs.Header.{payload_of};
 ghost use Rattle.sd_packet.specs.Packing.{packed};
 ghost use Rattle.sd_section.specs.Header.{body_of};
 ghost use Rattle.sd_section.specs.Written.{section_bytes};
-ghost use Rattle.sd_message.specs.Framed.{HasPointer, IsPlain, HasSection, Begins, section_of, header_of as header_of_bytes};
+ghost use Rattle.sd_message.specs.Framed.{HasPointer, IsPlain, HasSection, Begins, section_of};
+ghost use Rattle.sd_message.specs.Framed.{header_of as header_of_bytes};
 
 use sd_packet::{Packet, pack_section};
 use sd_section::{Header, Section, read_one, seal};

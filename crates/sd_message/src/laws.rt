@@ -7,7 +7,8 @@ ghost use Rattle.sd_section.specs.declared.write.Header.{Header};
 ghost use Rattle.std.specs.Bool.{Decides};
 ghost use Rattle.sd_message.specs.Framed.{HasSection, has_section, Begins, section_of};
 
-/// A section that this project writes is read from each packet that begins with it, and the packet that is packed of it does.
+/// A section that this project writes is read from each packet that begins with it, and the packet that is packed of it
+/// does.
 #[tactic(auto, using(crate::proofs::Framing::packed_begins, crate::proofs::Framing::begun_is_there, crate::proofs::Framing::begun_is_read))]
 pub fn framed_sections_are_read()
     ensures begins { (section : List ℕ) (pid counter : ℕ) → pid < 8192 → counter < 16 →

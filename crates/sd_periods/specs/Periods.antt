@@ -16,7 +16,8 @@ set_line (Diff i j) = decimal i ++ (codes " " ++ (decimal j ++ codes "\n"))
 -- the line of a period with this many revoked leaves and sets
 unfoldable pub period_line : ℕ → ℕ → ℕ → List ℕ
 period_line q revoked sets =
-    codes "period " ++ (decimal q ++ (codes " revoked " ++ (decimal revoked ++ (codes " sets " ++ (decimal sets ++ codes "\n")))))
+    codes "period "
+    ++ (decimal q ++ (codes " revoked " ++ (decimal revoked ++ (codes " sets " ++ (decimal sets ++ codes "\n")))))
 
 -- what is printed of a period: its line, and then a line for each of its sets
 abbrev pub period_text : ℕ → ℕ → List SetName → List ℕ

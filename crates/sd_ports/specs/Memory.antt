@@ -8,7 +8,8 @@ use Rattle.std.specs.declared.alloc.Global.{Global}
 use Rattle.sd_cause.specs.Count.{with_added}
 use Rattle.sd_ports.specs.Files.{Files}
 use Rattle.sd_ports.specs.Causes.{one_more}
-use Rattle.sd_ports.specs.Failing.{Failures, failures_code, no_failures, with_failing_call, with_failing_port, is_listed}
+use Rattle.sd_ports.specs.Failing.{Failures, failures_code, no_failures, with_failing_call, with_failing_port}
+use Rattle.sd_ports.specs.Failing.{is_listed}
 use Rattle.sd_ports.specs.Failing.{next_fails, after_call, numbers_of}
 
 -- a source in memory: the bytes to come, the most bytes of a read, which reads fail, and how many reads there were and

@@ -9,8 +9,8 @@ use Rattle.sd_reception.specs.Tuned.{tuning_of}
 use Rattle.sd_reception.specs.Heard.{Heard, Dropped, Entitles, Controls, BadEmm, BadEcm, Other, hears}
 use Rattle.sd_reception.specs.Stretches.{is_closed}
 use Rattle.sd_reception.specs.Offered.{heard, offered, out_from, break_from}
+pub use Rattle.sd_reception.specs.Taken.{takes_key_of, takes_key_at, taken_keys}
 use Rattle.sd_hearing.specs.Ears.{tuned}
-use Rattle.sd_entitled.specs.Entitled.{takes_key}
 use Rattle.sd_receive.specs.Listening.{Follows, capped}
 use Rattle.sd_receive.specs.declared.receiver.Receiver.{Receiver}
 
@@ -31,32 +31,9 @@ pub record IsAfter (past : List (List ℕ)) (receiver : Receiver) : Type 0 where
   pub unbroken : break_from (card_in receiver) [] (reverse past) ≡ None
   pub unrefused : receiver.refusal ≡ None
 
--- a thing that is heard takes a key
-abbrev pub takes_key_of : CardFields → List Heard → Heard → Bool
-takes_key_of card past (Entitles emm) = takes_key card past emm
-takes_key_of card past Dropped = false
-takes_key_of card past (Controls part) = false
-takes_key_of card past (BadEmm fault) = false
-takes_key_of card past (BadEcm fault) = false
-takes_key_of card past (Other n packet) = false
-
--- a packet takes a key: it is heard as a section that does
-unfoldable pub takes_key_at : CardFields → List (List ℕ) → List ℕ → Bool
-takes_key_at card past packet =
-    if is_closed (heard card past) then false
-    else option_map_or
-    (λ tuning. takes_key_of card (heard card past) (hears card.height tuning (length past) packet))
-    (tuning_of card.ca past) false
-
 -- the most steps that a packet takes: as many as the tree is high where it takes a key, and else none
 abbrev pub steps_at : CardFields → List (List ℕ) → List ℕ → ℕ
 steps_at card past packet = if takes_key_at card past packet then card.height else 0
-
--- how many of these packets take a key, after others
-unfoldable pub taken_keys : CardFields → List (List ℕ) → List (List ℕ) → ℕ
-taken_keys card past [] = 0
-taken_keys card past (packet ∷ packets) =
-    (if takes_key_at card past packet then 1 else 0) + taken_keys card (packet ∷ past) packets
 
 -- what comes of a packet that is taken
 pub record DoesTake (past : List (List ℕ)) (s : Receiver) (packet : List ℕ) (t : Receiver) (bytes : List ℕ)

@@ -5,3 +5,4 @@ pub mod Keys
 pub mod Confirmed
 pub mod Offered
 pub mod Ending
+pub mod Taken

@@ -8,5 +8,6 @@ ghost use Rattle.sd_reception.specs.Offered.{offered, out_from};
 pub fn one_packet_more()
     ensures { (card : CardFields) (past : List (List ℕ)) (packet : List ℕ) (packets : List (List ℕ))
         → (offered card past packet).fault ≡ None →
-        out_from card past (packet ∷ packets) ≡ (offered card past packet).wrote ++ out_from card (packet ∷ past) packets }
+        out_from card past (packet ∷ packets) ≡ (offered card past packet).wrote ++ out_from card (packet ∷ past)
+        packets }
 {}

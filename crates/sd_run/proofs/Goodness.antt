@@ -1,5 +1,6 @@
 -- Good words over good files mean work.
-use Rattle.std.proofs.Common.{◌≡◌, ℕ, ◌≤◌, ◌^◌, cond, List, length, Option, Some, Result, Ok, Err, ap, ◌∙◌, le-ltb, lt-ltb}
+use Rattle.std.proofs.Common.{◌≡◌, ℕ, ◌≤◌, ◌^◌, cond, List, length, Option, Some, Result, Ok, Err, ap, ◌∙◌, le-ltb}
+use Rattle.std.proofs.Common.{lt-ltb}
 use Rattle.sd_site.specs.Fields.{SiteFields}
 use Rattle.sd_site.specs.Text.{site_of}
 use Rattle.sd_site.proofs.Alone.{answered}
@@ -36,51 +37,66 @@ use Rattle.sd_run.specs.Good.{plan_told, IsGoodHead}
 use Rattle.sd_run_head.proofs.Sending.{sent_unrefused}
 use Rattle.sd_run.specs.Meaning.{order_meaning, meaning}
 
-then_is : {A B : Type 0} (first : Meant A) (x : A) (next : A → Meant B) → first.result ≡ Ok x → (first >>= next).result ≡ (next x).result
+then_is : {A B : Type 0} (first : Meant A) (x : A) (next : A → Meant B) → first.result ≡ Ok x → (first >>= next).result
+    ≡ (next x).result
 then_is {A} first x next e = ap (λ (r : Result A Status). (after first.calls r next).result) e
 
-file_read : (word most : ℕ) (kind : LimitKind) (bytes : List ℕ) → length bytes ≤ most → (within word most kind (Some bytes)).result ≡ Ok bytes
+file_read : (word most : ℕ) (kind : LimitKind) (bytes : List ℕ) → length bytes ≤ most →
+    (within word most kind (Some bytes)).result ≡ Ok bytes
 file_read word most kind bytes short = ap (λ b. cond b (Err (Limit kind)) (Ok bytes)) (le-ltb most (length bytes) short)
 
-site_good : (given : Given) (word : Word) (fields : SiteFields) → IsGoodSite given word fields → (site_in given word).result ≡ Ok fields
+site_good : (given : Given) (word : Word) (fields : SiteFields) → IsGoodSite given word fields →
+    (site_in given word).result ≡ Ok fields
 unfolding site_of_file
 site_good given word fields good =
     ap (λ (got : Option (List ℕ)). (site_of_file word.number got).result) good.there
-    ∙ then_is (within word.number MOST_SITE_BYTES SiteBytes (Some good.bytes)) good.bytes (λ bytes. judged (told_site (site_of bytes)))
+    ∙ then_is (within word.number MOST_SITE_BYTES SiteBytes (Some good.bytes)) good.bytes
+    (λ bytes. judged (told_site (site_of bytes)))
     (file_read word.number MOST_SITE_BYTES SiteBytes good.bytes good.short)
     ∙ ap told_site (answered (lines_of good.bytes) (Ok fields) (good.is_site.text, good.is_site.ranges))
 
-book_good : (given : Given) (d : ℕ) (word : Word) (commands : List Command) → IsGoodBook given d word commands → (book_in given d word).result ≡ Ok commands
+book_good : (given : Given) (d : ℕ) (word : Word) (commands : List Command) → IsGoodBook given d word commands →
+    (book_in given d word).result ≡ Ok commands
 unfolding book_of_file
 book_good given d word commands good =
     ap (λ (got : Option (List ℕ)). (book_of_file word.number d got).result) good.there
-    ∙ then_is (within word.number MOST_BOOK_BYTES BookBytes (Some good.bytes)) good.bytes (λ bytes. judged (told_book word.number (book_of d bytes)))
+    ∙ then_is (within word.number MOST_BOOK_BYTES BookBytes (Some good.bytes)) good.bytes
+    (λ bytes. judged (told_book word.number (book_of d bytes)))
     (file_read word.number MOST_BOOK_BYTES BookBytes good.bytes good.short)
     ∙ ap (told_book word.number) (book_again d good.bytes commands good.is_book good.within)
 
 -- the work of an order is the words'
-ordered : (words : List (List ℕ)) (given : Given) (order : Order) → order_of words ≡ Ok order → (meaning words given).result ≡ (order_meaning order given).result
+ordered : (words : List (List ℕ)) (given : Given) (order : Order) → order_of words ≡ Ok order →
+    (meaning words given).result ≡ (order_meaning order given).result
 ordered words given order read = ap (λ (r : Result Order Status). (judged r >>= λ o. order_meaning o given).result) read
 
-pub cover_good : (words : List (List ℕ)) (given : Given) (good : IsGoodCover words given) → (meaning words given).result ≡ Ok (covering good.fields.height good.commands)
+pub cover_good : (words : List (List ℕ)) (given : Given) (good : IsGoodCover words given) → (meaning words given).result
+    ≡ Ok (covering good.fields.height good.commands)
 unfolding cover_meaning
 cover_good words given good =
     let d = good.fields.height in
     ordered words given (CoverOf good.site good.book) good.order
-    ∙ then_is (site_in given good.site) good.fields (λ fields. book_in given fields.height good.book >>= λ commands. value (covering fields.height commands))
+    ∙ then_is (site_in given good.site) good.fields (λ fields. book_in given fields.height good.book >>= λ commands.
+    value (covering fields.height commands))
     (site_good given good.site good.fields good.good_site)
-    ∙ then_is (book_in given d good.book) good.commands (λ commands. value (covering d commands)) (book_good given d good.book good.commands good.good_book)
+    ∙ then_is (book_in given d good.book) good.commands (λ commands. value (covering d commands))
+    (book_good given d good.book good.commands good.good_book)
 
 pub card_good : (words : List (List ℕ)) (given : Given) (good : IsGoodCard words given) →
-    (meaning words given).result ≡ Ok (making Uncounted good.out (card_bytes (card_of good.fields.master good.fields.ca good.fields.height good.leaf.value)))
+    (meaning words given).result
+    ≡ Ok
+    (making Uncounted good.out
+    (card_bytes (card_of good.fields.master good.fields.ca good.fields.height good.leaf.value)))
 card_good words given good =
     let fields = good.fields in
     let bytes = card_bytes (card_of fields.master fields.ca fields.height good.leaf.value) in
     ordered words given (CardOf good.site good.leaf good.out) good.order
-    ∙ then_is (site_in given good.site) fields (λ fields. judged (told_card fields good.leaf) >>= λ bytes. value (making Uncounted good.out bytes))
+    ∙ then_is (site_in given good.site) fields (λ fields. judged (told_card fields good.leaf) >>= λ bytes. value
+    (making Uncounted good.out bytes))
     (site_good given good.site fields good.good_site)
     ∙ then_is (judged (told_card fields good.leaf)) bytes (λ bytes. value (making Uncounted good.out bytes))
-    (ap (λ b. cond b (Ok bytes) (Err (BadWord good.leaf.word))) (lt-ltb good.leaf.value (2 ^ fields.height) good.of_tree))
+    (ap (λ b. cond b (Ok bytes) (Err (BadWord good.leaf.word)))
+    (lt-ltb good.leaf.value (2 ^ fields.height) good.of_tree))
 
 pub sample_good : (words : List (List ℕ)) (given : Given) (good : IsGoodSample words) →
     (meaning words given).result ≡ Ok (making NoSteps good.out (sample_of good.number good.packets))
@@ -91,11 +107,13 @@ pub tables_good : (words : List (List ℕ)) (given : Given) (good : IsGoodTables
 unfolding tables_meaning
 tables_good words given good = (
   ordered words given (TablesOf good.stream) good.order
-      ∙ ap (λ (got : Option (List ℕ)). (all_of good.stream.number got >>= λ bytes. value (inspecting bytes)).result) good.there,
+      ∙ ap (λ (got : Option (List ℕ)). (all_of good.stream.number got >>= λ bytes. value (inspecting bytes)).result)
+      good.there,
   ap stream_status good.whole,
 )
 
-plan_good : (given : Given) (site book : Word) (fields : SiteFields) (commands : List Command) → IsGoodSite given site fields →
+plan_good : (given : Given) (site book : Word) (fields : SiteFields) (commands : List Command) →
+    IsGoodSite given site fields →
     IsGoodBook given fields.height book commands →
     (plan_meaning site book given).result ≡ Ok (record { site = fields; commands = commands })
 unfolding plan_by
@@ -103,7 +121,8 @@ plan_good given site book fields commands good_site good_book =
     then_is (site_in given site) fields
     (λ fields. book_in given fields.height book >>= λ commands. value (record { site = fields; commands = commands }))
     (site_good given site fields good_site)
-    ∙ then_is (book_in given fields.height book) commands (λ commands. value (record { site = fields; commands = commands }))
+    ∙ then_is (book_in given fields.height book) commands
+    (λ commands. value (record { site = fields; commands = commands }))
     (book_good given fields.height book commands good_book)
 
 pub head_good : (words : List (List ℕ)) (given : Given) (good : IsGoodHead words given) →

@@ -29,13 +29,15 @@ err_is a b r e f = cc
 abbrev read_meaning : Result Order Status → Given → Meant Work
 read_meaning read given = judged read >>= λ order. order_meaning order given
 
-same_order : (order : Order) (given : Given) (a b : Outside) (status : Status) → Obeys (order_meaning order given) a b status →
+same_order : (order : Order) (given : Given) (a b : Outside) (status : Status) → Obeys (order_meaning order given) a b
+    status →
     Obeys (read_meaning (Ok order) given) a b status
 same_order order given a b status h =
     record { comes = h.comes; ports = h.ports; calls = let c = h.calls in omega arith; steps = h.steps }
 
 -- an order that is followed is the words'
-pub order_follows : (words : List (List ℕ)) (order : Order) (a b : Outside) (status : Status) → Ok order ≡ order_of words →
+pub order_follows : (words : List (List ℕ)) (order : Order) (a b : Outside) (status : Status) →
+    Ok order ≡ order_of words →
     Follows (order_meaning order) a b status → Follows (meaning words) a b status
 order_follows words order a b status read h =
     subst (λ (r : Result Order Status). Follows (read_meaning r) a b status) read
@@ -50,7 +52,8 @@ none_missing status word (inl e) is = absurd (let x = sym e ∙ is in cc)
 none_missing status word (inr e) is = absurd (let x = sym e.1 ∙ is in cc)
 
 -- words that are refused are followed by the refusal
-pub words_follow : (words : List (List ℕ)) (status : Status) (a : Outside) → Err status ≡ order_of words → RefusesWords status →
+pub words_follow : (words : List (List ℕ)) (status : Status) (a : Outside) → Err status ≡ order_of words →
+    RefusesWords status →
     Follows (meaning words) a a status
 words_follow words status a read h =
     let g = any_given a.place.files in
@@ -59,7 +62,8 @@ words_follow words status a read h =
       given = g.given;
       is_given = g.is_given;
       obeyed = record {
-        comes = refused refl (refuses status h) (record { files = refl; made = refl }) refl (record { depot = refl; print = refl })
+        comes = refused refl (refuses status h) (record { files = refl; made = refl }) refl
+            (record { depot = refl; print = refl })
             (record { missing = λ word is. absurd (none_missing status word h is); there = λ other. refl });
         ports = refl;
         calls = omega arith;
@@ -85,6 +89,7 @@ other_is (Ok x) h e = absurd (cc)
 other_is {A} (Err status) h e = h (err_is {A = A} status Usage (Err status) refl e)
 
 -- words of which `Usage` is meant are no order
-pub only_words : (read : Result Order Status) (given : Given) → (read_meaning read given).result ≡ Err Usage → read ≡ Err Usage
+pub only_words : (read : Result Order Status) (given : Given) → (read_meaning read given).result ≡ Err Usage →
+    read ≡ Err Usage
 only_words (Ok order) given e = absurd (other_is (order_meaning order given).result (other_order order given) e)
 only_words (Err status) given e = ap Err (err_is {A = Work} status Usage (Err status) refl e)

@@ -28,7 +28,8 @@ still_or_rose before now still rose = absurd (omega (arith, still, rose))
 -- it came to its end
 ended_with : (meant : Result Work Status) (work : Work) (files : Files) (a b : Outside) (status : Status) →
     meant ≡ Ok work → a.place.files ≡ Some files → IsCalm a.place.faults b.place.faults → status ≢ PrintFault →
-    status ≢ NoMemory → Comes meant a b status → (status ≡ work.ends) × (b.place.files ≡ files_with work.out (Some files))
+    status ≢ NoMemory → Comes meant a b status → (status ≡ work.ends)
+    × (b.place.files ≡ files_with work.out (Some files))
 ended_with meant work files a b status is told depot print memory (refused e r h k c m) =
     absurd (let both = sym e ∙ is in cc)
 ended_with meant work files a b status is told depot print memory (ended other e s i h k c m) =

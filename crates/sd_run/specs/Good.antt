@@ -65,7 +65,8 @@ pub record IsGoodTables (words : List (List ℕ)) (given : Given) : Type 0 where
   pub there : given stream ≡ Some bytes
   pub whole : end_of bytes ≡ Whole
 
--- the words are `head SITE BOOK CLEAR OUT`, the files are there, a site, a book and a stream of which no packet is refused
+-- the words are `head SITE BOOK CLEAR OUT`, the files are there, a site, a book and a stream of which no packet is
+-- refused
 pub record IsGoodHead (words : List (List ℕ)) (given : Given) : Type 0 where
   pub site : Word
   pub book : Word

@@ -36,7 +36,8 @@ pub record IsRestTo (plan : Plan) (u : ℕ) (clear : List (List ℕ)) (flags : L
   pub there : given stream ≡ Some (concat (chosen flags (broadcast plan clear)))
 
 -- OUT is the clear packets that are confirmed to leaf u where these things are kept, a part of what it is entitled to,
--- in its order; no packet is refused, and the status is how it ends for the leaf, which is revoked where it says so; for
+-- in its order; no packet is refused, and the status is how it ends for the leaf, which is revoked where it says so;
+-- for
 -- each period of which a section that has it is kept, as many steps are taken as the tree is high, or fewer
 pub record IsConfirmed (plan : Plan) (u : ℕ) (clear : List (List ℕ)) (kept : List Item) (out : Word) (work : Work) :
     Type 0 where

@@ -16,19 +16,23 @@ taken (Err refusal) out status before now h = h
 
 comes : (meant : Result (List ℕ) Status) (out : Word) (p : Place) (page : Page) (steps now : ℕ) (status : Status) →
     ((meant ≡ Err status) × IsRefusal status × IsEnding status) ⊎ (status ≡ NoMemory) →
-    Comes (judged meant >>= λ bytes. value (making Uncounted out bytes)).result (outside p page steps) (outside p page now) status
+    Comes (judged meant >>= λ bytes. value (making Uncounted out bytes)).result (outside p page steps)
+    (outside p page now) status
 comes meant out p page steps now status (inl h) =
-    refused (ap (λ (r : Result (List ℕ) Status). (judged r >>= λ bytes. value (making Uncounted out bytes)).result) h.0) h.1
+    refused (ap (λ (r : Result (List ℕ) Status). (judged r >>= λ bytes. value (making Uncounted out bytes)).result) h.0)
+    h.1
     (record { files = refl; made = refl }) refl (record { depot = refl; print = refl })
     (record { missing = λ word is. absurd (subst IsEnding is h.2); there = λ other. refl })
 comes meant out p page steps now status (inr h) =
     exhausted h (untouched (record { files = refl; made = refl }) refl) (record { depot = refl; print = refl }) refl
 
 -- the leaf was refused, or memory was out
-pub card_obeys : (view_meant : Result (List ℕ) Status) (out : Word) (p q : Place) (n : ℕ) (page : Page) (steps now : ℕ) (status : Status) →
+pub card_obeys : (view_meant : Result (List ℕ) Status) (out : Word) (p q : Place) (n : ℕ) (page : Page) (steps now : ℕ)
+    (status : Status) →
     q ≡ called n p → ((view_meant ≡ Err status) × IsRefusal status × IsEnding status) ⊎ (status ≡ NoMemory) →
     TakesFor view_meant steps now →
-    Obeys (judged view_meant >>= λ bytes. value (making Uncounted out bytes)) (outside q page steps) (outside q page now) status
+    Obeys (judged view_meant >>= λ bytes. value (making Uncounted out bytes)) (outside q page steps)
+    (outside q page now) status
 card_obeys meant out p q n page steps now status e h takes = record {
   comes = comes meant out q page steps now status h;
   ports = refl;

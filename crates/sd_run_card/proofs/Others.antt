@@ -18,7 +18,8 @@ other_leaf false bytes word = λ e. cc
 
 other_card : (fields : SiteFields) (leaf : Number) → IsOther (told_card fields leaf)
 other_card fields leaf =
-    other_leaf (nat_lt leaf.value (2 ^ fields.height)) (card_bytes (card_of fields.master fields.ca fields.height leaf.value)) leaf.word
+    other_leaf (nat_lt leaf.value (2 ^ fields.height))
+    (card_bytes (card_of fields.master fields.ca fields.height leaf.value)) leaf.word
 
 pub other_card_order : (site : Word) (leaf : Number) (out : Word) (given : Given) →
     IsOther (card_meaning site leaf out given).result
@@ -26,4 +27,5 @@ other_card_order site leaf out given =
     other_after (site_of_file site.number (given site)).calls (site_of_file site.number (given site)).result
     (λ fields. judged (told_card fields leaf) >>= λ bytes. value (making Uncounted out bytes))
     (other_site_file site.number (given site))
-    (λ fields. other_after 0 (told_card fields leaf) (λ bytes. value (making Uncounted out bytes)) (other_card fields leaf) (λ bytes. tt))
+    (λ fields. other_after 0 (told_card fields leaf) (λ bytes. value (making Uncounted out bytes))
+    (other_card fields leaf) (λ bytes. tt))

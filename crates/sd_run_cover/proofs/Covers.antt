@@ -1,6 +1,7 @@
 -- The texts of covers, one period after the other.
 use Rattle.std.proofs.Common.{arith, ◌≡◌, ◌≢◌, ℕ, suc, zero, ◌+◌, ◌-◌, ◌^◌, ◌<◌, ◌≤◌, List, [], ◌∷◌, ◌++◌, length, take}
-use Rattle.std.proofs.Common.{append-nil, append_assoc, Option, Some, refl, ap, sym, subst, ◌∙◌, inl, inr, ◌↔◌, take_all}
+use Rattle.std.proofs.Common.{append-nil, append_assoc, Option, Some, refl, ap, sym, subst, ◌∙◌, inl, inr, ◌↔◌}
+use Rattle.std.proofs.Common.{take_all}
 use Rattle.std.specs.Prelude.{Contains, IsNone}
 use Rattle.std.specs.List.{concat}
 use Rattle.std.specs.Io.KnownBytes.{Appends}
@@ -45,7 +46,8 @@ prefix_after a b c first last whole cut = (
 )
 
 -- a prefix of a first text is one of that with more after it
-prefix_longer : (a b : Option (List ℕ)) (first more : List ℕ) → AppendsPrefix a b first → AppendsPrefix a b (first ++ more)
+prefix_longer : (a b : Option (List ℕ)) (first more : List ℕ) → AppendsPrefix a b first →
+    AppendsPrefix a b (first ++ more)
 prefix_longer a b first more cut = (
   cut.0,
   (cut.1.0 ++ more, sym (append_assoc cut.0 cut.1.0 more) ∙ ap (λ (xs : List ℕ). xs ++ more) cut.1.1),

@@ -8,7 +8,10 @@ pub other_cover : (site book : Word) (given : Given) → IsOther (cover_meaning 
 unfolding cover_meaning
 other_cover site book given =
     other_after (site_of_file site.number (given site)).calls (site_of_file site.number (given site)).result
-    (λ fields. book_of_file book.number fields.height (given book) >>= λ commands. value (covering fields.height commands))
+    (λ fields. book_of_file book.number fields.height (given book) >>= λ commands. value
+    (covering fields.height commands))
     (other_site_file site.number (given site))
-    (λ fields. other_after (book_of_file book.number fields.height (given book)).calls (book_of_file book.number fields.height (given book)).result
-    (λ commands. value (covering fields.height commands)) (other_book_file book.number fields.height (given book)) (λ commands. tt))
+    (λ fields. other_after (book_of_file book.number fields.height (given book)).calls
+    (book_of_file book.number fields.height (given book)).result
+    (λ commands. value (covering fields.height commands)) (other_book_file book.number fields.height (given book))
+    (λ commands. tt))

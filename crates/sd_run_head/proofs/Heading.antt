@@ -1,5 +1,6 @@
 -- What comes of a clear stream that a head end sends into OUT.
-use Rattle.std.proofs.Common.{◌≡◌, ◌≢◌, ℕ, Bool, true, false, cond, List, [], Option, Some, None, Result, Ok, Err, refl, sym, ap, subst, ◌∙◌, inl, inr, arith}
+use Rattle.std.proofs.Common.{◌≡◌, ◌≢◌, ℕ, Bool, true, false, cond, List, [], Option, Some, None, Result, Ok, Err, refl}
+use Rattle.std.proofs.Common.{sym, ap, subst, ◌∙◌, inl, inr, arith}
 use Rattle.std.specs.Prelude.{nat_eq, IsErrOf}
 use Rattle.std.proofs.lemmas.Bool.Decides.{nat_tests}
 use Rattle.sd_cause.specs.Count.{IsCaused}
@@ -25,18 +26,21 @@ use Rattle.sd_status.specs.Reads.{Reads}
 use Rattle.sd_status.proofs.Steps.{takes_none, first_obeys}
 use Rattle.sd_status.proofs.Moves.{then_obeys}
 use Rattle.sd_files.specs.Turned.{HasPortCause, Wrote}
-use Rattle.sd_run_head.specs.Head.{plan_by, plan_meaning, sending_of, head_meaning, refusal_in, stop_status, sent_told, SendsLeft, sent_of, sent_status}
+use Rattle.sd_run_head.specs.Head.{plan_by, plan_meaning, sending_of, head_meaning, refusal_in, stop_status, sent_told}
+use Rattle.sd_run_head.specs.Head.{SendsLeft, sent_of, sent_status}
 use Rattle.sd_run_head.proofs.Sending.{IsHeadEnd, IsDueAt, wrote_sent}
 
 -- what is due of a head end is a refusal of a packet, or that memory was out
-due_at : (plan : Plan) (before : List (List ℕ)) (packet : Option (List ℕ)) (fault : HeadFault) → IsDue plan before packet fault →
+due_at : (plan : Plan) (before : List (List ℕ)) (packet : Option (List ℕ)) (fault : HeadFault) →
+    IsDue plan before packet fault →
     IsDueAt plan before packet (refusal_in fault)
 due_at plan before None (head.Clear fault) h = h
 due_at plan before (Some packet) (head.Clear fault) h = h
 due_at plan before None head.NoMemory h = tt
 due_at plan before (Some packet) head.NoMemory h = tt
 
-kept_or_due : (plan : Plan) (before : List (List ℕ)) (s : Head) (packet : Option (List ℕ)) (fault : HeadFault) (bytes : List ℕ) →
+kept_or_due : (plan : Plan) (before : List (List ℕ)) (s : Head) (packet : Option (List ℕ)) (fault : HeadFault)
+    (bytes : List ℕ) →
     IsAfter plan before s → Refuses s packet fault bytes → IsDueAt plan before packet (refusal_in fault)
 kept_or_due plan before s packet fault bytes a h = elim h.cause [
   | inl kept ↦ let none : None ≡ Some fault = sym a.unrefused ∙ kept in absurd (cc)
@@ -48,24 +52,32 @@ is_head_end : (plan : Plan) → IsHeadEnd plan head_does head_ends head_refuses 
 is_head_end plan = record {
   step = λ before s packet t bytes n a does. does plan before a;
   last = λ before s t bytes n a ends. (ends plan before a).0;
-  refusal = λ before s packet fault t bytes n a refuses. (refuses.nothing, kept_or_due plan before s packet fault bytes a refuses);
+  refusal = λ before s packet fault t bytes n a refuses. (
+    refuses.nothing,
+    kept_or_due plan before s packet fault bytes
+        a refuses,
+  );
 }
 
 -- what was sent for the stream that was left
-pub sends_left : (plan : Plan) (a b : Moment Head) (result : Result ℕ (DriveFault HeadFault)) (status : Status) → IsAfter plan [] a.stage →
+pub sends_left : (plan : Plan) (a b : Moment Head) (result : Result ℕ (DriveFault HeadFault)) (status : Status) →
+    IsAfter plan [] a.stage →
     Drives head_does head_ends head_refuses a b result → status ≡ sent_told refusal_in result →
     SendsLeft plan a.left a.sink.held b.sink.held status
 sends_left plan a b result status stands drives is =
     let over = is_over head_does head_ends head_refuses a b result drives in record {
       bytes = over.bytes;
       is_left = over.left;
-      wrote = subst (λ (s : Status). Wrote (sent_of plan over.bytes) (sent_status plan over.bytes) a.sink.held b.sink.held s) (sym is)
-          (wrote_sent plan head_does head_ends head_refuses refusal_in (IsAfter plan) (is_head_end plan) over.bytes a b result stands over.drives);
+      wrote = subst (λ (s : Status). Wrote (sent_of plan over.bytes) (sent_status plan over.bytes) a.sink.held
+          b.sink.held s) (sym is)
+          (wrote_sent plan head_does head_ends head_refuses refusal_in (IsAfter plan) (is_head_end plan) over.bytes a b
+          result stands over.drives);
     }
 
 -- the head end keeps to its plan
 pub by_plan : (own plan : Plan) (bytes : List ℕ) (before now : Option (List ℕ)) (status : Status) → own ≡ plan →
-    Wrote (sent_of own bytes) (sent_status own bytes) before now status → Wrote (sent_of plan bytes) (sent_status plan bytes) before now status
+    Wrote (sent_of own bytes) (sent_status own bytes) before now status → Wrote (sent_of plan bytes)
+    (sent_status plan bytes) before now status
 by_plan own plan bytes before now status is h =
     subst (λ (p : Plan). Wrote (sent_of p bytes) (sent_status p bytes) before now status) is h
 
@@ -75,8 +87,10 @@ refused_apart None = λ e. cc
 refused_apart (Some fault) = λ e. cc
 
 -- the device failed where a read or a write did
-pub port_caused : (f g i j : ℕ) (result : Result ℕ (DriveFault HeadFault)) (status : Status) → status ≡ sent_told refusal_in result →
-    IsCaused f g (IsErrOf result drive.ReadFault) → IsCaused i j (IsErrOf result drive.WriteFault) → HasPortCause f g i j status
+pub port_caused : (f g i j : ℕ) (result : Result ℕ (DriveFault HeadFault)) (status : Status) →
+    status ≡ sent_told refusal_in result →
+    IsCaused f g (IsErrOf result drive.ReadFault) → IsCaused i j (IsErrOf result drive.WriteFault) →
+    HasPortCause f g i j status
 port_caused f g i j (Ok count) status is read written = record {
   calm = λ n. (read.calm (λ e. cc), written.calm (λ e. cc));
   failed = λ e. absurd (let same = sym is ∙ e in cc);
@@ -114,7 +128,8 @@ record MoreGiven (files : Option Files) (given : Given) (a b c : Word) (got : Op
   second : more b ≡ given b
   gave : more c ≡ got
 
-more_given : (files : Option Files) (given : Given) (a b c : Word) (got : Option (List ℕ)) → IsGiven files given → IsGot files c.text got →
+more_given : (files : Option Files) (given : Given) (a b c : Word) (got : Option (List ℕ)) → IsGiven files given →
+    IsGot files c.text got →
     a.number ≢ c.number → b.number ≢ c.number → MoreGiven files given a b c got
 more_given None given a b c got is is_got ac bc = record {
   more = λ w. cond (nat_eq w.number c.number) got (given w);
@@ -132,7 +147,8 @@ more_given (Some files) given a b c got is is_got ac bc = record {
 }
 
 -- a plan that was read, and then what is meant by it and the third file
-pub plan_follows : {X : Type 0} (view : X → Plan) (site book clear out : Word) (got : Option (List ℕ)) (p q : Place) (page : Page) (steps : ℕ)
+pub plan_follows : {X : Type 0} (view : X → Plan) (site book clear out : Word) (got : Option (List ℕ)) (p q : Place)
+    (page : Page) (steps : ℕ)
     (b : Outside) (x : X) (status : Status) → site.number ≢ clear.number → book.number ≢ clear.number →
     Reads view (plan_meaning site book) p q (Ok x) → IsGot q.files clear.text got →
     Obeys (sending_of clear out got (view x)) (outside q page steps) b status →
@@ -140,7 +156,8 @@ pub plan_follows : {X : Type 0} (view : X → Plan) (site book clear out : Word)
 unfolding head_meaning
 plan_follows {X} view site book clear out got p q page steps b x status sc bc read is_got obeys =
     let same : q.files ≡ p.files = ap (λ (z : Place). z.files) read.gives.1 in
-    let g = more_given p.files read.given site book clear got read.is_given (subst (λ (f : Option Files). IsGot f clear.text got) same is_got) sc bc in
+    let g = more_given p.files read.given site book clear got read.is_given
+    (subst (λ (f : Option Files). IsGot f clear.text got) same is_got) sc bc in
     let one : plan_by site.number book.number (read.given site) (read.given book) ≡ plan_meaning site book g.more =
     ap (λ (o : Option (List ℕ)). plan_by site.number book.number o (read.given book)) (sym g.first)
     ∙ ap (λ (o : Option (List ℕ)). plan_by site.number book.number (g.more site) o) (sym g.second) in
@@ -148,40 +165,47 @@ plan_follows {X} view site book clear out got p q page steps b x status sc bc re
       given = g.more;
       is_given = g.is_more;
       obeyed =
-          subst (λ (o : Option (List ℕ)). Obeys (plan_meaning site book g.more >>= sending_of clear out o) (outside p page steps) b status)
+          subst (λ (o : Option (List ℕ)). Obeys (plan_meaning site book g.more >>= sending_of clear out o)
+          (outside p page steps) b status)
           (sym g.gave)
           (subst (λ (m : Meant Plan). Obeys (m >>= sending_of clear out got) (outside p page steps) b status) one
-          (then_obeys (plan_meaning site book read.given) (view x) (sending_of clear out got) p q page steps b status read.gives.0 read.gives.1
+          (then_obeys (plan_meaning site book read.given) (view x) (sending_of clear out got) p q page steps b status
+          read.gives.0 read.gives.1
           obeys));
     }
 
 -- a refusal, or a stop, is the same whatever would have been given
-pub same_refusal : {X Z Y : Type 0} (view : X → Y) (other : Z → Y) (meant : Given → Meant Y) (a b : Place) (status : Status) →
+pub same_refusal : {X Z Y : Type 0} (view : X → Y) (other : Z → Y) (meant : Given → Meant Y) (a b : Place)
+    (status : Status) →
     Reads view meant a b (Err status) → Reads other meant a b (Err status)
 same_refusal view other meant a b status h = record { given = h.given; is_given = h.is_given; gives = h.gives }
 
 -- what was given, seen otherwise
-pub same_value : {X Z Y : Type 0} (view : X → Y) (other : Z → Y) (meant : Given → Meant Y) (a b : Place) (x : X) (z : Z) →
+pub same_value : {X Z Y : Type 0} (view : X → Y) (other : Z → Y) (meant : Given → Meant Y) (a b : Place) (x : X)
+    (z : Z) →
     view x ≡ other z → Reads view meant a b (Ok x) → Reads other meant a b (Ok z)
 same_value view other meant a b x z same h =
     record { given = h.given; is_given = h.is_given; gives = (h.gives.0 ∙ ap Ok same, h.gives.1) }
 
 -- a plan that was not read
-pub no_plan : {X : Type 0} (view : X → Plan) (site book clear out : Word) (p q : Place) (page : Page) (steps : ℕ) (status : Status) →
+pub no_plan : {X : Type 0} (view : X → Plan) (site book clear out : Word) (p q : Place) (page : Page) (steps : ℕ)
+    (status : Status) →
     Reads view (plan_meaning site book) p q (Err status) →
     Follows (head_meaning site book clear out) (outside p page steps) (outside q page steps) status
 unfolding head_meaning
 no_plan view site book clear out p q page steps status read = record {
   given = read.given;
   is_given = read.is_given;
-  obeyed = first_obeys (plan_meaning site book read.given) (sending_of clear out (read.given clear)) p q page steps status read.gives;
+  obeyed = first_obeys (plan_meaning site book read.given) (sending_of clear out (read.given clear)) p q page steps
+      status read.gives;
 }
 
 -- memory was out before anything more was done
 pub wanting_obeys : (meant : Meant Work) (q : Place) (page : Page) (steps : ℕ) (status : Status) → status ≡ NoMemory →
     Obeys meant (outside q page steps) (outside q page steps) status
 wanting_obeys meant q page steps status is = record {
-  comes = exhausted is (untouched (record { files = refl; made = refl }) refl) (record { depot = refl; print = refl }) refl;
+  comes = exhausted is (untouched (record { files = refl; made = refl }) refl) (record { depot = refl; print = refl })
+      refl;
   ports = refl;
   calls = omega arith;
   steps = takes_none meant.result status steps;

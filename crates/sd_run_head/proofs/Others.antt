@@ -5,14 +5,18 @@ use Rattle.sd_files.specs.Files.{site_of_file, book_of_file}
 use Rattle.sd_files.proofs.Others.{IsOther, other_after, other_stream, other_site_file, other_book_file}
 use Rattle.sd_run_head.specs.Head.{plan_by, sending, sending_of, head_meaning}
 
-other_plan : (site book : ℕ) (site_got book_got : Option (List ℕ)) → IsOther (plan_by site book site_got book_got).result
+other_plan : (site book : ℕ) (site_got book_got : Option (List ℕ)) →
+    IsOther (plan_by site book site_got book_got).result
 unfolding plan_by
 other_plan site book site_got book_got =
     other_after (site_of_file site site_got).calls (site_of_file site site_got).result
-    (λ fields. book_of_file book fields.height book_got >>= λ commands. value (record { site = fields; commands = commands }))
+    (λ fields. book_of_file book fields.height book_got >>= λ commands. value
+    (record { site = fields; commands = commands }))
     (other_site_file site site_got)
-    (λ fields. other_after (book_of_file book fields.height book_got).calls (book_of_file book fields.height book_got).result
-    (λ commands. value (record { site = fields; commands = commands })) (other_book_file book fields.height book_got) (λ commands. tt))
+    (λ fields. other_after (book_of_file book fields.height book_got).calls
+    (book_of_file book fields.height book_got).result
+    (λ commands. value (record { site = fields; commands = commands })) (other_book_file book fields.height book_got)
+    (λ commands. tt))
 
 pub other_head : (site book clear out : Word) (given : Given) → IsOther (head_meaning site book clear out given).result
 unfolding head_meaning

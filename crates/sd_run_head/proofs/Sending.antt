@@ -1,5 +1,7 @@
 -- What a head end writes of a clear stream that is driven through it, whatever it keeps of the packets before.
-use Rattle.std.proofs.Common.{◌≡◌, ℕ, ◌+◌, ◌-◌, ◌^◌, ◌<◌, ◌≤◌, ◌==◌, Bool, true, false, List, [], ◌∷◌, ◌++◌, length, take, drop, Option, Some, None, Result, Ok, Err, refl, sym, ap, subst, ◌∙◌, inl, inr, arith, append_assoc, append-nil, length-append}
+use Rattle.std.proofs.Common.{◌≡◌, ℕ, ◌+◌, ◌-◌, ◌^◌, ◌<◌, ◌≤◌, ◌==◌, Bool, true, false, List, [], ◌∷◌, ◌++◌, length}
+use Rattle.std.proofs.Common.{take, drop, Option, Some, None, Result, Ok, Err, refl, sym, ap, subst, ◌∙◌, inl, inr}
+use Rattle.std.proofs.Common.{arith, append_assoc, append-nil, length-append}
 use Rattle.std.specs.Prelude.{slice_get, not}
 use Rattle.std.specs.List.{concat}
 use Rattle.std.specs.Option.{option_map_or}
@@ -21,15 +23,18 @@ use Rattle.sd_engine.specs.declared.driver.DriveFault.{DriveFault}
 use Rattle.sd_engine.specs.declared.driver.DriveFault.TheVariants as drive
 use Rattle.sd_broadcast.specs.Plan.{Plan}
 use Rattle.sd_broadcast.specs.Kinds.{kind_of}
-use Rattle.sd_broadcast.specs.Refused.{fault_where, form_where, is_taken, pat_wrong, is_full_own, is_one_too_many, refusal_of, refusal_from}
+use Rattle.sd_broadcast.specs.Refused.{fault_where, form_where, is_taken, pat_wrong, is_full_own, is_one_too_many}
+use Rattle.sd_broadcast.specs.Refused.{refusal_of, refusal_from}
 use Rattle.sd_broadcast.specs.Sent.{sent, closing_of, packets_from, body, broadcast, bytes_added, bytes_from}
 use Rattle.sd_broadcast.proofs.Bodies.{body_bytes}
 use Rattle.sd_broadcast.proofs.Sending.{packets_in_turn}
 use Rattle.sd_broadcast.specs.declared.fault.ClearFault.{ClearFault}
-use Rattle.sd_broadcast.specs.declared.fault.ClearFault.TheVariants.{AlreadyScrambled, PidTaken, PatForm, PmtForm, TooManyPids, TooLong}
+use Rattle.sd_broadcast.specs.declared.fault.ClearFault.TheVariants.{AlreadyScrambled, PidTaken, PatForm, PmtForm}
+use Rattle.sd_broadcast.specs.declared.fault.ClearFault.TheVariants.{TooManyPids, TooLong}
 use Rattle.sd_status.specs.declared.status.Status.TheVariants.{Done}
 use Rattle.sd_files.specs.Turned.{Wrote, all_written, some_written}
-use Rattle.sd_run_head.specs.Head.{packet_in, refused_status, clear_status, status_where, sent_by, sent_where, sent_of, sent_status, stop_status, sent_told}
+use Rattle.sd_run_head.specs.Head.{packet_in, refused_status, clear_status, status_where, sent_by, sent_where, sent_of}
+use Rattle.sd_run_head.specs.Head.{sent_status, stop_status, sent_told}
 
 -- A refusal in its packet's turn.
 
@@ -49,7 +54,8 @@ names_form None k told next is h = h
 names_form (Some form) k told next is h = is form
 
 -- a packet's refusal names it
-names_own : (site : SiteFields) (before : List (List ℕ)) (packet : List ℕ) → Names (length before) (refusal_of site before packet)
+names_own : (site : SiteFields) (before : List (List ℕ)) (packet : List ℕ) → Names (length before)
+    (refusal_of site before packet)
 unfolding refusal_of
 names_own site before packet =
     let k : ℕ = length before in
@@ -89,18 +95,22 @@ split site before (x ∷ xs) ys h =
 -- the first refusal is of this packet, or of one after it
 later_by : (site : SiteFields) (before ys : List (List ℕ)) (y : List ℕ) (fault : ClearFault) (o : Option ClearFault) →
     refusal_of site before y ≡ o → option_map_or Some o (refusal_from site (before ++ y ∷ []) ys) ≡ Some fault →
-    (refusal_from site (before ++ y ∷ []) ys ≡ Some fault → length (before ++ y ∷ []) ≤ packet_in fault) → length before ≤ packet_in fault
+    (refusal_from site (before ++ y ∷ []) ys ≡ Some fault → length (before ++ y ∷ []) ≤ packet_in fault) →
+    length before ≤ packet_in fault
 later_by site before ys y fault (Some first) is h next =
-    let own : packet_in fault ≡ length before = named (length before) (refusal_of site before y) fault (names_own site before y) (is ∙ h) in
+    let own : packet_in fault ≡ length before = named (length before) (refusal_of site before y) fault
+    (names_own site before y) (is ∙ h) in
     omega (arith, own)
 later_by site before ys y fault None is h next = let rest = next h in omega (arith, rest, length-append before (y ∷ []))
 
-later : (site : SiteFields) (before ys : List (List ℕ)) (fault : ClearFault) → refusal_from site before ys ≡ Some fault →
+later : (site : SiteFields) (before ys : List (List ℕ)) (fault : ClearFault) → refusal_from site before ys
+    ≡ Some fault →
     length before ≤ packet_in fault
 unfolding refusal_from
 later site before [] fault h = absurd (cc)
 later site before (y ∷ ys) fault h =
-    later_by site before ys y fault (refusal_of site before y) refl h (λ then. later site (before ++ y ∷ []) ys fault then)
+    later_by site before ys y fault (refusal_of site before y) refl h
+    (λ then. later site (before ++ y ∷ []) ys fault then)
 
 -- What is sent of some first packets.
 
@@ -112,8 +122,10 @@ bytes_in_turn plan before [] ys = ap (λ (b : List (List ℕ)). bytes_from plan 
 bytes_in_turn plan before (x ∷ xs) ys =
     ap (λ (rest : List ℕ). bytes_added plan before x ++ rest)
     (bytes_in_turn plan (before ++ x ∷ []) xs ys
-    ∙ ap (λ (b : List (List ℕ)). bytes_from plan (before ++ x ∷ []) xs ++ bytes_from plan b ys) (append_assoc before (x ∷ []) xs))
-    ∙ sym (append_assoc (bytes_added plan before x) (bytes_from plan (before ++ x ∷ []) xs) (bytes_from plan (before ++ (x ∷ xs)) ys))
+    ∙ ap (λ (b : List (List ℕ)). bytes_from plan (before ++ x ∷ []) xs ++ bytes_from plan b ys)
+    (append_assoc before (x ∷ []) xs))
+    ∙ sym (append_assoc (bytes_added plan before x) (bytes_from plan (before ++ x ∷ []) xs)
+    (bytes_from plan (before ++ (x ∷ xs)) ys))
 
 prefix_on : (prefix part whole : List ℕ) → IsPrefix prefix part → IsPrefix part whole → IsPrefix prefix whole
 prefix_on prefix part whole p q =
@@ -129,31 +141,38 @@ body_first plan xs ys = (
       ∙ sym (bytes_in_turn plan [] xs ys) ∙ sym (body_bytes plan (xs ++ ys)),
 )
 
-body_taken : (plan : Plan) (k : ℕ) (clear : List (List ℕ)) → IsPrefix (concat (body plan (take k clear))) (concat (body plan clear))
+body_taken : (plan : Plan) (k : ℕ) (clear : List (List ℕ)) → IsPrefix (concat (body plan (take k clear)))
+    (concat (body plan clear))
 body_taken plan k clear =
-    subst (λ (all : List (List ℕ)). IsPrefix (concat (body plan (take k clear))) (concat (body plan all))) (take-append-drop k clear)
+    subst (λ (all : List (List ℕ)). IsPrefix (concat (body plan (take k clear))) (concat (body plan all)))
+    (take-append-drop k clear)
     (body_first plan (take k clear) (drop k clear))
 
 -- the broadcast is its body and the closing message
 closed_bytes : (plan : Plan) (clear : List (List ℕ)) →
-    concat (broadcast plan clear) ≡ concat (body plan clear) ++ concat (packets_from plan.site (sent plan clear) (closing_of plan clear))
+    concat (broadcast plan clear) ≡ concat (body plan clear) ++ concat (packets_from plan.site (sent plan clear)
+    (closing_of plan clear))
 unfolding body broadcast
 closed_bytes plan clear =
     ap concat (packets_in_turn plan.site [] (sent plan clear) (closing_of plan clear))
-    ∙ concat-append (packets_from plan.site [] (sent plan clear)) (packets_from plan.site (sent plan clear) (closing_of plan clear))
+    ∙ concat-append (packets_from plan.site [] (sent plan clear)) (packets_from plan.site (sent plan clear)
+    (closing_of plan clear))
 
-body_of_all : (plan : Plan) (clear : List (List ℕ)) (end : StreamEnd) → IsPrefix (concat (body plan clear)) (concat (sent_by plan clear end))
+body_of_all : (plan : Plan) (clear : List (List ℕ)) (end : StreamEnd) → IsPrefix (concat (body plan clear))
+    (concat (sent_by plan clear end))
 body_of_all plan clear Whole =
     (concat (packets_from plan.site (sent plan clear) (closing_of plan clear)), sym (closed_bytes plan clear))
 body_of_all plan clear (Breaks found) = ([], append-nil (concat (body plan clear)))
 body_of_all plan clear RunsOn = ([], append-nil (concat (body plan clear)))
 
 -- what is sent of some first packets, of which none is refused, begins all that is sent
-sent_begins : (plan : Plan) (clear : List (List ℕ)) (end : StreamEnd) (k : ℕ) (first : Option ClearFault) → k ≤ length clear →
+sent_begins : (plan : Plan) (clear : List (List ℕ)) (end : StreamEnd) (k : ℕ) (first : Option ClearFault) →
+    k ≤ length clear →
     refusal_from plan.site [] (take k clear) ≡ None → refusal_from plan.site [] clear ≡ first →
     IsPrefix (concat (body plan (take k clear))) (concat (sent_where plan clear end first))
 sent_begins plan clear end k None within none is =
-    prefix_on (concat (body plan (take k clear))) (concat (body plan clear)) (concat (sent_by plan clear end)) (body_taken plan k clear)
+    prefix_on (concat (body plan (take k clear))) (concat (body plan clear)) (concat (sent_by plan clear end))
+    (body_taken plan k clear)
     (body_of_all plan clear end)
 sent_begins plan clear end k (Some fault) within none is =
     let rest : refusal_from plan.site ([] ++ take k clear) (drop k clear) ≡ Some fault =
@@ -164,7 +183,8 @@ sent_begins plan clear end k (Some fault) within none is =
     subst (λ (ps : List (List ℕ)). IsPrefix (concat (body plan ps)) (concat (body plan (take (packet_in fault) clear))))
     (take-take k (packet_in fault) clear high) (body_taken plan k (take (packet_in fault) clear))
 
-begins : (plan : Plan) (bytes : List ℕ) (k : ℕ) → k ≤ length (taken_of bytes) → refusal_from plan.site [] (take k (taken_of bytes)) ≡ None →
+begins : (plan : Plan) (bytes : List ℕ) (k : ℕ) → k ≤ length (taken_of bytes) → refusal_from plan.site []
+    (take k (taken_of bytes)) ≡ None →
     IsPrefix (concat (body plan (take k (taken_of bytes)))) (sent_of plan bytes)
 unfolding sent_of
 begins plan bytes k within none =
@@ -179,27 +199,35 @@ IsDueAt plan before None (Some fault) = ⊥
 IsDueAt plan before (Some packet) (Some fault) = refusal_of plan.site before packet ≡ Some fault
 
 -- it writes what each packet adds, and the closing message at the end, and refuses what is due
-pub record IsHeadEnd {S F : Type 0} (plan : Plan) (does : S → List ℕ → S → List ℕ → ℕ → Type 0) (ends : S → S → List ℕ → ℕ → Type 0)
-    (refuses : S → Option (List ℕ) → F → S → List ℕ → ℕ → Type 0) (told : F → Option ClearFault) (After : List (List ℕ) → S → Type 0) :
+pub record IsHeadEnd {S F : Type 0} (plan : Plan) (does : S → List ℕ → S → List ℕ → ℕ → Type 0) (ends : S → S → List ℕ →
+    ℕ → Type 0)
+    (refuses : S → Option (List ℕ) → F → S → List ℕ → ℕ → Type 0) (told : F → Option ClearFault)
+    (After : List (List ℕ) → S → Type 0) :
     Type 0 where
   pub step : (before : List (List ℕ)) (s : S) (packet : List ℕ) (t : S) (bytes : List ℕ) (n : ℕ) → After before s →
       does s packet t bytes n →
-      (refusal_of plan.site before packet ≡ None) × (bytes ≡ bytes_added plan before packet) × After (before ++ packet ∷ []) t
+      (refusal_of plan.site before packet ≡ None) × (bytes ≡ bytes_added plan before packet)
+      × After (before ++ packet ∷ []) t
   pub last : (before : List (List ℕ)) (s t : S) (bytes : List ℕ) (n : ℕ) → After before s → ends s t bytes n →
       bytes ≡ concat (packets_from plan.site (sent plan before) (closing_of plan before))
-  pub refusal : (before : List (List ℕ)) (s : S) (packet : Option (List ℕ)) (fault : F) (t : S) (bytes : List ℕ) (n : ℕ) → After before s →
+  pub refusal : (before : List (List ℕ)) (s : S) (packet : Option (List ℕ)) (fault : F) (t : S) (bytes : List ℕ)
+      (n : ℕ) → After before s →
       refuses s packet fault t bytes n → (bytes ≡ []) × IsDueAt plan before packet (told fault)
 
 -- packets that went through it
-record WentOn {S : Type 0} (plan : Plan) (After : List (List ℕ) → S → Type 0) (before packets : List (List ℕ)) (t : S) (bytes : List ℕ) :
+record WentOn {S : Type 0} (plan : Plan) (After : List (List ℕ) → S → Type 0) (before packets : List (List ℕ)) (t : S)
+    (bytes : List ℕ) :
     Type 0 where
   wrote : bytes ≡ bytes_from plan before packets
   unrefused : refusal_from plan.site before packets ≡ None
   after : After (before ++ packets) t
 
-went_on : {S F : Type 0} (plan : Plan) (does : S → List ℕ → S → List ℕ → ℕ → Type 0) (ends : S → S → List ℕ → ℕ → Type 0)
-    (refuses : S → Option (List ℕ) → F → S → List ℕ → ℕ → Type 0) (told : F → Option ClearFault) (After : List (List ℕ) → S → Type 0)
-    (head : IsHeadEnd plan does ends refuses told After) (before packets : List (List ℕ)) (s t : S) (bytes : List ℕ) (n : ℕ) →
+went_on : {S F : Type 0} (plan : Plan) (does : S → List ℕ → S → List ℕ → ℕ → Type 0) (ends : S → S → List ℕ → ℕ →
+    Type 0)
+    (refuses : S → Option (List ℕ) → F → S → List ℕ → ℕ → Type 0) (told : F → Option ClearFault)
+    (After : List (List ℕ) → S → Type 0)
+    (head : IsHeadEnd plan does ends refuses told After) (before packets : List (List ℕ)) (s t : S) (bytes : List ℕ)
+    (n : ℕ) →
     After before s → Chain does s packets t bytes n → WentOn plan After before packets t bytes
 unfolding bytes_from refusal_from
 went_on plan does ends refuses told After head before [] s t bytes n a (same, none, counted) = record {
@@ -207,13 +235,17 @@ went_on plan does ends refuses told After head before [] s t bytes n a (same, no
   unrefused = refl;
   after = subst (λ u. After (before ++ []) u) same (subst (λ xs. After xs s) (sym (append-nil before)) a);
 }
-went_on plan does ends refuses told After head before (packet ∷ packets) s t bytes n a (mid, first, rest, m, k, one, more, joined, counted) =
+went_on plan does ends refuses told After head before (packet ∷ packets) s t bytes n a
+    (mid, first, rest, m, k, one, more, joined, counted) =
     let here = head.step before s packet mid first m a one in
-    let there = went_on plan does ends refuses told After head (before ++ packet ∷ []) packets mid t rest k here.2 more in
+    let there = went_on plan does ends refuses told After head (before ++ packet ∷ []) packets mid t rest k here.2 more
+    in
     record {
-      wrote = joined ∙ (ap (λ (xs : List ℕ). xs ++ rest) here.1 ∙ ap (λ (xs : List ℕ). bytes_added plan before packet ++ xs) there.wrote);
+      wrote = joined ∙ (ap (λ (xs : List ℕ). xs ++ rest) here.1 ∙ ap (λ (xs : List ℕ). bytes_added plan before packet
+          ++ xs) there.wrote);
       unrefused =
-          ap (λ (o : Option ClearFault). option_map_or Some o (refusal_from plan.site (before ++ packet ∷ []) packets)) here.0
+          ap (λ (o : Option ClearFault). option_map_or Some o (refusal_from plan.site (before ++ packet ∷ []) packets))
+          here.0
           ∙ there.unrefused;
       after = subst (λ xs. After xs t) (append_assoc before (packet ∷ []) packets) there.after;
     }
@@ -221,7 +253,8 @@ went_on plan does ends refuses told After head before (packet ∷ packets) s t b
 -- What was written of a stream that was driven through it.
 
 -- of a stream of which no packet is refused
-pub sent_unrefused : (plan : Plan) (bytes : List ℕ) (end : StreamEnd) → refusal_from plan.site [] (taken_of bytes) ≡ None → end_of bytes ≡ end →
+pub sent_unrefused : (plan : Plan) (bytes : List ℕ) (end : StreamEnd) → refusal_from plan.site [] (taken_of bytes)
+    ≡ None → end_of bytes ≡ end →
     (concat (sent_by plan (taken_of bytes) end) ≡ sent_of plan bytes) × (clear_status end ≡ sent_status plan bytes)
 unfolding sent_of sent_status
 sent_unrefused plan bytes end none is = (
@@ -231,8 +264,10 @@ sent_unrefused plan bytes end none is = (
 )
 
 -- and of one of which a packet is
-sent_refused : (plan : Plan) (bytes : List ℕ) (fault : ClearFault) → refusal_from plan.site [] (taken_of bytes) ≡ Some fault →
-    (concat (body plan (take (packet_in fault) (taken_of bytes))) ≡ sent_of plan bytes) × (refused_status fault ≡ sent_status plan bytes)
+sent_refused : (plan : Plan) (bytes : List ℕ) (fault : ClearFault) → refusal_from plan.site [] (taken_of bytes)
+    ≡ Some fault →
+    (concat (body plan (take (packet_in fault) (taken_of bytes))) ≡ sent_of plan bytes)
+    × (refused_status fault ≡ sent_status plan bytes)
 unfolding sent_of sent_status
 sent_refused plan bytes fault is = (
   sym (ap (λ (first : Option ClearFault). concat (sent_where plan (taken_of bytes) (end_of bytes) first)) is),
@@ -263,9 +298,11 @@ first_refused site clear count packet fault none at due =
       sym (ap (refusal_from site []) (take-append-drop count clear))
           ∙ split site [] (take count clear) (drop count clear) none
           ∙ ap (refusal_from site (take count clear)) here.1
-          ∙ ap (λ (o : Option ClearFault). option_map_or Some o (refusal_from site (take count clear ++ packet ∷ []) (drop (count + 1) clear)))
+          ∙ ap (λ (o : Option ClearFault). option_map_or Some o (refusal_from site (take count clear ++ packet ∷ [])
+          (drop (count + 1) clear)))
           due,
-      named (length (take count clear)) (refusal_of site (take count clear) packet) fault (names_own site (take count clear) packet) due ∙ counted,
+      named (length (take count clear)) (refusal_of site (take count clear) packet) fault
+          (names_own site (take count clear) packet) due ∙ counted,
     )
 
 -- one packet more that isn't refused
@@ -278,8 +315,10 @@ one_unrefused site clear count packet none at clean =
     ∙ split site [] (take count clear) (packet ∷ []) none
     ∙ ap (λ (o : Option ClearFault). option_map_or Some o None) clean
 
-one_written : (plan : Plan) (clear : List (List ℕ)) (count : ℕ) (packet : List ℕ) → slice_get clear count ≡ Some packet →
-    concat (body plan (take count clear)) ++ bytes_added plan (take count clear) packet ≡ concat (body plan (take (count + 1) clear))
+one_written : (plan : Plan) (clear : List (List ℕ)) (count : ℕ) (packet : List ℕ) → slice_get clear count
+    ≡ Some packet →
+    concat (body plan (take count clear)) ++ bytes_added plan (take count clear) packet
+    ≡ concat (body plan (take (count + 1) clear))
 unfolding bytes_from
 one_written plan clear count packet at =
     let before = take count clear in
@@ -306,15 +345,19 @@ nothing_joined : (first last bytes : List ℕ) → last ≡ [] → bytes ≡ fir
 nothing_joined first last bytes none joined = joined ∙ (ap (λ (xs : List ℕ). first ++ xs) none ∙ append-nil first)
 
 -- what may be written of a packet, or of the end, goes on with what is sent
-may_write : {S F : Type 0} (plan : Plan) (does : S → List ℕ → S → List ℕ → ℕ → Type 0) (ends : S → S → List ℕ → ℕ → Type 0)
-    (refuses : S → Option (List ℕ) → F → S → List ℕ → ℕ → Type 0) (told : F → Option ClearFault) (After : List (List ℕ) → S → Type 0)
+may_write : {S F : Type 0} (plan : Plan) (does : S → List ℕ → S → List ℕ → ℕ → Type 0) (ends : S → S → List ℕ → ℕ →
+    Type 0)
+    (refuses : S → Option (List ℕ) → F → S → List ℕ → ℕ → Type 0) (told : F → Option ClearFault)
+    (After : List (List ℕ) → S → Type 0)
     (head : IsHeadEnd plan does ends refuses told After) (bytes : List ℕ) (count : ℕ) (mid : S) (first more : List ℕ)
     (here : Option (List ℕ)) → IsAt bytes count → WentOn plan After [] (take count (taken_of bytes)) mid first →
-    slice_get (taken_of bytes) count ≡ here → IsAllowedAt does ends refuses mid here more → IsPrefix (first ++ more) (sent_of plan bytes)
+    slice_get (taken_of bytes) count ≡ here → IsAllowedAt does ends refuses mid here more → IsPrefix (first ++ more)
+    (sent_of plan bytes)
 may_write plan does ends refuses told After head bytes count mid first more None place went at (inl (t, n, last)) =
     let clear = taken_of bytes in
     let all = all_there clear count place.within at in
-    let sent = sent_unrefused plan bytes Whole (subst (λ (ps : List (List ℕ)). refusal_from plan.site [] ps ≡ None) all.1 went.unrefused)
+    let sent = sent_unrefused plan bytes Whole (subst (λ (ps : List (List ℕ)). refusal_from plan.site [] ps ≡ None)
+    all.1 went.unrefused)
     (place.end all.0) in
     let closing = head.last (take count clear) mid t more n went.after last in (
       [],
@@ -325,33 +368,46 @@ may_write plan does ends refuses told After head bytes count mid first more None
           ∙ ap (λ (ps : List (List ℕ)). concat (broadcast plan ps)) all.1
           ∙ sent.0,
     )
-may_write plan does ends refuses told After head bytes count mid first more None place went at (inr (fault, t, n, refuse)) =
-    nothing_after first more (sent_of plan bytes) (head.refusal (take count (taken_of bytes)) mid None fault t more n went.after refuse).0
-    (subst (λ (xs : List ℕ). IsPrefix xs (sent_of plan bytes)) (sym (went.wrote ∙ sym (body_bytes plan (take count (taken_of bytes)))))
+may_write plan does ends refuses told After head bytes count mid first more None place went at
+    (inr (fault, t, n, refuse)) =
+    nothing_after first more (sent_of plan bytes) (head.refusal (take count (taken_of bytes)) mid None fault t more n
+    went.after refuse).0
+    (subst (λ (xs : List ℕ). IsPrefix xs (sent_of plan bytes))
+    (sym (went.wrote ∙ sym (body_bytes plan (take count (taken_of bytes)))))
     (begins plan bytes count place.within went.unrefused))
-may_write plan does ends refuses told After head bytes count mid first more (Some packet) place went at (inl (t, n, done)) =
+may_write plan does ends refuses told After head bytes count mid first more (Some packet) place went at
+    (inl (t, n, done)) =
     let clear = taken_of bytes in
     let step = head.step (take count clear) mid packet t more n went.after done in
     let inside = (here_is clear count packet at).2 in
     subst (λ (xs : List ℕ). IsPrefix xs (sent_of plan bytes))
     (sym (ap (λ (xs : List ℕ). xs ++ more) (went.wrote ∙ sym (body_bytes plan (take count clear)))
-    ∙ ap (λ (xs : List ℕ). concat (body plan (take count clear)) ++ xs) step.1 ∙ one_written plan clear count packet at))
-    (begins plan bytes (count + 1) (omega (arith, inside)) (one_unrefused plan.site clear count packet went.unrefused at step.0))
-may_write plan does ends refuses told After head bytes count mid first more (Some packet) place went at (inr (fault, t, n, refuse)) =
+    ∙ ap (λ (xs : List ℕ). concat (body plan (take count clear)) ++ xs) step.1 ∙ one_written plan clear count packet
+    at))
+    (begins plan bytes (count + 1) (omega (arith, inside)) (one_unrefused plan.site clear count packet went.unrefused at
+    step.0))
+may_write plan does ends refuses told After head bytes count mid first more (Some packet) place went at
+    (inr (fault, t, n, refuse)) =
     nothing_after first more (sent_of plan bytes)
     (head.refusal (take count (taken_of bytes)) mid (Some packet) fault t more n went.after refuse).0
-    (subst (λ (xs : List ℕ). IsPrefix xs (sent_of plan bytes)) (sym (went.wrote ∙ sym (body_bytes plan (take count (taken_of bytes)))))
+    (subst (λ (xs : List ℕ). IsPrefix xs (sent_of plan bytes))
+    (sym (went.wrote ∙ sym (body_bytes plan (take count (taken_of bytes)))))
     (begins plan bytes count place.within went.unrefused))
 
 -- what was written up to a refusal
-stopped_at : (plan : Plan) (bytes : List ℕ) (count : ℕ) (first : List ℕ) (before now : Option (List ℕ)) (due : Option ClearFault)
-    (here : Option (List ℕ)) → count ≤ length (taken_of bytes) → first ≡ concat (body plan (take count (taken_of bytes))) →
+stopped_at : (plan : Plan) (bytes : List ℕ) (count : ℕ) (first : List ℕ) (before now : Option (List ℕ))
+    (due : Option ClearFault)
+    (here : Option (List ℕ)) → count ≤ length (taken_of bytes) →
+    first ≡ concat (body plan (take count (taken_of bytes))) →
     refusal_from plan.site [] (take count (taken_of bytes)) ≡ None → slice_get (taken_of bytes) count ≡ here →
     IsDueAt plan (take count (taken_of bytes)) here due → Appends before now first →
     Wrote (sent_of plan bytes) (sent_status plan bytes) before now (stop_status due)
 stopped_at plan bytes count first before now None here within wrote none at due taken =
-    some_written (inl refl)
-    (first, subst (λ (xs : List ℕ). IsPrefix xs (sent_of plan bytes)) (sym wrote) (begins plan bytes count within none), taken)
+    some_written (inl refl) (
+      first,
+      subst (λ (xs : List ℕ). IsPrefix xs (sent_of plan bytes)) (sym wrote) (begins plan bytes count within none),
+      taken,
+    )
 stopped_at plan bytes count first before now (Some fault) None within wrote none at due taken = absurd due
 stopped_at plan bytes count first before now (Some fault) (Some packet) within wrote none at due taken =
     let is = first_refused plan.site (taken_of bytes) count packet fault none at due in
@@ -361,15 +417,19 @@ stopped_at plan bytes count first before now (Some fault) (Some packet) within w
     (wrote ∙ ap (λ (k : ℕ). concat (body plan (take k (taken_of bytes)))) (sym is.1) ∙ sent.0) taken)
 
 -- all that was written of a stream that was driven through a head end
-pub wrote_sent : {S F : Type 0} (plan : Plan) (does : S → List ℕ → S → List ℕ → ℕ → Type 0) (ends : S → S → List ℕ → ℕ → Type 0)
-    (refuses : S → Option (List ℕ) → F → S → List ℕ → ℕ → Type 0) (told : F → Option ClearFault) (After : List (List ℕ) → S → Type 0)
-    (head : IsHeadEnd plan does ends refuses told After) (bytes : List ℕ) (a b : Moment S) (result : Result ℕ (DriveFault F)) →
+pub wrote_sent : {S F : Type 0} (plan : Plan) (does : S → List ℕ → S → List ℕ → ℕ → Type 0) (ends : S → S → List ℕ → ℕ →
+    Type 0)
+    (refuses : S → Option (List ℕ) → F → S → List ℕ → ℕ → Type 0) (told : F → Option ClearFault)
+    (After : List (List ℕ) → S → Type 0)
+    (head : IsHeadEnd plan does ends refuses told After) (bytes : List ℕ) (a b : Moment S)
+    (result : Result ℕ (DriveFault F)) →
     After [] a.stage → DrivesOver does ends refuses bytes a b result →
     Wrote (sent_of plan bytes) (sent_status plan bytes) a.sink.held b.sink.held (sent_told told result)
 wrote_sent plan does ends refuses told After head bytes a b (Ok count) stands (whole, counted, grew) =
     wrote_all grew.bytes grew.says grew.taken
   where
-    wrote_all : (xs : List ℕ) → Closes does ends a.stage (taken_of bytes) b.stage xs grew.steps → Appends a.sink.held b.sink.held xs →
+    wrote_all : (xs : List ℕ) → Closes does ends a.stage (taken_of bytes) b.stage xs grew.steps →
+        Appends a.sink.held b.sink.held xs →
         Wrote (sent_of plan bytes) (sent_status plan bytes) a.sink.held b.sink.held Done
     wrote_all xs (mid, first, last, m, k, chain, end, joined, number) taken =
         let clear = taken_of bytes in
@@ -382,19 +442,24 @@ wrote_sent plan does ends refuses told After head bytes a b (Ok count) stands (w
         ∙ ap (λ (ys : List ℕ). concat (body plan clear) ++ ys) closing ∙ sym (closed_bytes plan clear) ∙ sent.0) taken)
 wrote_sent plan does ends refuses told After head bytes a b (Err (drive.Broken found)) stands (end, grew) =
     let clear = taken_of bytes in
-    let went = went_on plan does ends refuses told After head [] clear a.stage b.stage grew.bytes grew.steps stands grew.says in
+    let went = went_on plan does ends refuses told After head [] clear a.stage b.stage grew.bytes grew.steps stands
+    grew.says in
     let sent = sent_unrefused plan bytes (Breaks found) went.unrefused end in
     all_written sent.1 tt
-    (subst (λ (xs : List ℕ). Appends a.sink.held b.sink.held xs) (went.wrote ∙ sym (body_bytes plan clear) ∙ sent.0) grew.taken)
+    (subst (λ (xs : List ℕ). Appends a.sink.held b.sink.held xs) (went.wrote ∙ sym (body_bytes plan clear) ∙ sent.0)
+    grew.taken)
 wrote_sent plan does ends refuses told After head bytes a b (Err drive.TooLong) stands (end, grew) =
     let clear = taken_of bytes in
-    let went = went_on plan does ends refuses told After head [] clear a.stage b.stage grew.bytes grew.steps stands grew.says in
+    let went = went_on plan does ends refuses told After head [] clear a.stage b.stage grew.bytes grew.steps stands
+    grew.says in
     let sent = sent_unrefused plan bytes RunsOn went.unrefused end in
     all_written sent.1 tt
-    (subst (λ (xs : List ℕ). Appends a.sink.held b.sink.held xs) (went.wrote ∙ sym (body_bytes plan clear) ∙ sent.0) grew.taken)
+    (subst (λ (xs : List ℕ). Appends a.sink.held b.sink.held xs) (went.wrote ∙ sym (body_bytes plan clear) ∙ sent.0)
+    grew.taken)
 wrote_sent plan does ends refuses told After head bytes a b (Err drive.ReadFault) stands (count, within, grew) =
     let first = take count (taken_of bytes) in
-    let went = went_on plan does ends refuses told After head [] first a.stage b.stage grew.bytes grew.steps stands grew.says in
+    let went = went_on plan does ends refuses told After head [] first a.stage b.stage grew.bytes grew.steps stands
+    grew.says in
     some_written (inr refl) (
       grew.bytes,
       subst (λ (xs : List ℕ). IsPrefix xs (sent_of plan bytes)) (sym (went.wrote ∙ sym (body_bytes plan first)))
@@ -403,7 +468,8 @@ wrote_sent plan does ends refuses told After head bytes a b (Err drive.ReadFault
     )
 wrote_sent plan does ends refuses told After head bytes a b (Err drive.WriteFault) stands h =
     let first = take h.count (taken_of bytes) in
-    let went = went_on plan does ends refuses told After head [] first a.stage h.mid.stage h.passed.bytes h.passed.steps stands h.passed.says in
+    let went = went_on plan does ends refuses told After head [] first a.stage h.mid.stage h.passed.bytes h.passed.steps
+    stands h.passed.says in
     let part = may_write plan does ends refuses told After head bytes h.count h.mid.stage h.passed.bytes h.cut.bytes
     (slice_get (taken_of bytes) h.count) h.place went refl h.cut.says in
     some_written (inr refl) (
@@ -415,7 +481,8 @@ wrote_sent plan does ends refuses told After head bytes a b (Err drive.WriteFaul
 wrote_sent plan does ends refuses told After head bytes a b (Err (drive.Refused fault)) stands h =
     refused_so h.passed.bytes h.passed.says h.passed.taken
   where
-    refused_so : (xs : List ℕ) → Refuses does refuses a.stage (take h.count (taken_of bytes)) (slice_get (taken_of bytes) h.count) fault b.stage
+    refused_so : (xs : List ℕ) → Refuses does refuses a.stage (take h.count (taken_of bytes))
+        (slice_get (taken_of bytes) h.count) fault b.stage
         xs h.passed.steps → Appends a.sink.held b.sink.held xs →
         Wrote (sent_of plan bytes) (sent_status plan bytes) a.sink.held b.sink.held (stop_status (told fault))
     refused_so xs (mid, first, last, m, k, chain, refuse, joined, number) taken =
@@ -424,4 +491,5 @@ wrote_sent plan does ends refuses told After head bytes a b (Err (drive.Refused 
         let went = went_on plan does ends refuses told After head [] before a.stage mid first m stands chain in
         let due = head.refusal before mid here fault b.stage last k went.after refuse in
         stopped_at plan bytes h.count xs a.sink.held b.sink.held (told fault) here h.place.within
-        (nothing_joined first last xs due.0 joined ∙ went.wrote ∙ sym (body_bytes plan before)) went.unrefused refl due.1 taken
+        (nothing_joined first last xs due.0 joined ∙ went.wrote ∙ sym (body_bytes plan before)) went.unrefused refl
+        due.1 taken

@@ -17,7 +17,8 @@ use Rattle.sd_broadcast.specs.declared.fault.ClearFault.TheVariants as fault
 use Rattle.sd_status.specs.declared.status.Status.{Status}
 use Rattle.sd_status.specs.declared.status.Status.TheVariants.{Done, BadClear, DepotFault, NoMemory}
 use Rattle.sd_status.specs.declared.status.ClearCause.{ClearCause}
-use Rattle.sd_status.specs.declared.status.ClearCause.TheVariants.{Torn, NoSync, AlreadyScrambled, PidTaken, PatForm, PmtForm, TooManyPids, TooLong}
+use Rattle.sd_status.specs.declared.status.ClearCause.TheVariants.{Torn, NoSync, AlreadyScrambled, PidTaken, PatForm}
+use Rattle.sd_status.specs.declared.status.ClearCause.TheVariants.{PmtForm, TooManyPids, TooLong}
 use Rattle.sd_status.specs.Meant.{Meant, Word, Given, all_of, value, ◌>>=◌}
 use Rattle.sd_status.specs.Work.{Uncounted, Work}
 use Rattle.sd_files.specs.Files.{site_of_file, book_of_file}

@@ -4,7 +4,8 @@ ghost use Rattle.sd_head.specs.Staged.{plan_in, IsAfter};
 ghost use Rattle.sd_status.specs.Outside.{Page, outside, place};
 ghost use Rattle.sd_status.specs.Reads.{Reads};
 ghost use Rattle.sd_status.specs.Comes.{Follows, status_of};
-ghost use Rattle.sd_run_head.specs.Head.{broken_cause, head_meaning, plan_meaning, refusal_in, refused_status, sent_told, SendsLeft};
+ghost use Rattle.sd_run_head.specs.Head.{broken_cause, head_meaning, plan_meaning, refusal_in, refused_status};
+ghost use Rattle.sd_run_head.specs.Head.{sent_told, SendsLeft};
 ghost use Rattle.sd_files.specs.Turned.{HasPortCause};
 ghost use Rattle.sd_files.specs.Shown.{shown_word};
 
@@ -31,7 +32,8 @@ pub fn head<D: Depot, L: Ledger>(
 ) -> Result<(), Status>
     requires { (site.number ≢ book.number) × (site.number ≢ clear.number) × (book.number ≢ clear.number) }
     ensures { (page : Page) →
-        Follows (head_meaning (shown_word site.entry) (shown_word book.entry) (shown_word clear.entry) (shown_word out.entry))
+        Follows (head_meaning (shown_word site.entry) (shown_word book.entry) (shown_word clear.entry)
+        (shown_word out.entry))
         (outside (place D.Depot depot.old) page steps.old) (outside (place D.Depot depot.new) page steps.new)
         (status_of result) }
 {

@@ -1,6 +1,7 @@
 -- Texts that are printed one after the other.
 use Rattle.std.proofs.Common.{arith, ◌≡◌, ◌≢◌, ℕ, suc, zero, ◌+◌, ◌-◌, ◌<◌, ◌≤◌, List, [], ◌∷◌, ◌++◌, length, take}
-use Rattle.std.proofs.Common.{append-nil, append_assoc, Option, Some, refl, ap, sym, subst, ◌∙◌, inl, inr, ◌↔◌, take_all}
+use Rattle.std.proofs.Common.{append-nil, append_assoc, Option, Some, refl, ap, sym, subst, ◌∙◌, inl, inr, ◌↔◌}
+use Rattle.std.proofs.Common.{take_all}
 use Rattle.std.specs.Prelude.{IsNone}
 use Rattle.std.specs.List.{concat}
 use Rattle.std.specs.Io.KnownBytes.{Appends}

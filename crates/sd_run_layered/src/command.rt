@@ -6,7 +6,8 @@ ghost use Rattle.sd_status.specs.Reads.{Judges, Looks};
 ghost use Rattle.sd_status.specs.Comes.{Follows, status_of};
 ghost use Rattle.sd_status.specs.Prints.{Prints, PrintsPiece, PrintsText};
 ghost use Rattle.sd_files.specs.Shown.{shown_number, shown_word};
-ghost use Rattle.sd_run_layered.specs.Layered.{layered_meaning, layered_text as layered_text_of, layering, layers_of_file};
+ghost use Rattle.sd_run_layered.specs.Layered.{layered_meaning, layered_text as layered_text_of, layering};
+ghost use Rattle.sd_run_layered.specs.Layered.{layers_of_file};
 ghost use Rattle.sd_run_layered.specs.Layered.{shown_layers, told_layers};
 
 use sd_book::Book;

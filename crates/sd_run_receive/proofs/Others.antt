@@ -7,7 +7,8 @@ use Rattle.sd_status.specs.declared.status.LimitKind.TheVariants.{CardBytes}
 use Rattle.sd_status.specs.Meant.{Word, Given, all_of, judged, value, within}
 use Rattle.sd_files.proofs.Others.{IsOther, other_after, other_file, other_stream}
 use Rattle.sd_run_receive.specs.declared.command.TheConstants.{MOST_CARD_BYTES}
-use Rattle.sd_run_receive.specs.Receive.{card_said, card_unless, told_card, card_of_file, receiving, stream_meaning, receive_meaning}
+use Rattle.sd_run_receive.specs.Receive.{card_said, card_unless, told_card, card_of_file, receiving, stream_meaning}
+use Rattle.sd_run_receive.specs.Receive.{receive_meaning}
 
 other_unless : (fault : Option CardFault) (card : CardFields) → IsOther (card_unless fault card)
 other_unless None card = tt

@@ -1,5 +1,6 @@
 -- `receive CARD STREAM OUT` [this project, docs/FORMATS.md, Receiver].
-use Rattle.std.specs.Prelude.{◌≢◌, ℕ, zero, suc, ◌+◌, ◌*◌, ◌/◌, ◌≤◌, List, [], ◌∷◌, length, take, drop, reverse, Option, Some, None, Result, Ok, Err}
+use Rattle.std.specs.Prelude.{◌≢◌, ℕ, zero, suc, ◌+◌, ◌*◌, ◌/◌, ◌≤◌, List, [], ◌∷◌, length, take, drop, reverse, Option}
+use Rattle.std.specs.Prelude.{Some, None, Result, Ok, Err}
 use Rattle.std.specs.List.{concat}
 use Rattle.sd_engine.specs.Taken.{StreamEnd, Whole, Breaks, RunsOn, taken_of, end_of, IsLeft}
 use Rattle.sd_engine.specs.Driving.{most_packets}
@@ -19,8 +20,10 @@ use Rattle.sd_reception.specs.Offered.{out_from, break_from}
 use Rattle.sd_reception.specs.Ending.{ending_of}
 use Rattle.sd_receive.specs.Receiving.{taken_keys}
 use Rattle.sd_status.specs.declared.status.Status.{Status}
-use Rattle.sd_status.specs.declared.status.Status.TheVariants.{Done, Revoked, DepotFault, BadCard, BadStream, Unheard, Unclosed, Gaps, NoCat, NoMemory}
-use Rattle.sd_status.specs.declared.status.StreamCause.TheVariants.{TooLong, WrongKey, WrongWord, BadEmm, BadEcm, Parity}
+use Rattle.sd_status.specs.declared.status.Status.TheVariants.{Done, Revoked, DepotFault, BadCard, BadStream, Unheard}
+use Rattle.sd_status.specs.declared.status.Status.TheVariants.{Unclosed, Gaps, NoCat, NoMemory}
+use Rattle.sd_status.specs.declared.status.StreamCause.TheVariants.{TooLong, WrongKey, WrongWord, BadEmm, BadEcm}
+use Rattle.sd_status.specs.declared.status.StreamCause.TheVariants.{Parity}
 use Rattle.sd_status.specs.declared.status.LimitKind.TheVariants.{CardBytes}
 use Rattle.sd_status.specs.Meant.{Meant, Word, Given, all_of, within, judged, value, ◌>>=◌}
 use Rattle.sd_status.specs.Work.{UpTo, Work}

@@ -1,5 +1,7 @@
 -- The lines of the tables in a stream, packet by packet.
-use Rattle.std.proofs.Common.{◌≡◌, ℕ, zero, suc, ◌+◌, ◌-◌, ◌^◌, ◌<◌, ◌≤◌, List, [], ◌∷◌, ◌++◌, length, take, drop, get_or, reverse, append-nil, append_assoc, Option, Some, None, Result, Ok, Err, refl, sym, ap, subst, ◌∙◌, take_all, arith, inl, inr}
+use Rattle.std.proofs.Common.{◌≡◌, ℕ, zero, suc, ◌+◌, ◌-◌, ◌^◌, ◌<◌, ◌≤◌, List, [], ◌∷◌, ◌++◌, length, take, drop}
+use Rattle.std.proofs.Common.{get_or, reverse, append-nil, append_assoc, Option, Some, None, Result, Ok, Err, refl, sym}
+use Rattle.std.proofs.Common.{ap, subst, ◌∙◌, take_all, arith, inl, inr}
 use Rattle.std.specs.Prelude.{slice_get, IsErrOf}
 use Rattle.std.proofs.lemmas.List.{reverse-append, take_more, take-append-drop, length-take}
 use Rattle.std.proofs.lemmas.List.Folds.{concat-append}
@@ -50,7 +52,8 @@ grown (suc k) before (packet ∷ packets) =
     (concat (take k (packet_lines (packet ∷ before) packets)))
 
 -- the lines of some first packets
-first_lines : (k : ℕ) (packets : List (List ℕ)) → lines_in (reverse (take k packets)) ≡ concat (take k (packet_lines [] packets))
+first_lines : (k : ℕ) (packets : List (List ℕ)) → lines_in (reverse (take k packets))
+    ≡ concat (take k (packet_lines [] packets))
 unfolding lines_in
 first_lines k packets = ap lines_in (sym (append-nil (reverse (take k packets)))) ∙ grown k [] packets
 
@@ -67,10 +70,12 @@ all_lines packets =
     ∙ ap concat (take_all (length packets) pieces (omega (arith, count_lines [] packets)))
 
 -- those of the packet after them
-next_lines : (k : ℕ) (packets : List (List ℕ)) (packet : List ℕ) → k < length packets → get_or packets k packet ≡ packet →
+next_lines : (k : ℕ) (packets : List (List ℕ)) (packet : List ℕ) → k < length packets → get_or packets k packet
+    ≡ packet →
     lines_in (reverse (take (k + 1) packets))
     ≡ lines_in (reverse (take k packets))
-    ++ flat_map (line_of (length (reverse (take k packets))) (pid_of packet)) (sections_at packet (reverse (take k packets)))
+    ++ flat_map (line_of (length (reverse (take k packets))) (pid_of packet))
+    (sections_at packet (reverse (take k packets)))
 unfolding lines_in
 next_lines k packets packet inside is =
     ap lines_in
@@ -80,8 +85,11 @@ next_lines k packets packet inside is =
 
 -- some first pieces are a prefix of all
 pieces_first : (k : ℕ) (pieces : List (List ℕ)) → IsPrefix (concat (take k pieces)) (concat pieces)
-pieces_first k pieces =
-    (concat (drop k pieces), sym (concat-append (take k pieces) (drop k pieces)) ∙ ap concat (take-append-drop k pieces))
+pieces_first k pieces = (
+  concat (drop k pieces),
+  sym (concat-append (take k pieces) (drop k pieces)) ∙ ap concat
+      (take-append-drop k pieces),
+)
 
 prefix_of : (prefix part whole : List ℕ) → IsPrefix prefix part → IsPrefix part whole → IsPrefix prefix whole
 prefix_of prefix part whole p q =
@@ -124,7 +132,8 @@ first_begin : (k : ℕ) (packets : List (List ℕ)) (s t : Inspector) (bytes : L
     IsPrefix bytes (concat (packet_lines [] packets))
 first_begin k packets s t bytes n stands few chain =
     let pieces = packet_lines [] packets in
-    subst (λ (xs : List ℕ). IsPrefix xs (concat pieces)) (sym (some_through k packets s t bytes n stands few chain)) (pieces_first k pieces)
+    subst (λ (xs : List ℕ). IsPrefix xs (concat pieces)) (sym (some_through k packets s t bytes n stands few chain))
+    (pieces_first k pieces)
 
 none_after : (first bytes whole : List ℕ) → bytes ≡ [] → IsPrefix first whole → IsPrefix (first ++ bytes) whole
 none_after first bytes whole none p =
@@ -132,7 +141,8 @@ none_after first bytes whole none p =
 
 -- and the lines of the packet after them go on with them
 next_begin : (k : ℕ) (packets : List (List ℕ)) (s mid t : Inspector) (first bytes packet : List ℕ) (n m : ℕ) →
-    StandsAfter [] (seen s) → length (take k packets) ≤ 2 ^ 64 - 1 → Chain inspector_does s (take k packets) mid first n →
+    StandsAfter [] (seen s) → length (take k packets) ≤ 2 ^ 64 - 1 → Chain inspector_does s (take k packets) mid first
+    n →
     slice_get packets k ≡ Some packet → inspector_does mid packet t bytes m →
     IsPrefix (first ++ bytes) (concat (packet_lines [] packets))
 next_begin k packets s mid t first bytes packet n m stands few chain at inspects =
@@ -145,23 +155,29 @@ next_begin k packets s mid t first bytes packet n m stands few chain at inspects
     let both : first ++ bytes ≡ concat (take (k + 1) pieces) =
     ap (λ (xs : List ℕ). xs ++ bytes) (went_through s mid (take k packets) first n stands few chain)
     ∙ ap (λ (xs : List ℕ). lines_in before ++ xs) lines
-    ∙ sym (next_lines k packets packet (slice_get_within packets k packet at) (get_or_from_slice_get packets k packet packet at))
+    ∙ sym (next_lines k packets packet (slice_get_within packets k packet at)
+    (get_or_from_slice_get packets k packet packet at))
     ∙ first_lines (k + 1) packets in
     subst (λ (xs : List ℕ). IsPrefix xs (concat pieces)) (sym both) (pieces_first (k + 1) pieces)
 
 -- what the inspector may write of a packet, or of the end, goes on with the lines of all packets
-part_of_lines : (k : ℕ) (packets : List (List ℕ)) (s mid : Inspector) (first bytes : List ℕ) (n : ℕ) (here : Option (List ℕ)) →
-    StandsAfter [] (seen s) → length (take k packets) ≤ 2 ^ 64 - 1 → Chain inspector_does s (take k packets) mid first n →
+part_of_lines : (k : ℕ) (packets : List (List ℕ)) (s mid : Inspector) (first bytes : List ℕ) (n : ℕ)
+    (here : Option (List ℕ)) →
+    StandsAfter [] (seen s) → length (take k packets) ≤ 2 ^ 64 - 1 → Chain inspector_does s (take k packets) mid first
+    n →
     slice_get packets k ≡ here → IsAllowedAt inspector_does inspector_ends inspector_refuses mid here bytes →
     IsPrefix (first ++ bytes) (concat (packet_lines [] packets))
 part_of_lines k packets s mid first bytes n None stands few chain at (inl (t, m, ends)) =
-    none_after first bytes (concat (packet_lines [] packets)) ends.nothing (first_begin k packets s mid first n stands few chain)
+    none_after first bytes (concat (packet_lines [] packets)) ends.nothing
+    (first_begin k packets s mid first n stands few chain)
 part_of_lines k packets s mid first bytes n None stands few chain at (inr (fault, t, m, refuses)) =
-    none_after first bytes (concat (packet_lines [] packets)) refuses.nothing (first_begin k packets s mid first n stands few chain)
+    none_after first bytes (concat (packet_lines [] packets)) refuses.nothing
+    (first_begin k packets s mid first n stands few chain)
 part_of_lines k packets s mid first bytes n (Some packet) stands few chain at (inl (t, m, inspects)) =
     next_begin k packets s mid t first bytes packet n m stands few chain at inspects
 part_of_lines k packets s mid first bytes n (Some packet) stands few chain at (inr (fault, t, m, refuses)) =
-    none_after first bytes (concat (packet_lines [] packets)) refuses.nothing (first_begin k packets s mid first n stands few chain)
+    none_after first bytes (concat (packet_lines [] packets)) refuses.nothing
+    (first_begin k packets s mid first n stands few chain)
 
 -- a write failed
 cut_lines : (bytes : List ℕ) (a b : Moment Inspector) → StandsAfter [] (seen a.stage) →
@@ -169,7 +185,8 @@ cut_lines : (bytes : List ℕ) (a b : Moment Inspector) → StandsAfter [] (seen
     AppendsPrefix a.sink.held b.sink.held (concat (packet_lines [] (taken_of bytes)))
 cut_lines bytes a b stands h =
     let packets = taken_of bytes in
-    let part = part_of_lines h.count packets a.stage h.mid.stage h.passed.bytes h.cut.bytes h.passed.steps (slice_get packets h.count)
+    let part = part_of_lines h.count packets a.stage h.mid.stage h.passed.bytes h.cut.bytes h.passed.steps
+    (slice_get packets h.count)
     stands (few_taken h.count bytes) h.passed.says refl h.cut.says in (
       h.passed.bytes ++ h.cut.prefix,
       prefix_of (h.passed.bytes ++ h.cut.prefix) (h.passed.bytes ++ h.cut.bytes) (concat (packet_lines [] packets))
@@ -181,7 +198,8 @@ cut_lines bytes a b stands h =
 pub drives_print : (bytes : List ℕ) (a b : Moment Inspector) (f g : ℕ) (result : Result ℕ (DriveFault OutOfMemory)) →
     StandsAfter [] (seen a.stage) → IsCaused f g (IsErrOf result drive.WriteFault) →
     DrivesOver inspector_does inspector_ends inspector_refuses bytes a b result →
-    PrintsReading (inspecting bytes) (record { printed = a.sink.held; faults = f }) (record { printed = b.sink.held; faults = g })
+    PrintsReading (inspecting bytes) (record { printed = a.sink.held; faults = f })
+    (record { printed = b.sink.held; faults = g })
     (drive_status result)
 drives_print bytes a b f g (Ok count) stands cause (whole, counted, grew) = inl (inl (
   ap stream_status (sym whole),
@@ -211,7 +229,8 @@ drives_print bytes a b f g (Err drive.ReadFault) stands cause (count, within, gr
   (
     count,
     subst (λ (xs : List ℕ). Appends a.sink.held b.sink.held xs)
-        (some_through count (taken_of bytes) a.stage b.stage grew.bytes grew.steps stands (few_taken count bytes) grew.says) grew.taken,
+        (some_through count (taken_of bytes) a.stage b.stage grew.bytes grew.steps stands (few_taken count bytes)
+        grew.says) grew.taken,
   ),
   cause.calm (λ e. cc),
 )
@@ -221,7 +240,8 @@ drives_print bytes a b f g (Err (drive.Refused fault)) stands cause h = inl (inr
   refl,
   (
     h.count,
-    subst (λ (xs : List ℕ). Appends a.sink.held b.sink.held xs) (some_and_none h.count (slice_get (taken_of bytes) h.count)
+    subst (λ (xs : List ℕ). Appends a.sink.held b.sink.held xs)
+        (some_and_none h.count (slice_get (taken_of bytes) h.count)
         h.passed.bytes h.passed.steps h.passed.says) h.passed.taken,
   ),
   cause.calm (λ e. cc),
@@ -235,7 +255,8 @@ drives_print bytes a b f g (Err (drive.Refused fault)) stands cause h = inl (inr
         ∙ some_through count (taken_of bytes) a.stage mid first m stands (few_taken count bytes) chain
 
 -- before any of it was read memory was out
-pub none_inspected : (left : Option (List ℕ)) (bytes : List ℕ) (page : Page) → IsLeft left bytes → InspectsLeft left page page NoMemory
+pub none_inspected : (left : Option (List ℕ)) (bytes : List ℕ) (page : Page) → IsLeft left bytes →
+    InspectsLeft left page page NoMemory
 none_inspected left bytes page is = record {
   bytes = bytes;
   is_left = is;
@@ -253,18 +274,21 @@ not_inspected left page = let some = some_left left in none_inspected left some.
 pub is_inspected : (a b : Moment Inspector) (f g : ℕ) (result : Result ℕ (DriveFault OutOfMemory)) (status : Status) →
     StandsAfter [] (seen a.stage) → IsCaused f g (IsErrOf result drive.WriteFault) →
     Drives inspector_does inspector_ends inspector_refuses a b result → status ≡ drive_status result →
-    InspectsLeft a.left (record { printed = a.sink.held; faults = f }) (record { printed = b.sink.held; faults = g }) status
+    InspectsLeft a.left (record { printed = a.sink.held; faults = f }) (record { printed = b.sink.held; faults = g })
+    status
 is_inspected a b f g result status stands cause drives is =
     let over = is_over inspector_does inspector_ends inspector_refuses a b result drives in record {
       bytes = over.bytes;
       is_left = over.left;
-      prints = subst (λ (s : Status). PrintsReading (inspecting over.bytes) (record { printed = a.sink.held; faults = f })
+      prints = subst (λ (s : Status). PrintsReading (inspecting over.bytes)
+          (record { printed = a.sink.held; faults = f })
           (record { printed = b.sink.held; faults = g }) s) (sym is)
           (drives_print over.bytes a b f g result stands cause over.drives);
     }
 
 -- reading failed just where the drive says so
-pub read_caused : (f g : ℕ) (result : Result ℕ (DriveFault OutOfMemory)) (status : Status) → status ≡ drive_status result →
+pub read_caused : (f g : ℕ) (result : Result ℕ (DriveFault OutOfMemory)) (status : Status) →
+    status ≡ drive_status result →
     IsCaused f g (IsErrOf result drive.ReadFault) → IsCaused f g (status ≡ DepotFault)
 read_caused f g result status is cause = record {
   later = cause.later;
@@ -272,7 +296,8 @@ read_caused f g result status is cause = record {
   calm = λ n. cause.calm (λ e. n (is ∙ reading_status result e));
 }
   where
-    only_reading : (result : Result ℕ (DriveFault OutOfMemory)) → drive_status result ≡ DepotFault → IsErrOf result drive.ReadFault
+    only_reading : (result : Result ℕ (DriveFault OutOfMemory)) → drive_status result ≡ DepotFault →
+        IsErrOf result drive.ReadFault
     only_reading (Ok count) e = absurd (cc)
     only_reading (Err (drive.Broken found)) e = absurd (cc)
     only_reading (Err drive.TooLong) e = absurd (cc)
@@ -280,5 +305,6 @@ read_caused f g result status is cause = record {
     only_reading (Err drive.WriteFault) e = absurd (cc)
     only_reading (Err (drive.Refused fault)) e = absurd (cc)
 
-    reading_status : (result : Result ℕ (DriveFault OutOfMemory)) → IsErrOf result drive.ReadFault → drive_status result ≡ DepotFault
+    reading_status : (result : Result ℕ (DriveFault OutOfMemory)) → IsErrOf result drive.ReadFault → drive_status result
+        ≡ DepotFault
     reading_status result e = ap drive_status e

@@ -22,7 +22,8 @@ use Rattle.sd_files.specs.Streams.{told_cause, stream_status}
 abbrev pub packet_lines : List (List ℕ) → List (List ℕ) → List (List ℕ)
 packet_lines before [] = []
 packet_lines before (packet ∷ packets) =
-    flat_map (line_of (length before) (pid_of packet)) (sections_at packet before) ∷ packet_lines (packet ∷ before) packets
+    flat_map (line_of (length before) (pid_of packet)) (sections_at packet before) ∷ packet_lines (packet ∷ before)
+    packets
 
 -- prints the lines of the tables in a stream of these bytes
 abbrev pub inspecting : List ℕ → Work

@@ -17,7 +17,8 @@ pub fn scrambled_and_descrambled()
 pub fn the_rest_is_read_as_before()
     ensures scrambled { (packet word : List ℕ) (position : ℕ) (parity : Parity) → length packet ≡ 188
         → slice_index packet 3 < 256 →
-        IsLaidUnder packet (control_of parity) (payload_under packet word position) (scrambled packet word position parity) }
+        IsLaidUnder packet (control_of parity) (payload_under packet word position)
+        (scrambled packet word position parity) }
     ensures descrambled { (packet word : List ℕ) (position : ℕ) → length packet ≡ 188 → slice_index packet 3 < 256 →
         IsLaidUnder packet 0 (payload_under packet word position) (descrambled packet word position) }
 {}

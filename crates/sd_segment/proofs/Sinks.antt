@@ -1,23 +1,14 @@
 -- What sinks took, one piece after the other.
 use Rattle.std.proofs.Common.{◌≡◌, ◌≤◌, ℕ, ◌+◌, ◌-◌, List, [], ◌++◌, length, refl, sym, ap, subst, ◌∙◌, arith}
 use Rattle.std.proofs.Common.{append_assoc, length-append}
-use Rattle.std.specs.Prelude.{Option, Some, None, Err}
+use Rattle.std.specs.Prelude.{Option, Some, None}
 use Rattle.std.proofs.KnownBytes.{Appends-trans, Appends-nil}
-use Rattle.sd_ports.specs.Rooms.{HasTaken, FillsRoom}
+use Rattle.sd_ports.specs.Rooms.{HasTaken}
+use Rattle.sd_ports.proofs.Rooms.{none_taken}
 use Rattle.sd_engine.specs.Stage.{Vessel, CutShort, IsTooShort}
 use Rattle.sd_segment.specs.Writing.{Took, Stopped}
 
--- where not all bytes were written there was less room
-pub too_short : {E : Type 0} (a b : Option ℕ) (size : ℕ) (fault : E) → FillsRoom a b size (Err fault) →
-    IsTooShort a size
-too_short None b size fault h = tt
-too_short (Some room) b size fault h = h
-
 -- nothing was taken
-none_taken : (a : Option ℕ) → HasTaken a a 0
-none_taken None = tt
-none_taken (Some room) = (omega arith, ap (λ (n : ℕ). Some n) (let e : room ≡ room - 0 = omega arith in e))
-
 pub took_none : (u : Vessel) → Took u u []
 took_none u = record { taken = Appends-nil u.held; room = none_taken u.room }
 

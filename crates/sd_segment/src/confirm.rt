@@ -33,7 +33,7 @@ pub struct Confirming<'a> {
 }
 
 // Writes a packet.
-#[tactic(auto, using(crate::proofs::Sinks::too_short))]
+#[tactic(auto, using(sd_engine::proofs::Vessels::too_short))]
 fn put<K: Sink>(packet: &Packet, out: &mut K) -> Result<(), SegmentFault>
     ensures ok { OnOk result (Took (vessel K.Sink out.old) (vessel K.Sink out.new) packet.now) }
     ensures fault { IfErr result (λ fault. fault ≡ SegmentFault.Write) }

@@ -17,7 +17,8 @@ pub record OneGiven (files : Option Files) (word : Word) (got : Option (List ℕ
   pub is_given : IsGiven files given
   pub gave : given word ≡ got
 
-pub one_given : (files : Option Files) (word : Word) (got : Option (List ℕ)) → IsGot files word.text got → OneGiven files word got
+pub one_given : (files : Option Files) (word : Word) (got : Option (List ℕ)) → IsGot files word.text got →
+    OneGiven files word got
 one_given None word got h = record { given = λ w. got; is_given = tt; gave = refl }
 one_given (Some files) word got h = record { given = told_by files; is_given = refl; gave = sym h }
 
@@ -34,7 +35,8 @@ same_number n = grind (arith, nat_tests)
 other_number : (n k : ℕ) → n ≢ k → nat_eq k n ≡ false
 other_number n k h = grind (arith, nat_tests)
 
-pub two_given : (files : Option Files) (first second : Word) (got more : Option (List ℕ)) → first.number ≢ second.number →
+pub two_given : (files : Option Files) (first second : Word) (got more : Option (List ℕ)) →
+    first.number ≢ second.number →
     IsGot files first.text got → IsGot files second.text more → TwoGiven files first second got more
 two_given None first second got more apart h k = record {
   given = λ w. cond (nat_eq w.number first.number) got more;

@@ -5,7 +5,8 @@ use Rattle.sd_status.specs.declared.status.Status.{Status}
 use Rattle.sd_status.specs.Outside.{Place, Page, Outside, outside, recalled, called}
 use Rattle.sd_status.specs.Meant.{Meant, after, ◌>>=◌}
 use Rattle.sd_status.specs.Work.{Out, Work, work_calls}
-use Rattle.sd_status.specs.Comes.{IsCalm, IsUnmade, IsMade, IsMadeShort, Stands, untouched, writing, printing, Comes, refused, ended, unclosed, exhausted, failed, nowhere, cut_off, Obeys}
+use Rattle.sd_status.specs.Comes.{IsCalm, IsUnmade, IsMade, IsMadeShort, Stands, untouched, writing, printing, Comes}
+use Rattle.sd_status.specs.Comes.{refused, ended, unclosed, exhausted, failed, nowhere, cut_off, Obeys}
 
 unmade_moved : (calls : ℕ) (p q : Place) → IsUnmade (recalled calls p) q → IsUnmade p q
 unmade_moved calls p q h = record { files = h.files; made = h.made }
@@ -23,11 +24,14 @@ calm_moved p page calls steps other b h = record { depot = h.depot; print = h.pr
 stands_moved : (meant : Result Work Status) (p : Place) (page : Page) (calls steps other : ℕ) (b : Outside) →
     Stands meant (outside (recalled calls p) page steps) b → Stands meant (outside p page other) b
 stands_moved meant p page calls steps other b (untouched h k) = untouched (unmade_moved calls p b.place h) k
-stands_moved meant p page calls steps other b (writing work e out f h k) = writing work e out f (short_moved out calls p b.place h) k
-stands_moved meant p page calls steps other b (printing work e h k) = printing work e (made_moved work.out calls p b.place h) k
+stands_moved meant p page calls steps other b (writing work e out f h k) = writing work e out f
+    (short_moved out calls p b.place h) k
+stands_moved meant p page calls steps other b (printing work e h k) = printing work e
+    (made_moved work.out calls p b.place h) k
 
 -- how a command comes to its status doesn't hang on the counts of calls and of steps where it begins
-pub comes_moved : (meant : Result Work Status) (p : Place) (page : Page) (calls steps other : ℕ) (b : Outside) (status : Status) →
+pub comes_moved : (meant : Result Work Status) (p : Place) (page : Page) (calls steps other : ℕ) (b : Outside)
+    (status : Status) →
     Comes meant (outside (recalled calls p) page steps) b status → Comes meant (outside p page other) b status
 comes_moved meant p page calls steps other b status (refused e r h k c m) =
     refused e r (unmade_moved calls p b.place h) k (calm_moved p page calls steps other b c) m
@@ -59,8 +63,10 @@ moved n meant p page steps b status h = record {
 }
 
 -- a command whose first step gave a value obeys where what is meant by the value is obeyed
-pub then_obeys : {A : Type 0} (first : Meant A) (x : A) (next : A → Meant Work) (p q : Place) (page : Page) (steps : ℕ) (b : Outside)
-    (status : Status) → first.result ≡ Ok x → q ≡ called first.calls p → Obeys (next x) (outside q page steps) b status →
+pub then_obeys : {A : Type 0} (first : Meant A) (x : A) (next : A → Meant Work) (p q : Place) (page : Page) (steps : ℕ)
+    (b : Outside)
+    (status : Status) → first.result ≡ Ok x → q ≡ called first.calls p → Obeys (next x) (outside q page steps) b
+    status →
     Obeys (first >>= next) (outside p page steps) b status
 then_obeys {A} first x next p q page steps b status e same h =
     subst (λ (r : Result A Status). Obeys (after first.calls r next) (outside p page steps) b status) (sym e)

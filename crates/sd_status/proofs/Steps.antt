@@ -19,34 +19,41 @@ takes_none (Ok work) status steps = no_more_steps work.steps status steps
 takes_none (Err refusal) status steps = refl
 
 -- calls of the first step are calls of all
-at_least : {A : Type 0} (n x now : ℕ) (r : Result A Status) (next : A → Meant Work) → now ≤ x + n → now ≤ x + all_calls (after n r next)
+at_least : {A : Type 0} (n x now : ℕ) (r : Result A Status) (next : A → Meant Work) → now ≤ x + n →
+    now ≤ x + all_calls (after n r next)
 at_least n x now (Ok y) next h = omega arith
 at_least n x now (Err status) next h = omega arith
 
 unmade : (most : ℕ) (p q : Place) → IsAsked most p q → IsUnmade p q
 unmade most p q h = record { files = h.files; made = h.made }
 
-pub stopped_comes : (meant : Result Work Status) (most : ℕ) (p q : Place) (page : Page) (steps now : ℕ) (status : Status) →
-    IsStopped most p q status → ((status ≡ NoMemory) × (q.faults ≡ p.faults)) ⊎ ((status ≡ DepotFault) × Rose p.faults q.faults) →
+pub stopped_comes : (meant : Result Work Status) (most : ℕ) (p q : Place) (page : Page) (steps now : ℕ)
+    (status : Status) →
+    IsStopped most p q status → ((status ≡ NoMemory) × (q.faults ≡ p.faults))
+    ⊎ ((status ≡ DepotFault) × Rose p.faults q.faults) →
     Comes meant (outside p page steps) (outside q page now) status
 stopped_comes meant most p q page steps now status h (inl c) =
     exhausted c.0 (untouched (unmade most p q h.asked) refl) (record { depot = c.1; print = refl }) h.misses
 stopped_comes meant most p q page steps now status h (inr c) =
     failed c.0 (untouched (unmade most p q h.asked) refl) c.1 refl h.misses
 
-refused_obeys : {A : Type 0} (first : Meant A) (next : A → Meant Work) (p q : Place) (page : Page) (steps : ℕ) (status : Status) →
+refused_obeys : {A : Type 0} (first : Meant A) (next : A → Meant Work) (p q : Place) (page : Page) (steps : ℕ)
+    (status : Status) →
     IsRefused first p q status → Obeys (first >>= next) (outside p page steps) (outside q page steps) status
 refused_obeys {A} first next p q page steps status h =
-    subst (λ (r : Result A Status). Obeys (after first.calls r next) (outside p page steps) (outside q page steps) status) (sym h.value)
+    subst (λ (r : Result A Status). Obeys (after first.calls r next) (outside p page steps) (outside q page steps)
+    status) (sym h.value)
     (record {
-      comes = refused refl h.refusal (unmade first.calls p q h.asked) refl (record { depot = h.calm; print = refl }) h.miss;
+      comes = refused refl h.refusal (unmade first.calls p q h.asked) refl (record { depot = h.calm; print = refl })
+          h.miss;
       ports = h.asked.ports;
       calls = let c = h.asked.calls in omega arith;
       steps = refl;
     })
 
 -- a command whose first step was refused or stopped is so
-pub first_obeys : {A : Type 0} (first : Meant A) (next : A → Meant Work) (p q : Place) (page : Page) (steps : ℕ) (status : Status) →
+pub first_obeys : {A : Type 0} (first : Meant A) (next : A → Meant Work) (p q : Place) (page : Page) (steps : ℕ)
+    (status : Status) →
     IsRefused first p q status ⊎ IsStopped first.calls p q status →
     Obeys (first >>= next) (outside p page steps) (outside q page steps) status
 first_obeys first next p q page steps status (inl h) = refused_obeys first next p q page steps status h
@@ -69,7 +76,14 @@ asked_more n k p q h = record {
 called_more : (n k : ℕ) (p : Place) → called k (called n p) ≡ called (n + k) p
 called_more n k p =
     let twice : with_added (with_added p.calls n) k ≡ with_added p.calls (n + k) = omega arith in
-    ap (λ (c : ℕ). record { files = p.files; faults = p.faults; misses = p.misses; made = p.made; opened = p.opened; calls = c }) twice
+    ap (λ (c : ℕ). record {
+      files = p.files;
+      faults = p.faults;
+      misses = p.misses;
+      made = p.made;
+      opened = p.opened;
+      calls = c;
+    }) twice
 
 gives_moved : {X Y : Type 0} (view : X → Y) (n : ℕ) (meant : Meant Y) (p q : Place) (result : Result X Status) →
     Gives view meant (called n p) q result →
@@ -89,8 +103,10 @@ gives_moved view n meant p q (Err status) (inr h) = inr (record {
 })
 
 -- a step whose first part gave a value gives what is meant by the value
-pub then_gives : {X Y A : Type 0} (view : X → Y) (first : Meant A) (x : A) (next : A → Meant Y) (p q r : Place) (result : Result X Status) →
-    first.result ≡ Ok x → q ≡ called first.calls p → Gives view (next x) q r result → Gives view (first >>= next) p r result
+pub then_gives : {X Y A : Type 0} (view : X → Y) (first : Meant A) (x : A) (next : A → Meant Y) (p q r : Place)
+    (result : Result X Status) →
+    first.result ≡ Ok x → q ≡ called first.calls p → Gives view (next x) q r result → Gives view (first >>= next) p r
+    result
 then_gives {A = A} view first x next p q r result e same h =
     subst (λ (s : Result A Status). Gives view (after first.calls s next) p r result) (sym e)
     (gives_moved view first.calls (next x) p r result
@@ -99,7 +115,8 @@ then_gives {A = A} view first x next p q r result e same h =
 asked_all : (n k : ℕ) (p q : Place) → IsAsked n p q → IsAsked (n + k) p q
 asked_all n k p q h = record { files = h.files; made = h.made; ports = h.ports; calls = let c = h.calls in omega arith }
 
-refused_after : {A Y : Type 0} (n : ℕ) (r : Result A Status) (next : A → Meant Y) (p q : Place) (status : Status) → r ≡ Err status →
+refused_after : {A Y : Type 0} (n : ℕ) (r : Result A Status) (next : A → Meant Y) (p q : Place) (status : Status) →
+    r ≡ Err status →
     IsRefused (record { calls = n; result = r }) p q status → IsRefused (after n r next) p q status
 refused_after {A} n r next p q status e h =
     subst (λ (s : Result A Status). IsRefused (after n s next) p q status) (sym e)
@@ -112,7 +129,8 @@ stopped_after n (Ok x) next p q status h =
 stopped_after n (Err s) next p q status h = h
 
 -- a step whose first part was refused or stopped is so
-pub first_gives : {X Y A : Type 0} (view : X → Y) (first : Meant A) (next : A → Meant Y) (p q : Place) (status : Status) →
+pub first_gives : {X Y A : Type 0} (view : X → Y) (first : Meant A) (next : A → Meant Y) (p q : Place)
+    (status : Status) →
     IsRefused first p q status ⊎ IsStopped first.calls p q status → Gives view (first >>= next) p q (Err status)
 first_gives view first next p q status (inl h) = inl (refused_after first.calls first.result next p q status h.value h)
 first_gives view first next p q status (inr h) = inr (stopped_after first.calls first.result next p q status h)

@@ -1,5 +1,6 @@
 -- What becomes of a command that reads a file while it works.
-use Rattle.std.proofs.Common.{◌≡◌, ◌≢◌, ℕ, ◌^◌, ◌<◌, ◌≤◌, List, Option, Some, None, Ok, refl, sym, subst, ◌∙◌, inl, inr, arith}
+use Rattle.std.proofs.Common.{◌≡◌, ◌≢◌, ℕ, ◌^◌, ◌<◌, ◌≤◌, List, Option, Some, None, Ok, refl, sym, subst, ◌∙◌, inl, inr}
+use Rattle.std.proofs.Common.{arith}
 use Rattle.sd_cause.specs.Count.{with_added, IsCaused}
 use Rattle.sd_status.specs.declared.status.Status.{Status}
 use Rattle.sd_status.specs.declared.status.Status.TheVariants.{DepotFault}
@@ -22,7 +23,8 @@ pub record IsRead (a b : Place) (status : Status) : Type 0 where
 
 -- the counts of faults of a depot that took over those of a port
 pub faults_added : (before opened now from port : ℕ) (status : Status) → opened ≡ before → opened < 2 ^ 64 →
-    now ≡ with_added opened port → from ≡ 0 → IsCaused from port (status ≡ DepotFault) → IsCaused before now (status ≡ DepotFault)
+    now ≡ with_added opened port → from ≡ 0 → IsCaused from port (status ≡ DepotFault) →
+    IsCaused before now (status ≡ DepotFault)
 faults_added before opened now from port status same within is fresh cause = record {
   later = omega (arith, same, is, within);
   failed = λ e. let rose = cause.failed e in omega (arith, same, is, within, rose, fresh);
@@ -30,18 +32,21 @@ faults_added before opened now from port status same within is fresh cause = rec
 }
 
 none_made : (out : Option Out) (p q : Place) → out ≡ None → q.files ≡ p.files → q.made ≡ p.made → IsMade out p q
-none_made out p q none files made = subst (λ (o : Option Out). IsMade o p q) (sym none) (record { files = files; made = made })
+none_made out p q none files made = subst (λ (o : Option Out). IsMade o p q) (sym none)
+    (record { files = files; made = made })
 
 is_other : (status : Status) → IsEnding status → status ≢ DepotFault
 is_other status ending is = absurd (subst IsEnding is ending)
 
 -- work that only prints and reads its file meanwhile
-printed_comes : (work : Work) (p q : Place) (page now : Page) (steps : ℕ) (status : Status) → work.out ≡ None → IsEnding work.ends →
+printed_comes : (work : Work) (p q : Place) (page now : Page) (steps : ℕ) (status : Status) → work.out ≡ None →
+    IsEnding work.ends →
     IsRead p q status → PrintsReading work page now status →
     Comes (Ok work) (outside p page steps) (outside q now steps) status
 printed_comes work p q page now steps status none ending read (inl (inl all)) =
     ended work refl all.0 (subst IsEnding (sym all.0) ending) (none_made work.out p q none read.files read.made) all.1
-    (record { depot = read.faults.calm (is_other status (subst IsEnding (sym all.0) ending)); print = all.2 }) read.misses
+    (record { depot = read.faults.calm (is_other status (subst IsEnding (sym all.0) ending)); print = all.2 })
+    read.misses
 printed_comes work p q page now steps status none ending read (inl (inr (inl some))) =
     exhausted some.0 (printing work refl (none_made work.out p q none read.files read.made) some.1)
     (record { depot = read.faults.calm (λ is. let x = sym some.0 ∙ is in cc); print = some.2 }) read.misses
@@ -53,15 +58,18 @@ printed_comes work p q page now steps status none ending read (inr broken) =
     (read.faults.failed broken.0) broken.2 read.misses
 
 -- so it follows what is meant by what the file gave
-pub reading_follows : (view : List ℕ → Work) (word : Word) (bytes : List ℕ) (p q : Place) (page now : Page) (steps : ℕ) (status : Status) →
+pub reading_follows : (view : List ℕ → Work) (word : Word) (bytes : List ℕ) (p q : Place) (page now : Page) (steps : ℕ)
+    (status : Status) →
     (view bytes).out ≡ None → IsEnding (view bytes).ends → IsGot p.files word.text (Some bytes) → IsRead p q status →
     PrintsReading (view bytes) page now status →
-    Follows (λ given. all_of word.number (given word) >>= λ bytes. value (view bytes)) (outside p page steps) (outside q now steps) status
+    Follows (λ given. all_of word.number (given word) >>= λ bytes. value (view bytes)) (outside p page steps)
+    (outside q now steps) status
 reading_follows view word bytes p q page now steps status none ending got read prints =
     let g = one_given p.files word (Some bytes) got in record {
       given = g.given;
       is_given = g.is_given;
-      obeyed = subst (λ (got : Option (List ℕ)). Obeys (all_of word.number got >>= λ bytes. value (view bytes)) (outside p page steps)
+      obeyed = subst (λ (got : Option (List ℕ)). Obeys (all_of word.number got >>= λ bytes. value (view bytes))
+          (outside p page steps)
           (outside q now steps) status) (sym g.gave)
           (record {
             comes = printed_comes (view bytes) p q page now steps status none ending read prints;

@@ -1,5 +1,6 @@
 -- What a run's answer says, once the line of the status is told.
-use Rattle.std.proofs.Common.{◌≡◌, ◌≢◌, ◌⊎◌, ℕ, Option, Some, List, [], Result, Ok, Err, refl, sym, ap, subst, ◌∙◌, inl, inr, arith}
+use Rattle.std.proofs.Common.{◌≡◌, ◌≢◌, ◌⊎◌, ℕ, Option, Some, List, [], Result, Ok, Err, refl, sym, ap, subst, ◌∙◌, inl}
+use Rattle.std.proofs.Common.{inr, arith}
 use Rattle.std.proofs.KnownBytes.{Appends-nil}
 use Rattle.std.specs.Io.KnownBytes.{Appends}
 use Rattle.sd_cause.specs.Count.{Rose, IsCalm as IsStill}
@@ -10,7 +11,8 @@ use Rattle.sd_status.specs.Texts.{line_of}
 use Rattle.sd_status.specs.Outside.{Page, Outside}
 use Rattle.sd_status.specs.Meant.{Meant, Given, told_by, IsGiven}
 use Rattle.sd_status.specs.Work.{Work}
-use Rattle.sd_status.specs.Comes.{IsRefusal, IsEnding, Comes, refused, ended, unclosed, exhausted, failed, nowhere, cut_off, Follows}
+use Rattle.sd_status.specs.Comes.{IsRefusal, IsEnding, Comes, refused, ended, unclosed, exhausted, failed, nowhere}
+use Rattle.sd_status.specs.Comes.{cut_off, Follows}
 use Rattle.sd_status.specs.Answers.{TakesMemory, Tells, with_page, Answers, HasCause, IsMeant, IsToldAs}
 
 -- work that is done has no line, and so has a failed print
@@ -18,7 +20,12 @@ pub no_line : (page : Page) (status : Status) → line_of status ≡ [] → Tell
 no_line page status e = record {
   line = status;
   of = inl refl;
-  says = inl (refl, subst (λ (text : List ℕ). Appends page.printed page.printed text) (sym e) (Appends-nil page.printed), refl);
+  says = inl (
+    refl,
+    subst (λ (text : List ℕ). Appends page.printed page.printed text) (sym e)
+        (Appends-nil page.printed),
+    refl,
+  );
 }
 
 -- a command that was done, or whose print failed, has no line to tell
@@ -31,13 +38,15 @@ unfolding line_of
 cut_line = refl
 
 -- a command whose status has no line answers it
-pub lineless_answers : (meant : Given → Meant Work) (a b : Outside) (status : Status) → line_of status ≡ [] → Follows meant a b status →
+pub lineless_answers : (meant : Given → Meant Work) (a b : Outside) (status : Status) → line_of status ≡ [] →
+    Follows meant a b status →
     Answers meant a b status
 lineless_answers meant a b status e h =
     record { status = status; page = b.page; obeyed = h; told = no_line b.page status e }
 
 -- a line that was told is the status's own
-pub own_line : (a b : Page) (status answer : Status) (tells : Tells a b status answer) → answer ≢ NoMemory → answer ≢ PrintFault → status ≡ answer
+pub own_line : (a b : Page) (status answer : Status) (tells : Tells a b status answer) → answer ≢ NoMemory →
+    answer ≢ PrintFault → status ≡ answer
 own_line a b status answer tells memory print =
     elim tells.says [
       | inl said ↦ elim tells.of [
@@ -48,7 +57,8 @@ own_line a b status answer tells memory print =
     ]
 
 -- print's count rose where an answer says so, and else stands
-pub print_rose : (a b : Page) (status answer : Status) → Tells a b status answer → answer ≡ PrintFault → (status ≡ PrintFault) ⊎ Rose a.faults b.faults
+pub print_rose : (a b : Page) (status answer : Status) → Tells a b status answer → answer ≡ PrintFault →
+    (status ≡ PrintFault) ⊎ Rose a.faults b.faults
 print_rose a b status answer tells e =
     elim tells.says [
       | inl said ↦ elim tells.of [
@@ -63,7 +73,8 @@ rose_on a b c (inl e) h = subst (λ (n : ℕ). Rose n c) e h
 rose_on a b c (inr r) h = omega arith
 
 -- the count of print is as before, or rose
-page_later : (meant : Result Work Status) (a b : Outside) (status : Status) → Comes meant a b status → (b.page.faults ≡ a.page.faults) ⊎ Rose a.page.faults b.page.faults
+page_later : (meant : Result Work Status) (a b : Outside) (status : Status) → Comes meant a b status →
+    (b.page.faults ≡ a.page.faults) ⊎ Rose a.page.faults b.page.faults
 page_later meant a b status (refused e r h k c m) = inl c.print
 page_later meant a b status (ended work e s i h k c m) = inl c.print
 page_later meant a b status (unclosed work e s i j t out f h k r c m) = inl c
@@ -73,7 +84,8 @@ page_later meant a b status (nowhere work e out f s n h k c m) = inl c.print
 page_later meant a b status (cut_off work e s h k r c m) = inr r
 
 -- it is as before where printing didn't fail
-page_calm : (meant : Result Work Status) (a b : Outside) (status : Status) → Comes meant a b status → status ≢ PrintFault → b.page.faults ≡ a.page.faults
+page_calm : (meant : Result Work Status) (a b : Outside) (status : Status) → Comes meant a b status →
+    status ≢ PrintFault → b.page.faults ≡ a.page.faults
 page_calm meant a b status (refused e r h k c m) n = c.print
 page_calm meant a b status (ended work e s i h k c m) n = c.print
 page_calm meant a b status (unclosed work e s i j t out f h k r c m) n = c
@@ -83,7 +95,8 @@ page_calm meant a b status (nowhere work e out f s v h k c m) n = c.print
 page_calm meant a b status (cut_off work e s h k r c m) n = absurd (n s)
 
 -- a print fault of the command itself
-print_failed : (meant : Result Work Status) (a b : Outside) (status : Status) → Comes meant a b status → status ≡ PrintFault → Rose a.page.faults b.page.faults
+print_failed : (meant : Result Work Status) (a b : Outside) (status : Status) → Comes meant a b status →
+    status ≡ PrintFault → Rose a.page.faults b.page.faults
 print_failed meant a b status (refused e r h k c m) is = absurd (subst IsRefusal is r)
 print_failed meant a b status (ended work e s i h k c m) is = absurd (subst IsEnding is i)
 print_failed meant a b status (unclosed work e s i j t out f h k r c m) is = absurd (subst IsEnding is i)
@@ -92,7 +105,8 @@ print_failed meant a b status (failed s h r c m) is = absurd (let x = sym s ∙ 
 print_failed meant a b status (nowhere work e out f s n h k c m) is = absurd (let x = sym s ∙ is in cc)
 print_failed meant a b status (cut_off work e s h k r c m) is = r
 
-depot_failed : (meant : Result Work Status) (a b : Outside) (status : Status) → Comes meant a b status → status ≡ DepotFault → Rose a.place.faults b.place.faults
+depot_failed : (meant : Result Work Status) (a b : Outside) (status : Status) → Comes meant a b status →
+    status ≡ DepotFault → Rose a.place.faults b.place.faults
 depot_failed meant a b status (refused e r h k c m) is = absurd (subst IsRefusal is r)
 depot_failed meant a b status (ended work e s i h k c m) is = absurd (subst IsEnding is i)
 depot_failed meant a b status (unclosed work e s i j t out f h k r c m) is = absurd (subst IsEnding is i)
@@ -101,7 +115,8 @@ depot_failed meant a b status (failed s h r c m) is = r
 depot_failed meant a b status (nowhere work e out f s n h k c m) is = absurd (let x = sym s ∙ is in cc)
 depot_failed meant a b status (cut_off work e s h k r c m) is = absurd (let x = sym s ∙ is in cc)
 
-was_missing : (meant : Result Work Status) (a b : Outside) (status : Status) (word : ℕ) → Comes meant a b status → status ≡ Missing word → Rose a.place.misses b.place.misses
+was_missing : (meant : Result Work Status) (a b : Outside) (status : Status) (word : ℕ) → Comes meant a b status →
+    status ≡ Missing word → Rose a.place.misses b.place.misses
 was_missing meant a b status word (refused e r h k c m) is = m.missing word is
 was_missing meant a b status word (ended work e s i h k c m) is = absurd (subst IsEnding is i)
 was_missing meant a b status word (unclosed work e s i j t out f h k r c m) is = absurd (subst IsEnding is i)
@@ -110,7 +125,8 @@ was_missing meant a b status word (failed s h r c m) is = absurd (let x = sym s 
 was_missing meant a b status word (nowhere work e out f s n h k c m) is = m
 was_missing meant a b status word (cut_off work e s h k r c m) is = absurd (let x = sym s ∙ is in cc)
 
-was_done : (meant : Result Work Status) (a b : Outside) (status : Status) → Comes meant a b status → status ≡ Done → b.place.faults ≡ a.place.faults
+was_done : (meant : Result Work Status) (a b : Outside) (status : Status) → Comes meant a b status → status ≡ Done →
+    b.place.faults ≡ a.place.faults
 was_done meant a b status (refused e r h k c m) is = absurd (subst IsRefusal is r)
 was_done meant a b status (ended work e s i h k c m) is = c.depot
 was_done meant a b status (unclosed work e s i j t out f h k r c m) is = absurd (subst IsRefusal is j)
@@ -120,13 +136,15 @@ was_done meant a b status (nowhere work e out f s n h k c m) is = absurd (let x 
 was_done meant a b status (cut_off work e s h k r c m) is = absurd (let x = sym s ∙ is in cc)
 
 whole_line : (meant : Result Work Status) (a b : Outside) (status line answer : Status) → Comes meant a b status →
-    (line ≡ status) ⊎ (TakesMemory status × (line ≡ NoMemory)) → answer ≡ line → answer ≢ PrintFault → b.page.faults ≡ a.page.faults
+    (line ≡ status) ⊎ (TakesMemory status × (line ≡ NoMemory)) → answer ≡ line → answer ≢ PrintFault → b.page.faults
+    ≡ a.page.faults
 whole_line meant a b status line answer comes (inl own) e n = page_calm meant a b status comes (λ is. n (e ∙ own ∙ is))
 whole_line meant a b status line answer comes (inr other) e n =
     page_calm meant a b status comes (λ is. subst TakesMemory is other.0)
 
 -- an answer has its cause
-pub causes : (meant : Given → Meant Work) (a b : Outside) (answer : Status) → Answers meant a b answer → HasCause a b answer
+pub causes : (meant : Given → Meant Work) (a b : Outside) (answer : Status) → Answers meant a b answer →
+    HasCause a b answer
 causes meant a b answer h =
     let comes = h.obeyed.obeyed.comes in
     let status = h.status in
@@ -134,9 +152,11 @@ causes meant a b answer h =
     let result = (meant h.obeyed.given).result in
     record {
       missing = λ word is.
-          was_missing result a mid status word comes (own_line h.page b.page status answer h.told (λ e. let x = sym is ∙ e in cc) (λ e. let x = sym is ∙ e in cc) ∙ is);
+          was_missing result a mid status word comes (own_line h.page b.page status answer h.told
+          (λ e. let x = sym is ∙ e in cc) (λ e. let x = sym is ∙ e in cc) ∙ is);
       depot = λ is.
-          depot_failed result a mid status comes (own_line h.page b.page status answer h.told (λ e. let x = sym is ∙ e in cc) (λ e. let x = sym is ∙ e in cc) ∙ is);
+          depot_failed result a mid status comes (own_line h.page b.page status answer h.told
+          (λ e. let x = sym is ∙ e in cc) (λ e. let x = sym is ∙ e in cc) ∙ is);
       print = λ is. elim h.told.says [
         | inl said ↦ elim (print_rose h.page b.page status answer h.told is) [
           | inl own ↦ subst (λ (n : ℕ). Rose a.page.faults n) (sym said.2) (print_failed result a mid status comes own)
@@ -149,7 +169,8 @@ causes meant a b answer h =
         | inr cut ↦ absurd (n cut.0)
       ];
       done = λ is.
-          was_done result a mid status comes (own_line h.page b.page status answer h.told (λ e. let x = sym is ∙ e in cc) (λ e. let x = sym is ∙ e in cc) ∙ is);
+          was_done result a mid status comes (own_line h.page b.page status answer h.told
+          (λ e. let x = sym is ∙ e in cc) (λ e. let x = sym is ∙ e in cc) ∙ is);
     }
 
 out_of_memory : (meant : Result Work Status) (answer : Status) → answer ≡ NoMemory → IsMeant meant answer
@@ -160,42 +181,56 @@ still_or_not : (before now : ℕ) → IsStill before now → Rose before now →
 still_or_not before now still rose = absurd (omega arith)
 
 -- the status of a command is the one that is meant where no device failed
-own_meant : (meant : Result Work Status) (files : Files) (a b : Outside) (status answer : Status) → a.place.files ≡ Some files →
-    IsStill a.place.faults b.place.faults → (Rose a.page.faults b.page.faults → ⊥) → Comes meant a b status → answer ≡ status → IsMeant meant answer
-own_meant meant files a b status answer told depot print (refused e r h k c m) is = subst (λ (r : Result Work Status). IsMeant r answer) (sym e) (inl is)
-own_meant meant files a b status answer told depot print (ended work e s i h k c m) is = subst (λ (r : Result Work Status). IsMeant r answer) (sym e) (inl (is ∙ s))
-own_meant meant files a b status answer told depot print (unclosed work e s i j t out f h k r c m) is = absurd (still_or_not _ _ depot r)
+own_meant : (meant : Result Work Status) (files : Files) (a b : Outside) (status answer : Status) → a.place.files
+    ≡ Some files →
+    IsStill a.place.faults b.place.faults → (Rose a.page.faults b.page.faults → ⊥) → Comes meant a b status →
+    answer ≡ status → IsMeant meant answer
+own_meant meant files a b status answer told depot print (refused e r h k c m) is = subst
+    (λ (r : Result Work Status). IsMeant r answer) (sym e) (inl is)
+own_meant meant files a b status answer told depot print (ended work e s i h k c m) is = subst
+    (λ (r : Result Work Status). IsMeant r answer) (sym e) (inl (is ∙ s))
+own_meant meant files a b status answer told depot print (unclosed work e s i j t out f h k r c m) is = absurd
+    (still_or_not _ _ depot r)
 own_meant meant files a b status answer told depot print (exhausted s h c m) is = out_of_memory meant answer (is ∙ s)
 own_meant meant files a b status answer told depot print (failed s h r c m) is = absurd (still_or_not _ _ depot r)
-own_meant meant files a b status answer told depot print (nowhere work e out f s n h k c m) is = absurd (let x = sym told ∙ n in cc)
+own_meant meant files a b status answer told depot print (nowhere work e out f s n h k c m) is = absurd
+    (let x = sym told ∙ n in cc)
 own_meant meant files a b status answer told depot print (cut_off work e s h k r c m) is = absurd (print r)
 
-answered : (meant : Result Work Status) (files : Files) (a b : Outside) (page : Page) (status answer : Status) → a.place.files ≡ Some files →
-    IsStill a.place.faults b.place.faults → IsStill a.page.faults b.page.faults → Comes meant a (with_page b page) status →
+answered : (meant : Result Work Status) (files : Files) (a b : Outside) (page : Page) (status answer : Status) →
+    a.place.files ≡ Some files →
+    IsStill a.place.faults b.place.faults → IsStill a.page.faults b.page.faults → Comes meant a (with_page b page)
+    status →
     Tells page b.page status answer → IsMeant meant answer
 answered meant files a b page status answer told depot print comes tells =
     elim tells.says [
       | inl said ↦ elim tells.of [
         | inl own ↦ own_meant meant files a (with_page b page) status answer told depot
-            (λ rose. still_or_not _ _ print (subst (λ (n : ℕ). Rose a.page.faults n) (sym said.2) rose)) comes (said.0 ∙ own)
+            (λ rose. still_or_not _ _ print (subst (λ (n : ℕ). Rose a.page.faults n) (sym said.2) rose)) comes
+            (said.0 ∙ own)
         | inr other ↦ out_of_memory meant answer (said.0 ∙ other.1)
       ]
       | inr cut ↦ absurd (still_or_not _ _ print
           (rose_on a.page.faults page.faults b.page.faults (page_later meant a (with_page b page) status comes) cut.2))
     ]
 
-told_given : (files : Option Files) (told : Files) (given : Given) → files ≡ Some told → IsGiven files given → given ≡ told_by told
+told_given : (files : Option Files) (told : Files) (given : Given) → files ≡ Some told → IsGiven files given →
+    given ≡ told_by told
 told_given files told given e h = subst (λ (o : Option Files). IsGiven o given) e h
 
 -- what is meant is answered where files are told and no device failed
-pub completes : (meant : Given → Meant Work) (files : Files) (a b : Outside) (answer : Status) → Answers meant a b answer →
+pub completes : (meant : Given → Meant Work) (files : Files) (a b : Outside) (answer : Status) →
+    Answers meant a b answer →
     a.place.files ≡ Some files → IsStill a.place.faults b.place.faults → IsStill a.page.faults b.page.faults →
     IsMeant (meant (told_by files)).result answer
 completes meant files a b answer h told depot print =
-    subst (λ (given : Given). IsMeant (meant given).result answer) (told_given a.place.files files h.obeyed.given told h.obeyed.is_given)
-    (answered (meant h.obeyed.given).result files a b h.page h.status answer told depot print h.obeyed.obeyed.comes h.told)
+    subst (λ (given : Given). IsMeant (meant given).result answer) (told_given a.place.files files h.obeyed.given told
+    h.obeyed.is_given)
+    (answered (meant h.obeyed.given).result files a b h.page h.status answer told depot print h.obeyed.obeyed.comes
+    h.told)
 
-refused_usage : (meant : Result Work Status) (a b : Outside) (status : Status) → Comes meant a b status → status ≡ Usage → meant ≡ Err Usage
+refused_usage : (meant : Result Work Status) (a b : Outside) (status : Status) → Comes meant a b status →
+    status ≡ Usage → meant ≡ Err Usage
 refused_usage meant a b status (refused e r h k c m) is = e ∙ ap Err is
 refused_usage meant a b status (ended work e s i h k c m) is = absurd (subst IsEnding is i)
 refused_usage meant a b status (unclosed work e s i j t out f h k r c m) is = absurd (subst IsEnding is i)
@@ -205,11 +240,16 @@ refused_usage meant a b status (nowhere work e out f s n h k c m) is = absurd (l
 refused_usage meant a b status (cut_off work e s h k r c m) is = absurd (let x = sym s ∙ is in cc)
 
 -- what `Usage` is answered to is meant so
-pub usage_meant : (meant : Given → Meant Work) (a b : Outside) (answer : Status) → Answers meant a b answer → answer ≡ Usage →
+pub usage_meant : (meant : Given → Meant Work) (a b : Outside) (answer : Status) → Answers meant a b answer →
+    answer ≡ Usage →
     (given : Given) × ((meant given).result ≡ Err Usage)
 usage_meant meant a b answer h is =
-    let own = own_line h.page b.page h.status answer h.told (λ e. let x = sym is ∙ e in cc) (λ e. let x = sym is ∙ e in cc) ∙ is in
-    (h.obeyed.given, refused_usage (meant h.obeyed.given).result a (with_page b h.page) h.status h.obeyed.obeyed.comes own)
+    let own = own_line h.page b.page h.status answer h.told (λ e. let x = sym is ∙ e in cc)
+    (λ e. let x = sym is ∙ e in cc) ∙ is in (
+      h.obeyed.given,
+      refused_usage (meant h.obeyed.given).result a (with_page b h.page) h.status h.obeyed.obeyed.comes
+          own,
+    )
 
 -- a status whose line is told
 pub told_as : (a b : Page) (status answer : Status) → Tells a b status answer → IsToldAs status answer

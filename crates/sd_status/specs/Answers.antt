@@ -4,7 +4,8 @@ use Rattle.std.specs.Io.KnownBytes.{Appends}
 use Rattle.sd_cause.specs.Count.{Rose}
 use Rattle.sd_ports.specs.Bytes.{AppendsPrefix}
 use Rattle.sd_status.specs.declared.status.Status.{Status}
-use Rattle.sd_status.specs.declared.status.Status.TheVariants.{Done, Usage, Missing, DepotFault, PrintFault, NoMemory, NoCat}
+use Rattle.sd_status.specs.declared.status.Status.TheVariants.{Done, Usage, Missing, DepotFault, PrintFault, NoMemory}
+use Rattle.sd_status.specs.declared.status.Status.TheVariants.{NoCat}
 use Rattle.sd_status.specs.Texts.{line_of}
 use Rattle.sd_status.specs.Outside.{Page, Outside}
 use Rattle.sd_status.specs.Meant.{Meant, Given}

@@ -41,7 +41,8 @@ pub record Looks {X Y : Type 0} (view : X → Y) (meant : Option (List ℕ) → 
   pub gives : Gives view (meant got) a b result
 
 -- a step that reads files gives what is meant by what the files gave
-pub record Reads {X Y : Type 0} (view : X → Y) (meant : Given → Meant Y) (a b : Place) (result : Result X Status) : Type 0
+pub record Reads {X Y : Type 0} (view : X → Y) (meant : Given → Meant Y) (a b : Place) (result : Result X Status) : Type
+    0
   where
     pub given : Given
     pub is_given : IsGiven a.files given

@@ -20,7 +20,8 @@ use Rattle.sd_status.specs.declared.status.Status.TheVariants.{Done, Usage, Miss
 use Rattle.sd_status.specs.declared.status.Status.TheVariants.{BadSite, BadBook, BadCard, BadClear, BadStream}
 use Rattle.sd_status.specs.declared.status.Status.TheVariants.{Limit, NoMemory, Unheard, Unclosed, Gaps, NoCat, BadWord}
 use Rattle.sd_status.specs.declared.status.LimitKind.{LimitKind}
-use Rattle.sd_status.specs.declared.status.LimitKind.TheVariants.{SiteBytes, BookBytes, CardBytes, Book, TrialHeight, TrialPackets, Traced}
+use Rattle.sd_status.specs.declared.status.LimitKind.TheVariants.{SiteBytes, BookBytes, CardBytes, Book, TrialHeight}
+use Rattle.sd_status.specs.declared.status.LimitKind.TheVariants.{TrialPackets, Traced}
 use Rattle.sd_status.specs.declared.status.ClearCause.{ClearCause}
 use Rattle.sd_status.specs.declared.status.ClearCause.TheVariants as clear
 use Rattle.sd_status.specs.declared.status.StreamCause.{StreamCause}

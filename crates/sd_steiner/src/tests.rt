@@ -43,7 +43,8 @@ fn spaced(alloc: Global, d: u8, step: u32, count: u32) -> Option<Vec<SetName>> {
 fn covers_of_spaced_leaves(rt: HostRuntime) {
     let whole = SetName::Whole;
     let set = |i, j| SetName::Diff { i, j };
-    // The height, the step from one revoked leaf to the next, their number; how many sets there are, the first, the last.
+    // The height, the step from one revoked leaf to the next, their number; how many sets there are, the first, the
+    // last.
     for (d, step, revoked, count, first, last) in [
         (1, 1, 0, 1, Some(whole), Some(whole)),
         (1, 1, 2, 0, None, None),

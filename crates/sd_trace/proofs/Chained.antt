@@ -31,7 +31,8 @@ same_more v a b same u = (
 )
 
 -- rounds ask for the leaves that are gone, in whatever order
-any_round_same : (d : ℕ) (a b : List ℕ) (found : Found) → d < 32 → SameLeaves a b → IsAnyRound d a found → IsAnyRound d b found
+any_round_same : (d : ℕ) (a b : List ℕ) (found : Found) → d < 32 → SameLeaves a b → IsAnyRound d a found →
+    IsAnyRound d b found
 any_round_same d a b found low same r = record {
   leaf = r.leaf;
   fresh = λ m. r.fresh ((same found.leaf).1 m);
@@ -45,8 +46,11 @@ pub any_rounds_same : (d : ℕ) (a b : List ℕ) (found : List Found) → d < 32
     AreAnyRounds d b found
 unfolding AreAnyRounds
 any_rounds_same d a b [] low same r = tt
-any_rounds_same d a b (f ∷ fs) low same r =
-    (any_round_same d a b f low same r.0, any_rounds_same d (f.leaf ∷ a) (f.leaf ∷ b) fs low (same_more f.leaf a b same) r.1)
+any_rounds_same d a b (f ∷ fs) low same r = (
+  any_round_same d a b f low same r.0,
+  any_rounds_same d (f.leaf ∷ a) (f.leaf ∷ b) fs low (same_more f.leaf a b same)
+      r.1,
+)
 
 round_same : (d : ℕ) (coalition a b : List ℕ) (found : Found) → d < 32 → SameLeaves a b → IsRound d coalition a found →
     IsRound d coalition b found
@@ -55,8 +59,10 @@ round_same d coalition a b found low same r =
     record {
       place = r.place;
       opened = subst (λ (sets : List SetName). IsLastOpen d coalition sets r.place) is r.opened;
-      leaf = subst (λ (sets : List SetName). (found.leaf, found.splits) ≡ narrowed d coalition d (get_or sets r.place Whole)) is r.leaf;
-      trials = subst (λ (sets : List SetName). found.trials ≡ 1 + halvings (length sets) 0 (length sets) r.place + found.splits) is r.trials;
+      leaf = subst (λ (sets : List SetName). (found.leaf, found.splits) ≡ narrowed d coalition d
+          (get_or sets r.place Whole)) is r.leaf;
+      trials = subst (λ (sets : List SetName). found.trials ≡ 1 + halvings (length sets) 0 (length sets) r.place
+          + found.splits) is r.trials;
     }
 
 pub trace_same : (d : ℕ) (coalition a b : List ℕ) (found : List Found) → d < 32 → SameLeaves a b →

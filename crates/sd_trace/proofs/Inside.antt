@@ -1,5 +1,6 @@
 -- What a coalition's sets are cut down to is a leaf of the coalition.
-use Rattle.std.proofs.Common.{◌≡◌, ℕ, zero, suc, ◌+◌, ◌*◌, ◌-◌, ◌^◌, ◌<◌, ◌≤◌, Bool, true, false, not, cond, ◌&&◌, ◌||◌, List, [], ◌∷◌}
+use Rattle.std.proofs.Common.{◌≡◌, ℕ, zero, suc, ◌+◌, ◌*◌, ◌-◌, ◌^◌, ◌<◌, ◌≤◌, Bool, true, false, not, cond, ◌&&◌, ◌||◌}
+use Rattle.std.proofs.Common.{List, [], ◌∷◌}
 use Rattle.std.proofs.Common.{get_or, refl, sym, ap, subst, ◌∙◌, inl, inr, arith}
 use Rattle.std.specs.Prelude.{◌↔◌, All, Contains, map, Option, Some, None, nat_le, nat_lt, if◌then◌else◌}
 use Rattle.std.proofs.lemmas.Bool.{leb-true, ltb-true, cases_eq}
@@ -89,7 +90,8 @@ has_leaf : (d : ℕ) (coalition : List ℕ) (name : SetName) (u : ℕ) → Conta
     has_some d coalition name ≡ true
 has_leaf d coalition name u m e = list_any_at (is_member d name) coalition m.0 u m.1 (rw m.2 e)
 
-no_leaf : (d : ℕ) (coalition : List ℕ) (name : SetName) (u : ℕ) → Contains coalition u → has_some d coalition name ≡ false →
+no_leaf : (d : ℕ) (coalition : List ℕ) (name : SetName) (u : ℕ) → Contains coalition u → has_some d coalition name
+    ≡ false →
     is_member d name u ≡ false
 no_leaf d coalition name u m none = by (is_member d name u) refl
   where
@@ -118,18 +120,25 @@ narrowed_half : (d m : ℕ) (coalition : List ℕ) (name a b : SetName) → 1 �
     IsInside d coalition name (narrowed d coalition m (if t then a else b)).0
 narrowed_half d m coalition name a b some small h e opens few sub true first =
     let fits = half_fits d name a b some small h e in
-    let inside = sub a fits.left_height (omega (arith, fits.left_fewer, few)) first in
-    (inside.0, first_holds d (narrowed d coalition m a).0 name a b some small h (member_below d a (narrowed d coalition m a).0 inside.1) e inside.1)
+    let inside = sub a fits.left_height (omega (arith, fits.left_fewer, few)) first in (
+      inside.0,
+      first_holds d (narrowed d coalition m a).0 name a b some small h
+          (member_below d a (narrowed d coalition m a).0 inside.1) e inside.1,
+    )
 narrowed_half d m coalition name a b some small h e opens few sub false first =
     let fits = half_fits d name a b some small h e in
     let there = some_leaf d coalition name opens in
     let u : ℕ = there.0 in
     let apart = no_leaf d coalition a u there.1 first in
     let other = in_other (is_member d a u) (is_member d b u) (is_member d name u)
-    (subst (IfCounted d u name) e (halves_counted d u name some small h (member_below d name u there.2))) there.2 apart in
+    (subst (IfCounted d u name) e (halves_counted d u name some small h (member_below d name u there.2))) there.2 apart
+    in
     let second : has_some d coalition b ≡ true = has_leaf d coalition b u there.1 other in
-    let inside = sub b fits.right_height (omega (arith, fits.right_fewer, few)) second in
-    (inside.0, second_holds d (narrowed d coalition m b).0 name a b some small h (member_below d b (narrowed d coalition m b).0 inside.1) e inside.1)
+    let inside = sub b fits.right_height (omega (arith, fits.right_fewer, few)) second in (
+      inside.0,
+      second_holds d (narrowed d coalition m b).0 name a b some small h
+          (member_below d b (narrowed d coalition m b).0 inside.1) e inside.1,
+    )
 
 inside_by : (d most : ℕ) (coalition : List ℕ) (name : SetName) → 1 ≤ d → d ≤ 20 → IsOfHeight d name →
     cuts_left d name ≤ most → has_some d coalition name ≡ true → (halves : Option (SetName × SetName)) →
@@ -146,12 +155,15 @@ inside_by d (suc m) coalition name some small h few opens (Some (a, b)) e =
     subst (λ (u : ℕ). IsInside d coalition name u)
     (sym (ap (λ (r : ℕ × ℕ). r.0) (narrowed_more d coalition m name a b e)))
     (narrowed_half d m coalition name a b some small h e opens few
-    (λ half fits less has. inside_by d m coalition half some small fits less has (halves_of d half) refl) (has_some d coalition a) refl)
+    (λ half fits less has. inside_by d m coalition half some small fits less has (halves_of d half) refl)
+    (has_some d coalition a) refl)
 
 -- a set with a leaf of the coalition is cut down to one
 pub narrowed_inside : (d most : ℕ) (coalition : List ℕ) (name : SetName) → 1 ≤ d → d ≤ 20 → IsOfHeight d name →
-    cuts_left d name ≤ most → has_some d coalition name ≡ true → IsInside d coalition name (narrowed d coalition most name).0
-narrowed_inside d most coalition name some small h few opens = inside_by d most coalition name some small h few opens (halves_of d name) refl
+    cuts_left d name ≤ most → has_some d coalition name ≡ true → IsInside d coalition name
+    (narrowed d coalition most name).0
+narrowed_inside d most coalition name some small h few opens = inside_by d most coalition name some small h few opens
+    (halves_of d name) refl
 
 -- what a round finds is a leaf of the coalition that isn't gone
 pub round_inside : (d : ℕ) (coalition gone : List ℕ) (found : Found) → 1 ≤ d → d ≤ 20 → All (λ u. u < 2 ^ d) gone →
@@ -167,8 +179,12 @@ round_inside d coalition gone found some small leaves round =
     let inside = narrowed_inside d d coalition name some small height (cuts_few d name height) round.opened.opens in
     let is : (narrowed d coalition d name).0 ≡ found.leaf = sym (ap (λ (r : ℕ × ℕ). r.0) round.leaf) in
     let member = subst (λ (u : ℕ). is_member d name u ≡ true) is inside.1 in
-    let leaf = member_below d name found.leaf member in
-    (leaf, subst (Contains coalition) is inside.0, leaf_is_fresh d found.leaf gone sets name (omega (arith, small)) leaves cover leaf there member)
+    let leaf = member_below d name found.leaf member in (
+      leaf,
+      subst (Contains coalition) is inside.0,
+      leaf_is_fresh d found.leaf gone sets name (omega (arith, small))
+          leaves cover leaf there member,
+    )
 
 more_leaves : (d v : ℕ) (gone : List ℕ) → v < 2 ^ d → All (λ u. u < 2 ^ d) gone → All (λ u. u < 2 ^ d) (v ∷ gone)
 more_leaves d v gone leaf leaves = All-cons (λ u. u < 2 ^ d) v gone leaf leaves
@@ -184,7 +200,8 @@ trace_is_coalition d coalition gone [] some small leaves trace u leaf = (
 )
 trace_is_coalition d coalition gone (f ∷ fs) some small leaves trace u leaf =
     let here = round_inside d coalition gone f some small leaves trace.0 in
-    let rest = trace_is_coalition d coalition (f.leaf ∷ gone) fs some small (more_leaves d f.leaf gone here.0 leaves) trace.1 u leaf in (
+    let rest = trace_is_coalition d coalition (f.leaf ∷ gone) fs some small (more_leaves d f.leaf gone here.0 leaves)
+    trace.1 u leaf in (
       λ m. elim (member_cases f.leaf (map (λ g. g.leaf) fs) u m) [
         | inl is ↦ (subst (Contains coalition) is here.1, λ n. here.2 (subst (Contains gone) (sym is) n))
         | inr later ↦ let own = rest.0 later in (own.0, λ n. own.1 (member_later f.leaf gone u n))

@@ -21,7 +21,8 @@ number_flips x y = grind (arith, nat_tests)
 -- a leaf that isn't among ascending ones, and they, are all different
 all_apart : (u : ℕ) (xs : List ℕ) → IsStrictlyIncreasing xs → ¬ Contains xs u → AllPairs (λ a b. a ≢ b) (xs ++ u ∷ [])
 all_apart u xs up fresh =
-    once_append xs (u ∷ []) (λ i j d below within same. let less = AllPairs-from_increasing xs up i j d below within in omega (arith, less, same))
+    once_append xs (u ∷ []) (λ i j d below within same. let less = AllPairs-from_increasing xs up i j d below
+    within in omega (arith, less, same))
     (λ i j d below within. absurd (omega (arith, below, within)))
     (λ y m n. elim (member_cases u [] y n) [
       | inl same ↦ fresh (subst (Contains xs) (sym same) m)
@@ -40,10 +41,11 @@ joined_ascending u xs ys up fresh moved sorted =
 pub joined_members : (u : ℕ) (xs ys : List ℕ) → IsPermutation (xs ++ u ∷ []) ys → (w : ℕ) →
     Contains ys w ↔ ((w ≡ u) ⊎ Contains xs w)
 joined_members u xs ys moved w = (
-  λ m. elim (Contains-push_cases xs u w (Contains-permutation ys (xs ++ u ∷ []) w (IsPermutation-sym (xs ++ u ∷ []) ys moved) m)) [
-    | inl before ↦ inr before
-    | inr same ↦ inl (sym same)
-  ],
+  λ m. elim
+      (Contains-push_cases xs u w (Contains-permutation ys (xs ++ u ∷ []) w (IsPermutation-sym (xs ++ u ∷ []) ys moved) m)) [
+        | inl before ↦ inr before
+        | inr same ↦ inl (sym same)
+      ],
   λ m. elim m [
     | inl same ↦ subst (Contains ys) (sym same) (Contains-permutation (xs ++ u ∷ []) ys u moved (Contains-push xs u))
     | inr before ↦ Contains-permutation (xs ++ u ∷ []) ys w moved (Contains-append_left xs (u ∷ []) w before)

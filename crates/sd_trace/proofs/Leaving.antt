@@ -1,5 +1,6 @@
 -- Each leaf that is found is one less of those that are left.
-use Rattle.std.proofs.Common.{◌≡◌, ◌≢◌, ℕ, zero, suc, ◌+◌, ◌^◌, ◌<◌, ◌≤◌, Bool, true, false, not, ◌&&◌, nat_eq, List, ◌∷◌, length}
+use Rattle.std.proofs.Common.{◌≡◌, ◌≢◌, ℕ, zero, suc, ◌+◌, ◌^◌, ◌<◌, ◌≤◌, Bool, true, false, not, ◌&&◌, nat_eq, List}
+use Rattle.std.proofs.Common.{◌∷◌, length}
 use Rattle.std.proofs.Common.{refl, sym, ap, ◌∙◌, inl, inr, arith, eq-eqb, eqb-true}
 use Rattle.std.specs.Prelude.{◌⊎◌, ◌↔◌, All, Contains, filter, if◌then◌else◌}
 use Rattle.std.specs.List.{list_any, range_with_len}
@@ -42,7 +43,11 @@ less_by p q v lo n low high first second same (inr apart) rest =
     rw (same lo apart) (either (q lo) _ _ more)
   where
     below : (a b : ℕ) → a ≤ b → a ≢ b → a + 1 ≤ b
-    below a b le ne = elim (cases_lt a b) [ inl less ↦ omega (arith, less) | inr not_less ↦ absurd (ne (omega (arith, le, not_less))) ]
+    below a b le ne = elim (cases_lt a b) [
+      | inl less ↦ omega (arith, less)
+      | inr not_less ↦ absurd
+          (ne (omega (arith, le, not_less)))
+    ]
 
     either : (b : Bool) (xs ys : List ℕ) → length xs ≡ 1 + length ys →
         length (if b then lo ∷ xs else xs) ≡ 1 + length (if b then lo ∷ ys else ys)
@@ -62,7 +67,8 @@ filtered_less p q v lo (suc n) low high first second same =
 found_alike : (a b : List ℕ) (u : ℕ) → (Contains a u ↔ Contains b u) → list_any (nat_eq u) a ≡ list_any (nat_eq u) b
 found_alike a b u same = by (list_any (nat_eq u) a) (list_any (nat_eq u) b) refl refl
   where
-    by : (s t : Bool) → list_any (nat_eq u) a ≡ s → list_any (nat_eq u) b ≡ t → list_any (nat_eq u) a ≡ list_any (nat_eq u) b
+    by : (s t : Bool) → list_any (nat_eq u) a ≡ s → list_any (nat_eq u) b ≡ t → list_any (nat_eq u) a ≡ list_any
+        (nat_eq u) b
     by true true e f = e ∙ sym f
     by false false e f = e ∙ sym f
     by true false e f = absurd (let g = is_found b u (same.0 (found_member u a e)) in cc)
@@ -80,7 +86,8 @@ pub one_less_left : (d v : ℕ) (coalition old new : List ℕ) → v < 2 ^ d →
     Joined v old new → length (outside d old coalition) ≡ 1 + length (outside d new coalition)
 one_less_left d v coalition old new leaf member fresh joined =
     filtered_less (λ u. list_any (nat_eq u) coalition && not (list_any (nat_eq u) old))
-    (λ u. list_any (nat_eq u) coalition && not (list_any (nat_eq u) new)) v 0 (2 ^ d) (omega arith) (omega (arith, leaf))
+    (λ u. list_any (nat_eq u) coalition && not (list_any (nat_eq u) new)) v 0 (2 ^ d) (omega arith)
+    (omega (arith, leaf))
     (rw (is_found coalition v member, not_found old v fresh) refl)
     (rw (is_found coalition v member, is_found new v ((joined.members v).1 (inl refl))) refl)
     (λ u apart. ap (λ (b : Bool). list_any (nat_eq u) coalition && not b) (found_alike old new u (
@@ -91,12 +98,15 @@ one_less_left d v coalition old new leaf member fresh joined =
 -- where all are gone, none is left
 pub none_left : (d : ℕ) (coalition gone : List ℕ) → ((u : ℕ) → u < 2 ^ d → Contains coalition u → Contains gone u) →
     length (outside d gone coalition) ≡ 0
-none_left d coalition gone all = none_from (λ u. list_any (nat_eq u) coalition && not (list_any (nat_eq u) gone)) 0 (2 ^ d)
+none_left d coalition gone all = none_from (λ u. list_any (nat_eq u) coalition && not (list_any (nat_eq u) gone)) 0
+    (2 ^ d)
     (λ u within. by u within (list_any (nat_eq u) coalition) refl)
   where
-    none_from : (p : ℕ → Bool) (lo n : ℕ) → ((u : ℕ) → u < lo + n → p u ≡ false) → length (filter p (range_with_len lo n)) ≡ 0
+    none_from : (p : ℕ → Bool) (lo n : ℕ) → ((u : ℕ) → u < lo + n → p u ≡ false) →
+        length (filter p (range_with_len lo n)) ≡ 0
     none_from p lo zero none = refl
-    none_from p lo (suc n) none = rw (none lo (omega arith)) (none_from p (lo + 1) n (λ u within. none u (omega (arith, within))))
+    none_from p lo (suc n) none = rw (none lo (omega arith))
+        (none_from p (lo + 1) n (λ u within. none u (omega (arith, within))))
 
     by : (u : ℕ) → u < 0 + 2 ^ d → (b : Bool) → list_any (nat_eq u) coalition ≡ b →
         (list_any (nat_eq u) coalition && not (list_any (nat_eq u) gone)) ≡ false

@@ -1,5 +1,6 @@
 -- How a set is cut down to a leaf.
-use Rattle.std.proofs.Common.{ℕ, zero, suc, ◌+◌, ◌-◌, ◌*◌, ◌/◌, ◌^◌, ◌<◌, ◌≤◌, ◌≡◌, ◌≢◌, ◌==◌, Bool, true, false, ◌&&◌, ◌||◌}
+use Rattle.std.proofs.Common.{ℕ, zero, suc, ◌+◌, ◌-◌, ◌*◌, ◌/◌, ◌^◌, ◌<◌, ◌≤◌, ◌≡◌, ◌≢◌, ◌==◌, Bool, true, false, ◌&&◌}
+use Rattle.std.proofs.Common.{◌||◌}
 use Rattle.std.proofs.Common.{not, cond, List, [], ◌∷◌, refl, sym, subst, ap, ◌∙◌, inl, inr, arith}
 use Rattle.std.specs.Prelude.{◌⊎◌, Option, Some, None, All, nat_lt, if◌then◌else◌}
 use Rattle.std.proofs.lemmas.Bool.{le-leb, lt-ltb, ltb-false, eqb-true}
@@ -72,7 +73,8 @@ second_holds d u name a b some low h leaf e m = half_holds d u name a b some low
 
 -- two sets of the height
 pub both_of_height : (d : ℕ) (a b : SetName) → IsOfHeight d a → IsOfHeight d b → All (IsOfHeight d) (a ∷ b ∷ [])
-both_of_height d a b first second = All-cons (IsOfHeight d) a (b ∷ []) first (All-cons (IsOfHeight d) b [] second (All-nil (IsOfHeight d)))
+both_of_height d a b first second = All-cons (IsOfHeight d) a (b ∷ []) first
+    (All-cons (IsOfHeight d) b [] second (All-nil (IsOfHeight d)))
 
 -- a set without halves is cut down to its leaf by no cut
 pub narrowed_uncut : (d : ℕ) (coalition : List ℕ) (most : ℕ) (name : SetName) → halves_of d name ≡ None →

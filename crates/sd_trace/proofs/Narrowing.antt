@@ -1,5 +1,6 @@
 -- How a set is cut down to a leaf.
-use Rattle.std.proofs.Common.{ℕ, ◌+◌, ◌-◌, ◌*◌, ◌/◌, ◌^◌, ◌<◌, ◌≤◌, ◌≡◌, ◌≢◌, ◌==◌, Bool, true, false, refl, sym, subst, ◌∙◌, ⊎_elim, inl, inr, suc, pow_mono, cond, not, ◌&&◌, ◌||◌, arith}
+use Rattle.std.proofs.Common.{ℕ, ◌+◌, ◌-◌, ◌*◌, ◌/◌, ◌^◌, ◌<◌, ◌≤◌, ◌≡◌, ◌≢◌, ◌==◌, Bool, true, false, refl, sym, subst}
+use Rattle.std.proofs.Common.{◌∙◌, ⊎_elim, inl, inr, suc, pow_mono, cond, not, ◌&&◌, ◌||◌, arith}
 use Rattle.std.specs.Prelude.{◌⊎◌, Option, Some, None, nat_lt, if◌then◌else◌}
 use Rattle.std.proofs.lemmas.Bool.Decides.{eqb_tells}
 use Rattle.std.proofs.lemmas.Bool.{eq-eqb, ltb-true, cases_lt}
@@ -40,7 +41,15 @@ child_is d i j low pair =
       parent = by.1;
       level = level;
       below = by.0;
-      node = (omega (arith, by.1, pair.inner.0), omega (arith, half.high, pow_mono {i = depth j - s + 1} {j = d + 1} (omega arith)));
+      node = (
+        omega (arith, by.1, pair.inner.0),
+        omega (
+          arith,
+          half.high,
+          pow_mono {i = depth j - s + 1} {j = d + 1}
+              (omega arith),
+        ),
+      );
       above = (s, refl);
     }
 
@@ -53,8 +62,18 @@ sibling_is i j low half = elim (sibling_cases j) [
 
 -- the two sets below a node that is no leaf's are of the height
 pair_below : (d x c : ℕ) → 1 ≤ x → x < 2 ^ d → (c ≡ 2 * x) ⊎ (c ≡ 2 * x + 1) → IsPair d x c
-pair_below d x c some inner (inl e) = record { inner = (some, inner); node = omega (arith, doubled d); above = (subst (IsAbove x) (sym e) (above_left x), λ g. omega arith) }
-pair_below d x c some inner (inr e) = record { inner = (some, inner); node = omega (arith, doubled d); above = (subst (IsAbove x) (sym e) (above_right x), λ g. omega arith) }
+pair_below d x c some inner (inl e) = record {
+  inner = (some, inner);
+  node = omega (arith, doubled d);
+  above =
+      (subst (IsAbove x) (sym e) (above_left x), λ g. omega arith);
+}
+pair_below d x c some inner (inr e) = record {
+  inner = (some, inner);
+  node = omega (arith, doubled d);
+  above =
+      (subst (IsAbove x) (sym e) (above_right x), λ g. omega arith);
+}
 
 -- a set whose lower node is a child of the upper can be cut so often
 cuts_of_child : (d i j : ℕ) → j / 2 ≡ i → cuts_left d (Diff i j) ≡ d - depth i - 1
@@ -67,7 +86,8 @@ unfolding cuts_left
 cuts_further d i j e = rw e refl
 
 -- the two sets below a node one level below the upper node
-below_by : (d i j x : ℕ) → d ≤ 20 → IsPair d i j → j / 2 ≡ i → x / 2 ≡ i → (b : Bool) → nat_lt x (2 ^ d) ≡ b → IfHalves d (Diff i j) (if b then Some (Diff x (2 * x), Diff x (2 * x + 1)) else None)
+below_by : (d i j x : ℕ) → d ≤ 20 → IsPair d i j → j / 2 ≡ i → x / 2 ≡ i → (b : Bool) → nat_lt x (2 ^ d) ≡ b →
+    IfHalves d (Diff i j) (if b then Some (Diff x (2 * x), Diff x (2 * x + 1)) else None)
 below_by d i j x low pair half other false e = tt
 below_by d i j x low pair half other true e =
     let inner = ltb-true x (2 ^ d) e in
@@ -75,9 +95,15 @@ below_by d i j x low pair half other true e =
     let at_i = depth_within d i low pair.inner.0 (upper_is_node pair) in
     let at_x = depth_within d x low some (omega (arith, doubled d)) in
     let k : ℕ = depth i in
-    let here : IsAtLevel x (k + 1) = record { low = omega (arith, doubled k, at_i.0.low); high = omega (arith, doubled (k + 1), at_i.0.high) } in
+    let here : IsAtLevel x (k + 1) = record {
+      low = omega (arith, doubled k, at_i.0.low);
+      high = omega
+          (arith, doubled (k + 1), at_i.0.high);
+    } in
     let level : depth x ≡ k + 1 = depth_at x (k + 1) (omega arith) here in
-    let within : depth x < d = ⊎_elim (λ (h : depth x < d). h) (λ (h : d ≤ depth x). absurd (omega (arith, pow_mono {i = d} {j = depth x} h, at_x.0.low))) (cases_lt (depth x) d) in
+    let within : depth x < d = ⊎_elim (λ (h : depth x < d). h)
+    (λ (h : d ≤ depth x). absurd (omega (arith, pow_mono {i = d} {j = depth x} h, at_x.0.low)))
+    (cases_lt (depth x) d) in
     let whole = cuts_of_child d i j half in
     let first = cuts_of_child d x (2 * x) (omega arith) in
     let second = cuts_of_child d x (2 * x + 1) (omega arith) in
@@ -89,7 +115,8 @@ below_by d i j x low pair half other true e =
     }
 
 -- the two sets of a set whose lower node is further down
-between_halves : (d i j : ℕ) → d ≤ 20 → IsPair d i j → j / 2 ≢ i → (j / 2 == i) ≡ false → AreHalves d (Diff i j) (Diff i (child_to i j)) (Diff (child_to i j) j)
+between_halves : (d i j : ℕ) → d ≤ 20 → IsPair d i j → j / 2 ≢ i → (j / 2 == i) ≡ false → AreHalves d (Diff i j)
+    (Diff i (child_to i j)) (Diff (child_to i j) j)
 between_halves d i j low pair apart e =
     let c : ℕ = child_to i j in
     let child = child_is d i j low pair in
@@ -115,7 +142,8 @@ between_halves d i j low pair apart e =
     further g = cuts_further d i j g
 
 -- the halves of a pair
-pair_halves_by : (d i j : ℕ) → d ≤ 20 → IsPair d i j → ((j / 2 == i) ≡ true) × (j / 2 ≡ i) ⊎ ((j / 2 == i) ≡ false) × (j / 2 ≢ i) → IfHalves d (Diff i j) (halves_of d (Diff i j))
+pair_halves_by : (d i j : ℕ) → d ≤ 20 → IsPair d i j → ((j / 2 == i) ≡ true) × (j / 2 ≡ i) ⊎ ((j / 2 == i) ≡ false)
+    × (j / 2 ≢ i) → IfHalves d (Diff i j) (halves_of d (Diff i j))
 unfolding halves_of halves_below
 pair_halves_by d i j low pair (inl (e, half)) =
     let x = sibling_is i j pair.inner.0 half in
@@ -135,8 +163,10 @@ set_halves d Whole some low h =
     }
 set_halves d (Diff i j) some low pair = pair_halves_by d i j low pair (eqb_tells (j / 2) i)
 
--- below one node but not below another is below the one and not below a third between them, or below the third and not below the other
-between_sum : (t b c e : Bool) → (c ≡ true → b ≡ true) → (e ≡ true → c ≡ true) → cond (t && (b && not c)) 1 0 + cond (t && (c && not e)) 1 0 ≡ cond (t && (b && not e)) 1 0
+-- below one node but not below another is below the one and not below a third between them, or below the third and not
+-- below the other
+between_sum : (t b c e : Bool) → (c ≡ true → b ≡ true) → (e ≡ true → c ≡ true) → cond (t && (b && not c)) 1 0
+    + cond (t && (c && not e)) 1 0 ≡ cond (t && (b && not e)) 1 0
 between_sum false b c e up down = refl
 between_sum true true true true up down = refl
 between_sum true true true false up down = refl
@@ -151,12 +181,16 @@ pair_leaves : (d i j u : ℕ) → d ≤ 20 → IsPair d i j → u < 2 ^ d → is
 pair_leaves d i j u low pair leaf = leaves_from_above d i j low pair.inner.0 (upper_is_node pair) pair.above.0 u leaf
 
 -- a set that is cut at a node between holds each leaf as often as the two parts
-pub cut_counted : (d i k j u : ℕ) → d ≤ 20 → IsPair d i k → IsPair d k j → u < 2 ^ d → cond {A = ℕ} (is_member d (Diff i k) u) 1 0 + cond (is_member d (Diff k j) u) 1 0 ≡ cond (is_member d (Diff i j) u) 1 0
+pub cut_counted : (d i k j u : ℕ) → d ≤ 20 → IsPair d i k → IsPair d k j → u < 2 ^ d →
+    cond {A = ℕ} (is_member d (Diff i k) u) 1 0 + cond (is_member d (Diff k j) u) 1 0 ≡ cond (is_member d (Diff i j) u)
+    1 0
 cut_counted d i k j u low upper lower leaf =
-    between_sum (nat_lt u (2 ^ d)) (is_below d i u) (is_below d k u) (is_below d j u) (pair_leaves d i k u low upper leaf) (pair_leaves d k j u low lower leaf)
+    between_sum (nat_lt u (2 ^ d)) (is_below d i u) (is_below d k u) (is_below d j u)
+    (pair_leaves d i k u low upper leaf) (pair_leaves d k j u low lower leaf)
 
 -- what is below a node is below one of its children: so the two sets below it, each without one child, hold it once
-two_sum : (t b p q : Bool) → b ≡ (p || q) → (p && q) ≡ false → cond {A = ℕ} (t && (b && not p)) 1 0 + cond (t && (b && not q)) 1 0 ≡ cond (t && b) 1 0
+two_sum : (t b p q : Bool) → b ≡ (p || q) → (p && q) ≡ false → cond {A = ℕ} (t && (b && not p)) 1 0
+    + cond (t && (b && not q)) 1 0 ≡ cond (t && b) 1 0
 two_sum false b p q e n = refl
 two_sum true b true true e n = absurd (cc)
 two_sum true b true false e n = rw e refl
@@ -164,7 +198,8 @@ two_sum true b false true e n = rw e refl
 two_sum true b false false e n = rw e refl
 
 -- below a node and not below one child is below the other
-other_side : (t b c x : Bool) → b ≡ (c || x) → (c && x) ≡ false → cond {A = ℕ} (t && x) 1 0 ≡ cond (t && (b && not c)) 1 0
+other_side : (t b c x : Bool) → b ≡ (c || x) → (c && x) ≡ false → cond {A = ℕ} (t && x) 1 0 ≡ cond (t && (b && not c)) 1
+    0
 other_side false b c x e n = refl
 other_side true b true true e n = absurd (cc)
 other_side true b true false e n = rw e refl
@@ -175,12 +210,16 @@ other_side true b false false e n = rw e refl
 stands : (d x : ℕ) → d ≤ 20 → 1 ≤ x → x < 2 ^ d → StandsAt d (suc (d - depth x - 1)) x
 stands d x low some inner =
     let at = depth_within d x low some (omega (arith, doubled d)) in
-    let within : depth x < d = ⊎_elim (λ (h : depth x < d). h) (λ (h : d ≤ depth x). absurd (omega (arith, pow_mono {i = d} {j = depth x} h, at.0.low))) (cases_lt (depth x) d) in
+    let within : depth x < d = ⊎_elim (λ (h : depth x < d). h)
+    (λ (h : d ≤ depth x). absurd (omega (arith, pow_mono {i = d} {j = depth x} h, at.0.low))) (cases_lt (depth x) d)
+    in
     let e : depth x ≡ d - suc (d - depth x - 1) = omega arith in
     record { within = omega arith; at = subst (IsAtLevel x) e at.0 }
 
 -- what is below a node is below one child
-children : (d x u : ℕ) → d ≤ 20 → 1 ≤ x → x < 2 ^ d → (is_below d x u ≡ (is_below d (2 * x) u || is_below d (2 * x + 1) u)) × ((is_below d (2 * x) u && is_below d (2 * x + 1) u) ≡ false)
+children : (d x u : ℕ) → d ≤ 20 → 1 ≤ x → x < 2 ^ d →
+    (is_below d x u ≡ (is_below d (2 * x) u || is_below d (2 * x + 1) u))
+    × ((is_below d (2 * x) u && is_below d (2 * x + 1) u) ≡ false)
 children d x u low some inner =
     let at = stands d x low some inner in
     (below_either d (d - depth x - 1) x u (omega arith) at, below_one d (d - depth x - 1) x u (omega arith) at)
@@ -193,20 +232,27 @@ swapped b false true (e, n) = (e, refl)
 swapped b false false (e, n) = (e, refl)
 
 -- a node and its sibling below their parent
-pub siblings : (d i j u : ℕ) → d ≤ 20 → IsPair d i j → j / 2 ≡ i → (is_below d i u ≡ (is_below d j u || is_below d (sibling_of j) u)) × ((is_below d j u && is_below d (sibling_of j) u) ≡ false)
+pub siblings : (d i j u : ℕ) → d ≤ 20 → IsPair d i j → j / 2 ≡ i →
+    (is_below d i u ≡ (is_below d j u || is_below d (sibling_of j) u))
+    × ((is_below d j u && is_below d (sibling_of j) u) ≡ false)
 siblings d i j u low pair half =
     let both = children d i u low pair.inner.0 pair.inner.1 in
     elim (sibling_cases j) [
-      | inl (m, even, other) ↦ let a : j ≡ 2 * i = omega arith in let b : sibling_of j ≡ 2 * i + 1 = omega arith in rw (b, a) both
-      | inr (m, odd, other) ↦ let a : j ≡ 2 * i + 1 = omega arith in let b : sibling_of j ≡ 2 * i = omega arith in rw (b, a) (swapped (is_below d i u) (is_below d (2 * i) u) (is_below d (2 * i + 1) u) both)
+      | inl (m, even, other) ↦ let a : j ≡ 2 * i = omega arith in let b : sibling_of j ≡ 2 * i + 1 = omega arith in rw
+          (b, a) both
+      | inr (m, odd, other) ↦ let a : j ≡ 2 * i + 1 = omega arith in let b : sibling_of j ≡ 2 * i = omega arith in rw
+          (b, a) (swapped (is_below d i u) (is_below d (2 * i) u) (is_below d (2 * i + 1) u) both)
     ]
 
 -- two sets that hold each leaf as often as a set
 abbrev pub IfCounted : ℕ → ℕ → SetName → Option (SetName × SetName) → Type 0
 IfCounted d u name None = Unit {0}
-IfCounted d u name (Some halves) = cond {A = ℕ} (is_member d halves.0 u) 1 0 + cond (is_member d halves.1 u) 1 0 ≡ cond (is_member d name u) 1 0
+IfCounted d u name (Some halves) = cond {A = ℕ} (is_member d halves.0 u) 1 0 + cond (is_member d halves.1 u) 1 0
+    ≡ cond (is_member d name u) 1 0
 
-counted_below_by : (d i j u : ℕ) → d ≤ 20 → IsPair d i j → j / 2 ≡ i → (b : Bool) → nat_lt (sibling_of j) (2 ^ d) ≡ b → IfCounted d u (Diff i j) (if b then Some (Diff (sibling_of j) (2 * sibling_of j), Diff (sibling_of j) (2 * sibling_of j + 1)) else None)
+counted_below_by : (d i j u : ℕ) → d ≤ 20 → IsPair d i j → j / 2 ≡ i → (b : Bool) → nat_lt (sibling_of j) (2 ^ d) ≡ b →
+    IfCounted d u (Diff i j)
+    (if b then Some (Diff (sibling_of j) (2 * sibling_of j), Diff (sibling_of j) (2 * sibling_of j + 1)) else None)
 counted_below_by d i j u low pair half false e = tt
 counted_below_by d i j u low pair half true e =
     let x : ℕ = sibling_of j in
@@ -218,15 +264,18 @@ counted_below_by d i j u low pair half true e =
     two_sum (nat_lt u (2 ^ d)) (is_below d x u) (is_below d (2 * x) u) (is_below d (2 * x + 1) u) below.0 below.1
     ∙ other_side (nat_lt u (2 ^ d)) (is_below d i u) (is_below d j u) (is_below d x u) beside.0 beside.1
 
-counted_pair_by : (d i j u : ℕ) → 1 ≤ d → d ≤ 20 → IsPair d i j → u < 2 ^ d → ((j / 2 == i) ≡ true) × (j / 2 ≡ i) ⊎ ((j / 2 == i) ≡ false) × (j / 2 ≢ i) → IfCounted d u (Diff i j) (halves_of d (Diff i j))
+counted_pair_by : (d i j u : ℕ) → 1 ≤ d → d ≤ 20 → IsPair d i j → u < 2 ^ d → ((j / 2 == i) ≡ true) × (j / 2 ≡ i)
+    ⊎ ((j / 2 == i) ≡ false) × (j / 2 ≢ i) → IfCounted d u (Diff i j) (halves_of d (Diff i j))
 unfolding halves_of halves_below
-counted_pair_by d i j u some low pair leaf (inl (e, half)) = rw e (counted_below_by d i j u low pair half (nat_lt (sibling_of j) (2 ^ d)) refl)
+counted_pair_by d i j u some low pair leaf (inl (e, half)) = rw e
+    (counted_below_by d i j u low pair half (nat_lt (sibling_of j) (2 ^ d)) refl)
 counted_pair_by d i j u some low pair leaf (inr (e, apart)) =
     let parts = between_halves d i j low pair apart e in
     rw e (cut_counted d i (child_to i j) j u low parts.left_height parts.right_height leaf)
 
 -- the halves of a set hold each leaf as often as the set
-pub halves_counted : (d u : ℕ) (name : SetName) → 1 ≤ d → d ≤ 20 → IsOfHeight d name → u < 2 ^ d → IfCounted d u name (halves_of d name)
+pub halves_counted : (d u : ℕ) (name : SetName) → 1 ≤ d → d ≤ 20 → IsOfHeight d name → u < 2 ^ d →
+    IfCounted d u name (halves_of d name)
 unfolding halves_of
 halves_counted d u Whole some low h leaf =
     let two : 2 ≤ 2 ^ d = omega (arith, pow_mono {i = 1} {j = d} some) in

@@ -1,6 +1,8 @@
 -- The last set of a cover that opens, and what is left where none does.
-use Rattle.std.proofs.Common.{◌≡◌, ℕ, zero, suc, ◌+◌, ◌-◌, ◌^◌, ◌<◌, Bool, true, false, not, ◌||◌, nat_eq, List, [], ◌∷◌}
-use Rattle.std.proofs.Common.{length, get_or, take, drop, cond, count_by, arith, refl, sym, ap, subst, ◌∙◌, inl, inr, eq-eqb}
+use Rattle.std.proofs.Common.{◌≡◌, ℕ, zero, suc, ◌+◌, ◌-◌, ◌^◌, ◌<◌, Bool, true, false, not, ◌||◌, nat_eq, List, []}
+use Rattle.std.proofs.Common.{◌∷◌}
+use Rattle.std.proofs.Common.{length, get_or, take, drop, cond, count_by, arith, refl, sym, ap, subst, ◌∙◌, inl, inr}
+use Rattle.std.proofs.Common.{eq-eqb}
 use Rattle.std.specs.Prelude.{◌⊎◌, Contains, All, replicate, if◌then◌else◌}
 use Rattle.std.specs.List.{list_any}
 use Rattle.std.proofs.lemmas.List.{drop-append-le, drop-replicate, take-replicate, length-replicate, length-append}
@@ -46,7 +48,8 @@ none_at p (x ∷ xs) (suc k) d none within = none_at p xs k d (later (p x) (list
     later false b e = e
 
 -- what the last set that opens among others is behind one more
-opened_later : (d : ℕ) (coalition : List ℕ) (name : SetName) (sets : List SetName) (z : ℕ) → IsLastOpen d coalition sets z →
+opened_later : (d : ℕ) (coalition : List ℕ) (name : SetName) (sets : List SetName) (z : ℕ) →
+    IsLastOpen d coalition sets z →
     IsLastOpen d coalition (name ∷ sets) (suc z)
 opened_later d coalition name sets z at = record {
   within = omega (arith, at.within);
@@ -54,7 +57,8 @@ opened_later d coalition name sets z at = record {
   last = beyond;
 }
   where
-    beyond : (k : ℕ) → suc z < k → k < length (name ∷ sets) → has_some d coalition (get_or (name ∷ sets) k Whole) ≡ false
+    beyond : (k : ℕ) → suc z < k → k < length (name ∷ sets) → has_some d coalition (get_or (name ∷ sets) k Whole)
+        ≡ false
     beyond zero above within = absurd (omega (arith, above))
     beyond (suc k) above within = at.last k (omega (arith, above)) (omega (arith, within))
 
@@ -101,7 +105,8 @@ none_counted d u coalition [] m none = refl
 none_counted d u coalition (name ∷ sets) m none =
     rw (sum_by-cons (λ n. cond (is_member d n u) 1 0) name sets)
     (let first = out (is_member d name u) refl in
-    let rest = none_counted d u coalition sets m (later (has_some d coalition name) (list_any (has_some d coalition) sets) none) in
+    let rest = none_counted d u coalition sets m
+    (later (has_some d coalition name) (list_any (has_some d coalition) sets) none) in
     rw first (omega (arith, rest)))
   where
     later : (a b : Bool) → (a || b) ≡ false → b ≡ false
@@ -123,28 +128,33 @@ pub none_is_left : (d : ℕ) (coalition gone : List ℕ) (sets : List SetName) �
     IsChainCover d gone sets → list_any (has_some d coalition) sets ≡ false →
     (u : ℕ) → u < 2 ^ d → Contains coalition u → Contains gone u
 none_is_left d coalition gone sets low leaves cover none u leaf m =
-    let partition = cover_partition d gone sets low (λ w n. All-contains (λ x. x < 2 ^ d) gone w leaves n) cover u leaf in
+    let partition = cover_partition d gone sets low (λ w n. All-contains (λ x. x < 2 ^ d) gone w leaves n) cover u leaf
+    in
     let counted = none_counted d u coalition sets m none in
     let among = among_unrevoked d gone u leaf in
     found_member u gone (by_test (list_any (nat_eq u) gone) refl
     (sym counted ∙ (partition ∙ ap (λ (b : Bool). if◌then◌else◌ {A = ℕ} b 1 0) among)))
   where
-    by_test : (b : Bool) → list_any (nat_eq u) gone ≡ b → 0 ≡ if◌then◌else◌ {A = ℕ} (not (list_any (nat_eq u) gone)) 1 0 →
+    by_test : (b : Bool) → list_any (nat_eq u) gone ≡ b → 0 ≡ if◌then◌else◌ {A = ℕ} (not (list_any (nat_eq u) gone)) 1
+        0 →
         list_any (nat_eq u) gone ≡ true
     by_test true e zero_is = e
     by_test false e zero_is = absurd (let one = rw e at zero_is in omega (arith, one))
 
 -- a leaf of a set of the cover isn't gone
-pub leaf_is_fresh : (d u : ℕ) (gone : List ℕ) (sets : List SetName) (name : SetName) → d < 32 → All (λ w. w < 2 ^ d) gone →
+pub leaf_is_fresh : (d u : ℕ) (gone : List ℕ) (sets : List SetName) (name : SetName) → d < 32 →
+    All (λ w. w < 2 ^ d) gone →
     IsChainCover d gone sets → u < 2 ^ d → Contains sets name → is_member d name u ≡ true → ¬ Contains gone u
 leaf_is_fresh d u gone sets name low leaves cover leaf there member m =
-    let partition = cover_partition d gone sets low (λ w n. All-contains (λ x. x < 2 ^ d) gone w leaves n) cover u leaf in
+    let partition = cover_partition d gone sets low (λ w n. All-contains (λ x. x < 2 ^ d) gone w leaves n) cover u leaf
+    in
     let none = rw (among_unrevoked d gone u leaf, is_found gone u m) at partition in
     let some = counted_some (λ (n : SetName). is_member d n u) sets name there member in
     omega (arith, none, some)
 
 -- the keys that a first probe marks right
-right_half : (marks : List Bool) (n : ℕ) → marks ≡ right_from n n → take (length marks - n) (drop n marks) ≡ replicate n true
+right_half : (marks : List Bool) (n : ℕ) → marks ≡ right_from n n → take (length marks - n) (drop n marks)
+    ≡ replicate n true
 right_half marks n is =
     let long : length marks ≡ n + n = ap length is ∙ (length-append (replicate n false) (replicate n true)
     ∙ rw (length-replicate n false, length-replicate n true) refl) in

@@ -20,17 +20,20 @@ use Rattle.sd_trace.proofs.Opening.{none_is_left, leaf_is_fresh}
 
 -- a found leaf of the cover is one of a round
 pub round_of : (d : ℕ) (gone : List ℕ) (sets : List SetName) (before after : ℕ) (found : Option Found) → d ≤ 20 →
-    All (λ u. u < 2 ^ d) gone → IsRoundCover d gone sets → FindsIn d sets before after found → RoundOf d gone before after found
+    All (λ u. u < 2 ^ d) gone → IsRoundCover d gone sets → FindsIn d sets before after found →
+    RoundOf d gone before after found
 round_of d gone sets before after None low leaves cover finds = finds
 round_of d gone sets before after (Some found) low leaves cover finds =
     let f = finds.0 in (
       record {
         leaf = f.leaf;
-        fresh = leaf_is_fresh d found.leaf gone sets (get_or sets f.place Whole) (omega (arith, low)) leaves cover.cover f.leaf
+        fresh = leaf_is_fresh d found.leaf gone sets (get_or sets f.place Whole) (omega (arith, low)) leaves cover.cover
+            f.leaf
             (Contains-get_or sets f.place Whole f.within) f.member;
         splits = f.splits;
         trials = f.trials;
-        turns = subst (λ (names : List SetName). 2 ^ (found.trials - found.splits - 1) < 2 * length names) cover.is f.turns;
+        turns = subst (λ (names : List SetName). 2 ^ (found.trials - found.splits - 1) < 2 * length names) cover.is
+            f.turns;
       },
       finds.1,
     )
@@ -46,10 +49,12 @@ tells_round d coalition gone sets (Some found) low leaves cover finds =
     record { place = at.place; opened = at.opened; leaf = at.leaf; trials = at.trials }
 
 -- a cover of few leaves has few sets
-sets_few : (d : ℕ) (gone : List ℕ) (sets : List SetName) → d ≤ 20 → All (λ u. u < 2 ^ d) gone → length gone ≤ MOST_REVOKED →
+sets_few : (d : ℕ) (gone : List ℕ) (sets : List SetName) → d ≤ 20 → All (λ u. u < 2 ^ d) gone →
+    length gone ≤ MOST_REVOKED →
     IsChainCover d gone sets → length sets < 2 ^ 18
 sets_few d gone sets low leaves few cover =
-    let small = cover_small d gone sets (omega (arith, low)) (λ u m. All-contains (λ w. w < 2 ^ d) gone u leaves m) cover in
+    let small = cover_small d gone sets (omega (arith, low)) (λ u m. All-contains (λ w. w < 2 ^ d) gone u leaves m)
+    cover in
     elim (cases_lt 0 (length gone)) [
       | inl some ↦ let count = small.count some in omega (arith, few, count)
       | inr none ↦ let alone = small.none_revoked (omega (arith, none)) in rw alone (omega arith)
@@ -67,10 +72,12 @@ cover_fits d gone sets low leaves few is cover = record {
 }
 
 -- a round takes few probes
-pub round_few : (d : ℕ) (gone : List ℕ) (found : Found) → d ≤ 20 → All (λ u. u < 2 ^ d) gone → length gone ≤ MOST_REVOKED →
+pub round_few : (d : ℕ) (gone : List ℕ) (found : Found) → d ≤ 20 → All (λ u. u < 2 ^ d) gone →
+    length gone ≤ MOST_REVOKED →
     IsAnyRound d gone found → found.trials ≤ 64
 round_few d gone found low leaves few any =
-    let cover = (the_cover d gone (cover_of d gone) (omega (arith, low)) (λ u m. All-contains (λ w. w < 2 ^ d) gone u leaves m)).1 refl in
+    let cover = (the_cover d gone (cover_of d gone) (omega (arith, low))
+    (λ u m. All-contains (λ w. w < 2 ^ d) gone u leaves m)).1 refl in
     let small = sets_few d gone (cover_of d gone) low leaves few cover in
     let turns = few_probes (found.trials - found.splits - 1) (length (cover_of d gone)) small any.turns in
     omega (arith, turns, any.splits, low)

@@ -1,5 +1,6 @@
 -- The search for the last set that opens.
-use Rattle.std.proofs.Common.{ℕ, suc, zero, ◌+◌, ◌-◌, ◌*◌, ◌/◌, ◌^◌, ◌<◌, ◌≤◌, ◌≡◌, Bool, true, false, List, ◌++◌, length, take, drop, refl, subst, ap, ◌∙◌, ⊎_elim, inl, inr, pow_mono, arith}
+use Rattle.std.proofs.Common.{ℕ, suc, zero, ◌+◌, ◌-◌, ◌*◌, ◌/◌, ◌^◌, ◌<◌, ◌≤◌, ◌≡◌, Bool, true, false, List, ◌++◌}
+use Rattle.std.proofs.Common.{length, take, drop, refl, subst, ap, ◌∙◌, ⊎_elim, inl, inr, pow_mono, arith}
 use Rattle.std.specs.Prelude.{◌⊎◌, replicate, nat_le, if◌then◌else◌}
 use Rattle.std.proofs.lemmas.Bool.{cases_lt}
 use Rattle.std.proofs.lemmas.List.{drop-replicate, take-replicate, drop-append-le, length-replicate}
@@ -18,12 +19,14 @@ few_more h part n some half (inl none) = rw none (omega arith)
 few_more h part n some half (inr few) = let e : 1 + h ≡ h + 1 = omega arith in rw e (omega (arith, doubled h))
 
 -- which half it is
-few_by : (up down high low n : ℕ) → 2 ≤ n → 2 * high ≤ n + 1 → 2 * low ≤ n + 1 → IsFew up high → IsFew down low → (b : Bool) → 2 ^ (if b then 1 + up else 1 + down) ≤ 2 * (n - 1)
+few_by : (up down high low n : ℕ) → 2 ≤ n → 2 * high ≤ n + 1 → 2 * low ≤ n + 1 → IsFew up high → IsFew down low →
+    (b : Bool) → 2 ^ (if b then 1 + up else 1 + down) ≤ 2 * (n - 1)
 few_by up down high low n some h l p q true = few_more up high n some h p
 few_by up down high low n some h l p q false = few_more down low n some l q
 
 -- whether the search ends
-ended_by : (lo hi : ℕ) (more : ℕ) → ((lo + 1 < hi) → 2 ^ more ≤ 2 * (hi - lo - 1)) → (b : Bool) → nat_le hi (lo + 1) ≡ b → IsFew (if b then 0 else more) (hi - lo)
+ended_by : (lo hi : ℕ) (more : ℕ) → ((lo + 1 < hi) → 2 ^ more ≤ 2 * (hi - lo - 1)) → (b : Bool) → nat_le hi (lo + 1)
+    ≡ b → IsFew (if b then 0 else more) (hi - lo)
 ended_by lo hi more f true e = inl refl
 ended_by lo hi more f false e = inr (f (leb-false _ _ e))
 
@@ -33,18 +36,23 @@ unfolding halvings
 halvings_bound zero lo hi z some = inl refl
 halvings_bound (suc most) lo hi z some =
     let m : ℕ = (lo + hi) / 2 in
-    ended_by lo hi _ (λ more. few_by (halvings most m hi z) (halvings most lo m z) (hi - m) (m - lo) (hi - lo) (omega arith) (omega arith) (omega arith) (halvings_bound most m hi z (omega arith)) (halvings_bound most lo m z (omega arith)) (nat_le m z)) (nat_le hi (lo + 1)) refl
+    ended_by lo hi _ (λ more. few_by (halvings most m hi z) (halvings most lo m z) (hi - m) (m - lo) (hi - lo)
+    (omega arith) (omega arith) (omega arith) (halvings_bound most m hi z (omega arith))
+    (halvings_bound most lo m z (omega arith)) (nat_le m z)) (nat_le hi (lo + 1)) refl
 
 -- keys of which the first m are wrong, cut out of n wrong and n right ones
-pub right_cut : (n m : ℕ) → m ≤ n → take n (drop (n - m) (replicate n false ++ replicate n true)) ≡ replicate m false ++ replicate (n - m) true
+pub right_cut : (n m : ℕ) → m ≤ n → take n (drop (n - m) (replicate n false ++ replicate n true)) ≡ replicate m false
+    ++ replicate (n - m) true
 right_cut n m le =
-    let left = drop-append-le (n - m) (replicate n false) (replicate n true) (rw (length-replicate n false) (omega arith)) in
+    let left = drop-append-le (n - m) (replicate n false) (replicate n true)
+    (rw (length-replicate n false) (omega arith)) in
     let kept = drop-replicate (n - m) n false in
     let some : n - (n - m) ≡ m = omega arith in
     let count : length (replicate m false) + (n - m) ≡ n = rw (length-replicate m false) (omega arith) in
     let cut = take-append-add (replicate m false) (replicate n true) (n - m) in
     let right = take-replicate (n - m) n true (omega arith) in
-    rw (left, kept, some) (subst (λ (k : ℕ). take k (replicate m false ++ replicate n true) ≡ replicate m false ++ replicate (n - m) true) count (cut ∙ ap (λ (r : List Bool). replicate m false ++ r) right))
+    rw (left, kept, some) (subst (λ (k : ℕ). take k (replicate m false ++ replicate n true) ≡ replicate m false
+    ++ replicate (n - m) true) count (cut ∙ ap (λ (r : List Bool). replicate m false ++ r) right))
 
 -- so many turns have led from count places to these
 unfoldable pub IsSearched : ℕ → ℕ → ℕ → Type 0
@@ -56,7 +64,8 @@ unfolding IsSearched
 searched_none count h few = let e : 0 + h ≡ h = omega arith in rw e few
 
 -- one turn more
-pub searched_more : (turns places part count : ℕ) → 2 ≤ places → 2 * part ≤ places + 1 → IsSearched turns places count → IsSearched (turns + 1) part count
+pub searched_more : (turns places part count : ℕ) → 2 ≤ places → 2 * part ≤ places + 1 → IsSearched turns places count →
+    IsSearched (turns + 1) part count
 unfolding IsSearched
 searched_more turns places part count some half before h few =
     let e : turns + (1 + h) ≡ turns + 1 + h = omega arith in

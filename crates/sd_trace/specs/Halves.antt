@@ -62,5 +62,6 @@ cut_once_more narrowed = (narrowed.0, narrowed.1 + 1)
 unfoldable pub narrowed : ℕ → List ℕ → ℕ → SetName → ℕ × ℕ
 narrowed d coalition zero name = (only_leaf d name, 0)
 narrowed d coalition (suc most) name =
-    option_map_or (λ halves. cut_once_more (narrowed d coalition most (open_half d coalition halves))) (halves_of d name)
+    option_map_or (λ halves. cut_once_more (narrowed d coalition most (open_half d coalition halves)))
+    (halves_of d name)
     (only_leaf d name, 0)

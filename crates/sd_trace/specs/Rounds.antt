@@ -1,5 +1,6 @@
 -- One round of a search, and the list of leaves that are revoked or found.
-use Rattle.std.specs.Prelude.{◌≡◌, ℕ, ◌+◌, ◌-◌, ◌*◌, ◌^◌, ◌<◌, ◌≤◌, ◌⊎◌, ◌↔◌, true, false, List, All, Contains, length, get_or}
+use Rattle.std.specs.Prelude.{◌≡◌, ℕ, ◌+◌, ◌-◌, ◌*◌, ◌^◌, ◌<◌, ◌≤◌, ◌⊎◌, ◌↔◌, true, false, List, All, Contains, length}
+use Rattle.std.specs.Prelude.{get_or}
 use Rattle.std.specs.Prelude.{Option, Some, None}
 use Rattle.std.specs.List.{list_any}
 use Rattle.sd_tree.specs.Leaves.{is_member}

@@ -9,7 +9,8 @@ use Rattle.sd_trace.specs.declared.found.Found.{Found}
 use Rattle.sd_trace.specs.Halves.{narrowed}
 use Rattle.sd_trace.specs.Search.{halvings, IsLastOpen}
 
--- What one round finds where these leaves are revoked or found: of the cover's sets the last that opens is cut down to a
+-- What one round finds where these leaves are revoked or found: of the cover's sets the last that opens is cut down to
+-- a
 -- leaf [Naor, Naor, Lotspiech 2001, 5; this project, docs/FORMATS.md, Tracing].
 pub record IsRound (d : ℕ) (coalition gone : List ℕ) (found : Found) : Type 0 where
   pub place : ℕ
@@ -20,7 +21,8 @@ pub record IsRound (d : ℕ) (coalition gone : List ℕ) (found : Found) : Type 
 -- what all rounds find, until no leaf of the coalition is left
 unfoldable pub IsTrace : ℕ → List ℕ → List ℕ → List Found → Type 0
 IsTrace d coalition gone [] = (u : ℕ) → u < 2 ^ d → Contains coalition u → Contains gone u
-IsTrace d coalition gone (found ∷ later) = IsRound d coalition gone found × IsTrace d coalition (found.leaf ∷ gone) later
+IsTrace d coalition gone (found ∷ later) = IsRound d coalition gone found × IsTrace d coalition (found.leaf ∷ gone)
+    later
 
 -- what one round keeps to, whatever the box answers
 pub record IsAnyRound (d : ℕ) (gone : List ℕ) (found : Found) : Type 0 where
@@ -40,7 +42,8 @@ abbrev pub outside : ℕ → List ℕ → List ℕ → List ℕ
 outside d gone coalition = filter (λ u. list_any (nat_eq u) coalition && not (list_any (nat_eq u) gone)) (leaves d)
 
 -- the leaf was found by few probes where n leaves were revoked or found before: one, at most d cuts, and x halvings,
--- where 2^x is below twice the greatest number of sets that a cover of n leaves has [Naor, Naor, Lotspiech 2001, 3.2 and 5]
+-- where 2^x is below twice the greatest number of sets that a cover of n leaves has [Naor, Naor, Lotspiech 2001, 3.2
+-- and 5]
 pub record IsCheap (d n : ℕ) (found : Found) : Type 0 where
   pub splits : found.splits ≤ d
   pub trials : found.splits + 1 ≤ found.trials

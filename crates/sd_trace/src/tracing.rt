@@ -19,8 +19,8 @@ use std::alloc::{AllocError, Global};
 /// The leaves that the box still opens for beside the revoked ones, in the order in which they are found
 /// [Naor, Naor, Lotspiech 2001, 5].
 ///
-/// It faults with `TooMany` where a leaf is found while [`MOST_REVOKED`] are revoked or found, and with `NoMemory` where memory runs
-/// out.
+/// It faults with `TooMany` where a leaf is found while [`MOST_REVOKED`] are revoked or found, and with `NoMemory`
+/// where memory runs out.
 pub fn trace_all<B: TestBox>(
     alloc: Global,
     h: Height,

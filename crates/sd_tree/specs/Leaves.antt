@@ -1,5 +1,6 @@
 -- In a tree of height d leaf u is node 2^d + u, and the leaves below a node are an interval of numbers.
-use Rattle.std.specs.Prelude.{◌≡◌, true, ℕ, ◌+◌, ◌-◌, ◌*◌, ◌^◌, ◌<◌, ◌&&◌, ◌||◌, ◌==◌, Bool, not, nat_eq, nat_le, nat_lt, List}
+use Rattle.std.specs.Prelude.{◌≡◌, true, ℕ, ◌+◌, ◌-◌, ◌*◌, ◌^◌, ◌<◌, ◌&&◌, ◌||◌, ◌==◌, Bool, not, nat_eq, nat_le}
+use Rattle.std.specs.Prelude.{nat_lt, List}
 use Rattle.std.specs.Prelude.{filter}
 use Rattle.std.specs.List.{list_any, range_with_len}
 use Rattle.sd_tree.specs.declared.set.SetName.{SetName}

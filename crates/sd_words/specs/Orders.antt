@@ -6,7 +6,8 @@ use Rattle.sd_status.specs.declared.status.Status.TheVariants.{Usage, BadWord}
 use Rattle.sd_files.specs.Shown.{shown_word, shown_number}
 use Rattle.sd_files.specs.declared.word.Word.{Word}
 use Rattle.sd_words.specs.declared.order.Order.{Order}
-use Rattle.sd_words.specs.declared.order.Order.TheVariants.{Cover, Card, Sample, Tables, Head, Receive, Accounts, Book, Layered, Lcard}
+use Rattle.sd_words.specs.declared.order.Order.TheVariants.{Cover, Card, Sample, Tables, Head, Receive, Accounts, Book}
+use Rattle.sd_words.specs.declared.order.Order.TheVariants.{Layered, Lcard}
 use Rattle.sd_words.specs.Words as words
 
 -- the order as the words say it

@@ -21,12 +21,15 @@ returns-in_err-places-clause-places c =
 
 pub loop-k-preserved : goal.loop-k-preserved
 loop-k-preserved c = record {
-  value = one_read place_of 8 13 nothing c.args.bytes.now c.loop-k.places c.loop-k.k c.in_ok-places.field-0 (omega arith) c.loop-k.invariant.value c.in_ok-places.ensures.value;
-  places = one_good IsPositioned place_of 8 c.loop-k.k c.args.bytes.now c.loop-k.invariant.places (c.in_ok-places.ensures.place.0 refl);
+  value = one_read place_of 8 13 nothing c.args.bytes.now c.loop-k.places c.loop-k.k c.in_ok-places.field-0
+      (omega arith) c.loop-k.invariant.value c.in_ok-places.ensures.value;
+  places = one_good IsPositioned place_of 8 c.loop-k.k c.args.bytes.now c.loop-k.invariant.places
+      (c.in_ok-places.ensures.place.0 refl);
 }
 
 pub returns-clause-value : goal.returns-clause-value
 returns-clause-value c =
     let end : c.loop-k.k ≡ c.args.count = omega arith in
     c.loop-k.invariant.value
-    ∙ (ap (λ (n : ℕ). places_in n c.args.bytes.now ++ replicate (13 - n) nothing) end ∙ all_read place_of 8 13 nothing c.args.bytes.now c.args.count)
+    ∙ (ap (λ (n : ℕ). places_in n c.args.bytes.now ++ replicate (13 - n) nothing) end ∙ all_read place_of 8 13 nothing
+    c.args.bytes.now c.args.count)

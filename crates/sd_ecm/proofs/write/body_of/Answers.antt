@@ -12,11 +12,26 @@ loop-k-init c = record {
 }
 
 pub bounds-part-k : goal.bounds-part-k
-bounds-part-k c = omega (arith, c.requires, c.loop-k-test.true, c.from-k-end.ensures, few_positions c.args.part.now.version)
+bounds-part-k c = omega (
+  arith,
+  c.requires,
+  c.loop-k-test.true,
+  c.from-k-end.ensures,
+  few_positions
+      c.args.part.now.version,
+)
 
 pub put_place-requires : goal.put_place-requires
 put_place-requires c =
-    omega (arith, c.requires, c.loop-k-test.true, c.from-k-end.ensures, c.loop-k.invariant.length, fits_packet c.args.part.now.version)
+    omega (
+      arith,
+      c.requires,
+      c.loop-k-test.true,
+      c.from-k-end.ensures,
+      c.loop-k.invariant.length,
+      fits_packet
+          c.args.part.now.version,
+    )
 
 pub loop-k-preserved : goal.loop-k-preserved
 loop-k-preserved c =
@@ -31,4 +46,12 @@ loop-k-preserved c =
 
 pub returns-clause-few : goal.returns-clause-few
 returns-clause-few c =
-    omega (arith, c.requires, c.loop-k.auto.k-end, c.from-k-end.ensures, c.loop-k.invariant.length, fits_packet c.args.part.now.version)
+    omega (
+      arith,
+      c.requires,
+      c.loop-k.auto.k-end,
+      c.from-k-end.ensures,
+      c.loop-k.invariant.length,
+      fits_packet
+          c.args.part.now.version,
+    )

@@ -12,28 +12,35 @@ returns-in_default-clause-fault c =
     node_breaks c.args.h c.args.index c.args.body.now c.read_head-emm.result c.from-count.result c.read_head-emm.ensures
     (c.is_counted.ensures.0 c.if-not-is_counted.false) c.from-count.ensures
     (λ all. false≢true (c.in_default.ensures.sets.1
-    (subst (λ (l : List ℕ). AreSets c.args.h c.read_head-emm.result.sets (entries_in c.from-count.result l)) (sym after) all)))
+    (subst (λ (l : List ℕ). AreSets c.args.h c.read_head-emm.result.sets (entries_in c.from-count.result l)) (sym after)
+    all)))
 
 pub returns-then-not-are_ascending-clause-fault : goal.returns-then-not-are_ascending-clause-fault
 returns-then-not-are_ascending-clause-fault c =
     let after = take_rest c.args.body.now 27 in
-    order_breaks c.args.h c.args.index c.args.body.now c.read_head-emm.result c.from-count.result c.in-Some.entries c.read_head-emm.ensures
+    order_breaks c.args.h c.args.index c.args.body.now c.read_head-emm.result c.from-count.result c.in-Some.entries
+    c.read_head-emm.ensures
     (c.is_counted.ensures.0 c.if-not-is_counted.false) c.from-count.ensures
-    (subst (λ (l : List ℕ). AreSets c.args.h c.read_head-emm.result.sets (entries_in c.from-count.result l)) after (c.in-Some.ensures.sets.0 refl))
+    (subst (λ (l : List ℕ). AreSets c.args.h c.read_head-emm.result.sets (entries_in c.from-count.result l)) after
+    (c.in-Some.ensures.sets.0 refl))
     (c.in-Some.ensures.value ∙ ap (λ (l : List ℕ). padded (entries_in c.from-count.result l)) after)
     (λ up. false≢true (c.if-not-are_ascending.ensures.1 up))
 
 pub returns-clause-value : goal.returns-clause-value
 returns-clause-value c =
-    is_whole c.args.index c.args.body.now c.read_head-emm.result c.from-count.result c.in-Some.entries c.read_head-emm.ensures
+    is_whole c.args.index c.args.body.now c.read_head-emm.result c.from-count.result c.in-Some.entries
+    c.read_head-emm.ensures
     c.from-count.ensures
-    (c.in-Some.ensures.value ∙ ap (λ (l : List ℕ). padded (entries_in c.from-count.result l)) (take_rest c.args.body.now 27))
+    (c.in-Some.ensures.value ∙ ap (λ (l : List ℕ). padded (entries_in c.from-count.result l))
+    (take_rest c.args.body.now 27))
 
 pub returns-clause-good : goal.returns-clause-good
 returns-clause-good c =
     let after = take_rest c.args.body.now 27 in
-    is_good c.args.h c.args.index c.args.body.now c.read_head-emm.result c.from-count.result c.in-Some.entries c.read_head-emm.ensures
+    is_good c.args.h c.args.index c.args.body.now c.read_head-emm.result c.from-count.result c.in-Some.entries
+    c.read_head-emm.ensures
     (c.is_counted.ensures.0 c.if-not-is_counted.false) c.from-count.ensures
-    (subst (λ (l : List ℕ). AreSets c.args.h c.read_head-emm.result.sets (entries_in c.from-count.result l)) after (c.in-Some.ensures.sets.0 refl))
+    (subst (λ (l : List ℕ). AreSets c.args.h c.read_head-emm.result.sets (entries_in c.from-count.result l)) after
+    (c.in-Some.ensures.sets.0 refl))
     (c.in-Some.ensures.value ∙ ap (λ (l : List ℕ). padded (entries_in c.from-count.result l)) after)
     (c.are_ascending.ensures.0 c.if-not-are_ascending.false)

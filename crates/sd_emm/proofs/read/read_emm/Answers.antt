@@ -10,24 +10,31 @@ use Rattle.sd_emm.proofs.read.read_emm.Goals as goal
 pub returns-in_default-clause-complete : goal.returns-in_default-clause-complete
 returns-in_default-clause-complete c = λ emm fits form sets spells.
     let high : c.args.h ≤ 20 = search rules in
-    absurd (false≢true (c.in_default.ensures.some.1 (spelled_is_packet c.args.h emm c.args.packet.now high fits form sets spells)))
+    absurd
+    (false≢true (c.in_default.ensures.some.1 (spelled_is_packet c.args.h emm c.args.packet.now high fits form sets
+    spells)))
 
 pub returns-in_err-emm-clause-complete : goal.returns-in_err-emm-clause-complete
 returns-in_err-emm-clause-complete c = λ emm fits form sets spells.
     let high : c.args.h ≤ 20 = search rules in
-    absurd (good_never _ _ _ _ (spelled_is_good c.args.h emm c.args.packet.now c.in-Some.section.bytes.now c.body.result.now c.extension.result high
+    absurd (good_never _ _ _ _ (spelled_is_good c.args.h emm c.args.packet.now c.in-Some.section.bytes.now
+    c.body.result.now c.extension.result high
     fits form sets spells c.in-Some.ensures.value c.extension.ensures c.body.ensures) c.in_err-emm.ensures.fault)
 
 pub returns-clause-sound : goal.returns-clause-sound
 returns-clause-sound c =
-    read_is_right c.args.h c.args.packet.now c.in-Some.section.bytes.now c.body.result.now c.extension.result c.in_ok-emm.emm c.in_ok-emm.ensures.value
-    c.in_ok-emm.ensures.bytes c.in_ok-emm.ensures.good c.extension.ensures c.body.ensures c.in-Some.ensures.begins c.in-Some.ensures.spelled
+    read_is_right c.args.h c.args.packet.now c.in-Some.section.bytes.now c.body.result.now c.extension.result
+    c.in_ok-emm.emm c.in_ok-emm.ensures.value
+    c.in_ok-emm.ensures.bytes c.in_ok-emm.ensures.good c.extension.ensures c.body.ensures c.in-Some.ensures.begins
+    c.in-Some.ensures.spelled
 
 pub returns-clause-complete : goal.returns-clause-complete
 returns-clause-complete c = λ emm fits form sets spells.
     let high : c.args.h ≤ 20 = search rules in
-    ap (λ (e : Emm). Ok (Some e)) (c.in_ok-emm.ensures.value ∙ spelled_is_read c.args.h emm c.args.packet.now c.in-Some.section.bytes.now
-    c.body.result.now c.extension.result high fits form sets spells c.in-Some.ensures.value c.extension.ensures c.body.ensures)
+    ap (λ (e : Emm). Ok (Some e)) (c.in_ok-emm.ensures.value ∙ spelled_is_read c.args.h emm c.args.packet.now
+    c.in-Some.section.bytes.now
+    c.body.result.now c.extension.result high fits form sets spells c.in-Some.ensures.value c.extension.ensures
+    c.body.ensures)
 
 pub returns-in_default-clause-value : goal.returns-in_default-clause-value
 returns-in_default-clause-value c =
@@ -36,10 +43,12 @@ returns-in_default-clause-value c =
 pub returns-in_err-emm-clause-value : goal.returns-in_err-emm-clause-value
 returns-in_err-emm-clause-value c =
     let fault : c.from_residual.result ≡ Err c.in_err-emm.field-0.0 = search rules in
-    fault ∙ sym (broken_at c.args.h c.args.packet.now c.in-Some.section.bytes.now c.body.result.now c.extension.result _ (c.in-Some.ensures.some.0 refl)
+    fault ∙ sym (broken_at c.args.h c.args.packet.now c.in-Some.section.bytes.now c.body.result.now c.extension.result _
+    (c.in-Some.ensures.some.0 refl)
     c.in-Some.ensures.value c.extension.ensures c.body.ensures c.in_err-emm.ensures.fault)
 
 pub returns-clause-value : goal.returns-clause-value
 returns-clause-value c =
-    sym (good_at c.args.h c.args.packet.now c.in-Some.section.bytes.now c.body.result.now c.extension.result c.in_ok-emm.emm (c.in-Some.ensures.some.0 refl)
+    sym (good_at c.args.h c.args.packet.now c.in-Some.section.bytes.now c.body.result.now c.extension.result
+    c.in_ok-emm.emm (c.in-Some.ensures.some.0 refl)
     c.in-Some.ensures.value c.extension.ensures c.body.ensures c.in_ok-emm.ensures.value c.in_ok-emm.ensures.good)

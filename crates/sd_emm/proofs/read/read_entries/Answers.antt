@@ -16,14 +16,17 @@ loop-k-init c = record {
 pub returns-in_err-entries-clause-sets : goal.returns-in_err-entries-clause-sets
 returns-in_err-entries-clause-sets c =
     let no =
-    not_good (λ (e : Entry). IsSetBeside c.args.h c.args.sets e.name) entry_of 40 c.loop-k.k c.args.count c.args.bytes.now c.loop-k-test.true
+    not_good (λ (e : Entry). IsSetBeside c.args.h c.args.sets e.name) entry_of 40 c.loop-k.k c.args.count
+    c.args.bytes.now c.loop-k-test.true
     (λ set. false≢true (c.in_err-entries.ensures.set.1 set)) in
     rw c.from_residual.ensures (λ some. absurd (false≢true some), λ all. absurd (no all))
 
 pub loop-k-preserved : goal.loop-k-preserved
 loop-k-preserved c = record {
-  value = one_read entry_of 40 3 nothing c.args.bytes.now c.loop-k.entries c.loop-k.k c.in_ok-entries.field-0 (omega arith) c.loop-k.invariant.value c.in_ok-entries.ensures.value;
-  sets = one_good (λ (e : Entry). IsSetBeside c.args.h c.args.sets e.name) entry_of 40 c.loop-k.k c.args.bytes.now c.loop-k.invariant.sets
+  value = one_read entry_of 40 3 nothing c.args.bytes.now c.loop-k.entries c.loop-k.k c.in_ok-entries.field-0
+      (omega arith) c.loop-k.invariant.value c.in_ok-entries.ensures.value;
+  sets = one_good (λ (e : Entry). IsSetBeside c.args.h c.args.sets e.name) entry_of 40 c.loop-k.k c.args.bytes.now
+      c.loop-k.invariant.sets
       (c.in_ok-entries.ensures.set.0 refl);
 }
 
@@ -31,4 +34,5 @@ pub returns-clause-value : goal.returns-clause-value
 returns-clause-value c =
     let end : c.loop-k.k ≡ c.args.count = omega arith in
     c.loop-k.invariant.value
-    ∙ (ap (λ (n : ℕ). entries_in n c.args.bytes.now ++ replicate (3 - n) nothing) end ∙ all_read entry_of 40 3 nothing c.args.bytes.now c.args.count)
+    ∙ (ap (λ (n : ℕ). entries_in n c.args.bytes.now ++ replicate (3 - n) nothing) end ∙ all_read entry_of 40 3 nothing
+    c.args.bytes.now c.args.count)

@@ -15,7 +15,8 @@ returns-in_err-bytes-clause-value g c =
     let word = c.args.word.number in
     rw (p.1, p.2) (looks_first (λ bytes. bytes.items) (λ book. book.commands) (within word MOST_BOOK_BYTES BookBytes)
     (λ bytes. judged (told_book word (book_of c.args.h bytes))) c.args.word.text.now
-    (place g.D.Depot c.args.depot.now) (place g.D.Depot c.read_bytes.new.depot) c.in_err-bytes.field-0.0 c.in_err-bytes.ensures)
+    (place g.D.Depot c.args.depot.now) (place g.D.Depot c.read_bytes.new.depot) c.in_err-bytes.field-0.0
+    c.in_err-bytes.ensures)
 
 pub returns-clause-value : goal.returns-clause-value
 unfolding book_of_file
@@ -24,4 +25,5 @@ returns-clause-value g c =
     let word = c.args.word.number in
     looks_judged (λ bytes. bytes.items) (λ book. book.commands) (within word MOST_BOOK_BYTES BookBytes)
     (λ bytes. told_book word (book_of c.args.h bytes)) c.args.word.text.now
-    (place g.D.Depot c.args.depot.now) (place g.D.Depot c.read_bytes.new.depot) c.in_ok-bytes.bytes c.judge_book.result c.in_ok-bytes.ensures judges
+    (place g.D.Depot c.args.depot.now) (place g.D.Depot c.read_bytes.new.depot) c.in_ok-bytes.bytes c.judge_book.result
+    c.in_ok-bytes.ensures judges

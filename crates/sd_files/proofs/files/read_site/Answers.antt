@@ -15,7 +15,8 @@ returns-in_err-bytes g c =
     let p = err_from_is_err_and c.from_residual.result c.from_residual.ensures.1 in
     rw (p.1, p.2) (looks_first (λ bytes. bytes.items) fields_of (within c.args.word.number MOST_SITE_BYTES SiteBytes)
     (λ bytes. judged (told_site (site_of bytes))) c.args.word.text.now
-    (place g.D.Depot c.args.depot.now) (place g.D.Depot c.read_bytes.new.depot) c.in_err-bytes.field-0.0 c.in_err-bytes.ensures)
+    (place g.D.Depot c.args.depot.now) (place g.D.Depot c.read_bytes.new.depot) c.in_err-bytes.field-0.0
+    c.in_err-bytes.ensures)
 
 pub returns : goal.returns
 unfolding site_of_file
@@ -23,4 +24,5 @@ returns g c =
     let judges = rw c.deref.ensures.value at c.judge_site.ensures in
     looks_judged (λ bytes. bytes.items) fields_of (within c.args.word.number MOST_SITE_BYTES SiteBytes)
     (λ bytes. told_site (site_of bytes)) c.args.word.text.now
-    (place g.D.Depot c.args.depot.now) (place g.D.Depot c.read_bytes.new.depot) c.in_ok-bytes.bytes c.judge_site.result c.in_ok-bytes.ensures judges
+    (place g.D.Depot c.args.depot.now) (place g.D.Depot c.read_bytes.new.depot) c.in_ok-bytes.bytes c.judge_site.result
+    c.in_ok-bytes.ensures judges

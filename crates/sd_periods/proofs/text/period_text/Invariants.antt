@@ -5,4 +5,5 @@ use Rattle.sd_periods.proofs.text.period_text.Given as goal
 
 -- the text so far has the period's line and those of the sets so far
 abbrev pub invariant-loop-name : goal.invariant-loop-name
-invariant-loop-name l = string_bytes l.text ≡ period_line l.fn.q l.fn.revoked (length l.sets) ++ flat_map set_line (take l.name-index l.sets)
+invariant-loop-name l = string_bytes l.text ≡ period_line l.fn.q l.fn.revoked (length l.sets) ++ flat_map set_line
+    (take l.name-index l.sets)

@@ -33,8 +33,15 @@ returns-in-Err-2-clause-usage g c is =
     let answers : Answers (meaning words)
     (outside (place g.D.Depot c.args.depot.now) (page g.P.Sink c.args.print.now) c.args.steps.now)
     (outside (place g.D.Depot c.obey.new.depot) (page g.P.Sink c.tell.new.print) c.obey.new.steps) c.tell.result =
-    record { status = c.in-Err.status; page = page g.P.Sink c.obey.new.print; obeyed = c.in-Err.ensures.value; told = c.tell.ensures } in
+    record {
+      status = c.in-Err.status;
+      page = page g.P.Sink c.obey.new.print;
+      obeyed = c.in-Err.ensures.value;
+      told =
+          c.tell.ensures;
+    } in
     let meant = usage_meant (meaning words)
     (outside (place g.D.Depot c.args.depot.now) (page g.P.Sink c.args.print.now) c.args.steps.now)
-    (outside (place g.D.Depot c.obey.new.depot) (page g.P.Sink c.tell.new.print) c.obey.new.steps) c.tell.result answers is in
+    (outside (place g.D.Depot c.obey.new.depot) (page g.P.Sink c.tell.new.print) c.obey.new.steps) c.tell.result answers
+    is in
     only_words (order_of words) meant.0 meant.1

@@ -68,7 +68,8 @@ returns-in_err-whole g c page steps =
     (longer_book commands.number both.site.height both.commands added)
     (λ longer. value (making NoSteps out (text_of longer))) r page steps status
     (subst (λ (d : ℕ). Judges (λ (whole : BookValue). whole.commands)
-    (longer_book commands.number d both.commands added) (Err status)) c.in_ok-site.ensures.height c.in_err-whole.ensures)))
+    (longer_book commands.number d both.commands added) (Err status)) c.in_ok-site.ensures.height
+    c.in_err-whole.ensures)))
 
 -- memory was out for its file
 pub returns-in_err-bytes : goal.returns-in_err-bytes

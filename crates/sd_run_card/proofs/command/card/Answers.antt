@@ -23,7 +23,8 @@ returns-in_err-site g c page =
     let out = shown_word c.args.out in
     rw (p.1, p.2) (looks_follows fields_of (site_of_file site.number)
     (λ fields. judged (told_card fields leaf) >>= λ bytes. value (making Uncounted out bytes)) site
-    (place g.D.Depot c.args.depot.now) (place g.D.Depot c.read_site.new.depot) page c.args.steps.now c.in_err-site.field-0.0 c.in_err-site.ensures)
+    (place g.D.Depot c.args.depot.now) (place g.D.Depot c.read_site.new.depot) page c.args.steps.now
+    c.in_err-site.field-0.0 c.in_err-site.ensures)
 
 pub returns-in_err-bytes : goal.returns-in_err-bytes
 returns-in_err-bytes g c page =
@@ -39,7 +40,8 @@ returns-in_err-bytes g c page =
     (λ fields. judged (told_card fields leaf) >>= λ bytes. value (making Uncounted out bytes)) site
     a q page c.args.steps.now (outside q page c.card_of.new.steps) c.in_ok-site.site status looked
     (card_obeys (told_card (fields_of c.in_ok-site.site) leaf) out a q (site_of_file site.number looked.got).calls page
-    c.args.steps.now c.card_of.new.steps status looked.gives.1 c.in_err-bytes.ensures.value c.in_err-bytes.ensures.steps))
+    c.args.steps.now c.card_of.new.steps status looked.gives.1 c.in_err-bytes.ensures.value
+    c.in_err-bytes.ensures.steps))
 
 pub returns : goal.returns
 returns g c page =
@@ -55,6 +57,7 @@ returns g c page =
     looked_follows fields_of (site_of_file site.number)
     (λ fields. judged (told_card fields leaf) >>= λ bytes. value (making Uncounted out bytes)) site
     a q page c.args.steps.now b c.in_ok-site.site status c.in_ok-site.ensures
-    (subst (λ (r : Result (List ℕ) Status). Obeys (judged r >>= λ bytes. value (making Uncounted out bytes)) (outside q page c.args.steps.now) b status)
+    (subst (λ (r : Result (List ℕ) Status). Obeys (judged r >>= λ bytes. value (making Uncounted out bytes))
+    (outside q page c.args.steps.now) b status)
     (sym c.in_ok-bytes.ensures.value)
     (any_steps out bytes q page c.card_of.new.steps c.args.steps.now b status made))

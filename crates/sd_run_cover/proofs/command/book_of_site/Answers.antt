@@ -16,8 +16,10 @@ returns-in_err-site g c =
     let site = shown_word c.args.site in
     let book = shown_word c.args.book in
     rw (p.1, p.2) (reads_first fields_of (λ book. covering book.height book.commands) (site_of_file site.number)
-    (λ given fields. book_of_file book.number fields.height (given book) >>= λ commands. value (covering fields.height commands)) site
-    (place g.D.Depot c.args.depot.now) (place g.D.Depot c.read_site.new.depot) c.in_err-site.field-0.0 c.in_err-site.ensures)
+    (λ given fields. book_of_file book.number fields.height (given book) >>= λ commands. value
+    (covering fields.height commands)) site
+    (place g.D.Depot c.args.depot.now) (place g.D.Depot c.read_site.new.depot) c.in_err-site.field-0.0
+    c.in_err-site.ensures)
 
 pub returns : goal.returns
 unfolding cover_meaning
@@ -26,7 +28,8 @@ returns g c =
     let book = shown_word c.args.book in
     let fields = fields_of c.in_ok-site.site in
     reads_then fields_of (λ book. book.commands) (λ book. covering book.height book.commands) (site_of_file site.number)
-    (λ fields got. book_of_file book.number fields.height got) (λ fields commands. covering fields.height commands) site book
+    (λ fields got. book_of_file book.number fields.height got) (λ fields commands. covering fields.height commands) site
+    book
     (place g.D.Depot c.args.depot.now) (place g.D.Depot c.read_site.new.depot) (place g.D.Depot c.read_book.new.depot)
     c.in_ok-site.site c.read_book.result c.requires c.in_ok-site.ensures c.read_book.ensures.value
     (where_ok c.read_book.result (λ book. book.height ≡ fields.height)

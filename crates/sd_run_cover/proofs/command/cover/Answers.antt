@@ -10,13 +10,16 @@ use Rattle.sd_run_cover.proofs.command.cover.Goals as goal
 pub returns-in_err-book : goal.returns-in_err-book
 returns-in_err-book g c steps =
     let p = err_from_is_err_and c.from_residual.result c.from_residual.ensures.1 in
-    rw (p.1, p.2) (reads_follows (λ book. covering book.height book.commands) (cover_meaning (shown_word c.args.site) (shown_word c.args.book))
+    rw (p.1, p.2) (reads_follows (λ book. covering book.height book.commands)
+    (cover_meaning (shown_word c.args.site) (shown_word c.args.book))
     (place g.D.Depot c.args.depot.now) (place g.D.Depot c.book_of_site.new.depot) (page g.P.Sink c.args.print.now) steps
     c.in_err-book.field-0.0 c.in_err-book.ensures)
 
 pub returns : goal.returns
 returns g c steps =
-    prints_follows (λ book. covering book.height book.commands) (cover_meaning (shown_word c.args.site) (shown_word c.args.book))
+    prints_follows (λ book. covering book.height book.commands)
+    (cover_meaning (shown_word c.args.site) (shown_word c.args.book))
     (place g.D.Depot c.args.depot.now) (place g.D.Depot c.book_of_site.new.depot)
-    (page g.P.Sink c.args.print.now) (page g.P.Sink c.print_cover.new.print) steps c.in_ok-book.book (status_of c.print_cover.result)
+    (page g.P.Sink c.args.print.now) (page g.P.Sink c.print_cover.new.print) steps c.in_ok-book.book
+    (status_of c.print_cover.result)
     refl tt c.in_ok-book.ensures c.print_cover.ensures

@@ -6,4 +6,5 @@ use Rattle.sd_run_cover.proofs.command.cover_text.Goals as goal
 pub returns-in_ok-period_text-in-Ok-clause-value : goal.returns-in_ok-period_text-in-Ok-clause-value
 returns-in_ok-period_text-in-Ok-clause-value c =
     let written = rw c.deref.ensures.value at c.in_ok-period_text-in-Ok.ensures in
-    written ∙ ap (λ (sets : List SetName). period_text c.args.q (length c.args.revoked.now) sets) c.in-Ok.ensures.value.0
+    written ∙ ap (λ (sets : List SetName). period_text c.args.q (length c.args.revoked.now) sets)
+    c.in-Ok.ensures.value.0

@@ -18,7 +18,8 @@ returns-in_err-print_period g c =
     let commands = c.args.book.now.commands in
     let q = c.loop-periods.q in
     let turn = c.loop-periods.invariant in
-    let p = err_from_is_err_and c.from_residual-in_err-print_period.result c.from_residual-in_err-print_period.ensures.1 in
+    let p = err_from_is_err_and c.from_residual-in_err-print_period.result c.from_residual-in_err-print_period.ensures.1
+    in
     let end = rw (turn.commands, turn.next, c.in-Some.is) at c.in_ok-revoked.ensures.end in
     let value = rw (turn.height, turn.commands, turn.next, c.in-Some.is) at c.in_ok-revoked.ensures.value in
     let period = rw (c.height-h.ensures, c.deref.ensures.value, value) at c.in_err-print_period.ensures.value in
@@ -38,7 +39,8 @@ loop-periods-preserved g c =
     let period = rw (c.height-h.ensures, c.deref.ensures.value, value) at c.in_ok-print_period.ensures.value in
     let next = rw c.in-Some.is at c.in_ok-revoked.ensures.next in
     record {
-      texts = one_more d commands q (page g.P.Sink c.args.print.now) (page g.P.Sink c.loop-periods.print) (page g.P.Sink c.print_period.new.print) turn.texts period;
+      texts = one_more d commands q (page g.P.Sink c.args.print.now) (page g.P.Sink c.loop-periods.print)
+          (page g.P.Sink c.print_period.new.print) turn.texts period;
       height = c.in_ok-revoked.ensures.height ∙ turn.height;
       commands = c.in_ok-revoked.ensures.commands ∙ turn.commands;
       next = next ∙ ap (λ n. n + 1) turn.next;

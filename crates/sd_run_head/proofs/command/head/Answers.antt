@@ -19,9 +19,11 @@ use Rattle.sd_run_head.proofs.command.head.Goals as goal
 pub returns-in_err-site : goal.returns-in_err-site
 returns-in_err-site g c page =
     let p = err_from_is_err_and c.from_residual.result c.from_residual.ensures.1 in
-    rw (p.1, p.2) (no_plan (λ plan. record { site = fields_of plan.0; commands = plan.1.commands }) (shown_word c.args.site)
+    rw (p.1, p.2) (no_plan (λ plan. record { site = fields_of plan.0; commands = plan.1.commands })
+    (shown_word c.args.site)
     (shown_word c.args.book) (shown_word c.args.clear) (shown_word c.args.out)
-    (place g.D.Depot c.args.depot.now) (place g.D.Depot c.read_plan.new.depot) page c.args.steps.now c.in_err-site.field-0.0
+    (place g.D.Depot c.args.depot.now) (place g.D.Depot c.read_plan.new.depot) page c.args.steps.now
+    c.in_err-site.field-0.0
     c.in_err-site.ensures.value)
 
 -- memory was out for the head end
@@ -33,8 +35,10 @@ returns-in_err-head g c page =
     let q = place g.D.Depot c.read_plan.new.depot in
     let got = some_got q.files clear.text in
     let plan : Plan = record { site = fields_of c.in_ok-site.site; commands = c.in_ok-site.book.commands } in
-    rw (p.1, p.2) (plan_follows (λ plan. record { site = fields_of plan.0; commands = plan.1.commands }) (shown_word c.args.site)
-    (shown_word c.args.book) clear out got.0 (place g.D.Depot c.args.depot.now) q page c.args.steps.now (outside q page c.args.steps.now)
+    rw (p.1, p.2) (plan_follows (λ plan. record { site = fields_of plan.0; commands = plan.1.commands })
+    (shown_word c.args.site)
+    (shown_word c.args.book) clear out got.0 (place g.D.Depot c.args.depot.now) q page c.args.steps.now
+    (outside q page c.args.steps.now)
     (c.in_ok-site.site, c.in_ok-site.book) NoMemory c.requires.1 c.requires.2 c.in_ok-site.ensures.value got.1
     (wanting_obeys (sending_of clear out got.0 plan) q page c.args.steps.now NoMemory refl))
 
@@ -48,11 +52,15 @@ returns-in_err-inlet g c page =
     let r = place g.D.Depot c.open_both.new.depot in
     let status = c.in_err-inlet.field-0.0 in
     let plan : Plan = record { site = fields_of c.in_ok-site.site; commands = c.in_ok-site.book.commands } in
-    let none = not_turned (λ bytes. Uncounted) (sent_of plan) (sent_status plan) clear out q r page c.args.steps.now status
+    let none = not_turned (λ bytes. Uncounted) (sent_of plan) (sent_status plan) clear out q r page c.args.steps.now
+    status
     c.in_err-inlet.ensures.fault in
-    rw (p.1, p.2) (plan_follows (λ plan. record { site = fields_of plan.0; commands = plan.1.commands }) (shown_word c.args.site)
-    (shown_word c.args.book) clear out none.got (place g.D.Depot c.args.depot.now) q page c.args.steps.now (outside r page c.args.steps.now)
-    (c.in_ok-site.site, c.in_ok-site.book) status c.requires.1 c.requires.2 c.in_ok-site.ensures.value none.is_got none.obeys)
+    rw (p.1, p.2) (plan_follows (λ plan. record { site = fields_of plan.0; commands = plan.1.commands })
+    (shown_word c.args.site)
+    (shown_word c.args.book) clear out none.got (place g.D.Depot c.args.depot.now) q page c.args.steps.now
+    (outside r page c.args.steps.now)
+    (c.in_ok-site.site, c.in_ok-site.book) status c.requires.1 c.requires.2 c.in_ok-site.ensures.value none.is_got
+    none.obeys)
 
 pub close_both-requires : goal.close_both-requires
 close_both-requires g c =
@@ -74,6 +82,8 @@ returns g c page =
     (outside r page c.send-sent.new.steps) (c.in_ok-site.site, c.in_ok-site.book) (status_of c.close_both.result)
     c.requires.1 c.requires.2 c.in_ok-site.ensures.value
     (opened_got q.files clear.text _ sent.bytes opened.opens sent.is_left)
-    (turned_obeys (λ bytes. Uncounted) (sent_of plan) (sent_status plan) clear out sent.bytes q m r page c.args.steps.now
+    (turned_obeys (λ bytes. Uncounted) (sent_of plan) (sent_status plan) clear out sent.bytes q m r page
+    c.args.steps.now
     c.send-sent.new.steps _ _ _ _ _ _ _ c.send-sent.result c.close_both.result opened c.send-sent.ensures.cause
-    (by_plan _ plan sent.bytes _ _ (status_of c.send-sent.result) c.in_ok-head.ensures.value.keeps_to sent.wrote) c.close_both.ensures tt)
+    (by_plan _ plan sent.bytes _ _ (status_of c.send-sent.result) c.in_ok-head.ensures.value.keeps_to sent.wrote)
+    c.close_both.ensures tt)

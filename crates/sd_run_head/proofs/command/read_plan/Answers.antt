@@ -16,9 +16,12 @@ returns-in_err-site-clause-value g c =
     let p = err_from_is_err_and c.from_residual.result c.from_residual.ensures.1 in
     let site = shown_word c.args.site in
     let book = shown_word c.args.book in
-    rw (p.1, p.2) (reads_first fields_of (λ plan. record { site = fields_of plan.0; commands = plan.1.commands }) (site_of_file site.number)
-    (λ given fields. book_of_file book.number fields.height (given book) >>= λ commands. value (record { site = fields; commands = commands })) site
-    (place g.D.Depot c.args.depot.now) (place g.D.Depot c.read_site.new.depot) c.in_err-site.field-0.0 c.in_err-site.ensures)
+    rw (p.1, p.2) (reads_first fields_of (λ plan. record { site = fields_of plan.0; commands = plan.1.commands })
+    (site_of_file site.number)
+    (λ given fields. book_of_file book.number fields.height (given book) >>= λ commands. value
+    (record { site = fields; commands = commands })) site
+    (place g.D.Depot c.args.depot.now) (place g.D.Depot c.read_site.new.depot) c.in_err-site.field-0.0
+    c.in_err-site.ensures)
 
 pub returns-in_err-book-clause-value : goal.returns-in_err-book-clause-value
 unfolding plan_by

@@ -5,8 +5,10 @@ use Rattle.sd_run_head.proofs.command.send.Goals as goal
 
 pub returns-clause-value : goal.returns-clause-value
 returns-clause-value g c =
-    sends_left (plan_in c.args.head.now) _ _ c.drive.result (status_of c.told.result) c.requires c.drive.ensures.value c.told.ensures
+    sends_left (plan_in c.args.head.now) _ _ c.drive.result (status_of c.told.result) c.requires c.drive.ensures.value
+    c.told.ensures
 
 pub returns-clause-cause : goal.returns-clause-cause
 returns-clause-cause g c =
-    port_caused _ _ _ _ c.drive.result (status_of c.told.result) c.told.ensures c.drive.ensures.read c.drive.ensures.written
+    port_caused _ _ _ _ c.drive.result (status_of c.told.result) c.told.ensures c.drive.ensures.read
+    c.drive.ensures.written

@@ -11,7 +11,8 @@ returns-in_err-inspector-clause-value g c =
 
 pub returns-clause-value : goal.returns-clause-value
 returns-clause-value g c =
-    is_inspected _ _ _ _ c.drive.result (status_of c.told.result) c.in_ok-inspector.ensures.value c.drive.ensures.written
+    is_inspected _ _ _ _ c.drive.result (status_of c.told.result) c.in_ok-inspector.ensures.value
+    c.drive.ensures.written
     c.drive.ensures.value c.told.ensures
 
 pub returns-clause-cause : goal.returns-clause-cause

@@ -62,8 +62,10 @@ returns g c steps =
     let h = c.in-Ok.ensures in
     let k = c.close_in.ensures in
     let seen = c.print_tables-printed.ensures.value in
-    reading_follows inspecting stream seen.bytes p q (page g.P.Sink c.args.print.now) (page g.P.Sink c.print_tables-printed.new.print)
-    steps status refl (stream_ends (end_of seen.bytes)) (opened_got p.files stream.text _ seen.bytes h.opened seen.is_left)
+    reading_follows inspecting stream seen.bytes p q (page g.P.Sink c.args.print.now)
+    (page g.P.Sink c.print_tables-printed.new.print)
+    steps status refl (stream_ends (end_of seen.bytes)) (opened_got p.files stream.text _ seen.bytes h.opened
+    seen.is_left)
     (record {
       files = k.files ∙ h.files;
       made = k.made ∙ h.made;

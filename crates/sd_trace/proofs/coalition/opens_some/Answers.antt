@@ -1,7 +1,8 @@
 use Rattle.std.proofs.Common.{false, sym, ◌∙◌}
 use Rattle.sd_tree.specs.declared.set.SetName.TheVariants.{Whole}
 use Rattle.sd_trace.proofs.Boxes.{shut_key, shut_set}
-use Rattle.sd_trace.proofs.coalition.opens_some.Goals.{else-right-at-via-then-right-at+else-has_some, else-right-at-via-else-right-at}
+use Rattle.sd_trace.proofs.coalition.opens_some.Goals.{else-right-at-via-then-right-at+else-has_some}
+use Rattle.sd_trace.proofs.coalition.opens_some.Goals.{else-right-at-via-else-right-at}
 use Rattle.sd_trace.proofs.coalition.opens_some.Goals as goal
 
 pub loop-at-preserved : goal.loop-at-preserved

@@ -12,7 +12,8 @@ returns c =
     let moved : IsPermutation (old ++ c.args.leaf ∷ []) new =
     subst (λ xs. IsPermutation xs new) c.in_ok-push.ensures.items c.sort_unstable.ensures.permutation in
     record {
-      ascending = joined_ascending c.args.leaf old new c.requires.ascending c.requires.fresh moved c.sort_unstable.ensures.sorted;
+      ascending = joined_ascending c.args.leaf old new c.requires.ascending c.requires.fresh moved
+          c.sort_unstable.ensures.sorted;
       members = joined_members c.args.leaf old new moved;
       more = length_permutation (old ++ c.args.leaf ∷ []) new moved ∙ length_push old c.args.leaf;
     }

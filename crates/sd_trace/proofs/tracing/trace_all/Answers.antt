@@ -43,12 +43,22 @@ returns-then-len-eq-MOST_REVOKED-clause-told_many g c coalition told many =
     subst (λ (r : Option Found). TellsRound c.args.h coalition c.loop-found.gone.items r) c.in-Some.is
     (subst (λ (gone : List ℕ). TellsRound c.args.h coalition gone c.in_ok-next.field-0) c.deref.ensures.value round) in
     let left = c.loop-found.invariant.left coalition told in
-    let some = some_left c.args.h coalition c.loop-found.gone.items c.in-Some.next c.round.ensures.tree.0 c.round.ensures.tree.1 c.loop-found.invariant.leaves found in
-    omega (arith, left, some, c.loop-found.invariant.counted, c.if-len-eq-MOST_REVOKED.true, c.len.ensures, c.deref.ensures.len)
+    let some = some_left c.args.h coalition c.loop-found.gone.items c.in-Some.next c.round.ensures.tree.0
+    c.round.ensures.tree.1 c.loop-found.invariant.leaves found in
+    omega (
+      arith,
+      left,
+      some,
+      c.loop-found.invariant.counted,
+      c.if-len-eq-MOST_REVOKED.true,
+      c.len.ensures,
+      c.deref.ensures.len,
+    )
 
 -- one more in its turn
 in_turn : (next : Found) (later old new : List Found) → new ≡ old ++ next ∷ [] → old ++ next ∷ later ≡ new ++ later
-in_turn next later old new added = sym (ap (λ (fs : List Found). fs ++ later) added ∙ append_assoc old (next ∷ []) later)
+in_turn next later old new added = sym (ap (λ (fs : List Found). fs ++ later) added ∙ append_assoc old (next ∷ [])
+    later)
 
 pub loop-found-preserved : goal.loop-found-preserved
 loop-found-preserved g c =
@@ -59,8 +69,10 @@ loop-found-preserved g c =
     let next : Found = c.in-Some.next in
     let low : h < 32 = omega (arith, c.round.ensures.tree.1) in
     let value = rw c.deref.ensures.value at c.in_ok-next.ensures.value in
-    let any : RoundOf h gone (g.B.TestBox.asked c.loop-found.target) (g.B.TestBox.asked c.round.new.target) (Some next) =
-    subst (λ (r : Option Found). RoundOf h gone (g.B.TestBox.asked c.loop-found.target) (g.B.TestBox.asked c.round.new.target) r)
+    let any : RoundOf h gone (g.B.TestBox.asked c.loop-found.target) (g.B.TestBox.asked c.round.new.target)
+    (Some next) =
+    subst (λ (r : Option Found). RoundOf h gone (g.B.TestBox.asked c.loop-found.target)
+    (g.B.TestBox.asked c.round.new.target) r)
     c.in-Some.is value in
     let told_round : (coalition : List ℕ) → g.B.TestBox.coalition c.args.target.now ≡ Some coalition →
     TellsRound h coalition gone (Some next) =
@@ -69,7 +81,8 @@ loop-found-preserved g c =
     (c.in_ok-next.ensures.told coalition (i.coalition ∙ told))) in
     let joined : Joined next.leaf gone new = c.in_ok-join.ensures in
     let added = c.in_ok-add.ensures in
-    let sum = ap (sum_by (λ (f : Found). f.trials)) added ∙ sum_by_push (λ (f : Found). f.trials) c.loop-found.found.items next in
+    let sum = ap (sum_by (λ (f : Found). f.trials)) added ∙ sum_by_push (λ (f : Found). f.trials)
+    c.loop-found.found.items next in
     let count = ap length added ∙ length_push c.loop-found.found.items next in
     let probes = round_few h gone next c.round.ensures.tree.1 i.leaves i.few any.0 in
     record {
@@ -90,7 +103,8 @@ loop-found-preserved g c =
           (i.traced coalition told (next ∷ later) (trace_more h coalition gone new next later low
           (told_round coalition told) joined more));
       left = λ coalition told.
-          let here = round_inside h coalition gone next c.round.ensures.tree.0 c.round.ensures.tree.1 i.leaves (told_round coalition told) in
+          let here = round_inside h coalition gone next c.round.ensures.tree.0 c.round.ensures.tree.1 i.leaves
+          (told_round coalition told) in
           let less = one_less_left h next.leaf coalition gone new here.0 here.1 here.2 joined in
           omega (arith, i.left coalition told, less, count);
     }

@@ -16,12 +16,14 @@ invariant-loop-found g l = record {
   asked : g.B.TestBox.asked l.target ≡ g.B.TestBox.asked l.fn.target + sum_by (λ f. f.trials) l.found.items;
   each : length l.found.items ≤ sum_by (λ f. f.trials) l.found.items;
   room : sum_by (λ f. f.trials) l.found.items ≤ 64 * length l.found.items;
-  rounds : (later : List Found) → AreAnyRounds l.fn.h l.gone.items later → AreAnyRounds l.fn.h l.fn.revoked (l.found.items ++ later);
+  rounds : (later : List Found) → AreAnyRounds l.fn.h l.gone.items later → AreAnyRounds l.fn.h l.fn.revoked
+      (l.found.items ++ later);
   traced : (coalition : List ℕ) → g.B.TestBox.coalition l.fn.target ≡ Some coalition →
       (later : List Found) → IsTrace l.fn.h coalition l.gone.items later →
       IsTrace l.fn.h coalition l.fn.revoked (l.found.items ++ later);
   left : (coalition : List ℕ) → g.B.TestBox.coalition l.fn.target ≡ Some coalition →
-      length l.found.items + length (outside l.fn.h l.gone.items coalition) ≡ length (outside l.fn.h l.fn.revoked coalition);
+      length l.found.items + length (outside l.fn.h l.gone.items coalition)
+      ≡ length (outside l.fn.h l.fn.revoked coalition);
 }
 
 abbrev pub decreases-loop-found : goal.decreases-loop-found
