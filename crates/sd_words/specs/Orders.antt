@@ -7,7 +7,7 @@ use Rattle.sd_files.specs.Shown.{shown_word, shown_number}
 use Rattle.sd_files.specs.declared.word.Word.{Word}
 use Rattle.sd_words.specs.declared.order.Order.{Order}
 use Rattle.sd_words.specs.declared.order.Order.TheVariants.{Cover, Card, Sample, Tables, Head, Receive, Accounts, Book}
-use Rattle.sd_words.specs.declared.order.Order.TheVariants.{Layered, Lcard}
+use Rattle.sd_words.specs.declared.order.Order.TheVariants.{Layered, Lcard, Opens, Trace, Trial}
 use Rattle.sd_words.specs.Words as words
 
 -- the order as the words say it
@@ -24,6 +24,9 @@ told (Book site book commands out) =
 told (Layered site book width) = words.LayeredOf (shown_word site) (shown_word book) (shown_number width)
 told (Lcard site leaf width out) =
     words.LcardOf (shown_word site) (shown_number leaf) (shown_number width) (shown_word out)
+told (Opens site book leaves) = words.OpensOf (shown_word site) (shown_word book) (shown_word leaves)
+told (Trace site book leaves) = words.TraceOf (shown_word site) (shown_word book) (shown_word leaves)
+told (Trial site book clear) = words.TrialOf (shown_word site) (shown_word book) (shown_word clear)
 
 -- the same of an answer
 abbrev pub shown : Result Order Status → Result words.Order Status
@@ -49,6 +52,9 @@ IsSound (Accounts site accounts out) = AreTwo site accounts
 IsSound (Book site book commands out) = AreThree site book commands
 IsSound (Layered site book width) = AreTwo site book
 IsSound (Lcard site leaf width out) = Unit {0}
+IsSound (Opens site book leaves) = AreThree site book leaves
+IsSound (Trace site book leaves) = AreThree site book leaves
+IsSound (Trial site book clear) = AreThree site book clear
 
 -- the two refusals of words
 abbrev pub RefusesWords : Status → Type 0

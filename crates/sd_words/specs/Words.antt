@@ -20,6 +20,9 @@ pub data Order : Type 0 where
   BookOf : (site book commands out : Word) → Order
   LayeredOf : (site book : Word) (width : Number) → Order
   LcardOf : (site : Word) (leaf width : Number) (out : Word) → Order
+  OpensOf : (site book leaves : Word) → Order
+  TraceOf : (site book leaves : Word) → Order
+  TrialOf : (site book clear : Word) → Order
 
 -- what is done with a number, where there is one
 abbrev pub with_number : {A : Type 0} → Result ℕ Status → (ℕ → Result A Status) → Result A Status
@@ -85,6 +88,14 @@ lcard_words site leaf width out =
     with_number (number_in 3 (2 ^ 32 - 1) width) (λ w.
     Ok (LcardOf (word_at 1 site) (record { word = 2; value = u }) (record { word = 3; value = w }) (word_at 4 out))))
 
+-- a command of three files that are read: `opens SITE BOOK LEAVES`, `trace SITE BOOK LEAVES`, `trial SITE BOOK CLEAR`
+unfoldable pub input_words : List ℕ → List ℕ → List ℕ → List ℕ → Result Order Status
+input_words command a b c =
+    if bytes_eq command (codes "opens") then Ok (OpensOf (word_at 1 a) (word_at 2 b) (word_at 3 c))
+    else if bytes_eq command (codes "trace") then Ok (TraceOf (word_at 1 a) (word_at 2 b) (word_at 3 c))
+    else if bytes_eq command (codes "trial") then Ok (TrialOf (word_at 1 a) (word_at 2 b) (word_at 3 c))
+    else Err Usage
+
 -- a command of three words
 unfoldable pub three_words : List ℕ → List ℕ → List ℕ → List ℕ → Result Order Status
 three_words command a b c =
@@ -93,7 +104,7 @@ three_words command a b c =
     else if bytes_eq command (codes "receive") then receive_words a b c
     else if bytes_eq command (codes "accounts") then accounts_words a b c
     else if bytes_eq command (codes "layered") then layered_words a b c
-    else Err Usage
+    else input_words command a b c
 
 -- a command of four words
 unfoldable pub four_words : List ℕ → List ℕ → List ℕ → List ℕ → List ℕ → Result Order Status

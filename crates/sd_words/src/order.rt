@@ -1,6 +1,7 @@
 ghost use Rattle.std.specs.Prelude.{◌≡◌, ◌≤◌, ◌-◌, ◌^◌, map, string_bytes, IfOk, IfErr};
 ghost use Rattle.sd_words.specs.Words.{accounts_words, book_words, card_words, four_words, head_words, layered_words};
-ghost use Rattle.sd_words.specs.Words.{lcard_words, number_in, order_of, receive_words, sample_words, three_words};
+ghost use Rattle.sd_words.specs.Words.{input_words, lcard_words, number_in, order_of, receive_words, sample_words};
+ghost use Rattle.sd_words.specs.Words.{three_words};
 ghost use Rattle.sd_words.specs.Orders.{shown, IsSound, RefusesWords};
 
 use sd_files::{Number, Word};
@@ -61,6 +62,21 @@ pub enum Order<'a> {
         width: Number,
         out: Word<'a>,
     },
+    Opens {
+        site: Word<'a>,
+        book: Word<'a>,
+        leaves: Word<'a>,
+    },
+    Trace {
+        site: Word<'a>,
+        book: Word<'a>,
+        leaves: Word<'a>,
+    },
+    Trial {
+        site: Word<'a>,
+        book: Word<'a>,
+        clear: Word<'a>,
+    },
 }
 
 /// What the words say, or the status of their refusal.
@@ -102,6 +118,36 @@ fn read_three<'a>(command: &str, a: &'a str, b: &'a str, c: &'a str) -> Result<O
         "receive" => read_receive(a, b, c),
         "accounts" => read_accounts(a, b, c),
         "layered" => read_layered(a, b, c),
+        _ => read_inputs(command, a, b, c),
+    }
+}
+
+/// What the words of a command of three say that makes no file.
+#[tactic(auto, unfolding(crate::specs::Words::input_words))]
+fn read_inputs<'a>(command: &str, a: &'a str, b: &'a str, c: &'a str) -> Result<Order<'a>, Status>
+    ensures value { shown result ≡ input_words command.now a.now b.now c.now }
+    ensures fits { IfOk result IsSound }
+    ensures fault { IfErr result RefusesWords }
+{
+    let site = Word::at(1, a);
+    let book = Word::at(2, b);
+    let last = Word::at(3, c);
+    match command {
+        "opens" => Ok(Order::Opens {
+            site,
+            book,
+            leaves: last,
+        }),
+        "trace" => Ok(Order::Trace {
+            site,
+            book,
+            leaves: last,
+        }),
+        "trial" => Ok(Order::Trial {
+            site,
+            book,
+            clear: last,
+        }),
         _ => Err(Status::Usage),
     }
 }
