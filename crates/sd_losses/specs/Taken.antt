@@ -1,6 +1,7 @@
 -- How many numbers pass a test, beside how many packets take a period's key.
 use Rattle.std.specs.Prelude.{ℕ, zero, suc, ◌+◌, Bool, if◌then◌else◌}
-unfoldable pub use Rattle.sd_reception.specs.Taken.{takes_key, takes_key_of, takes_key_at, taken_keys}
+pub use Rattle.sd_reception.specs.Taken.{takes_key_of}
+unfoldable pub use Rattle.sd_reception.specs.Taken.{takes_key, takes_key_at, taken_keys}
 
 -- how many numbers below n pass
 unfoldable pub how_many : (ℕ → Bool) → ℕ → ℕ

@@ -9,7 +9,8 @@ use Rattle.sd_reception.specs.Tuned.{tuning_of}
 use Rattle.sd_reception.specs.Heard.{Heard, Dropped, Entitles, Controls, BadEmm, BadEcm, Other, hears}
 use Rattle.sd_reception.specs.Stretches.{is_closed}
 use Rattle.sd_reception.specs.Offered.{heard, offered, out_from, break_from}
-unfoldable pub use Rattle.sd_reception.specs.Taken.{takes_key_of, takes_key_at, taken_keys}
+pub use Rattle.sd_reception.specs.Taken.{takes_key_of}
+unfoldable pub use Rattle.sd_reception.specs.Taken.{takes_key_at, taken_keys}
 use Rattle.sd_hearing.specs.Ears.{tuned}
 use Rattle.sd_receive.specs.Listening.{Follows, capped}
 use Rattle.sd_receive.specs.declared.receiver.Receiver.{Receiver}
