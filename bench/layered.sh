@@ -5,7 +5,7 @@
 #
 # The book has one period and 4,096 of the 1,048,576 leaves revoked, drawn at random. A time is that of a whole run with its start, the
 # least of some rounds in which the commands take turns. Of cards, 200 leaves' are made in memory, where there is /dev/shm; as many runs
-# that only print `usage` are taken off there, since a card takes no longer than the program's start.
+# that make a card of one label, at height 1, are taken off there, since a card takes no longer than the program's start and its files.
 #
 # It prints for the widths 4, 5 and 20 the nanoseconds for each set that is printed, for `cover` too, and their ratio, which is to be at
 # most 2; the microseconds of a card for each of its labels, which is to be no more than a plain card's; and for the widths 1 to 20 the
@@ -65,8 +65,9 @@ echo "$means $sets" | awk -v widths="$widths" '{
     }
 }'
 
+sed 's/^height .*/height 1/' site >low
 for leaf in $leaves; do
-    echo "1 ./sdca"
+    echo "0 ./sdca card low 0 $cards/card"
     echo "0 ./sdca card site $leaf $cards/card"
     for width in $widths; do echo "0 ./sdca lcard site $leaf $width $cards/layer"; done
 done >list
@@ -74,11 +75,11 @@ means=$(time_kinds 5)
 labels=210
 for width in $widths; do labels="$labels $(labels_of "$width")"; done
 echo "$means $labels" | awk -v widths="$widths" '{
-    plain = ($2 - $1) / $6
+    plain = ($2 - $1) / ($6 - 1)
     printf "card            %3d labels: %5.0f us, %.2f us a label\n", $6, $2 - $1, plain
     split(widths, width, " ")
     for (k = 3; k <= 5; k++) {
-        each = ($k - $1) / $(k + 4)
+        each = ($k - $1) / ($(k + 4) - 1)
         printf "lcard, width %2d %3d labels: %5.0f us, %.2f us a label, ratio %.2f (to reach: 1)\n",
             width[k - 2], $(k + 4), $k - $1, each, each / plain
     }
@@ -91,11 +92,11 @@ for width in $(seq 20); do echo "$width $(labels_of "$width") $(sets_of "$width"
 if [ -n "$picture" ]; then
     awk '
         function x(labels) { return 70 + labels * 2.4 }
-        function y(sets) { return 390 - sets * 0.02 }
+        function y(sets) { return 390 - sets * 0.034 }
         BEGIN {
             print "<svg xmlns=\"http://www.w3.org/2000/svg\" width=\"640\" height=\"440\" font-family=\"sans-serif\" font-size=\"12\">"
             print "<rect width=\"640\" height=\"440\" fill=\"white\"/>"
-            for (sets = 0; sets <= 18000; sets += 3000) {
+            for (sets = 0; sets <= 10000; sets += 2000) {
                 printf "<path d=\"M70 %.0fH600\" stroke=\"#ddd\"/>", y(sets)
                 printf "<text x=\"62\" y=\"%.0f\" text-anchor=\"end\">%d</text>\n", y(sets) + 4, sets
             }
@@ -106,8 +107,12 @@ if [ -n "$picture" ]; then
         }
         {
             printf "<circle cx=\"%.1f\" cy=\"%.1f\" r=\"4\" fill=\"#0060a0\"/>", x($2), y($3)
-            if (!($2 in shown)) printf "<text x=\"%.1f\" y=\"%.1f\">%d</text>\n", x($2) + 5, y($3) - 6, $1
-            shown[$2]
+            # Widths of as many labels stand one above the other: named to the right, to the left and above.
+            turn = seen[$2]++ % 3
+            across = turn == 1 ? -7 : turn == 2 ? 0 : 7
+            anchor = turn == 1 ? "end" : turn == 2 ? "middle" : "start"
+            printf "<text x=\"%.1f\" y=\"%.1f\" text-anchor=\"%s\">%d</text>\n",
+                x($2) + across, y($3) + (turn == 2 ? -8 : 4), anchor, $1
         }
         END { print "</svg>" }' table >"$picture"
 fi
