@@ -3,6 +3,7 @@ use Rattle.std.proofs.Common.{◌≡◌, ℕ, ◌^◌, ◌<◌, ◌≤◌, List,
 use Rattle.std.specs.Prelude.{All, Contains}
 use Rattle.std.proofs.lemmas.List.Elements.{All-contains, Contains-get_or}
 use Rattle.sd_tree.specs.declared.height.TheConstants.{HIGHEST}
+use Rattle.sd_tree.specs.declared.set.SetName.{SetName}
 use Rattle.sd_tree.specs.Leaves.{unrevoked}
 use Rattle.sd_tree.specs.SetNames.{IsOfHeight}
 use Rattle.sd_book.specs.declared.command.Command.{Command}
@@ -12,6 +13,14 @@ use Rattle.sd_steiner.specs.Partition.{IsPartition}
 use Rattle.sd_layers.specs.Layers.{is_useful}
 use Rattle.sd_layers.specs.Cover.{IsLayerCover, IsDoubleSmall, layer_cover_of}
 use Rattle.sd_layers.proofs.Covers.{cover_listed, layer_cover_useful, layer_cover_unites, layer_cover_small}
+
+-- the useful sets of a cover are of the tree's height
+pub cover_of_height : (d w : ℕ) (revoked : List ℕ) (sets : List SetName) → d ≤ HIGHEST → 1 ≤ w →
+    All (λ u. u < 2 ^ d) revoked → IsLayerCover d w revoked sets → All (IsOfHeight d) sets
+cover_of_height d w revoked sets low some leaves cover = λ k x within.
+    let part = layer_cover_useful d w revoked low some (λ u m. All-contains (λ v. v < 2 ^ d) revoked u leaves m) sets
+    cover (get_or sets k x) (Contains-get_or sets k x within) in
+    part.height
 
 -- the revoked leaves of a period are of the tree
 of_tree : (d q : ℕ) (commands : List Command) (u : ℕ) → Contains (revoked d commands q) u → u < 2 ^ d

@@ -1,14 +1,12 @@
 -- `layered SITE BOOK WIDTH` [this project, docs/FORMATS.md, Layers].
-use Rattle.std.specs.Prelude.{ℕ, zero, suc, ◌+◌, ◌&&◌, nat_le, if◌then◌else◌, List, [], ◌∷◌, ◌++◌, length, false}
-use Rattle.std.specs.Prelude.{Option, None, Result, Ok, Err}
+use Rattle.std.specs.Prelude.{ℕ, ◌&&◌, nat_le, if◌then◌else◌, List, Option, Result, Ok, Err}
 use Rattle.sd_book.specs.declared.command.Command.{Command}
-use Rattle.sd_book.specs.Commands.{last_period, revoked}
 use Rattle.sd_layers.specs.Cover.{layer_cover_of}
 use Rattle.sd_status.specs.declared.status.Status.{Status}
-use Rattle.sd_status.specs.declared.status.Status.TheVariants.{Done, BadWord}
+use Rattle.sd_status.specs.declared.status.Status.TheVariants.{BadWord}
 use Rattle.sd_status.specs.Meant.{Meant, Word, Given, judged, value, ◌>>=◌}
-use Rattle.sd_status.specs.Work.{NoSteps, Work}
-use Rattle.sd_periods.specs.Periods.{period_text}
+use Rattle.sd_status.specs.Work.{Work}
+use Rattle.sd_periods.specs.Periods.{bare_end, listing}
 use Rattle.sd_files.specs.Shown.{Number}
 use Rattle.sd_files.specs.Files.{site_of_file, book_in}
 
@@ -32,28 +30,10 @@ told_layers d width =
 abbrev pub layers_of_file : ℕ → Number → Option (List ℕ) → Meant Layers
 layers_of_file word width got = site_of_file word got >>= λ fields. judged (told_layers fields.height width)
 
--- the text of period q, in which these leaves are revoked: the sets of their cover by useful ones
--- [Halevy, Shamir 2002, 3]
-abbrev pub layered_text : ℕ → ℕ → ℕ → List ℕ → List ℕ
-layered_text d w q revoked = period_text q (length revoked) (layer_cover_of d w revoked)
-
--- the text of period q of a book for a tree of height d
-abbrev pub text_at : ℕ → ℕ → List Command → ℕ → List ℕ
-text_at d w commands q = layered_text d w q (revoked d commands q)
-
--- the first n of some texts
-abbrev pub first_texts : (ℕ → List ℕ) → ℕ → List (List ℕ)
-first_texts text zero = []
-first_texts text (suc n) = first_texts text n ++ text n ∷ []
-
--- prints these texts, from number 0 to the last
-abbrev pub printing : (ℕ → List ℕ) → ℕ → Work
-printing text last =
-    record { out = None; pieces = first_texts text (last + 1); ends = Done; breaks = false; steps = NoSteps }
-
 -- prints the useful sets of each period of a book for a tree of this height and layers of this width
+-- [Halevy, Shamir 2002, 3]
 abbrev pub layering : ℕ → ℕ → List Command → Work
-layering d w commands = printing (text_at d w commands) (last_period commands)
+layering d w commands = listing (layer_cover_of d w) bare_end d commands
 
 -- the work that the words and the two files say
 abbrev pub layered_meaning : Word → Word → Number → Given → Meant Work

@@ -1,23 +1,17 @@
-ghost use Rattle.std.specs.Prelude.{◌≡◌, ◌≢◌, ◌^◌, ◌<◌, ◌≤◌, ℕ, All, length, IfErr, IfOk, string_bytes};
-ghost use Rattle.std.specs.List.Sorted.{IsStrictlyIncreasing};
-ghost use Rattle.sd_tree.specs.declared.leaf.TheConstants.{MOST_REVOKED};
+ghost use Rattle.std.specs.Prelude.{◌≡◌, ◌≢◌, ◌≤◌, ℕ, IfOk};
 ghost use Rattle.sd_status.specs.Outside.{outside, page, place};
 ghost use Rattle.sd_status.specs.Reads.{Judges, Looks};
 ghost use Rattle.sd_status.specs.Comes.{Follows, status_of};
-ghost use Rattle.sd_status.specs.Prints.{Prints, PrintsPiece, PrintsText};
 ghost use Rattle.sd_files.specs.Shown.{shown_number, shown_word};
-ghost use Rattle.sd_run_layered.specs.Layered.{layered_meaning, layered_text as layered_text_of, layering};
-ghost use Rattle.sd_run_layered.specs.Layered.{layers_of_file};
-ghost use Rattle.sd_run_layered.specs.Layered.{shown_layers, told_layers};
+ghost use Rattle.sd_run_layered.specs.Layered.{layered_meaning, layers_of_file, shown_layers, told_layers};
 
-use sd_book::Book;
-use sd_files::{Number, Word, print_text, read_book, read_site};
-use sd_layers::{Width, layered_cover};
-use sd_periods::period_text;
+use crate::useful::UsefulSets;
+use sd_files::{Number, Word, read_book, read_site};
+use sd_layers::Width;
+use sd_periods::print_periods;
 use sd_ports::{Depot, Sink};
 use sd_status::Status;
-use sd_steiner::CoverFault;
-use sd_tree::{HIGHEST, Height, Leaf};
+use sd_tree::{HIGHEST, Height};
 use std::alloc::Global;
 
 /// Does `layered SITE BOOK WIDTH`.
@@ -37,7 +31,7 @@ pub fn layered<D: Depot, P: Sink>(
 {
     let layers = layers_of(alloc, depot, site, width)?;
     let book = read_book(alloc, depot, book, layers.0)?;
-    print_layers(alloc, print, &book, layers.1)
+    print_periods(alloc, print, &book, &UsefulSets { width: layers.1 })
 }
 
 /// The height of the site's tree, and the width of its layers.
@@ -68,63 +62,4 @@ fn judge_width(h: Height, width: Number) -> Result<(Height, Width), Status>
         return Err(Status::BadWord(width.word));
     };
     Ok((h, w))
-}
-
-/// Prints the useful sets of each period of the book, one period after the other.
-fn print_layers<P: Sink>(alloc: Global, print: &mut P, book: &Book, w: Width) -> Result<(), Status>
-    requires { w ≤ book.now.height }
-    ensures { Prints (layering book.now.height w book.now.commands)
-        (page P.Sink print.old) (page P.Sink print.new) (status_of result) }
-{
-    let h = book.height();
-    let mut periods = book.periods(alloc);
-    let mut q = 0;
-    while let Some(revoked) = periods.next(alloc)? {
-        print_period(alloc, print, h, w, q, &revoked)?;
-        q += 1;
-    }
-    Ok(())
-}
-
-/// Prints the cover by useful sets of period q, in which these leaves are revoked.
-fn print_period<P: Sink>(
-    alloc: Global,
-    print: &mut P,
-    h: Height,
-    w: Width,
-    q: u32,
-    revoked: &[Leaf],
-) -> Result<(), Status>
-    requires width { w ≤ h }
-    requires leaves { All (λ u. u < 2 ^ h) revoked.now }
-    requires ascending { IsStrictlyIncreasing revoked.now }
-    requires few { length revoked.now ≤ MOST_REVOKED }
-    ensures value { PrintsPiece (layered_text_of h w q revoked.now)
-        (page P.Sink print.old) (page P.Sink print.new) (status_of result) }
-    ensures fault { IfErr result (λ status. status ≢ Status.Done) }
-{
-    let text = layered_text(alloc, h, w, q, revoked)?;
-    print_text(print, text.as_bytes())
-}
-
-/// The text of the cover by useful sets of period q, in which these leaves are revoked.
-fn layered_text(
-    alloc: Global,
-    h: Height,
-    w: Width,
-    q: u32,
-    revoked: &[Leaf],
-) -> Result<String, Status>
-    requires width { w ≤ h }
-    requires leaves { All (λ u. u < 2 ^ h) revoked.now }
-    requires ascending { IsStrictlyIncreasing revoked.now }
-    requires few { length revoked.now ≤ MOST_REVOKED }
-    ensures value { IfOk result (λ text. string_bytes text ≡ layered_text_of h w q revoked.now) }
-    ensures fault { IfErr result (λ status. status ≡ Status.NoMemory) }
-{
-    match layered_cover(alloc, h, w, revoked) {
-        Ok(sets) => Ok(period_text(alloc, q, revoked.len(), &sets)?),
-        Err(CoverFault::NoMemory) => Err(Status::NoMemory),
-        Err(CoverFault::TooMany) => unreachable!(),
-    }
 }

@@ -3,5 +3,6 @@
 
 mod command;
 pub mod laws;
+mod useful;
 
 pub use command::layered;

@@ -5,5 +5,6 @@ use Rattle.sd_periods.proofs.text.period_text.Given as goal
 
 -- the text so far has the period's line and those of the sets so far
 abbrev pub invariant-loop-name : goal.invariant-loop-name
-invariant-loop-name l = string_bytes l.text ≡ period_line l.fn.q l.fn.revoked (length l.sets) ++ flat_map set_line
-    (take l.name-index l.sets)
+invariant-loop-name g l =
+    string_bytes l.text ≡ period_line l.fn.q l.fn.revoked (length l.sets)
+    ++ flat_map (λ name. set_line (g.L.Listing.ends l.fn.listing l.fn.h name) name) (take l.name-index l.sets)

@@ -20,6 +20,6 @@ returns g c steps =
     prints_follows (λ book. covering book.height book.commands)
     (cover_meaning (shown_word c.args.site) (shown_word c.args.book))
     (place g.D.Depot c.args.depot.now) (place g.D.Depot c.book_of_site.new.depot)
-    (page g.P.Sink c.args.print.now) (page g.P.Sink c.print_cover.new.print) steps c.in_ok-book.book
-    (status_of c.print_cover.result)
-    refl tt c.in_ok-book.ensures c.print_cover.ensures
+    (page g.P.Sink c.args.print.now) (page g.P.Sink c.print_periods.new.print) steps c.in_ok-book.book
+    (status_of c.print_periods.result)
+    refl tt c.in_ok-book.ensures c.print_periods.ensures

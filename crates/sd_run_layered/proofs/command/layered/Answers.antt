@@ -50,11 +50,11 @@ returns g c steps =
     let width = shown_number c.args.width in
     let d = c.in_ok-layers.layers.0 in
     let w = c.in_ok-layers.layers.1 in
-    let printed = rw c.in_ok-book.ensures.height at c.print_layers.ensures in
+    let printed = rw c.in_ok-book.ensures.height at c.print_periods.ensures in
     prints_follows (λ book. layering d w book.commands) (layered_meaning site book width)
     (place g.D.Depot c.args.depot.now) (place g.D.Depot c.read_book.new.depot)
-    (page g.P.Sink c.args.print.now) (page g.P.Sink c.print_layers.new.print) steps c.in_ok-book.book
-    (status_of c.print_layers.result) refl tt
+    (page g.P.Sink c.args.print.now) (page g.P.Sink c.print_periods.new.print) steps c.in_ok-book.book
+    (status_of c.print_periods.result) refl tt
     (reads_two shown_layers (λ book. book.commands) (λ book. layering d w book.commands)
     (layers_of_file site.number width) (λ layers got. book_of_file book.number layers.height got)
     (λ layers commands. layering layers.height layers.width commands) site book

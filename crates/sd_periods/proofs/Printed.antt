@@ -15,7 +15,7 @@ use Rattle.sd_status.specs.declared.status.Status.{Status}
 use Rattle.sd_status.specs.declared.status.Status.TheVariants.{Done, NoMemory}
 use Rattle.sd_status.specs.Outside.{Page}
 use Rattle.sd_status.specs.Prints.{Prints, PrintsPiece}
-use Rattle.sd_run_layered.specs.Layered.{first_texts, printing}
+use Rattle.sd_periods.specs.Periods.{first_texts, printing}
 
 -- a period that is found is none after the last
 pub is_inside : (last q : ℕ) → IsNone {T = ℕ} (Some 0) ↔ (last < q) → q ≤ last
