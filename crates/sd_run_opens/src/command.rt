@@ -1,0 +1,32 @@
+ghost use Rattle.std.specs.Prelude.{◌≡◌, ◌≢◌, ℕ};
+ghost use Rattle.sd_status.specs.Outside.{outside, page, place};
+ghost use Rattle.sd_status.specs.Comes.{Follows, status_of};
+ghost use Rattle.sd_files.specs.Shown.{shown_word};
+ghost use Rattle.sd_run_opens.specs.Opens.{opens_meaning};
+
+use crate::pool::Pool;
+use sd_files::{Word, read_both, read_leaves};
+use sd_periods::print_periods;
+use sd_ports::{Depot, Sink};
+use sd_status::Status;
+use std::alloc::Global;
+
+/// Does `opens SITE BOOK LEAVES`.
+pub fn opens<D: Depot, P: Sink>(
+    alloc: Global,
+    depot: &mut D,
+    print: &mut P,
+    site: Word<'_>,
+    book: Word<'_>,
+    leaves: Word<'_>,
+) -> Result<(), Status>
+    requires { (site.number ≢ book.number) × (site.number ≢ leaves.number) × (book.number ≢ leaves.number) }
+    ensures { (steps : ℕ) →
+        Follows (opens_meaning (shown_word site.entry) (shown_word book.entry) (shown_word leaves.entry))
+        (outside (place D.Depot depot.old) (page P.Sink print.old) steps)
+        (outside (place D.Depot depot.new) (page P.Sink print.new) steps) (status_of result) }
+{
+    let (site, book) = read_both(alloc, depot, site, book)?;
+    let leaves = read_leaves(alloc, depot, leaves, site.height)?;
+    print_periods(alloc, print, &book, &Pool { leaves })
+}

@@ -1,0 +1,11 @@
+//! `opens SITE BOOK LEAVES`: which sets of each period of a book the pooled cards of some leaves open.
+#![tactic(auto)]
+
+mod command;
+pub mod laws;
+mod pool;
+
+pub use command::opens;
+
+#[cfg(test)]
+mod tests;
