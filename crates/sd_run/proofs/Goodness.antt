@@ -37,15 +37,15 @@ use Rattle.sd_run.specs.Good.{plan_told, IsGoodHead}
 use Rattle.sd_run_head.proofs.Sending.{sent_unrefused}
 use Rattle.sd_run.specs.Meaning.{order_meaning, meaning}
 
-then_is : {A B : Type 0} (first : Meant A) (x : A) (next : A → Meant B) → first.result ≡ Ok x → (first >>= next).result
+pub then_is : {A B : Type 0} (first : Meant A) (x : A) (next : A → Meant B) → first.result ≡ Ok x → (first >>= next).result
     ≡ (next x).result
 then_is {A} first x next e = ap (λ (r : Result A Status). (after first.calls r next).result) e
 
-file_read : (word most : ℕ) (kind : LimitKind) (bytes : List ℕ) → length bytes ≤ most →
+pub file_read : (word most : ℕ) (kind : LimitKind) (bytes : List ℕ) → length bytes ≤ most →
     (within word most kind (Some bytes)).result ≡ Ok bytes
 file_read word most kind bytes short = ap (λ b. cond b (Err (Limit kind)) (Ok bytes)) (le-ltb most (length bytes) short)
 
-site_good : (given : Given) (word : Word) (fields : SiteFields) → IsGoodSite given word fields →
+pub site_good : (given : Given) (word : Word) (fields : SiteFields) → IsGoodSite given word fields →
     (site_in given word).result ≡ Ok fields
 unfolding site_of_file
 site_good given word fields good =
@@ -55,7 +55,7 @@ site_good given word fields good =
     (file_read word.number MOST_SITE_BYTES SiteBytes good.bytes good.short)
     ∙ ap told_site (answered (lines_of good.bytes) (Ok fields) (good.is_site.text, good.is_site.ranges))
 
-book_good : (given : Given) (d : ℕ) (word : Word) (commands : List Command) → IsGoodBook given d word commands →
+pub book_good : (given : Given) (d : ℕ) (word : Word) (commands : List Command) → IsGoodBook given d word commands →
     (book_in given d word).result ≡ Ok commands
 unfolding book_of_file
 book_good given d word commands good =
@@ -66,7 +66,7 @@ book_good given d word commands good =
     ∙ ap (told_book word.number) (book_again d good.bytes commands good.is_book good.within)
 
 -- the work of an order is the words'
-ordered : (words : List (List ℕ)) (given : Given) (order : Order) → order_of words ≡ Ok order →
+pub ordered : (words : List (List ℕ)) (given : Given) (order : Order) → order_of words ≡ Ok order →
     (meaning words given).result ≡ (order_meaning order given).result
 ordered words given order read = ap (λ (r : Result Order Status). (judged r >>= λ o. order_meaning o given).result) read
 

@@ -26,7 +26,7 @@ accounts_kept words given good =
     ∙ accounts_good good.site good.accounts good.out given good.fields good.bytes good.commands
     (site_good given good.site good.fields good.good_site) good.there good.short good.is_book
 
-both_good : (given : Given) (site book : Word) (fields : SiteFields) (commands : List Command) →
+pub both_good : (given : Given) (site book : Word) (fields : SiteFields) (commands : List Command) →
     IsGoodSite given site fields → IsGoodBook given fields.height book commands →
     (both_meaning site book given).result ≡ Ok (record { site = fields; commands = commands })
 unfolding both_by

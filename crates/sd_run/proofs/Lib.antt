@@ -8,3 +8,7 @@ pub mod Plans
 pub mod Sent
 pub mod Together
 pub mod Lost
+pub mod Kept
+pub mod Layers
+pub mod Pooled
+pub mod Tried

@@ -37,7 +37,6 @@ use Rattle.sd_files.specs.Turned.{is_break}
 use Rattle.sd_run.specs.Lost.{kept_of, kept_periods, IsRestTo, IsConfirmed}
 use Rattle.sd_run.specs.Meaning.{meaning}
 use Rattle.sd_run_receive.proofs.Received.{none_refused, bytes_are, steps_are}
-use Rattle.sd_run.proofs.Keyed.{same_keys}
 use Rattle.sd_run.proofs.Broadcasts.{receive_good}
 
 -- no more are chosen than there are, and each is one of them
@@ -127,7 +126,7 @@ module _ (plan : Plan) (u : ℕ) (clear : List (List ℕ)) (flags : List Bool) (
 
   rest_keys : taken_keys card [] packets ≡ kept_periods plan u clear (kept_of plan clear flags)
   unfolding kept_periods kept_of
-  rest_keys = same_keys card [] packets ∙ lost.keys_taken plan clear u flags is all whole leaf
+  rest_keys = lost.keys_taken plan clear u flags is all whole leaf
 
   rest_steps : received_steps card bytes ≤ plan.site.height * kept_periods plan u clear (kept_of plan clear flags)
   rest_steps =

@@ -17,8 +17,11 @@ use Rattle.sd_run_accounts.proofs.Others.{other_accounts}
 use Rattle.sd_run_book.proofs.Others.{other_book_order}
 use Rattle.sd_run_layered.proofs.Others.{other_layered}
 use Rattle.sd_run_lcard.proofs.Others.{other_lcard}
+use Rattle.sd_run_opens.proofs.Others.{other_opens}
+use Rattle.sd_run_trace.proofs.Others.{other_trace}
+use Rattle.sd_run_trial.proofs.Others.{other_trial}
 use Rattle.sd_words.specs.Words.{Order, CoverOf, CardOf, SampleOf, TablesOf, HeadOf, ReceiveOf, order_of}
-use Rattle.sd_words.specs.Words.{AccountsOf, BookOf, LayeredOf, LcardOf}
+use Rattle.sd_words.specs.Words.{AccountsOf, BookOf, LayeredOf, LcardOf, OpensOf, TraceOf, TrialOf}
 use Rattle.sd_words.specs.Orders.{RefusesWords}
 use Rattle.sd_run.specs.Meaning.{order_meaning, meaning}
 
@@ -83,6 +86,9 @@ other_order (AccountsOf site accounts out) given = other_accounts site accounts 
 other_order (BookOf site book commands out) given = other_book_order site book commands out given
 other_order (LayeredOf site book width) given = other_layered site book width given
 other_order (LcardOf site leaf width out) given = other_lcard site leaf width out given
+other_order (OpensOf site book leaves) given = other_opens site book leaves given
+other_order (TraceOf site book leaves) given = other_trace site book leaves given
+other_order (TrialOf site book clear) given = other_trial site book clear given
 
 other_is : {A : Type 0} (r : Result A Status) → IsOther r → r ≡ Err Usage → ⊥
 other_is (Ok x) h e = absurd (cc)

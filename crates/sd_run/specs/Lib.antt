@@ -4,3 +4,4 @@ pub mod Opened
 pub mod Headline
 pub mod Sent
 pub mod Lost
+pub mod Tried

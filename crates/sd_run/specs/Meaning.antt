@@ -3,7 +3,7 @@ use Rattle.std.specs.Prelude.{List, ℕ}
 use Rattle.sd_status.specs.Meant.{Meant, Given, judged, ◌>>=◌}
 use Rattle.sd_status.specs.Work.{Work}
 use Rattle.sd_words.specs.Words.{Order, CoverOf, CardOf, SampleOf, TablesOf, HeadOf, ReceiveOf, order_of}
-use Rattle.sd_words.specs.Words.{AccountsOf, BookOf, LayeredOf, LcardOf}
+use Rattle.sd_words.specs.Words.{AccountsOf, BookOf, LayeredOf, LcardOf, OpensOf, TraceOf, TrialOf}
 use Rattle.sd_run_cover.specs.Cover.{cover_meaning}
 use Rattle.sd_run_card.specs.Card.{card_meaning}
 use Rattle.sd_run_sample.specs.Sample.{sample_meaning}
@@ -14,6 +14,9 @@ use Rattle.sd_run_accounts.specs.Accounts.{accounts_meaning}
 use Rattle.sd_run_book.specs.Book.{book_meaning}
 use Rattle.sd_run_layered.specs.Layered.{layered_meaning}
 use Rattle.sd_run_lcard.specs.Lcard.{lcard_meaning}
+use Rattle.sd_run_opens.specs.Opens.{opens_meaning}
+use Rattle.sd_run_trace.specs.Trace.{trace_meaning}
+use Rattle.sd_run_trial.specs.Trial.{trial_meaning}
 
 -- the work of an order
 abbrev pub order_meaning : Order → Given → Meant Work
@@ -27,6 +30,9 @@ order_meaning (AccountsOf site accounts out) given = accounts_meaning site accou
 order_meaning (BookOf site book commands out) given = book_meaning site book commands out given
 order_meaning (LayeredOf site book width) given = layered_meaning site book width given
 order_meaning (LcardOf site leaf width out) given = lcard_meaning site leaf width out given
+order_meaning (OpensOf site book leaves) given = opens_meaning site book leaves given
+order_meaning (TraceOf site book leaves) given = trace_meaning site book leaves given
+order_meaning (TrialOf site book clear) given = trial_meaning site book clear given
 
 -- the work that the words ask for, or the status of their refusal
 abbrev pub meaning : List (List ℕ) → Given → Meant Work

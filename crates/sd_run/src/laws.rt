@@ -1,5 +1,16 @@
 //! Good words over good files mean work, and so `run` does it, or is out of memory, where no device fails.
-ghost use Rattle.std.specs.Prelude.{◌≡◌, ◌≤◌, ◌<◌, ◌^◌, ℕ, List, Some, None, Ok, length};
+ghost use Rattle.std.specs.Prelude.{◌≡◌, ◌≤◌, ◌<◌, ◌^◌, ◌++◌, ℕ, List, Some, None, Ok, length};
+ghost use Rattle.sd_book.specs.Text.{text_of};
+ghost use Rattle.sd_lsd.specs.Fields.{layer_bytes, layer_card_of};
+ghost use Rattle.sd_run_accounts.specs.Accounts.{accounts_value, making_then, report_line};
+ghost use Rattle.sd_run_layered.specs.Layered.{layering};
+ghost use Rattle.sd_trace.specs.Trace.{trace_of};
+ghost use Rattle.sd_run_opens.specs.Opens.{opening};
+ghost use Rattle.sd_run_trace.specs.Trace.{revoked_last, telling, trace_text};
+ghost use Rattle.sd_run_trial.specs.Opened.{opened_lines};
+ghost use Rattle.sd_run_trial.specs.Trial.{printing as tried};
+ghost use Rattle.sd_run.specs.Good.{IsGoodAccounts, IsGoodBooks, IsGoodLayered, IsGoodLcard, IsGoodOpens, IsGoodTrace};
+ghost use Rattle.sd_run.specs.Tried.{IsGoodTrial};
 ghost use Rattle.sd_book.specs.Commands.{revoked};
 ghost use Rattle.sd_book.specs.declared.command.Command.{Command};
 ghost use Rattle.sd_steiner.specs.Cover.{cover_of};
@@ -64,6 +75,59 @@ pub fn good_streams_are_broadcast()
         ((meaning words (told_by files)).result ≡ Ok (sending (plan_told good) good.out good.bytes))
         × (concat (broadcast (plan_told good) (taken_of good.bytes)) ≡ sent_of (plan_told good) good.bytes)
         × (Status.Done ≡ sent_status (plan_told good) good.bytes) }
+{}
+
+/// `accounts SITE ACCOUNTS OUT` over a site and accounts makes the book that their lines make, and reports them.
+#[tactic(auto, using(crate::proofs::Kept::accounts_kept))]
+pub fn good_accounts_are_kept()
+    ensures { (words : List (List ℕ)) (files : Files) (good : IsGoodAccounts words (told_by files)) →
+        (meaning words (told_by files)).result ≡ Ok (making_then good.out (text_of good.commands)
+        (report_line (accounts_value good.fields.height good.bytes good.commands))) }
+{}
+
+/// `book SITE BOOK COMMANDS OUT` over a site and two books makes the book of the first's commands and then the second's.
+#[tactic(auto, using(crate::proofs::Kept::books_joined))]
+pub fn good_books_are_joined()
+    ensures { (words : List (List ℕ)) (files : Files) (good : IsGoodBooks words (told_by files)) →
+        (meaning words (told_by files)).result ≡ Ok (making NoSteps good.out (text_of (good.before ++ good.added))) }
+{}
+
+/// `layered SITE BOOK WIDTH` over a site and a book prints the useful sets of each period.
+#[tactic(auto, using(crate::proofs::Layers::layered_good))]
+pub fn good_layers_are_printed()
+    ensures { (words : List (List ℕ)) (files : Files) (good : IsGoodLayered words (told_by files)) →
+        (meaning words (told_by files)).result ≡ Ok (layering good.fields.height good.width.value good.commands) }
+{}
+
+/// `lcard SITE LEAF WIDTH OUT` over a site with the leaf makes its layer card.
+#[tactic(auto, using(crate::proofs::Layers::lcard_good))]
+pub fn good_layer_cards_are_made()
+    ensures { (words : List (List ℕ)) (files : Files) (good : IsGoodLcard words (told_by files)) →
+        (meaning words (told_by files)).result ≡ Ok (making Uncounted good.out (layer_bytes
+        (layer_card_of good.fields.master good.fields.ca good.fields.height good.width.value good.leaf.value))) }
+{}
+
+/// `opens SITE BOOK LEAVES` over good files prints the sets of each period, and which of them the leaves' cards open.
+#[tactic(auto, using(crate::proofs::Pooled::opens_good))]
+pub fn good_pools_are_printed()
+    ensures { (words : List (List ℕ)) (files : Files) (good : IsGoodOpens words (told_by files)) →
+        (meaning words (told_by files)).result ≡ Ok (opening good.fields.height good.pooled good.commands) }
+{}
+
+/// `trace SITE BOOK LEAVES` over good files prints the trace of a box with the leaves' cards in the last period.
+#[tactic(auto, using(crate::proofs::Pooled::trace_good))]
+pub fn good_traces_are_printed()
+    ensures { (words : List (List ℕ)) (files : Files) (good : IsGoodTrace words (told_by files)) →
+        (meaning words (told_by files)).result ≡ Ok (telling (trace_text
+        (trace_of good.fields.height good.coalition (revoked_last good.fields.height good.commands)))) }
+{}
+
+/// `trial SITE BOOK CLEAR` over a good site, a good book and a clear stream prints the lines of what is opened.
+#[tactic(auto, using(crate::proofs::Tried::trial_good))]
+pub fn good_trials_are_printed()
+    ensures { (words : List (List ℕ)) (files : Files) (good : IsGoodTrial words (told_by files)) →
+        (meaning words (told_by files)).result ≡ Ok (tried (Ok
+        (opened_lines good.plan (taken_of good.bytes) (2 ^ good.plan.site.height)))) }
 {}
 
 /// The sets of a period are disjoint and unite to just the leaves that are not revoked in it: one where none is, and

@@ -15,9 +15,12 @@ use sd_run_cover::cover;
 use sd_run_head::head;
 use sd_run_layered::layered;
 use sd_run_lcard::lcard;
+use sd_run_opens::opens;
 use sd_run_receive::receive;
 use sd_run_sample::sample;
 use sd_run_tables::tables;
+use sd_run_trace::trace;
+use sd_run_trial::trial;
 use sd_status::{Status, tell};
 use sd_steps::Steps;
 use sd_words::{Order, read_words};
@@ -122,5 +125,8 @@ fn work<D: Depot, P: Sink, L: Ledger>(
             width,
             out,
         } => lcard(alloc, depot, site, leaf, width, out, steps),
+        Order::Opens { site, book, leaves } => opens(alloc, depot, print, site, book, leaves),
+        Order::Trace { site, book, leaves } => trace(alloc, depot, print, site, book, leaves),
+        Order::Trial { site, book, clear } => trial(alloc, depot, print, site, book, clear, steps),
     }
 }

@@ -30,3 +30,12 @@ returns-in-Layered g c = rw c.in-Layered.is (c.layered.ensures c.args.steps.now)
 
 pub returns-in-Lcard : goal.returns-in-Lcard
 returns-in-Lcard g c = rw c.in-Lcard.is (c.lcard.ensures (page g.P.Sink c.args.print.now))
+
+pub returns-in-Opens : goal.returns-in-Opens
+returns-in-Opens g c = rw c.in-Opens.is (c.opens.ensures c.args.steps.now)
+
+pub returns-in-Trace : goal.returns-in-Trace
+returns-in-Trace g c = rw c.in-Trace.is (c.trace.ensures c.args.steps.now)
+
+pub returns-in-Trial : goal.returns-in-Trial
+returns-in-Trial g c = rw c.in-Trial.is c.trial.ensures
