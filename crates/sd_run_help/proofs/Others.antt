@@ -1,0 +1,12 @@
+-- Neither `help` nor `version` means `Usage`.
+use Rattle.std.proofs.Common.{Option}
+use Rattle.sd_status.specs.Meant.{Given}
+use Rattle.sd_files.proofs.Others.{IsOther}
+use Rattle.sd_run_help.specs.declared.topic.Topic.{Topic}
+use Rattle.sd_run_help.specs.Help.{help_meaning, version_meaning}
+
+pub other_help : (topic : Option Topic) (given : Given) → IsOther (help_meaning topic given).result
+other_help topic given = tt
+
+pub other_version : (given : Given) → IsOther (version_meaning given).result
+other_version given = tt

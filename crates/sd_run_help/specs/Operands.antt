@@ -1,0 +1,38 @@
+-- The words that commands take [this project, docs/FORMATS.md, Commands].
+use Rattle.std.specs.Prelude.{ℕ, List, codes}
+use Rattle.sd_run_help.specs.declared.operand.Operand.{Operand}
+use Rattle.sd_run_help.specs.declared.operand.Operand.TheVariants.{Site, Book, Accounts, Commands, Clear, Stream, Card}
+use Rattle.sd_run_help.specs.declared.operand.Operand.TheVariants.{Leaves, Leaf, Width, Number, Packets, Out}
+
+-- the name that it has in the texts
+unfoldable pub name_of : Operand → List ℕ
+name_of Site = codes "SITE"
+name_of Book = codes "BOOK"
+name_of Accounts = codes "ACCOUNTS"
+name_of Commands = codes "COMMANDS"
+name_of Clear = codes "CLEAR"
+name_of Stream = codes "STREAM"
+name_of Card = codes "CARD"
+name_of Leaves = codes "LEAVES"
+name_of Leaf = codes "LEAF"
+name_of Width = codes "WIDTH"
+name_of Number = codes "NUMBER"
+name_of Packets = codes "PACKETS"
+name_of Out = codes "OUT"
+
+-- what it says
+unfoldable pub meaning_of : Operand → List ℕ
+meaning_of Site = codes "the site file: the height of the tree, the master secret, PIDs, lengths of periods"
+meaning_of Book = codes "the book: a line for each command, subscribe LEAF, revoke LEAF or period"
+meaning_of Accounts =
+    codes "the accounts: a line for each change, assign NAME LEAF, drop NAME, restore NAME or period"
+meaning_of Commands = codes "a book by itself, whose lines go to the end of BOOK"
+meaning_of Clear = codes "a clear transport stream; /dev/stdin for a pipe"
+meaning_of Stream = codes "a transport stream; /dev/stdin for a pipe"
+meaning_of Card = codes "the card of a receiver, as the command card makes it"
+meaning_of Leaves = codes "the receivers whose cards are pooled: a line for each leaf, ascending"
+meaning_of Leaf = codes "the receiver's number, from 0 to 2^height - 1"
+meaning_of Width = codes "the width of the layers, from 1 to the height"
+meaning_of Number = codes "a number below 2^32, of which the stream is made"
+meaning_of Packets = codes "how many packets, at most 1000000"
+meaning_of Out = codes "the file to be made; /dev/stdout for a pipe"

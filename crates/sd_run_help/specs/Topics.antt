@@ -1,0 +1,127 @@
+-- What help says of each command [this project, docs/FORMATS.md, Help].
+use Rattle.std.specs.Prelude.{ℕ, List, [], ◌∷◌, codes, bytes_eq, if◌then◌else◌, Option, Some, None}
+use Rattle.sd_run_help.specs.declared.topic.Topic.{Topic}
+use Rattle.sd_run_help.specs.declared.topic.Topic.TheVariants.{Accounts, Book, Card, Cover, Head, Layered, Lcard, Opens}
+use Rattle.sd_run_help.specs.declared.topic.Topic.TheVariants.{Receive, Sample, Tables, Trace, Trial}
+use Rattle.sd_run_help.specs.declared.operand.Operand.{Operand}
+use Rattle.sd_run_help.specs.declared.operand.Operand.TheVariants as word
+use Rattle.sd_run_help.specs.declared.exit.Exit.{Exit}
+use Rattle.sd_run_help.specs.declared.exit.Exit.TheVariants as exit
+
+-- the command's name
+unfoldable pub name_of : Topic → List ℕ
+name_of Accounts = codes "accounts"
+name_of Book = codes "book"
+name_of Card = codes "card"
+name_of Cover = codes "cover"
+name_of Head = codes "head"
+name_of Layered = codes "layered"
+name_of Lcard = codes "lcard"
+name_of Opens = codes "opens"
+name_of Receive = codes "receive"
+name_of Sample = codes "sample"
+name_of Tables = codes "tables"
+name_of Trace = codes "trace"
+name_of Trial = codes "trial"
+
+-- all commands, by their names
+abbrev pub topics : List Topic
+topics =
+    Accounts ∷ Book ∷ Card ∷ Cover ∷ Head ∷ Layered ∷ Lcard ∷ Opens ∷ Receive ∷ Sample ∷ Tables ∷ Trace ∷ Trial ∷ []
+
+-- the first of them that has this name
+abbrev pub named : List ℕ → List Topic → Option Topic
+named word [] = None
+named word (topic ∷ rest) = if bytes_eq word (name_of topic) then Some topic else named word rest
+
+-- the command of this name
+unfoldable pub topic_of : List ℕ → Option Topic
+topic_of word = named word topics
+
+-- the words after the name
+unfoldable pub operands_of : Topic → List Operand
+operands_of Accounts = word.Site ∷ word.Accounts ∷ word.Out ∷ []
+operands_of Book = word.Site ∷ word.Book ∷ word.Commands ∷ word.Out ∷ []
+operands_of Card = word.Site ∷ word.Leaf ∷ word.Out ∷ []
+operands_of Cover = word.Site ∷ word.Book ∷ []
+operands_of Head = word.Site ∷ word.Book ∷ word.Clear ∷ word.Out ∷ []
+operands_of Layered = word.Site ∷ word.Book ∷ word.Width ∷ []
+operands_of Lcard = word.Site ∷ word.Leaf ∷ word.Width ∷ word.Out ∷ []
+operands_of Opens = word.Site ∷ word.Book ∷ word.Leaves ∷ []
+operands_of Receive = word.Card ∷ word.Stream ∷ word.Out ∷ []
+operands_of Sample = word.Number ∷ word.Packets ∷ word.Out ∷ []
+operands_of Tables = word.Stream ∷ []
+operands_of Trace = word.Site ∷ word.Book ∷ word.Leaves ∷ []
+operands_of Trial = word.Site ∷ word.Book ∷ word.Clear ∷ []
+
+-- what the command does
+unfoldable pub work_of : Topic → List ℕ
+work_of Accounts = codes "makes the book of accounts that are kept by name, and reports them"
+work_of Book = codes "makes a longer book, with more commands at its end"
+work_of Card = codes "makes the card of a receiver"
+work_of Cover = codes "prints the sets that each period names"
+work_of Head = codes "makes the scrambled broadcast of a clear stream"
+work_of Layered = codes "prints the sets that each period names in layers"
+work_of Lcard = codes "makes the card of a receiver for layers, which is smaller"
+work_of Opens = codes "prints which sets of each period pooled cards open"
+work_of Receive = codes "makes the clear packets of a broadcast that a card opens"
+work_of Sample = codes "makes a clear stream for trials"
+work_of Tables = codes "prints the tables of a stream, a line of JSON for each"
+work_of Trace = codes "prints which receivers' cards a box has, found by trials"
+work_of Trial = codes "prints what each receiver writes of a broadcast"
+
+-- the exits of a command that reads a site, a book and maybe more text
+abbrev pub exits_of_books : List Exit
+exits_of_books =
+    exit.Done ∷ exit.Usage ∷ exit.Missing ∷ exit.DepotFault ∷ exit.PrintFault ∷ exit.BadSite ∷ exit.BadBook
+    ∷ exit.Limit ∷ exit.NoMemory ∷ []
+
+-- those of a command that makes a card of a site
+abbrev pub exits_of_cards : List Exit
+exits_of_cards =
+    exit.Done ∷ exit.Usage ∷ exit.Missing ∷ exit.DepotFault ∷ exit.PrintFault ∷ exit.BadSite ∷ exit.Limit
+    ∷ exit.NoMemory ∷ exit.BadWord ∷ []
+
+-- those of a command that reads a clear stream besides a site and a book
+abbrev pub exits_of_clear : List Exit
+exits_of_clear =
+    exit.Done ∷ exit.Usage ∷ exit.Missing ∷ exit.DepotFault ∷ exit.PrintFault ∷ exit.BadSite ∷ exit.BadBook
+    ∷ exit.BadClear ∷ exit.Limit ∷ exit.NoMemory ∷ []
+
+-- the exits that it may have
+unfoldable pub exits_of : Topic → List Exit
+exits_of Accounts = exits_of_books
+exits_of Book = exits_of_books
+exits_of Card = exits_of_cards
+exits_of Cover = exits_of_books
+exits_of Head = exits_of_clear
+exits_of Layered =
+    exit.Done ∷ exit.Usage ∷ exit.Missing ∷ exit.DepotFault ∷ exit.PrintFault ∷ exit.BadSite ∷ exit.BadBook
+    ∷ exit.Limit ∷ exit.NoMemory ∷ exit.BadWord ∷ []
+exits_of Lcard = exits_of_cards
+exits_of Opens = exits_of_books
+exits_of Receive =
+    exit.Done ∷ exit.Usage ∷ exit.Missing ∷ exit.Revoked ∷ exit.DepotFault ∷ exit.PrintFault ∷ exit.BadCard
+    ∷ exit.BadStream ∷ exit.Limit ∷ exit.NoMemory ∷ exit.Unheard ∷ exit.Unclosed ∷ exit.Gaps ∷ exit.NoCat ∷ []
+exits_of Sample =
+    exit.Done ∷ exit.Usage ∷ exit.Missing ∷ exit.DepotFault ∷ exit.PrintFault ∷ exit.NoMemory ∷ exit.BadWord ∷ []
+exits_of Tables =
+    exit.Done ∷ exit.Usage ∷ exit.Missing ∷ exit.DepotFault ∷ exit.PrintFault ∷ exit.BadStream ∷ exit.NoMemory ∷ []
+exits_of Trace = exits_of_books
+exits_of Trial = exits_of_clear
+
+-- an example of its words
+unfoldable pub example_of : Topic → List ℕ
+example_of Accounts = codes "accounts examples/site.txt examples/accounts.txt book.txt"
+example_of Book = codes "book examples/site.txt examples/book.txt examples/today.txt longer.txt"
+example_of Card = codes "card examples/site.txt 2 card-2"
+example_of Cover = codes "cover examples/site.txt examples/book.txt"
+example_of Head = codes "head examples/site.txt examples/book.txt clear.ts broadcast.ts"
+example_of Layered = codes "layered examples/site.txt examples/book.txt 2"
+example_of Lcard = codes "lcard examples/site.txt 2 2 layer-card-2"
+example_of Opens = codes "opens examples/site.txt examples/book.txt examples/pooled.txt"
+example_of Receive = codes "receive card-2 broadcast.ts opened.ts"
+example_of Sample = codes "sample 7 600 clear.ts"
+example_of Tables = codes "tables broadcast.ts"
+example_of Trace = codes "trace examples/site.txt examples/book.txt examples/pair.txt"
+example_of Trial = codes "trial examples/site.txt examples/book.txt clear.ts"

@@ -1,0 +1,50 @@
+ghost use Rattle.std.specs.Prelude.{◌≡◌, ℕ, IfOk, string_bytes};
+ghost use Rattle.sd_status.specs.Comes.{Follows, status_of};
+ghost use Rattle.sd_status.specs.Outside.{Place, outside, page};
+ghost use Rattle.sd_run_help.specs.Help.{help_meaning, version_meaning};
+ghost use Rattle.sd_run_help.specs.Pages.{help_text, version_text};
+
+use crate::page::{overview, page as page_of};
+use crate::topic::Topic;
+use sd_files::print_text;
+use sd_ports::Sink;
+use sd_status::Status;
+use std::alloc::{AllocError, Global};
+
+/// Does `help COMMAND`, and `help` where no command is named.
+pub fn help<P: Sink>(alloc: Global, print: &mut P, topic: Option<Topic>) -> Result<(), Status>
+    ensures { (place : Place) (steps : ℕ) → Follows (help_meaning topic)
+        (outside place (page P.Sink print.old) steps) (outside place (page P.Sink print.new) steps)
+        (status_of result) }
+{
+    let text = text_of(alloc, topic)?;
+    print_text(print, text.as_bytes())
+}
+
+/// What is told of a command, or of all.
+#[tactic(auto, unfolding(crate::specs::Pages::help_text))]
+fn text_of(alloc: Global, topic: Option<Topic>) -> Result<String, AllocError>
+    ensures { IfOk result (λ text. string_bytes text ≡ help_text topic) }
+{
+    match topic {
+        Some(topic) => page_of(alloc, topic),
+        None => overview(alloc),
+    }
+}
+
+/// Does `version`.
+pub fn version<P: Sink>(print: &mut P) -> Result<(), Status>
+    ensures { (place : Place) (steps : ℕ) → Follows version_meaning
+        (outside place (page P.Sink print.old) steps) (outside place (page P.Sink print.new) steps)
+        (status_of result) }
+{
+    print_text(print, version_line())
+}
+
+/// The version, and the line of the toolchain that proved it.
+#[tactic(auto, unfolding(crate::specs::Pages::version_text))]
+fn version_line() -> &'static [u8]
+    ensures { result.now ≡ version_text }
+{
+    b"sdca 1.0.0\nproved with rattle-kit-13f logic dac8208d650f15bf\n"
+}

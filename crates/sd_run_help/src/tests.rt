@@ -1,0 +1,58 @@
+use crate::{Topic, help, version};
+use sd_ports::MemSink;
+use std::alloc::{AllocError, Global};
+
+/// The page of `tables`.
+const TABLES: &str = "sdca tables STREAM
+prints the tables of a stream, a line of JSON for each
+
+words
+  STREAM    a transport stream; /dev/stdin for a pipe
+
+exits
+   0  the work is done
+   1  usage: the words are no command, or OUT is a file that is read
+   2  the file that word N names is not there
+   4  a device failed at a file
+   5  a device failed at printing
+  10  a packet of the stream is refused
+  12  memory ran out
+
+example
+  sdca tables broadcast.ts
+";
+
+/// What `version` prints.
+const VERSION: &str = "sdca 1.0.0
+proved with rattle-kit-13f logic dac8208d650f15bf
+";
+
+/// The lines of `help` that stand at its ends and beside the longest words.
+const LISTED: [(usize, &str); 4] = [
+    (0, "sdca: conditional access for transport streams, by Subset Difference"),
+    (2, "  accounts SITE ACCOUNTS OUT   makes the book of accounts that are kept by name, and reports them"),
+    (3, "  book SITE BOOK COMMANDS OUT  makes a longer book, with more commands at its end"),
+    (14, "  trial SITE BOOK CLEAR        prints what each receiver writes of a broadcast"),
+];
+
+#[test]
+fn help_and_version_are_printed(rt: HostRuntime) -> Result<(), AllocError> {
+    let alloc = rt.alloc();
+    let mut page = paper(alloc)?;
+    assert!(rt; help(alloc, &mut page, Topic::of("tables")).is_ok());
+    assert_eq!(rt; page.bytes(), TABLES.as_bytes());
+    let mut list = paper(alloc)?;
+    assert!(rt; help(alloc, &mut list, Topic::of("Tables")).is_ok());
+    for (place, line) in LISTED {
+        let found = list.bytes().split(|byte| *byte == b'\n').nth(place);
+        assert!(rt; found == Some(line.as_bytes()));
+    }
+    let mut about = paper(alloc)?;
+    assert!(rt; version(&mut about).is_ok());
+    assert_eq!(rt; about.bytes(), VERSION.as_bytes());
+    Ok(())
+}
+
+fn paper(alloc: Global) -> Result<MemSink, AllocError> {
+    MemSink::new(alloc, 4096, 4096, Vec::new(alloc)).map_err(|_| AllocError)
+}
