@@ -7,7 +7,8 @@ use Rattle.sd_files.specs.Shown.{shown_word, shown_number}
 use Rattle.sd_files.specs.declared.word.Word.{Word}
 use Rattle.sd_words.specs.declared.order.Order.{Order}
 use Rattle.sd_words.specs.declared.order.Order.TheVariants.{Cover, Card, Sample, Tables, Head, Receive, Accounts, Book}
-use Rattle.sd_words.specs.declared.order.Order.TheVariants.{Layered, Lcard, Opens, Trace, Trial}
+use Rattle.sd_words.specs.declared.order.Order.TheVariants.{Layered, Lcard, Opens, Trace, Trial, Help}
+use Rattle.sd_words.specs.declared.order.Order.TheVariants.{Version}
 use Rattle.sd_words.specs.Words as words
 
 -- the order as the words say it
@@ -27,6 +28,8 @@ told (Lcard site leaf width out) =
 told (Opens site book leaves) = words.OpensOf (shown_word site) (shown_word book) (shown_word leaves)
 told (Trace site book leaves) = words.TraceOf (shown_word site) (shown_word book) (shown_word leaves)
 told (Trial site book clear) = words.TrialOf (shown_word site) (shown_word book) (shown_word clear)
+told (Help topic) = words.HelpOf topic
+told Version = words.VersionOf
 
 -- the same of an answer
 abbrev pub shown : Result Order Status → Result words.Order Status
@@ -55,6 +58,8 @@ IsSound (Lcard site leaf width out) = Unit {0}
 IsSound (Opens site book leaves) = AreThree site book leaves
 IsSound (Trace site book leaves) = AreThree site book leaves
 IsSound (Trial site book clear) = AreThree site book clear
+IsSound (Help topic) = Unit {0}
+IsSound Version = Unit {0}
 
 -- the two refusals of words
 abbrev pub RefusesWords : Status → Type 0

@@ -1,8 +1,10 @@
 -- What the words after the program's name say [this project, docs/FORMATS.md, Commands].
 use Rattle.std.specs.Prelude.{ℕ, ◌-◌, ◌^◌, nat_lt, List, [], ◌∷◌, codes, bytes_eq, ◌||◌, if◌then◌else◌, Option, Some}
-use Rattle.std.specs.Prelude.{None, Result, Ok, Err}
+use Rattle.std.specs.Prelude.{None, Bool, Result, Ok, Err}
 use Rattle.sd_text.specs.Number.{number_of}
 use Rattle.sd_run_sample.specs.declared.command.TheConstants.{MOST_PACKETS}
+use Rattle.sd_run_help.specs.declared.topic.Topic.{Topic}
+use Rattle.sd_run_help.specs.Topics.{topic_of}
 use Rattle.sd_status.specs.Meant.{Word}
 use Rattle.sd_files.specs.Shown.{Number, word_at}
 use Rattle.sd_status.specs.declared.status.Status.{Status}
@@ -23,6 +25,8 @@ pub data Order : Type 0 where
   OpensOf : (site book leaves : Word) → Order
   TraceOf : (site book leaves : Word) → Order
   TrialOf : (site book clear : Word) → Order
+  HelpOf : (topic : Option Topic) → Order
+  VersionOf : Order
 
 -- what is done with a number, where there is one
 abbrev pub with_number : {A : Type 0} → Result ℕ Status → (ℕ → Result A Status) → Result A Status
@@ -96,6 +100,32 @@ input_words command a b c =
     else if bytes_eq command (codes "trial") then Ok (TrialOf (word_at 1 a) (word_at 2 b) (word_at 3 c))
     else Err Usage
 
+-- `help`, `--help` and `-h` are one command
+abbrev pub is_help : List ℕ → Bool
+is_help command =
+    bytes_eq command (codes "help") || (bytes_eq command (codes "--help") || bytes_eq command (codes "-h"))
+
+-- `version` and `--version` are one command
+abbrev pub is_version : List ℕ → Bool
+is_version command = bytes_eq command (codes "version") || bytes_eq command (codes "--version")
+
+-- a command without words
+unfoldable pub bare_words : List ℕ → Result Order Status
+bare_words command =
+    if is_help command then Ok (HelpOf None) else if is_version command then Ok VersionOf else Err Usage
+
+-- help on a command, if it is one
+abbrev pub help_on : Option Topic → Result Order Status
+help_on None = Err Usage
+help_on (Some topic) = Ok (HelpOf (Some topic))
+
+-- a command of one word
+unfoldable pub one_word : List ℕ → List ℕ → Result Order Status
+one_word command a =
+    if bytes_eq command (codes "tables") then Ok (TablesOf (word_at 1 a))
+    else if is_help command then help_on (topic_of a)
+    else Err Usage
+
 -- a command of three words
 unfoldable pub three_words : List ℕ → List ℕ → List ℕ → List ℕ → Result Order Status
 three_words command a b c =
@@ -117,9 +147,8 @@ four_words command a b c e =
 -- Whether the words are a command with as many words as it takes comes first, and then the numbers.
 abbrev pub order_of : List (List ℕ) → Result Order Status
 order_of [] = Err Usage
-order_of (command ∷ []) = Err Usage
-order_of (command ∷ a ∷ []) =
-    if bytes_eq command (codes "tables") then Ok (TablesOf (word_at 1 a)) else Err Usage
+order_of (command ∷ []) = bare_words command
+order_of (command ∷ a ∷ []) = one_word command a
 order_of (command ∷ a ∷ b ∷ []) =
     if bytes_eq command (codes "cover") then Ok (CoverOf (word_at 1 a) (word_at 2 b)) else Err Usage
 order_of (command ∷ a ∷ b ∷ c ∷ []) = three_words command a b c

@@ -1,10 +1,13 @@
 ghost use Rattle.std.specs.Prelude.{◌≡◌, ◌≤◌, ◌-◌, ◌^◌, map, string_bytes, IfOk, IfErr};
+ghost use Rattle.sd_run_help.specs.Topics.{topic_of};
+ghost use Rattle.sd_words.specs.Words.{bare_words, help_on, one_word};
 ghost use Rattle.sd_words.specs.Words.{accounts_words, book_words, card_words, four_words, head_words, layered_words};
 ghost use Rattle.sd_words.specs.Words.{input_words, lcard_words, number_in, order_of, receive_words, sample_words};
 ghost use Rattle.sd_words.specs.Words.{three_words};
 ghost use Rattle.sd_words.specs.Orders.{shown, IsSound, RefusesWords};
 
 use sd_files::{Number, Word};
+use sd_run_help::Topic;
 use sd_run_sample::MOST_PACKETS;
 use sd_status::Status;
 use sd_text::number_after;
@@ -77,6 +80,10 @@ pub enum Order<'a> {
         book: Word<'a>,
         clear: Word<'a>,
     },
+    Help {
+        topic: Option<Topic>,
+    },
+    Version,
 }
 
 /// What the words say, or the status of their refusal.
@@ -86,9 +93,8 @@ pub fn read_words(words: &[String]) -> Result<Order<'_>, Status>
     ensures fault { IfErr result RefusesWords }
 {
     match words {
-        [command, stream] if command.as_str() == "tables" => Ok(Order::Tables {
-            stream: Word::at(1, stream.as_str()),
-        }),
+        [command] => read_bare(command.as_str()),
+        [command, a] => read_one(command.as_str(), a.as_str()),
         [command, site, book] if command.as_str() == "cover" => Ok(Order::Cover {
             site: Word::at(1, site.as_str()),
             book: Word::at(2, book.as_str()),
@@ -102,6 +108,48 @@ pub fn read_words(words: &[String]) -> Result<Order<'_>, Status>
             e.as_str(),
         ),
         _ => Err(Status::Usage),
+    }
+}
+
+/// What a command without words says.
+#[tactic(auto, unfolding(crate::specs::Words::bare_words))]
+fn read_bare<'a>(command: &str) -> Result<Order<'a>, Status>
+    ensures value { shown result ≡ bare_words command.now }
+    ensures fits { IfOk result IsSound }
+    ensures fault { IfErr result RefusesWords }
+{
+    match command {
+        "help" | "--help" | "-h" => Ok(Order::Help { topic: None }),
+        "version" | "--version" => Ok(Order::Version),
+        _ => Err(Status::Usage),
+    }
+}
+
+/// What the word of a command of one says.
+#[tactic(auto, unfolding(crate::specs::Words::one_word))]
+fn read_one<'a>(command: &str, a: &'a str) -> Result<Order<'a>, Status>
+    ensures value { shown result ≡ one_word command.now a.now }
+    ensures fits { IfOk result IsSound }
+    ensures fault { IfErr result RefusesWords }
+{
+    match command {
+        "tables" => Ok(Order::Tables {
+            stream: Word::at(1, a),
+        }),
+        "help" | "--help" | "-h" => read_help(a),
+        _ => Err(Status::Usage),
+    }
+}
+
+/// Help on the command of this name, if it is one.
+fn read_help<'a>(name: &str) -> Result<Order<'a>, Status>
+    ensures value { shown result ≡ help_on (topic_of name.now) }
+    ensures fits { IfOk result IsSound }
+    ensures fault { IfErr result RefusesWords }
+{
+    match Topic::of(name) {
+        Some(topic) => Ok(Order::Help { topic: Some(topic) }),
+        None => Err(Status::Usage),
     }
 }
 
