@@ -1,29 +1,24 @@
 -- What a command that prints a text, and reads nothing, comes to.
-use Rattle.std.proofs.Common.{◌≡◌, ◌⊎◌, ℕ, List, [], ◌∷◌, ◌++◌, append-nil, Ok, refl, sym, subst, inl, inr, arith}
+use Rattle.std.proofs.Common.{ℕ, List, append-nil, Ok, refl, sym, subst, inl, inr, arith}
 use Rattle.std.specs.Io.KnownBytes.{Appends}
-use Rattle.std.proofs.KnownBytes.{Appends-nil}
 use Rattle.sd_ports.specs.Bytes.{AppendsPrefix}
 use Rattle.sd_status.specs.declared.status.Status.{Status}
 use Rattle.sd_status.specs.Outside.{Place, Page, outside}
 use Rattle.sd_status.specs.Meant.{value}
 use Rattle.sd_status.specs.Comes.{IsEnding, Comes, ended, exhausted, cut_off, untouched, Follows}
-use Rattle.sd_status.specs.Prints.{PrintsText, PrintsPiece}
+use Rattle.sd_status.specs.Prints.{PrintsPiece}
 use Rattle.sd_status.proofs.Givens.{any_given}
 use Rattle.sd_run_help.specs.Help.{telling}
-
--- a text alone is all that its work prints
-alone : (text : List ℕ) → text ++ [] ≡ text
-alone text = append-nil text
 
 told_comes : (text : List ℕ) (place : Place) (a b : Page) (steps : ℕ) (status : Status) → PrintsPiece text a b status →
     Comes (Ok (telling text)) (outside place a steps) (outside place b steps) status
 told_comes text place a b steps status (inl (inl all)) =
     ended (telling text) refl all.0 (subst IsEnding (sym all.0) tt) (record { files = refl; made = refl })
-    (subst (λ (bytes : List ℕ). Appends a.printed b.printed bytes) (sym (alone text)) all.1)
+    (subst (λ (bytes : List ℕ). Appends a.printed b.printed bytes) (sym (append-nil text)) all.1)
     (record { depot = refl; print = all.2 }) refl
 told_comes text place a b steps status (inl (inr cut)) =
     cut_off (telling text) refl cut.0 (record { files = refl; made = refl })
-    (subst (λ (bytes : List ℕ). AppendsPrefix a.printed b.printed bytes) (sym (alone text)) cut.1) cut.2 refl refl
+    (subst (λ (bytes : List ℕ). AppendsPrefix a.printed b.printed bytes) (sym (append-nil text)) cut.1) cut.2 refl refl
 told_comes text place a b steps status (inr none) =
     subst (λ (page : Page). Comes (Ok (telling text)) (outside place a steps) (outside place page steps) status)
     (sym none.1)

@@ -48,8 +48,10 @@ impl Operand {
         ensures { result.now ≡ meaning_of self }
     {
         match self {
-            Operand::Site => "the site file: the height of the tree, the master secret, PIDs, lengths of periods",
-            Operand::Book => "the book: a line for each command, subscribe LEAF, revoke LEAF or period",
+            Operand::Site =>
+                "the site file: the height of the tree, the master secret, PIDs, lengths of periods",
+            Operand::Book =>
+                "the book: a line for each command, subscribe LEAF, revoke LEAF or period",
             Operand::Accounts => {
                 "the accounts: a line for each change, assign NAME LEAF, drop NAME, restore NAME or period"
             }
@@ -57,7 +59,8 @@ impl Operand {
             Operand::Clear => "a clear transport stream; /dev/stdin for a pipe",
             Operand::Stream => "a transport stream; /dev/stdin for a pipe",
             Operand::Card => "the card of a receiver, as the command card makes it",
-            Operand::Leaves => "the receivers whose cards are pooled: a line for each leaf, ascending",
+            Operand::Leaves =>
+                "the receivers whose cards are pooled: a line for each leaf, ascending",
             Operand::Leaf => "the receiver's number, from 0 to 2^height - 1",
             Operand::Width => "the width of the layers, from 1 to the height",
             Operand::Number => "a number below 2^32, of which the stream is made",

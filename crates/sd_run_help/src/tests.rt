@@ -29,28 +29,53 @@ proved with rattle-kit-13f logic dac8208d650f15bf
 
 /// The lines of `help` that stand at its ends and beside the longest words.
 const LISTED: [(usize, &str); 4] = [
-    (0, "sdca: conditional access for transport streams, by Subset Difference"),
-    (2, "  accounts SITE ACCOUNTS OUT   makes the book of accounts that are kept by name, and reports them"),
-    (3, "  book SITE BOOK COMMANDS OUT  makes a longer book, with more commands at its end"),
-    (14, "  trial SITE BOOK CLEAR        prints what each receiver writes of a broadcast"),
+    (
+        0,
+        "sdca: conditional access for transport streams, by Subset Difference",
+    ),
+    (
+        2,
+        "  accounts SITE ACCOUNTS OUT   makes the book of accounts that are kept by name, and reports them",
+    ),
+    (
+        3,
+        "  book SITE BOOK COMMANDS OUT  makes a longer book, with more commands at its end",
+    ),
+    (
+        14,
+        "  trial SITE BOOK CLEAR        prints what each receiver writes of a broadcast",
+    ),
 ];
 
 #[test]
 fn help_and_version_are_printed(rt: HostRuntime) -> Result<(), AllocError> {
     let alloc = rt.alloc();
-    let mut page = paper(alloc)?;
-    assert!(rt; help(alloc, &mut page, Topic::of("tables")).is_ok());
+    let page = told(alloc, Topic::of("tables"))?;
     assert_eq!(rt; page.bytes(), TABLES.as_bytes());
-    let mut list = paper(alloc)?;
-    assert!(rt; help(alloc, &mut list, Topic::of("Tables")).is_ok());
+    let list = told(alloc, Topic::of("Tables"))?;
     for (place, line) in LISTED {
-        let found = list.bytes().split(|byte| *byte == b'\n').nth(place);
-        assert!(rt; found == Some(line.as_bytes()));
+        assert!(rt; has_line(list.bytes(), place, line.as_bytes()));
     }
     let mut about = paper(alloc)?;
-    assert!(rt; version(&mut about).is_ok());
+    assert_eq!(rt; version(&mut about), Ok(()));
     assert_eq!(rt; about.bytes(), VERSION.as_bytes());
     Ok(())
+}
+
+/// What help prints.
+fn told(alloc: Global, topic: Option<Topic>) -> Result<MemSink, AllocError> {
+    let mut sink = paper(alloc)?;
+    match help(alloc, &mut sink, topic) {
+        Ok(()) => Ok(sink),
+        Err(_) => Err(AllocError),
+    }
+}
+
+fn has_line(text: &[u8], place: usize, line: &[u8]) -> bool {
+    match text.split(|byte| *byte == b'\n').nth(place) {
+        Some(found) => found == line,
+        None => false,
+    }
 }
 
 fn paper(alloc: Global) -> Result<MemSink, AllocError> {

@@ -92,7 +92,12 @@ impl Topic {
     {
         match self {
             Topic::Accounts => &[Operand::Site, Operand::Accounts, Operand::Out],
-            Topic::Book => &[Operand::Site, Operand::Book, Operand::Commands, Operand::Out],
+            Topic::Book => &[
+                Operand::Site,
+                Operand::Book,
+                Operand::Commands,
+                Operand::Out,
+            ],
             Topic::Card => &[Operand::Site, Operand::Leaf, Operand::Out],
             Topic::Cover => &[Operand::Site, Operand::Book],
             Topic::Head => &[Operand::Site, Operand::Book, Operand::Clear, Operand::Out],
