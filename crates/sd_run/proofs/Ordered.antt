@@ -20,8 +20,9 @@ use Rattle.sd_run_lcard.proofs.Others.{other_lcard}
 use Rattle.sd_run_opens.proofs.Others.{other_opens}
 use Rattle.sd_run_trace.proofs.Others.{other_trace}
 use Rattle.sd_run_trial.proofs.Others.{other_trial}
+use Rattle.sd_run_help.proofs.Others.{other_help, other_version}
 use Rattle.sd_words.specs.Words.{Order, CoverOf, CardOf, SampleOf, TablesOf, HeadOf, ReceiveOf, order_of}
-use Rattle.sd_words.specs.Words.{AccountsOf, BookOf, LayeredOf, LcardOf, OpensOf, TraceOf, TrialOf}
+use Rattle.sd_words.specs.Words.{AccountsOf, BookOf, LayeredOf, LcardOf, OpensOf, TraceOf, TrialOf, HelpOf, VersionOf}
 use Rattle.sd_words.specs.Orders.{RefusesWords}
 use Rattle.sd_run.specs.Meaning.{order_meaning, meaning}
 
@@ -89,6 +90,8 @@ other_order (LcardOf site leaf width out) given = other_lcard site leaf width ou
 other_order (OpensOf site book leaves) given = other_opens site book leaves given
 other_order (TraceOf site book leaves) given = other_trace site book leaves given
 other_order (TrialOf site book clear) given = other_trial site book clear given
+other_order (HelpOf topic) given = other_help topic given
+other_order VersionOf given = other_version given
 
 other_is : {A : Type 0} (r : Result A Status) → IsOther r → r ≡ Err Usage → ⊥
 other_is (Ok x) h e = absurd (cc)

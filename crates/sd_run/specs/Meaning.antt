@@ -3,7 +3,7 @@ use Rattle.std.specs.Prelude.{List, ℕ}
 use Rattle.sd_status.specs.Meant.{Meant, Given, judged, ◌>>=◌}
 use Rattle.sd_status.specs.Work.{Work}
 use Rattle.sd_words.specs.Words.{Order, CoverOf, CardOf, SampleOf, TablesOf, HeadOf, ReceiveOf, order_of}
-use Rattle.sd_words.specs.Words.{AccountsOf, BookOf, LayeredOf, LcardOf, OpensOf, TraceOf, TrialOf}
+use Rattle.sd_words.specs.Words.{AccountsOf, BookOf, LayeredOf, LcardOf, OpensOf, TraceOf, TrialOf, HelpOf, VersionOf}
 use Rattle.sd_run_cover.specs.Cover.{cover_meaning}
 use Rattle.sd_run_card.specs.Card.{card_meaning}
 use Rattle.sd_run_sample.specs.Sample.{sample_meaning}
@@ -17,6 +17,7 @@ use Rattle.sd_run_lcard.specs.Lcard.{lcard_meaning}
 use Rattle.sd_run_opens.specs.Opens.{opens_meaning}
 use Rattle.sd_run_trace.specs.Trace.{trace_meaning}
 use Rattle.sd_run_trial.specs.Trial.{trial_meaning}
+use Rattle.sd_run_help.specs.Help.{help_meaning, version_meaning}
 
 -- the work of an order
 abbrev pub order_meaning : Order → Given → Meant Work
@@ -33,6 +34,8 @@ order_meaning (LcardOf site leaf width out) given = lcard_meaning site leaf widt
 order_meaning (OpensOf site book leaves) given = opens_meaning site book leaves given
 order_meaning (TraceOf site book leaves) given = trace_meaning site book leaves given
 order_meaning (TrialOf site book clear) given = trial_meaning site book clear given
+order_meaning (HelpOf topic) given = help_meaning topic given
+order_meaning VersionOf given = version_meaning given
 
 -- the work that the words ask for, or the status of their refusal
 abbrev pub meaning : List (List ℕ) → Given → Meant Work

@@ -13,6 +13,7 @@ use sd_ports::{Depot, Sink};
 use sd_run_card::card;
 use sd_run_cover::cover;
 use sd_run_head::head;
+use sd_run_help::{help, version};
 use sd_run_layered::layered;
 use sd_run_lcard::lcard;
 use sd_run_opens::opens;
@@ -128,5 +129,7 @@ fn work<D: Depot, P: Sink, L: Ledger>(
         Order::Opens { site, book, leaves } => opens(alloc, depot, print, site, book, leaves),
         Order::Trace { site, book, leaves } => trace(alloc, depot, print, site, book, leaves),
         Order::Trial { site, book, clear } => trial(alloc, depot, print, site, book, clear, steps),
+        Order::Help { topic } => help(alloc, print, topic),
+        Order::Version => version(print),
     }
 }

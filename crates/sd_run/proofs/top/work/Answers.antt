@@ -1,4 +1,4 @@
-use Rattle.sd_status.specs.Outside.{page}
+use Rattle.sd_status.specs.Outside.{page, place}
 use Rattle.sd_run.proofs.top.work.Goals as goal
 
 pub returns-in-Cover : goal.returns-in-Cover
@@ -39,3 +39,9 @@ returns-in-Trace g c = rw c.in-Trace.is (c.trace.ensures c.args.steps.now)
 
 pub returns-in-Trial : goal.returns-in-Trial
 returns-in-Trial g c = rw c.in-Trial.is c.trial.ensures
+
+pub returns-in-Help : goal.returns-in-Help
+returns-in-Help g c = rw c.in-Help.is (c.help.ensures (place g.D.Depot c.args.depot.now) c.args.steps.now)
+
+pub returns-in-Version : goal.returns-in-Version
+returns-in-Version g c = rw c.in-Version.is (c.version.ensures (place g.D.Depot c.args.depot.now) c.args.steps.now)
