@@ -1,0 +1,190 @@
+ghost use Rattle.std.specs.Prelude.{◌≡◌, ◌<◌};
+
+use sd_ports::{Depot, MemDepot, MemSink, Sink};
+use sd_run::run;
+use sd_status::Status;
+use sd_steps::Steps;
+use std::alloc::{AllocError, Global};
+use std::marker::Brand;
+use std::sync::ledger::{Blank, Ledger};
+
+/// The files of examples/: site.txt, accounts.txt, pooled.txt and pair.txt.
+const FILES: [(&str, &str); 4] = [
+    ("site", SITE),
+    ("accounts", "assign ann 5\nassign bob 2\nperiod\ndrop ann\n"),
+    ("pooled", "5\n"),
+    ("pair", "1\n6\n"),
+];
+
+const SITE: &str = "height 3
+master 000102030405060708090a0b0c0d0e0f101112131415161718191a1b1c1d1e1f
+ca 1234
+emm 496
+ecm 497
+ecm-every 200
+crypto-ecms 2
+period-cryptos 1
+";
+
+const REPORT: &str =
+    r#"{"accounts":[{"active":false,"leaf":5,"name":"ann"},{"active":true,"leaf":2,"name":"bob"}],"height":3,"period":1}
+"#;
+
+/// The bytes of a packet, and how many packets are clear, and of them of period 0.
+const PACKET: usize = 188;
+
+const CLEAR: usize = 600;
+
+const FIRST: usize = 400;
+
+/// The room for a file, and how many bytes are read and written at a time.
+const ROOM: usize = 131_072;
+
+const PIECE: usize = 65_536;
+
+/// The packet of the broadcast that is lost: the one of clear packet 7, after a CAT, a section and a message.
+const LOST: usize = 10;
+
+#[test]
+fn a_day_goes_as_told(rt: HostRuntime) -> Result<(), AllocError> {
+    let alloc = rt.alloc();
+    let ann = Status::Revoked { leaf: 5, period: 1 };
+    let steps: [(&str, Status, &str); 8] = [
+        ("accounts site accounts book", Status::Done, REPORT),
+        (
+            "cover site book",
+            Status::Done,
+            "period 0 revoked 0 sets 1\nall\nperiod 1 revoked 1 sets 1\n1 13\n",
+        ),
+        ("card site 5 card-ann", Status::Done, ""),
+        ("card site 2 card-bob", Status::Done, ""),
+        ("sample 7 600 clear", Status::Done, ""),
+        ("head site book clear broadcast", Status::Done, ""),
+        ("receive card-bob broadcast bob", Status::Done, ""),
+        (
+            "receive card-ann broadcast ann",
+            ann,
+            "receiver 5 is revoked in period 1\n",
+        ),
+    ];
+    let mut depot = shelf(alloc)?;
+    for (words, status, printed) in steps {
+        assert!(rt; comes(alloc, &mut depot, words, status, printed)?);
+    }
+    let clear = file(alloc, &depot, "clear")?;
+    assert_eq!(rt; clear.len(), CLEAR * PACKET);
+    let bob = file(alloc, &depot, "bob")?;
+    assert!(rt; bob.as_slice() == clear.as_slice());
+    let ann = file(alloc, &depot, "ann")?;
+    assert!(rt; clear.get(..FIRST * PACKET) == Some(ann.as_slice()));
+    Ok(())
+}
+
+#[test]
+fn a_lost_packet_is_counted(rt: HostRuntime) -> Result<(), AllocError> {
+    let alloc = rt.alloc();
+    let mut depot = shelf(alloc)?;
+    for words in [
+        "accounts site accounts book",
+        "card site 2 card-bob",
+        "sample 7 600 clear",
+        "head site book clear broadcast",
+    ] {
+        answered(alloc, &mut depot, words)?;
+    }
+    let broadcast = file(alloc, &depot, "broadcast")?;
+    let lossy = without(alloc, &broadcast, LOST)?;
+    depot.put("lossy", lossy).map_err(|_| AllocError)?;
+    assert!(rt;
+        comes(
+            alloc,
+            &mut depot,
+            "receive card-bob lossy bob",
+            Status::Gaps(1),
+            "1 clear packets are missing\n"
+        )?
+    );
+    Ok(())
+}
+
+/// A depot that has the day's files.
+fn shelf(alloc: Global) -> Result<MemDepot, AllocError> {
+    let mut depot = MemDepot::new(alloc, ROOM, PIECE).map_err(|_| AllocError)?;
+    for (name, text) in FILES {
+        depot
+            .put(name, Vec::from_slice(alloc, text.as_bytes())?)
+            .map_err(|_| AllocError)?;
+    }
+    Ok(depot)
+}
+
+/// The bytes of a file, or none where it isn't there.
+fn file(alloc: Global, depot: &MemDepot, name: &str) -> Result<Vec<u8>, AllocError> {
+    match depot.get(name) {
+        Some(bytes) => Vec::from_slice(alloc, bytes),
+        None => Ok(Vec::new(alloc)),
+    }
+}
+
+/// The stream without this packet of it.
+fn without(alloc: Global, stream: &[u8], lost: usize) -> Result<Vec<u8>, AllocError> {
+    let mut rest = Vec::new(alloc);
+    for (number, packet) in stream.chunks(PACKET).enumerate() {
+        if number != lost {
+            rest.extend_from_slice(packet)?;
+        }
+    }
+    Ok(rest)
+}
+
+/// Whether the words come to this status and print this.
+fn comes(
+    alloc: Global,
+    depot: &mut MemDepot,
+    words: &str,
+    status: Status,
+    printed: &str,
+) -> Result<bool, AllocError> {
+    let answer = answered(alloc, depot, words)?;
+    Ok(answer.0 == status && answer.1.as_slice() == printed.as_bytes())
+}
+
+/// What the words come to, and what is printed.
+fn answered(
+    alloc: Global,
+    depot: &mut MemDepot,
+    words: &str,
+) -> Result<(Status, Vec<u8>), AllocError> {
+    let mut list = Vec::new(alloc);
+    for word in words.split(' ') {
+        list.push(String::from_str(alloc, word)?)?;
+    }
+    let mut print = MemSink::new(alloc, 4096, 4096, Vec::new(alloc)).map_err(|_| AllocError)?;
+    let status = uncounted(alloc, &list, depot, &mut print);
+    Ok((status, print.into_bytes()))
+}
+
+/// Runs the words and counts no step.
+fn uncounted<D: Depot, P: Sink>(
+    alloc: Global,
+    words: &[String],
+    depot: &mut D,
+    print: &mut P,
+) -> Status {
+    counted::<D, P, Brand>(alloc, words, depot, print, Blank::new(1))
+}
+
+fn counted<D: Depot, P: Sink, L: Ledger>(
+    alloc: Global,
+    words: &[String],
+    depot: &mut D,
+    print: &mut P,
+    blank: Blank,
+) -> Status
+    requires name { blank.name ≡ L.name }
+    requires parts { blank.parts ≡ L.parts }
+    requires some { 0 < blank.parts }
+{
+    let mut steps = Steps::<L>::new(blank);
+    run(alloc, words, depot, print, &mut steps)
+}
