@@ -7,7 +7,6 @@ use Rattle.std.specs.List.{list_any, range_with_len}
 use Rattle.std.proofs.lemmas.Bool.{cases_eq, cases_lt}
 use Rattle.sd_steiner.proofs.Lists.{found_member}
 use Rattle.sd_trace.specs.Trace.{outside}
-use Rattle.sd_trace.specs.Rounds.{Joined}
 use Rattle.sd_trace.specs.declared.found.Found.{Found}
 use Rattle.sd_trace.specs.Trace.{IsRound}
 use Rattle.sd_trace.proofs.Opening.{is_found}
@@ -83,16 +82,17 @@ not_found xs u none = by (list_any (nat_eq u) xs) refl
 
 -- a leaf of the coalition that is found is one less of those that are left
 pub one_less_left : (d v : ℕ) (coalition old new : List ℕ) → v < 2 ^ d → Contains coalition v → ¬ Contains old v →
-    Joined v old new → length (outside d old coalition) ≡ 1 + length (outside d new coalition)
+    ((u : ℕ) → Contains new u ↔ ((u ≡ v) ⊎ Contains old u)) →
+    length (outside d old coalition) ≡ 1 + length (outside d new coalition)
 one_less_left d v coalition old new leaf member fresh joined =
     filtered_less (λ u. list_any (nat_eq u) coalition && not (list_any (nat_eq u) old))
     (λ u. list_any (nat_eq u) coalition && not (list_any (nat_eq u) new)) v 0 (2 ^ d) (omega arith)
     (omega (arith, leaf))
     (rw (is_found coalition v member, not_found old v fresh) refl)
-    (rw (is_found coalition v member, is_found new v ((joined.members v).1 (inl refl))) refl)
+    (rw (is_found coalition v member, is_found new v ((joined v).1 (inl refl))) refl)
     (λ u apart. ap (λ (b : Bool). list_any (nat_eq u) coalition && not b) (found_alike old new u (
-      λ m. (joined.members u).1 (inr m),
-      λ m. elim ((joined.members u).0 m) [ inl same ↦ absurd (apart same) | inr before ↦ before ],
+      λ m. (joined u).1 (inr m),
+      λ m. elim ((joined u).0 m) [ inl same ↦ absurd (apart same) | inr before ↦ before ],
     )))
 
 -- where all are gone, none is left

@@ -11,3 +11,4 @@ pub mod Leaving
 pub mod Inside
 pub mod Boxes
 pub mod Anyway
+pub mod Listed

@@ -48,7 +48,7 @@ none_at p (x ∷ xs) (suc k) d none within = none_at p xs k d (later (p x) (list
     later false b e = e
 
 -- what the last set that opens among others is behind one more
-opened_later : (d : ℕ) (coalition : List ℕ) (name : SetName) (sets : List SetName) (z : ℕ) →
+pub opened_later : (d : ℕ) (coalition : List ℕ) (name : SetName) (sets : List SetName) (z : ℕ) →
     IsLastOpen d coalition sets z →
     IsLastOpen d coalition (name ∷ sets) (suc z)
 opened_later d coalition name sets z at = record {
@@ -63,7 +63,7 @@ opened_later d coalition name sets z at = record {
     beyond (suc k) above within = at.last k (omega (arith, above)) (omega (arith, within))
 
 -- where none of the others opens, it is the first
-opened_here : (d : ℕ) (coalition : List ℕ) (name : SetName) (sets : List SetName) → has_some d coalition name ≡ true →
+pub opened_here : (d : ℕ) (coalition : List ℕ) (name : SetName) (sets : List SetName) → has_some d coalition name ≡ true →
     list_any (has_some d coalition) sets ≡ false → IsLastOpen d coalition (name ∷ sets) 0
 opened_here d coalition name sets opens none = record {
   within = omega arith;

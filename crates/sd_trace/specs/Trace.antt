@@ -1,17 +1,18 @@
 -- The leaves that a box still opens for, in the order in which they are found [Naor, Naor, Lotspiech 2001, 5].
-use Rattle.std.specs.Prelude.{◌≡◌, ◌&&◌, not, nat_eq, filter, ℕ, ◌+◌, ◌-◌, ◌*◌, ◌^◌, ◌<◌, ◌≤◌, max, List, [], ◌∷◌}
-use Rattle.std.specs.Prelude.{Contains, length, get_or}
+use Rattle.std.specs.Prelude.{◌≡◌, ◌&&◌, not, nat_eq, filter, ℕ, zero, suc, ◌+◌, ◌-◌, ◌*◌, ◌^◌, ◌<◌, ◌≤◌, max, List, []}
+use Rattle.std.specs.Prelude.{◌∷◌, Contains, length, get_or, Option, Some, None, if◌then◌else◌}
 use Rattle.std.specs.List.{list_any}
+use Rattle.std.specs.Option.{option_map_or}
 use Rattle.sd_tree.specs.Leaves.{leaves}
+use Rattle.sd_tree.specs.declared.set.SetName.{SetName}
 use Rattle.sd_tree.specs.declared.set.SetName.TheVariants.{Whole}
 use Rattle.sd_steiner.specs.Cover.{cover_of}
 use Rattle.sd_trace.specs.declared.found.Found.{Found}
-use Rattle.sd_trace.specs.Halves.{narrowed}
+use Rattle.sd_trace.specs.Halves.{has_some, narrowed}
 use Rattle.sd_trace.specs.Search.{halvings, IsLastOpen}
 
 -- What one round finds where these leaves are revoked or found: of the cover's sets the last that opens is cut down to
--- a
--- leaf [Naor, Naor, Lotspiech 2001, 5; this project, docs/FORMATS.md, Tracing].
+-- a leaf [Naor, Naor, Lotspiech 2001, 5; this project, docs/FORMATS.md, Tracing].
 pub record IsRound (d : ℕ) (coalition gone : List ℕ) (found : Found) : Type 0 where
   pub place : ℕ
   pub opened : IsLastOpen d coalition (cover_of d gone) place
@@ -48,3 +49,28 @@ pub record IsCheap (d n : ℕ) (found : Found) : Type 0 where
   pub splits : found.splits ≤ d
   pub trials : found.splits + 1 ≤ found.trials
   pub turns : 2 ^ (found.trials - found.splits - 1) < 2 * max 1 (2 * n - 1)
+
+-- the place of the last set with a leaf of the coalition
+unfoldable pub last_open : ℕ → List ℕ → List SetName → Option ℕ
+last_open d coalition [] = None
+last_open d coalition (name ∷ sets) =
+    option_map_or (λ z. Some (suc z)) (last_open d coalition sets) (if has_some d coalition name then Some 0 else None)
+
+-- what is found where the set at place z is cut down to a leaf: by one probe of all sets, the halvings that lead to the
+-- place, and the cuts [Naor, Naor, Lotspiech 2001, 5; this project, docs/FORMATS.md, Tracing]
+unfoldable pub found_at : ℕ → List ℕ → List SetName → ℕ → Found
+found_at d coalition sets z =
+    let cut = narrowed d coalition d (get_or sets z Whole) in
+    record { leaf = cut.0; trials = 1 + halvings (length sets) 0 (length sets) z + cut.1; splits = cut.1 }
+
+-- what is found in so many rounds where these leaves are revoked or found, as long as a set opens
+unfoldable pub found_in : ℕ → List ℕ → List ℕ → ℕ → List Found
+found_in d coalition gone zero = []
+found_in d coalition gone (suc rounds) =
+    option_map_or (λ z. found_at d coalition (cover_of d gone) z
+    ∷ found_in d coalition ((found_at d coalition (cover_of d gone) z).leaf ∷ gone) rounds)
+    (last_open d coalition (cover_of d gone)) []
+
+-- the trace of a coalition: a round for each of its leaves that isn't revoked [this project, docs/FORMATS.md, Tracing]
+abbrev pub trace_of : ℕ → List ℕ → List ℕ → List Found
+trace_of d coalition revoked = found_in d coalition revoked (length (outside d revoked coalition))

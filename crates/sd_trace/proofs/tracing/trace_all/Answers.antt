@@ -105,6 +105,6 @@ loop-found-preserved g c =
       left = λ coalition told.
           let here = round_inside h coalition gone next c.round.ensures.tree.0 c.round.ensures.tree.1 i.leaves
           (told_round coalition told) in
-          let less = one_less_left h next.leaf coalition gone new here.0 here.1 here.2 joined in
+          let less = one_less_left h next.leaf coalition gone new here.0 here.1 here.2 joined.members in
           omega (arith, i.left coalition told, less, count);
     }

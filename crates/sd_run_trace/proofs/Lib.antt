@@ -1,0 +1,4 @@
+pub mod Tracing
+pub mod Telling
+pub mod Coalition
+pub mod Others

@@ -1,0 +1,55 @@
+-- `trace SITE BOOK LEAVES` [this project, docs/FORMATS.md, Tracing].
+use Rattle.std.specs.Prelude.{ℕ, ◌+◌, nat_lt, false, List, [], ◌∷◌, ◌++◌, length, codes, if◌then◌else◌, None, Result}
+use Rattle.std.specs.Prelude.{Ok, Err}
+use Rattle.std.specs.List.{flat_map}
+use Rattle.std.specs.Fmt.{decimal}
+use Rattle.sd_tree.specs.declared.leaf.TheConstants.{MOST_REVOKED}
+use Rattle.sd_book.specs.declared.command.Command.{Command}
+use Rattle.sd_book.specs.Commands.{last_period, revoked}
+use Rattle.sd_trace.specs.declared.found.Found.{Found}
+use Rattle.sd_trace.specs.Trace.{outside, trace_of}
+use Rattle.sd_status.specs.declared.status.Status.{Status}
+use Rattle.sd_status.specs.declared.status.Status.TheVariants.{Done, Limit}
+use Rattle.sd_status.specs.declared.status.LimitKind.TheVariants.{Traced}
+use Rattle.sd_status.specs.Meant.{Meant, Word, Given, value, judged, ◌>>=◌}
+use Rattle.sd_status.specs.Work.{NoSteps, Work}
+use Rattle.sd_files.specs.Both.{both_meaning}
+use Rattle.sd_files.specs.Leaves.{leaves_in}
+
+-- the leaves that are revoked in the last period of a book
+abbrev pub revoked_last : ℕ → List Command → List ℕ
+revoked_last d commands = revoked d commands (last_period commands)
+
+-- the line of a leaf that is found
+unfoldable pub found_line : Found → List ℕ
+found_line found =
+    codes "leaf " ++ (decimal found.leaf
+    ++ (codes " trials " ++ (decimal found.trials ++ (codes " splits " ++ (decimal found.splits ++ codes "\n")))))
+
+-- the line of the probe that opens nothing
+abbrev pub silent_line : List ℕ
+silent_line = codes "silent trials 1\n"
+
+-- the lines of all that are found, and of the last probe
+unfoldable pub trace_text : List Found → List ℕ
+trace_text found = flat_map found_line found ++ silent_line
+
+-- What is printed of a coalition's trace in the last period of a book. More leaves that are revoked or of the coalition
+-- than may be revoked are over the limit [this project, docs/FORMATS.md, Tracing].
+unfoldable pub traced : ℕ → List ℕ → List Command → Result (List ℕ) Status
+traced d coalition commands =
+    let gone = revoked_last d commands in
+    if nat_lt MOST_REVOKED (length gone + length (outside d gone coalition)) then Err (Limit Traced)
+    else Ok (trace_text (trace_of d coalition gone))
+
+-- prints this text
+abbrev pub telling : List ℕ → Work
+telling text = record { out = None; pieces = text ∷ []; ends = Done; breaks = false; steps = NoSteps }
+
+-- the work that the three files say
+unfoldable pub trace_meaning : Word → Word → Word → Given → Meant Work
+trace_meaning site book leaves given = do
+  both ← both_meaning site book given
+  coalition ← leaves_in given both.site.height leaves
+  text ← judged (traced both.site.height coalition both.commands)
+  value (telling text)
