@@ -45,15 +45,20 @@ pub fn measured(alloc: Global, work: &str, count: u32) -> Result<Option<u64>, Al
     }
 }
 
-// Numbers of a simple generator.
+/// Numbers of a simple generator.
 #[derive(Drop)]
-struct Draws {
+pub(crate) struct Draws {
     state: u64,
 }
 
 impl Draws {
-    // The next number below the bound.
-    fn next(&mut self, bound: u32) -> u32
+    /// The generator at its start.
+    pub(crate) fn new() -> Draws {
+        Draws { state: 1 }
+    }
+
+    /// The next number below the bound.
+    pub(crate) fn next(&mut self, bound: u32) -> u32
         requires { 0 < bound }
         ensures { result < bound }
     {
@@ -126,7 +131,7 @@ fn counted<L: Ledger>(
     let mut steps = Steps::<L>::new(blank);
     let mut index = CoverIndex::new(alloc, h);
     let mut revoked = Vec::new(alloc);
-    let mut draws = Draws { state: 1 };
+    let mut draws = Draws::new();
     for _ in 0..shape.most {
         let leaf = draws.next(1 << HEIGHT);
         revoke(&mut index, &mut revoked, leaf, &mut steps)?;
@@ -201,7 +206,7 @@ fn by_list(alloc: Global, shape: Shape, sets: bool, count: u32) -> Result<Option
     };
     let mut sorted = Vec::new(alloc);
     let mut revoked = Vec::new(alloc);
-    let mut draws = Draws { state: 1 };
+    let mut draws = Draws::new();
     for _ in 0..shape.most {
         let leaf = draws.next(1 << HEIGHT);
         insert(h, &mut sorted, &mut revoked, leaf)?;
@@ -258,15 +263,15 @@ fn remove(sorted: &mut Vec<Leaf>, revoked: &mut Vec<u32>, place: usize) {
     }
 }
 
-// Whether all of these leaves are of the height.
-fn are_of_height(h: Height, leaves: &[Leaf]) -> bool
+/// Whether all of these leaves are of the height.
+pub(crate) fn are_of_height(h: Height, leaves: &[Leaf]) -> bool
     ensures { IsTrue result → All (λ u. u < 2 ^ h) leaves.now }
 {
     leaves.iter().all(|u| u.get() < h.leaves())
 }
 
-// Whether each of these leaves stands after the one before it.
-fn are_ascending(leaves: &[Leaf]) -> bool
+/// Whether each of these leaves stands after the one before it.
+pub(crate) fn are_ascending(leaves: &[Leaf]) -> bool
     ensures { IsTrue result → IsStrictlyIncreasing leaves.now }
 {
     for k in 1..leaves.len() {

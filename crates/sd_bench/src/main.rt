@@ -6,6 +6,7 @@ ghost use Rattle.std.specs.Prelude.{◌≡◌, length};
 mod covers;
 mod crcs;
 mod emms;
+mod traces;
 
 use sd_bits::fields;
 use sd_packet::{Packet, is_positional};
@@ -44,6 +45,7 @@ fn measured(alloc: Global, words: &[String]) -> Result<Option<u64>, AllocError> 
     match work.as_str() {
         "crcs" => return Ok(Some(crcs::summed(count))),
         "emms" => return emms::searched(alloc, count),
+        "traces" => return traces::traced(alloc, count),
         _ => {}
     }
     if let Some(number) = covers::measured(alloc, work.as_str(), count)? {

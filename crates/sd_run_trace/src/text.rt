@@ -1,11 +1,11 @@
 ghost use Rattle.std.specs.Prelude.{◌≡◌, ◌++◌, IfOk, OnOk, string_bytes};
-ghost use Rattle.sd_run_trace.specs.Trace.{found_line, trace_text as text_of};
+ghost use Rattle.sd_run_trace.specs.Trace.{found_line, silent_line, trace_text as text_of};
 
 use sd_trace::Found;
 use std::alloc::{AllocError, Global};
 use std::fmt::Write;
 
-/// A line for each leaf that was found, and the last one of the round that found none.
+/// A line for each leaf that was found, and that of the probe that opened nothing.
 #[tactic(auto, unfolding(crate::specs::Trace::trace_text))]
 pub(crate) fn trace_text(alloc: Global, found: &[Found]) -> Result<String, AllocError>
     ensures { IfOk result (λ text. string_bytes text ≡ text_of found.now) }
@@ -14,7 +14,7 @@ pub(crate) fn trace_text(alloc: Global, found: &[Found]) -> Result<String, Alloc
     for next in found {
         push_found(&mut text, *next)?;
     }
-    text.push_str("silent trials 1\n")?;
+    push_silent(&mut text)?;
     Ok(text)
 }
 
@@ -27,4 +27,11 @@ fn push_found(text: &mut String, found: Found) -> Result<(), AllocError>
     let trials = found.trials;
     let splits = found.splits;
     write!(text, "leaf {leaf} trials {trials} splits {splits}\n")
+}
+
+/// The line of the probe that opened nothing, after the text.
+fn push_silent(text: &mut String) -> Result<(), AllocError>
+    ensures { OnOk result (string_bytes text.new ≡ string_bytes text.old ++ silent_line) }
+{
+    text.push_str("silent trials 1\n")
 }
