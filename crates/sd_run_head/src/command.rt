@@ -63,7 +63,7 @@ fn read_plan<D: Depot>(
 }
 
 /// Sends what is sent for the clear stream that is left of a source.
-fn send<S: Source, K: Sink, L: Ledger>(
+pub fn send<S: Source, K: Sink, L: Ledger>(
     source: &mut S,
     sink: &mut K,
     head: &mut Head,

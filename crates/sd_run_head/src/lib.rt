@@ -3,7 +3,7 @@
 
 mod command;
 
-pub use command::head;
+pub use command::{head, send};
 
 #[cfg(test)]
 mod tests;

@@ -97,7 +97,7 @@ fn receive_file<D: Depot, L: Ledger>(
 }
 
 /// Writes what the receiver opens of the stream that is left of a source, and answers how the stream ended.
-fn receive_all<S: Source, K: Sink, L: Ledger>(
+pub fn receive_all<S: Source, K: Sink, L: Ledger>(
     source: &mut S,
     sink: &mut K,
     mut receiver: Receiver,

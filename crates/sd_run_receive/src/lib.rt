@@ -3,7 +3,7 @@
 
 mod command;
 
-pub use command::receive;
+pub use command::{receive, receive_all};
 
 #[cfg(test)]
 mod tests;

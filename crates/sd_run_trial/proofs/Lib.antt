@@ -1,0 +1,5 @@
+pub mod Fronts
+pub mod Sending
+pub mod Trying
+pub mod Opened
+pub mod Others

@@ -1,0 +1,165 @@
+-- The lines of a trial.
+use Rattle.std.proofs.Common.{◌≡◌, ℕ, zero, suc, ◌+◌, ◌-◌, ◌^◌, ◌/◌, ◌<◌, Bool, List, length}
+use Rattle.std.proofs.Common.{append-nil, Result, Ok, Err, refl, sym, ap, subst, ◌∙◌, inl, inr, arith}
+use Rattle.std.specs.Io.KnownBytes.{Appends}
+use Rattle.std.proofs.KnownBytes.{Appends-nil}
+use Rattle.sd_site.specs.Fields.{SiteFields}
+use Rattle.sd_card.specs.Fields.{CardFields, card_of}
+use Rattle.sd_broadcast.specs.Plan.{Plan}
+use Rattle.sd_run_head.specs.Head.{sent_of, sent_status}
+use Rattle.sd_run_receive.specs.Receive.{received_of}
+use Rattle.sd_ports.specs.Bytes.{Front, AppendsPrefix}
+use Rattle.sd_status.specs.declared.status.Status.{Status}
+use Rattle.sd_status.specs.Outside.{Place, Page, outside}
+use Rattle.sd_status.specs.Meant.{value}
+use Rattle.sd_status.specs.Comes.{IsEnding, untouched, ended, exhausted, cut_off, Obeys}
+use Rattle.sd_status.specs.Prints.{PrintsText}
+use Rattle.sd_run_trial.specs.Trial.{Adds, Comes, HasHeard, HasSent, card_line, clear_line, lines_of, lines_to}
+use Rattle.sd_run_trial.specs.Trial.{printing, receiver_line, sent_or, then_line, told_line, told_sent, trial_text}
+
+-- The loop over the leaves.
+
+-- the first line
+pub first_text : (site : SiteFields) (bytes first text : List ℕ) → text ≡ first → lines_to site bytes first 0 ≡ Ok text
+unfolding lines_to
+first_text site bytes first text is = ap Ok (sym is)
+
+-- the lines so far, and the next
+pub next_line : (site : SiteFields) (bytes first text more : List ℕ) (u : ℕ) → lines_to site bytes first u ≡ Ok text →
+    Adds (receiver_line site bytes u) text more (Ok tt) → lines_to site bytes first (u + 1) ≡ Ok more
+unfolding lines_to
+next_line site bytes first text more u so_far adds =
+    let next : u + 1 ≡ suc u = omega arith in
+    ap (lines_to site bytes first) next
+    ∙ (ap (λ (r : Result (List ℕ) Status). then_line r (receiver_line site bytes u)) so_far ∙ adds)
+
+-- a status that has no line stays
+stays : (site : SiteFields) (bytes first : List ℕ) (u n : ℕ) (status : Status) →
+    lines_to site bytes first u ≡ Err status → lines_to site bytes first (u + n) ≡ Err status
+unfolding lines_to
+stays site bytes first u zero status is =
+    let same : u + 0 ≡ u = omega arith in ap (lines_to site bytes first) same ∙ is
+stays site bytes first u (suc n) status is =
+    let next : u + suc n ≡ suc (u + n) = omega arith in
+    ap (lines_to site bytes first) next
+    ∙ ap (λ (r : Result (List ℕ) Status). then_line r (receiver_line site bytes (u + n)))
+    (stays site bytes first u n status is)
+
+unlined : (site : SiteFields) (bytes first text : List ℕ) (u : ℕ) (status : Status) →
+    lines_to site bytes first u ≡ Ok text → receiver_line site bytes u ≡ Err status →
+    lines_to site bytes first (u + 1) ≡ Err status
+unfolding lines_to
+unlined site bytes first text u status so_far is =
+    let next : u + 1 ≡ suc u = omega arith in
+    ap (lines_to site bytes first) next
+    ∙ (ap (λ (r : Result (List ℕ) Status). then_line r (receiver_line site bytes u)) so_far
+    ∙ ap (then_line (Ok text)) is)
+
+-- the lines stop at a leaf that has none, or for want of memory
+pub line_stopped : {X : Type 0} (view : X → List ℕ) (site : SiteFields) (bytes first text more : List ℕ) (u leaves : ℕ)
+    (status : Status) → lines_to site bytes first u ≡ Ok text → u < leaves →
+    Adds (receiver_line site bytes u) text more (Err status) →
+    Comes view (lines_to site bytes first leaves) (Err status)
+line_stopped view site bytes first text more u leaves status so_far inside (inl told) =
+    let all : leaves ≡ (u + 1) + (leaves - (u + 1)) = omega (arith, inside) in
+    inl (
+      ap (lines_to site bytes first) all
+          ∙ stays site bytes first (u + 1) (leaves - (u + 1)) status
+          (unlined site bytes first text u status so_far told.0),
+      told.1,
+    )
+line_stopped view site bytes first text more u leaves status so_far inside (inr out) = inr out
+
+-- the line of a receiver by what it wrote and how it ended
+pub heard_as : (site : SiteFields) (bytes : List ℕ) (u wrote : ℕ) (card : CardFields) (status : Status)
+    (before now : List ℕ) (result : Result (Unit {0}) Status) →
+    card ≡ card_of site.master site.ca site.height u → HasHeard card bytes wrote status →
+    Adds (told_line u (wrote / 188) status) before now result → Adds (receiver_line site bytes u) before now result
+unfolding receiver_line
+heard_as site bytes u wrote card status before now result is heard adds =
+    subst (λ (c : CardFields). Adds (card_line u c bytes) before now result) is
+    (subst (λ (line : Result (List ℕ) Status). Adds line before now result)
+    (ap (λ (n : ℕ). told_line u (n / 188) status) heard.wrote_is
+    ∙ ap (told_line u (length (received_of card bytes) / 188)) heard.status_is) adds)
+
+-- All of it.
+
+-- the broadcast by what was sent and how the head end ended
+pub told_as : {X : Type 0} (view : X → List ℕ) (plan : Plan) (front : Front) (bytes sent : List ℕ) (status : Status)
+    (more : Bool) (result : Result X Status) → HasSent plan bytes sent status → bytes ≡ front.bytes →
+    more ≡ front.more → Comes view (sent_or status more sent) result → Comes view (told_sent plan front) result
+unfolding told_sent
+told_as view plan front bytes sent status more result h same over comes =
+    subst (λ (r : Result (List ℕ) Status). Comes view r result)
+    (ap (λ (s : Status). sent_or s more sent) (h.status_is ∙ ap (sent_status plan) same)
+    ∙ ap (λ (m : Bool). sent_or (sent_status plan front.bytes) m sent) over
+    ∙ ap (sent_or (sent_status plan front.bytes) front.more) (h.sent_are ∙ ap (sent_of plan) same)) comes
+
+-- what ends before the receivers are run
+pub sent_stopped : {X Y : Type 0} (view : X → List ℕ) (other : Y → List ℕ) (plan : Plan) (front : Front)
+    (status : Status) →
+    Comes view (told_sent plan front) (Err status) → Comes other (trial_text plan front) (Err status)
+unfolding trial_text
+sent_stopped view other plan front status (inl told) = inl (ap (lines_of plan _) told.0, told.1)
+sent_stopped view other plan front status (inr out) = inr out
+
+-- and what the receivers come to
+pub receivers_run : {X : Type 0} (view : X → List ℕ) (plan : Plan) (front : Front) (sent : List ℕ)
+    (result : Result X Status) → told_sent plan front ≡ Ok sent →
+    Comes view (lines_to plan.site sent (clear_line (length front.bytes / 188) (length sent / 188))
+    (2 ^ plan.site.height)) result →
+    Comes view (trial_text plan front) result
+unfolding trial_text
+receivers_run view plan front sent result is comes =
+    subst (λ (r : Result (List ℕ) Status). Comes view (lines_of plan (length front.bytes) r) result) (sym is) comes
+
+-- a text, and then its printing
+pub text_printed : (text : List ℕ) (q : Place) (page now : Page) (steps more : ℕ) (status : Status) →
+    PrintsText text page now status →
+    Obeys (value (printing (Ok text))) (outside q page steps) (outside q now more) status
+text_printed text q page now steps more status (inl all) = record {
+  comes = ended (printing (Ok text)) refl all.0 (subst IsEnding (sym all.0) tt) (record { files = refl; made = refl })
+      (subst (λ (xs : List ℕ). Appends page.printed now.printed xs) (sym (append-nil text)) all.1)
+      (record { depot = refl; print = all.2 }) refl;
+  ports = refl;
+  calls = omega arith;
+  steps = tt;
+}
+text_printed text q page now steps more status (inr cut) = record {
+  comes = cut_off (printing (Ok text)) refl cut.0 (record { files = refl; made = refl })
+      (subst (λ (xs : List ℕ). AppendsPrefix page.printed now.printed xs) (sym (append-nil text)) cut.1) cut.2
+      refl refl;
+  ports = refl;
+  calls = omega arith;
+  steps = tt;
+}
+
+-- no text
+pub nothing_printed : {X : Type 0} (view : X → List ℕ) (meant : Result (List ℕ) Status) (q : Place) (page : Page)
+    (steps more : ℕ) (status : Status) → Comes view meant (Err status) →
+    Obeys (value (printing meant)) (outside q page steps) (outside q page more) status
+nothing_printed view meant q page steps more status (inl told) =
+    subst (λ (r : Result (List ℕ) Status). Obeys (value (printing r)) (outside q page steps) (outside q page more)
+    status)
+    (sym told.0)
+    (record {
+      comes = ended (printing (Err status)) refl refl told.1 (record { files = refl; made = refl })
+          (Appends-nil page.printed) (record { depot = refl; print = refl }) refl;
+      ports = refl;
+      calls = omega arith;
+      steps = tt;
+    })
+nothing_printed view (Ok text) q page steps more status (inr out) = record {
+  comes = exhausted out (untouched (record { files = refl; made = refl }) refl) (record { depot = refl; print = refl })
+      refl;
+  ports = refl;
+  calls = omega arith;
+  steps = tt;
+}
+nothing_printed view (Err other) q page steps more status (inr out) = record {
+  comes = exhausted out (untouched (record { files = refl; made = refl }) refl) (record { depot = refl; print = refl })
+      refl;
+  ports = refl;
+  calls = omega arith;
+  steps = tt;
+}

@@ -1,0 +1,60 @@
+ghost use Rattle.std.specs.Prelude.{◌≡◌, ◌≢◌, string_bytes};
+ghost use Rattle.sd_entitling.specs.Kept.{plan_of};
+ghost use Rattle.sd_status.specs.Outside.{outside, page, place};
+ghost use Rattle.sd_status.specs.Comes.{Follows, status_of};
+ghost use Rattle.sd_files.specs.Shown.{shown_word};
+ghost use Rattle.sd_run_trial.specs.Trial.{Comes, trial_meaning, trial_text};
+
+use crate::front::read_front;
+use crate::lines::lines;
+use crate::plan::read_plan;
+use crate::send::sent_for;
+use sd_book::Book;
+use sd_files::{Word, print_text};
+use sd_ports::{Depot, Sink, Taken};
+use sd_site::Site;
+use sd_status::Status;
+use sd_steps::Steps;
+use std::alloc::Global;
+use std::sync::ledger::Ledger;
+
+/// As many bytes as a clear stream may have: those of 65,536 packets.
+pub const MOST_CLEAR_BYTES: usize = 12_320_768;
+
+/// Does `trial SITE BOOK CLEAR`. The lines are made before the first is printed. Besides the book and the room for the
+/// broadcast it holds the clear stream, and one receiver at a time with what that writes: less than 64 MiB.
+pub fn trial<D: Depot, P: Sink, L: Ledger>(
+    alloc: Global,
+    depot: &mut D,
+    print: &mut P,
+    site: Word<'_>,
+    book: Word<'_>,
+    clear: Word<'_>,
+    steps: &mut Steps<L>,
+) -> Result<(), Status>
+    requires { (site.number ≢ book.number) × (site.number ≢ clear.number) × (book.number ≢ clear.number) }
+    ensures { Follows (trial_meaning (shown_word site.entry) (shown_word book.entry) (shown_word clear.entry))
+        (outside (place D.Depot depot.old) (page P.Sink print.old) steps.old)
+        (outside (place D.Depot depot.new) (page P.Sink print.new) steps.new) (status_of result) }
+{
+    let (site, book) = read_plan(alloc, depot, site, book)?;
+    let front = read_front(alloc, depot, clear, MOST_CLEAR_BYTES)?;
+    let text = text_of(alloc, site, book, &front, steps)?;
+    print_text(print, text.as_bytes())
+}
+
+/// The lines of a trial.
+fn text_of<L: Ledger>(
+    alloc: Global,
+    site: Site,
+    book: Book,
+    front: &Taken,
+    steps: &mut Steps<L>,
+) -> Result<String, Status>
+    requires { book.height ≡ site.height }
+    ensures { Comes (λ text. string_bytes text) (trial_text (plan_of site book) front.now) result }
+{
+    let clear = front.bytes().len();
+    let sent = sent_for(alloc, site, book, front, steps)?;
+    lines(alloc, &site, clear, &sent, steps)
+}

@@ -1,0 +1,35 @@
+ghost use Rattle.std.specs.Prelude.{◌≡◌, [], IfOk};
+ghost use Rattle.sd_receive.specs.Receiving.{IsAfter, card_in};
+ghost use Rattle.sd_run_trial.specs.Trial.{HasHeard};
+
+use crate::lent::Lent;
+use crate::send::{settled, wants_memory};
+use sd_cause::NoMemory;
+use sd_ports::MemSink;
+use sd_receive::Receiver;
+use sd_run_receive::receive_all;
+use sd_status::Status;
+use sd_steps::Steps;
+use std::alloc::Global;
+use std::sync::ledger::Ledger;
+
+/// How many bytes a receiver writes that is given these, for which it has so much room, and the status that it ends
+/// with.
+pub fn hear<L: Ledger>(
+    alloc: Global,
+    receiver: Receiver,
+    sent: &[u8],
+    room: usize,
+    steps: &mut Steps<L>,
+) -> Result<(usize, Status), NoMemory>
+    requires new { IsAfter [] receiver }
+    ensures { IfOk result (λ heard. HasHeard (card_in receiver) sent.now heard.0 heard.1) }
+{
+    let mut sink = MemSink::new(alloc, room, usize::MAX, Vec::new(alloc))?;
+    let mut source = Lent::new(sent);
+    let status = settled(receive_all(&mut source, &mut sink, receiver, steps));
+    if wants_memory(status) {
+        return Err(NoMemory);
+    }
+    Ok((sink.bytes().len(), status))
+}

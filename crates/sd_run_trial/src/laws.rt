@@ -1,0 +1,34 @@
+//! What a trial prints is what the theorems on the head end and the receiver say.
+
+ghost use Rattle.std.specs.Prelude.{◌≡◌, ◌^◌, ◌≤◌, ℕ, List, Some, Ok, false, length};
+ghost use Rattle.sd_ports.specs.Bytes.{Front};
+ghost use Rattle.sd_engine.specs.Taken.{Whole, taken_of, end_of};
+ghost use Rattle.sd_broadcast.specs.Plan.{Plan, IsPlan};
+ghost use Rattle.sd_broadcast.specs.Refused.{IsClear};
+ghost use Rattle.sd_whole.specs.Synced.{AreBytes};
+ghost use Rattle.sd_status.specs.Meant.{Word, Given};
+ghost use Rattle.sd_run_trial.specs.declared.command.TheConstants.{MOST_CLEAR_BYTES};
+ghost use Rattle.sd_run_trial.specs.Trial.{plan_meaning, printing, trial_meaning, trial_text};
+ghost use Rattle.sd_run_trial.specs.Opened.{opened_lines};
+
+/// `trial SITE BOOK CLEAR` over a site and a book within the limits, and a clear stream of packets of which none is
+/// refused, means that these lines are printed, and is done: how many packets the stream and its broadcast have, and of
+/// each leaf's receiver how many it writes, those of the periods in which the leaf isn't revoked, and the first period
+/// of the broadcast in which it is. No receiver ends otherwise.
+#[tactic(auto, using(crate::proofs::Opened::trial_good))]
+pub fn good_trials_print_what_is_opened()
+    ensures { (site book clear : Word) (given : Given) (plan : Plan) (bytes : List ℕ) → IsPlan plan →
+        (plan_meaning site book given).result ≡ Ok plan → given clear ≡ Some bytes → length bytes ≤ MOST_CLEAR_BYTES →
+        AreBytes bytes → end_of bytes ≡ Whole → IsClear plan.site (taken_of bytes) →
+        (trial_meaning site book clear given).result
+        ≡ Ok (printing (Ok (opened_lines plan (taken_of bytes) (2 ^ plan.site.height)))) }
+{}
+
+/// A trial that prints lines took all of a clear stream of packets of which none is refused, and the lines are those.
+#[tactic(auto, using(crate::proofs::Opened::trial_done))]
+pub fn done_trials_print_what_is_opened()
+    ensures { (plan : Plan) (front : Front) (text : List ℕ) → IsPlan plan → AreBytes front.bytes →
+        trial_text plan front ≡ Ok text →
+        (end_of front.bytes ≡ Whole) × IsClear plan.site (taken_of front.bytes) × (front.more ≡ false)
+        × (text ≡ opened_lines plan (taken_of front.bytes) (2 ^ plan.site.height)) }
+{}

@@ -1,0 +1,82 @@
+ghost use Rattle.std.specs.Prelude.{◌≡◌, ◌^◌, ◌<◌, ◌/◌, string_bytes, length, IfOk};
+ghost use Rattle.sd_site.specs.Fields.{fields_of};
+ghost use Rattle.sd_status.specs.Comes.{IsEnding};
+ghost use Rattle.sd_run_trial.specs.Trial.{Adds, Comes, clear_line, lines_to, receiver_line, told_line};
+
+use crate::hear::hear;
+use crate::send::SIZE;
+use sd_card::Card;
+use sd_receive::Receiver;
+use sd_site::Site;
+use sd_status::Status;
+use sd_steps::Steps;
+use sd_tree::Leaf;
+use std::alloc::{AllocError, Global};
+use std::fmt::Write;
+use std::sync::ledger::Ledger;
+
+/// The line of a clear stream of so many bytes and its broadcast, and then that of each leaf's receiver. The receivers
+/// are made and run one after the other, each of at most 1 MB, with room for as many bytes as the clear stream has.
+pub fn lines<L: Ledger>(
+    alloc: Global,
+    site: &Site,
+    clear: usize,
+    sent: &[u8],
+    steps: &mut Steps<L>,
+) -> Result<String, Status>
+    ensures { Comes (λ text. string_bytes text)
+        (lines_to (fields_of site.now) sent.now (clear_line (clear / 188) (length sent.now / 188))
+        (2 ^ site.now.height)) result }
+{
+    let mut text = first_line(alloc, clear / SIZE, sent.len() / SIZE)?;
+    for u in 0..site.height.leaves() {
+        push_receiver(alloc, &mut text, site, u, clear, sent, steps)?;
+    }
+    Ok(text)
+}
+
+/// The line of a clear stream and its broadcast of so many packets.
+#[tactic(auto, unfolding(crate::specs::Trial::clear_line))]
+fn first_line(alloc: Global, clear: usize, sent: usize) -> Result<String, AllocError>
+    ensures { IfOk result (λ text. string_bytes text ≡ clear_line clear sent) }
+{
+    format!(in alloc; "clear {clear} broadcast {sent}\n")
+}
+
+/// Puts the line of leaf u's receiver behind the text, which has so much room for what it writes.
+fn push_receiver<L: Ledger>(
+    alloc: Global,
+    text: &mut String,
+    site: &Site,
+    u: u32,
+    room: usize,
+    sent: &[u8],
+    steps: &mut Steps<L>,
+) -> Result<(), Status>
+    requires { u < 2 ^ site.now.height }
+    ensures { Adds (receiver_line (fields_of site.now) sent.now u) (string_bytes text.old) (string_bytes text.new)
+        result }
+{
+    let Some(leaf) = Leaf::new(site.height, u) else {
+        unreachable!();
+    };
+    let card = Card::make(alloc, site, leaf, steps)?;
+    let receiver = Receiver::new(alloc, card)?;
+    let (wrote, status) = hear(alloc, receiver, sent, room, steps)?;
+    push_line(text, u, wrote / SIZE, status)
+}
+
+/// Puts the line of leaf u's receiver behind the text, which wrote so many packets and ended so.
+#[tactic(auto, unfolding(crate::specs::Trial::done_line, crate::specs::Trial::revoked_line))]
+fn push_line(text: &mut String, u: u32, wrote: usize, status: Status) -> Result<(), Status>
+    requires { IsEnding status }
+    ensures { Adds (told_line u wrote status) (string_bytes text.old) (string_bytes text.new) result }
+{
+    match status {
+        Status::Done => Ok(write!(text, "receiver {u} wrote {wrote} done\n")?),
+        Status::Revoked { period, .. } => {
+            Ok(write!(text, "receiver {u} wrote {wrote} revoked {period}\n")?)
+        }
+        _ => Err(status),
+    }
+}

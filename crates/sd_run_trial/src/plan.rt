@@ -1,0 +1,53 @@
+ghost use Rattle.std.specs.Prelude.{◌≡◌, ◌≢◌, IfOk};
+ghost use Rattle.sd_site.specs.Fields.{fields_of};
+ghost use Rattle.sd_status.specs.Outside.{place};
+ghost use Rattle.sd_status.specs.Reads.{Judges, Looks, Reads};
+ghost use Rattle.sd_files.specs.Shown.{shown_word};
+ghost use Rattle.sd_run_trial.specs.Trial.{told_low, low_site_of_file, plan_meaning};
+
+use sd_book::Book;
+use sd_files::{Word, read_book, read_site};
+use sd_ports::Depot;
+use sd_site::Site;
+use sd_status::{LimitKind, Status};
+use std::alloc::Global;
+
+/// The greatest height of a tree whose receivers are all run.
+pub const MOST_HEIGHT: u8 = 6;
+
+/// The site, whose tree is low enough, and then the book for its tree.
+pub fn read_plan<D: Depot>(
+    alloc: Global,
+    depot: &mut D,
+    site: Word<'_>,
+    book: Word<'_>,
+) -> Result<(Site, Book), Status>
+    requires { site.number ≢ book.number }
+    ensures value { Reads (λ plan. record { site = fields_of plan.0; commands = plan.1.commands })
+        (plan_meaning (shown_word site.entry) (shown_word book.entry))
+        (place D.Depot depot.old) (place D.Depot depot.new) result }
+    ensures height { IfOk result (λ plan. plan.1.height ≡ plan.0.height) }
+{
+    let site = read_low_site(alloc, depot, site)?;
+    let book = read_book(alloc, depot, book, site.height)?;
+    Ok((site, book))
+}
+
+/// The site of the word's file, whose tree is low enough.
+fn read_low_site<D: Depot>(alloc: Global, depot: &mut D, word: Word<'_>) -> Result<Site, Status>
+    ensures { Looks fields_of (low_site_of_file word.entry.number) word.entry.text.now
+        (place D.Depot depot.old) (place D.Depot depot.new) result }
+{
+    let site = read_site(alloc, depot, word)?;
+    judge_height(site)
+}
+
+/// The site, where its tree is low enough.
+fn judge_height(site: Site) -> Result<Site, Status>
+    ensures { Judges fields_of (told_low (fields_of site)) result }
+{
+    if site.height.get() > MOST_HEIGHT {
+        return Err(Status::Limit(LimitKind::TrialHeight));
+    }
+    Ok(site)
+}

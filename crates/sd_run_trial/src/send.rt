@@ -1,0 +1,90 @@
+ghost use Rattle.std.specs.Prelude.{◌≡◌, IfOk};
+ghost use Rattle.sd_entitling.specs.Kept.{plan_of};
+ghost use Rattle.sd_status.specs.Comes.{IsEnding, status_of};
+ghost use Rattle.sd_run_trial.specs.Trial.{Comes, HasSent, is_wanting, sent_or, told_sent};
+
+use crate::lent::Lent;
+use sd_book::Book;
+use sd_cause::NoMemory;
+use sd_head::Head;
+use sd_ports::{MemSink, Taken};
+use sd_run_head::send;
+use sd_site::Site;
+use sd_status::{LimitKind, Status};
+use sd_steps::Steps;
+use std::alloc::Global;
+use std::sync::ledger::Ledger;
+
+/// The bytes of a packet.
+pub const SIZE: usize = 188;
+
+/// The most packets that stand in a broadcast with one clear packet, or after the last: a CAT, the 43 packets of the
+/// entitlements to 127 sets, 22 of a control message, and the clear packet, rounded up.
+const MOST_WITH_ONE: usize = 72;
+
+/// The bytes of the broadcast of a clear stream, which is to be no longer than what was taken of it.
+pub fn sent_for<L: Ledger>(
+    alloc: Global,
+    site: Site,
+    book: Book,
+    clear: &Taken,
+    steps: &mut Steps<L>,
+) -> Result<Vec<u8>, Status>
+    requires { book.height ≡ site.height }
+    ensures { Comes (λ sent. sent.items) (told_sent (plan_of site book) clear.now) result }
+{
+    let (sent, status) = send_all(alloc, site, book, clear.bytes(), steps)?;
+    judge(sent, status, clear.more())
+}
+
+/// What was sent, and the status that the head end ended with. The room for the broadcast is taken at once, and only
+/// what is sent is ever written to.
+fn send_all<L: Ledger>(
+    alloc: Global,
+    site: Site,
+    book: Book,
+    clear: &[u8],
+    steps: &mut Steps<L>,
+) -> Result<(Vec<u8>, Status), NoMemory>
+    requires { book.height ≡ site.height }
+    ensures { IfOk result (λ sent. HasSent (plan_of site book) clear.now sent.0.items sent.1) }
+{
+    let mut head = Head::new(alloc, site, book)?;
+    let room = (clear.len() / SIZE + 1).saturating_mul(MOST_WITH_ONE * SIZE);
+    let mut sink = MemSink::new(alloc, room, usize::MAX, Vec::new(alloc))?;
+    let mut source = Lent::new(clear);
+    let status = settled(send(&mut source, &mut sink, &mut head, steps));
+    if wants_memory(status) {
+        return Err(NoMemory);
+    }
+    Ok((sink.into_bytes(), status))
+}
+
+/// The status that a step ended with.
+pub fn settled(ended: Result<(), Status>) -> Status
+    ensures { result ≡ status_of ended }
+{
+    match ended {
+        Ok(()) => Status::Done,
+        Err(status) => status,
+    }
+}
+
+/// Whether memory was out: for the stage, or as the room for what it writes.
+pub fn wants_memory(status: Status) -> bool
+    ensures { result ≡ is_wanting status }
+{
+    matches!(status, Status::NoMemory | Status::DepotFault)
+}
+
+/// What was sent, where the head end came to the end of the stream and no more stood behind it.
+fn judge(sent: Vec<u8>, status: Status, more: bool) -> Result<Vec<u8>, Status>
+    requires { IsEnding status }
+    ensures { Comes (λ sent. sent.items) (sent_or status more sent.items) result }
+{
+    match status {
+        Status::Done if more => Err(Status::Limit(LimitKind::TrialPackets)),
+        Status::Done => Ok(sent),
+        _ => Err(status),
+    }
+}
