@@ -1,8 +1,8 @@
 #!/bin/sh
-# Shows that OUT never destroys an input: `card` with an OUT that is the site's own file, by another path, a hard and a symbolic link, ends
-# with a device fault and leaves the file as it was. Another regular file is cut off and replaced; a named pipe, /dev/stdout and /dev/null
-# are written as they are. To be run by hand, from any folder: `bench/alias.sh`, or `SDCA=PROGRAM bench/alias.sh` with a program that is
-# built already.
+# Shows that OUT never destroys an input: each command with an OUT that is the file of one that it reads, by another
+# path, a hard and a symbolic link, ends with a device fault and leaves the file as it was. Another regular file is cut
+# off and replaced; a named pipe, /dev/stdout and /dev/null are written as they are. To be run by hand, from any folder:
+# `bench/alias.sh`, or `SDCA=PROGRAM bench/alias.sh` with a program that is built already.
 set -eu
 . "$(dirname "$0")/shared.sh"
 
@@ -38,6 +38,39 @@ refused folder/../site "a path through a folder"
 refused hard "a hard link"
 refused symbolic "a symbolic link"
 refused folder/symbolic "a symbolic link in a folder"
+
+# WORDS..: with each file that they name, by each kind of alias, as OUT: it is refused, and all files are as they were.
+each_refused() {
+    files=$(cksum site book commands people clear sent card)
+    count=0
+    for word in "$@"; do
+        [ -f "$word" ] && [ "$word" != "$1" ] || continue
+        rm -f hard symbolic
+        ln "$word" hard
+        ln -s "$word" symbolic
+        for out in "./$word" "$work/$word" "folder/../$word" hard symbolic; do
+            status=0
+            ./sdca "$@" "$out" >lines || status=$?
+            [ $status = $device_fault ] && [ "$(cat lines)" = "device fault" ] ||
+                fail "$* $out: the exit status is $status, and not a device fault's"
+            [ "$(cksum site book commands people clear sent card)" = "$files" ] || fail "$* $out: a file has changed"
+            count=$((count + 1))
+        done
+    done
+    echo "$*: $count aliases are refused, and all files are as they were"
+}
+
+printf 'revoke 5\n' >book
+printf 'period\nsubscribe 5\n' >commands
+printf 'assign ann 5\nperiod\ndrop ann\n' >people
+./sdca sample 7 600 clear
+./sdca head site book clear sent
+each_refused card site $leaf
+each_refused lcard site $leaf 2
+each_refused accounts site people
+each_refused book site book commands
+each_refused head site book clear
+each_refused receive card sent
 
 cp card copy
 ./sdca card site $leaf copy
