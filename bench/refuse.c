@@ -1,6 +1,6 @@
-/* Loaded into a program by LD_PRELOAD, makes one of its calls of the C library fail. FAULT names the kind, FAULT_AT which
-   call of that kind, counted from 1: `memory`, a request that is refused; `read` and `write`, a call that moves one byte
-   alone. The file that FAULT_MARK names is made once it came to that. */
+/* Loaded into a program by LD_PRELOAD, makes one of its calls of the C library fail. FAULT names the kind, FAULT_AT
+   which call of that kind, counted from 1: `memory`, a request that is refused; `read` and `write`, a call that moves
+   one byte alone. The file that FAULT_MARK names is made once it came to that. */
 #define _GNU_SOURCE
 #include <errno.h>
 #include <fcntl.h>
