@@ -30,6 +30,32 @@ const REPORT: &str =
     r#"{"accounts":[{"active":false,"leaf":5,"name":"ann"},{"active":true,"leaf":2,"name":"bob"}],"height":3,"period":1}
 "#;
 
+/// Card 5 opens the set of all, and not S(1,13), the leaves that aren't its own.
+const OPENED: &str = "period 0 revoked 0 sets 1
+all open
+period 1 revoked 1 sets 1
+1 13 shut
+";
+
+/// The last period's cover is S(1,13), and leaf 1 is three cuts below it: S(1,3), S(2,5), S(4,8). Then the cover is
+/// S(2,9) and S(3,13): of the two the second opens, and leaf 6 is two cuts below it: S(3,6), S(7,15).
+const TRACED: &str = "leaf 1 trials 4 splits 3
+leaf 6 trials 4 splits 2
+silent trials 1
+";
+
+/// With 600 packets there are four control messages, two CATs and a section for each of the two periods.
+const TRIED: &str = "clear 600 broadcast 608
+receiver 0 wrote 600 done
+receiver 1 wrote 600 done
+receiver 2 wrote 600 done
+receiver 3 wrote 600 done
+receiver 4 wrote 600 done
+receiver 5 wrote 400 revoked 1
+receiver 6 wrote 600 done
+receiver 7 wrote 600 done
+";
+
 /// The bytes of a packet, and how many packets are clear, and of them of period 0.
 const PACKET: usize = 188;
 
@@ -104,6 +130,23 @@ fn a_lost_packet_is_counted(rt: HostRuntime) -> Result<(), AllocError> {
             "1 clear packets are missing\n"
         )?
     );
+    Ok(())
+}
+
+#[test]
+fn pirates_are_found(rt: HostRuntime) -> Result<(), AllocError> {
+    let alloc = rt.alloc();
+    let mut depot = shelf(alloc)?;
+    answered(alloc, &mut depot, "accounts site accounts book")?;
+    answered(alloc, &mut depot, "sample 7 600 clear")?;
+    let steps: [(&str, &str); 3] = [
+        ("opens site book pooled", OPENED),
+        ("trace site book pair", TRACED),
+        ("trial site book clear", TRIED),
+    ];
+    for (words, printed) in steps {
+        assert!(rt; comes(alloc, &mut depot, words, Status::Done, printed)?);
+    }
     Ok(())
 }
 

@@ -37,6 +37,8 @@ fn files(alloc: Global) -> Result<Files, AllocError> {
     files.add(alloc, "R", b"revoke 5\n")?;
     files.add(alloc, "M", b"period\nsubscribe 5\n")?;
     files.add(alloc, "A", b"assign ann 5\nperiod\ndrop ann\n")?;
+    files.add(alloc, "P", b"revoke 0\nrevoke 2\n")?;
+    files.add(alloc, "L", b"1\n6\n")?;
     let clear = made(alloc, &files, &["sample", "0", "3", "O"])?;
     files.add(alloc, "C", &clear)?;
     let card = made(alloc, &files, &["card", "S", "0", "O"])?;
@@ -242,6 +244,27 @@ fn failing_calls_are_told_by_each_command(rt: HostRuntime) -> Result<(), Fail> {
             "",
         ),
         row(&["tables", "X"], &["X"], false, "", "d29b54c31bc48ee2"),
+        row(
+            &["opens", "S", "P", "L"],
+            &["S", "P", "L"],
+            false,
+            "",
+            "de5663d6a325561e",
+        ),
+        row(
+            &["trace", "S", "R", "L"],
+            &["S", "R", "L"],
+            false,
+            "",
+            "93d74fcfdebfd23e",
+        ),
+        row(
+            &["trial", "S", "R", "C"],
+            &["S", "R", "C"],
+            false,
+            "",
+            "668c63a3ea9d5a9b",
+        ),
     ] {
         let words = command.words;
         let left = left(alloc, &files, words, PIECE, Fault::Nowhere)?;

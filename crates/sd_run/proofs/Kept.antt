@@ -1,6 +1,5 @@
 -- Good files of accounts and books mean work.
 use Rattle.std.proofs.Common.{◌≡◌, ℕ, List, ◌++◌, Ok, ◌∙◌}
-use Rattle.sd_accounts.specs.Judged.{book_of}
 use Rattle.sd_book.specs.Text.{text_of}
 use Rattle.sd_book.specs.declared.command.Command.{Command}
 use Rattle.sd_site.specs.Fields.{SiteFields}

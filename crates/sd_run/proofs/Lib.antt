@@ -12,3 +12,4 @@ pub mod Kept
 pub mod Layers
 pub mod Pooled
 pub mod Tried
+pub mod Left

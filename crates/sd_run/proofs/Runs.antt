@@ -46,7 +46,7 @@ ended_with meant work files a b status is told depot print memory (nowhere other
     absurd (let both = sym told ∙ n in cc)
 ended_with meant work files a b status is told depot print memory (cut_off other e s h k r c m) = absurd (print s)
 
-told_given : (files : Option Files) (told : Files) (given : Given) → files ≡ Some told → IsGiven files given →
+pub told_given : (files : Option Files) (told : Files) (given : Given) → files ≡ Some told → IsGiven files given →
     given ≡ told_by told
 told_given files told given e h = subst (λ (o : Option Files). IsGiven o given) e h
 

@@ -5,3 +5,4 @@ pub mod Headline
 pub mod Sent
 pub mod Lost
 pub mod Tried
+pub mod Left

@@ -1,5 +1,5 @@
 //! Good words over good files mean work, and so `run` does it, or is out of memory, where no device fails.
-ghost use Rattle.std.specs.Prelude.{◌≡◌, ◌≤◌, ◌<◌, ◌^◌, ◌++◌, ℕ, List, Some, None, Ok, length};
+ghost use Rattle.std.specs.Prelude.{◌≡◌, ◌⊎◌, ◌≤◌, ◌<◌, ◌^◌, ◌++◌, ℕ, List, Some, None, Ok, length};
 ghost use Rattle.sd_book.specs.Text.{text_of};
 ghost use Rattle.sd_lsd.specs.Fields.{layer_bytes, layer_card_of};
 ghost use Rattle.sd_run_accounts.specs.Accounts.{accounts_value, making_then, report_line};
@@ -10,6 +10,7 @@ ghost use Rattle.sd_run_trace.specs.Trace.{revoked_last, telling, trace_text};
 ghost use Rattle.sd_run_trial.specs.Opened.{opened_lines};
 ghost use Rattle.sd_run_trial.specs.Trial.{printing as tried};
 ghost use Rattle.sd_run.specs.Good.{IsGoodAccounts, IsGoodBooks, IsGoodLayered, IsGoodLcard, IsGoodOpens, IsGoodTrace};
+ghost use Rattle.sd_run.specs.Left.{HasOut, IsAsBefore};
 ghost use Rattle.sd_run.specs.Tried.{IsGoodTrial};
 ghost use Rattle.sd_book.specs.Commands.{revoked};
 ghost use Rattle.sd_book.specs.declared.command.Command.{Command};
@@ -19,7 +20,9 @@ ghost use Rattle.sd_tree.specs.Leaves.{unrevoked};
 ghost use Rattle.sd_card.specs.Fields.{card_bytes, card_of};
 ghost use Rattle.sd_ports.specs.Files.{Files};
 ghost use Rattle.sd_sample.specs.Sample.{sample_of};
+ghost use Rattle.sd_status.specs.Answers.{Answers};
 ghost use Rattle.sd_status.specs.Meant.{told_by};
+ghost use Rattle.sd_status.specs.Outside.{Outside};
 ghost use Rattle.sd_status.specs.Work.{NoSteps, Uncounted};
 ghost use Rattle.sd_run_cover.specs.Cover.{covering};
 ghost use Rattle.sd_run.specs.Good.{IsGoodCover, IsGoodCard, IsGoodSample, IsGoodTables, plan_told, IsGoodHead};
@@ -128,6 +131,15 @@ pub fn good_trials_are_printed()
     ensures { (words : List (List ℕ)) (files : Files) (good : IsGoodTrial words (told_by files)) →
         (meaning words (told_by files)).result ≡ Ok (tried (Ok
         (opened_lines good.plan (taken_of good.bytes) (2 ^ good.plan.site.height)))) }
+{}
+
+/// Whatever a run over told files answers, all files are as they were, and none was made; or one was, OUT of the work
+/// that the words and files mean, with a prefix of what it is to hold, and all others are as they were.
+#[tactic(auto, using(crate::proofs::Left::run_leaves))]
+pub fn no_file_changes_but_out()
+    ensures { (words : List (List ℕ)) (files : Files) (a b : Outside) (answer : Status) →
+        a.place.files ≡ Some files → Answers (meaning words) a b answer →
+        IsAsBefore files a.place b.place ⊎ HasOut files (meaning words (told_by files)).result a.place b.place }
 {}
 
 /// The sets of a period are disjoint and unite to just the leaves that are not revoked in it: one where none is, and
