@@ -37,12 +37,15 @@ judge() {
     fi
 }
 
+# The checksums of the files that commands read.
+sums() { cksum S B R M A L C K0 K5 X; }
+
 # FILE WHOLE: whether the one's bytes begin the other's.
 begins() { cmp -s -n "$(wc -c <"$1")" "$1" "$2" && [ "$(wc -c <"$1")" -le "$(wc -c <"$2")" ]; }
 
 # What is wrong with the last run beside the whole one.
 wrong() {
-    [ "$(cksum S B R M A C K0 K5 X)" = "$inputs" ] || echo "another file changed"
+    [ "$(sums)" = "$inputs" ] || echo "another file changed"
     if [ -e O ] && ! { [ -e O.whole ] && begins O O.whole; }; then echo "OUT is no prefix"; fi
     case $status in
         "$whole")
@@ -112,7 +115,7 @@ try_all() {
 
 # Names for which a path says the same as a word: all that a command opens, and what it prints.
 paths=
-for file in S B R M A C K0 K5 X O lines; do paths="$paths -P $work/$file"; done
+for file in S B R M A L C K0 K5 X O lines; do paths="$paths -P $work/$file"; done
 
 sed 's/^height .*/height 3/; s/^ecm-every .*/ecm-every 200/; s/^crypto-ecms .*/crypto-ecms 2/
     s/^period-cryptos .*/period-cryptos 1/' "$top/examples/site.txt" >S
@@ -120,11 +123,12 @@ printf 'period\nrevoke 5\n' >B
 printf 'revoke 5\n' >R
 printf 'period\nsubscribe 5\n' >M
 printf 'assign ann 5\nperiod\ndrop ann\n' >A
+printf '1\n6\n' >L
 ./sdca sample 7 600 C
 ./sdca head S B C X
 ./sdca card S 0 K0
 ./sdca card S 5 K5
-inputs=$(cksum S B R M A C K0 K5 X)
+inputs=$(sums)
 
 try_all cover S R
 try_all card S 5 O
@@ -137,6 +141,9 @@ try_all layered S B 2
 try_all lcard S 5 2 O
 try_all sample 7 600 O
 try_all tables X
+try_all opens S R L
+try_all trace S R L
+try_all trial S B C
 
 # OUT WORDS..: the device is full, and so says the answer; OUT is a prefix where it is a file.
 fill() {
@@ -224,6 +231,6 @@ while [ $number -lt $changed ]; do
 done
 what="all"
 name="inputs"
-[ "$(cksum S B R M A C K0 K5 X)" = "$inputs" ] && judge "" || judge "they changed"
+[ "$(sums)" = "$inputs" ] && judge "" || judge "they changed"
 echo "$passed passed, $failed failed"
 [ $failed = 0 ]
