@@ -145,6 +145,15 @@ try_all opens S R L
 try_all trace S R L
 try_all trial S B C
 
+# At height 6 a trial makes 64 cards and 64 receivers, so there is a request for memory of this number, and it is wanted.
+sed 's/^height .*/height 6/' S >S6
+: >B0
+./sdca sample 0 1 C1
+name="trial S6 B0 C1"
+what="memory 128"
+attempt env FAULT=memory FAULT_AT=128 FAULT_MARK=mark LD_PRELOAD=./refuse.so ./sdca trial S6 B0 C1
+[ -e mark ] && [ $status = $no_memory ] && judge "" || judge "another answer"
+
 # OUT WORDS..: the device is full, and so says the answer; OUT is a prefix where it is a file.
 fill() {
     out=$1
