@@ -5,16 +5,25 @@ use rand_chacha::ChaCha20Rng;
 use rand_core::SeedableRng;
 use rand_core::utils::fill_bytes_via_u32;
 
-/// The first N bytes of the keystream of this key and stream number.
+/// Fills the bytes with the first of the keystream of this key and stream number.
 #[tactic(auto, using(crate::proofs::Streams::fill_is, crate::proofs::Streams::keystream_length))]
+pub fn fill(key: &[u8; 32], number: u64, bytes: &mut [u8])
+    ensures value { bytes.new ≡ keystream key.now number (length bytes.old) }
+    ensures length { length bytes.new ≡ length bytes.old }
+{
+    let mut generator = ChaCha20Rng::from_seed(*key);
+    generator.set_stream(number);
+    fill_bytes_via_u32(&mut generator, bytes);
+}
+
+/// The first N bytes of the keystream of this key and stream number.
+#[tactic(auto, using(crate::proofs::Streams::keystream_length))]
 pub fn first_bytes<const N: usize>(key: &[u8; 32], number: u64) -> [u8; N]
     ensures value { result ≡ keystream key.now number N }
     ensures length { length (keystream key.now number N) ≡ N }
 {
-    let mut generator = ChaCha20Rng::from_seed(*key);
-    generator.set_stream(number);
     let mut bytes = [0; N];
-    fill_bytes_via_u32(&mut generator, &mut bytes);
+    fill(key, number, &mut bytes);
     bytes
 }
 

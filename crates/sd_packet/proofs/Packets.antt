@@ -1,10 +1,10 @@
 -- Packets that are one section.
-use Rattle.std.proofs.Common.{length-append, ℕ, ◌+◌, ◌-◌, ◌*◌, ◌/◌, ◌%◌, ◌<◌, ◌≤◌, ◌≡◌, List, [], ◌∷◌, ◌++◌, length}
-use Rattle.std.proofs.Common.{take, drop, refl, ◌∙◌, arith}
+use Rattle.std.proofs.Common.{length-append, ℕ, zero, suc, ◌+◌, ◌-◌, ◌*◌, ◌/◌, ◌%◌, ◌<◌, ◌≤◌, ◌≡◌, List, [], ◌∷◌}
+use Rattle.std.proofs.Common.{◌++◌, length, take, drop, refl, ap, ◌∙◌, arith}
 use Rattle.std.specs.Prelude.{slice_index, slice_set, replicate, Bool, true, false, if◌then◌else◌, ◌==◌, ◌&&◌, nat_le}
 use Rattle.std.proofs.Math.Seq.{drop-append-add}
 use Rattle.std.proofs.lemmas.Bool.{and_parts, leb-true}
-use Rattle.std.proofs.lemmas.List.{drop-replicate, length-replicate}
+use Rattle.std.proofs.lemmas.List.{drop-replicate, length-replicate, drop_all, append-nil}
 use Rattle.sd_bits.proofs.Fields.{field_below}
 use Rattle.sd_packet.specs.Header.{error_of, unit_start_of, priority_of, pid_of, scrambling_of, adaptation_of}
 use Rattle.sd_packet.specs.Header.{counter_of, payload_start_of}
@@ -96,3 +96,18 @@ unfolding payload_start_of
 start_within packet = start_by (adaptation_of packet == 1) ((adaptation_of packet == 3) && nat_le (slice_index packet 4)
     182) (slice_index packet 4) (λ e. leb-true (slice_index packet 4) 182 (and_parts (adaptation_of packet == 3)
     (nat_le (slice_index packet 4) 182) e).1)
+
+-- a payload that fills what is left of a packet after its start
+pub payload_put : (packet payload : List ℕ) (start : ℕ) → length packet ≡ 188 → start ≤ 188 →
+    length payload ≡ 188 - start →
+    take start packet ++ (payload ++ drop (start + length payload) packet) ≡ take start packet ++ payload
+payload_put packet payload start long low all =
+    let none : drop (start + length payload) packet ≡ [] = drop_all (start + length payload) packet (omega arith) in
+    rw none (ap (λ (rest : List ℕ). take start packet ++ rest) (append-nil payload))
+
+-- what stands before it begins with the same byte
+pub sync_stays : (packet rest : List ℕ) (start : ℕ) → 4 ≤ start → 1 ≤ length packet →
+    slice_index (take start packet ++ rest) 0 ≡ slice_index packet 0
+sync_stays [] rest start low some = absurd (omega arith)
+sync_stays (x ∷ packet) rest zero low some = absurd (omega arith)
+sync_stays (x ∷ packet) rest (suc n) low some = refl

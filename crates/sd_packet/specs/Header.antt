@@ -1,5 +1,6 @@
 -- The header and the payload of a transport packet of 188 bytes.
-use Rattle.std.specs.Prelude.{ℕ, ◌+◌, ◌==◌, ◌&&◌, Bool, List, drop, slice_index, nat_le, nat_lt, if◌then◌else◌}
+use Rattle.std.specs.Prelude.{ℕ, ◌+◌, ◌*◌, ◌%◌, ◌==◌, ◌&&◌, Bool, List, drop, slice_index, slice_set, nat_le, nat_lt}
+use Rattle.std.specs.Prelude.{if◌then◌else◌}
 use Rattle.sd_bits.specs.Bits.{field}
 
 -- transport_error_indicator [ISO/IEC 13818-1, 2.4.3.2]
@@ -45,3 +46,7 @@ payload_of packet = drop (payload_start_of packet) packet
 -- the payload is not empty
 abbrev pub has_payload : List ℕ → Bool
 has_payload packet = nat_lt (payload_start_of packet) 188
+
+-- the packet with this transport_scrambling_control, the two highest bits of the fourth byte [ISO/IEC 13818-1, 2.4.3.2]
+abbrev pub controlled : List ℕ → ℕ → List ℕ
+controlled packet control = slice_set packet 3 (control * 64 + slice_index packet 3 % 64)

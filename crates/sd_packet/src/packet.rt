@@ -1,9 +1,11 @@
-ghost use Rattle.std.specs.Prelude.{◌≡◌, ◌≢◌, ◌-◌, ◌<◌, ◌≤◌, ◌↔◌, IsTrue, IsNone, IfSome, length, slice_index};
+ghost use Rattle.std.specs.Prelude.{◌≡◌, ◌≢◌, ◌-◌, ◌<◌, ◌≤◌, ◌↔◌, ◌++◌, IsTrue, IsNone, IfSome, length, slice_index};
+ghost use Rattle.std.specs.Prelude.{take};
 ghost use Rattle.sd_packet.specs.Header.{unit_start_of, pid_of, scrambling_of, adaptation_of, counter_of};
-ghost use Rattle.sd_packet.specs.Header.{payload_start_of, payload_of};
+ghost use Rattle.sd_packet.specs.Header.{payload_start_of, payload_of, controlled};
 ghost use Rattle.sd_packet.specs.Positions.{is_placed as is_placed_packet};
 
 use crate::position::is_positional;
+use crate::section::put;
 use sd_bits::fields;
 use std::marker::Model;
 
@@ -125,6 +127,26 @@ impl Packet {
     {
         &self.bytes[self.payload_start()..]
     }
+
+    /// Sets transport_scrambling_control, of two bits.
+    pub fn set_scrambling(&mut self, control: u8)
+        requires { control < 4 }
+        ensures value { self.new ≡ controlled self.old control }
+        ensures byte { slice_index self.old 3 < 256 }
+    {
+        self.bytes[3] = control * 64 + self.bytes[3] % 64;
+    }
+
+    /// Puts a payload of the same length in place of the packet's.
+    #[tactic(auto, using(crate::proofs::Packets::payload_put, crate::proofs::Packets::sync_stays))]
+    pub fn set_payload(&mut self, payload: &[u8])
+        requires { length payload.now ≡ 188 - payload_start_of self.old }
+        ensures value { self.new ≡ take (payload_start_of self.old) self.old ++ payload.now }
+        ensures length { length self.old ≡ 188 }
+    {
+        let start = self.payload_start();
+        put(&mut self.bytes, start, payload);
+    }
 }
 
 #[cfg(test)]
@@ -181,6 +203,30 @@ mod tests {
                 assert_eq!(rt; packet.payload_start(), start);
                 assert_eq!(rt; packet.payload().len(), left);
                 assert_eq!(rt; packet.is_placed(), left > 0);
+            }
+        }
+    }
+
+    #[test]
+    fn what_is_set_is_read(rt: HostRuntime) {
+        // The header, the byte after it, a control, and the header with it.
+        let table = [
+            ([0x47, 0x01, 0x00, 0x17], 0xFF, 0b10, 0x97),
+            ([0x47, 0x01, 0x00, 0xF9], 2, 0b00, 0x39),
+            ([0x47, 0x01, 0x00, 0x30], 182, 0b11, 0xF0),
+        ];
+        for (header, length, control, due) in table {
+            let packet = packet(header, length);
+            assert!(rt; packet.is_some());
+            if let Some(mut packet) = packet {
+                let payload = [0xA5; 184];
+                let size = packet.payload().len();
+                assert!(rt; size <= 184);
+                packet.set_payload(&payload[..size]);
+                packet.set_scrambling(control);
+                assert_eq!(rt; packet.payload(), &payload[..size]);
+                assert_eq!(rt; packet.bytes()[3], due);
+                assert_eq!(rt; packet.bytes()[4], if size == 184 { 0xA5 } else { length });
             }
         }
     }

@@ -27,8 +27,8 @@ pub fn pack_section(section: &[u8], pid: u16, counter: u8) -> Packet
     Packet { bytes }
 }
 
-// Copies the piece to this place.
-fn put(bytes: &mut [u8], start: usize, piece: &[u8])
+/// Copies the piece to this place.
+pub fn put(bytes: &mut [u8], start: usize, piece: &[u8])
     requires { start + length piece.now ≤ length bytes.old }
     ensures value { bytes.new ≡ take start bytes.old ++ (piece.now ++ drop (start + length piece.now) bytes.old) }
     ensures length { length bytes.new ≡ length bytes.old }

@@ -1,17 +1,19 @@
 -- What a packet is when its payload is laid under a stream, and again.
-use Rattle.std.proofs.Common.{drop_at, ℕ, zero, suc, ◌+◌, ◌-◌, ◌*◌, ◌%◌, ◌<◌, ◌≤◌, ◌≡◌, Bool, true, false, List, []}
+use Rattle.std.proofs.Common.{drop_at, ℕ, zero, suc, ◌+◌, ◌*◌, ◌%◌, ◌<◌, ◌≤◌, ◌≡◌, Bool, true, false, List, []}
 use Rattle.std.proofs.Common.{◌∷◌, ◌++◌, length, take, drop, refl, sym, ◌∙◌, ap, arith}
 use Rattle.std.specs.Prelude.{bit_xor, slice_set, slice_index, nat_le, ◌==◌, ◌&&◌, if◌then◌else◌}
-use borrow.Rule.Slice.PartMut.{put_mid, mid_of}
-use Rattle.std.proofs.lemmas.List.{drop-set-lt, drop_all, take_all, length-take-le, length-set, length-drop, append-nil}
+use Rattle.std.proofs.Math.Seq.{take-append_seam}
+use Rattle.std.proofs.lemmas.List.{length-take-le, length-set}
+use Rattle.std.specs.Int.Bits.{xor_comm}
 use Rattle.sd_bits.specs.Bits.{field}
 use Rattle.sd_bits.proofs.Fields.{field_below}
 use Rattle.sd_keystream.specs.Keystream.{keystream, xored}
 use Rattle.sd_keystream.proofs.Streams.{keystream_length, xored_twice}
 use Rattle.sd_packet.specs.Header.{unit_start_of, pid_of, scrambling_of, adaptation_of, payload_start_of}
+use Rattle.sd_packet.specs.Header.{payload_of, controlled}
 use Rattle.sd_packet.proofs.Headers.{controls_and_counter}
 use Rattle.sd_packet.proofs.Packets.{start_within}
-use Rattle.sd_scramble.specs.Scrambling.{IsLaidUnder, payload_under, controlled, stream_number, laid_under, control_of}
+use Rattle.sd_scramble.specs.Scrambling.{IsLaidUnder, payload_under, stream_number, laid_under, control_of}
 use Rattle.sd_scramble.specs.declared.payload.Parity.{Parity}
 use Rattle.sd_scramble.specs.declared.payload.Parity.TheVariants.{Even, Odd}
 
@@ -24,26 +26,64 @@ part_is_enough (x ∷ text) (y ∷ stream) zero h = absurd (omega arith)
 part_is_enough (x ∷ text) (y ∷ stream) (suc n) h =
     ap (λ (r : List ℕ). bit_xor x y ∷ r) (part_is_enough text stream n (omega arith))
 
--- what stands after a changed byte stays
-pub after_stays : (bytes : List ℕ) (n y : ℕ) → 4 ≤ n → drop n (slice_set bytes 3 y) ≡ drop n bytes
-after_stays bytes n y h = drop-set-lt n bytes 3 y (omega arith)
+-- under each other, texts of one length are the same
+swapped : (text stream : List ℕ) → length text ≡ length stream → xored text stream ≡ xored stream text
+swapped [] [] h = refl
+swapped [] (y ∷ stream) h = absurd (omega arith)
+swapped (x ∷ text) [] h = absurd (omega arith)
+swapped (x ∷ text) (y ∷ stream) h = rw (xor_comm x y) (ap (λ (r : List ℕ). bit_xor y x ∷ r) (swapped text stream
+    (omega arith)))
 
--- a changed byte and a stream laid over all that stands from a place on
-pub laid_after : (bytes stream text : List ℕ) (start y : ℕ) → 4 ≤ start → length bytes ≡ 188
-    → text ≡ xored (mid_of start (188 - start) (slice_set bytes 3 y)) (take (188 - start) stream)
-    → put_mid start (188 - start) (slice_set bytes 3 y) text ≡ take start (slice_set bytes 3 y)
-    ++ xored (drop start bytes) stream
-laid_after bytes stream text start y low long e =
-    let held : List ℕ = slice_set bytes 3 y in
-    let here : length (drop start held) ≡ 188 - start = omega (arith, length-drop start held, length-set bytes 3 y) in
-    let none : drop (188 - start) (drop start held) ≡ [] = drop_all (188 - start) (drop start held) (omega arith) in
-    let all : mid_of start (188 - start) held ≡ drop start held =
-    take_all (188 - start) (drop start held) (omega arith) in
-    let part : text ≡ xored (drop start bytes) stream = e
-    ∙ (ap (λ (r : List ℕ). xored r (take (188 - start) stream)) all
-    ∙ (part_is_enough (drop start held) stream (188 - start) (sym here)
-    ∙ ap (λ (r : List ℕ). xored r stream) (after_stays bytes start y low))) in
-    rw none (ap (λ (r : List ℕ). take start held ++ r) (append-nil text ∙ part))
+-- a text laid over the first bytes of a stream is the text under the stream
+pub first_laid : (text stream : List ℕ) → length text ≤ length stream →
+    xored (take (length text) stream) text ≡ xored text stream
+first_laid text stream short =
+    swapped (take (length text) stream) text (length-take-le (length text) stream short)
+    ∙ part_is_enough text stream (length text) refl
+
+-- of a text before others, as much as it is long is the text
+pub front_of : (payload text rest : List ℕ) → length text ≡ length payload →
+    take (length payload) (text ++ rest) ≡ text
+front_of payload text rest long =
+    ap (λ (n : ℕ). take n (text ++ rest)) (sym long) ∙ take-append_seam text rest
+
+-- the fourth byte is changed before what is put behind it, or after
+pub controlled_first : (packet payload : List ℕ) (start control : ℕ) → 4 ≤ start → 4 ≤ length packet →
+    controlled (take start packet ++ payload) control ≡ take start (controlled packet control) ++ payload
+controlled_first [] payload start control low long = absurd (omega arith)
+controlled_first (a ∷ []) payload start control low long = absurd (omega arith)
+controlled_first (a ∷ (b ∷ [])) payload start control low long = absurd (omega arith)
+controlled_first (a ∷ (b ∷ (c ∷ []))) payload start control low long = absurd (omega arith)
+controlled_first (a ∷ (b ∷ (c ∷ (d ∷ rest)))) payload zero control low long = absurd (omega arith)
+controlled_first (a ∷ (b ∷ (c ∷ (d ∷ rest)))) payload (suc zero) control low long = absurd (omega arith)
+controlled_first (a ∷ (b ∷ (c ∷ (d ∷ rest)))) payload (suc (suc zero)) control low long = absurd (omega arith)
+controlled_first (a ∷ (b ∷ (c ∷ (d ∷ rest)))) payload (suc (suc (suc zero))) control low long = absurd (omega arith)
+controlled_first (a ∷ (b ∷ (c ∷ (d ∷ rest)))) payload (suc (suc (suc (suc k)))) control low long = refl
+
+-- the fourth byte stands before what is put behind it
+pub fourth_stays : (packet payload : List ℕ) (start : ℕ) → 4 ≤ start → 4 ≤ length packet →
+    slice_index (take start packet ++ payload) 3 ≡ slice_index packet 3
+fourth_stays [] payload start low long = absurd (omega arith)
+fourth_stays (a ∷ []) payload start low long = absurd (omega arith)
+fourth_stays (a ∷ (b ∷ [])) payload start low long = absurd (omega arith)
+fourth_stays (a ∷ (b ∷ (c ∷ []))) payload start low long = absurd (omega arith)
+fourth_stays (a ∷ (b ∷ (c ∷ (d ∷ rest)))) payload zero low long = absurd (omega arith)
+fourth_stays (a ∷ (b ∷ (c ∷ (d ∷ rest)))) payload (suc zero) low long = absurd (omega arith)
+fourth_stays (a ∷ (b ∷ (c ∷ (d ∷ rest)))) payload (suc (suc zero)) low long = absurd (omega arith)
+fourth_stays (a ∷ (b ∷ (c ∷ (d ∷ rest)))) payload (suc (suc (suc zero))) low long = absurd (omega arith)
+fourth_stays (a ∷ (b ∷ (c ∷ (d ∷ rest)))) payload (suc (suc (suc (suc k)))) low long = refl
+
+-- a packet whose payload was laid under a part of its stream, and whose control was set, is laid under the stream
+pub all_laid : (packet word laid put new : List ℕ) (position control : ℕ) → length packet ≡ 188 →
+    laid ≡ xored (payload_of packet) (keystream word (stream_number (pid_of packet) position) 184) →
+    put ≡ take (payload_start_of packet) packet ++ laid → new ≡ controlled put control →
+    new ≡ laid_under packet word position control
+unfolding laid_under
+all_laid packet word laid put new position control long is_laid is_put is_new =
+    is_new ∙ (ap (λ (bytes : List ℕ). controlled bytes control)
+    (is_put ∙ ap (λ (bytes : List ℕ). take (payload_start_of packet) packet ++ bytes) is_laid)
+    ∙ controlled_first packet (payload_under packet word position) (payload_start_of packet) control
+    (start_within packet).0 (omega arith))
 
 -- the bytes of a header whose fourth byte is changed, and the byte after it where the front reaches it
 pub record HasFront (old new : List ℕ) (start fourth : ℕ) : Type 0 where

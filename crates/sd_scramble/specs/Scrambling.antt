@@ -1,18 +1,14 @@
 -- Packets under control words.
-use Rattle.std.specs.Prelude.{◌≡◌, ℕ, ◌+◌, ◌*◌, ◌%◌, ◌^◌, List, ◌++◌, take, slice_index, slice_set}
+use Rattle.std.specs.Prelude.{◌≡◌, ℕ, ◌+◌, ◌*◌, ◌^◌, List, ◌++◌, take}
 use Rattle.sd_keystream.specs.Keystream.{keystream, xored}
 use Rattle.sd_packet.specs.Header.{unit_start_of, pid_of, scrambling_of, adaptation_of, counter_of, payload_start_of}
-use Rattle.sd_packet.specs.Header.{payload_of}
+use Rattle.sd_packet.specs.Header.{payload_of, controlled}
 use Rattle.sd_scramble.specs.declared.payload.Parity.{Parity}
 use Rattle.sd_scramble.specs.declared.payload.Parity.TheVariants.{Even, Odd}
 
 -- the number of a packet's keystream [this project, docs/FORMATS.md, Keystream]
 abbrev pub stream_number : ℕ → ℕ → ℕ
 stream_number pid position = pid * 2 ^ 48 + position
-
--- the packet with this transport_scrambling_control, the two highest bits of the fourth byte [ISO/IEC 13818-1, 2.4.3.2]
-abbrev pub controlled : List ℕ → ℕ → List ℕ
-controlled packet control = slice_set packet 3 (control * 64 + slice_index packet 3 % 64)
 
 -- the payload under the keystream of the packet's PID and position [this project, docs/FORMATS.md, Keystream]
 abbrev pub payload_under : List ℕ → List ℕ → ℕ → List ℕ

@@ -1,11 +1,10 @@
-ghost use Rattle.std.specs.Prelude.{◌≡◌, ◌+◌, ◌*◌, ◌^◌, ◌<◌, ◌≤◌, ◌++◌, true, slice_index, take, drop, length};
+ghost use Rattle.std.specs.Prelude.{◌≡◌, ◌+◌, ◌*◌, ◌^◌, ◌<◌, ◌≤◌, true, slice_index, take, length};
 ghost use Rattle.sd_packet.specs.Header.{pid_of, scrambling_of, payload_start_of};
 ghost use Rattle.sd_packet.specs.Positions.{is_positional};
-ghost use Rattle.sd_keystream.specs.Keystream.{keystream, xored};
-ghost use Rattle.sd_scramble.specs.Scrambling.{stream_number, controlled, laid_under, control_of, scrambled};
-ghost use Rattle.sd_scramble.specs.Scrambling.{descrambled};
+ghost use Rattle.sd_keystream.specs.Keystream.{xored};
+ghost use Rattle.sd_scramble.specs.Scrambling.{laid_under, control_of, scrambled, descrambled};
 
-use sd_keystream::{first_bytes, lay};
+use sd_keystream::{fill, lay};
 use sd_packet::Packet;
 
 /// Whether the number of a control word is even or odd.
@@ -54,7 +53,7 @@ pub fn descramble(packet: &mut Packet, word: &[u8; 32], position: u64)
 }
 
 // Lays the keystream of the packet's PID and position over its payload and writes transport_scrambling_control.
-#[tactic(auto, unfolding(crate::specs::Scrambling::laid_under))]
+#[tactic(auto, using(crate::proofs::Scramblings::controlled_first), unfolding(crate::specs::Scrambling::laid_under))]
 fn lay_under(packet: &mut Packet, word: &[u8; 32], position: u64, control: u8)
     requires position { position < 2 ^ 48 }
     requires control { control < 4 }
@@ -63,23 +62,21 @@ fn lay_under(packet: &mut Packet, word: &[u8; 32], position: u64, control: u8)
     ensures length { length packet.old ≡ 188 }
 {
     let number = u64::from(packet.pid()) * (1 << 48) + position;
-    let stream = first_bytes::<184>(word, number);
-    let mut bytes = *packet.bytes();
-    change(&mut bytes, packet.payload_start(), control, &stream);
-    *packet = Packet::new(bytes).unwrap();
+    let mut bytes = [0; 184];
+    fill(word, number, &mut bytes);
+    let length = packet.payload().len();
+    lay_first(&mut bytes, packet.payload());
+    packet.set_payload(&bytes[..length]);
+    packet.set_scrambling(control);
 }
 
-// Writes transport_scrambling_control and lays the stream over what is from the start on.
-fn change(bytes: &mut [u8; 188], start: usize, control: u8, stream: &[u8; 184])
-    requires low { 4 ≤ start }
-    requires high { start ≤ 188 }
-    requires control { control < 4 }
-    ensures value { bytes.new ≡ take start (controlled bytes.old control) ++ xored (drop start bytes.old) stream.now }
-    ensures sync { slice_index bytes.new 0 ≡ slice_index bytes.old 0 }
-    ensures byte { slice_index bytes.old 3 < 256 }
+// Lays a payload over the first bytes of a stream.
+#[tactic(auto, using(crate::proofs::Scramblings::first_laid))]
+fn lay_first(stream: &mut [u8; 184], payload: &[u8])
+    requires { length payload.now ≤ 184 }
+    ensures { take (length payload.now) stream.new ≡ xored payload.now stream.old }
 {
-    bytes[3] = control * 64 + bytes[3] % 64;
-    lay(&mut bytes[start..], &stream[..188 - start]);
+    lay(&mut stream[..payload.len()], payload);
 }
 
 #[cfg(test)]

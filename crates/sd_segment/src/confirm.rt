@@ -1,6 +1,6 @@
-ghost use Rattle.std.specs.Prelude.{◌≡◌, ◌<◌, ◌≤◌, ℕ, List, [], IsErrOf, get_or, MatchResult, Ok, Err, Some, None};
+ghost use Rattle.std.specs.Prelude.{◌≡◌, ◌<◌, ◌≤◌, ◌∷◌, ℕ, List, [], IsErrOf, get_or, MatchResult, Ok, Err, Some, None};
+ghost use Rattle.std.specs.Prelude.{if◌then◌else◌};
 ghost use Rattle.std.specs.Result.{OnOk, OnErr, IfErr};
-ghost use Rattle.std.specs.Option.{option_to_list};
 ghost use Rattle.sd_cause.specs.Count.{IsCaused};
 ghost use Rattle.sd_engine.specs.Stage.{vessel};
 ghost use Rattle.sd_packet.specs.Header.{pid_of};
@@ -67,7 +67,9 @@ impl<'a> Confirming<'a> {
     {
         let mut count = 0;
         for held in &self.tracks.held {
-            if let Some(packet) = self.judge(held)? {
+            let mut packet = held.packet;
+            let written = self.judge(held, &mut packet)?;
+            if written {
                 put(&packet, out)?;
                 count += 1;
             }
@@ -75,31 +77,32 @@ impl<'a> Confirming<'a> {
         Ok(count)
     }
 
-    // What a held packet becomes: itself in the clear, or nothing, or it is refused.
+    // Makes of a held packet what it becomes, and answers whether it is written: it is itself in the clear, or nothing,
+    // or it is refused.
     #[tactic(auto, using(crate::proofs::Judging::judged_clear, crate::proofs::Judging::judged_odd, crate::proofs::Judging::judged_far, crate::proofs::Judging::judged_near, crate::proofs::Judging::confirmed_short))]
-    fn judge(&self, held: &Held) -> Result<Option<Packet>, SegmentFault>
+    fn judge(&self, held: &Held, packet: &mut Packet) -> Result<bool, SegmentFault>
         requires ready { IsReady self.now }
         requires position { held.now.position ≤ get_or self.now.tracks.now.table.items (pid_of held.now.packet) 0 }
+        requires same { packet.old ≡ held.now.packet }
         ensures { (before : List (List ℕ)) → IsOwn self.now before held.now →
             MatchResult result
-            (λ packet. judged (segment_in self.now) before (held.now.number, held.now.packet)
-            ≡ Ok (option_to_list packet))
+            (λ written. judged (segment_in self.now) before (held.now.number, held.now.packet)
+            ≡ Ok (if written then packet.new ∷ [] else []))
             (λ fault. (fault ≡ SegmentFault.Parity held.now.number)
             × (judged (segment_in self.now) before (held.now.number, held.now.packet) ≡ Err held.now.number)) }
     {
-        let mut packet = held.packet;
         if packet.scrambling() == 0 {
-            self.unmark(&mut packet);
-            return Ok(Some(packet));
+            self.unmark(packet);
+            return Ok(true);
         }
-        if self.is_odd(&packet) {
+        if self.is_odd(packet) {
             return Err(SegmentFault::Parity(held.number));
         }
         if !self.is_confirmed(packet.pid()) {
-            return Ok(None);
+            return Ok(false);
         }
-        descramble(&mut packet, &self.word.bytes, held.position);
-        Ok(Some(packet))
+        descramble(packet, &self.word.bytes, held.position);
+        Ok(true)
     }
 
     // Whether the packet can't be one under the control word.
