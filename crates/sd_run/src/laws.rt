@@ -11,7 +11,7 @@ ghost use Rattle.sd_run_trial.specs.Opened.{opened_lines};
 ghost use Rattle.sd_run_trial.specs.Trial.{printing as tried};
 ghost use Rattle.sd_run.specs.Good.{IsGoodAccounts, IsGoodBooks, IsGoodLayered, IsGoodLcard, IsGoodOpens, IsGoodTrace};
 ghost use Rattle.sd_run.specs.Left.{HasOut, IsAsBefore};
-ghost use Rattle.sd_run.specs.Tried.{IsGoodTrial};
+ghost use Rattle.sd_run.specs.Tried.{IsGoodTrial, plan_tried};
 ghost use Rattle.sd_book.specs.Commands.{revoked};
 ghost use Rattle.sd_book.specs.declared.command.Command.{Command};
 ghost use Rattle.sd_steiner.specs.Cover.{cover_of};
@@ -130,7 +130,7 @@ pub fn good_traces_are_printed()
 pub fn good_trials_are_printed()
     ensures { (words : List (List ℕ)) (files : Files) (good : IsGoodTrial words (told_by files)) →
         (meaning words (told_by files)).result ≡ Ok (tried (Ok
-        (opened_lines good.plan (taken_of good.bytes) (2 ^ good.plan.site.height)))) }
+        (opened_lines (plan_tried good) (taken_of good.bytes) (2 ^ good.fields.height)))) }
 {}
 
 /// Whatever a run over told files answers, all files are as they were, and none was made; or one was, OUT of the work

@@ -6,7 +6,8 @@ use Rattle.sd_run_help.specs.declared.topic.Topic.TheVariants.{Receive, Sample, 
 use Rattle.sd_run_help.specs.declared.operand.Operand.{Operand}
 use Rattle.sd_run_help.specs.declared.operand.Operand.TheVariants as word
 use Rattle.sd_run_help.specs.declared.exit.Exit.{Exit}
-use Rattle.sd_run_help.specs.declared.exit.Exit.TheVariants as exit
+use Rattle.sd_run_help.specs.Exits.{exits_of_books, exits_of_cards, exits_of_clear_streams, exits_of_layers}
+use Rattle.sd_run_help.specs.Exits.{exits_of_receivers, exits_of_samples, exits_of_tables}
 
 -- the command's name
 unfoldable pub name_of : Topic → List ℕ
@@ -70,45 +71,21 @@ work_of Tables = codes "prints the tables of a stream, a line of JSON for each"
 work_of Trace = codes "prints which receivers' cards a box has, found by trials"
 work_of Trial = codes "prints what each receiver writes of a broadcast"
 
--- the exits of a command that reads a site, a book and maybe more text
-abbrev pub exits_of_books : List Exit
-exits_of_books =
-    exit.Done ∷ exit.Usage ∷ exit.Missing ∷ exit.DepotFault ∷ exit.PrintFault ∷ exit.BadSite ∷ exit.BadBook
-    ∷ exit.Limit ∷ exit.NoMemory ∷ []
-
--- those of a command that makes a card of a site
-abbrev pub exits_of_cards : List Exit
-exits_of_cards =
-    exit.Done ∷ exit.Usage ∷ exit.Missing ∷ exit.DepotFault ∷ exit.PrintFault ∷ exit.BadSite ∷ exit.Limit
-    ∷ exit.NoMemory ∷ exit.BadWord ∷ []
-
--- those of a command that reads a clear stream besides a site and a book
-abbrev pub exits_of_clear : List Exit
-exits_of_clear =
-    exit.Done ∷ exit.Usage ∷ exit.Missing ∷ exit.DepotFault ∷ exit.PrintFault ∷ exit.BadSite ∷ exit.BadBook
-    ∷ exit.BadClear ∷ exit.Limit ∷ exit.NoMemory ∷ []
-
 -- the exits that it may have
 unfoldable pub exits_of : Topic → List Exit
 exits_of Accounts = exits_of_books
 exits_of Book = exits_of_books
 exits_of Card = exits_of_cards
 exits_of Cover = exits_of_books
-exits_of Head = exits_of_clear
-exits_of Layered =
-    exit.Done ∷ exit.Usage ∷ exit.Missing ∷ exit.DepotFault ∷ exit.PrintFault ∷ exit.BadSite ∷ exit.BadBook
-    ∷ exit.Limit ∷ exit.NoMemory ∷ exit.BadWord ∷ []
+exits_of Head = exits_of_clear_streams
+exits_of Layered = exits_of_layers
 exits_of Lcard = exits_of_cards
 exits_of Opens = exits_of_books
-exits_of Receive =
-    exit.Done ∷ exit.Usage ∷ exit.Missing ∷ exit.Revoked ∷ exit.DepotFault ∷ exit.PrintFault ∷ exit.BadCard
-    ∷ exit.BadStream ∷ exit.Limit ∷ exit.NoMemory ∷ exit.Unheard ∷ exit.Unclosed ∷ exit.Gaps ∷ exit.NoCat ∷ []
-exits_of Sample =
-    exit.Done ∷ exit.Usage ∷ exit.Missing ∷ exit.DepotFault ∷ exit.PrintFault ∷ exit.NoMemory ∷ exit.BadWord ∷ []
-exits_of Tables =
-    exit.Done ∷ exit.Usage ∷ exit.Missing ∷ exit.DepotFault ∷ exit.PrintFault ∷ exit.BadStream ∷ exit.NoMemory ∷ []
+exits_of Receive = exits_of_receivers
+exits_of Sample = exits_of_samples
+exits_of Tables = exits_of_tables
 exits_of Trace = exits_of_books
-exits_of Trial = exits_of_clear
+exits_of Trial = exits_of_clear_streams
 
 -- an example of its words
 unfoldable pub example_of : Topic → List ℕ

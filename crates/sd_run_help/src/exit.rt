@@ -1,5 +1,6 @@
 ghost use Rattle.std.specs.Prelude.{◌≡◌};
-ghost use Rattle.sd_run_help.specs.Exits.{line_of};
+ghost use Rattle.sd_run_help.specs.Exits.{exits_of_books, exits_of_cards, exits_of_clear_streams, exits_of_layers};
+ghost use Rattle.sd_run_help.specs.Exits.{exits_of_receivers, exits_of_samples, exits_of_tables, line_of};
 
 /// An exit of the program.
 #[derive(Clone, Copy)]
@@ -51,4 +52,126 @@ impl Exit {
             Exit::BadWord => "  17  word N is no decimal, or out of its range\n",
         }
     }
+}
+
+/// The exits of a command that reads a site, a book and maybe more text.
+pub fn of_books() -> &'static [Exit]
+    ensures { result.now ≡ exits_of_books }
+{
+    &[
+        Exit::Done,
+        Exit::Usage,
+        Exit::Missing,
+        Exit::DepotFault,
+        Exit::PrintFault,
+        Exit::BadSite,
+        Exit::BadBook,
+        Exit::Limit,
+        Exit::NoMemory,
+    ]
+}
+
+/// The exits of a command that makes a card of a site.
+pub fn of_cards() -> &'static [Exit]
+    ensures { result.now ≡ exits_of_cards }
+{
+    &[
+        Exit::Done,
+        Exit::Usage,
+        Exit::Missing,
+        Exit::DepotFault,
+        Exit::PrintFault,
+        Exit::BadSite,
+        Exit::Limit,
+        Exit::NoMemory,
+        Exit::BadWord,
+    ]
+}
+
+/// The exits of a command that reads a clear stream besides a site and a book.
+pub fn of_clear_streams() -> &'static [Exit]
+    ensures { result.now ≡ exits_of_clear_streams }
+{
+    &[
+        Exit::Done,
+        Exit::Usage,
+        Exit::Missing,
+        Exit::DepotFault,
+        Exit::PrintFault,
+        Exit::BadSite,
+        Exit::BadBook,
+        Exit::BadClear,
+        Exit::Limit,
+        Exit::NoMemory,
+    ]
+}
+
+/// The exits of a command that takes a width besides a site and a book.
+pub fn of_layers() -> &'static [Exit]
+    ensures { result.now ≡ exits_of_layers }
+{
+    &[
+        Exit::Done,
+        Exit::Usage,
+        Exit::Missing,
+        Exit::DepotFault,
+        Exit::PrintFault,
+        Exit::BadSite,
+        Exit::BadBook,
+        Exit::Limit,
+        Exit::NoMemory,
+        Exit::BadWord,
+    ]
+}
+
+/// The exits of a command that opens a broadcast with a card.
+pub fn of_receivers() -> &'static [Exit]
+    ensures { result.now ≡ exits_of_receivers }
+{
+    &[
+        Exit::Done,
+        Exit::Usage,
+        Exit::Missing,
+        Exit::Revoked,
+        Exit::DepotFault,
+        Exit::PrintFault,
+        Exit::BadCard,
+        Exit::BadStream,
+        Exit::Limit,
+        Exit::NoMemory,
+        Exit::Unheard,
+        Exit::Unclosed,
+        Exit::Gaps,
+        Exit::NoCat,
+    ]
+}
+
+/// The exits of a command that makes a stream of a number.
+pub fn of_samples() -> &'static [Exit]
+    ensures { result.now ≡ exits_of_samples }
+{
+    &[
+        Exit::Done,
+        Exit::Usage,
+        Exit::Missing,
+        Exit::DepotFault,
+        Exit::PrintFault,
+        Exit::NoMemory,
+        Exit::BadWord,
+    ]
+}
+
+/// The exits of a command that shows a stream.
+pub fn of_tables() -> &'static [Exit]
+    ensures { result.now ≡ exits_of_tables }
+{
+    &[
+        Exit::Done,
+        Exit::Usage,
+        Exit::Missing,
+        Exit::DepotFault,
+        Exit::PrintFault,
+        Exit::BadStream,
+        Exit::NoMemory,
+    ]
 }

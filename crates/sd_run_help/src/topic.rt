@@ -1,7 +1,7 @@
 ghost use Rattle.std.specs.Prelude.{◌≡◌};
 ghost use Rattle.sd_run_help.specs.Topics.{example_of, exits_of, name_of, operands_of, topic_of, work_of};
 
-use crate::exit::Exit;
+use crate::exit::{self, Exit};
 use crate::operand::Operand;
 
 /// A command that help is given on.
@@ -140,86 +140,15 @@ impl Topic {
         ensures { result.now ≡ exits_of self }
     {
         match self {
-            Topic::Accounts | Topic::Book | Topic::Cover | Topic::Opens | Topic::Trace => &[
-                Exit::Done,
-                Exit::Usage,
-                Exit::Missing,
-                Exit::DepotFault,
-                Exit::PrintFault,
-                Exit::BadSite,
-                Exit::BadBook,
-                Exit::Limit,
-                Exit::NoMemory,
-            ],
-            Topic::Card | Topic::Lcard => &[
-                Exit::Done,
-                Exit::Usage,
-                Exit::Missing,
-                Exit::DepotFault,
-                Exit::PrintFault,
-                Exit::BadSite,
-                Exit::Limit,
-                Exit::NoMemory,
-                Exit::BadWord,
-            ],
-            Topic::Head | Topic::Trial => &[
-                Exit::Done,
-                Exit::Usage,
-                Exit::Missing,
-                Exit::DepotFault,
-                Exit::PrintFault,
-                Exit::BadSite,
-                Exit::BadBook,
-                Exit::BadClear,
-                Exit::Limit,
-                Exit::NoMemory,
-            ],
-            Topic::Layered => &[
-                Exit::Done,
-                Exit::Usage,
-                Exit::Missing,
-                Exit::DepotFault,
-                Exit::PrintFault,
-                Exit::BadSite,
-                Exit::BadBook,
-                Exit::Limit,
-                Exit::NoMemory,
-                Exit::BadWord,
-            ],
-            Topic::Receive => &[
-                Exit::Done,
-                Exit::Usage,
-                Exit::Missing,
-                Exit::Revoked,
-                Exit::DepotFault,
-                Exit::PrintFault,
-                Exit::BadCard,
-                Exit::BadStream,
-                Exit::Limit,
-                Exit::NoMemory,
-                Exit::Unheard,
-                Exit::Unclosed,
-                Exit::Gaps,
-                Exit::NoCat,
-            ],
-            Topic::Sample => &[
-                Exit::Done,
-                Exit::Usage,
-                Exit::Missing,
-                Exit::DepotFault,
-                Exit::PrintFault,
-                Exit::NoMemory,
-                Exit::BadWord,
-            ],
-            Topic::Tables => &[
-                Exit::Done,
-                Exit::Usage,
-                Exit::Missing,
-                Exit::DepotFault,
-                Exit::PrintFault,
-                Exit::BadStream,
-                Exit::NoMemory,
-            ],
+            Topic::Accounts | Topic::Book | Topic::Cover | Topic::Opens | Topic::Trace => {
+                exit::of_books()
+            }
+            Topic::Card | Topic::Lcard => exit::of_cards(),
+            Topic::Head | Topic::Trial => exit::of_clear_streams(),
+            Topic::Layered => exit::of_layers(),
+            Topic::Receive => exit::of_receivers(),
+            Topic::Sample => exit::of_samples(),
+            Topic::Tables => exit::of_tables(),
         }
     }
 

@@ -1,30 +1,19 @@
-ghost use Rattle.std.specs.Prelude.{◌≡◌, ◌<◌};
-
-use sd_ports::{Depot, MemDepot, MemSink, Sink};
-use sd_run::run;
+use crate::changes::PACKET;
+use crate::runs::{SITE, uncounted};
+use sd_ports::{MemDepot, MemSink};
 use sd_status::Status;
-use sd_steps::Steps;
 use std::alloc::{AllocError, Global};
-use std::marker::Brand;
-use std::sync::ledger::{Blank, Ledger};
 
 /// The files of examples/: site.txt, accounts.txt, pooled.txt and pair.txt.
-const FILES: [(&str, &str); 4] = [
+const FILES: [(&str, &[u8]); 4] = [
     ("site", SITE),
-    ("accounts", "assign ann 5\nassign bob 2\nperiod\ndrop ann\n"),
-    ("pooled", "5\n"),
-    ("pair", "1\n6\n"),
+    (
+        "accounts",
+        b"assign ann 5\nassign bob 2\nperiod\ndrop ann\n",
+    ),
+    ("pooled", b"5\n"),
+    ("pair", b"1\n6\n"),
 ];
-
-const SITE: &str = "height 3
-master 000102030405060708090a0b0c0d0e0f101112131415161718191a1b1c1d1e1f
-ca 1234
-emm 496
-ecm 497
-ecm-every 200
-crypto-ecms 2
-period-cryptos 1
-";
 
 const REPORT: &str =
     r#"{"accounts":[{"active":false,"leaf":5,"name":"ann"},{"active":true,"leaf":2,"name":"bob"}],"height":3,"period":1}
@@ -56,9 +45,7 @@ receiver 6 wrote 600 done
 receiver 7 wrote 600 done
 ";
 
-/// The bytes of a packet, and how many packets are clear, and of them of period 0.
-const PACKET: usize = 188;
-
+/// How many packets are clear, and of them of period 0.
 const CLEAR: usize = 600;
 
 const FIRST: usize = 400;
@@ -153,9 +140,9 @@ fn pirates_are_found(rt: HostRuntime) -> Result<(), AllocError> {
 /// A depot that has the day's files.
 fn shelf(alloc: Global) -> Result<MemDepot, AllocError> {
     let mut depot = MemDepot::new(alloc, ROOM, PIECE).map_err(|_| AllocError)?;
-    for (name, text) in FILES {
+    for (name, bytes) in FILES {
         depot
-            .put(name, Vec::from_slice(alloc, text.as_bytes())?)
+            .put(name, Vec::from_slice(alloc, bytes)?)
             .map_err(|_| AllocError)?;
     }
     Ok(depot)
@@ -205,29 +192,4 @@ fn answered(
     let mut print = MemSink::new(alloc, 4096, 4096, Vec::new(alloc)).map_err(|_| AllocError)?;
     let status = uncounted(alloc, &list, depot, &mut print);
     Ok((status, print.into_bytes()))
-}
-
-/// Runs the words and counts no step.
-fn uncounted<D: Depot, P: Sink>(
-    alloc: Global,
-    words: &[String],
-    depot: &mut D,
-    print: &mut P,
-) -> Status {
-    counted::<D, P, Brand>(alloc, words, depot, print, Blank::new(1))
-}
-
-fn counted<D: Depot, P: Sink, L: Ledger>(
-    alloc: Global,
-    words: &[String],
-    depot: &mut D,
-    print: &mut P,
-    blank: Blank,
-) -> Status
-    requires name { blank.name ≡ L.name }
-    requires parts { blank.parts ≡ L.parts }
-    requires some { 0 < blank.parts }
-{
-    let mut steps = Steps::<L>::new(blank);
-    run(alloc, words, depot, print, &mut steps)
 }

@@ -153,7 +153,7 @@ pub fn left(
 }
 
 /// Runs the words and counts no step.
-fn uncounted<D: Depot, P: Sink>(
+pub fn uncounted<D: Depot, P: Sink>(
     alloc: Global,
     words: &[String],
     depot: &mut D,

@@ -1,10 +1,12 @@
-//! Tests of what the commands answer and leave where devices fail and where input is hostile.
+//! Tests of the program's one call: the day of examples/day.sh, failing devices and hostile input.
 #![tactic(auto)]
 
 #[cfg(test)]
 mod changes;
 #[cfg(test)]
 mod commands;
+#[cfg(test)]
+mod day;
 #[cfg(test)]
 mod devices;
 #[cfg(test)]
