@@ -8,8 +8,6 @@ use std::alloc::{AllocError, Global};
 use std::marker::Brand;
 use std::sync::ledger::{Blank, Ledger};
 
-const SIZE: usize = 188;
-
 /// A stage that copies the packets, and refuses the one of the number `bad` by its number.
 #[derive(Drop)]
 struct Copier {

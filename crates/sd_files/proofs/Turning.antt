@@ -70,7 +70,7 @@ made_short : (out : Word) (bytes : List ℕ) (ends : Status) (p q r : Place) (le
     IsMadeShort (record { word = out.number; name = out.text; bytes = bytes }) p r
 made_short out bytes ends p q r left held held' from f f' o o' over result h =
     let cut = cut_short p.files q.files r.files out.text bytes held held' h.opened.files h.opened.empty
-    (wrote_prefix bytes ends held held' (status_of over) h.wrote) h.closed.front in
+    (wrote_prefix bytes ends held held' (status_of over) h.wrote) h.closed.prefix in
     record { prefix = cut.0; short = cut.1; files = cut.2; made = h.closed.made ∙ h.opened.made }
 
 missed : (out : Word) (bytes : List ℕ) (ends : Status) (p q r : Place) (left held held' : Option (List ℕ))

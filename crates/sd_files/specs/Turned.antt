@@ -72,7 +72,7 @@ EndsClosed a b out held faults ended result =
 pub record IsClosed (a b : Place) (out : List ℕ) (held : Option (List ℕ)) (from_faults out_faults : ℕ)
     (ended result : Result (Unit {0}) Status) : Type 0 where
   pub within : a.faults < 2 ^ 64
-  pub front : LeavesPrefix a.files b.files out held
+  pub prefix : LeavesPrefix a.files b.files out held
   pub ends : EndsClosed a b out held (with_added (with_added a.faults from_faults) out_faults) ended result
   pub misses : b.misses ≡ a.misses
   pub made : b.made ≡ a.made

@@ -2,7 +2,6 @@
 use Rattle.std.proofs.Common.{◌≡◌, ◌<◌, ℕ, ◌+◌, ◌-◌, List, [], ◌∷◌, ◌++◌, Bool, true, false, cond, ◌||◌, length}
 use Rattle.std.proofs.Common.{take, drop, map, refl, ap, sym, ◌∙◌, string_bytes, get_or, append-nil}
 use Rattle.std.specs.Prelude.{filter}
-use Rattle.std.specs.List.{list_any}
 use Rattle.std.specs.Str.{bytes_eq}
 use Rattle.std.proofs.lemmas.List.{map-append, length-map, drop-map, take_more}
 use Rattle.std.proofs.lemmas.List.Folds.{list_any-append}

@@ -4,4 +4,4 @@ pub mod Shelves
 pub mod Calls
 pub mod Rooms
 pub mod Failings
-pub mod Fronts
+pub mod Prefixes

@@ -96,10 +96,10 @@ written_whole a b c i j k name bytes h held e f w p m l n = record {
 }
 
 -- a port that took a prefix of these bytes and was closed leaves a prefix of them in a file that was made
-pub written_front : (a b c : Option Files) (i j k : ℕ) (name bytes : List ℕ) (h held : Option (List ℕ))
+pub written_prefix : (a b c : Option Files) (i j k : ℕ) (name bytes : List ℕ) (h held : Option (List ℕ))
     → b ≡ with_bytes a name [] → IsFresh a h → AppendsPrefix h held bytes → LeavesPrefix b c name held
     → j ≡ with_added i 1 → i ≤ j → k ≡ j → WritesFile {T = Unit {0}} a c i k name bytes (Err Failed)
-written_front a b c i j k name bytes h held e f w p m l n =
+written_prefix a b c i j k name bytes h held e f w p m l n =
     let q = cut_short a b c name bytes h held e f w p in
     record {
       later = subst (λ (x : ℕ). i ≤ x) (sym n) l;
@@ -115,7 +115,7 @@ pub written_cut : (a b c : Option Files) (i j k : ℕ) (name bytes : List ℕ) (
     → b ≡ with_bytes a name [] → IsFresh a h → Appends h held bytes → LeavesPrefix b c name held → j ≡ with_added i 1
     → i ≤ j → k ≡ j → WritesFile {T = Unit {0}} a c i k name bytes (Err Failed)
 written_cut a b c i j k name bytes h held e f w p m l n =
-    written_front a b c i j k name bytes h held e f (bytes, ([], append-nil bytes), w) p m l n
+    written_prefix a b c i j k name bytes h held e f (bytes, ([], append-nil bytes), w) p m l n
 
 -- the first of what a port of told files held are a prefix of it
 pub half_stays : (m n : Files) (name held : List ℕ) (k : ℕ) → n ≡ insert m name (take k held)

@@ -1,5 +1,5 @@
-use Rattle.std.specs.Prelude.{◌≡◌, ℕ, ◌<◌, ◌≤◌, nat_lt, Bool, List, ◌++◌, length, take, drop, Option, None, Some}
-use Rattle.std.specs.Io.KnownBytes.{Appends, Consumes, IsAtEnd, append_known}
+use Rattle.std.specs.Prelude.{◌≡◌, ℕ, ◌<◌, nat_lt, Bool, List, ◌++◌, length, take, Option, None, Some}
+use Rattle.std.specs.Io.KnownBytes.{Appends, Consumes, IsAtEnd}
 
 -- the first bytes of others
 abbrev pub IsPrefix : List ℕ → List ℕ → Type 0
@@ -17,25 +17,21 @@ LosesPrefix old new = (prefix : List ℕ) × Consumes old new prefix
 abbrev pub GivesAll : Option (List ℕ) → Option (List ℕ) → List ℕ → Type 0
 GivesAll old new bytes = Consumes old new bytes × IsAtEnd new
 
--- what was taken from the front of an input: its bytes, and whether a further byte was read
-pub record Front : Type 0 where
+-- a prefix that was taken of an input: its bytes, and whether a further byte was read
+pub record Prefix : Type 0 where
   pub bytes : List ℕ
   pub more : Bool
 
--- at most so many bytes from the front of these
-abbrev pub front_of : ℕ → List ℕ → Front
-front_of most bytes = record { bytes = take most bytes; more = nat_lt most (length bytes) }
+-- the first of these bytes, at most so many
+abbrev pub prefix_of : ℕ → List ℕ → Prefix
+prefix_of most bytes = record { bytes = take most bytes; more = nat_lt most (length bytes) }
 
--- it was taken from the front of what was left, where that is told
-abbrev pub IsFrontOf : ℕ → Option (List ℕ) → Front → Type 0
-IsFrontOf most None front = Unit {0}
-IsFrontOf most (Some left) front = front ≡ front_of most left
+-- it was taken of what was left, where that is told
+abbrev pub IsTakenFrom : ℕ → Option (List ℕ) → Prefix → Type 0
+IsTakenFrom most None prefix = Unit {0}
+IsTakenFrom most (Some left) prefix = prefix ≡ prefix_of most left
 
 -- more bytes than these were left
 abbrev pub IsLonger : Option (List ℕ) → ℕ → Type 0
 IsLonger None most = Unit {0}
 IsLonger (Some bytes) most = most < length bytes
-
--- what a port with a buffer was given: what its writer holds, and then the bytes that wait from this place on
-abbrev pub given_to : Option (List ℕ) → List ℕ → ℕ → Option (List ℕ)
-given_to contents waiting sent = append_known contents (drop sent waiting)

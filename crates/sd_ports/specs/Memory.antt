@@ -1,6 +1,6 @@
 use Rattle.std.specs.Prelude.{refl, ℕ, map, string_bytes, String, Vec, ◌-◌, Bool, ◌||◌, if◌then◌else◌}
-use Rattle.std.specs.Prelude.{nat_eq, nat_lt, min, List, [], ◌++◌, length, take, drop, Option, Some, None}
-use Rattle.std.specs.Prelude.{◌∷◌, ◌+◌, ◌/◌}
+use Rattle.std.specs.Prelude.{nat_lt, min, List, [], ◌++◌, length, take, drop, Option, Some, None}
+use Rattle.std.specs.Prelude.{◌∷◌, ◌/◌}
 use Rattle.std.specs.FinMap.{from_entries, code, empty, insert}
 use Rattle.std.specs.Coded.{Coded, code_by, coded×, coded_ℕ, coded_list}
 use Rattle.std.specs.BTreeMap.{BTreeMap}
@@ -20,12 +20,6 @@ pub record Supply : Type 0 where
   pub fails : List ℕ
   pub reads : ℕ
   pub faults : ℕ
-
--- a source in memory whose reads never fail: all its bytes, those to come, and the most bytes of a read
-pub record Stock : Type 0 where
-  pub whole : List ℕ
-  pub left : List ℕ
-  pub most : ℕ
 
 -- a sink in memory: the bytes taken, how many it has room for, the most bytes of a write, which writes fail, and how
 -- many writes there were and failed
@@ -185,18 +179,6 @@ after_read s space =
           with_added s.reads 1;
       faults = s.faults;
     }
-
--- how many bytes a read that can't fail gives into so much space
-abbrev pub given_of : Stock → ℕ → ℕ
-given_of s space = min s.most (min space (length s.left))
-
--- a source whose reads never fail, after a read into so much space
-abbrev pub after_take : Stock → ℕ → Stock
-after_take s space = record s { left = drop (given_of s space) s.left }
-
--- such a source, once it begins again
-abbrev pub rewound : Stock → Stock
-rewound s = record s { left = s.whole }
 
 -- how many more bytes there is room for, told where no write is to fail by its number
 abbrev pub room_by : List ℕ → ℕ → Option ℕ

@@ -46,8 +46,8 @@ pub trait Depot {
     /// Makes an empty file, in place of one that had the name, and opens it for writing. `Missing` is a folder that
     /// isn't there.
     fn create_out(&mut self, alloc: Global, name: &str) -> Result<Self::Outlet, DepotFault>
-        ensures created { OnOk result (files self.new ≡ with_bytes (files self.old) name.now []) }
-        ensures refused { OnErr result (files self.new ≡ files self.old) }
+        ensures files { OnOk result (files self.new ≡ with_bytes (files self.old) name.now []) }
+        ensures unchanged { OnErr result (files self.new ≡ files self.old) }
         ensures empty { IfOk result (λ port. IsFresh (files self.old) (Self.Outlet.held port)) }
         ensures fresh { IfOk result (λ port. Self.Outlet.faults port ≡ 0) }
         ensures missing { IsErrOf result DepotFault.Missing → files self.old ≡ None }
@@ -71,7 +71,7 @@ pub trait Depot {
     fn close_out(&mut self, name: &str, port: Self::Outlet) -> Result<(), DepotFault>
         requires { IsThere (files self.old) name.now }
         ensures closed { OnOk result (Closes (files self.old) (files self.new) name.now (Self.Outlet.held port)) }
-        ensures front { LeavesPrefix (files self.old) (files self.new) name.now (Self.Outlet.held port) }
+        ensures prefix { LeavesPrefix (files self.old) (files self.new) name.now (Self.Outlet.held port) }
         ensures failed { OnErr result (IsErrOf result DepotFault.Failed) }
         ensures cause { HasCause (with_added (faults self.old) (Self.Outlet.faults port)) (faults self.new) result }
         ensures within { faults self.old < 2 ^ 64 }

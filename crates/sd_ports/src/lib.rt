@@ -1,16 +1,14 @@
-//! The outside as traits: sources, sinks and depots of files, in memory and on the host.
+//! The outside as traits: sources, sinks and depots of files, and those in memory.
 #![tactic(auto)]
 
 mod depot;
 mod failing;
 mod fault;
 mod file;
-mod front;
-mod host;
-mod identity;
-mod never;
+mod prefix;
 mod shelf;
 mod sink;
+mod slice;
 mod source;
 mod store;
 mod supply;
@@ -21,11 +19,10 @@ mod whole;
 pub use depot::Depot;
 pub use fault::{DepotFault, PortFault};
 pub use file::{FileFault, read_file, write_file};
-pub use front::{ReadMostFault, Taken, read_most};
-pub use host::{HostDepot, HostInlet, HostOutlet, StdPrint};
-pub use never::{NeverSink, NeverSource};
+pub use prefix::{ReadMostFault, Taken, read_most};
 pub use shelf::MemDepot;
 pub use sink::Sink;
+pub use slice::SliceSource;
 pub use source::Source;
 pub use store::MemSink;
 pub use supply::MemSource;

@@ -209,8 +209,8 @@ impl Depot for MemDepot {
 
     /// The empty file and the sink's room are taken at once.
     fn create_out(&mut self, alloc: Global, name: &str) -> Result<MemSink, DepotFault>
-        ensures created { OnOk result (Some self.new.files ≡ with_bytes (Some self.old.files) name.now []) }
-        ensures refused { OnErr result (Some self.new.files ≡ Some self.old.files) }
+        ensures files { OnOk result (Some self.new.files ≡ with_bytes (Some self.old.files) name.now []) }
+        ensures unchanged { OnErr result (Some self.new.files ≡ Some self.old.files) }
         ensures empty { IfOk result (λ port. IsFresh (Some self.old.files) (Some port.held)) }
         ensures fresh { IfOk result (λ port. port.faults ≡ 0) }
         ensures missing { IsErrOf result DepotFault.Missing → Some self.old.files ≡ None }
@@ -270,7 +270,7 @@ impl Depot for MemDepot {
     fn close_out(&mut self, name: &str, port: MemSink) -> Result<(), DepotFault>
         requires { IsThere (Some self.old.files) name.now }
         ensures closed { OnOk result (Closes (Some self.old.files) (Some self.new.files) name.now (Some port.held)) }
-        ensures front { LeavesPrefix (Some self.old.files) (Some self.new.files) name.now (Some port.held) }
+        ensures prefix { LeavesPrefix (Some self.old.files) (Some self.new.files) name.now (Some port.held) }
         ensures failed { OnErr result (IsErrOf result DepotFault.Failed) }
         ensures cause { HasCause (with_added self.old.faults port.faults) self.new.faults result }
         ensures within { self.old.faults < 2 ^ 64 }
@@ -315,8 +315,8 @@ fn set(
     name: &str,
     bytes: Vec<u8>,
 ) -> Result<(), NoMemory>
-    ensures set { OnOk result (told_files files.new ≡ map.insert (told_files files.old) name.now bytes.items) }
-    ensures refused { OnErr result (told_files files.new ≡ told_files files.old) }
+    ensures files { OnOk result (told_files files.new ≡ map.insert (told_files files.old) name.now bytes.items) }
+    ensures unchanged { OnErr result (told_files files.new ≡ told_files files.old) }
 {
     let Ok(key) = String::from_str(alloc, name) else {
         return Err(NoMemory);

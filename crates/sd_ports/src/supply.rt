@@ -89,9 +89,9 @@ impl Source for MemSource {
 }
 
 /// Copies a prefix of the bytes to the buffer's beginning, and answers its length.
-pub(crate) fn give(bytes: &[u8], most: usize, buf: &mut [u8]) -> usize
+fn give(bytes: &[u8], most: usize, buf: &mut [u8]) -> usize
     ensures count { result ≡ min most (min (length buf.old) (length bytes.now)) }
-    ensures front { take result buf.new ≡ take result bytes.now }
+    ensures bytes { take result buf.new ≡ take result bytes.now }
 {
     let count = most.min(buf.len()).min(bytes.len());
     buf[..count].copy_from_slice(&bytes[..count]);

@@ -1,11 +1,8 @@
 use crate::{
-    Depot, FileFault, HostDepot, MemDepot, MemSink, MemSource, NeverSink, NeverSource, PortFault,
-    ReadAllFault, ReadMostFault, Source, StdPrint, read_all, read_file, read_most, write_all,
-    write_file,
+    Depot, FileFault, MemDepot, MemSink, MemSource, PortFault, ReadAllFault, ReadMostFault,
+    SliceSource, Source, read_all, read_file, read_most, write_all, write_file,
 };
 use std::alloc::{AllocError, Global};
-use std::fs;
-use std::os::unix::fs::symlink;
 
 const TEXT: &[u8] = b"abcdefg";
 
@@ -26,7 +23,7 @@ fn reads(
     Ok(same && source.faults() == faults)
 }
 
-// Whether so much is taken from the front of a source of TEXT, of which one read fails.
+// Whether such a prefix of a source of TEXT, of which one read fails, is taken.
 fn begins(
     alloc: Global,
     (part, failing, most): (usize, u32, usize),
@@ -65,9 +62,9 @@ fn takes(
 }
 
 // Whether a file is read so.
-fn gives<D: Depot>(
+fn gives(
     alloc: Global,
-    depot: &mut D,
+    depot: &mut MemDepot,
     name: &str,
     most: usize,
     want: Result<&str, FileFault>,
@@ -115,14 +112,13 @@ fn bytes_go_through_in_portions(rt: HostRuntime) -> Result<(), AllocError> {
     ] {
         assert!(rt; takes(alloc, case, held)?);
     }
-    let mut paper = [0u8; 3];
-    let printed = write_all(&mut StdPrint::new(&mut paper[..]), TEXT);
-    assert!(rt; printed == Err(PortFault) && &paper == b"abc");
+    let lent = read_all(alloc, &mut SliceSource::new(TEXT), 7);
+    assert!(rt; lent.is_ok_and(|bytes| bytes.as_slice() == TEXT));
     Ok(())
 }
 
 #[test]
-fn the_front_of_an_input_is_taken(rt: HostRuntime) -> Result<(), AllocError> {
+fn a_prefix_of_an_input_is_taken(rt: HostRuntime) -> Result<(), AllocError> {
     for (case, want) in [
         ((1, 9, 7), Ok(("abcdefg", false))),
         ((3, 9, 8), Ok(("abcdefg", false))),
@@ -135,18 +131,6 @@ fn the_front_of_an_input_is_taken(rt: HostRuntime) -> Result<(), AllocError> {
     ] {
         assert!(rt; begins(rt.alloc(), case, want)?);
     }
-    Ok(())
-}
-
-#[test]
-fn some_ports_never_fail(rt: HostRuntime) -> Result<(), AllocError> {
-    let mut source = NeverSource::new(Vec::from_slice(rt.alloc(), TEXT)?, 3);
-    for _ in 0..2 {
-        let read = read_all(rt.alloc(), &mut source, 7);
-        assert!(rt; read.is_ok_and(|read| read.as_slice() == TEXT));
-        source.rewind();
-    }
-    assert!(rt; write_all(&mut NeverSink::new(), TEXT) == Ok(()));
     Ok(())
 }
 
@@ -214,19 +198,6 @@ fn depots_keep_files_apart(rt: HostRuntime) -> Result<(), AllocError> {
 }
 
 #[test]
-fn the_host_opens_files(rt: HostRuntime) {
-    let mut depot = HostDepot::new(rt.alloc(), &rt);
-    for (name, want) in [
-        ("/dev/null", Ok("")),
-        ("/dev/zero", Err(FileFault::TooBig)),
-        ("/dev", Err(FileFault::Failed)),
-        ("no such file", Err(FileFault::Missing)),
-    ] {
-        assert!(rt; gives(rt.alloc(), &mut depot, name, 200000, want));
-    }
-}
-
-#[test]
 fn files_are_made_and_replaced(rt: HostRuntime) -> Result<(), AllocError> {
     let alloc = rt.alloc();
     let mut depot = shelf(alloc)?;
@@ -241,41 +212,4 @@ fn files_are_made_and_replaced(rt: HostRuntime) -> Result<(), AllocError> {
     assert!(rt; depot.get("a") == Some(TEXT) && depot.made() == 3);
     assert!(rt; depot.faults() == 1 && depot.misses() == 0);
     Ok(())
-}
-
-#[test]
-fn the_host_writes_files(rt: HostRuntime) {
-    let alloc = rt.alloc();
-    let mut depot = HostDepot::new(rt.alloc(), &rt);
-    let bytes = [7; 70000];
-    for (name, size, want) in [
-        ("sd_ports_written", 70000, Ok(())),
-        ("/dev/full", 1, Err(FileFault::Failed)),
-        ("/dev/full", 70000, Err(FileFault::Failed)),
-        ("no such folder/file", 1, Err(FileFault::Missing)),
-    ] {
-        assert!(rt; write_file(alloc, &mut depot, name, &bytes[..size]) == want);
-    }
-    let read = read_file(alloc, &mut depot, "sd_ports_written", 70000);
-    assert!(rt; read.is_ok_and(|read| read.as_slice() == bytes.as_slice()));
-    assert!(rt; fs::remove_file(&rt, "sd_ports_written").is_ok());
-}
-
-#[test]
-fn an_input_is_never_made_anew(rt: HostRuntime) {
-    let alloc = rt.alloc();
-    let (name, hard, symbolic) = ("sd_ports_input", "sd_ports_hard", "sd_ports_symbolic");
-    let mut depot = HostDepot::new(alloc, &rt);
-    assert!(rt; write_file(alloc, &mut depot, name, TEXT) == Ok(()));
-    assert!(rt; fs::hard_link(&rt, name, hard).is_ok() && symlink(&rt, name, symbolic).is_ok());
-    // Until the file is opened for reading, it is made anew.
-    assert!(rt; write_file(alloc, &mut depot, hard, b"abc") == Ok(()));
-    assert!(rt; gives(alloc, &mut depot, name, 7, Ok("abc")));
-    for alias in [name, "./sd_ports_input", hard, symbolic] {
-        assert!(rt; write_file(alloc, &mut depot, alias, TEXT) == Err(FileFault::Failed));
-        assert!(rt; gives(alloc, &mut depot, name, 7, Ok("abc")));
-    }
-    for file in [name, hard, symbolic] {
-        assert!(rt; fs::remove_file(&rt, file).is_ok());
-    }
 }

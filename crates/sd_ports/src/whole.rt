@@ -5,7 +5,7 @@ ghost use Rattle.sd_ports.specs.Rooms.{FillsRoom};
 ghost use Rattle.sd_ports.specs.Bytes.{AppendsPrefix, LosesPrefix, GivesAll, IsLonger};
 
 use crate::fault::PortFault;
-use crate::front::{ReadMostFault, read_most};
+use crate::prefix::{ReadMostFault, read_most};
 use crate::sink::Sink;
 use crate::source::Source;
 use std::alloc::Global;
@@ -48,7 +48,7 @@ pub fn read_all<S: Source>(
 #[tactic(auto, using(crate::proofs::Portions::appends_more, crate::proofs::Rooms::none_taken, crate::proofs::Rooms::more_taken, crate::proofs::Rooms::too_long))]
 pub fn write_all<K: Sink>(sink: &mut K, bytes: &[u8]) -> Result<(), PortFault>
     ensures all { OnOk result (Appends (K.held sink.old) (K.held sink.new) bytes.now) }
-    ensures front { OnErr result (AppendsPrefix (K.held sink.old) (K.held sink.new) bytes.now) }
+    ensures prefix { OnErr result (AppendsPrefix (K.held sink.old) (K.held sink.new) bytes.now) }
     ensures cause { HasCause (K.faults sink.old) (K.faults sink.new) result }
     ensures room { FillsRoom (K.room sink.old) (K.room sink.new) (length bytes.now) result }
 {

@@ -1,4 +1,4 @@
-pub mod Fronts
+pub mod Prefixes
 pub mod Sending
 pub mod Trying
 pub mod Opened

@@ -27,16 +27,16 @@ use Rattle.sd_losses.proofs.Theorem.{whole_refused, whole_opened, whole_ended}
 use Rattle.sd_status.specs.declared.status.Status.{Status}
 use Rattle.sd_status.specs.declared.status.Status.TheVariants.{Done}
 use Rattle.sd_status.specs.Meant.{Word, Given, after, value, ◌>>=◌}
-use Rattle.sd_ports.specs.Bytes.{Front}
+use Rattle.sd_ports.specs.Bytes.{Prefix}
 use Rattle.sd_run_head.specs.Head.{sent_of, sent_status, status_where}
 use Rattle.sd_run_head.proofs.Sending.{sent_unrefused}
 use Rattle.sd_run_receive.specs.Receive.{ending_status, ended_status, received_of, received_status}
 use Rattle.sd_run_receive.proofs.Received.{none_refused, bytes_are}
 use Rattle.sd_run_trial.specs.Trial.{clear_line, lines_of, lines_to, receiver_line, sent_or, then_line, told_line}
 use Rattle.sd_run_trial.specs.Trial.{plan_meaning, printing, told_sent, trial_meaning, trial_text, trying}
-use Rattle.sd_run_trial.specs.Fronts.{front_of_file}
+use Rattle.sd_run_trial.specs.Prefixes.{prefix_of_file}
 use Rattle.sd_run_trial.specs.declared.command.TheConstants.{MOST_CLEAR_BYTES}
-use Rattle.sd_run_trial.proofs.Fronts.{whole_front}
+use Rattle.sd_run_trial.proofs.Prefixes.{whole_prefix}
 use Rattle.sd_run_trial.specs.Opened.{line_by, opened_line, opened_lines}
 
 -- so many bytes are so many packets
@@ -155,13 +155,13 @@ pub trial_good : (site book clear : Word) (given : Given) (plan : Plan) (bytes :
     AreBytes bytes → end_of bytes ≡ Whole → IsClear plan.site (taken_of bytes) →
     (trial_meaning site book clear given).result
     ≡ Ok (printing (Ok (opened_lines plan (taken_of bytes) (2 ^ plan.site.height))))
-unfolding trial_meaning front_of_file
+unfolding trial_meaning prefix_of_file
 trial_good site book clear given plan bytes is said there few are end all =
     ap (λ (r : Result Plan Status). (after (plan_meaning site book given).calls r (λ plan.
-    front_of_file clear.number MOST_CLEAR_BYTES (given clear) >>= λ front. value (trying plan front))).result) said
-    ∙ ap (λ (got : Option (List ℕ)). (front_of_file clear.number MOST_CLEAR_BYTES got
-    >>= λ front. value (trying plan front)).result) there
-    ∙ ap (λ (front : Front). Ok (trying plan front)) (whole_front MOST_CLEAR_BYTES bytes few)
+    prefix_of_file clear.number MOST_CLEAR_BYTES (given clear) >>= λ prefix. value (trying plan prefix))).result) said
+    ∙ ap (λ (got : Option (List ℕ)). (prefix_of_file clear.number MOST_CLEAR_BYTES got
+    >>= λ prefix. value (trying plan prefix)).result) there
+    ∙ ap (λ (prefix : Prefix). Ok (trying plan prefix)) (whole_prefix MOST_CLEAR_BYTES bytes few)
     ∙ ap (λ (text : Result (List ℕ) Status). Ok (printing text)) (trial_opened plan bytes is all are end)
 
 -- a trial that is done, by the ways that it may end
@@ -178,34 +178,34 @@ lines_sent : (plan : Plan) (n : ℕ) (told : Result (List ℕ) Status) (text : L
 lines_sent plan n (Ok sent) text e = (sent, refl)
 lines_sent plan n (Err status) text e = absurd (cc)
 
-sent_right : (plan : Plan) (front : Front) (sent : List ℕ) → told_sent plan front ≡ Ok sent →
-    (end_of front.bytes ≡ Whole) × IsClear plan.site (taken_of front.bytes) × (front.more ≡ false)
+sent_right : (plan : Plan) (prefix : Prefix) (sent : List ℕ) → told_sent plan prefix ≡ Ok sent →
+    (end_of prefix.bytes ≡ Whole) × IsClear plan.site (taken_of prefix.bytes) × (prefix.more ≡ false)
 unfolding told_sent sent_status
-sent_right plan front sent e =
-    done_sent (end_of front.bytes) (refusal_from plan.site [] (taken_of front.bytes)) front.more
-    (sent_of plan front.bytes) sent e
+sent_right plan prefix sent e =
+    done_sent (end_of prefix.bytes) (refusal_from plan.site [] (taken_of prefix.bytes)) prefix.more
+    (sent_of plan prefix.bytes) sent e
 
-trial_right : (plan : Plan) (front : Front) (text : List ℕ) → trial_text plan front ≡ Ok text →
-    (end_of front.bytes ≡ Whole) × IsClear plan.site (taken_of front.bytes) × (front.more ≡ false)
+trial_right : (plan : Plan) (prefix : Prefix) (text : List ℕ) → trial_text plan prefix ≡ Ok text →
+    (end_of prefix.bytes ≡ Whole) × IsClear plan.site (taken_of prefix.bytes) × (prefix.more ≡ false)
 unfolding trial_text
-trial_right plan front text e =
-    let sent = lines_sent plan (length front.bytes) (told_sent plan front) text e in
-    sent_right plan front sent.0 sent.1
+trial_right plan prefix text e =
+    let sent = lines_sent plan (length prefix.bytes) (told_sent plan prefix) text e in
+    sent_right plan prefix sent.0 sent.1
 
 -- a text is one
 one_text : (told : Result (List ℕ) Status) (a b : List ℕ) → told ≡ Ok a → told ≡ Ok b → a ≡ b
 one_text told a b e f = cc
 
-pub trial_done : (plan : Plan) (front : Front) (text : List ℕ) → IsPlan plan → AreBytes front.bytes →
-    trial_text plan front ≡ Ok text →
-    (end_of front.bytes ≡ Whole) × IsClear plan.site (taken_of front.bytes) × (front.more ≡ false)
-    × (text ≡ opened_lines plan (taken_of front.bytes) (2 ^ plan.site.height))
-trial_done plan front text is are e =
-    let right = trial_right plan front text e in (
+pub trial_done : (plan : Plan) (prefix : Prefix) (text : List ℕ) → IsPlan plan → AreBytes prefix.bytes →
+    trial_text plan prefix ≡ Ok text →
+    (end_of prefix.bytes ≡ Whole) × IsClear plan.site (taken_of prefix.bytes) × (prefix.more ≡ false)
+    × (text ≡ opened_lines plan (taken_of prefix.bytes) (2 ^ plan.site.height))
+trial_done plan prefix text is are e =
+    let right = trial_right plan prefix text e in (
       right.0,
       right.1,
       right.2,
-      one_text (trial_text plan front) text (opened_lines plan (taken_of front.bytes) (2 ^ plan.site.height)) e
-          (ap (λ (more : Bool). trial_text plan (record { bytes = front.bytes; more = more })) right.2
-          ∙ trial_opened plan front.bytes is right.1 are right.0),
+      one_text (trial_text plan prefix) text (opened_lines plan (taken_of prefix.bytes) (2 ^ plan.site.height)) e
+          (ap (λ (more : Bool). trial_text plan (record { bytes = prefix.bytes; more = more })) right.2
+          ∙ trial_opened plan prefix.bytes is right.1 are right.0),
     )

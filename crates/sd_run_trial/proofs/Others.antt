@@ -5,12 +5,12 @@ use Rattle.sd_site.specs.Fields.{SiteFields}
 use Rattle.sd_status.specs.declared.status.Status.TheVariants.{Limit}
 use Rattle.sd_status.specs.declared.status.LimitKind.TheVariants.{TrialHeight}
 use Rattle.sd_status.specs.Meant.{Word, Given, all_of, judged, value, ◌>>=◌}
-use Rattle.sd_ports.specs.Bytes.{front_of}
+use Rattle.sd_ports.specs.Bytes.{prefix_of}
 use Rattle.sd_files.specs.Files.{site_of_file, book_of_file}
 use Rattle.sd_files.proofs.Others.{IsOther, other_after, other_stream, other_site_file, other_book_file}
 use Rattle.sd_run_trial.specs.declared.plan.TheConstants.{MOST_HEIGHT}
 use Rattle.sd_run_trial.specs.declared.command.TheConstants.{MOST_CLEAR_BYTES}
-use Rattle.sd_run_trial.specs.Fronts.{front_of_file}
+use Rattle.sd_run_trial.specs.Prefixes.{prefix_of_file}
 use Rattle.sd_run_trial.specs.Trial.{told_low, low_site_of_file, plan_by, trial_meaning, trying}
 
 other_height : (high : Bool) (site : SiteFields) → IsOther (cond high (Err (Limit TrialHeight)) (Ok site))
@@ -36,10 +36,10 @@ other_plan site book site_got book_got =
     (λ commands. value (record { site = fields; commands = commands })) (other_book_file book fields.height book_got)
     (λ commands. tt))
 
-other_front : (word most : ℕ) (got : Option (List ℕ)) → IsOther (front_of_file word most got).result
-unfolding front_of_file
-other_front word most got =
-    other_after (all_of word got).calls (all_of word got).result (λ bytes. value (front_of most bytes))
+other_prefix : (word most : ℕ) (got : Option (List ℕ)) → IsOther (prefix_of_file word most got).result
+unfolding prefix_of_file
+other_prefix word most got =
+    other_after (all_of word got).calls (all_of word got).result (λ bytes. value (prefix_of most bytes))
     (other_stream word got) (λ bytes. tt)
 
 pub other_trial : (site book clear : Word) (given : Given) → IsOther (trial_meaning site book clear given).result
@@ -47,8 +47,8 @@ unfolding trial_meaning
 other_trial site book clear given =
     other_after (plan_by site.number book.number (given site) (given book)).calls
     (plan_by site.number book.number (given site) (given book)).result
-    (λ plan. front_of_file clear.number MOST_CLEAR_BYTES (given clear) >>= λ front. value (trying plan front))
+    (λ plan. prefix_of_file clear.number MOST_CLEAR_BYTES (given clear) >>= λ prefix. value (trying plan prefix))
     (other_plan site.number book.number (given site) (given book))
-    (λ plan. other_after (front_of_file clear.number MOST_CLEAR_BYTES (given clear)).calls
-    (front_of_file clear.number MOST_CLEAR_BYTES (given clear)).result (λ front. value (trying plan front))
-    (other_front clear.number MOST_CLEAR_BYTES (given clear)) (λ front. tt))
+    (λ plan. other_after (prefix_of_file clear.number MOST_CLEAR_BYTES (given clear)).calls
+    (prefix_of_file clear.number MOST_CLEAR_BYTES (given clear)).result (λ prefix. value (trying plan prefix))
+    (other_prefix clear.number MOST_CLEAR_BYTES (given clear)) (λ prefix. tt))

@@ -8,7 +8,7 @@ use Rattle.sd_card.specs.Fields.{CardFields, card_of}
 use Rattle.sd_broadcast.specs.Plan.{Plan}
 use Rattle.sd_run_head.specs.Head.{sent_of, sent_status}
 use Rattle.sd_run_receive.specs.Receive.{received_of}
-use Rattle.sd_ports.specs.Bytes.{Front, AppendsPrefix}
+use Rattle.sd_ports.specs.Bytes.{Prefix, AppendsPrefix}
 use Rattle.sd_status.specs.declared.status.Status.{Status}
 use Rattle.sd_status.specs.Outside.{Place, Page, outside}
 use Rattle.sd_status.specs.Meant.{value}
@@ -85,33 +85,33 @@ heard_as site bytes u wrote card status before now result is heard adds =
 -- All of it.
 
 -- the broadcast by what was sent and how the head end ended
-pub told_as : {X : Type 0} (view : X → List ℕ) (plan : Plan) (front : Front) (bytes sent : List ℕ) (status : Status)
-    (more : Bool) (result : Result X Status) → HasSent plan bytes sent status → bytes ≡ front.bytes →
-    more ≡ front.more → Comes view (sent_or status more sent) result → Comes view (told_sent plan front) result
+pub told_as : {X : Type 0} (view : X → List ℕ) (plan : Plan) (prefix : Prefix) (bytes sent : List ℕ) (status : Status)
+    (more : Bool) (result : Result X Status) → HasSent plan bytes sent status → bytes ≡ prefix.bytes →
+    more ≡ prefix.more → Comes view (sent_or status more sent) result → Comes view (told_sent plan prefix) result
 unfolding told_sent
-told_as view plan front bytes sent status more result h same over comes =
+told_as view plan prefix bytes sent status more result h same over comes =
     subst (λ (r : Result (List ℕ) Status). Comes view r result)
     (ap (λ (s : Status). sent_or s more sent) (h.status_is ∙ ap (sent_status plan) same)
-    ∙ ap (λ (m : Bool). sent_or (sent_status plan front.bytes) m sent) over
-    ∙ ap (sent_or (sent_status plan front.bytes) front.more) (h.sent_are ∙ ap (sent_of plan) same)) comes
+    ∙ ap (λ (m : Bool). sent_or (sent_status plan prefix.bytes) m sent) over
+    ∙ ap (sent_or (sent_status plan prefix.bytes) prefix.more) (h.sent_are ∙ ap (sent_of plan) same)) comes
 
 -- what ends before the receivers are run
-pub sent_stopped : {X Y : Type 0} (view : X → List ℕ) (other : Y → List ℕ) (plan : Plan) (front : Front)
+pub sent_stopped : {X Y : Type 0} (view : X → List ℕ) (other : Y → List ℕ) (plan : Plan) (prefix : Prefix)
     (status : Status) →
-    Comes view (told_sent plan front) (Err status) → Comes other (trial_text plan front) (Err status)
+    Comes view (told_sent plan prefix) (Err status) → Comes other (trial_text plan prefix) (Err status)
 unfolding trial_text
-sent_stopped view other plan front status (inl told) = inl (ap (lines_of plan _) told.0, told.1)
-sent_stopped view other plan front status (inr out) = inr out
+sent_stopped view other plan prefix status (inl told) = inl (ap (lines_of plan _) told.0, told.1)
+sent_stopped view other plan prefix status (inr out) = inr out
 
 -- and what the receivers come to
-pub receivers_run : {X : Type 0} (view : X → List ℕ) (plan : Plan) (front : Front) (sent : List ℕ)
-    (result : Result X Status) → told_sent plan front ≡ Ok sent →
-    Comes view (lines_to plan.site sent (clear_line (length front.bytes / 188) (length sent / 188))
+pub receivers_run : {X : Type 0} (view : X → List ℕ) (plan : Plan) (prefix : Prefix) (sent : List ℕ)
+    (result : Result X Status) → told_sent plan prefix ≡ Ok sent →
+    Comes view (lines_to plan.site sent (clear_line (length prefix.bytes / 188) (length sent / 188))
     (2 ^ plan.site.height)) result →
-    Comes view (trial_text plan front) result
+    Comes view (trial_text plan prefix) result
 unfolding trial_text
-receivers_run view plan front sent result is comes =
-    subst (λ (r : Result (List ℕ) Status). Comes view (lines_of plan (length front.bytes) r) result) (sym is) comes
+receivers_run view plan prefix sent result is comes =
+    subst (λ (r : Result (List ℕ) Status). Comes view (lines_of plan (length prefix.bytes) r) result) (sym is) comes
 
 -- a text, and then its printing
 pub text_printed : (text : List ℕ) (q : Place) (page now : Page) (steps more : ℕ) (status : Status) →

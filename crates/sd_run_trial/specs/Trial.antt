@@ -2,7 +2,7 @@
 use Rattle.std.specs.Prelude.{◌≡◌, ◌⊎◌, ◌^◌, ◌/◌, ℕ, zero, suc, nat_lt, Bool, true, false, List, [], ◌∷◌, ◌++◌, length}
 use Rattle.std.specs.Prelude.{codes, if◌then◌else◌, Option, None, Result, Ok, Err}
 use Rattle.std.specs.Fmt.{decimal}
-use Rattle.sd_ports.specs.Bytes.{Front}
+use Rattle.sd_ports.specs.Bytes.{Prefix}
 use Rattle.sd_site.specs.Fields.{SiteFields}
 use Rattle.sd_card.specs.Fields.{CardFields, card_of}
 use Rattle.sd_broadcast.specs.Plan.{Plan}
@@ -15,7 +15,7 @@ use Rattle.sd_status.specs.Comes.{IsEnding}
 use Rattle.sd_files.specs.Files.{site_of_file, book_of_file}
 use Rattle.sd_run_head.specs.Head.{sent_of, sent_status}
 use Rattle.sd_run_receive.specs.Receive.{received_of, received_status}
-use Rattle.sd_run_trial.specs.Fronts.{front_of_file}
+use Rattle.sd_run_trial.specs.Prefixes.{prefix_of_file}
 use Rattle.sd_run_trial.specs.declared.plan.TheConstants.{MOST_HEIGHT}
 use Rattle.sd_run_trial.specs.declared.command.TheConstants.{MOST_CLEAR_BYTES}
 
@@ -42,8 +42,8 @@ sent_or Done false sent = Ok sent
 sent_or Done true sent = Err (Limit TrialPackets)
 sent_or status more sent = Err status
 
-unfoldable pub told_sent : Plan → Front → Result (List ℕ) Status
-told_sent plan front = sent_or (sent_status plan front.bytes) front.more (sent_of plan front.bytes)
+unfoldable pub told_sent : Plan → Prefix → Result (List ℕ) Status
+told_sent plan prefix = sent_or (sent_status plan prefix.bytes) prefix.more (sent_of plan prefix.bytes)
 
 -- memory was out for a head end that was run over memory
 abbrev pub is_wanting : Status → Bool
@@ -107,8 +107,8 @@ lines_of plan clear (Ok sent) =
     lines_to plan.site sent (clear_line (clear / 188) (length sent / 188)) (2 ^ plan.site.height)
 lines_of plan clear (Err status) = Err status
 
-unfoldable pub trial_text : Plan → Front → Result (List ℕ) Status
-trial_text plan front = lines_of plan (length front.bytes) (told_sent plan front)
+unfoldable pub trial_text : Plan → Prefix → Result (List ℕ) Status
+trial_text plan prefix = lines_of plan (length prefix.bytes) (told_sent plan prefix)
 
 -- prints a text, or nothing and ends otherwise
 abbrev pub printing : Result (List ℕ) Status → Work
@@ -116,13 +116,13 @@ printing (Ok text) = record { out = None; pieces = text ∷ []; ends = Done; bre
 printing (Err status) = record { out = None; pieces = []; ends = status; breaks = false; steps = Uncounted }
 
 -- runs the head end and the receivers over memory
-abbrev pub trying : Plan → Front → Work
-trying plan front = printing (trial_text plan front)
+abbrev pub trying : Plan → Prefix → Work
+trying plan prefix = printing (trial_text plan prefix)
 
 unfoldable pub trial_meaning : Word → Word → Word → Given → Meant Work
 trial_meaning site book clear given =
     plan_meaning site book given
-    >>= λ plan. front_of_file clear.number MOST_CLEAR_BYTES (given clear) >>= λ front. value (trying plan front)
+    >>= λ plan. prefix_of_file clear.number MOST_CLEAR_BYTES (given clear) >>= λ prefix. value (trying plan prefix)
 
 -- a step in memory gives what is meant, or the status that it ends with, or memory was out
 abbrev pub Comes : {X : Type 0} → (X → List ℕ) → Result (List ℕ) Status → Result X Status → Type 0

@@ -5,11 +5,12 @@ ghost use Rattle.sd_status.specs.Comes.{Follows, status_of};
 ghost use Rattle.sd_files.specs.Shown.{shown_word};
 ghost use Rattle.sd_run_trial.specs.Trial.{Comes, trial_meaning, trial_text};
 
-use crate::front::read_front;
 use crate::lines::lines;
 use crate::plan::read_plan;
+use crate::prefix::read_prefix;
 use crate::send::sent_for;
 use sd_book::Book;
+use sd_engine::SIZE;
 use sd_files::{Word, print_text};
 use sd_ports::{Depot, Sink, Taken};
 use sd_site::Site;
@@ -19,7 +20,7 @@ use std::alloc::Global;
 use std::sync::ledger::Ledger;
 
 /// As many bytes as a clear stream may have: those of 65,536 packets.
-pub const MOST_CLEAR_BYTES: usize = 12_320_768;
+pub const MOST_CLEAR_BYTES: usize = 65_536 * SIZE;
 
 /// Does `trial SITE BOOK CLEAR`. The lines are made before the first is printed. Besides the book and the room for the
 /// broadcast it holds the clear stream, and one receiver at a time with what that writes: less than 64 MiB.
@@ -38,8 +39,8 @@ pub fn trial<D: Depot, P: Sink, L: Ledger>(
         (outside (place D.Depot depot.new) (page P.Sink print.new) steps.new) (status_of result) }
 {
     let (site, book) = read_plan(alloc, depot, site, book)?;
-    let front = read_front(alloc, depot, clear, MOST_CLEAR_BYTES)?;
-    let text = text_of(alloc, site, book, &front, steps)?;
+    let prefix = read_prefix(alloc, depot, clear, MOST_CLEAR_BYTES)?;
+    let text = text_of(alloc, site, book, &prefix, steps)?;
     print_text(print, text.as_bytes())
 }
 
@@ -48,13 +49,13 @@ fn text_of<L: Ledger>(
     alloc: Global,
     site: Site,
     book: Book,
-    front: &Taken,
+    prefix: &Taken,
     steps: &mut Steps<L>,
 ) -> Result<String, Status>
     requires { book.height ≡ site.height }
-    ensures { Comes (λ text. string_bytes text) (trial_text (plan_of site book) front.now) result }
+    ensures { Comes (λ text. string_bytes text) (trial_text (plan_of site book) prefix.now) result }
 {
-    let clear = front.bytes().len();
-    let sent = sent_for(alloc, site, book, front, steps)?;
+    let clear = prefix.bytes().len();
+    let sent = sent_for(alloc, site, book, prefix, steps)?;
     lines(alloc, &site, clear, &sent, steps)
 }

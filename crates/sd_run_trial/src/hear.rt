@@ -2,10 +2,9 @@ ghost use Rattle.std.specs.Prelude.{◌≡◌, [], IfOk};
 ghost use Rattle.sd_receive.specs.Receiving.{IsAfter, card_in};
 ghost use Rattle.sd_run_trial.specs.Trial.{HasHeard};
 
-use crate::lent::Lent;
 use crate::send::{settled, wants_memory};
 use sd_cause::NoMemory;
-use sd_ports::MemSink;
+use sd_ports::{MemSink, SliceSource};
 use sd_receive::Receiver;
 use sd_run_receive::receive_all;
 use sd_status::Status;
@@ -26,7 +25,7 @@ pub fn hear<L: Ledger>(
     ensures { IfOk result (λ heard. HasHeard (card_in receiver) sent.now heard.0 heard.1) }
 {
     let mut sink = MemSink::new(alloc, room, usize::MAX, Vec::new(alloc))?;
-    let mut source = Lent::new(sent);
+    let mut source = SliceSource::new(sent);
     let status = settled(receive_all(&mut source, &mut sink, receiver, steps));
     if wants_memory(status) {
         return Err(NoMemory);

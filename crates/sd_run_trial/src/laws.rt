@@ -1,7 +1,7 @@
 //! What a trial prints is what the theorems on the head end and the receiver say.
 
 ghost use Rattle.std.specs.Prelude.{◌≡◌, ◌^◌, ◌≤◌, ℕ, List, Some, Ok, false, length};
-ghost use Rattle.sd_ports.specs.Bytes.{Front};
+ghost use Rattle.sd_ports.specs.Bytes.{Prefix};
 ghost use Rattle.sd_engine.specs.Taken.{Whole, taken_of, end_of};
 ghost use Rattle.sd_broadcast.specs.Plan.{Plan, IsPlan};
 ghost use Rattle.sd_broadcast.specs.Refused.{IsClear};
@@ -27,8 +27,8 @@ pub fn good_trials_print_what_is_opened()
 /// A trial that prints lines took all of a clear stream of packets of which none is refused, and the lines are those.
 #[tactic(auto, using(crate::proofs::Opened::trial_done))]
 pub fn done_trials_print_what_is_opened()
-    ensures { (plan : Plan) (front : Front) (text : List ℕ) → IsPlan plan → AreBytes front.bytes →
-        trial_text plan front ≡ Ok text →
-        (end_of front.bytes ≡ Whole) × IsClear plan.site (taken_of front.bytes) × (front.more ≡ false)
-        × (text ≡ opened_lines plan (taken_of front.bytes) (2 ^ plan.site.height)) }
+    ensures { (plan : Plan) (prefix : Prefix) (text : List ℕ) → IsPlan plan → AreBytes prefix.bytes →
+        trial_text plan prefix ≡ Ok text →
+        (end_of prefix.bytes ≡ Whole) × IsClear plan.site (taken_of prefix.bytes) × (prefix.more ≡ false)
+        × (text ≡ opened_lines plan (taken_of prefix.bytes) (2 ^ plan.site.height)) }
 {}

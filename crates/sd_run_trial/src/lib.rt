@@ -2,12 +2,11 @@
 #![tactic(auto)]
 
 mod command;
-mod front;
 mod hear;
 pub mod laws;
-mod lent;
 mod lines;
 mod plan;
+mod prefix;
 mod send;
 
 pub use command::trial;

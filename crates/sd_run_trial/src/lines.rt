@@ -4,8 +4,8 @@ ghost use Rattle.sd_status.specs.Comes.{IsEnding};
 ghost use Rattle.sd_run_trial.specs.Trial.{Adds, Comes, clear_line, lines_to, receiver_line, told_line};
 
 use crate::hear::hear;
-use crate::send::SIZE;
 use sd_card::Card;
+use sd_engine::SIZE;
 use sd_receive::Receiver;
 use sd_site::Site;
 use sd_status::Status;

@@ -3,20 +3,17 @@ ghost use Rattle.sd_entitling.specs.Kept.{plan_of};
 ghost use Rattle.sd_status.specs.Comes.{IsEnding, status_of};
 ghost use Rattle.sd_run_trial.specs.Trial.{Comes, HasSent, is_wanting, sent_or, told_sent};
 
-use crate::lent::Lent;
 use sd_book::Book;
 use sd_cause::NoMemory;
+use sd_engine::SIZE;
 use sd_head::Head;
-use sd_ports::{MemSink, Taken};
+use sd_ports::{MemSink, SliceSource, Taken};
 use sd_run_head::send;
 use sd_site::Site;
 use sd_status::{LimitKind, Status};
 use sd_steps::Steps;
 use std::alloc::Global;
 use std::sync::ledger::Ledger;
-
-/// The bytes of a packet.
-pub const SIZE: usize = 188;
 
 /// The most packets that stand in a broadcast with one clear packet, or after the last: a CAT, the 43 packets of the
 /// entitlements to 127 sets, 22 of a control message, and the clear packet, rounded up.
@@ -52,7 +49,7 @@ fn send_all<L: Ledger>(
     let mut head = Head::new(alloc, site, book)?;
     let room = (clear.len() / SIZE + 1).saturating_mul(MOST_WITH_ONE * SIZE);
     let mut sink = MemSink::new(alloc, room, usize::MAX, Vec::new(alloc))?;
-    let mut source = Lent::new(clear);
+    let mut source = SliceSource::new(clear);
     let status = settled(send(&mut source, &mut sink, &mut head, steps));
     if wants_memory(status) {
         return Err(NoMemory);

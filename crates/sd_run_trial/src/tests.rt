@@ -1,6 +1,7 @@
 ghost use Rattle.std.specs.Prelude.{◌≡◌, ◌<◌, ◌≤◌};
 
 use crate::trial;
+use sd_engine::SIZE;
 use sd_files::Word;
 use sd_ports::{MemDepot, MemSink};
 use sd_sample::sample;
@@ -56,7 +57,7 @@ fn tried(alloc: Global, packets: u32) -> Result<(Result<(), Status>, Vec<u8>), A
     requires { packets ≤ 1000000 }
 {
     let mut depot = MemDepot::new(alloc, 0, 1000).map_err(|_| AllocError)?;
-    let room = packets as usize * 188;
+    let room = packets as usize * SIZE;
     let mut clear = MemSink::new(alloc, room, room.max(1), Vec::new(alloc)).map_err(
         |_| AllocError,
     )?;

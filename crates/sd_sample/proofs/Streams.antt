@@ -72,13 +72,13 @@ piece_more number first i s piece packet h so_far e is =
     ∙ ap (λ (p : List ℕ). map (packet_of number) (range_with_len first i) ++ p ∷ []) (is ∙ ap (packet_at (first + i)) e)
     ∙ sym (map-range_with_len_more (packet_of number) first i (first + i) refl)
 
--- a piece whose front was filled is as long as before
+-- a piece whose first packets were filled is as long as before
 pub piece_stays_long : (count : ℕ) (new old : List (List ℕ)) → length new ≡ length (take count old) → count ≤ length old
     → length (new ++ drop count old) ≡ length old
 piece_stays_long count new old e h =
     omega (arith, length-append new (drop count old), length-drop count old, length-take-le count old h)
 
--- the bytes of that front are those of its packets
+-- the bytes of those are those of their packets
 pub piece_bytes : (number done count : ℕ) (new old : List (List ℕ)) (bytes : List ℕ) → count ≤ length old
     → length new ≡ length (take count old) →
     new ≡ map (packet_of number) (range_with_len done (length (take count old)))
@@ -100,12 +100,12 @@ written_more a b c number done count bytes p e q =
     subst (Appends a c) (ap (λ (r : List ℕ). sample_of number done ++ r) e
     ∙ sample_more number done count) (Appends-trans a b c _ _ p q)
 
--- a stream of whose next piece a front was written
-pub written_front : (a b c : Option (List ℕ)) (number done count packets : ℕ) (bytes : List ℕ) → done + count ≤ packets
+-- a stream of whose next piece a prefix was written
+pub written_prefix : (a b c : Option (List ℕ)) (number done count packets : ℕ) (bytes : List ℕ) → done + count ≤ packets
     → Appends a b (sample_of number done) →
     bytes ≡ flat_map (packet_of number) (range_with_len done count) → AppendsPrefix b c bytes
     → AppendsPrefix a c (sample_of number packets)
-written_front a b c number done count packets bytes within p e w =
+written_prefix a b c number done count packets bytes within p e w =
     let piece : List ℕ = flat_map (packet_of number) (range_with_len done count) in
     let after : List ℕ = flat_map (packet_of number) (range_with_len (done + count) (packets - (done + count))) in
     let all : done + count + (packets - (done + count)) ≡ packets = omega arith in

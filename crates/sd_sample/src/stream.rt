@@ -11,13 +11,13 @@ use sd_ports::{PortFault, Sink, write_all};
 /// The most packets of one write.
 const PIECE: usize = 64;
 
-/// Writes the sample stream of this number, of so many packets. After a fault a front of it was written. It takes no
+/// Writes the sample stream of this number, of so many packets. After a fault a prefix of it was written. It takes no
 /// memory.
 #[tactic(auto, using(crate::proofs::Streams::state_begins, crate::proofs::Streams::none_written))]
 pub fn sample<K: Sink>(number: u32, packets: u32, out: &mut K) -> Result<(), PortFault>
     requires { packets ≤ 1000000 }
     ensures ok { OnOk result (Appends (K.held out.old) (K.held out.new) (sample_of number packets)) }
-    ensures front { OnErr result (AppendsPrefix (K.held out.old) (K.held out.new) (sample_of number packets)) }
+    ensures prefix { OnErr result (AppendsPrefix (K.held out.old) (K.held out.new) (sample_of number packets)) }
     ensures cause { HasCause (K.faults out.old) (K.faults out.new) result }
 {
     let mut state = u64::from(number);
@@ -131,20 +131,20 @@ mod tests {
     }
 
     #[test]
-    fn a_front_was_written_before_a_fault(rt: HostRuntime) -> Result<(), AllocError> {
+    fn a_prefix_was_written_before_a_fault(rt: HostRuntime) -> Result<(), AllocError> {
         let alloc = rt.alloc();
         let (result, whole) = written(alloc, (7, 200), (40000, 40000, 9))?;
         assert!(rt; result.is_ok() && whole.len() == 37600);
         // Room, bytes a write, the write that fails, and what is held then.
-        for (room, most, failing, front) in [
+        for (room, most, failing, prefix) in [
             (20000, 40000, 9, 12032),
             (40000, 1000, 20, 19032),
             (40000, 40000, 2, 24064),
             (40000, 40000, 0, 0),
         ] {
             let (result, bytes) = written(alloc, (7, 200), (room, most, failing))?;
-            assert!(rt; result.is_err() && front <= whole.len());
-            assert!(rt; bytes.as_slice() == &whole[..front], "{front}");
+            assert!(rt; result.is_err() && prefix <= whole.len());
+            assert!(rt; bytes.as_slice() == &whole[..prefix], "{prefix}");
         }
         Ok(())
     }

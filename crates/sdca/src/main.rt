@@ -3,7 +3,7 @@
 
 ghost use Rattle.std.specs.Prelude.{◌≡◌, ◌<◌};
 
-use sd_ports::{HostDepot, StdPrint};
+use sd_host::{HostDepot, StdPrint};
 use sd_run::run;
 use sd_status::{Status, tell};
 use sd_steps::Steps;

@@ -1,20 +1,20 @@
-use Rattle.sd_ports.proofs.Outlets.{written_whole, written_front, written_cut}
+use Rattle.sd_ports.proofs.Outlets.{written_whole, written_prefix, written_cut}
 use Rattle.sd_ports.proofs.file.write_file.Goals as goal
 
 pub returns-in-Ok-closed-clause-file : goal.returns-in-Ok-closed-clause-file
 returns-in-Ok-closed-clause-file g c =
-    written_whole _ _ _ _ _ _ _ c.args.bytes.now _ _ c.in-Ok.ensures.created c.in-Ok.ensures.empty
+    written_whole _ _ _ _ _ _ _ c.args.bytes.now _ _ c.in-Ok.ensures.files c.in-Ok.ensures.empty
     c.in-Ok-written.ensures.all c.in-Ok-closed.ensures.closed c.in-Ok.ensures.made.given c.in-Ok.ensures.made.later
     c.close_out-closed.ensures.made
 
 pub returns-in-Err-closed-clause-file : goal.returns-in-Err-closed-clause-file
 returns-in-Err-closed-clause-file g c =
-    written_cut _ _ _ _ _ _ _ c.args.bytes.now _ _ c.in-Ok.ensures.created c.in-Ok.ensures.empty
-    c.in-Ok-written.ensures.all c.close_out-closed.ensures.front c.in-Ok.ensures.made.given c.in-Ok.ensures.made.later
+    written_cut _ _ _ _ _ _ _ c.args.bytes.now _ _ c.in-Ok.ensures.files c.in-Ok.ensures.empty
+    c.in-Ok-written.ensures.all c.close_out-closed.ensures.prefix c.in-Ok.ensures.made.given c.in-Ok.ensures.made.later
     c.close_out-closed.ensures.made
 
 pub returns-in-Err-clause-file : goal.returns-in-Err-clause-file
 returns-in-Err-clause-file g c =
-    written_front _ _ _ _ _ _ _ c.args.bytes.now _ _ c.in-Ok.ensures.created c.in-Ok.ensures.empty
-    c.in-Err.ensures.front c.close_out-closed.ensures.front c.in-Ok.ensures.made.given c.in-Ok.ensures.made.later
+    written_prefix _ _ _ _ _ _ _ c.args.bytes.now _ _ c.in-Ok.ensures.files c.in-Ok.ensures.empty
+    c.in-Err.ensures.prefix c.close_out-closed.ensures.prefix c.in-Ok.ensures.made.given c.in-Ok.ensures.made.later
     c.close_out-closed.ensures.made

@@ -9,7 +9,7 @@ use Rattle.sd_status.specs.Comes.{Obeys, status_of}
 use Rattle.sd_files.specs.Shown.{shown_word}
 use Rattle.sd_files.proofs.Thirds.{not_both, not_third, third_looked}
 use Rattle.sd_run_trial.specs.declared.command.TheConstants.{MOST_CLEAR_BYTES}
-use Rattle.sd_run_trial.specs.Fronts.{front_of_file}
+use Rattle.sd_run_trial.specs.Prefixes.{prefix_of_file}
 use Rattle.sd_run_trial.specs.Trial.{plan_by, printing, trial_meaning, trial_text, trying}
 use Rattle.sd_run_trial.proofs.Trying.{nothing_printed, text_printed}
 use Rattle.sd_run_trial.proofs.command.trial.Goals as goal
@@ -24,24 +24,24 @@ returns-in_err-site g c =
     let clear = shown_word c.args.clear in
     rw (p.1, p.2) (not_both (λ plan. record { site = fields_of plan.0; commands = plan.1.commands })
     (plan_by site.number book.number)
-    (λ plan got. front_of_file clear.number MOST_CLEAR_BYTES got >>= λ front. value (trying plan front))
+    (λ plan got. prefix_of_file clear.number MOST_CLEAR_BYTES got >>= λ prefix. value (trying plan prefix))
     site book clear (place g.D.Depot c.args.depot.now) (place g.D.Depot c.read_plan.new.depot)
     (page g.P.Sink c.args.print.now) c.args.steps.now c.in_err-site.field-0.0 c.in_err-site.ensures.value)
 
 -- nor was the clear stream
-pub returns-in_err-front : goal.returns-in_err-front
+pub returns-in_err-prefix : goal.returns-in_err-prefix
 unfolding trial_meaning
-returns-in_err-front g c =
-    let p = err_from_is_err_and c.from_residual-in_err-front.result c.from_residual-in_err-front.ensures.1 in
+returns-in_err-prefix g c =
+    let p = err_from_is_err_and c.from_residual-in_err-prefix.result c.from_residual-in_err-prefix.ensures.1 in
     let site = shown_word c.args.site in
     let book = shown_word c.args.book in
     let clear = shown_word c.args.clear in
     rw (p.1, p.2) (not_third (λ plan. record { site = fields_of plan.0; commands = plan.1.commands })
-    (plan_by site.number book.number) (λ front. front) (λ plan got. front_of_file clear.number MOST_CLEAR_BYTES got)
-    (λ plan front. value (trying plan front)) site book clear (place g.D.Depot c.args.depot.now)
-    (place g.D.Depot c.read_plan.new.depot) (place g.D.Depot c.read_front.new.depot) (page g.P.Sink c.args.print.now)
-    c.args.steps.now (c.in_ok-site.site, c.in_ok-site.book) c.in_err-front.field-0.0 c.requires.1 c.requires.2
-    c.in_ok-site.ensures.value c.in_err-front.ensures)
+    (plan_by site.number book.number) (λ prefix. prefix) (λ plan got. prefix_of_file clear.number MOST_CLEAR_BYTES got)
+    (λ plan prefix. value (trying plan prefix)) site book clear (place g.D.Depot c.args.depot.now)
+    (place g.D.Depot c.read_plan.new.depot) (place g.D.Depot c.read_prefix.new.depot) (page g.P.Sink c.args.print.now)
+    c.args.steps.now (c.in_ok-site.site, c.in_ok-site.book) c.in_err-prefix.field-0.0 c.requires.1 c.requires.2
+    c.in_ok-site.ensures.value c.in_err-prefix.ensures)
 
 -- there is no text
 pub returns-in_err-text : goal.returns-in_err-text
@@ -51,18 +51,18 @@ returns-in_err-text g c =
     let site = shown_word c.args.site in
     let book = shown_word c.args.book in
     let clear = shown_word c.args.clear in
-    let r = place g.D.Depot c.read_front.new.depot in
+    let r = place g.D.Depot c.read_prefix.new.depot in
     let page = page g.P.Sink c.args.print.now in
     let plan : Plan = record { site = fields_of c.in_ok-site.site; commands = c.in_ok-site.book.commands } in
-    let front = c.in_ok-front.front in
+    let prefix = c.in_ok-prefix.prefix in
     let status = c.in_err-text.field-0.0 in
     rw (p.1, p.2) (third_looked (λ plan. record { site = fields_of plan.0; commands = plan.1.commands })
-    (plan_by site.number book.number) (λ front. front) (λ plan got. front_of_file clear.number MOST_CLEAR_BYTES got)
-    (λ plan front. value (trying plan front)) site book clear (place g.D.Depot c.args.depot.now)
+    (plan_by site.number book.number) (λ prefix. prefix) (λ plan got. prefix_of_file clear.number MOST_CLEAR_BYTES got)
+    (λ plan prefix. value (trying plan prefix)) site book clear (place g.D.Depot c.args.depot.now)
     (place g.D.Depot c.read_plan.new.depot) r page c.args.steps.now (outside r page c.text_of.new.steps)
-    (c.in_ok-site.site, c.in_ok-site.book) front status c.requires.1 c.requires.2 c.in_ok-site.ensures.value
-    c.in_ok-front.ensures
-    (nothing_printed (λ (xs : List ℕ). xs) (trial_text plan front) r page c.args.steps.now
+    (c.in_ok-site.site, c.in_ok-site.book) prefix status c.requires.1 c.requires.2 c.in_ok-site.ensures.value
+    c.in_ok-prefix.ensures
+    (nothing_printed (λ (xs : List ℕ). xs) (trial_text plan prefix) r page c.args.steps.now
     c.text_of.new.steps status c.in_err-text.ensures))
 
 -- it was printed, or printing failed
@@ -72,21 +72,21 @@ returns g c =
     let site = shown_word c.args.site in
     let book = shown_word c.args.book in
     let clear = shown_word c.args.clear in
-    let r = place g.D.Depot c.read_front.new.depot in
+    let r = place g.D.Depot c.read_prefix.new.depot in
     let before = page g.P.Sink c.args.print.now in
     let now = page g.P.Sink c.print_text.new.print in
     let more = c.text_of.new.steps in
     let plan : Plan = record { site = fields_of c.in_ok-site.site; commands = c.in_ok-site.book.commands } in
-    let front = c.in_ok-front.front in
+    let prefix = c.in_ok-prefix.prefix in
     let text = string_bytes c.in_ok-text.text in
     let status = status_of c.print_text.result in
     let prints = rw c.as_bytes.ensures.value at c.print_text.ensures.value in
     third_looked (λ plan. record { site = fields_of plan.0; commands = plan.1.commands })
-    (plan_by site.number book.number) (λ front. front) (λ plan got. front_of_file clear.number MOST_CLEAR_BYTES got)
-    (λ plan front. value (trying plan front)) site book clear (place g.D.Depot c.args.depot.now)
+    (plan_by site.number book.number) (λ prefix. prefix) (λ plan got. prefix_of_file clear.number MOST_CLEAR_BYTES got)
+    (λ plan prefix. value (trying plan prefix)) site book clear (place g.D.Depot c.args.depot.now)
     (place g.D.Depot c.read_plan.new.depot) r before c.args.steps.now (outside r now more)
-    (c.in_ok-site.site, c.in_ok-site.book) front status c.requires.1 c.requires.2 c.in_ok-site.ensures.value
-    c.in_ok-front.ensures
+    (c.in_ok-site.site, c.in_ok-site.book) prefix status c.requires.1 c.requires.2 c.in_ok-site.ensures.value
+    c.in_ok-prefix.ensures
     (subst (λ (m : Result (List ℕ) Status). Obeys (value (printing m)) (outside r before c.args.steps.now)
     (outside r now more) status) (sym c.in_ok-text.ensures)
     (text_printed text r before now c.args.steps.now more status prints))

@@ -1,6 +1,6 @@
 use Rattle.std.proofs.Common.{◌≤◌, ◌≡◌, length, take, ◌∙◌, arith}
 use Rattle.std.proofs.lemmas.List.{length-take-le}
-use Rattle.sd_sample.proofs.Streams.{piece_stays_long, piece_bytes, written_more, written_front}
+use Rattle.sd_sample.proofs.Streams.{piece_stays_long, piece_bytes, written_more, written_prefix}
 use Rattle.sd_sample.proofs.stream.sample.Goals as goal
 
 pub loop-done-preserved : goal.loop-done-preserved
@@ -22,13 +22,13 @@ loop-done-preserved g c =
       calm = c.in-Ok.ensures.cause.calm ∙ l.invariant.calm;
     }
 
-pub returns-in-Err-clause-front : goal.returns-in-Err-clause-front
-returns-in-Err-clause-front g c =
+pub returns-in-Err-clause-prefix : goal.returns-in-Err-clause-prefix
+returns-in-Err-clause-prefix g c =
     let l = c.loop-done in
     let count = c.min-count.result in
     let few : count ≤ length l.piece = omega (arith, c.min-count.ensures, l.invariant.room) in
     let bytes =
     piece_bytes c.args.number l.done count c.fill.new.piece l.piece c.as_flattened.result.now few c.fill.auto.piece
     (c.fill.ensures.packets c.args.number l.invariant.state) c.as_flattened.ensures.value in
-    written_front _ _ _ c.args.number l.done count c.args.packets c.as_flattened.result.now
-    (omega (arith, c.min-count.ensures, c.loop-done-test.true)) l.invariant.written bytes c.in-Err.ensures.front
+    written_prefix _ _ _ c.args.number l.done count c.args.packets c.as_flattened.result.now
+    (omega (arith, c.min-count.ensures, c.loop-done-test.true)) l.invariant.written bytes c.in-Err.ensures.prefix

@@ -6,4 +6,4 @@ use Rattle.sd_engine.proofs.tests.CopierStage.offer.Goals as goal
 pub returns-in-Err-clause-prefix : goal.returns-in-Err-clause-prefix
 returns-in-Err-clause-prefix g c = λ is. cut_short _ (vessel g.K.Sink c.args.out.now)
     (vessel g.K.Sink c.write_all.new.sink) c.bytes.result.now (inl (c.args.self.now, 0, c.bytes.ensures.value))
-    c.in-Err.ensures.front (too_short _ _ _ _ c.in-Err.ensures.room)
+    c.in-Err.ensures.prefix (too_short _ _ _ _ c.in-Err.ensures.room)

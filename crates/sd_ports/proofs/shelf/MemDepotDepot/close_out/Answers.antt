@@ -5,8 +5,8 @@ use Rattle.sd_ports.specs.Memory.{Shelf, told_files}
 use Rattle.sd_ports.proofs.Outlets.{half_stays}
 use Rattle.sd_ports.proofs.shelf.MemDepotDepot.close_out.Goals as goal
 
-pub returns-in-Err-clause-front : goal.returns-in-Err-clause-front
-returns-in-Err-clause-front c =
+pub returns-in-Err-clause-prefix : goal.returns-in-Err-clause-prefix
+returns-in-Err-clause-prefix c =
     let seen = ap (λ (s : Shelf). s.files) c.self-2.view_is in
     let begun = ap (λ (s : Shelf). s.files) c.in-Err.ensures.err in
     let entered = ap (λ (s : Shelf). s.files) c.self.view_is in

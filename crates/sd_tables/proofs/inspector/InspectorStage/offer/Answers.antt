@@ -41,5 +41,5 @@ returns-clause-prefix g c = λ is. cut_short _ (vessel g.K.Sink c.args.out.now) 
         };
         no_steps = refl;
       },
-    )) c.in-Err-write_all.ensures.front
+    )) c.in-Err-write_all.ensures.prefix
     (too_short _ _ _ _ c.in-Err-write_all.ensures.room)

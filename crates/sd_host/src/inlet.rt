@@ -1,0 +1,57 @@
+ghost use Rattle.std.specs.Prelude.{◌≡◌, ◌<◌, None, OnErr, length};
+ghost use Rattle.std.specs.Io.{ReadsAtMost};
+ghost use Rattle.std.specs.Io.KnownBytes.{ReadConsumes};
+ghost use Rattle.sd_cause.specs.Count.{HasCause, with_added};
+
+use sd_ports::{PortFault, Source};
+use std::io::{ErrorKind, Read};
+
+/// A file of the machine that is open for reading.
+#[derive(Drop)]
+pub struct HostInlet<F> {
+    file: F,
+    faults: u64,
+}
+
+impl<F: Read + Drop> HostInlet<F> {
+    /// A port to a file, with a count of 0.
+    pub(crate) fn new(file: F) -> HostInlet<F>
+        ensures faults { result.faults ≡ 0 }
+    {
+        HostInlet { file, faults: 0 }
+    }
+
+    /// How many reads failed.
+    pub(crate) fn faults(&self) -> u64
+        ensures { result ≡ self.now.faults }
+    {
+        self.faults
+    }
+}
+
+impl<F: Read + Drop> Source for HostInlet<F> {
+    ghost left = { λ s. None };
+
+    ghost faults = { λ s. s.faults };
+
+    /// A read that a signal interrupts is tried again.
+    #[tactic(auto, using(crate::proofs::Kept::kept_consumes, crate::proofs::Kept::kept_twice))]
+    fn read(&mut self, buf: &mut [u8]) -> Result<usize, PortFault>
+        requires { 0 < length buf.old }
+        ensures bound { ReadsAtMost result buf.new }
+        ensures bytes { ReadConsumes None None result buf.new }
+        ensures cause { HasCause self.old.faults self.new.faults result }
+        ensures passed { ReadConsumes (F.Read.remaining self.old.file) (F.Read.remaining self.new.file) result buf.new }
+        ensures one { OnErr result (self.new.faults ≡ with_added self.old.faults 1) }
+    {
+        for _turn in 0..u64::MAX {
+            match self.file.read(buf) {
+                Ok(count) => return Ok(count),
+                Err(error) if error.kind() == ErrorKind::Interrupted => {}
+                Err(_) => break,
+            }
+        }
+        self.faults = self.faults.saturating_add(1);
+        Err(PortFault)
+    }
+}

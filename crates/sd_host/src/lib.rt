@@ -1,0 +1,15 @@
+//! The outside on the machine: its files, and a writer such as the standard output.
+#![tactic(auto)]
+
+mod depot;
+mod identity;
+mod inlet;
+mod outlet;
+mod print;
+#[cfg(test)]
+mod tests;
+
+pub use depot::HostDepot;
+pub use inlet::HostInlet;
+pub use outlet::HostOutlet;
+pub use print::StdPrint;

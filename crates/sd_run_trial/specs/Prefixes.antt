@@ -1,0 +1,18 @@
+-- The first bytes of a file [this project, docs/FORMATS.md, Trial].
+use Rattle.std.specs.Prelude.{ℕ, List, Option, Result, Ok, Err}
+use Rattle.sd_ports.specs.Bytes.{Prefix, prefix_of}
+use Rattle.sd_ports.specs.declared.prefix.ReadMostFault.{ReadMostFault}
+use Rattle.sd_ports.specs.declared.prefix.ReadMostFault.TheVariants as fault
+use Rattle.sd_status.specs.declared.status.Status.{Status}
+use Rattle.sd_status.specs.declared.status.Status.TheVariants.{DepotFault, NoMemory}
+use Rattle.sd_status.specs.Meant.{Meant, all_of, value, ◌>>=◌}
+
+-- the first bytes of what the file of this word gave, at most so many
+unfoldable pub prefix_of_file : ℕ → ℕ → Option (List ℕ) → Meant Prefix
+prefix_of_file word most got = all_of word got >>= λ bytes. value (prefix_of most bytes)
+
+-- the answer once they were read
+abbrev pub told_prefix : {T : Type 0} → Result T ReadMostFault → Result T Status
+told_prefix (Ok prefix) = Ok prefix
+told_prefix (Err fault.Failed) = Err DepotFault
+told_prefix (Err fault.NoMemory) = Err NoMemory

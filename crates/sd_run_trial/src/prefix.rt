@@ -1,0 +1,41 @@
+ghost use Rattle.std.specs.Prelude.{◌≡◌};
+ghost use Rattle.sd_status.specs.Outside.{place};
+ghost use Rattle.sd_status.specs.Reads.{Looks};
+ghost use Rattle.sd_run_trial.specs.Prefixes.{prefix_of_file, told_prefix};
+
+use sd_files::Word;
+use sd_ports::{Depot, DepotFault, ReadMostFault, Taken, read_most};
+use sd_status::Status;
+use std::alloc::Global;
+
+/// The first bytes of the word's file, at most `most`: it opens, reads and closes it, and only then answers.
+pub fn read_prefix<D: Depot>(
+    alloc: Global,
+    depot: &mut D,
+    word: Word<'_>,
+    most: usize,
+) -> Result<Taken, Status>
+    ensures { Looks (λ prefix. prefix) (prefix_of_file word.entry.number most) word.entry.text.now
+        (place D.Depot depot.old) (place D.Depot depot.new) result }
+{
+    let mut port = match depot.open_in(alloc, word.text) {
+        Ok(port) => port,
+        Err(DepotFault::Missing) => return Err(Status::Missing(word.number)),
+        Err(DepotFault::Failed) => return Err(Status::DepotFault),
+        Err(DepotFault::NoMemory) => return Err(Status::NoMemory),
+    };
+    let read = read_most(alloc, &mut port, most);
+    depot.close_in(port);
+    told(read)
+}
+
+/// What is answered once the first bytes of a file were read.
+fn told(read: Result<Taken, ReadMostFault>) -> Result<Taken, Status>
+    ensures { result ≡ told_prefix read }
+{
+    match read {
+        Ok(prefix) => Ok(prefix),
+        Err(ReadMostFault::Failed) => Err(Status::DepotFault),
+        Err(ReadMostFault::NoMemory) => Err(Status::NoMemory),
+    }
+}
