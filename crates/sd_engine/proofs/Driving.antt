@@ -285,7 +285,8 @@ pub packet_cut : {S F : Type 0} (does : S → List ℕ → S → List ℕ → �
     (left left' : Option (List ℕ)) (sink sink' : Vessel) (stage stage' : S) (steps steps' count : ℕ)
     (old new packet : List ℕ)
     → IsUnderWay does a (moment left sink stage steps) count old → GivesPacket left left' old new packet
-    → CutShort sink sink' (IsAllowed (does stage packet) (refuses stage (Some packet))) → count < most_packets
+    → CutShort sink sink' (IsAllowed (does stage packet) (refuses stage (Some packet)) steps steps') →
+    count < most_packets
     → IsCutOff does ends refuses a (moment left' sink' stage' steps')
 packet_cut does ends refuses a left left' sink sink' stage stage' steps steps' count old new packet way gives cut few =
     let here = packet_at count way.taken packet new way.packets gives.long gives.sync in
@@ -303,8 +304,8 @@ packet_cut does ends refuses a left left' sink sink' stage stage' steps steps' c
       };
       mid = moment left sink stage steps;
       passed = subst (λ (ps : List (List ℕ)). Passes does a ps (moment left sink stage steps)) (sym front.0) way.passed;
-      cut = subst (λ (p : Option (List ℕ)). CutShort sink sink' (IsAllowedAt does ends refuses stage p)) (sym here.0)
-          cut;
+      cut = subst (λ (p : Option (List ℕ)). CutShort sink sink' (IsAllowedAt does ends refuses stage p steps steps'))
+          (sym here.0) cut;
     }
 
 -- a write failed at the end
@@ -312,7 +313,7 @@ pub end_cut : {S F : Type 0} (does : S → List ℕ → S → List ℕ → ℕ �
     (refuses : S → Option (List ℕ) → F → S → List ℕ → ℕ → Type 0) (a : Moment S)
     (left left' : Option (List ℕ)) (sink sink' : Vessel) (stage stage' : S) (steps steps' count : ℕ) (old new : List ℕ)
     → IsUnderWay does a (moment left sink stage steps) count old → GivesNone left left' old new
-    → CutShort sink sink' (IsAllowed (ends stage) (refuses stage None)) → count ≤ most_packets
+    → CutShort sink sink' (IsAllowed (ends stage) (refuses stage None) steps steps') → count ≤ most_packets
     → IsCutOff does ends refuses a (moment left' sink' stage' steps')
 end_cut does ends refuses a left left' sink sink' stage stage' steps steps' count old new way gives cut few =
     let all = all_of count way.taken way.packets in
@@ -329,8 +330,8 @@ end_cut does ends refuses a left left' sink sink' stage stage' steps steps' coun
       };
       mid = moment left sink stage steps;
       passed = subst (λ (ps : List (List ℕ)). Passes does a ps (moment left sink stage steps)) (sym all.0) way.passed;
-      cut = subst (λ (p : Option (List ℕ)). CutShort sink sink' (IsAllowedAt does ends refuses stage p)) (sym all.1)
-          cut;
+      cut = subst (λ (p : Option (List ℕ)). CutShort sink sink' (IsAllowedAt does ends refuses stage p steps steps'))
+          (sym all.1) cut;
     }
 
 -- more bytes stand after the most packets
@@ -377,7 +378,8 @@ pub packet_stopped : {S F : Type 0} (does : S → List ℕ → S → List ℕ �
     → IsUnderWay does a (moment left sink stage steps) count old → GivesPacket left left' old new packet →
     result ≡ Err fault
     → ((f : F) → result ≡ Err (StageRefused f) → Grew sink sink' steps steps' (refuses stage (Some packet) f stage'))
-    → (result ≡ Err Write → CutShort sink sink' (IsAllowed (does stage packet) (refuses stage (Some packet)))) →
+    → (result ≡ Err Write →
+    CutShort sink sink' (IsAllowed (does stage packet) (refuses stage (Some packet)) steps steps')) →
     count < most_packets
     → Drives does ends refuses a (moment left' sink' stage' steps') (Err (stopped_by fault))
 packet_stopped does ends refuses a left left' sink sink' stage stage' steps steps' count old new packet result Write way

@@ -271,8 +271,8 @@ is_over does ends refuses a b (Err WriteFault) h =
         place = o.same.at;
         mid = h.mid;
         passed = subst (λ (ps : List (List ℕ)). Passes does a ps h.mid) (sym o.same.first) h.passed;
-        cut = subst (λ (p : Option (List ℕ)). CutShort h.mid.sink b.sink (IsAllowedAt does ends refuses h.mid.stage p))
-            (sym o.same.here) h.cut;
+        cut = subst (λ (p : Option (List ℕ)). CutShort h.mid.sink b.sink
+            (IsAllowedAt does ends refuses h.mid.stage p h.mid.steps b.steps)) (sym o.same.here) h.cut;
       };
     }
 is_over does ends refuses a b (Err (Refused fault)) h =

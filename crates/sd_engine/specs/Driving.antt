@@ -113,11 +113,12 @@ pub record IsRefused {S F : Type 0} (does : S → List ℕ → S → List ℕ �
   pub passed : Grew a.sink b.sink a.steps b.steps
       (Refuses does refuses a.stage (take count (packets_of bytes)) (slice_get (packets_of bytes) count) fault b.stage)
 
--- the bytes that the stage may write at a packet, or at the end
+-- the bytes that the stage may write at a packet, or at the end, and the steps that were counted
 abbrev pub IsAllowedAt : {S F : Type 0} → (S → List ℕ → S → List ℕ → ℕ → Type 0) → (S → S → List ℕ → ℕ → Type 0)
-    → (S → Option (List ℕ) → F → S → List ℕ → ℕ → Type 0) → S → Option (List ℕ) → List ℕ → Type 0
-IsAllowedAt does ends refuses s None bytes = IsAllowed (ends s) (refuses s None) bytes
-IsAllowedAt does ends refuses s (Some packet) bytes = IsAllowed (does s packet) (refuses s (Some packet)) bytes
+    → (S → Option (List ℕ) → F → S → List ℕ → ℕ → Type 0) → S → Option (List ℕ) → ℕ → ℕ → List ℕ → Type 0
+IsAllowedAt does ends refuses s None from to bytes = IsAllowed (ends s) (refuses s None) from to bytes
+IsAllowedAt does ends refuses s (Some packet) from to bytes =
+    IsAllowed (does s packet) (refuses s (Some packet)) from to bytes
 
 -- a write failed at a packet, or at the end, after the packets before it went through
 pub record IsCutOff {S F : Type 0} (does : S → List ℕ → S → List ℕ → ℕ → Type 0) (ends : S → S → List ℕ → ℕ → Type 0)
@@ -129,7 +130,8 @@ pub record IsCutOff {S F : Type 0} (does : S → List ℕ → S → List ℕ →
   -- the moment before it
   pub mid : Moment S
   pub passed : Passes does a (take count (packets_of bytes)) mid
-  pub cut : CutShort mid.sink b.sink (IsAllowedAt does ends refuses mid.stage (slice_get (packets_of bytes) count))
+  pub cut : CutShort mid.sink b.sink
+      (IsAllowedAt does ends refuses mid.stage (slice_get (packets_of bytes) count) mid.steps b.steps)
 
 -- what a drive from one moment to another answers
 abbrev pub Drives : {S F : Type 0} → (S → List ℕ → S → List ℕ → ℕ → Type 0) → (S → S → List ℕ → ℕ → Type 0)
@@ -154,7 +156,8 @@ IsClosed ends refuses u v s t from to count (Ok n) = (n ≡ count) × Grew u v f
 IsClosed ends refuses u v s t from to count (Err (Broken found)) = ⊥
 IsClosed ends refuses u v s t from to count (Err TooLong) = ⊥
 IsClosed ends refuses u v s t from to count (Err ReadFault) = ⊥
-IsClosed ends refuses u v s t from to count (Err WriteFault) = CutShort u v (IsAllowed (ends s) (refuses s None))
+IsClosed ends refuses u v s t from to count (Err WriteFault) =
+    CutShort u v (IsAllowed (ends s) (refuses s None) from to)
 IsClosed ends refuses u v s t from to count (Err (Refused fault)) = Grew u v from to (refuses s None fault t)
 
 -- why no packet comes after so many

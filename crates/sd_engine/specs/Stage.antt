@@ -43,10 +43,12 @@ abbrev pub ForKept : {F : Type 0} → Option F → (F → Type 0) → Type 0
 ForKept None Says = Unit {0}
 ForKept (Some fault) Says = Says fault
 
--- the bytes that a stage may write of a packet, or of the end: those of what it does, or of a refusal
-abbrev pub IsAllowed : {S F : Type 0} → (S → List ℕ → ℕ → Type 0) → (F → S → List ℕ → ℕ → Type 0) → List ℕ → Type 0
-IsAllowed {S} {F} Does Refuses bytes =
-    ((t : S) × (n : ℕ) × Does t bytes n) ⊎ ((fault : F) × (t : S) × (n : ℕ) × Refuses fault t bytes n)
+-- The bytes that a stage may write of a packet, or of the end: those of what it does, or of a refusal. No more steps
+-- were counted than that takes.
+abbrev pub IsAllowed : {S F : Type 0} → (S → List ℕ → ℕ → Type 0) → (F → S → List ℕ → ℕ → Type 0) → ℕ → ℕ → List ℕ →
+    Type 0
+IsAllowed {S} {F} Does Refuses from to bytes = (steps : ℕ) × (to ≤ from + steps)
+    × (((t : S) × Does t bytes steps) ⊎ ((fault : F) × (t : S) × Refuses fault t bytes steps))
 
 -- packets one after the other, from a stage to a stage: the bytes are those of all of them, and the steps are added up
 abbrev pub Chain : {S : Type 0} → (S → List ℕ → S → List ℕ → ℕ → Type 0) → S → List (List ℕ) → S → List ℕ → ℕ → Type 0

@@ -57,7 +57,8 @@ pub record CutAt {S F : Type 0} (does : S → List ℕ → S → List ℕ → �
   pub place : IsAt bytes count
   pub mid : Moment S
   pub passed : Passes does a (take count (taken_of bytes)) mid
-  pub cut : CutShort mid.sink b.sink (IsAllowedAt does ends refuses mid.stage (slice_get (taken_of bytes) count))
+  pub cut : CutShort mid.sink b.sink
+      (IsAllowedAt does ends refuses mid.stage (slice_get (taken_of bytes) count) mid.steps b.steps)
 
 -- what the drive of a stream of these bytes answers
 abbrev pub DrivesOver : {S F : Type 0} → (S → List ℕ → S → List ℕ → ℕ → Type 0) → (S → S → List ℕ → ℕ → Type 0)

@@ -54,7 +54,7 @@ pub trait Stage<K: Sink, L: Ledger> {
         ensures again { (fault : Self.Fault) → kept self.old ≡ Some fault →
             (result ≡ Err (StageFault.Refused fault)) × (vessel K.Sink out.new ≡ vessel K.Sink out.old) }
         ensures prefix { IsErrOf result StageFault.Write → CutShort (vessel K.Sink out.old) (vessel K.Sink out.new)
-            (IsAllowed (does self.old packet.now) (refuses self.old (Some packet.now))) }
+            (IsAllowed (does self.old packet.now) (refuses self.old (Some packet.now)) steps.old steps.new) }
         ensures cause { IsCaused (K.faults out.old) (K.faults out.new) (IsErrOf result StageFault.Write) };
 
     /// Takes the end of the stream, after its last packet.
@@ -71,6 +71,6 @@ pub trait Stage<K: Sink, L: Ledger> {
         ensures again { (fault : Self.Fault) → kept self.old ≡ Some fault →
             (result ≡ Err (StageFault.Refused fault)) × (vessel K.Sink out.new ≡ vessel K.Sink out.old) }
         ensures prefix { IsErrOf result StageFault.Write → CutShort (vessel K.Sink out.old) (vessel K.Sink out.new)
-            (IsAllowed (ends self.old) (refuses self.old None)) }
+            (IsAllowed (ends self.old) (refuses self.old None) steps.old steps.new) }
         ensures cause { IsCaused (K.faults out.old) (K.faults out.new) (IsErrOf result StageFault.Write) };
 }

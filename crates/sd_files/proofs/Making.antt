@@ -66,7 +66,7 @@ made_obeys most word bytes a b page steps written result told file cause ports c
       comes = comes_made most word bytes a b page steps written file cause;
       ports = ports;
       calls = omega arith;
-      steps = takes_none (Ok (making most word bytes)) (status_of (making_told word.number written)) steps;
+      steps = takes_none (Ok (making most word bytes)) steps;
     })
 
 -- where no number of steps is said it doesn't matter how many were taken before

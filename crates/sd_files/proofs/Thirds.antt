@@ -132,7 +132,7 @@ wanting_obeys meant q page steps status is = record {
       refl;
   ports = refl;
   calls = omega arith;
-  steps = takes_none meant.result status steps;
+  steps = takes_none meant.result steps;
 }
 
 asks_nothing : (q : Place) → IsAsked 0 q q

@@ -244,7 +244,7 @@ pub turned_obeys : (steps : List ℕ → StepBound) (written : List ℕ → List
     (over result : Result (Unit {0}) Status) →
     IsOpened p q word.text out.text left held f o → HasPortCause f f' o o' (status_of over) →
     Wrote (written bytes) (ends bytes) held held' (status_of over) → IsClosed q r out.text held' f' o' over result →
-    TakesSteps (Ok (turning (steps bytes) out (written bytes) (ends bytes))) (status_of result) i j →
+    TakesSteps (Ok (turning (steps bytes) out (written bytes) (ends bytes))) i j →
     Obeys (all_of word.number (Some bytes) >>= λ bytes. value (turning (steps bytes) out (written bytes) (ends bytes)))
     (outside p page i) (outside r page j) (status_of result)
 turned_obeys steps written ends word out bytes p q r page i j left held held' f f' o o' over result opened cause wrote
@@ -307,7 +307,7 @@ not_turned steps written ends word out p q page i status (no_folder is none aske
         is none (unasked 3 p q asked) refl (record { depot = calm; print = refl }) rose;
     ports = asked.ports;
     calls = let c = asked.calls in omega (arith, c);
-    steps = takes_none (Ok (turning (steps []) out (written []) (ends []))) status i;
+    steps = takes_none (Ok (turning (steps []) out (written []) (ends []))) i;
   };
 }
 not_turned steps written ends word out p q page i status (stopped_first stopped) =
@@ -336,6 +336,6 @@ not_turned steps written ends word out p q page i status (stopped_then there sto
         comes = stopped_comes (Ok work) 3 p q page i i status stopped stopped.cause;
         ports = stopped.asked.ports;
         calls = let c = stopped.asked.calls in omega (arith, c);
-        steps = takes_none (Ok work) status i;
+        steps = takes_none (Ok work) i;
       };
     }

@@ -153,6 +153,15 @@ steps_after height keys true m k few one = let e : height * (keys + 1) ≡ heigh
 steps_after height keys false m k few one = let e : height * (keys + 0) ≡ height * keys =
     grind (arith) in omega (arith, few, one, e)
 
+-- the steps of packets and of the one after them are those of their keys
+pub steps_more : (card : CardFields) (packets : List (List ℕ)) (packet : List ℕ) (m k : ℕ) →
+    m ≤ card.height * taken_keys card [] packets → k ≤ steps_at card (reverse packets ++ []) packet →
+    m + k ≤ card.height * taken_keys card [] (packets ++ packet ∷ [])
+steps_more card packets packet m k few one =
+    subst (λ (n : ℕ). m + k ≤ card.height * n) (sym (keys_more card [] packets packet))
+    (steps_after card.height (taken_keys card [] packets) (takes_key_at card (reverse packets ++ []) packet) m k few
+    one)
+
 pub broke_at : (packets : List (List ℕ)) (s mid : Receiver) (packet : List ℕ) (more : List (List ℕ)) (why : StreamFault)
     (first last : List ℕ) (m k : ℕ) → IsAfter [] s → length packets < 2 ^ 64 - 1 →
     Chain receiver_does s packets mid first m →
@@ -172,7 +181,5 @@ broke_at packets s mid packet more why first last m k after few chain refuses =
           (stopped.bytes_are ∙ ap concat (sym (out_last card before packet more why stopped.fault)))
           ∙ ap concat (sym parts.0);
       broken = parts.1 ∙ break_last card before packet more why stopped.fault;
-      few = subst (λ (n : ℕ). m + k ≤ card.height * n) (sym (keys_more card [] packets packet))
-          (steps_after card.height (taken_keys card [] packets) (takes_key_at card before packet) m k came.few
-          stopped.few);
+      few = steps_more card packets packet m k came.few stopped.few;
     }

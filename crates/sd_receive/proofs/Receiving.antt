@@ -238,20 +238,24 @@ refused_of T R u v t result from to fault Says is comes says =
     }
 
 pub cut_of : (T : Listener → List ℕ → Type 0) (R : StreamFault → List ℕ → Type 0) (u v : Vessel) (t : Listener)
-    (result : Result (Unit {0}) (StageFault StreamFault)) (Does : Receiver → List ℕ → ℕ → Type 0)
+    (result : Result (Unit {0}) (StageFault StreamFault)) (from to : ℕ) (Does : Receiver → List ℕ → ℕ → Type 0)
     (Refuses : StreamFault → Receiver → List ℕ → ℕ → Type 0) (s : Receiver) → IsErrOf result Write →
     Comes T R u v t result →
-    ((x : Listener) (bytes : List ℕ) → T x bytes → (y : Receiver) × (n : ℕ) × Does y bytes n) →
-    ((fault : StreamFault) (bytes : List ℕ) → R fault bytes → (n : ℕ) × Refuses fault s bytes n) →
-    CutShort u v (IsAllowed Does Refuses)
-cut_of T R u v t (Ok done) Does Refuses s is comes does refuses = absurd (grind (arith, is))
-cut_of T R u v t (Err (Refused fault)) Does Refuses s is comes does refuses = absurd (grind (arith, is))
-cut_of T R u v t (Err Write) Does Refuses s is comes does refuses = record {
+    ((x : Listener) (bytes : List ℕ) → T x bytes → (y : Receiver) × Does y bytes (to - from)) →
+    ((fault : StreamFault) (bytes : List ℕ) → R fault bytes → Refuses fault s bytes (to - from)) →
+    CutShort u v (IsAllowed Does Refuses from to)
+cut_of T R u v t (Ok done) from to Does Refuses s is comes does refuses = absurd (grind (arith, is))
+cut_of T R u v t (Err (Refused fault)) from to Does Refuses s is comes does refuses = absurd (grind (arith, is))
+cut_of T R u v t (Err Write) from to Does Refuses s is comes does refuses = record {
   bytes = comes.bytes;
-  says = elim comes.says [
-    | inl h ↦ inl (does h.0 comes.bytes h.1)
-    | inr h ↦ let r = refuses h.0 comes.bytes h.1 in inr (h.0, s, r.0, r.1)
-  ];
+  says = (
+    to - from,
+    omega arith,
+    elim comes.says [
+      | inl h ↦ inl (does h.0 comes.bytes h.1)
+      | inr h ↦ inr (h.0, s, refuses h.0 comes.bytes h.1)
+    ],
+  );
   prefix = comes.prefix;
   short = comes.short;
   taken = comes.taken;

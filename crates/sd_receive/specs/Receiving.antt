@@ -1,13 +1,11 @@
 -- The receiver as a stage of packets.
-use Rattle.std.specs.Prelude.{◌≡◌, ℕ, ◌+◌, ◌-◌, ◌*◌, ◌^◌, ◌<◌, ◌≤◌, Bool, false, List, [], ◌∷◌, ◌++◌, length, reverse}
+use Rattle.std.specs.Prelude.{◌≡◌, ℕ, ◌-◌, ◌*◌, ◌^◌, ◌<◌, ◌≤◌, List, [], ◌∷◌, ◌++◌, length, reverse}
 use Rattle.std.specs.Prelude.{if◌then◌else◌, Option, Some, None, option_map, IfSome}
 use Rattle.std.specs.List.{concat}
-use Rattle.std.specs.Option.{option_map_or}
 use Rattle.sd_card.specs.Fields.{CardFields, fields_of}
 use Rattle.sd_reception.specs.declared.fault.StreamFault.{StreamFault}
 use Rattle.sd_reception.specs.Tuned.{tuning_of}
-use Rattle.sd_reception.specs.Heard.{Heard, Dropped, Entitles, Controls, BadEmm, BadEcm, Other, hears}
-use Rattle.sd_reception.specs.Stretches.{is_closed}
+use Rattle.sd_reception.specs.Heard.{Heard}
 use Rattle.sd_reception.specs.Offered.{heard, offered, out_from, break_from}
 pub use Rattle.sd_reception.specs.Taken.{takes_key_of}
 unfoldable pub use Rattle.sd_reception.specs.Taken.{takes_key_at, taken_keys}

@@ -51,7 +51,8 @@ impl Receiver {
             Grew (vessel K.Sink out.old) (vessel K.Sink out.new) steps.old steps.new
             (Refusing self.old packet.now fault) }
         ensures prefix { IsErrOf result StageFault.Write → CutShort (vessel K.Sink out.old) (vessel K.Sink out.new)
-            (IsAllowed (receiver_does self.old packet.now) (receiver_refuses self.old (Some packet.now))) }
+            (IsAllowed (receiver_does self.old packet.now) (receiver_refuses self.old (Some packet.now))
+            steps.old steps.new) }
         ensures cause { IsCaused (K.faults out.old) (K.faults out.new) (IsErrOf result StageFault.Write) }
     {
         let number = self.count;

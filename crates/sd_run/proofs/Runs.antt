@@ -17,7 +17,7 @@ use Rattle.sd_run.specs.Headline.{Runs}
 pub record IsWorked (work : Work) (files : Files) (a b : Outside) (answer : Status) : Type 0 where
   pub ends : answer ≡ work.ends
   pub left : b.place.files ≡ files_with work.out (Some files)
-  pub steps : IsWithinSteps work.steps answer a.steps b.steps
+  pub steps : IsWithinSteps work.steps a.steps b.steps
 
 same_work : (meant : Result Work Status) (work other : Work) → meant ≡ Ok work → meant ≡ Ok other → other ≡ work
 same_work meant work other e f = let both = sym f ∙ e in cc
@@ -50,9 +50,9 @@ pub told_given : (files : Option Files) (told : Files) (given : Given) → files
     given ≡ told_by told
 told_given files told given e h = subst (λ (o : Option Files). IsGiven o given) e h
 
-steps_of : (meant : Result Work Status) (work : Work) (status : Status) (before now : ℕ) → meant ≡ Ok work →
-    TakesSteps meant status before now → IsWithinSteps work.steps status before now
-steps_of meant work status before now is h = subst (λ (r : Result Work Status). TakesSteps r status before now) is h
+steps_of : (meant : Result Work Status) (work : Work) (before now : ℕ) → meant ≡ Ok work →
+    TakesSteps meant before now → IsWithinSteps work.steps before now
+steps_of meant work before now is h = subst (λ (r : Result Work Status). TakesSteps r before now) is h
 
 -- a run does the work that is meant
 pub runs_work : (words : List (List ℕ)) (work : Work) (files : Files) (a b : Outside) (answer : Status) →
@@ -75,6 +75,5 @@ runs_work words work files a b answer meant told runs =
     record {
       ends = sym own ∙ done.0;
       left = done.1;
-      steps = subst (λ (s : Status). IsWithinSteps work.steps s a.steps b.steps) own
-          (steps_of (meaning words answers.obeyed.given).result work answers.status a.steps b.steps is obeys.steps);
+      steps = steps_of (meaning words answers.obeyed.given).result work a.steps b.steps is obeys.steps;
     }

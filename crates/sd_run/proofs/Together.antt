@@ -1,6 +1,6 @@
 -- What `head`, `card` and `receive` come to, one after the other.
-use Rattle.std.proofs.Common.{◌≡◌, ◌≢◌, ℕ, ◌+◌, ◌-◌, ◌*◌, ◌^◌, ◌≤◌, Bool, false, List}
-use Rattle.std.proofs.Common.{length, Option, Some, None}
+use Rattle.std.proofs.Common.{◌≡◌, ℕ, ◌+◌, ◌-◌, ◌*◌, ◌^◌, ◌≤◌, Bool, false, List}
+use Rattle.std.proofs.Common.{length, Option, Some}
 use Rattle.std.proofs.Common.{Result, Ok, Err, refl, sym, ap, subst, ◌∙◌, arith, le-ltb}
 use Rattle.std.specs.Prelude.{◌||◌, if◌then◌else◌}
 use Rattle.std.specs.Str.{bytes_eq}
@@ -25,7 +25,7 @@ use Rattle.sd_whole.proofs.Taken.{broadcast_taken}
 use Rattle.sd_losses.specs.Confirmed.{opened_by}
 use Rattle.sd_losses.specs.Endings.{first_revoked}
 use Rattle.sd_status.specs.declared.status.Status.{Status}
-use Rattle.sd_status.specs.declared.status.Status.TheVariants.{Done, Usage, BadWord, DepotFault}
+use Rattle.sd_status.specs.declared.status.Status.TheVariants.{Done, Usage, BadWord}
 use Rattle.sd_status.specs.Meant.{told_by}
 use Rattle.sd_status.specs.Outside.{Outside}
 use Rattle.sd_status.specs.Work.{StepBound, Uncounted, Out, Work, files_with, IsWithinSteps}
@@ -50,11 +50,6 @@ use Rattle.sd_run.proofs.Runs.{IsWorked, runs_work}
 told_file : (at : Outside) (files : Files) (name bytes : List ℕ) → at.place.files ≡ Some files →
     get files name ≡ Some bytes → file_in at name ≡ Some bytes
 told_file at files name bytes told there = ap (option_and_then (λ (f : Files). get f name)) told ∙ there
-
--- the receiver's status isn't that a device failed
-revoked_apart : (u : ℕ) (period : Option ℕ) → revoked_status u period ≢ DepotFault
-revoked_apart u None = λ e. cc
-revoked_apart u (Some q) = λ e. cc
 
 -- words that differ are refused for no other word
 one_apart : (p : Bool) (order : Result Order Status) → p ≡ false → (if p then Err Usage else order) ≡ order
@@ -233,14 +228,12 @@ module _ (names : Names) (plan : Plan) (u : ℕ) (clear : List (List ℕ)) (file
       IsWorked work with_card c d received → IsReceived names plan u clear c d received
   received_work c d received work opened worked =
       let bytes : List ℕ = concat (opened_by plan u clear) in
-      let ends = worked.ends ∙ opened.ends in
-      let steps = subst (λ (s : StepBound). IsWithinSteps s received c.steps d.steps) opened.counted worked.steps in
-      let few = steps (λ e. revoked_apart u (first_revoked plan u clear) (sym ends ∙ e)) in
+      let few = subst (λ (s : StepBound). IsWithinSteps s c.steps d.steps) opened.counted worked.steps in
       record {
         written = told_file d (insert with_card names.out bytes) names.out bytes
             (worked.left ∙ ap (λ (out : Option Out). files_with out (Some with_card)) opened.file)
             (made_there with_card names.out bytes);
-        ends = ends;
+        ends = worked.ends ∙ opened.ends;
         steps = omega (arith, few, opened.few);
       }
 

@@ -9,10 +9,10 @@ use Rattle.sd_status.specs.Comes.{IsRefusal, IsEnding, Comes, refused, exhausted
 use Rattle.sd_status.specs.Reads.{TakesFor}
 use Rattle.sd_files.specs.Made.{making}
 
-taken : (meant : Result (List ℕ) Status) (out : Word) (status : Status) (before now : ℕ) → TakesFor meant before now →
-    TakesSteps (judged meant >>= λ bytes. value (making Uncounted out bytes)).result status before now
-taken (Ok bytes) out status before now h = tt
-taken (Err refusal) out status before now h = h
+taken : (meant : Result (List ℕ) Status) (out : Word) (before now : ℕ) → TakesFor meant before now →
+    TakesSteps (judged meant >>= λ bytes. value (making Uncounted out bytes)).result before now
+taken (Ok bytes) out before now h = tt
+taken (Err refusal) out before now h = h
 
 comes : (meant : Result (List ℕ) Status) (out : Word) (p : Place) (page : Page) (steps now : ℕ) (status : Status) →
     ((meant ≡ Err status) × IsRefusal status × IsEnding status) ⊎ (status ≡ NoMemory) →
@@ -37,5 +37,5 @@ card_obeys meant out p q n page steps now status e h takes = record {
   comes = comes meant out q page steps now status h;
   ports = refl;
   calls = omega arith;
-  steps = taken meant out status steps now takes;
+  steps = taken meant out steps now takes;
 }

@@ -208,5 +208,5 @@ wanting_obeys meant q page steps status is = record {
       refl;
   ports = refl;
   calls = omega arith;
-  steps = takes_none meant.result status steps;
+  steps = takes_none meant.result steps;
 }

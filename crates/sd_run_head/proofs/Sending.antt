@@ -350,10 +350,11 @@ may_write : {S F : Type 0} (plan : Plan) (does : S → List ℕ → S → List �
     (refuses : S → Option (List ℕ) → F → S → List ℕ → ℕ → Type 0) (told : F → Option ClearFault)
     (After : List (List ℕ) → S → Type 0)
     (head : IsHeadEnd plan does ends refuses told After) (bytes : List ℕ) (count : ℕ) (mid : S) (first more : List ℕ)
-    (here : Option (List ℕ)) → IsAt bytes count → WentOn plan After [] (take count (taken_of bytes)) mid first →
-    slice_get (taken_of bytes) count ≡ here → IsAllowedAt does ends refuses mid here more → IsPrefix (first ++ more)
-    (sent_of plan bytes)
-may_write plan does ends refuses told After head bytes count mid first more None place went at (inl (t, n, last)) =
+    (from to : ℕ) (here : Option (List ℕ)) → IsAt bytes count →
+    WentOn plan After [] (take count (taken_of bytes)) mid first → slice_get (taken_of bytes) count ≡ here →
+    IsAllowedAt does ends refuses mid here from to more → IsPrefix (first ++ more) (sent_of plan bytes)
+may_write plan does ends refuses told After head bytes count mid first more from to None place went at
+    (n, within, inl (t, last)) =
     let clear = taken_of bytes in
     let all = all_there clear count place.within at in
     let sent = sent_unrefused plan bytes Whole (subst (λ (ps : List (List ℕ)). refusal_from plan.site [] ps ≡ None)
@@ -368,15 +369,15 @@ may_write plan does ends refuses told After head bytes count mid first more None
           ∙ ap (λ (ps : List (List ℕ)). concat (broadcast plan ps)) all.1
           ∙ sent.0,
     )
-may_write plan does ends refuses told After head bytes count mid first more None place went at
-    (inr (fault, t, n, refuse)) =
+may_write plan does ends refuses told After head bytes count mid first more from to None place went at
+    (n, within, inr (fault, t, refuse)) =
     nothing_after first more (sent_of plan bytes) (head.refusal (take count (taken_of bytes)) mid None fault t more n
     went.after refuse).0
     (subst (λ (xs : List ℕ). IsPrefix xs (sent_of plan bytes))
     (sym (went.wrote ∙ sym (body_bytes plan (take count (taken_of bytes)))))
     (begins plan bytes count place.within went.unrefused))
-may_write plan does ends refuses told After head bytes count mid first more (Some packet) place went at
-    (inl (t, n, done)) =
+may_write plan does ends refuses told After head bytes count mid first more from to (Some packet) place went at
+    (n, within, inl (t, done)) =
     let clear = taken_of bytes in
     let step = head.step (take count clear) mid packet t more n went.after done in
     let inside = (here_is clear count packet at).2 in
@@ -386,8 +387,8 @@ may_write plan does ends refuses told After head bytes count mid first more (Som
     at))
     (begins plan bytes (count + 1) (omega (arith, inside)) (one_unrefused plan.site clear count packet went.unrefused at
     step.0))
-may_write plan does ends refuses told After head bytes count mid first more (Some packet) place went at
-    (inr (fault, t, n, refuse)) =
+may_write plan does ends refuses told After head bytes count mid first more from to (Some packet) place went at
+    (n, within, inr (fault, t, refuse)) =
     nothing_after first more (sent_of plan bytes)
     (head.refusal (take count (taken_of bytes)) mid (Some packet) fault t more n went.after refuse).0
     (subst (λ (xs : List ℕ). IsPrefix xs (sent_of plan bytes))
@@ -471,7 +472,7 @@ wrote_sent plan does ends refuses told After head bytes a b (Err drive.WriteFaul
     let went = went_on plan does ends refuses told After head [] first a.stage h.mid.stage h.passed.bytes h.passed.steps
     stands h.passed.says in
     let part = may_write plan does ends refuses told After head bytes h.count h.mid.stage h.passed.bytes h.cut.bytes
-    (slice_get (taken_of bytes) h.count) h.place went refl h.cut.says in
+    h.mid.steps b.steps (slice_get (taken_of bytes) h.count) h.place went refl h.cut.says in
     some_written (inr refl) (
       h.passed.bytes ++ h.cut.prefix,
       prefix_on (h.passed.bytes ++ h.cut.prefix) (h.passed.bytes ++ h.cut.bytes) (sent_of plan bytes)

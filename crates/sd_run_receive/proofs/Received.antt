@@ -1,5 +1,5 @@
 -- What is received of a stream, as far as its ports go.
-use Rattle.std.proofs.Common.{◌≡◌, ◌≢◌, ℕ, zero, suc, ◌+◌, ◌-◌, ◌*◌, ◌^◌, ◌<◌, ◌≤◌, List, [], ◌∷◌, ◌++◌, length}
+use Rattle.std.proofs.Common.{◌≡◌, ℕ, zero, suc, ◌+◌, ◌-◌, ◌*◌, ◌^◌, ◌<◌, ◌≤◌, List, [], ◌∷◌, ◌++◌, length}
 use Rattle.std.proofs.Common.{take, drop, reverse, append-nil, append_assoc, Option, Some, None, Ok, Err}
 use Rattle.std.proofs.Common.{refl, sym, ap, subst, ◌∙◌, arith, inl, inr}
 use Rattle.std.specs.Prelude.{slice_get, option_map, IfSome, is_none, if◌then◌else◌}
@@ -26,10 +26,10 @@ use Rattle.sd_hearing.specs.Ears.{tuned}
 use Rattle.sd_reception.specs.Offered.{heard, offered, out_from, break_from}
 use Rattle.sd_reception.specs.Ending.{ending_of}
 use Rattle.sd_receive.specs.declared.receiver.Receiver.{Receiver}
-use Rattle.sd_receive.specs.Receiving.{IsAfter, IsLive, card_in, taken_keys, receiver_does}
+use Rattle.sd_receive.specs.Receiving.{IsAfter, IsLive, card_in, steps_at, taken_keys, receiver_does}
 use Rattle.sd_receive.specs.Receiving.{receiver_ends, receiver_refuses}
 use Rattle.sd_receive.specs.Receiving.{CameTo, BrokeAt}
-use Rattle.sd_receive.proofs.Chained.{came_to_all, broke_at, out_joined}
+use Rattle.sd_receive.proofs.Chained.{came_to_all, broke_at, out_joined, steps_more}
 use Rattle.sd_status.specs.declared.status.Status.{Status}
 use Rattle.sd_status.specs.declared.status.Status.TheVariants.{DepotFault}
 use Rattle.sd_status.specs.Comes.{IsEnding}
@@ -174,34 +174,43 @@ next_of_out card packets k packet at none =
           ∙ ap concat (sym joined),
     )
 
--- what a packet writes, taken or refused
-wrote_at : (card : CardFields) (past : List (List ℕ)) (mid : Receiver) (packet bytes : List ℕ) → card_in mid ≡ card →
-    IsAfter past mid →
-    length past < 2 ^ 64 - 1 → IsAllowedAt receiver_does receiver_ends receiver_refuses mid (Some packet) bytes →
-    bytes ≡ concat (offered card past packet).wrote
-wrote_at card past mid packet bytes is after few (inl (t, n, does)) =
-    (does past after few).bytes_are ∙ ap (λ (c : CardFields). concat (offered c past packet).wrote) is
-wrote_at card past mid packet bytes is after few (inr (why, t, n, refuses)) =
-    (refuses past after few).bytes_are ∙ ap (λ (c : CardFields). concat (offered c past packet).wrote) is
+-- what a packet writes and the steps that it takes, where it is taken or refused
+wrote_at : (card : CardFields) (past : List (List ℕ)) (mid : Receiver) (packet bytes : List ℕ) (from to : ℕ) →
+    card_in mid ≡ card → IsAfter past mid → length past < 2 ^ 64 - 1 →
+    IsAllowedAt receiver_does receiver_ends receiver_refuses mid (Some packet) from to bytes →
+    (bytes ≡ concat (offered card past packet).wrote) × (to - from ≤ steps_at card past packet)
+wrote_at card past mid packet bytes from to is after few (n, counted, inl (t, does)) =
+    let done = does past after few in
+    let most = subst (λ (c : CardFields). n ≤ steps_at c past packet) is done.few in (
+      done.bytes_are ∙ ap (λ (c : CardFields). concat (offered c past packet).wrote) is,
+      omega (arith, counted, most),
+    )
+wrote_at card past mid packet bytes from to is after few (n, counted, inr (why, t, refuses)) =
+    let stopped = refuses past after few in
+    let most = subst (λ (c : CardFields). n ≤ steps_at c past packet) is stopped.few in (
+      stopped.bytes_are ∙ ap (λ (c : CardFields). concat (offered c past packet).wrote) is,
+      omega (arith, counted, most),
+    )
 
 -- what the receiver may write of a packet, or of the end, goes on with what all packets write
-part_of_out : (card : CardFields) (packets : List (List ℕ)) (k : ℕ) (mid : Receiver) (first bytes : List ℕ) (n : ℕ)
-    (here : Option (List ℕ)) →
+part_of_out : (card : CardFields) (packets : List (List ℕ)) (k : ℕ) (mid : Receiver) (first bytes : List ℕ)
+    (n from to : ℕ) (here : Option (List ℕ)) →
     CameTo card (take k packets) mid first n → length (take k packets) < 2 ^ 64 - 1 → slice_get packets k ≡ here →
-    IsAllowedAt receiver_does receiver_ends receiver_refuses mid here bytes →
+    IsAllowedAt receiver_does receiver_ends receiver_refuses mid here from to bytes →
     IsPrefix (first ++ bytes) (concat (out_from card [] packets))
-part_of_out card packets k mid first bytes n None came few at (inl (t, m, ends)) =
+part_of_out card packets k mid first bytes n from to None came few at (m, counted, inl (t, ends)) =
     none_after first bytes (concat (out_from card [] packets)) ends.1
     (subst (λ (xs : List ℕ). IsPrefix xs (concat (out_from card [] packets))) (sym came.written)
     (some_of_out card packets k came.unbroken))
-part_of_out card packets k mid first bytes n None came few at (inr (why, t, m, kept)) =
+part_of_out card packets k mid first bytes n from to None came few at (m, counted, inr (why, t, kept)) =
     none_after first bytes (concat (out_from card [] packets)) kept.bytes_are
     (subst (λ (xs : List ℕ). IsPrefix xs (concat (out_from card [] packets))) (sym came.written)
     (some_of_out card packets k came.unbroken))
-part_of_out card packets k mid first bytes n (Some packet) came few at allowed =
+part_of_out card packets k mid first bytes n from to (Some packet) came few at allowed =
     let past = reverse (take k packets) in
     let long : length past ≡ length (take k packets) = length-reverse (take k packets) in
-    let wrote = wrote_at card past mid packet bytes came.same came.after (omega (arith, long, few)) allowed in
+    let wrote =
+    (wrote_at card past mid packet bytes from to came.same came.after (omega (arith, long, few)) allowed).0 in
     subst (λ (xs : List ℕ). IsPrefix xs (concat (out_from card [] packets)))
     (ap (λ (xs : List ℕ). xs ++ concat (offered card past packet).wrote) (sym came.written) ∙
     ap (λ (xs : List ℕ). first ++ xs) (sym wrote))
@@ -223,6 +232,48 @@ scaled h a b few =
     let both : h * b ≡ h * a + h * more = ap (λ (n : ℕ). h * n) all ∙ apart in
     omega (arith, both)
 
+-- the steps of some first packets are no more than those of all
+first_steps : (card : CardFields) (first more packets : List (List ℕ)) → first ++ more ≡ packets →
+    card.height * taken_keys card [] first ≤ card.height * taken_keys card [] packets
+first_steps card first more packets joined =
+    scaled card.height (taken_keys card [] first) (taken_keys card [] packets)
+    (subst (λ (ps : List (List ℕ)). taken_keys card [] first ≤ taken_keys card [] ps) joined
+    (few_keys card [] first more))
+
+some_steps : (card : CardFields) (packets : List (List ℕ)) (k : ℕ) →
+    card.height * taken_keys card [] (take k packets) ≤ card.height * taken_keys card [] packets
+some_steps card packets k =
+    first_steps card (take k packets) (drop k packets) packets (take-append-drop k packets)
+
+-- and so with the next one
+next_steps : (card : CardFields) (packets : List (List ℕ)) (k : ℕ) (packet : List ℕ) → slice_get packets k
+    ≡ Some packet →
+    card.height * taken_keys card [] (take k packets ++ packet ∷ []) ≤ card.height * taken_keys card [] packets
+next_steps card packets k packet at =
+    let split = split_at packets k packet at in
+    first_steps card (take k packets ++ packet ∷ []) split.0 packets
+    (append_assoc (take k packets) (packet ∷ []) split.0 ∙ sym split.1)
+
+-- the steps that were counted at a packet, or at the end, go on with those of the packets before it
+part_of_steps : (card : CardFields) (packets : List (List ℕ)) (k : ℕ) (mid : Receiver) (first bytes : List ℕ)
+    (n from to : ℕ) (here : Option (List ℕ)) →
+    CameTo card (take k packets) mid first n → length (take k packets) < 2 ^ 64 - 1 → slice_get packets k ≡ here →
+    IsAllowedAt receiver_does receiver_ends receiver_refuses mid here from to bytes →
+    n + (to - from) ≤ card.height * taken_keys card [] packets
+part_of_steps card packets k mid first bytes n from to None came few at (m, counted, inl (t, ends)) =
+    let before = came.few in let none = ends.2 in omega (arith, before, counted, none, some_steps card packets k)
+part_of_steps card packets k mid first bytes n from to None came few at (m, counted, inr (why, t, kept)) =
+    let before = came.few in let none = kept.none in omega (arith, before, counted, none, some_steps card packets k)
+part_of_steps card packets k mid first bytes n from to (Some packet) came few at allowed =
+    let front = take k packets in
+    let long : length (reverse front) ≡ length front = length-reverse front in
+    let one =
+    (wrote_at card (reverse front) mid packet bytes from to came.same came.after (omega (arith, long, few)) allowed).1
+    in
+    let both = steps_more card front packet n (to - from) came.few
+    (subst (λ (past : List (List ℕ)). to - from ≤ steps_at card past packet) (sym (append-nil (reverse front))) one) in
+    omega (arith, both, next_steps card packets k packet at)
+
 pub steps_are : (card : CardFields) (bytes : List ℕ) → received_steps card bytes ≡ card.height * taken_keys card []
     (taken_of bytes)
 unfolding received_steps
@@ -236,7 +287,7 @@ bytes_are card bytes = refl
 -- what was written of a stream, and how many steps it took
 record Receives (card : CardFields) (bytes : List ℕ) (a b : Moment Receiver) (status : Status) : Type 0 where
   wrote : Wrote (received_of card bytes) (received_status card bytes) a.sink.held b.sink.held status
-  steps : status ≢ DepotFault → b.steps ≤ a.steps + received_steps card bytes
+  steps : b.steps ≤ a.steps + received_steps card bytes
 
 -- all of it was written
 wrote_all : (card : CardFields) (bytes : List ℕ) (a b : Moment Receiver) (status : Status) (wrote : List ℕ) (n : ℕ) →
@@ -247,20 +298,21 @@ wrote_all : (card : CardFields) (bytes : List ℕ) (a b : Moment Receiver) (stat
 wrote_all card bytes a b status wrote n is are taken counted few = record {
   wrote = all_written is (subst IsEnding (sym is) (received_ends card bytes))
       (subst (λ (xs : List ℕ). Appends a.sink.held b.sink.held xs) (are ∙ sym (bytes_are card bytes)) taken);
-  steps = λ calm. let all = steps_are card bytes in omega (arith, all, counted, few);
+  steps = let all = steps_are card bytes in omega (arith, all, counted, few);
 }
 
 -- the device failed after a prefix of it
-wrote_some : (card : CardFields) (bytes : List ℕ) (a b : Moment Receiver) (prefix : List ℕ) →
+wrote_some : (card : CardFields) (bytes : List ℕ) (a b : Moment Receiver) (prefix : List ℕ) (n : ℕ) →
     IsPrefix prefix (concat (out_from card [] (taken_of bytes))) → Appends a.sink.held b.sink.held prefix →
+    b.steps ≤ a.steps + n → n ≤ card.height * taken_keys card [] (taken_of bytes) →
     Receives card bytes a b DepotFault
-wrote_some card bytes a b prefix short taken = record {
+wrote_some card bytes a b prefix n short taken counted few = record {
   wrote = some_written (inr refl) (
     prefix,
     subst (λ (xs : List ℕ). IsPrefix prefix xs) (sym (bytes_are card bytes)) short,
     taken,
   );
-  steps = λ calm. absurd (calm refl);
+  steps = let all = steps_are card bytes in omega (arith, all, counted, few);
 }
 
 -- the stream was received up to a packet that is refused
@@ -285,11 +337,7 @@ refused_wrote card bytes a b why is after h =
         let split = split_at packets h.count packet at in
         let broke = subst (λ (c : CardFields). BrokeAt c front packet split.0 why (first ++ last) (m + k)) is
         (broke_at front a.stage mid packet split.0 why first last m k after (some_few bytes h.count) chain refuses) in
-        let keys = few_keys card [] (front ++ packet ∷ []) split.0 in
-        let same : (front ++ packet ∷ []) ++ split.0 ≡ packets = append_assoc front (packet ∷ []) split.0 ∙
-        sym split.1 in
-        let most = scaled card.height (taken_keys card [] (front ++ packet ∷ [])) (taken_keys card [] packets)
-        (subst (λ (ps : List (List ℕ)). taken_keys card [] (front ++ packet ∷ []) ≤ taken_keys card [] ps) same keys) in
+        let most = next_steps card packets h.count packet at in
         wrote_all card bytes a b (refused_status why) wrote n
         (sym (some_refused card bytes why (ap (break_from card []) split.1 ∙ broke.broken)))
         (joined ∙ broke.written ∙ ap (λ (ps : List (List ℕ)). concat (out_from card [] ps)) (sym split.1))
@@ -303,13 +351,16 @@ cut_wrote card bytes a b is after h =
     let few = some_few bytes h.count in
     let came = all_through card (take h.count packets) a.stage h.mid.stage h.passed.bytes h.passed.steps is after
     (omega (arith, few)) h.passed.says in
-    let part = part_of_out card packets h.count h.mid.stage h.passed.bytes h.cut.bytes h.passed.steps
-    (slice_get packets h.count)
-    came few refl h.cut.says in
-    wrote_some card bytes a b (h.passed.bytes ++ h.cut.prefix)
+    let part = part_of_out card packets h.count h.mid.stage h.passed.bytes h.cut.bytes h.passed.steps h.mid.steps
+    b.steps (slice_get packets h.count) came few refl h.cut.says in
+    let most = part_of_steps card packets h.count h.mid.stage h.passed.bytes h.cut.bytes h.passed.steps h.mid.steps
+    b.steps (slice_get packets h.count) came few refl h.cut.says in
+    let before = h.passed.counted in
+    wrote_some card bytes a b (h.passed.bytes ++ h.cut.prefix) (h.passed.steps + (b.steps - h.mid.steps))
     (prefix_of (h.passed.bytes ++ h.cut.prefix) (h.passed.bytes ++ h.cut.bytes) (concat (out_from card [] packets))
     (after_part h.passed.bytes h.cut.prefix h.cut.bytes h.cut.short) part)
     (Appends-trans a.sink.held h.mid.sink.held b.sink.held h.passed.bytes h.cut.prefix h.passed.taken h.cut.taken)
+    (omega (arith, before)) most
 
 -- what came of a drive that was stopped
 stopped_wrote : (card : CardFields) (bytes : List ℕ) (a b : Moment Receiver) (why : DriveFault StreamFault) →
@@ -330,9 +381,10 @@ stopped_wrote card bytes a b drive.ReadFault is after (count, within, grew) =
     let few = some_few bytes count in
     let came = all_through card (take count (taken_of bytes)) a.stage b.stage grew.bytes grew.steps is after
     (omega (arith, few)) grew.says in
-    wrote_some card bytes a b grew.bytes
+    wrote_some card bytes a b grew.bytes grew.steps
     (subst (λ (xs : List ℕ). IsPrefix xs (concat (out_from card [] (taken_of bytes)))) (sym came.written)
-    (some_of_out card (taken_of bytes) count came.unbroken)) grew.taken
+    (some_of_out card (taken_of bytes) count came.unbroken)) grew.taken grew.counted
+    (let before = came.few in omega (arith, before, some_steps card (taken_of bytes) count))
 stopped_wrote card bytes a b drive.WriteFault is after h = cut_wrote card bytes a b is after h
 stopped_wrote card bytes a b (drive.Refused why) is after h = refused_wrote card bytes a b why is after h
 

@@ -1,15 +1,12 @@
 -- What comes of a file that is turned into OUT once another one was read.
-use Rattle.std.proofs.Common.{◌≡◌, ◌≢◌, ℕ, List, Option, Some, None, Result, Ok, Err, refl, sym, ap, subst, ◌∙◌}
-use Rattle.std.proofs.Common.{inl, inr}
+use Rattle.std.proofs.Common.{◌≢◌, ℕ, List, Option, Some, None, Ok, Err, sym, ap, subst}
 use Rattle.sd_ports.specs.Files.{Files}
 use Rattle.sd_status.specs.declared.status.Status.{Status}
 use Rattle.sd_status.specs.Outside.{Place, Page, Outside, outside}
 use Rattle.sd_status.specs.Meant.{Meant, Word, Given, IsGiven, IsGot, ◌>>=◌}
 use Rattle.sd_status.specs.Work.{Work}
-use Rattle.sd_status.specs.declared.status.Status.TheVariants.{DepotFault}
-use Rattle.sd_status.specs.Comes.{Obeys, Follows, status_of}
+use Rattle.sd_status.specs.Comes.{Obeys, Follows}
 use Rattle.sd_status.specs.Reads.{Looks}
-use Rattle.sd_files.specs.Turned.{IsClosed, unclosed_status, unclosed_by}
 use Rattle.sd_status.proofs.Moves.{then_obeys}
 use Rattle.sd_status.proofs.Givens.{one_given, two_given}
 use Rattle.sd_status.proofs.Follow.{reads_first, reads_follows}
@@ -62,18 +59,3 @@ pub first_follows : {X Y : Type 0} (view : X → Y) (first : Option (List ℕ) �
 first_follows view first next one p q page steps status h =
     reads_follows (λ (work : Work). work) (λ given. first (given one) >>= next given) p q page steps status
     (reads_first view (λ (work : Work). work) first next one p q status h)
-
-unclosed_of : (over : Result (Unit {0}) Status) → status_of over ≡ DepotFault →
-    status_of (unclosed_by over) ≡ DepotFault
-unclosed_of (Ok done) is = refl
-unclosed_of (Err status) is = ap unclosed_status is
-
--- a device that failed before the ports were closed is told
-pub closed_other : (a b : Place) (out : List ℕ) (held : Option (List ℕ)) (i o : ℕ)
-    (over result : Result (Unit {0}) Status) →
-    IsClosed a b out held i o over result → status_of result ≢ DepotFault → status_of over ≢ DepotFault
-closed_other a b out held i o over result closed other =
-    elim closed.ends [
-      | inl whole ↦ λ is. other (ap status_of whole.0 ∙ is)
-      | inr cut ↦ λ is. other (ap status_of cut.0 ∙ unclosed_of over is)
-    ]

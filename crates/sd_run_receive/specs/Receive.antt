@@ -1,5 +1,5 @@
 -- `receive CARD STREAM OUT` [this project, docs/FORMATS.md, Receiver].
-use Rattle.std.specs.Prelude.{◌≢◌, ℕ, zero, suc, ◌+◌, ◌*◌, ◌/◌, ◌≤◌, List, [], ◌∷◌, length, take, drop, reverse, Option}
+use Rattle.std.specs.Prelude.{ℕ, zero, suc, ◌+◌, ◌*◌, ◌/◌, ◌≤◌, List, [], ◌∷◌, length, take, drop, reverse, Option}
 use Rattle.std.specs.Prelude.{Some, None, Result, Ok, Err}
 use Rattle.std.specs.List.{concat}
 use Rattle.sd_engine.specs.Taken.{StreamEnd, Whole, Breaks, RunsOn, taken_of, end_of, IsLeft}
@@ -132,4 +132,4 @@ pub record ReceivesLeft (card : CardFields) (left held now : Option (List ℕ)) 
     pub bytes : List ℕ
     pub is_left : IsLeft left bytes
     pub wrote : Wrote (received_of card bytes) (received_status card bytes) held now status
-    pub steps : status ≢ DepotFault → to ≤ from + received_steps card bytes
+    pub steps : to ≤ from + received_steps card bytes

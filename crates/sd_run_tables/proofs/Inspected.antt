@@ -161,21 +161,22 @@ next_begin k packets s mid t first bytes packet n m stands few chain at inspects
     subst (λ (xs : List ℕ). IsPrefix xs (concat pieces)) (sym both) (pieces_first (k + 1) pieces)
 
 -- what the inspector may write of a packet, or of the end, goes on with the lines of all packets
-part_of_lines : (k : ℕ) (packets : List (List ℕ)) (s mid : Inspector) (first bytes : List ℕ) (n : ℕ)
+part_of_lines : (k : ℕ) (packets : List (List ℕ)) (s mid : Inspector) (first bytes : List ℕ) (n from to : ℕ)
     (here : Option (List ℕ)) →
     StandsAfter [] (seen s) → length (take k packets) ≤ 2 ^ 64 - 1 → Chain inspector_does s (take k packets) mid first
     n →
-    slice_get packets k ≡ here → IsAllowedAt inspector_does inspector_ends inspector_refuses mid here bytes →
+    slice_get packets k ≡ here → IsAllowedAt inspector_does inspector_ends inspector_refuses mid here from to bytes →
     IsPrefix (first ++ bytes) (concat (packet_lines [] packets))
-part_of_lines k packets s mid first bytes n None stands few chain at (inl (t, m, ends)) =
+part_of_lines k packets s mid first bytes n from to None stands few chain at (m, within, inl (t, ends)) =
     none_after first bytes (concat (packet_lines [] packets)) ends.nothing
     (first_begin k packets s mid first n stands few chain)
-part_of_lines k packets s mid first bytes n None stands few chain at (inr (fault, t, m, refuses)) =
+part_of_lines k packets s mid first bytes n from to None stands few chain at (m, within, inr (fault, t, refuses)) =
     none_after first bytes (concat (packet_lines [] packets)) refuses.nothing
     (first_begin k packets s mid first n stands few chain)
-part_of_lines k packets s mid first bytes n (Some packet) stands few chain at (inl (t, m, inspects)) =
+part_of_lines k packets s mid first bytes n from to (Some packet) stands few chain at (m, within, inl (t, inspects)) =
     next_begin k packets s mid t first bytes packet n m stands few chain at inspects
-part_of_lines k packets s mid first bytes n (Some packet) stands few chain at (inr (fault, t, m, refuses)) =
+part_of_lines k packets s mid first bytes n from to (Some packet) stands few chain at
+    (m, within, inr (fault, t, refuses)) =
     none_after first bytes (concat (packet_lines [] packets)) refuses.nothing
     (first_begin k packets s mid first n stands few chain)
 
@@ -186,7 +187,7 @@ cut_lines : (bytes : List ℕ) (a b : Moment Inspector) → StandsAfter [] (seen
 cut_lines bytes a b stands h =
     let packets = taken_of bytes in
     let part = part_of_lines h.count packets a.stage h.mid.stage h.passed.bytes h.cut.bytes h.passed.steps
-    (slice_get packets h.count)
+    h.mid.steps b.steps (slice_get packets h.count)
     stands (few_taken h.count bytes) h.passed.says refl h.cut.says in (
       h.passed.bytes ++ h.cut.prefix,
       prefix_of (h.passed.bytes ++ h.cut.prefix) (h.passed.bytes ++ h.cut.bytes) (concat (packet_lines [] packets))

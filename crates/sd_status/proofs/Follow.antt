@@ -90,13 +90,13 @@ given_obeys meant p q page steps status (inl h) = record {
       (record { depot = h.calm; print = refl }) h.miss;
   ports = h.asked.ports;
   calls = let c = h.asked.calls in omega arith;
-  steps = takes_none meant.result status steps;
+  steps = takes_none meant.result steps;
 }
 given_obeys meant p q page steps status (inr h) = record {
   comes = stopped_comes meant.result meant.calls p q page steps steps status h h.cause;
   ports = h.asked.ports;
   calls = let c = h.asked.calls in omega arith;
-  steps = takes_none meant.result status steps;
+  steps = takes_none meant.result steps;
 }
 
 -- files that were refused, or not read
@@ -160,7 +160,7 @@ printed_obeys meant work p q page now steps status is none ending e prints = rec
   ];
   ports = ap (λ (z : Place). z.opened) e;
   calls = let same = ap (λ (z : Place). z.calls) e in omega (arith, same);
-  steps = takes_none meant.result status steps;
+  steps = takes_none meant.result steps;
 }
 
 -- two files that were read, one after the other

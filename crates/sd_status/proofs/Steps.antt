@@ -9,14 +9,14 @@ use Rattle.sd_status.specs.Work.{StepBound, Uncounted, NoSteps, UpTo, Work, IsWi
 use Rattle.sd_status.specs.Comes.{IsUnmade, untouched, Comes, refused, exhausted, failed, Obeys}
 use Rattle.sd_status.specs.Reads.{IsAsked, IsRefused, IsStopped, Gives}
 
-no_more_steps : (most : StepBound) (status : Status) (steps : ℕ) → IsWithinSteps most status steps steps
-no_more_steps Uncounted status steps = tt
-no_more_steps NoSteps status steps = refl
-no_more_steps (UpTo most) status steps = λ calm. omega arith
+no_more_steps : (most : StepBound) (steps : ℕ) → IsWithinSteps most steps steps
+no_more_steps Uncounted steps = tt
+no_more_steps NoSteps steps = refl
+no_more_steps (UpTo most) steps = omega arith
 
-pub takes_none : (meant : Result Work Status) (status : Status) (steps : ℕ) → TakesSteps meant status steps steps
-takes_none (Ok work) status steps = no_more_steps work.steps status steps
-takes_none (Err refusal) status steps = refl
+pub takes_none : (meant : Result Work Status) (steps : ℕ) → TakesSteps meant steps steps
+takes_none (Ok work) steps = no_more_steps work.steps steps
+takes_none (Err refusal) steps = refl
 
 -- calls of the first step are calls of all
 at_least : {A : Type 0} (n x now : ℕ) (r : Result A Status) (next : A → Meant Work) → now ≤ x + n →
@@ -61,7 +61,7 @@ first_obeys first next p q page steps status (inr h) = record {
   comes = stopped_comes (first >>= next).result first.calls p q page steps steps status h h.cause;
   ports = h.asked.ports;
   calls = at_least first.calls p.calls q.calls first.result next h.asked.calls;
-  steps = takes_none (first >>= next).result status steps;
+  steps = takes_none (first >>= next).result steps;
 }
 
 -- a step that goes on where a first step ended

@@ -75,6 +75,6 @@ reading_follows view word bytes p q page now steps status none ending got read p
             comes = printed_comes (view bytes) p q page now steps status none ending read prints;
             ports = read.ports;
             calls = let c = read.calls in omega arith;
-            steps = takes_none (Ok (view bytes)) status steps;
+            steps = takes_none (Ok (view bytes)) steps;
           });
     }

@@ -118,7 +118,7 @@ pub record Obeys (meant : Meant Work) (a b : Outside) (status : Status) : Type 0
   pub ports : b.place.opened ≡ a.place.opened
   -- no more calls were made than what is meant takes
   pub calls : b.place.calls ≤ a.place.calls + all_calls meant
-  pub steps : TakesSteps meant.result status a.steps b.steps
+  pub steps : TakesSteps meant.result a.steps b.steps
 
 -- a command did what is meant by what the files gave
 pub record Follows (meant : Given → Meant Work) (a b : Outside) (status : Status) : Type 0 where

@@ -1,9 +1,8 @@
 -- What a command does.
-use Rattle.std.specs.Prelude.{◌≡◌, ◌≢◌, ℕ, ◌+◌, ◌≤◌, Bool, List, Option, Some, None, Result, Ok, Err}
+use Rattle.std.specs.Prelude.{◌≡◌, ℕ, ◌+◌, ◌≤◌, Bool, List, Option, Some, None, Result, Ok, Err}
 use Rattle.sd_cause.specs.Count.{with_added}
 use Rattle.sd_ports.specs.Files.{Files, with_bytes}
 use Rattle.sd_status.specs.declared.status.Status.{Status}
-use Rattle.sd_status.specs.declared.status.Status.TheVariants.{DepotFault}
 use Rattle.sd_status.specs.Meant.{Meant}
 
 -- a file to be made: the number of its word, its name, and all its bytes
@@ -51,13 +50,13 @@ work_calls (Err status) = 0
 abbrev pub all_calls : Meant Work → ℕ
 all_calls meant = meant.calls + work_calls meant.result
 
--- the steps that were counted are within the bound, which is said of most work where its device didn't fail
-abbrev pub IsWithinSteps : StepBound → Status → ℕ → ℕ → Type 0
-IsWithinSteps Uncounted status before now = Unit {0}
-IsWithinSteps NoSteps status before now = now ≡ before
-IsWithinSteps (UpTo most) status before now = status ≢ DepotFault → now ≤ before + most
+-- the steps that were counted are within the bound
+abbrev pub IsWithinSteps : StepBound → ℕ → ℕ → Type 0
+IsWithinSteps Uncounted before now = Unit {0}
+IsWithinSteps NoSteps before now = now ≡ before
+IsWithinSteps (UpTo most) before now = now ≤ before + most
 
 -- a refusal takes no step of the generator, and work at most its own
-abbrev pub TakesSteps : Result Work Status → Status → ℕ → ℕ → Type 0
-TakesSteps (Ok work) status before now = IsWithinSteps work.steps status before now
-TakesSteps (Err refusal) status before now = now ≡ before
+abbrev pub TakesSteps : Result Work Status → ℕ → ℕ → Type 0
+TakesSteps (Ok work) before now = IsWithinSteps work.steps before now
+TakesSteps (Err refusal) before now = now ≡ before

@@ -10,7 +10,7 @@ use Rattle.sd_run_receive.specs.Receive.{received_of, received_status, received_
 use Rattle.sd_files.specs.Shown.{shown_word}
 use Rattle.sd_files.proofs.Looked.{opened_got}
 use Rattle.sd_files.proofs.Turning.{turned_obeys, not_turned}
-use Rattle.sd_run_receive.proofs.Streamed.{got_follows, closed_other}
+use Rattle.sd_run_receive.proofs.Streamed.{got_follows}
 use Rattle.sd_run_receive.proofs.command.receive_file.Goals as goal
 
 pub returns-in_err-inlet : goal.returns-in_err-inlet
@@ -54,5 +54,4 @@ returns g c page =
     (turned_obeys (λ bytes. UpTo (received_steps card bytes)) (received_of card) (received_status card) stream out
     received.bytes p q r page
     i j _ _ _ _ _ _ _ c.receive_all-ended.result c.close_both.result opened c.receive_all-ended.ensures.cause
-    received.wrote closed
-    (λ other. received.steps (closed_other _ _ _ _ _ _ _ _ closed other)))
+    received.wrote closed received.steps)

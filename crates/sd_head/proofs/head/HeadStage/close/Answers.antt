@@ -67,37 +67,40 @@ returns-in-Err-send_front-clause-prefix g c = λ fails. record {
   bytes = tables_bytes c.prepare_closing-message.new.self (c.count-count.result == 0) c.emms-emms.result.now
       ++ message_bytes c.args.self.now.site.ecm c.prepare_closing-message.new.self
       (Some c.prepare_closing-message.result);
-  says = inl (
-    (record {
-      site = c.args.self.now.site;
-      clear = c.args.self.now.clear;
-      entitling = c.finish.new.entitling;
-      sender = c.args.self.now.sender;
-      refusal = c.args.self.now.refusal;
-    }),
-    0,
-    ends c.args.self.now (record {
-      site = c.args.self.now.site;
-      clear = c.args.self.now.clear;
-      entitling = c.finish.new.entitling;
-      sender = c.args.self.now.sender;
-      refusal = c.args.self.now.refusal;
-    }) c.prepare_closing-message.new.self
-        (c.count-count.result == 0) c.emms-emms.result.now
-        c.prepare_closing-message.result 0
-        (record {
-          at_work = subst (λ (n : ℕ). IsOf (plan_in c.args.self.now)
-              (crypto_of (fields_of c.args.self.now.site) (n - 1)) c.finish.new.entitling)
-              c.count-count.ensures c.in_default-finish.ensures.value;
-          placed = c.prepare_closing-message.ensures.unchanged;
-          due_is = ap (λ (n : ℕ). n == 0) c.count-count.ensures;
-          emms_of = c.emms-emms.ensures;
-          head_is = c.prepare_closing-message.ensures.value
-              ∙ ap (λ (x : CryptoPeriod). head_of (fields_of c.args.self.now.site) x c.args.self.now.clear.count
-              (closing_number (fields_of c.args.self.now.site) c.args.self.now.clear.count) true)
-              c.crypto-crypto.ensures;
-          places_are = c.prepare_closing-message.ensures.places;
-        }),
+  says = (
+    c.finish.new.steps,
+    omega arith,
+    inl (
+      (record {
+        site = c.args.self.now.site;
+        clear = c.args.self.now.clear;
+        entitling = c.finish.new.entitling;
+        sender = c.args.self.now.sender;
+        refusal = c.args.self.now.refusal;
+      }),
+      ends c.args.self.now (record {
+        site = c.args.self.now.site;
+        clear = c.args.self.now.clear;
+        entitling = c.finish.new.entitling;
+        sender = c.args.self.now.sender;
+        refusal = c.args.self.now.refusal;
+      }) c.prepare_closing-message.new.self
+          (c.count-count.result == 0) c.emms-emms.result.now
+          c.prepare_closing-message.result c.finish.new.steps
+          (record {
+            at_work = subst (λ (n : ℕ). IsOf (plan_in c.args.self.now)
+                (crypto_of (fields_of c.args.self.now.site) (n - 1)) c.finish.new.entitling)
+                c.count-count.ensures c.in_default-finish.ensures.value;
+            placed = c.prepare_closing-message.ensures.unchanged;
+            due_is = ap (λ (n : ℕ). n == 0) c.count-count.ensures;
+            emms_of = c.emms-emms.ensures;
+            head_is = c.prepare_closing-message.ensures.value
+                ∙ ap (λ (x : CryptoPeriod). head_of (fields_of c.args.self.now.site) x c.args.self.now.clear.count
+                (closing_number (fields_of c.args.self.now.site) c.args.self.now.clear.count) true)
+                c.crypto-crypto.ensures;
+            places_are = c.prepare_closing-message.ensures.places;
+          }),
+    ),
   );
   prefix = c.in-Err-send_front.ensures.value.prefix;
   short = c.in-Err-send_front.ensures.value.short;

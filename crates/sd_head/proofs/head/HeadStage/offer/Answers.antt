@@ -122,70 +122,73 @@ returns-in-Err-send_packet-clause-prefix g c = λ fails. record {
   bytes = (tables_bytes c.prepare-message.new.self c.begins_crypto-due.result c.emms-emms.result.now
       ++ message_bytes c.args.self.now.site.ecm c.prepare-message.new.self c.prepare-message.result)
       ++ c.carry-carried.result;
-  says = inl (
-    (record {
-      site = c.args.self.now.site;
-      clear = c.take.new.self;
-      entitling = c.admit.new.entitling;
-      sender = record {
-        cat = c.prepare-message.new.self.cat;
-        cats = if c.begins_crypto-due.result then
-            (c.prepare-message.new.self.cats + 1) % 16 else c.prepare-message.new.self.cats;
-        emms = if c.begins_crypto-due.result
-            then counter_after c.prepare-message.new.self.emms (length c.emms-emms.result.now)
-            else c.prepare-message.new.self.emms;
-        ecms = counter_after c.prepare-message.new.self.ecms
-            (parts_in c.prepare-message.new.self c.prepare-message.result);
-        places = c.prepare-message.new.self.places;
-        places_room = c.prepare-message.new.self.places_room;
-      };
-      refusal = c.args.self.now.refusal;
-    }),
-    0,
-    does c.args.self.now (record {
-      site = c.args.self.now.site;
-      clear = c.take.new.self;
-      entitling = c.admit.new.entitling;
-      sender = record {
-        cat = c.prepare-message.new.self.cat;
-        cats = if c.begins_crypto-due.result then
-            (c.prepare-message.new.self.cats + 1) % 16 else c.prepare-message.new.self.cats;
-        emms = if c.begins_crypto-due.result
-            then counter_after c.prepare-message.new.self.emms (length c.emms-emms.result.now)
-            else c.prepare-message.new.self.emms;
-        ecms = counter_after c.prepare-message.new.self.ecms
-            (parts_in c.prepare-message.new.self c.prepare-message.result);
-        places = c.prepare-message.new.self.places;
-        places_room = c.prepare-message.new.self.places_room;
-      };
-      refusal = c.args.self.now.refusal;
-    }) c.args.packet.now c.prepare-message.new.self c.begins_crypto-due.result c.emms-emms.result.now
-        c.prepare-message.result c.carry-carried.result
-        (record {
-          judged = c.in_default-admit.ensures.judged;
-          at_work = c.in_default-admit.ensures.value;
-          placed = c.prepare-message.ensures.unchanged;
-          due_is = c.begins_crypto-due.ensures
-              ∙ ap (λ (n : ℕ). n % crypto_length (fields_of c.args.self.now.site) == 0) c.count.ensures;
-          emms_of = c.emms-emms.ensures;
-          message_of = c.prepare-message.ensures.value
-              ∙ ap (λ (x : CryptoPeriod). message_due (fields_of c.args.self.now.site) x c.args.self.now.clear.count)
-              c.crypto-crypto.ensures;
-          places_are = c.prepare-message.ensures.places;
-          carried_is = λ before kept number word. c.carry-carried.ensures before kept
-              (ap (λ (x : CryptoPeriod). x.number) c.crypto-crypto.ensures ∙ number)
-              (ap (λ (x : CryptoPeriod). x.word) c.crypto-crypto.ensures ∙ (word
-              ∙ ap (control_word_of c.args.self.now.site.master)
-              (sym (ap (λ (x : CryptoPeriod). x.number) c.crypto-crypto.ensures))));
-        })
-        (record {
-          site_is = refl;
-          book_is = c.admit.ensures.book;
-          refusal_is = refl;
-          taken = c.take.ensures;
-          follows = record { cat = refl; cats = refl; emms_next = refl; ecms = refl };
-        })
-        0,
+  says = (
+    c.admit.new.steps,
+    omega arith,
+    inl (
+      (record {
+        site = c.args.self.now.site;
+        clear = c.take.new.self;
+        entitling = c.admit.new.entitling;
+        sender = record {
+          cat = c.prepare-message.new.self.cat;
+          cats = if c.begins_crypto-due.result then
+              (c.prepare-message.new.self.cats + 1) % 16 else c.prepare-message.new.self.cats;
+          emms = if c.begins_crypto-due.result
+              then counter_after c.prepare-message.new.self.emms (length c.emms-emms.result.now)
+              else c.prepare-message.new.self.emms;
+          ecms = counter_after c.prepare-message.new.self.ecms
+              (parts_in c.prepare-message.new.self c.prepare-message.result);
+          places = c.prepare-message.new.self.places;
+          places_room = c.prepare-message.new.self.places_room;
+        };
+        refusal = c.args.self.now.refusal;
+      }),
+      does c.args.self.now (record {
+        site = c.args.self.now.site;
+        clear = c.take.new.self;
+        entitling = c.admit.new.entitling;
+        sender = record {
+          cat = c.prepare-message.new.self.cat;
+          cats = if c.begins_crypto-due.result then
+              (c.prepare-message.new.self.cats + 1) % 16 else c.prepare-message.new.self.cats;
+          emms = if c.begins_crypto-due.result
+              then counter_after c.prepare-message.new.self.emms (length c.emms-emms.result.now)
+              else c.prepare-message.new.self.emms;
+          ecms = counter_after c.prepare-message.new.self.ecms
+              (parts_in c.prepare-message.new.self c.prepare-message.result);
+          places = c.prepare-message.new.self.places;
+          places_room = c.prepare-message.new.self.places_room;
+        };
+        refusal = c.args.self.now.refusal;
+      }) c.args.packet.now c.prepare-message.new.self c.begins_crypto-due.result c.emms-emms.result.now
+          c.prepare-message.result c.carry-carried.result
+          (record {
+            judged = c.in_default-admit.ensures.judged;
+            at_work = c.in_default-admit.ensures.value;
+            placed = c.prepare-message.ensures.unchanged;
+            due_is = c.begins_crypto-due.ensures
+                ∙ ap (λ (n : ℕ). n % crypto_length (fields_of c.args.self.now.site) == 0) c.count.ensures;
+            emms_of = c.emms-emms.ensures;
+            message_of = c.prepare-message.ensures.value
+                ∙ ap (λ (x : CryptoPeriod). message_due (fields_of c.args.self.now.site) x c.args.self.now.clear.count)
+                c.crypto-crypto.ensures;
+            places_are = c.prepare-message.ensures.places;
+            carried_is = λ before kept number word. c.carry-carried.ensures before kept
+                (ap (λ (x : CryptoPeriod). x.number) c.crypto-crypto.ensures ∙ number)
+                (ap (λ (x : CryptoPeriod). x.word) c.crypto-crypto.ensures ∙ (word
+                ∙ ap (control_word_of c.args.self.now.site.master)
+                (sym (ap (λ (x : CryptoPeriod). x.number) c.crypto-crypto.ensures))));
+          })
+          (record {
+            site_is = refl;
+            book_is = c.admit.ensures.book;
+            refusal_is = refl;
+            taken = c.take.ensures;
+            follows = record { cat = refl; cats = refl; emms_next = refl; ecms = refl };
+          })
+          c.admit.new.steps,
+    ),
   );
   prefix = c.in-Err-send_packet.ensures.value.prefix;
   short = c.in-Err-send_packet.ensures.value.short;

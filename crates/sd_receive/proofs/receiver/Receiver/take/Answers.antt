@@ -1,4 +1,4 @@
-use Rattle.std.proofs.Common.{◌≡◌, ◌+◌, ◌-◌, ◌∙◌, ap, arith, ℕ}
+use Rattle.std.proofs.Common.{◌≡◌, ◌+◌, ◌∙◌, ap, arith, ℕ}
 use Rattle.std.specs.Prelude.{Some}
 use Rattle.sd_engine.specs.Stage.{vessel}
 use Rattle.sd_reception.specs.Tuned.{cat_tuning}
@@ -74,17 +74,13 @@ returns-clause-prefix g c = λ is.
     let thing = hears s.card.height (tuned c.in-Some.tuning) s.count packet in
     cut_of (TakesHeard (card_in s) (tuned c.in-Some.tuning) s.count thing s.listener)
     (RefusesHeard (card_in s) (tuned c.in-Some.tuning) s.count thing s.listener)
-    (vessel g.K.Sink c.args.out.now) (vessel g.K.Sink c.take.new.out) c.take.new.self c.take.result
+    (vessel g.K.Sink c.args.out.now) (vessel g.K.Sink c.take.new.out) c.take.new.self c.take.result from to
     (receiver_does s packet) (receiver_refuses s (Some packet)) s is c.take.ensures.value
     (λ x bytes takes. (
       next s c.saturating_add-self.result s.tuning x,
-      to - from,
       heard_does s packet c.in-Some.tuning c.saturating_add-self.result x bytes from to c.in-Some.is c.if-self.false
           counted
           c.take.ensures.steps takes,
     ))
-    (λ fault bytes refuses. (
-      to - from,
-      heard_refuses s packet c.in-Some.tuning fault bytes from to c.in-Some.is c.if-self.false c.take.ensures.steps
-          refuses,
-    ))
+    (λ fault bytes refuses. heard_refuses s packet c.in-Some.tuning fault bytes from to c.in-Some.is c.if-self.false
+    c.take.ensures.steps refuses)

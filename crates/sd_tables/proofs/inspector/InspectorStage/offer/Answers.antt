@@ -21,25 +21,27 @@ returns-in-Ok-clause-ok g c =
 
 pub returns-clause-prefix : goal.returns-clause-prefix
 returns-clause-prefix g c = λ is. cut_short _ (vessel g.K.Sink c.args.out.now) (vessel g.K.Sink c.write_all.new.sink)
-    c.as_bytes.result.now
-    (inl (
-      record {
-        alloc = c.args.self.now.alloc;
-        assemblies = c.take.new.self;
-        number = c.saturating_add-self.result;
-        wanting = c.args.self.now.wanting;
-      },
+    c.as_bytes.result.now (
       0,
-      record {
-        lines = λ before s. c.as_bytes.ensures.value ∙ (c.in_default.ensures.lines before s.after
-            ∙ ap (λ (xs : List ℕ). xs ++ flat_map (line_of c.args.self.now.number (pid_of c.args.packet.now))
-            (sections_at c.args.packet.now before))
-            c.new-text.ensures.bytes);
-        after = λ before s small. record {
-          after = c.in_default.ensures.after before s.after;
-          number = omega (arith, c.saturating_add-self.ensures, s.number, small);
-        };
-        no_steps = refl;
-      },
-    )) c.in-Err-write_all.ensures.prefix
+      omega arith,
+      inl (
+        record {
+          alloc = c.args.self.now.alloc;
+          assemblies = c.take.new.self;
+          number = c.saturating_add-self.result;
+          wanting = c.args.self.now.wanting;
+        },
+        record {
+          lines = λ before s. c.as_bytes.ensures.value ∙ (c.in_default.ensures.lines before s.after
+              ∙ ap (λ (xs : List ℕ). xs ++ flat_map (line_of c.args.self.now.number (pid_of c.args.packet.now))
+              (sections_at c.args.packet.now before))
+              c.new-text.ensures.bytes);
+          after = λ before s small. record {
+            after = c.in_default.ensures.after before s.after;
+            number = omega (arith, c.saturating_add-self.ensures, s.number, small);
+          };
+          no_steps = refl;
+        },
+      ),
+    ) c.in-Err-write_all.ensures.prefix
     (too_short _ _ _ _ c.in-Err-write_all.ensures.room)
