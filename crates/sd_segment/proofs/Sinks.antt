@@ -39,14 +39,14 @@ pub cut_after : (u v w : Vessel) (xs ys rest : List ℕ) → Took u v xs → Sto
 cut_after u v w xs ys rest p q = record {
   bytes = xs ++ (ys ++ rest);
   says = refl;
-  prefix = xs ++ q.front.0;
+  prefix = xs ++ q.prefix.0;
   short = (
-    q.front.1.0 ++ rest,
-    append_assoc xs q.front.0 (q.front.1.0 ++ rest)
-        ∙ ap (λ (bs : List ℕ). xs ++ bs) (sym (append_assoc q.front.0 q.front.1.0 rest)
-        ∙ ap (λ (bs : List ℕ). bs ++ rest) q.front.1.1),
+    q.prefix.1.0 ++ rest,
+    append_assoc xs q.prefix.0 (q.prefix.1.0 ++ rest)
+        ∙ ap (λ (bs : List ℕ). xs ++ bs) (sym (append_assoc q.prefix.0 q.prefix.1.0 rest)
+        ∙ ap (λ (bs : List ℕ). bs ++ rest) q.prefix.1.1),
   );
-  taken = Appends-trans u.held v.held w.held xs q.front.0 p.taken q.front.2;
+  taken = Appends-trans u.held v.held w.held xs q.prefix.0 p.taken q.prefix.2;
   room = still_short u.room v.room (length xs) (length ys) (length (xs ++ (ys ++ rest))) p.room q.room
       (omega (arith, length-append xs (ys ++ rest), length-append ys rest));
 }

@@ -56,7 +56,7 @@ pub record Took (old new : Vessel) (bytes : List ℕ) : Type 0 where
 
 -- a sink took not all of these bytes
 pub record Stopped (old new : Vessel) (bytes : List ℕ) : Type 0 where
-  pub front : AppendsPrefix old.held new.held bytes
+  pub prefix : AppendsPrefix old.held new.held bytes
   pub room : IsTooShort old.room (length bytes)
 
 -- this was written into a sink, with this answer
