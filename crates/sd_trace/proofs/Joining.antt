@@ -42,7 +42,8 @@ pub joined_members : (u : ℕ) (xs ys : List ℕ) → IsPermutation (xs ++ u ∷
     Contains ys w ↔ ((w ≡ u) ⊎ Contains xs w)
 joined_members u xs ys moved w = (
   λ m. elim
-      (Contains-push_cases xs u w (Contains-permutation ys (xs ++ u ∷ []) w (IsPermutation-sym (xs ++ u ∷ []) ys moved) m)) [
+      (Contains-push_cases xs u w
+      (Contains-permutation ys (xs ++ u ∷ []) w (IsPermutation-sym (xs ++ u ∷ []) ys moved) m)) [
         | inl before ↦ inr before
         | inr same ↦ inl (sym same)
       ],

@@ -63,7 +63,8 @@ opened_later d coalition name sets z at = record {
     beyond (suc k) above within = at.last k (omega (arith, above)) (omega (arith, within))
 
 -- where none of the others opens, it is the first
-pub opened_here : (d : ℕ) (coalition : List ℕ) (name : SetName) (sets : List SetName) → has_some d coalition name ≡ true →
+pub opened_here : (d : ℕ) (coalition : List ℕ) (name : SetName) (sets : List SetName) →
+    has_some d coalition name ≡ true →
     list_any (has_some d coalition) sets ≡ false → IsLastOpen d coalition (name ∷ sets) 0
 opened_here d coalition name sets opens none = record {
   within = omega arith;

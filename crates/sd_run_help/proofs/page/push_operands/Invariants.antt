@@ -5,4 +5,5 @@ use Rattle.sd_run_help.proofs.page.push_operands.Given as goal
 
 -- the text so far has the lines of the first of them
 abbrev pub invariant-loop-operand : goal.invariant-loop-operand
-invariant-loop-operand l = string_bytes l.text ≡ string_bytes l.fn.text ++ flat_map operand_line (take l.operand-index l.operands)
+invariant-loop-operand l =
+    string_bytes l.text ≡ string_bytes l.fn.text ++ flat_map operand_line (take l.operand-index l.operands)

@@ -5,4 +5,5 @@ use Rattle.sd_run_help.proofs.page.push_topics.Given as goal
 
 -- the text so far has the lines of the first of them
 abbrev pub invariant-loop-topic : goal.invariant-loop-topic
-invariant-loop-topic l = string_bytes l.text ≡ string_bytes l.fn.text ++ flat_map topic_line (take l.topic-index l.topics)
+invariant-loop-topic l =
+    string_bytes l.text ≡ string_bytes l.fn.text ++ flat_map topic_line (take l.topic-index l.topics)

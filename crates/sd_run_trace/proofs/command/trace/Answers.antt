@@ -66,8 +66,8 @@ returns-in_err-text g c steps =
     site book leaves (place g.D.Depot c.args.depot.now) (place g.D.Depot c.read_both.new.depot) r before steps
     (outside r before steps) (c.in_ok-site.site, c.in_ok-site.book) c.in_ok-leaves.leaves status c.requires.1
     c.requires.2 c.in_ok-site.ensures.value c.in_ok-leaves.ensures.value
-    (judged_refused (λ (xs : List ℕ). xs) (traced both.site.height coalition both.commands) (λ text. value (telling text)) r
-    before steps status
+    (judged_refused (λ (xs : List ℕ). xs) (traced both.site.height coalition both.commands)
+    (λ text. value (telling text)) r before steps status
     (subst (λ (d : ℕ). Judges (λ (xs : List ℕ). xs) (traced d coalition both.commands) (Err status))
     c.in_ok-site.ensures.height c.in_err-text.ensures)))
 
