@@ -1,15 +1,1 @@
 pub mod Ordered
-pub mod Goodness
-pub mod Keyed
-pub mod Broadcasts
-pub mod Runs
-pub mod Shelf
-pub mod Plans
-pub mod Sent
-pub mod Together
-pub mod Lost
-pub mod Kept
-pub mod Layers
-pub mod Pooled
-pub mod Tried
-pub mod Left

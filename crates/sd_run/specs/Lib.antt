@@ -1,8 +1,1 @@
-pub mod Good
 pub mod Meaning
-pub mod Opened
-pub mod Headline
-pub mod Sent
-pub mod Lost
-pub mod Tried
-pub mod Left

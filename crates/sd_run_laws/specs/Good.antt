@@ -1,0 +1,199 @@
+-- Words and files that mean work: they are there, in their grammars and within their limits.
+use Rattle.std.specs.Prelude.{◌≡◌, ℕ, List, Some, Ok, ◌≤◌, [], ◌++◌, ◌+◌, length, None, ◌^◌, ◌<◌}
+use Rattle.sd_status.specs.Meant.{Word, Given}
+use Rattle.sd_words.specs.Words.{SampleOf, order_of, ReceiveOf, CoverOf, CardOf, TablesOf, HeadOf}
+use Rattle.sd_words.specs.Words.{AccountsOf, BookOf, LayeredOf, LcardOf, OpensOf, TraceOf}
+use Rattle.sd_engine.specs.Taken.{Whole, taken_of, end_of}
+use Rattle.sd_card.specs.Fields.{CardFields, IsCard, card_bytes}
+use Rattle.sd_accounts.specs.Judged.{book_of}
+use Rattle.sd_book.specs.declared.command.Command.{Command}
+use Rattle.sd_site.specs.Fields.{SiteFields}
+use Rattle.sd_files.specs.Shown.{Number}
+use Rattle.sd_broadcast.specs.Plan.{Plan}
+use Rattle.sd_broadcast.specs.Refused.{refusal_from}
+use Rattle.sd_site.specs.Text.{IsSite}
+use Rattle.sd_leaves.specs.Text.{leaves_of_text}
+use Rattle.sd_trace.specs.Trace.{outside}
+use Rattle.sd_tree.specs.declared.leaf.TheConstants.{MOST_REVOKED}
+use Rattle.sd_run_trace.specs.Trace.{revoked_last}
+use Rattle.sd_text.specs.Lines.{lines_of}
+use Rattle.sd_book.specs.Text.{SpellsBook}
+use Rattle.sd_book.specs.Limits.{IsWithinLimits}
+use Rattle.sd_files.specs.declared.files.TheConstants.{MOST_SITE_BYTES, MOST_BOOK_BYTES}
+
+-- the word's file is there, in the grammar of sites and within the limit, and says this site
+pub record IsGoodSite (given : Given) (word : Word) (fields : SiteFields) : Type 0 where
+  pub bytes : List ℕ
+  pub there : given word ≡ Some bytes
+  pub short : length bytes ≤ MOST_SITE_BYTES
+  pub is_site : IsSite bytes fields
+
+-- the word's file is there, in the grammar of books and within the limits, and says these commands
+pub record IsGoodBook (given : Given) (d : ℕ) (word : Word) (commands : List Command) : Type 0 where
+  pub bytes : List ℕ
+  pub there : given word ≡ Some bytes
+  pub short : length bytes ≤ MOST_BOOK_BYTES
+  pub is_book : SpellsBook (lines_of bytes) commands
+  pub within : IsWithinLimits d commands
+
+-- the words are `cover SITE BOOK`, and the two files are there, in their grammars and within their limits
+pub record IsGoodCover (words : List (List ℕ)) (given : Given) : Type 0 where
+  pub site : Word
+  pub book : Word
+  pub order : order_of words ≡ Ok (CoverOf site book)
+  pub fields : SiteFields
+  pub good_site : IsGoodSite given site fields
+  pub commands : List Command
+  pub good_book : IsGoodBook given fields.height book commands
+
+-- the words are `card SITE LEAF OUT`, the file is there and a site, and its tree has the leaf
+pub record IsGoodCard (words : List (List ℕ)) (given : Given) : Type 0 where
+  pub site : Word
+  pub leaf : Number
+  pub out : Word
+  pub order : order_of words ≡ Ok (CardOf site leaf out)
+  pub fields : SiteFields
+  pub good_site : IsGoodSite given site fields
+  pub of_tree : leaf.value < 2 ^ fields.height
+
+-- the words are `sample NUMBER PACKETS OUT`
+pub record IsGoodSample (words : List (List ℕ)) : Type 0 where
+  pub number : ℕ
+  pub packets : ℕ
+  pub out : Word
+  pub order : order_of words ≡ Ok (SampleOf number packets out)
+
+-- the words are `tables STREAM`, and the file is there and nothing but packets, and no more than a stream has
+pub record IsGoodTables (words : List (List ℕ)) (given : Given) : Type 0 where
+  pub stream : Word
+  pub order : order_of words ≡ Ok (TablesOf stream)
+  pub bytes : List ℕ
+  pub there : given stream ≡ Some bytes
+  pub whole : end_of bytes ≡ Whole
+
+-- the words are `head SITE BOOK CLEAR OUT`, the files are there, a site, a book and a stream of which no packet is
+-- refused
+pub record IsGoodHead (words : List (List ℕ)) (given : Given) : Type 0 where
+  pub site : Word
+  pub book : Word
+  pub clear : Word
+  pub out : Word
+  pub order : order_of words ≡ Ok (HeadOf site book clear out)
+  pub fields : SiteFields
+  pub good_site : IsGoodSite given site fields
+  pub commands : List Command
+  pub good_book : IsGoodBook given fields.height book commands
+  pub bytes : List ℕ
+  pub there : given clear ≡ Some bytes
+  pub whole : end_of bytes ≡ Whole
+  pub is_clear : refusal_from fields [] (taken_of bytes) ≡ None
+
+-- the plan that they say
+abbrev pub plan_told : {words : List (List ℕ)} {given : Given} → IsGoodHead words given → Plan
+plan_told good = record { site = good.fields; commands = good.commands }
+
+-- the words are `receive CARD STREAM OUT`, and the two files are there, the first a card within the limit
+pub record IsGoodReceive (words : List (List ℕ)) (given : Given) : Type 0 where
+  pub card : Word
+  pub stream : Word
+  pub out : Word
+  pub order : order_of words ≡ Ok (ReceiveOf card stream out)
+  pub fields : CardFields
+  pub is_card : IsCard fields
+  pub card_there : given card ≡ Some (card_bytes fields)
+  pub bytes : List ℕ
+  pub there : given stream ≡ Some bytes
+
+-- the words are `accounts SITE ACCOUNTS OUT`, the two files are there, the first a site and the second within the
+-- limit, and its lines make a book within the limits
+pub record IsGoodAccounts (words : List (List ℕ)) (given : Given) : Type 0 where
+  pub site : Word
+  pub accounts : Word
+  pub out : Word
+  pub order : order_of words ≡ Ok (AccountsOf site accounts out)
+  pub fields : SiteFields
+  pub good_site : IsGoodSite given site fields
+  pub bytes : List ℕ
+  pub there : given accounts ≡ Some bytes
+  pub short : length bytes ≤ MOST_BOOK_BYTES
+  pub commands : List Command
+  pub is_book : book_of fields.height bytes ≡ Ok commands
+
+-- the words are `book SITE BOOK COMMANDS OUT`, the three files are there, a site and two books, and the second book's
+-- commands after the first's are within the limits
+pub record IsGoodBooks (words : List (List ℕ)) (given : Given) : Type 0 where
+  pub site : Word
+  pub book : Word
+  pub commands : Word
+  pub out : Word
+  pub order : order_of words ≡ Ok (BookOf site book commands out)
+  pub fields : SiteFields
+  pub good_site : IsGoodSite given site fields
+  pub before : List Command
+  pub good_book : IsGoodBook given fields.height book before
+  pub added : List Command
+  pub good_added : IsGoodBook given fields.height commands added
+  pub within : IsWithinLimits fields.height (before ++ added)
+
+-- the words are `layered SITE BOOK WIDTH`, the two files are good, and the width is 1 to the height
+pub record IsGoodLayered (words : List (List ℕ)) (given : Given) : Type 0 where
+  pub site : Word
+  pub book : Word
+  pub width : Number
+  pub order : order_of words ≡ Ok (LayeredOf site book width)
+  pub fields : SiteFields
+  pub good_site : IsGoodSite given site fields
+  pub some : 1 ≤ width.value
+  pub within : width.value ≤ fields.height
+  pub commands : List Command
+  pub good_book : IsGoodBook given fields.height book commands
+
+-- the words are `lcard SITE LEAF WIDTH OUT`, the file is there and a site, its tree has the leaf, and the width is 1 to
+-- the height
+pub record IsGoodLcard (words : List (List ℕ)) (given : Given) : Type 0 where
+  pub site : Word
+  pub leaf : Number
+  pub width : Number
+  pub out : Word
+  pub order : order_of words ≡ Ok (LcardOf site leaf width out)
+  pub fields : SiteFields
+  pub good_site : IsGoodSite given site fields
+  pub of_tree : leaf.value < 2 ^ fields.height
+  pub some : 1 ≤ width.value
+  pub within : width.value ≤ fields.height
+
+-- the word's file is there and within the limit, and says these leaves of a tree of height d, ascending
+pub record IsGoodLeaves (given : Given) (d : ℕ) (word : Word) (leaves : List ℕ) : Type 0 where
+  pub bytes : List ℕ
+  pub there : given word ≡ Some bytes
+  pub short : length bytes ≤ MOST_BOOK_BYTES
+  pub are_leaves : leaves_of_text d bytes ≡ Ok leaves
+
+-- the words are `opens SITE BOOK LEAVES`, and the three files are good
+pub record IsGoodOpens (words : List (List ℕ)) (given : Given) : Type 0 where
+  pub site : Word
+  pub book : Word
+  pub leaves : Word
+  pub order : order_of words ≡ Ok (OpensOf site book leaves)
+  pub fields : SiteFields
+  pub good_site : IsGoodSite given site fields
+  pub commands : List Command
+  pub good_book : IsGoodBook given fields.height book commands
+  pub pooled : List ℕ
+  pub good_leaves : IsGoodLeaves given fields.height leaves pooled
+
+-- the words are `trace SITE BOOK LEAVES`, the three files are good, and no more leaves are revoked in the last period
+-- or of the coalition than may be revoked
+pub record IsGoodTrace (words : List (List ℕ)) (given : Given) : Type 0 where
+  pub site : Word
+  pub book : Word
+  pub leaves : Word
+  pub order : order_of words ≡ Ok (TraceOf site book leaves)
+  pub fields : SiteFields
+  pub good_site : IsGoodSite given site fields
+  pub commands : List Command
+  pub good_book : IsGoodBook given fields.height book commands
+  pub coalition : List ℕ
+  pub good_leaves : IsGoodLeaves given fields.height leaves coalition
+  pub few : length (revoked_last fields.height commands)
+      + length (outside fields.height (revoked_last fields.height commands) coalition) ≤ MOST_REVOKED

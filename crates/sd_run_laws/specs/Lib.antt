@@ -1,0 +1,7 @@
+pub mod Good
+pub mod Opened
+pub mod Headline
+pub mod Sent
+pub mod Lost
+pub mod Tried
+pub mod Left

@@ -1,0 +1,36 @@
+-- Words and files that mean a trial.
+use Rattle.std.specs.Prelude.{◌≡◌, ℕ, List, Some, Ok, ◌≤◌, length}
+use Rattle.sd_engine.specs.Taken.{Whole, taken_of, end_of}
+use Rattle.sd_site.specs.Fields.{SiteFields}
+use Rattle.sd_book.specs.declared.command.Command.{Command}
+use Rattle.sd_broadcast.specs.Plan.{Plan}
+use Rattle.sd_broadcast.specs.Refused.{IsClear}
+use Rattle.sd_whole.specs.Synced.{AreBytes}
+use Rattle.sd_status.specs.Meant.{Word, Given}
+use Rattle.sd_words.specs.Words.{TrialOf, order_of}
+use Rattle.sd_run_trial.specs.declared.command.TheConstants.{MOST_CLEAR_BYTES}
+use Rattle.sd_run_trial.specs.declared.plan.TheConstants.{MOST_HEIGHT}
+use Rattle.sd_run_laws.specs.Good.{IsGoodSite, IsGoodBook}
+
+-- the words are `trial SITE BOOK CLEAR`, and the files are there: a site whose tree is low enough, a book of its tree,
+-- and a stream within the limit of which no packet is refused
+pub record IsGoodTrial (words : List (List ℕ)) (given : Given) : Type 0 where
+  pub site : Word
+  pub book : Word
+  pub clear : Word
+  pub order : order_of words ≡ Ok (TrialOf site book clear)
+  pub fields : SiteFields
+  pub good_site : IsGoodSite given site fields
+  pub low : fields.height ≤ MOST_HEIGHT
+  pub commands : List Command
+  pub good_book : IsGoodBook given fields.height book commands
+  pub bytes : List ℕ
+  pub there : given clear ≡ Some bytes
+  pub short : length bytes ≤ MOST_CLEAR_BYTES
+  pub are_bytes : AreBytes bytes
+  pub whole : end_of bytes ≡ Whole
+  pub is_clear : IsClear fields (taken_of bytes)
+
+-- the plan that they say
+abbrev pub plan_tried : {words : List (List ℕ)} {given : Given} → IsGoodTrial words given → Plan
+plan_tried good = record { site = good.fields; commands = good.commands }

@@ -1,0 +1,172 @@
+//! Good words over good files mean work, and so `run` does it, or is out of memory, where no device fails.
+ghost use Rattle.std.specs.Prelude.{◌≡◌, ◌⊎◌, ◌≤◌, ◌<◌, ◌^◌, ◌++◌, ℕ, List, Some, None, Ok, length};
+ghost use Rattle.sd_book.specs.Text.{text_of};
+ghost use Rattle.sd_lsd.specs.Fields.{layer_bytes, layer_card_of};
+ghost use Rattle.sd_run_accounts.specs.Accounts.{accounts_value, making_then, report_line};
+ghost use Rattle.sd_run_layered.specs.Layered.{layering};
+ghost use Rattle.sd_trace.specs.Trace.{trace_of};
+ghost use Rattle.sd_run_opens.specs.Opens.{opening};
+ghost use Rattle.sd_run_trace.specs.Trace.{revoked_last, telling, trace_text};
+ghost use Rattle.sd_run_trial.specs.Opened.{opened_lines};
+ghost use Rattle.sd_run_trial.specs.Trial.{printing as tried};
+ghost use Rattle.sd_run_laws.specs.Good.{IsGoodAccounts, IsGoodBooks, IsGoodLayered, IsGoodLcard, IsGoodOpens};
+ghost use Rattle.sd_run_laws.specs.Good.{IsGoodTrace};
+ghost use Rattle.sd_run_laws.specs.Left.{HasOut, IsAsBefore};
+ghost use Rattle.sd_run_laws.specs.Tried.{IsGoodTrial, plan_tried};
+ghost use Rattle.sd_book.specs.Commands.{revoked};
+ghost use Rattle.sd_book.specs.declared.command.Command.{Command};
+ghost use Rattle.sd_steiner.specs.Cover.{cover_of};
+ghost use Rattle.sd_steiner.specs.Partition.{IsPartition, IsSmall};
+ghost use Rattle.sd_tree.specs.Leaves.{unrevoked};
+ghost use Rattle.sd_card.specs.Fields.{card_bytes, card_of};
+ghost use Rattle.sd_ports.specs.Files.{Files};
+ghost use Rattle.sd_sample.specs.Sample.{sample_of};
+ghost use Rattle.sd_status.specs.Answers.{Answers};
+ghost use Rattle.sd_status.specs.Meant.{told_by};
+ghost use Rattle.sd_status.specs.Outside.{Outside};
+ghost use Rattle.sd_status.specs.Work.{NoSteps, Uncounted};
+ghost use Rattle.sd_run_cover.specs.Cover.{covering};
+ghost use Rattle.sd_run_laws.specs.Good.{IsGoodCover, IsGoodCard, IsGoodSample, IsGoodTables, plan_told, IsGoodHead};
+ghost use Rattle.sd_files.specs.Made.{making};
+ghost use Rattle.sd_run_tables.specs.Tables.{inspecting};
+ghost use Rattle.std.specs.List.{concat};
+ghost use Rattle.sd_engine.specs.Taken.{taken_of};
+ghost use Rattle.sd_broadcast.specs.Sent.{broadcast};
+ghost use Rattle.sd_run_head.specs.Head.{sending, sent_of, sent_status};
+ghost use Rattle.sd_run.specs.Meaning.{meaning};
+ghost use Rattle.sd_broadcast.specs.Plan.{Plan, IsPlan};
+ghost use Rattle.sd_broadcast.specs.Refused.{IsClear};
+ghost use Rattle.sd_sent.specs.Packets.{AreWholePackets};
+ghost use Rattle.sd_status.specs.Work.{Work};
+ghost use Rattle.sd_run_receive.specs.Receive.{receiving};
+ghost use Rattle.sd_run_laws.specs.Good.{IsGoodReceive};
+ghost use Rattle.sd_run_laws.specs.Opened.{IsBroadcastTo, IsOpened};
+
+use sd_status::Status;
+
+/// `cover SITE BOOK` over a site and a book prints the sets of each period.
+pub fn good_covers_are_printed()
+    ensures { (words : List (List ℕ)) (files : Files) (good : IsGoodCover words (told_by files)) →
+        (meaning words (told_by files)).result ≡ Ok (covering good.fields.height good.commands) }
+{}
+
+/// `card SITE LEAF OUT` over a site with the leaf makes its card.
+#[tactic(auto, using(crate::proofs::Goodness::card_good))]
+pub fn good_cards_are_made()
+    ensures { (words : List (List ℕ)) (files : Files) (good : IsGoodCard words (told_by files)) →
+        (meaning words (told_by files)).result ≡ Ok (making Uncounted good.out
+        (card_bytes (card_of good.fields.master good.fields.ca good.fields.height good.leaf.value))) }
+{}
+
+/// `sample NUMBER PACKETS OUT` makes the sample stream.
+#[tactic(auto, using(crate::proofs::Goodness::sample_good))]
+pub fn samples_are_made()
+    ensures { (words : List (List ℕ)) (files : Files) (good : IsGoodSample words) →
+        (meaning words (told_by files)).result ≡ Ok (making NoSteps good.out (sample_of good.number good.packets)) }
+{}
+
+/// `tables STREAM` over a stream of packets prints the lines of its tables, and is done.
+#[tactic(auto, using(crate::proofs::Goodness::tables_good))]
+pub fn good_tables_are_printed()
+    ensures { (words : List (List ℕ)) (files : Files) (good : IsGoodTables words (told_by files)) →
+        ((meaning words (told_by files)).result ≡ Ok (inspecting good.bytes))
+        × ((inspecting good.bytes).ends ≡ Status.Done) }
+{}
+
+/// `head SITE BOOK CLEAR OUT` over a site, a book and a clear stream makes its broadcast, and is done.
+pub fn good_streams_are_broadcast()
+    ensures { (words : List (List ℕ)) (files : Files) (good : IsGoodHead words (told_by files)) →
+        ((meaning words (told_by files)).result ≡ Ok (sending (plan_told good) good.out good.bytes))
+        × (concat (broadcast (plan_told good) (taken_of good.bytes)) ≡ sent_of (plan_told good) good.bytes)
+        × (Status.Done ≡ sent_status (plan_told good) good.bytes) }
+{}
+
+/// `accounts SITE ACCOUNTS OUT` over a site and accounts makes the book that their lines make, and reports them.
+#[tactic(auto, using(crate::proofs::Kept::accounts_kept))]
+pub fn good_accounts_are_kept()
+    ensures { (words : List (List ℕ)) (files : Files) (good : IsGoodAccounts words (told_by files)) →
+        (meaning words (told_by files)).result ≡ Ok (making_then good.out (text_of good.commands)
+        (report_line (accounts_value good.fields.height good.bytes good.commands))) }
+{}
+
+/// `book SITE BOOK COMMANDS OUT` over a site and two books makes the book of the first's commands and then the
+/// second's.
+#[tactic(auto, using(crate::proofs::Kept::books_joined))]
+pub fn good_books_are_joined()
+    ensures { (words : List (List ℕ)) (files : Files) (good : IsGoodBooks words (told_by files)) →
+        (meaning words (told_by files)).result ≡ Ok (making NoSteps good.out (text_of (good.before ++ good.added))) }
+{}
+
+/// `layered SITE BOOK WIDTH` over a site and a book prints the useful sets of each period.
+#[tactic(auto, using(crate::proofs::Layers::layered_good))]
+pub fn good_layers_are_printed()
+    ensures { (words : List (List ℕ)) (files : Files) (good : IsGoodLayered words (told_by files)) →
+        (meaning words (told_by files)).result ≡ Ok (layering good.fields.height good.width.value good.commands) }
+{}
+
+/// `lcard SITE LEAF WIDTH OUT` over a site with the leaf makes its layer card.
+#[tactic(auto, using(crate::proofs::Layers::lcard_good))]
+pub fn good_layer_cards_are_made()
+    ensures { (words : List (List ℕ)) (files : Files) (good : IsGoodLcard words (told_by files)) →
+        (meaning words (told_by files)).result ≡ Ok (making Uncounted good.out (layer_bytes
+        (layer_card_of good.fields.master good.fields.ca good.fields.height good.width.value good.leaf.value))) }
+{}
+
+/// `opens SITE BOOK LEAVES` over good files prints the sets of each period, and which of them the leaves' cards open.
+#[tactic(auto, using(crate::proofs::Pooled::opens_good))]
+pub fn good_pools_are_printed()
+    ensures { (words : List (List ℕ)) (files : Files) (good : IsGoodOpens words (told_by files)) →
+        (meaning words (told_by files)).result ≡ Ok (opening good.fields.height good.pooled good.commands) }
+{}
+
+/// `trace SITE BOOK LEAVES` over good files prints the trace of a box with the leaves' cards in the last period.
+#[tactic(auto, using(crate::proofs::Pooled::trace_good))]
+pub fn good_traces_are_printed()
+    ensures { (words : List (List ℕ)) (files : Files) (good : IsGoodTrace words (told_by files)) →
+        (meaning words (told_by files)).result ≡ Ok (telling (trace_text
+        (trace_of good.fields.height good.coalition (revoked_last good.fields.height good.commands)))) }
+{}
+
+/// `trial SITE BOOK CLEAR` over a good site, a good book and a clear stream prints the lines of what is opened.
+#[tactic(auto, using(crate::proofs::Tried::trial_good))]
+pub fn good_trials_are_printed()
+    ensures { (words : List (List ℕ)) (files : Files) (good : IsGoodTrial words (told_by files)) →
+        (meaning words (told_by files)).result ≡ Ok (tried (Ok
+        (opened_lines (plan_tried good) (taken_of good.bytes) (2 ^ good.fields.height)))) }
+{}
+
+/// Whatever a run over told files answers, all files are as they were, and none was made; or one was, OUT of the work
+/// that the words and files mean, with a prefix of what it is to hold, and all others are as they were.
+#[tactic(auto, using(crate::proofs::Left::run_leaves))]
+pub fn no_file_changes_but_out()
+    ensures { (words : List (List ℕ)) (files : Files) (a b : Outside) (answer : Status) →
+        a.place.files ≡ Some files → Answers (meaning words) a b answer →
+        IsAsBefore files a.place b.place ⊎ HasOut files (meaning words (told_by files)).result a.place b.place }
+{}
+
+/// The sets of a period are disjoint and unite to just the leaves that are not revoked in it: one where none is, and
+/// at most 2r - 1 where r are [Naor, Naor, Lotspiech 2001, 3.2].
+pub fn printed_sets_unite()
+    ensures { (d q : ℕ) (commands : List Command) → d ≤ 20 →
+        IsPartition d (cover_of d (revoked d commands q)) (unrevoked d (revoked d commands q))
+        × IsSmall (cover_of d (revoked d commands q)) (length (revoked d commands q)) }
+{}
+
+/// `receive CARD STREAM OUT` over a card and any stream makes what the card opens of it, and ends as the stream does.
+#[tactic(auto, using(crate::proofs::Broadcasts::receive_good))]
+pub fn streams_are_received()
+    ensures { (words : List (List ℕ)) (files : Files) (good : IsGoodReceive words (told_by files)) →
+        (meaning words (told_by files)).result ≡ Ok (receiving good.fields good.out good.bytes) }
+{}
+
+/// Of every broadcast, to whatever site, book within the limits and clear stream, `receive` with the card of a leaf
+/// makes just the clear packets of the periods in which the leaf isn't revoked. It ends done, or revoked in the first
+/// of the broadcast's periods in which the leaf is. For each period in which the leaf isn't revoked it takes at most as
+/// many steps of the generator as the tree is high, and none else.
+#[tactic(auto, using(crate::proofs::Broadcasts::broadcast_opened))]
+pub fn broadcasts_are_opened_by_the_entitled()
+    ensures { (plan : Plan) (u : ℕ) (clear : List (List ℕ)) (words : List (List ℕ)) (files : Files) → IsPlan plan →
+        IsClear plan.site clear → AreWholePackets clear → u < 2 ^ plan.site.height →
+        (sent : IsBroadcastTo plan u clear words (told_by files)) →
+        (work : Work) × ((meaning words (told_by files)).result ≡ Ok work) × IsOpened plan u clear sent.out work }
+{}

@@ -1,0 +1,6 @@
+//! What follows from the one call's own clause: what good words over good files come to.
+#![tactic(auto)]
+
+pub mod headline;
+pub mod laws;
+pub mod losses;
