@@ -104,7 +104,8 @@ order_breaks table_id v number last body head count places judged are unless = (
   (
     subst ArePositioned (same_places v number last body head count judged.is judged.counted) are.all,
     λ up. unless
-        (subst AreAscending (sym (same_listed v number last body head count places judged.is judged.counted are.read)) up),
+        (subst AreAscending
+        (sym (same_listed v number last body head count places judged.is judged.counted are.read)) up),
   ),
 )
 

@@ -4,8 +4,9 @@ ghost use Rattle.sd_engine.specs.Stage.{vessel};
 ghost use Rattle.sd_engine.specs.Driving.{moment, Drives, IsClosed, broken_by, overrun_by, stopped_by};
 
 use crate::fault::StreamBreak;
-use crate::feed::{FeedFault, SIZE, Span, next};
+use crate::feed::{FeedFault, Span, next};
 use crate::stage::{Stage, StageFault};
+use sd_packet::SIZE;
 use sd_ports::{Sink, Source};
 use sd_steps::Steps;
 use std::sync::ledger::Ledger;

@@ -4,11 +4,8 @@ ghost use Rattle.sd_engine.specs.Feeding.{waiting, Fills, Gives, Stops, Takes};
 ghost use Rattle.sd_ports.specs.Bytes.{LosesPrefix};
 
 use crate::fault::BreakCause;
-use sd_packet::Packet;
+use sd_packet::{Packet, SIZE};
 use sd_ports::{PortFault, Source};
-
-/// The bytes of a transport packet (ISO/IEC 13818-1, 2.4.3.2).
-pub const SIZE: usize = 188;
 
 /// Of a piece of a source's bytes, those that were read and not taken yet stand from `at` to `filled`.
 #[derive(Clone, Copy)]

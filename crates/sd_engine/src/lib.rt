@@ -11,5 +11,4 @@ mod tests;
 
 pub use driver::{DriveFault, MOST_PACKETS, drive};
 pub use fault::{BreakCause, StreamBreak};
-pub use feed::SIZE;
 pub use stage::{Stage, StageFault};

@@ -1,7 +1,7 @@
 ghost use Rattle.std.specs.Prelude.{◌≡◌, ◌≤◌, ◌<◌, []};
 
 use super::*;
-use sd_packet::Packet;
+use sd_packet::{Packet, SIZE};
 use sd_ports::{MemSink, MemSource, Sink, read_all, write_all};
 use sd_steps::Steps;
 use std::alloc::{AllocError, Global};

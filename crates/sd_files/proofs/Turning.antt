@@ -249,8 +249,8 @@ pub turned_obeys : (steps : List ℕ → StepBound) (written : List ℕ → List
     (outside p page i) (outside r page j) (status_of result)
 turned_obeys steps written ends word out bytes p q r page i j left held held' f f' o o' over result opened cause wrote
     closed takes = record {
-      comes = through_comes (steps bytes) out (written bytes) (ends bytes) p q r page i j left held held' word.text f f' o
-          o' over result
+      comes = through_comes (steps bytes) out (written bytes) (ends bytes) p q r page i j left held held' word.text
+          f f' o o' over result
           (record { opened = opened; cause = cause; wrote = wrote; closed = closed });
       ports = both_closed p.opened q.opened r.opened opened.within opened.ports closed.low closed.ports;
       calls = let a = opened.calls in let b = closed.calls in omega (arith, a, b);

@@ -6,6 +6,6 @@ mod packet;
 mod position;
 mod section;
 
-pub use packet::Packet;
+pub use packet::{Packet, SIZE};
 pub use position::{HIGHEST_POSITIONAL, LOWEST_POSITIONAL, advance, is_positional};
 pub use section::pack_section;

@@ -9,15 +9,15 @@ use crate::section::put;
 use sd_bits::fields;
 use std::marker::Model;
 
-/// A transport packet's bytes.
-const LENGTH: usize = 188;
+/// How many bytes a transport packet has (ISO/IEC 13818-1, 2.4.3.2).
+pub const SIZE: usize = 188;
 
 const SYNC_BYTE: u8 = 0x47;
 
 /// A transport packet: 188 bytes, the first of which is the sync byte (ISO/IEC 13818-1, 2.4.3.2).
 #[derive(Clone, Copy, PartialEq, Eq)]
 pub struct Packet {
-    pub(crate) bytes: [u8; 188],
+    pub(crate) bytes: [u8; SIZE],
 }
 
 impl Model for Packet {
@@ -34,7 +34,7 @@ impl Model for Packet {
 
 impl Packet {
     /// The packet of these bytes, or `None` where the first is no sync byte.
-    pub fn new(bytes: [u8; 188]) -> Option<Packet>
+    pub fn new(bytes: [u8; SIZE]) -> Option<Packet>
         ensures none { IsNone result ↔ (slice_index bytes 0 ≢ 0x47) }
         ensures value { IfSome result (λ packet. packet ≡ bytes) }
     {
@@ -46,7 +46,7 @@ impl Packet {
     }
 
     /// The packet's bytes.
-    pub fn bytes(&self) -> &[u8; 188]
+    pub fn bytes(&self) -> &[u8; SIZE]
         ensures value { result.now ≡ self.now }
         ensures length { length self.now ≡ 188 }
         ensures sync { slice_index self.now 0 ≡ 0x47 }
@@ -109,7 +109,7 @@ impl Packet {
         match self.adaptation() {
             0b01 => 4,
             0b11 if length <= 182 => 5 + usize::from(length),
-            _ => 188,
+            _ => SIZE,
         }
     }
 
@@ -117,7 +117,7 @@ impl Packet {
     pub fn is_placed(&self) -> bool
         ensures { result ≡ is_placed_packet self.now }
     {
-        is_positional(self.pid()) && self.payload_start() < LENGTH
+        is_positional(self.pid()) && self.payload_start() < SIZE
     }
 
     /// The payload, which may be empty.
@@ -154,7 +154,7 @@ mod tests {
     use super::*;
 
     fn packet(header: [u8; 4], length: u8) -> Option<Packet> {
-        let mut bytes = [0; 188];
+        let mut bytes = [0; SIZE];
         bytes[..4].copy_from_slice(&header);
         bytes[4] = length;
         Packet::new(bytes)

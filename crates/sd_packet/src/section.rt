@@ -1,7 +1,7 @@
 ghost use Rattle.std.specs.Prelude.{◌≡◌, ◌+◌, ◌<◌, ◌≤◌, ◌++◌, length, take, drop};
 ghost use Rattle.sd_packet.specs.Packing.{section_header, packed, IsSectionPacket};
 
-use crate::packet::Packet;
+use crate::packet::{Packet, SIZE};
 use sd_bits::fields;
 
 const STUFFING: u8 = 0xFF;
@@ -18,7 +18,7 @@ pub fn pack_section(section: &[u8], pid: u16, counter: u8) -> Packet
     ensures fields { IsSectionPacket section.now pid counter result }
     ensures length { length result ≡ 188 }
 {
-    let mut bytes = [STUFFING; 188];
+    let mut bytes = [STUFFING; SIZE];
     let mut header = [0; 4];
     write_header(&mut header, pid, counter);
     put(&mut bytes, 0, &header);

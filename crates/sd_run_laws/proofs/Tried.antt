@@ -10,9 +10,9 @@ use Rattle.sd_status.specs.Meant.{Word, Given, judged, value, ◌>>=◌}
 use Rattle.sd_files.specs.Files.{site_in, book_in}
 use Rattle.sd_words.specs.Words.{TrialOf}
 use Rattle.sd_run_trial.specs.declared.plan.TheConstants.{MOST_HEIGHT}
-use Rattle.sd_run_trial.specs.Opened.{opened_lines}
+use Rattle.sd_printed.specs.Trials.{opened_lines}
 use Rattle.sd_run_trial.specs.Trial.{told_low, low_site_of_file, plan_by, plan_meaning, printing}
-use Rattle.sd_run_trial.proofs.Opened as opened
+use Rattle.sd_printed.proofs.Trials as opened
 use Rattle.sd_run_laws.specs.Good.{IsGoodSite, IsGoodBook}
 use Rattle.sd_run_laws.specs.Tried.{IsGoodTrial, plan_tried}
 use Rattle.sd_run.specs.Meaning.{meaning}

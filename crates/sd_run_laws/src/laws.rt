@@ -7,7 +7,7 @@ ghost use Rattle.sd_run_layered.specs.Layered.{layering};
 ghost use Rattle.sd_trace.specs.Trace.{trace_of};
 ghost use Rattle.sd_run_opens.specs.Opens.{opening};
 ghost use Rattle.sd_run_trace.specs.Trace.{revoked_last, telling, trace_text};
-ghost use Rattle.sd_run_trial.specs.Opened.{opened_lines};
+ghost use Rattle.sd_printed.specs.Trials.{opened_lines};
 ghost use Rattle.sd_run_trial.specs.Trial.{printing as tried};
 ghost use Rattle.sd_run_laws.specs.Good.{IsGoodAccounts, IsGoodBooks, IsGoodLayered, IsGoodLcard, IsGoodOpens};
 ghost use Rattle.sd_run_laws.specs.Good.{IsGoodTrace};

@@ -1,5 +1,4 @@
 pub mod Prefixes
 pub mod Sending
 pub mod Trying
-pub mod Opened
 pub mod Others

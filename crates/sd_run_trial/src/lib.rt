@@ -3,7 +3,6 @@
 
 mod command;
 mod hear;
-pub mod laws;
 mod lines;
 mod plan;
 mod prefix;

@@ -5,7 +5,7 @@ ghost use Rattle.sd_run_trial.specs.Trial.{Adds, Comes, clear_line, lines_to, re
 
 use crate::hear::hear;
 use sd_card::Card;
-use sd_engine::SIZE;
+use sd_packet::SIZE;
 use sd_receive::Receiver;
 use sd_site::Site;
 use sd_status::Status;

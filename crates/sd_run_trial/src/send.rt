@@ -5,8 +5,8 @@ ghost use Rattle.sd_run_trial.specs.Trial.{Comes, HasSent, is_wanting, sent_or, 
 
 use sd_book::Book;
 use sd_cause::NoMemory;
-use sd_engine::SIZE;
 use sd_head::Head;
+use sd_packet::SIZE;
 use sd_ports::{MemSink, SliceSource, Taken};
 use sd_run_head::send;
 use sd_site::Site;

@@ -1,8 +1,8 @@
 ghost use Rattle.std.specs.Prelude.{◌≡◌, ◌<◌, ◌≤◌};
 
 use crate::trial;
-use sd_engine::SIZE;
 use sd_files::Word;
+use sd_packet::SIZE;
 use sd_ports::{MemDepot, MemSink};
 use sd_sample::sample;
 use sd_status::Status;

@@ -1,4 +1,4 @@
--- What a trial prints.
+-- What the lines of a trial tell.
 use Rattle.std.proofs.Common.{◌≡◌, ℕ, zero, suc, ◌*◌, ◌/◌, ◌^◌, ◌<◌, ◌≤◌, Bool, true, false, not, List, [], ◌∷◌}
 use Rattle.std.proofs.Common.{length, reverse, Option, Some, None, Result, Ok, Err, refl, sym, ap, ◌∙◌}
 use Rattle.std.proofs.Common.{arith}
@@ -37,7 +37,7 @@ use Rattle.sd_run_trial.specs.Trial.{plan_meaning, printing, told_sent, trial_me
 use Rattle.sd_run_trial.specs.Prefixes.{prefix_of_file}
 use Rattle.sd_run_trial.specs.declared.command.TheConstants.{MOST_CLEAR_BYTES}
 use Rattle.sd_run_trial.proofs.Prefixes.{whole_prefix}
-use Rattle.sd_run_trial.specs.Opened.{line_by, opened_line, opened_lines}
+use Rattle.sd_printed.specs.Trials.{line_by, opened_line, opened_lines}
 
 -- so many bytes are so many packets
 packets_in : (bytes packets : ℕ) → bytes ≡ 188 * packets → bytes / 188 ≡ packets

@@ -1,6 +1,6 @@
 use Rattle.sd_pooled.proofs.Known.{revoked_know_nothing}
-use Rattle.sd_run_opens.proofs.Ends.{all_shut}
-use Rattle.sd_run_opens.proofs.laws.revoked_leaves_open_none.Goals as goal
+use Rattle.sd_printed.proofs.Pools.{all_shut}
+use Rattle.sd_printed.proofs.pools.revoked_leaves_open_none.Goals as goal
 
 pub returns-clause-shut : goal.returns-clause-shut
 returns-clause-shut c = all_shut
