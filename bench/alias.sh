@@ -95,5 +95,6 @@ made read "a named pipe"
 made redirected "a site from standard input"
 status=0
 ./sdca card /dev/stdin $leaf site <site >lines || status=$?
-[ $status = $device_fault ] && [ "$(cksum <site)" = "$site" ] || fail "a site from standard input: its file is not protected"
+[ $status = $device_fault ] && [ "$(cksum <site)" = "$site" ] ||
+    fail "a site from standard input: its file is not protected"
 echo "a site from standard input as OUT: refused, and the site is as it was"

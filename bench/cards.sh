@@ -1,17 +1,18 @@
 #!/bin/sh
-# Measures `card` at height 20 beside bench/cards.c, which makes the same cards with OpenSSL's SHA-256, in one run.
-# To be run by hand, from any folder: `bench/cards.sh`, or `SDCA=PROGRAM bench/cards.sh` with a program that is built already.
+# Measures `card` at height 20 beside bench/cards.c, which makes the same cards with OpenSSL's SHA-256, in one run. To
+# be run by hand, from any folder: `bench/cards.sh`, or `SDCA=PROGRAM bench/cards.sh` with a program that is built
+# already.
 #
-# Both programs make the cards of the same 500 leaves, one run a card, each into a new file. As many runs of both that only print
-# `usage` are taken off, so that neither pays for its start. C is not held back: `cc -O2`, the quickest calls of OpenSSL, which is
-# linked into the program where its archive is there (a shared library is paged in at the first hash, and that would be counted), and
-# each path walked once: 422 digests a card. A run's time is its least of some rounds, in which the programs take turns. The cards of
-# both are compared byte for byte.
+# Both programs make the cards of the same 500 leaves, one run a card, each into a new file. As many runs of both that
+# only print `usage` are taken off, so that neither pays for its start. C is not held back: `cc -O2`, the quickest
+# calls of OpenSSL, which is linked into the program where its archive is there (a shared library is paged in at the
+# first hash, and that would be counted), and each path walked once: 422 digests a card. A run's time is its least of
+# some rounds, in which the programs take turns. The cards of both are compared byte for byte.
 #
-# It prints for cards in memory (a folder in /dev/shm, where that is there) and for cards on disk (the usual temporary folder) the
-# milliseconds of both programs for all cards, for the runs that were taken off and for what is left, and the ratio of what is left,
-# which is to be at most 1.5. A disk takes as long for both, so the ratio in memory is the stricter one. Without OpenSSL's headers it
-# says so and measures nothing.
+# It prints for cards in memory (a folder in /dev/shm, where that is there) and for cards on disk (the usual temporary
+# folder) the milliseconds of both programs for all cards, for the runs that were taken off and for what is left, and
+# the ratio of what is left, which is to be at most 1.5. A disk takes as long for both, so the ratio in memory is the
+# stricter one. Without OpenSSL's headers it says so and measures nothing.
 set -eu
 . "$(dirname "$0")/shared.sh"
 rounds=10
@@ -45,7 +46,8 @@ show_cards() {
     means=$(least_means 4 times.*)
     echo "$means" | awk -v place="$2" '
         function show(name, all, start) {
-            printf "500 cards %s: %-4s %6.1f ms - %6.1f ms of usage = %6.1f ms\n", place, name, all / 2, start / 2, (all - start) / 2
+            printf "500 cards %s: %-4s %6.1f ms - %6.1f ms of usage = %6.1f ms\n",
+                place, name, all / 2, start / 2, (all - start) / 2
         }
         {
             show("sdca", $2, $1)

@@ -1,5 +1,5 @@
-/* Prints the cover of each period of a book, as `sdca cover SITE BOOK` does, from docs/FORMATS.md alone: the revoked leaves are kept
-   in a sorted array, and each period is a plain recursion over it. */
+/* Prints the cover of each period of a book, as `sdca cover SITE BOOK` does, from docs/FORMATS.md alone: the revoked
+   leaves are kept in a sorted array, and each period is a plain recursion over it. */
 #include <inttypes.h>
 #include <stdint.h>
 #include <stdio.h>
@@ -20,22 +20,19 @@ static size_t revoked_count;
 static struct set sets[2 * MOST_LEAVES];
 static size_t set_count;
 
-static _Noreturn void fail(const char *text)
-{
+static _Noreturn void fail(const char *text) {
     fprintf(stderr, "cover: %s\n", text);
     exit(1);
 }
 
-static FILE *open_file(const char *name)
-{
+static FILE *open_file(const char *name) {
     FILE *file = fopen(name, "r");
     if (file == NULL)
         fail("a file can't be read");
     return file;
 }
 
-static unsigned read_height(const char *name)
-{
+static unsigned read_height(const char *name) {
     unsigned height;
     FILE *file = open_file(name);
     if (fscanf(file, "height %u", &height) != 1 || height < 1 || height > MOST_HEIGHT)
@@ -45,8 +42,7 @@ static unsigned read_height(const char *name)
 }
 
 /* How many of these ascending nodes are less than the bound. */
-static size_t count_below(const uint32_t *nodes, size_t count, uint32_t bound)
-{
+static size_t count_below(const uint32_t *nodes, size_t count, uint32_t bound) {
     size_t low = 0, high = count;
     while (low < high) {
         size_t middle = low + (high - low) / 2;
@@ -58,8 +54,7 @@ static size_t count_below(const uint32_t *nodes, size_t count, uint32_t bound)
     return low;
 }
 
-static void revoke(uint32_t node)
-{
+static void revoke(uint32_t node) {
     size_t at = count_below(revoked, revoked_count, node);
     if (at < revoked_count && revoked[at] == node)
         return;
@@ -68,8 +63,7 @@ static void revoke(uint32_t node)
     revoked_count++;
 }
 
-static void subscribe(uint32_t node)
-{
+static void subscribe(uint32_t node) {
     size_t at = count_below(revoked, revoked_count, node);
     if (at == revoked_count || revoked[at] != node)
         return;
@@ -77,10 +71,9 @@ static void subscribe(uint32_t node)
     memmove(revoked + at, revoked + at + 1, (revoked_count - at) * sizeof *revoked);
 }
 
-/* Adds the sets of the chain that begins at node i and of those below it. The nodes are the revoked leaves below i, and the chain's
-   end is the lowest node above them all. */
-static void add_sets(uint32_t i, const uint32_t *nodes, size_t count)
-{
+/* Adds the sets of the chain that begins at node i and of those below it. The nodes are the revoked leaves below i, and
+   the chain's end is the lowest node above them all. */
+static void add_sets(uint32_t i, const uint32_t *nodes, size_t count) {
     uint32_t first = nodes[0], last = nodes[count - 1];
     unsigned levels = 0;
     for (; first >> levels != last >> levels; levels++)
@@ -96,14 +89,12 @@ static void add_sets(uint32_t i, const uint32_t *nodes, size_t count)
 }
 
 /* The order of two sets of one cover, which differ in i. */
-static int compare_sets(const void *a, const void *b)
-{
+static int compare_sets(const void *a, const void *b) {
     uint32_t left = ((const struct set *)a)->i, right = ((const struct set *)b)->i;
     return (left > right) - (left < right);
 }
 
-static void print_period(unsigned period)
-{
+static void print_period(unsigned period) {
     set_count = 0;
     if (revoked_count == 0) {
         printf("period %u revoked 0 sets 1\nall\n", period);
@@ -116,8 +107,7 @@ static void print_period(unsigned period)
         printf("%" PRIu32 " %" PRIu32 "\n", sets[at].i, sets[at].j);
 }
 
-static uint32_t leaf_node(const char *text, unsigned height)
-{
+static uint32_t leaf_node(const char *text, unsigned height) {
     char *end;
     unsigned long leaf = strtoul(text, &end, 10);
     if (end == text || *end != '\0' || leaf >> height != 0)
@@ -125,8 +115,7 @@ static uint32_t leaf_node(const char *text, unsigned height)
     return (UINT32_C(1) << height) + (uint32_t)leaf;
 }
 
-int main(int count, char **words)
-{
+int main(int count, char **words) {
     static char output[OUTPUT_BYTES];
     char line[LINE_BYTES];
     unsigned period = 0;

@@ -1,16 +1,19 @@
 #!/bin/sh
-# Measures `cover` in one run beside awk, which replays books of plain lines, and beside bench/cover.c, which prints the same covers.
-# To be run by hand, from any folder: `bench/cover.sh`, or `SDCA=PROGRAM bench/cover.sh` with a program that is built already.
+# Measures `cover` in one run beside awk, which replays books of plain lines, and beside bench/cover.c, which prints
+# the same covers. To be run by hand, from any folder: `bench/cover.sh`, or `SDCA=PROGRAM bench/cover.sh` with a
+# program that is built already.
 #
-# A time is that of a whole run with its start, the least of some rounds; what is printed is thrown away. Plain books have one period
-# and one revoked leaf at its end. The others have 4,096 revoked leaves, drawn at random from 1,048,576, at the end of each period:
-# period 0 revokes them, and each later period has 1,000 commands, which change 500 of them for others. The baseline in C (`cc -O2`) is
-# straightforward: fgets and strtoul, a sorted array, a recursion over it, qsort and printf. What both print is compared byte for byte.
+# A time is that of a whole run with its start, the least of some rounds; what is printed is thrown away. Plain books
+# have one period and one revoked leaf at its end. The others have 4,096 revoked leaves, drawn at random from
+# 1,048,576, at the end of each period: period 0 revokes them, and each later period has 1,000 commands, which change
+# 500 of them for others. The baseline in C (`cc -O2`) is straightforward: fgets and strtoul, a sorted array, a
+# recursion over it, qsort and printf. What both print is compared byte for byte.
 #
-# It prints for each plain book the times of sdca and awk and their ratio; for each other book the times of sdca and C, their ratio,
-# which is to be at most 3, and the time of sdca for each period; and for the greatest book of each kind the peak memory of sdca, less
-# the book's file, which is to be at most 64 MiB. The last book has one period and as many revoked leaves as there may be, 65,536 of
-# 1,048,576, drawn at random and in ascending order, so that the replay is cheap for both and the cover is what is measured.
+# It prints for each plain book the times of sdca and awk and their ratio; for each other book the times of sdca and
+# C, their ratio, which is to be at most 3, and the time of sdca for each period; and for the greatest book of each
+# kind the peak memory of sdca, less the book's file, which is to be at most 64 MiB. The last book has one period and
+# as many revoked leaves as there may be, 65,536 of 1,048,576, drawn at random and in ascending order, so that the
+# replay is cheap for both and the cover is what is measured.
 set -eu
 . "$(dirname "$0")/shared.sh"
 compile cover
@@ -75,7 +78,8 @@ $1 == "subscribe" { delete revoked[$2] }
 END { count = 0; for (leaf in revoked) count++; print count }
 SCRIPT
 
-# OTHER COUNT: the mean microseconds of a run of sdca and of the other program with its words, which take turns, each so often.
+# OTHER COUNT: the mean microseconds of a run of sdca and of the other program with its words, which take turns, each
+# so often.
 time_both() {
     for _ in $(seq "$2"); do
         echo "0 ./sdca cover site book"
@@ -102,7 +106,8 @@ for lines in 65536 131072 262144 524288 1048576; do
     awk -f replay.awk book | grep -qx 1 || fail "wrong answer of awk"
     means=$(time_both "awk -f replay.awk book" 1)
     echo "$means" | awk -v n=$lines '{
-        printf "%8d lines: sdca %8.2f ms (%.0f ns a line), awk %8.2f ms, ratio %.2f\n", n, $1 / 1000, $1 * 1000 / n, $2 / 1000, $1 / $2
+        printf "%8d lines: sdca %8.2f ms (%.0f ns a line), awk %8.2f ms, ratio %.2f\n",
+            n, $1 / 1000, $1 * 1000 / n, $2 / 1000, $1 / $2
     }'
 done
 show_peak

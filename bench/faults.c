@@ -12,47 +12,40 @@ static unsigned char bytes[MOST_BYTES + PACKET * MOST_CHANGES], held[PACKET];
 static size_t length;
 static uint64_t state;
 
-static _Noreturn void fail(const char *text)
-{
+static _Noreturn void fail(const char *text) {
     fprintf(stderr, "faults: %s\n", text);
     exit(1);
 }
 
-static size_t draw(size_t bound)
-{
+static size_t draw(size_t bound) {
     state = state * UINT64_C(6364136223846793005) + UINT64_C(1442695040888963407);
     return (size_t)(state >> 33) % bound;
 }
 
 /* Takes so many bytes out, or puts so many in, which are those that stood there. */
-static void leave_out(size_t at, size_t count)
-{
+static void leave_out(size_t at, size_t count) {
     memmove(bytes + at, bytes + at + count, length - at - count);
     length -= count;
 }
 
-static void put_in(size_t at, size_t count)
-{
+static void put_in(size_t at, size_t count) {
     memmove(bytes + at + count, bytes + at, length - at);
     length += count;
 }
 
-static void swap(size_t one, size_t other)
-{
+static void swap(size_t one, size_t other) {
     memcpy(held, bytes + one * PACKET, PACKET);
     memmove(bytes + one * PACKET, bytes + other * PACKET, PACKET);
     memcpy(bytes + other * PACKET, held, PACKET);
 }
 
 /* A place in a packet: in its header or the start of its section more often than in the rest. */
-static size_t draw_place(void)
-{
+static size_t draw_place(void) {
     size_t packet = draw(length / PACKET);
     return packet * PACKET + draw(draw(3) == 0 ? PACKET : 32);
 }
 
-static void change(void)
-{
+static void change(void) {
     size_t packets = length / PACKET;
     if (packets == 0)
         return;
@@ -86,8 +79,7 @@ static void change(void)
     }
 }
 
-int main(int count, char **words)
-{
+int main(int count, char **words) {
     if (count != 4)
         fail("NUMBER FROM TO are the words");
     FILE *from = fopen(words[2], "rb"), *to = fopen(words[3], "wb");

@@ -145,7 +145,8 @@ try_all opens S R L
 try_all trace S R L
 try_all trial S B C
 
-# At height 6 a trial makes 64 cards and 64 receivers, so there is a request for memory of this number, and it is wanted.
+# At height 6 a trial makes 64 cards and 64 receivers, so there is a request for memory of this number, and it is
+# wanted.
 sed 's/^height .*/height 6/' S >S6
 : >B0
 ./sdca sample 0 1 C1

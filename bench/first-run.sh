@@ -1,7 +1,7 @@
 #!/bin/sh
-# The first run of ./sdca on a machine that keeps nothing, in a fresh clone: its time, the processor time that it takes, and the
-# ratio of the two. The toolchain's store is hidden by an empty folder in a mount namespace of its own, so it wants root.
-# It takes all processors for some minutes.
+# The first run of ./sdca on a machine that keeps nothing, in a fresh clone: its time, the processor time that it
+# takes, and the ratio of the two. The toolchain's store is hidden by an empty folder in a mount namespace of its own,
+# so it wants root. It takes all processors for some minutes.
 
 top=$(CDPATH='' cd "$(dirname "$0")/.." && pwd -P)
 work=$(mktemp -d)

@@ -1,7 +1,8 @@
-/* Makes the broadcast of a clear stream, as `sdca head SITE BOOK CLEAR OUT` does, from docs/FORMATS.md alone, with SHA-256 and ChaCha20 of
-   OpenSSL. A period's entitlement packets are kept, and so are the words of a crypto period. A clear packet that is refused ends it with
-   exit status 9. */
-#define OPENSSL_SUPPRESS_DEPRECATED /* The older calls of SHA-256 are the quicker ones: nothing is looked up before the first hash. */
+/* Makes the broadcast of a clear stream, as `sdca head SITE BOOK CLEAR OUT` does, from docs/FORMATS.md alone, with
+   SHA-256 and ChaCha20 of OpenSSL. A period's entitlement packets are kept, and so are the words of a crypto period. A
+   clear packet that is refused ends it with exit status 9. */
+#define OPENSSL_SUPPRESS_DEPRECATED /* The older calls of SHA-256 are the quicker ones: nothing is looked up before    \
+                                       the first hash. */
 #include <fcntl.h>
 #include <openssl/evp.h>
 #include <openssl/sha.h>
@@ -75,16 +76,14 @@ static size_t gathered_count;
 
 static uint32_t crc_tables[8][256];
 
-static _Noreturn void fail(const char *text)
-{
+static _Noreturn void fail(const char *text) {
     fprintf(stderr, "head: %s\n", text);
     exit(1);
 }
 
 /* CRC_32, eight bytes a step. */
 
-static void make_crc_tables(void)
-{
+static void make_crc_tables(void) {
     for (uint32_t byte = 0; byte < 256; byte++) {
         uint32_t crc = byte << 24;
         for (int bit = 0; bit < 8; bit++)
@@ -98,29 +97,25 @@ static void make_crc_tables(void)
         }
 }
 
-static uint32_t read_number(const uint8_t *at, int bytes)
-{
+static uint32_t read_number(const uint8_t *at, int bytes) {
     uint32_t number = 0;
     for (int byte = 0; byte < bytes; byte++)
         number = number << 8 | at[byte];
     return number;
 }
 
-static uint8_t *put_number(uint8_t *at, uint64_t number, int bytes)
-{
+static uint8_t *put_number(uint8_t *at, uint64_t number, int bytes) {
     for (int byte = bytes - 1; byte >= 0; byte--)
         *at++ = (uint8_t)(number >> 8 * byte);
     return at;
 }
 
-static uint8_t *put_bytes(uint8_t *at, const uint8_t *bytes, size_t count)
-{
+static uint8_t *put_bytes(uint8_t *at, const uint8_t *bytes, size_t count) {
     memcpy(at, bytes, count);
     return at + count;
 }
 
-static uint32_t crc_of(const uint8_t *bytes, size_t count)
-{
+static uint32_t crc_of(const uint8_t *bytes, size_t count) {
     uint32_t crc = UINT32_MAX;
     for (; count >= 8; count -= 8, bytes += 8) {
         uint32_t high = crc ^ read_number(bytes, 4);
@@ -135,35 +130,28 @@ static uint32_t crc_of(const uint8_t *bytes, size_t count)
 
 /* Keys. */
 
-static void hash(const uint8_t *key, const uint8_t *tail, size_t tail_count, uint8_t *digest)
-{
+static void hash(const uint8_t *key, const uint8_t *tail, size_t tail_count, uint8_t *digest) {
     SHA256_CTX context;
     if (SHA256_Init(&context) != 1 || SHA256_Update(&context, key, KEY_BYTES) != 1 ||
         SHA256_Update(&context, tail, tail_count) != 1 || SHA256_Final(digest, &context) != 1)
         fail("OpenSSL can't hash");
 }
 
-static void hash_tagged(const uint8_t *key, uint8_t tag, uint8_t *digest)
-{
-    hash(key, &tag, 1, digest);
-}
+static void hash_tagged(const uint8_t *key, uint8_t tag, uint8_t *digest) { hash(key, &tag, 1, digest); }
 
-static void hash_numbered(uint8_t tag, uint32_t number, uint8_t *digest)
-{
+static void hash_numbered(uint8_t tag, uint32_t number, uint8_t *digest) {
     uint8_t tail[5] = {tag};
     put_number(tail + 1, number, 4);
     hash(site.master, tail, sizeof tail, digest);
 }
 
-static void check_of(const uint8_t *key, uint8_t *check)
-{
+static void check_of(const uint8_t *key, uint8_t *check) {
     uint8_t digest[KEY_BYTES];
     hash_tagged(key, 'V', digest);
     memcpy(check, digest, CHECK_BYTES);
 }
 
-static void set_key(struct set set, uint8_t *key)
-{
+static void set_key(struct set set, uint8_t *key) {
     uint8_t label[KEY_BYTES];
     if (set.i == 0) {
         hash_tagged(site.master, 'A', key);
@@ -177,8 +165,7 @@ static void set_key(struct set set, uint8_t *key)
 }
 
 /* Lays the keystream of this number over the bytes: 64 bits of block counter, 64 of stream number, low byte first. */
-static void lay(EVP_CIPHER_CTX *context, const uint8_t *key, uint64_t number, uint8_t *bytes, int count)
-{
+static void lay(EVP_CIPHER_CTX *context, const uint8_t *key, uint64_t number, uint8_t *bytes, int count) {
     uint8_t start[16] = {0};
     int length;
     for (int byte = 0; byte < 8; byte++)
@@ -188,8 +175,7 @@ static void lay(EVP_CIPHER_CTX *context, const uint8_t *key, uint64_t number, ui
         fail("OpenSSL can't encrypt");
 }
 
-static void wrap(const uint8_t *key, uint32_t number, const uint8_t *text, uint8_t *wrapped)
-{
+static void wrap(const uint8_t *key, uint32_t number, const uint8_t *text, uint8_t *wrapped) {
     static EVP_CIPHER_CTX *context;
     if (context == NULL) {
         context = EVP_CIPHER_CTX_new();
@@ -202,12 +188,12 @@ static void wrap(const uint8_t *key, uint32_t number, const uint8_t *text, uint8
 
 /* Site and book. */
 
-static void read_site(const char *name)
-{
+static void read_site(const char *name) {
     char master[2 * KEY_BYTES + 1];
     FILE *file = fopen(name, "r");
-    if (file == NULL || fscanf(file, "height %u master %64s ca %4x emm %u ecm %u ecm-every %u crypto-ecms %u period-cryptos %u",
-                               &site.height, master, &site.ca, &site.emm, &site.ecm, &site.every, &site.cryptos, &site.span) != 8)
+    if (file == NULL ||
+        fscanf(file, "height %u master %64s ca %4x emm %u ecm %u ecm-every %u crypto-ecms %u period-cryptos %u",
+               &site.height, master, &site.ca, &site.emm, &site.ecm, &site.every, &site.cryptos, &site.span) != 8)
         fail("the site can't be read");
     if (fscanf(file, " messages %u", &site.messages) != 1)
         site.messages = 1;
@@ -219,8 +205,7 @@ static void read_site(const char *name)
     fclose(file);
 }
 
-static void read_book(const char *name)
-{
+static void read_book(const char *name) {
     char line[64];
     size_t room = 0;
     FILE *file = fopen(name, "r");
@@ -249,8 +234,7 @@ static void read_book(const char *name)
 /* The cover of a period. */
 
 /* How many of these ascending nodes are less than the bound. */
-static size_t count_below(const uint32_t *nodes, size_t count, uint32_t bound)
-{
+static size_t count_below(const uint32_t *nodes, size_t count, uint32_t bound) {
     size_t low = 0, high = count;
     while (low < high) {
         size_t middle = low + (high - low) / 2;
@@ -262,8 +246,7 @@ static size_t count_below(const uint32_t *nodes, size_t count, uint32_t bound)
     return low;
 }
 
-static void take_command(uint32_t command)
-{
+static void take_command(uint32_t command) {
     uint32_t node = command % SUBSCRIBE;
     size_t at = count_below(revoked, revoked_count, node);
     bool is_revoked = at < revoked_count && revoked[at] == node;
@@ -279,10 +262,9 @@ static void take_command(uint32_t command)
     }
 }
 
-/* Adds the sets of the chain that begins at node i and of those below it. The nodes are the revoked leaves below i, and the chain's
-   end is the lowest node above them all. */
-static void add_sets(uint32_t i, const uint32_t *nodes, size_t count)
-{
+/* Adds the sets of the chain that begins at node i and of those below it. The nodes are the revoked leaves below i, and
+   the chain's end is the lowest node above them all. */
+static void add_sets(uint32_t i, const uint32_t *nodes, size_t count) {
     uint32_t first = nodes[0], last = nodes[count - 1];
     unsigned levels = 0;
     for (; first >> levels != last >> levels; levels++)
@@ -298,14 +280,12 @@ static void add_sets(uint32_t i, const uint32_t *nodes, size_t count)
 }
 
 /* The order of two sets of one cover, which differ in i. */
-static int compare_sets(const void *a, const void *b)
-{
+static int compare_sets(const void *a, const void *b) {
     uint32_t left = ((const struct set *)a)->i, right = ((const struct set *)b)->i;
     return (left > right) - (left < right);
 }
 
-static void make_sets(void)
-{
+static void make_sets(void) {
     set_count = 0;
     if (revoked_count == 0) {
         sets[set_count++] = (struct set){0, 0};
@@ -318,8 +298,7 @@ static void make_sets(void)
 /* Sections and packets of the project's own. */
 
 /* The place of a section's extension in the packet that is to hold it. */
-static uint8_t *begin_section(uint8_t *packet, unsigned pid, uint8_t table_id)
-{
+static uint8_t *begin_section(uint8_t *packet, unsigned pid, uint8_t table_id) {
     memset(packet, 0xFF, PACKET_BYTES);
     packet[0] = 0x47;
     put_number(packet + 1, 0x4000 | pid, 2);
@@ -329,23 +308,20 @@ static uint8_t *begin_section(uint8_t *packet, unsigned pid, uint8_t table_id)
     return packet + 8;
 }
 
-static void end_section(uint8_t *packet, uint8_t *end)
-{
+static void end_section(uint8_t *packet, uint8_t *end) {
     uint8_t *section = packet + 5;
     put_number(section + 1, 0xB000u | (unsigned)(end + 4 - section - 3), 2);
     put_number(end, crc_of(section, (size_t)(end - section)), 4);
 }
 
-static uint8_t *put_header(uint8_t *at, unsigned extension, unsigned number, unsigned last)
-{
+static uint8_t *put_header(uint8_t *at, unsigned extension, unsigned number, unsigned last) {
     at = put_number(at, extension, 2);
     at = put_number(at, 0xC1, 1);
     at = put_number(at, number, 1);
     return put_number(at, last, 1);
 }
 
-static void make_cat(void)
-{
+static void make_cat(void) {
     uint8_t *at = put_header(begin_section(cat, 1, 1), 0xFFFF, 0, 0);
     at = put_number(at, 0x0906, 2);
     at = put_number(at, site.ca, 2);
@@ -354,8 +330,7 @@ static void make_cat(void)
     end_section(cat, at);
 }
 
-static void make_emm(uint32_t period, const uint8_t *check, size_t section)
-{
+static void make_emm(uint32_t period, const uint8_t *check, size_t section) {
     uint8_t *packet = emms[section];
     size_t first = PERIOD_SETS * section;
     size_t count = set_count - first < PERIOD_SETS ? set_count - first : PERIOD_SETS;
@@ -376,8 +351,7 @@ static void make_emm(uint32_t period, const uint8_t *check, size_t section)
     end_section(packet, at);
 }
 
-static void begin_period(uint32_t period)
-{
+static void begin_period(uint32_t period) {
     uint8_t check[CHECK_BYTES];
     while (command_next < command_count && commands[command_next] != 0)
         take_command(commands[command_next++]);
@@ -396,8 +370,7 @@ static void begin_period(uint32_t period)
         make_emm(period, check, section);
 }
 
-static void begin_crypto_period(uint32_t number)
-{
+static void begin_crypto_period(uint32_t number) {
     hash_numbered('C', number, word);
     check_of(word, word_check);
     wrap(period_key, number, word, wrapped_word);
@@ -412,8 +385,7 @@ static void begin_crypto_period(uint32_t number)
 
 /* Output. */
 
-static void write_gathered(void)
-{
+static void write_gathered(void) {
     for (size_t done = 0; done < gathered_count;) {
         ssize_t count = write(output, gathered + done, gathered_count - done);
         if (count <= 0)
@@ -424,8 +396,7 @@ static void write_gathered(void)
 }
 
 /* The place of the next packet. */
-static uint8_t *next_packet(void)
-{
+static uint8_t *next_packet(void) {
     if (gathered_count + PACKET_BYTES > OUTPUT_BYTES)
         write_gathered();
     uint8_t *packet = gathered + gathered_count;
@@ -433,33 +404,27 @@ static uint8_t *next_packet(void)
     return packet;
 }
 
-static uint8_t *send(const uint8_t *packet)
-{
-    return memcpy(next_packet(), packet, PACKET_BYTES);
-}
+static uint8_t *send(const uint8_t *packet) { return memcpy(next_packet(), packet, PACKET_BYTES); }
 
-static void send_counted(const uint8_t *packet, unsigned *counter)
-{
+static void send_counted(const uint8_t *packet, unsigned *counter) {
     send(packet)[3] = (uint8_t)(0x10 | *counter);
     *counter = (*counter + 1) % 16;
 }
 
-static void send_tables(void)
-{
+static void send_tables(void) {
     send_counted(cat, &cat_counter);
     for (size_t section = 0; section < emm_count; section++)
         send_counted(emms[section], &emm_counter);
 }
 
-static uint32_t since(uint32_t number)
-{
+static uint32_t since(uint32_t number) {
     if (number == 0)
         return 0;
     return site.messages == 2 ? (number - 1) / site.cryptos * site.cryptos : number - 1;
 }
 
-static void send_part(uint32_t number, uint32_t period, uint32_t crypto, bool closing, size_t part, size_t parts, size_t most)
-{
+static void send_part(uint32_t number, uint32_t period, uint32_t crypto, bool closing, size_t part, size_t parts,
+                      size_t most) {
     uint8_t packet[PACKET_BYTES];
     size_t first = part * most, count = pid_count - first < most ? pid_count - first : most;
     uint8_t table_id = (uint8_t)((site.messages == 2 ? 0x84 : 0x80) + crypto % 2);
@@ -482,8 +447,7 @@ static void send_part(uint32_t number, uint32_t period, uint32_t crypto, bool cl
     send_counted(packet, &ecm_counter);
 }
 
-static void send_message(uint32_t number, uint32_t period, uint32_t crypto, bool closing)
-{
+static void send_message(uint32_t number, uint32_t period, uint32_t crypto, bool closing) {
     size_t most = site.messages == 2 ? 12 : 13;
     size_t parts = pid_count == 0 ? 1 : (pid_count + most - 1) / most;
     for (size_t part = 0; part < parts; part++)
@@ -492,8 +456,7 @@ static void send_message(uint32_t number, uint32_t period, uint32_t crypto, bool
 
 /* Clear packets. */
 
-static unsigned payload_start(const uint8_t *packet)
-{
+static unsigned payload_start(const uint8_t *packet) {
     switch (packet[3] >> 4 & 3) {
     case 1:
         return 4;
@@ -505,8 +468,8 @@ static unsigned payload_start(const uint8_t *packet)
 }
 
 /* The section of a table that is the packet's only one, and its length, or NULL. */
-static const uint8_t *section_in(const uint8_t *packet, unsigned start, uint8_t table_id, unsigned least, unsigned *length)
-{
+static const uint8_t *section_in(const uint8_t *packet, unsigned start, uint8_t table_id, unsigned least,
+                                 unsigned *length) {
     const uint8_t *section = packet + start + 1;
     unsigned room = PACKET_BYTES - start - 1;
     if ((packet[1] & 0x40) == 0 || packet[start] != 0 || room < 12 || section[0] != table_id || section[1] >> 7 == 0 ||
@@ -524,9 +487,9 @@ static const uint8_t *section_in(const uint8_t *packet, unsigned start, uint8_t 
     return section;
 }
 
-/* Whether items fill these bytes: each has a number of bytes before its length, and that many more as the length says. */
-static bool fill(const uint8_t *bytes, unsigned count, unsigned before, unsigned width, bool streams)
-{
+/* Whether items fill these bytes: each has a number of bytes before its length, and that many more as the length says.
+ */
+static bool fill(const uint8_t *bytes, unsigned count, unsigned before, unsigned width, bool streams) {
     while (count > 0) {
         if (count < before + width)
             return false;
@@ -540,8 +503,7 @@ static bool fill(const uint8_t *bytes, unsigned count, unsigned before, unsigned
 }
 
 /* The PMT that the packet is by itself, and its length, or NULL. */
-static const uint8_t *pmt_in(const uint8_t *packet, unsigned start, unsigned *length)
-{
+static const uint8_t *pmt_in(const uint8_t *packet, unsigned start, unsigned *length) {
     const uint8_t *section = section_in(packet, start, 2, 13, length);
     if (section == NULL)
         return NULL;
@@ -551,27 +513,25 @@ static const uint8_t *pmt_in(const uint8_t *packet, unsigned start, unsigned *le
     return section;
 }
 
-static void own_descriptor(uint8_t *descriptor)
-{
+static void own_descriptor(uint8_t *descriptor) {
     put_number(descriptor, 0x0904, 2);
     put_number(descriptor + 2, site.ca, 2);
     put_number(descriptor + 4, 0xE000 + site.ecm, 2);
 }
 
 /* Whether a PMT that has no room begins with the project's CA_descriptor. */
-static bool is_full_own(const uint8_t *packet, unsigned start)
-{
+static bool is_full_own(const uint8_t *packet, unsigned start) {
     uint8_t descriptor[6];
     unsigned length;
     const uint8_t *section = pmt_in(packet, start, &length);
     if (section == NULL || start + 1 + length + sizeof descriptor <= PACKET_BYTES)
         return false;
     own_descriptor(descriptor);
-    return (read_number(section + 10, 2) & 0xFFF) >= sizeof descriptor && memcmp(section + 12, descriptor, sizeof descriptor) == 0;
+    return (read_number(section + 10, 2) & 0xFFF) >= sizeof descriptor &&
+           memcmp(section + 12, descriptor, sizeof descriptor) == 0;
 }
 
-static void send_pmt(const uint8_t *packet, unsigned start)
-{
+static void send_pmt(const uint8_t *packet, unsigned start) {
     uint8_t *sent = send(packet);
     unsigned length;
     if (pmt_in(packet, start, &length) == NULL || start + 1 + length + 6 > PACKET_BYTES)
@@ -584,16 +544,14 @@ static void send_pmt(const uint8_t *packet, unsigned start)
     put_number(section + length + 2, crc_of(section, length + 2), 4);
 }
 
-static void send_scrambled(const uint8_t *packet, unsigned start, unsigned pid, uint64_t position, uint32_t crypto)
-{
+static void send_scrambled(const uint8_t *packet, unsigned start, unsigned pid, uint64_t position, uint32_t crypto) {
     uint8_t *sent = send(packet);
     lay(cipher, NULL, ((uint64_t)pid << 48) + position, sent + start, (int)(PACKET_BYTES - start));
     sent[3] |= (uint8_t)(0x80 | (crypto % 2) << 6);
 }
 
 /* Marks the PIDs of the PMTs of a current PAT. */
-static void learn(const uint8_t *section, unsigned length)
-{
+static void learn(const uint8_t *section, unsigned length) {
     if ((section[5] & 1) == 0)
         return;
     memset(is_pmt, 0, sizeof is_pmt);
@@ -602,24 +560,21 @@ static void learn(const uint8_t *section, unsigned length)
             is_pmt[read_number(section + at + 2, 2) & 0x1FFF] = true;
 }
 
-static void add_pid(uint16_t pid)
-{
+static void add_pid(uint16_t pid) {
     size_t at = pid_count++;
     for (; at > 0 && pids[at - 1] > pid; at--)
         pids[at] = pids[at - 1];
     pids[at] = pid;
 }
 
-static _Noreturn void refuse(void)
-{
+static _Noreturn void refuse(void) {
     write_gathered();
     printf("clear packet %u is refused\n", taken);
     exit(REFUSED);
 }
 
 /* What stands before the packet, where something does. */
-static void send_before(uint32_t crypto)
-{
+static void send_before(uint32_t crypto) {
     if (taken % site.every != 0)
         return;
     uint32_t period = crypto / site.span < last_period ? crypto / site.span : last_period;
@@ -634,8 +589,7 @@ static void send_before(uint32_t crypto)
     send_message(taken / site.every, period, crypto, false);
 }
 
-static void take(const uint8_t *packet)
-{
+static void take(const uint8_t *packet) {
     unsigned pid = (packet[1] & 0x1Fu) << 8 | packet[2], start = payload_start(packet), length = 0;
     bool placed = LOWEST_POSITIONAL <= pid && pid <= HIGHEST_POSITIONAL && start < PACKET_BYTES;
     enum kind kind = !placed ? PASSED : is_pmt[pid] ? PMT : SCRAMBLED;
@@ -667,8 +621,7 @@ static void take(const uint8_t *packet)
     taken++;
 }
 
-static void send_closing(void)
-{
+static void send_closing(void) {
     uint32_t last = taken == 0 ? 0 : taken - 1, crypto = last / (site.every * site.cryptos);
     if (taken == 0) {
         begin_period(0);
@@ -679,8 +632,7 @@ static void send_closing(void)
     send_message((uint32_t)(((uint64_t)taken + site.every - 1) / site.every), period, crypto, true);
 }
 
-static void take_all(void)
-{
+static void take_all(void) {
     static uint8_t piece[PIECE_BYTES];
     size_t held = 0;
     for (;;) {
@@ -703,8 +655,7 @@ static void take_all(void)
         refuse();
 }
 
-int main(int count, char **words)
-{
+int main(int count, char **words) {
     if (count != 6 || strcmp(words[1], "head") != 0)
         fail("the words are head SITE BOOK CLEAR OUT");
     read_site(words[2]);

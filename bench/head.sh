@@ -1,16 +1,18 @@
 #!/bin/sh
-# Measures `head` beside bench/head.c, which makes the same broadcasts with OpenSSL's ChaCha20 and SHA-256, in one run. To be run by
-# hand, from any folder: `bench/head.sh`, or `SDCA=PROGRAM bench/head.sh` with a program that is built already.
+# Measures `head` beside bench/head.c, which makes the same broadcasts with OpenSSL's ChaCha20 and SHA-256, in one
+# run. To be run by hand, from any folder: `bench/head.sh`, or `SDCA=PROGRAM bench/head.sh` with a program that is
+# built already.
 #
-# Both programs go over packets of the sample stream with a site of height 20, an ECM before each 200 packets and two ECMs a crypto
-# period, from a file into a new file, in memory where there is /dev/shm. C is not held back: `cc -O2`, the quickest calls of OpenSSL,
-# and it keeps the packets of a period's entitlements too. The programs take turns, a time is that of a whole run, the medians of five
-# rounds are shown, and the broadcasts of both are compared byte for byte.
+# Both programs go over packets of the sample stream with a site of height 20, an ECM before each 200 packets and two
+# ECMs a crypto period, from a file into a new file, in memory where there is /dev/shm. C is not held back: `cc -O2`,
+# the quickest calls of OpenSSL, and it keeps the packets of a period's entitlements too. The programs take turns, a
+# time is that of a whole run, the medians of five rounds are shown, and the broadcasts of both are compared byte for
+# byte.
 #
-# It prints for 188 MB under an empty book, for 20 MB with 4,096 leaves revoked and for 4 MB with 65,536 revoked, drawn at random, the
-# rate in MB/s of the clear stream for both programs and how fast sdca is in terms of C, which is to be at least 1.0; and the peak memory
-# of sdca for 188 MB and for a tenth of it, which is to be the same, and at most 24 MiB. Without OpenSSL's headers it says so and
-# measures nothing.
+# It prints for 188 MB under an empty book, for 20 MB with 4,096 leaves revoked and for 4 MB with 65,536 revoked,
+# drawn at random, the rate in MB/s of the clear stream for both programs and how fast sdca is in terms of C, which is
+# to be at least 1.0; and the peak memory of sdca for 188 MB and for a tenth of it, which is to be the same, and at
+# most 24 MiB. Without OpenSSL's headers it says so and measures nothing.
 set -eu
 . "$(dirname "$0")/shared.sh"
 rounds=5
@@ -54,7 +56,8 @@ measure() {
         cmp -s "$streams/ours" "$streams/theirs" || fail "the broadcasts of $1 packets differ"
     done
     sent=$(wc -c <"$streams/ours")
-    awk -v packets="$1" -v revoked="$2" -v sent="$sent" -v a="$(median times.ours)" -v b="$(median times.theirs)" 'BEGIN {
+    awk -v packets="$1" -v revoked="$2" -v sent="$sent" \
+        -v a="$(median times.ours)" -v b="$(median times.theirs)" 'BEGIN {
         bytes = packets * 188
         printf "%5.1f MB, %5d revoked, %5.1f MB sent: sdca %8.1f ms (%.1f MB/s, %.0f ns a packet sent), ",
             bytes / 1000000, revoked, sent / 1000000, a / 1000, bytes / a, a * 1000 * 188 / sent

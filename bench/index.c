@@ -1,5 +1,5 @@
-/* Takes periods of random commands by an index of the revoked leaves, as sd_bench's works `changes` and `kept` do: a count for each node
-   that is at or above a revoked leaf, in a hash table with open addressing. */
+/* Takes periods of random commands by an index of the revoked leaves, as sd_bench's works `changes` and `kept` do: a
+   count for each node that is at or above a revoked leaf, in a hash table with open addressing. */
 #include <inttypes.h>
 #include <stdint.h>
 #include <stdio.h>
@@ -31,39 +31,29 @@ static size_t set_count, set_room;
 
 static uint64_t state = 1;
 
-static _Noreturn void fail(const char *text)
-{
+static _Noreturn void fail(const char *text) {
     fprintf(stderr, "index: %s\n", text);
     exit(1);
 }
 
-static uint32_t draw(uint32_t bound)
-{
+static uint32_t draw(uint32_t bound) {
     state = state * UINT64_C(6364136223846793005) + UINT64_C(1442695040888963407);
     return (uint32_t)(state >> 33) % bound;
 }
 
-static size_t home(uint32_t node)
-{
-    return (node * UINT32_C(2654435769)) >> (32 - SLOT_BITS);
-}
+static size_t home(uint32_t node) { return (node * UINT32_C(2654435769)) >> (32 - SLOT_BITS); }
 
 /* The slot of the node, or the free one where it would be. */
-static size_t slot_of(uint32_t node)
-{
+static size_t slot_of(uint32_t node) {
     size_t at = home(node);
     while (slots[at].node != 0 && slots[at].node != node)
         at = (at + 1) % SLOTS;
     return at;
 }
 
-static uint32_t count_of(uint32_t node)
-{
-    return slots[slot_of(node)].count;
-}
+static uint32_t count_of(uint32_t node) { return slots[slot_of(node)].count; }
 
-static void raise(uint32_t node)
-{
+static void raise(uint32_t node) {
     struct slot *slot = &slots[slot_of(node)];
     if (slot->node == 0) {
         slot->node = node;
@@ -73,8 +63,7 @@ static void raise(uint32_t node)
 }
 
 /* Takes the slot out: what stands after it and belongs before it moves up. */
-static void remove_slot(size_t at)
-{
+static void remove_slot(size_t at) {
     size_t next = at;
     for (;;) {
         next = (next + 1) % SLOTS;
@@ -89,15 +78,13 @@ static void remove_slot(size_t at)
     slot_count--;
 }
 
-static void lower(uint32_t node)
-{
+static void lower(uint32_t node) {
     size_t at = slot_of(node);
     if (--slots[at].count == 0)
         remove_slot(at);
 }
 
-static void revoke(uint32_t leaf)
-{
+static void revoke(uint32_t leaf) {
     if (count_of(LEAVES + leaf) == 1)
         return;
     for (uint32_t node = LEAVES + leaf; node != 0; node >>= 1)
@@ -105,16 +92,14 @@ static void revoke(uint32_t leaf)
     revoked[revoked_count++] = leaf;
 }
 
-static void subscribe(size_t place)
-{
+static void subscribe(size_t place) {
     uint32_t leaf = revoked[place];
     revoked[place] = revoked[--revoked_count];
     for (uint32_t node = LEAVES + leaf; node != 0; node >>= 1)
         lower(node);
 }
 
-static void add_set(uint32_t i, uint32_t j)
-{
+static void add_set(uint32_t i, uint32_t j) {
     if (set_count == set_room) {
         set_room = set_room == 0 ? 1024 : 2 * set_room;
         sets = realloc(sets, set_room * sizeof *sets);
@@ -124,9 +109,9 @@ static void add_set(uint32_t i, uint32_t j)
     sets[set_count++] = (struct set){i, j};
 }
 
-/* Adds the sets of the chain from node i on through node v, and of those below v, which counts so many revoked leaves. */
-static void add_sets(uint32_t i, uint32_t v, uint32_t count)
-{
+/* Adds the sets of the chain from node i on through node v, and of those below v, which counts so many revoked leaves.
+ */
+static void add_sets(uint32_t i, uint32_t v, uint32_t count) {
     while (v < LEAVES) {
         uint32_t left = count_of(2 * v);
         if (left != 0 && left != count) {
@@ -143,14 +128,12 @@ static void add_sets(uint32_t i, uint32_t v, uint32_t count)
 }
 
 /* The order of two sets of one cover, which differ in i. */
-static int compare_sets(const void *a, const void *b)
-{
+static int compare_sets(const void *a, const void *b) {
     uint32_t left = ((const struct set *)a)->i, right = ((const struct set *)b)->i;
     return (left > right) - (left < right);
 }
 
-static void make_sets(void)
-{
+static void make_sets(void) {
     set_count = 0;
     if (count_of(1) == 0) {
         add_set(0, 0);
@@ -160,8 +143,7 @@ static void make_sets(void)
     qsort(sets, set_count, sizeof *sets, compare_sets);
 }
 
-static void take_command(size_t most)
-{
+static void take_command(size_t most) {
     int subscribes = draw(4) == 0;
     if (revoked_count > 0 && (subscribes || revoked_count >= most))
         subscribe(draw((uint32_t)revoked_count));
@@ -169,8 +151,7 @@ static void take_command(size_t most)
         revoke(draw(LEAVES));
 }
 
-int main(int count, char **words)
-{
+int main(int count, char **words) {
     if (count != 3)
         fail("the words are WORK PERIODS");
     int narrow = strncmp(words[1], "few-", 4) == 0;

@@ -1,15 +1,17 @@
 #!/bin/sh
-# Measures `layered` beside `cover`, and `lcard` beside `card`, in one run of the program at height 20, and shows what layers trade:
-# labels a card against sets a period. To be run by hand, from any folder: `bench/layered.sh [PICTURE]`, or
-# `SDCA=PROGRAM bench/layered.sh [PICTURE]` with a program that is built already. PICTURE is a file for the table as a picture (SVG).
+# Measures `layered` beside `cover`, and `lcard` beside `card`, in one run of the program at height 20, and shows what
+# layers trade: labels a card against sets a period. To be run by hand, from any folder: `bench/layered.sh [PICTURE]`,
+# or `SDCA=PROGRAM bench/layered.sh [PICTURE]` with a program that is built already. PICTURE is a file for the table
+# as a picture (SVG).
 #
-# The book has one period and 4,096 of the 1,048,576 leaves revoked, drawn at random. A time is that of a whole run with its start, the
-# least of some rounds in which the commands take turns. Of cards, 200 leaves' are made in memory, where there is /dev/shm; as many runs
-# that make a card of one label, at height 1, are taken off there, since a card takes no longer than the program's start and its files.
+# The book has one period and 4,096 of the 1,048,576 leaves revoked, drawn at random. A time is that of a whole run
+# with its start, the least of some rounds in which the commands take turns. Of cards, 200 leaves' are made in memory,
+# where there is /dev/shm; as many runs that make a card of one label, at height 1, are taken off there, since a card
+# takes no longer than the program's start and its files.
 #
-# It prints for the widths 4, 5 and 20 the nanoseconds for each set that is printed, for `cover` too, and their ratio, which is to be at
-# most 2; the microseconds of a card for each of its labels, which is to be no more than a plain card's; and for the widths 1 to 20 the
-# labels a card and the sets a period.
+# It prints for the widths 4, 5 and 20 the nanoseconds for each set that is printed, for `cover` too, and their ratio,
+# which is to be at most 2; the microseconds of a card for each of its labels, which is to be no more than a plain
+# card's; and for the widths 1 to 20 the labels a card and the sets a period.
 set -eu
 picture=${1:+$(CDPATH='' cd "$(dirname "$1")" && pwd -P)/$(basename "$1")}
 . "$(dirname "$0")/shared.sh"
@@ -94,7 +96,8 @@ if [ -n "$picture" ]; then
         function x(labels) { return 70 + labels * 2.4 }
         function y(sets) { return 390 - sets * 0.034 }
         BEGIN {
-            print "<svg xmlns=\"http://www.w3.org/2000/svg\" width=\"640\" height=\"440\" font-family=\"sans-serif\" font-size=\"12\">"
+            print "<svg xmlns=\"http://www.w3.org/2000/svg\" width=\"640\" height=\"440\" " \
+                "font-family=\"sans-serif\" font-size=\"12\">"
             print "<rect width=\"640\" height=\"440\" fill=\"white\"/>"
             for (sets = 0; sets <= 10000; sets += 2000) {
                 printf "<path d=\"M70 %.0fH600\" stroke=\"#ddd\"/>", y(sets)
@@ -103,7 +106,8 @@ if [ -n "$picture" ]; then
             for (labels = 0; labels <= 210; labels += 30)
                 printf "<text x=\"%.0f\" y=\"408\" text-anchor=\"middle\">%d</text>\n", x(labels), labels
             print "<text x=\"335\" y=\"430\" text-anchor=\"middle\">labels a card</text>"
-            print "<text x=\"20\" y=\"20\">sets a period, 4,096 of 1,048,576 receivers revoked; each dot is a width</text>"
+            print "<text x=\"20\" y=\"20\">" \
+                "sets a period, 4,096 of 1,048,576 receivers revoked; each dot is a width</text>"
         }
         {
             printf "<circle cx=\"%.1f\" cy=\"%.1f\" r=\"4\" fill=\"#0060a0\"/>", x($2), y($3)

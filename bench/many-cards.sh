@@ -1,6 +1,7 @@
 #!/bin/sh
-# many-cards.sh [CARDS]: so many cards of a tree of height 20, a thousand if none are named: one after the other, as many
-# at a time as there are processors by xargs, and by GNU parallel, a Debian package; and what a million take at this pace.
+# many-cards.sh [CARDS]: so many cards of a tree of height 20, a thousand if none are named: one after the other, as
+# many at a time as there are processors by xargs, and by GNU parallel, a Debian package; and what a million take at
+# this pace.
 . "$(dirname "$0")/shared.sh"
 
 count=${1:-1000}

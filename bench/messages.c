@@ -4,7 +4,16 @@
 #include <stdlib.h>
 #include <string.h>
 
-enum { SIZE = 188, SETS = 8191, SECTIONS = (SETS + 2) / 3, FIRST = 8192, HEIGHT = 20, PID = 496, ENTRY = 40, FRONT = 27 };
+enum {
+    SIZE = 188,
+    SETS = 8191,
+    SECTIONS = (SETS + 2) / 3,
+    FIRST = 8192,
+    HEIGHT = 20,
+    PID = 496,
+    ENTRY = 40,
+    FRONT = 27
+};
 
 struct entry {
     uint32_t i, j;
@@ -20,8 +29,7 @@ struct emm {
 
 static uint32_t table[256];
 
-static void make_table(void)
-{
+static void make_table(void) {
     for (uint32_t byte = 0; byte < 256; byte++) {
         uint32_t x = byte << 24;
         for (int bit = 0; bit < 8; bit++)
@@ -30,22 +38,19 @@ static void make_table(void)
     }
 }
 
-static uint32_t crc32(const uint8_t *bytes, int length)
-{
+static uint32_t crc32(const uint8_t *bytes, int length) {
     uint32_t crc = 0xFFFFFFFFu;
     for (int i = 0; i < length; i++)
         crc = crc << 8 ^ table[crc >> 24 ^ bytes[i]];
     return crc;
 }
 
-static void put16(uint8_t *p, uint32_t x)
-{
+static void put16(uint8_t *p, uint32_t x) {
     p[0] = (uint8_t)(x >> 8);
     p[1] = (uint8_t)x;
 }
 
-static void put32(uint8_t *p, uint32_t x)
-{
+static void put32(uint8_t *p, uint32_t x) {
     put16(p, x >> 16);
     put16(p + 2, x);
 }
@@ -53,8 +58,8 @@ static void put32(uint8_t *p, uint32_t x)
 static uint32_t get16(const uint8_t *p) { return (uint32_t)p[0] << 8 | p[1]; }
 static uint32_t get32(const uint8_t *p) { return get16(p) << 16 | get16(p + 2); }
 
-static struct emm section_of(uint32_t period, const uint8_t *check, const struct entry *entries, uint32_t sets, uint32_t index)
-{
+static struct emm section_of(uint32_t period, const uint8_t *check, const struct entry *entries, uint32_t sets,
+                             uint32_t index) {
     struct emm emm = {.period = period, .sets = sets, .sections = (uint16_t)((sets + 2) / 3), .index = (uint16_t)index};
     uint32_t left = sets - 3 * index;
     emm.count = (uint8_t)(left < 3 ? left : 3);
@@ -63,8 +68,7 @@ static struct emm section_of(uint32_t period, const uint8_t *check, const struct
     return emm;
 }
 
-static void write_emm(uint8_t *packet, const struct emm *emm, int counter)
-{
+static void write_emm(uint8_t *packet, const struct emm *emm, int counter) {
     int length = 12 + FRONT + ENTRY * emm->count;
     uint8_t *s = packet + 5, *body = s + 8;
     packet[0] = 0x47;
@@ -93,23 +97,20 @@ static void write_emm(uint8_t *packet, const struct emm *emm, int counter)
 }
 
 // Node j is node i or below it.
-static int is_above(uint32_t i, uint32_t j)
-{
+static int is_above(uint32_t i, uint32_t j) {
     while (j > i)
         j /= 2;
     return i == j;
 }
 
-static int is_set(uint32_t i, uint32_t j, uint32_t sets)
-{
+static int is_set(uint32_t i, uint32_t j, uint32_t sets) {
     if (!i && !j)
         return sets <= 1;
     return 1 <= i && i < j && i < 1u << HEIGHT && j < 2u << HEIGHT && is_above(i, j);
 }
 
 // Whether the packet is a section of entitlements that breaks no rule, which is then read.
-static int read_emm(struct emm *emm, const uint8_t *packet)
-{
+static int read_emm(struct emm *emm, const uint8_t *packet) {
     const uint8_t *s = packet + 5, *body = s + 8;
     if (packet[0] != 0x47 || !(packet[1] & 0x40) || (packet[3] & 0x30) != 0x10 || packet[4])
         return 0;
@@ -144,15 +145,13 @@ static int read_emm(struct emm *emm, const uint8_t *packet)
     return 1;
 }
 
-static int contains(const struct entry *entry, uint32_t leaf)
-{
+static int contains(const struct entry *entry, uint32_t leaf) {
     uint32_t node = (1u << HEIGHT) + leaf;
     return (!entry->i && !entry->j) || (is_above(entry->i, node) && !is_above(entry->j, node));
 }
 
 // The first bytes of the wrapped key of the first set that has the leaf.
-static int key_in(uint64_t *key, const uint8_t (*packets)[SIZE], uint32_t leaf)
-{
+static int key_in(uint64_t *key, const uint8_t (*packets)[SIZE], uint32_t leaf) {
     struct emm emm;
     for (int x = 0; x < SECTIONS; x++) {
         if (!read_emm(&emm, packets[x]))
@@ -167,8 +166,7 @@ static int key_in(uint64_t *key, const uint8_t (*packets)[SIZE], uint32_t leaf)
     return 0;
 }
 
-int main(int count, char **words)
-{
+int main(int count, char **words) {
     static struct entry entries[SETS];
     static uint8_t packets[SECTIONS][SIZE];
     const uint32_t leaf = ((FIRST + SETS - 1) * 2 + 1) * 64 - (1u << HEIGHT);

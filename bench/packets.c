@@ -9,16 +9,15 @@
 
 enum { SIZE = 188, PACKETS = 4096, PIECE = 64, COUNTERS = 8192 };
 
-static const uint8_t pat[16] = {
-    0x00, 0xB0, 0x0D, 0x00, 0x01, 0xC1, 0x00, 0x00, 0x00, 0x01, 0xF0, 0x00, 0x2A, 0xB1, 0x04, 0xB2};
+static const uint8_t pat[16] = {0x00, 0xB0, 0x0D, 0x00, 0x01, 0xC1, 0x00, 0x00,
+                                0x00, 0x01, 0xF0, 0x00, 0x2A, 0xB1, 0x04, 0xB2};
 static const uint8_t pmt[26] = {0x02, 0xB0, 0x17, 0x00, 0x01, 0xC1, 0x00, 0x00, 0xE1, 0x00, 0xF0, 0x00, 0x1B,
                                 0xE1, 0x00, 0xF0, 0x00, 0x0F, 0xE1, 0x01, 0xF0, 0x00, 0x2F, 0x44, 0xB9, 0x9B};
 
 static uint64_t state;
 static uint8_t counters[COUNTERS];
 
-static void generate(uint8_t *bytes, int count)
-{
+static void generate(uint8_t *bytes, int count) {
     uint64_t x = state;
     for (int i = 0; i < count; i++) {
         x = 6364136223846793005u * x + 1442695040888963407u;
@@ -27,8 +26,7 @@ static void generate(uint8_t *bytes, int count)
     state = x;
 }
 
-static void put_header(uint8_t *packet, int unit_start, int pid, int control)
-{
+static void put_header(uint8_t *packet, int unit_start, int pid, int control) {
     int counter = pid == 0x1FFF ? 0 : counters[pid];
     counters[pid] = (uint8_t)((counter + 1) % 16);
     packet[0] = 0x47;
@@ -37,16 +35,14 @@ static void put_header(uint8_t *packet, int unit_start, int pid, int control)
     packet[3] = (uint8_t)(control << 4 | counter);
 }
 
-static void put_section(uint8_t *packet, int pid, const uint8_t *section, int length)
-{
+static void put_section(uint8_t *packet, int pid, const uint8_t *section, int length) {
     put_header(packet, 1, pid, 1);
     packet[4] = 0;
     memcpy(packet + 5, section, (size_t)length);
     memset(packet + 5 + length, 0xFF, (size_t)(SIZE - 5 - length));
 }
 
-static void put_packet(uint8_t *packet, uint32_t k)
-{
+static void put_packet(uint8_t *packet, uint32_t k) {
     int pid = k % 4 == 3 ? 0x0101 : 0x0100;
     switch (k % 100) {
     case 0:
@@ -73,16 +69,15 @@ static void put_packet(uint8_t *packet, uint32_t k)
     }
 }
 
-static uint64_t header(const uint8_t *p)
-{
+static uint64_t header(const uint8_t *p) {
     unsigned sync = p[0], error = p[1] >> 7, unit_start = p[1] >> 6 & 1, priority = p[1] >> 5 & 1;
     unsigned pid = (p[1] & 0x1Fu) << 8 | p[2];
     unsigned scrambling = p[3] >> 6, adaptation = p[3] >> 4 & 3, counter = p[3] & 15;
-    return sync + 3 * error + 5 * unit_start + 7 * priority + 11 * pid + 13 * scrambling + 17 * adaptation + 19 * counter;
+    return sync + 3 * error + 5 * unit_start + 7 * priority + 11 * pid + 13 * scrambling + 17 * adaptation +
+           19 * counter;
 }
 
-static uint64_t headers(uint8_t (*packets)[SIZE], uint32_t count)
-{
+static uint64_t headers(uint8_t (*packets)[SIZE], uint32_t count) {
     uint64_t sum = 0;
     for (uint32_t i = 0; i < count; i++)
         sum = sum * 31 + header(packets[i % PACKETS]);
@@ -90,9 +85,9 @@ static uint64_t headers(uint8_t (*packets)[SIZE], uint32_t count)
 }
 
 #ifdef WITH_EVP
-// One packet under one word, at a new position each time: 64 bits of block counter, 64 of stream number, low byte first.
-static uint64_t scrambled(const uint8_t *clear, uint32_t count)
-{
+// One packet under one word, at a new position each time: 64 bits of block counter, 64 of stream number, low byte
+// first.
+static uint64_t scrambled(const uint8_t *clear, uint32_t count) {
     uint8_t word[32], start[16], packet[SIZE];
     int pid = (clear[1] & 0x1F) << 8 | clear[2], length;
     uint64_t sum = 0;
@@ -117,8 +112,7 @@ static uint64_t scrambled(const uint8_t *clear, uint32_t count)
 }
 #endif
 
-static void write_sample(uint32_t number, uint32_t count, const char *name)
-{
+static void write_sample(uint32_t number, uint32_t count, const char *name) {
     static uint8_t piece[PIECE][SIZE];
     FILE *file = fopen(name, "wb");
     if (!file)
@@ -137,8 +131,7 @@ static void write_sample(uint32_t number, uint32_t count, const char *name)
         exit(1);
 }
 
-int main(int count, char **words)
-{
+int main(int count, char **words) {
     static uint8_t packets[PACKETS][SIZE];
     if (count == 5 && !strcmp(words[1], "sample")) {
         write_sample((uint32_t)strtoul(words[2], NULL, 10), (uint32_t)strtoul(words[3], NULL, 10), words[4]);

@@ -1,6 +1,7 @@
 #!/bin/sh
-# Measures header fields, scrambled payloads and the sample stream beside plain C (ChaCha20 by OpenSSL), in one run. To be run by
-# hand, from any folder. It prints the medians of five rounds in turn and their ratios, and compares the answers.
+# Measures header fields, scrambled payloads and the sample stream beside plain C (ChaCha20 by OpenSSL), in one run.
+# To be run by hand, from any folder. It prints the medians of five rounds in turn and their ratios, and compares the
+# answers.
 set -eu
 
 . "$(dirname "$0")/shared.sh"

@@ -1,5 +1,5 @@
-// What bench/receive.sh times beside the program: a receiver in plain C, with ChaCha20 and SHA-256 by OpenSSL. It is called
-// as the program is, `receive CARD STREAM OUT`, and makes the same file, line and exit of the same stream.
+// What bench/receive.sh times beside the program: a receiver in plain C, with ChaCha20 and SHA-256 by OpenSSL. It is
+// called as the program is, `receive CARD STREAM OUT`, and makes the same file, line and exit of the same stream.
 #include <openssl/evp.h>
 #include <openssl/sha.h>
 #include <stdarg.h>
@@ -9,12 +9,23 @@
 #include <string.h>
 
 enum {
-    SIZE = 188, PIDS = 8192, LOWEST = 0x20, HIGHEST = 0x1FEF, FIRST = 15,
-    MOST_HELD = 4096, MOST_PLACES = 256, MOST_SECTIONS = 65536, LONGEST_CARD = 60 + 32 * 210, BUFFER = 65536
+    SIZE = 188,
+    PIDS = 8192,
+    LOWEST = 0x20,
+    HIGHEST = 0x1FEF,
+    FIRST = 15,
+    MOST_HELD = 4096,
+    MOST_PLACES = 256,
+    MOST_SECTIONS = 65536,
+    LONGEST_CARD = 60 + 32 * 210,
+    BUFFER = 65536
 };
 enum { DONE, REVOKED = 3, DEVICE, BAD_CARD = 8, BAD_STREAM = 10, UNHEARD = 13, UNCLOSED, GAPS, NO_CAT };
 
-struct place { int pid; uint64_t position; };
+struct place {
+    int pid;
+    uint64_t position;
+};
 
 // A part of a control message, or with all its places a whole one.
 struct message {
@@ -24,7 +35,10 @@ struct message {
     struct place places[MOST_PLACES];
 };
 
-struct held { uint64_t number, position; uint8_t packet[SIZE]; };
+struct held {
+    uint64_t number, position;
+    uint8_t packet[SIZE];
+};
 
 static uint8_t card[LONGEST_CARD + 1];
 static int height, ca;
@@ -51,8 +65,7 @@ static FILE *out;
 static EVP_CIPHER_CTX *cipher;
 static uint32_t crc_table[256];
 
-static int ended(int status, const char *text, ...)
-{
+static int ended(int status, const char *text, ...) {
     va_list values;
     va_start(values, text);
     vprintf(text, values);
@@ -62,21 +75,18 @@ static int ended(int status, const char *text, ...)
     exit(status);
 }
 
-static int refused(uint64_t packet, const char *cause)
-{
+static int refused(uint64_t packet, const char *cause) {
     return ended(BAD_STREAM, "stream packet %llu: %s\n", (unsigned long long)packet, cause);
 }
 
-static uint64_t number_at(const uint8_t *bytes, int count)
-{
+static uint64_t number_at(const uint8_t *bytes, int count) {
     uint64_t number = 0;
     for (int i = 0; i < count; i++)
         number = number << 8 | bytes[i];
     return number;
 }
 
-static const char *hexadecimal(const uint8_t *bytes, char *text)
-{
+static const char *hexadecimal(const uint8_t *bytes, char *text) {
     for (int i = 0; i < 16; i++)
         sprintf(text + 2 * i, "%02x", bytes[i]);
     return text;
@@ -86,8 +96,7 @@ static const char *hexadecimal(const uint8_t *bytes, char *text)
 
 static int pid_of(const uint8_t *p) { return (p[1] & 0x1F) << 8 | p[2]; }
 
-static int payload_start(const uint8_t *p)
-{
+static int payload_start(const uint8_t *p) {
     switch (p[3] >> 4 & 3) {
     case 1:
         return 4;
@@ -100,8 +109,7 @@ static int payload_start(const uint8_t *p)
 
 static int is_positional(int pid) { return LOWEST <= pid && pid <= HIGHEST; }
 
-static void make_crc_table(void)
-{
+static void make_crc_table(void) {
     for (uint32_t i = 0; i < 256; i++) {
         uint32_t crc = i << 24;
         for (int k = 0; k < 8; k++)
@@ -110,8 +118,7 @@ static void make_crc_table(void)
     }
 }
 
-static uint32_t crc_of(const uint8_t *bytes, int count)
-{
+static uint32_t crc_of(const uint8_t *bytes, int count) {
     uint32_t crc = 0xFFFFFFFF;
     for (int i = 0; i < count; i++)
         crc = crc << 8 ^ crc_table[crc >> 24 ^ bytes[i]];
@@ -121,8 +128,7 @@ static uint32_t crc_of(const uint8_t *bytes, int count)
 static int section_length(const uint8_t *section) { return (section[1] & 0x0F) << 8 | section[2]; }
 
 // A table of this kind by itself in a packet, up to its loops.
-static const uint8_t *table_in(const uint8_t *p, int id, int least)
-{
+static const uint8_t *table_in(const uint8_t *p, int id, int least) {
     int start = payload_start(p), left = SIZE - start - 1, length;
     const uint8_t *section = p + start + 1;
     if (left < 3 || !(p[1] & 0x40) || p[start] || section[0] != id || !(section[1] & 0x80))
@@ -139,8 +145,7 @@ static const uint8_t *table_in(const uint8_t *p, int id, int least)
 }
 
 // Whether items fill the bytes, each with so many bytes of which the last is the length of what follows.
-static int are_filled(const uint8_t *bytes, int count, int head, int bits)
-{
+static int are_filled(const uint8_t *bytes, int count, int head, int bits) {
     int at = 0;
     while (at < count) {
         if (at + head > count)
@@ -151,8 +156,7 @@ static int are_filled(const uint8_t *bytes, int count, int head, int bits)
 }
 
 // Whether each stream's descriptors fill its loop.
-static int are_streams(const uint8_t *bytes, int count)
-{
+static int are_streams(const uint8_t *bytes, int count) {
     if (!are_filled(bytes, count, 5, 12))
         return 0;
     for (int at = 0; at < count;) {
@@ -164,8 +168,7 @@ static int are_streams(const uint8_t *bytes, int count)
     return 1;
 }
 
-static void tune(const uint8_t *p)
-{
+static void tune(const uint8_t *p) {
     const uint8_t *section = payload_start(p) < SIZE ? table_in(p, 1, 9) : NULL;
     int end;
     if (!section)
@@ -187,8 +190,7 @@ static void tune(const uint8_t *p)
 }
 
 // A section of this project that a packet begins with; its extension and numbers are not judged.
-static const uint8_t *message_in(const uint8_t *p)
-{
+static const uint8_t *message_in(const uint8_t *p) {
     int start = payload_start(p), left = SIZE - start - 1, length;
     const uint8_t *section = p + start + 1;
     if (left < 3 || !(p[1] & 0x40) || p[start])
@@ -201,8 +203,7 @@ static const uint8_t *message_in(const uint8_t *p)
 
 // Keys.
 
-static void digest(const uint8_t *from, int tag, uint8_t *to)
-{
+static void digest(const uint8_t *from, int tag, uint8_t *to) {
     uint8_t text[33], sum[32];
     memcpy(text, from, 32);
     text[32] = (uint8_t)tag;
@@ -210,15 +211,13 @@ static void digest(const uint8_t *from, int tag, uint8_t *to)
     memcpy(to, sum, 32);
 }
 
-static void check_value(const uint8_t *key, uint8_t *check)
-{
+static void check_value(const uint8_t *key, uint8_t *check) {
     uint8_t sum[32];
     digest(key, 'V', sum);
     memcpy(check, sum, 16);
 }
 
-static void begin_stream(const uint8_t *key, uint64_t number)
-{
+static void begin_stream(const uint8_t *key, uint64_t number) {
     uint8_t start[16] = {0};
     for (int i = 0; i < 8; i++)
         start[8 + i] = (uint8_t)(number >> 8 * i);
@@ -226,42 +225,36 @@ static void begin_stream(const uint8_t *key, uint64_t number)
         exit(DEVICE);
 }
 
-static void lay(uint8_t *to, const uint8_t *from, int count)
-{
+static void lay(uint8_t *to, const uint8_t *from, int count) {
     int length;
     if (!EVP_EncryptUpdate(cipher, to, &length, from, count))
         exit(DEVICE);
 }
 
-static void unwrap(const uint8_t *key, uint32_t number, const uint8_t *wrapped, uint8_t *to)
-{
+static void unwrap(const uint8_t *key, uint32_t number, const uint8_t *wrapped, uint8_t *to) {
     begin_stream(key, number);
     lay(to, wrapped, 32);
 }
 
-static int depth_of(uint32_t node)
-{
+static int depth_of(uint32_t node) {
     int depth = 0;
     while (node >> (depth + 1))
         depth++;
     return depth;
 }
 
-static int is_below(uint32_t node, uint32_t top)
-{
+static int is_below(uint32_t node, uint32_t top) {
     int steps = depth_of(node) - depth_of(top);
     return steps >= 0 && node >> steps == top;
 }
 
-static int has_leaf(uint32_t i, uint32_t j)
-{
+static int has_leaf(uint32_t i, uint32_t j) {
     uint32_t node = (1u << height) + leaf;
     return i == 0 || (is_below(node, i) && !is_below(node, j));
 }
 
 // The key of a set that has the leaf.
-static void key_of(uint32_t i, uint32_t j, uint8_t *key)
-{
+static void key_of(uint32_t i, uint32_t j, uint8_t *key) {
     uint32_t node = (1u << height) + leaf;
     int a = depth_of(i), depth = depth_of(j), b = a + 1, place = 0;
     if (i == 0) {
@@ -280,8 +273,7 @@ static void key_of(uint32_t i, uint32_t j, uint8_t *key)
 
 // Periods.
 
-static void judge_period(void)
-{
+static void judge_period(void) {
     int all = period_seen;
     if (!period_told || has_key)
         return;
@@ -293,8 +285,7 @@ static void judge_period(void)
         unheard = period;
 }
 
-static void move_to(uint32_t q)
-{
+static void move_to(uint32_t q) {
     if (q <= period)
         return;
     judge_period();
@@ -303,15 +294,13 @@ static void move_to(uint32_t q)
     period_seen = period_told = has_key = period_sections = 0;
 }
 
-static int is_set(uint32_t sets, uint32_t i, uint32_t j)
-{
+static int is_set(uint32_t sets, uint32_t i, uint32_t j) {
     if (i == 0 && j == 0)
         return sets <= 1;
     return i >= 1 && i < 1u << height && j < 2u << height && j != i && is_below(j, i);
 }
 
-static void take_entitlement(uint64_t n, const uint8_t *p)
-{
+static void take_entitlement(uint64_t n, const uint8_t *p) {
     const uint8_t *section = message_in(p), *body;
     int length = section ? section_length(section) : 0, index, sections, count;
     uint32_t q, sets;
@@ -325,7 +314,8 @@ static void take_entitlement(uint64_t n, const uint8_t *p)
     count = body[26];
     uint64_t due = sets == 0 ? 1 : ((uint64_t)sets + 2) / 3, before = 3 * (uint64_t)index;
     uint64_t here = sets > before ? sets - before : 0;
-    if (length != 36 + 40 * count || (uint64_t)sections != due || index >= sections || (uint64_t)count != (here > 3 ? 3 : here))
+    if (length != 36 + 40 * count || (uint64_t)sections != due || index >= sections ||
+        (uint64_t)count != (here > 3 ? 3 : here))
         refused(n, "bad emm count");
     for (int k = 0; k < count; k++)
         if (!is_set(sets, (uint32_t)number_at(body + 27 + 40 * k, 4), (uint32_t)number_at(body + 31 + 40 * k, 4)))
@@ -362,8 +352,7 @@ static void take_entitlement(uint64_t n, const uint8_t *p)
 
 // Held packets.
 
-static void drop_held(void)
-{
+static void drop_held(void) {
     for (int k = 0; k < held_count; k++)
         tracked[pid_of(held[k].packet)] = FIRST;
     for (int k = 0; has_last && k < last.count; k++)
@@ -371,8 +360,7 @@ static void drop_held(void)
     held_count = is_open = 0;
 }
 
-static void hold(uint64_t n, const uint8_t *p)
-{
+static void hold(uint64_t n, const uint8_t *p) {
     int pid = pid_of(p);
     struct held *one = &held[held_count];
     if (!is_open)
@@ -389,16 +377,14 @@ static void hold(uint64_t n, const uint8_t *p)
     held_count++;
 }
 
-static void put(const uint8_t *p)
-{
+static void put(const uint8_t *p) {
     if (fwrite(p, SIZE, 1, out) != 1)
         exit(DEVICE);
     written++;
 }
 
 // A packet without the project's descriptor, where it is a PMT that begins with it.
-static void put_restored(uint8_t *p)
-{
+static void put_restored(uint8_t *p) {
     uint8_t ours[6] = {9, 4, (uint8_t)(ca >> 8), (uint8_t)ca, (uint8_t)(0xE0 | ecm_pid >> 8), (uint8_t)ecm_pid};
     uint8_t *section = (uint8_t *)table_in(p, 2, 13);
     int length, info;
@@ -428,8 +414,7 @@ static void put_restored(uint8_t *p)
     put(p);
 }
 
-static void put_one(struct held *one)
-{
+static void put_one(struct held *one) {
     uint8_t *p = one->packet;
     int pid = pid_of(p), start = payload_start(p);
     if (p[3] < 0x40) {
@@ -449,8 +434,7 @@ static void put_one(struct held *one)
     put(p);
 }
 
-static void confirm(const struct message *b)
-{
+static void confirm(const struct message *b) {
     for (int k = 0; k < b->count; k++)
         confirmed[b->places[k].pid] = b->places[k].position;
     begin_stream(word, 0);
@@ -462,8 +446,7 @@ static void confirm(const struct message *b)
 
 // Control messages.
 
-static int is_back(const struct message *b)
-{
+static int is_back(const struct message *b) {
     int k = 0;
     if (b->period < period)
         return 1;
@@ -480,8 +463,7 @@ static int is_back(const struct message *b)
     return 0;
 }
 
-static void complete(uint64_t n)
-{
+static void complete(uint64_t n) {
     uint8_t check[16];
     char found[33], named[33];
     if (is_back(&coming))
@@ -506,16 +488,14 @@ static void complete(uint64_t n)
     closed = last.closing;
 }
 
-static int same_header(const struct message *a, const struct message *b, int version, int other)
-{
+static int same_header(const struct message *a, const struct message *b, int version, int other) {
     return version == other && a->period == b->period && a->word == b->word && a->clear == b->clear &&
-           a->since == b->since && a->closing == b->closing && a->last == b->last && !memcmp(a->wrapped, b->wrapped, 32) &&
-           !memcmp(a->check, b->check, 16);
+           a->since == b->since && a->closing == b->closing && a->last == b->last &&
+           !memcmp(a->wrapped, b->wrapped, 32) && !memcmp(a->check, b->check, 16);
 }
 
 // A part as it is read; 0 where the packet is of another kind.
-static int read_part(uint64_t n, const uint8_t *p, struct message *part)
-{
+static int read_part(uint64_t n, const uint8_t *p, struct message *part) {
     const uint8_t *section = message_in(p), *body;
     int version, most, flags, length;
     if (!section || (section[0] & 0xFA) != 0x80)
@@ -538,8 +518,8 @@ static int read_part(uint64_t n, const uint8_t *p, struct message *part)
     memcpy(part->wrapped, body + flags + 1, 32);
     memcpy(part->check, body + flags + 33, 16);
     part->count = body[flags + 49];
-    if (length != flags + 59 + 8 * part->count || part->count > most || (part->part != part->last && part->count != most) ||
-        (part->part && !part->count))
+    if (length != flags + 59 + 8 * part->count || part->count > most ||
+        (part->part != part->last && part->count != most) || (part->part && !part->count))
         refused(n, "bad ecm count");
     for (int k = 0; k < part->count; k++) {
         part->places[k].pid = (int)number_at(body + flags + 50 + 8 * k, 2);
@@ -556,8 +536,7 @@ static int read_part(uint64_t n, const uint8_t *p, struct message *part)
     return version;
 }
 
-static void take_part(uint64_t n, const uint8_t *p)
-{
+static void take_part(uint64_t n, const uint8_t *p) {
     static struct message part;
     static int coming_version;
     int version = read_part(n, p, &part);
@@ -587,8 +566,7 @@ static void take_part(uint64_t n, const uint8_t *p)
     }
 }
 
-static void offer(uint64_t n, const uint8_t *p)
-{
+static void offer(uint64_t n, const uint8_t *p) {
     int pid = pid_of(p);
     if (closed)
         return;
@@ -603,8 +581,7 @@ static void offer(uint64_t n, const uint8_t *p)
         hold(n, p);
 }
 
-static int end(void)
-{
+static int end(void) {
     if (!tuned)
         return ended(NO_CAT, "no CAT for this card\n");
     if (!closed)
@@ -619,8 +596,7 @@ static int end(void)
     return ended(DONE, "");
 }
 
-static void read_card(const char *name)
-{
+static void read_card(const char *name) {
     FILE *file = fopen(name, "rb");
     uint8_t sum[32];
     char found[33], due[33];
@@ -646,8 +622,7 @@ static void read_card(const char *name)
     ca = (int)number_at(card + 10, 2);
 }
 
-int main(int words, char **word_list)
-{
+int main(int words, char **word_list) {
     static uint8_t piece[BUFFER / SIZE * SIZE];
     FILE *stream;
     uint64_t n = 0;

@@ -1,16 +1,19 @@
 #!/bin/sh
-# Measures `receive` beside bench/receive.c, which opens the same broadcasts with OpenSSL's ChaCha20 and SHA-256, in one run. To be run
-# by hand, from any folder: `bench/receive.sh`, or `SDCA=PROGRAM bench/receive.sh` with a program that is built already.
+# Measures `receive` beside bench/receive.c, which opens the same broadcasts with OpenSSL's ChaCha20 and SHA-256, in
+# one run. To be run by hand, from any folder: `bench/receive.sh`, or `SDCA=PROGRAM bench/receive.sh` with a program
+# that is built already.
 #
-# Both programs open broadcasts of the sample stream by a card of a site of height 20, with an ECM before each 200 packets and two ECMs
-# a crypto period, from a file into a new file, in memory where there is /dev/shm. C is not held back: `cc -O2`, the quickest calls of
-# OpenSSL, and one key schedule a segment. The programs take turns, a time is that of a whole run, the medians of five rounds are
-# shown, and what both make is compared byte for byte with the clear stream.
+# Both programs open broadcasts of the sample stream by a card of a site of height 20, with an ECM before each 200
+# packets and two ECMs a crypto period, from a file into a new file, in memory where there is /dev/shm. C is not held
+# back: `cc -O2`, the quickest calls of OpenSSL, and one key schedule a segment. The programs take turns, a time is
+# that of a whole run, the medians of five rounds are shown, and what both make is compared byte for byte with the
+# clear stream.
 #
-# It prints for 188 MB under an empty book, for 20 MB with 4,096 leaves revoked and for 4 MB with 65,536 revoked, drawn at random, the
-# rate in MB/s of the broadcast for both programs and how fast sdca is in terms of C, which is to be at least 1.0; and the peak memory
-# of sdca for 188 MB, for a tenth of it and for a run that only prints `usage`: the first two are to be the same, and at most 8 MiB
-# above the last. Without OpenSSL's headers it says so and measures nothing.
+# It prints for 188 MB under an empty book, for 20 MB with 4,096 leaves revoked and for 4 MB with 65,536 revoked,
+# drawn at random, the rate in MB/s of the broadcast for both programs and how fast sdca is in terms of C, which is to
+# be at least 1.0; and the peak memory of sdca for 188 MB, for a tenth of it and for a run that only prints `usage`:
+# the first two are to be the same, and at most 8 MiB above the last. Without OpenSSL's headers it says so and
+# measures nothing.
 set -eu
 . "$(dirname "$0")/shared.sh"
 rounds=5
@@ -66,7 +69,8 @@ measure() {
         done
     done
     sent=$(wc -c <"$streams/sent")
-    awk -v packets="$1" -v revoked="$2" -v sent="$sent" -v a="$(median times.ours)" -v b="$(median times.theirs)" 'BEGIN {
+    awk -v packets="$1" -v revoked="$2" -v sent="$sent" \
+        -v a="$(median times.ours)" -v b="$(median times.theirs)" 'BEGIN {
         printf "%5.1f MB, %5d revoked, %5.1f MB sent: sdca %8.1f ms (%.1f MB/s, %.0f ns a packet sent), ",
             packets * 188 / 1000000, revoked, sent / 1000000, a / 1000, sent / a, a * 1000 * 188 / sent
         printf "C %8.1f ms (%.1f MB/s), ratio %.2f (to reach: 1.00)\n", b / 1000, sent / b, b / a
@@ -86,7 +90,8 @@ if [ -x /usr/bin/time ]; then
     send 100000 0
     short=$(peak receive card "$streams/sent" "$streams/ours")
     echo "$long $short $(peak)" | awk '{
-        printf "peak memory: %.1f MiB for 188 MB, %.1f MiB for a tenth of it, %.1f MiB above a run that prints usage (to reach: 8)\n",
+        printf "peak memory: %.1f MiB for 188 MB, %.1f MiB for a tenth of it, " \
+            "%.1f MiB above a run that prints usage (to reach: 8)\n",
             $1 / 1024, $2 / 1024, ($1 - $3) / 1024
     }'
 fi

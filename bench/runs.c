@@ -1,5 +1,5 @@
-/* Runs a program for each line `STATUS PROGRAM WORDS..` of standard input, and prints the microseconds that each run took from its start
-   to its end. What the program prints is thrown away, and it is to end with that exit status. */
+/* Runs a program for each line `STATUS PROGRAM WORDS..` of standard input, and prints the microseconds that each run
+   took from its start to its end. What the program prints is thrown away, and it is to end with that exit status. */
 #define _GNU_SOURCE
 #include <fcntl.h>
 #include <spawn.h>
@@ -12,15 +12,13 @@
 
 enum { MOST_WORDS = 16, LINE_BYTES = 4096 };
 
-static _Noreturn void fail(const char *text)
-{
+static _Noreturn void fail(const char *text) {
     fprintf(stderr, "runs: %s\n", text);
     exit(1);
 }
 
 /* The words of the line, which are at least two. */
-static void cut_words(char *line, char **words)
-{
+static void cut_words(char *line, char **words) {
     int count = 0;
     for (char *word = strtok(line, " \n"); word != NULL; word = strtok(NULL, " \n")) {
         if (count == MOST_WORDS)
@@ -32,16 +30,14 @@ static void cut_words(char *line, char **words)
     words[count] = NULL;
 }
 
-static double now(void)
-{
+static double now(void) {
     struct timespec time;
     if (clock_gettime(CLOCK_MONOTONIC, &time) != 0)
         fail("there is no clock");
     return 1e6 * (double)time.tv_sec + 1e-3 * (double)time.tv_nsec;
 }
 
-static void run(char **words, const posix_spawn_file_actions_t *actions, int status)
-{
+static void run(char **words, const posix_spawn_file_actions_t *actions, int status) {
     pid_t process;
     int ending;
     if (posix_spawnp(&process, words[0], actions, NULL, words, environ) != 0 || waitpid(process, &ending, 0) != process)
@@ -50,8 +46,7 @@ static void run(char **words, const posix_spawn_file_actions_t *actions, int sta
         fail("a run ended with another exit status");
 }
 
-int main(void)
-{
+int main(void) {
     char line[LINE_BYTES], *words[MOST_WORDS + 1];
     posix_spawn_file_actions_t actions;
     if (posix_spawn_file_actions_init(&actions) != 0 ||

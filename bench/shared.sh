@@ -1,5 +1,6 @@
-# What the scripts of this folder share; they read it. It goes to a folder that is removed at the end, with `site` of height 20 and
-# `sdca`: the program itself, so that the launcher's look at the sources isn't timed. SDCA=PROGRAM names one that is built already.
+# What the scripts of this folder share; they read it. It goes to a folder that is removed at the end, with `site` of
+# height 20 and `sdca`: the program itself, so that the launcher's look at the sources isn't timed. SDCA=PROGRAM names
+# one that is built already.
 top=$(CDPATH='' cd "$(dirname "$0")/.." && pwd -P)
 work=$(mktemp -d)
 trap 'rm -rf "$work"' EXIT
@@ -46,8 +47,8 @@ build_bench() {
     bench=$top/crates/sd_bench/out/sd_bench
 }
 
-# KINDS LISTS..: each list has the microseconds of the same runs, of so many kinds in turn. The mean of each kind's runs, a run's time
-# being its least of all lists.
+# KINDS LISTS..: each list has the microseconds of the same runs, of so many kinds in turn. The mean of each kind's
+# runs, a run's time being its least of all lists.
 least_means() {
     kinds=$1
     shift

@@ -1,4 +1,5 @@
-/* What bench/tables.sh times beside the program: reading a file packet by packet, and the CRC of sections by a table of 256 entries. */
+/* What bench/tables.sh times beside the program: reading a file packet by packet, and the CRC of sections by a table of
+ * 256 entries. */
 #include <stdint.h>
 #include <stdio.h>
 #include <stdlib.h>
@@ -6,15 +7,13 @@
 
 enum { SIZE = 188, PIECE = 1024, SECTION = 4096 };
 
-static _Noreturn void fail(const char *text)
-{
+static _Noreturn void fail(const char *text) {
     fprintf(stderr, "tables: %s\n", text);
     exit(1);
 }
 
 /* How many packets of the file begin with the sync byte. Each is copied to a place of its own, as a packet is. */
-static uint64_t packets(const char *name)
-{
+static uint64_t packets(const char *name) {
     static uint8_t piece[PIECE * SIZE];
     uint8_t packet[SIZE];
     uint64_t count = 0;
@@ -38,8 +37,7 @@ static uint64_t packets(const char *name)
 
 static uint32_t table[256];
 
-static void fill_table(void)
-{
+static void fill_table(void) {
     for (uint32_t i = 0; i < 256; i++) {
         uint32_t crc = i << 24;
         for (int bit = 0; bit < 8; bit++)
@@ -48,8 +46,7 @@ static void fill_table(void)
     }
 }
 
-static uint32_t crc32(const uint8_t *bytes, size_t length)
-{
+static uint32_t crc32(const uint8_t *bytes, size_t length) {
     uint32_t crc = 0xFFFFFFFFu;
     for (size_t i = 0; i < length; i++)
         crc = crc << 8 ^ table[(crc >> 24) ^ bytes[i]];
@@ -57,8 +54,7 @@ static uint32_t crc32(const uint8_t *bytes, size_t length)
 }
 
 /* A number of the CRCs of so many sections, each with the CRC before in its first bytes. */
-static uint64_t crcs(uint32_t count)
-{
+static uint64_t crcs(uint32_t count) {
     uint8_t bytes[SECTION];
     uint64_t sum = 0;
     for (int i = 0; i < SECTION; i++)
@@ -74,8 +70,7 @@ static uint64_t crcs(uint32_t count)
     return sum;
 }
 
-int main(int count, char **words)
-{
+int main(int count, char **words) {
     if (count != 3)
         fail("words are packets FILE or crcs COUNT");
     fill_table();

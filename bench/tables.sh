@@ -1,8 +1,9 @@
 #!/bin/sh
-# Measures `tables` on a sample stream of 188 MB beside cat, a C program that copies each packet, and (where they are installed) tsinfo and
-# dvbinfo; the CRC of sections beside a C program with a table of 256 entries; and compares the lines of the streams in a folder with those
-# that an independent program printed. To be run by hand, from any folder: bench/tables.sh [FOLDER]. FOLDER has NAME.ts, and beside it
-# NAME.ts.exit-N.stdout, what `tables` is to print for it, and its exit status N.
+# Measures `tables` on a sample stream of 188 MB beside cat, a C program that copies each packet, and (where they are
+# installed) tsinfo and dvbinfo; the CRC of sections beside a C program with a table of 256 entries; and compares the
+# lines of the streams in a folder with those that an independent program printed. To be run by hand, from any folder:
+# bench/tables.sh [FOLDER]. FOLDER has NAME.ts, and beside it NAME.ts.exit-N.stdout, what `tables` is to print for it,
+# and its exit status N.
 set -eu
 
 folder=${1:+$(CDPATH='' cd "$1" && pwd -P)}
@@ -35,7 +36,10 @@ measure() {
 }
 
 # COMMAND BYTES TEXT: its rate.
-rate() { awk -v n="$2" -v t="$(median "times.$1")" -v text="$3" 'BEGIN { printf "%-32s %8.1f ms %8.1f MB/s\n", text, t / 1000, n / t }'; }
+rate() {
+    awk -v n="$2" -v t="$(median "times.$1")" -v text="$3" \
+        'BEGIN { printf "%-32s %8.1f ms %8.1f MB/s\n", text, t / 1000, n / t }'
+}
 
 others=
 for other in tsinfo dvbinfo; do
@@ -52,9 +56,11 @@ rate cat_it $bytes "cat to a file"
 for other in $others; do rate "$other" $bytes "${other%_it}"; done
 rate crcs_ours $((sections * 4096)) "CRC of $sections sections"
 rate crcs_c $((sections * 4096)) "C: CRC by a table of 256"
-awk -v t="$(median times.tables_ours)" -v c="$(median times.packets_c)" -v n=$bytes -v a="$(median times.crcs_ours)" -v b="$(median times.crcs_c)" 'BEGIN {
+awk -v t="$(median times.tables_ours)" -v c="$(median times.packets_c)" -v n=$bytes \
+    -v a="$(median times.crcs_ours)" -v b="$(median times.crcs_c)" 'BEGIN {
     least = n / c / 2 < 400 ? n / c / 2 : 400
-    printf "tables: %.2f of what is to be reached (%.0f MB/s); CRC: %.2f times the speed of C\n", n / t / least, least, b / a
+    printf "tables: %.2f of what is to be reached (%.0f MB/s); CRC: %.2f times the speed of C\n",
+        n / t / least, least, b / a
 }'
 if [ -x /usr/bin/time ]; then
     for each in short stream; do

@@ -25,21 +25,18 @@ static size_t set_count;
 
 static uint64_t state = 1, asked;
 
-static _Noreturn void fail(const char *text)
-{
+static _Noreturn void fail(const char *text) {
     fprintf(stderr, "trace: %s\n", text);
     exit(1);
 }
 
-static uint32_t draw(uint32_t bound)
-{
+static uint32_t draw(uint32_t bound) {
     state = state * UINT64_C(6364136223846793005) + UINT64_C(1442695040888963407);
     return (uint32_t)(state >> 33) % bound;
 }
 
 /* How many of these ascending nodes are less than the bound. */
-static size_t count_below(const uint32_t *nodes, size_t count, uint32_t bound)
-{
+static size_t count_below(const uint32_t *nodes, size_t count, uint32_t bound) {
     size_t low = 0, high = count;
     while (low < high) {
         size_t middle = low + (high - low) / 2;
@@ -51,14 +48,12 @@ static size_t count_below(const uint32_t *nodes, size_t count, uint32_t bound)
     return low;
 }
 
-static int has(const uint32_t *nodes, size_t count, uint32_t node)
-{
+static int has(const uint32_t *nodes, size_t count, uint32_t node) {
     size_t at = count_below(nodes, count, node);
     return at < count && nodes[at] == node;
 }
 
-static void insert(uint32_t *nodes, size_t *count, uint32_t node)
-{
+static void insert(uint32_t *nodes, size_t *count, uint32_t node) {
     size_t at = count_below(nodes, *count, node);
     memmove(nodes + at + 1, nodes + at, (*count - at) * sizeof *nodes);
     nodes[at] = node;
@@ -66,8 +61,7 @@ static void insert(uint32_t *nodes, size_t *count, uint32_t node)
 }
 
 /* So many draws of leaves that aren't gone; one that was drawn before stays. */
-static void draw_leaves(uint32_t *nodes, size_t *count, size_t draws)
-{
+static void draw_leaves(uint32_t *nodes, size_t *count, size_t draws) {
     for (; draws > 0; draws--) {
         uint32_t node = LEAVES + draw(LEAVES);
         if (!has(gone, gone_count, node) && !has(nodes, *count, node))
@@ -77,8 +71,7 @@ static void draw_leaves(uint32_t *nodes, size_t *count, size_t draws)
 
 /* Adds the sets of the chain that begins at node i and of those below it. The nodes are the leaves below i that are
    gone, and the chain's end is the lowest node above them all. */
-static void add_sets(uint32_t i, const uint32_t *nodes, size_t count)
-{
+static void add_sets(uint32_t i, const uint32_t *nodes, size_t count) {
     uint32_t first = nodes[0], last = nodes[count - 1];
     unsigned levels = 0;
     for (; first >> levels != last >> levels; levels++)
@@ -94,24 +87,16 @@ static void add_sets(uint32_t i, const uint32_t *nodes, size_t count)
 }
 
 /* The order of two sets of one cover, which differ in i. */
-static int compare_sets(const void *a, const void *b)
-{
+static int compare_sets(const void *a, const void *b) {
     uint32_t left = ((const struct set *)a)->i, right = ((const struct set *)b)->i;
     return (left > right) - (left < right);
 }
 
-static unsigned depth(uint32_t v)
-{
-    return 31 - (unsigned)__builtin_clz(v);
-}
+static unsigned depth(uint32_t v) { return 31 - (unsigned)__builtin_clz(v); }
 
-static int is_above(uint32_t i, uint32_t j)
-{
-    return depth(i) <= depth(j) && j >> (depth(j) - depth(i)) == i;
-}
+static int is_above(uint32_t i, uint32_t j) { return depth(i) <= depth(j) && j >> (depth(j) - depth(i)) == i; }
 
-static int has_member(struct set set)
-{
+static int has_member(struct set set) {
     for (size_t at = 0; at < member_count; at++)
         if (is_above(set.i, members[at]) && !is_above(set.j, members[at]))
             return 1;
@@ -119,8 +104,7 @@ static int has_member(struct set set)
 }
 
 /* Whether the box opens where the keys of all but the first of these sets are right. */
-static int probe(const struct set *list, size_t count, size_t wrong)
-{
+static int probe(const struct set *list, size_t count, size_t wrong) {
     asked++;
     for (size_t at = wrong; at < count; at++)
         if (has_member(list[at]))
@@ -129,8 +113,7 @@ static int probe(const struct set *list, size_t count, size_t wrong)
 }
 
 /* The halves of the set, or 0 where it has one leaf. */
-static int halve(struct set set, struct set *first, struct set *second)
-{
+static int halve(struct set set, struct set *first, struct set *second) {
     uint32_t child = set.j;
     while (child / 2 != set.i)
         child /= 2;
@@ -148,16 +131,14 @@ static int halve(struct set set, struct set *first, struct set *second)
 }
 
 /* The least number that 2 to it is at least as great as this one. */
-static unsigned log_of(size_t number)
-{
+static unsigned log_of(size_t number) {
     unsigned log = 0;
     for (; (size_t)1 << log < number; log++)
         ;
     return log;
 }
 
-int main(int count, char **words)
-{
+int main(int count, char **words) {
     if (count != 3 || strcmp(words[1], "traces") != 0)
         fail("the words are traces LEAVES");
     unsigned long draws = strtoul(words[2], NULL, 10);

@@ -1,7 +1,8 @@
 #!/bin/sh
-# Shows that `trace` takes a cover for each leaf that it finds: at height 6, with an empty book and the leaves 0 to 63, the 64th request for
-# memory is refused, and the trace ends with exit 12. With ample memory it prints 64 leaves. It proves nothing, and catches a trace that
-# comes to its lines without asking a box. To be run by hand, from any folder. `rt try` builds the program, unproved.
+# Shows that `trace` takes a cover for each leaf that it finds: at height 6, with an empty book and the leaves 0 to
+# 63, the 64th request for memory is refused, and the trace ends with exit 12. With ample memory it prints 64 leaves.
+# It proves nothing, and catches a trace that comes to its lines without asking a box. To be run by hand, from any
+# folder. `rt try` builds the program, unproved.
 set -eu
 top=$(CDPATH='' cd "$(dirname "$0")/.." && pwd -P)
 work=$(mktemp -d)
@@ -18,7 +19,9 @@ sed 's/^height .*/height 6/' "$top/examples/site.txt" >"$work/site"
 seq 0 63 >"$work/leaves"
 
 # OPTIONS..: the trace under `rt try`; its lines are in `lines`.
-traced() { (cd "$top/crates/sdca" && rt try "$@" -- trace "$work/site" "$work/book" "$work/leaves") >"$work/lines" 2>&1; }
+traced() {
+    (cd "$top/crates/sdca" && rt try "$@" -- trace "$work/site" "$work/book" "$work/leaves") >"$work/lines" 2>&1
+}
 
 no_memory=12
 traced || fail "with ample memory the trace fails: $(tail -n 1 "$work/lines")"

@@ -6,5 +6,5 @@ pub mod Reading
 pub mod Reports
 pub mod Spaces
 pub mod Spellings
-pub mod Steps
+pub mod NextLine
 pub mod Taking

@@ -10,7 +10,7 @@ use Rattle.sd_accounts.specs.declared.fault.AccountFault.{AccountFault}
 use Rattle.sd_accounts.specs.Line.{entry_of, said_by}
 use Rattle.sd_accounts.specs.Judged.{allowed, judged_line, judged, book_of}
 use Rattle.sd_accounts.specs.Kept.{IsKept, IsRead}
-use Rattle.sd_accounts.proofs.Steps.{judged_taken, judged_refused}
+use Rattle.sd_accounts.proofs.NextLine.{judged_taken, judged_refused}
 
 -- no line is taken yet
 pub read_none : (d : ℕ) (bytes : List ℕ) (commands : List Command) (leaf_for : List ℕ → Option ℕ) (marks : List Bool) →

@@ -14,8 +14,8 @@ use Rattle.sd_accounts.specs.Judged.{command_by, command_after, judged_line}
 use Rattle.sd_accounts.specs.Kept.{IsBelow, leaf_after, marks_after, mark_of, IsKept}
 use Rattle.sd_accounts.proofs.Kept.{kept_more}
 use Rattle.sd_accounts.proofs.Limits.{taken_fits, refused_fits}
-use Rattle.sd_accounts.proofs.Steps.{same_command, name_free, command_within, command_refused, limit_refused}
-use Rattle.sd_accounts.proofs.Steps.{line_taken}
+use Rattle.sd_accounts.proofs.NextLine.{same_command, name_free, command_within, command_refused, limit_refused}
+use Rattle.sd_accounts.proofs.NextLine.{line_taken}
 
 -- a leaf of the tree has a mark
 pub below_all : (d : ℕ) (marks : List Bool) (entry : Entry) → length marks ≡ 2 ^ d → IsBelow (2 ^ d) entry →

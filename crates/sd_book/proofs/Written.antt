@@ -13,7 +13,7 @@ use Rattle.sd_book.specs.declared.command.Command.{Command}
 use Rattle.sd_book.specs.declared.command.Command.TheVariants.{Subscribe, Revoke, Period}
 use Rattle.sd_book.specs.Commands.{is_within}
 use Rattle.sd_book.specs.Limits.{IsWithinLimits}
-use Rattle.sd_book.specs.Text.{command_of, SpellsBook, line_of, text_of, judged, book_of}
+use Rattle.sd_book.specs.Text.{command_of, SpellsBook, command_line, text_of, judged, book_of}
 use Rattle.sd_book.proofs.Judged.{book_again}
 
 -- a leaf of a tree is a number of 64 bits
@@ -28,8 +28,9 @@ unfolding after
 other_word u = refl
 
 -- a command's line says it
-says : (d : ℕ) (command : Command) → d ≤ 20 → is_within d command ≡ true → command_of (line_of command) ≡ Some command
-unfolding command_of line_of
+says : (d : ℕ) (command : Command) → d ≤ 20 → is_within d command ≡ true →
+    command_of (command_line command) ≡ Some command
+unfolding command_of command_line
 says d (Subscribe u) small h =
     let below : u < 2 ^ 64 = leaf_small d u small (grind (arith, common_steps)) in
     rw (decimal_after_decimal (codes "subscribe ") u below) refl
@@ -39,27 +40,28 @@ says d (Revoke u) small h =
 says d Period small h = refl
 
 -- and stands on one line
-alone : (d : ℕ) (command : Command) → d ≤ 20 → is_within d command ≡ true → is_line (line_of command) ≡ true
-unfolding line_of
+alone : (d : ℕ) (command : Command) → d ≤ 20 → is_within d command ≡ true → is_line (command_line command) ≡ true
+unfolding command_line
 alone d (Subscribe u) small h = decimal_in_line u (leaf_small d u small (grind (arith, common_steps)))
 alone d (Revoke u) small h = decimal_in_line u (leaf_small d u small (grind (arith, common_steps)))
 alone d Period small h = refl
 
 -- the lines of a book's text are those of its commands
 lines_written : (d : ℕ) (commands : List Command) → d ≤ 20 → All (λ command. is_within d command ≡ true) commands →
-    lines_of (text_of commands) ≡ map line_of commands
+    lines_of (text_of commands) ≡ map command_line commands
 unfolding text_of
 lines_written d [] small leaves = refl
 lines_written d (command ∷ commands) small leaves =
     let line = alone d command small (All-head (λ c. is_within d c ≡ true) command commands leaves) in
     let rest = lines_written d commands small (All-tail (λ c. is_within d c ≡ true) command commands leaves) in
-    rw (append_assoc (line_of command) (10 ∷ []) (text_of commands))
-    (line_cut (line_of command) (text_of commands) line ∙ ap (λ (lines : List (List ℕ)). line_of command ∷ lines)
+    rw (append_assoc (command_line command) (10 ∷ []) (text_of commands))
+    (line_cut (command_line command) (text_of commands) line
+    ∙ ap (λ (lines : List (List ℕ)). command_line command ∷ lines)
     rest)
 
 -- and spell them
 spelled : (d : ℕ) (commands : List Command) → d ≤ 20 → All (λ command. is_within d command ≡ true) commands →
-    SpellsBook (map line_of commands) commands
+    SpellsBook (map command_line commands) commands
 spelled d [] small leaves = refl
 spelled d (command ∷ commands) small leaves =
     let first = says d command small (All-head (λ c. is_within d c ≡ true) command commands leaves) in

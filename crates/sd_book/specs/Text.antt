@@ -80,11 +80,11 @@ unfoldable pub book_of : ℕ → List ℕ → Result (List Command) BookFault
 book_of d bytes = judged d [] (said_by bytes)
 
 -- the line that says a command [this project, docs/FORMATS.md, Book]
-unfoldable pub line_of : Command → List ℕ
-line_of (Subscribe u) = codes "subscribe " ++ decimal u
-line_of (Revoke u) = codes "revoke " ++ decimal u
-line_of Period = codes "period"
+unfoldable pub command_line : Command → List ℕ
+command_line (Subscribe u) = codes "subscribe " ++ decimal u
+command_line (Revoke u) = codes "revoke " ++ decimal u
+command_line Period = codes "period"
 
 -- the book file of these commands, a line feed after each line [this project, docs/FORMATS.md, Book]
 unfoldable pub text_of : List Command → List ℕ
-text_of commands = flat_map (λ command. line_of command ++ 10 ∷ []) commands
+text_of commands = flat_map (λ command. command_line command ++ 10 ∷ []) commands

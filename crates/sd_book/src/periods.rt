@@ -2,10 +2,11 @@ ghost use Rattle.std.specs.Prelude.{◌≡◌, ◌≤◌, length};
 ghost use Rattle.sd_book.specs.Commands.{commands_until, last_period};
 
 use crate::command::Command;
+use crate::limits::MOST_COMMANDS;
 
 /// The number of the last period of these commands.
 pub(crate) fn last_period(commands: &[Command]) -> u32
-    requires { length commands.now ≤ 1048576 }
+    requires { length commands.now ≤ MOST_COMMANDS }
     ensures { result ≡ last_period commands.now }
 {
     commands

@@ -1,12 +1,12 @@
 ghost use Rattle.std.specs.Prelude.{◌≡◌, ◌++◌, [], ◌∷◌, IfOk, OnOk, string_bytes};
-ghost use Rattle.sd_book.specs.Text.{line_of, text_of};
+ghost use Rattle.sd_book.specs.Text.{command_line, text_of};
 
 use crate::command::Command;
 use std::alloc::{AllocError, Global};
 use std::fmt::Write;
 
 /// The text of these commands, one a line.
-#[tactic(auto, unfolding(crate::specs::Text::line_of, crate::specs::Text::text_of))]
+#[tactic(auto, unfolding(crate::specs::Text::command_line, crate::specs::Text::text_of))]
 pub(crate) fn text_of(alloc: Global, commands: &[Command]) -> Result<Vec<u8>, AllocError>
     ensures { IfOk result (λ text. text.items ≡ text_of commands.now) }
 {
@@ -18,9 +18,9 @@ pub(crate) fn text_of(alloc: Global, commands: &[Command]) -> Result<Vec<u8>, Al
 }
 
 /// Writes a command's line and its line feed.
-#[tactic(auto, unfolding(crate::specs::Text::line_of))]
+#[tactic(auto, unfolding(crate::specs::Text::command_line))]
 fn write_line(text: &mut String, command: &Command) -> Result<(), AllocError>
-    ensures { OnOk result (string_bytes text.new ≡ string_bytes text.old ++ (line_of command.now ++ 10 ∷ [])) }
+    ensures { OnOk result (string_bytes text.new ≡ string_bytes text.old ++ (command_line command.now ++ 10 ∷ [])) }
 {
     match *command {
         Command::Subscribe(leaf) => writeln!(text, "subscribe {}", leaf.get()),

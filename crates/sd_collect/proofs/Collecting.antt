@@ -10,7 +10,8 @@ use Rattle.sd_ecm.specs.declared.fault.EcmFault.{EcmFault}
 use Rattle.sd_ecm.specs.declared.fault.EcmFault.TheVariants.{Back}
 use Rattle.sd_emm.specs.declared.emm.Emm.{Emm}
 use Rattle.sd_reception.specs.Heard.{Heard, Controls, Dropped, Entitles, Other}
-use Rattle.sd_reception.specs.Stretches.{Stretch, exceeds, counted, run_with, run_of, run_to, told, newest, stretched}
+use Rattle.sd_reception.specs.Stretches.{Stretch, exceeds, counted, run_with, run_of, run_to, message_told, newest}
+use Rattle.sd_reception.specs.Stretches.{stretched}
 use Rattle.sd_reception.specs.Stretches.{completes}
 use Rattle.sd_reception.specs.Offered.{part_fault, is_back}
 use Rattle.sd_collect.specs.Gathered.{places_of, newest_of, said_by, ArePlaces, next_run, Gathers}
@@ -68,8 +69,8 @@ uncounted_run : (past : List Heard) (part : EcmPart) → exceeds (newest past).m
 unfolding run_to
 uncounted_run past part past_it = rw past_it refl
 
-none_told : (test : Bool) (run : List EcmPart) → run ≡ [] → (if test then told run else None) ≡ None
-none_told true run none = ap told none
+none_told : (test : Bool) (run : List EcmPart) → run ≡ [] → (if test then message_told run else None) ≡ None
+none_told true run none = ap message_told none
 none_told false run none = refl
 
 untold : (past : List Heard) (part : EcmPart) → run_to (newest past) part ≡ [] → completes past (Controls part) ≡ None
@@ -177,18 +178,18 @@ begins_with run part =
     ]
 
 -- the message of parts of which the newest is kept
-told_of : (part : EcmPart) (rest : List EcmPart) → told (part ∷ rest) ≡ Some
+told_of : (part : EcmPart) (rest : List EcmPart) → message_told (part ∷ rest) ≡ Some
     (message_of (said_by part) (places_of (part ∷ rest)))
 unfolding places_of
 told_of part rest = refl
 
 told_run : (run : List EcmPart) (part : EcmPart) (kept : EcmPart) (all : List Place) → (run ≡ []) ⊎
     ((rest : List EcmPart) × (run ≡ part ∷ rest)) →
-    Gathers run (Some kept) all → (kept ≡ part) × (told run ≡ Some (message_of (said_by part) all))
+    Gathers run (Some kept) all → (kept ≡ part) × (message_told run ≡ Some (message_of (said_by part) all))
 told_run run part kept all (inl none) gathered = absurd (none_is_none run kept none (sym gathered.part))
 told_run run part kept all (inr (rest, is)) gathered = (
   some_is kept part (gathered.part ∙ ap newest_of is),
-  ap told is ∙ (told_of part rest ∙ ap (λ (l : List Place). Some (message_of (said_by part) l))
+  ap message_told is ∙ (told_of part rest ∙ ap (λ (l : List Place). Some (message_of (said_by part) l))
       (sym (gathered.places ∙ ap places_of is))),
 )
 
@@ -199,7 +200,7 @@ pub ends_message : (past : List Heard) (part kept : EcmPart) (all : List Place) 
     (kept ≡ part) × (completes past (Controls part) ≡ Some (message_of (said_by part) all))
 ends_message past part kept all counts last gathered =
     let is = told_run (next_run (run_in past) part) part kept all (begins_with (run_in past) part) gathered in
-    (is.0, rw last (ap told (run_is_next past part counts) ∙ is.1))
+    (is.0, rw last (ap message_told (run_is_next past part counts) ∙ is.1))
 
 pub back_part : (past : List Heard) (part : EcmPart) (message : Message) → exceeds (newest past).message part ≡ true →
     part_fault (next_run (run_in past) part) ≡ None → completes past (Controls part) ≡ Some message →

@@ -73,9 +73,9 @@ raised (Other n packet) tr message h = absurd (grind (arith, h))
 all_up : (a b : ℕ) (xs : List ℕ) → a ≤ b → All (λ p. p ≤ a) xs → All (λ p. p ≤ b) xs
 all_up a b xs h all = λ k d g. omega (arith, h, all k d g)
 
-only : (x a : ℕ) → x ≤ a → All (λ p. p ≤ a) (x ∷ [])
-only x a h zero d g = h
-only x a h (suc k) d g = absurd (omega (arith, g))
+one_below : (x a : ℕ) → x ≤ a → All (λ p. p ≤ a) (x ∷ [])
+one_below x a h zero d g = h
+one_below x a h (suc k) d g = absurd (omega (arith, g))
 
 -- no message told of a period after the current one
 within_by : (heard : Heard) (tr : List Heard) (o : Option Message) → completes tr heard ≡ o →
@@ -87,7 +87,7 @@ within_by heard tr (Some message) is all = subst (All (λ p. p ≤ current (hear
     (one_told heard tr message is))
     (All-append (λ p. p ≤ current (heard ∷ tr)) (periods_told tr) (message.period ∷ [])
     (all_up (current tr) (current (heard ∷ tr)) (periods_told tr) (rises heard tr) all)
-    (λ k d g. only message.period (current (heard ∷ tr)) (raised heard tr message is) k d g))
+    (λ k d g. one_below message.period (current (heard ∷ tr)) (raised heard tr message is) k d g))
 
 pub told_within : (tr : List Heard) → All (λ p. p ≤ current tr) (periods_told tr)
 unfolding periods_told messages
@@ -155,7 +155,7 @@ closes_at P q ps h =
     (or_last (find P (filter (λ p. nat_lt p q) ps)) (list_any (λ p. p == q) ps) (P q) q)
 
 snoc_within : (a x : ℕ) (ps : List ℕ) → a ≤ x → All (λ p. p ≤ a) ps → All (λ p. p ≤ x) (ps ++ x ∷ [])
-snoc_within a x ps h all = All-append (λ p. p ≤ x) ps (x ∷ []) (all_up a x ps h all) (only x x (omega arith))
+snoc_within a x ps h all = All-append (λ p. p ≤ x) ps (x ∷ []) (all_up a x ps h all) (one_below x x (omega arith))
 
 closes_by : (P : ℕ → Bool) (q : ℕ) (heard : Heard) (tr : List Heard) (o : Option Message) → completes tr heard ≡ o →
     current (heard ∷ tr) ≤ q → option_map_or (λ message. nat_le (current tr) message.period) o true ≡ true →

@@ -11,7 +11,7 @@ pub const SECTIONS: usize = 1 << 16;
 
 /// Whether all sections of a period that says this are marked.
 pub fn are_all_marked(marks: &[bool], says: Option<Says>) -> bool
-    requires { 65536 ≤ length marks.now }
+    requires { SECTIONS ≤ length marks.now }
     ensures { result ≡ all_marked says marks.now }
 {
     let Some(says) = says else {
@@ -28,7 +28,7 @@ fn are_set(marks: &[bool]) -> bool
 
 /// Clears the marks of a period's sections.
 pub fn clear(marks: &mut [bool], says: Option<Says>)
-    requires { 65536 ≤ length marks.old }
+    requires { SECTIONS ≤ length marks.old }
     ensures value { marks.new ≡ cleared says marks.old }
     ensures length { length marks.new ≡ length marks.old }
 {

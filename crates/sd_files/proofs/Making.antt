@@ -12,7 +12,7 @@ use Rattle.sd_status.specs.Meant.{Word, value}
 use Rattle.sd_status.specs.Work.{StepBound, Uncounted, Out}
 use Rattle.sd_status.specs.Comes.{Stands, untouched, writing, Comes, ended, exhausted, failed, nowhere, Obeys}
 use Rattle.sd_status.specs.Comes.{status_of}
-use Rattle.sd_status.proofs.Steps.{takes_none}
+use Rattle.sd_status.proofs.Firsts.{takes_none}
 use Rattle.sd_status.proofs.Moves.{comes_moved}
 use Rattle.sd_files.specs.Made.{making}
 use Rattle.sd_files.specs.Made.{making_told}

@@ -11,7 +11,7 @@ use Rattle.sd_status.specs.Meant.{Meant, Word, Given, IsGiven, IsGot, judged, �
 use Rattle.sd_status.specs.Work.{Work}
 use Rattle.sd_status.specs.Comes.{IsEnding, untouched, exhausted, Obeys, Follows}
 use Rattle.sd_status.specs.Reads.{IsAsked, Looks, Reads, Judges}
-use Rattle.sd_status.proofs.Steps.{takes_none, first_obeys}
+use Rattle.sd_status.proofs.Firsts.{takes_none, first_obeys}
 use Rattle.sd_status.proofs.Moves.{then_obeys}
 
 other_number : (n k : ℕ) → n ≢ k → nat_eq n k ≡ false

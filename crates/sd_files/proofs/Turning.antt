@@ -20,7 +20,7 @@ use Rattle.sd_status.specs.Work.{StepBound, Work, TakesSteps}
 use Rattle.sd_status.specs.Comes.{IsRefusal, IsEnding, IsUnmade, IsMadeShort, writing, Comes, ended, unclosed}
 use Rattle.sd_status.specs.Comes.{exhausted, failed, nowhere, Obeys, status_of}
 use Rattle.sd_status.specs.Reads.{IsAsked}
-use Rattle.sd_status.proofs.Steps.{takes_none, stopped_comes, first_obeys}
+use Rattle.sd_status.proofs.Firsts.{takes_none, stopped_comes, first_obeys}
 use Rattle.sd_status.proofs.Givens.{some_got as any_got}
 use Rattle.sd_files.specs.Turned.{IsOpened, NotOpened, no_input, no_folder, stopped_first, stopped_then}
 use Rattle.sd_files.specs.Turned.{unclosed_status, unclosed_by, IsClosed, is_break, turning, Wrote, all_written}

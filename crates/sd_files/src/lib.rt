@@ -6,7 +6,6 @@ mod files;
 mod leaves;
 mod made;
 mod print;
-mod stream;
 mod turn;
 mod word;
 
@@ -15,6 +14,5 @@ pub use files::{MOST_BOOK_BYTES, book_fault, read_book, read_bytes, read_site};
 pub use leaves::read_leaves;
 pub use made::{make_file, told};
 pub use print::print_text;
-pub use stream::cause_of;
 pub use turn::{close_both, open_both};
 pub use word::{Number, Word};

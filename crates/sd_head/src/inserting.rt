@@ -51,7 +51,7 @@ impl Sender {
         if count % site.every != 0 {
             return None;
         }
-        Some(self.place(site, crypto, clear, count / site.every, false))
+        Some(self.make_ready(site, crypto, clear, count / site.every, false))
     }
 
     /// Makes ready the closing message.
@@ -66,11 +66,11 @@ impl Sender {
         ensures unchanged { HasPlaced self.old self.new }
     {
         let number = clear.count().div_ceil(site.every);
-        self.place(site, crypto, clear, number, true)
+        self.make_ready(site, crypto, clear, number, true)
     }
 
     // Makes ready the message of this number.
-    fn place(
+    fn make_ready(
         &mut self,
         site: &Site,
         crypto: &CryptoPeriod,

@@ -6,7 +6,7 @@ use Rattle.serde_json.specs.Data.{Data}
 use Rattle.serde_json.specs.Written.{compact_text}
 use Rattle.sd_section.specs.Header.{whole_of}
 use Rattle.sd_psi.specs.Tables.{is_pat, is_cat, is_pmt}
-use Rattle.sd_lines.specs.Lines.{pat_data, cat_data, pmt_data, fault_data, table_data, section_data, line_of}
+use Rattle.sd_lines.specs.Lines.{pat_data, cat_data, pmt_data, fault_data, table_data, section_data, section_line}
 use Rattle.sd_lines.specs.Judged.{is_table, IsTableOf, IsTableOn, data_as, line_as}
 use Rattle.sd_lines.specs.declared.table.Table.{Table}
 use Rattle.sd_lines.specs.declared.table.Table.TheVariants.{Pat, Cat, Pmt}
@@ -49,7 +49,7 @@ shown_as packet pid bytes (Err Form) is = rw (is.0) (other_shown packet pid (who
 
 -- and its line is theirs
 pub same_line : (pid : ℕ) (bytes : List ℕ) (table : Result Table TableFault) → IsTableOn pid bytes table →
-    (packet : ℕ) → line_as packet pid table ≡ line_of packet pid bytes
-unfolding line_as line_of
+    (packet : ℕ) → line_as packet pid table ≡ section_line packet pid bytes
+unfolding line_as section_line
 same_line pid bytes table is packet =
     ap (λ (shown : Data). compact_text shown ++ 10 ∷ []) (shown_as packet pid bytes table is)

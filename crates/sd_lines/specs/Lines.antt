@@ -115,5 +115,5 @@ unfoldable pub section_data : ℕ → ℕ → List ℕ → Data
 section_data packet pid section = data_by (section_fault section) packet pid section
 
 -- its line: compact JSON with the keys in ascending order, and a line feed
-unfoldable pub line_of : ℕ → ℕ → List ℕ → List ℕ
-line_of packet pid section = compact_text (section_data packet pid section) ++ 10 ∷ []
+unfoldable pub section_line : ℕ → ℕ → List ℕ → List ℕ
+section_line packet pid section = compact_text (section_data packet pid section) ++ 10 ∷ []

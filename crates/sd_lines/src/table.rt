@@ -1,5 +1,5 @@
 ghost use Rattle.std.specs.Prelude.{◌≡◌, ◌↔◌, ℕ, false, Some, None, IfSome, IsNone};
-ghost use Rattle.sd_lines.specs.Lines.{line_of};
+ghost use Rattle.sd_lines.specs.Lines.{section_line};
 ghost use Rattle.sd_lines.specs.Judged.{is_table, IsTableOf, IsTableOn, line_as};
 
 use sd_psi::{Cat, Pat, Pmt, cat_in, pat_in, pmt_in};
@@ -31,7 +31,7 @@ pub enum TableFault {
 #[tactic(auto, using(crate::proofs::Judging::same_line))]
 pub fn table_on<'a>(pid: u16, section: &'a [u8]) -> Result<Table<'a>, TableFault>
     ensures value { IsTableOn pid section.now result }
-    ensures lines { (packet : ℕ) → line_as packet pid result ≡ line_of packet pid section.now }
+    ensures lines { (packet : ℕ) → line_as packet pid result ≡ section_line packet pid section.now }
 {
     match read_one(section) {
         Ok(section) => table_in(pid, &section).ok_or(TableFault::Form),

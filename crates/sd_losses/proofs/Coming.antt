@@ -9,7 +9,8 @@ use Rattle.sd_ecm.specs.Parts.{Message}
 use Rattle.sd_ecm.specs.declared.part.EcmPart.{EcmPart}
 use Rattle.sd_reception.specs.Tuned.{Tuning}
 use Rattle.sd_reception.specs.Heard.{Heard, Controls}
-use Rattle.sd_reception.specs.Stretches.{Stretch, newest, counted, exceeds, run_of, run_with, run_to, told, completed}
+use Rattle.sd_reception.specs.Stretches.{Stretch, newest, counted, exceeds, run_of, run_with, run_to, message_told}
+use Rattle.sd_reception.specs.Stretches.{completed}
 use Rattle.sd_reception.specs.Stretches.{completes}
 use Rattle.sd_reception.specs.Stretches.{current, seen, is_closed, others, messages}
 use Rattle.sd_reception.specs.Offered.{heard_offering, part_fault, message_offering, part_offering, nothing}
@@ -126,7 +127,7 @@ last_is message front part (next ∷ rest) is = grind (arith, nat_tests, is.plac
 
 -- the parts of a message from some place on
 abbrev pub AreParts : Message → List EcmPart → List EcmPart → Type 0
-AreParts message front [] = told front ≡ Some message
+AreParts message front [] = message_told front ≡ Some message
 AreParts message front (part ∷ rest) = IsPartAt message front part rest × AreParts message (part ∷ front) rest
 
 -- all of these are there
@@ -247,12 +248,13 @@ not_last stretch part other = rw other refl
 no_run : (stretch : Stretch) (part : EcmPart) → run_to stretch part ≡ [] → completed stretch (Controls part) ≡ None
 no_run stretch part none = by_test (part.part == part.last_part)
   where
-    by_test : (b : Bool) → (if b then told (run_to stretch part) else None) ≡ None
-    by_test true = ap told none
+    by_test : (b : Bool) → (if b then message_told (run_to stretch part) else None) ≡ None
+    by_test true = ap message_told none
     by_test false = refl
 
 -- a part that is the last completes what its run tells
-completes_with : (stretch : Stretch) (part : EcmPart) (message : Message) → told (run_to stretch part) ≡ Some message →
+completes_with : (stretch : Stretch) (part : EcmPart) (message : Message) →
+    message_told (run_to stretch part) ≡ Some message →
     (part.part == part.last_part) ≡ true → completed stretch (Controls part) ≡ Some message
 completes_with stretch part message tells last = rw last tells
 
@@ -333,8 +335,8 @@ whole_come card tuning message (true ∷ fs) (part ∷ []) front now are mid =
       number = are.0.number;
     }
   where
-    whole_told : told (run_to (newest now) part) ≡ Some message
-    whole_told = ap told (run_whole message front now part [] are.0 mid) ∙ are.1
+    whole_told : message_told (run_to (newest now) part) ≡ Some message
+    whole_told = ap message_told (run_whole message front now part [] are.0 mid) ∙ are.1
 whole_come card tuning message (true ∷ fs) (part ∷ next ∷ rest) front now are mid =
     let calm = not_last (newest now) part (last_is message front part (next ∷ rest) are.0) in
     come_after (all_kept fs (next ∷ rest) && not (is_nil (next ∷ rest))) card tuning message now

@@ -37,7 +37,7 @@ use Rattle.sd_told.proofs.Back.{clear_back, scrambled_back}
 use Rattle.sd_told.proofs.Lists.{reverse_cons}
 use Rattle.sd_told.proofs.Parts.{some_part, part_stands, parts_tell}
 use Rattle.sd_told.proofs.Later.{never_back}
-use Rattle.sd_reception.specs.Stretches.{told}
+use Rattle.sd_reception.specs.Stretches.{message_told}
 use Rattle.sd_reception.specs.Keys.{key_from}
 use Rattle.sd_losses.specs.Confirmed.{packet_at, is_scrambled}
 use Rattle.sd_losses.proofs.Coming.{AreParts, is_nil}
@@ -55,7 +55,7 @@ parts_from : (message : Message) (front rest : List EcmPart) → IsMessage messa
 parts_from message front [] is same =
     let turned : reverse (parts_of message) ≡ front =
     ap reverse (same ∙ append-nil (reverse front)) ∙ reverse-reverse front in
-    ap told (sym turned) ∙ parts_tell message
+    ap message_told (sym turned) ∙ parts_tell message
 parts_from message front (part ∷ rest) is same =
     let stands = part_stands message front part rest is same in
     let next : parts_of message ≡ reverse (part ∷ front) ++ rest =

@@ -196,15 +196,15 @@ alone d coalition u leaves m =
     All-cons (λ w. w < 2 ^ d) u [] (All-contains (λ w. w < 2 ^ d) coalition u leaves m) (All-nil (λ w. w < 2 ^ d))
 
 -- a leaf is the one member of the coalition of it alone
-only : (u w : ℕ) → Contains (u ∷ []) w → w ≡ u
-only u w m = elim (member_cases u [] w m) [
+the_one : (u w : ℕ) → Contains (u ∷ []) w → w ≡ u
+the_one u w m = elim (member_cases u [] w m) [
   | inl same ↦ sym same
   | inr none ↦ absurd (no_member w none)
 ]
 
 -- what holds of some member of the coalition of one leaf holds of the leaf
 of_only : (P : ℕ → Type 0) (u : ℕ) → Any P (u ∷ []) → P u
-of_only P u (k, w, within, is, p) = subst P (only u w (k, within, is)) p
+of_only P u (k, w, within, is, p) = subst P (the_one u w (k, within, is)) p
 
 -- what is known by all of a coalition together is known by one of its leaves
 to_one : (service : Service) (coalition : List ℕ) (item : Item) → service.height ≤ 20

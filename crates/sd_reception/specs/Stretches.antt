@@ -47,9 +47,9 @@ run_of [] = []
 run_of (part ∷ earlier) = if part.part == 0 then part ∷ [] else run_with part (run_of earlier)
 
 -- the message whose newest part is the first of these
-abbrev pub told : List EcmPart → Option Message
-told [] = None
-told (part ∷ run) = Some (record {
+abbrev pub message_told : List EcmPart → Option Message
+message_told [] = None
+message_told (part ∷ run) = Some (record {
   version = part.version;
   number = part.number;
   period = part.period;
@@ -68,7 +68,7 @@ run_to stretch part = if exceeds stretch.message part then run_of (part ∷ coun
 
 -- the message that is complete with what comes [this project, docs/FORMATS.md, Receiver]
 abbrev pub completed : Stretch → Heard → Option Message
-completed stretch (Controls part) = if part.part == part.last_part then told (run_to stretch part) else None
+completed stretch (Controls part) = if part.part == part.last_part then message_told (run_to stretch part) else None
 completed stretch Dropped = None
 completed stretch (Entitles emm) = None
 completed stretch (BadEmm fault) = None

@@ -2,6 +2,7 @@ ghost use Rattle.std.specs.Prelude.{◌≡◌, ◌<◌, ◌≤◌};
 
 use crate::run;
 use sd_book::BookLimit;
+use sd_engine::BreakCause;
 use sd_ports::{Depot, MemDepot, MemSink, Sink};
 use sd_sample::sample;
 use sd_site::SiteFault;
@@ -361,13 +362,13 @@ fn tables_are_printed(rt: HostRuntime) -> Result<(), AllocError> {
         (&whole, Status::Done, TABLES, ""),
         (
             &torn,
-            broken(3, StreamCause::Torn),
+            broken(3, StreamCause::Broken(BreakCause::Torn)),
             TABLES,
             "stream packet 3: torn\n",
         ),
         (
             &shifted,
-            broken(1, StreamCause::NoSync),
+            broken(1, StreamCause::Broken(BreakCause::NoSync)),
             &TABLES[..PAT_LINE],
             "stream packet 1: no sync\n",
         ),

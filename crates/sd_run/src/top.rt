@@ -7,7 +7,7 @@ ghost use Rattle.sd_status.specs.Comes.{Follows, status_of};
 ghost use Rattle.sd_status.specs.Answers.{Answers, HasCause, IsMeant, IsToldAs};
 ghost use Rattle.sd_words.specs.Words.{order_of};
 ghost use Rattle.sd_run.specs.Meaning.{meaning, order_meaning};
-ghost use Rattle.sd_words.specs.Orders.{told, IsSound};
+ghost use Rattle.sd_words.specs.Orders.{order_said, IsSound};
 
 use sd_ports::{Depot, Sink};
 use sd_run_card::card;
@@ -88,7 +88,7 @@ fn work<D: Depot, P: Sink, L: Ledger>(
     steps: &mut Steps<L>,
 ) -> Result<(), Status>
     requires { IsSound order }
-    ensures { Follows (order_meaning (told order.entry))
+    ensures { Follows (order_meaning (order_said order.entry))
         (outside (place D.Depot depot.old) (page P.Sink print.old) steps.old)
         (outside (place D.Depot depot.new) (page P.Sink print.new) steps.new) (status_of result) }
 {

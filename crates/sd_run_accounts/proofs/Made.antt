@@ -19,7 +19,7 @@ use Rattle.sd_status.specs.Comes.{nowhere, cut_off, Obeys, Follows, status_of}
 use Rattle.sd_status.specs.Prints.{PrintsText}
 use Rattle.sd_status.specs.Reads.{Reads}
 use Rattle.sd_status.proofs.Moves.{then_obeys}
-use Rattle.sd_status.proofs.Steps.{first_obeys}
+use Rattle.sd_status.proofs.Firsts.{first_obeys}
 use Rattle.sd_files.specs.Made.{making_told}
 use Rattle.sd_run_accounts.specs.Accounts.{making_then}
 

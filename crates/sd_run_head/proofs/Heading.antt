@@ -23,7 +23,7 @@ use Rattle.sd_status.specs.Meant.{Meant, Word, Given, IsGiven, IsGot, ◌>>=◌}
 use Rattle.sd_status.specs.Work.{Work}
 use Rattle.sd_status.specs.Comes.{untouched, exhausted, Obeys, Follows}
 use Rattle.sd_status.specs.Reads.{Reads}
-use Rattle.sd_status.proofs.Steps.{takes_none, first_obeys}
+use Rattle.sd_status.proofs.Firsts.{takes_none, first_obeys}
 use Rattle.sd_status.proofs.Moves.{then_obeys}
 use Rattle.sd_files.specs.Turned.{HasPortCause, Wrote}
 use Rattle.sd_run_head.specs.Head.{plan_by, plan_meaning, sending_of, head_meaning, refusal_in, stop_status, sent_told}

@@ -7,8 +7,6 @@ use Rattle.sd_engine.specs.declared.driver.DriveFault.{DriveFault}
 use Rattle.sd_engine.specs.declared.driver.DriveFault.TheVariants as drive
 use Rattle.sd_head.specs.declared.fault.HeadFault.{HeadFault}
 use Rattle.sd_head.specs.declared.fault.HeadFault.TheVariants as head
-use Rattle.sd_engine.specs.declared.fault.BreakCause.{BreakCause}
-use Rattle.sd_engine.specs.declared.fault.BreakCause.TheVariants as stream
 use Rattle.sd_broadcast.specs.Plan.{Plan}
 use Rattle.sd_broadcast.specs.Refused.{refusal_from}
 use Rattle.sd_broadcast.specs.Sent.{body, broadcast}
@@ -17,7 +15,7 @@ use Rattle.sd_broadcast.specs.declared.fault.ClearFault.TheVariants as fault
 use Rattle.sd_status.specs.declared.status.Status.{Status}
 use Rattle.sd_status.specs.declared.status.Status.TheVariants.{Done, BadClear, DepotFault, NoMemory}
 use Rattle.sd_status.specs.declared.status.ClearCause.{ClearCause}
-use Rattle.sd_status.specs.declared.status.ClearCause.TheVariants.{Torn, NoSync, AlreadyScrambled, PidTaken, PatForm}
+use Rattle.sd_status.specs.declared.status.ClearCause.TheVariants.{Broken, AlreadyScrambled, PidTaken, PatForm}
 use Rattle.sd_status.specs.declared.status.ClearCause.TheVariants.{PmtForm, TooManyPids, TooLong}
 use Rattle.sd_status.specs.Meant.{Meant, Word, Given, all_of, value, ◌>>=◌}
 use Rattle.sd_status.specs.Work.{Uncounted, Work}
@@ -42,17 +40,13 @@ cause_in (fault.PmtForm k form) = PmtForm form
 cause_in (fault.TooManyPids k) = TooManyPids
 cause_in (fault.TooLong k) = TooLong
 
-abbrev pub broken_cause : BreakCause → ClearCause
-broken_cause stream.Torn = Torn
-broken_cause stream.NoSync = NoSync
-
 -- the status that comes of a refused packet, and of the end of a clear stream of which none is refused
 abbrev pub refused_status : ClearFault → Status
 refused_status fault = BadClear (packet_in fault) (cause_in fault)
 
 abbrev pub clear_status : StreamEnd → Status
 clear_status Whole = Done
-clear_status (Breaks found) = BadClear found.packet (broken_cause found.cause)
+clear_status (Breaks found) = BadClear found.packet (Broken found.cause)
 clear_status RunsOn = BadClear most_packets TooLong
 
 abbrev pub status_where : StreamEnd → Option ClearFault → Status
@@ -105,7 +99,7 @@ stop_status (Some fault) = refused_status fault
 
 abbrev pub sent_told : {F : Type 0} → (F → Option ClearFault) → Result ℕ (DriveFault F) → Status
 sent_told told (Ok count) = Done
-sent_told told (Err (drive.Broken found)) = BadClear found.packet (broken_cause found.cause)
+sent_told told (Err (drive.Broken found)) = BadClear found.packet (Broken found.cause)
 sent_told told (Err drive.TooLong) = BadClear most_packets TooLong
 sent_told told (Err drive.ReadFault) = DepotFault
 sent_told told (Err drive.WriteFault) = DepotFault

@@ -4,13 +4,13 @@ ghost use Rattle.sd_head.specs.Staged.{plan_in, IsAfter};
 ghost use Rattle.sd_status.specs.Outside.{Page, outside, place};
 ghost use Rattle.sd_status.specs.Reads.{Reads};
 ghost use Rattle.sd_status.specs.Comes.{Follows, status_of};
-ghost use Rattle.sd_run_head.specs.Head.{broken_cause, head_meaning, plan_meaning, refusal_in, refused_status};
+ghost use Rattle.sd_run_head.specs.Head.{head_meaning, plan_meaning, refusal_in, refused_status};
 ghost use Rattle.sd_run_head.specs.Head.{sent_told, SendsLeft};
 ghost use Rattle.sd_files.specs.Turned.{HasPortCause};
 ghost use Rattle.sd_files.specs.Shown.{shown_word};
 
 use sd_book::Book;
-use sd_engine::{BreakCause, DriveFault, MOST_PACKETS, drive};
+use sd_engine::{DriveFault, MOST_PACKETS, drive};
 use sd_files::{Word, close_both, open_both, read_book, read_site};
 use sd_head::{ClearFault, Head, HeadFault};
 use sd_ports::{Depot, Sink, Source};
@@ -86,7 +86,7 @@ fn told(driven: Result<u64, DriveFault<HeadFault>>) -> Result<(), Status>
         Ok(_) => Ok(()),
         Err(DriveFault::Broken(found)) => Err(Status::BadClear {
             packet: found.packet,
-            cause: cause_of(found.cause),
+            cause: ClearCause::Broken(found.cause),
         }),
         Err(DriveFault::TooLong) => Err(Status::BadClear {
             packet: MOST_PACKETS,
@@ -95,16 +95,6 @@ fn told(driven: Result<u64, DriveFault<HeadFault>>) -> Result<(), Status>
         Err(DriveFault::ReadFault | DriveFault::WriteFault) => Err(Status::DepotFault),
         Err(DriveFault::Refused(HeadFault::Clear(fault))) => Err(refused(fault)),
         Err(DriveFault::Refused(HeadFault::NoMemory)) => Err(Status::NoMemory),
-    }
-}
-
-/// The cause of a break as the status tells it.
-fn cause_of(cause: BreakCause) -> ClearCause
-    ensures { result ≡ broken_cause cause }
-{
-    match cause {
-        BreakCause::Torn => ClearCause::Torn,
-        BreakCause::NoSync => ClearCause::NoSync,
     }
 }
 

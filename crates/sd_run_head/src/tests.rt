@@ -1,6 +1,7 @@
 ghost use Rattle.std.specs.Prelude.{◌≡◌, ◌<◌, ◌≤◌};
 
 use crate::head;
+use sd_engine::BreakCause;
 use sd_files::Word;
 use sd_ports::MemDepot;
 use sd_status::{ClearCause, Status};
@@ -69,7 +70,7 @@ fn broadcasts_are_made(rt: HostRuntime) -> Result<(), AllocError> {
         assert_eq!(rt; out.len(), 564);
         assert!(rt; out.as_slice().starts_with(&[0x47, 0x40, 0x01, 0x10, 0x00]));
         let (answer, out) = sent(alloc, b"period\n", 1000, most)?;
-        let cause = ClearCause::Torn;
+        let cause = ClearCause::Broken(BreakCause::Torn);
         assert_eq!(rt; answer, Err(Status::BadClear { packet: 0, cause }));
         assert!(rt; out.is_some_and(|out| out.is_empty()));
     }

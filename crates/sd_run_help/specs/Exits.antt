@@ -6,25 +6,25 @@ use Rattle.sd_run_help.specs.declared.exit.Exit.TheVariants.{BadSite, BadBook, B
 use Rattle.sd_run_help.specs.declared.exit.Exit.TheVariants.{NoMemory, Unheard, Unclosed, Gaps, NoCat, BadWord}
 
 -- its number, and when it comes
-unfoldable pub line_of : Exit → List ℕ
-line_of Done = codes "   0  the work is done\n"
-line_of Usage = codes "   1  usage: the words are no command, or OUT is a file that is read\n"
-line_of Missing = codes "   2  the file that word N names is not there\n"
-line_of Revoked = codes "   3  the receiver is revoked, from the period that is named on\n"
-line_of DepotFault = codes "   4  a device failed at a file\n"
-line_of PrintFault = codes "   5  a device failed at printing\n"
-line_of BadSite = codes "   6  the site file is refused\n"
-line_of BadBook = codes "   7  a line of the file that word N names is refused\n"
-line_of BadCard = codes "   8  the card is refused\n"
-line_of BadClear = codes "   9  a packet of the clear stream is refused\n"
-line_of BadStream = codes "  10  a packet of the stream is refused\n"
-line_of Limit = codes "  11  a limit is passed\n"
-line_of NoMemory = codes "  12  memory ran out\n"
-line_of Unheard = codes "  13  the receiver did not hear its entitlement for a period\n"
-line_of Unclosed = codes "  14  the stream ends before its last message\n"
-line_of Gaps = codes "  15  some clear packets are missing\n"
-line_of NoCat = codes "  16  the stream has no CAT for this card\n"
-line_of BadWord = codes "  17  word N is no decimal, or out of its range\n"
+unfoldable pub exit_line : Exit → List ℕ
+exit_line Done = codes "   0  the work is done\n"
+exit_line Usage = codes "   1  usage: the words are no command, or OUT is a file that is read\n"
+exit_line Missing = codes "   2  the file that word N names is not there\n"
+exit_line Revoked = codes "   3  the receiver is revoked, from the period that is named on\n"
+exit_line DepotFault = codes "   4  a device failed at a file\n"
+exit_line PrintFault = codes "   5  a device failed at printing\n"
+exit_line BadSite = codes "   6  the site file is refused\n"
+exit_line BadBook = codes "   7  a line of the file that word N names is refused\n"
+exit_line BadCard = codes "   8  the card is refused\n"
+exit_line BadClear = codes "   9  a packet of the clear stream is refused\n"
+exit_line BadStream = codes "  10  a packet of the stream is refused\n"
+exit_line Limit = codes "  11  a limit is passed\n"
+exit_line NoMemory = codes "  12  memory ran out\n"
+exit_line Unheard = codes "  13  the receiver did not hear its entitlement for a period\n"
+exit_line Unclosed = codes "  14  the stream ends before its last message\n"
+exit_line Gaps = codes "  15  some clear packets are missing\n"
+exit_line NoCat = codes "  16  the stream has no CAT for this card\n"
+exit_line BadWord = codes "  17  word N is no decimal, or out of its range\n"
 
 -- the exits of a command that reads a site, a book and maybe more text
 abbrev pub exits_of_books : List Exit

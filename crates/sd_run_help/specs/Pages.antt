@@ -5,7 +5,7 @@ use Rattle.std.specs.Fmt.{padded, format_spec}
 use Rattle.sd_run_help.specs.declared.topic.Topic.{Topic}
 use Rattle.sd_run_help.specs.declared.operand.Operand.{Operand}
 use Rattle.sd_run_help.specs.Operands.{meaning_of, name_of as word_of}
-use Rattle.sd_run_help.specs.Exits.{line_of}
+use Rattle.sd_run_help.specs.Exits.{exit_line}
 use Rattle.sd_run_help.specs.Topics.{example_of, exits_of, name_of, operands_of, topics, work_of}
 
 -- a text at the left of a column of so many characters, filled up with spaces
@@ -49,7 +49,7 @@ tail_text topic = codes "\nexample\n  sdca " ++ (example_of topic ++ codes "\n")
 unfoldable pub page_text : Topic → List ℕ
 page_text topic =
     head_text topic ++ flat_map operand_line (operands_of topic) ++ codes "\nexits\n"
-    ++ flat_map line_of (exits_of topic) ++ tail_text topic
+    ++ flat_map exit_line (exits_of topic) ++ tail_text topic
 
 -- what help prints of a command, or of all
 unfoldable pub help_text : Option Topic → List ℕ

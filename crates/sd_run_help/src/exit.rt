@@ -1,6 +1,6 @@
 ghost use Rattle.std.specs.Prelude.{◌≡◌};
 ghost use Rattle.sd_run_help.specs.Exits.{exits_of_books, exits_of_cards, exits_of_clear_streams, exits_of_layers};
-ghost use Rattle.sd_run_help.specs.Exits.{exits_of_receivers, exits_of_samples, exits_of_tables, line_of};
+ghost use Rattle.sd_run_help.specs.Exits.{exits_of_receivers, exits_of_samples, exits_of_tables, exit_line};
 
 /// An exit of the program.
 #[derive(Clone, Copy)]
@@ -27,9 +27,9 @@ pub enum Exit {
 
 impl Exit {
     /// Its line: its number, and when it comes.
-    #[tactic(auto, unfolding(crate::specs::Exits::line_of))]
+    #[tactic(auto, unfolding(crate::specs::Exits::exit_line))]
     pub fn line(self) -> &'static str
-        ensures { result.now ≡ line_of self }
+        ensures { result.now ≡ exit_line self }
     {
         match self {
             Exit::Done => "   0  the work is done\n",

@@ -1,6 +1,6 @@
 ghost use Rattle.std.specs.Prelude.{◌≡◌, ◌++◌, IfOk, OnOk, string_bytes};
 ghost use Rattle.std.specs.List.{flat_map};
-ghost use Rattle.sd_run_help.specs.Exits.{line_of};
+ghost use Rattle.sd_run_help.specs.Exits.{exit_line};
 ghost use Rattle.sd_run_help.specs.Pages.{head_text, operand_line, overview as overview_text, page_text, spaced};
 ghost use Rattle.sd_run_help.specs.Pages.{tail_text, topic_line, usage_of};
 
@@ -102,7 +102,7 @@ fn push_operand(text: &mut String, operand: Operand) -> Result<(), AllocError>
 
 /// The lines of exits.
 fn push_exits(text: &mut String, exits: &[Exit]) -> Result<(), AllocError>
-    ensures { OnOk result (string_bytes text.new ≡ string_bytes text.old ++ flat_map line_of exits.now) }
+    ensures { OnOk result (string_bytes text.new ≡ string_bytes text.old ++ flat_map exit_line exits.now) }
 {
     for exit in exits {
         text.push_str(exit.line())?;

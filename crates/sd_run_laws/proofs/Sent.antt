@@ -9,7 +9,7 @@ use Rattle.sd_text.specs.Lines.{lines_of}
 use Rattle.sd_site.specs.Fields.{SiteFields}
 use Rattle.sd_site.specs.Text.{site_of, IsSite}
 use Rattle.sd_site.specs.declared.fault.SiteFault.{SiteFault}
-use Rattle.sd_site.proofs.Walk.{Tells, told}
+use Rattle.sd_site.proofs.Walk.{Tells, lines_told}
 use Rattle.sd_book.specs.declared.command.Command.{Command}
 use Rattle.sd_book.specs.declared.fault.BookFault.{BookFault}
 use Rattle.sd_book.specs.Limits.{IsWithinLimits, IsDraft}
@@ -71,7 +71,7 @@ site_right bytes site e = by_answer (site_of bytes) refl e
     by_answer (Ok found) f e =
         let same : found ≡ site = cc in
         let tells : Tells (lines_of bytes) (Ok site) =
-        subst (Tells (lines_of bytes)) (f ∙ ap (λ (s : SiteFields). Ok s) same) (told (lines_of bytes)) in
+        subst (Tells (lines_of bytes)) (f ∙ ap (λ (s : SiteFields). Ok s) same) (lines_told (lines_of bytes)) in
         record { text = tells.0; ranges = tells.1 }
     by_answer (Err fault) f e = absurd (cc)
 

@@ -22,13 +22,12 @@ use Rattle.sd_receive.specs.Receiving.{taken_keys}
 use Rattle.sd_status.specs.declared.status.Status.{Status}
 use Rattle.sd_status.specs.declared.status.Status.TheVariants.{Done, Revoked, DepotFault, BadCard, BadStream, Unheard}
 use Rattle.sd_status.specs.declared.status.Status.TheVariants.{Unclosed, Gaps, NoCat, NoMemory}
-use Rattle.sd_status.specs.declared.status.StreamCause.TheVariants.{TooLong, WrongKey, WrongWord, BadEmm, BadEcm}
-use Rattle.sd_status.specs.declared.status.StreamCause.TheVariants.{Parity}
+use Rattle.sd_status.specs.declared.status.StreamCause.TheVariants.{Broken, TooLong, WrongKey, WrongWord, BadEmm}
+use Rattle.sd_status.specs.declared.status.StreamCause.TheVariants.{BadEcm, Parity}
 use Rattle.sd_status.specs.declared.status.LimitKind.TheVariants.{CardBytes}
 use Rattle.sd_status.specs.Meant.{Meant, Word, Given, all_of, within, judged, value, ◌>>=◌}
 use Rattle.sd_status.specs.Work.{UpTo, Work}
 use Rattle.sd_run_receive.specs.declared.command.TheConstants.{MOST_CARD_BYTES}
-use Rattle.sd_files.specs.Streams.{told_cause}
 use Rattle.sd_files.specs.Turned.{turning, Wrote}
 
 -- the first n secrets in these bytes
@@ -87,7 +86,7 @@ ended_status card packets =
 -- the status of a stream of which no packet is refused
 abbrev pub status_at : CardFields → List (List ℕ) → StreamEnd → Status
 status_at card packets Whole = ended_status card packets
-status_at card packets (Breaks found) = BadStream found.packet (told_cause found.cause)
+status_at card packets (Breaks found) = BadStream found.packet (Broken found.cause)
 status_at card packets RunsOn = BadStream most_packets TooLong
 
 abbrev pub unless_refused : Option StreamFault → Status → Status
@@ -120,7 +119,7 @@ receive_meaning card stream out given = card_in given card >>= λ fields. stream
 
 -- the status of a drive that didn't come to the end of its stream
 abbrev pub stopped_status : DriveFault StreamFault → Status
-stopped_status (drive.Broken found) = BadStream found.packet (told_cause found.cause)
+stopped_status (drive.Broken found) = BadStream found.packet (Broken found.cause)
 stopped_status drive.TooLong = BadStream most_packets TooLong
 stopped_status drive.ReadFault = DepotFault
 stopped_status drive.WriteFault = DepotFault

@@ -7,7 +7,6 @@ ghost use Rattle.sd_receive.specs.Receiving.{IsAfter, card_in, receiver_does, re
 ghost use Rattle.sd_status.specs.Outside.{Page, outside, place};
 ghost use Rattle.sd_status.specs.Reads.{Judges, Looks};
 ghost use Rattle.sd_status.specs.Comes.{Follows, IsEnding, status_of};
-ghost use Rattle.sd_files.specs.Streams.{told_cause};
 ghost use Rattle.sd_files.specs.Turned.{HasPortCause};
 ghost use Rattle.sd_run_receive.specs.Receive.{ReceivesLeft, card_of_file, told_card, receive_meaning, stream_meaning};
 ghost use Rattle.sd_run_receive.specs.Receive.{ending_status, refused_card, refused_status, stopped_status};
@@ -15,7 +14,7 @@ ghost use Rattle.sd_files.specs.Shown.{shown_word};
 
 use sd_card::{Card, CardFault};
 use sd_engine::{DriveFault, MOST_PACKETS, drive};
-use sd_files::{Word, cause_of, close_both, open_both, read_bytes};
+use sd_files::{Word, close_both, open_both, read_bytes};
 use sd_ports::{Depot, Sink, Source};
 use sd_receive::{Ending, Receiver, StreamFault};
 use sd_status::{LimitKind, Status, StreamCause};
@@ -140,7 +139,7 @@ fn stopped(fault: DriveFault<StreamFault>) -> Status
     match fault {
         DriveFault::Broken(found) => Status::BadStream {
             packet: found.packet,
-            cause: cause_of(found.cause),
+            cause: StreamCause::Broken(found.cause),
         },
         DriveFault::TooLong => Status::BadStream {
             packet: MOST_PACKETS,

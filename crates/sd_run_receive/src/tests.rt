@@ -1,6 +1,7 @@
 ghost use Rattle.std.specs.Prelude.{◌≡◌, ◌<◌, ◌≤◌};
 
 use crate::receive;
+use sd_engine::BreakCause;
 use sd_files::Word;
 use sd_ports::MemDepot;
 use sd_status::{Status, StreamCause};
@@ -116,7 +117,7 @@ fn broadcasts_are_received(rt: HostRuntime) -> Result<(), AllocError> {
         ],
     )?;
     let missing = missing(alloc)?;
-    let cause = StreamCause::Torn;
+    let cause = StreamCause::Broken(BreakCause::Torn);
     let cases: [(&[u8], Result<(), Status>, &[u8]); 5] = [
         (&opened, Ok(()), &clear),
         (

@@ -9,11 +9,9 @@ ghost use Rattle.sd_files.specs.Shown.{shown_word};
 
 use sd_files::{Word, told};
 use sd_ports::{Depot, DepotFault, FileFault};
+use sd_sample::MOST_PACKETS;
 use sd_status::Status;
 use std::alloc::Global;
-
-/// As many packets as a sample stream may have.
-pub const MOST_PACKETS: u32 = 1_000_000;
 
 /// Does `sample NUMBER PACKETS OUT`.
 pub fn sample<D: Depot>(

@@ -3,4 +3,4 @@
 
 mod command;
 
-pub use command::{MOST_PACKETS, sample};
+pub use command::sample;

@@ -12,7 +12,7 @@ use Rattle.std.proofs.KnownBytes.{Appends-trans, Appends-nil}
 use Rattle.sd_cause.specs.Count.{IsCaused}
 use Rattle.sd_cause.specs.declared.memory.NoMemory.{NoMemory as OutOfMemory}
 use Rattle.sd_packet.specs.Header.{pid_of}
-use Rattle.sd_lines.specs.Lines.{line_of}
+use Rattle.sd_lines.specs.Lines.{section_line}
 use Rattle.sd_ports.specs.Bytes.{IsPrefix, AppendsPrefix}
 use Rattle.sd_engine.specs.Stage.{Chain}
 use Rattle.sd_engine.specs.Driving.{Moment, most_packets, Closes, Refuses, IsAllowedAt, Drives}
@@ -48,7 +48,8 @@ grown (suc k) before (packet ∷ packets) =
     ap (λ (ps : List (List ℕ)). lines_in (ps ++ before)) (reverse-append (packet ∷ []) (take k packets))
     ∙ ap lines_in (append_assoc (reverse (take k packets)) (packet ∷ []) before)
     ∙ grown k (packet ∷ before) packets
-    ∙ append_assoc (lines_in before) (flat_map (line_of (length before) (pid_of packet)) (sections_at packet before))
+    ∙ append_assoc (lines_in before)
+    (flat_map (section_line (length before) (pid_of packet)) (sections_at packet before))
     (concat (take k (packet_lines (packet ∷ before) packets)))
 
 -- the lines of some first packets
@@ -74,7 +75,7 @@ next_lines : (k : ℕ) (packets : List (List ℕ)) (packet : List ℕ) → k < l
     ≡ packet →
     lines_in (reverse (take (k + 1) packets))
     ≡ lines_in (reverse (take k packets))
-    ++ flat_map (line_of (length (reverse (take k packets))) (pid_of packet))
+    ++ flat_map (section_line (length (reverse (take k packets))) (pid_of packet))
     (sections_at packet (reverse (take k packets)))
 unfolding lines_in
 next_lines k packets packet inside is =
@@ -149,9 +150,9 @@ next_begin k packets s mid t first bytes packet n m stands few chain at inspects
     let pieces = packet_lines [] packets in
     let before = reverse (take k packets) in
     let after : StandsAfter before (seen mid) = all_after (take k packets) s mid first n stands few chain in
-    let lines : bytes ≡ flat_map (line_of (length before) (pid_of packet)) (sections_at packet before) =
+    let lines : bytes ≡ flat_map (section_line (length before) (pid_of packet)) (sections_at packet before) =
     inspects.lines before after
-    ∙ ap (λ (number : ℕ). flat_map (line_of number (pid_of packet)) (sections_at packet before)) after.number in
+    ∙ ap (λ (number : ℕ). flat_map (section_line number (pid_of packet)) (sections_at packet before)) after.number in
     let both : first ++ bytes ≡ concat (take (k + 1) pieces) =
     ap (λ (xs : List ℕ). xs ++ bytes) (went_through s mid (take k packets) first n stands few chain)
     ∙ ap (λ (xs : List ℕ). lines_in before ++ xs) lines

@@ -7,22 +7,22 @@ use Rattle.sd_engine.specs.Driving.{most_packets}
 use Rattle.sd_engine.specs.Taken.{taken_of, end_of, IsLeft}
 use Rattle.sd_engine.specs.declared.driver.DriveFault.{DriveFault}
 use Rattle.sd_engine.specs.declared.driver.DriveFault.TheVariants as drive
-use Rattle.sd_lines.specs.Lines.{line_of}
+use Rattle.sd_lines.specs.Lines.{section_line}
 use Rattle.sd_tables.specs.Inspected.{sections_at}
 use Rattle.sd_status.specs.declared.status.Status.{Status}
 use Rattle.sd_status.specs.declared.status.Status.TheVariants.{Done, BadStream, DepotFault, PrintFault, NoMemory}
-use Rattle.sd_status.specs.declared.status.StreamCause.TheVariants.{TooLong}
+use Rattle.sd_status.specs.declared.status.StreamCause.TheVariants.{Broken, TooLong}
 use Rattle.sd_status.specs.Outside.{Page}
 use Rattle.sd_status.specs.Meant.{Meant, Word, Given, all_of, value, ◌>>=◌}
 use Rattle.sd_status.specs.Work.{NoSteps, Work}
 use Rattle.sd_status.specs.Prints.{PrintsReading}
-use Rattle.sd_files.specs.Streams.{told_cause, stream_status}
+use Rattle.sd_files.specs.Streams.{stream_status}
 
 -- the lines of each packet in turn, where these came before them, of which the last comes first
 abbrev pub packet_lines : List (List ℕ) → List (List ℕ) → List (List ℕ)
 packet_lines before [] = []
 packet_lines before (packet ∷ packets) =
-    flat_map (line_of (length before) (pid_of packet)) (sections_at packet before) ∷ packet_lines (packet ∷ before)
+    flat_map (section_line (length before) (pid_of packet)) (sections_at packet before) ∷ packet_lines (packet ∷ before)
     packets
 
 -- prints the lines of the tables in a stream of these bytes
@@ -41,7 +41,7 @@ tables_meaning stream given = all_of stream.number (given stream) >>= λ bytes. 
 -- the status of a stream that was driven
 abbrev pub drive_status : Result ℕ (DriveFault OutOfMemory) → Status
 drive_status (Ok count) = Done
-drive_status (Err (drive.Broken found)) = BadStream found.packet (told_cause found.cause)
+drive_status (Err (drive.Broken found)) = BadStream found.packet (Broken found.cause)
 drive_status (Err drive.TooLong) = BadStream most_packets TooLong
 drive_status (Err drive.ReadFault) = DepotFault
 drive_status (Err drive.WriteFault) = PrintFault

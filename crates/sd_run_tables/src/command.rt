@@ -6,12 +6,11 @@ ghost use Rattle.sd_engine.specs.Driving.{moment, Drives};
 ghost use Rattle.sd_status.specs.Outside.{outside, page, place};
 ghost use Rattle.sd_status.specs.Comes.{Follows, status_of};
 ghost use Rattle.sd_run_tables.specs.Tables.{InspectsLeft, drive_status, tables_meaning};
-ghost use Rattle.sd_files.specs.Streams.{told_cause};
 ghost use Rattle.sd_files.specs.Shown.{shown_word};
 
 use sd_cause::NoMemory;
 use sd_engine::{BreakCause, DriveFault, MOST_PACKETS, drive};
-use sd_files::{Word, cause_of};
+use sd_files::Word;
 use sd_ports::{Depot, DepotFault, Sink, Source};
 use sd_status::{Status, StreamCause};
 use sd_steps::Steps;
@@ -82,7 +81,7 @@ fn told(driven: Result<u64, DriveFault<NoMemory>>) -> Result<(), Status>
         Ok(_) => Ok(()),
         Err(DriveFault::Broken(found)) => Err(Status::BadStream {
             packet: found.packet,
-            cause: cause_of(found.cause),
+            cause: StreamCause::Broken(found.cause),
         }),
         Err(DriveFault::TooLong) => Err(Status::BadStream {
             packet: MOST_PACKETS,

@@ -4,4 +4,4 @@
 mod packet;
 mod stream;
 
-pub use stream::sample;
+pub use stream::{MOST_PACKETS, sample};

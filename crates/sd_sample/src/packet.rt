@@ -3,7 +3,8 @@ ghost use Rattle.sd_packet.specs.Packing.{packed};
 ghost use Rattle.sd_sample.specs.Sample.{next_state, state_at, generated, pid_at, counter_at, generated_in, header_at};
 ghost use Rattle.sd_sample.specs.Sample.{adaptation_field, packet_at};
 
-use sd_packet::pack_section;
+use crate::stream::MOST_PACKETS;
+use sd_packet::{SIZE, pack_section};
 
 // Program 1 has its PMT on PID 0x1000, and there its streams of types 0x1B and 0x0F on PIDs 0x0100 and 0x0101.
 const PAT: [u8; 16] = [
@@ -17,8 +18,8 @@ const PMT: [u8; 26] = [
 
 /// Packet k, from the generator's state before it, which becomes the state after it.
 #[tactic(auto, using(crate::proofs::Packets::pat_packet, crate::proofs::Packets::pmt_packet, crate::proofs::Packets::null_packet, crate::proofs::Packets::adapted_packet, crate::proofs::Packets::plain_packet, crate::proofs::Packets::no_bytes, crate::proofs::Packets::adapted_bytes, crate::proofs::Packets::plain_bytes))]
-pub fn packet(k: u32, state: &mut u64) -> [u8; 188]
-    requires { k < 1000000 }
+pub fn packet(k: u32, state: &mut u64) -> [u8; SIZE]
+    requires { k < MOST_PACKETS }
     ensures value { result ≡ packet_at k state.old }
     ensures state { state.new ≡ state_at state.old (generated_in k) }
 {
@@ -32,10 +33,10 @@ pub fn packet(k: u32, state: &mut u64) -> [u8; 188]
 }
 
 // Packet k where it is a section by itself.
-fn table(section: &[u8], k: u32) -> [u8; 188]
+fn table(section: &[u8], k: u32) -> [u8; SIZE]
     requires some { 1 ≤ length section.now }
     requires room { length section.now ≤ 183 }
-    requires number { k < 1000000 }
+    requires number { k < MOST_PACKETS }
     ensures { result ≡ packed section.now (pid_at k) (counter_at k) }
 {
     *pack_section(section, pid(k), counter(k)).bytes()
@@ -43,8 +44,8 @@ fn table(section: &[u8], k: u32) -> [u8; 188]
 
 // Packet k where it has an adaptation field.
 #[tactic(auto, using(crate::proofs::Packets::adapted_laid))]
-fn adapted(k: u32, state: &mut u64) -> [u8; 188]
-    requires { k < 1000000 }
+fn adapted(k: u32, state: &mut u64) -> [u8; SIZE]
+    requires { k < MOST_PACKETS }
     ensures value { result ≡ header_at k 3 ++ (adaptation_field ++ generated state.old 176) }
     ensures state { state.new ≡ state_at state.old 176 }
 {
@@ -57,8 +58,8 @@ fn adapted(k: u32, state: &mut u64) -> [u8; 188]
 
 // Packet k where it is payload alone.
 #[tactic(auto, using(crate::proofs::Packets::plain_laid))]
-fn plain(k: u32, state: &mut u64) -> [u8; 188]
-    requires { k < 1000000 }
+fn plain(k: u32, state: &mut u64) -> [u8; SIZE]
+    requires { k < MOST_PACKETS }
     ensures value { result ≡ header_at k 1 ++ generated state.old 184 }
     ensures state { state.new ≡ state_at state.old 184 }
 {
@@ -68,13 +69,13 @@ fn plain(k: u32, state: &mut u64) -> [u8; 188]
 }
 
 // The header of packet k and stuffing after it.
-fn stuffed(k: u32, control: u8) -> [u8; 188]
-    requires number { k < 1000000 }
+fn stuffed(k: u32, control: u8) -> [u8; SIZE]
+    requires number { k < MOST_PACKETS }
     requires control { control < 4 }
     ensures { result ≡ header_at k control ++ replicate 184 0xFF }
 {
     let pid = pid(k);
-    let mut bytes = [0xFF; 188];
+    let mut bytes = [0xFF; SIZE];
     bytes[0] = 0x47;
     bytes[1] = (pid / 256) as u8;
     bytes[2] = (pid % 256) as u8;
@@ -122,7 +123,7 @@ fn earlier(k: u32) -> u32
 
 // Fills the packet from this place on, and answers the generator's state after that.
 #[tactic(auto, using(crate::proofs::Generator::none_passed, crate::proofs::Generator::none_generated, crate::proofs::Generator::all_generated))]
-fn generate(mut state: u64, bytes: &mut [u8; 188], start: usize) -> u64
+fn generate(mut state: u64, bytes: &mut [u8; SIZE], start: usize) -> u64
     requires { start ≤ 188 }
     ensures bytes { bytes.new ≡ take start bytes.old ++ generated state (188 - start) }
     ensures state { result ≡ state_at state (188 - start) }

@@ -6,7 +6,11 @@ ghost use Rattle.sd_ports.specs.Bytes.{AppendsPrefix};
 ghost use Rattle.sd_sample.specs.Sample.{state_at, generated_before, packet_of, sample_of};
 
 use crate::packet::packet;
+use sd_packet::SIZE;
 use sd_ports::{PortFault, Sink, write_all};
+
+/// As many packets as a sample stream may have.
+pub const MOST_PACKETS: u32 = 1_000_000;
 
 /// The most packets of one write.
 const PIECE: usize = 64;
@@ -15,13 +19,13 @@ const PIECE: usize = 64;
 /// memory.
 #[tactic(auto, using(crate::proofs::Streams::state_begins, crate::proofs::Streams::none_written))]
 pub fn sample<K: Sink>(number: u32, packets: u32, out: &mut K) -> Result<(), PortFault>
-    requires { packets ≤ 1000000 }
+    requires { packets ≤ MOST_PACKETS }
     ensures ok { OnOk result (Appends (K.held out.old) (K.held out.new) (sample_of number packets)) }
     ensures prefix { OnErr result (AppendsPrefix (K.held out.old) (K.held out.new) (sample_of number packets)) }
     ensures cause { HasCause (K.faults out.old) (K.faults out.new) result }
 {
     let mut state = u64::from(number);
-    let mut piece = [[0; 188]; PIECE];
+    let mut piece = [[0; SIZE]; PIECE];
     let mut done = 0;
     while done < packets {
         let count = PIECE.min((packets - done) as usize);
@@ -35,8 +39,8 @@ pub fn sample<K: Sink>(number: u32, packets: u32, out: &mut K) -> Result<(), Por
 }
 
 // Fills the piece with the packets from this one on, and brings the generator after them.
-fn fill(first: u32, state: &mut u64, piece: &mut [[u8; 188]])
-    requires { first + length piece.old ≤ 1000000 }
+fn fill(first: u32, state: &mut u64, piece: &mut [[u8; SIZE]])
+    requires { first + length piece.old ≤ MOST_PACKETS }
     ensures packets { (number : ℕ) → state.old ≡ state_at number (generated_before first) →
         piece.new ≡ map (packet_of number) (range_with_len first (length piece.old)) }
     ensures state { (number : ℕ) → state.old ≡ state_at number (generated_before first) →
@@ -64,7 +68,7 @@ mod tests {
         let Ok(mut sink) = MemSink::new(alloc, room, most.max(1), fails) else {
             return Err(AllocError);
         };
-        let result = sample(number, packets.min(1000000), &mut sink);
+        let result = sample(number, packets.min(MOST_PACKETS), &mut sink);
         Ok((result, sink.into_bytes()))
     }
 

@@ -7,7 +7,7 @@ use Rattle.std.proofs.lemmas.Bool.{cases_lt}
 use Rattle.std.proofs.lemmas.List.{take-append-le, take_all, length-take}
 use Rattle.sd_section.specs.Header.{section_length_of, whole_of}
 use Rattle.sd_section.specs.Assembled.{starts, is_overlong, is_whole, Cut, no_cut, with_section, cut_from, cut_of}
-use Rattle.sd_section.specs.Steps.{begun_of, added, held}
+use Rattle.sd_section.specs.OneMore.{begun_of, added, held}
 use Rattle.sd_section.specs.declared.begun.Begun.TheVariants.{Overlong, Whole, Part}
 use Rattle.sd_section.proofs.Cutting.{over_stays, whole_stays, whole_has_all, all_is_whole, all_is_over, length_stays}
 use Rattle.sd_section.proofs.Cutting.{over_has_three, cut_none, cut_stuffed, cut_over, cut_whole, cut_part, added_over}

@@ -7,8 +7,8 @@ use Rattle.std.proofs.lemmas.Bool.{eqb-true, and_parts}
 use Rattle.sd_section.specs.Assembled.{Fed, Run, Cut, cut_of, is_last, is_next, has_payload, is_taken, last_counter}
 use Rattle.sd_section.specs.Assembled.{tail_of, fresh_of, kept_run, longer_run, run_after, newly, completed_in}
 use Rattle.sd_section.specs.Assembled.{completed_by, Assembling, after, all_lent, with_section, next_of, one_lent}
-use Rattle.sd_section.specs.Steps.{added, held, kept, holds_of, is_section, tail_with, fresh_with, still_making}
-use Rattle.sd_section.specs.Steps.{going_on, fed}
+use Rattle.sd_section.specs.OneMore.{added, held, kept, holds_of, is_section, tail_with, fresh_with, still_making}
+use Rattle.sd_section.specs.OneMore.{going_on, fed}
 use Rattle.sd_section.specs.declared.holds.Holds.{Holds}
 use Rattle.sd_section.specs.declared.holds.Holds.TheVariants.{Making, Section, Lent}
 use Rattle.sd_section.proofs.Cutting.{longer, cut_none}

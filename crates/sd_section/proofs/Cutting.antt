@@ -9,7 +9,7 @@ use Rattle.sd_bits.specs.Bits.{field}
 use Rattle.sd_bits.proofs.Fields.{same_by_bits}
 use Rattle.sd_section.specs.Header.{section_length_of, whole_of}
 use Rattle.sd_section.specs.Assembled.{is_overlong, is_whole, Cut, no_cut, with_section, cut_from}
-use Rattle.sd_section.specs.Steps.{added}
+use Rattle.sd_section.specs.OneMore.{added}
 
 -- a field within the first bytes stays with more bytes after
 pub field_append : (first back : List ℕ) (at width : ℕ) → at + width ≤ 8 * length first →

@@ -2,4 +2,4 @@ pub mod Header
 pub mod Judged
 pub mod Written
 pub mod Assembled
-pub mod Steps
+pub mod OneMore

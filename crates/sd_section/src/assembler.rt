@@ -3,12 +3,12 @@ ghost use Rattle.std.specs.Option.{option_map};
 ghost use Rattle.std.specs.Borrow.{sem};
 ghost use Rattle.std.specs.Io.BufRead.{Rests};
 ghost use Rattle.sd_section.specs.Assembled.{Fed, after, all_lent, next_of, one_lent};
-ghost use Rattle.sd_section.specs.Steps.{fed};
+ghost use Rattle.sd_section.specs.OneMore.{fed};
 ghost use Rattle.sd_section.specs.contracts.assembler.Assembler.{the_row};
 
 use crate::holds::Holds;
 use crate::limits::LONGEST;
-use crate::making::{fresh_in, gather, go_on, is_next, is_taken, keep_if, part, store, whole_in};
+use crate::making::{fresh_in, gather, go_on, is_next, is_taken, keep_if, part, store, whole_length};
 use sd_cause::NoMemory;
 use std::alloc::Global;
 use std::marker::Model;
@@ -28,7 +28,7 @@ impl Model for Assembler {
     ghost use Rattle.std.specs.Prelude.{◌≤◌, ◌-◌, [], length, slice_range, vec_capacity};
     ghost use Rattle.sd_section.specs.Header.{longest};
     ghost use Rattle.sd_section.specs.Assembled.{Assembling, assembling_code, cut_of};
-    ghost use Rattle.sd_section.specs.Steps.{kept, HasRoom};
+    ghost use Rattle.sd_section.specs.OneMore.{kept, HasRoom};
 
     ghost Value = { Assembling };
 
@@ -108,7 +108,7 @@ impl Assembler {
             return Some(&self.buffer);
         }
         let start = self.at;
-        let length = whole_in(part(&self.payload, start, self.end))?;
+        let length = whole_length(part(&self.payload, start, self.end))?;
         self.at += length;
         Some(part(&self.payload, start, start + length))
     }

@@ -1,5 +1,5 @@
 ghost use Rattle.std.specs.Prelude.{◌≡◌, ◌+◌, ◌≤◌, length};
-ghost use Rattle.sd_section.specs.Steps.{begun_of};
+ghost use Rattle.sd_section.specs.OneMore.{begun_of};
 
 use crate::limits::{MOST_LENGTH, UP_TO_LENGTH};
 use sd_bits::fields;

@@ -3,7 +3,7 @@ ghost use Rattle.std.specs.Prelude.{◌&&◌, [], length, take, drop, vec_capaci
 ghost use Rattle.sd_section.specs.Header.{longest};
 ghost use Rattle.sd_section.specs.Assembled.{cut_of, starts as starts_of, with_section, tail_of, is_last};
 ghost use Rattle.sd_section.specs.Assembled.{is_next as is_next_of};
-ghost use Rattle.sd_section.specs.Steps.{added, held, kept, HasRoom, tail_with, fresh_with, still_making};
+ghost use Rattle.sd_section.specs.OneMore.{added, held, kept, HasRoom, tail_with, fresh_with, still_making};
 
 use crate::begun::{Begun, judge};
 use crate::holds::Holds;
@@ -49,7 +49,7 @@ pub fn starts(bytes: &[u8]) -> bool
 
 #[tactic(auto, using(crate::proofs::Adding::none_starts, crate::proofs::Adding::one_overlong, crate::proofs::Adding::one_whole, crate::proofs::Adding::one_part, crate::proofs::Adding::whole_fits))]
 /// How long the section is with which the bytes begin, where all of it is there.
-pub fn whole_in(bytes: &[u8]) -> Option<usize>
+pub fn whole_length(bytes: &[u8]) -> Option<usize>
     ensures none { IsNone result → (cut_of bytes.now []).sections ≡ [] }
     ensures some { IfSome result (λ n.
         cut_of bytes.now [] ≡ with_section (take n bytes.now) (cut_of (drop n bytes.now) [])) }

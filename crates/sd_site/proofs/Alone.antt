@@ -16,7 +16,7 @@ use Rattle.sd_site.specs.Forms.{bytes_on, version_on, height_line, master_line, 
 use Rattle.sd_site.specs.Forms.{every_line, cryptos_line, span_line, messages_line}
 use Rattle.sd_site.specs.Text.{SpellsSite, IsSite, site_on, site_of}
 use Rattle.sd_site.specs.Faults.{IsInForm, IsGood, IsMalformed, IsOutOfRange, NextIs, AreGood, IsCauseOf}
-use Rattle.sd_site.proofs.Walk.{Tells, told}
+use Rattle.sd_site.proofs.Walk.{Tells, lines_told}
 
 -- ---- what lines tell that are good up to line n and no further
 
@@ -260,7 +260,7 @@ one_answer lines q r tells_q tells_r =
 
 -- what lines tell is the answer on them
 pub answered : (lines : List (List ℕ)) (r : Result SiteFields SiteFault) → Tells lines r → site_on lines ≡ r
-answered lines r tells = one_answer lines (site_on lines) r (told lines) tells
+answered lines r tells = one_answer lines (site_on lines) r (lines_told lines) tells
 
 -- ---- the same of a function's answer
 
@@ -294,7 +294,7 @@ abbrev pub Gives : Result Site SiteFault → List ℕ → Type 0
 Gives r text = MatchResult r (λ site. site_of text ≡ Ok (fields_of site)) (λ fault. site_of text ≡ Err fault)
 
 tells : (text : List ℕ) (r : Result SiteFields SiteFault) → site_of text ≡ r → Tells (lines_of text) r
-tells text r e = subst (λ (r : Result SiteFields SiteFault). Tells (lines_of text) r) e (told (lines_of text))
+tells text r e = subst (λ (r : Result SiteFields SiteFault). Tells (lines_of text) r) e (lines_told (lines_of text))
 
 -- what is read is a site file that says this
 pub is_site : (text : List ℕ) (r : Result Site SiteFault) → Gives r text → IfOk r (λ site. IsSite text (fields_of site))

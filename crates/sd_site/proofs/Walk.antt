@@ -187,9 +187,9 @@ whole_case lines [] site (inr (walked, e)) emm ecm more =
     pids lines site least h.1 emm ecm (more least most) (eqb site.emm site.ecm) refl
 
 -- the lines are what the answer says
-pub told : (lines : List (List ℕ)) → Tells lines (site_on lines)
+pub lines_told : (lines : List (List ℕ)) → Tells lines (site_on lines)
 unfolding site_on forms
-told lines =
+lines_told lines =
     let start : Walked 0 lines lines = record {
       after = λ j. (let e : 0 + j ≡ j = omega arith in rw e refl);
       count = omega arith;

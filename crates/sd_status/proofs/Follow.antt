@@ -13,7 +13,7 @@ use Rattle.sd_status.specs.Comes.{Follows}
 use Rattle.sd_status.specs.Reads.{IsAsked, IsRefused, IsStopped, Gives, Looks, Reads, Judges}
 use Rattle.sd_status.specs.Prints.{Prints}
 use Rattle.sd_status.proofs.Moves.{then_obeys}
-use Rattle.sd_status.proofs.Steps.{takes_none, stopped_comes, first_obeys, then_gives, first_gives}
+use Rattle.sd_status.proofs.Firsts.{takes_none, stopped_comes, first_obeys, then_gives, first_gives}
 use Rattle.sd_status.proofs.Givens.{one_given, two_given}
 
 called_none : (n : ℕ) (a : Place) → called n a ≡ called 0 (called n a)

@@ -1,5 +1,5 @@
 pub mod Moves
-pub mod Steps
+pub mod Firsts
 pub mod Givens
 pub mod Told
 pub mod Follow

@@ -9,7 +9,7 @@ use Rattle.sd_status.specs.Meant.{Word, IsGot, all_of, value, ◌>>=◌}
 use Rattle.sd_status.specs.Work.{Out, Work}
 use Rattle.sd_status.specs.Comes.{IsEnding, IsMade, printing, Comes, ended, exhausted, failed, cut_off, Obeys, Follows}
 use Rattle.sd_status.specs.Prints.{PrintsReading}
-use Rattle.sd_status.proofs.Steps.{takes_none}
+use Rattle.sd_status.proofs.Firsts.{takes_none}
 use Rattle.sd_status.proofs.Givens.{one_given}
 
 -- A file was opened, read and closed, and nothing else was called: where reading didn't fail no fault was counted.

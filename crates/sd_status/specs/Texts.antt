@@ -3,6 +3,8 @@ use Rattle.std.specs.Prelude.{ℕ, List, [], ◌++◌, codes}
 use Rattle.std.specs.Fmt.{decimal}
 use Rattle.std.specs.Int.{w32, to_be_bytes}
 use Rattle.hex.specs.Hex.{encode_lower}
+use Rattle.sd_engine.specs.declared.fault.BreakCause.{BreakCause}
+use Rattle.sd_engine.specs.declared.fault.BreakCause.TheVariants as breaks
 use Rattle.sd_psi.specs.declared.fault.FormFault.{FormFault}
 use Rattle.sd_psi.specs.declared.fault.FormFault.TheVariants as form
 use Rattle.sd_site.specs.declared.fault.SiteFault.{SiteFault}
@@ -25,7 +27,7 @@ use Rattle.sd_status.specs.declared.status.LimitKind.TheVariants.{TrialPackets, 
 use Rattle.sd_status.specs.declared.status.ClearCause.{ClearCause}
 use Rattle.sd_status.specs.declared.status.ClearCause.TheVariants as clear
 use Rattle.sd_status.specs.declared.status.StreamCause.{StreamCause}
-use Rattle.sd_status.specs.declared.status.StreamCause.TheVariants.{Torn, NoSync, TooLong, WrongKey, WrongWord}
+use Rattle.sd_status.specs.declared.status.StreamCause.TheVariants.{Broken, TooLong, WrongKey, WrongWord}
 use Rattle.sd_status.specs.declared.status.StreamCause.TheVariants.{BadEmm, BadEcm, Parity}
 
 -- the line of a refused site
@@ -50,10 +52,14 @@ form_text form.Trailing = codes "trailing"
 form_text form.NoRoom = codes "no room"
 form_text form.Descriptor = codes "descriptor"
 
+-- why a stream breaks
+unfoldable pub break_text : BreakCause → List ℕ
+break_text breaks.Torn = codes "torn"
+break_text breaks.NoSync = codes "no sync"
+
 -- why a clear packet is refused
 unfoldable pub clear_text : ClearCause → List ℕ
-clear_text clear.Torn = codes "torn"
-clear_text clear.NoSync = codes "no sync"
+clear_text (clear.Broken cause) = break_text cause
 clear_text clear.AlreadyScrambled = codes "already scrambled"
 clear_text (clear.PidTaken pid) = codes "pid " ++ (decimal pid ++ codes " is taken")
 clear_text (clear.PatForm fault) = codes "pat " ++ form_text fault
@@ -96,8 +102,7 @@ ecm_text ecm.Back = codes "back"
 
 -- why a packet of a stream is refused
 unfoldable pub stream_text : StreamCause → List ℕ
-stream_text Torn = codes "torn"
-stream_text NoSync = codes "no sync"
+stream_text (Broken cause) = break_text cause
 stream_text TooLong = codes "too long"
 stream_text (WrongKey period found due) =
     codes "wrong key of period " ++ (decimal period ++ (codes " " ++ checks_text found due))

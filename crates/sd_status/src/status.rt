@@ -6,6 +6,7 @@ use sd_card::CardFault;
 use sd_cause::NoMemory;
 use sd_ecm::EcmFault;
 use sd_emm::EmmFault;
+use sd_engine::BreakCause;
 use sd_psi::FormFault;
 use sd_site::SiteFault;
 use std::alloc::AllocError;
@@ -82,10 +83,8 @@ impl Status {
 /// Why a packet of a clear stream is refused.
 #[derive(Clone, Copy, Debug, PartialEq, Eq)]
 pub enum ClearCause {
-    /// The stream ends within it: fewer than 188 bytes are left.
-    Torn,
-    /// It does not begin with the sync byte.
-    NoSync,
+    /// The stream breaks at it.
+    Broken(BreakCause),
     /// It is scrambled.
     AlreadyScrambled,
     /// Its PID is 1 or one of the broadcast's own messages.
@@ -103,10 +102,8 @@ pub enum ClearCause {
 /// Why a packet of a stream is refused.
 #[derive(Clone, Copy, Debug, PartialEq, Eq)]
 pub enum StreamCause {
-    /// The stream ends within it: fewer than 188 bytes are left.
-    Torn,
-    /// It does not begin with the sync byte.
-    NoSync,
+    /// The stream breaks at it.
+    Broken(BreakCause),
     /// As many packets as a stream may have stand before it.
     TooLong,
     /// The key that it gives for this period isn't the one that it is to be.

@@ -2,7 +2,7 @@ ghost use Rattle.std.specs.Prelude.{◌≡◌, IfOk, OnErr, string_bytes};
 ghost use Rattle.sd_status.specs.Texts.{line_of, site_line as site_line_of, stream_line as stream_line_of};
 ghost use Rattle.sd_status.specs.Texts.{limit_line as limit_line_of};
 ghost use Rattle.sd_status.specs.Texts.{clear_line as clear_line_of, clear_text as clear_text_of};
-ghost use Rattle.sd_status.specs.Texts.{form_text as form_text_of, hex_of};
+ghost use Rattle.sd_status.specs.Texts.{break_text as break_text_of, form_text as form_text_of, hex_of};
 ghost use Rattle.sd_status.specs.Texts.{card_line as card_line_of, checks_text as checks_text_of};
 ghost use Rattle.sd_status.specs.Texts.{stream_text as stream_text_of};
 ghost use Rattle.sd_status.specs.Texts.{emm_text as emm_text_of, ecm_text as ecm_text_of};
@@ -17,6 +17,7 @@ use sd_book::BookLimit;
 use sd_card::CardFault;
 use sd_ecm::EcmFault;
 use sd_emm::EmmFault;
+use sd_engine::BreakCause;
 use sd_ports::{Sink, write_all};
 use sd_psi::FormFault;
 use sd_site::SiteFault;
@@ -155,8 +156,7 @@ fn clear_text(alloc: Global, cause: ClearCause) -> Result<String, AllocError>
     ensures { IfOk result (λ text. string_bytes text ≡ clear_text_of cause) }
 {
     match cause {
-        ClearCause::Torn => String::from_str(alloc, "torn"),
-        ClearCause::NoSync => String::from_str(alloc, "no sync"),
+        ClearCause::Broken(cause) => String::from_str(alloc, break_text(cause)),
         ClearCause::AlreadyScrambled => String::from_str(alloc, "already scrambled"),
         ClearCause::PidTaken(pid) => format!(in alloc; "pid {pid} is taken"),
         ClearCause::PatForm(fault) => {
@@ -215,8 +215,7 @@ fn stream_text(alloc: Global, cause: StreamCause) -> Result<String, AllocError>
     ensures { IfOk result (λ text. string_bytes text ≡ stream_text_of cause) }
 {
     match cause {
-        StreamCause::Torn => String::from_str(alloc, "torn"),
-        StreamCause::NoSync => String::from_str(alloc, "no sync"),
+        StreamCause::Broken(cause) => String::from_str(alloc, break_text(cause)),
         StreamCause::TooLong => String::from_str(alloc, "too long"),
         StreamCause::WrongKey { period, found, due } => {
             let checks = checks_text(alloc, &found, &due)?;
@@ -246,6 +245,17 @@ fn checks_text(alloc: Global, found: &[u8; 16], due: &[u8; 16]) -> Result<String
     let found = hex::encode(alloc, found)?;
     let due = hex::encode(alloc, due)?;
     format!(in alloc; "{found} {due}")
+}
+
+/// Why a stream breaks.
+#[tactic(auto, unfolding(crate::specs::Texts::break_text))]
+fn break_text(cause: BreakCause) -> &'static str
+    ensures { result.now ≡ break_text_of cause }
+{
+    match cause {
+        BreakCause::Torn => "torn",
+        BreakCause::NoSync => "no sync",
+    }
 }
 
 /// What is wrong with a section of entitlements.

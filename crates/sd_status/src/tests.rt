@@ -3,6 +3,7 @@ use sd_book::BookLimit;
 use sd_card::CardFault;
 use sd_ecm::EcmFault;
 use sd_emm::EmmFault;
+use sd_engine::BreakCause;
 use sd_ports::MemSink;
 use sd_psi::FormFault;
 use sd_site::SiteFault;
@@ -67,7 +68,7 @@ fn each_status_has_its_line(rt: HostRuntime) -> Result<(), AllocError> {
         (
             Status::BadStream {
                 packet: 7,
-                cause: StreamCause::Torn,
+                cause: StreamCause::Broken(BreakCause::Torn),
             },
             10,
             "stream packet 7: torn\n",

@@ -9,10 +9,10 @@ use Rattle.std.proofs.lemmas.List.{get_or-set_same, get_or-set_other, get_or-rep
 use Rattle.std.proofs.lemmas.List.Folds.{list_any-append}
 use Rattle.sd_packet.specs.Header.{pid_of, unit_start_of, counter_of, payload_of}
 use Rattle.sd_section.specs.Assembled.{Fed, Assembling, completed_by, after, all_lent}
-use Rattle.sd_lines.specs.Lines.{line_of}
+use Rattle.sd_lines.specs.Lines.{section_line}
 use Rattle.sd_tables.specs.Inspected.{fed_of, on_pid, pat_sections_at, pids_named_by, named_in, is_watched, watched_on}
 use Rattle.sd_tables.specs.Inspected.{sections_at}
-use Rattle.sd_tables.specs.Watching.{is_named, naming, IsLearned, IsPlace, AreMarked, ArePlaced, IsAfter}
+use Rattle.sd_tables.specs.Watching.{is_named, naming, IsLearned, IsAssembledFrom, AreMarked, ArePlaced, IsAfter}
 use Rattle.sd_tables.proofs.Learning.{or_stay}
 use Rattle.sd_tables.proofs.Showing.{none_named}
 
@@ -126,14 +126,14 @@ marks_more packet before marks new are learned = record {
 pub places_more : (packet : List ℕ) (before : List (List ℕ)) (places new : List (Option Assembling)) →
     ArePlaced before places →
     ((pid : ℕ) → pid_of packet ≢ pid → get_or new pid None ≡ get_or places pid None) →
-    IsPlace (watched_on (pid_of packet) (packet ∷ before)) (get_or new (pid_of packet) None) →
+    IsAssembledFrom (watched_on (pid_of packet) (packet ∷ before)) (get_or new (pid_of packet) None) →
     ArePlaced (packet ∷ before) new
 places_more packet before places new are others here = record {
   at = λ pid h. elim (cases_eq (pid_of packet) pid) [
-    | inl same ↦ subst (λ (p : ℕ). IsPlace (watched_on p (packet ∷ before)) (get_or new p None)) same here
+    | inl same ↦ subst (λ (p : ℕ). IsAssembledFrom (watched_on p (packet ∷ before)) (get_or new p None)) same here
     | inr other ↦
-        subst (λ (o : Option Assembling). IsPlace (watched_on pid (packet ∷ before)) o) (sym (others pid other))
-        (subst (λ (w : List Fed). IsPlace w (get_or places pid None)) (sym (other_on pid packet before other))
+        subst (λ (o : Option Assembling). IsAssembledFrom (watched_on pid (packet ∷ before)) o) (sym (others pid other))
+        (subst (λ (w : List Fed). IsAssembledFrom w (get_or places pid None)) (sym (other_on pid packet before other))
         (are.at pid h))
   ];
 }
@@ -164,7 +164,7 @@ unwatched_after packet before marks places pid on h mark are =
                 (none_named (pid_of packet) q) refl;
           }));
       placed = places_more packet before places places are.placed (λ pid other. refl)
-          (subst (λ (w : List Fed). IsPlace w (get_or places (pid_of packet) None))
+          (subst (λ (w : List Fed). IsAssembledFrom w (get_or places (pid_of packet) None))
           (sym (none_more packet before unwatched))
           (are.placed.at (pid_of packet) within));
     }
@@ -173,11 +173,11 @@ pub unwatched_lines : (packet text : List ℕ) (before : List (List ℕ)) (marks
     (places : List (Option Assembling))
     (number pid : ℕ) →
     pid ≡ pid_of packet → pid < 8192 → get_or marks pid false ≡ false → IsAfter before marks places →
-    text ≡ text ++ flat_map (line_of number (pid_of packet)) (sections_at packet before)
+    text ≡ text ++ flat_map (section_line number (pid_of packet)) (sections_at packet before)
 unwatched_lines packet text before marks places number pid on h mark are =
     let unwatched : is_watched (pid_of packet) before ≡ false = watched_is packet before marks places pid false on h
     mark are in
-    sym (ap (λ (s : List (List ℕ)). text ++ flat_map (line_of number (pid_of packet)) s)
+    sym (ap (λ (s : List (List ℕ)). text ++ flat_map (section_line number (pid_of packet)) s)
     (no_sections packet before unwatched)
     ∙ append-nil text)
 
@@ -226,7 +226,7 @@ put_back packet before places state h long are is =
     places_more packet before places (set out (pid_of packet) (Some state)) are
     (λ q other. get_or-set_other out (pid_of packet) q (Some state) None (λ e. other (sym e))
     ∙ get_or-set_other places (pid_of packet) q None None (λ e. other (sym e)))
-    (subst (λ (o : Option Assembling). IsPlace (watched_on (pid_of packet) (packet ∷ before)) o)
+    (subst (λ (o : Option Assembling). IsAssembledFrom (watched_on (pid_of packet) (packet ∷ before)) o)
     (sym (get_or-set_same out (pid_of packet) (Some state) None within)) is)
 
 -- where it is watched, its assembler took the packet, and the PIDs that its sections name are learned
@@ -262,15 +262,15 @@ pub watched_lines : (packet text new : List ℕ) (before : List (List ℕ)) (mar
     (places : List (Option Assembling))
     (fed : Assembling) (number pid : ℕ) →
     pid ≡ pid_of packet → pid < 8192 → get_or marks pid false ≡ true → IsAfter before marks places →
-    fed ≡ after (fed_of packet ∷ watched_on (pid_of packet) before) → new ≡ text ++ flat_map (line_of number pid)
+    fed ≡ after (fed_of packet ∷ watched_on (pid_of packet) before) → new ≡ text ++ flat_map (section_line number pid)
     fed.waiting →
-    new ≡ text ++ flat_map (line_of number (pid_of packet)) (sections_at packet before)
+    new ≡ text ++ flat_map (section_line number (pid_of packet)) (sections_at packet before)
 watched_lines packet text new before marks places fed number pid on h mark are is pushed =
     let watched : is_watched (pid_of packet) before ≡ true = watched_is packet before marks places pid true on h mark
     are in
     pushed
-    ∙ ap (λ (p : ℕ). text ++ flat_map (line_of number p) fed.waiting) on
-    ∙ ap (λ (s : List (List ℕ)). text ++ flat_map (line_of number (pid_of packet)) s)
+    ∙ ap (λ (p : ℕ). text ++ flat_map (section_line number p) fed.waiting) on
+    ∙ ap (λ (s : List (List ℕ)). text ++ flat_map (section_line number (pid_of packet)) s)
     (shown_is packet before fed watched is)
 
 -- what the place of a watched PID is after a packet more that was fed
@@ -286,6 +286,6 @@ fed_after packet before fed taken pid on was is =
 pub first_placed : (places : List (Option Assembling)) → places ≡ replicate 8192 None → ArePlaced [] places
 unfolding watched_on
 first_placed places is = record {
-  at = λ pid h. subst (λ (o : Option Assembling). IsPlace (watched_on pid []) o)
+  at = λ pid h. subst (λ (o : Option Assembling). IsAssembledFrom (watched_on pid []) o)
       (sym (ap (λ (l : List (Option Assembling)). get_or l pid None) is ∙ get_or-replicate 8192 pid None None h)) refl;
 }

@@ -4,7 +4,7 @@ use Rattle.std.proofs.Common.{append-nil, append_assoc, arith}
 use Rattle.std.proofs.lemmas.List.{reverse-append}
 use Rattle.std.specs.List.{flat_map}
 use Rattle.sd_packet.specs.Header.{pid_of}
-use Rattle.sd_lines.specs.Lines.{line_of}
+use Rattle.sd_lines.specs.Lines.{section_line}
 use Rattle.sd_engine.specs.Stage.{Chain}
 use Rattle.sd_tables.specs.Inspected.{lines_in, sections_at}
 use Rattle.sd_tables.specs.Staged.{seen, inspector_does, StandsAfter}
@@ -19,12 +19,12 @@ reversed packet packets before =
 
 -- the lines of a packet are those at its number
 first_lines : (packet : List ℕ) (before : List (List ℕ)) (first : List ℕ) (number : ℕ) → number ≡ length before →
-    first ≡ flat_map (line_of number (pid_of packet)) (sections_at packet before) →
+    first ≡ flat_map (section_line number (pid_of packet)) (sections_at packet before) →
     lines_in (packet ∷ before) ≡ lines_in before ++ first
 unfolding lines_in
 first_lines packet before first number is h =
     ap (λ (l : List ℕ). lines_in before ++ l)
-    (ap (λ (n : ℕ). flat_map (line_of n (pid_of packet)) (sections_at packet before)) (sym is) ∙ sym h)
+    (ap (λ (n : ℕ). flat_map (section_line n (pid_of packet)) (sections_at packet before)) (sym is) ∙ sym h)
 
 pub chain_lines : (before packets : List (List ℕ)) (s t : Inspector) (bytes : List ℕ) (n : ℕ) →
     StandsAfter before (seen s) →

@@ -5,7 +5,7 @@ use Rattle.std.specs.Prelude.{Option, Some, slice_get, drop}
 use Rattle.std.specs.List.{flat_map, list_any}
 use Rattle.std.proofs.lemmas.List.Folds.{list_any-append}
 use Rattle.sd_section.specs.Assembled.{Assembling, all_lent}
-use Rattle.sd_lines.specs.Lines.{line_of}
+use Rattle.sd_lines.specs.Lines.{section_line}
 use Rattle.sd_tables.specs.Inspected.{pids_named_by}
 use Rattle.sd_tables.specs.Watching.{is_named, naming, IsLearned, IsLearning}
 use Rattle.sd_tables.proofs.Learning.{or_false, or_assoc}
@@ -22,20 +22,20 @@ front_is (first ∷ waiting) rest section is after =
 -- a line more
 pub lines_more : (number pid : ℕ) (all text new section : List ℕ) (waiting rest : List (List ℕ)) →
     waiting ≡ section ∷ rest →
-    new ≡ text ++ line_of number pid section → text ++ flat_map (line_of number pid) waiting ≡ all →
-    new ++ flat_map (line_of number pid) rest ≡ all
+    new ≡ text ++ section_line number pid section → text ++ flat_map (section_line number pid) waiting ≡ all →
+    new ++ flat_map (section_line number pid) rest ≡ all
 lines_more number pid all text new section waiting rest is pushed so_far =
-    ap (λ (l : List ℕ). l ++ flat_map (line_of number pid) rest) pushed
-    ∙ append_assoc text (line_of number pid section) (flat_map (line_of number pid) rest)
-    ∙ sym (ap (λ (w : List (List ℕ)). text ++ flat_map (line_of number pid) w) is)
+    ap (λ (l : List ℕ). l ++ flat_map (section_line number pid) rest) pushed
+    ∙ append_assoc text (section_line number pid section) (flat_map (section_line number pid) rest)
+    ∙ sym (ap (λ (w : List (List ℕ)). text ++ flat_map (section_line number pid) w) is)
     ∙ so_far
 
 -- all lines
 pub all_lines : (number pid : ℕ) (all text : List ℕ) (waiting : List (List ℕ)) → waiting ≡ [] →
-    text ++ flat_map (line_of number pid) waiting ≡ all →
+    text ++ flat_map (section_line number pid) waiting ≡ all →
     text ≡ all
 all_lines number pid all text waiting none so_far =
-    sym (ap (λ (w : List (List ℕ)). text ++ flat_map (line_of number pid) w) none ∙ append-nil text) ∙ so_far
+    sym (ap (λ (w : List (List ℕ)). text ++ flat_map (section_line number pid) w) none ∙ append-nil text) ∙ so_far
 
 -- what a section and those after it name
 named_by : (b : Bool) (q : ℕ) (section : List ℕ) (rest : List (List ℕ)) →

@@ -3,9 +3,9 @@ use Rattle.std.proofs.Common.{ℕ, Bool, List, ap, get_or}
 use Rattle.std.specs.Prelude.{Option, Some, None}
 use Rattle.sd_section.specs.Assembled.{Fed, Assembling}
 use Rattle.sd_tables.specs.Inspected.{watched_on}
-use Rattle.sd_tables.specs.Watching.{IsPlace, IsIdle, AreIdle, IsAfter}
+use Rattle.sd_tables.specs.Watching.{IsAssembledFrom, IsIdle, AreIdle, IsAfter}
 
-idle_place : (packets : List Fed) (place : Option Assembling) → IsPlace packets place → IsIdle place
+idle_place : (packets : List Fed) (place : Option Assembling) → IsAssembledFrom packets place → IsIdle place
 idle_place packets None is = tt
 idle_place packets (Some state) is = ap (λ (s : Assembling). s.waiting) is
 

@@ -7,7 +7,7 @@ use Rattle.sd_section.specs.Header.{whole_of}
 use Rattle.sd_section.specs.Judged.{section_fault}
 use Rattle.sd_section.specs.Assembled.{Fed, completed_by}
 use Rattle.sd_psi.specs.Tables.{pmt_pids_of, is_pat}
-use Rattle.sd_lines.specs.Lines.{line_of}
+use Rattle.sd_lines.specs.Lines.{section_line}
 
 -- what an assembler takes of a packet
 abbrev pub fed_of : List ℕ → Fed
@@ -59,5 +59,5 @@ sections_at packet before =
 -- a line for each section; packets are numbered from 0 [this project, docs/FORMATS.md, Inspector]
 unfoldable pub lines_in : List (List ℕ) → List ℕ
 lines_in [] = []
-lines_in (packet ∷ before) = lines_in before ++ flat_map (line_of (length before) (pid_of packet))
+lines_in (packet ∷ before) = lines_in before ++ flat_map (section_line (length before) (pid_of packet))
     (sections_at packet before)

@@ -4,7 +4,7 @@ use Rattle.std.specs.List.{flat_map}
 use Rattle.sd_cause.specs.declared.memory.NoMemory.{NoMemory}
 use Rattle.sd_packet.specs.Header.{pid_of}
 use Rattle.sd_section.specs.Assembled.{Assembling}
-use Rattle.sd_lines.specs.Lines.{line_of}
+use Rattle.sd_lines.specs.Lines.{section_line}
 use Rattle.sd_tables.specs.Inspected.{sections_at}
 use Rattle.sd_tables.specs.Watching.{IsAfter}
 use Rattle.sd_tables.specs.declared.inspector.Inspector.{Inspector}
@@ -33,7 +33,7 @@ pub record StandsAfter (before : List (List ℕ)) (state : Inspecting) : Type 0 
 -- a packet's lines are written, those of the sections that it completes, and no step is taken
 pub record Inspects (s : Inspecting) (packet : List ℕ) (t : Inspecting) (bytes : List ℕ) (steps : ℕ) : Type 0 where
   pub lines : (before : List (List ℕ)) → StandsAfter before s →
-      bytes ≡ flat_map (line_of s.number (pid_of packet)) (sections_at packet before)
+      bytes ≡ flat_map (section_line s.number (pid_of packet)) (sections_at packet before)
   pub after : (before : List (List ℕ)) → StandsAfter before s → s.number < 2 ^ 64 - 1 → StandsAfter (packet ∷ before) t
   pub no_steps : steps ≡ 0
 

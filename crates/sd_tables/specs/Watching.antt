@@ -28,9 +28,9 @@ pub record IsLearning (pid : ℕ) (all waiting : List (List ℕ)) (old marks : L
       (get_or marks q false || is_named q (naming pid waiting)) ≡ (get_or old q false || is_named q (naming pid all))
 
 -- the assembler of a PID stands after these packets of it, all sections lent; there is none yet before the first
-abbrev pub IsPlace : List Fed → Option Assembling → Type 0
-IsPlace packets None = packets ≡ []
-IsPlace packets (Some state) = state ≡ all_lent (after packets)
+abbrev pub IsAssembledFrom : List Fed → Option Assembling → Type 0
+IsAssembledFrom packets None = packets ≡ []
+IsAssembledFrom packets (Some state) = state ≡ all_lent (after packets)
 
 -- the assembler of a PID has nothing left to lend
 abbrev pub IsIdle : Option Assembling → Type 0
@@ -47,7 +47,7 @@ pub record AreMarked (packets : List (List ℕ)) (marks : List Bool) : Type 0 wh
 
 -- the assemblers are those after these packets
 pub record ArePlaced (packets : List (List ℕ)) (places : List (Option Assembling)) : Type 0 where
-  pub at : (pid : ℕ) → pid < 8192 → IsPlace (watched_on pid packets) (get_or places pid None)
+  pub at : (pid : ℕ) → pid < 8192 → IsAssembledFrom (watched_on pid packets) (get_or places pid None)
 
 -- marks and assemblers are those after these packets
 pub record IsAfter (packets : List (List ℕ)) (marks : List Bool) (places : List (Option Assembling)) : Type 0 where

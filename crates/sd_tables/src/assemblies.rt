@@ -3,9 +3,9 @@ ghost use Rattle.std.specs.Prelude.{string_bytes, vec_len};
 ghost use Rattle.std.specs.List.{flat_map};
 ghost use Rattle.sd_packet.specs.Header.{pid_of};
 ghost use Rattle.sd_section.specs.Assembled.{Fed, after, all_lent};
-ghost use Rattle.sd_lines.specs.Lines.{line_of};
+ghost use Rattle.sd_lines.specs.Lines.{section_line};
 ghost use Rattle.sd_tables.specs.Inspected.{sections_at};
-ghost use Rattle.sd_tables.specs.Watching.{naming, IsLearned, IsPlace, AreIdle, IsAfter};
+ghost use Rattle.sd_tables.specs.Watching.{naming, IsLearned, IsAssembledFrom, AreIdle, IsAfter};
 
 use crate::watched::{PIDS, Watched};
 use sd_cause::NoMemory;
@@ -45,7 +45,8 @@ impl Assemblies {
         ensures lines { (before : List (List ℕ)) →
             IsAfter before self.old.watched.marks.items self.old.assemblers.items →
             OnOk result (string_bytes text.new
-            ≡ string_bytes text.old ++ flat_map (line_of number (pid_of packet.now)) (sections_at packet.now before)) }
+            ≡ string_bytes text.old
+            ++ flat_map (section_line number (pid_of packet.now)) (sections_at packet.now before)) }
         ensures after { (before : List (List ℕ)) →
             IsAfter before self.old.watched.marks.items self.old.assemblers.items →
             OnOk result (IsAfter (packet.now ∷ before) self.new.watched.marks.items self.new.assemblers.items) }
@@ -66,7 +67,7 @@ impl Assemblies {
         requires pid { pid < 8192 }
         requires idle { AreIdle self.old.assemblers.items }
         ensures lent { IfOk result (λ assembler. assembler.waiting ≡ []) }
-        ensures place { (packets : List Fed) → IsPlace packets (get_or self.old.assemblers.items pid None) →
+        ensures place { (packets : List Fed) → IsAssembledFrom packets (get_or self.old.assemblers.items pid None) →
             IfOk result (λ assembler. assembler ≡ all_lent (after packets)) }
         ensures others { self.new.assemblers.items ≡ slice_set self.old.assemblers.items pid None }
         ensures watched { self.new.watched.marks.items ≡ self.old.watched.marks.items }
@@ -102,7 +103,7 @@ fn show(
     text: &mut String,
 ) -> Result<(), NoMemory>
     ensures lines { OnOk result
-        (string_bytes text.new ≡ string_bytes text.old ++ flat_map (line_of number pid) assembler.old.waiting) }
+        (string_bytes text.new ≡ string_bytes text.old ++ flat_map (section_line number pid) assembler.old.waiting) }
     ensures learned { OnOk result
         (IsLearned (naming pid assembler.old.waiting) watched.old.marks.items watched.new.marks.items) }
     ensures lent { OnOk result (assembler.new ≡ all_lent assembler.old) }

@@ -18,7 +18,7 @@ use Rattle.sd_ecm.specs.Parts.{Message, IsMessage, IsOfMessage, parts_of}
 use Rattle.sd_ecm.specs.declared.part.Place.{Place}
 use Rattle.sd_ecm.specs.declared.part.EcmPart.{EcmPart}
 use Rattle.sd_ecm.proofs.Sharing.{all_are_of, as_many, joined_are_all, number_is}
-use Rattle.sd_reception.specs.Stretches.{told}
+use Rattle.sd_reception.specs.Stretches.{message_told}
 use Rattle.sd_reception.specs.Offered.{same_header, is_after, part_fault}
 use Rattle.sd_told.specs.Parts.{StandsBetween}
 use Rattle.sd_told.proofs.Alike.{same_number, same_bytes}
@@ -186,10 +186,10 @@ unfolding pieces_for
 some_part message = omega (arith, as_many message)
 
 -- all parts tell it
-pub parts_tell : (message : Message) → told (reverse (parts_of message)) ≡ Some message
+pub parts_tell : (message : Message) → message_told (reverse (parts_of message)) ≡ Some message
 parts_tell message = by_run (reverse (parts_of message)) refl
   where
-    by_run : (run : List EcmPart) → reverse (parts_of message) ≡ run → told run ≡ Some message
+    by_run : (run : List EcmPart) → reverse (parts_of message) ≡ run → message_told run ≡ Some message
     by_run [] e =
         let none : length (parts_of message) ≡ 0 = ap length (sym (reverse-reverse
         (parts_of message)) ∙ ap reverse e) in

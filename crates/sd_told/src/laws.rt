@@ -26,7 +26,7 @@ ghost use Rattle.sd_sent.specs.Packets.{IsWholePacket, AreLong};
 ghost use Rattle.sd_sent.specs.Numbered.{numbered};
 ghost use Rattle.sd_reception.specs.Tuned.{cat_tuning};
 ghost use Rattle.sd_reception.specs.Heard.{hears};
-ghost use Rattle.sd_reception.specs.Stretches.{told};
+ghost use Rattle.sd_reception.specs.Stretches.{message_told};
 ghost use Rattle.sd_reception.specs.Keys.{key_from};
 ghost use Rattle.sd_reception.specs.Confirmed.{Segment, unmarked};
 ghost use Rattle.sd_reception.specs.Offered.{is_before, is_mixed, says_same, part_fault};
@@ -49,7 +49,7 @@ pub fn parts_are_right()
         StandsBetween message before part after }
     ensures fault { (message : Message) (x : ℕ) → IsMessage message →
         part_fault (reverse (take x (parts_of message))) ≡ None }
-    ensures whole { (message : Message) → told (reverse (parts_of message)) ≡ Some message }
+    ensures whole { (message : Message) → message_told (reverse (parts_of message)) ≡ Some message }
 {}
 
 /// A control message has the control word of its number under the key of its period, and that word's check value.

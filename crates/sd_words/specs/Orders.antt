@@ -1,6 +1,6 @@
 -- What an order that was read is, and when its words are refused.
 use Rattle.std.specs.Prelude.{◌≡◌, ◌≢◌, ◌≤◌, ◌⊎◌, ℕ, Result, Ok, Err}
-use Rattle.sd_run_sample.specs.declared.command.TheConstants.{MOST_PACKETS}
+use Rattle.sd_sample.specs.declared.stream.TheConstants.{MOST_PACKETS}
 use Rattle.sd_status.specs.declared.status.Status.{Status}
 use Rattle.sd_status.specs.declared.status.Status.TheVariants.{Usage, BadWord}
 use Rattle.sd_files.specs.Shown.{shown_word, shown_number}
@@ -12,28 +12,29 @@ use Rattle.sd_words.specs.declared.order.Order.TheVariants.{Version}
 use Rattle.sd_words.specs.Words as words
 
 -- the order as the words say it
-abbrev pub told : Order → words.Order
-told (Cover site book) = words.CoverOf (shown_word site) (shown_word book)
-told (Card site leaf out) = words.CardOf (shown_word site) (shown_number leaf) (shown_word out)
-told (Sample number packets out) = words.SampleOf number packets (shown_word out)
-told (Tables stream) = words.TablesOf (shown_word stream)
-told (Head site book clear out) = words.HeadOf (shown_word site) (shown_word book) (shown_word clear) (shown_word out)
-told (Receive card stream out) = words.ReceiveOf (shown_word card) (shown_word stream) (shown_word out)
-told (Accounts site accounts out) = words.AccountsOf (shown_word site) (shown_word accounts) (shown_word out)
-told (Book site book commands out) =
+abbrev pub order_said : Order → words.Order
+order_said (Cover site book) = words.CoverOf (shown_word site) (shown_word book)
+order_said (Card site leaf out) = words.CardOf (shown_word site) (shown_number leaf) (shown_word out)
+order_said (Sample number packets out) = words.SampleOf number packets (shown_word out)
+order_said (Tables stream) = words.TablesOf (shown_word stream)
+order_said (Head site book clear out) =
+    words.HeadOf (shown_word site) (shown_word book) (shown_word clear) (shown_word out)
+order_said (Receive card stream out) = words.ReceiveOf (shown_word card) (shown_word stream) (shown_word out)
+order_said (Accounts site accounts out) = words.AccountsOf (shown_word site) (shown_word accounts) (shown_word out)
+order_said (Book site book commands out) =
     words.BookOf (shown_word site) (shown_word book) (shown_word commands) (shown_word out)
-told (Layered site book width) = words.LayeredOf (shown_word site) (shown_word book) (shown_number width)
-told (Lcard site leaf width out) =
+order_said (Layered site book width) = words.LayeredOf (shown_word site) (shown_word book) (shown_number width)
+order_said (Lcard site leaf width out) =
     words.LcardOf (shown_word site) (shown_number leaf) (shown_number width) (shown_word out)
-told (Opens site book leaves) = words.OpensOf (shown_word site) (shown_word book) (shown_word leaves)
-told (Trace site book leaves) = words.TraceOf (shown_word site) (shown_word book) (shown_word leaves)
-told (Trial site book clear) = words.TrialOf (shown_word site) (shown_word book) (shown_word clear)
-told (Help topic) = words.HelpOf topic
-told Version = words.VersionOf
+order_said (Opens site book leaves) = words.OpensOf (shown_word site) (shown_word book) (shown_word leaves)
+order_said (Trace site book leaves) = words.TraceOf (shown_word site) (shown_word book) (shown_word leaves)
+order_said (Trial site book clear) = words.TrialOf (shown_word site) (shown_word book) (shown_word clear)
+order_said (Help topic) = words.HelpOf topic
+order_said Version = words.VersionOf
 
 -- the same of an answer
 abbrev pub shown : Result Order Status → Result words.Order Status
-shown (Ok order) = Ok (told order)
+shown (Ok order) = Ok (order_said order)
 shown (Err status) = Err status
 
 -- words of two files or of three have numbers of their own

@@ -2,7 +2,7 @@
 use Rattle.std.specs.Prelude.{ℕ, ◌-◌, ◌^◌, nat_lt, List, [], ◌∷◌, codes, bytes_eq, ◌||◌, if◌then◌else◌, Option, Some}
 use Rattle.std.specs.Prelude.{None, Bool, Result, Ok, Err}
 use Rattle.sd_text.specs.Number.{number_of}
-use Rattle.sd_run_sample.specs.declared.command.TheConstants.{MOST_PACKETS}
+use Rattle.sd_sample.specs.declared.stream.TheConstants.{MOST_PACKETS}
 use Rattle.sd_run_help.specs.declared.topic.Topic.{Topic}
 use Rattle.sd_run_help.specs.Topics.{topic_of}
 use Rattle.sd_status.specs.Meant.{Word}

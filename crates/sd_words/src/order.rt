@@ -8,7 +8,7 @@ ghost use Rattle.sd_words.specs.Orders.{shown, IsSound, RefusesWords};
 
 use sd_files::{Number, Word};
 use sd_run_help::Topic;
-use sd_run_sample::MOST_PACKETS;
+use sd_sample::MOST_PACKETS;
 use sd_status::Status;
 use sd_text::number_after;
 

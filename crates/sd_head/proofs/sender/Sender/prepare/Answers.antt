@@ -10,5 +10,5 @@ returns-then-count-site-ne0-clause-value c =
 
 pub returns-clause-value : goal.returns-clause-value
 returns-clause-value c =
-    some_due (fields_of c.args.site.now) c.args.crypto.now c.count-count.result c.args.clear.now.count c.place.result
-    c.count-count.ensures c.if-count-site-ne0.false c.place.ensures.value
+    some_due (fields_of c.args.site.now) c.args.crypto.now c.count-count.result c.args.clear.now.count
+    c.make_ready.result c.count-count.ensures c.if-count-site-ne0.false c.make_ready.ensures.value

@@ -1,7 +1,7 @@
 use Rattle.std.proofs.Common.{ℕ, List, refl, inl, ap, ◌∷◌, ◌++◌, ◌∙◌, arith}
 use Rattle.std.specs.List.{flat_map}
 use Rattle.sd_packet.specs.Header.{pid_of}
-use Rattle.sd_lines.specs.Lines.{line_of}
+use Rattle.sd_lines.specs.Lines.{section_line}
 use Rattle.sd_engine.specs.Stage.{vessel}
 use Rattle.sd_tables.specs.Inspected.{sections_at}
 use Rattle.sd_engine.proofs.Vessels.{cut_short, too_short}
@@ -33,7 +33,7 @@ returns-clause-prefix g c = λ is. cut_short _ (vessel g.K.Sink c.args.out.now) 
         },
         record {
           lines = λ before s. c.as_bytes.ensures.value ∙ (c.in_default.ensures.lines before s.after
-              ∙ ap (λ (xs : List ℕ). xs ++ flat_map (line_of c.args.self.now.number (pid_of c.args.packet.now))
+              ∙ ap (λ (xs : List ℕ). xs ++ flat_map (section_line c.args.self.now.number (pid_of c.args.packet.now))
               (sections_at c.args.packet.now before))
               c.new-text.ensures.bytes);
           after = λ before s small. record {

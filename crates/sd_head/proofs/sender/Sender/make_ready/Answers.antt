@@ -1,7 +1,7 @@
 use Rattle.std.proofs.Common.{arith}
 use Rattle.sd_site.specs.Fields.{fields_of}
 use Rattle.sd_head.proofs.Telling.{may_be_sent}
-use Rattle.sd_head.proofs.sender.Sender.place.Goals as goal
+use Rattle.sd_head.proofs.sender.Sender.make_ready.Goals as goal
 
 pub returns-clause-fits : goal.returns-clause-fits
 returns-clause-fits c =
