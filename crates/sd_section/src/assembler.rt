@@ -8,7 +8,9 @@ ghost use Rattle.sd_section.specs.contracts.assembler.Assembler.{the_row};
 
 use crate::holds::Holds;
 use crate::limits::LONGEST;
-use crate::making::{fresh_in, gather, go_on, is_next, is_taken, keep_if, part, store, whole_length};
+use crate::making::{
+    fresh_in, gather, go_on, is_next, is_taken, keep_if, part, store, whole_length,
+};
 use sd_cause::NoMemory;
 use std::alloc::Global;
 use std::marker::Model;
