@@ -1,2 +1,2 @@
-pub mod Trials
-pub mod Pools
+pub mod Tried
+pub mod Ends

@@ -13,7 +13,7 @@ ghost use Rattle.sd_run_opens.specs.Opens.{open_end, shut_end, pool_end, opened_
 
 /// The line of a set says `open` exactly where the names of the listed leaves together reach its key
 /// [Naor, Naor, Lotspiech 2001, 3.2], and all messages of the book add nothing to that.
-#[tactic(auto, using(crate::proofs::Pools::open_is_reached, crate::proofs::Pools::open_is_known))]
+#[tactic(auto, using(crate::proofs::Ends::open_is_reached, crate::proofs::Ends::open_is_known))]
 pub fn open_sets_are_reached()
     ensures reached { (d : ℕ) (leaves : List ℕ) (name : SetName) → d ≤ HIGHEST → All (λ u. u < 2 ^ d) leaves →
         IsOfHeight d name →
@@ -24,7 +24,7 @@ pub fn open_sets_are_reached()
 {}
 
 /// Some line of a period says `open` exactly where the listed leaves' cards together give the key of the period.
-#[tactic(auto, using(crate::proofs::Pools::open_gives_period))]
+#[tactic(auto, using(crate::proofs::Ends::open_gives_period))]
 pub fn open_lines_give_the_period()
     ensures { (service : Service) (leaves : List ℕ) (q : ℕ) → service.height ≤ HIGHEST →
         All (λ u. u < 2 ^ service.height) leaves → q ≤ last_period service.commands →

@@ -15,7 +15,7 @@ ghost use Rattle.sd_printed.specs.Trials.{opened_lines};
 /// refused, means that these lines are printed, and is done: how many packets the stream and its broadcast have, and of
 /// each leaf's receiver how many it writes, those of the periods in which the leaf isn't revoked, and the first period
 /// of the broadcast in which it is. No receiver ends otherwise.
-#[tactic(auto, using(crate::proofs::Trials::trial_good))]
+#[tactic(auto, using(crate::proofs::Tried::trial_good))]
 pub fn good_trials_print_what_is_opened()
     ensures { (site book clear : Word) (given : Given) (plan : Plan) (bytes : List ℕ) → IsPlan plan →
         (plan_meaning site book given).result ≡ Ok plan → given clear ≡ Some bytes → length bytes ≤ MOST_CLEAR_BYTES →
@@ -25,7 +25,7 @@ pub fn good_trials_print_what_is_opened()
 {}
 
 /// A trial that prints lines took all of a clear stream of packets of which none is refused, and the lines are those.
-#[tactic(auto, using(crate::proofs::Trials::trial_done))]
+#[tactic(auto, using(crate::proofs::Tried::trial_done))]
 pub fn done_trials_print_what_is_opened()
     ensures { (plan : Plan) (prefix : Prefix) (text : List ℕ) → IsPlan plan → AreBytes prefix.bytes →
         trial_text plan prefix ≡ Ok text →

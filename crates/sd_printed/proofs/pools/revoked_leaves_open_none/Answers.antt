@@ -1,5 +1,5 @@
 use Rattle.sd_pooled.proofs.Known.{revoked_know_nothing}
-use Rattle.sd_printed.proofs.Pools.{all_shut}
+use Rattle.sd_printed.proofs.Ends.{all_shut}
 use Rattle.sd_printed.proofs.pools.revoked_leaves_open_none.Goals as goal
 
 pub returns-clause-shut : goal.returns-clause-shut
