@@ -12,7 +12,7 @@ enum {
     HEIGHT = 20,
     PID = 496,
     ENTRY = 40,
-    FRONT = 27
+    PREFIX = 27
 };
 
 struct entry {
@@ -69,7 +69,7 @@ static struct emm section_of(uint32_t period, const uint8_t *check, const struct
 }
 
 static void write_emm(uint8_t *packet, const struct emm *emm, int counter) {
-    int length = 12 + FRONT + ENTRY * emm->count;
+    int length = 12 + PREFIX + ENTRY * emm->count;
     uint8_t *s = packet + 5, *body = s + 8;
     packet[0] = 0x47;
     packet[1] = 0x40 | PID >> 8;
@@ -87,7 +87,7 @@ static void write_emm(uint8_t *packet, const struct emm *emm, int counter) {
     memcpy(body + 10, emm->check, 16);
     body[26] = emm->count;
     for (int k = 0; k < emm->count; k++) {
-        uint8_t *p = body + FRONT + ENTRY * k;
+        uint8_t *p = body + PREFIX + ENTRY * k;
         put32(p, emm->entries[k].i);
         put32(p + 4, emm->entries[k].j);
         memcpy(p + 8, emm->entries[k].wrapped, 32);
@@ -115,7 +115,7 @@ static int read_emm(struct emm *emm, const uint8_t *packet) {
     if (packet[0] != 0x47 || !(packet[1] & 0x40) || (packet[3] & 0x30) != 0x10 || packet[4])
         return 0;
     int length = 3 + (int)(get16(s + 1) & 0x0FFF);
-    if (s[0] != 0x82 || s[1] >> 4 != 0xB || length > SIZE - 5 || length < 12 + FRONT || s[5] != 0xC1 || s[6] || s[7])
+    if (s[0] != 0x82 || s[1] >> 4 != 0xB || length > SIZE - 5 || length < 12 + PREFIX || s[5] != 0xC1 || s[6] || s[7])
         return 0;
     if (crc32(s, length))
         return 0;
@@ -127,11 +127,11 @@ static int read_emm(struct emm *emm, const uint8_t *packet) {
     emm->count = body[26];
     uint32_t before = 3u * emm->index, left = emm->sets > before ? emm->sets - before : 0;
     uint32_t sections = emm->sets ? emm->sets / 3 + (emm->sets % 3 > 0) : 1;
-    if (length != 12 + FRONT + ENTRY * emm->count || emm->sections != sections || emm->index >= sections ||
+    if (length != 12 + PREFIX + ENTRY * emm->count || emm->sections != sections || emm->index >= sections ||
         emm->count != (left < 3 ? left : 3))
         return 0;
     for (int k = 0; k < emm->count; k++) {
-        const uint8_t *p = body + FRONT + ENTRY * k;
+        const uint8_t *p = body + PREFIX + ENTRY * k;
         struct entry *entry = emm->entries + k;
         entry->i = get32(p);
         entry->j = get32(p + 4);

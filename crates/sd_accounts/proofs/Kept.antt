@@ -13,9 +13,9 @@ use Rattle.sd_accounts.specs.Bound.{leaf_on, leaf_of, first_there, holds, is_hel
 use Rattle.sd_accounts.specs.Kept.{IsBelow, leaf_after, marks_after, mark_of, IsKept}
 
 -- of one that is there or nothing
-none_behind : (o : Option ℕ) → first_there o None ≡ o
-none_behind None = refl
-none_behind (Some u) = refl
+none_after : (o : Option ℕ) → first_there o None ≡ o
+none_after None = refl
+none_after (Some u) = refl
 
 -- of a test or nothing
 or_false : (b : Bool) → (b || false) ≡ b
@@ -46,7 +46,7 @@ kept_none d leaf_for marks none is = record {
 -- the leaf of a name, with one line more
 leaf_more : (name : List ℕ) (before : List (Option Entry)) (said : Option Entry) →
     leaf_of name (before ++ said ∷ []) ≡ first_there (leaf_of name before) (leaf_on name said)
-leaf_more name [] said = none_behind (leaf_on name said)
+leaf_more name [] said = none_after (leaf_on name said)
 leaf_more name (one ∷ before) said = rw (leaf_more name before said) (shifted (leaf_on name one))
   where
     shifted : (o : Option ℕ) → first_there o (first_there (leaf_of name before) (leaf_on name said)) ≡
@@ -74,7 +74,7 @@ same_more d before said leaf_for new marks none free same kept = record {
   where
     one : (name : List ℕ) → leaf_of name (before ++ said ∷ []) ≡ leaf_of name before
     one name = leaf_more name before said ∙ ap (first_there (leaf_of name before)) (none name) ∙
-        none_behind (leaf_of name before)
+        none_after (leaf_of name before)
 
     still : (u : ℕ) → is_held u (before ++ said ∷ []) ≡ is_held u before
     still u = held_more u before said ∙ ap (λ b. is_held u before || b) (free u) ∙ or_false (is_held u before)
@@ -101,7 +101,7 @@ bound_more d before other leaf leaf_for new marks low free is kept = record {
         let unbound : leaf_of name before ≡ None = sym (kept.leaves name) ∙ ap leaf_for (sym same) ∙ free in
         rw (e, unbound, nat_list_eq_equiv.symm name other, e) refl
     found name false e = rw (e, nat_list_eq_equiv.symm name other, e)
-        (kept.leaves name ∙ sym (none_behind (leaf_of name before)))
+        (kept.leaves name ∙ sym (none_after (leaf_of name before)))
 
     marked : (u : ℕ) (b : Bool) → (leaf == u) ≡ b → u < 2 ^ d →
         mark_of (slice_set marks leaf true) u ≡ (is_held u before || (leaf == u))

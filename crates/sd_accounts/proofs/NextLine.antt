@@ -90,7 +90,7 @@ pub line_taken : (d : ℕ) (before : List (Option Entry)) (commands : List Comma
     command_fits d commands command ≡ Ok command → judged_line d before commands said ≡ Ok command
 line_taken d before commands said command e fits = rw (e, fits) refl
 
--- what is judged behind a line that is taken
+-- what is judged after a line that is taken
 pub judged_taken : (d : ℕ) (before : List (Option Entry)) (commands : List Command) (said : Option Entry)
     (rest : List (Option Entry)) (command : Command) → judged_line d before commands said ≡ Ok command →
     judged d before commands (said ∷ rest) ≡ judged d (before ++ said ∷ []) (commands ++ command ∷ []) rest

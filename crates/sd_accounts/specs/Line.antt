@@ -26,11 +26,11 @@ is_name_byte byte = is_ascii_lowercase byte || (is_ascii_digit byte || byte == 4
 unfoldable pub is_name : List ℕ → Bool
 is_name text = nat_lt 0 (length text) && (nat_le (length text) LONGEST_NAME && list_all is_name_byte text)
 
--- the byte in front of the first of two parts
+-- the byte before the first of two parts
 abbrev pub onto_first : ℕ → List ℕ × List ℕ → List ℕ × List ℕ
 onto_first byte parts = (byte ∷ parts.0, parts.1)
 
--- what stands before the first space, and behind it
+-- what stands before the first space, and after it
 abbrev pub cut_at_space : List ℕ → Option (List ℕ × List ℕ)
 cut_at_space [] = None
 cut_at_space (byte ∷ bytes) = if byte == 32 then Some ([], bytes) else option_map (onto_first byte) (cut_at_space bytes)
@@ -54,7 +54,7 @@ assigned d text = option_and_then
     (λ parts. option_and_then (λ name. option_map (Assigns name) (leaf_in d parts.1)) (name_in parts.0))
     (cut_at_space text)
 
--- what is said behind a word, or on a line that doesn't begin with it
+-- what is said after a word, or on a line that doesn't begin with it
 abbrev pub by_word : Option (List ℕ) → (List ℕ → Option Entry) → Option Entry → Option Entry
 by_word None says other = other
 by_word (Some text) says other = says text

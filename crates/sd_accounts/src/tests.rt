@@ -96,7 +96,7 @@ fn text_of(alloc: Global, names: u32, periods: u32, last: &str) -> Result<String
 }
 
 #[test]
-fn limits_come_behind_the_other_faults(rt: HostRuntime) -> Result<(), Fail> {
+fn limits_come_after_the_other_faults(rt: HostRuntime) -> Result<(), Fail> {
     let alloc = rt.alloc();
     let rows = [
         (3, 1, MOST_PERIODS, "", None),

@@ -50,25 +50,25 @@ parts_are : (plan : Plan) (clear before : List (List ℕ)) → take (length befo
     length before % plan.site.every ≡ 0 →
     All (IsOfBroadcast plan clear)
     (map Controls (parts_of (message_at plan before (length before / plan.site.every) (length before) false)))
-parts_are plan clear before front within due =
+parts_are plan clear before prefix within due =
     All-map (IsOfBroadcast plan clear) Controls parts
     (all_by (λ (p : EcmPart). IsOfBroadcast plan clear (Controls p)) parts
     (λ p m. part (length before) within due
     (subst (λ (b : List (List ℕ)). Contains
     (parts_of (message_at plan b (length before / plan.site.every) (length before) false)) p)
-    (sym front) m)))
+    (sym prefix) m)))
   where
     parts : List EcmPart
     parts = parts_of (message_at plan before (length before / plan.site.every) (length before) false)
 
 message_before_are : (plan : Plan) (clear before : List (List ℕ)) → take (length before) clear ≡ before →
     length before < length clear → All (IsOfBroadcast plan clear) (message_before plan before)
-message_before_are plan clear before front within = by_test (length before % plan.site.every == 0) refl
+message_before_are plan clear before prefix within = by_test (length before % plan.site.every == 0) refl
   where
     by_test : (b : Bool) → (length before % plan.site.every == 0) ≡ b → All (IsOfBroadcast plan clear)
         (if b then map Controls
         (parts_of (message_at plan before (length before / plan.site.every) (length before) false)) else [])
-    by_test true is = parts_are plan clear before front within (grind (arith, nat_tests, is))
+    by_test true is = parts_are plan clear before prefix within (grind (arith, nat_tests, is))
     by_test false is = all_of_none (IsOfBroadcast plan clear)
 
 -- what one packet adds
@@ -80,7 +80,7 @@ added_are plan before packet more =
     ++ Carries (length before) (carried plan.site before packet) ∷ [])
     (tables_before_are plan clear (length before) (omega (arith, within)))
     (All-append Of (message_before plan before) (Carries (length before) (carried plan.site before packet) ∷ [])
-    (message_before_are plan clear before front within)
+    (message_before_are plan clear before prefix within)
     (All-cons Of (Carries (length before) (carried plan.site before packet)) [] here (all_of_none Of)))
   where
     clear : List (List ℕ)
@@ -92,11 +92,11 @@ added_are plan before packet more =
     within : length before < length clear
     within = omega (arith, length-append before (packet ∷ more))
 
-    front : take (length before) clear ≡ before
-    front = take-append_seam before (packet ∷ more)
+    prefix : take (length before) clear ≡ before
+    prefix = take-append_seam before (packet ∷ more)
 
     here : Of (Carries (length before) (carried plan.site before packet))
-    here = subst (λ (b : List (List ℕ)). Of (Carries (length before) (carried plan.site b packet))) front
+    here = subst (λ (b : List (List ℕ)). Of (Carries (length before) (carried plan.site b packet))) prefix
         (subst (λ (p : List ℕ). Of (Carries (length before) (carried plan.site (take (length before) clear) p)))
         (get_or-append_seam before packet more []) (carried_on (length before) within))
 

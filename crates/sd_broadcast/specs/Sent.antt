@@ -38,7 +38,7 @@ message_before plan before =
     then map Controls (parts_of (message_at plan before (length before / plan.site.every) (length before) false))
     else []
 
--- what one packet adds after those before it: the messages that stand in front of it, and the packet [this project,
+-- what one packet adds after those before it: the messages that stand before it, and the packet [this project,
 -- docs/FORMATS.md, Broadcast]
 unfoldable pub added : Plan → List (List ℕ) → List ℕ → List Item
 added plan before packet =
@@ -54,7 +54,7 @@ sent_from plan before (packet ∷ packets) = added plan before packet ++ sent_fr
 abbrev pub sent : Plan → List (List ℕ) → List Item
 sent plan clear = sent_from plan [] clear
 
--- the closing message; in front of it the tables stand where there is no packet [this project, docs/FORMATS.md,
+-- the closing message; before it the tables stand where there is no packet [this project, docs/FORMATS.md,
 -- Broadcast]
 unfoldable pub closing_of : Plan → List (List ℕ) → List Item
 closing_of plan clear =

@@ -14,10 +14,10 @@ use Rattle.sd_tree.specs.Paths.{path_node, sibling_of}
 use Rattle.sd_label.proofs.Counts.{length_given_under}
 
 -- an element of the first of two lists
-pub get_front : {X : Type 0} (xs ys : List X) (k : ℕ) → k < length xs → slice_get (xs ++ ys) k ≡ slice_get xs k
-get_front [] ys k h = absurd (omega arith)
-get_front (x ∷ xs) ys zero h = refl
-get_front (x ∷ xs) ys (suc k) h = get_front xs ys k (omega arith)
+pub get_first : {X : Type 0} (xs ys : List X) (k : ℕ) → k < length xs → slice_get (xs ++ ys) k ≡ slice_get xs k
+get_first [] ys k h = absurd (omega arith)
+get_first (x ∷ xs) ys zero h = refl
+get_first (x ∷ xs) ys (suc k) h = get_first xs ys k (omega arith)
 
 -- an element of the second
 pub get_after : {X : Type 0} (xs ys : List X) (k n : ℕ) → n ≡ length xs + k → slice_get (xs ++ ys) n ≡ slice_get ys k
@@ -46,7 +46,7 @@ pair_from d u s (suc n) zero p r k a b whole parts own place from to =
     let first : k ≡ r = omega arith in
     let at : s ≡ a = omega arith in
     rw (flat_map-cons (given_under d u) s (range_with_len (s + 1) n))
-    (get_front (given_under d u s) (flat_map (given_under d u) (range_with_len (s + 1) n)) k
+    (get_first (given_under d u s) (flat_map (given_under d u) (range_with_len (s + 1) n)) k
     (omega (arith, length_given_under d u s))
     ∙ rw (first, at) (pair_under d u a b r to (omega arith)))
 pair_from d u s (suc n) (suc m) p r k a b whole parts own place from to =

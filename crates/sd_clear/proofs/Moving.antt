@@ -27,16 +27,16 @@ known_more pid [] small known = record { at = one }
 known_more pid (m ∷ ms) small known =
     by_test (nat_lt pid m) refl (known_more pid ms small (record { at = λ i. known.at (suc i) }))
   where
-    behind : (i : ℕ) → get_or (pid ∷ m ∷ ms) i 0 < 8192
-    behind zero = small
-    behind (suc i) = known.at i
+    after : (i : ℕ) → get_or (pid ∷ m ∷ ms) i 0 < 8192
+    after zero = small
+    after (suc i) = known.at i
 
     further : AreKnown (put_in pid ms) → (i : ℕ) → get_or (m ∷ put_in pid ms) i 0 < 8192
     further rest zero = known.at 0
     further rest (suc i) = rest.at i
 
     by_test : (b : Bool) → nat_lt pid m ≡ b → AreKnown (put_in pid ms) → AreKnown (put_in pid (m ∷ ms))
-    by_test true is rest = rw is (record { at = behind })
+    by_test true is rest = rw is (record { at = after })
     by_test false is rest = rw is (record { at = further rest })
 
 -- a position that rises by at most 16 is near one packet later

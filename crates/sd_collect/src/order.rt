@@ -8,7 +8,7 @@ ghost use Rattle.sd_reception.specs.Offered.{is_before};
 
 use sd_ecm::{EcmHead, Place};
 
-/// Whether a message goes back behind the one before it: in its period, its control word, the number of clear packets
+/// Whether a message goes back before the one before it: in its period, its control word, the number of clear packets
 /// or a position, or by a PID that it no longer has [this project, docs/FORMATS.md, Receiver].
 #[tactic(auto, unfolding(sd_reception::specs::Offered::is_before))]
 pub fn goes_back(head: &EcmHead, coming: &[Place], last: &EcmHead, places: &[Place]) -> bool

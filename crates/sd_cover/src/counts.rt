@@ -20,7 +20,7 @@ pub const MOST_ROOM: u32 = (HIGHEST as u32 + 1) << HIGHEST;
 
 /// A count for each node, with room for some more nodes that count.
 ///
-/// The table is allocated once, with a place for each node. So no place is ever wanting or given back, and room is a
+/// The table is allocated once, with a place for each node. So no place is ever missing or given back, and room is a
 /// number.
 #[derive(Drop)]
 pub struct Counts {

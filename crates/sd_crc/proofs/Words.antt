@@ -13,10 +13,10 @@ use Rattle.sd_crc.proofs.Numbers.{steps_xor, steps_more, steps_move, steps_zero,
 use Rattle.sd_crc.proofs.Numbers.{byte_same}
 
 -- some bytes and some more
-pub bytes_more : (x : ℕ) (front back : List ℕ) → after_bytes x (front ++ back) ≡ after_bytes (after_bytes x front) back
+pub bytes_more : (x : ℕ) (xs ys : List ℕ) → after_bytes x (xs ++ ys) ≡ after_bytes (after_bytes x xs) ys
 unfolding after_bytes
-bytes_more x [] back = refl
-bytes_more x (byte ∷ front) back = bytes_more (after_byte x byte) front back
+bytes_more x [] ys = refl
+bytes_more x (byte ∷ xs) ys = bytes_more (after_byte x byte) xs ys
 
 -- a register stays a number of 32 bits
 pub bytes_below : (x : ℕ) (bytes : List ℕ) → x < 2 ^ 32 → after_bytes x bytes < 2 ^ 32
@@ -138,17 +138,17 @@ of_bytes after word h =
     ∙ (sym split ∙ sym whole))))
 
 -- eight bytes are the two numbers that they make
-two_words : (x first second : ℕ) (front back : List ℕ) → x < 2 ^ 32 → first < 2 ^ 32 → second < 2 ^ 32 →
-    after_bytes x front ≡ steps 32 (bit_xor x first) →
-    after_bytes (after_bytes x front) back ≡ steps 32 (bit_xor (after_bytes x front) second) →
-    bit_xor (steps 64 (bit_xor x first)) (steps 32 second) ≡ after_bytes x (front ++ back)
-two_words x first second front back hx hf hs ef eb =
+two_words : (x first second : ℕ) (xs ys : List ℕ) → x < 2 ^ 32 → first < 2 ^ 32 → second < 2 ^ 32 →
+    after_bytes x xs ≡ steps 32 (bit_xor x first) →
+    after_bytes (after_bytes x xs) ys ≡ steps 32 (bit_xor (after_bytes x xs) second) →
+    bit_xor (steps 64 (bit_xor x first)) (steps 32 second) ≡ after_bytes x (xs ++ ys)
+two_words x first second xs ys hx hf hs ef eb =
     let sum : bit_xor x first < 2 ^ 32 = xor_of_32 x first hx hf in
     let more : steps 64 (bit_xor x first) ≡ steps 32 (steps 32 (bit_xor x first)) =
     steps_more 32 32 (bit_xor x first) in
     ap (λ (k : ℕ). bit_xor k (steps 32 second)) (more ∙ ap (steps 32) (sym ef))
-    ∙ (sym (steps_xor 32 (after_bytes x front) second (bytes_below x front hx) hs)
-    ∙ (sym eb ∙ sym (bytes_more x front back)))
+    ∙ (sym (steps_xor 32 (after_bytes x xs) second (bytes_below x xs hx) hs)
+    ∙ (sym eb ∙ sym (bytes_more x xs ys)))
 
 -- a list of eight, each written out
 pub eight_listed : (bs : List ℕ) → length bs ≡ 8 →
@@ -176,18 +176,18 @@ eight_bytes x first second bs hx long bytes ef es =
     let b5 = bytes 5 in
     let b6 = bytes 6 in
     let b7 = bytes 7 in
-    let front : List ℕ = get_or bs 0 0 ∷ get_or bs 1 0 ∷ get_or bs 2 0 ∷ get_or bs 3 0 ∷ [] in
-    let back : List ℕ = get_or bs 4 0 ∷ get_or bs 5 0 ∷ get_or bs 6 0 ∷ get_or bs 7 0 ∷ [] in
+    let xs : List ℕ = get_or bs 0 0 ∷ get_or bs 1 0 ∷ get_or bs 2 0 ∷ get_or bs 3 0 ∷ [] in
+    let ys : List ℕ = get_or bs 4 0 ∷ get_or bs 5 0 ∷ get_or bs 6 0 ∷ get_or bs 7 0 ∷ [] in
     let hf : first < 2 ^ 32 = omega arith in
     let hs : second < 2 ^ 32 = omega arith in
-    let y : ℕ = after_bytes x front in
+    let y : ℕ = after_bytes x xs in
     let one : y ≡ steps 32 (bit_xor x first) =
     four_bytes x (get_or bs 0 0) (get_or bs 1 0) (get_or bs 2 0) (get_or bs 3 0) first hx hf (omega arith) (omega arith)
     (omega arith) (omega arith) in
-    let two : after_bytes y back ≡ steps 32 (bit_xor y second) =
-    four_bytes y (get_or bs 4 0) (get_or bs 5 0) (get_or bs 6 0) (get_or bs 7 0) second (bytes_below x front hx) hs
+    let two : after_bytes y ys ≡ steps 32 (bit_xor y second) =
+    four_bytes y (get_or bs 4 0) (get_or bs 5 0) (get_or bs 6 0) (get_or bs 7 0) second (bytes_below x xs hx) hs
     (omega arith) (omega arith) (omega arith) (omega arith) in
-    two_words x first second front back hx hf hs one two ∙ ap (after_bytes x) (sym (eight_listed bs long))
+    two_words x first second xs ys hx hf hs one two ∙ ap (after_bytes x) (sym (eight_listed bs long))
 
 -- a byte changes the register's top byte, which leaves, and the other three move up
 pub byte_out : (x byte : ℕ) → x < 2 ^ 32 → byte < 256 →

@@ -176,9 +176,9 @@ static ROWS: [Row; 7] = [
     },
 ];
 
-fn packet_of(front: &str) -> Option<Packet> {
+fn packet_of(start: &str) -> Option<Packet> {
     let mut bytes = [0xFF; 188];
-    hex::decode_to_slice(front, bytes.get_mut(..front.len() / 2)?).ok()?;
+    hex::decode_to_slice(start, bytes.get_mut(..start.len() / 2)?).ok()?;
     Packet::new(bytes)
 }
 

@@ -24,7 +24,7 @@ use Rattle.sd_engine.specs.declared.driver.DriveFault.TheVariants.{Broken, TooLo
 use Rattle.sd_engine.specs.Driving.{Drives, IsClosed, stopped_by, broken_by, overrun_by, IsRefused, Refuses, IsCutOff}
 use Rattle.sd_engine.specs.Driving.{IsAllowedAt, IsTooLong, most_packets}
 use Rattle.sd_engine.proofs.Walking.{all_counted, all_taken, none_broken, torn_here, no_sync_here}
-use Rattle.sd_engine.proofs.Fronts.{packets_first, break_first, packets_on, pieces_on}
+use Rattle.sd_engine.proofs.Starts.{packets_first, break_first, packets_on, pieces_on}
 use Rattle.sd_engine.proofs.Chains.{chain_on, grew_on, grew_none}
 
 -- no packet was taken, and nothing waits
@@ -96,9 +96,9 @@ all_driven does ends a left left' sink sink' stage stage' steps steps' count old
     }
 
 -- the first packets of what was read, and how many there are at least
-front_of : (count : ℕ) (taken rest : List ℕ) → ArePackets count taken →
+prefix_of : (count : ℕ) (taken rest : List ℕ) → ArePackets count taken →
     (take count (packets_of (taken ++ rest)) ≡ pieces count taken) × (count ≤ length (packets_of (taken ++ rest)))
-front_of count taken rest are =
+prefix_of count taken rest are =
     let all = packets_first count taken rest are in
     let long : length (pieces count taken) ≡ count = all_counted count taken in (
       ap (take count) all ∙ subst (λ (n : ℕ). take n (pieces count taken ++ packets_of rest) ≡ pieces count taken) long
@@ -116,15 +116,15 @@ pub read_failed : {S : Type 0} (does : S → List ℕ → S → List ℕ → ℕ
     → IsUnderWay does a (moment left sink stage steps) count old → LosesPrefix left left' → count ≤ most_packets
     → (n : ℕ) × IsStopped does a (moment left' sink stage steps) n
 read_failed does a left left' sink stage steps count old way lost few =
-    let front = front_of count way.taken (old ++ lost.0) way.packets in (
+    let prefix = prefix_of count way.taken (old ++ lost.0) way.packets in (
       count,
       record {
         bytes = way.taken ++ (old ++ lost.0);
         read = reads_on a.left left left' way.taken old (old ++ lost.0) way.read
             (record { bytes = lost.0; consumed = lost.1; joined = refl });
-        enough = front.1;
+        enough = prefix.1;
         few = few;
-        passed = subst (λ (ps : List (List ℕ)). Passes does a ps (moment left' sink stage steps)) (sym front.0)
+        passed = subst (λ (ps : List (List ℕ)). Passes does a ps (moment left' sink stage steps)) (sym prefix.0)
             way.passed;
       },
     )
@@ -206,13 +206,13 @@ pub packet_refused : {S F : Type 0} (does : S → List ℕ → S → List ℕ �
 packet_refused does refuses a left left' sink sink' stage stage' steps steps' count old new packet fault way gives grew
     few =
     let here = packet_at count way.taken packet new way.packets gives.long gives.sync in
-    let front = front_of count way.taken (packet ++ new) way.packets in
+    let prefix = prefix_of count way.taken (packet ++ new) way.packets in
     record {
       bytes = way.taken ++ (packet ++ new);
       count = count;
       read = read_to_packet a.left left left' way.taken old new packet way.read gives;
       place = record {
-        within = front.1;
+        within = prefix.1;
         few = omega (arith, few);
         fewer = λ h. few;
         end = λ e. absurd
@@ -224,7 +224,7 @@ packet_refused does refuses a left left' sink sink' stage stage' steps steps' co
           (sym here.0)
           (subst (λ (ps : List (List ℕ)). Grew a.sink sink' a.steps steps'
           (Refuses does refuses a.stage ps (Some packet) fault stage'))
-          (sym front.0)
+          (sym prefix.0)
           (grew_on (Chain does a.stage (pieces count way.taken) stage) (refuses stage (Some packet) fault stage')
           (Refuses does refuses a.stage (pieces count way.taken) (Some packet) fault stage') a.sink sink sink' a.steps
           steps steps'
@@ -290,20 +290,21 @@ pub packet_cut : {S F : Type 0} (does : S → List ℕ → S → List ℕ → �
     → IsCutOff does ends refuses a (moment left' sink' stage' steps')
 packet_cut does ends refuses a left left' sink sink' stage stage' steps steps' count old new packet way gives cut few =
     let here = packet_at count way.taken packet new way.packets gives.long gives.sync in
-    let front = front_of count way.taken (packet ++ new) way.packets in
+    let prefix = prefix_of count way.taken (packet ++ new) way.packets in
     record {
       bytes = way.taken ++ (packet ++ new);
       count = count;
       read = read_to_packet a.left left left' way.taken old new packet way.read gives;
       place = record {
-        within = front.1;
+        within = prefix.1;
         few = omega (arith, few);
         fewer = λ h. few;
         end = λ e. absurd
             (omega (arith, e, here.1));
       };
       mid = moment left sink stage steps;
-      passed = subst (λ (ps : List (List ℕ)). Passes does a ps (moment left sink stage steps)) (sym front.0) way.passed;
+      passed = subst (λ (ps : List (List ℕ)). Passes does a ps (moment left sink stage steps)) (sym prefix.0)
+          way.passed;
       cut = subst (λ (p : Option (List ℕ)). CutShort sink sink' (IsAllowedAt does ends refuses stage p steps steps'))
           (sym here.0) cut;
     }
@@ -340,13 +341,13 @@ too_many : {S : Type 0} (does : S → List ℕ → S → List ℕ → ℕ → Ty
     → IsUnderWay does a (moment left sink stage steps) most_packets old → Reads left left' old more → 0 < length more
     → IsTooLong does a (moment left' sink stage steps)
 too_many does a left left' sink stage steps old more way reads some =
-    let front = front_of most_packets way.taken more way.packets in
+    let prefix = prefix_of most_packets way.taken more way.packets in
     record {
       bytes = way.taken ++ more;
       read = reads_on a.left left left' way.taken old more way.read reads;
-      enough = front.1;
+      enough = prefix.1;
       longer = omega (arith, way.packets.long, length-append way.taken more, some);
-      passed = subst (λ (ps : List (List ℕ)). Passes does a ps (moment left' sink stage steps)) (sym front.0)
+      passed = subst (λ (ps : List (List ℕ)). Passes does a ps (moment left' sink stage steps)) (sym prefix.0)
           way.passed;
     }
 

@@ -1,6 +1,6 @@
 pub mod Walking
 pub mod Feeding
-pub mod Fronts
+pub mod Starts
 pub mod Chains
 pub mod Driving
 pub mod Longer

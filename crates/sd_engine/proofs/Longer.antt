@@ -12,14 +12,14 @@ use Rattle.sd_engine.specs.declared.fault.BreakCause.{BreakCause}
 use Rattle.sd_engine.specs.declared.fault.BreakCause.TheVariants.{Torn, NoSync}
 use Rattle.sd_engine.proofs.Walking.{no_piece, packets_more, break_after_more, torn_here, no_sync_here, none_at_end}
 
--- what stands in front of bytes: a packet, bytes of a packet without the sync byte, or fewer
-pub data Front (bytes : List ℕ) : Type 0 where
-  packet : 188 ≤ length bytes → slice_index bytes 0 ≡ 0x47 → Front bytes
-  other : 188 ≤ length bytes → slice_index bytes 0 ≢ 0x47 → Front bytes
-  short : length bytes < 188 → Front bytes
+-- what bytes start with: a packet, bytes of a packet without the sync byte, or fewer
+pub data Start (bytes : List ℕ) : Type 0 where
+  packet : 188 ≤ length bytes → slice_index bytes 0 ≡ 0x47 → Start bytes
+  other : 188 ≤ length bytes → slice_index bytes 0 ≢ 0x47 → Start bytes
+  short : length bytes < 188 → Start bytes
 
-front_of : (bytes : List ℕ) → Front bytes
-front_of bytes = elim (cases_lt (length bytes) 188) [
+start_of : (bytes : List ℕ) → Start bytes
+start_of bytes = elim (cases_lt (length bytes) 188) [
   | inl few ↦ short few
   | inr long ↦ elim (cases_eq (slice_index bytes 0) 0x47) [
     | inl sync ↦ packet long sync
@@ -34,7 +34,7 @@ begins_same bytes more long = get_or_append_left bytes more 0 0 (omega (arith, l
 longer : (bytes more : List ℕ) → 188 ≤ length bytes → 188 ≤ length (bytes ++ more)
 longer bytes more long = omega (arith, long, length-append bytes more)
 
--- a packet in front stays there
+-- a packet that stands first stays there
 packet_stays : (bytes more : List ℕ) → 188 ≤ length bytes → slice_index bytes 0 ≡ 0x47 →
     packets_of (bytes ++ more) ≡ take 188 bytes ∷ packets_of (drop 188 bytes ++ more)
 packet_stays bytes more long sync =
@@ -49,7 +49,7 @@ none_there k packets some none = absurd (omega (arith, some, ap (λ (ps : List (
 pub first_stay : (k : ℕ) (bytes more : List ℕ) → k ≤ length (packets_of bytes) →
     take k (packets_of (bytes ++ more)) ≡ take k (packets_of bytes)
 first_stay zero bytes more some = refl
-first_stay (suc k) bytes more some = elim (front_of bytes) [
+first_stay (suc k) bytes more some = elim (start_of bytes) [
   | packet long sync ↦
       let here = packets_more bytes long sync in
       ap (take (suc k)) (packet_stays bytes more long sync)
@@ -85,7 +85,7 @@ abbrev Stays : ℕ → ℕ → List ℕ → List ℕ → Type 0
 Stays n k bytes more = (packets_of (bytes ++ more) ≡ packets_of bytes)
     × (break_after n (bytes ++ more) ≡ Some (no_sync k))
 
--- where no packet stands in front
+-- where no packet stands first
 other_stays : (n k : ℕ) (bytes more : List ℕ) → break_after n bytes ≡ Some (no_sync k) → 188 ≤ length bytes →
     slice_index bytes 0 ≢ 0x47 → Stays n k bytes more
 other_stays n k bytes more is long apart =
@@ -107,13 +107,13 @@ then_stays n k bytes more long sync then = (
 -- a break at a packet without the sync byte stays, and no packet comes after it
 broken_on : (m n k : ℕ) (bytes more : List ℕ) → length (packets_of bytes) ≤ m → break_after n bytes ≡ Some (no_sync k) →
     Stays n k bytes more
-broken_on zero n k bytes more most is = elim (front_of bytes) [
+broken_on zero n k bytes more most is = elim (start_of bytes) [
   | packet long sync ↦
       absurd (omega (arith, most, ap (λ (ps : List (List ℕ)). length ps) (packets_more bytes long sync)))
   | other long apart ↦ other_stays n k bytes more is long apart
   | short few ↦ absurd (short_apart n k bytes few is)
 ]
-broken_on (suc m) n k bytes more most is = elim (front_of bytes) [
+broken_on (suc m) n k bytes more most is = elim (start_of bytes) [
   | packet long sync ↦
       then_stays n k bytes more long sync
       (broken_on m (n + 1) k (drop 188 bytes) more

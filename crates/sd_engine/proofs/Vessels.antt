@@ -14,11 +14,11 @@ too_short (Some room) b size fault h = h
 -- a write that failed within bytes of which something is said
 pub cut_short : (Says : List ℕ → Type 0) (u v : Vessel) (bytes : List ℕ) → Says bytes →
     AppendsPrefix u.held v.held bytes → IsTooShort u.room (length bytes) → CutShort u v Says
-cut_short Says u v bytes says front room = record {
+cut_short Says u v bytes says cut room = record {
   bytes = bytes;
   says = says;
-  prefix = front.0;
-  short = front.1;
-  taken = front.2;
+  prefix = cut.0;
+  short = cut.1;
+  taken = cut.2;
   room = room;
 }

@@ -1,4 +1,4 @@
--- What the packets and the break of a stream are, by what stands in front.
+-- What the packets and the break of a stream are, by what stands first.
 use Rattle.std.proofs.Common.{ℕ, zero, suc, ◌+◌, ◌*◌, ◌/◌, ◌%◌, ◌<◌, ◌≤◌, ◌≡◌, ◌≢◌, false, ◌==◌, List, [], ◌∷◌, length}
 use Rattle.std.proofs.Common.{take, drop, length-drop, cond, refl, sym, ap, ◌∙◌, arith, inl, inr}
 use Rattle.std.specs.Prelude.{nat_lt, slice_index, if◌then◌else◌, Option, Some, None}
@@ -36,7 +36,7 @@ one_piece bytes h =
     ∙ take_while-cons is_packet (take 188 bytes) (pieces (length (drop 188 bytes) / 188) (drop 188 bytes))
     ∙ ap (λ (b : ℕ). cond (b == 0x47) (take 188 bytes ∷ packets_of (drop 188 bytes)) []) first
 
--- a packet more in front changes only the numbers
+-- a packet more before them changes only the numbers
 break_more : (k packets whole left : ℕ) → break_by k (suc packets) (suc whole) left ≡ break_by (k + 1) packets whole
     left
 break_more k packets whole left =
@@ -85,7 +85,7 @@ no_sync_here rest number long apart =
           ∙ ap (λ (n : ℕ). Some (no_sync n)) (omega arith),
     )
 
--- the packets and the break, where a packet stands in front
+-- the packets and the break, where a packet stands first
 pub packets_more : (bytes : List ℕ) → 188 ≤ length bytes → slice_index bytes 0 ≡ 0x47 → packets_of bytes
     ≡ take 188 bytes ∷ packets_of (drop 188 bytes)
 packets_more bytes long sync = one_piece bytes long ∙ cond-true (slice_index bytes 0 == 0x47) _ _

@@ -24,7 +24,8 @@ use Rattle.sd_entitling.specs.Kept.{period_in, IsOf}
 use Rattle.sd_head.specs.Messages.{head_of, message_due}
 use Rattle.sd_head.specs.Items.{HasSent, Follows, tables_bytes, message_bytes}
 use Rattle.sd_head.specs.declared.sender.Sender.{Sender}
-use Rattle.sd_head.proofs.Counting.{bytes_on, front_bytes, front_next, carried_next, items_due, items_of, of_sections}
+use Rattle.sd_head.proofs.Counting.{bytes_on, inserted_bytes, inserted_next, carried_next, items_due, items_of}
+use Rattle.sd_head.proofs.Counting.{of_sections}
 
 -- the sections of the period of packet k
 abbrev pub sections_at : Plan → ℕ → List Emm
@@ -88,14 +89,14 @@ added_bytes plan before packet veiled due emms message sender has is are told ma
     let T = tables_before plan (length before) in
     let M = message_before plan before in
     let C = Carries (length before) (carried plan.site before packet) ∷ [] in
-    let front : tables_bytes sender due emms ++ message_bytes plan.site.ecm sender message
+    let inserted : tables_bytes sender due emms ++ message_bytes plan.site.ecm sender message
     ≡ concat (packets_from plan.site (sent plan before) (T ++ M)) =
-    front_bytes plan.site (sent plan before) due (sections_at plan (length before)) emms message sender has are
+    inserted_bytes plan.site (sent plan before) due (sections_at plan (length before)) emms message sender has are
     ∙ ap (λ (items : List Item). concat (packets_from plan.site (sent plan before) items))
     (ap (λ (b : Bool). items_due b (sections_at plan (length before)) ++ items_of message sender.places.items) is
     ∙ (ap (λ (items : List Item). items ++ items_of message sender.places.items) (tables_are plan (length before))
     ∙ ap (λ (items : List Item). T ++ items) told)) in
-    ap (λ (bytes : List ℕ). bytes ++ veiled) front
+    ap (λ (bytes : List ℕ). bytes ++ veiled) inserted
     ∙ (ap (λ (bytes : List ℕ). concat (packets_from plan.site (sent plan before) (T ++ M)) ++ bytes) (made
     ∙ sym (append-nil (carried plan.site before packet)))
     ∙ (sym (bytes_on plan.site (sent plan before) (T ++ M) C)
@@ -118,13 +119,13 @@ added_next plan before packet due emms message old new has is are told follows =
     ap (λ (b : Bool). items_due b (sections_at plan (length before)) ++ items_of message old.places.items) is
     ∙ (ap (λ (xs : List Item). xs ++ items_of message old.places.items) (tables_are plan (length before))
     ∙ ap (λ (xs : List Item). T ++ xs) told) in
-    let front : HasSent plan.site (E ++ (T ++ M)) new =
+    let inserted : HasSent plan.site (E ++ (T ++ M)) new =
     subst (λ (xs : List Item). HasSent plan.site (E ++ xs) new) items
-    (front_next plan.site E due (sections_at plan (length before)) emms message old new has are follows) in
+    (inserted_next plan.site E due (sections_at plan (length before)) emms message old new has are follows) in
     subst (λ (xs : List Item). HasSent plan.site xs new)
     (append_assoc E (T ++ M) C
     ∙ (ap (λ (xs : List Item). E ++ xs) (append_assoc T M C) ∙ sym (sent_more plan before packet)))
-    (carried_next plan.site (E ++ (T ++ M)) (length before) (carried plan.site before packet) new front)
+    (carried_next plan.site (E ++ (T ++ M)) (length before) (carried plan.site before packet) new inserted)
 
 -- what the end adds is sent
 pub closing_bytes : (plan : Plan) (before : List (List ℕ)) (crypto : CryptoPeriod) (clear : ℕ) (due : Bool)
@@ -139,7 +140,7 @@ pub closing_bytes : (plan : Plan) (before : List (List ℕ)) (crypto : CryptoPer
     ≡ concat (packets_from plan.site (sent plan before) (closing_of plan before))
 unfolding closing_of tables_at
 closing_bytes plan before crypto clear due emms head sender has counted is are of says placed =
-    front_bytes plan.site (sent plan before) due (sections_at plan (clear - 1)) emms (Some head) sender has are
+    inserted_bytes plan.site (sent plan before) due (sections_at plan (clear - 1)) emms (Some head) sender has are
     ∙ ap (λ (items : List Item). concat (packets_from plan.site (sent plan before) items))
     (ap (λ (b : Bool). items_due b (sections_at plan (clear - 1)) ++ items_of (Some head) sender.places.items) is
     ∙ (ap (λ (message : Message). items_due (clear == 0) (sections_at plan (clear - 1))

@@ -215,11 +215,11 @@ ecms_of None sender = refl
 ecms_of (Some head) sender = all_count is_control Controls (λ a. refl) (parts_of (message_of head sender.places.items))
 
 -- tables and a message are sent
-pub front_bytes : (site : SiteFields) (earlier : List Item) (due : Bool) (sections : List Emm) (emms : List (List ℕ))
+pub inserted_bytes : (site : SiteFields) (earlier : List Item) (due : Bool) (sections : List Emm) (emms : List (List ℕ))
     (message : Option EcmHead) (sender : Sender) → HasSent site earlier sender → emms ≡ of_sections site sections →
     tables_bytes sender due emms ++ message_bytes site.ecm sender message
     ≡ concat (packets_from site earlier (items_due due sections ++ items_of message sender.places.items))
-front_bytes site earlier due sections emms message sender sent are =
+inserted_bytes site earlier due sections emms message sender sent are =
     let none = ecms_due due sections in
     let on = counts_on is_control earlier (items_due due sections) in
     let same : count_by is_control (earlier ++ items_due due sections) ≡ count_by is_control earlier =
@@ -233,11 +233,11 @@ front_bytes site earlier due sections emms message sender sent are =
     ∙ sym (bytes_on site earlier (items_due due sections) (items_of message sender.places.items))))
 
 -- and then come these counters
-pub front_next : (site : SiteFields) (earlier : List Item) (due : Bool) (sections : List Emm) (emms : List (List ℕ))
+pub inserted_next : (site : SiteFields) (earlier : List Item) (due : Bool) (sections : List Emm) (emms : List (List ℕ))
     (message : Option EcmHead) (old new : Sender) → HasSent site earlier old → emms ≡ of_sections site sections →
     Follows old due emms message new →
     HasSent site (earlier ++ (items_due due sections ++ items_of message old.places.items)) new
-front_next site earlier due sections emms message old new sent are follows =
+inserted_next site earlier due sections emms message old new sent are follows =
     let many : length emms ≡ length sections =
     ap (λ (ps : List (List ℕ)). length ps) are
     ∙ length-map sections (λ (emm : Emm). packed (emm_section emm) site.emm 0) in

@@ -20,8 +20,8 @@ use sd_steps::Steps;
 use std::alloc::Global;
 use std::sync::ledger::Ledger;
 
-/// The head end as a stage: it sends each clear packet as it is carried, with the tables and the message that stand in
-/// front of it, and at the end the closing message (this project, docs/FORMATS.md, Broadcast).
+/// The head end as a stage: it sends each clear packet as it is carried, with the tables and the message that stand
+/// before it, and at the end the closing message (this project, docs/FORMATS.md, Broadcast).
 #[derive(Drop)]
 pub struct Head {
     site: Site,
@@ -114,7 +114,7 @@ impl<K: Sink, L: Ledger> Stage<K, L> for Head {
         let emms = self.entitling.emms();
         match self
             .sender
-            .send_front(count == 0, emms, Some(message), self.site.ecm, out)
+            .send_inserted(count == 0, emms, Some(message), self.site.ecm, out)
         {
             Ok(()) => Ok(()),
             Err(_) => Err(StageFault::Write),

@@ -90,7 +90,7 @@ impl Sender {
     }
 
     /// Sends the tables, where they are due, and the message, if there is one.
-    pub fn send_front<K: Sink>(
+    pub fn send_inserted<K: Sink>(
         &mut self,
         due: bool,
         emms: &[Packet],
@@ -166,7 +166,7 @@ impl Sender {
         ensures next { OnOk result (Follows self.old due emms.now message self.new) }
         ensures cause { HasCause (K.faults out.old) (K.faults out.new) result }
     {
-        self.send_front(due, emms, message, pid, out)?;
+        self.send_inserted(due, emms, message, pid, out)?;
         send(out, packet)
     }
 }

@@ -29,7 +29,7 @@ split_counted d w u (name ∷ cover) low some all leaf =
     let first = one_counted d w u name low some (all name (member_first name cover)) leaf in
     let rest = split_counted d w u cover low some (λ x m. all x (member_later name cover x m)) leaf in
     let joined = sum_by-append f (split_of w name) (flat_map (split_of w) cover) in
-    let behind = sum_by-cons f name cover in
+    let after = sum_by-cons f name cover in
     rw (flat_map-cons (split_of w) name cover) (omega arith)
 
 -- it has at most twice as many sets

@@ -49,7 +49,7 @@ fn line_fault(h: Height, before: &[Leaf]) -> LeavesFault
     LeavesFault::Line(before.len() as u32 + 1)
 }
 
-// Puts a leaf behind those before it.
+// Puts a leaf after those before it.
 fn add(leaves: &mut Vec<Leaf>, leaf: Leaf) -> Result<(), LeavesFault>
     ensures value { OnOk result (leaves.new.items ≡ leaves.old.items ++ leaf ∷ []) }
     ensures fault { IfErr result (λ fault. fault ≡ LeavesFault.NoMemory) }

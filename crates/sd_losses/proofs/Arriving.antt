@@ -85,17 +85,17 @@ chosen_all (true ∷ fs) (x ∷ xs) all = ap (λ (ys : List _). x ∷ ys) (chose
 chosen_all (false ∷ fs) (x ∷ xs) all = absurd (cc all)
 
 -- parts from some place on are none before it
-later_parts : (message : Message) (fs : List Bool) (rest front : List EcmPart) (x : ℕ) → AreParts message front rest →
-    x < length front → list_any (is_part message.number x) (map Controls (chosen fs rest)) ≡ false
+later_parts : (message : Message) (fs : List Bool) (rest prior : List EcmPart) (x : ℕ) → AreParts message prior rest →
+    x < length prior → list_any (is_part message.number x) (map Controls (chosen fs rest)) ≡ false
 unfolding chosen
-later_parts message [] rest front x are before = refl
-later_parts message (f ∷ fs) [] front x are before = refl
-later_parts message (false ∷ fs) (part ∷ rest) front x are before =
-    later_parts message fs rest (part ∷ front) x are.1 (omega (arith, before))
-later_parts message (true ∷ fs) (part ∷ rest) front x are before =
+later_parts message [] rest prior x are before = refl
+later_parts message (f ∷ fs) [] prior x are before = refl
+later_parts message (false ∷ fs) (part ∷ rest) prior x are before =
+    later_parts message fs rest (part ∷ prior) x are.1 (omega (arith, before))
+later_parts message (true ∷ fs) (part ∷ rest) prior x are before =
     let other : (part.part == x) ≡ false = grind (arith, nat_tests, are.0.place, before) in
     rw other (and_none (part.number == message.number)
-    (later_parts message fs rest (part ∷ front) x are.1 (omega (arith, before))))
+    (later_parts message fs rest (part ∷ prior) x are.1 (omega (arith, before))))
   where
     and_none : (b : Bool) → list_any (is_part message.number x) (map Controls (chosen fs rest)) ≡ false →
         ((b && false) || list_any (is_part message.number x) (map Controls (chosen fs rest))) ≡ false
@@ -104,23 +104,23 @@ later_parts message (true ∷ fs) (part ∷ rest) front x are before =
 
 -- a part that isn't there
 abbrev IsLost : Message → List Bool → List EcmPart → List EcmPart → Type 0
-IsLost message fs front rest = (x : ℕ) × (length front ≤ x) × (x < length front + length rest)
+IsLost message fs prior rest = (x : ℕ) × (length prior ≤ x) × (x < length prior + length rest)
     × (list_any (is_part message.number x) (map Controls (chosen fs rest)) ≡ false)
 
-lost_part : (message : Message) (fs : List Bool) (rest front : List EcmPart) → AreParts message front rest →
-    all_kept fs rest ≡ false → IsLost message fs front rest
+lost_part : (message : Message) (fs : List Bool) (rest prior : List EcmPart) → AreParts message prior rest →
+    all_kept fs rest ≡ false → IsLost message fs prior rest
 unfolding chosen
-lost_part message fs [] front are not_all = absurd (cc not_all)
-lost_part message [] (part ∷ rest) front are not_all = (length front, omega arith, omega arith, refl)
-lost_part message (false ∷ fs) (part ∷ rest) front are not_all = (
-  length front,
+lost_part message fs [] prior are not_all = absurd (cc not_all)
+lost_part message [] (part ∷ rest) prior are not_all = (length prior, omega arith, omega arith, refl)
+lost_part message (false ∷ fs) (part ∷ rest) prior are not_all = (
+  length prior,
   omega arith,
   omega arith,
-  later_parts message fs rest (part ∷ front) (length front) are.1
+  later_parts message fs rest (part ∷ prior) (length prior) are.1
       (omega arith),
 )
-lost_part message (true ∷ fs) (part ∷ rest) front are not_all =
-    let (x, low, high, none) = lost_part message fs rest (part ∷ front) are.1 not_all in
+lost_part message (true ∷ fs) (part ∷ rest) prior are not_all =
+    let (x, low, high, none) = lost_part message fs rest (part ∷ prior) are.1 not_all in
     let other : (part.part == x) ≡ false = grind (arith, nat_tests, are.0.place, low) in
     (x, omega (arith, low), omega (arith, high), rw other (and_none (part.number == message.number) none))
   where
@@ -151,31 +151,31 @@ without_one message kept x n within none (Controls part) is =
     and_no false = refl
 
 none_has : (message : Message) (kept : List Item) (x n : ℕ) → x < n →
-    list_any (is_part message.number x) kept ≡ false → (fs : List Bool) (rest front : List EcmPart) →
-    AreParts message front rest → length front + length rest ≡ n →
+    list_any (is_part message.number x) kept ≡ false → (fs : List Bool) (rest prior : List EcmPart) →
+    AreParts message prior rest → length prior + length rest ≡ n →
     list_any (has_parts kept message.number) (map Controls (chosen fs rest)) ≡ false
 unfolding chosen
-none_has message kept x n within none [] rest front are all = refl
-none_has message kept x n within none (f ∷ fs) [] front are all = refl
-none_has message kept x n within none (false ∷ fs) (part ∷ rest) front are all =
-    none_has message kept x n within none fs rest (part ∷ front) are.1 (omega (arith, all))
-none_has message kept x n within none (true ∷ fs) (part ∷ rest) front are all =
+none_has message kept x n within none [] rest prior are all = refl
+none_has message kept x n within none (f ∷ fs) [] prior are all = refl
+none_has message kept x n within none (false ∷ fs) (part ∷ rest) prior are all =
+    none_has message kept x n within none fs rest (part ∷ prior) are.1 (omega (arith, all))
+none_has message kept x n within none (true ∷ fs) (part ∷ rest) prior are all =
     rw (without_one message kept x n within none (Controls part) (are.0.number, omega (arith, are.0.count, all)))
-    (none_has message kept x n within none fs rest (part ∷ front) are.1 (omega (arith, all)))
+    (none_has message kept x n within none fs rest (part ∷ prior) are.1 (omega (arith, all)))
 
 -- each part of a message is there where all are
-pub all_there : (message : Message) (rest front : List EcmPart) (x : ℕ) → AreParts message front rest →
-    length front ≤ x → x < length front + length rest →
+pub all_there : (message : Message) (rest prior : List EcmPart) (x : ℕ) → AreParts message prior rest →
+    length prior ≤ x → x < length prior + length rest →
     list_any (is_part message.number x) (map Controls rest) ≡ true
-all_there message [] front x are low high = absurd (omega (arith, low, high))
-all_there message (part ∷ rest) front x are low high = elim (cases_eq (length front) x) [
+all_there message [] prior x are low high = absurd (omega (arith, low, high))
+all_there message (part ∷ rest) prior x are low high = elim (cases_eq (length prior) x) [
   | inl here ↦
       let number : (part.number == message.number) ≡ true = grind (arith, nat_tests, are.0.number) in
       let place : (part.part == x) ≡ true = grind (arith, nat_tests, are.0.place, here) in
       rw number (rw place refl)
   | inr later ↦
       or_rest (is_part message.number x (Controls part))
-      (all_there message rest (part ∷ front) x are.1 (omega (arith, low, later)) (omega (arith, high)))
+      (all_there message rest (part ∷ prior) x are.1 (omega (arith, low, later)) (omega (arith, high)))
 ]
   where
     or_rest : (b : Bool) → list_any (is_part message.number x) (map Controls rest) ≡ true →
@@ -276,15 +276,15 @@ entitled_before h u q a (item ∷ kept) parts later none ends =
     by_test false holds = refl
 
 -- the last part of a message is there where all are
-pub last_there : (message : Message) (rest front : List EcmPart) → AreParts message front rest → is_nil rest ≡ false →
+pub last_there : (message : Message) (rest prior : List EcmPart) → AreParts message prior rest → is_nil rest ≡ false →
     list_any (is_last_part message.number) (map Controls rest) ≡ true
-last_there message [] front are some = absurd (cc some)
-last_there message (part ∷ []) front are some =
+last_there message [] prior are some = absurd (cc some)
+last_there message (part ∷ []) prior are some =
     let number : (part.number == message.number) ≡ true = grind (arith, nat_tests, are.0.number) in
     let last : (part.part == part.last_part) ≡ true = grind (arith, nat_tests, are.0.place, are.0.count) in
     rw number (rw last refl)
-last_there message (part ∷ next ∷ rest) front are some =
-    or_rest (is_last_part message.number (Controls part)) (last_there message (next ∷ rest) (part ∷ front) are.1 refl)
+last_there message (part ∷ next ∷ rest) prior are some =
+    or_rest (is_last_part message.number (Controls part)) (last_there message (next ∷ rest) (part ∷ prior) are.1 refl)
   where
     or_rest : {c : Bool} (b : Bool) → c ≡ true → (b || c) ≡ true
     or_rest true holds = refl

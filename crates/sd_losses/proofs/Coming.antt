@@ -113,22 +113,22 @@ is_nil [] = true
 is_nil (part ∷ parts) = false
 
 -- a part of a message after others of it, the newest first, and before these
-pub record IsPartAt (message : Message) (front : List EcmPart) (part : EcmPart) (rest : List EcmPart) : Type 0 where
+pub record IsPartAt (message : Message) (prior : List EcmPart) (part : EcmPart) (rest : List EcmPart) : Type 0 where
   pub number : part.number ≡ message.number
-  pub place : part.part ≡ length front
-  pub count : part.last_part ≡ length front + length rest
-  pub good : part_fault (part ∷ front) ≡ None
+  pub place : part.part ≡ length prior
+  pub count : part.last_part ≡ length prior + length rest
+  pub good : part_fault (part ∷ prior) ≡ None
 
 -- it is the last where none follows
-last_is : (message : Message) (front : List EcmPart) (part : EcmPart) (rest : List EcmPart) →
-    IsPartAt message front part rest → (part.part == part.last_part) ≡ is_nil rest
-last_is message front part [] is = grind (arith, nat_tests, is.place, is.count)
-last_is message front part (next ∷ rest) is = grind (arith, nat_tests, is.place, is.count)
+last_is : (message : Message) (prior : List EcmPart) (part : EcmPart) (rest : List EcmPart) →
+    IsPartAt message prior part rest → (part.part == part.last_part) ≡ is_nil rest
+last_is message prior part [] is = grind (arith, nat_tests, is.place, is.count)
+last_is message prior part (next ∷ rest) is = grind (arith, nat_tests, is.place, is.count)
 
 -- the parts of a message from some place on
 abbrev pub AreParts : Message → List EcmPart → List EcmPart → Type 0
-AreParts message front [] = message_told front ≡ Some message
-AreParts message front (part ∷ rest) = IsPartAt message front part rest × AreParts message (part ∷ front) rest
+AreParts message prior [] = message_told prior ≡ Some message
+AreParts message prior (part ∷ rest) = IsPartAt message prior part rest × AreParts message (part ∷ prior) rest
 
 -- all of these are there
 abbrev pub all_kept : {A : Type 0} → List Bool → List A → Bool
@@ -137,9 +137,9 @@ all_kept [] (x ∷ xs) = false
 all_kept (f ∷ fs) (x ∷ xs) = f && all_kept fs xs
 
 -- where a receiver stands after some parts of message number a
-pub record IsMidway (a : ℕ) (all : Bool) (front : List EcmPart) (now : List Heard) : Type 0 where
+pub record IsMidway (a : ℕ) (all : Bool) (prior : List EcmPart) (now : List Heard) : Type 0 where
   pub below : IsBelow a (newest now).message
-  pub stands : Stands all a front (run_of (counting now))
+  pub stands : Stands all a prior (run_of (counting now))
   pub counted : All (λ part. part.number ≤ a) (counting now)
 
 -- these things complete the message with the last of them
@@ -164,34 +164,34 @@ Come true card tuning message past things = Complete card tuning message past th
 Come false card tuning message past things = Calm card tuning message.number past things
 
 -- what is missing at an end
-come_to_nothing : (card : CardFields) (tuning : Tuning) (message : Message) (now : List Heard) (front : List EcmPart)
-    (all : Bool) → IsMidway message.number all front now → Calm card tuning message.number now []
-come_to_nothing card tuning message now front all mid =
+come_to_nothing : (card : CardFields) (tuning : Tuning) (message : Message) (now : List Heard) (prior : List EcmPart)
+    (all : Bool) → IsMidway message.number all prior now → Calm card tuning message.number now []
+come_to_nothing card tuning message now prior all mid =
     record { calm = refl; same = same_itself now; counted = mid.counted }
 
 -- one part more of which nothing comes
-midway_next : (a : ℕ) (all : Bool) (front : List EcmPart) (now : List Heard) (part : EcmPart) → part.number ≡ a →
-    part.part ≡ length front → IsMidway a all front now → completed (newest now) (Controls part) ≡ None →
-    IsMidway a all (part ∷ front) (Controls part ∷ now)
-midway_next a all front now part number place mid none =
+midway_next : (a : ℕ) (all : Bool) (prior : List EcmPart) (now : List Heard) (part : EcmPart) → part.number ≡ a →
+    part.part ≡ length prior → IsMidway a all prior now → completed (newest now) (Controls part) ≡ None →
+    IsMidway a all (part ∷ prior) (Controls part ∷ now)
+midway_next a all prior now part number place mid none =
     let above : exceeds (newest now).message part ≡ true =
     exceeds_below (newest now).message part (subst (λ (n : ℕ). IsBelow n (newest now).message)
     (sym number) mid.below) in
     let more = counting_more now part above none in
     record {
       below = subst (IsBelow a) (sym (one_part now part none).message) mid.below;
-      stands = subst (λ (parts : List EcmPart). Stands all a (part ∷ front) (run_of parts)) (sym more)
-          (kept_next all a part front (counting now) number place mid.stands);
+      stands = subst (λ (parts : List EcmPart). Stands all a (part ∷ prior) (run_of parts)) (sym more)
+          (kept_next all a part prior (counting now) number place mid.stands);
       counted = subst (All (λ part. part.number ≤ a)) (sym more)
           (All-cons (λ part. part.number ≤ a) part (counting now) (omega (arith, number)) mid.counted);
     }
 
 -- one part that is lost
-midway_lost : (a : ℕ) (all : Bool) (front : List EcmPart) (now : List Heard) (part : EcmPart) →
-    IsMidway a all front now → IsMidway a false (part ∷ front) now
-midway_lost a all front now part mid = record {
+midway_lost : (a : ℕ) (all : Bool) (prior : List EcmPart) (now : List Heard) (part : EcmPart) →
+    IsMidway a all prior now → IsMidway a false (part ∷ prior) now
+midway_lost a all prior now part mid = record {
   below = mid.below;
-  stands = lost_next all a part front (run_of (counting now)) mid.stands;
+  stands = lost_next all a part prior (run_of (counting now)) mid.stands;
   counted = mid.counted;
 }
 
@@ -219,25 +219,25 @@ come_after false card tuning message now things part none good rest = record {
 }
 
 -- the run to a part that counts
-run_at : (message : Message) (all : Bool) (front : List EcmPart) (now : List Heard) (part : EcmPart) →
-    part.number ≡ message.number → IsMidway message.number all front now →
+run_at : (message : Message) (all : Bool) (prior : List EcmPart) (now : List Heard) (part : EcmPart) →
+    part.number ≡ message.number → IsMidway message.number all prior now →
     run_to (newest now) part ≡ run_of (part ∷ counting now)
-run_at message all front now part number mid =
+run_at message all prior now part number mid =
     run_is (newest now) part (exceeds_below (newest now).message part
     (subst (λ (n : ℕ). IsBelow n (newest now).message) (sym number) mid.below))
 
 -- where all parts before it came the run to a part is all of them, else none
-run_whole : (message : Message) (front : List EcmPart) (now : List Heard) (part : EcmPart) (rest : List EcmPart) →
-    IsPartAt message front part rest → IsMidway message.number true front now →
-    run_to (newest now) part ≡ part ∷ front
-run_whole message front now part rest is mid = run_at message true front now part is.number mid
-    ∙ whole_next message.number part front (counting now) is.number is.place mid.stands
+run_whole : (message : Message) (prior : List EcmPart) (now : List Heard) (part : EcmPart) (rest : List EcmPart) →
+    IsPartAt message prior part rest → IsMidway message.number true prior now →
+    run_to (newest now) part ≡ part ∷ prior
+run_whole message prior now part rest is mid = run_at message true prior now part is.number mid
+    ∙ whole_next message.number part prior (counting now) is.number is.place mid.stands
 
-run_broken : (message : Message) (front : List EcmPart) (now : List Heard) (part : EcmPart) (rest : List EcmPart) →
-    IsPartAt message front part rest → IsMidway message.number false front now →
+run_broken : (message : Message) (prior : List EcmPart) (now : List Heard) (part : EcmPart) (rest : List EcmPart) →
+    IsPartAt message prior part rest → IsMidway message.number false prior now →
     run_to (newest now) part ≡ []
-run_broken message front now part rest is mid = run_at message false front now part is.number mid
-    ∙ broken_next message.number part front (counting now) is.number is.place mid.stands
+run_broken message prior now part rest is mid = run_at message false prior now part is.number mid
+    ∙ broken_next message.number part prior (counting now) is.number is.place mid.stands
 
 -- a part that isn't the last completes nothing
 not_last : (stretch : Stretch) (part : EcmPart) → (part.part == part.last_part) ≡ false →
@@ -291,38 +291,38 @@ chosen_none [] = refl
 chosen_none (f ∷ fs) = refl
 
 -- once a part is lost, the message isn't completed
-pub broken_come : (card : CardFields) (tuning : Tuning) (message : Message) (fs : List Bool) (rest front : List EcmPart)
-    (now : List Heard) → AreParts message front rest → IsMidway message.number false front now →
+pub broken_come : (card : CardFields) (tuning : Tuning) (message : Message) (fs : List Bool) (rest prior : List EcmPart)
+    (now : List Heard) → AreParts message prior rest → IsMidway message.number false prior now →
     Calm card tuning message.number now (map Controls (chosen fs rest))
 unfolding chosen
-broken_come card tuning message [] rest front now are mid = come_to_nothing card tuning message now front false mid
-broken_come card tuning message (f ∷ fs) [] front now are mid =
-    come_to_nothing card tuning message now front false mid
-broken_come card tuning message (false ∷ fs) (part ∷ rest) front now are mid =
-    broken_come card tuning message fs rest (part ∷ front) now are.1
-    (midway_lost message.number false front now part mid)
-broken_come card tuning message (true ∷ fs) (part ∷ rest) front now are mid =
-    let none = run_broken message front now part rest are.0 mid in
+broken_come card tuning message [] rest prior now are mid = come_to_nothing card tuning message now prior false mid
+broken_come card tuning message (f ∷ fs) [] prior now are mid =
+    come_to_nothing card tuning message now prior false mid
+broken_come card tuning message (false ∷ fs) (part ∷ rest) prior now are mid =
+    broken_come card tuning message fs rest (part ∷ prior) now are.1
+    (midway_lost message.number false prior now part mid)
+broken_come card tuning message (true ∷ fs) (part ∷ rest) prior now are mid =
+    let none = run_broken message prior now part rest are.0 mid in
     let calm = no_run (newest now) part none in
     come_after false card tuning message now (map Controls (chosen fs rest)) part calm (ap part_fault none ∙ no_fault)
-    (broken_come card tuning message fs rest (part ∷ front) (Controls part ∷ now) are.1
-    (midway_next message.number false front now part are.0.number are.0.place mid calm))
+    (broken_come card tuning message fs rest (part ∷ prior) (Controls part ∷ now) are.1
+    (midway_next message.number false prior now part are.0.number are.0.place mid calm))
 
 -- while none is lost, the last one completes it
-pub whole_come : (card : CardFields) (tuning : Tuning) (message : Message) (fs : List Bool) (rest front : List EcmPart)
-    (now : List Heard) → AreParts message front rest → IsMidway message.number true front now →
+pub whole_come : (card : CardFields) (tuning : Tuning) (message : Message) (fs : List Bool) (rest prior : List EcmPart)
+    (now : List Heard) → AreParts message prior rest → IsMidway message.number true prior now →
     Come (all_kept fs rest && not (is_nil rest)) card tuning message now (map Controls (chosen fs rest))
 unfolding chosen
-whole_come card tuning message [] [] front now are mid = come_to_nothing card tuning message now front true mid
-whole_come card tuning message [] (part ∷ rest) front now are mid =
-    come_to_nothing card tuning message now front true mid
-whole_come card tuning message (f ∷ fs) [] front now are mid =
-    come_to_nothing card tuning message now front true mid
-whole_come card tuning message (false ∷ fs) (part ∷ rest) front now are mid =
-    broken_come card tuning message fs rest (part ∷ front) now are.1
-    (midway_lost message.number true front now part mid)
-whole_come card tuning message (true ∷ fs) (part ∷ []) front now are mid =
-    let whole = run_whole message front now part [] are.0 mid in
+whole_come card tuning message [] [] prior now are mid = come_to_nothing card tuning message now prior true mid
+whole_come card tuning message [] (part ∷ rest) prior now are mid =
+    come_to_nothing card tuning message now prior true mid
+whole_come card tuning message (f ∷ fs) [] prior now are mid =
+    come_to_nothing card tuning message now prior true mid
+whole_come card tuning message (false ∷ fs) (part ∷ rest) prior now are mid =
+    broken_come card tuning message fs rest (part ∷ prior) now are.1
+    (midway_lost message.number true prior now part mid)
+whole_come card tuning message (true ∷ fs) (part ∷ []) prior now are mid =
+    let whole = run_whole message prior now part [] are.0 mid in
     record {
       first = [];
       part = part;
@@ -331,19 +331,19 @@ whole_come card tuning message (true ∷ fs) (part ∷ []) front now are mid =
       same = same_itself now;
       good = ap part_fault whole ∙ are.0.good;
       completes = completes_with (newest now) part message whole_told
-          (last_is message front part [] are.0);
+          (last_is message prior part [] are.0);
       number = are.0.number;
     }
   where
     whole_told : message_told (run_to (newest now) part) ≡ Some message
-    whole_told = ap message_told (run_whole message front now part [] are.0 mid) ∙ are.1
-whole_come card tuning message (true ∷ fs) (part ∷ next ∷ rest) front now are mid =
-    let calm = not_last (newest now) part (last_is message front part (next ∷ rest) are.0) in
+    whole_told = ap message_told (run_whole message prior now part [] are.0 mid) ∙ are.1
+whole_come card tuning message (true ∷ fs) (part ∷ next ∷ rest) prior now are mid =
+    let calm = not_last (newest now) part (last_is message prior part (next ∷ rest) are.0) in
     come_after (all_kept fs (next ∷ rest) && not (is_nil (next ∷ rest))) card tuning message now
     (map Controls (chosen fs (next ∷ rest))) part calm
-    (ap part_fault (run_whole message front now part (next ∷ rest) are.0 mid) ∙ are.0.good)
-    (whole_come card tuning message fs (next ∷ rest) (part ∷ front) (Controls part ∷ now) are.1
-    (midway_next message.number true front now part are.0.number are.0.place mid calm))
+    (ap part_fault (run_whole message prior now part (next ∷ rest) are.0 mid) ∙ are.0.good)
+    (whole_come card tuning message fs (next ∷ rest) (part ∷ prior) (Controls part ∷ now) are.1
+    (midway_next message.number true prior now part are.0.number are.0.place mid calm))
 
 -- What a receiver makes of the parts of a message, of which some are lost: where all come the last one completes it,
 -- else nothing comes of them.

@@ -37,16 +37,16 @@ abbrev pub parts_at : Setting → ℕ → List Bool → List EcmPart
 parts_at s a fs = chosen fs (parts_of (told_by s a))
 
 -- parts are of their own message alone, and carry no packet
-of_message : (message : Message) (b : ℕ) (fs : List Bool) (rest front : List EcmPart) → AreParts message front rest →
+of_message : (message : Message) (b : ℕ) (fs : List Bool) (rest prior : List EcmPart) → AreParts message prior rest →
     (message.number == b) ≡ false → list_any (is_of b) (map Controls (chosen fs rest)) ≡ false
 unfolding chosen
-of_message message b [] rest front are other = refl
-of_message message b (f ∷ fs) [] front are other = refl
-of_message message b (false ∷ fs) (part ∷ rest) front are other =
-    of_message message b fs rest (part ∷ front) are.1 other
-of_message message b (true ∷ fs) (part ∷ rest) front are other =
+of_message message b [] rest prior are other = refl
+of_message message b (f ∷ fs) [] prior are other = refl
+of_message message b (false ∷ fs) (part ∷ rest) prior are other =
+    of_message message b fs rest (part ∷ prior) are.1 other
+of_message message b (true ∷ fs) (part ∷ rest) prior are other =
     let here : (part.number == b) ≡ false = ap (λ (n : ℕ). n == b) are.0.number ∙ other in
-    rw here (of_message message b fs rest (part ∷ front) are.1 other)
+    rw here (of_message message b fs rest (part ∷ prior) are.1 other)
 
 pub none_carried : (j : ℕ) (parts : List EcmPart) → list_any (is_carried j) (map Controls parts) ≡ false
 none_carried j [] = refl

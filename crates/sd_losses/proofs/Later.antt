@@ -78,12 +78,12 @@ no_part_packet : (j : ℕ) (parts : List EcmPart) → list_any (is_carried j) (m
 no_part_packet j [] = refl
 no_part_packet j (part ∷ parts) = no_part_packet j parts
 
-pub no_other_part : (message : Message) (b : ℕ) (rest front : List EcmPart) → AreParts message front rest →
+pub no_other_part : (message : Message) (b : ℕ) (rest prior : List EcmPart) → AreParts message prior rest →
     (message.number == b) ≡ false → list_any (is_of b) (map Controls rest) ≡ false
-no_other_part message b [] front are other = refl
-no_other_part message b (part ∷ rest) front are other =
+no_other_part message b [] prior are other = refl
+no_other_part message b (part ∷ rest) prior are other =
     let here : (part.number == b) ≡ false = ap (λ (n : ℕ). n == b) are.0.number ∙ other in
-    rw here (no_other_part message b rest (part ∷ front) are.1 other)
+    rw here (no_other_part message b rest (part ∷ prior) are.1 other)
 
 -- a test that no table passes
 tables_fail : (s : Setting) (p : Item → Bool) → p Cat ≡ false → ((emms : List Emm) → list_any p

@@ -50,24 +50,24 @@ setting plan clear u =
     record { plan = plan; clear = clear; card = card_of plan.site.master plan.site.ca plan.site.height u }
 
 -- the parts of a message, from some place on
-parts_from : (message : Message) (front rest : List EcmPart) → IsMessage message →
-    parts_of message ≡ reverse front ++ rest → AreParts message front rest
-parts_from message front [] is same =
-    let turned : reverse (parts_of message) ≡ front =
-    ap reverse (same ∙ append-nil (reverse front)) ∙ reverse-reverse front in
+parts_from : (message : Message) (prior rest : List EcmPart) → IsMessage message →
+    parts_of message ≡ reverse prior ++ rest → AreParts message prior rest
+parts_from message prior [] is same =
+    let turned : reverse (parts_of message) ≡ prior =
+    ap reverse (same ∙ append-nil (reverse prior)) ∙ reverse-reverse prior in
     ap message_told (sym turned) ∙ parts_tell message
-parts_from message front (part ∷ rest) is same =
-    let stands = part_stands message front part rest is same in
-    let next : parts_of message ≡ reverse (part ∷ front) ++ rest =
-    same ∙ (sym (append_assoc (reverse front) (part ∷ []) rest)
-    ∙ ap (λ (xs : List EcmPart). xs ++ rest) (sym (reverse_cons part front))) in (
+parts_from message prior (part ∷ rest) is same =
+    let stands = part_stands message prior part rest is same in
+    let next : parts_of message ≡ reverse (part ∷ prior) ++ rest =
+    same ∙ (sym (append_assoc (reverse prior) (part ∷ []) rest)
+    ∙ ap (λ (xs : List EcmPart). xs ++ rest) (sym (reverse_cons part prior))) in (
       record {
         number = stands.number;
         place = stands.place;
         count = stands.last;
         good = stands.right;
       },
-      parts_from message (part ∷ front) rest is next,
+      parts_from message (part ∷ prior) rest is next,
     )
 
 -- a message has a part

@@ -2,7 +2,7 @@ use sd_receive::Ending;
 
 /// A thing that is sent: a table, the section of a period, a control message in its one part, or a clear packet.
 #[derive(Clone, Copy, PartialEq, Eq)]
-pub enum Thing {
+pub(crate) enum Thing {
     Cat,
     Section(u32),
     Message(usize),
@@ -11,7 +11,7 @@ pub enum Thing {
 
 /// How a broadcast is laid out: six clear packets, a message before each second one and the tables before each fourth.
 #[derive(Clone, Copy)]
-pub struct Layout {
+pub(crate) struct Layout {
     /// The version of the messages.
     pub version: u32,
     /// The period of the packets from the fifth on; the period before it is 0.
@@ -21,13 +21,13 @@ pub struct Layout {
 }
 
 /// How many clear packets there are.
-pub const CLEAR: usize = 6;
+pub(crate) const CLEAR: usize = 6;
 
 /// The closing message.
 const CLOSING: usize = 3;
 
 /// The counters of the packets of the scrambled PID, which stand at the positions 28, 38, 48 and 60.
-pub const COUNTERS: [Option<u8>; CLEAR] = [None, None, Some(12), Some(6), Some(0), Some(12)];
+pub(crate) const COUNTERS: [Option<u8>; CLEAR] = [None, None, Some(12), Some(6), Some(0), Some(12)];
 
 /// Where the scrambled PID stands at a message.
 fn position(message: usize) -> u64 {
@@ -40,7 +40,7 @@ fn position(message: usize) -> u64 {
 
 impl Layout {
     /// All that is sent, in its order.
-    pub fn sent(self) -> [Thing; 14] {
+    pub(crate) fn sent(self) -> [Thing; 14] {
         [
             Thing::Cat,
             Thing::Section(0),
@@ -117,7 +117,7 @@ fn is_near(heard: &[Thing], a: usize, b: usize) -> bool {
 }
 
 /// Whether clear packet k is confirmed, by the newest message up to it that is heard and the next one.
-pub fn is_confirmed(heard: &[Thing], layout: Layout, k: usize) -> bool {
+pub(crate) fn is_confirmed(heard: &[Thing], layout: Layout, k: usize) -> bool {
     let first = (0..CLOSING)
         .rev()
         .find(|a| *a <= k / 2 && has(heard, Thing::Message(*a)));
@@ -134,7 +134,7 @@ pub fn is_confirmed(heard: &[Thing], layout: Layout, k: usize) -> bool {
 
 /// How it ends for the leaf where these things are heard after the first CAT, if there is one, and so many clear
 /// packets are confirmed.
-pub fn ending(heard: Option<&[Thing]>, layout: Layout, confirmed: usize) -> Ending {
+pub(crate) fn ending(heard: Option<&[Thing]>, layout: Layout, confirmed: usize) -> Ending {
     let Some(heard) = heard else {
         return Ending::NoCat;
     };

@@ -16,7 +16,7 @@ use std::sync::ledger::{Blank, Ledger};
 const PIECE: usize = 65_536;
 
 /// What a head end sends of a clear stream, where there is room for so many bytes.
-pub fn broadcast(
+pub(crate) fn broadcast(
     alloc: Global,
     site: &[u8],
     book: &[u8],
@@ -52,7 +52,7 @@ fn sent<L: Ledger>(
 
 /// How a stream ends for the card of a leaf, and what is written of it, where there is room for so many bytes and
 /// nothing is refused.
-pub fn received(
+pub(crate) fn received(
     alloc: Global,
     site: &[u8],
     leaf: u32,

@@ -46,18 +46,18 @@ all_kept test (x ∷ xs) all =
     (all_kept test xs (λ y m. all y (member_later x xs y m))))
 
 -- of the values at numbers in a row those at the first m, where just these pass
-pub front_kept : {X : Type 0} (test : X → Bool) (f : ℕ → X) (s n m : ℕ) → m ≤ n
+pub first_kept : {X : Type 0} (test : X → Bool) (f : ℕ → X) (s n m : ℕ) → m ≤ n
     → ((b : ℕ) → s ≤ b → b < s + m → test (f b) ≡ true) → ((b : ℕ) → s + m ≤ b → b < s + n → test (f b) ≡ false)
     → filter test (map f (range_with_len s n)) ≡ take m (map f (range_with_len s n))
-front_kept test f s zero zero le passing not_later = refl
-front_kept test f s zero (suc m) le passing not_later = absurd (omega arith)
-front_kept test f s (suc n) zero le passing not_later =
+first_kept test f s zero zero le passing not_later = refl
+first_kept test f s zero (suc m) le passing not_later = absurd (omega arith)
+first_kept test f s (suc n) zero le passing not_later =
     rw (not_later s (omega arith) (omega arith))
-    (front_kept test f (s + 1) n zero (omega arith) (λ b low high. absurd (omega arith))
+    (first_kept test f (s + 1) n zero (omega arith) (λ b low high. absurd (omega arith))
     (λ b low high. not_later b (omega arith) (omega arith)))
-front_kept test f s (suc n) (suc m) le passing not_later =
+first_kept test f s (suc n) (suc m) le passing not_later =
     rw (passing s (omega arith) (omega arith)) (ap (λ (kept : List _). f s ∷ kept)
-    (front_kept test f (s + 1) n m (omega arith) (λ b low high. passing b (omega arith) (omega arith))
+    (first_kept test f (s + 1) n m (omega arith) (λ b low high. passing b (omega arith) (omega arith))
     (λ b low high. not_later b (omega arith) (omega arith))))
 
 -- what is kept of some lists joined is what is kept of each, joined

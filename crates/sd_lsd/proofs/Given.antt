@@ -29,7 +29,7 @@ use Rattle.sd_layers.specs.Layers.{is_useful, layer_end}
 use Rattle.sd_layers.proofs.Layers.{useful_everywhere}
 use Rattle.sd_lsd.specs.LayerNames.{set_of, is_useful_name, layer_given, pairs_under, pairs_above, layer_count}
 use Rattle.sd_lsd.proofs.Pairs.{under_within, place_within}
-use Rattle.sd_lsd.proofs.Filters.{all_kept, front_kept, lists_kept}
+use Rattle.sd_lsd.proofs.Filters.{all_kept, first_kept, lists_kept}
 
 -- ---- sets of names
 
@@ -97,22 +97,22 @@ pair_useful d w u a b low leaf less le =
     rw (upper, lower) refl
 
 -- the pairs of an ancestor that are of useful sets are the first
-abbrev pub front : ℕ → ℕ → ℕ → ℕ → List Name
-front d w u a = take (pairs_under d w a) (given_under d u a)
+abbrev pub useful_under : ℕ → ℕ → ℕ → ℕ → List Name
+useful_under d w u a = take (pairs_under d w a) (given_under d u a)
 
 either_true : (b : Bool) → (true || b) ≡ true
 either_true b = refl
 
-front_by : (d w u a : ℕ) (t : Bool) → (a % w == 0) ≡ t → d ≤ 20 → u < 2 ^ d → a < d
+useful_by : (d w u a : ℕ) (t : Bool) → (a % w == 0) ≡ t → d ≤ 20 → u < 2 ^ d → a < d
     → filter (is_useful_name w) (map (pair_of d u a) (range_with_len (a + 1) (d - a)))
     ≡ take (cond t (d - a) (min (layer_end w a) d - a)) (map (pair_of d u a) (range_with_len (a + 1) (d - a)))
-front_by d w u a true e low leaf less =
-    front_kept (is_useful_name w) (pair_of d u a) (a + 1) (d - a) (d - a) (omega arith)
+useful_by d w u a true e low leaf less =
+    first_kept (is_useful_name w) (pair_of d u a) (a + 1) (d - a) (d - a) (omega arith)
     (λ b from to. pair_useful d w u a b low leaf (omega arith) (omega arith) ∙ rw e refl)
     (λ b from to. absurd (omega arith))
-front_by d w u a false e low leaf less =
+useful_by d w u a false e low leaf less =
     let end : ℕ = layer_end w a in
-    front_kept (is_useful_name w) (pair_of d u a) (a + 1) (d - a) (min end d - a)
+    first_kept (is_useful_name w) (pair_of d u a) (a + 1) (d - a) (min end d - a)
     (omega (arith, min-le_right end d))
     (λ b from to. pair_useful d w u a b low leaf (omega arith) (omega (arith, min-le_right end d))
     ∙ rw e (le-leb b end (omega (arith, min-le_left end d))))
@@ -125,35 +125,35 @@ front_by d w u a false e low leaf less =
         (λ (h : b ≤ end). absurd (omega (arith, le-min h le)))
         (cases_lt end b)
 
-pub useful_front : (d w u a : ℕ) → d ≤ 20 → u < 2 ^ d → a < d
-    → filter (is_useful_name w) (given_under d u a) ≡ front d w u a
+pub useful_are : (d w u a : ℕ) → d ≤ 20 → u < 2 ^ d → a < d
+    → filter (is_useful_name w) (given_under d u a) ≡ useful_under d w u a
 unfolding given_under pairs_under
-useful_front d w u a low leaf less = front_by d w u a (a % w == 0) refl low leaf less
+useful_are d w u a low leaf less = useful_by d w u a (a % w == 0) refl low leaf less
 
 -- what a leaf is given in layers under its first k ancestors, and the whole set
 abbrev pub layer_first : ℕ → ℕ → ℕ → ℕ → List Name
-layer_first d w u k = Whole ∷ flat_map (front d w u) (range_with_len 0 k)
+layer_first d w u k = Whole ∷ flat_map (useful_under d w u) (range_with_len 0 k)
 
 -- under all ancestors it is all
 pub layer_given_parts : (d w u : ℕ) → d ≤ 20 → u < 2 ^ d → layer_given d w u ≡ layer_first d w u d
 unfolding layer_given given is_useful
 layer_given_parts d w u low leaf =
     ap (λ (names : List Name). Whole ∷ names)
-    (lists_kept (is_useful_name w) (given_under d u) (front d w u) 0 d
-    (λ a from to. useful_front d w u a low leaf (omega arith)))
+    (lists_kept (is_useful_name w) (given_under d u) (useful_under d w u) 0 d
+    (λ a from to. useful_are d w u a low leaf (omega arith)))
 
 -- ---- their number
 
-length_front : (d w u a : ℕ) → length (front d w u a) ≡ pairs_under d w a
-length_front d w u a =
+length_useful : (d w u a : ℕ) → length (useful_under d w u a) ≡ pairs_under d w a
+length_useful d w u a =
     length-take-le (pairs_under d w a) (given_under d u a)
     (omega (arith, under_within d w a, length_given_under d u a))
 
-length_first : (d w u k : ℕ) → length (flat_map (front d w u) (range_with_len 0 k)) ≡ pairs_above d w k
+length_first : (d w u k : ℕ) → length (flat_map (useful_under d w u) (range_with_len 0 k)) ≡ pairs_above d w k
 unfolding pairs_above
 length_first d w u k =
-    length-flat_map (front d w u) (range_with_len 0 k)
-    ∙ ap (λ (f : ℕ → ℕ). sum_by f (range_with_len 0 k)) (λ i a. length_front d w u a i)
+    length-flat_map (useful_under d w u) (range_with_len 0 k)
+    ∙ ap (λ (f : ℕ → ℕ). sum_by f (range_with_len 0 k)) (λ i a. length_useful d w u a i)
 
 pub length_layer_given : (d w u : ℕ) → d ≤ 20 → u < 2 ^ d → length (layer_given d w u) ≡ layer_count d w + 1
 unfolding layer_count
@@ -168,10 +168,10 @@ take_range s zero (suc k) le = absurd (omega arith)
 take_range s (suc n) (suc k) le = ap (λ (ks : List ℕ). s ∷ ks) (take_range (s + 1) n k (omega arith))
 
 -- the pair among those of its ancestor
-pair_in_front : (d w u a b r : ℕ) → a + 1 + r ≡ b → b ≤ d → r < pairs_under d w a
-    → get_or (front d w u a) r Whole ≡ pair_of d u a b
+useful_pair : (d w u a b r : ℕ) → a + 1 + r ≡ b → b ≤ d → r < pairs_under d w a
+    → get_or (useful_under d w u a) r Whole ≡ pair_of d u a b
 unfolding given_under
-pair_in_front d w u a b r at le within =
+useful_pair d w u a b r at le within =
     get_or-take (pairs_under d w a) (given_under d u a) r Whole within
     ∙ get_or-map-range_with_len (pair_of d u a) (a + 1) (d - a) r b Whole (omega arith) at
 
@@ -181,16 +181,16 @@ pub pair_at : (d w u a b : ℕ) → d ≤ 20 → u < 2 ^ d → a < b → b ≤ d
 pair_at d w u a b low leaf less le within =
     let r : ℕ = b - a - 1 in
     let all : List ℕ = range_with_len 0 d in
-    let F : ℕ → List Name = front d w u in
+    let F : ℕ → List Name = useful_under d w u in
     let k : ℕ = pairs_above d w a + (b - a) in
     let place : k ≡ suc (pairs_above d w a + r) = omega arith in
     let here : get_or all a 0 ≡ a = get_or-range_with_len 0 d a 0 (omega arith) ∙ omega arith in
     let before : length (flat_map F (take a all)) ≡ pairs_above d w a =
     ap (λ (ks : List ℕ). length (flat_map F ks)) (take_range 0 d a (omega arith)) ∙ length_first d w u a in
-    let long : r < length (F a) = omega (arith, length_front d w u a) in
+    let long : r < length (F a) = omega (arith, length_useful d w u a) in
     let there = get_or-flat_map F all a r 0 Whole (omega (arith, length-range_with_len 0 d)) (rw here long) in
     let found : get_or (flat_map F all) (pairs_above d w a + r) Whole ≡ pair_of d u a b =
-    rw (before, here) at there ∙ pair_in_front d w u a b r (omega arith) le (omega arith) in
+    rw (before, here) at there ∙ useful_pair d w u a b r (omega arith) le (omega arith) in
     let inside : k < length (layer_given d w u) =
     omega (arith, place_within d w a b less le within, length_layer_given d w u low leaf) in
     slice_get-get_or (layer_given d w u) k Whole inside

@@ -16,7 +16,7 @@ use Rattle.sd_secrets.specs.Secrets.{secret_of}
 use Rattle.sd_lsd.specs.LayerNames.{layer_given}
 use Rattle.sd_lsd.specs.Fields.{IsLayerCard, layer_card_of}
 use Rattle.sd_lsd.proofs.Pairs.{range_more}
-use Rattle.sd_lsd.proofs.Given.{front, layer_first, layer_given_parts, length_layer_given}
+use Rattle.sd_lsd.proofs.Given.{useful_under, layer_first, layer_given_parts, length_layer_given}
 
 -- the first secret alone
 pub secrets_first : (master : List ℕ) (d w u : ℕ)
@@ -25,17 +25,17 @@ unfolding secret_of
 secrets_first master d w u = refl
 
 -- the names of one ancestor more
-first_more : (d w u k : ℕ) → layer_first d w u k ++ front d w u k ≡ layer_first d w u (k + 1)
+first_more : (d w u k : ℕ) → layer_first d w u k ++ useful_under d w u k ≡ layer_first d w u (k + 1)
 first_more d w u k =
     let e : 0 + k ≡ k = omega arith in
-    flat_map_more (front d w u) (Whole ∷ []) (range_with_len 0 k) k
-    ∙ ap (λ (ks : List ℕ). Whole ∷ flat_map (front d w u) ks) (sym (rw e at (range_more 0 k)))
+    flat_map_more (useful_under d w u) (Whole ∷ []) (range_with_len 0 k) k
+    ∙ ap (λ (ks : List ℕ). Whole ∷ flat_map (useful_under d w u) ks) (sym (rw e at (range_more 0 k)))
 
 -- and their secrets
 pub secrets_more : (master : List ℕ) (d w u k : ℕ) → map (secret_of master) (layer_first d w u k)
-    ++ map (secret_of master) (front d w u k) ≡ map (secret_of master) (layer_first d w u (k + 1))
+    ++ map (secret_of master) (useful_under d w u k) ≡ map (secret_of master) (layer_first d w u (k + 1))
 secrets_more master d w u k =
-    sym (map-append (secret_of master) (layer_first d w u k) (front d w u k))
+    sym (map-append (secret_of master) (layer_first d w u k) (useful_under d w u k))
     ∙ ap (map (secret_of master)) (first_more d w u k)
 
 -- the secrets of all ancestors

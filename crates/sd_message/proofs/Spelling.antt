@@ -16,9 +16,9 @@ body_long section =
     omega (arith, length-take-le (length section - 4 - 8) (drop 8 section) (omega (arith, length-drop 8 section)))
 
 -- what stands before the CRC is the header and the body
-front_spelled : (section : List ℕ) → 12 ≤ length section → IsPlain section →
+prefix_spelled : (section : List ℕ) → 12 ≤ length section → IsPlain section →
     take (length section - 4) section ≡ header_bytes (header_of section) (length (body_of section)) ++ body_of section
-front_spelled section long plain =
+prefix_spelled section long plain =
     let e : length section - 4 ≡ 8 + (length section - 4 - 8) = omega arith in
     ap (λ (k : ℕ). take k section) e
     ∙ (take-add 8 (length section - 4 - 8) section
@@ -46,13 +46,13 @@ pub plain_spelled : (section : List ℕ) → IsBytes section → length section 
     IsPlain section → crc_in section ≡ crc_due section → section ≡ section_bytes (header_of section) (body_of section)
 unfolding section_bytes crc_due
 plain_spelled section bytes whole low plain right =
-    let front : List ℕ = header_bytes (header_of section) (length (body_of section)) ++ body_of section in
-    let in_front : take (length section - 4) section ≡ front = front_spelled section (omega arith) plain in
-    let after : to_be_bytes w32 (crc_of front) ≡ drop (length section - 4) section =
-    ap (λ (l : List ℕ). to_be_bytes w32 (crc_of l)) (sym in_front)
+    let prefix : List ℕ = header_bytes (header_of section) (length (body_of section)) ++ body_of section in
+    let is_prefix : take (length section - 4) section ≡ prefix = prefix_spelled section (omega arith) plain in
+    let after : to_be_bytes w32 (crc_of prefix) ≡ drop (length section - 4) section =
+    ap (λ (l : List ℕ). to_be_bytes w32 (crc_of l)) (sym is_prefix)
     ∙ (ap (λ (n : ℕ). to_be_bytes w32 n) (sym right) ∙ back_spelled section bytes (omega arith)) in
-    sym (ap (λ (l : List ℕ). front ++ l) after ∙ (ap (λ (l : List ℕ). l ++ drop (length section - 4) section)
-    (sym in_front)
+    sym (ap (λ (l : List ℕ). prefix ++ l) after ∙ (ap (λ (l : List ℕ). l ++ drop (length section - 4) section)
+    (sym is_prefix)
     ∙ take-append-drop (length section - 4) section))
 
 -- the header and the body laid into as many bytes, and sealed
@@ -64,10 +64,10 @@ pub section_laid : (header : Header) (body old head first second new : List ℕ)
 unfolding section_bytes
 section_laid header body old head first second new room is_head is_first is_second same_second same_first is_new =
     let eight : length head ≡ 8 = ap length is_head in
-    let front : take 8 first ≡ head = ap (take 8) is_first ∙ take_at head (drop (0 + length head) old) 8 eight in
+    let prefix : take 8 first ≡ head = ap (take 8) is_first ∙ take_at head (drop (0 + length head) old) 8 eight in
     let rest : List ℕ = drop (8 + length body) first in
     let all : second ≡ (head ++ body) ++ rest =
-    is_second ∙ (ap (λ (l : List ℕ). l ++ (body ++ rest)) front ∙ sym (append_assoc head body rest)) in
+    is_second ∙ (ap (λ (l : List ℕ). l ++ (body ++ rest)) prefix ∙ sym (append_assoc head body rest)) in
     let count : length (head ++ body) ≡ length second - 4 = omega (arith, length-append head body) in
     is_new
     ∙ ap sealed (ap (take (length second - 4)) all ∙ (take_at (head ++ body) rest (length second - 4) count

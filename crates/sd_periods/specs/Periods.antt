@@ -24,7 +24,7 @@ period_line q revoked sets =
     codes "period "
     ++ (decimal q ++ (codes " revoked " ++ (decimal revoked ++ (codes " sets " ++ (decimal sets ++ codes "\n")))))
 
--- what is printed of a period: its line, and then a line for each of its sets, with this end behind its name
+-- what is printed of a period: its line, and then a line for each of its sets, with this end after its name
 abbrev pub period_text : (SetName → List ℕ) → ℕ → ℕ → List SetName → List ℕ
 period_text end q revoked sets = period_line q revoked (length sets) ++ flat_map (λ name. set_line (end name) name) sets
 

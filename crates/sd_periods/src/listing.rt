@@ -8,7 +8,7 @@ use sd_cause::NoMemory;
 use sd_tree::{Height, Leaf, SetName};
 use std::alloc::Global;
 
-/// What is listed of each period of a book: some sets, and behind the name of each what is told of it.
+/// What is listed of each period of a book: some sets, and after the name of each what is told of it.
 pub trait Listing {
     /// Whether it can be told in a tree of this height.
     ghost fits: { Self → ℕ → Type 0 };
@@ -16,7 +16,7 @@ pub trait Listing {
     /// The sets that are listed where these leaves are revoked, in a tree of this height.
     ghost sets: { Self → ℕ → List ℕ → List Name };
 
-    /// What stands behind a set's name, up to the end of its line, in a tree of this height.
+    /// What stands after a set's name, up to the end of its line, in a tree of this height.
     ghost ends: { Self → ℕ → Name → List ℕ };
 
     /// The sets, for at most [`sd_tree::MOST_REVOKED`] revoked leaves.

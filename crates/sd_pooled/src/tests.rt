@@ -71,7 +71,7 @@ impl Order {
     }
 }
 
-// A book of two periods and two commands: its Period stands behind so many of them.
+// A book of two periods and two commands: its Period stands after so many of them.
 #[derive(Clone, Copy)]
 struct Orders {
     first: Order,

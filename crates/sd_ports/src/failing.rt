@@ -101,7 +101,7 @@ impl Failing {
     }
 }
 
-/// Puts the numbers of the calls of ports of this name behind the others.
+/// Puts the numbers of the calls of ports of this name after the others.
 #[tactic(auto, using(crate::proofs::Failings::numbers_kept, crate::proofs::Failings::numbers_grown))]
 fn push_numbers(numbers: &mut Vec<u32>, calls: &[PortCall], name: &str) -> Result<(), NoMemory>
     ensures { OnOk result (numbers.new.items ≡ numbers.old.items ++ numbers_of name.now (told_calls calls.now)) }

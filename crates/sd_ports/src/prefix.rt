@@ -90,7 +90,7 @@ pub fn read_most<S: Source>(
     unreachable!()
 }
 
-/// Puts more bytes behind those that were read, as many as there may be, and answers whether some are left over.
+/// Puts more bytes after those that were read, as many as there may be, and answers whether some are left over.
 fn keep(bytes: &mut Vec<u8>, more: &[u8], most: usize) -> Result<bool, ReadMostFault>
     requires { vec_len bytes.old ≤ most }
     ensures kept { IfOk result (λ over. bytes.new.items ≡ take most (bytes.old.items ++ more.now)) }

@@ -92,7 +92,7 @@ part_fault (part ∷ run) =
     else if nat_lt 256 (length (flat_map listed (part ∷ run))) then Some Count
     else None
 
--- the second message goes back behind the first
+-- the second message goes back before the first
 unfoldable pub is_before : Message → Message → Bool
 is_before b a = nat_lt b.period a.period || (nat_lt b.word a.word || (nat_lt b.clear a.clear
     || list_any

@@ -4,6 +4,3 @@
 mod top;
 
 pub use top::run;
-
-#[cfg(test)]
-mod tests;

@@ -157,20 +157,20 @@ next_of_out : (card : CardFields) (packets : List (List ℕ)) (k : ℕ) (packet 
     (offered card (reverse (take k packets)) packet).wrote)
     (concat (out_from card [] packets))
 next_of_out card packets k packet at none =
-    let front = take k packets in
+    let early = take k packets in
     let split = split_at packets k packet at in
-    let past : reverse front ++ [] ≡ reverse front = append-nil (reverse front) in
-    let rest = wrote_first card (reverse front) split.0 packet in
-    let wrote = (offered card (reverse front) packet).wrote in
-    let joined : out_from card [] packets ≡ out_from card [] front ++ (wrote ++ rest.0) =
+    let past : reverse early ++ [] ≡ reverse early = append-nil (reverse early) in
+    let rest = wrote_first card (reverse early) split.0 packet in
+    let wrote = (offered card (reverse early) packet).wrote in
+    let joined : out_from card [] packets ≡ out_from card [] early ++ (wrote ++ rest.0) =
     ap (out_from card []) split.1
-    ∙ (out_joined card [] front (packet ∷ split.0) none).0
-    ∙ ap (λ (before : List (List ℕ)). out_from card [] front ++ out_from card before (packet ∷ split.0)) past
-    ∙ ap (λ (more : List (List ℕ)). out_from card [] front ++ more) rest.1 in (
+    ∙ (out_joined card [] early (packet ∷ split.0) none).0
+    ∙ ap (λ (before : List (List ℕ)). out_from card [] early ++ out_from card before (packet ∷ split.0)) past
+    ∙ ap (λ (more : List (List ℕ)). out_from card [] early ++ more) rest.1 in (
       concat rest.0,
-      append_assoc (concat (out_from card [] front)) (concat wrote) (concat rest.0)
-          ∙ ap (λ (xs : List ℕ). concat (out_from card [] front) ++ xs) (sym (concat-append wrote rest.0))
-          ∙ sym (concat-append (out_from card [] front) (wrote ++ rest.0))
+      append_assoc (concat (out_from card [] early)) (concat wrote) (concat rest.0)
+          ∙ ap (λ (xs : List ℕ). concat (out_from card [] early) ++ xs) (sym (concat-append wrote rest.0))
+          ∙ sym (concat-append (out_from card [] early) (wrote ++ rest.0))
           ∙ ap concat (sym joined),
     )
 
@@ -265,13 +265,13 @@ part_of_steps card packets k mid first bytes n from to None came few at (m, coun
 part_of_steps card packets k mid first bytes n from to None came few at (m, counted, inr (why, t, kept)) =
     let before = came.few in let none = kept.none in omega (arith, before, counted, none, some_steps card packets k)
 part_of_steps card packets k mid first bytes n from to (Some packet) came few at allowed =
-    let front = take k packets in
-    let long : length (reverse front) ≡ length front = length-reverse front in
+    let early = take k packets in
+    let long : length (reverse early) ≡ length early = length-reverse early in
     let one =
-    (wrote_at card (reverse front) mid packet bytes from to came.same came.after (omega (arith, long, few)) allowed).1
+    (wrote_at card (reverse early) mid packet bytes from to came.same came.after (omega (arith, long, few)) allowed).1
     in
-    let both = steps_more card front packet n (to - from) came.few
-    (subst (λ (past : List (List ℕ)). to - from ≤ steps_at card past packet) (sym (append-nil (reverse front))) one) in
+    let both = steps_more card early packet n (to - from) came.few
+    (subst (λ (past : List (List ℕ)). to - from ≤ steps_at card past packet) (sym (append-nil (reverse early))) one) in
     omega (arith, both, next_steps card packets k packet at)
 
 pub steps_are : (card : CardFields) (bytes : List ℕ) → received_steps card bytes ≡ card.height * taken_keys card []
@@ -333,10 +333,10 @@ refused_wrote card bytes a b why is after h =
         absurd (let some = kept.kept in let none = came.after.unrefused in let both = sym none ∙ some in cc)
     go (Some packet) at wrote n taken counted (mid, first, last, m, k, chain, refuses, joined, all) =
         let packets = taken_of bytes in
-        let front = take h.count packets in
+        let early = take h.count packets in
         let split = split_at packets h.count packet at in
-        let broke = subst (λ (c : CardFields). BrokeAt c front packet split.0 why (first ++ last) (m + k)) is
-        (broke_at front a.stage mid packet split.0 why first last m k after (some_few bytes h.count) chain refuses) in
+        let broke = subst (λ (c : CardFields). BrokeAt c early packet split.0 why (first ++ last) (m + k)) is
+        (broke_at early a.stage mid packet split.0 why first last m k after (some_few bytes h.count) chain refuses) in
         let most = next_steps card packets h.count packet at in
         wrote_all card bytes a b (refused_status why) wrote n
         (sym (some_refused card bytes why (ap (break_from card []) split.1 ∙ broke.broken)))

@@ -65,7 +65,7 @@ fn judge_card(alloc: Global, bytes: &[u8]) -> Result<Receiver, Status>
     }
 }
 
-/// What is answered to bytes that are no card, or where memory is wanting.
+/// What is answered to bytes that are no card, or where memory ran out.
 fn card_status(fault: CardFault) -> Status
     ensures { result ≡ refused_card fault }
 {

@@ -1,23 +1,23 @@
 use std::alloc::{AllocError, Global};
 
 /// How many bytes a packet has.
-pub const PACKET: usize = 188;
+pub(crate) const PACKET: usize = 188;
 
 /// A change of a file.
 #[derive(Clone, Copy)]
-pub enum Change<'a> {
+pub(crate) enum Change<'a> {
     /// These bytes stand from a place on, in place of those there.
     Put(usize, &'a [u8]),
     /// The packet of this number stands twice.
     Twice(usize),
     /// No more than so many bytes are left.
     Cut(usize),
-    /// These bytes stand behind all.
+    /// These bytes stand after all.
     Add(&'a [u8]),
 }
 
 /// The bytes after these changes, one after the other.
-pub fn changed(alloc: Global, bytes: &[u8], changes: &[Change<'_>]) -> Result<Vec<u8>, AllocError> {
+pub(crate) fn changed(alloc: Global, bytes: &[u8], changes: &[Change<'_>]) -> Result<Vec<u8>, AllocError> {
     let mut bytes = Vec::from_slice(alloc, bytes)?;
     for change in changes {
         bytes = changed_once(alloc, bytes, *change)?;

@@ -70,28 +70,28 @@ impl<'a> Whole<'a> {
         left(alloc, self.files, self.command.words, PIECE, fault)
     }
 
-    /// Whether a device's fault is told behind the first whole lines, and OUT begins the whole one where it was made.
+    /// Whether a device's fault is told after the first whole lines, and OUT begins the whole one where it was made.
     fn is_failed(&self, left: &Leaving, is_made: bool) -> bool {
-        let is_front = match &self.left.out {
-            Some(whole) if is_made => left.is_front_of(whole),
+        let is_prefix = match &self.left.out {
+            Some(whole) if is_made => left.is_prefix_of(whole),
             _ => left.out.is_none(),
         };
         left.status == Status::DepotFault
             && left.status.code() == 4
             && self.is_told(&left.printed, b"device fault\n")
-            && is_front
+            && is_prefix
             && left.failed
             && left.made == u64::from(is_made)
             && left.stayed
     }
 
-    /// Whether the line is printed behind the first whole lines.
+    /// Whether the line is printed after the first whole lines.
     fn is_told(&self, printed: &[u8], line: &[u8]) -> bool {
         let length = printed.len().saturating_sub(line.len());
-        let front = printed.get(..length).unwrap_or(&[]);
+        let prefix = printed.get(..length).unwrap_or(&[]);
         printed.ends_with(line)
-            && self.left.printed.starts_with(front)
-            && (front.is_empty() || front.ends_with(b"\n"))
+            && self.left.printed.starts_with(prefix)
+            && (prefix.is_empty() || prefix.ends_with(b"\n"))
     }
 
     /// Whether printing failed after so many bytes, and OUT is whole; or all is done where nothing is printed.

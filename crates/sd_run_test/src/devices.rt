@@ -83,7 +83,7 @@ fn failing_devices_are_told_by_receive(rt: HostRuntime) -> Result<(), Fail> {
             left.stayed && left.out.is_some() == row.is_made,
             "{fault:?}"
         );
-        assert!(rt; !row.is_made || left.is_front_of(&sent.clear), "{fault:?}");
+        assert!(rt; !row.is_made || left.is_prefix_of(&sent.clear), "{fault:?}");
         let length = left.out.map_or(0, |out| out.len());
         assert!(rt;
             length <= row.most && (row.exit != 0 || length == CLEAR),

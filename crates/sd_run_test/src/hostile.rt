@@ -5,13 +5,13 @@ use std::test::Fail;
 
 /// A clear stream, and what is sent of it.
 #[derive(Drop)]
-pub struct Sent {
+pub(crate) struct Sent {
     pub clear: Vec<u8>,
     pub stream: Vec<u8>,
 }
 
 /// What is sent under a book of so many packets of the sample stream of this number.
-pub fn broadcast(
+pub(crate) fn broadcast(
     alloc: Global,
     book: &[u8],
     number: &str,
@@ -26,26 +26,26 @@ pub fn broadcast(
 }
 
 /// The card of a leaf.
-pub fn card(alloc: Global, leaf: &str) -> Result<Vec<u8>, AllocError> {
+pub(crate) fn card(alloc: Global, leaf: &str) -> Result<Vec<u8>, AllocError> {
     made(alloc, &Files::new(alloc)?, &["card", "S", leaf, "O"])
 }
 
 /// The card, as the file K, and the stream, as the file X.
-pub fn received(alloc: Global, card: &[u8], stream: &[u8]) -> Result<Files, AllocError> {
+pub(crate) fn received(alloc: Global, card: &[u8], stream: &[u8]) -> Result<Files, AllocError> {
     let mut files = Files::new(alloc)?;
     files.add(alloc, "K", card)?;
     files.add(alloc, "X", stream)?;
     Ok(files)
 }
 
-/// The PMT section of the sample stream, and what is behind it where it stood rewritten.
-pub const PMT: [u8; 32] = [
+/// The PMT section of the sample stream, and what is after it where it stood rewritten.
+pub(crate) const PMT: [u8; 32] = [
     0x02, 0xB0, 0x17, 0x00, 0x01, 0xC1, 0x00, 0x00, 0xE1, 0x00, 0xF0, 0x00, 0x1B, 0xE1, 0x00, 0xF0,
     0x00, 0x0F, 0xE1, 0x01, 0xF0, 0x00, 0x2F, 0x44, 0xB9, 0x9B, 0xFF, 0xFF, 0xFF, 0xFF, 0xFF, 0xFF,
 ];
 
 /// Where the PMT section of packet 4 begins.
-pub const PMT_AT: usize = 4 * PACKET + 5;
+pub(crate) const PMT_AT: usize = 4 * PACKET + 5;
 
 /// What comes of a stream after changes.
 #[derive(Clone, Copy)]
@@ -85,7 +85,7 @@ fn is_due(alloc: Global, sent: &Sent, row: Row<'_>) -> Result<bool, AllocError> 
         has_sum(&stream, row.sum)
             && left.status.code() == row.exit
             && left.printed.as_slice() == row.line.as_bytes()
-            && left.is_front_of(&sent.clear)
+            && left.is_prefix_of(&sent.clear)
             && written == row.written
             && left.stayed
             && !left.failed,
@@ -119,7 +119,7 @@ fn changed_streams_are_refused_by_name(rt: HostRuntime) -> Result<(), Fail> {
             "stream packet 1: bad emm node\n",
             0,
         ),
-        // Another check of the period key; the same behind the packet as it was.
+        // Another check of the period key; the same after the packet as it was.
         refused(
             &[
                 Change::Put(211, &[0xDB]),

@@ -1,4 +1,5 @@
-//! Tests of the program's one call: the day of examples/day.sh, failing devices and hostile input.
+//! Tests of the program's one call: what each command prints and makes, the day of examples/day.sh, failing devices and
+//! hostile input.
 #![tactic(auto)]
 
 #[cfg(test)]
@@ -6,10 +7,14 @@ mod changes;
 #[cfg(test)]
 mod commands;
 #[cfg(test)]
+mod covers;
+#[cfg(test)]
 mod day;
 #[cfg(test)]
 mod devices;
 #[cfg(test)]
 mod hostile;
+#[cfg(test)]
+mod rows;
 #[cfg(test)]
 mod runs;

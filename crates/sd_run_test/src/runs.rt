@@ -10,11 +10,11 @@ use std::alloc::{AllocError, Global};
 use std::marker::Brand;
 use std::sync::ledger::{Blank, Ledger};
 
-/// As many bytes as a file that is made has room for, and as many as may be printed.
+/// As many bytes as a file that is made has room for where no fewer are asked for, and as many as may be printed.
 const ROOM: usize = 120_000;
 
 /// A site of height 3.
-pub const SITE: &[u8] = b"height 3
+pub(crate) const SITE: &[u8] = b"height 3
 master 000102030405060708090a0b0c0d0e0f101112131415161718191a1b1c1d1e1f
 ca 1234
 emm 496
@@ -33,21 +33,29 @@ struct File {
 
 /// The files that a run begins with.
 #[derive(Drop)]
-pub struct Files {
+pub(crate) struct Files {
     list: Vec<File>,
+    /// As many bytes as a file that is made has room for.
+    pub room: usize,
 }
 
 impl Files {
     /// The site alone, as the file S.
-    pub fn new(alloc: Global) -> Result<Files, AllocError> {
+    pub(crate) fn new(alloc: Global) -> Result<Files, AllocError> {
+        Files::with(alloc, "S", SITE)
+    }
+
+    /// One file alone.
+    pub(crate) fn with(alloc: Global, name: &str, bytes: &[u8]) -> Result<Files, AllocError> {
         let mut files = Files {
             list: Vec::new(alloc),
+            room: ROOM,
         };
-        files.add(alloc, "S", SITE)?;
+        files.add(alloc, name, bytes)?;
         Ok(files)
     }
 
-    pub fn add(&mut self, alloc: Global, name: &str, bytes: &[u8]) -> Result<(), AllocError> {
+    pub(crate) fn add(&mut self, alloc: Global, name: &str, bytes: &[u8]) -> Result<(), AllocError> {
         let name = String::from_str(alloc, name)?;
         let bytes = Vec::from_slice(alloc, bytes)?;
         self.list.push(File { name, bytes })?;
@@ -58,7 +66,7 @@ impl Files {
     fn shelf(&self, alloc: Global, most: usize) -> Result<MemDepot, AllocError>
         requires { 1 ≤ most }
     {
-        let mut depot = MemDepot::new(alloc, ROOM, most).map_err(|_| AllocError)?;
+        let mut depot = MemDepot::new(alloc, self.room, most).map_err(|_| AllocError)?;
         for file in &self.list {
             let bytes = Vec::from_slice(alloc, &file.bytes)?;
             depot.put(&file.name, bytes).map_err(|_| AllocError)?;
@@ -79,7 +87,7 @@ impl Files {
 
 /// The call of the outside that fails in a run.
 #[derive(Clone, Copy, Debug)]
-pub enum Fault<'a> {
+pub(crate) enum Fault<'a> {
     Nowhere,
     /// The depot's call of this number.
     Call(u32),
@@ -91,7 +99,7 @@ pub enum Fault<'a> {
 
 /// What a run leaves.
 #[derive(Drop)]
-pub struct Leaving {
+pub(crate) struct Leaving {
     pub status: Status,
     pub printed: Vec<u8>,
     /// The file O.
@@ -106,7 +114,7 @@ pub struct Leaving {
 
 impl Leaving {
     /// Whether a file O was made that begins this one.
-    pub fn is_front_of(&self, whole: &[u8]) -> bool {
+    pub(crate) fn is_prefix_of(&self, whole: &[u8]) -> bool {
         match &self.out {
             Some(out) => whole.starts_with(out),
             None => false,
@@ -115,7 +123,7 @@ impl Leaving {
 }
 
 /// What the words leave over these files, where at most so many bytes go through a call of a port.
-pub fn left(
+pub(crate) fn left(
     alloc: Global,
     files: &Files,
     words: &[&str],
@@ -153,7 +161,7 @@ pub fn left(
 }
 
 /// Runs the words and counts no step.
-pub fn uncounted<D: Depot, P: Sink>(
+pub(crate) fn uncounted<D: Depot, P: Sink>(
     alloc: Global,
     words: &[String],
     depot: &mut D,
@@ -178,13 +186,13 @@ fn counted<D: Depot, P: Sink, L: Ledger>(
 }
 
 /// The file O that the words make.
-pub fn made(alloc: Global, files: &Files, words: &[&str]) -> Result<Vec<u8>, AllocError> {
+pub(crate) fn made(alloc: Global, files: &Files, words: &[&str]) -> Result<Vec<u8>, AllocError> {
     let left = left(alloc, files, words, ROOM, Fault::Nowhere)?;
     left.out.ok_or(AllocError)
 }
 
 /// Whether the SHA-256 of these bytes begins so.
-pub fn has_sum(bytes: &[u8], sum: &str) -> bool {
+pub(crate) fn has_sum(bytes: &[u8], sum: &str) -> bool {
     let Ok(due) = <[u8; 8]>::from_hex(sum) else {
         return false;
     };

@@ -43,7 +43,7 @@ fn first_line(alloc: Global, clear: usize, sent: usize) -> Result<String, AllocE
     format!(in alloc; "clear {clear} broadcast {sent}\n")
 }
 
-/// Puts the line of leaf u's receiver behind the text, which has so much room for what it writes.
+/// Puts the line of leaf u's receiver after the text, which has so much room for what it writes.
 fn push_receiver<L: Ledger>(
     alloc: Global,
     text: &mut String,
@@ -66,7 +66,7 @@ fn push_receiver<L: Ledger>(
     push_line(text, u, wrote / SIZE, status)
 }
 
-/// Puts the line of leaf u's receiver behind the text, which wrote so many packets and ended so.
+/// Puts the line of leaf u's receiver after the text, which wrote so many packets and ended so.
 #[tactic(auto, unfolding(crate::specs::Trial::done_line, crate::specs::Trial::revoked_line))]
 fn push_line(text: &mut String, u: u32, wrote: usize, status: Status) -> Result<(), Status>
     requires { IsEnding status }

@@ -74,7 +74,7 @@ pub fn wants_memory(status: Status) -> bool
     matches!(status, Status::NoMemory | Status::DepotFault)
 }
 
-/// What was sent, where the head end came to the end of the stream and no more stood behind it.
+/// What was sent, where the head end came to the end of the stream and no more stood after it.
 fn judge(sent: Vec<u8>, status: Status, more: bool) -> Result<Vec<u8>, Status>
     requires { IsEnding status }
     ensures { Comes (λ sent. sent.items) (sent_or status more sent.items) result }

@@ -42,12 +42,12 @@ first_laid text stream short =
     ∙ part_is_enough text stream (length text) refl
 
 -- of a text before others, as much as it is long is the text
-pub front_of : (payload text rest : List ℕ) → length text ≡ length payload →
+pub prefix_of : (payload text rest : List ℕ) → length text ≡ length payload →
     take (length payload) (text ++ rest) ≡ text
-front_of payload text rest long =
+prefix_of payload text rest long =
     ap (λ (n : ℕ). take n (text ++ rest)) (sym long) ∙ take-append_seam text rest
 
--- the fourth byte is changed before what is put behind it, or after
+-- the fourth byte is changed before what is put after it, or after
 pub controlled_first : (packet payload : List ℕ) (start control : ℕ) → 4 ≤ start → 4 ≤ length packet →
     controlled (take start packet ++ payload) control ≡ take start (controlled packet control) ++ payload
 controlled_first [] payload start control low long = absurd (omega arith)
@@ -60,7 +60,7 @@ controlled_first (a ∷ (b ∷ (c ∷ (d ∷ rest)))) payload (suc (suc zero)) c
 controlled_first (a ∷ (b ∷ (c ∷ (d ∷ rest)))) payload (suc (suc (suc zero))) control low long = absurd (omega arith)
 controlled_first (a ∷ (b ∷ (c ∷ (d ∷ rest)))) payload (suc (suc (suc (suc k)))) control low long = refl
 
--- the fourth byte stands before what is put behind it
+-- the fourth byte stands before what is put after it
 pub fourth_stays : (packet payload : List ℕ) (start : ℕ) → 4 ≤ start → 4 ≤ length packet →
     slice_index (take start packet ++ payload) 3 ≡ slice_index packet 3
 fourth_stays [] payload start low long = absurd (omega arith)
@@ -85,32 +85,32 @@ all_laid packet word laid put new position control long is_laid is_put is_new =
     ∙ controlled_first packet (payload_under packet word position) (payload_start_of packet) control
     (start_within packet).0 (omega arith))
 
--- the bytes of a header whose fourth byte is changed, and the byte after it where the front reaches it
-pub record HasFront (old new : List ℕ) (start fourth : ℕ) : Type 0 where
+-- the bytes of a header whose fourth byte is changed, and the byte after it where the prefix reaches it
+pub record HasPrefix (old new : List ℕ) (start fourth : ℕ) : Type 0 where
   pub first : slice_index new 0 ≡ slice_index old 0
   pub second : slice_index new 1 ≡ slice_index old 1
   pub third : slice_index new 2 ≡ slice_index old 2
   pub fourth_is : slice_index new 3 ≡ fourth
   pub after : 4 < start → slice_index new 4 ≡ slice_index old 4
 
--- they are so where the front is kept but for the fourth byte
-pub front_is : (packet payload : List ℕ) (start fourth : ℕ) → 4 ≤ start → 5 ≤ length packet
-    → HasFront packet (take start (slice_set packet 3 fourth) ++ payload) start fourth
-front_is [] payload start y h long = absurd (omega arith)
-front_is (a ∷ []) payload start y h long = absurd (omega arith)
-front_is (a ∷ (b ∷ [])) payload start y h long = absurd (omega arith)
-front_is (a ∷ (b ∷ (c ∷ []))) payload start y h long = absurd (omega arith)
-front_is (a ∷ (b ∷ (c ∷ (d ∷ [])))) payload start y h long = absurd (omega arith)
-front_is (a ∷ (b ∷ (c ∷ (d ∷ (e ∷ rest))))) payload zero y h long = absurd (omega arith)
-front_is (a ∷ (b ∷ (c ∷ (d ∷ (e ∷ rest))))) payload (suc zero) y h long = absurd (omega arith)
-front_is (a ∷ (b ∷ (c ∷ (d ∷ (e ∷ rest))))) payload (suc (suc zero)) y h long = absurd (omega arith)
-front_is (a ∷ (b ∷ (c ∷ (d ∷ (e ∷ rest))))) payload (suc (suc (suc zero))) y h long = absurd (omega arith)
-front_is (a ∷ (b ∷ (c ∷ (d ∷ (e ∷ rest))))) payload (suc (suc (suc (suc zero)))) y h long =
+-- they are so where the prefix is kept but for the fourth byte
+pub prefix_is : (packet payload : List ℕ) (start fourth : ℕ) → 4 ≤ start → 5 ≤ length packet
+    → HasPrefix packet (take start (slice_set packet 3 fourth) ++ payload) start fourth
+prefix_is [] payload start y h long = absurd (omega arith)
+prefix_is (a ∷ []) payload start y h long = absurd (omega arith)
+prefix_is (a ∷ (b ∷ [])) payload start y h long = absurd (omega arith)
+prefix_is (a ∷ (b ∷ (c ∷ []))) payload start y h long = absurd (omega arith)
+prefix_is (a ∷ (b ∷ (c ∷ (d ∷ [])))) payload start y h long = absurd (omega arith)
+prefix_is (a ∷ (b ∷ (c ∷ (d ∷ (e ∷ rest))))) payload zero y h long = absurd (omega arith)
+prefix_is (a ∷ (b ∷ (c ∷ (d ∷ (e ∷ rest))))) payload (suc zero) y h long = absurd (omega arith)
+prefix_is (a ∷ (b ∷ (c ∷ (d ∷ (e ∷ rest))))) payload (suc (suc zero)) y h long = absurd (omega arith)
+prefix_is (a ∷ (b ∷ (c ∷ (d ∷ (e ∷ rest))))) payload (suc (suc (suc zero))) y h long = absurd (omega arith)
+prefix_is (a ∷ (b ∷ (c ∷ (d ∷ (e ∷ rest))))) payload (suc (suc (suc (suc zero)))) y h long =
     record { first = refl; second = refl; third = refl; fourth_is = refl; after = λ g. absurd (omega arith) }
-front_is (a ∷ (b ∷ (c ∷ (d ∷ (e ∷ rest))))) payload (suc (suc (suc (suc (suc k))))) y h long =
+prefix_is (a ∷ (b ∷ (c ∷ (d ∷ (e ∷ rest))))) payload (suc (suc (suc (suc (suc k))))) y h long =
     record { first = refl; second = refl; third = refl; fourth_is = refl; after = λ g. refl }
 
--- a text laid twice after a front that stays is the whole
+-- a text laid twice after a prefix that stays is the whole
 rest_back : (rest stream : List ℕ) (k : ℕ) → k ≤ length rest → length rest ≤ k + length stream →
     take k (take k rest ++ xored (drop k rest) stream)
     ++ xored (drop k (take k rest ++ xored (drop k rest) stream)) stream ≡ rest
@@ -168,13 +168,13 @@ pub fields_of : (packet payload : List ℕ) (control : ℕ) → length packet �
     → IsLaidUnder packet control payload (take (payload_start_of packet) (controlled packet control) ++ payload)
 fields_of packet payload control long byte low =
     let new : List ℕ = take (payload_start_of packet) (controlled packet control) ++ payload in
-    let front =
-    front_is packet payload (payload_start_of packet) (control * 64 + slice_index packet 3 % 64)
+    let prefix =
+    prefix_is packet payload (payload_start_of packet) (control * 64 + slice_index packet 3 % 64)
     (start_within packet).0 (omega arith) in
-    let front_long : length (take (payload_start_of packet) (controlled packet control)) ≡ payload_start_of packet =
+    let prefix_long : length (take (payload_start_of packet) (controlled packet control)) ≡ payload_start_of packet =
     length-take-le (payload_start_of packet) (controlled packet control)
     (omega (arith, start_within packet, length-set packet 3 (control * 64 + slice_index packet 3 % 64))) in
-    let fourth : slice_index new 3 ≡ control * 64 + slice_index packet 3 % 64 = front.fourth_is in
+    let fourth : slice_index new 3 ≡ control * 64 + slice_index packet 3 % 64 = prefix.fourth_is in
     let before = controls_and_counter packet byte in
     let after = controls_and_counter new (omega (arith, fourth)) in
     let below_a = field_below packet 26 2 in
@@ -182,17 +182,17 @@ fields_of packet payload control long byte low =
     let below_na = field_below new 26 2 in
     let below_nc = field_below new 28 4 in
     let same : adaptation_of new ≡ adaptation_of packet = omega arith in
-    let start : payload_start_of new ≡ payload_start_of packet = start_by_bytes new packet same front.after in
+    let start : payload_start_of new ≡ payload_start_of packet = start_by_bytes new packet same prefix.after in
     record {
-      unit_start = unit_start_by_byte new packet front.second;
-      pid = pid_by_bytes new packet front.second front.third;
+      unit_start = unit_start_by_byte new packet prefix.second;
+      pid = pid_by_bytes new packet prefix.second prefix.third;
       scrambling = omega arith;
       adaptation = same;
       counter = omega arith;
       start = start;
       payload_is =
           rw start (drop_at (take (payload_start_of packet) (controlled packet control)) payload
-          (payload_start_of packet) front_long);
+          (payload_start_of packet) prefix_long);
     }
 
 -- what is read from a packet after scrambling or descrambling
@@ -211,14 +211,14 @@ unfolding laid_under
 undone packet word position control long byte clear low =
     let stream : List ℕ = keystream word (stream_number (pid_of packet) position) 184 in
     let is = fields_of packet (xored (drop (payload_start_of packet) packet) stream) control long byte low in
-    let front =
-    front_is packet (xored (drop (payload_start_of packet) packet) stream) (payload_start_of packet)
+    let prefix =
+    prefix_is packet (xored (drop (payload_start_of packet) packet) stream) (payload_start_of packet)
     (control * 64 + slice_index packet 3 % 64) (start_within packet).0 (omega arith) in
     let here = controls_and_counter packet byte in
     let below_a = field_below packet 26 2 in
     let below_c = field_below packet 28 4 in
     let within = start_within packet in
-    let is_fourth = front.fourth_is in
+    let is_fourth = prefix.fourth_is in
     rw (
       is.pid,
       is.start,

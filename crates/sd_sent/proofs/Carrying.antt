@@ -14,7 +14,7 @@ use Rattle.sd_psi.specs.Rewriting.{rewrite_fault}
 use Rattle.sd_psi.specs.Undone.{IsPacket}
 use Rattle.sd_psi.proofs.Keeping.{rewritten_keeps, rewritten_packet_keeps}
 use Rattle.sd_scramble.specs.Scrambling.{control_of, payload_under, laid_under}
-use Rattle.sd_scramble.proofs.Scramblings.{front_is, laid_reads, control_fits}
+use Rattle.sd_scramble.proofs.Scramblings.{prefix_is, laid_reads, control_fits}
 use Rattle.sd_broadcast.specs.Plan.{crypto_of}
 use Rattle.sd_broadcast.specs.Kinds.{kind_of}
 use Rattle.sd_broadcast.specs.Carried.{parity_of, place_after, pmt_carried, veiled, carried_as, carried}
@@ -114,9 +114,9 @@ veiled_pid : (site : SiteFields) (t position : ℕ) (packet : List ℕ) → leng
 unfolding veiled laid_under
 veiled_pid site t position packet long =
     let word : List ℕ = control_word_of site.master t in
-    let front = front_is packet (payload_under packet word position) (payload_start_of packet)
+    let prefix = prefix_is packet (payload_under packet word position) (payload_start_of packet)
     (control_of (parity_of t) * 64 + slice_index packet 3 % 64) (start_within packet).0 (omega (arith, long)) in
-    pid_by_bytes (veiled site t position packet) packet front.second front.third
+    pid_by_bytes (veiled site t position packet) packet prefix.second prefix.third
 
 pmt_pid : (site : SiteFields) (packet : List ℕ) → length packet ≡ 188 → payload_start_of packet < 188 →
     pid_of (pmt_carried site packet) ≡ pid_of packet

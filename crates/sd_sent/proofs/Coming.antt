@@ -52,7 +52,7 @@ tables_before_come plan clear k within = by_test (k % crypto_length plan.site ==
 -- the parts of the message before a packet
 message_comes : (plan : Plan) (clear before : List (List ℕ)) → take (length before) clear ≡ before →
     length before < length clear → All (IsOfRest plan clear (length before)) (message_before plan before)
-message_comes plan clear before front within = by_test (length before % plan.site.every == 0) refl
+message_comes plan clear before prefix within = by_test (length before % plan.site.every == 0) refl
   where
     Comes : Item → Type 0
     Comes = IsOfRest plan clear (length before)
@@ -66,7 +66,7 @@ message_comes plan clear before front within = by_test (length before % plan.sit
         (λ p m. part (length before) (omega arith) within due
         (subst (λ (b : List (List ℕ)). Contains
         (parts_of (message_at plan b (length before / plan.site.every) (length before) false)) p)
-        (sym front) m)))
+        (sym prefix) m)))
 
     by_test : (b : Bool) → (length before % plan.site.every == 0) ≡ b →
         All Comes (if b then map Controls parts else [])
@@ -81,7 +81,7 @@ added_comes plan before packet more =
     All-append Comes (tables_before plan (length before)) (message_before plan before ++ last ∷ [])
     (tables_before_come plan clear (length before) (omega (arith, within)))
     (All-append Comes (message_before plan before) (last ∷ [])
-    (message_comes plan clear before front within) (All-cons Comes last [] here (All-nil Comes)))
+    (message_comes plan clear before prefix within) (All-cons Comes last [] here (All-nil Comes)))
   where
     clear : List (List ℕ)
     clear = before ++ packet ∷ more
@@ -95,11 +95,11 @@ added_comes plan before packet more =
     within : length before < length clear
     within = omega (arith, length-append before (packet ∷ more))
 
-    front : take (length before) clear ≡ before
-    front = take-append_seam before (packet ∷ more)
+    prefix : take (length before) clear ≡ before
+    prefix = take-append_seam before (packet ∷ more)
 
     here : Comes last
-    here = subst (λ (b : List (List ℕ)). Comes (Carries (length before) (carried plan.site b packet))) front
+    here = subst (λ (b : List (List ℕ)). Comes (Carries (length before) (carried plan.site b packet))) prefix
         (subst (λ (p : List ℕ). Comes (Carries (length before) (carried plan.site (take (length before) clear) p)))
         (get_or-append_seam before packet more []) (carried_on (length before) (omega arith) within))
 

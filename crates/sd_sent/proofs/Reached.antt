@@ -74,16 +74,16 @@ packet_tables plan clear k r within =
     let whole : sent plan clear ≡ sent plan (take (k + 1) clear) ++ later =
     ap (sent plan) (sym (take-append-drop (k + 1) clear))
     ∙ sent_in_turn plan [] (take (k + 1) clear) (drop (k + 1) clear) in
-    let front : List Item = sent plan (take from clear) in
+    let prefix : List Item = sent plan (take from clear) in
     let rest : List Item = stand.0 ++ (later ++ closing_of plan clear) in
-    let joined : sent plan clear ++ closing_of plan clear ≡ front ++ (tables_at plan from ++ rest) =
+    let joined : sent plan clear ++ closing_of plan clear ≡ prefix ++ (tables_at plan from ++ rest) =
     ap (λ (xs : List Item). xs ++ closing_of plan clear)
     (whole ∙ ap (λ (xs : List Item). xs ++ later) stand.1)
-    ∙ regroup front (tables_at plan from) stand.0 later (closing_of plan clear) in (
-      sections_in front,
+    ∙ regroup prefix (tables_at plan from) stand.0 later (closing_of plan clear) in (
+      sections_in prefix,
       sections_in rest,
-      ap sections_in joined ∙ (middle front (tables_at plan from) rest
-          ∙ ap (λ (emms : List Emm). sections_in front ++ (emms ++ sections_in rest))
+      ap sections_in joined ∙ (middle prefix (tables_at plan from) rest
+          ∙ ap (λ (emms : List Emm). sections_in prefix ++ (emms ++ sections_in rest))
           (tables_have plan from ∙ ap (λ (q : ℕ). emms_of (period_at plan q)) (period_begins plan k r))),
     )
   where

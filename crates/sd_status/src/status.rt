@@ -38,7 +38,7 @@ pub enum Status {
     BadStream { packet: u64, cause: StreamCause },
     /// Something is over its limit.
     Limit(LimitKind),
-    /// Memory is wanting.
+    /// Out of memory.
     NoMemory,
     /// The stream is closed, and of this period some section was never seen and none that entitles the leaf.
     Unheard { leaf: u32, period: u32 },

@@ -41,7 +41,7 @@ impl Line {
     }
 }
 
-/// Prints the line of a status, and answers the status: `NoMemory` where memory is wanting for the line, and
+/// Prints the line of a status, and answers the status: `NoMemory` where memory runs out for the line, and
 /// `PrintFault` where print failed. `Done` and `PrintFault` have no line.
 #[tactic(auto, unfolding(crate::specs::Texts::line_of))]
 pub fn tell<P: Sink>(alloc: Global, print: &mut P, status: Status) -> Status

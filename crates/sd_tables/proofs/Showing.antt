@@ -11,11 +11,11 @@ use Rattle.sd_tables.specs.Watching.{is_named, naming, IsLearned, IsLearning}
 use Rattle.sd_tables.proofs.Learning.{or_false, or_assoc}
 
 -- the section that is lent is the first that waits
-pub front_is : (waiting rest : List (List ℕ)) (section : List ℕ) → Some section ≡ slice_get waiting 0 →
+pub first_is : (waiting rest : List (List ℕ)) (section : List ℕ) → Some section ≡ slice_get waiting 0 →
     rest ≡ drop 1 waiting →
     waiting ≡ section ∷ rest
-front_is [] rest section is after = absurd (cc)
-front_is (first ∷ waiting) rest section is after =
+first_is [] rest section is after = absurd (cc)
+first_is (first ∷ waiting) rest section is after =
     let same : first ≡ section = cc in
     ap (λ (s : List ℕ). s ∷ waiting) same ∙ ap (λ (r : List (List ℕ)). section ∷ r) (sym after)
 

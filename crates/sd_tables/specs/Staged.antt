@@ -10,19 +10,19 @@ use Rattle.sd_tables.specs.Watching.{IsAfter}
 use Rattle.sd_tables.specs.declared.inspector.Inspector.{Inspector}
 
 -- what the inspector keeps: marks of the watched PIDs, their assemblers, how many packets it was offered, and whether
--- memory was wanting
+-- memory ran out
 pub record Inspecting : Type 0 where
   pub marks : List Bool
   pub places : List (Option Assembling)
   pub number : ℕ
-  pub wanting : Bool
+  pub out_of_memory : Bool
 
 abbrev pub seen : Inspector → Inspecting
 seen stage = record {
   marks = stage.assemblies.watched.marks.items;
   places = stage.assemblies.assemblers.items;
   number = stage.number;
-  wanting = stage.wanting;
+  out_of_memory = stage.out_of_memory;
 }
 
 -- it stands after these packets, of which the last comes first
@@ -43,15 +43,15 @@ pub record Ends (s t : Inspecting) (bytes : List ℕ) (steps : ℕ) : Type 0 whe
   pub same : t ≡ s
   pub no_steps : steps ≡ 0
 
--- where memory is wanting nothing is written, and that is kept
+-- where memory ran out nothing is written, and that is kept
 pub record Refuses (t : Inspecting) (bytes : List ℕ) (steps : ℕ) : Type 0 where
   pub nothing : bytes ≡ []
-  pub kept : t.wanting ≡ true
+  pub kept : t.out_of_memory ≡ true
   pub no_steps : steps ≡ 0
 
--- it may be offered a packet: it stands after some, unless memory was wanting
+-- it may be offered a packet: it stands after some, unless memory ran out
 abbrev pub IsReady : Inspecting → Type 0
-IsReady s = s.wanting ≡ false → (before : List (List ℕ)) × IsAfter before s.marks s.places
+IsReady s = s.out_of_memory ≡ false → (before : List (List ℕ)) × IsAfter before s.marks s.places
 
 -- what a packet comes to
 abbrev pub inspector_does : Inspector → List ℕ → Inspector → List ℕ → ℕ → Type 0

@@ -17,7 +17,7 @@ pub struct Inspector {
     alloc: Global,
     assemblies: Assemblies,
     number: u64,
-    wanting: bool,
+    out_of_memory: bool,
 }
 
 impl Inspector {
@@ -29,7 +29,7 @@ impl Inspector {
             alloc,
             assemblies: Assemblies::new(alloc)?,
             number: 0,
-            wanting: false,
+            out_of_memory: false,
         })
     }
 }
@@ -39,7 +39,7 @@ impl<K: Sink, L: Ledger> Stage<K, L> for Inspector {
 
     ghost live = { λ s. IsReady (seen s) };
 
-    ghost kept = { λ s. if s.wanting then Some (record {}) else None };
+    ghost kept = { λ s. if s.out_of_memory then Some (record {}) else None };
 
     ghost does = { inspector_does };
 
@@ -53,7 +53,7 @@ impl<K: Sink, L: Ledger> Stage<K, L> for Inspector {
         out: &mut K,
         steps: &mut Steps<L>,
     ) -> Result<(), StageFault<NoMemory>> {
-        if self.wanting {
+        if self.out_of_memory {
             return Err(StageFault::Refused(NoMemory));
         }
         let mut text = String::new(self.alloc);
@@ -61,7 +61,7 @@ impl<K: Sink, L: Ledger> Stage<K, L> for Inspector {
             .assemblies
             .take(self.alloc, self.number, packet, &mut text)
         {
-            self.wanting = true;
+            self.out_of_memory = true;
             return Err(StageFault::Refused(fault));
         }
         self.number = self.number.saturating_add(1);
@@ -72,7 +72,7 @@ impl<K: Sink, L: Ledger> Stage<K, L> for Inspector {
     }
 
     fn close(&mut self, out: &mut K, steps: &mut Steps<L>) -> Result<(), StageFault<NoMemory>> {
-        if self.wanting {
+        if self.out_of_memory {
             return Err(StageFault::Refused(NoMemory));
         }
         Ok(())

@@ -32,7 +32,7 @@ no_feed (byte ∷ (next ∷ bytes)) h before =
 pub to_the_end : (n : ℕ) (bytes : List ℕ) → take (length bytes - n) (drop n bytes) ≡ drop n bytes
 to_the_end n bytes = take_rest bytes n
 
--- a line and its line feed in front of a text are the first of its lines
+-- a line and its line feed before a text are the first of its lines
 pub line_cut : (line rest : List ℕ) → is_line line ≡ true → lines_of (line ++ 10 ∷ rest) ≡ line ∷ lines_of rest
 line_cut [] rest h = refl
 line_cut (byte ∷ bytes) rest h =

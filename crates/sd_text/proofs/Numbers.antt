@@ -46,10 +46,10 @@ decimal_of_number text n h e =
 pub after_word : (word text : List ℕ) → after word (word ++ text) ≡ Some text
 unfolding after
 after_word word text =
-    let front = take_at word text (length word) refl in
+    let prefix = take_at word text (length word) refl in
     let rest = drop_at word text (length word) refl in
     let same : bytes_eq word word ≡ true = (bytes_eq-Decides word word).1 refl in
-    rw front (rw rest (rw same refl))
+    rw prefix (rw rest (rw same refl))
 
 -- a word and a number after it are read back
 pub decimal_after_decimal : (word : List ℕ) (n : ℕ) → n < 2 ^ 64 → decimal_after word (word ++ decimal n) ≡ Some n

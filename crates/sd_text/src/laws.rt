@@ -5,9 +5,9 @@ ghost use Rattle.std.specs.Fmt.{decimal};
 ghost use Rattle.sd_text.specs.Lines.{lines_of, is_line};
 ghost use Rattle.sd_text.specs.Number.{number_of, decimal_after};
 
-/// A line and its line feed in front of a text are the first of its lines.
+/// A line and its line feed before a text are the first of its lines.
 #[tactic(auto, using(crate::proofs::Cuts::line_cut))]
-pub fn line_in_front()
+pub fn line_before()
     ensures { (line rest : List ℕ) → is_line line ≡ true → lines_of (line ++ 10 ∷ rest) ≡ line ∷ lines_of rest }
 {}
 

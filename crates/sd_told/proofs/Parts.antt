@@ -57,10 +57,10 @@ after_is message (before ∷ run) part rest is same =
     (λ j e within. above (get_or (listed before) j e) (get_or (listed part) i d)
     (Contains-get_or (listed before) j e within) (Contains-get_or (listed part) i d inside)))) refl
   where
-    front : List Place
-    front = flat_map listed (reverse run)
+    prefix : List Place
+    prefix = flat_map listed (reverse run)
 
-    spread : message.places ≡ front ++ (listed before ++ (listed part ++ flat_map listed rest))
+    spread : message.places ≡ prefix ++ (listed before ++ (listed part ++ flat_map listed rest))
     spread = sym (joined_are_all message)
         ∙ (ap (flat_map listed) (same ∙ (ap (λ (xs : List EcmPart). xs ++ (part ∷ rest)) (reverse_cons before run)
         ∙ append_assoc (reverse run) (before ∷ []) (part ∷ rest)))
@@ -70,7 +70,7 @@ after_is message (before ∷ run) part rest is same =
         nat_le place.pid old.pid ≡ false
     above old place m n =
         let less : old.pid < place.pid =
-        pairs_across (λ (a b : Place). a.pid < b.pid) front (listed before) (listed part)
+        pairs_across (λ (a b : Place). a.pid < b.pid) prefix (listed before) (listed part)
         (flat_map listed rest) old place
         (subst AreAscending spread is.ascending) m n in
         grind (arith, nat_tests, less)
@@ -144,11 +144,11 @@ parts_right message x is = by_run (reverse (take x (parts_of message))) refl
     by_run : (run : List EcmPart) → reverse (take x (parts_of message)) ≡ run → part_fault run ≡ None
     by_run [] e = refl
     by_run (part ∷ run) e =
-        let front : take x (parts_of message) ≡ reverse run ++ part ∷ [] =
+        let prefix : take x (parts_of message) ≡ reverse run ++ part ∷ [] =
         sym (reverse-reverse (take x (parts_of message))) ∙ (ap reverse e ∙ reverse_cons part run) in
         let whole : parts_of message ≡ reverse run ++ (part ∷ drop x (parts_of message)) =
         sym (take-append-drop x (parts_of message))
-        ∙ (ap (λ (xs : List EcmPart). xs ++ drop x (parts_of message)) front
+        ∙ (ap (λ (xs : List EcmPart). xs ++ drop x (parts_of message)) prefix
         ∙ append_assoc (reverse run) (part ∷ []) (drop x (parts_of message))) in
         next_right message run part (drop x (parts_of message)) is whole
 
@@ -209,7 +209,7 @@ part_stands message before part after is same =
     let each = split_all (IsOfMessage message) (reverse before) (part ∷ after)
     (subst (All (IsOfMessage message)) same (all_are_of message)) in
     let its = All-head (IsOfMessage message) part after each.1 in
-    let front = length-reverse before in
+    let prefix = length-reverse before in
     let there : slice_get (parts_of message) (length (reverse before)) ≡ Some part =
     ap (λ (xs : List EcmPart). slice_get xs (length (reverse before))) same
     ∙ (slice_get-get_or (reverse before ++ (part ∷ after)) (length (reverse before)) part
@@ -219,7 +219,7 @@ part_stands message before part after is same =
     let long : length (parts_of message) ≡ length (reverse before ++ (part ∷ after)) = ap length same in
     record {
       number = its.number;
-      place = number_is message (length (reverse before)) part there ∙ front;
-      last = its.last_part ∙ omega (arith, many, long, front, length-append (reverse before) (part ∷ after));
+      place = number_is message (length (reverse before)) part there ∙ prefix;
+      last = its.last_part ∙ omega (arith, many, long, prefix, length-append (reverse before) (part ∷ after));
       right = next_right message before part after is same;
     }

@@ -33,7 +33,7 @@ ghost use Rattle.sd_reception.specs.Offered.{is_before, is_mixed, says_same, par
 ghost use Rattle.sd_told.specs.Told.{tuning_to, heard_of};
 ghost use Rattle.sd_told.specs.Parts.{StandsBetween};
 
-/// A later control message of a broadcast never goes back behind an earlier one.
+/// A later control message of a broadcast never goes back before an earlier one.
 pub fn messages_never_back()
     ensures { (plan : Plan) (clear : List (List ℕ)) (a b : ℕ) → IsPlan plan → a < b →
         b ≤ closing_number plan.site (length clear) →

@@ -74,7 +74,7 @@ trace_same d coalition a b (f ∷ fs) low same r = (
   trace_same d coalition (f.leaf ∷ a) (f.leaf ∷ b) fs low (same_more f.leaf a b same) r.1,
 )
 
--- what is joined has the leaves of the list with the leaf in front
+-- what is joined has the leaves of the list with the leaf before them
 joined_same : (v : ℕ) (old new : List ℕ) → Joined v old new → SameLeaves new (v ∷ old)
 joined_same v old new joined u = (
   λ m. elim ((joined.members u).0 m) [

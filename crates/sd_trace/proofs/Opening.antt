@@ -47,7 +47,7 @@ none_at p (x ∷ xs) (suc k) d none within = none_at p xs k d (later (p x) (list
     later true b e = absurd (cc)
     later false b e = e
 
--- what the last set that opens among others is behind one more
+-- what the last set that opens among others is after one more
 pub opened_later : (d : ℕ) (coalition : List ℕ) (name : SetName) (sets : List SetName) (z : ℕ) →
     IsLastOpen d coalition sets z →
     IsLastOpen d coalition (name ∷ sets) (suc z)

@@ -26,7 +26,7 @@ all_shut d coalition (name ∷ sets) (is ∷ right) shut =
     no true = refl
     no false = refl
 
--- the last open set of a list that goes on behind one
+-- the last open set of a list that goes on after one
 later : (d : ℕ) (coalition : List ℕ) (name : SetName) (sets : List SetName) (z : ℕ) → IsLastOpen d coalition
     (name ∷ sets) (suc z) → IsLastOpen d coalition sets z
 later d coalition name sets z open_at = record {
@@ -35,7 +35,7 @@ later d coalition name sets z open_at = record {
   last = λ k h g. open_at.last (suc k) (omega arith) (omega arith);
 }
 
--- with the first m keys wrong, the box opens where the last open set is behind them
+-- with the first m keys wrong, the box opens where the last open set is after them
 pub probe_tells : (d : ℕ) (coalition : List ℕ) (sets : List SetName) (m n z : ℕ) → m + n ≡ length sets →
     IsLastOpen d coalition sets z → opens_some d coalition sets (right_from m n) ≡ nat_le m z
 unfolding opens_some

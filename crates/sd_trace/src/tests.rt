@@ -156,11 +156,11 @@ impl Plain {
             if part.len() == 1 {
                 return Some((part[0], turns));
             }
-            let (front, back) = part.split_at(part.len() / 2);
-            part = if back.iter().any(|name| self.opens(*name)) {
-                back
+            let (first, second) = part.split_at(part.len() / 2);
+            part = if second.iter().any(|name| self.opens(*name)) {
+                second
             } else {
-                front
+                first
             };
         }
         None

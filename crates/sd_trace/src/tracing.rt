@@ -59,7 +59,7 @@ pub fn trace_all<B: TestBox>(
     Ok(found)
 }
 
-// Puts what a round found behind what was found before.
+// Puts what a round found after what was found before.
 fn add(found: &mut Vec<Found>, next: Found) -> Result<(), AllocError>
     ensures { OnOk result (found.new.items ≡ found.old.items ++ next ∷ []) }
 {

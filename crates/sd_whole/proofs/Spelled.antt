@@ -23,7 +23,7 @@ use Rattle.sd_psi.proofs.Undoing.{IsRightPmt, other_head, sealed_long}
 use Rattle.sd_psi.proofs.Inverse.{packet_parts, may_rewrite}
 use Rattle.sd_section.specs.Header.{section_length_of}
 use Rattle.sd_scramble.specs.Scrambling.{stream_number, control_of, payload_under, laid_under}
-use Rattle.sd_scramble.proofs.Scramblings.{front_is}
+use Rattle.sd_scramble.proofs.Scramblings.{prefix_is}
 use Rattle.sd_emm.specs.Spelled.{listed, emm_body, emm_header, emm_section}
 use Rattle.sd_emm.specs.Form.{AreSets, IsEmm, Fits}
 use Rattle.sd_emm.specs.declared.emm.Emm.{Emm}
@@ -90,7 +90,7 @@ veiled_synced site t position packet is =
     let within = start_within packet in
     let fourth : ℕ = control_of (parity_of t) * 64 + slice_index packet 3 % 64 in
     let stream : List ℕ = keystream word (stream_number (pid_of packet) position) 184 in
-    let front = front_is packet (payload_under packet word position) start fourth within.0 (omega (arith, is.long)) in
+    let prefix = prefix_is packet (payload_under packet word position) start fourth within.0 (omega (arith, is.long)) in
     record {
       long = omega (
         arith,
@@ -107,7 +107,7 @@ veiled_synced site t position packet is =
         is.long,
         within.1,
       );
-      sync = front.first ∙ is.sync;
+      sync = prefix.first ∙ is.sync;
     }
 
 -- the section of a PMT is six bytes longer with the descriptor

@@ -2,7 +2,7 @@ use Rattle.std.proofs.Common.{rules, ◌≡◌, ◌≤◌, ◌++◌, ◌∙◌, 
 use Rattle.std.proofs.lemmas.List.{length-map}
 use Rattle.sd_secrets.specs.Secrets.{secret_of}
 use Rattle.sd_lsd.specs.LayerNames.{layer_given}
-use Rattle.sd_lsd.proofs.Given.{front, length_layer_given}
+use Rattle.sd_lsd.proofs.Given.{useful_under, length_layer_given}
 use Rattle.sd_lsd.proofs.Made.{secrets_first, secrets_more, secrets_all}
 use Rattle.sd_lsd.proofs.make.secrets.Goals as goal
 
@@ -38,6 +38,6 @@ loop-depth-preserved g c =
     let k = c.loop-depth.depth in
     let added = rw c.pairs_under-levels.ensures.value at c.in_ok-push_labels.ensures.value in
     added
-    ∙ (ap (λ (xs : List (List ℕ)). xs ++ map (secret_of site.master) (front site.height c.args.w c.args.u k))
+    ∙ (ap (λ (xs : List (List ℕ)). xs ++ map (secret_of site.master) (useful_under site.height c.args.w c.args.u k))
     c.loop-depth.invariant
     ∙ secrets_more site.master site.height c.args.w c.args.u k)

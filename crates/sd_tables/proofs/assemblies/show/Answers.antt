@@ -1,6 +1,6 @@
 use Rattle.std.proofs.Common.{ℕ, List, ◌≡◌, ◌∷◌, ◌++◌, refl, ap, ◌∙◌, string_bytes}
 use Rattle.sd_section.specs.Assembled.{Assembling, one_lent}
-use Rattle.sd_tables.proofs.Showing.{lines_more, learned_more, all_learned, front_is}
+use Rattle.sd_tables.proofs.Showing.{lines_more, learned_more, all_learned, first_is}
 use Rattle.sd_tables.proofs.assemblies.show.Goals as goal
 
 pub loop-section-preserved : goal.loop-section-preserved
@@ -9,7 +9,7 @@ loop-section-preserved c =
     let now = c.next.follows.lender-at-none in
     let lent : now ≡ one_lent l.assembler = c.next.follows.holds-at-none in
     let is : l.assembler.waiting ≡ c.in-Some.section.now ∷ now.waiting =
-    front_is l.assembler.waiting now.waiting c.in-Some.section.now c.in-Some.ensures.value
+    first_is l.assembler.waiting now.waiting c.in-Some.section.now c.in-Some.ensures.value
     (ap (λ (a : Assembling). a.waiting) lent) in
     record {
       lines = lines_more c.args.number c.args.pid _ _ _ c.in-Some.section.now l.assembler.waiting now.waiting is

@@ -40,7 +40,7 @@ returns-in-Ok-clause-value g c = record {
     site = c.args.self.now.site;
     clear = c.args.self.now.clear;
     entitling = c.finish.new.entitling;
-    sender = c.send_front.new.self;
+    sender = c.send_inserted.new.self;
     refusal = c.args.self.now.refusal;
   }) c.prepare_closing-message.new.self
       (c.count-count.result == 0) c.emms-emms.result.now
@@ -62,8 +62,8 @@ returns-in-Ok-clause-value g c = record {
   counted = omega arith;
 }
 
-pub returns-in-Err-send_front-clause-prefix : goal.returns-in-Err-send_front-clause-prefix
-returns-in-Err-send_front-clause-prefix g c = λ fails. record {
+pub returns-in-Err-send_inserted-clause-prefix : goal.returns-in-Err-send_inserted-clause-prefix
+returns-in-Err-send_inserted-clause-prefix g c = λ fails. record {
   bytes = tables_bytes c.prepare_closing-message.new.self (c.count-count.result == 0) c.emms-emms.result.now
       ++ message_bytes c.args.self.now.site.ecm c.prepare_closing-message.new.self
       (Some c.prepare_closing-message.result);
@@ -102,8 +102,8 @@ returns-in-Err-send_front-clause-prefix g c = λ fails. record {
           }),
     ),
   );
-  prefix = c.in-Err-send_front.ensures.value.prefix;
-  short = c.in-Err-send_front.ensures.value.short;
-  taken = c.in-Err-send_front.ensures.value.taken;
-  room = c.in-Err-send_front.ensures.value.room;
+  prefix = c.in-Err-send_inserted.ensures.value.prefix;
+  short = c.in-Err-send_inserted.ensures.value.short;
+  taken = c.in-Err-send_inserted.ensures.value.taken;
+  room = c.in-Err-send_inserted.ensures.value.room;
 }

@@ -29,7 +29,7 @@ returns-clause-prefix g c = λ is. cut_short _ (vessel g.K.Sink c.args.out.now) 
           alloc = c.args.self.now.alloc;
           assemblies = c.take.new.self;
           number = c.saturating_add-self.result;
-          wanting = c.args.self.now.wanting;
+          out_of_memory = c.args.self.now.out_of_memory;
         },
         record {
           lines = λ before s. c.as_bytes.ensures.value ∙ (c.in_default.ensures.lines before s.after

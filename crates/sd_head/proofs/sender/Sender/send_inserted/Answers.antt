@@ -4,7 +4,7 @@ use Rattle.sd_head.specs.Sending.{Sends}
 use Rattle.sd_head.specs.Items.{tables_bytes, message_bytes}
 use Rattle.sd_head.proofs.Sends.{sends_err, sends_on, cuts_sooner}
 use Rattle.sd_head.proofs.Telling.{same_message}
-use Rattle.sd_head.proofs.sender.Sender.send_front.Goals as goal
+use Rattle.sd_head.proofs.sender.Sender.send_inserted.Goals as goal
 
 pub returns-in_err-send_tables-clause-value : goal.returns-in_err-send_tables-clause-value
 returns-in_err-send_tables-clause-value g c =
