@@ -1,10 +1,10 @@
 -- The fault of lines, and what is judged of them.
-use Rattle.std.proofs.Common.{arith, ◌≡◌, ℕ, ◌+◌, ◌<◌, Bool, true, false, cond, List, [], ◌∷◌, ◌++◌, length, map, take}
+use Rattle.std.proofs.Common.{arith, ◌≡◌, ℕ, ◌+◌, ◌<◌, ◌≤◌, Bool, true, false, cond, List, [], ◌∷◌, ◌++◌, length, map}
 use Rattle.std.proofs.Common.{drop, get_or, Option, Some, None, Result, Ok, Err, refl, sym, ap, subst, ◌∙◌}
-use Rattle.std.proofs.Common.{append_assoc, inl, inr, nat_lt, nat_le}
+use Rattle.std.proofs.Common.{append_assoc, inl, inr, nat_lt, nat_le, take}
 use Rattle.std.specs.Prelude.{◌⊎◌, IfOk, IfErr, MatchResult}
 use Rattle.std.proofs.lemmas.Grind.{common_steps}
-use Rattle.std.proofs.lemmas.List.{append-nil, map-append, drop_more, take-append-drop}
+use Rattle.std.proofs.lemmas.List.{append-nil, map-append, drop_more, take_more, take_all, take-append-drop}
 use Rattle.sd_text.specs.Lines.{lines_of}
 use Rattle.sd_tree.specs.declared.leaf.TheConstants.{MOST_REVOKED}
 use Rattle.sd_book.specs.declared.command.Command.{Command}
@@ -246,6 +246,51 @@ pub end_allowed : (d : ℕ) (commands : List Command) (fault : BookFault) → Is
 end_allowed d commands fault all e =
     no_cause d commands fault all (end_cause d (map Some commands) commands fault refl (within_is_draft d commands all)
     (end_broken d commands fault e))
+
+-- the answer to a text, at a command that may not come
+pub push_faulty : (d h : ℕ) (said : List (Option Command)) (before : List Command) (command : Command)
+    (others : List (Option Command)) (fault : BookFault) →
+    h ≡ d → said ≡ map Some before ++ Some command ∷ others → IsDraft d before →
+    (fault ≡ NoMemory) ⊎ IsBroken h before (Some command ∷ []) fault → (fault ≡ NoMemory) ⊎ IsCauseOf d said fault
+push_faulty d h said before command others fault height same all (inl none) = inl none
+push_faulty d h said before command others fault height same all (inr broken) =
+    inr (push_cause d said before command others fault same all
+    (subst (λ (k : ℕ). IsBroken k before (Some command ∷ []) fault) height broken))
+
+-- and where their last period may not end
+pub end_faulty : (d h : ℕ) (bytes : List ℕ) (commands : List Command) (answer : Result BookValue BookFault) →
+    h ≡ d → SpellsBook (lines_of bytes) commands → IsDraft d commands →
+    IfErr answer (λ fault. IsBroken h commands [] fault) →
+    IfErr answer (λ fault. (fault ≡ NoMemory) ⊎ IsCauseOf d (said_by bytes) fault)
+end_faulty d h bytes commands (Ok book) height spelled all broken = tt
+end_faulty d h bytes commands (Err fault) height spelled all broken =
+    inr (end_cause d (said_by bytes) commands fault spelled all
+    (subst (λ (k : ℕ). IsBroken k commands [] fault) height broken))
+
+-- lines that say a command more
+pub said_more : (said : List (Option Command)) (before commands : List Command) (command : Command)
+    (others : List (Option Command)) →
+    said ≡ map Some before ++ Some command ∷ others → commands ≡ before ++ command ∷ [] →
+    said ≡ map Some commands ++ others
+said_more said before commands command others same longer =
+    same ∙ sym (append_assoc (map Some before) (Some command ∷ []) others) ∙
+    ap (λ (cs : List (Option Command)). cs ++ others)
+    (sym (map-append Some before (command ∷ [])) ∙ ap (map Some) (sym longer))
+
+-- commands with one more of those that come after them
+pub appended : (before more commands new : List Command) (i : ℕ) (command : Command) → i < length more →
+    get_or more i command ≡ command → commands ≡ before ++ take i more → new ≡ commands ++ command ∷ [] →
+    new ≡ before ++ take (i + 1) more
+appended before more commands new i command h at same longer =
+    let next : take (i + 1) more ≡ take i more ++ command ∷ [] =
+    take_more more i command h ∙ ap (λ (c : Command). take i more ++ c ∷ []) at in
+    longer ∙ ap (λ (cs : List Command). cs ++ command ∷ []) same ∙
+    append_assoc before (take i more) (command ∷ []) ∙ ap (λ (cs : List Command). before ++ cs) (sym next)
+
+-- and with all of them
+pub appended_all : (before more commands : List Command) (i : ℕ) → commands ≡ before ++ take i more →
+    length more ≤ i → commands ≡ before ++ more
+appended_all before more commands i same h = same ∙ ap (λ (cs : List Command). before ++ cs) (take_all i more h)
 
 -- the fault of a book's lines that get longer one command at a time
 append_cause : (d : ℕ) (before more : List Command) (i : ℕ) (command : Command) (fault : BookFault) → i < length more →

@@ -46,6 +46,14 @@ tree_ok : (d k : ℕ) (o : Option Command) (command : Command) → in_tree d k o
 tree_ok d k None command e = absurd cc
 tree_ok d k (Some c) command e = grind (arith, common_steps)
 
+-- so is that of a line which may come
+pub line_command : (d : ℕ) (before : List Command) (o : Option Command) (command : Command) →
+    cond (nat_le MOST_COMMANDS (length before)) (Err (Limit Lines)) (in_tree d (length before + 1) o) ≡ Ok command →
+    (o ≡ Some command) × (is_within d command ≡ true)
+line_command d before o command e =
+    let g = guard_ok (nat_le MOST_COMMANDS (length before)) (Limit Lines) (in_tree d (length before + 1) o) command e in
+    tree_ok d (length before + 1) o command g.1
+
 -- what the commands end with is few
 pub ended_ok : {A : Type 0} (d : ℕ) (commands : List Command) (value got : A) → ended d commands value ≡ Ok got →
     (length (revoked_after d commands) ≤ MOST_REVOKED) × (value ≡ got)

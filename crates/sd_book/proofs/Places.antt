@@ -1,7 +1,7 @@
 -- Places in a book, and the commands of a period.
 use Rattle.std.proofs.Common.{arith, ◌≡◌, ℕ, zero, suc, ◌+◌, ◌<◌, ◌≤◌, List, [], ◌∷◌, ◌++◌, length, ◌-◌, take, drop}
-use Rattle.std.proofs.Common.{length-drop, refl, ap, subst, ◌∙◌, inl, inr, true}
-use Rattle.std.specs.Prelude.{All}
+use Rattle.std.proofs.Common.{length-drop, refl, ap, subst, ◌∙◌, inl, inr, true, Option, Some, None}
+use Rattle.std.specs.Prelude.{All, IfSome}
 use Rattle.std.proofs.lemmas.Bool.{cases_lt}
 use Rattle.std.proofs.lemmas.List.{length-append, take_rest}
 use Rattle.std.proofs.lemmas.List.Elements.{All-nil, All-cons, All-head, All-tail}
@@ -159,6 +159,13 @@ all_in P (Period ∷ commands) (suc q) h = all_in P commands q (All-tail P _ _ h
 pub within_in : (d : ℕ) (commands : List Command) (q : ℕ) → All (λ command. is_within d command ≡ true) commands
     → All (λ command. is_within d command ≡ true) (commands_in commands q)
 within_in d commands q h = all_in (λ command. is_within d command ≡ true) commands q h
+
+-- so are those that are found to be a period's
+pub within_found : {A : Type 0} (list : A → List Command) (d : ℕ) (commands : List Command) (q : ℕ) (found : Option A) →
+    All (λ command. is_within d command ≡ true) commands → IfSome found (λ x. list x ≡ commands_in commands q) →
+    IfSome found (λ x. All (λ command. is_within d command ≡ true) (list x))
+within_found list d commands q None leaves same = tt
+within_found list d commands q (Some x) leaves same = rw same (within_in d commands q leaves)
 
 -- the commands that decide period 0 are no more than all
 until_length : (commands : List Command) → length (commands_until zero commands) ≤ length commands

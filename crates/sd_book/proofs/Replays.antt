@@ -13,7 +13,7 @@ use Rattle.sd_book.specs.Commands.{is_on, is_revoke, is_revoked, is_within, last
 use Rattle.sd_book.specs.Commands.{commands_in, revoked, revoked_after}
 use Rattle.sd_book.specs.Limits.{IsWithinLimits}
 use Rattle.sd_book.specs.Replay.{IsReplay, decided_before}
-use Rattle.sd_book.proofs.Kept.{same_kept, kept_period}
+use Rattle.sd_book.proofs.Kept.{same_kept}
 use Rattle.sd_book.proofs.Places.{first_in, until_next, within_in}
 use Rattle.sd_book.proofs.Tallies.{revoked_more}
 

@@ -1,8 +1,8 @@
 use Rattle.std.proofs.Common.{arith, ◌≡◌, ℕ, zero, suc, ◌+◌, ◌==◌, ◌<◌, ◌≤◌, ◌^◌, List, [], ◌∷◌, ◌++◌, length, get_or}
 use Rattle.std.proofs.Common.{set, replicate, Bool, true, false, cond, refl, ap, sym, ◌∙◌, map, Option, Some, reverse}
-use Rattle.std.proofs.Common.{nat_lt, Ok, Err}
+use Rattle.std.proofs.Common.{nat_lt, Ok, Err, take, subst}
 use Rattle.std.proofs.lemmas.Grind.{common_steps}
-use Rattle.std.proofs.lemmas.List.{reverse-append}
+use Rattle.std.proofs.lemmas.List.{reverse-append, take_more}
 use Rattle.std.proofs.lemmas.List.Sums.{length-filter, count_by-le-length}
 use Rattle.std.proofs.Math.Pow.{pow_mono}
 use Rattle.std.specs.List.{range_with_len, count_by, filter, find}
@@ -152,6 +152,17 @@ tally_with_period d commands marks revoked period tally =
           sym (number_revoked d (commands ++ Period ∷ []));
       period = grind (arith, common_steps, period_more commands Period, tally.period);
     }
+
+-- the tally of one command more of a list
+pub tally_one_more : (d h : ℕ) (commands : List Command) (i : ℕ) (command : Command) (marks : List Bool)
+    (revoked period : ℕ) → h ≡ d → i < length commands → get_or commands i command ≡ command →
+    IsTally h (take i commands ++ command ∷ []) marks revoked period →
+    IsTally d (take (i + 1) commands) marks revoked period
+tally_one_more d h commands i command marks revoked period height low at tally =
+    let longer : take i commands ++ command ∷ [] ≡ take (i + 1) commands =
+    sym (take_more commands i command low ∙ ap (λ (c : Command). take i commands ++ c ∷ []) at) in
+    subst (λ (cs : List Command). IsTally d cs marks revoked period) longer
+    (subst (λ (k : ℕ). IsTally k (take i commands ++ command ∷ []) marks revoked period) height tally)
 
 -- the marked leaves are those that pass
 pub marked_leaves : (p : ℕ → Bool) (a n : ℕ) → marked_from a (map p (range_with_len a n))

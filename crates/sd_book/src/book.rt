@@ -70,7 +70,6 @@ impl Book {
     /// Lines are judged in order, and the first bad one decides. On one line the order is `Limit(Lines)`, `Line`,
     /// `Leaf`, `Limit(Periods)`, `Limit(Revoked)`. The last period is judged after the last line
     /// [this project, docs/FORMATS.md, Book].
-    #[tactic(auto, using(crate::proofs::Causes::end_cause))]
     pub fn read(alloc: Global, bytes: &[u8], h: Height) -> Result<Book, BookFault>
         ensures height { IfOk result (λ book. book.height ≡ h) }
         ensures fits { IfOk result (λ book. IsWithinLimits h book.commands) }

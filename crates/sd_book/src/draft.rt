@@ -68,7 +68,6 @@ impl Draft {
     ///
     /// The one fault beside `NoMemory` is the limit that the command breaks. A period's revoked leaves are judged where
     /// it ends, by the next Period or by `finish`.
-    #[tactic(auto, using(crate::proofs::Judged::judged_one_more, crate::proofs::Causes::command_broken, crate::proofs::Causes::command_allowed))]
     pub fn push(&mut self, command: Command) -> Result<(), BookFault>
         requires leaf { is_within self.old.height command ≡ true }
         ensures height { self.new.height ≡ self.old.height }

@@ -8,7 +8,7 @@ use sd_text::{NumberFault, number_after};
 use sd_tree::{Height, Leaf};
 
 /// Why a line is no command for a tree.
-#[derive(Clone, Copy, PartialEq, Eq)]
+#[derive(Clone, Copy)]
 pub(crate) enum LineFault {
     /// It is not in the grammar.
     Form,

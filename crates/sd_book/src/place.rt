@@ -11,7 +11,7 @@ use crate::periods::until;
 use std::marker::Model;
 
 /// A place in a book, where the commands of a period begin, or after them all. Its owner keeps it beside the book.
-#[derive(Clone, Copy, Debug, PartialEq, Eq)]
+#[derive(Clone, Copy)]
 pub struct Place {
     taken: u32,
     next: u32,
@@ -45,7 +45,6 @@ impl Place {
     }
 
     /// The commands of the next period of the book alone, or `None` after the last one. Nothing is allocated.
-    #[tactic(auto, using(crate::proofs::Places::within_in))]
     pub fn next_commands<'a>(&mut self, book: &'a Book) -> Option<&'a [Command]>
         requires { IsPlaceIn book.now.commands self.old }
         ensures value { IfSome result (λ commands. commands.now ≡ commands_in book.now.commands self.old.next) }

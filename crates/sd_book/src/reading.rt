@@ -15,7 +15,6 @@ use sd_tree::Height;
 use std::alloc::Global;
 
 /// The draft with the commands of a book's text.
-#[tactic(auto, using(crate::proofs::Causes::line_cause, crate::proofs::Causes::push_cause))]
 pub(crate) fn draft_of(alloc: Global, bytes: &[u8], h: Height) -> Result<Draft, BookFault>
     ensures height { IfOk result (λ draft. draft.height ≡ h) }
     ensures fits { IfOk result (λ draft. IsDraft h draft.commands) }

@@ -40,7 +40,6 @@ impl Tally {
     }
 
     /// The tally of these commands.
-    #[tactic(auto, using(crate::proofs::Cuts::period_prefix))]
     pub(crate) fn of(alloc: Global, h: Height, commands: &[Command]) -> Result<Tally, AllocError>
         requires leaves { All (λ command. is_within h command ≡ true) commands.now }
         requires periods { last_period commands.now ≤ MOST_PERIODS }

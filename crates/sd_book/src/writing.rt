@@ -1,7 +1,9 @@
 ghost use Rattle.std.specs.Prelude.{◌≡◌, ◌++◌, [], ◌∷◌, IfOk, OnOk, string_bytes};
+ghost use Rattle.std.specs.Fmt.{decimal};
 ghost use Rattle.sd_book.specs.Text.{command_line, text_of};
 
 use crate::command::Command;
+use sd_tree::Leaf;
 use std::alloc::{AllocError, Global};
 use std::fmt::Write;
 
@@ -23,8 +25,15 @@ fn write_line(text: &mut String, command: &Command) -> Result<(), AllocError>
     ensures { OnOk result (string_bytes text.new ≡ string_bytes text.old ++ (command_line command.now ++ 10 ∷ [])) }
 {
     match *command {
-        Command::Subscribe(leaf) => writeln!(text, "subscribe {}", leaf.get()),
-        Command::Revoke(leaf) => writeln!(text, "revoke {}", leaf.get()),
+        Command::Subscribe(leaf) => write_leaf(text, "subscribe ", leaf),
+        Command::Revoke(leaf) => write_leaf(text, "revoke ", leaf),
         Command::Period => text.push_str("period\n"),
     }
+}
+
+/// Writes a word, a leaf's number and a line feed.
+fn write_leaf(text: &mut String, word: &str, leaf: Leaf) -> Result<(), AllocError>
+    ensures { OnOk result (string_bytes text.new ≡ string_bytes text.old ++ ((word.now ++ decimal leaf) ++ 10 ∷ [])) }
+{
+    writeln!(text, "{word}{}", leaf.get())
 }

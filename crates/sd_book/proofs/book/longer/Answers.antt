@@ -1,9 +1,19 @@
-use Rattle.std.proofs.Common.{rules, ◌≡◌, ◌++◌, ◌∙◌, ap, List}
-use Rattle.std.proofs.lemmas.List.{take_all}
+use Rattle.std.proofs.Common.{◌≡◌, ◌∙◌, ℕ, List, sym, subst, true}
+use Rattle.std.specs.Prelude.{IfOk}
+use Rattle.std.proofs.lemmas.List.Elements.{All-get_or}
 use Rattle.std.proofs.lemmas.Result.{err_from_is_err_and}
 use Rattle.sd_book.specs.declared.command.Command.{Command}
-use Rattle.sd_book.proofs.Causes.{append_fault, finish_fault}
+use Rattle.sd_book.specs.Commands.{is_within}
+use Rattle.sd_book.specs.Limits.{IsDraft}
+use Rattle.sd_book.proofs.Causes.{append_fault, finish_fault, appended, appended_all}
 use Rattle.sd_book.proofs.book.longer.Goals as goal
+
+pub push-requires : goal.push-requires
+push-requires c = record {
+  leaf = rw (c.loop-command.invariant.height, c.command-item.is)
+      (All-get_or (λ command. is_within c.args.h command ≡ true) c.args.more.now c.loop-command.command-index
+      c.command-item.result c.loop-command-test.true c.requires.leaves);
+}
 
 pub returns-in_err-push-clause-fault : goal.returns-in_err-push-clause-fault
 returns-in_err-push-clause-fault c =
@@ -11,15 +21,27 @@ returns-in_err-push-clause-fault c =
     let why = append_fault c.args.h c.loop-command.draft.height c.args.before.now c.args.more.now
     c.loop-command.draft.commands c.loop-command.command-index
     c.command-item.result c.in_err-push.field-0.0 c.loop-command.invariant.height c.loop-command.invariant.value
-    (search rules) (search rules) c.loop-command.invariant.fits c.in_err-push.ensures.fault in
+    c.loop-command-test.true (sym c.command-item.is) c.loop-command.invariant.fits c.in_err-push.ensures.fault in
     rw (p.1, p.2) why
+
+pub loop-command-preserved : goal.loop-command-preserved
+loop-command-preserved c =
+    let height = c.in_ok-push.ensures.height ∙ c.loop-command.invariant.height in
+    record {
+      fits = subst (λ (k : ℕ). IsDraft k c.push.new.self.commands) height c.in_ok-push.ensures.fits;
+      height = height;
+      value = appended c.args.before.now c.args.more.now c.loop-command.draft.commands c.push.new.self.commands
+          c.loop-command.command-index c.command-item.result c.loop-command-test.true (sym c.command-item.is)
+          c.loop-command.invariant.value c.in_ok-push.ensures.value;
+    }
+
+pub returns-clause-value : goal.returns-clause-value
+returns-clause-value c =
+    subst (λ (cs : List Command). IfOk c.finish.result (λ book. book.commands ≡ cs))
+    (appended_all _ _ _ _ c.loop-command.invariant.value c.loop-command-test.false) c.finish.ensures.value
 
 pub returns-clause-fault : goal.returns-clause-fault
 returns-clause-fault c =
-    let before = c.args.before.now in
-    let more = c.args.more.now in
-    let all : c.loop-command.draft.commands ≡ before ++ more =
-    c.loop-command.invariant.value ∙ ap (λ (cs : List Command). before ++ cs)
-    (take_all c.loop-command.command-index more c.loop-command-test.false) in
-    finish_fault c.args.h _ before more _ c.finish.result c.loop-command.invariant.height all
-    c.loop-command.invariant.fits c.finish.ensures.fault
+    finish_fault c.args.h _ c.args.before.now c.args.more.now _ c.finish.result c.loop-command.invariant.height
+    (appended_all _ _ _ _ c.loop-command.invariant.value c.loop-command-test.false) c.loop-command.invariant.fits
+    c.finish.ensures.fault
