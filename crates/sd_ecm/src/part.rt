@@ -53,7 +53,7 @@ pub struct EcmPart {
 }
 
 /// What all parts of one message say alike beside its number.
-#[derive(Clone, Copy, Debug, PartialEq, Eq)]
+#[derive(Clone, Copy, PartialEq, Eq)]
 pub struct EcmHeader {
     /// The version.
     pub version: u8,

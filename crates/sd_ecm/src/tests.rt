@@ -2,6 +2,8 @@ use super::*;
 use hex::FromHex;
 use sd_packet::Packet;
 use sd_section::seal;
+use std::alloc::Global;
+use std::ops::Range;
 use std::test::Fail;
 
 // A part that an independent implementation wrote, and its packet up to its stuffing.
@@ -344,7 +346,7 @@ fn packet_of(head: &str) -> Option<Packet> {
     Packet::new(bytes)
 }
 
-fn part_of(row: &Row) -> Option<EcmPart> {
+fn positions_of(row: &Row) -> Option<[Place; 13]> {
     let nothing = Place {
         pid: 0,
         position: 0,
@@ -356,6 +358,21 @@ fn part_of(row: &Row) -> Option<EcmPart> {
             position: *position,
         };
     }
+    Some(positions)
+}
+
+fn wrapped_of(row: &Row) -> Option<[u8; 32]> {
+    <[u8; 32] as FromHex>::from_hex(row.wrapped).ok()
+}
+
+fn check_of(row: &Row) -> Option<[u8; 16]> {
+    <[u8; 16] as FromHex>::from_hex(row.check).ok()
+}
+
+fn part_of(row: &Row) -> Option<EcmPart> {
+    let wrapped = wrapped_of(row)?;
+    let check = check_of(row)?;
+    let positions = positions_of(row)?;
     Some(EcmPart {
         version: row.version,
         number: row.number,
@@ -366,60 +383,81 @@ fn part_of(row: &Row) -> Option<EcmPart> {
         closing: row.closing,
         part: row.part,
         last_part: row.last_part,
-        wrapped: <[u8; 32] as FromHex>::from_hex(row.wrapped).ok()?,
-        check: <[u8; 16] as FromHex>::from_hex(row.check).ok()?,
+        wrapped,
+        check,
         count: u8::try_from(row.positions.len()).ok()?,
         positions,
     })
+}
+
+// The packet, read and written again.
+fn written_again(packet: &Packet) -> Option<Packet> {
+    let part = read_ecm(packet).ok()??;
+    Some(write_ecm(&part, packet.pid(), packet.counter()))
 }
 
 #[test]
 fn messages_both_ways(rt: HostRuntime) -> Result<(), Fail> {
     for row in &ROWS {
         let packet = packet_of(row.packet).ok_or("no packet")?;
-        let read = read_ecm(&packet);
-        assert!(rt; part_of(row).is_some());
-        assert_eq!(rt; read, Ok(part_of(row)));
-        if let Ok(Some(part)) = read {
-            let written = write_ecm(&part, packet.pid(), packet.counter());
-            assert_eq!(rt; written.bytes(), packet.bytes());
-        }
+        let part = part_of(row).ok_or("no part")?;
+        assert_eq!(rt; read_ecm(&packet), Ok(Some(part)));
+        let written = written_again(&packet).ok_or("not written")?;
+        assert_eq!(rt; written.bytes(), packet.bytes());
     }
     Ok(())
+}
+
+// What a message says beside its positions, by one of its parts.
+fn head_of(part: &EcmPart) -> EcmHead {
+    EcmHead {
+        version: part.version,
+        number: part.number,
+        period: part.period,
+        word: part.word,
+        clear: part.clear,
+        since: part.since,
+        closing: part.closing,
+        wrapped: part.wrapped,
+        check: part.check,
+    }
+}
+
+// The positions of these rows, one after the other.
+fn places_of(alloc: Global, rows: &[Row]) -> Result<Vec<Place>, Fail> {
+    let mut places = Vec::new(alloc);
+    for row in rows {
+        let part = part_of(row).ok_or("no part")?;
+        let own = part.positions.get(..usize::from(part.count));
+        places.extend_from_slice(own.ok_or("no positions")?)?;
+    }
+    Ok(places)
+}
+
+// The part of this row's number of the message that has these positions and says what the row does.
+fn part_again(row: &Row, places: &[Place]) -> Option<EcmPart> {
+    let due = part_of(row)?;
+    let head = head_of(&due);
+    if places.len() <= MOST_PLACES && due.part < part_count(head.version, places.len()) {
+        Some(EcmPart::of_message(&head, places, due.part))
+    } else {
+        None
+    }
 }
 
 #[test]
 fn parts_of_messages(rt: HostRuntime) -> Result<(), Fail> {
     // The first row of each message, and how many rows it has.
     for (first, count) in [(0, 1), (1, 1), (4, 2), (6, 3), (9, 1), (12, 2)] {
-        let mut places = Vec::new(rt.alloc());
-        for row in first..first + count {
-            let part = ROWS.get(row).and_then(part_of).ok_or("no row")?;
-            for k in 0..usize::from(part.count) {
-                places.push(*part.positions.get(k).ok_or("no position")?)?;
-            }
-        }
-        assert!(rt; places.len() <= 30);
-        let version = ROWS.get(first).ok_or("no row")?.version;
-        assert_eq!(rt; usize::from(part_count(version, places.len())), count);
-        for part in 0..part_count(version, places.len()) {
-            let row = ROWS.get(first + usize::from(part)).ok_or("no row")?;
+        let rows = ROWS.get(first..first + count).ok_or("no rows")?;
+        let places = places_of(rt.alloc(), rows)?;
+        let head = rows.first().and_then(part_of).ok_or("no part")?;
+        assert!(rt; places.len() <= MOST_PLACES);
+        assert_eq!(rt; usize::from(part_count(head.version, places.len())), count);
+        for row in rows {
             let due = part_of(row).ok_or("no part")?;
-            let head = EcmHead {
-                version,
-                number: row.number,
-                period: row.period,
-                word: row.word,
-                clear: row.clear,
-                since: row.since,
-                closing: row.closing,
-                wrapped: due.wrapped,
-                check: due.check,
-            };
-            assert_eq!(rt; EcmPart::of_message(&head, &places, part), due);
-            assert!(rt;
-                due.same_header(&part_of(ROWS.get(first).ok_or("no row")?).ok_or("no part")?)
-            );
+            assert_eq!(rt; part_again(row, &places), Some(due));
+            assert!(rt; due.same_header(&head));
         }
     }
     Ok(())
@@ -439,73 +477,103 @@ fn changed(row: &Row, changes: &[(usize, u8)]) -> Option<Packet> {
     Packet::new(bytes)
 }
 
+// A row, and the bytes of its packet that are changed.
+type Change = (usize, &'static [(usize, u8)]);
+
+// A count, a length, a part that isn't the last with 3 positions, and with 12, a last part with none; in version 2 13
+// positions; a part of version 2 under a table_id of version 1; a part that isn't the last, before its PID and flags.
+static OTHER_COUNTS: [Change; 8] = [
+    (1, &[(78, 4)]),
+    (1, &[(7, 0x64)]),
+    (1, &[(12, 1)]),
+    (6, &[(7, 0xAB), (78, 12)]),
+    (0, &[(11, 1), (12, 1)]),
+    (12, &[(82, 13)]),
+    (9, &[(5, 0x80)]),
+    (1, &[(12, 1), (79, 0x20), (29, 2)]),
+];
+
+// PIDs below 0x0020 and above 0x1FEF; one beside a PID that stands twice.
+static OTHER_PIDS: [Change; 3] = [
+    (1, &[(79, 0x00), (80, 0x1F)]),
+    (1, &[(95, 0x1F), (96, 0xF0)]),
+    (1, &[(80, 1), (95, 0x1F), (96, 0xF0)]),
+];
+
+// 0x0101 before 0x0100, and twice; twice under table_id 0x81 for an even control word.
+static OTHER_ORDERS: [Change; 3] = [
+    (1, &[(80, 1), (88, 0)]),
+    (1, &[(80, 1)]),
+    (1, &[(80, 1), (5, 0x81)]),
+];
+
+// Flags 2; table_id 0x81 for an even control word; in version 2 a `since` that is the number and one above it, and
+// another parity.
+static OTHER_HEADS: [Change; 5] = [
+    (1, &[(29, 2)]),
+    (1, &[(5, 0x81)]),
+    (9, &[(32, 1)]),
+    (9, &[(32, 2)]),
+    (9, &[(5, 0x85)]),
+];
+
+// table_id, the bit after the syntax indicator, version, extension, part above the last, pointer, unit start, length.
+static OTHER_KINDS: [Change; 8] = [
+    (1, &[(5, 0x82)]),
+    (1, &[(6, 0xF0)]),
+    (1, &[(10, 0xC3)]),
+    (1, &[(9, 1)]),
+    (1, &[(11, 1)]),
+    (1, &[(4, 1)]),
+    (1, &[(1, 0x01)]),
+    (0, &[(7, 0x4A)]),
+];
+
+// Whether each packet that is changed so is read as this.
+fn are_read_as(changes: &[Change], due: Result<Option<EcmPart>, EcmFault>) -> bool {
+    for (row, bytes) in changes {
+        let packet = ROWS.get(*row).and_then(|row| changed(row, bytes));
+        if packet.map(|packet| read_ecm(&packet)) != Some(due) {
+            return false;
+        }
+    }
+    true
+}
+
 #[test]
 fn faults_in_order(rt: HostRuntime) -> Result<(), Fail> {
-    // The row, the bytes that are changed, what is read.
-    let table: [(usize, &[(usize, u8)], Result<Option<EcmPart>, EcmFault>); 27] = [
-        // A count, a length, a part that isn't the last with 3 positions, and with 12, a last part with none.
-        (1, &[(78, 4)], Err(EcmFault::Count)),
-        (1, &[(7, 0x64)], Err(EcmFault::Count)),
-        (1, &[(12, 1)], Err(EcmFault::Count)),
-        (6, &[(7, 0xAB), (78, 12)], Err(EcmFault::Count)),
-        (0, &[(11, 1), (12, 1)], Err(EcmFault::Count)),
-        // PIDs below 0x0020 and above 0x1FEF.
-        (1, &[(79, 0x00), (80, 0x1F)], Err(EcmFault::Pid)),
-        (1, &[(95, 0x1F), (96, 0xF0)], Err(EcmFault::Pid)),
-        // 0x0101 before 0x0100, and twice.
-        (1, &[(80, 1), (88, 0)], Err(EcmFault::Order)),
-        (1, &[(80, 1)], Err(EcmFault::Order)),
-        // Flags 2; table_id 0x81 for an even control word.
-        (1, &[(29, 2)], Err(EcmFault::Mixed)),
-        (1, &[(5, 0x81)], Err(EcmFault::Mixed)),
-        // In version 2 13 positions, a `since` that is the number and one above it, and another parity.
-        (12, &[(82, 13)], Err(EcmFault::Count)),
-        (9, &[(32, 1)], Err(EcmFault::Mixed)),
-        (9, &[(32, 2)], Err(EcmFault::Mixed)),
-        (9, &[(5, 0x85)], Err(EcmFault::Mixed)),
-        // A part of version 2 under a table_id of version 1.
-        (9, &[(5, 0x80)], Err(EcmFault::Count)),
-        // The first rule that is broken counts.
-        (1, &[(12, 1), (79, 0x20), (29, 2)], Err(EcmFault::Count)),
-        (1, &[(80, 1), (95, 0x1F), (96, 0xF0)], Err(EcmFault::Pid)),
-        (1, &[(80, 1), (5, 0x81)], Err(EcmFault::Order)),
-        // Other kinds: table_id, the bit after the syntax indicator, version, extension, part above the last, pointer,
-        // unit start, length.
-        (1, &[(5, 0x82)], Ok(None)),
-        (1, &[(6, 0xF0)], Ok(None)),
-        (1, &[(10, 0xC3)], Ok(None)),
-        (1, &[(9, 1)], Ok(None)),
-        (1, &[(11, 1)], Ok(None)),
-        (1, &[(4, 1)], Ok(None)),
-        (1, &[(1, 0x01)], Ok(None)),
-        (0, &[(7, 0x4A)], Ok(None)),
-    ];
-    for (row, changes, due) in table {
-        let row = ROWS.get(row).ok_or("no row")?;
-        let packet = changed(row, changes).ok_or("no packet")?;
-        assert_eq!(rt; read_ecm(&packet), due);
-    }
+    assert!(rt; are_read_as(&OTHER_COUNTS, Err(EcmFault::Count)));
+    assert!(rt; are_read_as(&OTHER_PIDS, Err(EcmFault::Pid)));
+    assert!(rt; are_read_as(&OTHER_ORDERS, Err(EcmFault::Order)));
+    assert!(rt; are_read_as(&OTHER_HEADS, Err(EcmFault::Mixed)));
+    assert!(rt; are_read_as(&OTHER_KINDS, Ok(None)));
     Ok(())
+}
+
+// The packet with a bit of this byte flipped, unless that is its sync byte.
+fn flipped(packet: &Packet, place: usize) -> Option<Packet> {
+    let mut bytes = *packet.bytes();
+    *bytes.get_mut(place)? ^= 1;
+    Packet::new(bytes)
+}
+
+// Whether the packet is read as this whichever of these bytes has a bit flipped.
+fn is_still_read_as(packet: &Packet, places: Range<usize>, due: Option<EcmPart>) -> bool {
+    for place in places {
+        if flipped(packet, place).map(|packet| read_ecm(&packet)) != Some(Ok(due)) {
+            return false;
+        }
+    }
+    true
 }
 
 #[test]
 fn no_bit_makes_another_message(rt: HostRuntime) -> Result<(), Fail> {
-    let row = ROWS.get(1).ok_or("no row")?;
-    let packet = packet_of(row.packet).ok_or("no packet")?;
-    for place in 0..188usize {
-        let mut bytes = *packet.bytes();
-        bytes[place] ^= 1;
-        if let Some(packet) = Packet::new(bytes) {
-            match read_ecm(&packet) {
-                // The header's PID, the counter and what stands after the section aren't read.
-                Ok(Some(part)) => {
-                    assert!(rt; place < 4 || place >= 107);
-                    assert_eq!(rt; Some(part), part_of(row));
-                }
-                Ok(None) => assert!(rt; place < 107),
-                Err(_) => assert!(rt; false),
-            }
-        }
-    }
+    let packet = packet_of(ROWS[1].packet).ok_or("no packet")?;
+    let part = part_of(&ROWS[1]).ok_or("no part")?;
+    // The header's PID, the counter and what stands after the section aren't read.
+    assert!(rt; is_still_read_as(&packet, 1..4, Some(part)));
+    assert!(rt; is_still_read_as(&packet, 4..107, None));
+    assert!(rt; is_still_read_as(&packet, 107..188, Some(part)));
     Ok(())
 }
