@@ -3,9 +3,9 @@ use Rattle.std.proofs.Common.{◌≡◌, ℕ, ◌+◌, ◌-◌, List, ◌++◌, 
 use Rattle.std.proofs.lemmas.List.{take_all, take-append-drop}
 use Rattle.std.proofs.Math.Seq.{take-add}
 use Rattle.std.specs.Prelude.{Option}
-use Rattle.std.specs.Io.KnownBytes.{Appends, Consumes, Keeps}
-use Rattle.std.proofs.KnownBytes.{Appends-trans, Appends-kept, Consumes-trans}
-use Rattle.sd_ports.specs.Bytes.{AppendsPrefix, LosesPrefix}
+use Rattle.std.specs.Io.KnownBytes.{Appends, Keeps}
+use Rattle.std.proofs.KnownBytes.{Appends-trans, Appends-kept}
+use Rattle.sd_ports.specs.Bytes.{AppendsPrefix}
 
 -- the next `more` bytes were written after the first `done`
 pub appends_more : (a b c : Option (List ℕ)) (bs : List ℕ) (done more : ℕ) → Appends a b (take done bs)
@@ -21,7 +21,3 @@ appends_more a b c bs done more p q =
 pub appends_prefix : (a b c : Option (List ℕ)) (bs : List ℕ) (done : ℕ) → Appends a b (take done bs) → Keeps b c
     → AppendsPrefix a c bs
 appends_prefix a b c bs done p q = (take done bs, (drop done bs, take-append-drop done bs), Appends-kept a b c _ p q)
-
--- bytes were read after those that were read before
-pub loses_more : (a b c : Option (List ℕ)) (bs cs : List ℕ) → Consumes a b bs → Consumes b c cs → LosesPrefix a c
-loses_more a b c bs cs p q = (bs ++ cs, Consumes-trans a b c bs cs p q)

@@ -1,9 +1,13 @@
-use Rattle.std.specs.Prelude.{◌≡◌, ℕ, ◌+◌, ◌%◌, ◌^◌, ◌<◌, ◌≤◌, Result, OnOk, OnErr, IsErrOf}
+use Rattle.std.specs.Prelude.{◌≡◌, ℕ, ◌+◌, ◌%◌, ◌^◌, ◌<◌, ◌≤◌, List, length, Bool, true, false, Option, Result, IfOk}
+use Rattle.std.specs.Prelude.{OnOk, OnErr, IsErrOf}
 use Rattle.sd_cause.specs.Count.{Rose, with_added}
+use Rattle.sd_ports.specs.Bytes.{GivesAll, IsTakenFrom, LosesPrefix}
 use Rattle.sd_ports.specs.declared.fault.DepotFault.{DepotFault}
 use Rattle.sd_ports.specs.declared.fault.DepotFault.TheVariants.{Missing, Failed}
 use Rattle.sd_ports.specs.declared.file.FileFault.{FileFault}
 use Rattle.sd_ports.specs.declared.file.FileFault.TheVariants as file
+use Rattle.sd_ports.specs.declared.prefix.ReadMostFault.{ReadMostFault}
+use Rattle.sd_ports.specs.declared.prefix.ReadMostFault.TheVariants as prefix
 
 -- Why a depot refused: `Missing` where its misses rose, `Failed` where its faults rose. Else they stand as before.
 pub record HasDepotCause {T : Type 0} (faults_before faults_now misses_before misses_now : ℕ)
@@ -52,3 +56,16 @@ pub record CountsCalls {T : Type 0} (before now : ℕ) (result : Result T FileFa
   pub done : OnOk result (now ≡ with_added before 2)
   pub missing : IsErrOf result file.Missing → now ≡ with_added before 1
   pub most : now ≤ with_added before 2
+
+-- What reading the first bytes of an input did: which bytes it read, whether there were more, and why there is none.
+-- `Failed` comes where the input's faults rose. Else they stand as before.
+pub record ReadsFirst (most : ℕ) (left_before left_now : Option (List ℕ)) (faults_before faults_now : ℕ)
+    (bytes : List ℕ) (result : Result Bool ReadMostFault) : Type 0 where
+  pub value : IfOk result (λ more. IsTakenFrom most left_before (record { bytes = bytes; more = more }))
+  pub all : IfOk result (λ more. more ≡ false → GivesAll left_before left_now bytes)
+  pub within : IfOk result (λ more. length bytes ≤ most)
+  pub full : IfOk result (λ more. more ≡ true → length bytes ≡ most)
+  pub failed : IsErrOf result prefix.Failed → Rose faults_before faults_now
+  pub later : faults_before ≤ faults_now
+  pub calm : ¬ IsErrOf result prefix.Failed → faults_now ≡ faults_before
+  pub lost : LosesPrefix left_before left_now

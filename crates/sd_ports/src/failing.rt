@@ -107,8 +107,10 @@ fn push_numbers(numbers: &mut Vec<u32>, calls: &[PortCall], name: &str) -> Resul
     ensures { OnOk result (numbers.new.items ≡ numbers.old.items ++ numbers_of name.now (told_calls calls.now)) }
 {
     for call in calls {
-        if call.name.as_str() == name && numbers.push(call.number).is_err() {
-            return Err(NoMemory);
+        if call.name.as_str() == name {
+            let Ok(()) = numbers.push(call.number) else {
+                return Err(NoMemory);
+            };
         }
     }
     Ok(())

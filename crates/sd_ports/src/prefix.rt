@@ -1,8 +1,10 @@
-ghost use Rattle.std.specs.Prelude.{◌≡◌, ◌≤◌, ◌++◌, nat_lt, true, false, vec_len, IfOk, OnErr, IsErrOf, length, take};
+ghost use Rattle.std.specs.Prelude.{◌≡◌, ◌≤◌, ◌++◌, nat_lt, true, false, IfOk, IsErrOf, [], length, take};
 ghost use Rattle.sd_cause.specs.Count.{Rose};
 ghost use Rattle.sd_ports.specs.Bytes.{GivesAll, IsTakenFrom, LosesPrefix};
+ghost use Rattle.sd_ports.specs.Causes.{ReadsFirst};
 
 use crate::source::Source;
+use sd_cause::NoMemory;
 use std::alloc::Global;
 use std::marker::Model;
 
@@ -58,7 +60,6 @@ const BUFFER: usize = 16384;
 
 /// Reads the first `most` bytes of what is left, or all, and stops as soon as more were read. A prefix of what was left
 /// is gone then, which may be longer than what was taken.
-#[tactic(auto, using(crate::proofs::Portions::loses_more, crate::proofs::Prefixes::whole_prefix, crate::proofs::Prefixes::cut_prefix))]
 pub fn read_most<S: Source>(
     alloc: Global,
     source: &mut S,
@@ -75,13 +76,27 @@ pub fn read_most<S: Source>(
     ensures lost { LosesPrefix (S.left source.old) (S.left source.new) }
 {
     let mut bytes = Vec::new(alloc);
+    let more = fill(&mut bytes, source, most)?;
+    Ok(Taken { bytes, more })
+}
+
+/// Reads on until all was read that was left, or more than `most` bytes, of which it keeps the first `most`. Answers
+/// whether it was more.
+fn fill<S: Source>(bytes: &mut Vec<u8>, source: &mut S, most: usize) -> Result<bool, ReadMostFault>
+    requires { bytes.old.items ≡ [] }
+    ensures { ReadsFirst most (S.left source.old) (S.left source.new) (S.faults source.old) (S.faults source.new)
+        bytes.new.items result }
+{
     let mut buffer = [0u8; BUFFER];
     for _turn in 0..u64::MAX {
         match source.read(&mut buffer) {
-            Ok(0) => return Ok(Taken { bytes, more: false }),
+            Ok(0) => return Ok(false),
             Ok(count) => {
-                if keep(&mut bytes, &buffer[..count], most)? {
-                    return Ok(Taken { bytes, more: true });
+                let Ok(over) = keep(bytes, &buffer[..count], most) else {
+                    return Err(ReadMostFault::NoMemory);
+                };
+                if over {
+                    return Ok(true);
                 }
             }
             Err(_) => return Err(ReadMostFault::Failed),
@@ -91,15 +106,14 @@ pub fn read_most<S: Source>(
 }
 
 /// Puts more bytes after those that were read, as many as there may be, and answers whether some are left over.
-fn keep(bytes: &mut Vec<u8>, more: &[u8], most: usize) -> Result<bool, ReadMostFault>
-    requires { vec_len bytes.old ≤ most }
+fn keep(bytes: &mut Vec<u8>, more: &[u8], most: usize) -> Result<bool, NoMemory>
+    requires { length bytes.old.items ≤ most }
     ensures kept { IfOk result (λ over. bytes.new.items ≡ take most (bytes.old.items ++ more.now)) }
     ensures over { IfOk result (λ over. over ≡ nat_lt most (length (bytes.old.items ++ more.now))) }
-    ensures calm { ¬ IsErrOf result ReadMostFault.Failed }
 {
     let count = more.len().min(most - bytes.len());
     match bytes.extend_from_slice(&more[..count]) {
         Ok(()) => Ok(count < more.len()),
-        Err(_) => Err(ReadMostFault::NoMemory),
+        Err(_) => Err(NoMemory),
     }
 }
