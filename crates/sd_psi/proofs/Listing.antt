@@ -46,6 +46,13 @@ pub pid_given : (programs rest : List (ℕ × ℕ)) (program : ℕ × ℕ) → p
 unfolding pmt_pids_in
 pid_given programs rest program first other = rw first (rw (ne_eqb program.0 0 other) refl)
 
+-- so where one is another there is a PID
+pub some_pid : (programs rest : List (ℕ × ℕ)) (program : ℕ × ℕ) → programs ≡ program ∷ rest → program.0 ≢ 0 →
+    pmt_pids_in programs ≡ [] → ⊥
+some_pid programs rest program first other none =
+    let given = pid_given programs rest program first other in
+    absurd (cc)
+
 -- a PMT by its parts
 pub pmt_by_parts : (section : List ℕ) → table_id_of section ≡ 2 → has_info section ≡ true →
     are_descriptors (info_of section) ≡ true →

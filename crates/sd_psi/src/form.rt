@@ -107,19 +107,34 @@ fn has_table(table: Table, bytes: &[u8]) -> bool
 }
 
 // Whether section_number and last_section_number are 0, if the bytes go so far.
-#[tactic(auto, using(crate::proofs::Judging::past_is_zero))]
 fn is_only(bytes: &[u8]) -> bool
     ensures { result ≡ ((number_of bytes.now == 0) && (last_number_of bytes.now == 0)) }
+{
+    is_first(bytes) && is_last(bytes)
+}
+
+// Whether section_number is 0, if the bytes go so far.
+#[tactic(auto, using(crate::proofs::Judging::past_is_zero))]
+fn is_first(bytes: &[u8]) -> bool
+    ensures { result ≡ (number_of bytes.now == 0) }
 {
     if bytes.len() < 7 {
         return true;
     }
     fields! { bytes; section_number: 48, 8; }
+    section_number == 0
+}
+
+// Whether last_section_number is 0, if the bytes go so far.
+#[tactic(auto, using(crate::proofs::Judging::past_is_zero))]
+fn is_last(bytes: &[u8]) -> bool
+    ensures { result ≡ (last_number_of bytes.now == 0) }
+{
     if bytes.len() < 8 {
-        return section_number == 0;
+        return true;
     }
     fields! { bytes; last_section_number: 56, 8; }
-    section_number == 0 && last_section_number == 0
+    last_section_number == 0
 }
 
 // Whether the bytes begin with a whole section that has the length that its table asks for.

@@ -46,7 +46,7 @@ pub struct PmtPids<'a> {
 
 impl<'a> PmtPids<'a> {
     /// The next PID.
-    #[tactic(auto, using(crate::proofs::Listing::no_pids, crate::proofs::Listing::pid_passed, crate::proofs::Listing::pid_given))]
+    #[tactic(auto, using(crate::proofs::Listing::no_pids, crate::proofs::Listing::pid_passed, crate::proofs::Listing::pid_given, crate::proofs::Listing::some_pid))]
     pub fn next(&mut self) -> Option<u16>
         ensures none { IsNone result ↔ (pmt_pids_in (programs_in self.old.programs.bytes.now) ≡ []) }
         ensures value { IfSome result (λ pid. pmt_pids_in (programs_in self.old.programs.bytes.now)

@@ -82,7 +82,10 @@ fn a_pmt_is_read(rt: HostRuntime) {
         assert_eq!(rt; pmt.pcr(), 0x100);
         let mut descriptors = pmt.descriptors();
         let first = descriptors.next();
-        assert!(rt; first.is_some_and(|descriptor| descriptor.body() == &REWRITTEN[14..18]));
+        assert!(rt; first.is_some());
+        if let Some(descriptor) = first {
+            assert_eq!(rt; descriptor.body(), &REWRITTEN[14..18]);
+        }
         assert!(rt; descriptors.next().is_none());
         let mut streams = pmt.streams();
         for (stream_type, pid) in [(0x1B, 0x100), (0x0F, 0x101)] {

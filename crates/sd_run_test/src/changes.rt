@@ -17,7 +17,11 @@ pub(crate) enum Change<'a> {
 }
 
 /// The bytes after these changes, one after the other.
-pub(crate) fn changed(alloc: Global, bytes: &[u8], changes: &[Change<'_>]) -> Result<Vec<u8>, AllocError> {
+pub(crate) fn changed(
+    alloc: Global,
+    bytes: &[u8],
+    changes: &[Change<'_>],
+) -> Result<Vec<u8>, AllocError> {
     let mut bytes = Vec::from_slice(alloc, bytes)?;
     for change in changes {
         bytes = changed_once(alloc, bytes, *change)?;

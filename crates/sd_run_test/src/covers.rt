@@ -57,7 +57,13 @@ fn covers_are_those_of_the_definition(rt: HostRuntime) -> Result<(), AllocError>
                 }
             }
             let due = plain_cover(alloc, d, leaves)?;
-            let (status, printed) = covered(alloc, site.as_bytes(), book.as_bytes(), 65_536, Fault::Nowhere)?;
+            let (status, printed) = covered(
+                alloc,
+                site.as_bytes(),
+                book.as_bytes(),
+                65_536,
+                Fault::Nowhere,
+            )?;
             assert_eq!(rt; status, Status::Done);
             assert_eq!(rt;
                 printed.as_slice(),

@@ -273,7 +273,13 @@ fn files_are_made(rt: HostRuntime) -> Result<(), AllocError> {
         );
     }
     files.room = 564;
-    let cut = left(alloc, &files, &["sample", "0", "4", "O"], 100, Fault::Nowhere)?;
+    let cut = left(
+        alloc,
+        &files,
+        &["sample", "0", "4", "O"],
+        100,
+        Fault::Nowhere,
+    )?;
     assert_eq!(rt; cut.status, Status::DepotFault);
     assert!(rt; cut.out.is_some_and(|out| out.len() < 752));
     Ok(())

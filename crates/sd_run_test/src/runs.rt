@@ -55,7 +55,12 @@ impl Files {
         Ok(files)
     }
 
-    pub(crate) fn add(&mut self, alloc: Global, name: &str, bytes: &[u8]) -> Result<(), AllocError> {
+    pub(crate) fn add(
+        &mut self,
+        alloc: Global,
+        name: &str,
+        bytes: &[u8],
+    ) -> Result<(), AllocError> {
         let name = String::from_str(alloc, name)?;
         let bytes = Vec::from_slice(alloc, bytes)?;
         self.list.push(File { name, bytes })?;
