@@ -1,18 +1,16 @@
 -- The card of a receiver, and the file that it is kept in.
 use Rattle.std.specs.Prelude.{◌≡◌, ℕ, ◌+◌, ◌*◌, ◌/◌, ◌^◌, ◌<◌, ◌≤◌, List, ◌∷◌, ◌++◌, length, map}
-use Rattle.std.specs.List.{concat}
 use Rattle.byteorder.specs.Endian.{big_bytes}
 use Rattle.sd_tree.specs.declared.height.TheConstants.{HIGHEST}
 use Rattle.sd_tree.specs.declared.set.SetName.{SetName}
 use Rattle.sd_label.specs.Names.{given}
-use Rattle.sd_secrets.specs.Files.{AreSecrets, check_of}
+use Rattle.sd_secrets.specs.Files.{AreSecrets, file_bytes}
 use Rattle.sd_secrets.specs.Secrets.{secret_of, Derives, key_held}
 use Rattle.sd_card.specs.declared.card.Card.{Card}
 use Rattle.sd_card.specs.declared.format.TheConstants.{MAGIC, VERSION}
 
 -- what a card says: the tree's height, its leaf, the conditional access system, and a secret for each name that the
--- leaf
--- is given
+-- leaf is given
 pub record CardFields : Type 0 where
   pub height : ℕ
   pub leaf : ℕ
@@ -40,14 +38,13 @@ pub record IsCard (card : CardFields) : Type 0 where
 unfoldable pub card_of : List ℕ → ℕ → ℕ → ℕ → CardFields
 card_of master ca d u = saying d u ca (map (secret_of master) (given d u))
 
--- a card's file before its check [this project, docs/FORMATS.md, Card]
-unfoldable pub card_body : CardFields → List ℕ
-card_body card =
-    MAGIC ++ (VERSION ∷ card.height ∷ (big_bytes 4 card.leaf ++ (big_bytes 2 card.ca ++ concat card.secrets)))
+-- a card's file before its secrets [this project, docs/FORMATS.md, Card]
+unfoldable pub card_head : ℕ → ℕ → ℕ → List ℕ
+card_head d u ca = MAGIC ++ (VERSION ∷ d ∷ (big_bytes 4 u ++ big_bytes 2 ca))
 
--- a card's file: the check stands at its end [this project, docs/FORMATS.md, Card]
+-- a card's file: its head, its secrets, and the check at its end [this project, docs/FORMATS.md, Card]
 unfoldable pub card_bytes : CardFields → List ℕ
-card_bytes card = card_body card ++ check_of (card_body card)
+card_bytes card = file_bytes (card_head card.height card.leaf card.ca) card.secrets
 
 -- the key that a card gives for a set [Naor, Naor, Lotspiech 2001, 3.2]
 abbrev pub card_key : CardFields → SetName → List ℕ

@@ -7,7 +7,7 @@ use crate::card::Card;
 use crate::fault::CardFault;
 use crate::format::{CA_AT, HEIGHT_AT, LEAF_AT, MAGIC, SECRETS_AT, VERSION, VERSION_AT};
 use byteorder::{BigEndian, ByteOrder};
-use sd_secrets::{CHECK_BYTES, SECRET_BYTES, byte_at, check_of, secrets_in};
+use sd_secrets::{CHECK_BYTES, SECRET_BYTES, byte_at, checks, secrets_in};
 use sd_tree::{Height, Leaf};
 use std::alloc::Global;
 
@@ -64,7 +64,7 @@ fn leaf_at(bytes: &[u8]) -> u32
 }
 
 // The height and the leaf of bytes with which nothing is wrong.
-#[tactic(auto, unfolding(crate::specs::Faults::fault_in, sd_secrets::specs::Files::check_in, sd_secrets::specs::Files::check_due))]
+#[tactic(auto, unfolding(crate::specs::Faults::fault_in))]
 fn judge(bytes: &[u8]) -> Result<(Height, Leaf), CardFault>
     ensures fault { MatchResult result (λ _. fault_in bytes.now ≡ None) (λ fault. fault_in bytes.now ≡ Some fault) }
     ensures value { IfOk result (λ named. (named.0 ≡ height_in bytes.now) × (named.1 ≡ leaf_in bytes.now)) }
@@ -81,10 +81,7 @@ fn judge(bytes: &[u8]) -> Result<(Height, Leaf), CardFault>
     if bytes.len() != length_at(height) {
         return Err(CardFault::Length);
     }
-    let (body, end) = bytes.split_at(bytes.len() - CHECK_BYTES);
-    let mut found = [0; CHECK_BYTES];
-    found.copy_from_slice(end);
-    let due = check_of(body);
+    let (found, due) = checks(bytes);
     if found != due {
         return Err(CardFault::Check { found, due });
     }

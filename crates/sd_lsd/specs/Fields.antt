@@ -1,10 +1,9 @@
 -- The layer card of a receiver, and the file that it is kept in.
 use Rattle.std.specs.Prelude.{◌≡◌, ℕ, ◌+◌, ◌^◌, ◌<◌, ◌≤◌, List, ◌∷◌, ◌++◌, length, map}
-use Rattle.std.specs.List.{concat}
 use Rattle.byteorder.specs.Endian.{big_bytes}
 use Rattle.sd_tree.specs.declared.height.TheConstants.{HIGHEST}
 use Rattle.sd_tree.specs.declared.set.SetName.{SetName}
-use Rattle.sd_secrets.specs.Files.{AreSecrets, check_of}
+use Rattle.sd_secrets.specs.Files.{AreSecrets, file_bytes}
 use Rattle.sd_secrets.specs.Secrets.{secret_of, Derives, key_held}
 use Rattle.sd_lsd.specs.LayerNames.{layer_given, layer_count}
 use Rattle.sd_lsd.specs.declared.card.LayerCard.{LayerCard}
@@ -42,17 +41,13 @@ pub record IsLayerCard (card : LayerFields) : Type 0 where
 unfoldable pub layer_card_of : List ℕ → ℕ → ℕ → ℕ → ℕ → LayerFields
 layer_card_of master ca d w u = saying d w u ca (map (secret_of master) (layer_given d w u))
 
--- the file before its secrets [this project, docs/FORMATS.md, Layer card]
+-- a layer card's file before its secrets [this project, docs/FORMATS.md, Layer card]
 unfoldable pub layer_head : ℕ → ℕ → ℕ → ℕ → List ℕ
 layer_head d w u ca = MAGIC ++ (VERSION ∷ d ∷ w ∷ (big_bytes 4 u ++ big_bytes 2 ca))
 
--- the file before its check [this project, docs/FORMATS.md, Layer card]
-unfoldable pub layer_body : LayerFields → List ℕ
-layer_body card = layer_head card.height card.width card.leaf card.ca ++ concat card.secrets
-
--- a layer card's file: the check stands at its end [this project, docs/FORMATS.md, Layer card]
+-- a layer card's file: its head, its secrets, and the check at its end [this project, docs/FORMATS.md, Layer card]
 unfoldable pub layer_bytes : LayerFields → List ℕ
-layer_bytes card = layer_body card ++ check_of (layer_body card)
+layer_bytes card = file_bytes (layer_head card.height card.width card.leaf card.ca) card.secrets
 
 -- the key that a layer card gives for a set [Halevy, Shamir 2002, 3]
 abbrev pub layer_key : LayerFields → SetName → List ℕ

@@ -9,7 +9,7 @@ use crate::fault::LayerFault;
 use crate::format::{CA_AT, HEIGHT_AT, LEAF_AT, MAGIC, SECRETS_AT, VERSION, VERSION_AT, WIDTH_AT};
 use byteorder::{BigEndian, ByteOrder};
 use sd_layers::Width;
-use sd_secrets::{CHECK_BYTES, SECRET_BYTES, byte_at, check_of, secrets_in};
+use sd_secrets::{CHECK_BYTES, SECRET_BYTES, byte_at, checks, secrets_in};
 use sd_tree::{Height, Leaf};
 use std::alloc::Global;
 
@@ -69,7 +69,7 @@ fn leaf_at(bytes: &[u8]) -> u32
 }
 
 // The height, the width and the leaf of bytes with which nothing is wrong.
-#[tactic(auto, unfolding(crate::specs::Faults::fault_in, sd_secrets::specs::Files::check_in, sd_secrets::specs::Files::check_due))]
+#[tactic(auto, unfolding(crate::specs::Faults::fault_in))]
 fn judge(bytes: &[u8]) -> Result<(Height, Width, Leaf), LayerFault>
     ensures fault { MatchResult result (λ _. fault_in bytes.now ≡ None) (λ fault. fault_in bytes.now ≡ Some fault) }
     ensures value { IfOk result (λ named.
@@ -88,10 +88,7 @@ fn judge(bytes: &[u8]) -> Result<(Height, Width, Leaf), LayerFault>
     if bytes.len() != length_at(height, width) {
         return Err(LayerFault::Length);
     }
-    let (body, end) = bytes.split_at(bytes.len() - CHECK_BYTES);
-    let mut found = [0; CHECK_BYTES];
-    found.copy_from_slice(end);
-    let due = check_of(body);
+    let (found, due) = checks(bytes);
     if found != due {
         return Err(LayerFault::Check { found, due });
     }

@@ -1,17 +1,16 @@
 -- What a card's file says by its fields.
 use Rattle.std.proofs.Common.{◌≡◌, ◌⊎◌, ℕ, ◌+◌, ◌*◌, ◌/◌, List, [], ◌∷◌, ◌++◌, length, take}
 use Rattle.std.proofs.Common.{drop, append_assoc, Option, None, Ok, Err, refl, sym, ap}
-use Rattle.std.proofs.Common.{subst, ◌∙◌, inl, inr, arith}
+use Rattle.std.proofs.Common.{subst, ◌∙◌, inl, inr}
 use Rattle.std.specs.List.{concat}
 use Rattle.std.proofs.lemmas.List.{take_at, drop_at}
-use Rattle.std.proofs.Math.Pow.{pow_mono}
-use Rattle.sd_bits.proofs.Endian.{number_again}
-use Rattle.sd_secrets.specs.Files.{AreSecrets, check_of}
+use Rattle.sd_secrets.specs.Files.{AreSecrets, check_of, file_body}
+use Rattle.sd_secrets.proofs.Written.{after_head}
 use Rattle.sd_card.specs.declared.fault.CardFault.{CardFault}
 use Rattle.sd_card.specs.declared.fault.CardFault.TheVariants as fault
-use Rattle.sd_card.specs.Faults.{height_in, leaf_in, ca_in, fault_in, IsFaultOf}
-use Rattle.sd_card.specs.Fields.{CardFields, IsCard, card_body, card_bytes}
-use Rattle.sd_card.proofs.Spellings.{written_is_good}
+use Rattle.sd_card.specs.Faults.{height_in, fault_in, IsFaultOf}
+use Rattle.sd_card.specs.Fields.{CardFields, IsCard, card_head, card_bytes}
+use Rattle.sd_card.proofs.Spellings.{height_written, leaf_written, ca_written, written_is_good}
 use Rattle.sd_status.specs.declared.status.Status.{Status}
 use Rattle.sd_status.specs.declared.status.Status.TheVariants.{BadCard, NoMemory}
 use Rattle.sd_status.specs.Comes.{IsRefusal, IsEnding}
@@ -32,23 +31,10 @@ secrets_again (secret ∷ secrets) rest long =
     (drop_at secret (concat secrets ++ rest) 32 long.0)
     ∙ ap (λ (more : List (List ℕ)). secret ∷ more) (secrets_again secrets rest long.1)
 
-height_again : (card : CardFields) → height_in (card_bytes card) ≡ card.height
-unfolding card_bytes card_body
-height_again card = refl
-
-leaf_again : (card : CardFields) → IsCard card → leaf_in (card_bytes card) ≡ card.leaf
-unfolding card_bytes card_body leaf_in
-leaf_again card is =
-    number_again 4 card.leaf []
-    (omega (arith, is.leaf, pow_mono {i = card.height} {j = 32} (omega (arith, is.height.1))))
-
-ca_again : (card : CardFields) → IsCard card → ca_in (card_bytes card) ≡ card.ca
-unfolding card_bytes card_body ca_in
-ca_again card is = number_again 2 card.ca [] is.ca
-
-after_head : (card : CardFields) → drop 12 (card_bytes card) ≡ concat card.secrets ++ check_of (card_body card)
-unfolding card_bytes card_body
-after_head card = refl
+after_card_head : (card : CardFields) → drop 12 (card_bytes card)
+    ≡ concat card.secrets ++ check_of (file_body (card_head card.height card.leaf card.ca) card.secrets)
+unfolding card_bytes card_head
+after_card_head card = after_head (card_head card.height card.leaf card.ca) card.secrets 12 refl
 
 -- a card's file says that card
 pub said_again : (card : CardFields) → IsCard card → card_said (card_bytes card) ≡ card
@@ -56,9 +42,10 @@ unfolding card_said
 said_again card is =
     let secrets : secrets_of (card.height * (card.height + 1) / 2 + 1) (drop 12 (card_bytes card)) ≡ card.secrets =
     ap (λ (n : ℕ). secrets_of n (drop 12 (card_bytes card))) (sym is.count)
-    ∙ ap (secrets_of (length card.secrets)) (after_head card)
-    ∙ secrets_again card.secrets (check_of (card_body card)) is.secrets in
-    rw (height_again card, leaf_again card is, ca_again card is, secrets) refl
+    ∙ ap (secrets_of (length card.secrets)) (after_card_head card)
+    ∙ secrets_again card.secrets _ is.secrets in
+    let height : height_in (card_bytes card) ≡ card.height = height_written card in
+    rw (height, leaf_written card is, ca_written card is, secrets) refl
 
 unless_none : (fault : Option CardFault) (card : CardFields) → fault ≡ None → card_unless fault card ≡ Ok card
 unless_none fault card none = ap (λ (f : Option CardFault). card_unless f card) none

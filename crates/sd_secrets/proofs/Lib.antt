@@ -1,5 +1,6 @@
 pub mod Paths
 pub mod Made
 pub mod Joined
+pub mod Written
 pub mod Once
 pub mod Held

@@ -1,7 +1,7 @@
 -- How a card's file keeps secrets, and the check at its end.
-use Rattle.std.specs.Prelude.{◌≡◌, ◌-◌, ℕ, zero, suc, Bool, true, false, List, [], ◌∷◌, length, take, drop, get_or}
-use Rattle.std.specs.Prelude.{Option, Some}
-use Rattle.std.specs.List.{AllByRecursion}
+use Rattle.std.specs.Prelude.{◌≡◌, ◌-◌, ℕ, zero, suc, Bool, true, false, List, [], ◌∷◌, ◌++◌, length, take}
+use Rattle.std.specs.Prelude.{drop, get_or, Option, Some}
+use Rattle.std.specs.List.{AllByRecursion, concat}
 use Rattle.sha2.specs.Sha256.{sha256}
 use Rattle.sd_secrets.specs.declared.file.TheConstants.{SECRET_BYTES, CHECK_BYTES}
 
@@ -21,6 +21,14 @@ bytes_from bytes k (suc n) = byte_at bytes k ∷ bytes_from bytes (suc k) n
 -- the check of bytes: the first 16 bytes of their hash [FIPS 180-4; this project, docs/FORMATS.md, Card]
 unfoldable pub check_of : List ℕ → List ℕ
 check_of body = take CHECK_BYTES (sha256 body)
+
+-- a file before its check: a head, and the secrets one after the other [this project, docs/FORMATS.md, Card]
+unfoldable pub file_body : List ℕ → List (List ℕ) → List ℕ
+file_body head secrets = head ++ concat secrets
+
+-- the file: the check of all before stands at its end [this project, docs/FORMATS.md, Card]
+unfoldable pub file_bytes : List ℕ → List (List ℕ) → List ℕ
+file_bytes head secrets = file_body head secrets ++ check_of (file_body head secrets)
 
 -- the check that the file ends with
 unfoldable pub check_in : List ℕ → List ℕ

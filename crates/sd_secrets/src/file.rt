@@ -1,6 +1,7 @@
-ghost use Rattle.std.specs.Prelude.{◌≡◌, ◌*◌, ◌/◌, IfOk, length, take};
+ghost use Rattle.std.specs.Prelude.{◌≡◌, ◌*◌, ◌/◌, ◌≤◌, ◌++◌, IfOk, OnOk, length, take};
 ghost use Rattle.std.specs.List.{concat};
-ghost use Rattle.sd_secrets.specs.Files.{AreSecrets, byte_at as byte_of, check_of as check_of_bytes};
+ghost use Rattle.sd_secrets.specs.Files.{AreSecrets, byte_at as byte_of, check_of as check_of_bytes, check_in};
+ghost use Rattle.sd_secrets.specs.Files.{check_due, file_body, file_bytes};
 
 use sha2::{Digest, Sha256};
 use std::alloc::{AllocError, Global};
@@ -29,6 +30,19 @@ pub fn check_of(body: &[u8]) -> [u8; 16]
     check
 }
 
+/// The check that a file ends with, and the one that is due: that of all before.
+#[tactic(auto, unfolding(crate::specs::Files::check_in, crate::specs::Files::check_due))]
+pub fn checks(bytes: &[u8]) -> ([u8; 16], [u8; 16])
+    requires { CHECK_BYTES ≤ length bytes.now }
+    ensures found { result.0 ≡ check_in bytes.now }
+    ensures due { result.1 ≡ check_due bytes.now }
+{
+    let (body, end) = bytes.split_at(bytes.len() - CHECK_BYTES);
+    let mut found = [0; CHECK_BYTES];
+    found.copy_from_slice(end);
+    (found, check_of(body))
+}
+
 /// The secrets in these bytes, as many as are whole.
 #[tactic(auto, using(crate::proofs::Joined::cut_more, crate::proofs::Joined::long_more))]
 pub fn secrets_in(alloc: Global, bytes: &[u8]) -> Result<Vec<[u8; 32]>, AllocError>
@@ -44,4 +58,38 @@ pub fn secrets_in(alloc: Global, bytes: &[u8]) -> Result<Vec<[u8; 32]>, AllocErr
         secrets.push(secret)?;
     }
     Ok(secrets)
+}
+
+/// The file with this head and these secrets: its check stands at its end.
+#[tactic(auto, unfolding(crate::specs::Files::file_bytes))]
+pub fn write_file(alloc: Global, head: &[u8], secrets: &[[u8; 32]]) -> Result<Vec<u8>, AllocError>
+    ensures value { IfOk result (λ bytes. bytes.items ≡ file_bytes head.now secrets.now) }
+    ensures fits { IfOk result (λ _. AreSecrets secrets.now) }
+{
+    let mut bytes = write_body(alloc, head, secrets)?;
+    let check = check_of(&bytes);
+    bytes.extend_from_slice(&check)?;
+    Ok(bytes)
+}
+
+// The file before its check.
+#[tactic(auto, unfolding(crate::specs::Files::file_body))]
+fn write_body(alloc: Global, head: &[u8], secrets: &[[u8; 32]]) -> Result<Vec<u8>, AllocError>
+    ensures value { IfOk result (λ bytes. bytes.items ≡ file_body head.now secrets.now) }
+    ensures fits { IfOk result (λ _. AreSecrets secrets.now) }
+{
+    let mut bytes = Vec::new(alloc);
+    bytes.extend_from_slice(head)?;
+    for secret in secrets {
+        put(&mut bytes, secret)?;
+    }
+    Ok(bytes)
+}
+
+// Adds a secret.
+fn put(bytes: &mut Vec<u8>, secret: &[u8; 32]) -> Result<(), AllocError>
+    ensures value { OnOk result (bytes.new.items ≡ bytes.old.items ++ secret.now) }
+    ensures length { length secret.now ≡ 32 }
+{
+    bytes.extend_from_slice(secret)
 }

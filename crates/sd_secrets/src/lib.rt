@@ -6,6 +6,9 @@ mod hanging;
 mod labels;
 pub mod laws;
 
-pub use file::{CHECK_BYTES, SECRET_BYTES, byte_at, check_of, secrets_in};
+pub use file::{CHECK_BYTES, SECRET_BYTES, byte_at, check_of, checks, secrets_in, write_file};
 pub use hanging::hanging_above;
 pub use labels::push_labels;
+
+#[cfg(test)]
+mod tests;
