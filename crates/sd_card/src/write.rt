@@ -4,7 +4,7 @@ ghost use Rattle.sd_card.specs.Fields.{IsCard, fields_of, card_head, card_bytes}
 use crate::card::Card;
 use crate::format::{MAGIC, VERSION};
 use sd_cause::NoMemory;
-use sd_secrets::write_file;
+use sd_secrets::{four_bytes, two_bytes, write_file};
 use std::alloc::{AllocError, Global};
 
 impl Card {
@@ -28,8 +28,8 @@ impl Card {
         let mut bytes = Vec::new(alloc);
         bytes.extend_from_slice(&MAGIC)?;
         bytes.extend_from_slice(&[VERSION, self.height.get()])?;
-        bytes.extend_from_slice(&self.leaf.get().to_be_bytes())?;
-        bytes.extend_from_slice(&self.ca.to_be_bytes())?;
+        bytes.extend_from_slice(&four_bytes(self.leaf.get()))?;
+        bytes.extend_from_slice(&two_bytes(self.ca))?;
         Ok(bytes)
     }
 }

@@ -4,7 +4,7 @@ ghost use Rattle.sd_lsd.specs.Fields.{IsLayerCard, fields_of, layer_head, layer_
 use crate::card::LayerCard;
 use crate::format::{MAGIC, VERSION};
 use sd_cause::NoMemory;
-use sd_secrets::write_file;
+use sd_secrets::{four_bytes, two_bytes, write_file};
 use std::alloc::{AllocError, Global};
 
 impl LayerCard {
@@ -28,8 +28,8 @@ impl LayerCard {
         let mut bytes = Vec::new(alloc);
         bytes.extend_from_slice(&MAGIC)?;
         bytes.extend_from_slice(&[VERSION, self.height.get(), self.width.get()])?;
-        bytes.extend_from_slice(&self.leaf.get().to_be_bytes())?;
-        bytes.extend_from_slice(&self.ca.to_be_bytes())?;
+        bytes.extend_from_slice(&four_bytes(self.leaf.get()))?;
+        bytes.extend_from_slice(&two_bytes(self.ca))?;
         Ok(bytes)
     }
 }

@@ -1,8 +1,10 @@
-ghost use Rattle.std.specs.Prelude.{◌≡◌, ◌*◌, ◌/◌, ◌≤◌, ◌++◌, IfOk, OnOk, length, take};
+ghost use Rattle.std.specs.Prelude.{◌≡◌, ◌*◌, ◌/◌, ◌^◌, ◌<◌, ◌≤◌, ◌++◌, IfOk, OnOk, length, take};
 ghost use Rattle.std.specs.List.{concat};
+ghost use Rattle.byteorder.specs.Endian.{big_bytes};
 ghost use Rattle.sd_secrets.specs.Files.{AreSecrets, byte_at as byte_of, check_of as check_of_bytes, check_in};
 ghost use Rattle.sd_secrets.specs.Files.{check_due, file_body, file_bytes};
 
+use byteorder::{BigEndian, ByteOrder};
 use sha2::{Digest, Sha256};
 use std::alloc::{AllocError, Global};
 
@@ -17,6 +19,25 @@ pub fn byte_at(bytes: &[u8], k: usize) -> u8
     ensures { result ≡ byte_of bytes.now k }
 {
     bytes.get(k).copied().unwrap_or(0)
+}
+
+/// The four bytes of a number, the high one first.
+pub fn four_bytes(n: u32) -> [u8; 4]
+    ensures { result ≡ big_bytes 4 n }
+{
+    let mut bytes = [0; 4];
+    BigEndian::write_u32(&mut bytes, n);
+    bytes
+}
+
+/// The two bytes of a number, the high one first.
+pub fn two_bytes(n: u16) -> [u8; 2]
+    ensures value { result ≡ big_bytes 2 n }
+    ensures fits { n < 2 ^ 16 }
+{
+    let mut bytes = [0; 2];
+    BigEndian::write_u16(&mut bytes, n);
+    bytes
 }
 
 /// The check of the bytes before it.
