@@ -1,5 +1,5 @@
 /* What bench/tables.sh times beside the program: reading a file packet by packet, and the CRC of sections by a table of
- * 256 entries. */
+ * 256 entries; and a stream of sections that are full of small items. */
 #include <stdint.h>
 #include <stdio.h>
 #include <stdlib.h>
@@ -70,12 +70,44 @@ static uint64_t crcs(uint32_t count) {
     return sum;
 }
 
+/* A CAT of 4,096 bytes: 2,042 descriptors with no body. */
+static void fill_cat(uint8_t *bytes) {
+    static const uint8_t header[8] = {0x01, 0xBF, 0xFD, 0xFF, 0xFF, 0xC1, 0x00, 0x00};
+    memcpy(bytes, header, 8);
+    for (int i = 8; i < SECTION - 4; i += 2) {
+        bytes[i] = 0x80;
+        bytes[i + 1] = 0;
+    }
+    uint32_t crc = crc32(bytes, SECTION - 4);
+    for (int i = 0; i < 4; i++)
+        bytes[SECTION - 4 + i] = (uint8_t)(crc >> (24 - 8 * i));
+}
+
+/* Writes the packets of so many such CATs. */
+static void items(uint32_t count) {
+    uint8_t cat[1 + SECTION];
+    uint32_t counter = 0;
+    cat[0] = 0;
+    fill_cat(cat + 1);
+    for (uint32_t n = 0; n < count; n++)
+        for (size_t at = 0; at < sizeof cat; at += SIZE - 4) {
+            uint8_t packet[SIZE] = {0x47, at == 0 ? 0x40 : 0x00, 0x01, (uint8_t)(0x10 | (counter++ & 15))};
+            size_t left = sizeof cat - at;
+            memset(packet + 4, 0xFF, SIZE - 4);
+            memcpy(packet + 4, cat + at, left < SIZE - 4 ? left : SIZE - 4);
+            if (fwrite(packet, SIZE, 1, stdout) != 1)
+                fail("the packets can't be written");
+        }
+}
+
 int main(int count, char **words) {
     if (count != 3)
-        fail("words are packets FILE or crcs COUNT");
+        fail("words are packets FILE, crcs COUNT or items COUNT");
     fill_table();
     if (strcmp(words[1], "packets") == 0)
         printf("%llu\n", (unsigned long long)packets(words[2]));
+    else if (strcmp(words[1], "items") == 0)
+        items((uint32_t)strtoul(words[2], NULL, 10));
     else
         printf("%llu\n", (unsigned long long)crcs((uint32_t)strtoul(words[2], NULL, 10)));
     return 0;

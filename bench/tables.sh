@@ -1,7 +1,8 @@
 #!/bin/sh
 # Measures `tables` on a sample stream of 188 MB beside cat, a C program that copies each packet, and (where they are
-# installed) tsinfo and dvbinfo; the CRC of sections beside a C program with a table of 256 entries; and compares the
-# lines of the streams in a folder with those that an independent program printed. To be run by hand, from any folder:
+# installed) tsinfo and dvbinfo; the CRC of sections beside a C program with a table of 256 entries; the time that a CAT
+# of 4,096 bytes takes which is full of items of two bytes, at most 100 microseconds; and compares the lines of the
+# streams in a folder with those that an independent program printed. To be run by hand, from any folder:
 # bench/tables.sh [FOLDER]. FOLDER has NAME.ts, and beside it NAME.ts.exit-N.stdout, what `tables` is to print for it,
 # and its exit status N.
 set -eu
@@ -12,12 +13,14 @@ rounds=5
 packets=1000000
 few=32000
 sections=50000
+cats=2000
 
 build_bench
 compile tables
 
 ./sdca sample 1 $packets stream.ts
 ./sdca sample 1 $few short.ts
+./tables items $cats >items.ts
 bytes=$((packets * 188))
 
 tables_ours() { ./sdca tables stream.ts >lines; }
@@ -27,6 +30,7 @@ tsinfo_it() { tsinfo stream.ts >info 2>&1 || true; }
 dvbinfo_it() { dvbinfo <stream.ts >info 2>&1 || true; }
 crcs_ours() { "$bench" crcs $sections >ours; }
 crcs_c() { ./tables crcs $sections >theirs; }
+items_ours() { ./sdca tables items.ts >shown; }
 
 # A file of times for each command, the rounds in turn.
 measure() {
@@ -45,10 +49,11 @@ others=
 for other in tsinfo dvbinfo; do
     command -v $other >which 2>&1 && others="$others ${other}_it"
 done
-measure tables_ours packets_c cat_it $others crcs_ours crcs_c
+measure tables_ours packets_c cat_it $others crcs_ours crcs_c items_ours
 cmp -s ours theirs || fail "the CRCs differ"
 [ "$(cat count)" = $packets ] || fail "the C program read other packets"
 [ "$(wc -l <lines)" = $((packets / 50)) ] || fail "the lines are not those of all tables"
+[ "$(wc -l <shown)" = $cats ] || fail "the lines are not those of all CATs"
 
 rate tables_ours $bytes "tables of $packets packets"
 rate packets_c $bytes "C: read, 188 bytes a memcpy"
@@ -62,6 +67,10 @@ awk -v t="$(median times.tables_ours)" -v c="$(median times.packets_c)" -v n=$by
     printf "tables: %.2f of what is to be reached (%.0f MB/s); CRC: %.2f times the speed of C\n",
         n / t / least, least, b / a
 }'
+awk -v t="$(median times.items_ours)" -v n=$cats 'BEGIN {
+    printf "a CAT of 4,096 bytes with 2,042 items: %.1f microseconds\n", t / n
+    exit t / n > 100
+}' || fail "a section full of items takes more than 100 microseconds"
 if [ -x /usr/bin/time ]; then
     for each in short stream; do
         /usr/bin/time -f %M ./sdca tables $each.ts >lines 2>peak
