@@ -1,3 +1,5 @@
+ghost use Rattle.std.specs.Prelude.{◌≤◌};
+
 use crate::runs::{Fault, Files, Leaving, SITE, left};
 use sd_book::BookLimit;
 use sd_engine::BreakCause;
