@@ -1,4 +1,5 @@
-use crate::runs::{Fault, Files, Leaving, has_sum, left, made};
+use crate::sums::has_sum;
+use sd_run_memory::{Fault, Files, Leaving, left, made};
 use sd_status::Status;
 use std::alloc::{AllocError, Global};
 use std::test::Fail;

@@ -1,6 +1,6 @@
 use crate::changes::PACKET;
-use crate::runs::{SITE, uncounted};
 use sd_ports::{MemDepot, MemSink};
+use sd_run_memory::{SITE, uncounted};
 use sd_status::Status;
 use std::alloc::{AllocError, Global};
 

@@ -1,6 +1,6 @@
 use crate::changes::{Change, PACKET, changed};
 use crate::hostile::{PMT, PMT_AT, broadcast, card, received};
-use crate::runs::{Fault, left};
+use sd_run_memory::{Fault, left};
 use std::test::Fail;
 
 /// What comes of `receive` where a device fails.

@@ -1,5 +1,6 @@
 use crate::changes::{Change, PACKET, changed};
-use crate::runs::{Fault, Files, has_sum, left, made};
+use crate::sums::has_sum;
+use sd_run_memory::{Fault, Files, left, made};
 use std::alloc::{AllocError, Global};
 use std::test::Fail;
 

@@ -7,14 +7,10 @@ mod changes;
 #[cfg(test)]
 mod commands;
 #[cfg(test)]
-mod covers;
-#[cfg(test)]
 mod day;
 #[cfg(test)]
 mod devices;
 #[cfg(test)]
 mod hostile;
 #[cfg(test)]
-mod rows;
-#[cfg(test)]
-mod runs;
+mod sums;

@@ -1,9 +1,9 @@
 ghost use Rattle.std.specs.Prelude.{◌≤◌};
 
-use crate::runs::{Fault, Files, Leaving, SITE, left};
 use sd_book::BookLimit;
 use sd_engine::BreakCause;
 use sd_ports::MemSink;
+use sd_run_memory::{Fault, Files, Leaving, SITE, left};
 use sd_sample::sample;
 use sd_site::SiteFault;
 use sd_status::{LimitKind, Status, StreamCause};

@@ -1,5 +1,5 @@
 use crate::rows::{ALL, covered};
-use crate::runs::{Fault, SITE};
+use sd_run_memory::{Fault, SITE};
 use sd_status::Status;
 use std::alloc::{AllocError, Global};
 

@@ -1,98 +1,17 @@
 ghost use Rattle.std.specs.Prelude.{◌≡◌, ◌<◌, ◌≤◌};
 
-use hex::FromHex;
-use sd_ports::{Depot, MemDepot, MemSink, Sink};
+use crate::files::{Files, ROOM};
+use sd_ports::{Depot, MemSink, Sink};
 use sd_run::run;
 use sd_status::Status;
 use sd_steps::Steps;
-use sha2::{Digest, Sha256};
 use std::alloc::{AllocError, Global};
 use std::marker::Brand;
 use std::sync::ledger::{Blank, Ledger};
 
-/// As many bytes as a file that is made has room for where no fewer are asked for, and as many as may be printed.
-const ROOM: usize = 120_000;
-
-/// A site of height 3.
-pub(crate) const SITE: &[u8] = b"height 3
-master 000102030405060708090a0b0c0d0e0f101112131415161718191a1b1c1d1e1f
-ca 1234
-emm 496
-ecm 497
-ecm-every 200
-crypto-ecms 2
-period-cryptos 1
-";
-
-/// A file by its name.
-#[derive(Drop)]
-struct File {
-    name: String,
-    bytes: Vec<u8>,
-}
-
-/// The files that a run begins with.
-#[derive(Drop)]
-pub(crate) struct Files {
-    list: Vec<File>,
-    /// As many bytes as a file that is made has room for.
-    pub room: usize,
-}
-
-impl Files {
-    /// The site alone, as the file S.
-    pub(crate) fn new(alloc: Global) -> Result<Files, AllocError> {
-        Files::with(alloc, "S", SITE)
-    }
-
-    /// One file alone.
-    pub(crate) fn with(alloc: Global, name: &str, bytes: &[u8]) -> Result<Files, AllocError> {
-        let mut files = Files {
-            list: Vec::new(alloc),
-            room: ROOM,
-        };
-        files.add(alloc, name, bytes)?;
-        Ok(files)
-    }
-
-    pub(crate) fn add(
-        &mut self,
-        alloc: Global,
-        name: &str,
-        bytes: &[u8],
-    ) -> Result<(), AllocError> {
-        let name = String::from_str(alloc, name)?;
-        let bytes = Vec::from_slice(alloc, bytes)?;
-        self.list.push(File { name, bytes })?;
-        Ok(())
-    }
-
-    /// A depot that has them, of which at most so many bytes go through a call of a port.
-    fn shelf(&self, alloc: Global, most: usize) -> Result<MemDepot, AllocError>
-        requires { 1 ≤ most }
-    {
-        let mut depot = MemDepot::new(alloc, self.room, most).map_err(|_| AllocError)?;
-        for file in &self.list {
-            let bytes = Vec::from_slice(alloc, &file.bytes)?;
-            depot.put(&file.name, bytes).map_err(|_| AllocError)?;
-        }
-        Ok(depot)
-    }
-
-    /// Whether the depot has them still.
-    fn stand_in(&self, depot: &MemDepot) -> bool {
-        for file in &self.list {
-            if depot.get(&file.name) != Some(file.bytes.as_slice()) {
-                return false;
-            }
-        }
-        true
-    }
-}
-
 /// The call of the outside that fails in a run.
 #[derive(Clone, Copy, Debug)]
-pub(crate) enum Fault<'a> {
+pub enum Fault<'a> {
     Nowhere,
     /// The depot's call of this number.
     Call(u32),
@@ -104,7 +23,7 @@ pub(crate) enum Fault<'a> {
 
 /// What a run leaves.
 #[derive(Drop)]
-pub(crate) struct Leaving {
+pub struct Leaving {
     pub status: Status,
     pub printed: Vec<u8>,
     /// The file O.
@@ -119,7 +38,7 @@ pub(crate) struct Leaving {
 
 impl Leaving {
     /// Whether a file O was made that begins this one.
-    pub(crate) fn is_prefix_of(&self, whole: &[u8]) -> bool {
+    pub fn is_prefix_of(&self, whole: &[u8]) -> bool {
         match &self.out {
             Some(out) => whole.starts_with(out),
             None => false,
@@ -128,7 +47,7 @@ impl Leaving {
 }
 
 /// What the words leave over these files, where at most so many bytes go through a call of a port.
-pub(crate) fn left(
+pub fn left(
     alloc: Global,
     files: &Files,
     words: &[&str],
@@ -166,7 +85,7 @@ pub(crate) fn left(
 }
 
 /// Runs the words and counts no step.
-pub(crate) fn uncounted<D: Depot, P: Sink>(
+pub fn uncounted<D: Depot, P: Sink>(
     alloc: Global,
     words: &[String],
     depot: &mut D,
@@ -191,15 +110,7 @@ fn counted<D: Depot, P: Sink, L: Ledger>(
 }
 
 /// The file O that the words make.
-pub(crate) fn made(alloc: Global, files: &Files, words: &[&str]) -> Result<Vec<u8>, AllocError> {
+pub fn made(alloc: Global, files: &Files, words: &[&str]) -> Result<Vec<u8>, AllocError> {
     let left = left(alloc, files, words, ROOM, Fault::Nowhere)?;
     left.out.ok_or(AllocError)
-}
-
-/// Whether the SHA-256 of these bytes begins so.
-pub(crate) fn has_sum(bytes: &[u8], sum: &str) -> bool {
-    let Ok(due) = <[u8; 8]>::from_hex(sum) else {
-        return false;
-    };
-    Sha256::digest(bytes).starts_with(&due)
 }

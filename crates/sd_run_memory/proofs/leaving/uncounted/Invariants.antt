@@ -1,4 +1,4 @@
-use Rattle.sd_run_test.proofs.runs.uncounted.Given as goal
+use Rattle.sd_run_memory.proofs.leaving.uncounted.Given as goal
 
 -- the ledger is the blank one
 abbrev pub ghosts-counted : goal.ghosts-counted

@@ -1,0 +1,7 @@
+//! Tests of the program's one call: rows of words, books, sites and streams, and the covers of all books of small trees.
+#![tactic(auto)]
+
+#[cfg(test)]
+mod covers;
+#[cfg(test)]
+mod rows;
