@@ -2,6 +2,7 @@
 #![tactic(auto)]
 
 mod card;
+mod count;
 mod fault;
 mod format;
 mod key;

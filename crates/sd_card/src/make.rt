@@ -4,6 +4,7 @@ ghost use Rattle.sd_secrets.specs.Secrets.{secret_of};
 ghost use Rattle.sd_card.specs.Fields.{fields_of, card_of};
 
 use crate::card::Card;
+use crate::count::count_at;
 use sd_cause::NoMemory;
 use sd_label::whole_key;
 use sd_secrets::push_labels;
@@ -48,7 +49,7 @@ fn secrets<L: Ledger>(
         length secrets.items ≡ site.now.height * (site.now.height + 1) / 2 + 1) }
     ensures fits { IfOk result (λ _. (1 ≤ site.now.height) × (site.now.height ≤ HIGHEST)) }
 {
-    let mut secrets = Vec::new(alloc);
+    let mut secrets = Vec::with_capacity(alloc, count_at(site.height))?;
     secrets.push(whole_key(&site.master))?;
     let levels = u32::from(site.height.get());
     for depth in 0..levels {

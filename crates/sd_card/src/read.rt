@@ -4,6 +4,7 @@ ghost use Rattle.sd_card.specs.Fields.{CardFields, IsCard, fields_of, card_bytes
 ghost use Rattle.sd_card.specs.Faults.{height_in, leaf_in, ca_in, length_at as length_of, fault_in, IsFaultOf};
 
 use crate::card::Card;
+use crate::count::count_at;
 use crate::fault::CardFault;
 use crate::format::{CA_AT, HEIGHT_AT, LEAF_AT, MAGIC, SECRETS_AT, VERSION, VERSION_AT};
 use byteorder::{BigEndian, ByteOrder};
@@ -94,6 +95,5 @@ fn length_at(h: Height) -> usize
     ensures value { result ≡ length_of h }
     ensures fits { SECRETS_AT + CHECK_BYTES ≤ result }
 {
-    let d = usize::from(h.get());
-    SECRETS_AT + SECRET_BYTES * (d * (d + 1) / 2 + 1) + CHECK_BYTES
+    SECRETS_AT + SECRET_BYTES * count_at(h) + CHECK_BYTES
 }

@@ -5,7 +5,7 @@ ghost use Rattle.sd_lsd.specs.LayerNames.{layer_given, layer_count};
 ghost use Rattle.sd_lsd.specs.Fields.{fields_of, layer_card_of};
 
 use crate::card::LayerCard;
-use crate::counts::pairs_under;
+use crate::counts::{layer_count, pairs_under};
 use sd_cause::NoMemory;
 use sd_label::whole_key;
 use sd_layers::Width;
@@ -58,7 +58,7 @@ fn secrets<L: Ledger>(
     ensures fits { IfOk result (λ _. (1 ≤ site.now.height) × (site.now.height ≤ HIGHEST)) }
     ensures some { IfOk result (λ _. 1 ≤ w) }
 {
-    let mut secrets = Vec::new(alloc);
+    let mut secrets = Vec::with_capacity(alloc, layer_count(site.height, w) + 1)?;
     secrets.push(whole_key(&site.master))?;
     for depth in 0..u32::from(site.height.get()) {
         let levels = pairs_under(site.height, w, depth);

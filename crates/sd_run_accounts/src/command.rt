@@ -17,6 +17,7 @@ use sd_tree::Height;
 use std::alloc::Global;
 
 /// Does `accounts SITE ACCOUNTS OUT`.
+#[inline(never)]
 pub fn accounts<D: Depot, P: Sink>(
     alloc: Global,
     depot: &mut D,

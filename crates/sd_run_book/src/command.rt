@@ -12,6 +12,7 @@ use sd_status::Status;
 use std::alloc::Global;
 
 /// Does `book SITE BOOK COMMANDS OUT`: COMMANDS is a book by itself, and OUT is BOOK with its commands at the end.
+#[inline(never)]
 pub fn book<D: Depot>(
     alloc: Global,
     depot: &mut D,

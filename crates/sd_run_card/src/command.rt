@@ -17,6 +17,7 @@ use std::alloc::Global;
 use std::sync::ledger::Ledger;
 
 /// Does `card SITE LEAF OUT`.
+#[inline(never)]
 pub fn card<D: Depot, L: Ledger>(
     alloc: Global,
     depot: &mut D,

@@ -14,6 +14,7 @@ use sd_status::Status;
 use std::alloc::Global;
 
 /// Does `cover SITE BOOK`.
+#[inline(never)]
 pub fn cover<D: Depot, P: Sink>(
     alloc: Global,
     depot: &mut D,

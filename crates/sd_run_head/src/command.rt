@@ -21,6 +21,7 @@ use std::alloc::Global;
 use std::sync::ledger::Ledger;
 
 /// Does `head SITE BOOK CLEAR OUT`: the clear stream is read and what is sent for it is written in turn.
+#[inline(never)]
 pub fn head<D: Depot, L: Ledger>(
     alloc: Global,
     depot: &mut D,

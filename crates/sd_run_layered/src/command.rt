@@ -15,6 +15,7 @@ use sd_tree::{HIGHEST, Height};
 use std::alloc::Global;
 
 /// Does `layered SITE BOOK WIDTH`.
+#[inline(never)]
 pub fn layered<D: Depot, P: Sink>(
     alloc: Global,
     depot: &mut D,

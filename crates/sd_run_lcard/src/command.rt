@@ -18,6 +18,7 @@ use std::alloc::Global;
 use std::sync::ledger::Ledger;
 
 /// Does `lcard SITE LEAF WIDTH OUT`.
+#[inline(never)]
 pub fn lcard<D: Depot, L: Ledger>(
     alloc: Global,
     depot: &mut D,

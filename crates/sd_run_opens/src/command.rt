@@ -12,6 +12,7 @@ use sd_status::Status;
 use std::alloc::Global;
 
 /// Does `opens SITE BOOK LEAVES`.
+#[inline(never)]
 pub fn opens<D: Depot, P: Sink>(
     alloc: Global,
     depot: &mut D,

@@ -26,6 +26,7 @@ use std::sync::ledger::Ledger;
 pub const MOST_CARD_BYTES: usize = 8_192;
 
 /// Does `receive CARD STREAM OUT`: the stream goes through the receiver of the card into OUT.
+#[inline(never)]
 pub fn receive<D: Depot, L: Ledger>(
     alloc: Global,
     depot: &mut D,

@@ -14,6 +14,7 @@ use sd_status::Status;
 use std::alloc::Global;
 
 /// Does `sample NUMBER PACKETS OUT`.
+#[inline(never)]
 pub fn sample<D: Depot>(
     alloc: Global,
     depot: &mut D,

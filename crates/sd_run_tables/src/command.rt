@@ -20,6 +20,7 @@ use std::marker::Brand;
 use std::sync::ledger::{Blank, Ledger};
 
 /// Does `tables STREAM`: the stream is read and its lines are printed in turn.
+#[inline(never)]
 pub fn tables<D: Depot, P: Sink>(
     alloc: Global,
     depot: &mut D,

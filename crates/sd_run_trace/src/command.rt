@@ -15,6 +15,7 @@ use sd_tree::Leaf;
 use std::alloc::Global;
 
 /// Does `trace SITE BOOK LEAVES`.
+#[inline(never)]
 pub fn trace<D: Depot, P: Sink>(
     alloc: Global,
     depot: &mut D,

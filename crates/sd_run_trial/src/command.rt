@@ -24,6 +24,7 @@ pub const MOST_CLEAR_BYTES: usize = 65_536 * SIZE;
 
 /// Does `trial SITE BOOK CLEAR`. The lines are made before the first is printed. Besides the book and the room for the
 /// broadcast it holds the clear stream, and one receiver at a time with what that writes: less than 64 MiB.
+#[inline(never)]
 pub fn trial<D: Depot, P: Sink, L: Ledger>(
     alloc: Global,
     depot: &mut D,

@@ -40,9 +40,9 @@ pub fn two_bytes(n: u16) -> [u8; 2]
     bytes
 }
 
-/// The check of the bytes before it.
+// The check of the bytes before it.
 #[tactic(auto, unfolding(crate::specs::Files::check_of))]
-pub fn check_of(body: &[u8]) -> [u8; 16]
+fn check_of(body: &[u8]) -> [u8; 16]
     ensures { result ≡ check_of_bytes body.now }
 {
     let digest = Sha256::digest(body);
@@ -93,13 +93,18 @@ pub fn write_file(alloc: Global, head: &[u8], secrets: &[[u8; 32]]) -> Result<Ve
     Ok(bytes)
 }
 
-// The file before its check.
+// The file before its check, with room for that.
 #[tactic(auto, unfolding(crate::specs::Files::file_body))]
 fn write_body(alloc: Global, head: &[u8], secrets: &[[u8; 32]]) -> Result<Vec<u8>, AllocError>
     ensures value { IfOk result (λ bytes. bytes.items ≡ file_body head.now secrets.now) }
     ensures fits { IfOk result (λ _. AreSecrets secrets.now) }
 {
-    let mut bytes = Vec::new(alloc);
+    let length = secrets
+        .as_flattened()
+        .len()
+        .saturating_add(head.len())
+        .saturating_add(CHECK_BYTES);
+    let mut bytes = Vec::with_capacity(alloc, length)?;
     bytes.extend_from_slice(head)?;
     for secret in secrets {
         put(&mut bytes, secret)?;

@@ -25,7 +25,7 @@ returns g c =
 pub loop-depth-init : goal.loop-depth-init
 loop-depth-init g c =
     c.in_ok-push.ensures.items
-    ∙ (ap (λ (xs : List (List ℕ)). xs ++ c.whole_key.result ∷ []) c.new-secrets.ensures.items
+    ∙ (ap (λ (xs : List (List ℕ)). xs ++ c.whole_key.result ∷ []) c.in_ok-secrets.ensures.items
     ∙ (ap (λ (x : List ℕ). x ∷ []) c.whole_key.ensures
     ∙ secrets_first c.args.site.now.master c.args.site.now.height c.args.u))
 
