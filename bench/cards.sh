@@ -11,7 +11,7 @@
 #
 # It prints for cards in memory (a folder in /dev/shm, where that is there) and for cards on disk (the usual temporary
 # folder) the milliseconds of both programs for all cards, for the runs that were taken off and for what is left, and
-# the ratio of what is left, which is to be at most 1.5. A disk takes as long for both, so the ratio in memory is the
+# the ratio of what is left, which is to be at most 1.36. A disk takes as long for both, so the ratio in memory is the
 # stricter one. Without OpenSSL's headers it says so and measures nothing.
 set -eu
 . "$(dirname "$0")/shared.sh"
@@ -52,7 +52,7 @@ show_cards() {
         {
             show("sdca", $2, $1)
             show("C", $4, $3)
-            printf "500 cards %s: ratio %.2f (to reach: 1.50)\n", place, ($2 - $1) / ($4 - $3)
+            printf "500 cards %s: ratio %.2f (to reach: 1.36)\n", place, ($2 - $1) / ($4 - $3)
         }'
 }
 

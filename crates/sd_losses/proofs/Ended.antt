@@ -43,7 +43,7 @@ use Rattle.sd_losses.proofs.Tuned.{end_heard}
 abbrev pub reach : Setting → ℕ
 reach s = period_of s.plan (length s.clear - 1)
 
--- Behind all that is sent: the messages that were told are those that have arrived, a closing one is among them where
+-- After all that is sent: the messages that were told are those that have arrived, a closing one is among them where
 -- the last has, and of each period the key is had and the indexes were seen that are kept.
 pub record HasEnded (s : Setting) (kept : List Item) (past : List Heard) : Type 0 where
   pub last : Option ℕ

@@ -107,7 +107,7 @@ read_failed most a b c bs kept i j k p q e later rose = record {
   lost = (bs, Consumes-kept a b c bs p q);
 }
 
--- of what stands behind others as much is kept as their first bytes have of it
+-- of what stands after others as much is kept as their first bytes have of it
 pub kept_first : (most count : ℕ) (bs cs : List ℕ) → length bs ≤ most → count ≡ min (length cs) (most - length bs)
     → bs ++ take count cs ≡ take most (bs ++ cs)
 kept_first most count bs cs within e =

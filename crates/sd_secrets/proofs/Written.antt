@@ -73,7 +73,7 @@ check_written head secrets =
     rw before (drop_at body check (length body) refl
     ∙ sym (ap (λ (r : List ℕ). check_of r) (take_at body check (length body) refl)))
 
--- behind its head are the secrets and the check
+-- after its head stand the secrets and the check
 pub after_head : (head : List ℕ) (secrets : List (List ℕ)) (k : ℕ) → length head ≡ k
     → drop k (file_bytes head secrets) ≡ concat secrets ++ check_of (file_body head secrets)
 unfolding file_bytes file_body
