@@ -24,6 +24,8 @@ const PID: u16 = 496;
 
 /// A number of so many periods: all sections of each are written, and read until one names a set of the leaf, which the
 /// last does.
+// What else `main` does is not to change how this is compiled.
+#[inline(never)]
 pub fn searched(alloc: Global, count: u32) -> Result<Option<u64>, AllocError> {
     let entries = entries(alloc)?;
     let Some(h) = Height::new(20) else {
