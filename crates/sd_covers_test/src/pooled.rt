@@ -1,38 +1,16 @@
+use crate::names::{closure, names};
 use sd_book::Book;
 use sd_label::Name;
-use sd_reach::names_of;
 use sd_steiner::cover;
-use sd_tree::{Height, Leaf, SetName};
+use sd_tree::{Height, SetName};
 use std::alloc::{AllocError, Global};
 use std::test::*;
-
-// The names of a leaf of height 2.
-fn names(alloc: Global, u: u32) -> Option<Vec<Name>> {
-    let h = Height::new(2)?;
-    names_of(alloc, h, Leaf::new(h, u)?).ok()
-}
-
-// All names of a tree of height 2 that follow from these, by the rules and nothing else.
-fn closure(alloc: Global, held: &[Name]) -> Result<Vec<Name>, AllocError> {
-    let mut names = held.to_vec(alloc)?;
-    for _turn in 0..2 {
-        for name in names.clone()?.iter() {
-            if let Name::Pair { i, w } = *name {
-                if 1 <= w && w < 4 {
-                    names.push(Name::Pair { i, w: 2 * w })?;
-                    names.push(Name::Pair { i, w: 2 * w + 1 })?;
-                }
-            }
-        }
-    }
-    Ok(names)
-}
 
 // What follows from the names of these leaves together.
 fn pooled(alloc: Global, leaves: &[u32]) -> Option<Vec<Name>> {
     let mut held = Vec::new(alloc);
     for u in leaves {
-        for name in names(alloc, *u)?.iter() {
+        for name in names(alloc, 2, *u)?.iter() {
             held.push(*name).ok()?;
         }
     }

@@ -1,5 +1,5 @@
 use Rattle.std.proofs.Common.{ℕ, ◌+◌, ◌<◌, slice_index}
-use Rattle.sd_cover.proofs.tests.are_ascending.Given as goal
+use Rattle.sd_covers_test.proofs.leaves.are_ascending.Given as goal
 
 -- the leaves before place k ascend
 abbrev pub invariant-loop-k : goal.invariant-loop-k

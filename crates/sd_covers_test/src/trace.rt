@@ -1,30 +1,12 @@
-ghost use Rattle.std.specs.Prelude.{◌≡◌, ◌^◌, ◌<◌, ◌≤◌, ℕ, All, IsTrue, IfSome};
-ghost use Rattle.std.specs.List.Sorted.{IsStrictlyIncreasing};
+ghost use Rattle.std.specs.Prelude.{◌≡◌, ◌<◌, ◌≤◌, ℕ, IfSome};
 
-use super::*;
-use sd_steiner::cover;
+use crate::leaves::{
+    HEIGHT_1, HEIGHT_2, HEIGHT_3, are_ascending, are_of_height, covered, has_bit, marked,
+};
+use sd_trace::{CoalitionBox, TestBox, trace_all};
 use sd_tree::{Height, Leaf, MOST_REVOKED, SetName};
 use std::alloc::Global;
 use std::test::*;
-
-// Whether all of these leaves are of the height.
-fn are_of_height(h: Height, leaves: &[Leaf]) -> bool
-    ensures { IsTrue result → All (λ u. u < 2 ^ h) leaves.now }
-{
-    leaves.iter().all(|u| u.get() < h.leaves())
-}
-
-// Whether each of these leaves stands after the one before it.
-fn are_ascending(leaves: &[Leaf]) -> bool
-    ensures { IsTrue result → IsStrictlyIncreasing leaves.now }
-{
-    for k in 1..leaves.len() {
-        if leaves[k - 1].get() >= leaves[k].get() {
-            return false;
-        }
-    }
-    true
-}
 
 // The leaves of these numbers.
 fn leaves_of(alloc: Global, h: Height, numbers: &[u32]) -> Option<Vec<Leaf>> {
@@ -74,13 +56,6 @@ fn coalitions_are_found(rt: HostRuntime) {
         assert_eq!(rt; found.as_slice(), due, "{coalition:?} at height {height}");
     }
 }
-
-// The leaves below each node of a tree of height 1, 2 and 3, by bits.
-const HEIGHT_1: [u32; 16] = [0, 3, 1, 2, 0, 0, 0, 0, 0, 0, 0, 0, 0, 0, 0, 0];
-
-const HEIGHT_2: [u32; 16] = [0, 15, 3, 12, 1, 2, 4, 8, 0, 0, 0, 0, 0, 0, 0, 0];
-
-const HEIGHT_3: [u32; 16] = [0, 255, 15, 240, 3, 12, 48, 192, 1, 2, 4, 8, 16, 32, 64, 128];
 
 // What is told of a small tree, read plainly off the leaves below each of its nodes.
 #[derive(Clone, Copy)]
@@ -168,16 +143,7 @@ impl Plain {
 
     // The cover where these leaves are gone.
     fn sets(&self, alloc: Global, gone: u32) -> Option<Vec<SetName>> {
-        let mut leaves = Vec::new(alloc);
-        for u in 0..8 {
-            if gone >> u & 1 == 1 {
-                leaves.push(Leaf::new(self.height, u)?).ok()?;
-            }
-        }
-        if !are_of_height(self.height, &leaves) || !are_ascending(&leaves) {
-            return None;
-        }
-        cover(alloc, self.height, &leaves).ok()
+        covered(alloc, self.height, &marked(alloc, self.height, gone)?)
     }
 
     // The number, the trials and the splits of each leaf that is found where these are revoked.
@@ -202,7 +168,7 @@ impl Plain {
 fn bits_of(alloc: Global, bits: u32) -> Option<Vec<u32>> {
     let mut numbers = Vec::new(alloc);
     for u in 0..8 {
-        if bits >> u & 1 == 1 {
+        if has_bit(bits, u) {
             numbers.push(u).ok()?;
         }
     }
@@ -307,7 +273,7 @@ impl TestBox for LyingBox {
 // Whether different leaves that aren't revoked are found by a box that lies, by as many probes as are told.
 fn bears_lies(alloc: Global, revoked: u32, answers: u32) -> Option<bool> {
     let h = Height::new(3)?;
-    let leaves = leaves_of(alloc, h, &bits_of(alloc, revoked)?)?;
+    let leaves = marked(alloc, h, revoked)?;
     if !are_of_height(h, &leaves) || !are_ascending(&leaves) || leaves.len() > MOST_REVOKED {
         return None;
     }

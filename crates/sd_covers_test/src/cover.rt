@@ -1,9 +1,8 @@
-ghost use Rattle.std.specs.Prelude.{◌≡◌, ◌^◌, ◌<◌, ◌≤◌, All, IsTrue};
-ghost use Rattle.std.specs.List.Sorted.{IsStrictlyIncreasing};
+ghost use Rattle.std.specs.Prelude.{◌≡◌, ◌<◌, ◌≤◌};
 ghost use Rattle.sd_cover.specs.declared.counts.TheConstants.{NODES};
 
-use super::*;
-use sd_steiner::cover;
+use crate::leaves::covered;
+use sd_cover::{Counts, CoverIndex, NODES};
 use sd_steps::Steps;
 use sd_tree::{Height, Leaf, SetName};
 use std::alloc::Global;
@@ -56,50 +55,26 @@ fn sets(alloc: Global, d: u8, changes: &[(u32, bool)]) -> Option<Vec<SetName>> {
 #[test]
 fn sets_after_changes(rt: HostRuntime) {
     let set = |i, j| SetName::Diff { i, j };
-    let first = [(0, true), (2, true)];
-    let sets_first = sets(rt.alloc(), 3, &first).expect(&rt, "the sets");
-    assert_eq!(rt;
-        sets_first.as_slice(),
-        [set(1, 2), set(4, 8), set(5, 10)].as_slice()
-    );
-
-    let back = [(0, true), (2, true), (0, false)];
-    let sets_back = sets(rt.alloc(), 3, &back).expect(&rt, "the sets");
-    assert_eq!(rt; sets_back.as_slice(), [set(1, 10)].as_slice());
-
-    let none = [(0, true), (0, false)];
-    let sets_none = sets(rt.alloc(), 3, &none).expect(&rt, "the sets");
-    assert_eq!(rt; sets_none.as_slice(), [SetName::Whole].as_slice());
-
-    let all = [(0, true), (1, true)];
-    let sets_all = sets(rt.alloc(), 1, &all).expect(&rt, "the sets");
-    assert!(rt; sets_all.is_empty());
-
-    let ends = [(0, true), (1_048_575, true)];
-    let sets_ends = sets(rt.alloc(), 20, &ends).expect(&rt, "the sets");
-    assert_eq!(rt;
-        sets_ends.as_slice(),
-        [set(2, 1_048_576), set(3, 2_097_151)].as_slice()
-    );
-}
-
-// Whether all of these leaves are of the height.
-fn are_of_height(h: Height, leaves: &[Leaf]) -> bool
-    ensures { IsTrue result → All (λ u. u < 2 ^ h) leaves.now }
-{
-    leaves.iter().all(|u| u.get() < h.leaves())
-}
-
-// Whether each of these leaves stands after the one before it.
-fn are_ascending(leaves: &[Leaf]) -> bool
-    ensures { IsTrue result → IsStrictlyIncreasing leaves.now }
-{
-    for k in 1..leaves.len() {
-        if leaves[k - 1].get() >= leaves[k].get() {
-            return false;
-        }
+    // The height, the changes, and the sets after them.
+    let cases: [(u8, &[(u32, bool)], &[SetName]); 5] = [
+        (
+            3,
+            &[(0, true), (2, true)],
+            &[set(1, 2), set(4, 8), set(5, 10)],
+        ),
+        (3, &[(0, true), (2, true), (0, false)], &[set(1, 10)]),
+        (3, &[(0, true), (0, false)], &[SetName::Whole]),
+        (1, &[(0, true), (1, true)], &[]),
+        (
+            20,
+            &[(0, true), (1_048_575, true)],
+            &[set(2, 1_048_576), set(3, 2_097_151)],
+        ),
+    ];
+    for (d, changes, due) in cases {
+        let sets = sets(rt.alloc(), d, changes).expect(&rt, "the sets");
+        assert_eq!(rt; sets.as_slice(), due);
     }
-    true
 }
 
 // The cover from scratch of the leaves that are marked.
@@ -110,11 +85,7 @@ fn fresh(alloc: Global, h: Height, marks: &[bool; 16]) -> Option<Vec<SetName>> {
             revoked.push(Leaf::new(h, u)?).ok()?;
         }
     }
-    if are_of_height(h, &revoked) && are_ascending(&revoked) {
-        cover(alloc, h, &revoked).ok()
-    } else {
-        None
-    }
+    covered(alloc, h, &revoked)
 }
 
 // Whether the sets are those of a cover from scratch after each of so many changes.

@@ -1,29 +1,7 @@
-ghost use Rattle.std.specs.Prelude.{◌≡◌, ◌^◌, ◌<◌, All, IsTrue};
-ghost use Rattle.std.specs.List.Sorted.{IsStrictlyIncreasing};
-
-use super::*;
+use crate::leaves::covered;
 use sd_tree::{Height, Leaf, SetName};
 use std::alloc::Global;
 use std::test::*;
-
-// Whether all of these leaves are of the height.
-fn are_of_height(h: Height, leaves: &[Leaf]) -> bool
-    ensures { IsTrue result → All (λ u. u < 2 ^ h) leaves.now }
-{
-    leaves.iter().all(|u| u.get() < h.leaves())
-}
-
-// Whether each of these leaves stands after the one before it.
-fn are_ascending(leaves: &[Leaf]) -> bool
-    ensures { IsTrue result → IsStrictlyIncreasing leaves.now }
-{
-    for k in 1..leaves.len() {
-        if leaves[k - 1].get() >= leaves[k].get() {
-            return false;
-        }
-    }
-    true
-}
 
 // The cover where so many leaves are revoked, from leaf 0 on, each so far after the one before it.
 fn spaced(alloc: Global, d: u8, step: u32, count: u32) -> Option<Vec<SetName>> {
@@ -32,11 +10,7 @@ fn spaced(alloc: Global, d: u8, step: u32, count: u32) -> Option<Vec<SetName>> {
     for k in 0..count {
         revoked.push(Leaf::new(h, step.checked_mul(k)?)?).ok()?;
     }
-    if are_of_height(h, &revoked) && are_ascending(&revoked) {
-        cover(alloc, h, &revoked).ok()
-    } else {
-        None
-    }
+    covered(alloc, h, &revoked)
 }
 
 #[test]

@@ -1,30 +1,10 @@
-use super::*;
+use crate::leaves::{HEIGHT_1, HEIGHT_2, HEIGHT_3, has_bit};
+use crate::names::{closure, names};
 use sd_label::Name;
+use sd_reach::{names_of, opens, reaches};
 use sd_tree::{Height, Leaf, SetName};
-use std::alloc::{AllocError, Global};
+use std::alloc::Global;
 use std::test::*;
-
-// The names of a leaf at this height.
-fn names(alloc: Global, d: u8, u: u32) -> Option<Vec<Name>> {
-    let h = Height::new(d)?;
-    names_of(alloc, h, Leaf::new(h, u)?).ok()
-}
-
-// All names of a tree of height 3 that follow from these, by the rules and nothing else.
-fn closure(alloc: Global, held: &[Name]) -> Result<Vec<Name>, AllocError> {
-    let mut names = held.to_vec(alloc)?;
-    for _turn in 0..3 {
-        for name in names.clone()?.iter() {
-            if let Name::Pair { i, w } = *name {
-                if 1 <= w && w < 8 {
-                    names.push(Name::Pair { i, w: 2 * w })?;
-                    names.push(Name::Pair { i, w: 2 * w + 1 })?;
-                }
-            }
-        }
-    }
-    Ok(names)
-}
 
 // Whether the closure has what the key of S(i,j) is made from.
 fn has(closure: &[Name], i: u32, j: u32) -> bool {
@@ -56,17 +36,12 @@ fn leaves(below: &[u32; 16], i: u32, j: u32) -> Option<u32> {
     is_pair.then_some(upper & !lower)
 }
 
-// Whether the leaf is among these.
-fn has_leaf(leaves: u32, u: u32) -> bool {
-    u < 8 && leaves >> u & 1 == 1
-}
-
 // Whether the first `count` leaves and all pairs of nodes are judged by the leaves below each node.
 fn agree(alloc: Global, d: u8, count: u32, below: &[u32; 16]) -> bool {
     for i in 0..16 {
         for j in 0..16 {
             for u in 0..count {
-                let due = leaves(below, i, j).map(|set| has_leaf(set, u));
+                let due = leaves(below, i, j).map(|set| has_bit(set, u));
                 if judged(alloc, d, u, i, j) != due.map(|due| (due, due, due)) {
                     return false;
                 }
@@ -126,13 +101,9 @@ fn names_of_leaf_5(rt: HostRuntime) -> Result<(), Fail> {
 
 #[test]
 fn leaves_reach_their_sets(rt: HostRuntime) {
-    // The leaves below each node, by bits.
-    let height_1 = [0, 3, 1, 2, 0, 0, 0, 0, 0, 0, 0, 0, 0, 0, 0, 0];
-    let height_2 = [0, 15, 3, 12, 1, 2, 4, 8, 0, 0, 0, 0, 0, 0, 0, 0];
-    let height_3 = [0, 255, 15, 240, 3, 12, 48, 192, 1, 2, 4, 8, 16, 32, 64, 128];
-    assert!(rt; agree(rt.alloc(), 1, 2, &height_1));
-    assert!(rt; agree(rt.alloc(), 2, 4, &height_2));
-    assert!(rt; agree(rt.alloc(), 3, 8, &height_3));
+    assert!(rt; agree(rt.alloc(), 1, 2, &HEIGHT_1));
+    assert!(rt; agree(rt.alloc(), 2, 4, &HEIGHT_2));
+    assert!(rt; agree(rt.alloc(), 3, 8, &HEIGHT_3));
 }
 
 #[test]

@@ -1,45 +1,14 @@
-ghost use Rattle.std.specs.Prelude.{◌^◌, ◌<◌, All, IsTrue};
-ghost use Rattle.std.specs.List.Sorted.{IsStrictlyIncreasing};
-
-use super::*;
-use sd_tree::{Height, Leaf, SetName, depth};
+use crate::leaves::{are_ascending, are_of_height, has_bit, marked};
+use sd_layers::{Width, layered_cover};
+use sd_tree::{Height, SetName, depth};
 use std::alloc::Global;
 use std::test::*;
-
-// Whether all of these leaves are of the height.
-fn are_of_height(h: Height, leaves: &[Leaf]) -> bool
-    ensures { IsTrue result → All (λ u. u < 2 ^ h) leaves.now }
-{
-    leaves.iter().all(|u| u.get() < h.leaves())
-}
-
-// Whether each of these leaves stands after the one before it.
-fn are_ascending(leaves: &[Leaf]) -> bool
-    ensures { IsTrue result → IsStrictlyIncreasing leaves.now }
-{
-    for k in 1..leaves.len() {
-        if leaves[k - 1].get() >= leaves[k].get() {
-            return false;
-        }
-    }
-    true
-}
-
-// Whether this bit is set.
-fn has_bit(bits: u32, u: u32) -> bool {
-    bits >> (u % u32::BITS) & 1 == 1
-}
 
 // The cover of width w where the leaves of these bits are revoked.
 fn covered(alloc: Global, d: u8, w: u8, bits: u32) -> Option<Vec<SetName>> {
     let h = Height::new(d)?;
     let width = Width::new(h, w)?;
-    let mut revoked = Vec::new(alloc);
-    for u in 0..32u32 {
-        if has_bit(bits, u) {
-            revoked.push(Leaf::new(h, u)?).ok()?;
-        }
-    }
+    let revoked = marked(alloc, h, bits)?;
     if are_of_height(h, &revoked) && are_ascending(&revoked) {
         layered_cover(alloc, h, width, &revoked).ok()
     } else {
