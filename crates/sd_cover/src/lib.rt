@@ -9,6 +9,3 @@ mod sets;
 
 pub use counts::{Counts, MOST_ROOM, NODES};
 pub use index::{CoverIndex, MOST_SPARE};
-
-#[cfg(test)]
-mod tests;

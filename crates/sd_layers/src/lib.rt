@@ -9,6 +9,3 @@ mod width;
 pub use cover::layered_cover;
 pub use layer::{layer_end, useful};
 pub use width::Width;
-
-#[cfg(test)]
-mod tests;

@@ -7,6 +7,3 @@ pub use laws::{
     known_by_one, least_known, one_period_alone, periods_known, revoked_know_nothing,
     secrets_known, sets_opened, unrevoked_know_all, words_known,
 };
-
-#[cfg(test)]
-mod tests;

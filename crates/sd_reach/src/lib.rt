@@ -13,6 +13,3 @@ pub use laws::{
 pub use names::names_of;
 pub use opening::opens;
 pub use reaching::reaches;
-
-#[cfg(test)]
-mod tests;

@@ -9,6 +9,3 @@ pub use laws::{
     same_nodes_same_cover, sets_are_of_height,
 };
 pub use walk::{CoverFault, cover};
-
-#[cfg(test)]
-mod tests;

@@ -15,6 +15,3 @@ pub use cut::halves;
 pub use found::{Found, TraceFault};
 pub use target::TestBox;
 pub use tracing::trace_all;
-
-#[cfg(test)]
-mod tests;

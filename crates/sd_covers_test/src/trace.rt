@@ -1,0 +1,318 @@
+ghost use Rattle.std.specs.Prelude.{◌≡◌, ◌<◌, ◌≤◌, ℕ, IfSome};
+
+use crate::leaves::{
+    HEIGHT_1, HEIGHT_2, HEIGHT_3, are_ascending, are_of_height, covered, has_bit, marked,
+};
+use sd_trace::{CoalitionBox, TestBox, trace_all};
+use sd_tree::{Height, Leaf, MOST_REVOKED, SetName};
+use std::alloc::Global;
+use std::test::*;
+
+// The leaves of these numbers.
+fn leaves_of(alloc: Global, h: Height, numbers: &[u32]) -> Option<Vec<Leaf>> {
+    let mut leaves = Vec::new(alloc);
+    for number in numbers {
+        leaves.push(Leaf::new(h, *number)?).ok()?;
+    }
+    Some(leaves)
+}
+
+// The number, the trials and the splits of each leaf that is traced of a coalition where these leaves are revoked.
+fn traced(
+    alloc: Global,
+    height: u8,
+    revoked: &[u32],
+    coalition: &[u32],
+) -> Option<Vec<(u32, u32, u32)>> {
+    let h = Height::new(height)?;
+    let revoked = leaves_of(alloc, h, revoked)?;
+    let coalition = leaves_of(alloc, h, coalition)?;
+    if !are_of_height(h, &coalition)
+        || !are_of_height(h, &revoked)
+        || !are_ascending(&revoked)
+        || revoked.len() > MOST_REVOKED
+    {
+        return None;
+    }
+    let mut target = CoalitionBox::new(h, coalition);
+    let mut told = Vec::new(alloc);
+    for one in trace_all(alloc, h, &revoked, &mut target).ok()?.iter() {
+        told.push((one.leaf.get(), one.trials, one.splits)).ok()?;
+    }
+    Some(told)
+}
+
+#[test]
+fn coalitions_are_found(rt: HostRuntime) {
+    // The height, the revoked leaves, the coalition; of each leaf that is found its number, its trials and its splits.
+    let cases: [(u8, &[u32], &[u32], &[(u32, u32, u32)]); 4] = [
+        (3, &[0, 2], &[1, 6], &[(1, 3, 0), (6, 4, 2)]),
+        (3, &[0, 2], &[0], &[]),
+        (3, &[], &[6], &[(6, 4, 3)]),
+        (1, &[0, 1], &[0, 1], &[]),
+    ];
+    for (height, revoked, coalition, due) in cases {
+        let found = traced(rt.alloc(), height, revoked, coalition).expect(&rt, "a trace");
+        assert_eq!(rt; found.as_slice(), due, "{coalition:?} at height {height}");
+    }
+}
+
+// What is told of a small tree, read plainly off the leaves below each of its nodes.
+#[derive(Clone, Copy)]
+struct Plain {
+    height: Height,
+    below: [u32; 16],
+    coalition: u32,
+}
+
+impl Plain {
+    // The leaves below a node.
+    fn below(&self, v: u32) -> u32 {
+        self.below.get(v as usize).copied().unwrap_or(0)
+    }
+
+    // Whether a leaf of the coalition is in the set.
+    fn opens(&self, name: SetName) -> bool {
+        self.members(name) & self.coalition != 0
+    }
+
+    // The leaves of the set.
+    fn members(&self, name: SetName) -> u32 {
+        match name {
+            SetName::Whole => self.below(1),
+            SetName::Diff { i, j } => self.below(i) & !self.below(j),
+        }
+    }
+
+    // The halves of the set, or none where it has one leaf.
+    fn halves(&self, name: SetName) -> Option<(SetName, SetName)> {
+        let SetName::Diff { i, j } = name else {
+            return Some((SetName::Diff { i: 1, j: 2 }, SetName::Diff { i: 1, j: 3 }));
+        };
+        let mut child = j;
+        for _turn in 0..3 {
+            if child / 2 != i {
+                child /= 2;
+            }
+        }
+        if child != j {
+            return Some((SetName::Diff { i, j: child }, SetName::Diff { i: child, j }));
+        }
+        let x = j ^ 1;
+        if x >= 8 || self.below(2 * x) == 0 {
+            return None;
+        }
+        Some((
+            SetName::Diff { i: x, j: 2 * x },
+            SetName::Diff { i: x, j: 2 * x + 1 },
+        ))
+    }
+
+    // The leaf to which the set is cut down, and the number of cuts.
+    fn narrowed(&self, name: SetName) -> Option<(u32, u32)>
+        ensures { IfSome result (λ found. found.1 < 4) }
+    {
+        let mut part = name;
+        for cuts in 0..4 {
+            let Some((first, second)) = self.halves(part) else {
+                return Some((self.members(part).trailing_zeros(), cuts));
+            };
+            part = if self.opens(first) { first } else { second };
+        }
+        None
+    }
+
+    // The last of these sets that opens, and how often they are halved until it stands alone.
+    fn last_open(&self, sets: &[SetName]) -> Option<(SetName, u32)>
+        ensures { IfSome result (λ found. found.1 < 5) }
+    {
+        let mut part = sets;
+        for turns in 0..5 {
+            if part.len() == 1 {
+                return Some((part[0], turns));
+            }
+            let (first, second) = part.split_at(part.len() / 2);
+            part = if second.iter().any(|name| self.opens(*name)) {
+                second
+            } else {
+                first
+            };
+        }
+        None
+    }
+
+    // The cover where these leaves are gone.
+    fn sets(&self, alloc: Global, gone: u32) -> Option<Vec<SetName>> {
+        covered(alloc, self.height, &marked(alloc, self.height, gone)?)
+    }
+
+    // The number, the trials and the splits of each leaf that is found where these are revoked.
+    fn trace(&self, alloc: Global, revoked: u32) -> Option<Vec<(u32, u32, u32)>> {
+        let mut gone = revoked;
+        let mut found = Vec::new(alloc);
+        for _round in 0..9 {
+            let sets = self.sets(alloc, gone)?;
+            if !sets.iter().any(|name| self.opens(*name)) {
+                return Some(found);
+            }
+            let (name, turns) = self.last_open(&sets)?;
+            let (leaf, splits) = self.narrowed(name)?;
+            found.push((leaf, 1 + turns + splits, splits)).ok()?;
+            gone |= 1u32.checked_shl(leaf)?;
+        }
+        None
+    }
+}
+
+// The numbers of the bits that are set.
+fn bits_of(alloc: Global, bits: u32) -> Option<Vec<u32>> {
+    let mut numbers = Vec::new(alloc);
+    for u in 0..8 {
+        if has_bit(bits, u) {
+            numbers.push(u).ok()?;
+        }
+    }
+    Some(numbers)
+}
+
+// Whether each coalition is traced as it is read plainly, whichever leaves are revoked.
+fn agrees(alloc: Global, height: u8, below: [u32; 16]) -> Option<bool> {
+    for coalition in 0..=below[1] {
+        let plain = Plain {
+            height: Height::new(height)?,
+            below,
+            coalition,
+        };
+        let members = bits_of(alloc, coalition)?;
+        for revoked in 0..=below[1] {
+            let found = traced(alloc, height, &bits_of(alloc, revoked)?, &members)?;
+            if found != plain.trace(alloc, revoked)? {
+                return Some(false);
+            }
+        }
+    }
+    Some(true)
+}
+
+#[test]
+fn small_coalitions_are_traced_as_read(rt: HostRuntime) {
+    assert_eq!(rt; agrees(rt.alloc(), 1, HEIGHT_1), Some(true));
+    assert_eq!(rt; agrees(rt.alloc(), 2, HEIGHT_2), Some(true));
+    assert_eq!(rt; agrees(rt.alloc(), 3, HEIGHT_3), Some(true));
+}
+
+// A box that keeps how many sets it was asked for at each probe.
+#[derive(Drop)]
+struct CountingBox {
+    inner: CoalitionBox,
+    counts: Vec<usize>,
+}
+
+impl TestBox for CountingBox {
+    ghost use Rattle.std.specs.Prelude.{Some};
+
+    ghost height = { λ x. x.inner.height };
+
+    ghost coalition = { λ x. Some x.inner.leaves.items };
+
+    ghost asked = { λ x. x.inner.asked };
+
+    fn probe(&mut self, sets: &[SetName], right: &[bool]) -> bool {
+        let _kept = self.counts.push(sets.len());
+        self.inner.probe(sets, right)
+    }
+}
+
+#[test]
+fn all_sets_are_probed(rt: HostRuntime) -> Result<(), Fail> {
+    let alloc = rt.alloc();
+    let h = Height::new(3).ok_or("a height")?;
+    let revoked = leaves_of(alloc, h, &[0, 2]).ok_or("leaves")?;
+    let coalition = leaves_of(alloc, h, &[1, 6]).ok_or("leaves")?;
+    assert!(rt;
+        are_of_height(h, &coalition) && are_of_height(h, &revoked) && are_ascending(&revoked)
+    );
+    assert!(rt; revoked.len() <= MOST_REVOKED);
+    let mut target = CountingBox {
+        inner: CoalitionBox::new(h, coalition),
+        counts: Vec::new(alloc),
+    };
+    assert!(rt; trace_all(alloc, h, &revoked, &mut target).is_ok());
+    // Three sets and two halvings; two sets, one halving and two cuts; and two sets at the end.
+    assert_eq!(rt;
+        target.counts.as_slice(),
+        [3, 3, 3, 2, 2, 2, 2, 2].as_slice()
+    );
+    Ok(())
+}
+
+// A box that tells nothing and answers by the bits of a number, whatever it is asked.
+#[derive(Drop)]
+struct LyingBox {
+    height: Height,
+    answers: u32,
+    asked: u64,
+}
+
+impl TestBox for LyingBox {
+    ghost use Rattle.std.specs.Prelude.{None};
+
+    ghost height = { λ x. x.height };
+
+    ghost coalition = { λ x. None };
+
+    ghost asked = { λ x. x.asked };
+
+    fn probe(&mut self, _sets: &[SetName], _right: &[bool]) -> bool {
+        self.asked += 1;
+        self.answers = self.answers.rotate_right(1);
+        self.answers & 1 == 1
+    }
+}
+
+// Whether different leaves that aren't revoked are found by a box that lies, by as many probes as are told.
+fn bears_lies(alloc: Global, revoked: u32, answers: u32) -> Option<bool> {
+    let h = Height::new(3)?;
+    let leaves = marked(alloc, h, revoked)?;
+    if !are_of_height(h, &leaves) || !are_ascending(&leaves) || leaves.len() > MOST_REVOKED {
+        return None;
+    }
+    let mut target = LyingBox {
+        height: h,
+        answers,
+        asked: 0,
+    };
+    let mut gone = revoked;
+    let mut trials = 1u64;
+    for one in trace_all(alloc, h, &leaves, &mut target).ok()?.iter() {
+        let leaf = 1u32.checked_shl(one.leaf.get())?;
+        if one.leaf.get() >= 8 || gone & leaf != 0 || one.splits > 3 {
+            return Some(false);
+        }
+        gone |= leaf;
+        trials = trials.checked_add(u64::from(one.trials))?;
+    }
+    Some(trials == target.asked)
+}
+
+#[test]
+fn boxes_that_lie_are_borne(rt: HostRuntime) {
+    for answers in [
+        0,
+        u32::MAX,
+        0x5555_5555,
+        0xAAAA_AAAA,
+        0x0F0F_0F0F,
+        0x1234_5678,
+        0xDEAD_BEEF,
+        7,
+    ] {
+        for revoked in 0..256 {
+            assert_eq!(rt;
+                bears_lies(rt.alloc(), revoked, answers),
+                Some(true),
+                "{revoked} {answers}"
+            );
+        }
+    }
+}
