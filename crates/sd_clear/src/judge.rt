@@ -56,6 +56,7 @@ impl Clear {
     }
 
     /// Why the packet is refused, by the first rule that it breaks (docs/FORMATS.md, Broadcast).
+    #[tactic(auto, using(crate::proofs::Refusing::word_left, crate::proofs::Refusing::number_left))]
     pub fn refusal(&self, site: &Site, packet: &Packet) -> Option<ClearFault>
         ensures value { (before : List (List ℕ)) → IsAfter before self.now →
             result ≡ refusal_of (fields_of site.now) before packet.now }
@@ -112,6 +113,7 @@ impl Clear {
     }
 
     // Whether no number of a packet, or no control word of the site's, is left for the packet.
+    #[tactic(auto, unfolding(sd_broadcast::specs::Plan::word_of, sd_broadcast::specs::Plan::crypto_of))]
     fn is_at_end(&self, site: &Site) -> bool
         ensures { result ≡ is_too_long (fields_of site.now) self.now.count }
     {

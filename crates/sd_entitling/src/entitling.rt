@@ -3,6 +3,7 @@ ghost use Rattle.sd_tree.specs.declared.height.TheConstants.{HIGHEST};
 ghost use Rattle.sd_tree.specs.declared.leaf.TheConstants.{MOST_REVOKED};
 ghost use Rattle.sd_site.specs.Fields.{fields_of};
 ghost use Rattle.sd_book.specs.Commands.{last_period, revoked};
+ghost use Rattle.sd_book.specs.declared.limits.TheConstants.{MOST_PERIODS};
 ghost use Rattle.sd_book.specs.Place.{IsPlaceIn};
 ghost use Rattle.sd_steiner.specs.Cover.{cover_of};
 ghost use Rattle.sd_entitling.specs.Packets.{packets_of, period_of_sets};
@@ -71,46 +72,51 @@ impl Entitling {
     {
         let last = self.book.last_period();
         let q = site.first_period + (n / site.span).min(last.saturating_sub(site.first_period));
-        self.reach_period(site, q, n, steps)?;
+        self.reach_period(site, n, q, q.min(last), steps)?;
         self.crypto = CryptoPeriod::new(&site.master, q, site.first_word + n);
         Ok(())
     }
 
-    // Begins period q, that of crypto period n, unless it has begun.
+    // Begins period q, that of crypto period n, unless it has begun. The commands of the periods up to p decide it.
     fn reach_period<L: Ledger>(
         &mut self,
         site: &Site,
-        q: u32,
         n: u32,
+        q: u32,
+        p: u32,
         steps: &mut Steps<L>,
     ) -> Result<(), NoMemory>
         requires before { IsBefore (plan_of site.now self.old.book) n self.old }
         requires period { q ≡ period_in (plan_of site.now self.old.book) n }
+        requires decided { p ≡ min q (last_period self.old.book.commands) }
+        requires few { p ≤ MOST_PERIODS }
         ensures book { self.new.book ≡ self.old.book }
         ensures value { OnOk result (IsInPeriod (plan_of site.now self.old.book) q self.new) }
         ensures fault { OnErr result (begins_period (plan_of site.now self.old.book) n ≡ true) }
     {
-        if self.place.next_period() > q.min(self.book.last_period()) {
+        if self.place.next_period() > p {
             return Ok(());
         }
-        self.begin_period(site, q, steps)
+        self.begin_period(site, q, p, steps)
     }
 
-    // Begins period q: takes the commands of the periods up to it into the index, and makes the packets of its
+    // Begins period q: takes the commands of the periods up to p into the index, and makes the packets of the
     // entitlements.
     fn begin_period<L: Ledger>(
         &mut self,
         site: &Site,
         q: u32,
+        p: u32,
         steps: &mut Steps<L>,
     ) -> Result<(), NoMemory>
         requires before { HasBegun (plan_of site.now self.old.book) self.old.place.next self.old }
-        requires within { self.old.place.next ≤ min q (last_period self.old.book.commands) }
+        requires decided { p ≡ min q (last_period self.old.book.commands) }
+        requires few { p ≤ MOST_PERIODS }
+        requires within { self.old.place.next ≤ p }
         ensures book { self.new.book ≡ self.old.book }
         ensures value { OnOk result (IsInPeriod (plan_of site.now self.old.book) q self.new) }
     {
-        let last = q.min(self.book.last_period());
-        take_periods(&mut self.index, &mut self.place, &self.book, last, steps)?;
+        take_periods(&mut self.index, &mut self.place, &self.book, p, steps)?;
         pack_period(&mut self.emms, &self.index, site, q, steps)
     }
 
@@ -146,6 +152,7 @@ fn take_periods<L: Ledger>(
 ) -> Result<(), NoMemory>
     requires place { IsPlaceIn book.now.commands place.old }
     requires within { (place.old.next ≤ p) × (p ≤ last_period book.now.commands) }
+    requires few { p ≤ MOST_PERIODS }
     requires height { index.old.height ≡ book.now.height }
     ensures place { IsPlaceIn book.now.commands place.new }
     ensures height { index.new.height ≡ index.old.height }

@@ -8,6 +8,7 @@ use Rattle.sd_site.specs.Fields.{SiteFields, AreInRange}
 use Rattle.sd_site.specs.Forms.{NumberLine, BytesLine, bytes_after, number_on, bytes_on, number_or}
 use Rattle.sd_site.specs.Forms.{height_line, master_line, ca_line, emm_line, ecm_line, every_line, cryptos_line}
 use Rattle.sd_site.specs.Forms.{span_line, messages_line, first_word_line, last_word_line, first_period_line}
+use Rattle.sd_site.specs.declared.optional.Optional.{Optional}
 use Rattle.sd_site.specs.declared.fault.SiteFault.{SiteFault}
 use Rattle.sd_site.specs.declared.fault.SiteFault.TheVariants.{Line, Range, SamePid, Extra, Short}
 
@@ -65,6 +66,23 @@ abbrev pub bytes_at : ℕ → BytesLine → List (List ℕ) → Result (List ℕ
 bytes_at k form [] = Err Short
 bytes_at k form (line ∷ lines) = well_formed k (bytes_after form.word form.count line) >>= λ bytes. Ok (bytes, lines)
 
+-- what the lines after the eighth say, and the lines after those
+unfoldable pub optional_on : List (List ℕ) → Result (Optional × List (List ℕ)) SiteFault
+optional_on lines = do
+  messages ← optional_at 9 messages_line 1 lines
+  first_word ← optional_at 10 first_word_line 0 messages.1
+  last_word ← optional_at 11 last_word_line last_word_line.high first_word.1
+  first_period ← optional_at 12 first_period_line 0 last_word.1
+  Ok (
+    record {
+      messages = messages.0;
+      first_word = first_word.0;
+      last_word = last_word.0;
+      first_period = first_period.0;
+    },
+    first_period.1,
+  )
+
 -- what is judged once the lines are good: those after them, and the two PIDs
 abbrev pub judged_whole : List (List ℕ) → SiteFields → Result SiteFields SiteFault
 judged_whole (line ∷ lines) site = Err (Extra 13)
@@ -82,11 +100,8 @@ site_on lines = do
   every ← number_at 6 every_line ecm.1
   cryptos ← number_at 7 cryptos_line every.1
   span ← number_at 8 span_line cryptos.1
-  messages ← optional_at 9 messages_line 1 span.1
-  first_word ← optional_at 10 first_word_line 0 messages.1
-  last_word ← optional_at 11 last_word_line last_word_line.high first_word.1
-  first_period ← optional_at 12 first_period_line 0 last_word.1
-  judged_whole first_period.1 (record {
+  optional ← optional_on span.1
+  judged_whole optional.1 (record {
     height = height.0;
     master = master.0;
     ca = from_be_bytes w16 ca.0;
@@ -95,10 +110,10 @@ site_on lines = do
     every = every.0;
     cryptos = cryptos.0;
     span = span.0;
-    messages = messages.0;
-    first_word = first_word.0;
-    last_word = last_word.0;
-    first_period = first_period.0;
+    messages = optional.0.messages;
+    first_word = optional.0.first_word;
+    last_word = optional.0.last_word;
+    first_period = optional.0.first_period;
   })
 
 -- the same of a file's bytes

@@ -2,6 +2,7 @@
 #![tactic(auto)]
 
 mod fault;
+mod optional;
 mod reader;
 mod site;
 
