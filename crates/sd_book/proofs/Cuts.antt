@@ -1,11 +1,11 @@
-use Rattle.std.proofs.Common.{arith, ◌≡◌, ℕ, zero, suc, ◌+◌, ◌<◌, ◌≤◌, List, [], ◌∷◌, ◌++◌, true, refl, ap, take, drop}
+use Rattle.std.proofs.Common.{arith, ◌≡◌, ℕ, zero, suc, ◌+◌, ◌<◌, ◌≤◌, List, [], ◌∷◌, ◌++◌, true, refl, ap, sym, ◌∙◌, take, drop}
 use Rattle.std.specs.List.{All}
 use Rattle.std.proofs.lemmas.List.{take-append-drop}
 use Rattle.std.proofs.lemmas.List.Elements.{All-nil, All-cons, All-head, All-tail}
 use Rattle.std.proofs.lemmas.Grind.{common_steps}
 use Rattle.sd_book.specs.declared.command.Command.{Command}
 use Rattle.sd_book.specs.declared.command.Command.TheVariants.{Subscribe, Revoke, Period}
-use Rattle.sd_book.specs.Commands.{is_within, last_period, commands_until}
+use Rattle.sd_book.specs.Commands.{is_within, last_period, commands_until, revoked, revoked_after}
 
 -- a Subscribe begins no period
 pub period_subscribe : (u : ℕ) (commands : List Command) → last_period (Subscribe u ∷ commands) ≡ last_period commands
@@ -93,6 +93,12 @@ until_end (suc q) (Revoke u ∷ commands) h = ap (λ (r : List Command). Revoke 
     (until_end (suc q) commands (omega (arith, period_revoke u commands)))
 until_end (suc q) (Period ∷ commands) h = ap (λ (r : List Command). Period ∷ r)
     (until_end q commands (omega (arith, period_period commands)))
+
+-- a period above the last one has the revoked leaves of the last one
+pub revoked_past : (d q : ℕ) (commands : List Command) → last_period commands ≤ q →
+    revoked d commands q ≡ revoked d commands (last_period commands)
+revoked_past d q commands past = ap (revoked_after d)
+    (until_end q commands past ∙ sym (until_end (last_period commands) commands (omega arith)))
 
 -- a prefix has no more periods
 pub period_prefix : (i : ℕ) (commands : List Command) → last_period (take i commands) ≤ last_period commands

@@ -39,6 +39,13 @@ pub fn revoked_follow()
         after_command d (revoked_after d commands) command ≡ revoked_after d (commands ++ command ∷ []) }
 {}
 
+/// A period above the last one has the revoked leaves of the last one.
+#[tactic(auto, using(crate::proofs::Cuts::revoked_past))]
+pub fn later_periods_are_the_last()
+    ensures { (d q : ℕ) (commands : List Commands) → last_period commands ≤ q →
+        revoked d commands q ≡ revoked d commands (last_period commands) }
+{}
+
 /// A leaf of the tree is entitled in a period where the last command on it is no revoke, or there is none.
 #[tactic(auto, using(crate::proofs::Followed::entitled_is))]
 pub fn entitled_are_unrevoked()

@@ -8,7 +8,7 @@ use Rattle.sd_psi.specs.Rewriting.{rewritten, rewrite_fault}
 use Rattle.sd_scramble.specs.Scrambling.{scrambled}
 use Rattle.sd_scramble.specs.declared.payload.Parity.{Parity}
 use Rattle.sd_scramble.specs.declared.payload.Parity.TheVariants.{Even, Odd}
-use Rattle.sd_broadcast.specs.Plan.{crypto_of}
+use Rattle.sd_broadcast.specs.Plan.{word_of}
 use Rattle.sd_broadcast.specs.Kinds.{kind_of}
 use Rattle.sd_broadcast.specs.declared.kind.Kind.{Kind}
 use Rattle.sd_broadcast.specs.declared.kind.Kind.TheVariants.{Passed, Pmt, Scrambled}
@@ -25,7 +25,7 @@ place_after before packet = moved (pid_of packet) (position_of (pid_of packet) b
 unfoldable pub pmt_carried : SiteFields → List ℕ → List ℕ
 pmt_carried site packet = if is_none (rewrite_fault packet) then rewritten site.ca site.ecm packet else packet
 
--- the packet under the control word of crypto period t, at this position
+-- the packet under the control word of number t, at this position
 unfoldable pub veiled : SiteFields → ℕ → ℕ → List ℕ → List ℕ
 veiled site t position packet = scrambled packet (control_word_of site.master t) position (parity_of t)
 
@@ -34,7 +34,7 @@ abbrev pub carried_as : Kind → SiteFields → List (List ℕ) → List ℕ →
 carried_as Passed site before packet = packet
 carried_as Pmt site before packet = pmt_carried site packet
 carried_as Scrambled site before packet =
-    veiled site (crypto_of site (length before)) (place_after before packet) packet
+    veiled site (word_of site (length before)) (place_after before packet) packet
 
 -- what a packet becomes after these packets [this project, docs/FORMATS.md, Broadcast]
 unfoldable pub carried : SiteFields → List (List ℕ) → List ℕ → List ℕ

@@ -9,7 +9,7 @@ use Rattle.sd_emm.specs.Period.{Period}
 use Rattle.sd_emm.specs.declared.emm.Entry.{Entry}
 use Rattle.sd_ecm.specs.Parts.{Message}
 use Rattle.sd_ecm.specs.declared.part.Place.{Place}
-use Rattle.sd_broadcast.specs.Plan.{Plan, sets_at, crypto_of, period_of, since_of}
+use Rattle.sd_broadcast.specs.Plan.{Plan, sets_at, word_of, period_of, since_of}
 use Rattle.sd_broadcast.specs.Kinds.{moved_pids}
 
 -- a set of period q, and the period key under the set's key [this project, docs/FORMATS.md, Keys and labels]
@@ -35,13 +35,13 @@ message_at plan before a k closing = record {
   version = plan.site.messages;
   number = a;
   period = period_of plan k;
-  word = crypto_of plan.site k;
+  word = word_of plan.site k;
   clear = length before;
   since = since_of plan.site.messages plan.site.cryptos a;
   closing = closing;
   wrapped =
-      under (period_key_of plan.site.master (period_of plan k)) (crypto_of plan.site k)
-      (control_word_of plan.site.master (crypto_of plan.site k));
-  check = check_value_of (control_word_of plan.site.master (crypto_of plan.site k));
+      under (period_key_of plan.site.master (period_of plan k)) (word_of plan.site k)
+      (control_word_of plan.site.master (word_of plan.site k));
+  check = check_value_of (control_word_of plan.site.master (word_of plan.site k));
   places = places_after before;
 }

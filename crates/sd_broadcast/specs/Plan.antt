@@ -26,13 +26,27 @@ pub record IsPlan (plan : Plan) : Type 0 where
 abbrev pub crypto_length : SiteFields → ℕ
 crypto_length site = site.every * site.cryptos
 
--- the crypto period of packet k [this project, docs/FORMATS.md, Broadcast]
+-- the crypto period of packet k, counted from 0 in each broadcast [this project, docs/FORMATS.md, Broadcast]
 unfoldable pub crypto_of : SiteFields → ℕ → ℕ
 crypto_of site k = k / crypto_length site
 
--- the period of packet k: the last one goes on to the end [this project, docs/FORMATS.md, Broadcast]
+-- the number of the control word of crypto period n [this project, docs/FORMATS.md, Broadcast]
+abbrev pub word_in : SiteFields → ℕ → ℕ
+word_in site n = site.first_word + n
+
+-- the number of the control word of packet k [this project, docs/FORMATS.md, Broadcast]
+unfoldable pub word_of : SiteFields → ℕ → ℕ
+word_of site k = word_in site (crypto_of site k)
+
+-- the period of crypto period n: the site's first period, then the next with each span, up to the book's last, which
+-- goes on to the end; a first period after the book's last goes on to the end [this project, docs/FORMATS.md, Broadcast]
+unfoldable pub period_in : Plan → ℕ → ℕ
+period_in plan n =
+    plan.site.first_period + min (n / plan.site.span) (last_period plan.commands - plan.site.first_period)
+
+-- the period of packet k [this project, docs/FORMATS.md, Broadcast]
 unfoldable pub period_of : Plan → ℕ → ℕ
-period_of plan k = min (crypto_of plan.site k / plan.site.span) (last_period plan.commands)
+period_of plan k = period_in plan (crypto_of plan.site k)
 
 -- the first control message from which on all packets up to message b have one control word, in version 2; in version 1
 -- the one before

@@ -1,10 +1,11 @@
 -- Which clear packets are refused.
-use Rattle.std.specs.Prelude.{◌≡◌, ℕ, ◌-◌, ◌^◌, ◌==◌, ◌&&◌, ◌||◌, Bool, true, false, not, nat_le}
+use Rattle.std.specs.Prelude.{◌≡◌, ℕ, ◌-◌, ◌^◌, ◌==◌, ◌&&◌, ◌||◌, Bool, true, false, not, nat_le, nat_lt}
 use Rattle.std.specs.Prelude.{List, [], ◌∷◌, ◌++◌, length, is_none, if◌then◌else◌, Option, Some, None}
 use Rattle.std.specs.Option.{option_map_or}
 use Rattle.sd_packet.specs.Header.{pid_of, scrambling_of, has_payload}
 use Rattle.sd_packet.specs.Positions.{is_placed}
 use Rattle.sd_site.specs.Fields.{SiteFields}
+use Rattle.sd_broadcast.specs.Plan.{word_of}
 use Rattle.sd_psi.specs.declared.fault.FormFault.{FormFault}
 use Rattle.sd_psi.specs.declared.fault.FormFault.TheVariants as Form
 use Rattle.sd_psi.specs.Forms.{pat_fault}
@@ -45,6 +46,11 @@ abbrev pub is_one_too_many : List (List ℕ) → List ℕ → Bool
 is_one_too_many before packet =
     is_placed packet && (not (has_moved before (pid_of packet)) && nat_le 256 (length (moved_pids before)))
 
+-- no number of a packet, or no control word of the site's, is left for packet k [this project, docs/FORMATS.md,
+-- Broadcast]
+abbrev pub is_too_long : SiteFields → ℕ → Bool
+is_too_long site k = (k == 2 ^ 32 - 1) || nat_lt site.last_word (word_of site k)
+
 -- why a packet is refused after these packets, by the first rule that it breaks [this project, docs/FORMATS.md,
 -- Broadcast]
 unfoldable pub refusal_of : SiteFields → List (List ℕ) → List ℕ → Option ClearFault
@@ -54,7 +60,7 @@ refusal_of site before packet =
     (form_where (pat_wrong packet) (PatForm (length before))
     (fault_where (is_full_own site (kind_of before packet) packet) (PmtForm (length before) Form.NoRoom)
     (fault_where (is_one_too_many before packet) (TooManyPids (length before))
-    (fault_where (length before == 2 ^ 32 - 1) (TooLong (length before))
+    (fault_where (is_too_long site (length before)) (TooLong (length before))
     None)))))
 
 -- the first refusal among packets after others

@@ -1,7 +1,7 @@
 //! What the schedule of a broadcast and the packets before a packet come to.
 
-ghost use Rattle.std.specs.Prelude.{◌≡◌, ◌+◌, ◌-◌, ◌*◌, ◌/◌, ◌%◌, ◌<◌, ◌≤◌, ◌++◌, ◌∷◌, [], ℕ, List, Some, true, false};
-ghost use Rattle.std.specs.Prelude.{All, length, take};
+ghost use Rattle.std.specs.Prelude.{◌≡◌, ◌⊎◌, ◌+◌, ◌-◌, ◌*◌, ◌/◌, ◌%◌, ◌^◌, ◌<◌, ◌≤◌, ◌++◌, ◌∷◌, [], ℕ, List, Some};
+ghost use Rattle.std.specs.Prelude.{All, true, false, length, take};
 ghost use Rattle.std.specs.Prelude.{if◌then◌else◌};
 ghost use Rattle.std.specs.List.{concat};
 ghost use Rattle.sd_packet.specs.Header.{pid_of};
@@ -10,21 +10,26 @@ ghost use Rattle.sd_site.specs.Fields.{SiteFields, AreInRange};
 ghost use Rattle.sd_book.specs.Commands.{last_period};
 ghost use Rattle.sd_broadcast.specs.Sent.{Item, tables_at, added, sent, sent_from, closing_of, body, bytes_from};
 ghost use Rattle.sd_broadcast.specs.Items.{IsOfBroadcast};
-ghost use Rattle.sd_broadcast.specs.Plan.{Plan, crypto_length, crypto_of, period_of, since_of, closing_number};
+ghost use Rattle.sd_broadcast.specs.Plan.{Plan, IsPlan, crypto_length, crypto_of, word_of, period_of, since_of};
+ghost use Rattle.sd_broadcast.specs.Plan.{closing_number};
 ghost use Rattle.sd_broadcast.specs.Kinds.{is_current_pat, pat_in_force, has_moved, moved_pids, put_in};
 
-/// Crypto periods and periods never fall. The crypto period after one is the next, and its period the same or the next.
-/// The first packet is of period 0, and no packet of a period after the book's last.
-#[tactic(auto, using(crate::proofs::Schedule::cryptos_rise, crate::proofs::Schedule::periods_rise, crate::proofs::Schedule::cryptos_step, crate::proofs::Schedule::periods_step, crate::proofs::Schedule::period_of_first, crate::proofs::Schedule::period_within))]
+/// Crypto periods, the numbers of control words and periods never fall. The crypto period after one is the next, and
+/// its period the same or the next. The first packet is of the site's first period, and each packet of that one or of
+/// one up to the book's last. Periods have numbers of 4 bytes.
+#[tactic(auto, using(crate::proofs::Schedule::cryptos_rise, crate::proofs::Schedule::words_rise, crate::proofs::Schedule::periods_rise, crate::proofs::Schedule::cryptos_step, crate::proofs::Schedule::periods_step, crate::proofs::Schedule::period_of_first, crate::proofs::Schedule::period_within, crate::proofs::Schedule::period_short))]
 pub fn periods_never_fall()
     ensures cryptos { (site : SiteFields) (j k : ℕ) → AreInRange site → j ≤ k → crypto_of site j ≤ crypto_of site k }
+    ensures words { (site : SiteFields) (j k : ℕ) → AreInRange site → j ≤ k → word_of site j ≤ word_of site k }
     ensures periods { (plan : Plan) (j k : ℕ) → AreInRange plan.site → j ≤ k → period_of plan j ≤ period_of plan k }
     ensures next_crypto { (site : SiteFields) (k : ℕ) → AreInRange site →
         crypto_of site (k + crypto_length site) ≡ crypto_of site k + 1 }
     ensures next_period { (plan : Plan) (k : ℕ) → AreInRange plan.site →
         period_of plan (k + crypto_length plan.site) ≤ period_of plan k + 1 }
-    ensures first { (plan : Plan) → period_of plan 0 ≡ 0 }
-    ensures last { (plan : Plan) (k : ℕ) → period_of plan k ≤ last_period plan.commands }
+    ensures first { (plan : Plan) → period_of plan 0 ≡ plan.site.first_period }
+    ensures last { (plan : Plan) (k : ℕ) →
+        (period_of plan k ≡ plan.site.first_period) ⊎ (period_of plan k ≤ last_period plan.commands) }
+    ensures fits { (plan : Plan) (k : ℕ) → IsPlan plan → period_of plan k < 2 ^ 32 }
 {}
 
 /// A packet is of the crypto period and of the period with whose first packet its crypto period begins.
@@ -37,13 +42,16 @@ pub fn crypto_periods_begin()
 {}
 
 /// The number from which on a message's control word holds is below its own, in both versions, and all packets from
-/// that message on up to this one are of one crypto period.
-#[tactic(auto, using(crate::proofs::Schedule::since_is_below, crate::proofs::Schedule::same_word))]
+/// that message on up to this one are of one crypto period and have one control word.
+#[tactic(auto, using(crate::proofs::Schedule::since_is_below, crate::proofs::Schedule::same_crypto, crate::proofs::Schedule::same_word))]
 pub fn words_hold_since()
     ensures below { (version cryptos b : ℕ) → 0 < b → since_of version cryptos b < b }
     ensures same { (site : SiteFields) (version a b j : ℕ) → AreInRange site →
         since_of version site.cryptos b ≤ a → a < b → a * site.every ≤ j → j < b * site.every →
         crypto_of site j ≡ crypto_of site (a * site.every) }
+    ensures word { (site : SiteFields) (version a b j : ℕ) → AreInRange site →
+        since_of version site.cryptos b ≤ a → a < b → a * site.every ≤ j → j < b * site.every →
+        word_of site j ≡ word_of site (a * site.every) }
 {}
 
 /// The closing message has the number after those that stand before packets.

@@ -52,6 +52,9 @@ fn counted<L: Ledger>(
         cryptos: 2,
         span: 1,
         messages: 1,
+        first_word: 0,
+        last_word: 4_294_967_295,
+        first_period: 0,
     };
     let mut steps = Steps::<L>::new(blank);
     let card = Card::make(alloc, &site, leaf, &mut steps).ok()?;

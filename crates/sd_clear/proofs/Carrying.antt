@@ -6,7 +6,7 @@ use Rattle.sd_label.specs.Keys.{control_word_of}
 use Rattle.sd_site.specs.Fields.{SiteFields}
 use Rattle.sd_scramble.specs.Scrambling.{scrambled}
 use Rattle.sd_scramble.specs.declared.payload.Parity.{Parity}
-use Rattle.sd_broadcast.specs.Plan.{crypto_of}
+use Rattle.sd_broadcast.specs.Plan.{word_of}
 use Rattle.sd_broadcast.specs.Kinds.{kind_of}
 use Rattle.sd_broadcast.specs.Carried.{carried, carried_as, pmt_carried, veiled, place_after, parity_of}
 use Rattle.sd_broadcast.specs.declared.kind.Kind.{Kind}
@@ -49,12 +49,12 @@ veiled_is site packet word t n position parity is own even =
 pub carried_scrambled : (site : SiteFields) (before : List (List ℕ)) (packet positions word new : List ℕ)
     (n position : ℕ) (parity : Parity)
     → Scrambled ≡ kind_of before packet → is_placed packet ≡ true → ArePositions before positions
-    → n ≡ crypto_of site (length before) → word ≡ control_word_of site.master n
+    → n ≡ word_of site (length before) → word ≡ control_word_of site.master n
     → position ≡ advanced (get_or positions (pid_of packet) 0) (counter_of packet) → parity ≡ parity_of n
     → new ≡ scrambled packet word position parity → new ≡ carried site before packet
 carried_scrambled site before packet positions word new n position parity is placed are number own next even value =
     value
-    ∙ (veiled_is site packet word (crypto_of site (length before)) n position parity number own even
-    ∙ (ap (λ (x : ℕ). veiled site (crypto_of site (length before)) x packet)
+    ∙ (veiled_is site packet word (word_of site (length before)) n position parity number own even
+    ∙ (ap (λ (x : ℕ). veiled site (word_of site (length before)) x packet)
     (next ∙ place_is before packet positions placed are)
     ∙ by_kind Scrambled site before packet is))

@@ -1,12 +1,14 @@
 -- Refusals by the tests in their order.
-use Rattle.std.proofs.Common.{◌≡◌, ℕ, ◌-◌, ◌^◌, ◌==◌, true, false, List, length, refl, ap, ◌∙◌}
+use Rattle.std.proofs.Common.{◌≡◌, ℕ, ◌-◌, ◌^◌, ◌<◌, ◌≤◌, ◌==◌, true, false, List, length, refl, ap, ◌∙◌, arith}
+use Rattle.std.proofs.lemmas.Bool.Decides.{nat_tests}
 use Rattle.std.specs.Prelude.{Some, None}
 use Rattle.sd_packet.specs.Header.{pid_of, scrambling_of}
 use Rattle.sd_site.specs.Fields.{SiteFields}
 use Rattle.sd_psi.specs.declared.fault.FormFault.{FormFault}
 use Rattle.sd_psi.specs.declared.fault.FormFault.TheVariants as Form
 use Rattle.sd_broadcast.specs.Kinds.{kind_of}
-use Rattle.sd_broadcast.specs.Refused.{refusal_of, is_taken, pat_wrong, is_full_own, is_one_too_many}
+use Rattle.sd_broadcast.specs.Plan.{word_of}
+use Rattle.sd_broadcast.specs.Refused.{refusal_of, is_taken, pat_wrong, is_full_own, is_one_too_many, is_too_long}
 use Rattle.sd_broadcast.specs.declared.fault.ClearFault.TheVariants.{AlreadyScrambled, PidTaken, PatForm, PmtForm}
 use Rattle.sd_broadcast.specs.declared.fault.ClearFault.TheVariants.{TooManyPids, TooLong}
 
@@ -50,7 +52,7 @@ many_refused site before packet n is clear free pat full many =
 pub long_refused : (site : SiteFields) (before : List (List ℕ)) (packet : List ℕ) (n : ℕ) → n ≡ length before
     → (scrambling_of packet == 0) ≡ true → is_taken site (pid_of packet) ≡ false → pat_wrong packet ≡ None
     → is_full_own site (kind_of before packet) packet ≡ false → is_one_too_many before packet ≡ false
-    → (length before == 2 ^ 32 - 1) ≡ true → Some (TooLong n) ≡ refusal_of site before packet
+    → is_too_long site (length before) ≡ true → Some (TooLong n) ≡ refusal_of site before packet
 unfolding refusal_of
 long_refused site before packet n is clear free pat full many long =
     rw clear (rw free (rw pat (rw full (rw many (rw long (ap (λ (k : ℕ). Some (TooLong k)) is))))))
@@ -58,7 +60,15 @@ long_refused site before packet n is clear free pat full many long =
 pub none_refused : (site : SiteFields) (before : List (List ℕ)) (packet : List ℕ)
     → (scrambling_of packet == 0) ≡ true → is_taken site (pid_of packet) ≡ false → pat_wrong packet ≡ None
     → is_full_own site (kind_of before packet) packet ≡ false → is_one_too_many before packet ≡ false
-    → (length before == 2 ^ 32 - 1) ≡ false → None ≡ refusal_of site before packet
+    → is_too_long site (length before) ≡ false → None ≡ refusal_of site before packet
 unfolding refusal_of
 none_refused site before packet clear free pat full many long =
     rw clear (rw free (rw pat (rw full (rw many (rw long refl)))))
+
+-- a packet that isn't too long has a control word of the site's
+pub word_left : (site : SiteFields) (k : ℕ) → is_too_long site k ≡ false → word_of site k ≤ site.last_word
+word_left site k short = grind (arith, nat_tests, short)
+
+-- and it has a number
+pub number_left : (site : SiteFields) (k : ℕ) → k < 2 ^ 32 → is_too_long site k ≡ false → k < 2 ^ 32 - 1
+number_left site k small short = grind (arith, nat_tests, small, short)

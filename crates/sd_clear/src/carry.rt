@@ -4,7 +4,7 @@ ghost use Rattle.sd_packet.specs.Positions.{is_placed, is_positional, advanced};
 ghost use Rattle.sd_label.specs.Keys.{control_word_of};
 ghost use Rattle.sd_site.specs.Fields.{fields_of};
 ghost use Rattle.sd_scramble.specs.Scrambling.{scrambled};
-ghost use Rattle.sd_broadcast.specs.Plan.{crypto_of};
+ghost use Rattle.sd_broadcast.specs.Plan.{word_of};
 ghost use Rattle.sd_broadcast.specs.Carried.{carried, pmt_carried, parity_of};
 ghost use Rattle.sd_clear.specs.After.{IsAfter, MayFollow};
 
@@ -16,12 +16,12 @@ use sd_scramble::{Parity, scramble};
 use sd_site::Site;
 
 impl Clear {
-    /// What the packet becomes in the crypto period of this number, whose control word this is (docs/FORMATS.md,
+    /// What the packet becomes in the crypto period whose control word has this number and is this (docs/FORMATS.md,
     /// Broadcast).
     pub fn carry(&self, site: &Site, packet: &Packet, number: u32, word: &[u8; 32]) -> Packet
         requires { MayFollow self.now packet.now }
         ensures { (before : List (List ℕ)) → IsAfter before self.now →
-            number ≡ crypto_of (fields_of site.now) (length before) →
+            number ≡ word_of (fields_of site.now) (length before) →
             word.now ≡ control_word_of site.now.master number →
             result ≡ carried (fields_of site.now) before packet.now }
     {

@@ -1,12 +1,13 @@
-ghost use Rattle.std.specs.Prelude.{◌≡◌, ◌≢◌, ◌-◌, ◌^◌, ◌<◌, ◌==◌, ◌&&◌, ℕ, List, true, false, IsNone, nat_le};
+ghost use Rattle.std.specs.Prelude.{◌≡◌, ◌≢◌, ◌<◌, ◌≤◌, ◌==◌, ◌&&◌, ℕ, List, true, false, IsNone, nat_le};
 ghost use Rattle.std.specs.Prelude.{length, get_or, slice_index};
 ghost use Rattle.sd_packet.specs.Header.{pid_of, payload_start_of};
 ghost use Rattle.sd_packet.specs.Positions.{is_placed, first_position};
 ghost use Rattle.sd_site.specs.Fields.{fields_of};
+ghost use Rattle.sd_broadcast.specs.Plan.{word_of};
 ghost use Rattle.sd_broadcast.specs.Kinds.{kind_of};
 ghost use Rattle.sd_broadcast.specs.declared.kind.Kind.TheVariants.{Passed, Pmt};
 ghost use Rattle.sd_broadcast.specs.Refused.{refusal_of, is_taken as is_taken_pid, pat_wrong, is_full_own};
-ghost use Rattle.sd_broadcast.specs.Refused.{is_one_too_many};
+ghost use Rattle.sd_broadcast.specs.Refused.{is_one_too_many, is_too_long};
 ghost use Rattle.sd_clear.specs.After.{IsAfter, MayFollow};
 
 use crate::clear::{Clear, FIRST_POSITION};
@@ -55,10 +56,12 @@ impl Clear {
     }
 
     /// Why the packet is refused, by the first rule that it breaks (docs/FORMATS.md, Broadcast).
+    #[tactic(auto, using(crate::proofs::Refusing::word_left, crate::proofs::Refusing::number_left))]
     pub fn refusal(&self, site: &Site, packet: &Packet) -> Option<ClearFault>
         ensures value { (before : List (List ℕ)) → IsAfter before self.now →
             result ≡ refusal_of (fields_of site.now) before packet.now }
         ensures follows { IsNone result → MayFollow self.now packet.now }
+        ensures word { IsNone result → word_of (fields_of site.now) self.now.count ≤ site.now.last_word }
     {
         let number = u64::from(self.count);
         let pid = packet.pid();
@@ -77,7 +80,7 @@ impl Clear {
         if self.is_one_too_many(packet) {
             return Some(ClearFault::TooManyPids(number));
         }
-        if self.is_at_end() {
+        if self.is_at_end(site) {
             return Some(ClearFault::TooLong(number));
         }
         None
@@ -109,11 +112,14 @@ impl Clear {
         self.pids.len() >= MOST_PLACES
     }
 
-    // Whether as many packets were taken as may be.
-    fn is_at_end(&self) -> bool
-        ensures { result ≡ (self.now.count == 2 ^ 32 - 1) }
+    // Whether no number of a packet, or no control word of the site's, is left for the packet.
+    #[tactic(auto, unfolding(sd_broadcast::specs::Plan::word_of, sd_broadcast::specs::Plan::crypto_of))]
+    fn is_at_end(&self, site: &Site) -> bool
+        ensures { result ≡ is_too_long (fields_of site.now) self.now.count }
     {
-        self.count == u32::MAX
+        let word =
+            u64::from(site.first_word) + u64::from(self.count / (site.every * site.cryptos));
+        self.count == u32::MAX || word > u64::from(site.last_word)
     }
 
     // Whether the packet is the first that moves its PID's position.

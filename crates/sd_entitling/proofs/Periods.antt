@@ -1,10 +1,13 @@
 -- Which period comes with a crypto period.
 use Rattle.std.proofs.Common.{◌≡◌, ℕ, zero, suc, ◌+◌, ◌-◌, ◌/◌, ◌<◌, ◌≤◌, min, true}
-use Rattle.std.proofs.Common.{refl, ap, sym, subst, ◌∙◌, arith}
+use Rattle.std.proofs.Common.{refl, ap, sym, subst, ◌∙◌, inl, inr, arith}
+use Rattle.std.proofs.lemmas.Bool.{cases_lt}
 use Rattle.std.proofs.lemmas.Grind.{common_steps}
 use Rattle.std.specs.Prelude.{List, Result, Ok, Err, OnErr}
 use Rattle.sd_tree.specs.declared.set.SetName.{SetName}
 use Rattle.sd_book.specs.Commands.{last_period, revoked}
+use Rattle.sd_book.proofs.Cuts.{revoked_past}
+use Rattle.sd_book.specs.declared.command.Command.{Command}
 use Rattle.sd_book.specs.Place.{PlaceValue, IsPlaceIn}
 use Rattle.sd_book.specs.Value.{BookValue}
 use Rattle.sd_steiner.specs.Cover.{cover_of}
@@ -12,9 +15,9 @@ use Rattle.sd_cover.specs.Index.{IndexValue}
 use Rattle.sd_broadcast.specs.Messages.{period_at}
 use Rattle.sd_entitling.specs.Crypto.{crypto_in}
 use Rattle.sd_entitling.specs.Packets.{packets_of, period_of_sets}
-use Rattle.sd_broadcast.specs.Plan.{Plan, IsPlan, sets_at}
-use Rattle.sd_broadcast.proofs.Schedule.{quotients_rise, quotients_step}
-use Rattle.sd_entitling.specs.Kept.{period_in, begins_period, HasBegun, IsInPeriod, IsOf, IsBefore}
+use Rattle.sd_broadcast.specs.Plan.{Plan, IsPlan, sets_at, word_in, period_in}
+use Rattle.sd_broadcast.proofs.Schedule.{periods_in_rise, period_in_first, period_in_within}
+use Rattle.sd_entitling.specs.Kept.{begins_period, HasBegun, IsInPeriod, IsOf, IsBefore}
 use Rattle.sd_entitling.specs.declared.entitling.Entitling.{Entitling}
 
 -- what holds at all events holds after an error
@@ -22,80 +25,97 @@ pub on_err_always : {T E P : Type 0} (result : Result T E) → P → OnErr resul
 on_err_always (Ok x) p = tt
 on_err_always (Err e) p = p
 
--- periods never fall, and rise by one at most
-rises : (plan : Plan) (t : ℕ) → IsPlan plan → period_in plan t ≤ period_in plan (suc t)
-unfolding period_in
-rises plan t p =
-    let up = quotients_rise plan.site.span t (suc t) (omega (arith, p.site.span.0)) (omega arith) in omega (arith, up)
+-- no crypto period is of a period before the site's first
+from_first : (plan : Plan) (n : ℕ) → IsPlan plan → plan.site.first_period ≤ period_in plan n
+from_first plan n p = omega (arith, period_in_first plan, periods_in_rise plan 0 n p.site (omega arith))
 
-step : (plan : Plan) (t : ℕ) → IsPlan plan → period_in plan (suc t) ≤ period_in plan t + 1
-unfolding period_in
-step plan t p =
-    let one : suc t ≡ t + 1 = omega arith in
-    let up = quotients_step plan.site.span t (omega (arith, p.site.span.0)) in rw one (omega (arith, up))
+rises : (plan : Plan) (n : ℕ) → IsPlan plan → period_in plan n ≤ period_in plan (suc n)
+rises plan n p = periods_in_rise plan n (suc n) p.site (omega arith)
 
-first : (plan : Plan) → IsPlan plan → period_in plan 0 ≡ 0
-unfolding period_in
-first plan p = omega arith
+-- where the next crypto period's period has no commands to take, it is the same
+held : (plan : Plan) (n : ℕ) → IsPlan plan →
+    min (period_in plan (suc n)) (last_period plan.commands) ≤ min (period_in plan n) (last_period plan.commands) →
+    period_in plan n ≡ period_in plan (suc n)
+held plan n p same =
+    elim (period_in_within plan (suc n)) [
+      | inl first ↦ omega (arith, first, from_first plan n p, rises plan n p)
+      | inr below ↦ omega (arith, below, same, rises plan n p)
+    ]
 
--- a period is one of the book
-pub period_within : (plan : Plan) (t : ℕ) → period_in plan t ≤ last_period plan.commands
-unfolding period_in
-period_within plan t = omega arith
-
--- where the period that comes next is above that of crypto period t, that is at work
-pub still_at_work : (plan : Plan) (t : ℕ) (state : Entitling) → IsBefore plan t state →
-    period_in plan t < state.place.next →
-    IsInPeriod plan (period_in plan t) state
-still_at_work plan zero state is above = absurd (omega (arith, is.next, above))
-still_at_work plan (suc t) state is above =
-    let up = rises plan t is.period.begun.is_plan in
-    let same : period_in plan t ≡ period_in plan (suc t) = omega (arith, up, above, is.period.begun.next) in
+-- where all commands up to those of crypto period n's period are taken, that period is at work
+pub still_at_work : (plan : Plan) (n p : ℕ) (state : Entitling) → IsBefore plan n state →
+    p ≡ min (period_in plan n) (last_period plan.commands) → p < state.place.next →
+    IsInPeriod plan (period_in plan n) state
+still_at_work plan zero p state is decides above = absurd (omega (arith, is.next, above))
+still_at_work plan (suc n) p state is decides above =
+    let same = held plan n is.period.begun.is_plan (omega (arith, above, decides, is.period.begun.next)) in
     subst (λ (q : ℕ). IsInPeriod plan q state) same is.period
 
--- and where it isn't, it is that of crypto period t
-pub begins_now : (plan : Plan) (t : ℕ) (state : Entitling) → IsBefore plan t state →
-    state.place.next ≤ period_in plan t →
-    HasBegun plan (period_in plan t) state
-begins_now plan zero state is below = subst (λ (q : ℕ). HasBegun plan q state) (sym (first plan is.is_plan)) is
-begins_now plan (suc t) state is below =
-    let most = step plan t is.period.begun.is_plan in
-    let same : period_in plan t + 1 ≡ period_in plan (suc t) = omega (arith, most, below, is.period.begun.next) in
+-- and where some are not, just the periods before the one that comes next have begun
+pub begins_now : (plan : Plan) (n p : ℕ) (state : Entitling) → IsBefore plan n state →
+    p ≡ min (period_in plan n) (last_period plan.commands) → state.place.next ≤ p →
+    HasBegun plan state.place.next state
+begins_now plan zero p state is decides below =
+    let none : 0 ≡ state.place.next = omega (arith, is.next) in
+    subst (λ (q : ℕ). HasBegun plan q state) none is
+begins_now plan (suc n) p state is decides below =
+    let same : period_in plan n + 1 ≡ state.place.next = omega (arith, below, decides, is.period.begun.next) in
     subst (λ (q : ℕ). HasBegun plan q state) same is.period.begun
 
-pub begun_is : (plan : Plan) (t : ℕ) (state : Entitling) → IsBefore plan t state → state.place.next ≤ period_in plan t →
-    begins_period plan t ≡ true
+-- and a period begins with crypto period n
+pub begun_is : (plan : Plan) (n p : ℕ) (state : Entitling) → IsBefore plan n state →
+    p ≡ min (period_in plan n) (last_period plan.commands) → state.place.next ≤ p →
+    begins_period plan n ≡ true
 unfolding begins_period
-begun_is plan zero state is below = refl
-begun_is plan (suc t) state is below =
-    let most = step plan t is.period.begun.is_plan in
-    let less : period_in plan t < period_in plan (suc t) = omega (arith, below, is.period.begun.next) in
-    let back : suc t - 1 ≡ t = omega arith in
+begun_is plan zero p state is decides below = refl
+begun_is plan (suc n) p state is decides below =
+    let less : period_in plan n < period_in plan (suc n) = omega (arith, below, decides, is.period.begun.next) in
+    let back : suc n - 1 ≡ n = omega arith in
     rw back (grind (arith, common_steps))
 
 -- the period that a head end comes to
-pub period_is : (plan : Plan) (t q last : ℕ) → q ≡ min (t / plan.site.span) last → last ≡ last_period plan.commands →
-    q ≡ period_in plan t
+pub period_is : (plan : Plan) (n few most last : ℕ) → few ≡ min (n / plan.site.span) most →
+    most ≡ last - plan.site.first_period → last ≡ last_period plan.commands →
+    plan.site.first_period + few ≡ period_in plan n
 unfolding period_in
-period_is plan t q last is of_book = is ∙ ap (λ (n : ℕ). min (t / plan.site.span) n) of_book
+period_is plan n few most last is up of_book =
+    ap (λ (x : ℕ). plan.site.first_period + x) (is ∙ (ap (min (n / plan.site.span)) up
+    ∙ ap (λ (x : ℕ). min (n / plan.site.span) (x - plan.site.first_period)) of_book))
+
+-- the last commands that decide a period are those of the book's last, where it is after that
+pub revoked_min : (d q : ℕ) (commands : List Command) →
+    revoked d commands (min q (last_period commands)) ≡ revoked d commands q
+revoked_min d q commands =
+    elim (cases_lt q (last_period commands)) [
+      | inl below ↦
+          let same : min q (last_period commands) ≡ q = omega (arith, below) in
+          ap (revoked d commands) same
+      | inr past ↦
+          let same : min q (last_period commands) ≡ last_period commands = omega (arith, past) in
+          ap (revoked d commands) same ∙ sym (revoked_past d q commands past)
+    ]
 
 -- a period that has begun
-pub in_period : (plan : Plan) (q : ℕ) (old new : Entitling) → HasBegun plan q old → new.book ≡ old.book →
-    IsPlaceIn plan.commands new.place → new.place.next ≡ old.place.next + 1 → new.index.height ≡ old.index.height →
-    new.index.revoked ≡ revoked plan.site.height plan.commands q →
+pub in_period : (plan : Plan) (begun p q : ℕ) (old new : Entitling) → HasBegun plan begun old →
+    p ≡ min q (last_period plan.commands) → new.book ≡ old.book →
+    IsPlaceIn plan.commands new.place → new.place.next ≡ p + 1 →
+    new.index.height ≡ old.index.height →
+    new.index.revoked ≡ revoked plan.site.height plan.commands p →
     new.emms.items ≡ packets_of plan.site.emm
     (period_of_sets plan.site q (cover_of new.index.height new.index.revoked)) →
     IsInPeriod plan q new
 unfolding period_at period_of_sets sets_at
-in_period plan q old new was same place next height revoked_are emms =
+in_period plan begun p q old new was decides same place next height decided emms =
     let one : q + 1 ≡ suc q = omega arith in
+    let revoked_are = decided ∙ (ap (revoked plan.site.height plan.commands) decides
+    ∙ revoked_min plan.site.height q plan.commands) in
     record {
       begun = rw one (record {
         is_plan = was.is_plan;
         commands = ap (λ (book : BookValue). book.commands) same ∙ was.commands;
         of_height = ap (λ (book : BookValue). book.height) same ∙ was.of_height;
         place = place;
-        next = omega (arith, next, was.next);
+        next = omega (arith, next, decides);
         height = height ∙ was.height;
         revoked_are = revoked_are;
       });
@@ -104,10 +124,10 @@ in_period plan q old new was same place next height revoked_are emms =
     }
 
 -- a crypto period that has begun
-pub at_work : (plan : Plan) (t q : ℕ) (old new : Entitling) → IsInPeriod plan q old → q ≡ period_in plan t →
+pub at_work : (plan : Plan) (n q : ℕ) (old new : Entitling) → IsInPeriod plan q old → q ≡ period_in plan n →
     new.book ≡ old.book → new.place ≡ old.place → new.index ≡ old.index → new.emms.items ≡ old.emms.items →
-    new.crypto ≡ crypto_in plan.site.master q t → IsOf plan t new
-at_work plan t q old new was period book place index emms crypto = record {
+    new.crypto ≡ crypto_in plan.site.master q (word_in plan.site n) → IsOf plan n new
+at_work plan n q old new was period book place index emms crypto = record {
   period = subst (λ (p : ℕ). IsInPeriod plan p new) period (record {
     begun = record {
       is_plan = was.begun.is_plan;
@@ -120,5 +140,5 @@ at_work plan t q old new was period book place index emms crypto = record {
     };
     emms = emms ∙ was.emms;
   });
-  crypto = crypto ∙ ap (λ (p : ℕ). crypto_in plan.site.master p t) period;
+  crypto = crypto ∙ ap (λ (p : ℕ). crypto_in plan.site.master p (word_in plan.site n)) period;
 }

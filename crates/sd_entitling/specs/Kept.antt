@@ -1,12 +1,12 @@
 -- What is kept of the period and the crypto period at work.
-use Rattle.std.specs.Prelude.{◌≡◌, ℕ, zero, suc, ◌+◌, ◌-◌, ◌/◌, ◌==◌, ◌||◌, not, Bool, min, List, []}
+use Rattle.std.specs.Prelude.{◌≡◌, ℕ, zero, suc, ◌+◌, ◌-◌, ◌==◌, ◌||◌, not, Bool, min, List, []}
 use Rattle.sd_site.specs.declared.site.Site.{Site}
 use Rattle.sd_site.specs.Fields.{fields_of}
 use Rattle.sd_book.specs.Value.{BookValue}
 use Rattle.sd_book.specs.declared.command.Command.{Command}
 use Rattle.sd_book.specs.Commands.{last_period, revoked}
 use Rattle.sd_book.specs.Place.{IsPlaceIn}
-use Rattle.sd_broadcast.specs.Plan.{Plan, IsPlan}
+use Rattle.sd_broadcast.specs.Plan.{Plan, IsPlan, word_in, period_in}
 use Rattle.sd_broadcast.specs.Messages.{period_at}
 use Rattle.sd_entitling.specs.Crypto.{crypto_in}
 use Rattle.sd_entitling.specs.Packets.{packets_of}
@@ -16,26 +16,22 @@ use Rattle.sd_entitling.specs.declared.entitling.Entitling.{Entitling}
 abbrev pub plan_of : Site → BookValue → Plan
 plan_of site book = record { site = fields_of site; commands = book.commands }
 
--- the period of crypto period t: the last one goes on to the end [this project, docs/FORMATS.md, Broadcast]
-unfoldable pub period_in : Plan → ℕ → ℕ
-period_in plan t = min (t / plan.site.span) (last_period plan.commands)
-
--- a period begins with crypto period t
+-- a period begins with crypto period n
 unfoldable pub begins_period : Plan → ℕ → Bool
-begins_period plan t = (t == 0) || not (period_in plan (t - 1) == period_in plan t)
+begins_period plan n = (n == 0) || not (period_in plan (n - 1) == period_in plan n)
 
 -- the leaves that are revoked in the period before q; none before the first
 abbrev pub revoked_before : ℕ → List Command → ℕ → List ℕ
 revoked_before d commands zero = []
 revoked_before d commands (suc q) = revoked d commands q
 
--- the commands of the first periods, so many of them, are taken
+-- the commands of the first periods, so many of them or all that the book has, are taken
 pub record HasBegun (plan : Plan) (periods : ℕ) (state : Entitling) : Type 0 where
   pub is_plan : IsPlan plan
   pub commands : state.book.commands ≡ plan.commands
   pub of_height : state.book.height ≡ plan.site.height
   pub place : IsPlaceIn plan.commands state.place
-  pub next : state.place.next ≡ periods
+  pub next : state.place.next ≡ min periods (last_period plan.commands + 1)
   pub height : state.index.height ≡ plan.site.height
   pub revoked_are : state.index.revoked ≡ revoked_before plan.site.height plan.commands periods
 
@@ -48,12 +44,12 @@ pub record IsInPeriod (plan : Plan) (q : ℕ) (state : Entitling) : Type 0 where
   pub begun : HasBegun plan (q + 1) state
   pub emms : state.emms.items ≡ packets_of plan.site.emm (period_at plan q)
 
--- crypto period t is at work
-pub record IsOf (plan : Plan) (t : ℕ) (state : Entitling) : Type 0 where
-  pub period : IsInPeriod plan (period_in plan t) state
-  pub crypto : state.crypto ≡ crypto_in plan.site.master (period_in plan t) t
+-- crypto period n is at work
+pub record IsOf (plan : Plan) (n : ℕ) (state : Entitling) : Type 0 where
+  pub period : IsInPeriod plan (period_in plan n) state
+  pub crypto : state.crypto ≡ crypto_in plan.site.master (period_in plan n) (word_in plan.site n)
 
--- crypto period t is the next to begin
+-- crypto period n is the next to begin
 abbrev pub IsBefore : Plan → ℕ → Entitling → Type 0
 IsBefore plan zero state = IsNew plan state
-IsBefore plan (suc t) state = IsOf plan t state
+IsBefore plan (suc n) state = IsOf plan n state

@@ -20,7 +20,7 @@ pub struct CryptoPeriod {
 }
 
 impl CryptoPeriod {
-    /// Crypto period t, which is of period q.
+    /// The crypto period of control word t, which is of period q.
     #[tactic(auto, unfolding(crate::specs::Crypto::crypto_in))]
     pub fn new(master: &[u8; 32], q: u32, t: u32) -> CryptoPeriod
         ensures { result ≡ crypto_in master.now q t }

@@ -1,12 +1,14 @@
-ghost use Rattle.std.specs.Prelude.{◌≡◌, ◌+◌, ◌≤◌, true, OnOk, OnErr, length};
+ghost use Rattle.std.specs.Prelude.{◌≡◌, ◌+◌, ◌^◌, ◌<◌, ◌≤◌, min, true, OnOk, OnErr, length};
 ghost use Rattle.sd_tree.specs.declared.height.TheConstants.{HIGHEST};
 ghost use Rattle.sd_tree.specs.declared.leaf.TheConstants.{MOST_REVOKED};
 ghost use Rattle.sd_site.specs.Fields.{fields_of};
 ghost use Rattle.sd_book.specs.Commands.{last_period, revoked};
+ghost use Rattle.sd_book.specs.declared.limits.TheConstants.{MOST_PERIODS};
 ghost use Rattle.sd_book.specs.Place.{IsPlaceIn};
 ghost use Rattle.sd_steiner.specs.Cover.{cover_of};
 ghost use Rattle.sd_entitling.specs.Packets.{packets_of, period_of_sets};
-ghost use Rattle.sd_entitling.specs.Kept.{plan_of, period_in, begins_period, revoked_before, HasBegun, IsNew};
+ghost use Rattle.sd_broadcast.specs.Plan.{period_in};
+ghost use Rattle.sd_entitling.specs.Kept.{plan_of, begins_period, revoked_before, HasBegun, IsNew};
 ghost use Rattle.sd_entitling.specs.Kept.{IsInPeriod, IsOf, IsBefore};
 
 use crate::crypto::CryptoPeriod;
@@ -54,58 +56,67 @@ impl Entitling {
         }
     }
 
-    /// Begins crypto period t, after those before it. Only where a period begins with it does it take memory, and after
-    /// `NoMemory` nothing more can begin.
+    /// Begins crypto period n, counted from 0 in each broadcast, after those before it. Only where a period begins with
+    /// it does it take memory, and after `NoMemory` nothing more can begin.
     pub fn begin<L: Ledger>(
         &mut self,
         site: &Site,
-        t: u32,
+        n: u32,
         steps: &mut Steps<L>,
     ) -> Result<(), NoMemory>
-        requires { IsBefore (plan_of site.now self.old.book) t self.old }
+        requires before { IsBefore (plan_of site.now self.old.book) n self.old }
+        requires fits { site.now.first_word + n < 2 ^ 32 }
         ensures book { self.new.book ≡ self.old.book }
-        ensures value { OnOk result (IsOf (plan_of site.now self.old.book) t self.new) }
-        ensures fault { OnErr result (begins_period (plan_of site.now self.old.book) t ≡ true) }
+        ensures value { OnOk result (IsOf (plan_of site.now self.old.book) n self.new) }
+        ensures fault { OnErr result (begins_period (plan_of site.now self.old.book) n ≡ true) }
     {
-        let q = (t / site.span).min(self.book.last_period());
-        self.reach_period(site, q, t, steps)?;
-        self.crypto = CryptoPeriod::new(&site.master, q, t);
+        let last = self.book.last_period();
+        let q = site.first_period + (n / site.span).min(last.saturating_sub(site.first_period));
+        self.reach_period(site, n, q, q.min(last), steps)?;
+        self.crypto = CryptoPeriod::new(&site.master, q, site.first_word + n);
         Ok(())
     }
 
-    // Begins period q, that of crypto period t, unless it has begun.
+    // Begins period q, that of crypto period n, unless it has begun. The commands of the periods up to p decide it.
     fn reach_period<L: Ledger>(
         &mut self,
         site: &Site,
+        n: u32,
         q: u32,
-        t: u32,
+        p: u32,
         steps: &mut Steps<L>,
     ) -> Result<(), NoMemory>
-        requires before { IsBefore (plan_of site.now self.old.book) t self.old }
-        requires period { q ≡ period_in (plan_of site.now self.old.book) t }
+        requires before { IsBefore (plan_of site.now self.old.book) n self.old }
+        requires period { q ≡ period_in (plan_of site.now self.old.book) n }
+        requires decided { p ≡ min q (last_period self.old.book.commands) }
+        requires few { p ≤ MOST_PERIODS }
         ensures book { self.new.book ≡ self.old.book }
         ensures value { OnOk result (IsInPeriod (plan_of site.now self.old.book) q self.new) }
-        ensures fault { OnErr result (begins_period (plan_of site.now self.old.book) t ≡ true) }
+        ensures fault { OnErr result (begins_period (plan_of site.now self.old.book) n ≡ true) }
     {
-        if self.place.next_period() > q {
+        if self.place.next_period() > p {
             return Ok(());
         }
-        self.begin_period(site, q, steps)
+        self.begin_period(site, q, p, steps)
     }
 
-    // Begins period q: takes its commands into the index, and makes the packets of its entitlements.
+    // Begins period q: takes the commands of the periods up to p into the index, and makes the packets of the
+    // entitlements.
     fn begin_period<L: Ledger>(
         &mut self,
         site: &Site,
         q: u32,
+        p: u32,
         steps: &mut Steps<L>,
     ) -> Result<(), NoMemory>
-        requires before { HasBegun (plan_of site.now self.old.book) q self.old }
-        requires within { q ≤ last_period self.old.book.commands }
+        requires before { HasBegun (plan_of site.now self.old.book) self.old.place.next self.old }
+        requires decided { p ≡ min q (last_period self.old.book.commands) }
+        requires few { p ≤ MOST_PERIODS }
+        requires within { self.old.place.next ≤ p }
         ensures book { self.new.book ≡ self.old.book }
         ensures value { OnOk result (IsInPeriod (plan_of site.now self.old.book) q self.new) }
     {
-        take_period(&mut self.index, &mut self.place, &self.book, steps)?;
+        take_periods(&mut self.index, &mut self.place, &self.book, p, steps)?;
         pack_period(&mut self.emms, &self.index, site, q, steps)
     }
 
@@ -129,6 +140,30 @@ impl Entitling {
     {
         &self.crypto
     }
+}
+
+// Takes the commands of the periods that come next, up to period p, into the index.
+fn take_periods<L: Ledger>(
+    index: &mut CoverIndex,
+    place: &mut Place,
+    book: &Book,
+    p: u32,
+    steps: &mut Steps<L>,
+) -> Result<(), NoMemory>
+    requires place { IsPlaceIn book.now.commands place.old }
+    requires within { (place.old.next ≤ p) × (p ≤ last_period book.now.commands) }
+    requires few { p ≤ MOST_PERIODS }
+    requires height { index.old.height ≡ book.now.height }
+    ensures place { IsPlaceIn book.now.commands place.new }
+    ensures height { index.new.height ≡ index.old.height }
+    ensures next { OnOk result (place.new.next ≡ p + 1) }
+    ensures value { index.old.revoked ≡ revoked_before book.now.height book.now.commands place.old.next →
+        OnOk result (index.new.revoked ≡ revoked book.now.height book.now.commands p) }
+{
+    for _period in place.next_period()..p + 1 {
+        take_period(index, place, book, steps)?;
+    }
+    Ok(())
 }
 
 // Takes the commands of the period that comes next into the index.

@@ -10,7 +10,9 @@ use Rattle.sd_emm.specs.declared.emm.Emm.{Emm}
 use Rattle.sd_ecm.specs.Parts.{Message, message_of, parts_of}
 use Rattle.sd_ecm.specs.declared.message.EcmHead.{EcmHead}
 use Rattle.sd_ecm.specs.declared.part.Place.{Place}
-use Rattle.sd_broadcast.specs.Plan.{Plan, crypto_length, crypto_of, period_of, closing_number}
+use Rattle.sd_site.specs.Fields.{SiteFields}
+use Rattle.sd_broadcast.specs.Plan.{Plan, crypto_length, crypto_of, word_in, word_of, period_in, period_of}
+use Rattle.sd_broadcast.specs.Plan.{closing_number}
 use Rattle.sd_broadcast.specs.Carried.{carried}
 use Rattle.sd_broadcast.specs.Messages.{period_at, message_at, places_after}
 use Rattle.sd_broadcast.specs.Sent.{Item, Controls, Carries, tables_at, tables_before, message_before, added}
@@ -20,7 +22,7 @@ use Rattle.sd_entitling.specs.declared.crypto.CryptoPeriod.{CryptoPeriod}
 use Rattle.sd_entitling.specs.declared.entitling.Entitling.{Entitling}
 use Rattle.sd_entitling.specs.Crypto.{crypto_in}
 use Rattle.sd_entitling.specs.Packets.{packets_of}
-use Rattle.sd_entitling.specs.Kept.{period_in, IsOf}
+use Rattle.sd_entitling.specs.Kept.{IsOf}
 use Rattle.sd_head.specs.Messages.{head_of, message_due}
 use Rattle.sd_head.specs.Items.{HasSent, Follows, tables_bytes, message_bytes}
 use Rattle.sd_head.specs.declared.sender.Sender.{Sender}
@@ -34,7 +36,7 @@ sections_at plan k = emms_of (period_at plan (period_of plan k))
 -- the packets of the period at work are those of the period of packet k
 pub emms_are : (plan : Plan) (k : ℕ) (entitling : Entitling) → IsOf plan (crypto_of plan.site k) entitling →
     entitling.emms.items ≡ of_sections plan.site (sections_at plan k)
-unfolding packets_of period_of period_in
+unfolding packets_of period_of
 emms_are plan k entitling of = of.period.emms
 
 -- the tables stand where a crypto period begins
@@ -45,17 +47,19 @@ tables_are plan k = refl
 
 -- what the message of the crypto period at work says
 message_is : (plan : Plan) (before : List (List ℕ)) (crypto : CryptoPeriod) (clear number k : ℕ) (closing : Bool) →
-    crypto ≡ crypto_in plan.site.master (period_in plan (crypto_of plan.site k)) (crypto_of plan.site k) →
+    crypto ≡ crypto_in plan.site.master (period_in plan (crypto_of plan.site k))
+    (word_in plan.site (crypto_of plan.site k)) →
     clear ≡ length before →
     message_of (head_of plan.site crypto clear number closing) (places_after before)
     ≡ message_at plan before number k closing
-unfolding message_at head_of crypto_in period_of period_in
+unfolding message_at head_of crypto_in period_of word_of
 message_is plan before crypto clear number k closing is counted = rw is (rw counted refl)
 
 -- a message stands before every e-th packet
 pub message_stands : (plan : Plan) (before : List (List ℕ)) (crypto : CryptoPeriod) (clear : ℕ)
     (places : List Place) → clear ≡ length before →
-    crypto ≡ crypto_in plan.site.master (period_in plan (crypto_of plan.site clear)) (crypto_of plan.site clear) →
+    crypto ≡ crypto_in plan.site.master (period_in plan (crypto_of plan.site clear))
+    (word_in plan.site (crypto_of plan.site clear)) →
     (IsSome (message_due plan.site crypto clear) → places ≡ places_after before) →
     items_of (message_due plan.site crypto clear) places ≡ message_before plan before
 unfolding message_due
@@ -133,7 +137,7 @@ pub closing_bytes : (plan : Plan) (before : List (List ℕ)) (crypto : CryptoPer
     (head : EcmHead) (sender : Sender) → HasSent plan.site (sent plan before) sender → clear ≡ length before →
     due ≡ (clear == 0) → emms ≡ of_sections plan.site (sections_at plan (clear - 1)) →
     crypto ≡ crypto_in plan.site.master (period_in plan (crypto_of plan.site (clear - 1)))
-    (crypto_of plan.site (clear - 1)) →
+    (word_in plan.site (crypto_of plan.site (clear - 1))) →
     head ≡ head_of plan.site crypto clear (closing_number plan.site clear) true →
     sender.places.items ≡ places_after before →
     tables_bytes sender due emms ++ message_bytes plan.site.ecm sender (Some head)
@@ -162,6 +166,11 @@ closing_bytes plan before crypto clear due emms head sender has counted is are o
     first (suc n) =
         let test : (suc n == 0) ≡ false = ne_eqb (suc n) 0 (λ e. absurd (omega (arith, e))) in
         rw test refl
+
+-- the control word of a packet's crypto period is the packet's
+pub word_is : (site : SiteFields) (k : ℕ) → word_in site (crypto_of site k) ≡ word_of site k
+unfolding word_of
+word_is site k = refl
 
 -- the crypto period's number and control word
 pub crypto_number : (crypto : CryptoPeriod) (master : List ℕ) (q t : ℕ) → crypto ≡ crypto_in master q t →

@@ -1,11 +1,11 @@
 -- Which crypto period is at work after so many packets.
-use Rattle.std.proofs.Common.{◌≡◌, ◌≢◌, ℕ, zero, suc, ◌+◌, ◌-◌, ◌*◌, ◌/◌, ◌%◌, ◌<◌, ◌==◌, true}
+use Rattle.std.proofs.Common.{◌≡◌, ◌≢◌, ℕ, zero, suc, ◌+◌, ◌-◌, ◌*◌, ◌/◌, ◌%◌, ◌^◌, ◌<◌, ◌==◌, true}
 use Rattle.std.proofs.Common.{refl, sym, ap, subst, ◌∙◌, arith, eq-eqb}
 use Rattle.std.proofs.Math.Nat.{zero-div, div-eq_of_lt-le, mod-lt}
 use Rattle.std.proofs.lemmas.Nat.{div-add-mod'}
-use Rattle.sd_broadcast.specs.Plan.{Plan, IsPlan, crypto_length, crypto_of, period_of}
+use Rattle.sd_broadcast.specs.Plan.{Plan, IsPlan, crypto_length, crypto_of, word_of, period_of}
 use Rattle.sd_broadcast.proofs.Schedule.{crypto_length_some}
-use Rattle.sd_entitling.specs.Kept.{IsOf, IsBefore, begins_period, period_in, revoked_before}
+use Rattle.sd_entitling.specs.Kept.{IsOf, IsBefore, begins_period, revoked_before}
 use Rattle.sd_entitling.specs.declared.entitling.Entitling.{Entitling}
 use Rattle.sd_head.specs.Schedule.{IsAt, begins_with, periods_begun}
 use Rattle.sd_book.specs.Commands.{revoked}
@@ -66,6 +66,12 @@ stays plan (suc j) length entitling at is other =
     subst (λ (t : ℕ). IsOf plan t entitling)
     (ap (λ (n : ℕ). j / n) (sym is) ∙ (same_quotient length j some other ∙ ap (λ (n : ℕ). suc j / n) is)) at
 
+-- the control word that begins with packet k is that of the packet
+pub word_begins : (plan : Plan) (k length : ℕ) → length ≡ crypto_length plan.site → word_of plan.site k < 2 ^ 32 →
+    plan.site.first_word + k / length < 2 ^ 32
+unfolding word_of crypto_of
+word_begins plan k length is small = rw is small
+
 -- the crypto period that began is that of packet k
 pub begun_at : (plan : Plan) (k length : ℕ) (entitling : Entitling) → length ≡ crypto_length plan.site →
     IsOf plan (k / length) entitling → IsOf plan (crypto_of plan.site k) entitling
@@ -109,7 +115,7 @@ at_next plan k entitling of =
 -- the index has the leaves that are revoked in the period at work
 pub revoked_now : (plan : Plan) (k : ℕ) (entitling : Entitling) → IsOf plan (crypto_of plan.site k) entitling →
     entitling.index.revoked ≡ revoked plan.site.height plan.commands (period_of plan k)
-unfolding period_of period_in
+unfolding period_of
 revoked_now plan k entitling of =
     let one : period_of plan k + 1 ≡ suc (period_of plan k) = omega arith in
     of.period.begun.revoked_are ∙ ap (revoked_before plan.site.height plan.commands) one
@@ -117,6 +123,6 @@ revoked_now plan k entitling of =
 -- and none before the first
 pub revoked_at : (plan : Plan) (k : ℕ) (entitling : Entitling) → IsAt plan k entitling →
     entitling.index.revoked ≡ revoked_before plan.site.height plan.commands (periods_begun plan k)
-unfolding period_of period_in
+unfolding period_of
 revoked_at plan zero entitling at = at.revoked_are
 revoked_at plan (suc k) entitling at = at.period.begun.revoked_are

@@ -10,14 +10,15 @@ use Rattle.sd_site.specs.Fields.{SiteFields, fields_of}
 use Rattle.sd_engine.specs.declared.stage.StageFault.{StageFault}
 use Rattle.sd_engine.specs.declared.stage.StageFault.TheVariants.{Refused}
 use Rattle.sd_ecm.specs.declared.message.EcmHead.{EcmHead}
-use Rattle.sd_broadcast.specs.Plan.{Plan, crypto_length, crypto_of, period_of, closing_number}
+use Rattle.sd_broadcast.specs.Plan.{Plan, crypto_length, crypto_of, word_in, word_of, period_in, period_of}
+use Rattle.sd_broadcast.specs.Plan.{closing_number}
 use Rattle.sd_broadcast.specs.Carried.{carried}
 use Rattle.sd_broadcast.specs.Messages.{places_after}
 use Rattle.sd_broadcast.specs.Refused.{refusal_of, refusal_from, IsClear}
 use Rattle.sd_broadcast.specs.declared.fault.ClearFault.{ClearFault}
 use Rattle.sd_broadcast.specs.Sent.{Item, sent, sent_from, bytes_added, closing_of, packets_from, message_before}
 use Rattle.sd_clear.specs.After.{IsAfter as IsKept}
-use Rattle.sd_entitling.specs.Kept.{plan_of, period_in, IsOf}
+use Rattle.sd_entitling.specs.Kept.{plan_of, IsOf}
 use Rattle.sd_entitling.specs.declared.entitling.Entitling.{Entitling}
 use Rattle.sd_head.specs.Messages.{head_of, message_due}
 use Rattle.sd_head.specs.Items.{HasSent, HasPlaced, Follows, tables_bytes, message_bytes}
@@ -30,7 +31,7 @@ use Rattle.sd_head.proofs.Starting.{at_next, revoked_now}
 use Rattle.sd_book.specs.Commands.{revoked}
 use Rattle.sd_head.proofs.Counting.{items_of, of_sections}
 use Rattle.sd_head.proofs.Added.{sections_at, emms_are, message_stands, added_bytes, added_next, closing_bytes}
-use Rattle.sd_head.proofs.Added.{crypto_number, crypto_word}
+use Rattle.sd_head.proofs.Added.{word_is, crypto_number, crypto_word}
 
 -- where none of some is the first refusal, the next one decides
 none_then : {F : Type 0} → (first : Option F) (rest more : Option F) → option_map_or Some first rest ≡ None →
@@ -87,7 +88,7 @@ pub record Comes (s : Head) (packet : List ℕ) (entitling : Entitling) (m : Sen
   pub places_are : (before : List (List ℕ)) → IsKept before s.clear → IsSome message →
       m.places.items ≡ places_after before
   pub carried_is : (before : List (List ℕ)) → IsKept before s.clear →
-      entitling.crypto.number ≡ crypto_of (fields_of s.site) (length before) →
+      entitling.crypto.number ≡ word_of (fields_of s.site) (length before) →
       entitling.crypto.word ≡ control_word_of s.site.master entitling.crypto.number →
       veiled ≡ carried (fields_of s.site) before packet
 
@@ -130,10 +131,13 @@ module _ (s t : Head) (packet : List ℕ) (m : Sender) (due : Bool) (emms : List
   veiled_is : (before : List (List ℕ)) → IsAfter (plan_in s) before s →
       veiled ≡ carried (fields_of s.site) before packet
   veiled_is before after =
-      let t' = crypto_of (fields_of s.site) s.clear.count in
-      let number = crypto_number t.entitling.crypto s.site.master (period_in (plan_in s) t') t' comes.at_work.crypto in
-      let word = crypto_word t.entitling.crypto s.site.master (period_in (plan_in s) t') t' comes.at_work.crypto in
-      comes.carried_is before after.clear_is (number ∙ ap (crypto_of (fields_of s.site)) after.clear_is.number)
+      let n = crypto_of (fields_of s.site) s.clear.count in
+      let q = period_in (plan_in s) n in
+      let t' = word_in (fields_of s.site) n in
+      let number = crypto_number t.entitling.crypto s.site.master q t' comes.at_work.crypto in
+      let word = crypto_word t.entitling.crypto s.site.master q t' comes.at_work.crypto in
+      comes.carried_is before after.clear_is (number
+      ∙ (word_is (fields_of s.site) s.clear.count ∙ ap (word_of (fields_of s.site)) after.clear_is.number))
       (word ∙ ap (control_word_of s.site.master) (sym number))
 
   -- after it the stage stands after the packet

@@ -1,6 +1,6 @@
-ghost use Rattle.std.specs.Prelude.{◌≡◌, ◌-◌, ◌%◌, ◌==◌, ◌<◌, ℕ, List, Some, None, Err, true, OnOk, OnErr};
+ghost use Rattle.std.specs.Prelude.{◌≡◌, ◌-◌, ◌%◌, ◌^◌, ◌==◌, ◌<◌, ℕ, List, Some, None, Err, true, OnOk, OnErr};
 ghost use Rattle.sd_site.specs.Fields.{fields_of};
-ghost use Rattle.sd_broadcast.specs.Plan.{crypto_length as length_of, crypto_of};
+ghost use Rattle.sd_broadcast.specs.Plan.{crypto_length as length_of, crypto_of, word_of};
 ghost use Rattle.sd_broadcast.specs.Refused.{refusal_of};
 ghost use Rattle.sd_clear.specs.After.{IsAfter as IsKept, MayFollow};
 ghost use Rattle.sd_entitling.specs.Kept.{plan_of, IsOf};
@@ -65,7 +65,8 @@ fn begin<L: Ledger>(
     k: u32,
     steps: &mut Steps<L>,
 ) -> Result<(), NoMemory>
-    requires { IsAt (plan_of site.now entitling.old.book) k entitling.old }
+    requires at { IsAt (plan_of site.now entitling.old.book) k entitling.old }
+    requires word { word_of (fields_of site.now) k < 2 ^ 32 }
     ensures book { entitling.new.book ≡ entitling.old.book }
     ensures value { OnOk result
         (IsOf (plan_of site.now entitling.old.book) (crypto_of (fields_of site.now) k) entitling.new) }

@@ -12,8 +12,9 @@ use Rattle.sd_site.specs.declared.fault.SiteFault.TheVariants.{Line, Range, Same
 use Rattle.sd_site.specs.declared.site.Site.{Site}
 use Rattle.sd_site.specs.Fields.{SiteFields, AreInRange, fields_of}
 use Rattle.sd_site.specs.Forms.{NumberLine, BytesLine, Form, number, bytes, forms, IsWithin, bytes_after, number_on}
-use Rattle.sd_site.specs.Forms.{bytes_on, version_on, height_line, master_line, ca_line, emm_line, ecm_line}
-use Rattle.sd_site.specs.Forms.{every_line, cryptos_line, span_line, messages_line}
+use Rattle.sd_site.specs.Forms.{bytes_on, number_or, height_line, master_line, ca_line, emm_line, ecm_line}
+use Rattle.sd_site.specs.Forms.{every_line, cryptos_line, span_line, messages_line, first_word_line}
+use Rattle.sd_site.specs.Forms.{last_word_line, first_period_line}
 use Rattle.sd_site.specs.Text.{SpellsSite, IsSite, site_on, site_of}
 use Rattle.sd_site.specs.Faults.{IsInForm, IsGood, IsMalformed, IsOutOfRange, NextIs, AreGood, IsCauseOf}
 use Rattle.sd_site.proofs.Walk.{Tells, lines_told}
@@ -44,7 +45,10 @@ fields_on lines = record {
   every = number_or_0 every_line (slice_get lines 5);
   cryptos = number_or_0 cryptos_line (slice_get lines 6);
   span = number_or_0 span_line (slice_get lines 7);
-  messages = unwrap_or (version_on (slice_get lines 8)) 0;
+  messages = unwrap_or (number_or 1 messages_line (slice_get lines 8)) 0;
+  first_word = unwrap_or (number_or 0 first_word_line (slice_get lines 9)) 0;
+  last_word = unwrap_or (number_or last_word_line.high last_word_line (slice_get lines 10)) 0;
+  first_period = unwrap_or (number_or 0 first_period_line (slice_get lines 11)) 0;
 }
 
 -- whether lines 4 and 5 name one PID
@@ -58,7 +62,7 @@ at_end n lines = cond (nat_lt n 8) (Err Short) (cond (same_pid lines) (Err SameP
 -- the answer by the form and the line after n good ones
 abbrev answer : ℕ → List (List ℕ) → Option Form → Option (List ℕ) → Result SiteFields SiteFault
 answer n lines (Some form) (Some line) = cond (in_form form line) (Err (Range (n + 1))) (Err (Line (n + 1)))
-answer n lines None (Some line) = Err (Extra 10)
+answer n lines None (Some line) = Err (Extra 13)
 answer n lines form None = at_end n lines
 
 -- n lines are good, line n + 1 is not, and the answer is what follows from that
@@ -124,11 +128,11 @@ ended : (P : Form → List ℕ → Type 0) (lines : List (List ℕ)) (n : ℕ) �
 ended P lines n past next = none-some _ (sym (slice_get_past lines n past) ∙ next.3)
 
 -- no form is left
-all_forms : (P : Form → List ℕ → Type 0) (lines : List (List ℕ)) (n : ℕ) → 9 ≤ n → NextIs P n lines → ⊥
+all_forms : (P : Form → List ℕ → Type 0) (lines : List (List ℕ)) (n : ℕ) → 12 ≤ n → NextIs P n lines → ⊥
 unfolding forms
 all_forms P lines n past next = none-some _ (sym (slice_get_past forms n past) ∙ next.2)
 
-no_form : slice_get forms 9 ≡ None
+no_form : slice_get forms 12 ≡ None
 unfolding forms
 no_form = refl
 
@@ -153,14 +157,14 @@ short_stops lines (few, good) =
     end_stops lines (Err Short) good (rw (lt-ltb (length lines) 8 few) refl)
 
 extra_stops : (lines : List (List ℕ)) (k : ℕ) → IsCauseOf lines (Extra k) → Stops lines (Err (Extra k))
-extra_stops lines k (ten, many, good) = record {
-  n = 9;
+extra_stops lines k (place, many, good) = record {
+  n = 12;
   good = good;
-  stop = λ next. all_forms IsGood lines 9 (omega arith) next;
-  is = rw (ten, no_form, slice_get-get_or lines 9 [] many) refl;
+  stop = λ next. all_forms IsGood lines 12 (omega arith) next;
+  is = rw (place, no_form, slice_get-get_or lines 12 [] many) refl;
 }
 
--- eight good lines or nine end with the PIDs
+-- eight good lines or more end with the PIDs
 pids_stop : (lines : List (List ℕ)) (r : Result SiteFields SiteFault) → 8 ≤ length lines
     → AreGood (length lines) lines → r ≡ cond (same_pid lines) (Err SamePid) (Ok (fields_on lines)) → Stops lines r
 pids_stop lines r least good e = end_stops lines r good (rw (le-ltb (length lines) 8 least) e)
@@ -173,7 +177,8 @@ same_pid_stops lines (least, good, same) =
 -- the lines of a site say its fields
 spelled : (lines : List (List ℕ)) (site : SiteFields) → SpellsSite lines site → fields_on lines ≡ site
 spelled lines site spells = rw (spells.height, spells.master, spells.ca.1, spells.emm, spells.ecm, spells.every) (
-    rw (spells.cryptos, spells.span, spells.messages, ← spells.ca.2) refl)
+    rw (spells.cryptos, spells.span, spells.messages, spells.first_word, spells.last_word, spells.first_period) (
+    rw (← spells.ca.2) refl))
 
 -- a line whose number is in range is good
 good_number : (n value : ℕ) (form : NumberLine) (lines : List (List ℕ)) → slice_get forms n ≡ Some (number form)
@@ -189,13 +194,13 @@ good_bytes n value form lines there reads =
     option_and_then_some (bytes_after form.word form.count) (slice_get lines n) value reads
     (λ line is says. (bytes form, line, there, is, (value, says)))
 
--- a last line whose version is in range is good
-good_version : (value : ℕ) (lines : List (List ℕ)) → 8 < length lines → version_on (slice_get lines 8) ≡ Some value
-    → IsWithin messages_line value → NextIs IsGood 8 lines
-unfolding forms
-good_version value lines there reads within =
-    let here = slice_get-get_or lines 8 [] there in
-    (number messages_line, _, refl, here, (value, rw here at reads, within))
+-- a line that may be left out is good, where it is there and its number is in range
+good_optional : (n left_out value : ℕ) (form : NumberLine) (lines : List (List ℕ))
+    → slice_get forms n ≡ Some (number form) → n < length lines
+    → number_or left_out form (slice_get lines n) ≡ Some value → IsWithin form value → NextIs IsGood n lines
+good_optional n left_out value form lines is there reads within =
+    let here = slice_get-get_or lines n [] there in
+    (number form, _, is, here, (value, rw here at reads, within))
 
 -- the lines of a site are good
 spelled_good : (lines : List (List ℕ)) (site : SiteFields) → SpellsSite lines site → AreInRange site
@@ -218,8 +223,14 @@ spelled_good lines site spells ranges (suc (suc (suc (suc (suc (suc zero)))))) l
 spelled_good lines site spells ranges (suc (suc (suc (suc (suc (suc (suc zero))))))) lt =
     good_number 7 _ span_line lines refl spells.span ranges.span
 spelled_good lines site spells ranges (suc (suc (suc (suc (suc (suc (suc (suc zero)))))))) lt =
-    good_version _ lines lt spells.messages ranges.messages
-spelled_good lines site spells ranges (suc (suc (suc (suc (suc (suc (suc (suc (suc i))))))))) lt =
+    good_optional 8 _ _ messages_line lines refl lt spells.messages ranges.messages
+spelled_good lines site spells ranges (suc (suc (suc (suc (suc (suc (suc (suc (suc zero))))))))) lt =
+    good_optional 9 _ _ first_word_line lines refl lt spells.first_word ranges.first_word
+spelled_good lines site spells ranges (suc (suc (suc (suc (suc (suc (suc (suc (suc (suc zero)))))))))) lt =
+    good_optional 10 _ _ last_word_line lines refl lt spells.last_word ranges.last_word
+spelled_good lines site spells ranges (suc (suc (suc (suc (suc (suc (suc (suc (suc (suc (suc zero))))))))))) lt =
+    good_optional 11 _ _ first_period_line lines refl lt spells.first_period ranges.first_period
+spelled_good lines site spells ranges (suc (suc (suc (suc (suc (suc (suc (suc (suc (suc (suc (suc i)))))))))))) lt =
     absurd (omega (arith, spells.most))
 
 site_stops : (lines : List (List ℕ)) (site : SiteFields) → SpellsSite lines site → AreInRange site

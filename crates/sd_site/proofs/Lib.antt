@@ -1,3 +1,4 @@
 pub mod Digits
 pub mod Walk
 pub mod Alone
+pub mod LeftOut

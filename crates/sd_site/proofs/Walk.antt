@@ -1,6 +1,6 @@
 -- The lines one after another, up to the first bad one.
 use Rattle.std.proofs.Common.{arith, ◌≡◌, ◌⊎◌, ℕ, suc, ◌+◌, ◌<◌, ◌≤◌, Bool, true, false, cond, eqb, List, []}
-use Rattle.std.proofs.Common.{◌∷◌, length, Option, Some, None, Result, Ok, Err, refl, ◌∙◌, sym, ap, inl, inr}
+use Rattle.std.proofs.Common.{◌∷◌, length, Option, Some, None, Result, Ok, Err, refl, ◌∙◌, sym, ap, subst, inl, inr}
 use Rattle.std.proofs.Common.{true≢false}
 use Rattle.std.proofs.lemmas.Bool.{eqb-true, eqb-false, cases_lt, and_parts, leb-true, le-leb, and_from}
 use Rattle.std.proofs.lemmas.Option.{none-some, same_Some, slice_get_past}
@@ -10,10 +10,12 @@ use Rattle.sd_site.specs.declared.fault.SiteFault.{SiteFault}
 use Rattle.sd_site.specs.declared.fault.SiteFault.TheVariants.{Range, SamePid}
 use Rattle.sd_site.specs.Fields.{SiteFields, AreInRange}
 use Rattle.sd_site.specs.Forms.{NumberLine, BytesLine, number, bytes, forms, IsWithin, bytes_after, number_on, bytes_on}
-use Rattle.sd_site.specs.Forms.{version_on, height_line, master_line, ca_line, emm_line, ecm_line, every_line}
-use Rattle.sd_site.specs.Forms.{cryptos_line, span_line, messages_line}
-use Rattle.sd_site.specs.Text.{◌>>=◌, SpellsSite, in_range, well_formed, number_at, version_at, bytes_at, judged_whole}
-use Rattle.sd_site.specs.Text.{site_on}
+use Rattle.sd_site.specs.Forms.{number_or, height_line, master_line, ca_line, emm_line, ecm_line, every_line}
+use Rattle.sd_site.specs.Forms.{cryptos_line, span_line, messages_line, first_word_line, last_word_line}
+use Rattle.sd_site.specs.Forms.{first_period_line}
+use Rattle.sd_site.specs.Text.{◌>>=◌, SpellsSite, in_range, well_formed, number_at, optional_at, bytes_at, judged_whole}
+use Rattle.sd_site.specs.Text.{optional_on, site_on}
+use Rattle.sd_site.specs.declared.optional.Optional.{Optional}
 use Rattle.sd_site.specs.Faults.{IsGood, NextIs, AreGood, IsCauseOf}
 
 -- the first n lines are good, and these are the ones after them
@@ -139,24 +141,88 @@ bytes_step n form lines (line ∷ rest) lt walked is answer more =
     bytes_case n form lines rest line walked is answer (λ value. more value rest)
     (bytes_after form.word form.count line) refl
 
--- nine lines are passed, or eight that are all
-abbrev Passed : List (List ℕ) → List (List ℕ) → Type 0
-Passed lines rest = Walked 9 lines rest ⊎ (Walked 8 lines [] × (rest ≡ []))
+-- n lines are passed, or fewer, but eight at least, that are all
+abbrev Passed : ℕ → List (List ℕ) → List (List ℕ) → Type 0
+Passed n lines rest = Walked n lines rest ⊎ ((k : ℕ) × (8 ≤ k) × (k < n) × Walked k lines [] × (rest ≡ []))
 
--- the last line: it is left out, or as above
-version_step : (lines rest : List (List ℕ)) → Walked 8 lines rest → (answer : Step ℕ)
-    → ((value : ℕ) (after : List (List ℕ)) → version_on (slice_get lines 8) ≡ Some value
-    → IsWithin messages_line value → Passed lines after → Tells lines (answer (value, after)))
-    → Tells lines (version_at 9 messages_line rest >>= answer)
-unfolding forms
-version_step lines [] walked answer more =
-    let count = (over 8 lines walked).0 in
-    more 1 [] (rw (slice_get_past lines 8 (omega (arith, count))) refl) (omega arith, omega arith) (inr (walked, refl))
-version_step lines (line ∷ rest) walked answer more =
-    let here = next 8 lines rest line walked in
-    number_case 8 messages_line lines rest line walked refl answer
-    (λ value reads inside walked9. more value rest (rw here (rw here at reads)) inside (inl walked9))
-    (decimal_after messages_line.word line) refl
+-- where no line is left, eight or more were passed
+passed_all : (n : ℕ) (lines : List (List ℕ)) → 8 ≤ n → Passed n lines []
+    → (k : ℕ) × (8 ≤ k) × (k ≤ n) × Walked k lines []
+passed_all n lines least (inl walked) = (n, least, omega arith, walked)
+passed_all n lines least (inr (k, eight, below, walked, e)) = (k, eight, omega (arith, below), walked)
+
+-- a line that may be left out: it is, or as above
+optional_step : (n left_out : ℕ) (form : NumberLine) (lines rest : List (List ℕ)) → 8 ≤ n → Passed n lines rest
+    → slice_get forms n ≡ Some (number form) → IsWithin form left_out → (answer : Step ℕ)
+    → ((value : ℕ) (after : List (List ℕ)) → number_or left_out form (slice_get lines n) ≡ Some value
+    → IsWithin form value → Passed (n + 1) lines after → Tells lines (answer (value, after)))
+    → Tells lines (optional_at (n + 1) form left_out rest >>= answer)
+optional_step n left_out form lines [] least passed is within answer more =
+    let all = passed_all n lines least passed in
+    let count = (over all.0 lines all.3).0 in
+    more left_out [] (rw (slice_get_past lines n (omega (arith, count, all.2))) refl) within
+    (inr (all.0, all.1, omega (arith, all.2), all.3, refl))
+optional_step n left_out form lines (line ∷ rest) least (inl walked) is within answer more =
+    let here = next n lines rest line walked in
+    number_case n form lines rest line walked is answer
+    (λ value reads inside after. more value rest (rw here (rw here at reads)) inside (inl after))
+    (decimal_after form.word line) refl
+optional_step n left_out form lines (line ∷ rest) least (inr (k, eight, below, walked, e)) is within answer more =
+    absurd cc
+
+-- steps that are one step's are taken in turn
+joined : {A B C : Type 0} (r : Result A SiteFault) (f : A → Result B SiteFault) (g : B → Result C SiteFault) →
+    ((r >>= f) >>= g) ≡ (r >>= λ x. (f x >>= g))
+joined (Ok x) f g = refl
+joined (Err fault) f g = refl
+
+-- the same line as the first of the steps that are one step's
+optional_first : {A : Type 0} (n left_out : ℕ) (form : NumberLine) (lines rest : List (List ℕ)) → 8 ≤ n
+    → Passed n lines rest → slice_get forms n ≡ Some (number form) → IsWithin form left_out
+    → (inner : ℕ × List (List ℕ) → Result A SiteFault) → (answer : A → Result SiteFields SiteFault)
+    → ((value : ℕ) (after : List (List ℕ)) → number_or left_out form (slice_get lines n) ≡ Some value
+    → IsWithin form value → Passed (n + 1) lines after → Tells lines (inner (value, after) >>= answer))
+    → Tells lines ((optional_at (n + 1) form left_out rest >>= inner) >>= answer)
+optional_first n left_out form lines rest least passed is within inner answer more =
+    subst (Tells lines) (sym (joined (optional_at (n + 1) form left_out rest) inner answer))
+    (optional_step n left_out form lines rest least passed is within (λ cut. inner cut >>= answer) more)
+
+-- what the lines after the eighth say
+record SaysOptional (lines : List (List ℕ)) (optional : Optional) : Type 0 where
+  messages : number_or 1 messages_line (slice_get lines 8) ≡ Some optional.messages
+  first_word : number_or 0 first_word_line (slice_get lines 9) ≡ Some optional.first_word
+  last_word : number_or last_word_line.high last_word_line (slice_get lines 10) ≡ Some optional.last_word
+  first_period : number_or 0 first_period_line (slice_get lines 11) ≡ Some optional.first_period
+  messages_in : IsWithin messages_line optional.messages
+  first_word_in : IsWithin first_word_line optional.first_word
+  last_word_in : IsWithin last_word_line optional.last_word
+  first_period_in : IsWithin first_period_line optional.first_period
+
+-- the lines after the eighth: each is left out, or as above
+optional_steps : (lines rest : List (List ℕ)) → Walked 8 lines rest
+    → (answer : Optional × List (List ℕ) → Result SiteFields SiteFault)
+    → ((optional : Optional) (after : List (List ℕ)) → SaysOptional lines optional → Passed 12 lines after
+    → Tells lines (answer (optional, after)))
+    → Tells lines (optional_on rest >>= answer)
+unfolding optional_on forms
+optional_steps lines rest walked answer more =
+    optional_first 8 1 messages_line lines rest (omega arith) (inl walked) refl (omega arith, omega arith) _ answer (
+    λ messages rest9 messages_is messages_in passed9.
+    optional_first 9 0 first_word_line lines rest9 (omega arith) passed9 refl (omega arith, omega arith) _ answer (
+    λ first_word rest10 first_word_is first_word_in passed10.
+    optional_first 10 last_word_line.high last_word_line lines rest10 (omega arith) passed10 refl
+    (omega arith, omega arith) _ answer (λ last_word rest11 last_word_is last_word_in passed11.
+    optional_first 11 0 first_period_line lines rest11 (omega arith) passed11 refl (omega arith, omega arith) _ answer (
+    λ first_period rest12 first_period_is first_period_in passed12. more _ rest12 (record {
+      messages = messages_is;
+      first_word = first_word_is;
+      last_word = last_word_is;
+      first_period = first_period_is;
+      messages_in = messages_in;
+      first_word_in = first_word_in;
+      last_word_in = last_word_in;
+      first_period_in = first_period_in;
+    }) passed12))))
 
 -- the PIDs are equal, or all is good
 pids : (lines : List (List ℕ)) (site : SiteFields) → 8 ≤ length lines → AreGood (length lines) lines
@@ -167,23 +233,19 @@ pids : (lines : List (List ℕ)) (site : SiteFields) → 8 ≤ length lines → 
 pids lines site least good emm ecm more true e = (least, good, emm ∙ ap Some (eqb-true _ _ e) ∙ sym ecm)
 pids lines site least good emm ecm more false e = more (eqb-false _ _ e)
 
--- after nine good lines none is to be, and the PIDs are to differ
-whole_case : (lines rest : List (List ℕ)) (site : SiteFields) → Passed lines rest
+-- after twelve good lines none is to be, and the PIDs are to differ
+whole_case : (lines rest : List (List ℕ)) (site : SiteFields) → Passed 12 lines rest
     → number_on emm_line (slice_get lines 3) ≡ Some site.emm
     → number_on ecm_line (slice_get lines 4) ≡ Some site.ecm
-    → (8 ≤ length lines → length lines ≤ 9 → (site.emm ≡ site.ecm → ⊥) → SpellsSite lines site × AreInRange site)
+    → (8 ≤ length lines → length lines ≤ 12 → (site.emm ≡ site.ecm → ⊥) → SpellsSite lines site × AreInRange site)
     → Tells lines (judged_whole rest site)
 whole_case lines (line ∷ rest) site (inl walked) emm ecm more = (refl, omega (arith, walked.count), walked.good)
-whole_case lines (line ∷ rest) site (inr (walked, e)) emm ecm more = absurd cc
-whole_case lines [] site (inl walked) emm ecm more =
-    let h = over 9 lines walked in
-    let least : 8 ≤ length lines = omega (arith, h.0) in
-    let most : length lines ≤ 9 = omega (arith, h.0) in
-    pids lines site least h.1 emm ecm (more least most) (eqb site.emm site.ecm) refl
-whole_case lines [] site (inr (walked, e)) emm ecm more =
-    let h = over 8 lines walked in
-    let least : 8 ≤ length lines = omega (arith, h.0) in
-    let most : length lines ≤ 9 = omega (arith, h.0) in
+whole_case lines (line ∷ rest) site (inr (k, eight, below, walked, e)) emm ecm more = absurd cc
+whole_case lines [] site passed emm ecm more =
+    let all = passed_all 12 lines (omega arith) passed in
+    let h = over all.0 lines all.3 in
+    let least : 8 ≤ length lines = omega (arith, h.0, all.1) in
+    let most : length lines ≤ 12 = omega (arith, h.0, all.2) in
     pids lines site least h.1 emm ecm (more least most) (eqb site.emm site.ecm) refl
 
 -- the lines are what the answer says
@@ -203,8 +265,8 @@ lines_told lines =
     number_step 5 every_line lines rest5 (omega arith) walked5 refl _ (λ every rest6 every_is every_in walked6.
     number_step 6 cryptos_line lines rest6 (omega arith) walked6 refl _ (λ cryptos rest7 cryptos_is cryptos_in walked7.
     number_step 7 span_line lines rest7 (omega arith) walked7 refl _ (λ span rest8 span_is span_in walked8.
-    version_step lines rest8 walked8 _ (λ messages rest9 messages_is messages_in passed.
-    whole_case lines rest9 _ passed emm_is ecm_is (λ least most apart. (
+    optional_steps lines rest8 walked8 _ (λ optional rest12 says passed12.
+    whole_case lines rest12 _ passed12 emm_is ecm_is (λ least most apart. (
       record {
         least = least;
         most = most;
@@ -216,7 +278,10 @@ lines_told lines =
         every = every_is;
         cryptos = cryptos_is;
         span = span_is;
-        messages = messages_is;
+        messages = says.messages;
+        first_word = says.first_word;
+        last_word = says.last_word;
+        first_period = says.first_period;
       },
       record {
         height = height_in;
@@ -226,6 +291,9 @@ lines_told lines =
         every = every_in;
         cryptos = cryptos_in;
         span = span_in;
-        messages = messages_in;
+        messages = says.messages_in;
+        first_word = says.first_word_in;
+        last_word = says.last_word_in;
+        first_period = says.first_period_in;
       },
     )))))))))))

@@ -23,7 +23,7 @@ IsMalformed form line = IsInForm form line → ⊥
 abbrev pub IsOutOfRange : Form → List ℕ → Type 0
 IsOutOfRange form line = IsInForm form line × (IsGood form line → ⊥)
 
--- after the first n lines another of the nine is there, and it is so
+-- after the first n lines another of the twelve is there, and it is so
 abbrev pub NextIs : (Form → List ℕ → Type 0) → ℕ → List (List ℕ) → Type 0
 NextIs IsSo n lines =
     (form : Form) × (line : List ℕ)
@@ -43,9 +43,9 @@ abbrev pub IsCauseOf : List (List ℕ) → SiteFault → Type 0
 IsCauseOf lines (Line k) = (n : ℕ) × (k ≡ n + 1) × AreGood n lines × NextIs IsMalformed n lines
 -- after good lines stands one whose number is out of range
 IsCauseOf lines (Range k) = (n : ℕ) × (k ≡ n + 1) × AreGood n lines × NextIs IsOutOfRange n lines
--- the lines are eight or nine good ones, and the PIDs are equal
+-- the lines are eight to twelve good ones, and the PIDs are equal
 IsCauseOf lines SamePid = (8 ≤ length lines) × AreGood (length lines) lines × NameOnePid lines
--- after nine good lines stands another
-IsCauseOf lines (Extra k) = (k ≡ 10) × (9 < length lines) × AreGood 9 lines
+-- after twelve good lines stands another
+IsCauseOf lines (Extra k) = (k ≡ 13) × (12 < length lines) × AreGood 12 lines
 -- the lines are good, and fewer than eight
 IsCauseOf lines Short = (length lines < 8) × AreGood (length lines) lines

@@ -1,7 +1,7 @@
 use Rattle.std.specs.Prelude.{◌≢◌, ℕ, List}
 use Rattle.sd_site.specs.declared.site.Site.{Site}
 use Rattle.sd_site.specs.Forms.{IsWithin, height_line, emm_line, ecm_line, every_line, cryptos_line, span_line}
-use Rattle.sd_site.specs.Forms.{messages_line}
+use Rattle.sd_site.specs.Forms.{messages_line, first_word_line, last_word_line, first_period_line}
 
 -- what a site file says
 pub record SiteFields : Type 0 where
@@ -14,6 +14,9 @@ pub record SiteFields : Type 0 where
   pub cryptos : ℕ
   pub span : ℕ
   pub messages : ℕ
+  pub first_word : ℕ
+  pub last_word : ℕ
+  pub first_period : ℕ
 
 -- the same of a site as the program keeps it
 abbrev pub fields_of : Site → SiteFields
@@ -27,6 +30,9 @@ fields_of site = record {
   cryptos = site.cryptos;
   span = site.span;
   messages = site.messages;
+  first_word = site.first_word;
+  last_word = site.last_word;
+  first_period = site.first_period;
 }
 
 -- the numbers are in their ranges, and the two PIDs differ [this project, docs/FORMATS.md, Site]
@@ -39,3 +45,6 @@ pub record AreInRange (site : SiteFields) : Type 0 where
   pub cryptos : IsWithin cryptos_line site.cryptos
   pub span : IsWithin span_line site.span
   pub messages : IsWithin messages_line site.messages
+  pub first_word : IsWithin first_word_line site.first_word
+  pub last_word : IsWithin last_word_line site.last_word
+  pub first_period : IsWithin first_period_line site.first_period

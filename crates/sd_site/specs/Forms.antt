@@ -3,10 +3,9 @@ use Rattle.std.specs.Prelude.{ℕ, ◌*◌, ◌≤◌, ◌==◌, List, [], ◌�
 use Rattle.std.specs.Prelude.{if◌then◌else◌, Option, Some, None, option_and_then}
 use Rattle.std.specs.Result.{result_ok}
 use Rattle.hex.specs.Hex.{decode_of}
-use Rattle.sd_packet.specs.declared.position.TheConstants.{LOWEST_POSITIONAL, HIGHEST_POSITIONAL}
+use Rattle.sd_packet.specs.Positions.{lowest_positional, highest_positional}
 use Rattle.sd_text.specs.Number.{after, decimal_after}
-use Rattle.sd_tree.specs.declared.height.TheConstants.{HIGHEST}
-use Rattle.sd_site.specs.declared.site.TheConstants.{MOST_EVERY, MOST_CRYPTOS, MOST_SPAN, MOST_MESSAGES}
+use Rattle.sd_tree.specs.Limits.{highest}
 
 -- what a line is: a word and a decimal of a range
 pub record NumberLine : Type 0 where
@@ -24,7 +23,7 @@ pub data Form : Type 0 where
   bytes : BytesLine → Form
 
 abbrev pub height_line : NumberLine
-height_line = record { word = codes "height "; low = 1; high = HIGHEST }
+height_line = record { word = codes "height "; low = 1; high = highest }
 
 abbrev pub master_line : BytesLine
 master_line = record { word = codes "master "; count = 32 }
@@ -33,24 +32,33 @@ abbrev pub ca_line : BytesLine
 ca_line = record { word = codes "ca "; count = 2 }
 
 abbrev pub emm_line : NumberLine
-emm_line = record { word = codes "emm "; low = LOWEST_POSITIONAL; high = HIGHEST_POSITIONAL }
+emm_line = record { word = codes "emm "; low = lowest_positional; high = highest_positional }
 
 abbrev pub ecm_line : NumberLine
-ecm_line = record { word = codes "ecm "; low = LOWEST_POSITIONAL; high = HIGHEST_POSITIONAL }
+ecm_line = record { word = codes "ecm "; low = lowest_positional; high = highest_positional }
 
 abbrev pub every_line : NumberLine
-every_line = record { word = codes "ecm-every "; low = 1; high = MOST_EVERY }
+every_line = record { word = codes "ecm-every "; low = 1; high = 4096 }
 
 abbrev pub cryptos_line : NumberLine
-cryptos_line = record { word = codes "crypto-ecms "; low = 1; high = MOST_CRYPTOS }
+cryptos_line = record { word = codes "crypto-ecms "; low = 1; high = 256 }
 
 abbrev pub span_line : NumberLine
-span_line = record { word = codes "period-cryptos "; low = 1; high = MOST_SPAN }
+span_line = record { word = codes "period-cryptos "; low = 1; high = 65535 }
 
 abbrev pub messages_line : NumberLine
-messages_line = record { word = codes "messages "; low = 1; high = MOST_MESSAGES }
+messages_line = record { word = codes "messages "; low = 1; high = 2 }
 
--- the lines in their order, of which the last may be left out [this project, docs/FORMATS.md, Site]
+abbrev pub first_word_line : NumberLine
+first_word_line = record { word = codes "first-word "; low = 0; high = 4294967295 }
+
+abbrev pub last_word_line : NumberLine
+last_word_line = record { word = codes "last-word "; low = 0; high = 4294967295 }
+
+abbrev pub first_period_line : NumberLine
+first_period_line = record { word = codes "first-period "; low = 0; high = 4294967295 }
+
+-- the lines in their order, of which the last four may be left out [this project, docs/FORMATS.md, Site]
 unfoldable pub forms : List Form
 forms =
     number height_line
@@ -62,6 +70,9 @@ forms =
     ∷ number cryptos_line
     ∷ number span_line
     ∷ number messages_line
+    ∷ number first_word_line
+    ∷ number last_word_line
+    ∷ number first_period_line
     ∷ []
 
 -- the number is in the line's range
@@ -81,7 +92,7 @@ number_on form = option_and_then (decimal_after form.word)
 abbrev pub bytes_on : BytesLine → Option (List ℕ) → Option (List ℕ)
 bytes_on form = option_and_then (bytes_after form.word form.count)
 
--- the version on the last line, which is 1 where the line is left out [this project, docs/FORMATS.md, Site]
-abbrev pub version_on : Option (List ℕ) → Option ℕ
-version_on None = Some 1
-version_on (Some line) = decimal_after messages_line.word line
+-- the decimal on a line that may be left out, or what stands for it [this project, docs/FORMATS.md, Site]
+abbrev pub number_or : ℕ → NumberLine → Option (List ℕ) → Option ℕ
+number_or left_out form None = Some left_out
+number_or left_out form (Some line) = decimal_after form.word line

@@ -1,20 +1,21 @@
--- The site file: eight or nine lines in a fixed order [this project, docs/FORMATS.md, Site].
+-- The site file: eight to twelve lines in a fixed order [this project, docs/FORMATS.md, Site].
 use Rattle.std.specs.Prelude.{◌≡◌, ℕ, ◌==◌, ◌&&◌, ◌≤◌, nat_le, List, [], ◌∷◌, length, slice_get}
 use Rattle.std.specs.Prelude.{if◌then◌else◌, Option, Some, None, Result, Ok, Err}
 use Rattle.std.specs.Int.{w16, from_be_bytes}
 use Rattle.sd_text.specs.Lines.{lines_of}
 use Rattle.sd_text.specs.Number.{decimal_after}
 use Rattle.sd_site.specs.Fields.{SiteFields, AreInRange}
-use Rattle.sd_site.specs.Forms.{NumberLine, BytesLine, bytes_after, number_on, bytes_on, version_on}
+use Rattle.sd_site.specs.Forms.{NumberLine, BytesLine, bytes_after, number_on, bytes_on, number_or}
 use Rattle.sd_site.specs.Forms.{height_line, master_line, ca_line, emm_line, ecm_line, every_line, cryptos_line}
-use Rattle.sd_site.specs.Forms.{span_line, messages_line}
+use Rattle.sd_site.specs.Forms.{span_line, messages_line, first_word_line, last_word_line, first_period_line}
+use Rattle.sd_site.specs.declared.optional.Optional.{Optional}
 use Rattle.sd_site.specs.declared.fault.SiteFault.{SiteFault}
 use Rattle.sd_site.specs.declared.fault.SiteFault.TheVariants.{Line, Range, SamePid, Extra, Short}
 
--- the text has just these lines, of which the ninth may be left out
+-- the text has just these lines, of which those after the eighth may be left out from any of them on
 pub record SpellsSite (lines : List (List ℕ)) (site : SiteFields) : Type 0 where
   pub least : 8 ≤ length lines
-  pub most : length lines ≤ 9
+  pub most : length lines ≤ 12
   pub height : number_on height_line (slice_get lines 0) ≡ Some site.height
   pub master : bytes_on master_line (slice_get lines 1) ≡ Some site.master
   pub ca : (bytes : List ℕ) × (bytes_on ca_line (slice_get lines 2) ≡ Some bytes) × (site.ca ≡ from_be_bytes w16 bytes)
@@ -23,7 +24,10 @@ pub record SpellsSite (lines : List (List ℕ)) (site : SiteFields) : Type 0 whe
   pub every : number_on every_line (slice_get lines 5) ≡ Some site.every
   pub cryptos : number_on cryptos_line (slice_get lines 6) ≡ Some site.cryptos
   pub span : number_on span_line (slice_get lines 7) ≡ Some site.span
-  pub messages : version_on (slice_get lines 8) ≡ Some site.messages
+  pub messages : number_or 1 messages_line (slice_get lines 8) ≡ Some site.messages
+  pub first_word : number_or 0 first_word_line (slice_get lines 9) ≡ Some site.first_word
+  pub last_word : number_or last_word_line.high last_word_line (slice_get lines 10) ≡ Some site.last_word
+  pub first_period : number_or 0 first_period_line (slice_get lines 11) ≡ Some site.first_period
 
 -- the bytes are a site file that says this
 pub record IsSite (bytes : List ℕ) (site : SiteFields) : Type 0 where
@@ -52,19 +56,36 @@ number_at k form [] = Err Short
 number_at k form (line ∷ lines) =
     in_range k form.low form.high (decimal_after form.word line) >>= λ n. Ok (n, lines)
 
--- the same of the last line, in place of which 1 stands where it is left out
-abbrev pub version_at : ℕ → NumberLine → List (List ℕ) → Result (ℕ × List (List ℕ)) SiteFault
-version_at k form [] = Ok (1, [])
-version_at k form (line ∷ lines) = number_at k form (line ∷ lines)
+-- the decimal on line k, if the line is there, or else what stands for it
+abbrev pub optional_at : ℕ → NumberLine → ℕ → List (List ℕ) → Result (ℕ × List (List ℕ)) SiteFault
+optional_at k form left_out [] = Ok (left_out, [])
+optional_at k form left_out (line ∷ lines) = number_at k form (line ∷ lines)
 
 -- the bytes on line k and the lines after it
 abbrev pub bytes_at : ℕ → BytesLine → List (List ℕ) → Result (List ℕ × List (List ℕ)) SiteFault
 bytes_at k form [] = Err Short
 bytes_at k form (line ∷ lines) = well_formed k (bytes_after form.word form.count line) >>= λ bytes. Ok (bytes, lines)
 
+-- what the lines after the eighth say, and the lines after those
+unfoldable pub optional_on : List (List ℕ) → Result (Optional × List (List ℕ)) SiteFault
+optional_on lines = do
+  messages ← optional_at 9 messages_line 1 lines
+  first_word ← optional_at 10 first_word_line 0 messages.1
+  last_word ← optional_at 11 last_word_line last_word_line.high first_word.1
+  first_period ← optional_at 12 first_period_line 0 last_word.1
+  Ok (
+    record {
+      messages = messages.0;
+      first_word = first_word.0;
+      last_word = last_word.0;
+      first_period = first_period.0;
+    },
+    first_period.1,
+  )
+
 -- what is judged once the lines are good: those after them, and the two PIDs
 abbrev pub judged_whole : List (List ℕ) → SiteFields → Result SiteFields SiteFault
-judged_whole (line ∷ lines) site = Err (Extra 10)
+judged_whole (line ∷ lines) site = Err (Extra 13)
 judged_whole [] site = if site.emm == site.ecm then Err SamePid else Ok site
 
 -- The site that the lines say, or the fault of the first bad line: lines are judged in order, and each by its form and
@@ -79,8 +100,8 @@ site_on lines = do
   every ← number_at 6 every_line ecm.1
   cryptos ← number_at 7 cryptos_line every.1
   span ← number_at 8 span_line cryptos.1
-  messages ← version_at 9 messages_line span.1
-  judged_whole messages.1 (record {
+  optional ← optional_on span.1
+  judged_whole optional.1 (record {
     height = height.0;
     master = master.0;
     ca = from_be_bytes w16 ca.0;
@@ -89,7 +110,10 @@ site_on lines = do
     every = every.0;
     cryptos = cryptos.0;
     span = span.0;
-    messages = messages.0;
+    messages = optional.0.messages;
+    first_word = optional.0.first_word;
+    last_word = optional.0.last_word;
+    first_period = optional.0.first_period;
   })
 
 -- the same of a file's bytes

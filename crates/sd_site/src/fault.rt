@@ -12,7 +12,7 @@ pub enum SiteFault {
     /// All lines are good, and the two PIDs are equal.
     #[error("one pid is named twice")]
     SamePid,
-    /// A line stands after nine good ones.
+    /// A line stands after twelve good ones.
     #[error("line {0} is one too many")]
     Extra(u32),
     /// All lines that are there are good, and there are fewer than eight.

@@ -2,12 +2,15 @@
 #![tactic(auto)]
 
 mod fault;
+mod optional;
 mod reader;
 mod site;
 
 pub use fault::SiteFault;
 pub use reader::read;
-pub use site::{MOST_CRYPTOS, MOST_EVERY, MOST_MESSAGES, MOST_SPAN, Site};
+pub use site::{
+    MOST_CRYPTOS, MOST_EVERY, MOST_FIRST_PERIOD, MOST_MESSAGES, MOST_SPAN, MOST_WORD, Site,
+};
 
 #[cfg(test)]
 mod tests;

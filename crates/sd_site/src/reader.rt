@@ -3,10 +3,13 @@ ghost use Rattle.sd_text.specs.Lines.{lines_of};
 ghost use Rattle.sd_site.specs.Fields.{SiteFields, fields_of};
 ghost use Rattle.sd_site.specs.Forms.{IsWithin, emm_line, messages_line};
 ghost use Rattle.sd_site.specs.Faults.{IsCauseOf};
-ghost use Rattle.sd_site.specs.Text.{IsSite, site_of, number_at, version_at, bytes_at};
+ghost use Rattle.sd_site.specs.Text.{IsSite, site_of, number_at, optional_at, optional_on, bytes_at};
 
 use crate::fault::SiteFault;
-use crate::site::{MOST_CRYPTOS, MOST_EVERY, MOST_MESSAGES, MOST_SPAN, Site};
+use crate::optional::Optional;
+use crate::site::{
+    MOST_CRYPTOS, MOST_EVERY, MOST_FIRST_PERIOD, MOST_MESSAGES, MOST_SPAN, MOST_WORD, Site,
+};
 use hex::FromHex;
 use sd_packet::{HIGHEST_POSITIONAL, LOWEST_POSITIONAL};
 use sd_text::{NumberFault, next_line, number_after};
@@ -50,21 +53,53 @@ fn pid_line<'a>(bytes: &'a [u8], k: u32, word: &[u8]) -> Result<(u16, &'a [u8]),
     Ok((number as u16, rest))
 }
 
-// The version on the last line, or 1 where no line is left.
-fn version_line(bytes: &[u8]) -> Result<(u8, &[u8]), SiteFault>
-    ensures fits { IfOk result (λ cut. IsWithin messages_line cut.0) }
+// The number on line k, or what stands for it if no line is left.
+fn optional_line<'a>(
+    bytes: &'a [u8],
+    k: u32,
+    word: &[u8],
+    low: u32,
+    high: u32,
+    left_out: u32,
+) -> Result<(u32, &'a [u8]), SiteFault>
+    requires { (low ≤ left_out) × (left_out ≤ high) }
+    ensures fits { IfOk result (λ cut. (low ≤ cut.0) × (cut.0 ≤ high)) }
     ensures value { MatchResult result
-        (λ cut. version_at 9 messages_line (lines_of bytes.now) ≡ Ok (cut.0, lines_of cut.1.now))
-        (λ fault. version_at 9 messages_line (lines_of bytes.now) ≡ Err fault) }
+        (λ cut. optional_at k (record { word = word.now; low = low; high = high }) left_out (lines_of bytes.now)
+        ≡ Ok (cut.0, lines_of cut.1.now))
+        (λ fault. optional_at k (record { word = word.now; low = low; high = high }) left_out (lines_of bytes.now)
+        ≡ Err fault) }
 {
     if next_line(bytes).is_none() {
-        return Ok((1, bytes));
+        return Ok((left_out, bytes));
     }
-    let (version, rest) = number_line(bytes, 9, b"messages ", 1, u32::from(MOST_MESSAGES))?;
-    Ok((version as u8, rest))
+    number_line(bytes, k, word, low, high)
 }
 
-// The same of a line of N bytes in hexadecimal digits.
+// What the lines after the eighth say.
+#[tactic(auto, unfolding(crate::specs::Text::optional_on))]
+fn optional_lines(bytes: &[u8]) -> Result<(Optional, &[u8]), SiteFault>
+    ensures fits { IfOk result (λ cut. IsWithin messages_line cut.0.messages) }
+    ensures value { MatchResult result
+        (λ cut. optional_on (lines_of bytes.now) ≡ Ok (cut.0, lines_of cut.1.now))
+        (λ fault. optional_on (lines_of bytes.now) ≡ Err fault) }
+{
+    let (messages, rest) = optional_line(bytes, 9, b"messages ", 1, u32::from(MOST_MESSAGES), 1)?;
+    let (first_word, rest) = optional_line(rest, 10, b"first-word ", 0, MOST_WORD, 0)?;
+    let (last_word, rest) = optional_line(rest, 11, b"last-word ", 0, MOST_WORD, MOST_WORD)?;
+    let (first_period, rest) = optional_line(rest, 12, b"first-period ", 0, MOST_FIRST_PERIOD, 0)?;
+    Ok((
+        Optional {
+            messages,
+            first_word,
+            last_word,
+            first_period,
+        },
+        rest,
+    ))
+}
+
+// The N bytes in hexadecimal digits on line k, and the bytes after the line.
 #[tactic(auto, using(crate::proofs::Digits::bytes_of_digits), unfolding(crate::specs::Forms::bytes_after, sd_text::specs::Number::after))]
 fn bytes_line<'a, const N: usize>(
     bytes: &'a [u8],
@@ -113,9 +148,9 @@ fn judge(bytes: &[u8]) -> Result<Site, SiteFault>
     let (every, rest) = number_line(rest, 6, b"ecm-every ", 1, MOST_EVERY)?;
     let (cryptos, rest) = number_line(rest, 7, b"crypto-ecms ", 1, MOST_CRYPTOS)?;
     let (span, rest) = number_line(rest, 8, b"period-cryptos ", 1, MOST_SPAN)?;
-    let (messages, rest) = version_line(rest)?;
+    let (optional, rest) = optional_lines(rest)?;
     if next_line(rest).is_some() {
-        return Err(SiteFault::Extra(10));
+        return Err(SiteFault::Extra(13));
     }
     if emm == ecm {
         return Err(SiteFault::SamePid);
@@ -129,6 +164,9 @@ fn judge(bytes: &[u8]) -> Result<Site, SiteFault>
         every,
         cryptos,
         span,
-        messages,
+        messages: optional.messages as u8,
+        first_word: optional.first_word,
+        last_word: optional.last_word,
+        first_period: optional.first_period,
     })
 }

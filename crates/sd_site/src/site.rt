@@ -1,6 +1,6 @@
 ghost use Rattle.std.specs.Prelude.{◌≢◌};
 ghost use Rattle.sd_site.specs.Forms.{IsWithin, emm_line, ecm_line, every_line, cryptos_line, span_line};
-ghost use Rattle.sd_site.specs.Forms.{messages_line};
+ghost use Rattle.sd_site.specs.Forms.{messages_line, first_word_line, last_word_line, first_period_line};
 
 use sd_tree::Height;
 
@@ -16,8 +16,14 @@ pub const MOST_SPAN: u32 = 65_535;
 /// The greatest version of ECMs.
 pub const MOST_MESSAGES: u8 = 2;
 
-/// A site: its tree's height, its master secret, its conditional access system and PIDs, and its messages' schedule
-/// and version.
+/// The greatest number of a control word.
+pub const MOST_WORD: u32 = 4_294_967_295;
+
+/// The greatest number of a first period.
+pub const MOST_FIRST_PERIOD: u32 = 4_294_967_295;
+
+/// A site: its tree's height, its master secret, its conditional access system and PIDs, its messages' schedule and
+/// version, and the numbers of a run's control words and periods.
 #[derive(Clone, Copy, Debug, PartialEq, Eq)]
 pub struct Site {
     /// The height of the tree of receivers.
@@ -38,6 +44,13 @@ pub struct Site {
     pub span: u32,
     /// The version of the ECMs that the head end writes.
     pub messages: u8,
+    /// The number of the first control word of a run of the head end.
+    pub first_word: u32,
+    /// The greatest number of a control word that a run may use. A run's first packet is too long if this is below
+    /// `first_word`.
+    pub last_word: u32,
+    /// The number of the first period of a run.
+    pub first_period: u32,
     ghost emm_in: { IsWithin emm_line emm },
     ghost ecm_in: { IsWithin ecm_line ecm },
     ghost apart: { emm ≢ ecm },
@@ -45,4 +58,7 @@ pub struct Site {
     ghost cryptos_in: { IsWithin cryptos_line cryptos },
     ghost span_in: { IsWithin span_line span },
     ghost messages_in: { IsWithin messages_line messages },
+    ghost first_word_in: { IsWithin first_word_line first_word },
+    ghost last_word_in: { IsWithin last_word_line last_word },
+    ghost first_period_in: { IsWithin first_period_line first_period },
 }

@@ -79,12 +79,78 @@ fn the_first_bad_line_decides(rt: HostRuntime) -> Result<(), Fail> {
         (9, 9, "messages 0", SiteFault::Range(9)),
         (9, 9, "messages 3", SiteFault::Range(9)),
         (9, 9, "messages", SiteFault::Line(9)),
-        (9, 9, "messages 2\n", SiteFault::Extra(10)),
-        (9, 9, "messages 2\nmessages 2", SiteFault::Extra(10)),
+        (9, 9, "messages 2\n", SiteFault::Line(10)),
+        (9, 9, "messages 2\nmessages 2", SiteFault::Line(10)),
     ];
     for (count, k, line, fault) in table {
         let text = text(rt.alloc(), count, k, line)?;
         assert!(rt; read(text.as_bytes()) == Err(fault), "at {line}");
+    }
+    Ok(())
+}
+
+const GREATEST: u32 = 4_294_967_295;
+
+#[test]
+fn a_site_names_its_words_and_its_first_period(rt: HostRuntime) -> Result<(), Fail> {
+    let table = [
+        ("messages 1", (0, GREATEST, 0)),
+        ("messages 1\nfirst-word 0", (0, GREATEST, 0)),
+        (
+            "messages 2\nfirst-word 4294967295\nlast-word 4294967295",
+            (GREATEST, GREATEST, 0),
+        ),
+        (
+            "messages 2\nfirst-word 4294967295\nlast-word 0\nfirst-period 4294967295",
+            (GREATEST, 0, GREATEST),
+        ),
+    ];
+    for (lines, named) in table {
+        let text = text(rt.alloc(), 9, 9, lines)?;
+        let site = read(text.as_bytes())
+            .ok()
+            .ok_or("the text is a site file")?;
+        assert_eq!(rt; (site.first_word, site.last_word, site.first_period), named);
+    }
+    Ok(())
+}
+
+#[test]
+fn the_lines_of_words_and_periods_are_judged(rt: HostRuntime) -> Result<(), Fail> {
+    let table = [
+        ("first-word 7", SiteFault::Line(9)),
+        ("first-period 7", SiteFault::Line(9)),
+        ("messages 1\nfirst-word 4294967296", SiteFault::Range(10)),
+        ("messages 1\nfirst-word 07", SiteFault::Line(10)),
+        ("messages 1\nlast-word 1", SiteFault::Line(10)),
+        (
+            "messages 1\nfirst-word 7\nlast-word 4294967296",
+            SiteFault::Range(11),
+        ),
+        (
+            "messages 1\nfirst-word 7\nlast-word 00",
+            SiteFault::Line(11),
+        ),
+        (
+            "messages 1\nfirst-word 7\nfirst-period 1",
+            SiteFault::Line(11),
+        ),
+        (
+            "messages 1\nfirst-word 7\nlast-word 9\nfirst-period 4294967296",
+            SiteFault::Range(12),
+        ),
+        (
+            "messages 1\nfirst-word 7\nlast-word 9\nfirst-period -1",
+            SiteFault::Line(12),
+        ),
+        (
+            "messages 1\nfirst-word 7\nlast-word 9\nfirst-period 1\n",
+            SiteFault::Extra(13),
+        ),
+    ];
+    for (lines, fault) in table {
+        let text = text(rt.alloc(), 9, 9, lines)?;
+        assert!(rt; read(text.as_bytes()) == Err(fault), "at {lines}");
     }
     Ok(())
 }

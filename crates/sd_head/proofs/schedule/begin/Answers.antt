@@ -1,19 +1,24 @@
 use Rattle.std.proofs.lemmas.Result.{on_ok_weaker, on_err_weaker}
 use Rattle.sd_entitling.specs.Kept.{plan_of}
-use Rattle.sd_head.proofs.Starting.{starts, stays, begun_at, begins_there}
+use Rattle.sd_head.proofs.Starting.{starts, stays, word_begins, begun_at, begins_there}
 use Rattle.sd_head.proofs.schedule.begin.Goals as goal
 
 pub returns-then-k-length-ne0-clause-value : goal.returns-then-k-length-ne0-clause-value
 returns-then-k-length-ne0-clause-value g c =
     stays (plan_of c.args.site.now c.args.entitling.now.book) c.args.k c.crypto_length-length.result
-    c.args.entitling.now c.requires
+    c.args.entitling.now c.requires.at
     c.crypto_length-length.ensures.value c.if-k-length-ne0.true
 
-pub begin-requires : goal.begin-requires
-begin-requires g c =
+pub begin-requires-clause-before : goal.begin-requires-clause-before
+begin-requires-clause-before g c =
     starts (plan_of c.args.site.now c.args.entitling.now.book) c.args.k c.crypto_length-length.result
-    c.args.entitling.now c.requires
+    c.args.entitling.now c.requires.at
     c.crypto_length-length.ensures.value c.if-k-length-ne0.false
+
+pub begin-requires-clause-fits : goal.begin-requires-clause-fits
+begin-requires-clause-fits g c =
+    word_begins (plan_of c.args.site.now c.args.entitling.now.book) c.args.k c.crypto_length-length.result
+    c.crypto_length-length.ensures.value c.requires.word
 
 pub returns-clause-value : goal.returns-clause-value
 returns-clause-value g c =

@@ -1,9 +1,9 @@
-use Rattle.std.proofs.Common.{◌≡◌, ◌-◌, ◌^◌, ◌==◌, ℕ, true, false, sym, ◌∙◌, ap}
+use Rattle.std.proofs.Common.{◌≡◌, ◌==◌, true, false, sym, ◌∙◌, ap}
 use Rattle.std.proofs.Common.{eq-eqb, ne_eqb}
 use Rattle.std.specs.Prelude.{None}
 use Rattle.sd_packet.specs.Header.{pid_of, scrambling_of}
 use Rattle.sd_site.specs.Fields.{fields_of}
-use Rattle.sd_broadcast.specs.Refused.{is_taken, pat_wrong}
+use Rattle.sd_broadcast.specs.Refused.{is_taken, pat_wrong, is_too_long}
 use Rattle.sd_clear.proofs.Refusing.{scrambled_refused, taken_refused, pat_refused, full_refused, many_refused}
 use Rattle.sd_clear.proofs.Refusing.{long_refused, none_refused}
 use Rattle.sd_clear.proofs.clear.Clear.refusal.Goals as goal
@@ -79,7 +79,7 @@ returns-then-is_at_end-clause-value c =
     (c.from-number.ensures ∙ after.number) clear free pat
     (sym (c.is_full_own.ensures before after) ∙ c.if-is_full_own.false)
     (sym (c.is_one_too_many.ensures.value before after) ∙ c.if-is_one_too_many.false)
-    (ap (λ (n : ℕ). n == 2 ^ 32 - 1) (sym after.number) ∙ (sym c.is_at_end.ensures ∙ c.if-is_at_end.true))
+    (ap (is_too_long (fields_of c.args.site.now)) (sym after.number) ∙ (sym c.is_at_end.ensures ∙ c.if-is_at_end.true))
 
 pub returns-clause-value : goal.returns-clause-value
 returns-clause-value c =
@@ -93,4 +93,4 @@ returns-clause-value c =
     λ before after. none_refused (fields_of c.args.site.now) before packet clear free pat
     (sym (c.is_full_own.ensures before after) ∙ c.if-is_full_own.false)
     (sym (c.is_one_too_many.ensures.value before after) ∙ c.if-is_one_too_many.false)
-    (ap (λ (n : ℕ). n == 2 ^ 32 - 1) (sym after.number) ∙ (sym c.is_at_end.ensures ∙ c.if-is_at_end.false))
+    (ap (is_too_long (fields_of c.args.site.now)) (sym after.number) ∙ (sym c.is_at_end.ensures ∙ c.if-is_at_end.false))

@@ -9,14 +9,11 @@ pub returns-clause-value : goal.returns-clause-value
 returns-clause-value g c =
     let plan = plan_of c.args.site.now c.args.self.now.book in
     let before = c.requires.before in
-    let kept : c.take_period.new.index.revoked ≡ revoked plan.site.height plan.commands c.args.q =
-    subst (λ (d : ℕ). c.take_period.new.index.revoked ≡ revoked d plan.commands c.args.q) before.of_height
-    (subst (λ (q : ℕ). c.take_period.new.index.revoked
-    ≡ revoked c.args.self.now.book.height plan.commands q) before.next
-    (c.in_ok-take_period.ensures.value (before.revoked_are
-    ∙ (ap (λ (d : ℕ). revoked_before d plan.commands c.args.q) (sym before.of_height)
-    ∙ ap (revoked_before c.args.self.now.book.height plan.commands) (sym before.next))))) in
+    let kept : c.take_periods.new.index.revoked ≡ revoked plan.site.height plan.commands c.args.p =
+    subst (λ (d : ℕ). c.take_periods.new.index.revoked ≡ revoked d plan.commands c.args.p) before.of_height
+    (c.in_ok-take_periods.ensures.value (before.revoked_are
+    ∙ ap (λ (d : ℕ). revoked_before d plan.commands c.args.self.now.place.next) (sym before.of_height))) in
     on_ok_weaker c.pack_period.result
-    (λ emms. in_period (plan_of c.args.site.now c.args.self.now.book) c.args.q c.args.self.now _ c.requires.before refl
-    c.take_period.ensures.place c.take_period.ensures.next c.take_period.ensures.height kept emms)
+    (λ emms. in_period plan c.args.self.now.place.next c.args.p c.args.q c.args.self.now _ before c.requires.decided refl
+    c.take_periods.ensures.place c.in_ok-take_periods.ensures.next c.take_periods.ensures.height kept emms)
     c.pack_period.ensures

@@ -19,6 +19,9 @@ returns-clause-value c =
           cryptos = site.cryptos_in;
           span = site.span_in;
           messages = site.messages_in;
+          first_word = site.first_word_in;
+          last_word = site.last_word_in;
+          first_period = site.first_period_in;
         };
         ca = omega (arith, c.if-prove-2.false);
         book = subst (λ (d : ℕ). IsWithinLimits d c.args.book.commands) c.requires
@@ -27,7 +30,7 @@ returns-clause-value c =
       commands = refl;
       of_height = c.requires;
       place = c.new.ensures.place c.args.book.commands;
-      next = c.new.ensures.next;
+      next = omega (arith, c.new.ensures.next);
       height = c.new-2.ensures.value.0;
       revoked_are = c.new-2.ensures.value.1;
     }
