@@ -3,8 +3,9 @@ ghost use Rattle.serde_json.specs.View.{view};
 ghost use Rattle.sd_lines.specs.Lines.{cat_data};
 
 use crate::ca::cas_value;
+use crate::object::object_of;
 use sd_psi::Cat;
-use serde_json::{Value, json};
+use serde_json::Value;
 use std::alloc::{AllocError, Global};
 
 // What is shown of a CAT on this PID, completed by the packet of this number.
@@ -18,5 +19,13 @@ pub(crate) fn cat_value(
     ensures { IfOk result (λ value. view value ≡ cat_data packet pid cat.now.section.bytes.now) }
 {
     let cas = cas_value(alloc, cat.descriptors())?;
-    json!(in alloc; {"ca": cas, "packet": packet, "pid": pid, "table": "cat", "version": cat.version()})
+    let table = Value::try_from_str(alloc, "cat")?;
+    let members = vec![in alloc;
+        ("ca", cas),
+        ("packet", packet.into()),
+        ("pid", pid.into()),
+        ("table", table),
+        ("version", cat.version().into()),
+    ]?;
+    object_of(alloc, members)
 }

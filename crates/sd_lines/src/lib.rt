@@ -4,6 +4,7 @@
 mod ca;
 mod cat;
 mod line;
+mod object;
 mod pat;
 mod pmt;
 mod table;

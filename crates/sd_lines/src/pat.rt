@@ -3,6 +3,7 @@ ghost use Rattle.serde_json.specs.View.{view};
 ghost use Rattle.sd_psi.specs.Tables.{programs_of};
 ghost use Rattle.sd_lines.specs.Lines.{listed, program_data, pat_data};
 
+use crate::object::object_of;
 use sd_psi::Pat;
 use serde_json::{Value, json};
 use std::alloc::{AllocError, Global};
@@ -18,10 +19,16 @@ pub(crate) fn pat_value(
     ensures { IfOk result (λ value. view value ≡ pat_data packet pid pat.now.section.bytes.now) }
 {
     let programs = programs_value(alloc, pat)?;
-    json!(in alloc; {
-        "packet": packet, "pid": pid, "programs": programs, "stream": pat.stream_id(),
-        "table": "pat", "version": pat.version()
-    })
+    let table = Value::try_from_str(alloc, "pat")?;
+    let members = vec![in alloc;
+        ("packet", packet.into()),
+        ("pid", pid.into()),
+        ("programs", programs),
+        ("stream", pat.stream_id().into()),
+        ("table", table),
+        ("version", pat.version().into()),
+    ]?;
+    object_of(alloc, members)
 }
 
 // Its programs.

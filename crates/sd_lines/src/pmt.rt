@@ -4,8 +4,9 @@ ghost use Rattle.sd_psi.specs.Tables.{stream_of, streams_of};
 ghost use Rattle.sd_lines.specs.Lines.{listed, stream_data, pmt_data};
 
 use crate::ca::cas_value;
+use crate::object::object_of;
 use sd_psi::{Pmt, Stream};
-use serde_json::{Value, json};
+use serde_json::Value;
 use std::alloc::{AllocError, Global};
 
 // What is shown of a PMT on this PID, completed by the packet of this number.
@@ -20,10 +21,18 @@ pub(crate) fn pmt_value(
 {
     let cas = cas_value(alloc, pmt.descriptors())?;
     let streams = streams_value(alloc, pmt)?;
-    json!(in alloc; {
-        "ca": cas, "packet": packet, "pcr": pmt.pcr(), "pid": pid, "program": pmt.program(),
-        "streams": streams, "table": "pmt", "version": pmt.version()
-    })
+    let table = Value::try_from_str(alloc, "pmt")?;
+    let members = vec![in alloc;
+        ("ca", cas),
+        ("packet", packet.into()),
+        ("pcr", pmt.pcr().into()),
+        ("pid", pid.into()),
+        ("program", pmt.program().into()),
+        ("streams", streams),
+        ("table", table),
+        ("version", pmt.version().into()),
+    ]?;
+    object_of(alloc, members)
 }
 
 // Its streams.
@@ -45,5 +54,10 @@ fn stream_value(alloc: Global, stream: &Stream) -> Result<Value, AllocError>
     ensures { IfOk result (λ value. view value ≡ stream_data (stream_of stream.now.bytes.now)) }
 {
     let cas = cas_value(alloc, stream.descriptors())?;
-    json!(in alloc; {"ca": cas, "pid": stream.pid(), "type": stream.stream_type()})
+    let members = vec![in alloc;
+        ("ca", cas),
+        ("pid", stream.pid().into()),
+        ("type", stream.stream_type().into()),
+    ]?;
+    object_of(alloc, members)
 }

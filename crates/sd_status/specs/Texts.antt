@@ -152,17 +152,28 @@ unclosed_line number = codes "stream ends before message " ++ (decimal number ++
 unfoldable pub gaps_line : ℕ → List ℕ
 gaps_line packets = decimal packets ++ codes " clear packets are missing\n"
 
+-- the line of a file that isn't there
+unfoldable pub missing_line : ℕ → List ℕ
+missing_line word = codes "missing file word " ++ (decimal word ++ codes "\n")
+
+-- the line of a refused line of a file
+unfoldable pub book_line : ℕ → ℕ → List ℕ
+book_line word line = codes "word " ++ (decimal word ++ (codes " line " ++ (decimal line ++ codes " is refused\n")))
+
+-- the line of a word that is out of its range
+unfoldable pub word_line : ℕ → List ℕ
+word_line word = codes "word " ++ (decimal word ++ codes " is out of range\n")
+
 -- the line that a status prints; none where the work is done, or where printing failed
 unfoldable pub line_of : Status → List ℕ
 line_of Done = []
 line_of Usage = codes "usage\n"
-line_of (Missing word) = codes "missing file word " ++ (decimal word ++ codes "\n")
+line_of (Missing word) = missing_line word
 line_of (Revoked leaf period) = revoked_line leaf period
 line_of DepotFault = codes "device fault\n"
 line_of PrintFault = []
 line_of (BadSite fault) = site_line fault
-line_of (BadBook word line) = codes "word " ++ (decimal word ++
-    (codes " line " ++ (decimal line ++ codes " is refused\n")))
+line_of (BadBook word line) = book_line word line
 line_of (BadCard fault) = card_line fault
 line_of (BadClear packet cause) = clear_line packet cause
 line_of (BadStream packet cause) = stream_line packet cause
@@ -172,4 +183,4 @@ line_of (Unheard leaf period) = unheard_line leaf period
 line_of (Unclosed number) = unclosed_line number
 line_of (Gaps packets) = gaps_line packets
 line_of NoCat = codes "no CAT for this card\n"
-line_of (BadWord word) = codes "word " ++ (decimal word ++ codes " is out of range\n")
+line_of (BadWord word) = word_line word

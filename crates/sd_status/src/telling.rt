@@ -8,6 +8,8 @@ ghost use Rattle.sd_status.specs.Texts.{stream_text as stream_text_of};
 ghost use Rattle.sd_status.specs.Texts.{emm_text as emm_text_of, ecm_text as ecm_text_of};
 ghost use Rattle.sd_status.specs.Texts.{revoked_line as revoked_line_of, unheard_line as unheard_line_of};
 ghost use Rattle.sd_status.specs.Texts.{unclosed_line as unclosed_line_of, gaps_line as gaps_line_of};
+ghost use Rattle.sd_status.specs.Texts.{missing_line as missing_line_of, book_line as book_line_of};
+ghost use Rattle.sd_status.specs.Texts.{word_line as word_line_of};
 ghost use Rattle.sd_status.specs.Lines.{bytes_of};
 ghost use Rattle.sd_status.specs.Outside.{page};
 ghost use Rattle.sd_status.specs.Answers.{Says, Tells, TakesMemory};
@@ -70,27 +72,49 @@ fn status_line(alloc: Global, status: Status) -> Result<Line, AllocError>
     ensures value { IfOk result (λ line. bytes_of line ≡ line_of status) }
     ensures memory { OnErr result (TakesMemory status) }
 {
-    Ok(match status {
-        Status::Done | Status::PrintFault => Line::Fixed(""),
-        Status::Usage => Line::Fixed("usage\n"),
-        Status::Missing(word) => Line::Made(format!(in alloc; "missing file word {word}\n")?),
-        Status::Revoked { leaf, period } => revoked_line(alloc, leaf, period)?,
-        Status::DepotFault => Line::Fixed("device fault\n"),
-        Status::BadSite(fault) => site_line(alloc, fault)?,
-        Status::BadBook { word, line } => {
-            Line::Made(format!(in alloc; "word {word} line {line} is refused\n")?)
-        }
-        Status::BadCard(fault) => card_line(alloc, fault)?,
-        Status::BadClear { packet, cause } => clear_line(alloc, packet, cause)?,
-        Status::BadStream { packet, cause } => stream_line(alloc, packet, cause)?,
-        Status::Limit(kind) => limit_line(alloc, kind)?,
-        Status::NoMemory => Line::Fixed("no memory\n"),
-        Status::Unheard { leaf, period } => unheard_line(alloc, leaf, period)?,
-        Status::Unclosed(number) => unclosed_line(alloc, number)?,
-        Status::Gaps(packets) => gaps_line(alloc, packets)?,
-        Status::NoCat => Line::Fixed("no CAT for this card\n"),
-        Status::BadWord(word) => Line::Made(format!(in alloc; "word {word} is out of range\n")?),
-    })
+    match status {
+        Status::Done | Status::PrintFault => Ok(Line::Fixed("")),
+        Status::Usage => Ok(Line::Fixed("usage\n")),
+        Status::Missing(word) => missing_line(alloc, word),
+        Status::Revoked { leaf, period } => revoked_line(alloc, leaf, period),
+        Status::DepotFault => Ok(Line::Fixed("device fault\n")),
+        Status::BadSite(fault) => site_line(alloc, fault),
+        Status::BadBook { word, line } => book_line(alloc, word, line),
+        Status::BadCard(fault) => card_line(alloc, fault),
+        Status::BadClear { packet, cause } => clear_line(alloc, packet, cause),
+        Status::BadStream { packet, cause } => stream_line(alloc, packet, cause),
+        Status::Limit(kind) => limit_line(alloc, kind),
+        Status::NoMemory => Ok(Line::Fixed("no memory\n")),
+        Status::Unheard { leaf, period } => unheard_line(alloc, leaf, period),
+        Status::Unclosed(number) => unclosed_line(alloc, number),
+        Status::Gaps(packets) => gaps_line(alloc, packets),
+        Status::NoCat => Ok(Line::Fixed("no CAT for this card\n")),
+        Status::BadWord(word) => word_line(alloc, word),
+    }
+}
+
+/// The line of a file that isn't there.
+#[tactic(auto, unfolding(crate::specs::Texts::missing_line))]
+fn missing_line(alloc: Global, word: u8) -> Result<Line, AllocError>
+    ensures { IfOk result (λ line. bytes_of line ≡ missing_line_of word) }
+{
+    Ok(Line::Made(format!(in alloc; "missing file word {word}\n")?))
+}
+
+/// The line of a refused line of a file.
+#[tactic(auto, unfolding(crate::specs::Texts::book_line))]
+fn book_line(alloc: Global, word: u8, line: u32) -> Result<Line, AllocError>
+    ensures { IfOk result (λ text. bytes_of text ≡ book_line_of word line) }
+{
+    Ok(Line::Made(format!(in alloc; "word {word} line {line} is refused\n")?))
+}
+
+/// The line of a word that is out of its range.
+#[tactic(auto, unfolding(crate::specs::Texts::word_line))]
+fn word_line(alloc: Global, word: u8) -> Result<Line, AllocError>
+    ensures { IfOk result (λ line. bytes_of line ≡ word_line_of word) }
+{
+    Ok(Line::Made(format!(in alloc; "word {word} is out of range\n")?))
 }
 
 /// The line of a leaf that is revoked.

@@ -1,0 +1,19 @@
+-- Objects from lists of their members.
+use Rattle.std.specs.Prelude.{ℕ, List, [], ◌∷◌, map}
+use Rattle.std.specs.Borrow.{Bor}
+use Rattle.serde_json.specs.Data.{Data, Members, object, no_members, put}
+use Rattle.serde_json.specs.View.{view}
+use Rattle.serde_json.specs.declared.value.Value.{Value}
+
+-- members, once these are put among them in turn
+abbrev pub put_all : List (List ℕ × Data) → Members → Members
+put_all [] members = members
+put_all (m ∷ ms) members = put_all ms (put m.0 m.1 members)
+
+-- the names and the data of some values
+abbrev pub named : List (Bor (List ℕ) × Value) → List (List ℕ × Data)
+named values = map (λ v. (v.0.now, view v.1)) values
+
+-- the object of these members
+abbrev pub object_by : List (Bor (List ℕ) × Value) → Data
+object_by values = object (put_all (named values) no_members)
