@@ -76,7 +76,7 @@ fn optional_line<'a>(
     number_line(bytes, k, word, low, high)
 }
 
-// What the lines after the eighth say.
+// What the lines after the eighth say, and the bytes after those lines.
 #[tactic(auto, unfolding(crate::specs::Text::optional_on))]
 fn optional_lines(bytes: &[u8]) -> Result<(Optional, &[u8]), SiteFault>
     ensures fits { IfOk result (λ cut. IsWithin messages_line cut.0.messages) }

@@ -107,9 +107,7 @@ fn a_site_names_its_words_and_its_first_period(rt: HostRuntime) -> Result<(), Fa
     ];
     for (lines, named) in table {
         let text = text(rt.alloc(), 9, 9, lines)?;
-        let site = read(text.as_bytes())
-            .ok()
-            .ok_or("the text is a site file")?;
+        let site = read(text.as_bytes()).ok().ok_or("the text is a site file")?;
         assert_eq!(rt; (site.first_word, site.last_word, site.first_period), named);
     }
     Ok(())

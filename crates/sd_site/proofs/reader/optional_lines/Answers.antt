@@ -1,4 +1,3 @@
-use Rattle.std.proofs.Common.{refl}
 use Rattle.std.proofs.lemmas.Result.{err_from_is_err_and}
 use Rattle.sd_site.proofs.LeftOut.{first_word_bad, last_word_bad, first_period_bad}
 use Rattle.sd_site.proofs.reader.optional_lines.Goals as goal
