@@ -25,28 +25,3 @@ pub fn advance(position: u64, counter: u8) -> u64
     let next = position + 1;
     next + u64::from(counter).wrapping_sub(next) % 16
 }
-
-#[cfg(test)]
-mod tests {
-    use super::*;
-
-    #[test]
-    fn counters_lead_to_positions(rt: HostRuntime) {
-        let mut position = 15;
-        for (counter, next) in [(14, 30), (15, 31), (0, 32), (0, 48)] {
-            assert!(rt; counter < 16 && position < 1 << 63);
-            position = advance(position, counter);
-            assert_eq!(rt; position, next);
-        }
-        for (pid, known) in [
-            (0x0000, false),
-            (0x001F, false),
-            (0x0020, true),
-            (0x1FEF, true),
-            (0x1FF0, false),
-            (0x1FFF, false),
-        ] {
-            assert_eq!(rt; is_positional(pid), known, "PID {pid}");
-        }
-    }
-}

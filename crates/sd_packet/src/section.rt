@@ -55,30 +55,3 @@ fn write_header(bytes: &mut [u8], pid: u16, counter: u8)
         continuity_counter: 28, 4 = u64::from(counter);
     }
 }
-
-#[cfg(test)]
-mod tests {
-    use super::*;
-
-    #[test]
-    fn a_section_fills_a_packet(rt: HostRuntime) {
-        let pat = [
-            0x00, 0xB0, 0x0D, 0x00, 0x01, 0xC1, 0x00, 0x00, 0x00, 0x01, 0xF0, 0x00, 0x2A, 0xB1,
-            0x04, 0xB2,
-        ];
-        let packet = pack_section(&pat, 0, 0);
-        let bytes = packet.bytes();
-        assert_eq!(rt;
-            &bytes[..8],
-            [0x47, 0x40, 0x00, 0x10, 0x00, 0x00, 0xB0, 0x0D].as_slice()
-        );
-        assert_eq!(rt; &bytes[5..21], pat.as_slice());
-        assert_eq!(rt; bytes[21], 0xFF);
-        assert_eq!(rt; bytes[187], 0xFF);
-        let other = pack_section(&pat, 0x1234, 11);
-        assert_eq!(rt;
-            &other.bytes()[..5],
-            [0x47, 0x52, 0x34, 0x1B, 0x00].as_slice()
-        );
-    }
-}

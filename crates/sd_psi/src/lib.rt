@@ -12,8 +12,6 @@ mod pmt;
 mod program;
 mod rewrite;
 mod stream;
-#[cfg(test)]
-mod tests;
 
 pub use cat::{Cat, cat_in, cat_of};
 pub use descriptor::{CA_TAG, CaDescriptor, Descriptor, Descriptors};

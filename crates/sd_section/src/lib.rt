@@ -10,8 +10,6 @@ mod limits;
 mod making;
 mod read;
 mod section;
-#[cfg(test)]
-mod tests;
 mod write;
 
 pub use assembler::Assembler;
