@@ -8,6 +8,3 @@ mod site;
 pub use fault::SiteFault;
 pub use reader::read;
 pub use site::{MOST_CRYPTOS, MOST_EVERY, MOST_MESSAGES, MOST_SPAN, Site};
-
-#[cfg(test)]
-mod tests;
