@@ -12,6 +12,3 @@ mod report;
 pub use accounts::Accounts;
 pub use fault::AccountFault;
 pub use name::LONGEST_NAME;
-
-#[cfg(test)]
-mod tests;

@@ -22,6 +22,3 @@ pub use fault::{BookFault, BookLimit};
 pub use limits::{MOST_COMMANDS, MOST_PERIODS};
 pub use place::Place;
 pub use replay::Periods;
-
-#[cfg(test)]
-mod tests;

@@ -14,6 +14,3 @@ mod write;
 
 pub use card::Card;
 pub use fault::CardFault;
-
-#[cfg(test)]
-mod tests;

@@ -8,8 +8,6 @@ mod message;
 mod order;
 mod part;
 mod read;
-#[cfg(test)]
-mod tests;
 mod write;
 
 pub use fault::EcmFault;

@@ -8,8 +8,6 @@ pub mod laws;
 mod order;
 mod period;
 mod read;
-#[cfg(test)]
-mod tests;
 mod write;
 
 pub use emm::{Emm, Entry};

@@ -11,6 +11,3 @@ pub use key::{check_value, control_word, period_key, whole_key};
 pub use label::{Label, Side, descend, middle, root_label, step};
 pub use laws::{held_label, labels_of_pairs, names_given};
 pub use name::Name;
-
-#[cfg(test)]
-mod tests;

@@ -4,6 +4,3 @@
 mod reading;
 
 pub use reading::{LeavesFault, read};
-
-#[cfg(test)]
-mod tests;

@@ -15,6 +15,3 @@ mod write;
 pub use card::LayerCard;
 pub use fault::LayerFault;
 pub use names::layered_names;
-
-#[cfg(test)]
-mod tests;

@@ -11,6 +11,3 @@ pub use file::{
 };
 pub use hanging::hanging_above;
 pub use labels::push_labels;
-
-#[cfg(test)]
-mod tests;

@@ -11,6 +11,3 @@ pub use reader::read;
 pub use site::{
     MOST_CRYPTOS, MOST_EVERY, MOST_FIRST_PERIOD, MOST_MESSAGES, MOST_SPAN, MOST_WORD, Site,
 };
-
-#[cfg(test)]
-mod tests;

@@ -20,32 +20,3 @@ pub fn next_line(bytes: &[u8]) -> Option<(&[u8], &[u8])>
         None => Some((bytes, &[])),
     }
 }
-
-#[cfg(test)]
-mod tests {
-    use super::*;
-
-    #[test]
-    fn a_text_is_its_lines(rt: HostRuntime) {
-        let table: [(&[u8], &[&[u8]]); 6] = [
-            (b"a\nb", &[b"a", b"b"]),
-            (b"a\n", &[b"a"]),
-            (b"\n\n", &[b"", b""]),
-            (b"", &[]),
-            (b"a", &[b"a"]),
-            (b"a\r\n", &[b"a\r"]),
-        ];
-        for (text, lines) in table {
-            let mut rest = text;
-            for line in lines {
-                let cut = next_line(rest);
-                assert!(rt; cut.is_some());
-                if let Some((first, after)) = cut {
-                    assert_eq!(rt; first, *line);
-                    rest = after;
-                }
-            }
-            assert!(rt; next_line(rest).is_none());
-        }
-    }
-}

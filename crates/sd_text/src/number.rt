@@ -62,36 +62,3 @@ fn value(digits: &[u8]) -> Result<u32, NumberFault>
     }
     Ok(value as u32)
 }
-
-#[cfg(test)]
-mod tests {
-    use super::*;
-
-    #[test]
-    fn a_number_is_read_after_its_word(rt: HostRuntime) {
-        let table: [(&[u8], Result<u32, NumberFault>); 16] = [
-            (b"revoke 5", Ok(5)),
-            (b"revoke 0", Ok(0)),
-            (b"revoke 4294967295", Ok(4_294_967_295)),
-            (b"revoke 4294967296", Err(NumberFault::TooLarge)),
-            (b"revoke 99999999999999999999", Err(NumberFault::TooLarge)),
-            (
-                b"revoke 1000000000000000000000000000000000000000",
-                Err(NumberFault::TooLarge),
-            ),
-            (b"revoke 05", Err(NumberFault::Malformed)),
-            (b"revoke 00", Err(NumberFault::Malformed)),
-            (b"revoke ", Err(NumberFault::Malformed)),
-            (b"revoke", Err(NumberFault::Malformed)),
-            (b"revoke  5", Err(NumberFault::Malformed)),
-            (b"revoke 5 ", Err(NumberFault::Malformed)),
-            (b"revoke +5", Err(NumberFault::Malformed)),
-            (b"revoke -1", Err(NumberFault::Malformed)),
-            (b"revoke 5\r", Err(NumberFault::Malformed)),
-            (b"Revoke 5", Err(NumberFault::Malformed)),
-        ];
-        for (line, number) in table {
-            assert_eq!(rt; number_after(b"revoke ", line), number);
-        }
-    }
-}

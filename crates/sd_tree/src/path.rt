@@ -40,30 +40,3 @@ pub fn sibling(node: u32) -> u32
 {
     if node % 2 == 0 { node + 1 } else { node - 1 }
 }
-
-#[cfg(test)]
-mod tests {
-    use super::*;
-
-    // The node at this depth on the path to leaf 5 of height 3.
-    fn on_path(depth: u32) -> Option<u32> {
-        let h = Height::new(3)?;
-        let u = Leaf::new(h, 5)?;
-        if depth <= 3 {
-            Some(path_node(h, u, depth))
-        } else {
-            None
-        }
-    }
-
-    #[test]
-    fn path_of_leaf_5(rt: HostRuntime) {
-        for (depth, node) in [(0, 1), (1, 3), (2, 6), (3, 13)] {
-            assert_eq!(rt; on_path(depth), Some(node), "depth {depth}");
-        }
-        for (node, due) in [(3, 2), (6, 7), (13, 12)] {
-            assert!(rt; 1 <= node);
-            assert_eq!(rt; sibling(node), due, "sibling of {node}");
-        }
-    }
-}

@@ -1,7 +1,7 @@
-use super::*;
+use crate::packets::{Change, changed, flipped, packet_of};
 use hex::FromHex;
+use sd_ecm::{EcmFault, EcmHead, EcmPart, MOST_PLACES, Place, part_count, read_ecm, write_ecm};
 use sd_packet::Packet;
-use sd_section::seal;
 use std::alloc::Global;
 use std::ops::Range;
 use std::test::Fail;
@@ -340,12 +340,6 @@ static ROWS: [Row; 14] = [
     },
 ];
 
-fn packet_of(head: &str) -> Option<Packet> {
-    let mut bytes = [0xFF; 188];
-    hex::decode_to_slice(head, bytes.get_mut(..head.len() / 2)?).ok()?;
-    Packet::new(bytes)
-}
-
 fn positions_of(row: &Row) -> Option<[Place; 13]> {
     let nothing = Place {
         pid: 0,
@@ -463,23 +457,6 @@ fn parts_of_messages(rt: HostRuntime) -> Result<(), Fail> {
     Ok(())
 }
 
-// The packet of a row with these bytes changed, and the CRC made right.
-fn changed(row: &Row, changes: &[(usize, u8)]) -> Option<Packet> {
-    let mut bytes = *packet_of(row.packet)?.bytes();
-    for (place, byte) in changes {
-        *bytes.get_mut(*place)? = *byte;
-    }
-    let length = usize::from(u16::from_be_bytes([bytes[6], bytes[7]]) % 4096);
-    let section = bytes.get_mut(5..8 + length)?;
-    if section.len() >= 4 {
-        seal(section);
-    }
-    Packet::new(bytes)
-}
-
-// A row, and the bytes of its packet that are changed.
-type Change = (usize, &'static [(usize, u8)]);
-
 // A count, a length, a part that isn't the last with 3 positions, and with 12, a last part with none; in version 2 13
 // positions; a part of version 2 under a table_id of version 1; a part that isn't the last, before its PID and flags.
 static OTHER_COUNTS: [Change; 8] = [
@@ -532,7 +509,7 @@ static OTHER_KINDS: [Change; 8] = [
 // Whether each packet that is changed so is read as this.
 fn are_read_as(changes: &[Change], due: Result<Option<EcmPart>, EcmFault>) -> bool {
     for (row, bytes) in changes {
-        let packet = ROWS.get(*row).and_then(|row| changed(row, bytes));
+        let packet = ROWS.get(*row).and_then(|row| changed(row.packet, bytes));
         if packet.map(|packet| read_ecm(&packet)) != Some(due) {
             return false;
         }
@@ -548,13 +525,6 @@ fn faults_in_order(rt: HostRuntime) -> Result<(), Fail> {
     assert!(rt; are_read_as(&OTHER_HEADS, Err(EcmFault::Mixed)));
     assert!(rt; are_read_as(&OTHER_KINDS, Ok(None)));
     Ok(())
-}
-
-// The packet with a bit of this byte flipped, unless that is its sync byte.
-fn flipped(packet: &Packet, place: usize) -> Option<Packet> {
-    let mut bytes = *packet.bytes();
-    *bytes.get_mut(place)? ^= 1;
-    Packet::new(bytes)
 }
 
 // Whether the packet is read as this whichever of these bytes has a bit flipped.

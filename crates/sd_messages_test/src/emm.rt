@@ -1,8 +1,10 @@
-use super::*;
+use crate::packets::{Change, changed, flipped, packet_of};
 use hex::FromHex;
+use sd_emm::{Emm, EmmFault, Entry, MOST_SETS, read_emm, section_count, write_emm};
 use sd_packet::Packet;
-use sd_section::seal;
 use sd_tree::{Height, SetName};
+use std::alloc::Global;
+use std::ops::Range;
 use std::test::Fail;
 
 // Entitlements that an independent implementation wrote, and their packet up to its stuffing.
@@ -176,12 +178,6 @@ static ROWS: [Row; 7] = [
     },
 ];
 
-fn packet_of(start: &str) -> Option<Packet> {
-    let mut bytes = [0xFF; 188];
-    hex::decode_to_slice(start, bytes.get_mut(..start.len() / 2)?).ok()?;
-    Packet::new(bytes)
-}
-
 fn emm_of(row: &Row) -> Option<Emm> {
     let nothing = Entry {
         name: SetName::Whole,
@@ -210,123 +206,143 @@ fn emm_of(row: &Row) -> Option<Emm> {
     })
 }
 
+// The packet, read at this height and written again.
+fn written_again(h: Height, packet: &Packet) -> Option<Packet> {
+    let emm = read_emm(h, packet).ok()??;
+    Some(write_emm(&emm, packet.pid(), packet.counter()))
+}
+
 #[test]
 fn messages_both_ways(rt: HostRuntime) -> Result<(), Fail> {
     for row in &ROWS {
         let packet = packet_of(row.packet).ok_or("no packet")?;
         let h = Height::new(row.height).ok_or("no height")?;
-        let read = read_emm(h, &packet);
-        assert!(rt; emm_of(row).is_some());
-        assert_eq!(rt; read, Ok(emm_of(row)));
-        if let Ok(Some(emm)) = read {
-            let written = write_emm(&emm, packet.pid(), packet.counter());
-            assert_eq!(rt; written.bytes(), packet.bytes());
-        }
+        let emm = emm_of(row).ok_or("no emm")?;
+        assert_eq!(rt; read_emm(h, &packet), Ok(Some(emm)));
+        let written = written_again(h, &packet).ok_or("not written")?;
+        assert_eq!(rt; written.bytes(), packet.bytes());
     }
     Ok(())
+}
+
+// The entries of these rows, one after the other.
+fn entries_of(alloc: Global, rows: &[Row]) -> Result<Vec<Entry>, Fail> {
+    let mut entries = Vec::new(alloc);
+    for row in rows {
+        let emm = emm_of(row).ok_or("no emm")?;
+        let own = emm.entries.get(..usize::from(emm.count));
+        entries.extend_from_slice(own.ok_or("no entries")?)?;
+    }
+    Ok(entries)
+}
+
+// The section of this row's index of the period that has these entries.
+fn section_again(row: &Row, entries: &[Entry]) -> Option<Emm> {
+    let due = emm_of(row)?;
+    if entries.len() <= MOST_SETS && due.index < section_count(entries.len()) {
+        Some(Emm::of_period(row.period, &due.check, entries, due.index))
+    } else {
+        None
+    }
 }
 
 #[test]
 fn sections_of_periods(rt: HostRuntime) -> Result<(), Fail> {
     // The first row of each period, and how many rows it has.
     for (first, count) in [(0, 1), (1, 1), (3, 1), (5, 2)] {
-        let mut entries = Vec::new(rt.alloc());
-        for row in first..first + count {
-            let emm = ROWS.get(row).and_then(emm_of).ok_or("no row")?;
-            for k in 0..usize::from(emm.count) {
-                entries.push(*emm.entries.get(k).ok_or("no entry")?)?;
-            }
-        }
-        assert!(rt; entries.len() <= 6);
+        let rows = ROWS.get(first..first + count).ok_or("no rows")?;
+        let entries = entries_of(rt.alloc(), rows)?;
+        assert!(rt; entries.len() <= MOST_SETS);
         assert_eq!(rt; usize::from(section_count(entries.len())), count);
-        for index in 0..section_count(entries.len()) {
-            let row = ROWS.get(first + usize::from(index)).ok_or("no row")?;
-            let due = emm_of(row).ok_or("no emm")?;
-            let emm = Emm::of_period(row.period, &due.check, &entries, index);
-            assert_eq!(rt; emm, due);
+        for row in rows {
+            assert_eq!(rt; section_again(row, &entries), emm_of(row));
         }
     }
     Ok(())
 }
 
-// The packet of a row with these bytes changed, and the CRC made right.
-fn changed(row: &Row, changes: &[(usize, u8)]) -> Option<Packet> {
-    let mut bytes = *packet_of(row.packet)?.bytes();
-    for (place, byte) in changes {
-        *bytes.get_mut(*place)? = *byte;
+// A count of 2 with section_length 76; a length, a number of sections, an index, numbers of sets.
+static OTHER_COUNTS: [Change; 8] = [
+    (1, &[(39, 2)]),
+    (3, &[(7, 0x9D)]),
+    (3, &[(22, 2)]),
+    (3, &[(9, 1)]),
+    (3, &[(20, 4)]),
+    (3, &[(20, 2)]),
+    (6, &[(20, 5)]),
+    (5, &[(22, 1)]),
+];
+
+// S(2,3), the whole set beside others, a node below the leaves.
+static OTHER_NODES: [Change; 3] = [
+    (2, &[(43, 2), (47, 3)]),
+    (3, &[(43, 0), (47, 0)]),
+    (3, &[(127, 20)]),
+];
+
+// After a greater one, and twice.
+static OTHER_ORDERS: [Change; 2] = [(3, &[(43, 5), (47, 11)]), (3, &[(123, 4), (127, 8)])];
+
+// The first rule that is broken counts: a count before an order, and a node before an order.
+static COUNT_FIRST: [Change; 1] = [(3, &[(20, 2), (47, 3), (123, 4), (127, 8)])];
+
+static NODE_FIRST: [Change; 1] = [(3, &[(43, 6), (47, 13), (127, 20)])];
+
+// table_id, the bit after the syntax indicator, version, section numbers, pointer, unit start.
+static OTHER_KINDS: [Change; 7] = [
+    (3, &[(5, 0x80)]),
+    (3, &[(6, 0xF0)]),
+    (3, &[(10, 0xC3)]),
+    (3, &[(11, 1)]),
+    (3, &[(12, 1)]),
+    (3, &[(4, 1)]),
+    (3, &[(1, 0x01)]),
+];
+
+// Whether each packet that is changed so is read as this.
+fn are_read_as(changes: &[Change], due: Result<Option<Emm>, EmmFault>) -> bool {
+    for (row, bytes) in changes {
+        if ROWS.get(*row).and_then(|row| read_changed(row, bytes)) != Some(due) {
+            return false;
+        }
     }
-    let length = usize::from(u16::from_be_bytes([bytes[6], bytes[7]]) % 4096);
-    let section = bytes.get_mut(5..8 + length)?;
-    if section.len() >= 4 {
-        seal(section);
-    }
-    Packet::new(bytes)
+    true
+}
+
+// How the packet of a row is read with these bytes changed.
+fn read_changed(row: &Row, bytes: &[(usize, u8)]) -> Option<Result<Option<Emm>, EmmFault>> {
+    let packet = changed(row.packet, bytes)?;
+    Some(read_emm(Height::new(row.height)?, &packet))
 }
 
 #[test]
-fn faults_in_order(rt: HostRuntime) -> Result<(), Fail> {
-    // The row, the bytes that are changed, what is read.
-    let table: [(usize, &[(usize, u8)], Result<Option<Emm>, EmmFault>); 22] = [
-        // A count of 2 with section_length 76; a length, a number of sections, an index, numbers of sets.
-        (1, &[(39, 2)], Err(EmmFault::Count)),
-        (3, &[(7, 0x9D)], Err(EmmFault::Count)),
-        (3, &[(22, 2)], Err(EmmFault::Count)),
-        (3, &[(9, 1)], Err(EmmFault::Count)),
-        (3, &[(20, 4)], Err(EmmFault::Count)),
-        (3, &[(20, 2)], Err(EmmFault::Count)),
-        (6, &[(20, 5)], Err(EmmFault::Count)),
-        (5, &[(22, 1)], Err(EmmFault::Count)),
-        // S(2,3), the whole set beside others, a node below the leaves.
-        (2, &[(43, 2), (47, 3)], Err(EmmFault::Node)),
-        (3, &[(43, 0), (47, 0)], Err(EmmFault::Node)),
-        (3, &[(127, 20)], Err(EmmFault::Node)),
-        // After a greater one, and twice.
-        (3, &[(43, 5), (47, 11)], Err(EmmFault::Order)),
-        (3, &[(123, 4), (127, 8)], Err(EmmFault::Order)),
-        // The first rule that is broken counts.
-        (
-            3,
-            &[(20, 2), (47, 3), (123, 4), (127, 8)],
-            Err(EmmFault::Count),
-        ),
-        (3, &[(43, 6), (47, 13), (127, 20)], Err(EmmFault::Node)),
-        // Other kinds: table_id, the bit after the syntax indicator, version, section numbers, pointer, unit start.
-        (3, &[(5, 0x80)], Ok(None)),
-        (3, &[(6, 0xF0)], Ok(None)),
-        (3, &[(10, 0xC3)], Ok(None)),
-        (3, &[(11, 1)], Ok(None)),
-        (3, &[(12, 1)], Ok(None)),
-        (3, &[(4, 1)], Ok(None)),
-        (3, &[(1, 0x01)], Ok(None)),
-    ];
-    for (row, changes, due) in table {
-        let row = ROWS.get(row).ok_or("no row")?;
-        let packet = changed(row, changes).ok_or("no packet")?;
-        let h = Height::new(row.height).ok_or("no height")?;
-        assert_eq!(rt; read_emm(h, &packet), due);
+fn faults_in_order(rt: HostRuntime) {
+    assert!(rt; are_read_as(&OTHER_COUNTS, Err(EmmFault::Count)));
+    assert!(rt; are_read_as(&OTHER_NODES, Err(EmmFault::Node)));
+    assert!(rt; are_read_as(&OTHER_ORDERS, Err(EmmFault::Order)));
+    assert!(rt; are_read_as(&COUNT_FIRST, Err(EmmFault::Count)));
+    assert!(rt; are_read_as(&NODE_FIRST, Err(EmmFault::Node)));
+    assert!(rt; are_read_as(&OTHER_KINDS, Ok(None)));
+}
+
+// Whether the packet is read as this whichever of these bytes has a bit flipped.
+fn is_still_read_as(h: Height, packet: &Packet, places: Range<usize>, due: Option<Emm>) -> bool {
+    for place in places {
+        if flipped(packet, place).map(|packet| read_emm(h, &packet)) != Some(Ok(due)) {
+            return false;
+        }
     }
-    Ok(())
+    true
 }
 
 #[test]
 fn no_bit_makes_another_message(rt: HostRuntime) -> Result<(), Fail> {
-    let row = ROWS.get(3).ok_or("no row")?;
-    let packet = packet_of(row.packet).ok_or("no packet")?;
-    let h = Height::new(row.height).ok_or("no height")?;
-    for place in 0..188usize {
-        let mut bytes = *packet.bytes();
-        bytes[place] ^= 1;
-        if let Some(packet) = Packet::new(bytes) {
-            match read_emm(h, &packet) {
-                // The header's PID, the counter and what stands after the section aren't read.
-                Ok(Some(emm)) => {
-                    assert!(rt; place < 4 || place >= 164);
-                    assert_eq!(rt; Some(emm), emm_of(row));
-                }
-                Ok(None) => assert!(rt; place < 164),
-                Err(_) => assert!(rt; false),
-            }
-        }
-    }
+    let packet = packet_of(ROWS[3].packet).ok_or("no packet")?;
+    let emm = emm_of(&ROWS[3]).ok_or("no emm")?;
+    let h = Height::new(ROWS[3].height).ok_or("no height")?;
+    // The header's PID, the counter and what stands after the section aren't read.
+    assert!(rt; is_still_read_as(h, &packet, 1..4, Some(emm)));
+    assert!(rt; is_still_read_as(h, &packet, 4..164, None));
+    assert!(rt; is_still_read_as(h, &packet, 164..188, Some(emm)));
     Ok(())
 }

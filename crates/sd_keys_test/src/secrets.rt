@@ -1,14 +1,11 @@
-use super::*;
+use crate::known::master;
+use sd_secrets::{checks, write_file};
 use std::test::*;
 
 // A head of three bytes and two secrets, and the check that Python's hashlib gives of them.
 #[test]
 fn a_file_is_its_head_its_secrets_and_the_check(rt: HostRuntime) -> Result<(), Fail> {
-    let mut first = [0; 32];
-    for i in 0..32u8 {
-        first[usize::from(i)] = i;
-    }
-    let bytes = write_file(rt.alloc(), &[0x53, 0x44, 0x01], &[first, [0xff; 32]])?;
+    let bytes = write_file(rt.alloc(), &[0x53, 0x44, 0x01], &[master(), [0xff; 32]])?;
     assert_eq!(rt; bytes.len(), 83);
     assert!(rt; bytes.starts_with(&[0x53, 0x44, 0x01, 0x00, 0x01]));
     assert!(rt; bytes[34..36] == [0x1f, 0xff]);
