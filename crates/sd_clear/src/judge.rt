@@ -117,8 +117,7 @@ impl Clear {
     fn is_at_end(&self, site: &Site) -> bool
         ensures { result ≡ is_too_long (fields_of site.now) self.now.count }
     {
-        let word =
-            u64::from(site.first_word) + u64::from(self.count / (site.every * site.cryptos));
+        let word = u64::from(site.first_word) + u64::from(self.count / (site.every * site.cryptos));
         self.count == u32::MAX || word > u64::from(site.last_word)
     }
 

@@ -7,7 +7,8 @@ use Rattle.sd_label.specs.Keys.{period_key_of, control_word_of, check_value_of}
 use Rattle.sd_wrap.specs.Wrapping.{wrapped as under}
 use Rattle.sd_entitling.specs.declared.crypto.CryptoPeriod.{CryptoPeriod}
 
--- the crypto period of control word t and period q, with the word under the period's key [this project, docs/FORMATS.md, Messages]
+-- the crypto period of control word t and period q, with the word under the period's key [this project,
+-- docs/FORMATS.md, Messages]
 unfoldable pub crypto_in : List ℕ → ℕ → ℕ → CryptoPeriod
 crypto_in master q t = record {
   number = t;

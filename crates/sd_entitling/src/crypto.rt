@@ -7,7 +7,7 @@ use sd_wrap::wrap;
 /// A crypto period, with its control word as control messages have it (this project, docs/FORMATS.md, Messages).
 #[derive(Clone, Copy)]
 pub struct CryptoPeriod {
-    /// Its number.
+    /// The number of its control word.
     pub number: u32,
     /// The period that it is of.
     pub period: u32,

@@ -187,3 +187,45 @@ fn as_many_pids_move_as_may(rt: HostRuntime) -> Result<(), Fail> {
     );
     Ok(())
 }
+
+static EACH: &str = "height 3
+master 000102030405060708090a0b0c0d0e0f101112131415161718191a1b1c1d1e1f
+ca 1234
+emm 496
+ecm 497
+ecm-every 1
+crypto-ecms 1
+period-cryptos 1
+messages 1
+";
+
+#[test]
+fn a_site_has_so_many_control_words(rt: HostRuntime) -> Result<(), Fail> {
+    // A site's further lines, and how many packets have a control word of its own.
+    let table = [
+        ("first-word 4294967295\n", 1),
+        ("first-word 7\nlast-word 8\n", 2),
+        ("first-word 7\nlast-word 6\n", 0),
+    ];
+    for (lines, count) in table {
+        let mut text = String::new(rt.alloc());
+        text.push_str(EACH)?;
+        text.push_str(lines)?;
+        let site = read(text.as_bytes()).ok().ok_or("the text is a site file")?;
+        let mut clear = Clear::new(rt.alloc()).ok().ok_or("there is memory")?;
+        let null = packet([0x47, 0x1F, 0xFF, 0x10], 0xFF, 0xFF, 0xFF).ok_or("it is a packet")?;
+        for _ in 0..count {
+            assert!(rt; step(&mut clear, &site, &null).is_ok());
+        }
+        assert_eq!(rt;
+            clear.refusal(&site, &null),
+            Some(ClearFault::TooLong(count))
+        );
+        let scrambled = packet([0x47, 0x1F, 0xFF, 0x90], 0xFF, 0xFF, 0xFF).ok_or("it is a packet")?;
+        assert_eq!(rt;
+            clear.refusal(&site, &scrambled),
+            Some(ClearFault::AlreadyScrambled(count))
+        );
+    }
+    Ok(())
+}

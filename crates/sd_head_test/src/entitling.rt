@@ -71,3 +71,73 @@ fn periods_begin_with_their_sets(rt: HostRuntime) {
         }
     }
 }
+
+// Runs that begin at control word 7: with period 1, and with one after the book's last.
+static LATER: &str = "height 3
+master 000102030405060708090a0b0c0d0e0f101112131415161718191a1b1c1d1e1f
+ca 1234
+emm 496
+ecm 497
+ecm-every 200
+crypto-ecms 2
+period-cryptos 1
+messages 2
+first-word 7
+last-word 8
+first-period 1
+";
+
+static LAST: &str = "height 3
+master 000102030405060708090a0b0c0d0e0f101112131415161718191a1b1c1d1e1f
+ca 1234
+emm 496
+ecm 497
+ecm-every 200
+crypto-ecms 2
+period-cryptos 1
+messages 2
+first-word 7
+last-word 8
+first-period 4294967295
+";
+
+// The check value of control word 7.
+const SEVENTH_CHECK: [u8; 16] = [
+    0x1B, 0x74, 0x70, 0xF9, 0xAA, 0xB7, 0xBC, 0x5E, 0xC2, 0xB2, 0x3E, 0x36, 0x70, 0x39, 0x51, 0x26,
+];
+
+// What is kept in the first crypto period, and how many sets its index gives.
+fn begun<L: Ledger>(alloc: Global, site: &[u8], blank: Blank) -> Option<(Begun, usize)>
+    requires name { blank.name ≡ L.name }
+    requires parts { blank.parts ≡ L.parts }
+    requires some { 0 < blank.parts }
+{
+    let mut steps = Steps::<L>::new(blank);
+    let site = sd_site::read(site).ok()?;
+    let book = Book::read(alloc, BOOK.as_bytes(), site.height).ok()?;
+    let mut entitling = Entitling::new(alloc, &site, book);
+    entitling.begin(&site, 0, &mut steps).ok()?;
+    let sets = entitling.index().sets(alloc, &mut steps).ok()?;
+    let first = (entitling.emms().to_vec(alloc).ok()?, *entitling.crypto());
+    Some((first, sets.len()))
+}
+
+fn first_begun(alloc: Global, site: &[u8]) -> Option<(Begun, usize)> {
+    begun::<Brand>(alloc, site, Blank::new(1))
+}
+
+#[test]
+fn a_run_begins_at_its_first_word_and_period(rt: HostRuntime) {
+    for (site, period) in [(LATER, 1), (LAST, 4_294_967_295)] {
+        let begun = first_begun(rt.alloc(), site.as_bytes());
+        assert!(rt; begun.is_some());
+        if let Some(((emms, crypto), sets)) = begun {
+            assert_eq!(rt; (crypto.number, crypto.period, sets), (7, period, 1));
+            assert_eq!(rt; crypto.check, SEVENTH_CHECK);
+            assert!(rt; emms.len() == 1);
+            assert!(rt;
+                period > 1 || emms.as_slice() == [pack_section(&OTHERS, 496, 0)].as_slice()
+            );
+        }
+    }
+}

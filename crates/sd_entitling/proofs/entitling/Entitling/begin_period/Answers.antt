@@ -14,6 +14,6 @@ returns-clause-value g c =
     (c.in_ok-take_periods.ensures.value (before.revoked_are
     ∙ ap (λ (d : ℕ). revoked_before d plan.commands c.args.self.now.place.next) (sym before.of_height))) in
     on_ok_weaker c.pack_period.result
-    (λ emms. in_period plan c.args.self.now.place.next c.args.p c.args.q c.args.self.now _ before c.requires.decided refl
-    c.take_periods.ensures.place c.in_ok-take_periods.ensures.next c.take_periods.ensures.height kept emms)
+    (λ emms. in_period plan c.args.self.now.place.next c.args.p c.args.q c.args.self.now _ before c.requires.decided
+    refl c.take_periods.ensures.place c.in_ok-take_periods.ensures.next c.take_periods.ensures.height kept emms)
     c.pack_period.ensures

@@ -1,4 +1,4 @@
-use Rattle.std.proofs.Common.{◌≡◌, ◌∙◌, ℕ, min, ap, sym, subst, arith}
+use Rattle.std.proofs.Common.{◌∙◌, ℕ, min, ap, sym, subst, arith}
 use Rattle.sd_book.specs.Commands.{last_period}
 use Rattle.sd_entitling.specs.Kept.{plan_of, IsInPeriod}
 use Rattle.sd_entitling.proofs.Periods.{still_at_work, begun_is, on_err_always}
