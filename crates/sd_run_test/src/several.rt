@@ -229,7 +229,7 @@ struct Run {
     sent: Vec<[u8; PACKET]>,
 }
 
-fn run(alloc: Global, lines: &str, sample: &str) -> Result<Run, AllocError> {
+fn broadcast_of(alloc: Global, lines: &str, sample: &str) -> Result<Run, AllocError> {
     let mut site = Vec::from_slice(alloc, TWENTY.as_bytes())?;
     site.extend_from_slice(lines.as_bytes())?;
     let mut depot = shelf(alloc, site, b"", sample)?;
@@ -260,11 +260,11 @@ fn two_time_pads(one: &Run, two: &Run) -> Option<usize> {
 #[test]
 fn words_of_their_own_keep_keystreams_apart(rt: HostRuntime) -> Result<(), AllocError> {
     let alloc = rt.alloc();
-    let first = run(alloc, "", "sample 7 60 clear")?;
+    let first = broadcast_of(alloc, "", "sample 7 60 clear")?;
     assert_eq!(rt; first.sent.len(), 57);
-    let again = run(alloc, "", "sample 8 60 clear")?;
+    let again = broadcast_of(alloc, "", "sample 8 60 clear")?;
     assert_eq!(rt; two_time_pads(&first, &again), Some(57));
-    let apart = run(alloc, "messages 1\nfirst-word 2\n", "sample 8 60 clear")?;
+    let apart = broadcast_of(alloc, "messages 1\nfirst-word 2\n", "sample 8 60 clear")?;
     assert_eq!(rt; two_time_pads(&first, &apart), Some(0));
     Ok(())
 }
