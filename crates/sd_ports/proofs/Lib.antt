@@ -5,3 +5,4 @@ pub mod Calls
 pub mod Rooms
 pub mod Failings
 pub mod Prefixes
+pub mod Faults

@@ -4,3 +4,4 @@ pub mod Causes
 pub mod Failing
 pub mod Memory
 pub mod Rooms
+pub mod Faults

@@ -21,8 +21,23 @@ pub enum FileFault {
     NoMemory = 4,
 }
 
+impl From<DepotFault> for FileFault {
+    ghost use Rattle.std.specs.Prelude.{◌≡◌};
+    ghost use Rattle.sd_ports.specs.Faults.{file_fault};
+
+    ghost from_gives = { λ fault file. file ≡ file_fault fault };
+
+    fn from(fault: DepotFault) -> FileFault {
+        match fault {
+            DepotFault::Missing => FileFault::Missing,
+            DepotFault::Failed => FileFault::Failed,
+            DepotFault::NoMemory => FileFault::NoMemory,
+        }
+    }
+}
+
 /// Reads a whole file of at most `most` bytes: it opens, reads and closes it, and only then answers.
-#[tactic(auto, using(crate::proofs::Calls::twice_called, crate::proofs::Calls::open_as_before, crate::proofs::Calls::opened_there))]
+#[tactic(auto, using(crate::proofs::Calls::twice_called, crate::proofs::Calls::open_as_before, crate::proofs::Calls::opened_there, crate::proofs::Faults::file_cause, crate::proofs::Faults::never_too_big, crate::proofs::Faults::only_missing))]
 pub fn read_file<D: Depot>(
     alloc: Global,
     depot: &mut D,
@@ -41,12 +56,7 @@ pub fn read_file<D: Depot>(
     ensures calls { CountsCalls (D.calls depot.old) (D.calls depot.new) result }
     ensures once { (D.calls depot.new ≤ with_added (D.calls depot.old) 1) ⊎ IsThere (D.files depot.old) name.now }
 {
-    let mut port = match depot.open_in(alloc, name) {
-        Ok(port) => port,
-        Err(DepotFault::Missing) => return Err(FileFault::Missing),
-        Err(DepotFault::Failed) => return Err(FileFault::Failed),
-        Err(DepotFault::NoMemory) => return Err(FileFault::NoMemory),
-    };
+    let mut port = depot.open_in(alloc, name)?;
     let read = read_all(alloc, &mut port, most);
     depot.close_in(port);
     match read {
@@ -59,7 +69,7 @@ pub fn read_file<D: Depot>(
 
 /// Makes a file with these bytes, in place of one that had the name: it makes, writes and closes it, and only then
 /// answers. `Failed` may leave a prefix of them.
-#[tactic(auto, using(crate::proofs::Outlets::there_after, crate::proofs::Calls::twice_called, crate::proofs::Calls::open_as_before))]
+#[tactic(auto, using(crate::proofs::Outlets::there_after, crate::proofs::Calls::twice_called, crate::proofs::Calls::open_as_before, crate::proofs::Faults::file_cause, crate::proofs::Faults::unwritten))]
 pub fn write_file<D: Depot>(
     alloc: Global,
     depot: &mut D,
@@ -73,12 +83,7 @@ pub fn write_file<D: Depot>(
     ensures ports { D.opened depot.new ≡ D.opened depot.old }
     ensures calls { CountsCalls (D.calls depot.old) (D.calls depot.new) result }
 {
-    let mut port = match depot.create_out(alloc, name) {
-        Ok(port) => port,
-        Err(DepotFault::Missing) => return Err(FileFault::Missing),
-        Err(DepotFault::Failed) => return Err(FileFault::Failed),
-        Err(DepotFault::NoMemory) => return Err(FileFault::NoMemory),
-    };
+    let mut port = depot.create_out(alloc, name)?;
     let written = write_all(&mut port, bytes);
     let closed = depot.close_out(name, port);
     match written {

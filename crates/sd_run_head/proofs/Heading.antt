@@ -174,19 +174,6 @@ plan_follows {X} view site book clear out got p q page steps b x status sc bc re
           obeys));
     }
 
--- a refusal, or a stop, is the same whatever would have been given
-pub same_refusal : {X Z Y : Type 0} (view : X → Y) (other : Z → Y) (meant : Given → Meant Y) (a b : Place)
-    (status : Status) →
-    Reads view meant a b (Err status) → Reads other meant a b (Err status)
-same_refusal view other meant a b status h = record { given = h.given; is_given = h.is_given; gives = h.gives }
-
--- what was given, seen otherwise
-pub same_value : {X Z Y : Type 0} (view : X → Y) (other : Z → Y) (meant : Given → Meant Y) (a b : Place) (x : X)
-    (z : Z) →
-    view x ≡ other z → Reads view meant a b (Ok x) → Reads other meant a b (Ok z)
-same_value view other meant a b x z same h =
-    record { given = h.given; is_given = h.is_given; gives = (h.gives.0 ∙ ap Ok same, h.gives.1) }
-
 -- a plan that was not read
 pub no_plan : {X : Type 0} (view : X → Plan) (site book clear out : Word) (p q : Place) (page : Page) (steps : ℕ)
     (status : Status) →

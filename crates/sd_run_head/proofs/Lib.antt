@@ -1,3 +1,4 @@
 pub mod Sending
 pub mod Heading
 pub mod Others
+pub mod Planned

@@ -1,20 +1,16 @@
-ghost use Rattle.std.specs.Prelude.{◌≡◌, ◌≢◌, [], IfOk};
-ghost use Rattle.sd_site.specs.Fields.{fields_of};
+ghost use Rattle.std.specs.Prelude.{◌≡◌, ◌≢◌, []};
 ghost use Rattle.sd_head.specs.Staged.{plan_in, IsAfter};
 ghost use Rattle.sd_status.specs.Outside.{Page, outside, place};
-ghost use Rattle.sd_status.specs.Reads.{Reads};
 ghost use Rattle.sd_status.specs.Comes.{Follows, status_of};
-ghost use Rattle.sd_run_head.specs.Head.{head_meaning, plan_meaning, refusal_in, refused_status};
+ghost use Rattle.sd_run_head.specs.Head.{head_meaning, refusal_in, refused_status};
 ghost use Rattle.sd_run_head.specs.Head.{sent_told, SendsLeft};
 ghost use Rattle.sd_files.specs.Turned.{HasPortCause};
 ghost use Rattle.sd_files.specs.Shown.{shown_word};
 
-use sd_book::Book;
 use sd_engine::{DriveFault, MOST_PACKETS, drive};
-use sd_files::{Word, close_both, open_both, read_book, read_site};
+use sd_files::{Word, close_both, open_both, read_both};
 use sd_head::{ClearFault, Head, HeadFault};
 use sd_ports::{Depot, Sink, Source};
-use sd_site::Site;
 use sd_status::{ClearCause, Status};
 use sd_steps::Steps;
 use std::alloc::Global;
@@ -38,29 +34,11 @@ pub fn head<D: Depot, L: Ledger>(
         (outside (place D.Depot depot.old) page steps.old) (outside (place D.Depot depot.new) page steps.new)
         (status_of result) }
 {
-    let (site, book) = read_plan(alloc, depot, site, book)?;
+    let (site, book) = read_both(alloc, depot, site, book)?;
     let mut head = Head::new(alloc, site, book)?;
     let (mut inlet, mut outlet) = open_both(alloc, depot, clear, out)?;
     let sent = send(&mut inlet, &mut outlet, &mut head, steps);
     close_both(depot, inlet, outlet, out, sent)
-}
-
-/// The site, and the book for its tree.
-fn read_plan<D: Depot>(
-    alloc: Global,
-    depot: &mut D,
-    site: Word<'_>,
-    book: Word<'_>,
-) -> Result<(Site, Book), Status>
-    requires { site.number ≢ book.number }
-    ensures value { Reads (λ plan. record { site = fields_of plan.0; commands = plan.1.commands })
-        (plan_meaning (shown_word site.entry) (shown_word book.entry))
-        (place D.Depot depot.old) (place D.Depot depot.new) result }
-    ensures height { IfOk result (λ plan. plan.1.height ≡ plan.0.height) }
-{
-    let site = read_site(alloc, depot, site)?;
-    let book = read_book(alloc, depot, book, site.height)?;
-    Ok((site, book))
 }
 
 /// Sends what is sent for the clear stream that is left of a source.

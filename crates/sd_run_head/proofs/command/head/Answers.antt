@@ -1,4 +1,4 @@
-use Rattle.std.proofs.Common.{refl, Some, []}
+use Rattle.std.proofs.Common.{refl, Some, Ok, Err, []}
 use Rattle.std.proofs.lemmas.Result.{err_from_is_err_and}
 use Rattle.sd_site.specs.Fields.{fields_of}
 use Rattle.sd_ports.proofs.Outlets.{there_after}
@@ -13,7 +13,14 @@ use Rattle.sd_files.specs.Shown.{shown_word}
 use Rattle.sd_files.proofs.Looked.{opened_got}
 use Rattle.sd_files.proofs.Turning.{turned_obeys, not_turned}
 use Rattle.sd_run_head.proofs.Heading.{by_plan, plan_follows, no_plan, wanting_obeys}
+use Rattle.sd_run_head.proofs.Planned.{reads_plan}
 use Rattle.sd_run_head.proofs.command.head.Goals as goal
+use Rattle.sd_files.specs.Both.{SiteBook}
+use Rattle.sd_site.specs.declared.site.Site.{Site}
+use Rattle.sd_book.specs.declared.book.Book.{Book}
+
+abbrev both_read : Site × Book → SiteBook
+both_read both = record { site = fields_of both.0; commands = both.1.commands }
 
 -- neither file was read as it is to be
 pub returns-in_err-site : goal.returns-in_err-site
@@ -22,9 +29,10 @@ returns-in_err-site g c page =
     rw (p.1, p.2) (no_plan (λ plan. record { site = fields_of plan.0; commands = plan.1.commands })
     (shown_word c.args.site)
     (shown_word c.args.book) (shown_word c.args.clear) (shown_word c.args.out)
-    (place g.D.Depot c.args.depot.now) (place g.D.Depot c.read_plan.new.depot) page c.args.steps.now
+    (place g.D.Depot c.args.depot.now) (place g.D.Depot c.read_both.new.depot) page c.args.steps.now
     c.in_err-site.field-0.0
-    c.in_err-site.ensures.value)
+    (reads_plan both_read (shown_word c.args.site) (shown_word c.args.book) (place g.D.Depot c.args.depot.now)
+    (place g.D.Depot c.read_both.new.depot) (Err c.in_err-site.field-0.0) c.in_err-site.ensures.value))
 
 -- memory was out for the head end
 pub returns-in_err-head : goal.returns-in_err-head
@@ -32,14 +40,16 @@ returns-in_err-head g c page =
     let p = err_from_is_err_and c.from_residual-in_err-head.result c.from_residual-in_err-head.ensures.1 in
     let clear = shown_word c.args.clear in
     let out = shown_word c.args.out in
-    let q = place g.D.Depot c.read_plan.new.depot in
+    let q = place g.D.Depot c.read_both.new.depot in
     let got = some_got q.files clear.text in
     let plan : Plan = record { site = fields_of c.in_ok-site.site; commands = c.in_ok-site.book.commands } in
     rw (p.1, p.2) (plan_follows (λ plan. record { site = fields_of plan.0; commands = plan.1.commands })
     (shown_word c.args.site)
     (shown_word c.args.book) clear out got.0 (place g.D.Depot c.args.depot.now) q page c.args.steps.now
     (outside q page c.args.steps.now)
-    (c.in_ok-site.site, c.in_ok-site.book) NoMemory c.requires.1 c.requires.2 c.in_ok-site.ensures.value got.1
+    (c.in_ok-site.site, c.in_ok-site.book) NoMemory c.requires.1 c.requires.2
+    (reads_plan both_read (shown_word c.args.site) (shown_word c.args.book) (place g.D.Depot c.args.depot.now) q
+    (Ok (c.in_ok-site.site, c.in_ok-site.book)) c.in_ok-site.ensures.value) got.1
     (wanting_obeys (sending_of clear out got.0 plan) q page c.args.steps.now NoMemory refl))
 
 -- the stream was not opened, or OUT not made
@@ -48,7 +58,7 @@ returns-in_err-inlet g c page =
     let p = err_from_is_err_and c.from_residual-in_err-inlet.result c.from_residual-in_err-inlet.ensures.1 in
     let clear = shown_word c.args.clear in
     let out = shown_word c.args.out in
-    let q = place g.D.Depot c.read_plan.new.depot in
+    let q = place g.D.Depot c.read_both.new.depot in
     let r = place g.D.Depot c.open_both.new.depot in
     let status = c.in_err-inlet.field-0.0 in
     let plan : Plan = record { site = fields_of c.in_ok-site.site; commands = c.in_ok-site.book.commands } in
@@ -59,19 +69,21 @@ returns-in_err-inlet g c page =
     (shown_word c.args.site)
     (shown_word c.args.book) clear out none.got (place g.D.Depot c.args.depot.now) q page c.args.steps.now
     (outside r page c.args.steps.now)
-    (c.in_ok-site.site, c.in_ok-site.book) status c.requires.1 c.requires.2 c.in_ok-site.ensures.value none.is_got
+    (c.in_ok-site.site, c.in_ok-site.book) status c.requires.1 c.requires.2
+    (reads_plan both_read (shown_word c.args.site) (shown_word c.args.book) (place g.D.Depot c.args.depot.now) q
+    (Ok (c.in_ok-site.site, c.in_ok-site.book)) c.in_ok-site.ensures.value) none.is_got
     none.obeys)
 
 pub close_both-requires : goal.close_both-requires
 close_both-requires g c =
-    there_after (g.D.Depot.files c.read_plan.new.depot) (g.D.Depot.files c.open_both.new.depot) c.args.out.text.now []
+    there_after (g.D.Depot.files c.read_both.new.depot) (g.D.Depot.files c.open_both.new.depot) c.args.out.text.now []
     c.in_ok-inlet.ensures.ok.files
 
 pub returns : goal.returns
 returns g c page =
     let clear = shown_word c.args.clear in
     let out = shown_word c.args.out in
-    let q = place g.D.Depot c.read_plan.new.depot in
+    let q = place g.D.Depot c.read_both.new.depot in
     let m = place g.D.Depot c.open_both.new.depot in
     let r = place g.D.Depot c.close_both.new.depot in
     let plan : Plan = record { site = fields_of c.in_ok-site.site; commands = c.in_ok-site.book.commands } in
@@ -80,7 +92,9 @@ returns g c page =
     plan_follows (λ plan. record { site = fields_of plan.0; commands = plan.1.commands }) (shown_word c.args.site)
     (shown_word c.args.book) clear out (Some sent.bytes) (place g.D.Depot c.args.depot.now) q page c.args.steps.now
     (outside r page c.send-sent.new.steps) (c.in_ok-site.site, c.in_ok-site.book) (status_of c.close_both.result)
-    c.requires.1 c.requires.2 c.in_ok-site.ensures.value
+    c.requires.1 c.requires.2
+    (reads_plan both_read (shown_word c.args.site) (shown_word c.args.book) (place g.D.Depot c.args.depot.now) q
+    (Ok (c.in_ok-site.site, c.in_ok-site.book)) c.in_ok-site.ensures.value)
     (opened_got q.files clear.text _ sent.bytes opened.opens sent.is_left)
     (turned_obeys (λ bytes. Uncounted) (sent_of plan) (sent_status plan) clear out sent.bytes q m r page
     c.args.steps.now
