@@ -6,8 +6,6 @@ mod fault;
 mod feed;
 pub mod laws;
 mod stage;
-#[cfg(test)]
-mod tests;
 
 pub use driver::{DriveFault, MOST_PACKETS, drive};
 pub use fault::{BreakCause, StreamBreak};

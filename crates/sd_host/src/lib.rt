@@ -6,8 +6,6 @@ mod identity;
 mod inlet;
 mod outlet;
 mod print;
-#[cfg(test)]
-mod tests;
 
 pub use depot::HostDepot;
 pub use inlet::HostInlet;

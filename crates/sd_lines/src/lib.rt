@@ -7,8 +7,6 @@ mod line;
 mod pat;
 mod pmt;
 mod table;
-#[cfg(test)]
-mod tests;
 
 pub use line::push_line;
 pub use table::{Table, TableFault, table_on};

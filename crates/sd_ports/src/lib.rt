@@ -12,8 +12,6 @@ mod slice;
 mod source;
 mod store;
 mod supply;
-#[cfg(test)]
-mod tests;
 mod whole;
 
 pub use depot::Depot;

@@ -6,6 +6,3 @@ mod telling;
 
 pub use status::{ClearCause, LimitKind, Status, StreamCause};
 pub use telling::tell;
-
-#[cfg(test)]
-mod tests;

@@ -4,8 +4,6 @@
 mod assemblies;
 mod inspector;
 pub mod laws;
-#[cfg(test)]
-mod tests;
 mod watched;
 
 pub use inspector::Inspector;

@@ -1,4 +1,3 @@
-use crate::{ClearCause, LimitKind, Status, StreamCause, tell};
 use sd_book::BookLimit;
 use sd_card::CardFault;
 use sd_ecm::EcmFault;
@@ -7,6 +6,7 @@ use sd_engine::BreakCause;
 use sd_ports::MemSink;
 use sd_psi::FormFault;
 use sd_site::SiteFault;
+use sd_status::{ClearCause, LimitKind, Status, StreamCause, tell};
 use std::alloc::AllocError;
 
 #[test]

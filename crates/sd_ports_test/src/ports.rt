@@ -1,10 +1,9 @@
-use crate::{
+use crate::files::{TEXT, gives};
+use sd_ports::{
     Depot, FileFault, MemDepot, MemSink, MemSource, PortFault, ReadAllFault, ReadMostFault,
     SliceSource, Source, read_all, read_file, read_most, write_all, write_file,
 };
 use std::alloc::{AllocError, Global};
-
-const TEXT: &[u8] = b"abcdefg";
 
 // Whether a source of TEXT, of which one read fails, is read so, and counts a fault where it failed.
 fn reads(
@@ -59,20 +58,6 @@ fn takes(
             && sink.bytes() == held.as_bytes()
             && sink.into_bytes().as_slice() == held.as_bytes(),
     )
-}
-
-// Whether a file is read so.
-fn gives(
-    alloc: Global,
-    depot: &mut MemDepot,
-    name: &str,
-    most: usize,
-    want: Result<&str, FileFault>,
-) -> bool {
-    match read_file(alloc, depot, name, most) {
-        Ok(bytes) => want.map(|text| text.as_bytes()) == Ok(bytes.as_slice()),
-        Err(fault) => want == Err(fault),
-    }
 }
 
 fn shelf(alloc: Global) -> Result<MemDepot, AllocError> {

@@ -1,4 +1,4 @@
-use Rattle.sd_engine.proofs.tests.packets_are_offered_up_to_the_first_fault.Given as goal
+use Rattle.sd_ports_test.proofs.tables.sections_are_printed_as_they_are_read.Given as goal
 
 -- the ledger is the blank one
 abbrev pub ghosts-driven : goal.ghosts-driven

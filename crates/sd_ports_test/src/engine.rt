@@ -1,6 +1,6 @@
 ghost use Rattle.std.specs.Prelude.{◌≡◌, ◌≤◌, ◌<◌, []};
 
-use super::*;
+use sd_engine::{DriveFault, Stage, StageFault, drive};
 use sd_packet::{Packet, SIZE};
 use sd_ports::{MemSink, MemSource, Sink, read_all, write_all};
 use sd_steps::Steps;
@@ -104,8 +104,7 @@ fn packets_are_offered_up_to_the_first_fault(rt: HostRuntime) -> Result<(), Allo
     let packets = [packet(0), packet(1), packet(2), packet(3), packet(4)];
     let stream = packets.as_flattened();
     // The packet that is refused, the bytes of a read, the read and the write that fail, the answer, how many packets
-    // are
-    // copied, and how many bytes are left to read.
+    // are copied, and how many bytes are left to read.
     let table = [
         (9, 1, 999, 999, Ok(5), 5, 0),
         (9, 187, 999, 999, Ok(5), 5, 0),

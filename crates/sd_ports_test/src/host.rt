@@ -1,24 +1,8 @@
-use crate::{HostDepot, StdPrint};
-use sd_ports::{Depot, FileFault, PortFault, read_file, write_all, write_file};
-use std::alloc::Global;
+use crate::files::{TEXT, gives};
+use sd_host::{HostDepot, StdPrint};
+use sd_ports::{FileFault, PortFault, read_file, write_all, write_file};
 use std::fs;
 use std::os::unix::fs::symlink;
-
-const TEXT: &[u8] = b"abcdefg";
-
-// Whether a file is read so.
-fn gives<D: Depot>(
-    alloc: Global,
-    depot: &mut D,
-    name: &str,
-    most: usize,
-    want: Result<&str, FileFault>,
-) -> bool {
-    match read_file(alloc, depot, name, most) {
-        Ok(bytes) => want.map(|text| text.as_bytes()) == Ok(bytes.as_slice()),
-        Err(fault) => want == Err(fault),
-    }
-}
 
 #[test]
 fn a_full_writer_is_a_fault(rt: HostRuntime) {

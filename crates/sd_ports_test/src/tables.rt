@@ -1,23 +1,15 @@
 ghost use Rattle.std.specs.Prelude.{◌≡◌, ◌≤◌, ◌<◌};
 
-use super::*;
+use crate::sections::{PAT, PMT};
 use sd_cause::NoMemory;
 use sd_engine::{BreakCause, DriveFault, StreamBreak, drive};
 use sd_packet::pack_section;
 use sd_ports::{MemSink, MemSource};
 use sd_steps::Steps;
+use sd_tables::Inspector;
 use std::alloc::{AllocError, Global};
 use std::marker::Brand;
 use std::sync::ledger::{Blank, Ledger};
-
-const PAT: [u8; 16] = [
-    0x00, 0xB0, 0x0D, 0x00, 0x01, 0xC1, 0x00, 0x00, 0x00, 0x01, 0xF0, 0x00, 0x2A, 0xB1, 0x04, 0xB2,
-];
-
-const PMT: [u8; 26] = [
-    0x02, 0xB0, 0x17, 0x00, 0x01, 0xC1, 0x00, 0x00, 0xE1, 0x00, 0xF0, 0x00, 0x1B, 0xE1, 0x00, 0xF0,
-    0x00, 0x0F, 0xE1, 0x01, 0xF0, 0x00, 0x2F, 0x44, 0xB9, 0x9B,
-];
 
 static LINES: &str =
     "{\"packet\":0,\"pid\":0,\"programs\":[{\"number\":1,\"pid\":4096}],\"stream\":1,\"table\":\"pat\",\"version\":0}

@@ -1,7 +1,7 @@
 use Rattle.std.proofs.Common.{inl, arith}
 use Rattle.sd_engine.specs.Stage.{vessel}
 use Rattle.sd_engine.proofs.Vessels.{cut_short, too_short}
-use Rattle.sd_engine.proofs.tests.CopierStage.offer.Goals as goal
+use Rattle.sd_ports_test.proofs.engine.CopierStage.offer.Goals as goal
 
 pub returns-in-Err-clause-prefix : goal.returns-in-Err-clause-prefix
 returns-in-Err-clause-prefix g c = λ is. cut_short _ (vessel g.K.Sink c.args.out.now)

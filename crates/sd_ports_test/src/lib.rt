@@ -1,0 +1,22 @@
+//! Tests of the outside and of what goes through it: ports in memory and on the machine, streams that are driven, sample
+//! streams, the inspector and its lines, statuses.
+#![tactic(auto)]
+
+#[cfg(test)]
+mod engine;
+#[cfg(test)]
+mod files;
+#[cfg(test)]
+mod host;
+#[cfg(test)]
+mod lines;
+#[cfg(test)]
+mod ports;
+#[cfg(test)]
+mod sample;
+#[cfg(test)]
+mod sections;
+#[cfg(test)]
+mod status;
+#[cfg(test)]
+mod tables;
