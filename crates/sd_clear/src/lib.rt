@@ -8,7 +8,5 @@ pub mod laws;
 mod make;
 mod places;
 mod take;
-#[cfg(test)]
-mod tests;
 
 pub use clear::Clear;

@@ -6,8 +6,6 @@ mod entitling;
 mod entries;
 mod replay;
 mod sections;
-#[cfg(test)]
-mod tests;
 
 pub use crypto::CryptoPeriod;
 pub use entitling::Entitling;

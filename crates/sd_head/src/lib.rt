@@ -11,8 +11,6 @@ mod message;
 mod schedule;
 mod sender;
 mod sending;
-#[cfg(test)]
-mod tests;
 
 pub use fault::HeadFault;
 pub use head::Head;
