@@ -8,6 +8,3 @@ mod run;
 mod take;
 
 pub use collect::{Collect, Taken};
-
-#[cfg(test)]
-mod tests;

@@ -9,7 +9,5 @@ pub mod laws;
 mod marks;
 mod says;
 mod section;
-#[cfg(test)]
-mod tests;
 
 pub use entitled::Entitled;

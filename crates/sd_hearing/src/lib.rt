@@ -2,8 +2,6 @@
 #![tactic(auto)]
 
 mod ears;
-#[cfg(test)]
-mod tests;
 mod tune;
 
 pub use ears::{Heard, hear};

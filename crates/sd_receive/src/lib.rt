@@ -13,6 +13,3 @@ mod word;
 
 pub use receiver::Receiver;
 pub use sd_reception::{Ending, StreamFault};
-
-#[cfg(test)]
-mod tests;

@@ -1,16 +1,14 @@
 -- Places by PID.
-use Rattle.std.proofs.Common.{ℕ, ◌^◌, ◌<◌, ◌≡◌, ◌==◌, true, false, List, [], ◌∷◌, ◌++◌, length, get_or, take}
+use Rattle.std.proofs.Common.{ℕ, ◌^◌, ◌<◌, ◌≡◌, ◌==◌, false, List, [], ◌∷◌, ◌++◌, length, get_or, take}
 use Rattle.std.proofs.Common.{refl, inl, inr, arith}
 use Rattle.std.specs.Prelude.{Some, None, All}
 use Rattle.std.specs.List.{list_any}
 use Rattle.std.proofs.lemmas.Bool.{cases_Bool, eqb-true, eq-eqb}
 use Rattle.std.proofs.lemmas.List.{get_or-take, length-take}
-use Rattle.std.proofs.lemmas.List.Elements.{All-nil, All-cons, All-head, All-tail, All-from_get_or}
-use Rattle.sd_packet.specs.Positions.{is_positional}
+use Rattle.std.proofs.lemmas.List.Elements.{All-head, All-tail, All-from_get_or}
 use Rattle.sd_ecm.specs.Form.{AreShort, AreAscending}
 use Rattle.sd_ecm.specs.declared.part.Place.{Place}
 use Rattle.sd_reception.specs.Confirmed.{position_in}
-use Rattle.sd_segment.specs.Holding.{ArePlaces}
 use Rattle.sd_segment.specs.Tracking.{pids_in, start_of}
 
 -- a PID that no place has has no position
@@ -81,18 +79,3 @@ found_short (p ∷ ps) pid position h is = elim (cases_Bool (p.pid == pid)) [
       omega (arith, e, All-head (λ (q : Place). q.position < 2 ^ 48) p ps h)
   | inr other ↦ found_short ps pid position (All-tail (λ (q : Place). q.position < 2 ^ 48) p ps h) (rw other at is)
 ]
-
--- the position of one place has 48 bits
-pub one_short : (place : Place) → place.position < 2 ^ 48 → AreShort (place ∷ [])
-one_short place short =
-    All-cons (λ (p : Place). p.position < 2 ^ 48) place [] short (All-nil (λ (p : Place). p.position < 2 ^ 48))
-
--- one place is the places of a message
-pub one_place : (place : Place) → is_positional place.pid ≡ true → place.position < 2 ^ 48 → ArePlaces (place ∷ [])
-one_place place positional short = record {
-  few = omega arith;
-  positioned = All-cons (λ (p : Place). is_positional p.pid ≡ true) place [] positional
-      (All-nil (λ (p : Place). is_positional p.pid ≡ true));
-  ascending = λ i j d less within. absurd (omega (arith, less, within));
-  short = one_short place short;
-}

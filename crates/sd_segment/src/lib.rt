@@ -6,8 +6,6 @@ mod fault;
 mod held;
 pub mod laws;
 mod segment;
-#[cfg(test)]
-mod tests;
 mod tracks;
 
 pub use fault::SegmentFault;

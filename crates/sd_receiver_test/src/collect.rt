@@ -1,10 +1,9 @@
 ghost use Rattle.std.specs.Prelude.{IfSome};
 ghost use Rattle.sd_ecm.specs.Form.{IsEcm};
 
-use super::*;
-use hex::FromHex;
+use crate::packets::packet;
+use sd_collect::{Collect, Taken};
 use sd_ecm::{EcmPart, Place, read_ecm};
-use sd_packet::Packet;
 use std::test::Fail;
 
 // Both parts of a message that an independent implementation wrote, up to the stuffing.
@@ -21,10 +20,7 @@ const PARTS: [&str; 2] = [
 fn part_in(text: &str) -> Option<EcmPart>
     ensures { IfSome result IsEcm }
 {
-    let mut bytes = [0xFF; 188];
-    let count = text.len() / 2;
-    hex::decode_to_slice(text, bytes.get_mut(..count)?).ok()?;
-    read_ecm(&Packet::new(bytes)?).ok()?
+    read_ecm(&packet(text)?).ok()?
 }
 
 // How many positions come with a part, where it completes a message, or 0.

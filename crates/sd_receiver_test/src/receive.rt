@@ -1,10 +1,11 @@
 ghost use Rattle.std.specs.Prelude.{◌≡◌, ◌<◌, ◌≤◌};
 
-use super::*;
+use crate::packets::{ALL, beginning};
 use hex::FromHex;
 use sd_card::Card;
 use sd_engine::{DriveFault, drive};
 use sd_ports::{MemSink, MemSource};
+use sd_receive::{Ending, Receiver, StreamFault};
 use sd_steps::Steps;
 use sha2::{Digest, Sha256};
 use std::alloc::Global;
@@ -23,8 +24,7 @@ const CARD: &str = "\
 // The packets of a broadcast of four clear packets that an independent implementation made, up to the stuffing.
 const PACKETS: [&str; 8] = [
     "474001100001b011ffffc1000009061234e1f0e1f192f94eeb",
-    "4741f0100082b04c0000c10000000000000000000100018e7c98755d4f1259303e2c26f84665c7010000000000000000a96fc38d45af\
-     14016d8f9f0d1688616d0d70f5ba661218fb326af486ddaa0354cdb2897d",
+    ALL,
     "4741f1100080b04b0000c1000000000000000000000000000000000000008229606edb4eb380c6745a1a0ef112fb4f37fd1a5ac322f2\
      eb828187831d8c4016f21bec8b49a29a6bf944da8fbb98bb002a26ffa7",
     "4701009eecb85568172380d7c15b91adc1ad9b63e1e4bdba3080a4040fdee3a8c602170f08a864eeffb97347d0095177f2ffd14ef281\
@@ -57,9 +57,7 @@ fn stream(alloc: Global, left_out: usize) -> Option<Vec<u8>> {
         .iter()
         .take(PACKETS.len() - left_out.min(PACKETS.len()))
     {
-        let mut packet = [0xFF; 188];
-        hex::decode_to_slice(text, packet.get_mut(..text.len() / 2)?).ok()?;
-        bytes.extend_from_slice(&packet).ok()?;
+        bytes.extend_from_slice(&beginning(text)?).ok()?;
     }
     Some(bytes)
 }

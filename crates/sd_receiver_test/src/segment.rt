@@ -1,9 +1,9 @@
 ghost use Rattle.std.specs.Prelude.{◌<◌, ◌≤◌, ◌^◌};
 
-use super::*;
 use sd_ecm::Place;
 use sd_packet::{Packet, pack_section};
 use sd_ports::MemSink;
+use sd_segment::{Segment, SegmentFault};
 use std::alloc::{AllocError, Global};
 
 // A PID, a system, and the PID of its control messages.

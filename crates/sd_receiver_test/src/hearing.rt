@@ -1,6 +1,6 @@
-use super::*;
-use hex::decode_to_slice;
+use crate::packets::packet;
 use sd_emm::EmmFault;
+use sd_hearing::{Heard, Tuning, cat_tuning, hear};
 use sd_packet::{Packet, pack_section};
 use sd_section::seal;
 use sd_tree::Height;
@@ -21,12 +21,6 @@ const ECM: &str =
     "4741f11a0080b0630000c10000000000010000000000000000000000c8006682bbbb66a6e9b949b2d21a30e2641c265e6eb1\
     f4430b125468c6302b38b7573085294b1e2d9a320ffe227acf4837b303010000000000009f01010000000000411000000000\
     0000119e493e13";
-
-fn packet(text: &str) -> Option<Packet> {
-    let mut bytes = [0xFF; 188];
-    decode_to_slice(text, bytes.get_mut(..text.len() / 2)?).ok()?;
-    Packet::new(bytes)
-}
 
 #[test]
 fn a_cat_for_the_system_is_taken(rt: HostRuntime) {

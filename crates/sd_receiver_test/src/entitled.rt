@@ -2,10 +2,11 @@ ghost use Rattle.std.specs.Prelude.{◌≡◌, ◌<◌, IfSome};
 ghost use Rattle.sd_emm.specs.Form.{IsEmm, AreSets};
 ghost use Rattle.sd_emm.specs.Spelled.{listed};
 
-use super::*;
+use crate::packets::{ALL, beginning};
 use hex::{FromHex, decode_to_slice};
 use sd_card::Card;
 use sd_emm::{Emm, EmmFault, read_emm};
+use sd_entitled::Entitled;
 use sd_packet::Packet;
 use sd_reception::StreamFault;
 use sd_section::seal;
@@ -40,8 +41,7 @@ static CARDS: [(u32, &str); 2] = [
 
 static EMMS: [&str; 4] = [
     // Period 0 for all leaves.
-    "4741f0100082b04c0000c10000000000000000000100018e7c98755d4f1259303e2c26f84665c7010000000000000000a96f\
-    c38d45af14016d8f9f0d1688616d0d70f5ba661218fb326af486ddaa0354cdb2897d",
+    ALL,
     // Period 1 for S(1,13), which is all leaves but 5.
     "4741f0110082b04c0000c10000000000010000000100011dcd30913b9a37b4772694d78c1d7f2f01000000010000000d4062\
     1ebefd0ad73fdbb9424fcff1c70b283394080d07271cc4ef665bbc77b8c623d6d618",
@@ -59,8 +59,7 @@ fn emm_of(card: &Card, row: usize, bits: u8) -> Option<Emm>
     ensures { IfSome result (λ emm. IsEmm emm × AreSets card.now.height emm.sets (listed emm)) }
 {
     let text = EMMS.get(row)?;
-    let mut bytes = [0xFF; 188];
-    decode_to_slice(text, bytes.get_mut(..text.len() / 2)?).ok()?;
+    let mut bytes = beginning(text)?;
     bytes[23] ^= bits;
     let length = usize::from(u16::from_be_bytes([bytes[6], bytes[7]]) % 4096);
     let section = bytes.get_mut(5..8 + length)?;
