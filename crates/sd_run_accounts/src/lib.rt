@@ -4,6 +4,3 @@
 mod command;
 
 pub use command::accounts;
-
-#[cfg(test)]
-mod tests;

@@ -4,6 +4,3 @@
 mod command;
 
 pub use command::{head, send};
-
-#[cfg(test)]
-mod tests;

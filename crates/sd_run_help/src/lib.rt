@@ -9,6 +9,3 @@ mod topic;
 
 pub use command::{help, version};
 pub use topic::Topic;
-
-#[cfg(test)]
-mod tests;

@@ -5,6 +5,3 @@ mod command;
 mod pool;
 
 pub use command::opens;
-
-#[cfg(test)]
-mod tests;

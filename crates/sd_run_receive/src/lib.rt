@@ -4,6 +4,3 @@
 mod command;
 
 pub use command::{receive, receive_all};
-
-#[cfg(test)]
-mod tests;

@@ -1,6 +1,9 @@
-//! Tests of the program's one call: rows of words, books, sites and streams, and the covers of all books of small trees.
+//! Tests of the program's one call: rows of words, books, sites and streams, rows of each command, and the covers of all
+//! books of small trees.
 #![tactic(auto)]
 
+#[cfg(test)]
+mod commands;
 #[cfg(test)]
 mod covers;
 #[cfg(test)]

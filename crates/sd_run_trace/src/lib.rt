@@ -6,6 +6,3 @@ pub mod laws;
 mod text;
 
 pub use command::trace;
-
-#[cfg(test)]
-mod tests;

@@ -9,6 +9,3 @@ mod prefix;
 mod send;
 
 pub use command::trial;
-
-#[cfg(test)]
-mod tests;
