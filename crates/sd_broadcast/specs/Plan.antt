@@ -39,7 +39,8 @@ unfoldable pub word_of : SiteFields → ℕ → ℕ
 word_of site k = word_in site (crypto_of site k)
 
 -- the period of crypto period n: the site's first period, then the next with each span, up to the book's last, which
--- goes on to the end; a first period after the book's last goes on to the end [this project, docs/FORMATS.md, Broadcast]
+-- goes on to the end; a first period after the book's last goes on to the end [this project, docs/FORMATS.md,
+-- Broadcast]
 unfoldable pub period_in : Plan → ℕ → ℕ
 period_in plan n =
     plan.site.first_period + min (n / plan.site.span) (last_period plan.commands - plan.site.first_period)
