@@ -1,6 +1,6 @@
 #!/bin/sh
-# The first run of ./sdca on a machine that keeps nothing, in a fresh clone: its time, the processor time that it
-# takes, and the ratio of the two. The toolchain's store is hidden by an empty folder in a mount namespace of its own,
+# `./sdca build` on a machine that keeps nothing, in a fresh clone: its time, the processor time that it takes, and the
+# ratio of the two. The toolchain's store is hidden by an empty folder in a mount namespace of its own,
 # so it wants root. It takes all processors for some minutes.
 
 top=$(CDPATH='' cd "$(dirname "$0")/.." && pwd -P)
@@ -13,7 +13,7 @@ git clone -q "$top" "$work/clone" && mkdir "$work/kept" || exit 1
 unshare -m sh -c '
     mkdir -p "$1" && mount --bind "$2/kept" "$1" && cd "$2/clone" || exit 1
     start=$(date +%s%N)
-    ./sdca cover examples/site.txt examples/book.txt || exit 1
+    ./sdca build || exit 1
     end=$(date +%s%N)
     times >"$2/times"
     awk -v real=$(((end - start) / 1000000)) -v processors="$(getconf _NPROCESSORS_ONLN)" "

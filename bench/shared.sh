@@ -14,8 +14,8 @@ fail() {
 if [ -n "${SDCA:-}" ]; then
     program=$(CDPATH='' cd "$(dirname "$SDCA")" && pwd -P)/$(basename "$SDCA")
 else
-    "$top/sdca" cover "$top/examples/site.txt" "$top/examples/book.txt" >/dev/null || fail "the program can't be built"
-    program=$top/crates/sdca/out/sdca
+    "$top/sdca" build || fail "the program can't be built"
+    program=$top/out/sdca
 fi
 
 cd "$work" || exit

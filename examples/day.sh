@@ -1,11 +1,14 @@
 #!/bin/sh
 # day.sh [FOLDER]: a small operator's day. Two accounts have cards: ann's is that of receiver 5, bob's of receiver 2.
 # In the second period ann is cut off. The files are made in FOLDER, or in a new one.
-# SDCA=PROGRAM names a program that is built already.
+# The program is proved and built first. SDCA=PROGRAM names one that is built already.
 
 here=$(CDPATH='' cd "$(dirname "$0")" && pwd -P)
 case ${SDCA:-} in
-    '') program=$here/../sdca ;;
+    '')
+        program=$here/../sdca
+        "$program" build || exit 1
+        ;;
     */*) program=$(CDPATH='' cd "$(dirname "$SDCA")" && pwd -P)/$(basename "$SDCA") ;;
     *) program=$SDCA ;;
 esac

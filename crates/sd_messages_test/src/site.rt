@@ -84,7 +84,12 @@ static BAD: [(usize, usize, &str, SiteFault); 34] = [
     (9, 9, "messages 2\nmessages 2", SiteFault::Line(10)),
     (9, 9, "first-word 7", SiteFault::Line(9)),
     (9, 9, "first-period 7", SiteFault::Line(9)),
-    (9, 9, "messages 1\nfirst-word 4294967296", SiteFault::Range(10)),
+    (
+        9,
+        9,
+        "messages 1\nfirst-word 4294967296",
+        SiteFault::Range(10),
+    ),
     (9, 9, "messages 1\nfirst-word 07", SiteFault::Line(10)),
     (9, 9, "messages 1\nlast-word 1", SiteFault::Line(10)),
     (
@@ -155,7 +160,10 @@ fn a_site_names_its_words_and_its_first_period(rt: HostRuntime) -> Result<(), Fa
     for (lines, named) in &NAMED {
         let text = text(rt.alloc(), 9, 9, lines)?;
         let site = read(text.as_bytes()).ok().ok_or("the text is a site file")?;
-        assert_eq!(rt; (site.first_word, site.last_word, site.first_period), *named);
+        assert_eq!(rt;
+            (site.first_word, site.last_word, site.first_period),
+            *named
+        );
     }
     Ok(())
 }

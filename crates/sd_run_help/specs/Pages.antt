@@ -56,6 +56,6 @@ unfoldable pub help_text : Option Topic → List ℕ
 help_text None = overview
 help_text (Some topic) = page_text topic
 
--- the version, and the line of the toolchain that proved it
+-- the version, the logic of its proofs, and the toolchains with which the gate was seen to pass
 unfoldable pub version_text : List ℕ
-version_text = codes "sdca 1.0.0\nproved with rattle-kit-13f logic dac8208d650f15bf\n"
+version_text = codes "sdca 1.0.0\nproved in logic dac8208d650f15bf (rattle-kit-13b, rattle-kit-13f)\n"

@@ -41,10 +41,10 @@ pub fn version<P: Sink>(print: &mut P) -> Result<(), Status>
     print_text(print, version_line())
 }
 
-/// The version, and the line of the toolchain that proved it.
+/// The version, the logic of its proofs, and the toolchains with which the gate was seen to pass.
 #[tactic(auto, unfolding(crate::specs::Pages::version_text))]
 fn version_line() -> &'static [u8]
     ensures { result.now ≡ version_text }
 {
-    b"sdca 1.0.0\nproved with rattle-kit-13f logic dac8208d650f15bf\n"
+    b"sdca 1.0.0\nproved in logic dac8208d650f15bf (rattle-kit-13b, rattle-kit-13f)\n"
 }
