@@ -15,7 +15,7 @@ use Rattle.sd_psi.specs.Undone.{IsPacket}
 use Rattle.sd_psi.proofs.Keeping.{rewritten_keeps, rewritten_packet_keeps}
 use Rattle.sd_scramble.specs.Scrambling.{control_of, payload_under, laid_under}
 use Rattle.sd_scramble.proofs.Scramblings.{prefix_is, laid_reads, control_fits}
-use Rattle.sd_broadcast.specs.Plan.{crypto_of}
+use Rattle.sd_broadcast.specs.Plan.{word_of}
 use Rattle.sd_broadcast.specs.Kinds.{kind_of}
 use Rattle.sd_broadcast.specs.Carried.{parity_of, place_after, pmt_carried, veiled, carried_as, carried}
 use Rattle.sd_broadcast.specs.declared.kind.Kind.{Kind}
@@ -90,18 +90,18 @@ veiled_keeps site t position packet whole =
 -- each clear packet does, whatever its kind
 pub carried_keeps : (site : SiteFields) (before : List (List ℕ)) (packet : List ℕ) → IsWholePacket packet →
     scrambling_of packet ≡ 0 →
-    IsCarriedWith (control_in (kind_of before packet) (crypto_of site (length before))) packet
+    IsCarriedWith (control_in (kind_of before packet) (word_of site (length before))) packet
     (carried site before packet)
 unfolding carried
 carried_keeps site before packet whole clear = by_kind (kind_of before packet) refl
   where
     by_kind : (kind : Kind) → kind_of before packet ≡ kind →
-        IsCarriedWith (control_in kind (crypto_of site (length before))) packet (carried_as kind site before packet)
+        IsCarriedWith (control_in kind (word_of site (length before))) packet (carried_as kind site before packet)
     by_kind Passed is =
         record { unit_start = refl; pid = refl; scrambling = clear; adaptation = refl; counter = refl; start = refl }
     by_kind Pmt is =
         pmt_keeps site packet (placed_packet packet whole (kind_placed before packet (λ e. absurd (cc)))) clear
-    by_kind Scrambled is = veiled_keeps site (crypto_of site (length before)) (place_after before packet) packet whole
+    by_kind Scrambled is = veiled_keeps site (word_of site (length before)) (place_after before packet) packet whole
 
 -- the PID is kept whatever the bytes are
 pid_by_bytes : (x y : List ℕ) → slice_index x 1 ≡ slice_index y 1 → slice_index x 2 ≡ slice_index y 2 →
@@ -136,7 +136,7 @@ carried_pid site before packet long = by_kind (kind_of before packet) refl
     by_kind Pmt is =
         let placed = kind_placed before packet (λ e. absurd (cc)) in
         pmt_pid site packet long (grind (arith, nat_tests, placed))
-    by_kind Scrambled is = veiled_pid site (crypto_of site (length before)) (place_after before packet) packet long
+    by_kind Scrambled is = veiled_pid site (word_of site (length before)) (place_after before packet) packet long
 
 -- so it moves positions as it did
 pub moves_alike : (control pid position : ℕ) (old new : List ℕ) → IsCarriedWith control old new →

@@ -1,17 +1,19 @@
 -- Clear streams packet by packet.
-use Rattle.std.proofs.Common.{◌≡◌, ℕ, suc, ◌+◌, ◌-◌, ◌^◌, ◌<◌, ◌≤◌, ◌==◌, Bool, true, false, not, nat_le, nat_lt}
+use Rattle.std.proofs.Common.{◌≡◌, ℕ, suc, ◌+◌, ◌^◌, ◌<◌, ◌≤◌, ◌==◌, Bool, true, false, not, nat_le, nat_lt}
 use Rattle.std.proofs.Common.{List, [], ◌∷◌, ◌++◌, length, take, drop, get_or, filter, Option, Some, None}
 use Rattle.std.proofs.Common.{refl, sym, ap, subst, inl, inr, arith, append_assoc, append-nil, length-append}
 use Rattle.std.specs.Option.{option_map_or}
 use Rattle.std.proofs.lemmas.Bool.{cases_Bool}
 use Rattle.std.proofs.lemmas.Bool.Decides.{nat_tests}
-use Rattle.std.proofs.lemmas.List.{take-append-drop, take_more}
+use Rattle.std.proofs.lemmas.List.{take-append-drop, take_more, length-take-le}
 use Rattle.sd_packet.specs.Header.{pid_of, scrambling_of}
 use Rattle.sd_packet.specs.Positions.{is_placed}
 use Rattle.sd_site.specs.Fields.{SiteFields}
 use Rattle.sd_psi.specs.declared.fault.FormFault.{FormFault}
+use Rattle.sd_broadcast.specs.Plan.{word_of}
 use Rattle.sd_broadcast.specs.Kinds.{kind_of, has_moved, positional_pids, moved_pids, put_in}
 use Rattle.sd_broadcast.specs.Refused.{fault_where, form_where, is_taken, pat_wrong, is_full_own, is_one_too_many}
+use Rattle.sd_broadcast.specs.Refused.{is_too_long}
 use Rattle.sd_broadcast.specs.Refused.{refusal_of, refusal_from, IsClear}
 use Rattle.sd_broadcast.specs.declared.fault.ClearFault.{ClearFault}
 use Rattle.sd_broadcast.specs.declared.fault.ClearFault.TheVariants.{AlreadyScrambled, PidTaken, PatForm, PmtForm}
@@ -21,11 +23,11 @@ use Rattle.sd_broadcast.proofs.Following.{moved_first, moved_again, moved_unplac
 use Rattle.sd_sent.specs.Accepted.{IsAccepted}
 
 -- neither the first nor else the other
-both_none : {A : Type 0} (x y : Option A) → option_map_or Some x y ≡ None → (x ≡ None) × (y ≡ None)
+pub both_none : {A : Type 0} (x y : Option A) → option_map_or Some x y ≡ None → (x ≡ None) × (y ≡ None)
 both_none None y h = (refl, h)
 both_none (Some a) y h = absurd (cc)
 
-none_then : {A : Type 0} (x y : Option A) → x ≡ None → y ≡ None → option_map_or Some x y ≡ None
+pub none_then : {A : Type 0} (x y : Option A) → x ≡ None → y ≡ None → option_map_or Some x y ≡ None
 none_then None y p q = q
 none_then (Some a) y p q = absurd (cc)
 
@@ -100,7 +102,7 @@ pub accepted : (site : SiteFields) (before : List (List ℕ)) (packet : List ℕ
 unfolding refusal_of
 accepted site before packet h =
     let n : ℕ = length before in
-    let last = fault_where (n == 2 ^ 32 - 1) (TooLong n) None in
+    let last = fault_where (is_too_long site n) (TooLong n) None in
     let many = fault_where (is_one_too_many before packet) (TooManyPids n) last in
     let full = fault_where (is_full_own site (kind_of before packet) packet) (PmtForm n Form.NoRoom) many in
     let form = form_where (pat_wrong packet) (PatForm n) full in
@@ -110,7 +112,7 @@ accepted site before packet h =
     let three = untold_form (pat_wrong packet) (PatForm n) full two.1 in
     let four = untold (is_full_own site (kind_of before packet) packet) (PmtForm n Form.NoRoom) many three.1 in
     let five = untold (is_one_too_many before packet) (TooManyPids n) last four.1 in
-    let six = untold (n == 2 ^ 32 - 1) (TooLong n) None five.1 in
+    let six = untold (is_too_long site n) (TooLong n) None five.1 in
     record {
       clear = grind (arith, nat_tests, one.0);
       untaken = two.0;
@@ -118,6 +120,7 @@ accepted site before packet h =
       own = four.0;
       room = five.0;
       short = grind (arith, nat_tests, six.0);
+      word = grind (arith, nat_tests, six.0);
     }
 
 -- one number more is put among others
@@ -180,6 +183,14 @@ all_hold site clear h =
 pub clear_short : (site : SiteFields) (clear : List (List ℕ)) → IsClear site clear → length clear < 2 ^ 32
 clear_short site clear h = (all_hold site clear h).short
 
--- and moves no more than 256 PIDs
+-- no packet of it has a control word above the site's last
+pub clear_words : (site : SiteFields) (clear : List (List ℕ)) (k : ℕ) → IsClear site clear → k < length clear →
+    word_of site k ≤ site.last_word
+clear_words site clear k h within =
+    let long : length (take k clear) ≡ k = length-take-le k clear (omega (arith, within)) in
+    let is = accepted site (take k clear) (get_or clear k []) (each_clear site clear k h within) in
+    subst (λ (n : ℕ). word_of site n ≤ site.last_word) long is.word
+
+-- and it moves no more than 256 PIDs
 pub clear_pids : (site : SiteFields) (clear : List (List ℕ)) → IsClear site clear → length (moved_pids clear) ≤ 256
 clear_pids site clear h = (all_hold site clear h).pids

@@ -62,10 +62,10 @@ none_reached plan q u is m =
 
 -- all of this is true of the sets that a broadcast names for a period that it reaches
 pub period_named : (plan : Plan) (clear : List (List ℕ)) (q : ℕ) → IsPlan plan → IsClear plan.site clear →
-    AreLong clear → q ≤ period_of plan (length clear - 1) →
+    AreLong clear → plan.site.first_period ≤ q → q ≤ period_of plan (length clear - 1) →
     NamesPeriod plan q (named plan.site.height plan.site.emm q (broadcast plan clear))
-period_named plan clear q is all long reached =
-    let names = named_are_sets plan clear q is all long reached in
+period_named plan clear q is all long from reached =
+    let names = named_are_sets plan clear q is all long from reached in
     rw names (record {
       sets = refl;
       partition = sets_partition plan q is;

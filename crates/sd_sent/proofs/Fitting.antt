@@ -3,7 +3,7 @@ use Rattle.std.proofs.Common.{◌≡◌, ℕ, zero, suc, ◌+◌, ◌-◌, ◌*�
 use Rattle.std.proofs.Common.{List, [], ◌∷◌, ◌++◌, length, get_or, map, refl, sym, ap, subst, ◌∙◌, inl, inr, arith}
 use Rattle.std.specs.Prelude.{All, AllPairs}
 use Rattle.std.specs.List.{range_with_len}
-use Rattle.std.proofs.Math.Nat.{div-le_self, div-le_of_le-mul, mul-suc, mul-le-mul_right}
+use Rattle.std.proofs.Math.Nat.{zero-div, div-le_self, div-le_of_le-mul, mul-suc, mul-le-mul_right}
 use Rattle.std.proofs.lemmas.Bool.{cases_lt}
 use Rattle.std.proofs.lemmas.Bool.Decides.{nat_tests}
 use Rattle.std.proofs.lemmas.List.{length-map}
@@ -25,6 +25,7 @@ use Rattle.sd_wrap.specs.Wrapping.{wrapped as under}
 use Rattle.sd_site.specs.Fields.{SiteFields, AreInRange}
 use Rattle.sd_book.specs.Commands.{last_period, revoked}
 use Rattle.sd_book.proofs.Revocations.{below}
+use Rattle.sd_book.proofs.Cuts.{revoked_past}
 use Rattle.sd_steiner.specs.Chains.{IsChainCover}
 use Rattle.sd_steiner.specs.Partition.{IsSmall}
 use Rattle.sd_steiner.proofs.Covers.{cover_small}
@@ -39,12 +40,13 @@ use Rattle.sd_ecm.specs.Form.{AreAscending}
 use Rattle.sd_ecm.specs.Versions.{IsVersion, IsBefore}
 use Rattle.sd_ecm.specs.Parts.{IsMessage}
 use Rattle.sd_ecm.specs.declared.part.Place.{Place}
-use Rattle.sd_broadcast.specs.Plan.{Plan, IsPlan, sets_at, crypto_of, period_of, since_of, closing_number}
+use Rattle.sd_broadcast.specs.Plan.{Plan, IsPlan, sets_at, crypto_length, crypto_of, word_of, period_of}
+use Rattle.sd_broadcast.specs.Plan.{since_of, closing_number}
 use Rattle.sd_broadcast.specs.Kinds.{has_moved, positional_pids, moved_pids}
 use Rattle.sd_broadcast.specs.Messages.{entry_of, period_at, places_after, message_at}
 use Rattle.sd_broadcast.specs.Refused.{IsClear}
-use Rattle.sd_broadcast.proofs.Schedule.{since_is_below, closing_of_none}
-use Rattle.sd_sent.proofs.Clear.{clear_short, clear_pids}
+use Rattle.sd_broadcast.proofs.Schedule.{since_is_below, closing_of_none, period_short}
+use Rattle.sd_sent.proofs.Clear.{clear_short, clear_pids, clear_words}
 
 -- a text under a stream that is as long keeps its length
 xored_length : (text stream : List ℕ) → length text ≤ length stream → length (xored text stream) ≡ length text
@@ -97,11 +99,21 @@ sets_small plan q is =
     cover_small plan.site.height (revoked plan.site.height plan.commands q) (sets_at plan q) (omega (arith, high))
     (are_leaves plan q) (sets_cover plan q is)
 
+-- in no period more leaves are revoked than in a book's
+revoked_few : (plan : Plan) (q : ℕ) → IsPlan plan → length (revoked plan.site.height plan.commands q) ≤ 65536
+revoked_few plan q is = elim (cases_lt (last_period plan.commands) q) [
+  | inl past ↦
+      let same = revoked_past plan.site.height q plan.commands (omega (arith, past)) in
+      let most = is.book.revoked (last_period plan.commands) (omega arith) in
+      rw same (omega (arith, most))
+  | inr within ↦ let most = is.book.revoked q (omega (arith, within)) in omega (arith, most)
+]
+
 -- no more than fit into a period's sections
-sets_few : (plan : Plan) (q : ℕ) → IsPlan plan → q ≤ last_period plan.commands → length (sets_at plan q) ≤ 131071
-sets_few plan q is within =
+sets_few : (plan : Plan) (q : ℕ) → IsPlan plan → length (sets_at plan q) ≤ 131071
+sets_few plan q is =
     let small = sets_small plan q is in
-    let most = is.book.revoked q within in
+    let most = revoked_few plan q is in
     elim (cases_lt 0 (length (revoked plan.site.height plan.commands q))) [
       | inl some ↦ let count = small.count some in omega (arith, most, count)
       | inr none ↦ rw (small.none_revoked (omega (arith, none))) (omega arith)
@@ -149,16 +161,16 @@ pub period_count : (plan : Plan) (q : ℕ) → length (period_at plan q).entries
 unfolding period_at
 period_count plan q = length-map (sets_at plan q) (entry_of plan.site q)
 
--- the entitlements of a period of the book fit
-pub period_fits : (plan : Plan) (q : ℕ) → IsPlan plan → q ≤ last_period plan.commands → IsPeriod (period_at plan q)
+-- the entitlements of a period fit
+pub period_fits : (plan : Plan) (q : ℕ) → IsPlan plan → q < 2 ^ 32 → IsPeriod (period_at plan q)
 unfolding period_at
-period_fits plan q is within =
-    let periods = is.book.periods in record {
+period_fits plan q is low =
+    record {
       ascending = subst AreSetsAscending (sym (names_are plan.site q (sets_at plan q)))
           (sets_cover plan q is).ascending;
-      number = omega (arith, within, periods);
+      number = low;
       check = check_length (period_key_of plan.site.master q);
-      sets = rw (length-map (sets_at plan q) (entry_of plan.site q)) (sets_few plan q is within);
+      sets = rw (length-map (sets_at plan q) (entry_of plan.site q)) (sets_few plan q is);
       wrapped = entries_wrapped plan.site q (sets_at plan q);
     }
 
@@ -171,11 +183,6 @@ period_sets plan q is =
     (sym (length-map (sets_at plan q) (entry_of plan.site q)))
     (All-map (λ (e : Entry). IsSetBeside plan.site.height (length (sets_at plan q)) e.name) (entry_of plan.site q)
     (sets_at plan q) (sets_stand plan q is))
-
--- each packet is of a period of the book
-pub period_within : (plan : Plan) (k : ℕ) → period_of plan k ≤ last_period plan.commands
-unfolding period_of
-period_within plan k = omega arith
 
 -- numbers of a range ascend
 range_ascends : (a n : ℕ) → AllPairs (λ x y. x < y) (range_with_len a n)
@@ -233,34 +240,27 @@ since_before : (version cryptos a : ℕ) → IsBefore (since_of version cryptos 
 since_before version cryptos zero = inr (refl, refl)
 since_before version cryptos (suc a) = inl (since_is_below version cryptos (suc a) (omega arith))
 
--- a crypto period's number is not above the packet's
-crypto_low : (site : SiteFields) (k : ℕ) → crypto_of site k ≤ k
-unfolding crypto_of
-crypto_low site k = div-le_self k (site.every * site.cryptos)
-
 -- control messages fit, whatever clear packets are before them
 pub message_fits : (plan : Plan) (before : List (List ℕ)) (a k : ℕ) (closing : Bool) → IsPlan plan →
-    IsClear plan.site before → a < 2 ^ 32 → k < 2 ^ 32 → IsMessage (message_at plan before a k closing)
+    IsClear plan.site before → a < 2 ^ 32 → word_of plan.site k < 2 ^ 32 →
+    IsMessage (message_at plan before a k closing)
 unfolding message_at places_after
 message_fits plan before a k closing is clear few near =
     let short = clear_short plan.site before clear in
     let pids = clear_pids plan.site before clear in
-    let periods = is.book.periods in
-    let within = period_within plan k in
-    let low = crypto_low plan.site k in
-    let word = control_word_of plan.site.master (crypto_of plan.site k) in
+    let word = control_word_of plan.site.master (word_of plan.site k) in
     record {
       version = version_is plan.site.messages is.site.messages.0 is.site.messages.1;
       number = few;
-      period = omega (arith, periods, within);
-      word = omega (arith, low, near);
+      period = period_short plan k is;
+      word = near;
       clear = short;
       since = record {
         before = since_before plan.site.messages plan.site.cryptos a;
         fixed = λ one. since_first plan.site.messages plan.site.cryptos one a;
       };
-      wrapped = under_length (period_key_of plan.site.master (period_of plan k)) (crypto_of plan.site k) word
-          (control_word_length plan.site.master (crypto_of plan.site k));
+      wrapped = under_length (period_key_of plan.site.master (period_of plan k)) (word_of plan.site k) word
+          (control_word_length plan.site.master (word_of plan.site k));
       check = check_length word;
       count = rw (length-map (moved_pids before) (place_at before)) pids;
       places = All-map (λ (p : Place). is_positional p.pid ≡ true) (place_at before) (moved_pids before)
@@ -277,12 +277,13 @@ message_fits plan before a k closing is clear few near =
 
 -- those that stand before packets
 pub message_before_fits : (plan : Plan) (before : List (List ℕ)) → IsPlan plan → IsClear plan.site before →
+    word_of plan.site (length before) < 2 ^ 32 →
     IsMessage (message_at plan before (length before / plan.site.every) (length before) false)
-message_before_fits plan before is clear =
+message_before_fits plan before is clear near =
     let short = clear_short plan.site before clear in
     let low = div-le_self (length before) plan.site.every in
     message_fits plan before (length before / plan.site.every) (length before) false is clear
-    (omega (arith, low, short)) short
+    (omega (arith, low, short)) near
 
 -- the number of the closing message
 pub closing_low : (site : SiteFields) (m : ℕ) → AreInRange site → closing_number site m ≤ m
@@ -293,6 +294,28 @@ closing_low site (suc m) r =
     let more : 1 * m ≤ site.every * m = mul-le-mul_right m (omega (arith, some)) in
     div-le_of_le-mul site.every (omega (arith, some, wide, more))
 
+-- the first packet has the site's first control word
+word_of_first : (site : SiteFields) → word_of site 0 ≡ site.first_word
+unfolding word_of crypto_of
+word_of_first site =
+    let begins : 0 / crypto_length site ≡ 0 = zero-div (crypto_length site) in
+    omega (arith, begins)
+
+-- the control words of a clear stream have 4 bytes, and so has that of none
+pub word_low : (plan : Plan) (clear : List (List ℕ)) (k : ℕ) → IsPlan plan → IsClear plan.site clear →
+    k ≤ length clear - 1 → word_of plan.site k < 2 ^ 32
+word_low plan clear k is all within = elim (cases_lt k (length clear)) [
+  | inl inside ↦
+      let word = clear_words plan.site clear k all inside in
+      let last = is.site.last_word.1 in
+      omega (arith, word, last)
+  | inr past ↦
+      let first = is.site.first_word.1 in
+      let begins = word_of_first plan.site in
+      let none : 0 ≡ k = omega (arith, within, past) in
+      subst (λ (j : ℕ). word_of plan.site j < 2 ^ 32) none (omega (arith, first, begins))
+]
+
 -- and the closing one
 pub closing_fits : (plan : Plan) (clear : List (List ℕ)) → IsPlan plan → IsClear plan.site clear →
     IsMessage (message_at plan clear (closing_number plan.site (length clear)) (length clear - 1) true)
@@ -300,4 +323,4 @@ closing_fits plan clear is all =
     let short = clear_short plan.site clear all in
     let low = closing_low plan.site (length clear) is.site in
     message_fits plan clear (closing_number plan.site (length clear)) (length clear - 1) true is all
-    (omega (arith, low, short)) (omega (arith, short))
+    (omega (arith, low, short)) (word_low plan clear (length clear - 1) is all (omega arith))

@@ -7,3 +7,4 @@ pub mod Naming
 pub mod Covering
 pub mod Numbers
 pub mod Coming
+pub mod Narrowing

@@ -1,5 +1,5 @@
 -- The sets that a broadcast names are those of the period's cover.
-use Rattle.std.proofs.Common.{◌≡◌, ℕ, zero, suc, ◌+◌, ◌-◌, ◌<◌, ◌≤◌, ◌==◌, ◌&&◌, Bool, true, false}
+use Rattle.std.proofs.Common.{◌≡◌, ℕ, zero, suc, ◌+◌, ◌-◌, ◌^◌, ◌<◌, ◌≤◌, ◌==◌, ◌&&◌, Bool, true, false}
 use Rattle.std.proofs.Common.{List, [], ◌∷◌, ◌++◌, length, map, Some, None}
 use Rattle.std.proofs.Common.{refl, sym, ap, subst, ◌∙◌, inl, inr, arith}
 use Rattle.std.specs.Prelude.{All, Contains, find, flat_map}
@@ -9,7 +9,6 @@ use Rattle.std.proofs.lemmas.Bool.Decides.{nat_tests}
 use Rattle.std.proofs.lemmas.List.{map-append}
 use Rattle.std.proofs.lemmas.List.Elements.{All-contains, Contains-append_left, Contains-append_right}
 use Rattle.sd_tree.specs.declared.set.SetName.{SetName}
-use Rattle.sd_book.specs.Commands.{last_period}
 use Rattle.sd_message.specs.Pieces.{pieces_for}
 use Rattle.sd_message.proofs.Pieces as Pieces
 use Rattle.sd_emm.specs.Spelled.{listed, names_in}
@@ -23,10 +22,11 @@ use Rattle.sd_broadcast.specs.Messages.{period_at}
 use Rattle.sd_broadcast.specs.Refused.{IsClear}
 use Rattle.sd_broadcast.specs.Sent.{Item, sent, closing_of, broadcast}
 use Rattle.sd_broadcast.proofs.Items.{all_are_of_broadcast}
+use Rattle.sd_broadcast.proofs.Schedule.{period_short}
 use Rattle.sd_steiner.proofs.Lists.{member_cases, member_first, member_later, no_member}
 use Rattle.sd_sent.specs.Packets.{AreLong}
 use Rattle.sd_sent.specs.Named.{names_at, named}
-use Rattle.sd_sent.proofs.Fitting.{period_names, period_fits, period_within}
+use Rattle.sd_sent.proofs.Fitting.{period_names, period_fits}
 use Rattle.sd_sent.proofs.Sections.{IsSectionOf, sections_in, each_section, sections_are}
 use Rattle.sd_sent.proofs.Reached.{StandAmong, reached_stand}
 
@@ -191,23 +191,23 @@ module _ (plan : Plan) (clear : List (List ℕ)) (q : ℕ) (sections : List Emm)
       ∙ (ap names_in (all_entries period) ∙ period_names plan q))
 
 -- there are no more sections than indexes
-sections_few : (plan : Plan) (q : ℕ) → IsPlan plan → q ≤ last_period plan.commands →
+sections_few : (plan : Plan) (q : ℕ) → IsPlan plan → q < 2 ^ 32 →
     sections_for (length (period_at plan q).entries) ≤ 65536
 unfolding pieces_for
-sections_few plan q is within =
-    let few = (period_fits plan q is within).sets in
+sections_few plan q is low =
+    let few = (period_fits plan q is low).sets in
     omega (arith, few)
 
 -- a broadcast names the sets of each period that it reaches
 pub named_are_sets : (plan : Plan) (clear : List (List ℕ)) (q : ℕ) → IsPlan plan → IsClear plan.site clear →
-    AreLong clear → q ≤ period_of plan (length clear - 1) →
+    AreLong clear → plan.site.first_period ≤ q → q ≤ period_of plan (length clear - 1) →
     named plan.site.height plan.site.emm q (broadcast plan clear) ≡ sets_at plan q
 unfolding named broadcast
-named_are_sets plan clear q is all long reached =
+named_are_sets plan clear q is all long from reached =
     let items : List Item = sent plan clear ++ closing_of plan clear in
     let each = all_are_of_broadcast plan clear in
-    let last = period_within plan (length clear - 1) in
+    let last = period_short plan (length clear - 1) is in
     ap (λ (sections : List Emm). flat_map (names_at q sections) (range_with_len 0 65536))
     (sections_are plan clear is all long [] items each)
     ∙ named_all plan clear q (sections_in items) (each_section plan clear items each is all)
-    (reached_stand plan clear q is.site reached) 65536 (sections_few plan q is (omega (arith, reached, last)))
+    (reached_stand plan clear q is.site from reached) 65536 (sections_few plan q is (omega (arith, reached, last)))

@@ -16,7 +16,7 @@ use Rattle.sd_broadcast.specs.Items.{IsOfBroadcast, cat, entitlement, part, clos
 use Rattle.sd_broadcast.proofs.Schedule.{quotients_rise, closing_above, closing_needed}
 use Rattle.sd_sent.specs.Numbered.{numbered}
 use Rattle.sd_sent.proofs.Clear.{clear_short, take_clear}
-use Rattle.sd_sent.proofs.Fitting.{message_fits, closing_fits, closing_low}
+use Rattle.sd_sent.proofs.Fitting.{message_fits, word_low, closing_fits, closing_low}
 
 -- a message before the closing one stands before its packet
 pub numbered_before : (plan : Plan) (clear : List (List ℕ)) (a : ℕ) → a < closing_number plan.site (length clear) →
@@ -91,7 +91,7 @@ numbered_fits plan clear a is all within = elim (cases_lt a (closing_number plan
       let needed = closing_needed plan.site (length clear) a is.site inner in
       rw (numbered_before plan clear a inner) (message_fits plan (take (a * plan.site.every) clear) a
       (a * plan.site.every) false is (take_clear plan.site clear (a * plan.site.every) all)
-      (omega (arith, short, low, inner)) (omega (arith, short, needed)))
+      (omega (arith, short, low, inner)) (word_low plan clear (a * plan.site.every) is all (omega (arith, needed))))
   | inr past ↦
       let same : closing_number plan.site (length clear) ≡ a = omega (arith, within, past) in
       subst (λ (n : ℕ). IsMessage (numbered plan clear n)) same

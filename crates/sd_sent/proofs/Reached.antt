@@ -2,7 +2,6 @@
 use Rattle.std.proofs.Common.{◌≡◌, ℕ, zero, suc, ◌+◌, ◌-◌, ◌/◌, ◌%◌, ◌<◌, ◌≤◌, ◌==◌, true}
 use Rattle.std.proofs.Common.{List, [], ◌++◌, length, take, drop, map}
 use Rattle.std.proofs.Common.{sym, ap, subst, ◌∙◌, inl, inr, arith, append_assoc}
-use Rattle.std.proofs.Math.Nat.{zero-div}
 use Rattle.std.proofs.lemmas.Bool.{cases_lt}
 use Rattle.std.proofs.lemmas.Bool.Decides.{nat_tests}
 use Rattle.std.proofs.lemmas.List.{take-append-drop}
@@ -10,25 +9,18 @@ use Rattle.sd_site.specs.Fields.{AreInRange}
 use Rattle.sd_emm.specs.Period.{emms_of}
 use Rattle.sd_emm.specs.declared.emm.Emm.{Emm}
 use Rattle.sd_ecm.specs.Parts.{parts_of}
-use Rattle.sd_broadcast.specs.Plan.{Plan, crypto_length, crypto_of, period_of, closing_number}
+use Rattle.sd_broadcast.specs.Plan.{Plan, crypto_length, crypto_of, period_in, period_of, closing_number}
 use Rattle.sd_broadcast.specs.Messages.{period_at, message_at}
 use Rattle.sd_broadcast.specs.Sent.{Item, Controls, tables_at, sent, sent_from, closing_of}
-use Rattle.sd_broadcast.proofs.Schedule.{quotients_rise, quotients_step, crypto_length_some, period_begins}
+use Rattle.sd_broadcast.proofs.Schedule.{quotients_rise, quotients_step, crypto_length_some, period_of_first}
+use Rattle.sd_broadcast.proofs.Schedule.{period_begins}
 use Rattle.sd_broadcast.proofs.Sending.{sent_in_turn}
 use Rattle.sd_broadcast.proofs.Standing.{tables_stand}
 use Rattle.sd_sent.proofs.Sections.{sections_in, sections_in_turn, sections_of_sections}
 
--- the first packet is of period 0
-period_first : (plan : Plan) → period_of plan 0 ≡ 0
-unfolding period_of crypto_of
-period_first plan =
-    let one : 0 / crypto_length plan.site ≡ 0 = zero-div (crypto_length plan.site) in
-    let two : 0 / plan.site.span ≡ 0 = zero-div plan.site.span in
-    rw one (rw two (omega arith))
-
 -- the next packet is of the same period, or of the next
 period_next : (plan : Plan) (k : ℕ) → AreInRange plan.site → period_of plan (k + 1) ≤ period_of plan k + 1
-unfolding period_of crypto_of
+unfolding period_of period_in crypto_of
 period_next plan k r =
     let some = r.span.0 in
     let t : ℕ = k / crypto_length plan.site in
@@ -37,17 +29,17 @@ period_next plan k r =
     let next = quotients_step plan.site.span t (omega (arith, some)) in
     omega (arith, up, next)
 
--- each period up to that of a packet is one of a packet up to it
-pub period_reached : (plan : Plan) (k q : ℕ) → AreInRange plan.site → q ≤ period_of plan k →
-    (j : ℕ) × (j ≤ k) × (period_of plan j ≡ q)
-period_reached plan zero q r within =
-    let none = period_first plan in (0, omega arith, omega (arith, within, none))
-period_reached plan (suc k) q r within = elim (cases_lt (period_of plan k) q) [
+-- each period from the first up to that of a packet is one of a packet up to it
+pub period_reached : (plan : Plan) (k q : ℕ) → AreInRange plan.site → plan.site.first_period ≤ q →
+    q ≤ period_of plan k → (j : ℕ) × (j ≤ k) × (period_of plan j ≡ q)
+period_reached plan zero q r from within =
+    let first = period_of_first plan in (0, omega arith, omega (arith, from, within, first))
+period_reached plan (suc k) q r from within = elim (cases_lt (period_of plan k) q) [
   | inl above ↦
       let next : k + 1 ≡ suc k = omega arith in
       let step = rw next at (period_next plan k r) in
       (suc k, omega arith, omega (arith, within, above, step))
-  | inr below ↦ let there = period_reached plan k q r below in (there.0, omega (arith, there.1), there.2)
+  | inr below ↦ let there = period_reached plan k q r from below in (there.0, omega (arith, there.1), there.2)
 ]
 
 -- these sections stand among those, one after the other
@@ -109,10 +101,10 @@ no_packet plan clear none =
 
 -- so they do of each period that is reached
 pub reached_stand : (plan : Plan) (clear : List (List ℕ)) (q : ℕ) → AreInRange plan.site →
-    q ≤ period_of plan (length clear - 1) →
+    plan.site.first_period ≤ q → q ≤ period_of plan (length clear - 1) →
     StandAmong (emms_of (period_at plan q)) (sections_in (sent plan clear ++ closing_of plan clear))
-reached_stand plan clear q r within =
-    let there = period_reached plan (length clear - 1) q r within in
+reached_stand plan clear q r from within =
+    let there = period_reached plan (length clear - 1) q r from within in
     let sections : List Emm = sections_in (sent plan clear ++ closing_of plan clear) in
     subst (λ (p : ℕ). StandAmong (emms_of (period_at plan p)) sections) there.2 (elim (cases_lt there.0
     (length clear)) [

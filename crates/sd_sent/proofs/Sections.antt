@@ -1,5 +1,5 @@
 -- The sections of entitlements in a broadcast.
-use Rattle.std.proofs.Common.{◌≡◌, ℕ, ◌-◌, ◌/◌, ◌%◌, ◌<◌, ◌≤◌, ◌==◌, true, false}
+use Rattle.std.proofs.Common.{◌≡◌, ℕ, ◌-◌, ◌/◌, ◌%◌, ◌^◌, ◌<◌, ◌≤◌, ◌==◌, true, false}
 use Rattle.std.proofs.Common.{List, [], ◌∷◌, ◌++◌, length, take, get_or, map, Some}
 use Rattle.std.proofs.Common.{refl, sym, ap, subst, ◌∙◌, arith, append_assoc}
 use Rattle.std.specs.Prelude.{All, Contains, count_by, Ok}
@@ -19,17 +19,18 @@ use Rattle.sd_emm.proofs.Sharing.{all_are_emms, all_sets_stand}
 use Rattle.sd_emm.proofs.Deciding.{packed_reads}
 use Rattle.sd_ecm.specs.Spelled.{ecm_section}
 use Rattle.sd_ecm.specs.Parts.{Message, IsMessage, parts_of}
-use Rattle.sd_broadcast.specs.Plan.{Plan, IsPlan, period_of, closing_number}
+use Rattle.sd_broadcast.specs.Plan.{Plan, IsPlan, word_of, period_of, closing_number}
 use Rattle.sd_broadcast.specs.Carried.{carried}
 use Rattle.sd_broadcast.specs.Messages.{period_at, message_at}
 use Rattle.sd_broadcast.specs.Refused.{is_taken, IsClear}
 use Rattle.sd_broadcast.specs.Sent.{Item, Cat, Entitles, Controls, Carries, is_alike, packet_of, packets_from}
 use Rattle.sd_broadcast.specs.Items.{IsOfBroadcast, cat, entitlement, part, closing, carried_on}
+use Rattle.sd_broadcast.proofs.Schedule.{period_short}
 use Rattle.sd_sent.specs.Packets.{AreLong}
 use Rattle.sd_sent.specs.Named.{sections_on}
 use Rattle.sd_sent.proofs.Clear.{each_clear, accepted, take_clear}
 use Rattle.sd_sent.proofs.Carrying.{carried_pid as pid_kept}
-use Rattle.sd_sent.proofs.Fitting.{period_fits, period_sets, period_within, message_before_fits, closing_fits}
+use Rattle.sd_sent.proofs.Fitting.{period_fits, period_sets, message_before_fits, word_low, closing_fits}
 
 -- a section of a packet's period
 abbrev pub IsSectionOf : Plan → List (List ℕ) → Emm → Type 0
@@ -50,8 +51,10 @@ module _ (plan : Plan) (clear : List (List ℕ)) (is : IsPlan plan) (all : IsCle
       IsMessage (message_at plan (take k clear) (k / plan.site.every) k false)
   message_at_fits k within =
       let long : length (take k clear) ≡ k = length-take-le k clear (omega (arith, within)) in
+      let low = word_low plan clear k is all (omega (arith, within)) in
       subst (λ (n : ℕ). IsMessage (message_at plan (take k clear) (n / plan.site.every) n false)) long
-      (message_before_fits plan (take k clear) is (take_clear plan.site clear k all))
+      (message_before_fits plan (take k clear) is (take_clear plan.site clear k all)
+      (subst (λ (n : ℕ). word_of plan.site n < 2 ^ 32) (sym long) low))
 
   pub said : (item : Item) → IsOfBroadcast plan clear item → IsSaid plan clear item
   said _ cat = tt
@@ -72,7 +75,7 @@ module _ (plan : Plan) (clear : List (List ℕ)) (is : IsPlan plan) (all : IsCle
   section_reads emm counter (k, within, m) few =
       let q : ℕ = period_of plan k in
       let form = All-contains (λ (e : Emm). IsEmm e × Fits e) (emms_of (period_at plan q)) emm
-      (all_are_emms (period_at plan q) (period_fits plan q is (period_within plan k))) m in
+      (all_are_emms (period_at plan q) (period_fits plan q is (period_short plan k is))) m in
       let sets = All-contains (λ (e : Emm). AreSets plan.site.height e.sets (listed e)) (emms_of (period_at plan q)) emm
       (all_sets_stand plan.site.height (period_at plan q) (period_sets plan q is)) m in
       let high = is.site.height.1 in

@@ -1,7 +1,8 @@
 -- What the head end knows of a packet that it takes.
-use Rattle.std.specs.Prelude.{◌≡◌, ◌≢◌, ℕ, ◌-◌, ◌^◌, false, List, length, None}
+use Rattle.std.specs.Prelude.{◌≡◌, ◌≢◌, ℕ, ◌-◌, ◌^◌, ◌≤◌, false, List, length, None}
 use Rattle.sd_packet.specs.Header.{pid_of, scrambling_of}
 use Rattle.sd_site.specs.Fields.{SiteFields}
+use Rattle.sd_broadcast.specs.Plan.{word_of}
 use Rattle.sd_broadcast.specs.Kinds.{kind_of}
 use Rattle.sd_broadcast.specs.Refused.{is_taken, pat_wrong, is_full_own, is_one_too_many}
 
@@ -13,3 +14,4 @@ pub record IsAccepted (site : SiteFields) (before : List (List ℕ)) (packet : L
   pub own : is_full_own site (kind_of before packet) packet ≡ false
   pub room : is_one_too_many before packet ≡ false
   pub short : length before ≢ 2 ^ 32 - 1
+  pub word : word_of site (length before) ≤ site.last_word

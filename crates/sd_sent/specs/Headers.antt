@@ -4,7 +4,7 @@ use Rattle.sd_packet.specs.Header.{unit_start_of, pid_of, scrambling_of, adaptat
 use Rattle.sd_broadcast.specs.declared.kind.Kind.{Kind}
 use Rattle.sd_broadcast.specs.declared.kind.Kind.TheVariants.{Passed, Pmt, Scrambled}
 
--- transport_scrambling_control of a packet that is carried in crypto period t
+-- transport_scrambling_control of a packet that is carried under control word t
 -- [this project, docs/FORMATS.md, Keystream]
 abbrev pub control_in : Kind → ℕ → ℕ
 control_in Passed t = 0

@@ -1,4 +1,5 @@
 pub mod Accepted
+pub mod Narrowed
 pub mod Packets
 pub mod Named
 pub mod Numbered

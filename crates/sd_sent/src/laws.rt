@@ -7,14 +7,14 @@ ghost use Rattle.sd_packet.specs.Header.{pid_of, scrambling_of};
 ghost use Rattle.sd_packet.specs.Positions.{is_placed, moved};
 ghost use Rattle.sd_label.specs.Names.{given};
 ghost use Rattle.sd_site.specs.Fields.{SiteFields, AreInRange};
-ghost use Rattle.sd_book.specs.Commands.{last_period, revoked, entitled};
+ghost use Rattle.sd_book.specs.Commands.{revoked, entitled};
 ghost use Rattle.sd_steiner.specs.Partition.{IsPartition, IsSmall};
 ghost use Rattle.sd_reach.specs.Reach.{ReachesNoneOf};
 ghost use Rattle.sd_emm.specs.Form.{AreSets};
 ghost use Rattle.sd_emm.specs.Period.{IsPeriod};
 ghost use Rattle.sd_ecm.specs.Parts.{IsMessage, parts_of};
 ghost use Rattle.sd_ecm.specs.declared.part.EcmPart.{EcmPart};
-ghost use Rattle.sd_broadcast.specs.Plan.{Plan, IsPlan, sets_at, crypto_of, period_of, since_of, closing_number};
+ghost use Rattle.sd_broadcast.specs.Plan.{Plan, IsPlan, sets_at, word_of, period_of, since_of, closing_number};
 ghost use Rattle.sd_broadcast.specs.Kinds.{kind_of, moved_pids};
 ghost use Rattle.sd_broadcast.specs.Carried.{carried};
 ghost use Rattle.sd_broadcast.specs.Messages.{period_at, message_at};
@@ -23,6 +23,7 @@ ghost use Rattle.sd_broadcast.specs.Sent.{Controls, sent_from, closing_of, broad
 ghost use Rattle.sd_broadcast.specs.Items.{IsOfBroadcast};
 ghost use Rattle.sd_broadcast.specs.declared.kind.Kind.TheVariants.{Passed};
 ghost use Rattle.sd_sent.specs.Accepted.{IsAccepted};
+ghost use Rattle.sd_sent.specs.Narrowed.{up_to, plan_up_to};
 ghost use Rattle.sd_sent.specs.Packets.{IsWholePacket, AreLong};
 ghost use Rattle.sd_sent.specs.Named.{named, NamesPeriod};
 ghost use Rattle.sd_sent.specs.Numbered.{numbered};
@@ -45,27 +46,32 @@ pub fn clear_streams_go_on()
         refusal_of site before packet ≡ None → IsAccepted site before packet }
 {}
 
-/// A clear stream has fewer than 2^32 packets, and no more than 256 PIDs with positions that moved.
+/// A clear stream has fewer than 2^32 packets, no more than 256 PIDs with positions that moved, and no control word
+/// above the site's last.
 pub fn clear_streams_are_bounded()
     ensures packets { (site : SiteFields) (clear : List (List ℕ)) → IsClear site clear → length clear < 2 ^ 32 }
     ensures pids { (site : SiteFields) (clear : List (List ℕ)) → IsClear site clear → length (moved_pids clear) ≤ 256 }
+    ensures words { (site : SiteFields) (clear : List (List ℕ)) (k : ℕ) → IsClear site clear → k < length clear →
+        word_of site k ≤ site.last_word }
 {}
 
-/// The entitlements of each period of a book are a period's, and their sets may stand at the site's height; each packet
+/// The entitlements of each period below 2^32 are a period's, and their sets may stand at the site's height; each packet
 /// is of such a period.
 pub fn periods_fit()
-    ensures form { (plan : Plan) (q : ℕ) → IsPlan plan → q ≤ last_period plan.commands → IsPeriod (period_at plan q) }
+    ensures form { (plan : Plan) (q : ℕ) → IsPlan plan → q < 2 ^ 32 → IsPeriod (period_at plan q) }
     ensures sets { (plan : Plan) (q : ℕ) → IsPlan plan →
         AreSets plan.site.height (length (period_at plan q).entries) (period_at plan q).entries }
-    ensures reached { (plan : Plan) (k : ℕ) → period_of plan k ≤ last_period plan.commands }
+    ensures fits { (plan : Plan) (k : ℕ) → IsPlan plan → period_of plan k < 2 ^ 32 }
 {}
 
-/// The control messages of a clear stream are messages, with at most 256 positions: whatever their numbers below 2^32,
-/// and so those before packets and the closing one.
+/// The control messages of a clear stream are messages, with at most 256 positions: whatever their numbers and those of
+/// their control words below 2^32, and so those before packets and the closing one.
 pub fn messages_fit()
     ensures any { (plan : Plan) (before : List (List ℕ)) (a k : ℕ) (closing : Bool) → IsPlan plan →
-        IsClear plan.site before → a < 2 ^ 32 → k < 2 ^ 32 → IsMessage (message_at plan before a k closing) }
+        IsClear plan.site before → a < 2 ^ 32 → word_of plan.site k < 2 ^ 32 →
+        IsMessage (message_at plan before a k closing) }
     ensures before { (plan : Plan) (before : List (List ℕ)) → IsPlan plan → IsClear plan.site before →
+        word_of plan.site (length before) < 2 ^ 32 →
         IsMessage (message_at plan before (length before / plan.site.every) (length before) false) }
     ensures closing { (plan : Plan) (clear : List (List ℕ)) → IsPlan plan → IsClear plan.site clear →
         IsMessage (message_at plan clear (closing_number plan.site (length clear)) (length clear - 1) true) }
@@ -76,13 +82,13 @@ pub fn messages_fit()
 /// 2r - 1 where r are. No revoked leaf is in one of them, or reaches a label or the key of one.
 pub fn covers_are_named()
     ensures { (plan : Plan) (clear : List (List ℕ)) (q : ℕ) → IsPlan plan → IsClear plan.site clear →
-        AreLong clear → q ≤ period_of plan (length clear - 1) →
+        AreLong clear → plan.site.first_period ≤ q → q ≤ period_of plan (length clear - 1) →
         NamesPeriod plan q (named plan.site.height plan.site.emm q (broadcast plan clear)) }
 {}
 
-/// Each period up to that of a packet is the one of a packet up to it.
+/// Each period from the site's first up to that of a packet is the one of a packet up to it.
 pub fn periods_are_reached()
-    ensures { (plan : Plan) (k q : ℕ) → AreInRange plan.site → q ≤ period_of plan k →
+    ensures { (plan : Plan) (k q : ℕ) → AreInRange plan.site → plan.site.first_period ≤ q → q ≤ period_of plan k →
         (j : ℕ) × (j ≤ k) × (period_of plan j ≡ q) }
 {}
 
@@ -114,6 +120,15 @@ pub fn what_is_sent_comes_in_order()
         All (IsOfRest plan clear k) (sent_from plan (take k clear) (drop k clear) ++ closing_of plan clear) }
 {}
 
+/// The last word that a site may use is in no packet that is sent. A clear stream is one of the same site with another
+/// last word, if none of its packets has a word above that.
+pub fn last_word_is_a_bound()
+    ensures sent { (plan : Plan) (clear : List (List ℕ)) (x : ℕ) →
+        broadcast (plan_up_to x plan) clear ≡ broadcast plan clear }
+    ensures fewer_words { (site : SiteFields) (clear : List (List ℕ)) (x : ℕ) → IsClear site clear →
+        ((k : ℕ) → k < length clear → word_of site k ≤ x) → IsClear (up_to x site) clear }
+{}
+
 /// A clear packet is carried under its own header but for transport_scrambling_control, which tells whether it is
 /// scrambled and under which control word. So it moves positions as it did.
 pub fn headers_are_carried()
@@ -121,7 +136,7 @@ pub fn headers_are_carried()
         pid_of (carried site before packet) ≡ pid_of packet }
     ensures header { (site : SiteFields) (before : List (List ℕ)) (packet : List ℕ) → IsWholePacket packet →
         scrambling_of packet ≡ 0 →
-        IsCarriedWith (control_in (kind_of before packet) (crypto_of site (length before))) packet
+        IsCarriedWith (control_in (kind_of before packet) (word_of site (length before))) packet
         (carried site before packet) }
     ensures moved { (control pid position : ℕ) (old new : List ℕ) → IsCarriedWith control old new →
         moved pid position new ≡ moved pid position old }
