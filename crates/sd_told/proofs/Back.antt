@@ -14,7 +14,7 @@ use Rattle.sd_psi.proofs.Keeping.{rewritten_packet_keeps}
 use Rattle.sd_psi.proofs.Inverse.{restorable, restored_again}
 use Rattle.sd_scramble.specs.Scrambling.{control_of, descrambled}
 use Rattle.sd_scramble.proofs.Scramblings.{undone, control_fits}
-use Rattle.sd_broadcast.specs.Plan.{crypto_of}
+use Rattle.sd_broadcast.specs.Plan.{word_of}
 use Rattle.sd_broadcast.specs.Kinds.{kind_of, pmts_in}
 use Rattle.sd_broadcast.specs.Carried.{parity_of, place_after, pmt_carried, veiled, carried_as, carried}
 use Rattle.sd_broadcast.specs.Refused.{refusal_of, is_full_own}
@@ -113,9 +113,9 @@ veiled_back site t position packet whole clear =
 
 pub scrambled_back : (site : SiteFields) (before : List (List ℕ)) (packet : List ℕ) → IsWholePacket packet →
     refusal_of site before packet ≡ None → kind_of before packet ≡ Scrambled →
-    descrambled (carried site before packet) (control_word_of site.master (crypto_of site (length before)))
+    descrambled (carried site before packet) (control_word_of site.master (word_of site (length before)))
     (place_after before packet) ≡ packet
 unfolding carried
 scrambled_back site before packet whole unrefused is =
-    rw is (veiled_back site (crypto_of site (length before)) (place_after before packet) packet whole
+    rw is (veiled_back site (word_of site (length before)) (place_after before packet) packet whole
     (accepted site before packet unrefused).clear)

@@ -21,7 +21,7 @@ use Rattle.sd_emm.specs.Period.{emms_of, IsOfPeriod}
 use Rattle.sd_emm.specs.declared.emm.Emm.{Emm}
 use Rattle.sd_emm.specs.declared.emm.Entry.{Entry}
 use Rattle.sd_emm.proofs.Sharing.{all_are_of, joined_are_all}
-use Rattle.sd_broadcast.specs.Plan.{Plan, IsPlan, sets_at, crypto_of, period_of, closing_number}
+use Rattle.sd_broadcast.specs.Plan.{Plan, IsPlan, sets_at, word_of, period_of, closing_number}
 use Rattle.sd_broadcast.specs.Messages.{entry_of, period_at, message_at}
 use Rattle.sd_sent.specs.Numbered.{numbered}
 use Rattle.sd_sent.proofs.Fitting.{sets_stand, period_key_length, control_word_length}
@@ -142,8 +142,8 @@ word_at : (plan : Plan) (before : List (List ℕ)) (a k : ℕ) (closing : Bool) 
     ≡ control_word_of plan.site.master (message_at plan before a k closing).word
 unfolding message_at
 word_at plan before a k closing =
-    twice (period_key_of plan.site.master (period_of plan k)) (control_word_of plan.site.master (crypto_of plan.site k))
-    (crypto_of plan.site k) (control_word_length plan.site.master (crypto_of plan.site k))
+    twice (period_key_of plan.site.master (period_of plan k)) (control_word_of plan.site.master (word_of plan.site k))
+    (word_of plan.site k) (control_word_length plan.site.master (word_of plan.site k))
 
 check_at : (plan : Plan) (before : List (List ℕ)) (a k : ℕ) (closing : Bool) →
     (message_at plan before a k closing).check

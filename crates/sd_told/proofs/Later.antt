@@ -16,10 +16,10 @@ use Rattle.sd_packet.specs.Positions.{is_moving, position_of}
 use Rattle.sd_packet.proofs.Positions.{more_packets, moved_by_near}
 use Rattle.sd_site.specs.Fields.{AreInRange}
 use Rattle.sd_ecm.specs.declared.part.Place.{Place}
-use Rattle.sd_broadcast.specs.Plan.{Plan, IsPlan, crypto_of, period_of, closing_number}
+use Rattle.sd_broadcast.specs.Plan.{Plan, IsPlan, word_of, period_of, closing_number}
 use Rattle.sd_broadcast.specs.Kinds.{has_moved, positional_pids, moved_pids}
 use Rattle.sd_broadcast.specs.Messages.{places_after, message_at}
-use Rattle.sd_broadcast.proofs.Schedule.{cryptos_rise, periods_rise, closing_needed}
+use Rattle.sd_broadcast.proofs.Schedule.{words_rise, periods_rise, closing_needed}
 use Rattle.sd_sent.specs.Numbered.{numbered}
 use Rattle.sd_sent.proofs.Numbers.{numbered_before, numbered_closing}
 use Rattle.sd_reception.specs.Confirmed.{position_in}
@@ -115,10 +115,10 @@ later_at : (plan : Plan) (xs ys : List (List ℕ)) (a b j k : ℕ) (first second
 unfolding is_before message_at
 later_at plan xs ys a b j k first second r up =
     let periods = periods_rise plan j k r up in
-    let words = cryptos_rise plan.site j k r up in
+    let words = words_rise plan.site j k r up in
     let long = length-append xs ys in
     let one : nat_lt (period_of plan k) (period_of plan j) ≡ false = grind (arith, nat_tests, periods) in
-    let two : nat_lt (crypto_of plan.site k) (crypto_of plan.site j) ≡ false = grind (arith, nat_tests, words) in
+    let two : nat_lt (word_of plan.site k) (word_of plan.site j) ≡ false = grind (arith, nat_tests, words) in
     let three : nat_lt (length (xs ++ ys)) (length xs) ≡ false = grind (arith, nat_tests, long) in
     rw (one, two, three, no_place_back xs ys) refl
 

@@ -14,7 +14,7 @@ ghost use Rattle.sd_emm.specs.Period.{Period, emms_of};
 ghost use Rattle.sd_emm.specs.declared.emm.Emm.{Emm};
 ghost use Rattle.sd_ecm.specs.Parts.{Message, IsMessage, parts_of};
 ghost use Rattle.sd_ecm.specs.declared.part.EcmPart.{EcmPart};
-ghost use Rattle.sd_broadcast.specs.Plan.{Plan, IsPlan, crypto_of, closing_number};
+ghost use Rattle.sd_broadcast.specs.Plan.{Plan, IsPlan, word_of, closing_number};
 ghost use Rattle.sd_broadcast.specs.Kinds.{kind_of};
 ghost use Rattle.sd_broadcast.specs.Carried.{place_after, carried};
 ghost use Rattle.sd_broadcast.specs.Messages.{period_at};
@@ -106,6 +106,6 @@ pub fn carried_packets_come_back()
         kind_of before packet ≢ Scrambled → unmarked segment (carried site before packet) ≡ packet }
     ensures scrambled { (site : SiteFields) (before : List (List ℕ)) (packet : List ℕ) → IsWholePacket packet →
         refusal_of site before packet ≡ None → kind_of before packet ≡ Scrambled →
-        descrambled (carried site before packet) (control_word_of site.master (crypto_of site (length before)))
+        descrambled (carried site before packet) (control_word_of site.master (word_of site (length before)))
         (place_after before packet) ≡ packet }
 {}

@@ -18,8 +18,9 @@ use Rattle.sd_broadcast.specs.Messages.{period_at, message_at}
 use Rattle.sd_broadcast.specs.Refused.{IsClear}
 use Rattle.sd_broadcast.specs.Sent.{Item, Entitles, Controls, Carries, tables_at, tables_before, message_before, added}
 use Rattle.sd_broadcast.specs.Sent.{packets_from, sent_from, sent, closing_of, body, broadcast}
+use Rattle.sd_broadcast.proofs.Schedule.{period_short}
 use Rattle.sd_sent.proofs.Clear.{clear_short, prefix_clear}
-use Rattle.sd_sent.proofs.Fitting.{period_fits, period_within, message_before_fits, closing_fits}
+use Rattle.sd_sent.proofs.Fitting.{period_fits, message_before_fits, word_low, closing_fits}
 
 -- as many packets as things
 packets_many : (plan : Plan) (earlier items : List Item) → length (packets_from plan.site earlier items) ≡ length items
@@ -53,7 +54,7 @@ module _ (plan : Plan) (is : IsPlan plan) where
       omega (
         arith,
         length-map emms Entitles,
-        sections_few (period_at plan q) (period_fits plan q is (period_within plan k)),
+        sections_few (period_at plan q) (period_fits plan q is (period_short plan k is)),
       )
 
   tables_or_none : (b : Bool) (k : ℕ) → length (if b then tables_at plan k else []) ≤ 43692
@@ -70,19 +71,21 @@ module _ (plan : Plan) (is : IsPlan plan) where
   message_or_none false message fits = omega arith
 
   -- what one packet adds
-  added_few : (before : List (List ℕ)) (packet : List ℕ) → IsClear plan.site before →
+  added_few : (before : List (List ℕ)) (packet : List ℕ) → IsClear plan.site (before ++ packet ∷ []) →
       length (added plan before packet) ≤ 65536
   unfolding added
   added_few before packet all =
       let n : ℕ = length before in
       let own : List Item = Carries n (carried plan.site before packet) ∷ [] in
+      let more = length-append before (packet ∷ []) in
+      let low = word_low plan (before ++ packet ∷ []) n is all (omega (arith, more)) in
       omega (
         arith,
         length-append (tables_before plan n) (message_before plan before ++ own),
         length-append (message_before plan before) own,
         tables_or_none (n % crypto_length plan.site == 0) n,
         message_or_none (n % plan.site.every == 0) (message_at plan before (n / plan.site.every) n false)
-            (message_before_fits plan before is all),
+            (message_before_fits plan before is (prefix_clear plan.site before (packet ∷ []) all) low),
       )
 
   -- what packets add after others
@@ -94,10 +97,12 @@ module _ (plan : Plan) (is : IsPlan plan) where
       omega (
         arith,
         length-append (added plan before packet) (sent_from plan (before ++ packet ∷ []) packets),
-        added_few before packet (prefix_clear plan.site before (packet ∷ packets) all),
-        sent_few (before ++ packet ∷ []) packets
-            (subst (IsClear plan.site) (sym (append_assoc before (packet ∷ []) packets)) all),
+        added_few before packet (prefix_clear plan.site (before ++ packet ∷ []) packets whole),
+        sent_few (before ++ packet ∷ []) packets whole,
       )
+    where
+      whole : IsClear plan.site ((before ++ packet ∷ []) ++ packets)
+      whole = subst (IsClear plan.site) (sym (append_assoc before (packet ∷ []) packets)) all
 
   -- the closing message
   closing_few : (clear : List (List ℕ)) → IsClear plan.site clear → length (closing_of plan clear) ≤ 65536

@@ -33,7 +33,7 @@ use Rattle.sd_ecm.specs.Form.{IsEcm, Fits as FitsPart}
 use Rattle.sd_ecm.specs.declared.part.EcmPart.{EcmPart}
 use Rattle.sd_ecm.proofs.Versions.{fits_packet}
 use Rattle.sd_ecm.proofs.Again.{long_body}
-use Rattle.sd_broadcast.specs.Plan.{crypto_of}
+use Rattle.sd_broadcast.specs.Plan.{word_of}
 use Rattle.sd_broadcast.specs.Kinds.{kind_of}
 use Rattle.sd_broadcast.specs.Carried.{parity_of, place_after, pmt_carried, veiled, carried_as, carried}
 use Rattle.sd_broadcast.specs.declared.kind.Kind.{Kind}
@@ -183,4 +183,4 @@ carried_synced site before packet whole synced = by_kind (kind_of before packet)
     by_kind Passed is = synced
     by_kind Pmt is =
         pmt_synced site packet (placed_packet packet whole (kind_placed before packet (λ e. absurd (cc)))) synced
-    by_kind Scrambled is = veiled_synced site (crypto_of site (length before)) (place_after before packet) packet synced
+    by_kind Scrambled is = veiled_synced site (word_of site (length before)) (place_after before packet) packet synced

@@ -20,8 +20,9 @@ use Rattle.sd_broadcast.specs.Sent.{Item, Cat, Entitles, Controls, Carries, is_a
 use Rattle.sd_broadcast.specs.Sent.{closing_of, body, broadcast}
 use Rattle.sd_broadcast.specs.Items.{IsOfBroadcast}
 use Rattle.sd_broadcast.proofs.Items.{all_are_of_broadcast}
+use Rattle.sd_broadcast.proofs.Schedule.{period_short}
 use Rattle.sd_sent.specs.Packets.{IsWholePacket, AreWholePackets}
-use Rattle.sd_sent.proofs.Fitting.{period_fits, period_sets, period_within}
+use Rattle.sd_sent.proofs.Fitting.{period_fits, period_sets}
 use Rattle.sd_sent.proofs.Sections.{IsSaid, said}
 use Rattle.sd_whole.specs.Synced.{IsSynced, AreSynced}
 use Rattle.sd_whole.proofs.Spelled.{packed_synced, cat_short, emm_short, ecm_short, carried_synced}
@@ -43,7 +44,7 @@ module _ (plan : Plan) (clear : List (List ℕ)) (is : IsPlan plan) (all : IsCle
   one_synced earlier (Entitles emm) (k, within, m) =
       let q : ℕ = period_of plan k in
       let form = All-contains (λ (e : Emm). IsEmm e × Fits e) (emms_of (period_at plan q)) emm
-      (all_are_emms (period_at plan q) (period_fits plan q is (period_within plan k))) m in
+      (all_are_emms (period_at plan q) (period_fits plan q is (period_short plan k is))) m in
       let sets = All-contains (λ (e : Emm). AreSets plan.site.height e.sets (listed e)) (emms_of (period_at plan q)) emm
       (all_sets_stand plan.site.height (period_at plan q) (period_sets plan q is)) m in
       let high = is.site.height.1 in
