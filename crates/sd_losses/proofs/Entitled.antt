@@ -1,5 +1,5 @@
 -- Which leaves the sections of a period entitle.
-use Rattle.std.proofs.Common.{◌≡◌, refl, ℕ, ◌<◌, ◌==◌, ◌^◌, ◌&&◌, ◌||◌, Bool, true, false, not, nat_lt}
+use Rattle.std.proofs.Common.{◌≡◌, refl, ℕ, ◌<◌, ◌≤◌, ◌==◌, ◌^◌, ◌&&◌, ◌||◌, Bool, true, false, not, nat_lt}
 use Rattle.std.proofs.Common.{List, [], ◌∷◌, map, arith, sym, ap, ◌∙◌, inl, inr, ◌⊎◌, subst}
 use Rattle.std.specs.Prelude.{if◌then◌else◌, count_by, flat_map, All, Contains}
 use Rattle.std.specs.List.{list_any}
@@ -16,7 +16,7 @@ use Rattle.sd_emm.specs.Spelled.{listed}
 use Rattle.sd_emm.specs.Period.{emms_of}
 use Rattle.sd_emm.specs.declared.emm.Emm.{Emm}
 use Rattle.sd_emm.proofs.Sharing.{joined_are_all}
-use Rattle.sd_broadcast.specs.Plan.{Plan, IsPlan, sets_at, period_of}
+use Rattle.sd_broadcast.specs.Plan.{Plan, IsPlan, sets_at, period_in, period_of}
 use Rattle.sd_broadcast.specs.Messages.{period_at, entry_of}
 use Rattle.sd_broadcast.specs.Sent.{Item, Cat, Entitles, Controls, Carries}
 use Rattle.sd_broadcast.specs.Items.{IsOfBroadcast, entitlement}
@@ -99,6 +99,30 @@ entitles_at_all h u q a (item ∷ kept) is = by_last (cases_Bool (is_last_part a
         list_any (entitles h u q) (item ∷ kept) ≡ true
     by_last (inl last) rest = absurd (cc (rw last at is))
     by_last (inr other) rest = by_entitled (entitles h u q item) refl (rw other at is) rest
+
+-- no packet is of a period before the first
+pub period_above : (plan : Plan) (k : ℕ) → plan.site.first_period ≤ period_of plan k
+unfolding period_of period_in
+period_above plan k = omega arith
+
+-- no thing of the broadcast entitles in a period before the first
+none_before_first : (plan : Plan) (clear : List (List ℕ)) (q u : ℕ) (item : Item) → q < plan.site.first_period →
+    IsOfBroadcast plan clear item → entitles plan.site.height u q item ≡ false
+none_before_first plan clear q u (Entitles emm) low (entitlement k within there) =
+    let is = period_due plan (period_of plan k) emm there in
+    let from = period_above plan k in
+    let other : (emm.period == q) ≡ false = grind (arith, nat_tests, low, is, from) in
+    rw other refl
+none_before_first plan clear q u Cat low of = refl
+none_before_first plan clear q u (Controls one) low of = refl
+none_before_first plan clear q u (Carries k packet) low of = refl
+
+pub none_before : (plan : Plan) (clear : List (List ℕ)) (q u : ℕ) (items : List Item) → q < plan.site.first_period →
+    All (IsOfBroadcast plan clear) items → list_any (entitles plan.site.height u q) items ≡ false
+none_before plan clear q u [] low all = refl
+none_before plan clear q u (item ∷ items) low all =
+    rw (none_before_first plan clear q u item low (All-head (IsOfBroadcast plan clear) item items all))
+    (none_before plan clear q u items low (All-tail (IsOfBroadcast plan clear) item items all))
 
 -- a leaf that a thing of the broadcast entitles is not revoked in the period
 entitled_one : (plan : Plan) (clear : List (List ℕ)) (q u : ℕ) (item : Item) → IsPlan plan → u < 2 ^ plan.site.height →

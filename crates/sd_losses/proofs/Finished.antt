@@ -1,13 +1,13 @@
 -- How a whole broadcast ends.
 use Rattle.std.proofs.Common.{◌≡◌, refl, ℕ, zero, suc, ◌+◌, ◌-◌, ◌*◌, ◌<◌, ◌≤◌, Bool, true, false, min}
 use Rattle.std.proofs.Common.{List, [], ◌∷◌, ◌++◌, map, length, Option, Some, None, if◌then◌else◌}
-use Rattle.std.proofs.Common.{arith, sym, ap, ◌∙◌, inl, inr, ◌⊎◌}
+use Rattle.std.proofs.Common.{arith, sym, ap, subst, ◌∙◌, inl, inr, ◌⊎◌}
 use Rattle.std.specs.List.{range_with_len, find}
 use Rattle.std.proofs.lemmas.List.{map-append}
 use Rattle.std.proofs.lemmas.Bool.{cases_Bool, cases_eq}
 use Rattle.sd_site.specs.Fields.{AreInRange}
-use Rattle.sd_broadcast.specs.Plan.{Plan, crypto_length, crypto_of, period_of, closing_number}
-use Rattle.sd_broadcast.proofs.Schedule.{periods_rise, periods_step, closing_covers}
+use Rattle.sd_broadcast.specs.Plan.{Plan, crypto_length, period_of, closing_number}
+use Rattle.sd_broadcast.proofs.Schedule.{periods_rise, periods_step, period_of_first, closing_covers}
 use Rattle.sd_losses.specs.Endings.{period_told}
 use Rattle.sd_losses.proofs.Tests.{range_parts}
 
@@ -62,28 +62,41 @@ none_found f s (suc n) x none low high = by_test (cases_Bool (f s)) (cases_eq s 
     by_test (inr is) (inr later) rest = rest (rw is at none) (omega (arith, low, later))
 
 -- a range with one more
-range_last : (n : ℕ) → range_with_len 0 (n + 1) ≡ range_with_len 0 n ++ n ∷ []
-range_last n =
-    let same : 0 + n ≡ n = omega arith in
-    range_parts 0 n 1 ∙ ap (λ (m : ℕ). range_with_len 0 n ++ range_with_len m 1) same
+range_last : (s n : ℕ) → range_with_len s (n + 1) ≡ range_with_len s n ++ (s + n) ∷ []
+range_last s n = range_parts s n 1
 
--- numbers that rise from 0 by 1 at most find what all up to the last find
-pub find_risen : (g : ℕ → ℕ) (test : ℕ → Bool) (n : ℕ) → g 0 ≡ 0 → ((a : ℕ) → g a ≤ g (a + 1)) → ((a : ℕ) → g
+-- numbers that rise are none below the first
+risen_above : (g : ℕ → ℕ) (n : ℕ) → ((a : ℕ) → g a ≤ g (a + 1)) → g 0 ≤ g n
+risen_above g zero rises = omega arith
+risen_above g (suc n) rises =
+    let next : g (n + 1) ≡ g (suc n) = ap g (omega arith) in
+    omega (arith, risen_above g n rises, rises n, next)
+
+-- numbers that rise from s by 1 at most find what all from s up to the last find
+pub find_risen : (g : ℕ → ℕ) (test : ℕ → Bool) (s n : ℕ) → g 0 ≡ s → ((a : ℕ) → g a ≤ g (a + 1)) → ((a : ℕ) → g
     (a + 1) ≤ g a + 1) →
-    find test (map g (range_with_len 0 (n + 1))) ≡ find test (range_with_len 0 (g n + 1))
-find_risen g test zero start rises steps =
+    find test (map g (range_with_len 0 (n + 1))) ≡ find test (range_with_len s (g n + 1 - s))
+find_risen g test s zero start rises steps =
     let one : 0 + 1 ≡ 1 = omega arith in
+    let all : 1 ≡ g 0 + 1 - s = omega (arith, start) in
     ap (λ (m : ℕ). find test (map g (range_with_len 0 m))) one
     ∙ (ap (λ (m : ℕ). find test (m ∷ [])) start
-    ∙ ap (λ (m : ℕ). find test (range_with_len 0 m)) (sym one)
-    ∙ sym (ap (λ (m : ℕ). find test (range_with_len 0 (m + 1))) start))
-find_risen g test (suc n) start rises steps =
-    ap (λ (xs : List ℕ). find test (map g xs)) (range_last (suc n) ∙ ap (λ (xs : List ℕ). xs ++ suc n ∷ []) ready)
+    ∙ ap (λ (m : ℕ). find test (range_with_len s m)) all)
+find_risen g test s (suc n) start rises steps =
+    ap (λ (xs : List ℕ). find test (map g xs)) (range_last 0 (suc n)
+    ∙ (ap (λ (xs : List ℕ). xs ++ (0 + suc n) ∷ []) ready
+    ∙ ap (λ (m : ℕ). range_with_len 0 (n + 1) ++ m ∷ []) last))
     ∙ (ap (find test) (map-append g (range_with_len 0 (n + 1)) (suc n ∷ []))
-    ∙ (find_last test (map g (range_with_len 0 (n + 1))) (range_with_len 0 (g n + 1)) (g (suc n))
-    (find_risen g test n start rises steps)
+    ∙ (find_last test (map g (range_with_len 0 (n + 1))) (range_with_len s (g n + 1 - s)) (g (suc n))
+    (find_risen g test s n start rises steps)
     ∙ by_step (cases_eq (g (suc n)) (g n))))
   where
+    last : 0 + suc n ≡ suc n
+    last = omega arith
+
+    above : s ≤ g n
+    above = omega (arith, start, risen_above g n rises)
+
     more_is : suc n ≡ n + 1
     more_is = omega arith
 
@@ -94,21 +107,24 @@ find_risen g test (suc n) start rises steps =
     next = ap g (sym more_is)
 
     by_step : (g (suc n) ≡ g n) ⊎ (g (suc n) ≡ g n → ⊥) →
-        find test (range_with_len 0 (g n + 1) ++ g (suc n) ∷ []) ≡ find test (range_with_len 0 (g (suc n) + 1))
+        find test (range_with_len s (g n + 1 - s) ++ g (suc n) ∷ []) ≡ find test (range_with_len s (g (suc n) + 1 - s))
     by_step (inl same) =
-        find_again test (range_with_len 0 (g n + 1)) (g (suc n))
-        (λ none. none_found test 0 (g n + 1) (g (suc n)) none (omega arith) (omega (arith, same)))
-        ∙ ap (λ (m : ℕ). find test (range_with_len 0 (m + 1))) (sym same)
+        find_again test (range_with_len s (g n + 1 - s)) (g (suc n))
+        (λ none. none_found test s (g n + 1 - s) (g (suc n)) none (omega (arith, same, above))
+        (omega (arith, same, above)))
+        ∙ ap (λ (m : ℕ). find test (range_with_len s (m + 1 - s))) (sym same)
     by_step (inr other) =
-        let more : g (suc n) ≡ g n + 1 = omega (arith, other, rises n, steps n, next) in
-        ap (λ (m : ℕ). find test (range_with_len 0 (g n + 1) ++ m ∷ [])) more
-        ∙ (ap (find test) (sym (range_last (g n + 1)))
-        ∙ ap (λ (m : ℕ). find test (range_with_len 0 (m + 1))) (sym more))
+        let more : g (suc n) ≡ s + (g n + 1 - s) = omega (arith, other, rises n, steps n, next, above) in
+        let long : (g n + 1 - s) + 1 ≡ g (suc n) + 1 - s = omega (arith, more, above) in
+        ap (λ (m : ℕ). find test (range_with_len s (g n + 1 - s) ++ m ∷ [])) more
+        ∙ (ap (find test) (sym (range_last s (g n + 1 - s)))
+        ∙ ap (λ (m : ℕ). find test (range_with_len s m)) long)
 
 -- the periods of messages rise so
-first_period : (plan : Plan) (clear : List (List ℕ)) → period_told plan clear 0 ≡ 0
-unfolding period_of crypto_of
-first_period plan clear = omega arith
+first_told : (plan : Plan) (clear : List (List ℕ)) → period_told plan clear 0 ≡ plan.site.first_period
+first_told plan clear =
+    let none : 0 ≡ min (0 * plan.site.every) (length clear - 1) = omega arith in
+    subst (λ (k : ℕ). period_of plan k ≡ plan.site.first_period) none (period_of_first plan)
 
 periods_rising : (plan : Plan) (clear : List (List ℕ)) (a : ℕ) → AreInRange plan.site →
     (period_told plan clear a ≤ period_told plan clear (a + 1)) × (period_told plan clear
@@ -128,9 +144,10 @@ periods_rising plan clear a range =
 
 pub periods_found : (plan : Plan) (clear : List (List ℕ)) (test : ℕ → Bool) → AreInRange plan.site →
     find test (map (period_told plan clear) (range_with_len 0 (closing_number plan.site (length clear) + 1)))
-    ≡ find test (range_with_len 0 (period_of plan (length clear - 1) + 1))
+    ≡ find test (range_with_len plan.site.first_period (period_of plan (length clear - 1) + 1 - plan.site.first_period))
 periods_found plan clear test range =
-    find_risen (period_told plan clear) test (closing_number plan.site (length clear)) (first_period plan clear)
+    find_risen (period_told plan clear) test plan.site.first_period (closing_number plan.site (length clear))
+    (first_told plan clear)
     (λ a. (periods_rising plan clear a range).0) (λ a. (periods_rising plan clear a range).1)
-    ∙ ap (λ (n : ℕ). find test (range_with_len 0 (period_of plan n + 1)))
+    ∙ ap (λ (n : ℕ). find test (range_with_len plan.site.first_period (period_of plan n + 1 - plan.site.first_period)))
     (omega (arith, closing_covers plan.site (length clear) range))

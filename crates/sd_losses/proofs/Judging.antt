@@ -14,7 +14,7 @@ use Rattle.sd_packet.proofs.Positions.{next_position}
 use Rattle.sd_label.specs.Keys.{control_word_of}
 use Rattle.sd_scramble.specs.Scrambling.{descrambled}
 use Rattle.sd_ecm.specs.declared.part.Place.{Place}
-use Rattle.sd_broadcast.specs.Plan.{crypto_of, since_of}
+use Rattle.sd_broadcast.specs.Plan.{word_of, since_of}
 use Rattle.sd_broadcast.specs.Kinds.{kind_of, has_moved}
 use Rattle.sd_broadcast.specs.Carried.{place_after}
 use Rattle.sd_broadcast.specs.Sent.{Item}
@@ -91,7 +91,7 @@ let_by s kept a b j = if is_let s kept a b j then packet_at s.clear j ∷ [] els
 -- the word of the segment is that of its packets
 pub one_word : (s : Setting) (laws : AreLaws s) (a b j : ℕ) → IsPair s a b →
     since_of s.plan.site.messages s.plan.site.cryptos b ≤ a → start_of s a ≤ j → j < end_of s b →
-    (told_by s a).word ≡ crypto_of s.plan.site j
+    (told_by s a).word ≡ word_of s.plan.site j
 one_word s laws a b j pair since from below =
     word_is s a (omega (arith, pair.below, pair.within))
     ∙ sym (same_word s.plan.site s.plan.site.messages a b j laws.range since pair.below from (omega (arith, below)))
@@ -186,7 +186,7 @@ judged_is s laws kept a b j n pair since from below is =
         (ap (λ (t : ℕ). descrambled (carried_at s j) (control_word_of s.plan.site.master t)
         (tracked (told_by s a) (pid_of (carried_at s j)) (held ++ carried_at s j ∷ [])))
         (one_word s laws a b j pair since from below)
-        ∙ (ap (descrambled (carried_at s j) (control_word_of s.plan.site.master (crypto_of s.plan.site j)))
+        ∙ (ap (descrambled (carried_at s j) (control_word_of s.plan.site.master (word_of s.plan.site j)))
         (exact_place s laws kept a b j pair from below is v near) ∙ v.again))
     by_trace v false far =
         judged_by (segment_at s kept a b) held n (carried_at s j) false v.veiled

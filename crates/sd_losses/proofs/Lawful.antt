@@ -16,7 +16,7 @@ use Rattle.sd_emm.specs.Period.{emms_of}
 use Rattle.sd_emm.specs.declared.emm.Emm.{Emm}
 use Rattle.sd_ecm.specs.Parts.{Message, IsMessage, parts_of}
 use Rattle.sd_ecm.specs.declared.part.EcmPart.{EcmPart}
-use Rattle.sd_broadcast.specs.Plan.{Plan, IsPlan, crypto_of}
+use Rattle.sd_broadcast.specs.Plan.{Plan, IsPlan, word_of}
 use Rattle.sd_broadcast.specs.Kinds.{kind_of}
 use Rattle.sd_broadcast.specs.Messages.{period_at}
 use Rattle.sd_broadcast.specs.Refused.{IsClear}
@@ -140,7 +140,7 @@ module _ (plan : Plan) (clear : List (List ℕ)) (u : ℕ) (is : IsPlan plan) (a
 
   -- the header of packet j as it is carried
   keeps : (j : ℕ) → j < length clear →
-      IsCarriedWith (control_in (kind_of (take j clear) (packet_at clear j)) (crypto_of plan.site j))
+      IsCarriedWith (control_in (kind_of (take j clear) (packet_at clear j)) (word_of plan.site j))
       (packet_at clear j)
       (carried_at s j)
   unfolding carried_at
@@ -155,7 +155,7 @@ module _ (plan : Plan) (clear : List (List ℕ)) (u : ℕ) (is : IsPlan plan) (a
   unfolding carried_at
   packet_opened j within kind = record {
     clear = zero_control ((keeps j within).scrambling
-        ∙ clear_control (kind_of (take j clear) (packet_at clear j)) (crypto_of plan.site j) kind);
+        ∙ clear_control (kind_of (take j clear) (packet_at clear j)) (word_of plan.site j) kind);
     again = λ segment ca ecm. clear_back plan.site (take j clear) (packet_at clear j) segment
         (All-get_or IsWholePacket clear j [] within whole) (each_clear plan.site clear j all within)
         (ca ∙ ca_is plan clear u) ecm (clear_kind (kind_of (take j clear) (packet_at clear j)) kind);
@@ -171,8 +171,8 @@ module _ (plan : Plan) (clear : List (List ℕ)) (u : ℕ) (is : IsPlan plan) (a
       let long : length (take j clear) ≡ j = length-take-le j clear (omega (arith, within)) in
       let scrambled = scrambled_kind (kind_of (take j clear) (packet_at clear j)) kind in
       let header = keeps j within in
-      let control : scrambling_of (carried_at s j) ≡ 2 + crypto_of plan.site j % 2 =
-      header.scrambling ∙ scrambled_control (kind_of (take j clear) (packet_at clear j)) (crypto_of plan.site j) kind in
+      let control : scrambling_of (carried_at s j) ≡ 2 + word_of plan.site j % 2 =
+      header.scrambling ∙ scrambled_control (kind_of (take j clear) (packet_at clear j)) (word_of plan.site j) kind in
       let placed = kind_placed (take j clear) (packet_at clear j) (λ passed. absurd (cc)) in
       record {
         veiled = grind (arith, nat_tests, control);
@@ -201,7 +201,7 @@ module _ (plan : Plan) (clear : List (List ℕ)) (u : ℕ) (is : IsPlan plan) (a
         (same_bytes (check_value_of (control_word_of plan.site.master (numbered plan clear a).word))
         (numbered plan clear a).check (sym (word_check_due plan clear a)));
     moves = λ j pid x within. moves_alike
-        (control_in (kind_of (take j clear) (packet_at clear j)) (crypto_of plan.site j)) pid x (packet_at clear j)
+        (control_in (kind_of (take j clear) (packet_at clear j)) (word_of plan.site j)) pid x (packet_at clear j)
         (carried_at s j) (keeps j within);
     opened = packet_opened;
     veiled = packet_veiled;

@@ -1,5 +1,5 @@
 -- What is confirmed is a part of what the leaf is entitled to.
-use Rattle.std.proofs.Common.{◌≡◌, refl, ℕ, ◌*◌, ◌/◌, ◌<◌, ◌≤◌, ◌^◌, ◌&&◌, Bool, true, false, not, nat_lt, nat_le, min}
+use Rattle.std.proofs.Common.{◌≡◌, refl, ℕ, ◌*◌, ◌/◌, ◌<◌, ◌≤◌, ◌^◌, ◌&&◌, Bool, true, false, not, nat_lt, nat_le}
 use Rattle.std.proofs.Common.{List, [], ◌∷◌, ◌++◌, map, filter, length, Option, Some, None, arith, sym, ap, ◌∙◌, inl}
 use Rattle.std.proofs.Common.{inr, ◌⊎◌}
 use Rattle.std.specs.Prelude.{if◌then◌else◌, All}
@@ -9,11 +9,10 @@ use Rattle.std.proofs.lemmas.Bool.Decides.{nat_tests}
 use Rattle.std.proofs.lemmas.List.Elements.{All-nil, All-tail}
 use Rattle.std.proofs.Math.Nat.{div-lt_iff_lt-mul, le-div_iff_mul-le}
 use Rattle.sd_site.specs.Fields.{AreInRange}
-use Rattle.sd_book.specs.Commands.{last_period}
-use Rattle.sd_broadcast.specs.Plan.{Plan, IsPlan, period_of, since_of, closing_number}
+use Rattle.sd_broadcast.specs.Plan.{Plan, IsPlan, period_in, period_of, since_of, closing_number}
 use Rattle.sd_broadcast.specs.Sent.{Item, Cat, Entitles, Controls, Carries, sent, closing_of}
 use Rattle.sd_broadcast.specs.Items.{IsOfBroadcast}
-use Rattle.sd_broadcast.proofs.Schedule.{same_word}
+use Rattle.sd_broadcast.proofs.Schedule.{same_crypto}
 use Rattle.sd_broadcast.proofs.Items.{all_are_of_broadcast}
 use Rattle.sd_losses.specs.Chosen.{chosen}
 use Rattle.sd_losses.specs.Kept.{is_kept, arrived, greatest_at_most, least_above, is_entitled_before, after_cat}
@@ -64,8 +63,8 @@ pub one_period : (plan : Plan) (a b j : ℕ) → AreInRange plan.site → since_
 unfolding period_of
 one_period plan a b j range since from below =
     let some : 0 < plan.site.every = omega (arith, range.every.0) in
-    ap (λ (t : ℕ). min (t / plan.site.span) (last_period plan.commands))
-    (same_word plan.site plan.site.messages a b j range since (omega (arith, from, below))
+    ap (period_in plan)
+    (same_crypto plan.site plan.site.messages a b j range since (omega (arith, from, below))
     ((le-div_iff_mul-le some).0 from) ((div-lt_iff_lt-mul some).0 below))
 
 -- an open pair

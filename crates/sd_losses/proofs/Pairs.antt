@@ -11,7 +11,7 @@ use Rattle.sd_packet.specs.Positions.{moved_by}
 use Rattle.sd_site.specs.Fields.{AreInRange}
 use Rattle.sd_ecm.specs.Parts.{Message}
 use Rattle.sd_ecm.specs.declared.part.Place.{Place}
-use Rattle.sd_broadcast.specs.Plan.{crypto_of, period_of, since_of}
+use Rattle.sd_broadcast.specs.Plan.{word_of, period_of, since_of}
 use Rattle.sd_broadcast.specs.Messages.{message_at, places_after}
 use Rattle.sd_broadcast.specs.Sent.{Item}
 use Rattle.sd_broadcast.proofs.Schedule.{closing_covers, closing_needed}
@@ -60,7 +60,7 @@ pub period_is : (s : Setting) (a : ℕ) → a < final s → (told_by s a).period
 unfolding message_at
 period_is s a below = ap (λ (m : Message). m.period) (before_packet s a below)
 
-pub word_is : (s : Setting) (a : ℕ) → a < final s → (told_by s a).word ≡ crypto_of s.plan.site (start_of s a)
+pub word_is : (s : Setting) (a : ℕ) → a < final s → (told_by s a).word ≡ word_of s.plan.site (start_of s a)
 unfolding message_at
 word_is s a below = ap (λ (m : Message). m.word) (before_packet s a below)
 

@@ -15,7 +15,7 @@ use Rattle.sd_emm.specs.Spelled.{listed}
 use Rattle.sd_emm.specs.Period.{emms_of}
 use Rattle.sd_emm.specs.declared.emm.Emm.{Emm}
 use Rattle.sd_ecm.specs.Parts.{Message, parts_of}
-use Rattle.sd_broadcast.specs.Plan.{Plan, crypto_of, closing_number}
+use Rattle.sd_broadcast.specs.Plan.{Plan, word_of, closing_number}
 use Rattle.sd_broadcast.specs.Kinds.{kind_of}
 use Rattle.sd_broadcast.specs.Carried.{carried, place_after}
 use Rattle.sd_broadcast.specs.Messages.{period_at, message_at}
@@ -72,11 +72,11 @@ pub record IsOpen (s : Setting) (j : ℕ) : Type 0 where
 -- a carried packet that is scrambled is the clear one under its control word at its position
 pub record IsVeiled (s : Setting) (j : ℕ) : Type 0 where
   pub veiled : (scrambling_of (carried_at s j) == 0) ≡ false
-  pub parity : (scrambling_of (carried_at s j) == 2 + crypto_of s.plan.site j % 2) ≡ true
+  pub parity : (scrambling_of (carried_at s j) == 2 + word_of s.plan.site j % 2) ≡ true
   pub placed : is_placed (carried_at s j) ≡ true
   pub pid : pid_of (carried_at s j) ≡ pid_of (packet_at s.clear j)
   pub clear_placed : is_placed (packet_at s.clear j) ≡ true
-  pub again : descrambled (carried_at s j) (control_word_of s.plan.site.master (crypto_of s.plan.site j))
+  pub again : descrambled (carried_at s j) (control_word_of s.plan.site.master (word_of s.plan.site j))
       (place_after (take j s.clear) (packet_at s.clear j)) ≡ packet_at s.clear j
 
 -- what the laws of the broadcast and of its messages come to for the card

@@ -1,6 +1,6 @@
 -- Whatever is lost of a broadcast of a site, the receiver of a leaf of it writes exactly what is confirmed.
 use Rattle.std.proofs.Common.{◌+◌, ◌-◌, not}
-use Rattle.std.proofs.Common.{◌≡◌, refl, ℕ, ◌<◌, ◌^◌, ◌++◌, Bool, true, List, [], map, reverse, length, None, arith}
+use Rattle.std.proofs.Common.{◌≡◌, refl, ℕ, ◌<◌, ◌^◌, ◌&&◌, ◌++◌, Bool, true, List, [], map, reverse, length, None, arith}
 use Rattle.std.proofs.Common.{sym, ap, ◌∙◌}
 use Rattle.std.specs.List.{range_with_len}
 use Rattle.sd_card.specs.Fields.{card_of}
@@ -11,7 +11,7 @@ use Rattle.sd_sent.specs.Packets.{AreWholePackets}
 use Rattle.sd_reception.specs.Offered.{out_from, break_from}
 use Rattle.sd_losses.specs.Chosen.{chosen}
 use Rattle.sd_losses.specs.Confirmed.{confirmed, opened_by}
-use Rattle.sd_losses.specs.Endings.{ending_told, first_revoked, whole_ending}
+use Rattle.sd_losses.specs.Endings.{ending_told, first_revoked, is_on_air, whole_ending}
 use Rattle.sd_reception.specs.Ending.{ending_of}
 use Rattle.sd_losses.specs.Kept.{entitles, after_cat}
 use Rattle.sd_losses.specs.Confirmed.{is_revoked_in}
@@ -131,7 +131,7 @@ keys_taken plan clear u flags is all whole leaf =
 pub whole_keys_taken : (plan : Plan) (clear : List (List ℕ)) (u : ℕ) → IsPlan plan → IsClear plan.site clear →
     AreWholePackets clear → u < 2 ^ plan.site.height →
     taken_keys (card_of plan.site.master plan.site.ca plan.site.height u) [] (broadcast plan clear)
-    ≡ how_many (λ q. not (is_revoked_in plan u q)) (period_of plan (length clear - 1) + 1)
+    ≡ how_many (λ q. is_on_air plan q && not (is_revoked_in plan u q)) (period_of plan (length clear - 1) + 1)
 whole_keys_taken plan clear u is all whole leaf =
     ap (taken_keys (card_of plan.site.master plan.site.ca plan.site.height u) []) (sym (all_chosen
     (broadcast plan clear) n refl))

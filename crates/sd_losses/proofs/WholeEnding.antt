@@ -8,7 +8,7 @@ use Rattle.std.specs.Prelude.{Contains}
 use Rattle.std.specs.List.{list_any, range_with_len, find}
 use Rattle.std.proofs.lemmas.List.{length-map}
 use Rattle.std.proofs.lemmas.Option.{get_or_from_slice_get}
-use Rattle.std.proofs.lemmas.Bool.{cases_Bool, cases_eq, both_ways, false_from_ne_true}
+use Rattle.std.proofs.lemmas.Bool.{cases_Bool, cases_eq, cases_lt, both_ways, false_from_ne_true}
 use Rattle.std.proofs.lemmas.Bool.Decides.{nat_tests}
 use Rattle.std.proofs.lemmas.Nat.{div-add-mod'}
 use Rattle.std.proofs.Math.Nat.{mul-mod_left}
@@ -32,7 +32,7 @@ use Rattle.sd_reception.specs.declared.ending.Ending.TheVariants.{NoCat, Unclose
 use Rattle.sd_losses.specs.Kept.{is_cat, after_cat, has_arrived, arrived, entitles, is_section}
 use Rattle.sd_losses.specs.Confirmed.{packet_at, is_revoked_in, opened_by}
 use Rattle.sd_losses.specs.Endings.{period_told, periods_arrived, is_untold, has_all, closed_told, next_number}
-use Rattle.sd_losses.specs.Endings.{ending_told, first_revoked, whole_ending}
+use Rattle.sd_losses.specs.Endings.{ending_told, first_revoked, is_on_air, whole_ending}
 use Rattle.sd_losses.specs.Taken.{how_many}
 use Rattle.sd_losses.proofs.Taking.{how_many_below}
 use Rattle.sd_sent.proofs.Reached.{period_reached}
@@ -40,7 +40,7 @@ use Rattle.sd_losses.proofs.Tests.{all_range}
 use Rattle.sd_losses.proofs.Setting.{Setting, AreLaws, final, told_by}
 use Rattle.sd_losses.proofs.Untuned.{sections_at, tail_at, due_rest}
 use Rattle.sd_losses.proofs.Remaining.{group_at, rest_at, rest_more, rest_none, closing_items}
-use Rattle.sd_losses.proofs.Entitled.{any_there, any_of_map, entitled_ones}
+use Rattle.sd_losses.proofs.Entitled.{any_there, any_of_map, period_above, none_before, entitled_ones}
 use Rattle.sd_losses.proofs.Standing.{pre_at, sent_split, any_first, any_second, all_arrived}
 use Rattle.sd_losses.proofs.AllOpened.{sections_entitle, all_are_opened}
 use Rattle.sd_losses.proofs.Finished.{none_found, periods_found}
@@ -234,9 +234,9 @@ module _ (plan : Plan) (clear : List (List ℕ)) (u : ℕ) (is : IsPlan plan) (a
         length-map (filter (λ j. not (is_revoked_in plan u (period_of plan j))) (range_with_len 0 (length clear)))
         (λ j. packet_at clear j)
         ∙ (ap length (filter_all (λ j. not (is_revoked_in plan u (period_of plan j))) 0 (length clear)
-        (λ j low high. ap not (none_found (is_revoked_in plan u) 0 (period_of plan (length clear - 1) + 1)
-        (period_of plan j) none (omega arith)
-        (omega (arith, periods_rise plan j (length clear - 1) is.site (omega (arith, high)))))))
+        (λ j low high. ap not (none_found (is_revoked_in plan u) plan.site.first_period
+        (period_of plan (length clear - 1) + 1 - plan.site.first_period) (period_of plan j) none (period_above plan j)
+        (omega (arith, period_above plan j, periods_rise plan j (length clear - 1) is.site (omega (arith, high)))))))
         ∙ range_long 0 (length clear))
 
     closed_whole : closed_told plan u clear kept (length (opened_by plan u clear)) ≡ whole_ending
@@ -286,18 +286,39 @@ module _ (plan : Plan) (clear : List (List ℕ)) (u : ℕ) (is : IsPlan plan) (a
   pub keys_whole : how_many (λ q. list_any (entitles plan.site.height u q) (after_cat
       (sent plan clear ++ closing_of plan clear)))
       (period_of plan (length clear - 1) + 1)
-      ≡ how_many (λ q. not (is_revoked_in plan u q)) (period_of plan (length clear - 1) + 1)
+      ≡ how_many (λ q. is_on_air plan q && not (is_revoked_in plan u q)) (period_of plan (length clear - 1) + 1)
   unfolding after_cat
   keys_whole = how_many_below
       (λ q. list_any (entitles plan.site.height u q) (after_cat (sent plan clear ++ closing_of plan clear)))
-      (λ q. not (is_revoked_in plan u q)) (period_of plan (length clear - 1) + 1) each
+      (λ q. is_on_air plan q && not (is_revoked_in plan u q)) (period_of plan (length clear - 1) + 1) each
     where
-      each : (q : ℕ) → q < period_of plan (length clear - 1) + 1 →
+      -- in a period from the first on
+      on_air : (q : ℕ) → plan.site.first_period ≤ q → q < period_of plan (length clear - 1) + 1 →
           list_any (entitles plan.site.height u q) (after_cat (rest_at s 0)) ≡ not (is_revoked_in plan u q)
-      each q below =
-          let reached = period_reached plan (length clear - 1) q is.site (omega (arith, below)) in
+      on_air q from below =
+          let reached = period_reached plan (length clear - 1) q is.site from (omega (arith, below)) in
           ap (λ (items : List Item). list_any (entitles plan.site.height u q) (after_cat items)) begins.1
           ∙ (ap (list_any (entitles plan.site.height u q)) (sym begins.1)
           ∙ subst (λ (p : ℕ). list_any (entitles plan.site.height u p) (rest_at s 0) ≡ not
           (is_revoked_in plan u p)) reached.2
           (told_whole reached.0 reached.1))
+
+      -- and in one before it
+      off_air : (q : ℕ) → q < plan.site.first_period →
+          list_any (entitles plan.site.height u q) (after_cat (rest_at s 0)) ≡ false
+      off_air q low =
+          ap (λ (items : List Item). list_any (entitles plan.site.height u q) (after_cat items)) begins.1
+          ∙ (ap (list_any (entitles plan.site.height u q)) (sym begins.1)
+          ∙ none_before plan clear q u (rest_at s 0) low (all_are_of_broadcast plan clear))
+
+      each : (q : ℕ) → q < period_of plan (length clear - 1) + 1 →
+          list_any (entitles plan.site.height u q) (after_cat (rest_at s 0))
+          ≡ (is_on_air plan q && not (is_revoked_in plan u q))
+      each q below = elim (cases_lt q plan.site.first_period) [
+        | inl low ↦
+            let none : is_on_air plan q ≡ false = grind (arith, nat_tests, low) in
+            rw none (off_air q low)
+        | inr from ↦
+            let some : is_on_air plan q ≡ true = grind (arith, nat_tests, from) in
+            rw some (on_air q from below)
+      ]

@@ -1,5 +1,5 @@
 -- How a broadcast of which packets are lost ends for a receiver.
-use Rattle.std.specs.Prelude.{ℕ, ◌+◌, ◌-◌, ◌*◌, ◌&&◌, Bool, not, min, List, length, map, find}
+use Rattle.std.specs.Prelude.{ℕ, ◌+◌, ◌-◌, ◌*◌, ◌&&◌, Bool, not, nat_le, min, List, length, map, find}
 use Rattle.std.specs.Prelude.{if◌then◌else◌, Option, Some, None}
 use Rattle.std.specs.List.{list_any, list_all, range_with_len}
 use Rattle.std.specs.Option.{option_map_or}
@@ -54,7 +54,13 @@ ending_told plan u clear kept =
 
 -- the first period of the broadcast in which the leaf is revoked
 unfoldable pub first_revoked : Plan → ℕ → List (List ℕ) → Option ℕ
-first_revoked plan u clear = find (is_revoked_in plan u) (range_with_len 0 (period_of plan (length clear - 1) + 1))
+first_revoked plan u clear =
+    find (is_revoked_in plan u)
+    (range_with_len plan.site.first_period (period_of plan (length clear - 1) + 1 - plan.site.first_period))
+
+-- the period isn't before the site's first
+abbrev pub is_on_air : Plan → ℕ → Bool
+is_on_air plan q = nat_le plan.site.first_period q
 
 -- how a whole broadcast ends for the receiver of a leaf
 abbrev pub whole_ending : Option ℕ → Ending

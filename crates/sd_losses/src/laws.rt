@@ -1,6 +1,6 @@
 //! What is tracked and confirmed where packets are lost.
 
-ghost use Rattle.std.specs.Prelude.{◌≡◌, ◌+◌, ◌*◌, ◌%◌, ◌^◌, ◌<◌, ◌≤◌, ◌++◌, ◌||◌, [], ℕ, List, Bool, true, false, not};
+ghost use Rattle.std.specs.Prelude.{◌≡◌, ◌+◌, ◌*◌, ◌%◌, ◌^◌, ◌<◌, ◌≤◌, ◌++◌, ◌&&◌, ◌||◌, [], ℕ, List, Bool, true, false, not};
 ghost use Rattle.std.specs.Prelude.{nat_le, None, length, reverse, take};
 ghost use Rattle.sd_packet.specs.Positions.{is_moving, moved, moved_by};
 ghost use Rattle.sd_packet.specs.Header.{pid_of};
@@ -21,7 +21,7 @@ ghost use Rattle.sd_losses.specs.Taken.{taken_keys, how_many};
 ghost use Rattle.sd_losses.specs.Kept.{is_kept, has_arrived, entitles, after_cat};
 ghost use Rattle.sd_losses.specs.Confirmed.{packet_at, upto, is_open, is_scrambled, is_confirmed_at, confirmed};
 ghost use Rattle.sd_losses.specs.Confirmed.{opened_by, is_revoked_in};
-ghost use Rattle.sd_losses.specs.Endings.{ending_told, first_revoked, whole_ending};
+ghost use Rattle.sd_losses.specs.Endings.{ending_told, first_revoked, is_on_air, whole_ending};
 ghost use Rattle.sd_losses.specs.Gaps.{kept_positions, are_near, has_no_gap};
 
 /// A tracked position is never above the true one: by how much it falls short of it stays or grows where packets are
@@ -135,5 +135,5 @@ pub fn keys_are_taken_once()
     ensures whole { (plan : Plan) (clear : List (List ℕ)) (u : ℕ) → IsPlan plan → IsClear plan.site clear →
         AreWholePackets clear → u < 2 ^ plan.site.height →
         taken_keys (card_of plan.site.master plan.site.ca plan.site.height u) [] (broadcast plan clear)
-        ≡ how_many (λ q. not (is_revoked_in plan u q)) (period_of plan (length clear - 1) + 1) }
+        ≡ how_many (λ q. is_on_air plan q && not (is_revoked_in plan u q)) (period_of plan (length clear - 1) + 1) }
 {}
