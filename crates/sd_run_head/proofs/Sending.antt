@@ -1,5 +1,5 @@
 -- What a head end writes of a clear stream that is driven through it, whatever it keeps of the packets before.
-use Rattle.std.proofs.Common.{◌≡◌, ℕ, ◌+◌, ◌-◌, ◌^◌, ◌<◌, ◌≤◌, ◌==◌, Bool, true, false, List, [], ◌∷◌, ◌++◌, length}
+use Rattle.std.proofs.Common.{◌≡◌, ℕ, ◌+◌, ◌<◌, ◌≤◌, ◌==◌, Bool, true, false, List, [], ◌∷◌, ◌++◌, length}
 use Rattle.std.proofs.Common.{take, drop, Option, Some, None, Result, Ok, Err, refl, sym, ap, subst, ◌∙◌, inl, inr}
 use Rattle.std.proofs.Common.{arith, append_assoc, append-nil, length-append}
 use Rattle.std.specs.Prelude.{slice_get, not}
@@ -24,7 +24,7 @@ use Rattle.sd_engine.specs.declared.driver.DriveFault.TheVariants as drive
 use Rattle.sd_broadcast.specs.Plan.{Plan}
 use Rattle.sd_broadcast.specs.Kinds.{kind_of}
 use Rattle.sd_broadcast.specs.Refused.{fault_where, form_where, is_taken, pat_wrong, is_full_own, is_one_too_many}
-use Rattle.sd_broadcast.specs.Refused.{refusal_of, refusal_from}
+use Rattle.sd_broadcast.specs.Refused.{is_too_long, refusal_of, refusal_from}
 use Rattle.sd_broadcast.specs.Sent.{sent, closing_of, packets_from, body, broadcast, bytes_added, bytes_from}
 use Rattle.sd_broadcast.proofs.Bodies.{body_bytes}
 use Rattle.sd_broadcast.proofs.Sending.{packets_in_turn}
@@ -61,7 +61,7 @@ names_own site before packet =
     let k : ℕ = length before in
     let pid : ℕ = pid_of packet in
     let own : Bool = is_full_own site (kind_of before packet) packet in
-    let long : Option ClearFault = fault_where (k == 2 ^ 32 - 1) (TooLong k) None in
+    let long : Option ClearFault = fault_where (is_too_long site k) (TooLong k) None in
     let many : Option ClearFault = fault_where (is_one_too_many before packet) (TooManyPids k) long in
     let full : Option ClearFault = fault_where own (PmtForm k Form.NoRoom) many in
     let form : Option ClearFault = form_where (pat_wrong packet) (PatForm k) full in
@@ -71,7 +71,7 @@ names_own site before packet =
     (names_form (pat_wrong packet) k (PatForm k) full (λ wrong. refl)
     (names_where own k (PmtForm k Form.NoRoom) many refl
     (names_where (is_one_too_many before packet) k (TooManyPids k) long refl
-    (names_where (k == 2 ^ 32 - 1) k (TooLong k) None refl tt)))))
+    (names_where (is_too_long site k) k (TooLong k) None refl tt)))))
 
 named : (k : ℕ) (o : Option ClearFault) (fault : ClearFault) → Names k o → o ≡ Some fault → packet_in fault ≡ k
 named k o fault h is = subst (Names k) is h
