@@ -38,7 +38,7 @@ judge() {
 }
 
 # The checksums of the files that commands read.
-sums() { cksum S B R M A L C K0 K5 X; }
+sums() { cksum S S12 B R M A L C K0 K5 X; }
 
 # FILE WHOLE: whether the one's bytes begin the other's.
 begins() { cmp -s -n "$(wc -c <"$1")" "$1" "$2" && [ "$(wc -c <"$1")" -le "$(wc -c <"$2")" ]; }
@@ -115,10 +115,11 @@ try_all() {
 
 # Names for which a path says the same as a word: all that a command opens, and what it prints.
 paths=
-for file in S B R M A L C K0 K5 X O lines; do paths="$paths -P $work/$file"; done
+for file in S S12 B R M A L C K0 K5 X O lines; do paths="$paths -P $work/$file"; done
 
 sed 's/^height .*/height 3/; s/^ecm-every .*/ecm-every 200/; s/^crypto-ecms .*/crypto-ecms 2/
     s/^period-cryptos .*/period-cryptos 1/' "$top/examples/site.txt" >S
+{ cat S; printf 'messages 2\nfirst-word 7\nlast-word 8\nfirst-period 1\n'; } >S12
 printf 'period\nrevoke 5\n' >B
 printf 'revoke 5\n' >R
 printf 'period\nsubscribe 5\n' >M
@@ -133,6 +134,7 @@ inputs=$(sums)
 try_all cover S R
 try_all card S 5 O
 try_all head S B C O
+try_all head S12 B C O
 try_all receive K0 X O
 try_all receive K5 X O
 try_all book S R M O
