@@ -162,15 +162,15 @@ told_given files told given e h = subst (λ (o : Option Files). IsGiven o given)
 
 -- each period of a broadcast names its cover in the file that the broadcast is
 pub file_names : (plan : Plan) (bytes : List ℕ) (q : ℕ) → IsPlan plan → IsClear plan.site (taken_of bytes) →
-    AreBytes bytes → q ≤ period_of plan (length (taken_of bytes) - 1) →
+    AreBytes bytes → plan.site.first_period ≤ q → q ≤ period_of plan (length (taken_of bytes) - 1) →
     NamesPeriod plan q (named plan.site.height plan.site.emm q (taken_of (concat (broadcast plan (taken_of bytes)))))
-file_names plan bytes q is all bytes_are within =
+file_names plan bytes q is all bytes_are from within =
     let clear : List (List ℕ) = taken_of bytes in
     let whole = taken_whole bytes bytes_are in
     let taken = broadcast_taken plan clear is all whole (taken_synced bytes) in
     let long = All-weaker IsWholePacket (λ (packet : List ℕ). length packet ≡ 188) (λ packet w. w.long) clear whole in
     subst (λ (ps : List (List ℕ)). NamesPeriod plan q (named plan.site.height plan.site.emm q ps)) (sym taken.0)
-    (period_named plan clear q is all long within)
+    (period_named plan clear q is all long from within)
 
 module _ (words : List (List ℕ)) (site book clear out : Word) (files : Files) (a b : Outside)
     (order : order_of words ≡ Ok (HeadOf site book clear out)) (known : a.place.files ≡ Some files) where
@@ -200,7 +200,7 @@ module _ (words : List (List ℕ)) (site book clear out : Word) (files : Files) 
             left
             ∙ (ap (λ (w : Work). files_with w.out (Some files)) (sym same)
             ∙ ap (λ (bs : List ℕ). Some (insert files out.text bs)) (sym sent.0));
-        periods = λ are q low. file_names plan.from bytes.from q is_plan status.1 are low;
+        periods = λ are q from low. file_names plan.from bytes.from q is_plan status.1 are from low;
       }
 
   -- by the answer

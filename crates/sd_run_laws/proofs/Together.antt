@@ -144,11 +144,11 @@ module _ (names : Names) (plan : Plan) (u : ℕ) (clear : List (List ℕ)) (file
   with_stream = insert files names.stream stream
 
   -- each period of the broadcast names its cover
-  covers_named : (q : ℕ) → q ≤ period_of plan (length clear - 1) →
+  covers_named : (q : ℕ) → plan.site.first_period ≤ q → q ≤ period_of plan (length clear - 1) →
       NamesPeriod plan q (named plan.site.height plan.site.emm q (taken_of stream))
-  covers_named q within =
+  covers_named q from within =
       subst (λ (ps : List (List ℕ)). NamesPeriod plan q (named plan.site.height plan.site.emm q ps)) (sym taken.0)
-      (period_named plan clear q is_plan given.is_clear are_long within)
+      (period_named plan clear q is_plan given.is_clear are_long from within)
 
   -- `card`
   leaf_low : u ≤ 2 ^ 32 - 1

@@ -88,7 +88,7 @@ pub record IsHeadline (names : Names) (plan : Plan) (u : ℕ) (clear : List (Lis
   pub stream_there : file_in b names.stream ≡ Some stream
   -- each period of the broadcast names disjoint sets that unite to exactly its leaves that aren't revoked, one set if
   -- none is and at most 2r - 1 if r are; what a revoked leaf is given reaches no label or key of a named set
-  pub periods : (q : ℕ) → q ≤ period_of plan (length clear - 1) →
+  pub periods : (q : ℕ) → plan.site.first_period ≤ q → q ≤ period_of plan (length clear - 1) →
       NamesPeriod plan q (named plan.site.height plan.site.emm q (taken_of stream))
   pub card_done : carded ≡ Done
   -- the receiver of the leaf writes the clear packets of the periods in which the leaf isn't revoked, and no others

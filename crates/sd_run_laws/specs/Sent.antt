@@ -28,6 +28,7 @@ pub record IsSent (site book clear out : Word) (files : Files) (b : Outside) : T
   pub made : b.place.files ≡ Some (insert files out.text (concat (broadcast plan (taken_of bytes))))
   -- each period of the broadcast names, in OUT, disjoint sets that unite to exactly its leaves that aren't revoked, one
   -- set if none is and at most 2r - 1 if r are; what a revoked leaf is given reaches no label or key of a named set
-  pub periods : AreBytes bytes → (q : ℕ) → q ≤ period_of plan (length (taken_of bytes) - 1) →
+  pub periods : AreBytes bytes → (q : ℕ) → plan.site.first_period ≤ q →
+      q ≤ period_of plan (length (taken_of bytes) - 1) →
       NamesPeriod plan q
       (named plan.site.height plan.site.emm q (taken_of (concat (broadcast plan (taken_of bytes)))))
