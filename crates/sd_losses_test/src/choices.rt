@@ -16,12 +16,20 @@ const PMT: [u8; 26] = [
 /// How many packets are sent.
 const SENT: usize = 14;
 
-/// The site's lines: a message before each second clear packet and a control word for two of them, of this version; and
-/// a period for so many control words.
-fn site(alloc: Global, version: u32, span: u32) -> Result<String, AllocError> {
+/// The site's lines: a message before each second clear packet and a control word for two of them, as the layout has
+/// them; the two control words that are needed; and a period for so many control words.
+fn site(alloc: Global, layout: Layout, span: u32) -> Result<String, AllocError> {
+    let Layout {
+        version,
+        first_word,
+        first,
+        ..
+    } = layout;
+    let last_word = first_word.wrapping_add(1);
     format!(in alloc;
         "height 3\nmaster 000102030405060708090a0b0c0d0e0f101112131415161718191a1b1c1d1e1f\n\
-        ca 1234\nemm 496\necm 497\necm-every 2\ncrypto-ecms 2\nperiod-cryptos {span}\nmessages {version}\n"
+        ca 1234\nemm 496\necm 497\necm-every 2\ncrypto-ecms 2\nperiod-cryptos {span}\nmessages {version}\n\
+        first-word {first_word}\nlast-word {last_word}\nfirst-period {first}\n"
     )
 }
 
@@ -112,12 +120,12 @@ impl<'a> Trial<'a> {
 
 /// The first choice of the packets of a broadcast of which the receiver makes something else than is due.
 fn first_wrong(alloc: Global, layout: Layout) -> Result<Option<u32>, Fail> {
-    let (book, span): (&[u8], u32) = if layout.later == 1 {
-        (b"period\nrevoke 5\n", 1)
-    } else {
-        (b"", 2)
+    let (book, span): (&[u8], u32) = match layout.later {
+        0 => (b"", 2),
+        1 => (b"period\nrevoke 5\n", 1),
+        _ => (b"period\nperiod\nrevoke 5\n", 1),
     };
-    let site = site(alloc, layout.version, span)?;
+    let site = site(alloc, layout, span)?;
     let clear = clear();
     let bytes = Vec::from_slice(alloc, clear.as_flattened())?;
     let stream = broadcast(alloc, site.as_bytes(), book, bytes, SENT * 188).ok_or("no broadcast")?;
@@ -141,12 +149,26 @@ fn first_wrong(alloc: Global, layout: Layout) -> Result<Option<u32>, Fail> {
 
 #[test]
 fn every_choice_of_packets_gives_what_is_confirmed(rt: HostRuntime) -> Result<(), Fail> {
-    for (version, later, revoked) in [(1, 0, false), (1, 1, true), (2, 1, false)] {
-        let layout = Layout {
-            version,
-            later,
-            revoked,
-        };
+    let layout = Layout {
+        version: 1,
+        first_word: 0,
+        first: 0,
+        later: 0,
+        revoked: false,
+    };
+    let next_revoked = Layout {
+        later: 1,
+        revoked: true,
+        ..layout
+    };
+    let later_words = Layout {
+        version: 2,
+        first_word: 7,
+        first: 1,
+        later: 2,
+        ..layout
+    };
+    for layout in [layout, next_revoked, later_words] {
         assert_eq!(rt; first_wrong(rt.alloc(), layout)?, None);
     }
     Ok(())

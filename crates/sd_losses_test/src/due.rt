@@ -14,9 +14,13 @@ pub(crate) enum Thing {
 pub(crate) struct Layout {
     /// The version of the messages.
     pub version: u32,
-    /// The period of the packets from the fifth on; the period before it is 0.
+    /// The number of the first control word.
+    pub first_word: u32,
+    /// The period of the first four packets.
+    pub first: u32,
+    /// The period of the packets from the fifth on.
     pub later: u32,
-    /// Whether the leaf is revoked in period 1.
+    /// Whether the leaf is revoked from the fifth packet on.
     pub revoked: bool,
 }
 
@@ -43,7 +47,7 @@ impl Layout {
     pub(crate) fn sent(self) -> [Thing; 14] {
         [
             Thing::Cat,
-            Thing::Section(0),
+            Thing::Section(self.first),
             Thing::Message(0),
             Thing::Clear(0),
             Thing::Clear(1),
@@ -61,7 +65,7 @@ impl Layout {
 
     /// The period of a message.
     fn period(self, message: usize) -> u32 {
-        if message < 2 { 0 } else { self.later }
+        if message < 2 { self.first } else { self.later }
     }
 
     /// The message from which on packets have the control word of the one before message b.
@@ -76,7 +80,7 @@ impl Layout {
 
     /// Whether the leaf has a set in the section of a period.
     fn has_set(self, period: u32) -> bool {
-        period == 0 || !self.revoked
+        period == self.first || !self.revoked
     }
 }
 

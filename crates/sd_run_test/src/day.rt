@@ -149,7 +149,7 @@ fn shelf(alloc: Global) -> Result<MemDepot, AllocError> {
 }
 
 /// The bytes of a file, or none where it isn't there.
-fn file(alloc: Global, depot: &MemDepot, name: &str) -> Result<Vec<u8>, AllocError> {
+pub(crate) fn file(alloc: Global, depot: &MemDepot, name: &str) -> Result<Vec<u8>, AllocError> {
     match depot.get(name) {
         Some(bytes) => Vec::from_slice(alloc, bytes),
         None => Ok(Vec::new(alloc)),
@@ -157,7 +157,7 @@ fn file(alloc: Global, depot: &MemDepot, name: &str) -> Result<Vec<u8>, AllocErr
 }
 
 /// The stream without this packet of it.
-fn without(alloc: Global, stream: &[u8], lost: usize) -> Result<Vec<u8>, AllocError> {
+pub(crate) fn without(alloc: Global, stream: &[u8], lost: usize) -> Result<Vec<u8>, AllocError> {
     let mut rest = Vec::new(alloc);
     for (number, packet) in stream.chunks(PACKET).enumerate() {
         if number != lost {
@@ -168,7 +168,7 @@ fn without(alloc: Global, stream: &[u8], lost: usize) -> Result<Vec<u8>, AllocEr
 }
 
 /// Whether the words come to this status and print this.
-fn comes(
+pub(crate) fn comes(
     alloc: Global,
     depot: &mut MemDepot,
     words: &str,
@@ -180,7 +180,7 @@ fn comes(
 }
 
 /// What the words come to, and what is printed.
-fn answered(
+pub(crate) fn answered(
     alloc: Global,
     depot: &mut MemDepot,
     words: &str,

@@ -1,5 +1,5 @@
-//! Tests of the program's one call: what each command prints and makes, the day of examples/day.sh, failing devices and
-//! hostile input.
+//! Tests of the program's one call: what each command prints and makes, the day of examples/day.sh, failing devices,
+//! hostile input, and several broadcasts under one master.
 #![tactic(auto)]
 
 #[cfg(test)]
@@ -12,5 +12,7 @@ mod day;
 mod devices;
 #[cfg(test)]
 mod hostile;
+#[cfg(test)]
+mod several;
 #[cfg(test)]
 mod sums;
