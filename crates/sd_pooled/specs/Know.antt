@@ -22,7 +22,8 @@ pub data Item : Type 0 where
   PeriodKey : ℕ → Item
   ControlWord : ℕ → Item
 
--- the period of crypto period t: the last one goes on to the end [this project, docs/FORMATS.md, Broadcast]
+-- the period of crypto period t of a broadcast that counts its control words and periods from 0: the last one goes on
+-- to the end [this project, docs/FORMATS.md, Broadcast]
 abbrev pub period_of : Service → ℕ → ℕ
 period_of service t = min (t / service.span) (last_period service.commands)
 

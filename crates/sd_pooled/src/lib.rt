@@ -1,4 +1,4 @@
-//! What receivers that pool their cards know of a broadcast.
+//! What receivers that pool their cards know of a broadcast that counts its control words and periods from 0.
 #![tactic(auto)]
 
 mod laws;
