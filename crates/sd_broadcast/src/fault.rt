@@ -13,6 +13,6 @@ pub enum ClearFault {
     PmtForm(u64, FormFault),
     /// It would be the 257th PID with a position.
     TooManyPids(u64),
-    /// It would be packet 2^32 - 1.
+    /// It would be packet 2^32 - 1, or its control word would be above the site's last.
     TooLong(u64),
 }

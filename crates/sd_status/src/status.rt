@@ -95,7 +95,7 @@ pub enum ClearCause {
     PmtForm(FormFault),
     /// It would be the 257th PID with a position.
     TooManyPids,
-    /// As many packets as a clear stream may have stand before it.
+    /// As many packets as a clear stream may have stand before it, or its control word is above the site's last.
     TooLong,
 }
 
