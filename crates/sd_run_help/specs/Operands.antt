@@ -22,7 +22,7 @@ name_of Out = codes "OUT"
 
 -- what it says
 unfoldable pub meaning_of : Operand → List ℕ
-meaning_of Site = codes "the site file: height of the tree, master secret, PIDs, lengths and numbers of words and periods"
+meaning_of Site = codes "the site file: height, master secret, PIDs, lengths of periods, numbers of words and periods"
 meaning_of Book = codes "the book: a line for each command, subscribe LEAF, revoke LEAF or period"
 meaning_of Accounts =
     codes "the accounts: a line for each change, assign NAME LEAF, drop NAME, restore NAME or period"

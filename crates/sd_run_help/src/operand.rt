@@ -49,7 +49,7 @@ impl Operand {
     {
         match self {
             Operand::Site =>
-                "the site file: height of the tree, master secret, PIDs, lengths and numbers of words and periods",
+                "the site file: height, master secret, PIDs, lengths of periods, numbers of words and periods",
             Operand::Book =>
                 "the book: a line for each command, subscribe LEAF, revoke LEAF or period",
             Operand::Accounts => {
