@@ -310,6 +310,23 @@ fn missing(alloc: Global) -> Result<Vec<u8>, AllocError> {
     )
 }
 
+/// Whether a stream is received so, if a byte, a packet or more is read and written at a time.
+fn is_received<'a>(
+    alloc: Global,
+    card: &'a [u8],
+    stream: &'a [u8],
+    due: Due<'_>,
+) -> Result<bool, AllocError> {
+    for most in [1, 188, 1000] {
+        let files: [File<'a>; 2] = [("K", card), ("X", stream)];
+        let left = after(alloc, &["receive", "K", "X", "O"], &files, most)?;
+        if !due.is_left(&left) {
+            return Ok(false);
+        }
+    }
+    Ok(true)
+}
+
 #[test]
 fn broadcasts_are_received(rt: HostRuntime) -> Result<(), AllocError> {
     let alloc = rt.alloc();
@@ -325,35 +342,25 @@ fn broadcasts_are_received(rt: HostRuntime) -> Result<(), AllocError> {
     let missing = missing(alloc)?;
     let cause = StreamCause::Broken(BreakCause::Torn);
     let torn = Status::BadStream { packet: 1, cause };
-    let none: Option<&[u8]> = Some(b"");
-    let cases: [(&[u8], Due<'_>); 5] = [
-        (
-            &opened,
-            Due {
-                out: Some(&clear),
-                ..printed("")
-            },
-        ),
-        (
-            opened.get(..940).unwrap_or(&[]),
-            refused(Status::Unclosed(1), "stream ends before message 1\n", none),
-        ),
-        (
-            &missing,
-            refused(Status::Gaps(3), "3 clear packets are missing\n", none),
-        ),
-        (b"", refused(Status::NoCat, "no CAT for this card\n", none)),
-        (
-            opened.get(..200).unwrap_or(&[]),
-            refused(torn, "stream packet 1: torn\n", none),
-        ),
-    ];
-    for (stream, due) in cases {
-        for most in [1, 188, 1000] {
-            let files: [File<'_>; 2] = [("K", &card), ("X", stream)];
-            let left = after(alloc, &["receive", "K", "X", "O"], &files, most)?;
-            assert!(rt; due.is_left(&left), "{most}");
-        }
-    }
+    let nothing: Option<&[u8]> = Some(b"");
+    let done = Due {
+        out: Some(&clear),
+        ..printed("")
+    };
+    assert!(rt; is_received(alloc, &card, &opened, done)?);
+    let unclosed = refused(
+        Status::Unclosed(1),
+        "stream ends before message 1\n",
+        nothing,
+    );
+    let early = opened.get(..940).unwrap_or(&[]);
+    assert!(rt; is_received(alloc, &card, early, unclosed)?);
+    let gaps = refused(Status::Gaps(3), "3 clear packets are missing\n", nothing);
+    assert!(rt; is_received(alloc, &card, &missing, gaps)?);
+    let no_cat = refused(Status::NoCat, "no CAT for this card\n", nothing);
+    assert!(rt; is_received(alloc, &card, b"", no_cat)?);
+    let broken = refused(torn, "stream packet 1: torn\n", nothing);
+    let cut = opened.get(..200).unwrap_or(&[]);
+    assert!(rt; is_received(alloc, &card, cut, broken)?);
     Ok(())
 }

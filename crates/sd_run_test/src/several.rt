@@ -44,6 +44,11 @@ const ROOM: usize = 131_072;
 
 const PIECE: usize = 65_536;
 
+/// How many bytes so many packets have.
+fn bytes_of(packets: usize) -> usize {
+    packets.saturating_mul(PACKET)
+}
+
 /// The site's eight lines and these.
 fn site_with(alloc: Global, lines: &str) -> Result<Vec<u8>, AllocError> {
     let mut site = Vec::from_slice(alloc, SITE)?;
@@ -113,7 +118,7 @@ fn words_and_periods_begin_as_the_site_says(rt: HostRuntime) -> Result<(), Alloc
             "{lines}"
         );
         let broadcast = file(alloc, &depot, "broadcast")?;
-        assert_eq!(rt; broadcast.len(), packets * PACKET, "{lines}");
+        assert_eq!(rt; broadcast.len(), bytes_of(packets), "{lines}");
         assert!(rt; has_sum(&broadcast, sum), "{lines}");
         let (status, _) = received(alloc, &mut depot, 5)?;
         assert_eq!(rt; status, Status::Revoked { leaf: 5, period }, "{lines}");
@@ -148,7 +153,7 @@ fn losses_are_told_from_the_first_period_on(rt: HostRuntime) -> Result<(), Alloc
         assert_eq!(rt; status, due, "{lost:?}");
         let clear = file(alloc, &depot, "clear")?;
         assert!(rt;
-            clear.get(from * PACKET..to * PACKET) == Some(out.as_slice()),
+            clear.get(bytes_of(from)..bytes_of(to)) == Some(out.as_slice()),
             "{lost:?}"
         );
     }
@@ -199,7 +204,7 @@ fn a_stream_ends_with_the_last_word(rt: HostRuntime) -> Result<(), AllocError> {
         let (status, _) = answered(alloc, &mut depot, "head site book clear broadcast")?;
         assert_eq!(rt; status, due, "{lines} {sample}");
         let broadcast = file(alloc, &depot, "broadcast")?;
-        assert_eq!(rt; broadcast.len(), packets * PACKET, "{lines} {sample}");
+        assert_eq!(rt; broadcast.len(), bytes_of(packets), "{lines} {sample}");
         assert!(rt;
             sum.is_empty() || has_sum(&broadcast, sum),
             "{lines} {sample}"
