@@ -2,3 +2,5 @@ pub mod Places
 pub mod Words
 pub mod Texts
 pub mod Repeats
+pub mod Knowing
+pub mod Entitled
