@@ -4,3 +4,4 @@ pub mod Texts
 pub mod Repeats
 pub mod Knowing
 pub mod Entitled
+pub mod Using
