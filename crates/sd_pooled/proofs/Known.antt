@@ -83,7 +83,7 @@ height_at service q name low there =
     (cover_at service q low) name there
 
 -- a leaf's names reach the key of some set of a period exactly where it isn't revoked in it
-reached_at : (service : Service) (q u : ℕ) → service.height ≤ 20 → u < 2 ^ service.height
+pub reached_at : (service : Service) (q u : ℕ) → service.height ≤ 20 → u < 2 ^ service.height
     → Any (λ name. IsReached (given service.height u) (Key name)) (sets_at service q)
     ↔ ¬ Contains (revoked_at service q) u
 reached_at service q u low leaf =
@@ -101,7 +101,7 @@ Comes service coalition (PeriodKey q) = (q ≤ last_period service.commands) × 
 Comes service coalition (ControlWord t) = HasUnrevoked service coalition (period_of service t)
 
 -- where a secret of a set is reached, an unrevoked leaf reaches it
-unrevoked_reaches : (service : Service) (coalition : List ℕ) (q : ℕ) (name : SetName) → service.height ≤ 20
+pub unrevoked_reaches : (service : Service) (coalition : List ℕ) (q : ℕ) (name : SetName) → service.height ≤ 20
     → All (λ u. u < 2 ^ service.height) coalition → Contains (sets_at service q) name
     → IsReached (flat_map (given service.height) coalition) (Key name) → HasUnrevoked service coalition q
 unrevoked_reaches service coalition q name low leaves (k, within, is) r =
@@ -307,7 +307,7 @@ entitled_below service q u m =
     m
 
 -- and it isn't revoked
-entitled_free : (service : Service) (q u : ℕ) → Contains (entitled service.height service.commands q) u
+pub entitled_free : (service : Service) (q u : ℕ) → Contains (entitled service.height service.commands q) u
     → ¬ Contains (revoked_at service q) u
 entitled_free service q u m (k, within, is) =
     let found = list_any_at (nat_eq u) (revoked_at service q) k u within (rw is (eq-eqb u u refl)) in

@@ -142,7 +142,7 @@ reached_by_ancestry held secret = (
 )
 
 -- what is in the lists of several together is in the list of one of them
-from_one : {A X : Type 0} (f : A → List X) (keys : List A) (x : X) → Contains (flat_map f keys) x → (a : A)
+pub from_one : {A X : Type 0} (f : A → List X) (keys : List A) (x : X) → Contains (flat_map f keys) x → (a : A)
     × Contains keys a × Contains (f a) x
 from_one f [] x m = absurd (no_member x m)
 from_one f (a ∷ keys) x m =
@@ -152,7 +152,7 @@ from_one f (a ∷ keys) x m =
     ]
 
 -- what is in the list of one of several is in their lists together
-to_all : {A X : Type 0} (f : A → List X) (keys : List A) (a : A) (x : X) → Contains keys a → Contains (f a) x
+pub to_all : {A X : Type 0} (f : A → List X) (keys : List A) (a : A) (x : X) → Contains keys a → Contains (f a) x
     → Contains (flat_map f keys) x
 to_all f [] a x member m = absurd (no_member a member)
 to_all f (b ∷ keys) a x member m =
