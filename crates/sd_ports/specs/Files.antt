@@ -1,5 +1,5 @@
 use Rattle.std.specs.Prelude.{◌≡◌, ℕ, ◌<◌, ◌≤◌, ◌⊎◌, List, [], length, Option, None, Some, IsSome, IfSome, Result, OnOk}
-use Rattle.std.specs.Prelude.{IsErrOf}
+use Rattle.std.specs.Prelude.{IsErrOf, All}
 use Rattle.std.specs.Ordering.{nat_cmp}
 use Rattle.std.specs.Cmp.Lexicographic.{slice_cmp}
 use Rattle.std.specs.FinMap.{FinMap, get, insert}
@@ -11,6 +11,11 @@ use Rattle.sd_ports.specs.declared.file.FileFault.TheVariants.{Missing, TooBig, 
 -- files by their names, each name once
 abbrev pub Files : Type 0
 Files = FinMap (slice_cmp nat_cmp) (List ℕ)
+
+-- each number of the file of that name is a byte's, where files are told and it is there
+abbrev pub HoldsBytes : Option Files → List ℕ → Type 0
+HoldsBytes None name = Unit {0}
+HoldsBytes (Some files) name = IfSome (get files name) (All (λ byte. byte < 256))
 
 -- an opened file's bytes are to come from its port, where files are told
 abbrev pub Opens : Option Files → List ℕ → Option (List ℕ) → Type 0

@@ -1,6 +1,6 @@
 ghost use Rattle.std.specs.Prelude.{◌≡◌, ◌<◌, ◌^◌, ℕ, Option, None, IfOk, OnOk, OnErr, IsErrOf, []};
 ghost use Rattle.sd_cause.specs.Count.{HasCause, with_added};
-ghost use Rattle.sd_ports.specs.Files.{Closes, Files, IsFresh, IsNotThere, IsThere, LeavesPrefix, Opens, with_bytes};
+ghost use Rattle.sd_ports.specs.Files.{Closes, Files, HoldsBytes, IsFresh, IsNotThere, IsThere, LeavesPrefix, Opens, with_bytes};
 ghost use Rattle.sd_ports.specs.Causes.{CountsClosed, CountsMade, CountsOpen, HasDepotCause};
 
 use crate::fault::DepotFault;
@@ -31,6 +31,10 @@ pub trait Depot {
 
     /// How many calls were made.
     ghost calls: { Self → ℕ };
+
+    /// Each number of the file of this name is a byte's. It changes nothing.
+    fn hold_bytes(&self, name: &str)
+        ensures { HoldsBytes (files self.now) name.now };
 
     /// Opens a file for reading.
     fn open_in(&mut self, alloc: Global, name: &str) -> Result<Self::Inlet, DepotFault>

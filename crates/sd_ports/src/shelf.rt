@@ -1,10 +1,10 @@
 ghost use Rattle.std.specs.Prelude.{◌≡◌, ◌≤◌, ◌<◌, ◌^◌, ◌↔◌, IfOk, IsErr, IsSome, OnOk, OnErr, IsErrOf, Some, None, []};
-ghost use Rattle.std.specs.Prelude.{true, false, string_bytes};
+ghost use Rattle.std.specs.Prelude.{true, false, string_bytes, All};
 ghost use Rattle.std.specs.Option.{option_map};
 ghost use Rattle.std.specs.FinMap as map;
 ghost use Rattle.sd_cause.specs.Count.{HasCause, with_added};
 ghost use Rattle.sd_ports.specs.Causes.{CountsClosed, CountsMade, CountsOpen, HasDepotCause};
-ghost use Rattle.sd_ports.specs.Files.{Closes, IsFresh, IsNotThere, IsThere, LeavesPrefix, Opens, with_bytes};
+ghost use Rattle.sd_ports.specs.Files.{Closes, HoldsBytes, IsFresh, IsNotThere, IsThere, LeavesPrefix, Opens, with_bytes};
 ghost use Rattle.sd_ports.specs.Memory.{call_fails, empty_shelf, fails_of, told_files, with_call, with_closed};
 ghost use Rattle.sd_ports.specs.Memory.{with_fault, with_file, with_inlet, with_outlet, with_port_fault, without_port};
 
@@ -162,6 +162,14 @@ impl Depot for MemDepot {
     ghost opened = { λ d. d.opened };
 
     ghost calls = { λ d. d.calls };
+
+    fn hold_bytes(&self, name: &str)
+        ensures { HoldsBytes (Some self.now.files) name.now }
+    {
+        if let Some(bytes) = look_up(&self.files, name) {
+            are_bytes(bytes);
+        }
+    }
 
     /// Opens a copy of the file's bytes.
     fn open_in(&mut self, alloc: Global, name: &str) -> Result<MemSource, DepotFault>
@@ -336,3 +344,8 @@ fn replace(files: &mut BTreeMap<String, Vec<u8>>, name: &str, bytes: Vec<u8>)
     let file = files.get_mut(name).unwrap();
     *file = bytes;
 }
+
+/// Each element of a slice of bytes is a byte.
+fn are_bytes(bytes: &[u8])
+    ensures { All (λ byte. byte < 256) bytes.now }
+{}
