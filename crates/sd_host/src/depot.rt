@@ -1,4 +1,5 @@
-ghost use Rattle.std.specs.Prelude.{◌≡◌, None, IsErr};
+ghost use Rattle.std.specs.Prelude.{◌≡◌, None, IsErr, IsErrOf};
+ghost use Rattle.sd_cause.specs.Count.{IsCaused};
 ghost use Rattle.sd_ports.specs.Causes.{HasDepotCause};
 
 use crate::identity;
@@ -16,6 +17,7 @@ pub struct HostDepot<'a, R> {
     files: &'a R,
     inputs: Vec<Identity>,
     faults: u64,
+    stops: u64,
     misses: u64,
     made: u64,
     opened: u64,
@@ -26,6 +28,7 @@ impl<'a, R: Files> HostDepot<'a, R> {
     /// The files, with counts of 0.
     pub fn new(alloc: Global, files: &'a R) -> HostDepot<'a, R>
         ensures faults { result.faults ≡ 0 }
+        ensures stops { result.stops ≡ 0 }
         ensures misses { result.misses ≡ 0 }
         ensures made { result.made ≡ 0 }
         ensures ports { result.opened ≡ 0 }
@@ -35,6 +38,7 @@ impl<'a, R: Files> HostDepot<'a, R> {
             files,
             inputs: Vec::new(alloc),
             faults: 0,
+            stops: 0,
             misses: 0,
             made: 0,
             opened: 0,
@@ -45,6 +49,7 @@ impl<'a, R: Files> HostDepot<'a, R> {
     /// Counts why a file wasn't opened, and says it.
     fn refuse<T>(&mut self, kind: ErrorKind) -> Result<T, DepotFault>
         ensures cause { HasDepotCause self.old.faults self.new.faults self.old.misses self.new.misses result }
+        ensures stops { IsCaused self.old.stops self.new.stops (IsErrOf result DepotFault.Failed) }
         ensures fault { IsErr result }
         ensures made { self.new.made ≡ self.old.made }
         ensures ports { self.new.opened ≡ self.old.opened }
@@ -58,6 +63,7 @@ impl<'a, R: Files> HostDepot<'a, R> {
             ErrorKind::OutOfMemory => Err(DepotFault::NoMemory),
             _ => {
                 self.faults = self.faults.saturating_add(1);
+                self.stops = self.stops.saturating_add(1);
                 Err(DepotFault::Failed)
             }
         }
@@ -72,6 +78,8 @@ impl<'a, R: Files> Depot for HostDepot<'a, R> {
     ghost files = { λ d. None };
 
     ghost faults = { λ d. d.faults };
+
+    ghost stops = { λ d. d.stops };
 
     ghost misses = { λ d. d.misses };
 
@@ -114,14 +122,18 @@ impl<'a, R: Files> Depot for HostDepot<'a, R> {
     fn close_in(&mut self, port: HostInlet<R::File>) {
         self.calls = self.calls.saturating_add(1);
         self.opened = self.opened.wrapping_sub(1);
-        self.faults = self.faults.saturating_add(port.faults());
+        let faults = port.faults();
+        self.faults = self.faults.saturating_add(faults);
+        self.stops = self.stops.saturating_add(faults);
     }
 
     /// Writes what still waits.
     fn close_out(&mut self, _name: &str, mut port: HostOutlet<R::File>) -> Result<(), DepotFault> {
         self.calls = self.calls.saturating_add(1);
         self.opened = self.opened.wrapping_sub(1);
-        self.faults = self.faults.saturating_add(port.faults());
+        let faults = port.faults();
+        self.faults = self.faults.saturating_add(faults);
+        self.stops = self.stops.saturating_add(faults);
         match port.send() {
             Ok(()) => Ok(()),
             Err(_) => {

@@ -32,13 +32,15 @@ pub record Store : Type 0 where
   pub faults : ℕ
 
 -- a depot in memory: its files, the room of a sink, the most bytes of a read or a write, the calls that are to fail,
--- the counts of faults, of misses and of sinks made, how many ports are open, and how many calls there were
+-- the counts of faults, of those but at closing a sink, of misses and of sinks made, how many ports are open, and how
+-- many calls there were
 pub record Shelf : Type 0 where
   pub files : Files
   pub room : ℕ
   pub most : ℕ
   pub failing : Failures
   pub faults : ℕ
+  pub stops : ℕ
   pub misses : ℕ
   pub made : ℕ
   pub opened : ℕ
@@ -47,20 +49,21 @@ pub record Shelf : Type 0 where
 -- a depot in memory is stored as the pairs of its parts
 abbrev pub shelf_code : Coded Shelf
 shelf_code =
-    code_by (Files × (ℕ × (ℕ × (Failures × (ℕ × (ℕ × (ℕ × (ℕ × ℕ))))))))
+    code_by (Files × (ℕ × (ℕ × (Failures × (ℕ × (ℕ × (ℕ × (ℕ × (ℕ × ℕ)))))))))
     (coded× (code (coded_list coded_ℕ) (coded_list coded_ℕ)) (coded× coded_ℕ (coded× coded_ℕ (coded× failures_code
-    (coded× coded_ℕ (coded× coded_ℕ (coded× coded_ℕ (coded× coded_ℕ coded_ℕ))))))))
-    (λ s. (s.files, (s.room, (s.most, (s.failing, (s.faults, (s.misses, (s.made, (s.opened, s.calls)))))))))
+    (coded× coded_ℕ (coded× coded_ℕ (coded× coded_ℕ (coded× coded_ℕ (coded× coded_ℕ coded_ℕ)))))))))
+    (λ s. (s.files, (s.room, (s.most, (s.failing, (s.faults, (s.stops, (s.misses, (s.made, (s.opened, s.calls))))))))))
     (λ p. record {
       files = p.0;
       room = p.1.0;
       most = p.1.1.0;
       failing = p.1.1.1.0;
       faults = p.1.1.1.1.0;
-      misses = p.1.1.1.1.1.0;
-      made = p.1.1.1.1.1.1.0;
-      opened = p.1.1.1.1.1.1.1.0;
-      calls = p.1.1.1.1.1.1.1.1;
+      stops = p.1.1.1.1.1.0;
+      misses = p.1.1.1.1.1.1.0;
+      made = p.1.1.1.1.1.1.1.0;
+      opened = p.1.1.1.1.1.1.1.1.0;
+      calls = p.1.1.1.1.1.1.1.1.1;
     })
     (λ _. refl)
 
@@ -76,6 +79,7 @@ empty_shelf room most = record {
   most = most;
   failing = no_failures;
   faults = 0;
+  stops = 0;
   misses = 0;
   made = 0;
   opened = 0;
@@ -104,10 +108,11 @@ fails_of s name = numbers_of name s.failing.ports
 
 -- the depot after a numbered call that opened a file, or found that there is none of that name, or failed, or wanted
 -- memory
-abbrev pub with_inlet : Shelf → ℕ → ℕ → ℕ → Shelf
-with_inlet s faults misses opened = record s {
+abbrev pub with_inlet : Shelf → ℕ → ℕ → ℕ → ℕ → Shelf
+with_inlet s faults stops misses opened = record s {
   failing = after_call s.failing;
   faults = faults;
+  stops = stops;
   misses = misses;
   opened = opened;
   calls = with_added s.calls 1;
@@ -124,14 +129,22 @@ with_outlet s name = record s {
 }
 
 -- the depot after a numbered call that failed, or wanted memory
-abbrev pub with_call : Shelf → ℕ → Shelf
-with_call s faults =
-    record s { failing = after_call s.failing; faults = faults; calls = with_added s.calls 1 }
+abbrev pub with_call : Shelf → ℕ → ℕ → Shelf
+with_call s faults stops = record s {
+  failing = after_call s.failing;
+  faults = faults;
+  stops = stops;
+  calls = with_added s.calls 1;
+}
 
 -- the depot after a call that closed a port with this count of faults
 abbrev pub without_port : Shelf → ℕ → ℕ → Shelf
-without_port s faults opened =
-    record s { faults = with_added s.faults faults; opened = opened; calls = with_added s.calls 1 }
+without_port s faults opened = record s {
+  faults = with_added s.faults faults;
+  stops = with_added s.stops faults;
+  opened = opened;
+  calls = with_added s.calls 1;
+}
 
 -- what a numbered call that closes a file's port leaves of the bytes that the port held: all, or where it fails the
 -- first half
@@ -148,6 +161,7 @@ with_closed s name port opened = record s {
   files = insert s.files name (kept_of s port.held);
   failing = after_call s.failing;
   faults = with_added (with_added s.faults port.faults) (fault_of s);
+  stops = with_added s.stops port.faults;
   opened = opened;
   calls = with_added s.calls 1;
 }

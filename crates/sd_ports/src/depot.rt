@@ -1,5 +1,5 @@
 ghost use Rattle.std.specs.Prelude.{◌≡◌, ◌<◌, ◌^◌, ℕ, Option, None, IfOk, OnOk, OnErr, IsErrOf, []};
-ghost use Rattle.sd_cause.specs.Count.{HasCause, with_added};
+ghost use Rattle.sd_cause.specs.Count.{HasCause, IsCaused, with_added};
 ghost use Rattle.sd_ports.specs.Files.{Closes, Files, HoldsBytes, IsFresh, IsNotThere, IsThere, LeavesPrefix, Opens, with_bytes};
 ghost use Rattle.sd_ports.specs.Causes.{CountsClosed, CountsMade, CountsOpen, HasDepotCause};
 
@@ -19,6 +19,9 @@ pub trait Depot {
 
     /// How often the device failed, in the depot and in ports that were closed.
     ghost faults: { Self → ℕ };
+
+    /// How often the device failed, but for the closing of a file that was made, after which no work is left.
+    ghost stops: { Self → ℕ };
 
     /// How often a file was asked for that isn't there.
     ghost misses: { Self → ℕ };
@@ -43,6 +46,7 @@ pub trait Depot {
         ensures fresh { IfOk result (λ port. Self.Inlet.faults port ≡ 0) }
         ensures not_there { IsErrOf result DepotFault.Missing → IsNotThere (files self.old) name.now }
         ensures cause { HasDepotCause (faults self.old) (faults self.new) (misses self.old) (misses self.new) result }
+        ensures stops { IsCaused (stops self.old) (stops self.new) (IsErrOf result DepotFault.Failed) }
         ensures made { made self.new ≡ made self.old }
         ensures ports { CountsOpen (opened self.old) (opened self.new) result }
         ensures calls { calls self.new ≡ with_added (calls self.old) 1 };
@@ -56,6 +60,7 @@ pub trait Depot {
         ensures fresh { IfOk result (λ port. Self.Outlet.faults port ≡ 0) }
         ensures missing { IsErrOf result DepotFault.Missing → files self.old ≡ None }
         ensures cause { HasDepotCause (faults self.old) (faults self.new) (misses self.old) (misses self.new) result }
+        ensures stops { IsCaused (stops self.old) (stops self.new) (IsErrOf result DepotFault.Failed) }
         ensures made { CountsMade (made self.old) (made self.new) result }
         ensures ports { CountsOpen (opened self.old) (opened self.new) result }
         ensures calls { calls self.new ≡ with_added (calls self.old) 1 };
@@ -64,8 +69,10 @@ pub trait Depot {
     fn close_in(&mut self, port: Self::Inlet)
         ensures files { files self.new ≡ files self.old }
         ensures faults { faults self.new ≡ with_added (faults self.old) (Self.Inlet.faults port) }
+        ensures stops { stops self.new ≡ with_added (stops self.old) (Self.Inlet.faults port) }
         ensures misses { misses self.new ≡ misses self.old }
         ensures within { faults self.old < 2 ^ 64 }
+        ensures below { stops self.old < 2 ^ 64 }
         ensures made { made self.new ≡ made self.old }
         ensures ports { CountsClosed (opened self.old) (opened self.new) }
         ensures calls { calls self.new ≡ with_added (calls self.old) 1 };
@@ -78,7 +85,9 @@ pub trait Depot {
         ensures prefix { LeavesPrefix (files self.old) (files self.new) name.now (Self.Outlet.held port) }
         ensures failed { OnErr result (IsErrOf result DepotFault.Failed) }
         ensures cause { HasCause (with_added (faults self.old) (Self.Outlet.faults port)) (faults self.new) result }
+        ensures stops { stops self.new ≡ with_added (stops self.old) (Self.Outlet.faults port) }
         ensures within { faults self.old < 2 ^ 64 }
+        ensures below { stops self.old < 2 ^ 64 }
         ensures misses { misses self.new ≡ misses self.old }
         ensures made { made self.new ≡ made self.old }
         ensures ports { CountsClosed (opened self.old) (opened self.new) }

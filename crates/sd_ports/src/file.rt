@@ -1,5 +1,5 @@
 ghost use Rattle.std.specs.Prelude.{◌≡◌, ◌≤◌, ◌⊎◌, IfOk, IsErrOf, length};
-ghost use Rattle.sd_cause.specs.Count.{with_added};
+ghost use Rattle.sd_cause.specs.Count.{IsCaused, with_added};
 ghost use Rattle.sd_ports.specs.Causes.{CountsCalls, HasFileCause};
 ghost use Rattle.sd_ports.specs.Files.{IsFile, IsLongFile, IsNotThere, IsThere, WritesFile};
 
@@ -52,6 +52,7 @@ pub fn read_file<D: Depot>(
     ensures missing { IsErrOf result FileFault.Missing → IsNotThere (D.files depot.old) name.now }
     ensures cause { HasFileCause (D.faults depot.old) (D.faults depot.new) (D.misses depot.old) (D.misses depot.new)
         result }
+    ensures stops { IsCaused (D.stops depot.old) (D.stops depot.new) (IsErrOf result FileFault.Failed) }
     ensures ports { D.opened depot.new ≡ D.opened depot.old }
     ensures calls { CountsCalls (D.calls depot.old) (D.calls depot.new) result }
     ensures once { (D.calls depot.new ≤ with_added (D.calls depot.old) 1) ⊎ IsThere (D.files depot.old) name.now }
@@ -80,6 +81,8 @@ pub fn write_file<D: Depot>(
         bytes.now result }
     ensures cause { HasFileCause (D.faults depot.old) (D.faults depot.new) (D.misses depot.old) (D.misses depot.new)
         result }
+    ensures stops { ¬ IsErrOf result FileFault.Failed → D.stops depot.new ≡ D.stops depot.old }
+    ensures later { D.stops depot.old ≤ D.stops depot.new }
     ensures ports { D.opened depot.new ≡ D.opened depot.old }
     ensures calls { CountsCalls (D.calls depot.old) (D.calls depot.new) result }
 {

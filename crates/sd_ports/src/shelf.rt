@@ -2,7 +2,7 @@ ghost use Rattle.std.specs.Prelude.{◌≡◌, ◌≤◌, ◌<◌, ◌^◌, ◌�
 ghost use Rattle.std.specs.Prelude.{true, false, string_bytes, All};
 ghost use Rattle.std.specs.Option.{option_map};
 ghost use Rattle.std.specs.FinMap as map;
-ghost use Rattle.sd_cause.specs.Count.{HasCause, with_added};
+ghost use Rattle.sd_cause.specs.Count.{HasCause, IsCaused, with_added};
 ghost use Rattle.sd_ports.specs.Causes.{CountsClosed, CountsMade, CountsOpen, HasDepotCause};
 ghost use Rattle.sd_ports.specs.Files.{Closes, HoldsBytes, IsFresh, IsNotThere, IsThere, LeavesPrefix, Opens, with_bytes};
 ghost use Rattle.sd_ports.specs.Memory.{call_fails, empty_shelf, fails_of, told_files, with_call, with_closed};
@@ -27,6 +27,7 @@ pub struct MemDepot {
     most: usize,
     failing: Failing,
     faults: u64,
+    stops: u64,
     misses: u64,
     made: u64,
     opened: u64,
@@ -47,6 +48,7 @@ impl Model for MemDepot {
       most = d.most;
       failing = d.failing;
       faults = d.faults;
+      stops = d.stops;
       misses = d.misses;
       made = d.made;
       opened = d.opened;
@@ -70,6 +72,7 @@ impl MemDepot {
             most,
             failing: Failing::new(alloc)?,
             faults: 0,
+            stops: 0,
             misses: 0,
             made: 0,
             opened: 0,
@@ -131,8 +134,8 @@ impl MemDepot {
 
     /// Counts and numbers one more call, and counts a fault where it is to fail.
     fn begin(&mut self) -> Result<(), DepotFault>
-        ensures ok { OnOk result (self.new ≡ with_call self.old self.old.faults) }
-        ensures err { OnErr result (self.new ≡ with_call self.old (with_added self.old.faults 1)) }
+        ensures ok { OnOk result (self.new ≡ with_call self.old self.old.faults self.old.stops) }
+        ensures err { OnErr result (self.new ≡ with_call self.old (with_added self.old.faults 1) self.old.stops) }
         ensures fails { IsErr result ↔ (call_fails self.old ≡ true) }
         ensures failed { OnErr result (IsErrOf result DepotFault.Failed) }
         ensures within { self.old.faults < 2 ^ 64 }
@@ -144,6 +147,23 @@ impl MemDepot {
         }
         Ok(())
     }
+
+    /// Counts and numbers one more call that is to open a port.
+    fn begin_opening(&mut self) -> Result<(), DepotFault>
+        ensures ok { OnOk result (self.new ≡ with_call self.old self.old.faults self.old.stops) }
+        ensures err { OnErr result (self.new ≡ with_call self.old (with_added self.old.faults 1)
+            (with_added self.old.stops 1)) }
+        ensures fails { IsErr result ↔ (call_fails self.old ≡ true) }
+        ensures failed { OnErr result (IsErrOf result DepotFault.Failed) }
+        ensures within { self.old.faults < 2 ^ 64 }
+        ensures below { self.old.stops < 2 ^ 64 }
+    {
+        let begun = self.begin();
+        if begun.is_err() {
+            self.stops = self.stops.saturating_add(1);
+        }
+        begun
+    }
 }
 
 impl Depot for MemDepot {
@@ -154,6 +174,8 @@ impl Depot for MemDepot {
     ghost files = { λ d. Some d.files };
 
     ghost faults = { λ d. d.faults };
+
+    ghost stops = { λ d. d.stops };
 
     ghost misses = { λ d. d.misses };
 
@@ -178,13 +200,15 @@ impl Depot for MemDepot {
         ensures fresh { IfOk result (λ port. port.faults ≡ 0) }
         ensures not_there { IsErrOf result DepotFault.Missing → IsNotThere (Some self.old.files) name.now }
         ensures cause { HasDepotCause self.old.faults self.new.faults self.old.misses self.new.misses result }
+        ensures stops { IsCaused self.old.stops self.new.stops (IsErrOf result DepotFault.Failed) }
         ensures made { self.new.made ≡ self.old.made }
         ensures fails { IsErrOf result DepotFault.Failed ↔ (call_fails self.old ≡ true) }
         ensures missing { IsErrOf result DepotFault.Missing ↔ (call_fails self.old ≡ false)
             × (map.get self.old.files name.now ≡ None) }
         ensures ports { CountsOpen self.old.opened self.new.opened result }
         ensures calls { self.new.calls ≡ with_added self.old.calls 1 }
-        ensures unchanged { self.new ≡ with_inlet self.old self.new.faults self.new.misses self.new.opened }
+        ensures unchanged { self.new ≡ with_inlet self.old self.new.faults self.new.stops self.new.misses
+            self.new.opened }
         ensures miss { IsErrOf result DepotFault.Missing → self.new.misses ≡ with_added self.old.misses 1 }
         ensures fault { IsErrOf result DepotFault.Failed → self.new.faults ≡ with_added self.old.faults 1 }
         ensures port { IfOk result (λ port. port ≡ record {
@@ -196,7 +220,7 @@ impl Depot for MemDepot {
           faults = 0;
         }) }
     {
-        if let Err(_) = self.begin() {
+        if let Err(_) = self.begin_opening() {
             return Err(DepotFault::Failed);
         }
         let Some(file) = look_up(&self.files, name) else {
@@ -223,11 +247,12 @@ impl Depot for MemDepot {
         ensures fresh { IfOk result (λ port. port.faults ≡ 0) }
         ensures missing { IsErrOf result DepotFault.Missing → Some self.old.files ≡ None }
         ensures cause { HasDepotCause self.old.faults self.new.faults self.old.misses self.new.misses result }
+        ensures stops { IsCaused self.old.stops self.new.stops (IsErrOf result DepotFault.Failed) }
         ensures made { CountsMade self.old.made self.new.made result }
         ensures ports { CountsOpen self.old.opened self.new.opened result }
         ensures calls { self.new.calls ≡ with_added self.old.calls 1 }
         ensures ok { OnOk result (self.new ≡ with_outlet self.old name.now) }
-        ensures err { OnErr result (self.new ≡ with_call self.old self.new.faults) }
+        ensures err { OnErr result (self.new ≡ with_call self.old self.new.faults self.new.stops) }
         ensures fails { IsErrOf result DepotFault.Failed ↔ (call_fails self.old ≡ true) }
         ensures fault { IsErrOf result DepotFault.Failed → self.new.faults ≡ with_added self.old.faults 1 }
         ensures port { IfOk result (λ port. port ≡ record {
@@ -239,7 +264,7 @@ impl Depot for MemDepot {
           faults = 0;
         }) }
     {
-        if let Err(_) = self.begin() {
+        if let Err(_) = self.begin_opening() {
             return Err(DepotFault::Failed);
         }
         let Ok(fails) = self.failing.numbers_of(alloc, name) else {
@@ -261,8 +286,10 @@ impl Depot for MemDepot {
     fn close_in(&mut self, port: MemSource)
         ensures files { Some self.new.files ≡ Some self.old.files }
         ensures faults { self.new.faults ≡ with_added self.old.faults port.faults }
+        ensures stops { self.new.stops ≡ with_added self.old.stops port.faults }
         ensures misses { self.new.misses ≡ self.old.misses }
         ensures within { self.old.faults < 2 ^ 64 }
+        ensures below { self.old.stops < 2 ^ 64 }
         ensures made { self.new.made ≡ self.old.made }
         ensures ports { CountsClosed self.old.opened self.new.opened }
         ensures calls { self.new.calls ≡ with_added self.old.calls 1 }
@@ -270,7 +297,9 @@ impl Depot for MemDepot {
     {
         self.calls = self.calls.saturating_add(1);
         self.opened = self.opened.wrapping_sub(1);
-        self.faults = self.faults.saturating_add(port.faults());
+        let faults = port.faults();
+        self.faults = self.faults.saturating_add(faults);
+        self.stops = self.stops.saturating_add(faults);
     }
 
     /// It takes no memory. Where it fails, the file has the first half of what the port held.
@@ -281,7 +310,9 @@ impl Depot for MemDepot {
         ensures prefix { LeavesPrefix (Some self.old.files) (Some self.new.files) name.now (Some port.held) }
         ensures failed { OnErr result (IsErrOf result DepotFault.Failed) }
         ensures cause { HasCause (with_added self.old.faults port.faults) self.new.faults result }
+        ensures stops { self.new.stops ≡ with_added self.old.stops port.faults }
         ensures within { self.old.faults < 2 ^ 64 }
+        ensures below { self.old.stops < 2 ^ 64 }
         ensures misses { self.new.misses ≡ self.old.misses }
         ensures made { self.new.made ≡ self.old.made }
         ensures ports { CountsClosed self.old.opened self.new.opened }
@@ -292,6 +323,7 @@ impl Depot for MemDepot {
         self.opened = self.opened.wrapping_sub(1);
         let faults = port.faults();
         self.faults = self.faults.saturating_add(faults);
+        self.stops = self.stops.saturating_add(faults);
         let begun = self.begin();
         let mut bytes = port.into_bytes();
         if let Err(fault) = begun {

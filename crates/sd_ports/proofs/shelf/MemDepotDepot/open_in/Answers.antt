@@ -5,5 +5,5 @@ use Rattle.sd_ports.proofs.shelf.MemDepotDepot.open_in.Goals as goal
 
 pub returns-in-Err-clause-cause : goal.returns-in-Err-clause-cause
 returns-in-Err-clause-cause c =
-    failed_once _ _ _ _ c.begin.ensures.within (ap (λ (s : Shelf). s.faults) c.in-Err.ensures.err)
+    failed_once _ _ _ _ c.begin_opening.ensures.within (ap (λ (s : Shelf). s.faults) c.in-Err.ensures.err)
     (ap (λ (s : Shelf). s.misses) c.in-Err.ensures.err)
