@@ -6,23 +6,22 @@ use Rattle.std.specs.Prelude.{◌⊎◌, IfOk, IfErr, MatchResult}
 use Rattle.std.proofs.lemmas.Grind.{common_steps}
 use Rattle.std.proofs.lemmas.List.{append-nil, map-append, drop_more, take_more, take_all, take-append-drop}
 use Rattle.sd_text.specs.Lines.{lines_of}
-use Rattle.sd_tree.specs.declared.leaf.TheConstants.{MOST_REVOKED}
+use Rattle.sd_tree.specs.Limits.{most_revoked}
 use Rattle.sd_book.specs.declared.command.Command.{Command}
 use Rattle.sd_book.specs.declared.command.Command.TheVariants.{Subscribe, Revoke, Period}
 use Rattle.sd_book.specs.declared.fault.BookFault.{BookFault}
 use Rattle.sd_book.specs.declared.fault.BookFault.TheVariants.{Line, Leaf, Limit, NoMemory}
 use Rattle.sd_book.specs.declared.fault.BookLimit.{BookLimit}
 use Rattle.sd_book.specs.declared.fault.BookLimit.TheVariants.{Lines, Periods, Revoked}
-use Rattle.sd_book.specs.declared.limits.TheConstants.{MOST_COMMANDS, MOST_PERIODS}
 use Rattle.sd_book.specs.Commands.{is_within, last_period, revoked_after}
 use Rattle.sd_book.specs.Faults.{HasRoom, IsCrowded, Breaks, IsBroken, FaultAfter, IsCauseOf, IsFirstLimit}
-use Rattle.sd_book.specs.Limits.{IsWithinLimits, IsDraft}
+use Rattle.sd_book.specs.Limits.{IsWithinLimits, IsDraft, most_commands, most_periods}
 use Rattle.sd_book.specs.Value.{BookValue}
 use Rattle.sd_book.specs.Text.{SpellsBook, in_tree, ended, period_fits, command_fits, judged, said_by, book_of}
 use Rattle.sd_book.proofs.Judged.{draft_again, said_again, command_again, within_is_draft, book_again}
 
 -- by the test of the room
-room_open : (before : List Command) → HasRoom before → nat_le MOST_COMMANDS (length before) ≡ false
+room_open : (before : List Command) → HasRoom before → nat_le most_commands (length before) ≡ false
 room_open before h = grind (arith, common_steps)
 
 -- a fault by a test, or by what comes after it
@@ -35,7 +34,7 @@ guard_err false d fault r e = inr (refl, e)
 crowded : {A : Type 0} (d : ℕ) (before : List Command) (value : A) (q : ℕ) → IsCrowded d before q → ended d before value
     ≡ Err (Limit (Revoked q))
 crowded d before value q h =
-    let many : nat_lt MOST_REVOKED (length (revoked_after d before)) ≡ true = grind (arith, common_steps, h.1) in
+    let many : nat_lt most_revoked (length (revoked_after d before)) ≡ true = grind (arith, common_steps, h.1) in
     rw (many, h.0) refl
 
 -- what is judged where a fault comes
@@ -49,10 +48,10 @@ fault_judged d before rest (Leaf k) h =
     subst (λ (r : List (Option Command)). judged d before r ≡ Err (Leaf k)) (sym h.3.1)
     (rw (room_open before h.0, h.4, h.1) refl)
 fault_judged d before rest (Limit Lines) h =
-    let full : nat_le MOST_COMMANDS (length before) ≡ true = grind (arith, common_steps, h.0) in
+    let full : nat_le most_commands (length before) ≡ true = grind (arith, common_steps, h.0) in
     subst (λ (r : List (Option Command)). judged d before r ≡ Err (Limit Lines)) (sym h.2.1) (rw full refl)
 fault_judged d before rest (Limit Periods) h =
-    let last : nat_le MOST_PERIODS (last_period before) ≡ true = grind (arith, common_steps, h.2) in
+    let last : nat_le most_periods (last_period before) ≡ true = grind (arith, common_steps, h.2) in
     subst (λ (r : List (Option Command)). judged d before r ≡ Err (Limit Periods)) (sym h.1.1)
     (rw (room_open before h.0, last) refl)
 fault_judged d before rest (Limit (Revoked q)) h =
@@ -60,7 +59,7 @@ fault_judged d before rest (Limit (Revoked q)) h =
       | inl none ↦ subst (λ (r : List (Option Command)). judged d before r ≡ Err (Limit (Revoked q))) (sym none)
           (crowded d before before q h.1)
       | inr period ↦
-          let open_periods : nat_le MOST_PERIODS (last_period before) ≡ false = grind (arith, common_steps, period.2) in
+          let open_periods : nat_le most_periods (last_period before) ≡ false = grind (arith, common_steps, period.2) in
           subst (λ (r : List (Option Command)). judged d before r ≡ Err (Limit (Revoked q))) (sym period.1.1)
           (rw (room_open before period.0, open_periods, crowded d before Period q h.1) refl)
     ]
@@ -96,7 +95,7 @@ end_err : {A : Type 0} (d : ℕ) (before : List Command) (value : A) (fault : Bo
     ≡ Err fault
     → (q : ℕ) × (fault ≡ Limit (Revoked q)) × IsCrowded d before q
 end_err d before value fault e =
-    elim (guard_err (nat_lt MOST_REVOKED (length (revoked_after d before))) (Limit (Revoked (last_period before))) fault
+    elim (guard_err (nat_lt most_revoked (length (revoked_after d before))) (Limit (Revoked (last_period before))) fault
     (Ok value) e) [
       | inl many ↦ (last_period before, sym many.1, (refl, grind (arith, common_steps, many.0)))
       | inr other ↦ absurd cc
@@ -105,7 +104,7 @@ end_err d before value fault e =
 -- a book that is full
 lines_err : (d : ℕ) (before : List Command) (said : Option Command) (others : List (Option Command))
     (fault : BookFault) → IsDraft d before
-    → nat_le MOST_COMMANDS (length before) ≡ true → Limit Lines ≡ fault → IsBroken d before (said ∷ others) fault
+    → nat_le most_commands (length before) ≡ true → Limit Lines ≡ fault → IsBroken d before (said ∷ others) fault
 lines_err d before said others fault all full
     same = (Lines, sym same, (grind (arith, common_steps, full, all.lines), said, (others, refl)))
 
@@ -114,10 +113,10 @@ period_err : (d : ℕ) (before : List Command) (others : List (Option Command)) 
     HasRoom before
     → period_fits d before Period ≡ Err fault → IsBroken d before (Some Period ∷ others) fault
 period_err d before others fault all room e =
-    elim (guard_err (nat_le MOST_PERIODS (last_period before)) (Limit Periods) fault (ended d before Period) e) [
+    elim (guard_err (nat_le most_periods (last_period before)) (Limit Periods) fault (ended d before Period) e) [
       | inl last ↦ (Periods, sym last.1, (room, (others, refl), grind (arith, common_steps, last.0, all.periods)))
       | inr other ↦
-          let few : last_period before < MOST_PERIODS = grind (arith, common_steps, other.0) in
+          let few : last_period before < most_periods = grind (arith, common_steps, other.0) in
           let end = end_err d before Period fault other.1 in
           (Revoked end.0, end.1, (inr (room, (others, refl), few), end.2))
     ]
@@ -135,7 +134,7 @@ pub command_broken : (d : ℕ) (before : List Command) (command : Command) (othe
     (fault : BookFault) → IsDraft d before
     → command_fits d before command ≡ Err fault → IsBroken d before (Some command ∷ others) fault
 command_broken d before command others fault all e =
-    elim (guard_err (nat_le MOST_COMMANDS (length before)) (Limit Lines) fault (period_fits d before command) e) [
+    elim (guard_err (nat_le most_commands (length before)) (Limit Lines) fault (period_fits d before command) e) [
       | inl full ↦ lines_err d before (Some command) others fault all full.0 full.1
       | inr other ↦ step_err d before command others fault all (grind (arith, common_steps, other.0)) other.1
     ]
@@ -224,10 +223,10 @@ tree_cause d before (Some command) others fault room e = leaf_cause d before com
 pub line_cause : (d : ℕ) (said : List (Option Command)) (before : List Command) (o : Option Command)
     (others : List (Option Command)) (fault : BookFault)
     → said ≡ map Some before ++ o ∷ others → IsDraft d before
-    → cond (nat_le MOST_COMMANDS (length before)) (Err (Limit Lines)) (in_tree d (length before + 1) o) ≡ Err fault →
+    → cond (nat_le most_commands (length before)) (Err (Limit Lines)) (in_tree d (length before + 1) o) ≡ Err fault →
     IsCauseOf d said fault
 line_cause d said before o others fault same all e =
-    elim (guard_err (nat_le MOST_COMMANDS (length before)) (Limit Lines) fault (in_tree d (length before + 1) o) e) [
+    elim (guard_err (nat_le most_commands (length before)) (Limit Lines) fault (in_tree d (length before + 1) o) e) [
       | inl full ↦ broken_cause d said before (o ∷ others) fault same all
           (lines_err d before o others fault all full.0 full.1)
       | inr other ↦ (

@@ -12,10 +12,9 @@ use Rattle.sd_book.specs.declared.command.Command.TheVariants.{Subscribe, Revoke
 use Rattle.sd_book.specs.declared.fault.BookFault.{BookFault}
 use Rattle.sd_book.specs.declared.fault.BookFault.TheVariants.{Limit}
 use Rattle.sd_book.specs.declared.fault.BookLimit.TheVariants.{Lines, Periods, Revoked}
-use Rattle.sd_tree.specs.declared.leaf.TheConstants.{MOST_REVOKED}
-use Rattle.sd_book.specs.declared.limits.TheConstants.{MOST_COMMANDS, MOST_PERIODS}
+use Rattle.sd_tree.specs.Limits.{most_revoked}
 use Rattle.sd_book.specs.Commands.{is_within, is_period, last_period, revoked, revoked_after}
-use Rattle.sd_book.specs.Limits.{IsWithinLimits, IsDraft}
+use Rattle.sd_book.specs.Limits.{IsWithinLimits, IsDraft, most_commands, most_periods}
 use Rattle.sd_book.specs.Text.{SpellsBook, ◌>>=◌, in_tree, ended, period_fits, command_fits, judged_line, judged}
 use Rattle.sd_book.specs.Text.{book_of}
 use Rattle.sd_book.proofs.Tallies.{period_more, tally_of_none}
@@ -36,9 +35,9 @@ guard_ok false d r y e = (refl, e)
 -- what a command that fits says of what stands before it
 record IsJudged (d : ℕ) (before : List Command) (command : Command) : Type 0 where
   leaf : is_within d command ≡ true
-  lines : length before < MOST_COMMANDS
-  periods : is_period command ≡ true → last_period before < MOST_PERIODS
-  few : is_period command ≡ true → length (revoked_after d before) ≤ MOST_REVOKED
+  lines : length before < most_commands
+  periods : is_period command ≡ true → last_period before < most_periods
+  few : is_period command ≡ true → length (revoked_after d before) ≤ most_revoked
 
 -- the command of a line is of the tree
 tree_ok : (d k : ℕ) (o : Option Command) (command : Command) → in_tree d k o ≡ Ok command → (o ≡ Some command)
@@ -48,36 +47,36 @@ tree_ok d k (Some c) command e = grind (arith, common_steps)
 
 -- so is that of a line which may come
 pub line_command : (d : ℕ) (before : List Command) (o : Option Command) (command : Command) →
-    cond (nat_le MOST_COMMANDS (length before)) (Err (Limit Lines)) (in_tree d (length before + 1) o) ≡ Ok command →
+    cond (nat_le most_commands (length before)) (Err (Limit Lines)) (in_tree d (length before + 1) o) ≡ Ok command →
     (o ≡ Some command) × (is_within d command ≡ true)
 line_command d before o command e =
-    let g = guard_ok (nat_le MOST_COMMANDS (length before)) (Limit Lines) (in_tree d (length before + 1) o) command e in
+    let g = guard_ok (nat_le most_commands (length before)) (Limit Lines) (in_tree d (length before + 1) o) command e in
     tree_ok d (length before + 1) o command g.1
 
 -- what the commands end with is few
 pub ended_ok : {A : Type 0} (d : ℕ) (commands : List Command) (value got : A) → ended d commands value ≡ Ok got →
-    (length (revoked_after d commands) ≤ MOST_REVOKED) × (value ≡ got)
+    (length (revoked_after d commands) ≤ most_revoked) × (value ≡ got)
 ended_ok d commands value got e =
-    let g = guard_ok (nat_lt MOST_REVOKED (length (revoked_after d commands))) (Limit (Revoked (last_period commands)))
+    let g = guard_ok (nat_lt most_revoked (length (revoked_after d commands))) (Limit (Revoked (last_period commands)))
     (Ok value) got e in
     (grind (arith, common_steps, g.0), cc)
 
 -- a Period was within the limits
 fits_ok : (d : ℕ) (before : List Command) (command got : Command) → period_fits d before command ≡ Ok got →
-    (command ≡ got) × (is_period command ≡ true → last_period before < MOST_PERIODS)
-    × (is_period command ≡ true → length (revoked_after d before) ≤ MOST_REVOKED)
+    (command ≡ got) × (is_period command ≡ true → last_period before < most_periods)
+    × (is_period command ≡ true → length (revoked_after d before) ≤ most_revoked)
 fits_ok d before (Subscribe u) got e = (cc, λ h. absurd cc, λ h. absurd cc)
 fits_ok d before (Revoke u) got e = (cc, λ h. absurd cc, λ h. absurd cc)
 fits_ok d before Period got e =
-    let g = guard_ok (nat_le MOST_PERIODS (last_period before)) (Limit Periods) (ended d before Period) got e in
+    let g = guard_ok (nat_le most_periods (last_period before)) (Limit Periods) (ended d before Period) got e in
     let few = ended_ok d before Period got g.1 in
     (few.1, λ h. grind (arith, common_steps, g.0), λ h. few.0)
 
 -- what a command that fits says
 pub command_ok : (d : ℕ) (before : List Command) (command got : Command) → command_fits d before command ≡ Ok got →
-    (length before < MOST_COMMANDS) × (period_fits d before command ≡ Ok got)
+    (length before < most_commands) × (period_fits d before command ≡ Ok got)
 command_ok d before command got e =
-    let g = guard_ok (nat_le MOST_COMMANDS (length before)) (Limit Lines) (period_fits d before command) got e in
+    let g = guard_ok (nat_le most_commands (length before)) (Limit Lines) (period_fits d before command) got e in
     (grind (arith, common_steps, g.0), g.1)
 
 -- a command that fits is what is answered
@@ -99,7 +98,7 @@ newest_ok d before command leaf e =
     }
 
 -- a command within the limits on lines and on periods fits
-both_fit : (d : ℕ) (before : List Command) (command got : Command) → nat_le MOST_COMMANDS (length before) ≡ false →
+both_fit : (d : ℕ) (before : List Command) (command got : Command) → nat_le most_commands (length before) ≡ false →
     period_fits d before command ≡ Ok got → command_fits d before command ≡ Ok got
 both_fit d before command got long fits = rw long fits
 
@@ -108,7 +107,7 @@ line_ok : (d : ℕ) (before : List Command) (said : Option Command) (command : C
     ≡ Ok command
     → (said ≡ Some command) × (is_within d command ≡ true) × (command_fits d before command ≡ Ok command)
 line_ok d before said command e =
-    let g = guard_ok (nat_le MOST_COMMANDS (length before)) (Limit Lines)
+    let g = guard_ok (nat_le most_commands (length before)) (Limit Lines)
     (in_tree d (length before + 1) said >>= λ c. period_fits d before c) command e in
     let t = bind_ok (in_tree d (length before + 1) said) (λ c. period_fits d before c) command g.1 in
     let form = tree_ok d (length before + 1) said t.0 t.1 in
@@ -128,7 +127,7 @@ judged_none d = record {
 
 -- a period that ended before the newest command, or by it
 few_more : (d : ℕ) (before : List Command) (command : Command) → IsDraft d before → IsJudged d before command →
-    (q : ℕ) → q < last_period (before ++ command ∷ []) → length (revoked d (before ++ command ∷ []) q) ≤ MOST_REVOKED
+    (q : ℕ) → q < last_period (before ++ command ∷ []) → length (revoked d (before ++ command ∷ []) q) ≤ most_revoked
 few_more d before (Subscribe u) all newest q h =
     let lt : q < last_period before = grind (arith, common_steps, period_more before (Subscribe u)) in
     rw (until_after q before (Subscribe u ∷ []) lt) (all.revoked q lt)
@@ -145,7 +144,7 @@ few_more d before Period all newest q h =
 
 -- the newest period
 periods_more : (d : ℕ) (before : List Command) (command : Command) → IsDraft d before → IsJudged d before command →
-    last_period (before ++ command ∷ []) ≤ MOST_PERIODS
+    last_period (before ++ command ∷ []) ≤ most_periods
 periods_more d before (Subscribe u) all newest = grind (
   arith,
   common_steps,
@@ -177,7 +176,7 @@ judged_more d before said command all e =
 
 -- judged commands that end with few revoked leaves are within the limits
 pub within_at_end : (d : ℕ) (commands : List Command) → IsDraft d commands → length (revoked_after d commands)
-    ≤ MOST_REVOKED → IsWithinLimits d commands
+    ≤ most_revoked → IsWithinLimits d commands
 within_at_end d commands all few = record {
   leaves = all.leaves;
   lines = all.lines;
@@ -215,10 +214,10 @@ fits_again d before (Revoke u) more all = refl
 fits_again d before Period more all =
     let number : last_period before + 1 ≤ last_period (before ++ Period ∷ more) = omega
     (arith, period_append before (Period ∷ more), period_period more) in
-    let few : length (revoked_after d before) ≤ MOST_REVOKED = rw (until_period (last_period before) before more refl)
+    let few : length (revoked_after d before) ≤ most_revoked = rw (until_period (last_period before) before more refl)
     at (all.revoked (last_period before) (omega arith)) in
-    let fits : nat_le MOST_PERIODS (last_period before) ≡ false = grind (arith, common_steps, all.periods) in
-    let ends : nat_lt MOST_REVOKED (length (revoked_after d before)) ≡ false = grind (arith, common_steps) in
+    let fits : nat_le most_periods (last_period before) ≡ false = grind (arith, common_steps, all.periods) in
+    let ends : nat_lt most_revoked (length (revoked_after d before)) ≡ false = grind (arith, common_steps) in
     rw fits (rw ends refl)
 
 -- and breaks no limit
@@ -226,7 +225,7 @@ pub command_again : (d : ℕ) (before : List Command) (command : Command) (more 
     IsDraft d (before ++ command ∷ more)
     → command_fits d before command ≡ Ok command
 command_again d before command more all =
-    let long : nat_le MOST_COMMANDS (length before) ≡ false = grind
+    let long : nat_le most_commands (length before) ≡ false = grind
     (arith, common_steps, all.lines, length-append before (command ∷ more)) in
     rw long (fits_again d before command more all)
 
@@ -252,9 +251,9 @@ draft_again d before (command ∷ new) rest all =
 pub end_again : (d : ℕ) (commands : List Command) → IsWithinLimits d commands → ended d commands commands ≡ Ok commands
 end_again d commands all =
     let few : length (revoked_after d commands)
-    ≤ MOST_REVOKED = rw (until_end (last_period commands) commands (omega arith)) at
+    ≤ most_revoked = rw (until_end (last_period commands) commands (omega arith)) at
     (all.revoked (last_period commands) (omega arith)) in
-    let ends : nat_lt MOST_REVOKED (length (revoked_after d commands)) ≡ false = grind (arith, common_steps) in
+    let ends : nat_lt most_revoked (length (revoked_after d commands)) ≡ false = grind (arith, common_steps) in
     rw ends refl
 
 -- commands within the limits are a draft

@@ -8,3 +8,4 @@ pub mod Replays
 pub mod Revocations
 pub mod Tallies
 pub mod Written
+pub mod Short

@@ -12,7 +12,7 @@ use Rattle.sd_book.specs.declared.command.Command.{Command}
 use Rattle.sd_book.specs.declared.command.Command.TheVariants.{Subscribe, Revoke, Period}
 use Rattle.sd_book.specs.Commands.{is_on, is_revoke, is_revoked, is_period, last_on, last_period, revoked_after}
 use Rattle.sd_book.specs.Tally.{IsTally, marked_from}
-use Rattle.sd_tree.specs.declared.leaf.TheConstants.{MOST_REVOKED}
+use Rattle.sd_tree.specs.Limits.{most_revoked}
 use Rattle.sd_book.specs.declared.fault.BookFault.TheVariants.{Limit}
 use Rattle.sd_book.specs.declared.fault.BookLimit.TheVariants.{Revoked}
 use Rattle.sd_book.specs.Text.{ended}
@@ -178,18 +178,18 @@ tally_leaves d commands marks revoked period tally = ap (marked_from 0) tally.ma
 
 -- a period may end by the number of its tally
 pub end_by_tally : (d : ℕ) (commands : List Command) (marks : List Bool) (revoked period : ℕ) →
-    IsTally d commands marks revoked period → revoked ≤ MOST_REVOKED
+    IsTally d commands marks revoked period → revoked ≤ most_revoked
     → ended {A = Unit {0}} d commands tt ≡ Ok tt
 end_by_tally d commands marks revoked period tally few =
-    let ends : nat_lt MOST_REVOKED (length (revoked_after d commands)) ≡ false = grind
+    let ends : nat_lt most_revoked (length (revoked_after d commands)) ≡ false = grind
     (arith, common_steps, tally.revoked) in
     rw ends refl
 
 -- or may not
 pub crowd_by_tally : (d : ℕ) (commands : List Command) (marks : List Bool) (revoked period : ℕ) →
-    IsTally d commands marks revoked period → MOST_REVOKED < revoked
+    IsTally d commands marks revoked period → most_revoked < revoked
     → ended {A = Unit {0}} d commands tt ≡ Err (Limit (Revoked period))
 crowd_by_tally d commands marks revoked period tally many =
-    let ends : nat_lt MOST_REVOKED (length (revoked_after d commands))
+    let ends : nat_lt most_revoked (length (revoked_after d commands))
     ≡ true = grind (arith, common_steps, tally.revoked) in
     rw (ends, tally.period) refl

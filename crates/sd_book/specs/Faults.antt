@@ -1,15 +1,14 @@
 -- When each fault comes [this project, docs/FORMATS.md, Book].
 use Rattle.std.specs.Prelude.{◌≡◌, ◌⊎◌, ℕ, ◌+◌, ◌<◌, List, [], ◌∷◌, ◌++◌, false, length, map, Option, Some, None}
-use Rattle.sd_tree.specs.declared.leaf.TheConstants.{MOST_REVOKED}
+use Rattle.sd_tree.specs.Limits.{most_revoked}
 use Rattle.sd_book.specs.declared.command.Command.{Command}
 use Rattle.sd_book.specs.declared.command.Command.TheVariants.{Period}
 use Rattle.sd_book.specs.declared.fault.BookFault.{BookFault}
 use Rattle.sd_book.specs.declared.fault.BookFault.TheVariants.{Line, Leaf, Limit, NoMemory}
 use Rattle.sd_book.specs.declared.fault.BookLimit.{BookLimit}
 use Rattle.sd_book.specs.declared.fault.BookLimit.TheVariants.{Lines, Periods, Revoked}
-use Rattle.sd_book.specs.declared.limits.TheConstants.{MOST_COMMANDS, MOST_PERIODS}
 use Rattle.sd_book.specs.Commands.{is_within, last_period, revoked_after}
-use Rattle.sd_book.specs.Limits.{IsDraft}
+use Rattle.sd_book.specs.Limits.{IsDraft, most_commands, most_periods}
 
 -- another line is there, and it says this: a command, or none
 abbrev pub NextSays : Option Command → List (Option Command) → Type 0
@@ -17,21 +16,21 @@ NextSays said rest = (others : List (Option Command)) × (rest ≡ said ∷ othe
 
 -- after these commands the book has room for another
 abbrev pub HasRoom : List Command → Type 0
-HasRoom before = length before < MOST_COMMANDS
+HasRoom before = length before < most_commands
 
 -- period q is the one that these commands end in, and too many leaves are revoked after them
 abbrev pub IsCrowded : ℕ → List Command → ℕ → Type 0
-IsCrowded d before q = (q ≡ last_period before) × (MOST_REVOKED < length (revoked_after d before))
+IsCrowded d before q = (q ≡ last_period before) × (most_revoked < length (revoked_after d before))
 
 -- after these commands the rest of the lines ends the period: by a Period that may come, or as no line is left
 abbrev pub PeriodEnds : List Command → List (Option Command) → Type 0
 PeriodEnds before rest = (rest ≡ [])
-    ⊎ (HasRoom before × NextSays (Some Period) rest × (last_period before < MOST_PERIODS))
+    ⊎ (HasRoom before × NextSays (Some Period) rest × (last_period before < most_periods))
 
 -- the limit that is broken after these commands, where the rest of the lines says this
 abbrev pub Breaks : ℕ → List Command → List (Option Command) → BookLimit → Type 0
-Breaks d before rest Lines = (length before ≡ MOST_COMMANDS) × (said : Option Command) × NextSays said rest
-Breaks d before rest Periods = HasRoom before × NextSays (Some Period) rest × (last_period before ≡ MOST_PERIODS)
+Breaks d before rest Lines = (length before ≡ most_commands) × (said : Option Command) × NextSays said rest
+Breaks d before rest Periods = HasRoom before × NextSays (Some Period) rest × (last_period before ≡ most_periods)
 Breaks d before rest (Revoked q) = PeriodEnds before rest × IsCrowded d before q
 
 -- the fault is the limit that is broken there

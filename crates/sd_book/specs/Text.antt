@@ -5,13 +5,13 @@ use Rattle.std.specs.Fmt.{decimal}
 use Rattle.std.specs.List.{flat_map}
 use Rattle.sd_text.specs.Lines.{lines_of}
 use Rattle.sd_text.specs.Number.{decimal_after}
-use Rattle.sd_tree.specs.declared.leaf.TheConstants.{MOST_REVOKED}
+use Rattle.sd_tree.specs.Limits.{most_revoked}
 use Rattle.sd_book.specs.declared.command.Command.{Command}
 use Rattle.sd_book.specs.declared.command.Command.TheVariants.{Subscribe, Revoke, Period}
 use Rattle.sd_book.specs.declared.fault.BookFault.{BookFault}
 use Rattle.sd_book.specs.declared.fault.BookFault.TheVariants.{Line, Leaf, Limit}
 use Rattle.sd_book.specs.declared.fault.BookLimit.TheVariants.{Lines, Periods, Revoked}
-use Rattle.sd_book.specs.declared.limits.TheConstants.{MOST_COMMANDS, MOST_PERIODS}
+use Rattle.sd_book.specs.Limits.{most_commands, most_periods}
 use Rattle.sd_book.specs.Commands.{is_within, is_period, last_period, revoked_after}
 
 -- the first of two that is there
@@ -48,26 +48,26 @@ in_tree d k (Some command) = if is_within d command then Ok command else Err (Le
 -- the period that these commands end with has no more revoked leaves than a period may have
 abbrev pub ended : {A : Type 0} → ℕ → List Command → A → Result A BookFault
 ended d commands value =
-    if nat_lt MOST_REVOKED (length (revoked_after d commands)) then Err (Limit (Revoked (last_period commands)))
+    if nat_lt most_revoked (length (revoked_after d commands)) then Err (Limit (Revoked (last_period commands)))
     else Ok value
 
 -- a Period is to be within the limits on periods after these commands
 abbrev pub period_fits : ℕ → List Command → Command → Result Command BookFault
 period_fits d before command =
     if is_period command
-    then (if nat_le MOST_PERIODS (last_period before) then Err (Limit Periods) else ended d before command)
+    then (if nat_le most_periods (last_period before) then Err (Limit Periods) else ended d before command)
     else Ok command
 
 -- a command of the tree after those commands, or the limit that it breaks
 abbrev pub command_fits : ℕ → List Command → Command → Result Command BookFault
 command_fits d before command =
-    if nat_le MOST_COMMANDS (length before) then Err (Limit Lines) else period_fits d before command
+    if nat_le most_commands (length before) then Err (Limit Lines) else period_fits d before command
 
 -- The command that a line says after those commands, or what is wrong with it. On one line the number of lines comes
 -- first, and then the form, the leaf and the limits on periods [this project, docs/FORMATS.md, Book]
 abbrev pub judged_line : ℕ → List Command → Option Command → Result Command BookFault
 judged_line d before said =
-    if nat_le MOST_COMMANDS (length before) then Err (Limit Lines)
+    if nat_le most_commands (length before) then Err (Limit Lines)
     else (in_tree d (length before + 1) said >>= λ command. period_fits d before command)
 
 -- the commands with those that the lines after them say: the first bad line decides, and the last period comes last

@@ -1,7 +1,8 @@
 //! What books come to, for crates that make them longer and write them.
 
 ghost use Rattle.std.specs.Prelude.{◌≡◌, ◌<◌, ◌≤◌, ◌+◌, ◌++◌, ◌∷◌, ℕ, List, All, Option, Some, Ok, [], map, filter};
-ghost use Rattle.std.specs.Prelude.{not, true};
+ghost use Rattle.std.specs.Prelude.{not, true, length, ◌*◌, ◌^◌};
+ghost use Rattle.sd_text.specs.Lines.{lines_of};
 ghost use Rattle.sd_book.specs.declared.command.Command.{Command as Commands};
 ghost use Rattle.sd_book.specs.declared.fault.BookFault.{BookFault as Faults};
 ghost use Rattle.sd_tree.specs.Leaves.{leaves};
@@ -9,7 +10,7 @@ ghost use Rattle.sd_book.specs.Commands.{after_command, after_commands, commands
 ghost use Rattle.sd_book.specs.Commands.{is_revoked, is_within, last_period, revoked, revoked_after};
 ghost use Rattle.sd_book.specs.Faults.{IsCauseOf};
 ghost use Rattle.sd_book.specs.Limits.{IsWithinLimits};
-ghost use Rattle.sd_book.specs.Text.{book_of, judged, text_of};
+ghost use Rattle.sd_book.specs.Text.{SpellsBook, book_of, judged, text_of};
 
 /// Lines have one fault at most, and none where they say commands within the limits.
 pub fn causes_are_one()
@@ -17,6 +18,12 @@ pub fn causes_are_one()
         IsCauseOf d said a → IsCauseOf d said b → a ≡ b }
     ensures none { (d : ℕ) (commands : List Commands) (fault : Faults) → IsWithinLimits d commands →
         ¬ IsCauseOf d (map Some commands) fault }
+{}
+
+/// A book file has at most 18,874,368 bytes.
+pub fn books_are_short()
+    ensures { (d : ℕ) (bytes : List ℕ) (commands : List Commands) → d ≤ 20 → SpellsBook (lines_of bytes) commands →
+        IsWithinLimits d commands → length bytes ≤ 18 * 2 ^ 20 }
 {}
 
 /// What is written of commands is judged as they are, and where they are within the limits, is read as them.

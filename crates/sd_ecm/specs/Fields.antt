@@ -14,7 +14,8 @@ use Rattle.sd_ecm.specs.declared.part.Place.{Place}
 use Rattle.sd_ecm.specs.declared.part.EcmPart.{EcmPart}
 use Rattle.sd_ecm.specs.declared.fault.EcmFault.{EcmFault}
 use Rattle.sd_ecm.specs.declared.fault.EcmFault.TheVariants.{Count, Order, Pid, Mixed, Back}
-use Rattle.sd_ecm.specs.declared.format.TheConstants.{POSITIONS, WRAPPED_AT, CHECK_AT, COUNT_AT, PLACES_AT, PLACE_BYTES}
+use Rattle.sd_ecm.specs.Versions.{most_positions}
+use Rattle.sd_ecm.specs.declared.format.TheConstants.{WRAPPED_AT, CHECK_AT, COUNT_AT, PLACES_AT, PLACE_BYTES}
 
 -- the version of a section, if it is a part of a control message [this project, docs/FORMATS.md, Messages]
 abbrev pub version_of : List ℕ → ℕ
@@ -47,7 +48,7 @@ places_in n bytes = items_in place_of PLACE_BYTES n bytes
 
 -- filled up to 13
 abbrev pub padded : List Place → List Place
-padded places = filled POSITIONS nothing places
+padded places = filled most_positions nothing places
 
 -- what stands in a body from the flags on
 abbrev pub from_flags : ℕ → List ℕ → List ℕ

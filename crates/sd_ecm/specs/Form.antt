@@ -1,11 +1,10 @@
 -- Which parts are ones that a control message has.
 use Rattle.std.specs.Prelude.{◌≡◌, ℕ, ◌-◌, ◌^◌, ◌<◌, ◌≤◌, ◌⊎◌, true, List, length, drop, replicate, All, AllPairs}
 use Rattle.sd_packet.specs.Positions.{is_positional}
-use Rattle.sd_ecm.specs.Versions.{IsVersion, IsSince, positions_for}
+use Rattle.sd_ecm.specs.Versions.{IsVersion, IsSince, positions_for, most_positions}
 use Rattle.sd_ecm.specs.Spelled.{listed}
 use Rattle.sd_ecm.specs.declared.part.Place.{Place}
 use Rattle.sd_ecm.specs.declared.part.EcmPart.{EcmPart}
-use Rattle.sd_ecm.specs.declared.format.TheConstants.{POSITIONS}
 
 -- each part has as many positions as fit but the last, which has one or more, or none where it is part 0
 -- [this project, docs/FORMATS.md, Messages]
@@ -43,7 +42,7 @@ pub record IsEcm (part : EcmPart) : Type 0 where
   pub places : ArePositioned (listed part)
   pub ascending : AreAscending (listed part)
   pub positions : AreShort (listed part)
-  pub rest : drop part.count part.positions ≡ replicate (POSITIONS - part.count) nothing
+  pub rest : drop part.count part.positions ≡ replicate (most_positions - part.count) nothing
 
 -- what stands before the positions fits its fields
 pub record FitsHead (part : EcmPart) : Type 0 where
@@ -60,4 +59,4 @@ pub record Fits (part : EcmPart) : Type 0 where
   pub head : FitsHead part
   pub part_fits : part.part < 2 ^ 8
   pub last_part : part.last_part < 2 ^ 8
-  pub positions : length part.positions ≡ POSITIONS
+  pub positions : length part.positions ≡ most_positions

@@ -1,14 +1,13 @@
 -- All parts of a control message.
 use Rattle.std.specs.Prelude.{◌≡◌, ℕ, ◌-◌, ◌^◌, ◌<◌, ◌≤◌, Bool, List, length}
 use Rattle.sd_message.specs.Pieces.{pieces_for, piece_at, each_below}
-use Rattle.sd_ecm.specs.Versions.{IsVersion, IsSince, positions_for}
+use Rattle.sd_ecm.specs.Versions.{IsVersion, IsSince, positions_for, most_places}
 use Rattle.sd_ecm.specs.Form.{ArePositioned, AreAscending, AreShort}
 use Rattle.sd_ecm.specs.Fields.{padded}
 use Rattle.sd_ecm.specs.declared.part.Place.{Place}
 use Rattle.sd_ecm.specs.declared.part.EcmPart.{EcmPart}
 use Rattle.sd_ecm.specs.declared.part.EcmHeader.{EcmHeader}
 use Rattle.sd_ecm.specs.declared.message.EcmHead.{EcmHead}
-use Rattle.sd_ecm.specs.declared.format.TheConstants.{MOST_PLACES}
 
 -- what a control message says: the fields that each of its parts has, and all positions
 pub record Message : Type 0 where
@@ -85,7 +84,7 @@ pub record IsMessage (message : Message) : Type 0 where
   pub since : IsSince message.version message.number message.since
   pub wrapped : length message.wrapped ≡ 32
   pub check : length message.check ≡ 16
-  pub count : length message.places ≤ MOST_PLACES
+  pub count : length message.places ≤ most_places
   pub places : ArePositioned message.places
   pub ascending : AreAscending message.places
   pub positions : AreShort message.places

@@ -1,7 +1,26 @@
 -- The two versions of control messages, and the numbers in which they differ.
 use Rattle.std.specs.Prelude.{◌≡◌, ℕ, ◌+◌, ◌-◌, ◌<◌, ◌⊎◌, ◌==◌, nat_lt, if◌then◌else◌}
-use Rattle.sd_ecm.specs.declared.format.TheConstants.{TABLE_ID_1, TABLE_ID_2, POSITIONS, POSITIONS_2, FLAGS_AT_1}
+use Rattle.sd_ecm.specs.declared.format.TheConstants.{FLAGS_AT_1}
 use Rattle.sd_ecm.specs.declared.format.TheConstants.{FLAGS_AT_2, PLACES_AT}
+
+-- the most positions of a message [this project, docs/FORMATS.md, Messages]
+abbrev pub most_places : ℕ
+most_places = 256
+
+-- the most positions of a part of version 1, and of any part [this project, docs/FORMATS.md, Messages]
+abbrev pub most_positions : ℕ
+most_positions = 13
+
+-- the most positions of a part of version 2 [this project, docs/FORMATS.md, Messages]
+abbrev pub most_positions_2 : ℕ
+most_positions_2 = 12
+
+-- the table_ids of the versions for a control word with an even number [this project, docs/FORMATS.md, Messages]
+abbrev pub table_id_1 : ℕ
+table_id_1 = 0x80
+
+abbrev pub table_id_2 : ℕ
+table_id_2 = 0x84
 
 -- there are two [this project, docs/FORMATS.md, Messages]
 abbrev pub IsVersion : ℕ → Type 0
@@ -9,7 +28,7 @@ IsVersion version = (version ≡ 1) ⊎ (version ≡ 2)
 
 -- how many positions a part has at most [this project, docs/FORMATS.md, Messages]
 unfoldable pub positions_for : ℕ → ℕ
-positions_for version = if version == 2 then POSITIONS_2 else POSITIONS
+positions_for version = if version == 2 then most_positions_2 else most_positions
 
 -- where the flags stand in the body: in version 2 after `since` [this project, docs/FORMATS.md, Messages]
 unfoldable pub flags_at : ℕ → ℕ
@@ -21,11 +40,11 @@ head_length version = flags_at version + PLACES_AT
 
 -- the table_id for a control word with an even number [this project, docs/FORMATS.md, Messages]
 unfoldable pub even_table_id : ℕ → ℕ
-even_table_id version = if version == 2 then TABLE_ID_2 else TABLE_ID_1
+even_table_id version = if version == 2 then table_id_2 else table_id_1
 
 -- the version whose table_id this is, if it is one of them
 unfoldable pub version_for : ℕ → ℕ
-version_for table_id = if nat_lt table_id TABLE_ID_2 then 1 else 2
+version_for table_id = if nat_lt table_id table_id_2 then 1 else 2
 
 -- from message `since` on each packet up to this message has its control word: `since` is below the number, unless both
 -- are 0

@@ -8,12 +8,12 @@ use Rattle.sd_tree.specs.declared.set.SetName.TheVariants.{Whole, Diff}
 use Rattle.sd_section.specs.Header.{least_length, table_id_of, section_length_of, extension_of, number_of}
 use Rattle.sd_section.specs.Header.{last_number_of, body_of}
 use Rattle.sd_message.specs.Framed.{HasSection, section_of}
-use Rattle.sd_emm.specs.Spelled.{listed, names_in}
-use Rattle.sd_emm.specs.Form.{IsCounted, nothing, AreSets}
+use Rattle.sd_emm.specs.Spelled.{listed, names_in, emm_table_id}
+use Rattle.sd_emm.specs.Form.{IsCounted, nothing, AreSets, most_entries}
 use Rattle.sd_emm.specs.declared.emm.Entry.{Entry}
 use Rattle.sd_emm.specs.declared.emm.Emm.{Emm}
 use Rattle.sd_emm.specs.declared.fault.EmmFault.{EmmFault}
-use Rattle.sd_emm.specs.declared.format.TheConstants.{TABLE_ID, CHECK_AT, COUNT_AT, ENTRIES_AT, MOST_ENTRIES}
+use Rattle.sd_emm.specs.declared.format.TheConstants.{CHECK_AT, COUNT_AT, ENTRIES_AT}
 use Rattle.sd_emm.specs.declared.format.TheConstants.{ENTRY_BYTES, WRAPPED_AT}
 use Rattle.sd_message.specs.Items.{items_in}
 use Rattle.sd_message.specs.Pieces.{filled}
@@ -22,7 +22,7 @@ use Rattle.sd_emm.specs.declared.fault.EmmFault.TheVariants.{Count, Order, Node,
 -- the section is one of entitlements, and has room for all that stands before the entries [this project,
 -- docs/FORMATS.md, Messages]
 pub record IsEmmSection (section : List ℕ) : Type 0 where
-  pub table_id : table_id_of section ≡ TABLE_ID
+  pub table_id : table_id_of section ≡ emm_table_id
   pub number : number_of section ≡ 0
   pub last_number : last_number_of section ≡ 0
   pub room : ENTRIES_AT + least_length ≤ section_length_of section
@@ -50,7 +50,7 @@ entries_in n bytes = items_in entry_of ENTRY_BYTES n bytes
 
 -- filled up to three
 abbrev pub padded : List Entry → List Entry
-padded entries = filled MOST_ENTRIES nothing entries
+padded entries = filled most_entries nothing entries
 
 -- what the section of this index and body says [this project, docs/FORMATS.md, Messages]
 unfoldable pub emm_in : ℕ → List ℕ → Emm

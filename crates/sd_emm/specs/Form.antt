@@ -6,20 +6,23 @@ use Rattle.sd_tree.specs.declared.set.SetName.TheVariants.{Whole}
 use Rattle.sd_emm.specs.Spelled.{listed, names_in}
 use Rattle.sd_emm.specs.declared.emm.Entry.{Entry}
 use Rattle.sd_emm.specs.declared.emm.Emm.{Emm}
-use Rattle.sd_emm.specs.declared.format.TheConstants.{MOST_ENTRIES}
 use Rattle.sd_message.specs.Pieces.{pieces_for}
+
+-- the most entries of a section [this project, docs/FORMATS.md, Messages]
+abbrev pub most_entries : ℕ
+most_entries = 3
 
 -- how many sections have room for so many sets, three in each; there is one without entry where there is no set
 -- [this project, docs/FORMATS.md, Messages]
 abbrev pub sections_for : ℕ → ℕ
-sections_for sets = pieces_for MOST_ENTRIES sets
+sections_for sets = pieces_for most_entries sets
 
 -- the numbers come to one another: section x has the sets 3x to 3x + 2, as far as they are there
 -- [this project, docs/FORMATS.md, Messages]
 pub record IsCounted (sets sections index count : ℕ) : Type 0 where
   pub sections_are : sections ≡ sections_for sets
   pub index_is : index < sections
-  pub count_is : count ≡ min MOST_ENTRIES (sets - MOST_ENTRIES * index)
+  pub count_is : count ≡ min most_entries (sets - most_entries * index)
 
 -- what stands past the entries: the whole set with zeros
 abbrev pub nothing : Entry
@@ -29,7 +32,7 @@ nothing = record { name = Whole; wrapped = replicate 32 0 }
 pub record IsEmm (emm : Emm) : Type 0 where
   pub counted : IsCounted emm.sets emm.sections emm.index emm.count
   pub ascending : AreAscending (names_in (listed emm))
-  pub rest : drop emm.count emm.entries ≡ replicate (MOST_ENTRIES - emm.count) nothing
+  pub rest : drop emm.count emm.entries ≡ replicate (most_entries - emm.count) nothing
 
 -- a set of the height, and the whole set only alone [this project, docs/FORMATS.md, Messages]
 pub record IsSetBeside (h sets : ℕ) (name : SetName) : Type 0 where
@@ -55,5 +58,5 @@ pub record FitsHead (emm : Emm) : Type 0 where
 pub record Fits (emm : Emm) : Type 0 where
   pub head : FitsHead emm
   pub index : emm.index < 2 ^ 16
-  pub entries : length emm.entries ≡ MOST_ENTRIES
+  pub entries : length emm.entries ≡ most_entries
   pub wrapped : AreWrapped (listed emm)

@@ -9,14 +9,14 @@ use Rattle.sd_tree.specs.declared.set.SetName.TheVariants.{Whole, Diff}
 use Rattle.sd_section.specs.Header.{least_length, table_id_of, section_length_of, number_of, last_number_of, body_of}
 use Rattle.sd_message.specs.Framed.{has_section, section_of}
 use Rattle.sd_message.specs.Items.{all_pairs}
-use Rattle.sd_emm.specs.Spelled.{listed, names_in}
-use Rattle.sd_emm.specs.Form.{sections_for}
+use Rattle.sd_emm.specs.Spelled.{listed, names_in, emm_table_id}
+use Rattle.sd_emm.specs.Form.{sections_for, most_entries}
 use Rattle.sd_emm.specs.Fields.{emm_of}
 use Rattle.sd_emm.specs.declared.emm.Entry.{Entry}
 use Rattle.sd_emm.specs.declared.emm.Emm.{Emm}
 use Rattle.sd_emm.specs.declared.fault.EmmFault.{EmmFault}
 use Rattle.sd_emm.specs.declared.fault.EmmFault.TheVariants.{Count, Order, Node}
-use Rattle.sd_emm.specs.declared.format.TheConstants.{TABLE_ID, ENTRIES_AT, MOST_ENTRIES, ENTRY_BYTES}
+use Rattle.sd_emm.specs.declared.format.TheConstants.{ENTRIES_AT, ENTRY_BYTES}
 
 -- whether one halving to n of them lead from j to i
 unfoldable pub is_halved : ℕ → ℕ → ℕ → Bool
@@ -45,7 +45,7 @@ abbrev pub is_counted : ℕ → Emm → Bool
 is_counted length emm =
     (length == ENTRIES_AT + ENTRY_BYTES * emm.count)
     && ((emm.sections == sections_for emm.sets)
-    && (nat_lt emm.index emm.sections && (emm.count == min MOST_ENTRIES (emm.sets - MOST_ENTRIES * emm.index))))
+    && (nat_lt emm.index emm.sections && (emm.count == min most_entries (emm.sets - most_entries * emm.index))))
 
 -- what a body of this length is read as, by the first rule that it breaks [this project, docs/FORMATS.md, Messages]
 unfoldable pub emm_judged : ℕ → ℕ → Emm → Result (Option Emm) EmmFault
@@ -58,7 +58,7 @@ emm_judged h length emm =
 -- whether a section is one of entitlements
 abbrev pub is_emm_section : List ℕ → Bool
 is_emm_section section =
-    (table_id_of section == TABLE_ID)
+    (table_id_of section == emm_table_id)
     && ((number_of section == 0)
     && ((last_number_of section == 0) && nat_le (ENTRIES_AT + least_length) (section_length_of section)))
 

@@ -2,11 +2,11 @@
 use Rattle.std.specs.Prelude.{◌≡◌, ℕ, ◌^◌, ◌<◌, ◌≤◌, List, length}
 use Rattle.sd_tree.specs.SetNames.{AreAscending}
 use Rattle.sd_emm.specs.Spelled.{names_in}
-use Rattle.sd_emm.specs.Form.{sections_for, AreWrapped}
+use Rattle.sd_emm.specs.Form.{sections_for, AreWrapped, most_entries}
 use Rattle.sd_emm.specs.Fields.{padded}
 use Rattle.sd_emm.specs.declared.emm.Entry.{Entry}
 use Rattle.sd_emm.specs.declared.emm.Emm.{Emm}
-use Rattle.sd_emm.specs.declared.format.TheConstants.{MOST_ENTRIES, MOST_SETS}
+use Rattle.sd_emm.specs.declared.format.TheConstants.{MOST_SETS}
 use Rattle.sd_message.specs.Pieces.{piece_at, each_below}
 
 -- what a period's sections say: its number, the check value of its key, and all of its sets, each with the wrapped key
@@ -18,7 +18,7 @@ pub record Period : Type 0 where
 -- the entries of section x: the sets 3x, 3x + 1 and 3x + 2, as far as they are there [this project, docs/FORMATS.md,
 -- Messages]
 abbrev pub entries_at : List Entry → ℕ → List Entry
-entries_at entries x = piece_at MOST_ENTRIES entries x
+entries_at entries x = piece_at most_entries entries x
 
 -- section x of the period [this project, docs/FORMATS.md, Messages]
 unfoldable pub emm_at : Period → ℕ → Emm

@@ -8,7 +8,10 @@ use Rattle.sd_section.specs.declared.write.Header.{Header}
 use Rattle.sd_message.specs.Framed.{Begins}
 use Rattle.sd_emm.specs.declared.emm.Entry.{Entry}
 use Rattle.sd_emm.specs.declared.emm.Emm.{Emm}
-use Rattle.sd_emm.specs.declared.format.TheConstants.{TABLE_ID}
+
+-- the table_id [this project, docs/FORMATS.md, Messages]
+abbrev pub emm_table_id : ℕ
+emm_table_id = 0x82
 
 -- the entries that a section has
 abbrev pub listed : Emm → List Entry
@@ -40,7 +43,7 @@ emm_body emm = head_bytes emm ++ flat_map entry_bytes (listed emm)
 
 -- its extension is the index, and both section numbers are 0 [this project, docs/FORMATS.md, Messages]
 abbrev pub emm_header : ℕ → Header
-emm_header index = record { table_id = TABLE_ID; extension = index; number = 0; last_number = 0 }
+emm_header index = record { table_id = emm_table_id; extension = index; number = 0; last_number = 0 }
 
 -- the one spelling of entitlements [this project, docs/FORMATS.md, Messages]
 unfoldable pub emm_section : Emm → List ℕ

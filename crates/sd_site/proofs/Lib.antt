@@ -2,3 +2,4 @@ pub mod Digits
 pub mod Walk
 pub mod Alone
 pub mod LeftOut
+pub mod Short
