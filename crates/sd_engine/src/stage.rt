@@ -35,7 +35,8 @@ pub trait Stage<K: Sink, L: Ledger> {
     /// What a refusal comes to, of a packet or of the end.
     ghost refuses: { Self → Option (List ℕ) → Self.Fault → Self → List ℕ → ℕ → Type 0 };
 
-    /// Takes the next packet. A stage that refused answers the same refusal from then on, and writes nothing.
+    /// Takes the next packet. A stage that refused answers the same refusal from then on, writes nothing and takes no
+    /// step.
     fn offer(
         &mut self,
         packet: &Packet,
@@ -52,7 +53,8 @@ pub trait Stage<K: Sink, L: Ledger> {
         ensures keeps { (fault : Self.Fault) → result ≡ Err (StageFault.Refused fault) →
             live self.new × (kept self.new ≡ Some fault) }
         ensures again { (fault : Self.Fault) → kept self.old ≡ Some fault →
-            (result ≡ Err (StageFault.Refused fault)) × (vessel K.Sink out.new ≡ vessel K.Sink out.old) }
+            (result ≡ Err (StageFault.Refused fault)) × (vessel K.Sink out.new ≡ vessel K.Sink out.old)
+            × (steps.new ≡ steps.old) }
         ensures prefix { IsErrOf result StageFault.Write → CutShort (vessel K.Sink out.old) (vessel K.Sink out.new)
             (IsAllowed (does self.old packet.now) (refuses self.old (Some packet.now)) steps.old steps.new) }
         ensures cause { IsCaused (K.faults out.old) (K.faults out.new) (IsErrOf result StageFault.Write) };
@@ -69,7 +71,8 @@ pub trait Stage<K: Sink, L: Ledger> {
         ensures keeps { (fault : Self.Fault) → result ≡ Err (StageFault.Refused fault) →
             live self.new × (kept self.new ≡ Some fault) }
         ensures again { (fault : Self.Fault) → kept self.old ≡ Some fault →
-            (result ≡ Err (StageFault.Refused fault)) × (vessel K.Sink out.new ≡ vessel K.Sink out.old) }
+            (result ≡ Err (StageFault.Refused fault)) × (vessel K.Sink out.new ≡ vessel K.Sink out.old)
+            × (steps.new ≡ steps.old) }
         ensures prefix { IsErrOf result StageFault.Write → CutShort (vessel K.Sink out.old) (vessel K.Sink out.new)
             (IsAllowed (ends self.old) (refuses self.old None) steps.old steps.new) }
         ensures cause { IsCaused (K.faults out.old) (K.faults out.new) (IsErrOf result StageFault.Write) };

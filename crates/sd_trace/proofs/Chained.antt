@@ -116,6 +116,11 @@ pub none_any : (d : ℕ) (gone : List ℕ) → AreAnyRounds d gone []
 unfolding AreAnyRounds
 none_any d gone = tt
 
+-- one round by itself
+pub one_any : (d : ℕ) (gone : List ℕ) (found : Found) → IsAnyRound d gone found → AreAnyRounds d gone (found ∷ [])
+unfolding AreAnyRounds
+one_any d gone found one = (one, tt)
+
 -- no round of a coalition of which no leaf is left
 pub none_traced : (d : ℕ) (coalition gone : List ℕ) → ((u : ℕ) → u < 2 ^ d → Contains coalition u → Contains gone u) →
     IsTrace d coalition gone []

@@ -3,6 +3,7 @@ ghost use Rattle.std.specs.Prelude.{IfOk, OnOk, IsErrOf, Contains, sum_by, repli
 ghost use Rattle.std.specs.List.Sorted.{IsStrictlyIncreasing};
 ghost use Rattle.sd_tree.specs.declared.height.TheConstants.{HIGHEST};
 ghost use Rattle.sd_tree.specs.declared.leaf.TheConstants.{MOST_REVOKED};
+ghost use Rattle.sd_trace.specs.declared.found.Found.{Found};
 ghost use Rattle.sd_trace.specs.Search.{right_from};
 ghost use Rattle.sd_trace.specs.Trace.{IsTrace, AreAnyRounds, outside};
 ghost use Rattle.sd_tree.specs.SetNames.{IsOfHeight};
@@ -38,8 +39,11 @@ pub fn trace_all<B: TestBox>(
     ensures asked { IfOk result (λ found.
         B.asked target.new ≡ B.asked target.old + sum_by (λ f. f.trials) found.items + 1) }
     ensures few { IfOk result (λ found. length revoked.now + length found.items ≤ MOST_REVOKED) }
-    ensures too_many { IsErrOf result TraceFault.TooMany →
-        B.asked target.old + (MOST_REVOKED + 1) ≤ B.asked target.new + length revoked.now }
+    ensures too_many { IsErrOf result TraceFault.TooMany → (found : List Found) × AreAnyRounds h revoked.now found
+        × (length revoked.now + length found ≡ MOST_REVOKED + 1)
+        × (B.asked target.new ≡ B.asked target.old + sum_by (λ f. f.trials) found) }
+    ensures unchanged { (B.height target.new ≡ B.height target.old) × (B.coalition target.new ≡ B.coalition target.old) }
+    ensures later { B.asked target.old ≤ B.asked target.new }
     ensures told { (coalition : List ℕ) → B.coalition target.old ≡ Some coalition →
         IfOk result (λ _. length revoked.now + length (outside h revoked.now coalition) ≤ MOST_REVOKED) }
     ensures told_many { (coalition : List ℕ) → B.coalition target.old ≡ Some coalition →
@@ -85,6 +89,7 @@ fn round<B: TestBox>(
     ensures height { B.height target.new ≡ B.height target.old }
     ensures tree { (1 ≤ h) × (h ≤ HIGHEST) }
     ensures coalition { B.coalition target.new ≡ B.coalition target.old }
+    ensures later { B.asked target.old ≤ B.asked target.new }
 {
     let sets = sets(alloc, h, gone)?;
     let marks = marks(alloc, sets.len())?;
@@ -119,6 +124,7 @@ fn find<B: TestBox>(h: Height, sets: &[SetName], marks: &[bool], target: &mut B)
         FindsLast h coalition sets.now result }
     ensures height { B.height target.new ≡ B.height target.old }
     ensures coalition { B.coalition target.new ≡ B.coalition target.old }
+    ensures later { B.asked target.old ≤ B.asked target.new }
 {
     let opened = target.probe(sets, &marks[sets.len()..]);
     if !opened || sets.is_empty() {

@@ -5,7 +5,7 @@ use Rattle.std.proofs.lemmas.List.Sums.{sum_by_push}
 use Rattle.sd_trace.specs.declared.found.Found.{Found}
 use Rattle.sd_trace.specs.Trace.{IsTrace, AreAnyRounds}
 use Rattle.sd_trace.specs.Rounds.{RoundOf, TellsRound, Joined}
-use Rattle.sd_trace.proofs.Chained.{rounds_more, trace_more, joined_leaves, none_any, none_traced}
+use Rattle.sd_trace.proofs.Chained.{rounds_more, trace_more, joined_leaves, none_any, one_any, none_traced}
 use Rattle.sd_trace.proofs.Rounds.{round_few}
 use Rattle.sd_trace.proofs.Inside.{round_inside}
 use Rattle.sd_trace.proofs.Leaving.{one_less_left, none_left, some_left}
@@ -53,6 +53,27 @@ returns-then-len-eq-MOST_REVOKED-clause-told_many g c coalition told many =
       c.if-len-eq-MOST_REVOKED.true,
       c.len.ensures,
       c.deref.ensures.len,
+    )
+
+pub returns-then-len-eq-MOST_REVOKED-clause-too_many :
+    goal.returns-then-len-eq-MOST_REVOKED-clause-too_many
+returns-then-len-eq-MOST_REVOKED-clause-too_many g c many =
+    let i = c.loop-found.invariant in
+    let h : ℕ = c.args.h in
+    let gone : List ℕ = c.loop-found.gone.items in
+    let next : Found = c.in-Some.next in
+    let value = rw c.deref.ensures.value at c.in_ok-next.ensures.value in
+    let any : RoundOf h gone (g.B.TestBox.asked c.loop-found.target) (g.B.TestBox.asked c.round.new.target)
+    (Some next) =
+    subst (λ (r : Option Found). RoundOf h gone (g.B.TestBox.asked c.loop-found.target)
+    (g.B.TestBox.asked c.round.new.target) r)
+    c.in-Some.is value in
+    let sum = sum_by_push (λ (f : Found). f.trials) c.loop-found.found.items next in
+    let count = length_push c.loop-found.found.items next in (
+      c.loop-found.found.items ++ next ∷ [],
+      i.rounds (next ∷ []) (one_any h gone next any.0),
+      omega (arith, i.counted, count, c.if-len-eq-MOST_REVOKED.true, c.len.ensures, c.deref.ensures.len),
+      omega (arith, any.1, i.asked, sum),
     )
 
 -- one more in its turn
