@@ -58,7 +58,7 @@ card_good word card is =
     (le-ltb MOST_CARD_BYTES (length (card_bytes card)) (card_length card is)))
     ∙ card_read (card_bytes card) card is refl
 
-received : (given : Given) (card stream out : Word) (fields : CardFields) (bytes : List ℕ) → IsCard fields →
+pub received : (given : Given) (card stream out : Word) (fields : CardFields) (bytes : List ℕ) → IsCard fields →
     given card ≡ Some (card_bytes fields) → given stream ≡ Some bytes →
     (receive_meaning card stream out given).result ≡ Ok (receiving fields out bytes)
 unfolding receive_meaning
@@ -99,13 +99,13 @@ module _ (plan : Plan) (u : ℕ) (clear : List (List ℕ)) (is : IsPlan plan) (a
   unfolding card_of
   height_is = refl
 
-  opened_bytes : (bytes : List ℕ) → taken_of bytes ≡ broadcast plan clear →
+  pub opened_bytes : (bytes : List ℕ) → taken_of bytes ≡ broadcast plan clear →
       received_of card bytes ≡ concat (opened_by plan u clear)
   opened_bytes bytes packets =
       bytes_are card bytes ∙ ap (λ (ps : List (List ℕ)). concat (out_from card [] ps)) packets
       ∙ ap concat (whole_opened plan clear u is all whole leaf)
 
-  opened_status : (bytes : List ℕ) → taken_of bytes ≡ broadcast plan clear → end_of bytes ≡ Whole →
+  pub opened_status : (bytes : List ℕ) → taken_of bytes ≡ broadcast plan clear → end_of bytes ≡ Whole →
       received_status card bytes ≡ revoked_status u (first_revoked plan u clear)
   unfolding ended_status
   opened_status bytes packets end =
@@ -116,7 +116,7 @@ module _ (plan : Plan) (u : ℕ) (clear : List (List ℕ)) (is : IsPlan plan) (a
       ∙ ap (λ (v : ℕ). ending_status v (whole_ending (first_revoked plan u clear))) leaf_is
       ∙ whole_status u (first_revoked plan u clear)
 
-  opened_steps : (bytes : List ℕ) → taken_of bytes ≡ broadcast plan clear →
+  pub opened_steps : (bytes : List ℕ) → taken_of bytes ≡ broadcast plan clear →
       received_steps card bytes ≤ plan.site.height * entitled_periods plan u clear
   opened_steps bytes packets =
       let most = steps_are card bytes ∙ ap (λ (h : ℕ). h * taken_keys card [] (taken_of bytes)) height_is

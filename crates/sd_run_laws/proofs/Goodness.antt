@@ -45,7 +45,7 @@ pub file_read : (word most : ℕ) (kind : LimitKind) (bytes : List ℕ) → leng
     (within word most kind (Some bytes)).result ≡ Ok bytes
 file_read word most kind bytes short = ap (λ b. cond b (Err (Limit kind)) (Ok bytes)) (le-ltb most (length bytes) short)
 
-pub site_good : (given : Given) (word : Word) (fields : SiteFields) → IsGoodSite given word fields →
+pub site_good : (given : Given) (word : Word) (fields : SiteFields) → IsGoodSite (given word) fields →
     (site_in given word).result ≡ Ok fields
 unfolding site_of_file
 site_good given word fields good =
@@ -55,7 +55,7 @@ site_good given word fields good =
     (file_read word.number MOST_SITE_BYTES SiteBytes good.bytes good.short)
     ∙ ap told_site (answered (lines_of good.bytes) (Ok fields) (good.is_site.text, good.is_site.ranges))
 
-pub book_good : (given : Given) (d : ℕ) (word : Word) (commands : List Command) → IsGoodBook given d word commands →
+pub book_good : (given : Given) (d : ℕ) (word : Word) (commands : List Command) → IsGoodBook (given word) d commands →
     (book_in given d word).result ≡ Ok commands
 unfolding book_of_file
 book_good given d word commands good =
@@ -112,9 +112,9 @@ tables_good words given good = (
   ap stream_status good.whole,
 )
 
-plan_good : (given : Given) (site book : Word) (fields : SiteFields) (commands : List Command) →
-    IsGoodSite given site fields →
-    IsGoodBook given fields.height book commands →
+pub plan_good : (given : Given) (site book : Word) (fields : SiteFields) (commands : List Command) →
+    IsGoodSite (given site) fields →
+    IsGoodBook (given book) fields.height commands →
     (plan_meaning site book given).result ≡ Ok (record { site = fields; commands = commands })
 unfolding plan_by
 plan_good given site book fields commands good_site good_book =

@@ -26,7 +26,7 @@ accounts_kept words given good =
     (site_good given good.site good.fields good.good_site) good.there good.short good.is_book
 
 pub both_good : (given : Given) (site book : Word) (fields : SiteFields) (commands : List Command) →
-    IsGoodSite given site fields → IsGoodBook given fields.height book commands →
+    IsGoodSite (given site) fields → IsGoodBook (given book) fields.height commands →
     (both_meaning site book given).result ≡ Ok (record { site = fields; commands = commands })
 unfolding both_by
 both_good given site book fields commands good_site good_book =

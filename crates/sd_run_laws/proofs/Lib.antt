@@ -5,10 +5,13 @@ pub mod Runs
 pub mod Shelf
 pub mod Plans
 pub mod Sent
-pub mod Together
+pub mod Ordered
+pub mod Parts
 pub mod Lost
 pub mod Kept
 pub mod Layers
 pub mod Pooled
 pub mod Tried
 pub mod Left
+pub mod Losing
+pub mod Outs

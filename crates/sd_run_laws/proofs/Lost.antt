@@ -106,14 +106,14 @@ module _ (plan : Plan) (u : ℕ) (clear : List (List ℕ)) (flags : List Bool) (
   rest_whole : end_of bytes ≡ Whole
   rest_whole = joined_whole packets rest_synced rest_short
 
-  rest_bytes : received_of card bytes ≡ concat (confirmed plan u clear (kept_of plan clear flags))
+  pub rest_bytes : received_of card bytes ≡ concat (confirmed plan u clear (kept_of plan clear flags))
   unfolding kept_of
   rest_bytes =
       bytes_are card bytes
       ∙ (ap (λ (ps : List (List ℕ)). concat (out_from card [] ps)) rest_taken
       ∙ ap concat (lost.confirmed_alone plan clear u flags is all whole leaf))
 
-  rest_status : received_status card bytes ≡ ending_status u (ending_told plan u clear (kept_of plan clear flags))
+  pub rest_status : received_status card bytes ≡ ending_status u (ending_told plan u clear (kept_of plan clear flags))
   unfolding ended_status kept_of
   rest_status =
       none_refused card bytes Whole
@@ -128,14 +128,14 @@ module _ (plan : Plan) (u : ℕ) (clear : List (List ℕ)) (flags : List Bool) (
   unfolding kept_periods kept_of
   rest_keys = lost.keys_taken plan clear u flags is all whole leaf
 
-  rest_steps : received_steps card bytes ≤ plan.site.height * kept_periods plan u clear (kept_of plan clear flags)
+  pub rest_steps : received_steps card bytes ≤ plan.site.height * kept_periods plan u clear (kept_of plan clear flags)
   rest_steps =
       let most = steps_are card bytes ∙ (ap (λ (h : ℕ). h * taken_keys card [] (taken_of bytes)) height_is
       ∙ (ap (λ (ps : List (List ℕ)). plan.site.height * taken_keys card [] ps) rest_taken
       ∙ ap (λ (n : ℕ). plan.site.height * n) rest_keys)) in
       omega (arith, most)
 
-  rest_revoked : (q : ℕ) → received_status card bytes ≡ Revoked u q → is_revoked_in plan u q ≡ true
+  pub rest_revoked : (q : ℕ) → received_status card bytes ≡ Revoked u q → is_revoked_in plan u q ≡ true
   unfolding kept_of
   rest_revoked q ends =
       revoked_truly plan clear u q flags is leaf
@@ -146,7 +146,7 @@ module _ (plan : Plan) (u : ℕ) (clear : List (List ℕ)) (flags : List Bool) (
   rest_unrefused =
       ap is_break rest_status ∙ never_broken u (ending_told plan u clear (kept_of plan clear flags))
 
-  rest_part : (parts : List Bool)
+  pub rest_part : (parts : List Bool)
       × (confirmed plan u clear (kept_of plan clear flags) ≡ chosen parts (opened_by plan u clear))
   unfolding kept_of
   rest_part = confirmed_are_opened plan clear u flags is leaf

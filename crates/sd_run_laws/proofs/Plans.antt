@@ -121,8 +121,8 @@ ca_fits bytes site is =
     let low = byte_at ca.0 1 each in
     omega (arith, ca.2, two_bytes ca.0, high, low)
 
-pub good_plan : (given : Given) (site book : Word) (plan : Plan) → IsGoodSite given site plan.site →
-    IsGoodBook given plan.site.height book plan.commands → IsPlan plan
+pub good_plan : (given : Given) (site book : Word) (plan : Plan) → IsGoodSite (given site) plan.site →
+    IsGoodBook (given book) plan.site.height plan.commands → IsPlan plan
 good_plan given site book plan good_site good_book =
     record {
       site = good_site.is_site.ranges;

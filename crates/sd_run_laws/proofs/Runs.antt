@@ -1,17 +1,16 @@
 -- What a run leaves where no device failed and memory was not out.
-use Rattle.std.proofs.Common.{◌≡◌, ◌≢◌, ℕ, List, Option, Some, Result, Ok, sym, ap, subst, ◌∙◌, arith}
+use Rattle.std.proofs.Common.{◌≡◌, ◌≢◌, ℕ, Option, Some, Result, Ok, sym, ap, subst, ◌∙◌, arith}
 use Rattle.sd_cause.specs.Count.{Rose, IsCalm}
 use Rattle.sd_ports.specs.Files.{Files}
 use Rattle.sd_status.specs.declared.status.Status.{Status}
 use Rattle.sd_status.specs.declared.status.Status.TheVariants.{PrintFault, NoMemory}
 use Rattle.sd_status.specs.Outside.{Outside}
-use Rattle.sd_status.specs.Meant.{Given, told_by, IsGiven}
+use Rattle.sd_status.specs.Meant.{Meant, Given, told_by, IsGiven}
 use Rattle.sd_status.specs.Work.{Work, files_with, IsWithinSteps, TakesSteps}
 use Rattle.sd_status.specs.Comes.{Comes, refused, ended, unclosed, exhausted, failed, nowhere, cut_off}
-use Rattle.sd_status.specs.Answers.{with_page}
+use Rattle.sd_status.specs.Answers.{Answers, with_page}
 use Rattle.sd_status.proofs.Told.{own_line, causes}
-use Rattle.sd_run.specs.Meaning.{meaning}
-use Rattle.sd_run_laws.specs.Headline.{Runs}
+use Rattle.sd_run_laws.specs.Headline.{WentWell}
 
 -- work that was done
 pub record IsWorked (work : Work) (files : Files) (a b : Outside) (answer : Status) : Type 0 where
@@ -55,25 +54,23 @@ steps_of : (meant : Result Work Status) (work : Work) (before now : ℕ) → mea
 steps_of meant work before now is h = subst (λ (r : Result Work Status). TakesSteps r before now) is h
 
 -- a run does the work that is meant
-pub runs_work : (words : List (List ℕ)) (work : Work) (files : Files) (a b : Outside) (answer : Status) →
-    (meaning words (told_by files)).result ≡ Ok work → a.place.files ≡ Some files → Runs words a b answer →
-    IsWorked work files a b answer
-runs_work words work files a b answer meant told runs =
-    let answers = runs.answers in
+pub runs_work : (meant : Given → Meant Work) (work : Work) (files : Files) (a b : Outside) (answer : Status) →
+    (meant (told_by files)).result ≡ Ok work → a.place.files ≡ Some files → Answers meant a b answer →
+    WentWell a b answer → IsWorked work files a b answer
+runs_work meant work files a b answer due told answers well =
     let print : answer ≢ PrintFault =
-    λ e. absurd (still_or_rose a.page.faults b.page.faults runs.print_calm
-    ((causes (meaning words) a b answer answers).print e)) in
+    λ e. absurd (still_or_rose a.page.faults b.page.faults well.print ((causes meant a b answer answers).print e)) in
     let own : answers.status ≡ answer =
-    own_line answers.page b.page answers.status answer answers.told runs.memory print in
+    own_line answers.page b.page answers.status answer answers.told well.memory print in
     let given : answers.obeyed.given ≡ told_by files =
     told_given a.place.files files answers.obeyed.given told answers.obeyed.is_given in
-    let is : (meaning words answers.obeyed.given).result ≡ Ok work =
-    ap (λ (g : Given). (meaning words g).result) given ∙ meant in
+    let is : (meant answers.obeyed.given).result ≡ Ok work =
+    ap (λ (g : Given). (meant g).result) given ∙ due in
     let obeys = answers.obeyed.obeyed in
-    let done = ended_with (meaning words answers.obeyed.given).result work files a (with_page b answers.page)
-    answers.status is told runs.depot_calm (λ e. print (sym own ∙ e)) (λ e. runs.memory (sym own ∙ e)) obeys.comes in
+    let done = ended_with (meant answers.obeyed.given).result work files a (with_page b answers.page)
+    answers.status is told well.depot (λ e. print (sym own ∙ e)) (λ e. well.memory (sym own ∙ e)) obeys.comes in
     record {
       ends = sym own ∙ done.0;
       left = done.1;
-      steps = steps_of (meaning words answers.obeyed.given).result work a.steps b.steps is obeys.steps;
+      steps = steps_of (meant answers.obeyed.given).result work a.steps b.steps is obeys.steps;
     }

@@ -2,7 +2,6 @@
 use Rattle.std.proofs.Common.{◌≡◌, ◌^◌, ◌≤◌, cond, List, ℕ, Ok, Err, ap, ◌∙◌, le-ltb}
 use Rattle.sd_engine.specs.Taken.{taken_of}
 use Rattle.sd_site.specs.Fields.{SiteFields}
-use Rattle.sd_book.specs.declared.command.Command.{Command}
 use Rattle.sd_broadcast.specs.Plan.{Plan}
 use Rattle.sd_status.specs.declared.status.Status.TheVariants.{Limit}
 use Rattle.sd_status.specs.declared.status.LimitKind.TheVariants.{TrialHeight}
@@ -20,7 +19,7 @@ use Rattle.sd_run_laws.proofs.Goodness.{then_is, site_good, book_good, ordered}
 use Rattle.sd_run_laws.proofs.Plans.{good_plan}
 
 -- a site whose tree is low enough is taken
-low_good : (given : Given) (word : Word) (fields : SiteFields) → IsGoodSite given word fields →
+low_good : (given : Given) (word : Word) (fields : SiteFields) → IsGoodSite (given word) fields →
     fields.height ≤ MOST_HEIGHT → (low_site_of_file word.number (given word)).result ≡ Ok fields
 unfolding low_site_of_file
 low_good given word fields good low =
@@ -28,8 +27,8 @@ low_good given word fields good low =
     ∙ ap (λ b. cond b (Err (Limit TrialHeight)) (Ok fields)) (le-ltb MOST_HEIGHT fields.height low)
 
 -- it and a book of its tree are the plan
-plan_said : (given : Given) (site book : Word) (plan : Plan) → IsGoodSite given site plan.site →
-    plan.site.height ≤ MOST_HEIGHT → IsGoodBook given plan.site.height book plan.commands →
+plan_said : (given : Given) (site book : Word) (plan : Plan) → IsGoodSite (given site) plan.site →
+    plan.site.height ≤ MOST_HEIGHT → IsGoodBook (given book) plan.site.height plan.commands →
     (plan_meaning site book given).result ≡ Ok plan
 unfolding plan_by
 plan_said given site book plan good_site low good_book =

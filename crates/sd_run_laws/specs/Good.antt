@@ -1,5 +1,5 @@
 -- Words and files that mean work: they are there, in their grammars and within their limits.
-use Rattle.std.specs.Prelude.{◌≡◌, ℕ, List, Some, Ok, ◌≤◌, [], ◌++◌, ◌+◌, length, None, ◌^◌, ◌<◌}
+use Rattle.std.specs.Prelude.{◌≡◌, ℕ, List, Option, Some, Ok, ◌≤◌, [], ◌++◌, ◌+◌, length, None, ◌^◌, ◌<◌}
 use Rattle.sd_status.specs.Meant.{Word, Given}
 use Rattle.sd_words.specs.Words.{SampleOf, order_of, ReceiveOf, CoverOf, CardOf, TablesOf, HeadOf}
 use Rattle.sd_words.specs.Words.{AccountsOf, BookOf, LayeredOf, LcardOf, OpensOf, TraceOf}
@@ -10,7 +10,8 @@ use Rattle.sd_book.specs.declared.command.Command.{Command}
 use Rattle.sd_site.specs.Fields.{SiteFields}
 use Rattle.sd_files.specs.Shown.{Number}
 use Rattle.sd_broadcast.specs.Plan.{Plan}
-use Rattle.sd_broadcast.specs.Refused.{refusal_from}
+use Rattle.sd_broadcast.specs.Refused.{IsClear, refusal_from}
+use Rattle.sd_whole.specs.Synced.{AreBytes}
 use Rattle.sd_site.specs.Text.{IsSite}
 use Rattle.sd_leaves.specs.Text.{leaves_of_text}
 use Rattle.sd_trace.specs.Trace.{outside}
@@ -21,20 +22,30 @@ use Rattle.sd_book.specs.Text.{SpellsBook}
 use Rattle.sd_book.specs.Limits.{IsWithinLimits}
 use Rattle.sd_files.specs.declared.files.TheConstants.{MOST_SITE_BYTES, MOST_BOOK_BYTES}
 
--- the word's file is there, in the grammar of sites and within the limit, and says this site
-pub record IsGoodSite (given : Given) (word : Word) (fields : SiteFields) : Type 0 where
+-- a file is there and a site, and says this
+pub record IsGoodSite (got : Option (List ℕ)) (fields : SiteFields) : Type 0 where
   pub bytes : List ℕ
-  pub there : given word ≡ Some bytes
+  pub there : got ≡ Some bytes
   pub short : length bytes ≤ MOST_SITE_BYTES
   pub is_site : IsSite bytes fields
 
--- the word's file is there, in the grammar of books and within the limits, and says these commands
-pub record IsGoodBook (given : Given) (d : ℕ) (word : Word) (commands : List Command) : Type 0 where
+-- a file is there and a book for a tree of height d, within the limits, and says these commands
+pub record IsGoodBook (got : Option (List ℕ)) (d : ℕ) (commands : List Command) : Type 0 where
   pub bytes : List ℕ
-  pub there : given word ≡ Some bytes
+  pub there : got ≡ Some bytes
   pub short : length bytes ≤ MOST_BOOK_BYTES
   pub is_book : SpellsBook (lines_of bytes) commands
   pub within : IsWithinLimits d commands
+
+-- a file is there and a clear stream for a site: it ends whole, its packets are these, and none of them is refused
+pub record IsGoodClear (got : Option (List ℕ)) (site : SiteFields) (clear : List (List ℕ)) : Type 0 where
+  pub bytes : List ℕ
+  pub there : got ≡ Some bytes
+  -- each number of a file is a byte's
+  pub are_bytes : AreBytes bytes
+  pub whole : end_of bytes ≡ Whole
+  pub packets : taken_of bytes ≡ clear
+  pub is_clear : IsClear site clear
 
 -- the words are `cover SITE BOOK`, and the two files are there, in their grammars and within their limits
 pub record IsGoodCover (words : List (List ℕ)) (given : Given) : Type 0 where
@@ -42,9 +53,9 @@ pub record IsGoodCover (words : List (List ℕ)) (given : Given) : Type 0 where
   pub book : Word
   pub order : order_of words ≡ Ok (CoverOf site book)
   pub fields : SiteFields
-  pub good_site : IsGoodSite given site fields
+  pub good_site : IsGoodSite (given site) fields
   pub commands : List Command
-  pub good_book : IsGoodBook given fields.height book commands
+  pub good_book : IsGoodBook (given book) fields.height commands
 
 -- the words are `card SITE LEAF OUT`, the file is there and a site, and its tree has the leaf
 pub record IsGoodCard (words : List (List ℕ)) (given : Given) : Type 0 where
@@ -53,7 +64,7 @@ pub record IsGoodCard (words : List (List ℕ)) (given : Given) : Type 0 where
   pub out : Word
   pub order : order_of words ≡ Ok (CardOf site leaf out)
   pub fields : SiteFields
-  pub good_site : IsGoodSite given site fields
+  pub good_site : IsGoodSite (given site) fields
   pub of_tree : leaf.value < 2 ^ fields.height
 
 -- the words are `sample NUMBER PACKETS OUT`
@@ -80,9 +91,9 @@ pub record IsGoodHead (words : List (List ℕ)) (given : Given) : Type 0 where
   pub out : Word
   pub order : order_of words ≡ Ok (HeadOf site book clear out)
   pub fields : SiteFields
-  pub good_site : IsGoodSite given site fields
+  pub good_site : IsGoodSite (given site) fields
   pub commands : List Command
-  pub good_book : IsGoodBook given fields.height book commands
+  pub good_book : IsGoodBook (given book) fields.height commands
   pub bytes : List ℕ
   pub there : given clear ≡ Some bytes
   pub whole : end_of bytes ≡ Whole
@@ -112,7 +123,7 @@ pub record IsGoodAccounts (words : List (List ℕ)) (given : Given) : Type 0 whe
   pub out : Word
   pub order : order_of words ≡ Ok (AccountsOf site accounts out)
   pub fields : SiteFields
-  pub good_site : IsGoodSite given site fields
+  pub good_site : IsGoodSite (given site) fields
   pub bytes : List ℕ
   pub there : given accounts ≡ Some bytes
   pub short : length bytes ≤ MOST_BOOK_BYTES
@@ -128,11 +139,11 @@ pub record IsGoodBooks (words : List (List ℕ)) (given : Given) : Type 0 where
   pub out : Word
   pub order : order_of words ≡ Ok (BookOf site book commands out)
   pub fields : SiteFields
-  pub good_site : IsGoodSite given site fields
+  pub good_site : IsGoodSite (given site) fields
   pub before : List Command
-  pub good_book : IsGoodBook given fields.height book before
+  pub good_book : IsGoodBook (given book) fields.height before
   pub added : List Command
-  pub good_added : IsGoodBook given fields.height commands added
+  pub good_added : IsGoodBook (given commands) fields.height added
   pub within : IsWithinLimits fields.height (before ++ added)
 
 -- the words are `layered SITE BOOK WIDTH`, the two files are good, and the width is 1 to the height
@@ -142,11 +153,11 @@ pub record IsGoodLayered (words : List (List ℕ)) (given : Given) : Type 0 wher
   pub width : Number
   pub order : order_of words ≡ Ok (LayeredOf site book width)
   pub fields : SiteFields
-  pub good_site : IsGoodSite given site fields
+  pub good_site : IsGoodSite (given site) fields
   pub some : 1 ≤ width.value
   pub within : width.value ≤ fields.height
   pub commands : List Command
-  pub good_book : IsGoodBook given fields.height book commands
+  pub good_book : IsGoodBook (given book) fields.height commands
 
 -- the words are `lcard SITE LEAF WIDTH OUT`, the file is there and a site, its tree has the leaf, and the width is 1 to
 -- the height
@@ -157,7 +168,7 @@ pub record IsGoodLcard (words : List (List ℕ)) (given : Given) : Type 0 where
   pub out : Word
   pub order : order_of words ≡ Ok (LcardOf site leaf width out)
   pub fields : SiteFields
-  pub good_site : IsGoodSite given site fields
+  pub good_site : IsGoodSite (given site) fields
   pub of_tree : leaf.value < 2 ^ fields.height
   pub some : 1 ≤ width.value
   pub within : width.value ≤ fields.height
@@ -176,9 +187,9 @@ pub record IsGoodOpens (words : List (List ℕ)) (given : Given) : Type 0 where
   pub leaves : Word
   pub order : order_of words ≡ Ok (OpensOf site book leaves)
   pub fields : SiteFields
-  pub good_site : IsGoodSite given site fields
+  pub good_site : IsGoodSite (given site) fields
   pub commands : List Command
-  pub good_book : IsGoodBook given fields.height book commands
+  pub good_book : IsGoodBook (given book) fields.height commands
   pub pooled : List ℕ
   pub good_leaves : IsGoodLeaves given fields.height leaves pooled
 
@@ -190,9 +201,9 @@ pub record IsGoodTrace (words : List (List ℕ)) (given : Given) : Type 0 where
   pub leaves : Word
   pub order : order_of words ≡ Ok (TraceOf site book leaves)
   pub fields : SiteFields
-  pub good_site : IsGoodSite given site fields
+  pub good_site : IsGoodSite (given site) fields
   pub commands : List Command
-  pub good_book : IsGoodBook given fields.height book commands
+  pub good_book : IsGoodBook (given book) fields.height commands
   pub coalition : List ℕ
   pub good_leaves : IsGoodLeaves given fields.height leaves coalition
   pub few : length (revoked_last fields.height commands)

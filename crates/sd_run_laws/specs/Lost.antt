@@ -9,11 +9,14 @@ use Rattle.sd_losses.specs.Kept.{after_cat, entitles}
 use Rattle.sd_losses.specs.Confirmed.{confirmed, opened_by, is_revoked_in}
 use Rattle.sd_losses.specs.Endings.{ending_told}
 use Rattle.sd_losses.specs.Taken.{how_many}
+use Rattle.sd_status.specs.declared.status.Status.{Status}
 use Rattle.sd_status.specs.declared.status.Status.TheVariants.{Revoked}
+use Rattle.sd_status.specs.Outside.{Outside}
 use Rattle.sd_status.specs.Meant.{Word, Given}
 use Rattle.sd_status.specs.Work.{UpTo, Work}
 use Rattle.sd_words.specs.Words.{ReceiveOf, order_of}
 use Rattle.sd_run_receive.specs.Receive.{ending_status}
+use Rattle.sd_run_laws.specs.Headline.{Names, file_in, OthersStay}
 
 -- the things of a broadcast that are kept
 unfoldable pub kept_of : Plan → List (List ℕ) → List Bool → List Item
@@ -37,8 +40,7 @@ pub record IsRestTo (plan : Plan) (u : ℕ) (clear : List (List ℕ)) (flags : L
 
 -- OUT is the clear packets that are confirmed to leaf u where these things are kept, a part of what it is entitled to,
 -- in its order; no packet is refused, and the status is how it ends for the leaf, which is revoked where it says so;
--- for
--- each period of which a section that has it is kept, as many steps are taken as the tree is high, or fewer
+-- for each period of which a section that has it is kept, as many steps are taken as the tree is high, or fewer
 pub record IsConfirmed (plan : Plan) (u : ℕ) (clear : List (List ℕ)) (kept : List Item) (out : Word) (work : Work) :
     Type 0 where
   pub file : work.out
@@ -52,3 +54,19 @@ pub record IsConfirmed (plan : Plan) (u : ℕ) (clear : List (List ℕ)) (kept :
   pub most : ℕ
   pub counted : work.steps ≡ UpTo most
   pub few : most ≤ plan.site.height * kept_periods plan u clear kept
+
+-- The result of `receive CARD STREAM OUT`, if CARD is the card of leaf u and STREAM is what is kept of the broadcast.
+pub record LossResult (names : Names) (plan : Plan) (u : ℕ) (clear : List (List ℕ)) (kept : List Item) (a b : Outside)
+    (answer : Status) : Type 0 where
+  -- OUT is the clear packets that the kept messages confirm to the leaf
+  pub written : file_in b names.out ≡ Some (concat (confirmed plan u clear kept))
+  -- they are a part of what the leaf is entitled to, in its order
+  pub parts : List Bool
+  pub part : confirmed plan u clear kept ≡ chosen parts (opened_by plan u clear)
+  -- the answer is how what arrived ends for the leaf; if it is `Revoked` the leaf is
+  pub ends : answer ≡ ending_status u (ending_told plan u clear kept)
+  pub revoked : (q : ℕ) → answer ≡ Revoked u q → is_revoked_in plan u q ≡ true
+  -- at most as many steps of the generator as the tree is high, for each period of which a section with a set of the
+  -- leaf arrived
+  pub steps : b.steps ≤ a.steps + plan.site.height * kept_periods plan u clear kept
+  pub others : OthersStay names.out a b

@@ -20,10 +20,10 @@ pub record IsGoodTrial (words : List (List ℕ)) (given : Given) : Type 0 where
   pub clear : Word
   pub order : order_of words ≡ Ok (TrialOf site book clear)
   pub fields : SiteFields
-  pub good_site : IsGoodSite given site fields
+  pub good_site : IsGoodSite (given site) fields
   pub low : fields.height ≤ MOST_HEIGHT
   pub commands : List Command
-  pub good_book : IsGoodBook given fields.height book commands
+  pub good_book : IsGoodBook (given book) fields.height commands
   pub bytes : List ℕ
   pub there : given clear ≡ Some bytes
   pub short : length bytes ≤ MOST_CLEAR_BYTES

@@ -1,32 +1,134 @@
-//! What is proved of the three commands together, in one law.
-ghost use Rattle.std.specs.Prelude.{◌≡◌, ℕ, List, Some, Ok};
+//! The headline: the one call, and what its clauses say of `head`, `card` and `receive`.
+ghost use Rattle.std.specs.Prelude.{◌≡◌, ◌≢◌, ◌<◌, ◌^◌, ℕ, Bool, List, Some, Ok, map, string_bytes};
 ghost use Rattle.sd_ports.specs.Files.{Files};
-ghost use Rattle.sd_broadcast.specs.Plan.{Plan};
-ghost use Rattle.sd_status.specs.Outside.{Outside};
-ghost use Rattle.sd_status.specs.Meant.{Word};
-ghost use Rattle.sd_status.specs.Answers.{Answers};
+ghost use Rattle.sd_status.specs.Meant.{Word, told_by};
 ghost use Rattle.sd_words.specs.Words.{HeadOf, order_of};
-ghost use Rattle.sd_run.specs.Meaning.{meaning};
 ghost use Rattle.sd_run_laws.specs.Sent.{IsSent};
-ghost use Rattle.sd_run_laws.specs.Headline.{Names, head_run, card_run, receive_run, AreApart, AreGiven, Runs};
-ghost use Rattle.sd_run_laws.specs.Headline.{IsHeadline};
+ghost use Rattle.sd_text.specs.Number.{number_of};
+ghost use Rattle.sd_site.specs.Fields.{SiteFields};
+ghost use Rattle.sd_broadcast.specs.Plan.{Plan};
+ghost use Rattle.sd_broadcast.specs.Sent.{broadcast};
+ghost use Rattle.sd_losses.specs.Chosen.{chosen};
+ghost use Rattle.std.specs.List.{concat};
+ghost use Rattle.sd_status.specs.Outside.{Outside, outside, page, place};
+ghost use Rattle.sd_status.specs.Answers.{Answers};
+ghost use Rattle.sd_files.specs.Shown.{word_at};
+ghost use Rattle.sd_run_card.specs.Card.{card_meaning};
+ghost use Rattle.sd_run_head.specs.Head.{head_meaning};
+ghost use Rattle.sd_run_receive.specs.Receive.{receive_meaning};
+ghost use Rattle.sd_run.specs.Meaning.{meaning};
+ghost use Rattle.sd_run_laws.specs.Good.{IsGoodSite};
+ghost use Rattle.sd_run_laws.specs.Lost.{kept_of, LossResult};
+ghost use Rattle.sd_run_laws.specs.Outcome.{IsDone};
+ghost use Rattle.sd_run_laws.specs.Headline.{Names, head_run, card_run, receive_run, file_in, AreGiven, WentWell};
+ghost use Rattle.sd_run_laws.specs.Headline.{stream_of, card_for, HeadResult, CardResult, ReceiveResult};
 
+use sd_ports::{Depot, Sink};
 use sd_status::Status;
+use sd_steps::Steps;
+use std::alloc::Global;
+use std::sync::ledger::Ledger;
 
-/// For every book and every clear stream within limits, each broadcast period names disjoint sets that unite to exactly
-/// its unrevoked receivers, one set if none is revoked and at most 2r - 1 if r > 0 are; each unrevoked receiver writes
-/// that period's clear packets, by at most log2 n generator steps; each revoked receiver is refused by name, and its
-/// labels reach no named set's label.
+/// `sd_run::run` itself, and what follows for a caller who reads these clauses alone.
 ///
-/// `head`, `card` and `receive` are run one after the other, from `a` to `b`, to `c` and to `d`: each as `run`
-/// promises, over told files, with no failed device and memory enough. It speaks of names of labels and not of their
-/// bytes.
-#[tactic(auto, using(crate::proofs::Together::three_runs))]
+/// For every book and every clear stream within limits, each period of the broadcast names disjoint sets that unite to
+/// exactly its unrevoked receivers, one set if none is revoked and at most 2r - 1 if r > 0 are. Each unrevoked receiver
+/// writes that period's clear packets, by at most log2 n steps of the generator. Each revoked receiver is refused by
+/// name, and no label of a named set is derivable from its own. This is symbolic: it speaks of names of labels and not
+/// of their bytes.
+///
+/// Each clause is of one run, which may begin anywhere: what it needs of another run is a file. So the three runs may
+/// be of three processes or machines, and of as many receivers as there are leaves.
+pub fn run<D: Depot, P: Sink, L: Ledger>(
+    alloc: Global,
+    words: &[String],
+    depot: &mut D,
+    print: &mut P,
+    steps: &mut Steps<L>,
+) -> Status
+    // Over a good site, book and clear stream `head` makes the broadcast, whose periods name their covers.
+    ensures head { (names : Names) (plan : Plan) (clear : List (List ℕ)) →
+        map string_bytes words.now ≡ head_run names →
+        names.stream ≢ names.site → names.stream ≢ names.book → names.stream ≢ names.clear →
+        AreGiven (outside (place D.Depot depot.old) (page P.Sink print.old) steps.old) names plan clear →
+        WentWell (outside (place D.Depot depot.old) (page P.Sink print.old) steps.old)
+        (outside (place D.Depot depot.new) (page P.Sink print.new) steps.new) result →
+        HeadResult names plan clear (outside (place D.Depot depot.old) (page P.Sink print.old) steps.old)
+        (outside (place D.Depot depot.new) (page P.Sink print.new) steps.new) result }
+    // Over a good site `card` makes the leaf's card.
+    ensures card { (names : Names) (leaf : List ℕ) (site : SiteFields) (u : ℕ) →
+        map string_bytes words.now ≡ card_run names leaf → number_of leaf ≡ Some u → names.card ≢ names.site →
+        IsGoodSite (file_in (outside (place D.Depot depot.old) (page P.Sink print.old) steps.old) names.site) site →
+        u < 2 ^ site.height →
+        WentWell (outside (place D.Depot depot.old) (page P.Sink print.old) steps.old)
+        (outside (place D.Depot depot.new) (page P.Sink print.new) steps.new) result →
+        CardResult names site u (outside (place D.Depot depot.old) (page P.Sink print.old) steps.old)
+        (outside (place D.Depot depot.new) (page P.Sink print.new) steps.new) result }
+    // Over the card of a leaf and a broadcast, wherever they were made, `receive` makes what the leaf is entitled to.
+    ensures receive { (names : Names) (plan : Plan) (u : ℕ) (clear : List (List ℕ)) (z : Outside) →
+        map string_bytes words.now ≡ receive_run names → names.out ≢ names.card → names.out ≢ names.stream →
+        AreGiven z names plan clear → u < 2 ^ plan.site.height →
+        file_in (outside (place D.Depot depot.old) (page P.Sink print.old) steps.old) names.card
+        ≡ Some (card_for plan.site u) →
+        file_in (outside (place D.Depot depot.old) (page P.Sink print.old) steps.old) names.stream
+        ≡ Some (stream_of plan clear) →
+        WentWell (outside (place D.Depot depot.old) (page P.Sink print.old) steps.old)
+        (outside (place D.Depot depot.new) (page P.Sink print.new) steps.new) result →
+        ReceiveResult names plan u clear (outside (place D.Depot depot.old) (page P.Sink print.old) steps.old)
+        (outside (place D.Depot depot.new) (page P.Sink print.new) steps.new) result }
+    // Over the card of a leaf and any choice of a broadcast's packets it makes what the messages that arrived confirm.
+    ensures lost { (names : Names) (plan : Plan) (u : ℕ) (clear : List (List ℕ)) (z : Outside) (flags : List Bool) →
+        map string_bytes words.now ≡ receive_run names → names.out ≢ names.card → names.out ≢ names.stream →
+        AreGiven z names plan clear → u < 2 ^ plan.site.height →
+        file_in (outside (place D.Depot depot.old) (page P.Sink print.old) steps.old) names.card
+        ≡ Some (card_for plan.site u) →
+        file_in (outside (place D.Depot depot.old) (page P.Sink print.old) steps.old) names.stream
+        ≡ Some (concat (chosen flags (broadcast plan clear))) →
+        WentWell (outside (place D.Depot depot.old) (page P.Sink print.old) steps.old)
+        (outside (place D.Depot depot.new) (page P.Sink print.new) steps.new) result →
+        LossResult names plan u clear (kept_of plan clear flags)
+        (outside (place D.Depot depot.old) (page P.Sink print.old) steps.old)
+        (outside (place D.Depot depot.new) (page P.Sink print.new) steps.new) result }
+    // `Done` is answered only if the work that is meant was done.
+    ensures done { (files : Files) → D.files depot.old ≡ Some files → result ≡ Status.Done →
+        IsDone (meaning (map string_bytes words.now) (told_by files)).result
+        (outside (place D.Depot depot.old) (page P.Sink print.old) steps.old)
+        (outside (place D.Depot depot.new) (page P.Sink print.new) steps.new) }
+{
+    sd_run::run(alloc, words, depot, print, steps)
+}
+
+/// The same of each of the three commands by what it does: whatever meets the clause of `run` meets this too.
 pub fn exactly_the_unrevoked_receive()
-    ensures { (names : Names) (plan : Plan) (u : ℕ) (clear : List (List ℕ)) (files : Files) (a b c d : Outside)
-        (sent carded received : Status) → AreGiven files names plan u clear → AreApart names →
-        a.place.files ≡ Some files → Runs (head_run names) a b sent → Runs (card_run names) b c carded →
-        Runs (receive_run names) c d received → IsHeadline names plan u clear b c d sent carded received }
+    ensures head { (names : Names) (plan : Plan) (clear : List (List ℕ)) (a b : Outside) (answer : Status) →
+        AreGiven a names plan clear → Answers (head_meaning (word_at 1 names.site) (word_at 2 names.book)
+        (word_at 3 names.clear) (word_at 4 names.stream)) a b answer → WentWell a b answer →
+        HeadResult names plan clear a b answer }
+    ensures card { (names : Names) (site : SiteFields) (u : ℕ) (a b : Outside) (answer : Status) →
+        IsGoodSite (file_in a names.site) site → u < 2 ^ site.height → Answers (card_meaning (word_at 1 names.site)
+        (record { word = 2; value = u }) (word_at 3 names.card)) a b answer → WentWell a b answer →
+        CardResult names site u a b answer }
+    ensures receive { (names : Names) (plan : Plan) (u : ℕ) (clear : List (List ℕ)) (z a b : Outside)
+        (answer : Status) → AreGiven z names plan clear → u < 2 ^ plan.site.height →
+        file_in a names.card ≡ Some (card_for plan.site u) → file_in a names.stream ≡ Some (stream_of plan clear) →
+        Answers (receive_meaning (word_at 1 names.card) (word_at 2 names.stream) (word_at 3 names.out)) a b answer →
+        WentWell a b answer → ReceiveResult names plan u clear a b answer }
+{}
+
+/// A run of the words of `head`, `card` or `receive` is a run of the command, if the file that it makes is none that it
+/// reads.
+pub fn words_are_their_commands()
+    ensures head { (names : Names) (a b : Outside) (answer : Status) → names.stream ≢ names.site →
+        names.stream ≢ names.book → names.stream ≢ names.clear → Answers (meaning (head_run names)) a b answer →
+        Answers (head_meaning (word_at 1 names.site) (word_at 2 names.book) (word_at 3 names.clear)
+        (word_at 4 names.stream)) a b answer }
+    ensures card { (names : Names) (leaf : List ℕ) (u : ℕ) (a b : Outside) (answer : Status) →
+        names.card ≢ names.site → number_of leaf ≡ Some u → u < 2 ^ 32 →
+        Answers (meaning (card_run names leaf)) a b answer → Answers (card_meaning (word_at 1 names.site)
+        (record { word = 2; value = u }) (word_at 3 names.card)) a b answer }
+    ensures receive { (names : Names) (a b : Outside) (answer : Status) → names.out ≢ names.card →
+        names.out ≢ names.stream → Answers (meaning (receive_run names)) a b answer →
+        Answers (receive_meaning (word_at 1 names.card) (word_at 2 names.stream) (word_at 3 names.out)) a b answer }
 {}
 
 /// Where `head` is done over told files, OUT has the broadcast of the very site, book and clear stream that they say,

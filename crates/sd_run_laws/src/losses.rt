@@ -1,26 +1,43 @@
 //! What `receive` makes of a broadcast of which packets are lost.
 
-ghost use Rattle.std.specs.Prelude.{◌≡◌, ◌<◌, ◌^◌, ℕ, Bool, List, Ok};
+ghost use Rattle.std.specs.Prelude.{◌≡◌, ◌<◌, ◌^◌, ℕ, Bool, List, Some, Ok};
+ghost use Rattle.std.specs.List.{concat};
 ghost use Rattle.sd_broadcast.specs.Plan.{Plan, IsPlan};
 ghost use Rattle.sd_broadcast.specs.Refused.{IsClear};
+ghost use Rattle.sd_broadcast.specs.Sent.{broadcast};
 ghost use Rattle.sd_sent.specs.Packets.{AreWholePackets};
 ghost use Rattle.sd_whole.specs.Synced.{AreSynced};
+ghost use Rattle.sd_losses.specs.Chosen.{chosen};
 ghost use Rattle.sd_ports.specs.Files.{Files};
 ghost use Rattle.sd_status.specs.Meant.{told_by};
+ghost use Rattle.sd_status.specs.Outside.{Outside};
 ghost use Rattle.sd_status.specs.Work.{Work};
+ghost use Rattle.sd_status.specs.Answers.{Answers};
+ghost use Rattle.sd_files.specs.Shown.{word_at};
+ghost use Rattle.sd_run_receive.specs.Receive.{receive_meaning};
 ghost use Rattle.sd_run.specs.Meaning.{meaning};
-ghost use Rattle.sd_run_laws.specs.Lost.{kept_of, IsRestTo, IsConfirmed};
+ghost use Rattle.sd_run_laws.specs.Headline.{Names, file_in, AreGiven, WentWell, card_for};
+ghost use Rattle.sd_run_laws.specs.Lost.{kept_of, IsRestTo, IsConfirmed, LossResult};
+
+use sd_status::Status;
 
 /// Of every broadcast, to whatever site, book within the limits and clear stream, and whatever of its packets are lost,
 /// `receive` with the card of a leaf makes exactly the clear packets that the messages which arrived confirm: a part of
 /// what the leaf is entitled to, in its order. It never ends with a refusal, but as what arrived tells, with the exact
-/// count of what is missing; where it ends revoked in a period, the leaf is. For each period of which a section that
-/// has the leaf arrived it takes at most as many steps of the generator as the tree is high, and none else.
-#[tactic(auto, using(crate::proofs::Lost::rest_confirmed))]
+/// count of what is missing; if it ends revoked in a period, the leaf is. For each period of which a section that has
+/// the leaf arrived it takes at most as many steps of the generator as the tree is high, and none else.
 pub fn losses_are_received()
-    ensures { (plan : Plan) (u : ℕ) (clear : List (List ℕ)) (flags : List Bool) (words : List (List ℕ)) (files : Files)
-        → IsPlan plan → IsClear plan.site clear → AreWholePackets clear → AreSynced clear → u < 2 ^ plan.site.height →
-        (rest : IsRestTo plan u clear flags words (told_by files)) →
+    // By what is meant, whatever happens to the run.
+    ensures meant { (plan : Plan) (u : ℕ) (clear : List (List ℕ)) (flags : List Bool) (words : List (List ℕ))
+        (files : Files) → IsPlan plan → IsClear plan.site clear → AreWholePackets clear → AreSynced clear →
+        u < 2 ^ plan.site.height → (rest : IsRestTo plan u clear flags words (told_by files)) →
         (work : Work) × ((meaning words (told_by files)).result ≡ Ok work)
         × IsConfirmed plan u clear (kept_of plan clear flags) rest.out work }
+    // By what a run leaves, if no I/O error occurs and memory suffices.
+    ensures receive { (names : Names) (plan : Plan) (u : ℕ) (clear : List (List ℕ)) (z a b : Outside)
+        (flags : List Bool) (answer : Status) → AreGiven z names plan clear → u < 2 ^ plan.site.height →
+        file_in a names.card ≡ Some (card_for plan.site u) →
+        file_in a names.stream ≡ Some (concat (chosen flags (broadcast plan clear))) →
+        Answers (receive_meaning (word_at 1 names.card) (word_at 2 names.stream) (word_at 3 names.out)) a b answer →
+        WentWell a b answer → LossResult names plan u clear (kept_of plan clear flags) a b answer }
 {}
