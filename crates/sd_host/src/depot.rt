@@ -1,20 +1,26 @@
-ghost use Rattle.std.specs.Prelude.{◌≡◌, None, IsErr, IsErrOf};
+ghost use Rattle.std.specs.Prelude.{◌≡◌, ◌↔◌, None, Err, IfOk, IsErrOf, IsTrue};
 ghost use Rattle.sd_cause.specs.Count.{IsCaused};
 ghost use Rattle.sd_ports.specs.Causes.{HasDepotCause};
+ghost use Rattle.sd_host.specs.Faults.{fault_of, faults_after, misses_after};
+ghost use Rattle.sd_host.specs.Kept.{IsThrough};
 
 use crate::identity;
 use crate::identity::Identity;
 use crate::inlet::HostInlet;
 use crate::outlet::{BUFFER, HostOutlet};
+use crate::target::Target;
 use sd_ports::{Depot, DepotFault};
 use std::alloc::Global;
 use std::fs::Files;
+use std::io;
 use std::io::ErrorKind;
 
 /// The files of the machine, by their paths.
 #[derive(Drop)]
 pub struct HostDepot<'a, R> {
     files: &'a R,
+    private: bool,
+    output: Option<Identity>,
     inputs: Vec<Identity>,
     faults: u64,
     stops: u64,
@@ -24,9 +30,9 @@ pub struct HostDepot<'a, R> {
     calls: u64,
 }
 
-impl<'a, R: Files> HostDepot<'a, R> {
-    /// The files, with counts of 0.
-    pub fn new(alloc: Global, files: &'a R) -> HostDepot<'a, R>
+impl<'a, R: Files + Print> HostDepot<'a, R> {
+    /// The files, with counts of 0. A private depot makes files that are their owner's alone.
+    pub fn new(alloc: Global, files: &'a R, private: bool) -> HostDepot<'a, R>
         ensures faults { result.faults ≡ 0 }
         ensures stops { result.stops ≡ 0 }
         ensures misses { result.misses ≡ 0 }
@@ -36,6 +42,8 @@ impl<'a, R: Files> HostDepot<'a, R> {
     {
         HostDepot {
             files,
+            private,
+            output: identity::standard_output(files),
             inputs: Vec::new(alloc),
             faults: 0,
             stops: 0,
@@ -46,17 +54,35 @@ impl<'a, R: Files> HostDepot<'a, R> {
         }
     }
 
+    /// Whether the file of that name is the standard output, and that a regular file, a pipe or a socket.
+    pub fn is_output(&self, name: &str) -> bool {
+        identity::is_output(self.files, self.output, name)
+    }
+
+    /// Where a file of that name is written, which is the standard output or not.
+    fn target(&self, is_output: bool, name: &str) -> io::Result<Target<'a, R>>
+        ensures through { IfOk result (λ target. IsTrue is_output ↔ IsThrough target) }
+    {
+        if is_output {
+            return Ok(Target::Output(self.files));
+        }
+        let file = identity::create(self.files, &self.inputs, self.private, name)?;
+        Ok(Target::File(file))
+    }
+
     /// Counts why a file wasn't opened, and says it.
     fn refuse<T>(&mut self, kind: ErrorKind) -> Result<T, DepotFault>
+        ensures value { result ≡ Err (fault_of kind) }
+        ensures misses { self.new.misses ≡ misses_after self.old.misses (fault_of kind) }
+        ensures faults { self.new.faults ≡ faults_after self.old.faults (fault_of kind) }
         ensures cause { HasDepotCause self.old.faults self.new.faults self.old.misses self.new.misses result }
         ensures stops { IsCaused self.old.stops self.new.stops (IsErrOf result DepotFault.Failed) }
-        ensures fault { IsErr result }
         ensures made { self.new.made ≡ self.old.made }
         ensures ports { self.new.opened ≡ self.old.opened }
         ensures calls { self.new.calls ≡ self.old.calls }
     {
         match kind {
-            ErrorKind::NotFound => {
+            ErrorKind::NotFound | ErrorKind::NotADirectory => {
                 self.misses = self.misses.saturating_add(1);
                 Err(DepotFault::Missing)
             }
@@ -70,10 +96,10 @@ impl<'a, R: Files> HostDepot<'a, R> {
     }
 }
 
-impl<'a, R: Files> Depot for HostDepot<'a, R> {
+impl<'a, R: Files + Print> Depot for HostDepot<'a, R> {
     type Inlet = HostInlet<R::File>;
 
-    type Outlet = HostOutlet<R::File>;
+    type Outlet = HostOutlet<Target<'a, R>>;
 
     ghost files = { λ d. None };
 
@@ -93,7 +119,7 @@ impl<'a, R: Files> Depot for HostDepot<'a, R> {
 
     fn open_in(&mut self, _alloc: Global, name: &str) -> Result<HostInlet<R::File>, DepotFault> {
         self.calls = self.calls.saturating_add(1);
-        match identity::open(self.files, &mut self.inputs, name) {
+        match identity::open(self.files, &mut self.inputs, self.output, name) {
             Ok(file) => {
                 self.opened = self.opened.wrapping_add(1);
                 Ok(HostInlet::new(file))
@@ -102,21 +128,25 @@ impl<'a, R: Files> Depot for HostDepot<'a, R> {
         }
     }
 
-    /// The memory is taken before the file is made. A file that was opened for reading is never made anew, whatever
-    /// path leads to it: it stays as it is, and that is a fault.
-    fn create_out(&mut self, alloc: Global, name: &str) -> Result<HostOutlet<R::File>, DepotFault> {
+    /// The memory is taken before the file is made. The standard output is written through its own descriptor, whatever
+    /// path leads to it, and is neither opened anew nor cut off. A file that was opened for reading is never made anew,
+    /// whatever path leads to it: it stays as it is, and that is a fault.
+    fn create_out(
+        &mut self,
+        alloc: Global,
+        name: &str,
+    ) -> Result<HostOutlet<Target<'a, R>>, DepotFault> {
         self.calls = self.calls.saturating_add(1);
         let Ok(buffer) = Vec::with_capacity(alloc, BUFFER) else {
             return Err(DepotFault::NoMemory);
         };
-        match identity::create(self.files, &self.inputs, name) {
-            Ok(file) => {
-                self.made = self.made.saturating_add(1);
-                self.opened = self.opened.wrapping_add(1);
-                Ok(HostOutlet::new(file, buffer))
-            }
-            Err(error) => self.refuse(error.kind()),
-        }
+        let target = match self.target(self.is_output(name), name) {
+            Ok(target) => target,
+            Err(error) => return self.refuse(error.kind()),
+        };
+        self.made = self.made.saturating_add(1);
+        self.opened = self.opened.wrapping_add(1);
+        Ok(HostOutlet::new(target, buffer))
     }
 
     fn close_in(&mut self, port: HostInlet<R::File>) {
@@ -128,7 +158,11 @@ impl<'a, R: Files> Depot for HostDepot<'a, R> {
     }
 
     /// Writes what still waits.
-    fn close_out(&mut self, _name: &str, mut port: HostOutlet<R::File>) -> Result<(), DepotFault> {
+    fn close_out(
+        &mut self,
+        _name: &str,
+        mut port: HostOutlet<Target<'a, R>>,
+    ) -> Result<(), DepotFault> {
         self.calls = self.calls.saturating_add(1);
         self.opened = self.opened.wrapping_sub(1);
         let faults = port.faults();

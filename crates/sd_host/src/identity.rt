@@ -1,10 +1,57 @@
-ghost use Rattle.std.specs.Prelude.{◌≡◌, ◌↔◌, List, [], ◌∷◌, ◌++◌, IsErr, OnOk, OnErr};
+ghost use Rattle.std.specs.Prelude.{◌≡◌, ◌↔◌, ◌⊎◌, List, [], ◌∷◌, ◌++◌, bit_and, IsTrue, OnOk, OnErr, Some};
 ghost use Rattle.std.specs.List.{Contains};
+ghost use Rattle.std.specs.Fs.{metadata_mode};
+ghost use Rattle.sd_host.specs.Kept.{IsKept, with_input};
 
 use std::fs::{Files, Metadata, OpenFile, OpenOptions};
 use std::io::{Error, ErrorKind};
-use std::os::unix::fs::MetadataExt;
+use std::os::unix::fs::{MetadataExt, OpenOptionsExt};
 use std::{fs, io};
+
+/// The bits of a mode that tell the kind of file.
+const KIND: u32 = 0o170000;
+
+/// Who may read and write a file that is made: its owner alone, or whom the process's mask of modes leaves.
+const PRIVATE: u32 = 0o600;
+
+const SHARED: u32 = 0o666;
+
+/// The path of the standard output.
+const OUTPUT: &str = "/dev/stdout";
+
+/// What a file is, as far as it matters here.
+#[derive(Clone, Copy, PartialEq, Eq)]
+pub enum Kind {
+    Regular,
+    Block,
+    /// A pipe or a socket.
+    Stream,
+    Other,
+}
+
+impl Kind {
+    /// The kind of file, by its mode.
+    fn of(metadata: &Metadata) -> Kind
+        ensures regular { result ≡ Kind.Regular ↔ bit_and (metadata_mode metadata.now) 0o170000 ≡ 0o100000 }
+        ensures block { result ≡ Kind.Block ↔ bit_and (metadata_mode metadata.now) 0o170000 ≡ 0o060000 }
+        ensures stream { result ≡ Kind.Stream ↔ (bit_and (metadata_mode metadata.now) 0o170000 ≡ 0o010000)
+            ⊎ (bit_and (metadata_mode metadata.now) 0o170000 ≡ 0o140000) }
+    {
+        match metadata.mode() & KIND {
+            0o100000 => Kind::Regular,
+            0o060000 => Kind::Block,
+            0o010000 | 0o140000 => Kind::Stream,
+            _ => Kind::Other,
+        }
+    }
+
+    /// Whether a file of this kind keeps what is written, so that an input of this kind must never be an output.
+    fn is_kept(self) -> bool
+        ensures { IsTrue result ↔ IsKept self }
+    {
+        self == Kind::Regular || self == Kind::Block
+    }
+}
 
 /// Which file of the machine it is, by whatever path it was opened.
 #[derive(Clone, Copy, PartialEq, Eq)]
@@ -22,40 +69,81 @@ impl Identity {
     }
 }
 
-/// Opens a file for reading, and adds it to the inputs.
-pub fn open<R: Files>(files: &R, inputs: &mut Vec<Identity>, name: &str) -> io::Result<R::File>
-    ensures made { OnOk result ((input : Identity) × (inputs.new.items ≡ inputs.old.items ++ input ∷ [])) }
-    ensures unchanged { OnErr result (inputs.new.items ≡ inputs.old.items) }
-{
-    let file = fs::open(files, name)?;
-    let input = Identity::of(&file.metadata()?);
-    match inputs.push(input) {
-        Ok(()) => Ok(file),
-        Err(_) => Err(Error::from(ErrorKind::OutOfMemory)),
+/// The standard output, if it is a regular file, a pipe or a socket.
+pub fn standard_output<R: Files>(files: &R) -> Option<Identity> {
+    let metadata = fs::metadata(files, OUTPUT).ok()?;
+    match Kind::of(&metadata) {
+        Kind::Regular | Kind::Stream => Some(Identity::of(&metadata)),
+        Kind::Block | Kind::Other => None,
     }
 }
 
-/// Opens a file for writing, and makes it where it isn't there. A regular file is cut off; a pipe or a device stays as
-/// it is. A file that is one of the inputs is refused, before anything of it changes.
-pub fn create<R: Files>(files: &R, inputs: &[Identity], name: &str) -> io::Result<R::File> {
+/// Whether the file of that name is the standard output.
+pub fn is_output<R: Files>(files: &R, output: Option<Identity>, name: &str) -> bool {
+    match fs::metadata(files, name) {
+        Ok(metadata) => output == Some(Identity::of(&metadata)),
+        Err(_) => false,
+    }
+}
+
+/// Opens a file for reading, and adds it to the inputs if it keeps what is written. A regular file that is the standard
+/// output is refused: it would grow while it is read.
+pub fn open<R: Files>(
+    files: &R,
+    inputs: &mut Vec<Identity>,
+    output: Option<Identity>,
+    name: &str,
+) -> io::Result<R::File>
+    ensures made { OnOk result ((kind : Kind) × (input : Identity) ×
+        (inputs.new.items ≡ with_input inputs.old.items kind input)) }
+    ensures unchanged { OnErr result (inputs.new.items ≡ inputs.old.items) }
+{
+    let file = fs::open(files, name)?;
+    let metadata = file.metadata()?;
+    let (kind, input) = (Kind::of(&metadata), Identity::of(&metadata));
+    if !may_read(output, kind, input) {
+        return Err(Error::from(ErrorKind::InvalidInput));
+    }
+    if kind.is_kept() && inputs.push(input).is_err() {
+        return Err(Error::from(ErrorKind::OutOfMemory));
+    }
+    Ok(file)
+}
+
+/// Whether a file may be read.
+fn may_read(output: Option<Identity>, kind: Kind, file: Identity) -> bool
+    ensures { IsTrue result ↔ ¬ ((kind ≡ Kind.Regular) × (output ≡ Some file)) }
+{
+    kind != Kind::Regular || output != Some(file)
+}
+
+/// Opens a file for writing, and makes it if it isn't there; a private one is its owner's alone. A regular file is cut
+/// off; a pipe or a device stays as it is. A file that is one of the inputs is refused, before anything of it changes.
+pub fn create<R: Files>(
+    files: &R,
+    inputs: &[Identity],
+    private: bool,
+    name: &str,
+) -> io::Result<R::File> {
     let file = OpenOptions::new()
         .write(true)
         .create(true)
+        .mode(if private { PRIVATE } else { SHARED })
         .open(files, name)?;
     let metadata = file.metadata()?;
-    refuse_input(inputs, Identity::of(&metadata))?;
-    if metadata.is_file() {
+    let kind = Kind::of(&metadata);
+    if !may_make(inputs, kind, Identity::of(&metadata)) {
+        return Err(Error::from(ErrorKind::InvalidInput));
+    }
+    if kind == Kind::Regular {
         file.set_len(0)?;
     }
     Ok(file)
 }
 
-/// Refuses a file that is one of the inputs.
-fn refuse_input(inputs: &[Identity], file: Identity) -> io::Result<()>
-    ensures fault { IsErr result ↔ Contains inputs.now file }
+/// Whether a file may be made: it is none of the inputs that keep what is written.
+fn may_make(inputs: &[Identity], kind: Kind, file: Identity) -> bool
+    ensures { IsTrue result ↔ ¬ (IsKept kind × Contains inputs.now file) }
 {
-    if inputs.contains(&file) {
-        return Err(Error::from(ErrorKind::InvalidInput));
-    }
-    Ok(())
+    !(kind.is_kept() && inputs.contains(&file))
 }

@@ -6,6 +6,7 @@ mod identity;
 mod inlet;
 mod outlet;
 mod print;
+mod target;
 
 pub use depot::HostDepot;
 pub use inlet::HostInlet;

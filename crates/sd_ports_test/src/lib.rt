@@ -11,6 +11,8 @@ mod host;
 #[cfg(test)]
 mod lines;
 #[cfg(test)]
+mod machine;
+#[cfg(test)]
 mod ports;
 #[cfg(test)]
 mod sample;

@@ -43,7 +43,7 @@ fn counted<L: Ledger, R: Files + Print + AllocGlobal>(
     requires some { 0 < blank.parts }
 {
     let mut steps = Steps::<L>::new(blank);
-    let mut depot = HostDepot::new(rt.alloc(), rt);
+    let mut depot = HostDepot::new(rt.alloc(), rt, false);
     let mut print = StdPrint::new(io::writer(rt));
     run(rt.alloc(), words, &mut depot, &mut print, &mut steps)
 }
