@@ -10,7 +10,7 @@ use Rattle.sd_status.specs.Meant.{Meant, Word, Given, IsGot, judged, value, ◌>
 use Rattle.sd_status.specs.Work.{Out, Work}
 use Rattle.sd_status.specs.Comes.{IsEnding, HasMiss, IsMade, printing, refused, ended, exhausted, cut_off, Obeys}
 use Rattle.sd_status.specs.Comes.{Follows}
-use Rattle.sd_status.specs.Reads.{IsAsked, IsRefused, IsStopped, Gives, Looks, Reads, Judges}
+use Rattle.sd_status.specs.Reads.{IsAsked, IsRefused, IsStopped, Gives, Looks, Reads, Judges, JudgesAlone}
 use Rattle.sd_status.specs.Prints.{Prints}
 use Rattle.sd_status.proofs.Moves.{then_obeys}
 use Rattle.sd_status.proofs.Firsts.{takes_none, stopped_comes, first_obeys, then_gives, first_gives}
@@ -57,6 +57,12 @@ judged_gives view meant n a b (Err status) e (inl h) = inl (record {
 })
 judged_gives view meant n a b (Err status) e (inr h) =
     inr (record { cause = inl (h, refl); asked = asks_none n a b e; misses = refl })
+
+-- what is judged without memory is judged
+pub alone_judges : {X Y : Type 0} (view : X → Y) (meant : Result Y Status) (result : Result X Status) →
+    JudgesAlone view meant result → Judges view meant result
+alone_judges view meant (Ok x) h = h
+alone_judges view meant (Err status) h = inl h
 
 -- a file that was read and then judged
 pub looks_judged : {X Y W Z : Type 0} (before : X → Z) (view : W → Y) (meant : Option (List ℕ) → Meant Z)

@@ -53,6 +53,11 @@ abbrev pub Judges : {X Y : Type 0} → (X → Y) → Result Y Status → Result 
 Judges view meant (Ok x) = meant ≡ Ok (view x)
 Judges view meant (Err status) = ((meant ≡ Err status) × IsRefusal status × IsEnding status) ⊎ (status ≡ NoMemory)
 
+-- a step that asks nothing of the outside, nor of memory, gives what is meant, or its refusal
+abbrev pub JudgesAlone : {X Y : Type 0} → (X → Y) → Result Y Status → Result X Status → Type 0
+JudgesAlone view meant (Ok x) = meant ≡ Ok (view x)
+JudgesAlone view meant (Err status) = (meant ≡ Err status) × IsRefusal status × IsEnding status
+
 -- steps of the generator are taken only where no refusal is meant
 abbrev pub TakesFor : {Y : Type 0} → Result Y Status → ℕ → ℕ → Type 0
 TakesFor (Ok y) before now = Unit {0}
