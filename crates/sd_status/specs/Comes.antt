@@ -7,7 +7,8 @@ use Rattle.sd_ports.specs.Files.{with_bytes}
 use Rattle.sd_ports.specs.Bytes.{IsPrefix, AppendsPrefix}
 use Rattle.sd_status.specs.declared.status.Status.{Status}
 use Rattle.sd_status.specs.declared.status.Status.TheVariants.{Done, Usage, Missing, Revoked, DepotFault, PrintFault}
-use Rattle.sd_status.specs.declared.status.Status.TheVariants.{NoMemory, Unheard, Unclosed, Gaps, NoCat}
+use Rattle.sd_status.specs.declared.status.Status.TheVariants.{BadSite, BadBook, BadCard, BadClear, BadStream, Limit}
+use Rattle.sd_status.specs.declared.status.Status.TheVariants.{NoMemory, Unheard, Unclosed, Gaps, NoCat, BadWord, Clash}
 use Rattle.sd_status.specs.Outside.{Place, Page, Outside}
 use Rattle.sd_status.specs.Meant.{Meant, Given, IsGiven}
 use Rattle.sd_status.specs.Work.{Out, Work, files_with, made_with, all_calls, TakesSteps}
@@ -15,24 +16,46 @@ use Rattle.sd_status.specs.Work.{Out, Work, files_with, made_with, all_calls, Ta
 -- the status refuses words or files: it isn't that work is done, and it doesn't come of the outside
 abbrev pub IsRefusal : Status → Type 0
 IsRefusal Done = ⊥
+IsRefusal Usage = Unit {0}
+IsRefusal (Missing word) = Unit {0}
 IsRefusal (Revoked leaf period) = ⊥
 IsRefusal DepotFault = ⊥
 IsRefusal PrintFault = ⊥
+IsRefusal (BadSite fault) = Unit {0}
+IsRefusal (BadBook word line) = Unit {0}
+IsRefusal (BadCard fault) = Unit {0}
+IsRefusal (BadClear packet cause) = Unit {0}
+IsRefusal (BadStream packet cause) = Unit {0}
+IsRefusal (Limit kind) = Unit {0}
 IsRefusal NoMemory = ⊥
 IsRefusal (Unheard leaf period) = ⊥
 IsRefusal (Unclosed number) = ⊥
 IsRefusal (Gaps packets) = ⊥
 IsRefusal NoCat = ⊥
-IsRefusal _ = Unit {0}
+IsRefusal (BadWord word) = Unit {0}
+IsRefusal (Clash clash) = Unit {0}
 
 -- the status may stand at the end of work
 abbrev pub IsEnding : Status → Type 0
+IsEnding Done = Unit {0}
 IsEnding Usage = ⊥
 IsEnding (Missing word) = ⊥
+IsEnding (Revoked leaf period) = Unit {0}
 IsEnding DepotFault = ⊥
 IsEnding PrintFault = ⊥
+IsEnding (BadSite fault) = Unit {0}
+IsEnding (BadBook word line) = Unit {0}
+IsEnding (BadCard fault) = Unit {0}
+IsEnding (BadClear packet cause) = Unit {0}
+IsEnding (BadStream packet cause) = Unit {0}
+IsEnding (Limit kind) = Unit {0}
 IsEnding NoMemory = ⊥
-IsEnding _ = Unit {0}
+IsEnding (Unheard leaf period) = Unit {0}
+IsEnding (Unclosed number) = Unit {0}
+IsEnding (Gaps packets) = Unit {0}
+IsEnding NoCat = Unit {0}
+IsEnding (BadWord word) = Unit {0}
+IsEnding (Clash clash) = Unit {0}
 
 -- no device failed
 pub record IsCalm (a b : Outside) : Type 0 where
