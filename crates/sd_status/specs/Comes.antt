@@ -105,6 +105,11 @@ pub data Stands (meant : Result Work Status) (a b : Outside) : Type 0 where
   printing : (work : Work) → meant ≡ Ok work → IsMade work.out a.place b.place → PrintsSome work a.page b.page →
       Stands meant a b
 
+-- if the work is a stream that is refused, the device failed before that was known: not only at closing OUT
+abbrev pub StopsFirst : Result Work Status → Place → Place → Type 0
+StopsFirst (Ok work) a b = work.breaks ≡ true → Rose a.stops b.stops
+StopsFirst (Err refusal) a b = Unit {0}
+
 pub data Comes (meant : Result Work Status) (a b : Outside) (status : Status) : Type 0 where
   -- the words or the files are refused, and nothing was made or printed
   refused : meant ≡ Err status → IsRefusal status → IsUnmade a.place b.place → b.page.printed ≡ a.page.printed →
@@ -117,14 +122,15 @@ pub data Comes (meant : Result Work Status) (a b : Outside) (status : Status) : 
   unclosed : (work : Work) → meant ≡ Ok work → status ≡ work.ends → IsEnding status → IsRefusal status →
       work.breaks ≡ true → (out : Out) → work.out ≡ Some out → IsMadeShort out a.place b.place →
       b.page.printed ≡ a.page.printed →
-      Rose a.place.faults b.place.faults → b.page.faults ≡ a.page.faults →
+      Rose a.place.faults b.place.faults → b.place.stops ≡ a.place.stops → b.page.faults ≡ a.page.faults →
       b.place.misses ≡ a.place.misses → Comes meant a b status
-  -- out of memory
-  exhausted : status ≡ NoMemory → Stands meant a b → IsCalm a b → b.place.misses ≡ a.place.misses →
-      Comes meant a b status
-  -- the device failed at a file
-  failed : status ≡ DepotFault → Stands meant a b → Rose a.place.faults b.place.faults →
+  -- out of memory, which stands though OUT failed to close after it
+  exhausted : status ≡ NoMemory → Stands meant a b → b.place.stops ≡ a.place.stops →
       b.page.faults ≡ a.page.faults → b.place.misses ≡ a.place.misses → Comes meant a b status
+  -- the device failed at a file: not at closing OUT alone, if the stream is refused
+  failed : status ≡ DepotFault → Stands meant a b → Rose a.place.faults b.place.faults →
+      StopsFirst meant a.place b.place → b.page.faults ≡ a.page.faults → b.place.misses ≡ a.place.misses →
+      Comes meant a b status
   -- there is no folder for OUT, in a depot that doesn't tell its files
   nowhere : (work : Work) → meant ≡ Ok work → (out : Out) → work.out ≡ Some out → status ≡ Missing out.word →
       a.place.files ≡ None → IsUnmade a.place b.place → b.page.printed ≡ a.page.printed → IsCalm a b →
