@@ -2,12 +2,11 @@
 use Rattle.std.proofs.Common.{◌≡◌, ◌⊎◌, ℕ, ◌+◌, ◌≤◌, Result, Ok, Err, refl, sym, ap, subst, ◌∙◌, inl, inr, arith}
 use Rattle.sd_cause.specs.Count.{with_added, Rose}
 use Rattle.sd_status.specs.declared.status.Status.{Status}
-use Rattle.sd_status.specs.declared.status.Status.TheVariants.{DepotFault, NoMemory}
 use Rattle.sd_status.specs.Outside.{Place, Page, outside, called}
 use Rattle.sd_status.specs.Meant.{Meant, after, ◌>>=◌}
 use Rattle.sd_status.specs.Work.{StepBound, Uncounted, NoSteps, UpTo, Work, IsWithinSteps, TakesSteps, all_calls}
-use Rattle.sd_status.specs.Comes.{IsUnmade, untouched, Comes, refused, exhausted, failed, Obeys}
-use Rattle.sd_status.specs.Reads.{IsAsked, IsRefused, IsStopped, Gives}
+use Rattle.sd_status.specs.Comes.{IsUnmade, untouched, StopsFirst, Comes, refused, exhausted, failed, Obeys}
+use Rattle.sd_status.specs.Reads.{IsAsked, IsRefused, StopCause, IsStopped, Gives}
 
 no_more_steps : (most : StepBound) (steps : ℕ) → IsWithinSteps most steps steps
 no_more_steps Uncounted steps = tt
@@ -27,15 +26,19 @@ at_least n x now (Err status) next h = omega arith
 unmade : (most : ℕ) (p q : Place) → IsAsked most p q → IsUnmade p q
 unmade most p q h = record { files = h.files; made = h.made }
 
+-- a device that failed but at closing a file stops a stream first
+pub stops_first : (meant : Result Work Status) (p q : Place) → Rose p.stops q.stops → StopsFirst meant p q
+stops_first (Ok work) p q rose = λ breaks. rose
+stops_first (Err status) p q rose = tt
+
 pub stopped_comes : (meant : Result Work Status) (most : ℕ) (p q : Place) (page : Page) (steps now : ℕ)
     (status : Status) →
-    IsStopped most p q status → ((status ≡ NoMemory) × (q.faults ≡ p.faults))
-    ⊎ ((status ≡ DepotFault) × Rose p.faults q.faults) →
+    IsStopped most p q status → StopCause p q status →
     Comes meant (outside p page steps) (outside q page now) status
 stopped_comes meant most p q page steps now status h (inl c) =
-    exhausted c.0 (untouched (unmade most p q h.asked) refl) (record { depot = c.1; print = refl }) h.misses
+    exhausted c.0 (untouched (unmade most p q h.asked) refl) c.2 refl h.misses
 stopped_comes meant most p q page steps now status h (inr c) =
-    failed c.0 (untouched (unmade most p q h.asked) refl) c.1 refl h.misses
+    failed c.0 (untouched (unmade most p q h.asked) refl) c.1 (stops_first meant p q c.2) refl h.misses
 
 refused_obeys : {A : Type 0} (first : Meant A) (next : A → Meant Work) (p q : Place) (page : Page) (steps : ℕ)
     (status : Status) →
@@ -79,6 +82,7 @@ called_more n k p =
     ap (λ (c : ℕ). record {
       files = p.files;
       faults = p.faults;
+      stops = p.stops;
       misses = p.misses;
       made = p.made;
       opened = p.opened;

@@ -10,7 +10,7 @@ use Rattle.sd_status.specs.Meant.{Meant, Word, Given, IsGot, judged, value, ◌>
 use Rattle.sd_status.specs.Work.{Out, Work}
 use Rattle.sd_status.specs.Comes.{IsEnding, HasMiss, IsMade, printing, refused, ended, exhausted, cut_off, Obeys}
 use Rattle.sd_status.specs.Comes.{Follows}
-use Rattle.sd_status.specs.Reads.{IsAsked, IsRefused, IsStopped, Gives, Looks, Reads, Judges}
+use Rattle.sd_status.specs.Reads.{IsAsked, IsRefused, IsStopped, Gives, Looks, Reads, Judges, JudgesAlone}
 use Rattle.sd_status.specs.Prints.{Prints}
 use Rattle.sd_status.proofs.Moves.{then_obeys}
 use Rattle.sd_status.proofs.Firsts.{takes_none, stopped_comes, first_obeys, then_gives, first_gives}
@@ -22,6 +22,7 @@ called_none n a =
     ap (λ (c : ℕ). record {
       files = a.files;
       faults = a.faults;
+      stops = a.stops;
       misses = a.misses;
       made = a.made;
       opened = a.opened;
@@ -56,7 +57,13 @@ judged_gives view meant n a b (Err status) e (inl h) = inl (record {
   miss = none_missing status b.misses h.2;
 })
 judged_gives view meant n a b (Err status) e (inr h) =
-    inr (record { cause = inl (h, refl); asked = asks_none n a b e; misses = refl })
+    inr (record { cause = inl (h, refl, refl); asked = asks_none n a b e; misses = refl })
+
+-- what is judged without memory is judged
+pub alone_judges : {X Y : Type 0} (view : X → Y) (meant : Result Y Status) (result : Result X Status) →
+    JudgesAlone view meant result → Judges view meant result
+alone_judges view meant (Ok x) h = h
+alone_judges view meant (Err status) h = inl h
 
 -- a file that was read and then judged
 pub looks_judged : {X Y W Z : Type 0} (before : X → Z) (view : W → Y) (meant : Option (List ℕ) → Meant Z)
@@ -154,7 +161,7 @@ printed_obeys meant work p q page now steps status is none ending e prints = rec
         all.1
         (record { depot = ap (λ (z : Place). z.faults) e; print = all.2 }) (ap (λ (z : Place). z.misses) e)
     | inr (inl some) ↦ exhausted some.0 (printing work is (none_made work.out meant.calls p q none e) some.1)
-        (record { depot = ap (λ (z : Place). z.faults) e; print = some.2 }) (ap (λ (z : Place). z.misses) e)
+        (ap (λ (z : Place). z.stops) e) some.2 (ap (λ (z : Place). z.misses) e)
     | inr (inr cut) ↦ cut_off work is cut.0 (none_made work.out meant.calls p q none e) cut.1 cut.2
         (ap (λ (z : Place). z.faults) e) (ap (λ (z : Place). z.misses) e)
   ];

@@ -1,12 +1,12 @@
 -- What a command does after calls that only asked.
-use Rattle.std.proofs.Common.{◌≡◌, ℕ, ◌+◌, ◌≤◌, Option, Result, Ok, sym, subst, arith}
+use Rattle.std.proofs.Common.{◌≡◌, ℕ, ◌+◌, ◌≤◌, Option, Result, Ok, Err, sym, subst, arith}
 use Rattle.sd_cause.specs.Count.{with_added}
 use Rattle.sd_status.specs.declared.status.Status.{Status}
 use Rattle.sd_status.specs.Outside.{Place, Page, Outside, outside, recalled, called}
 use Rattle.sd_status.specs.Meant.{Meant, after, ◌>>=◌}
 use Rattle.sd_status.specs.Work.{Out, Work, work_calls}
 use Rattle.sd_status.specs.Comes.{IsCalm, IsUnmade, IsMade, IsMadeShort, Stands, untouched, writing, printing, Comes}
-use Rattle.sd_status.specs.Comes.{refused, ended, unclosed, exhausted, failed, nowhere, cut_off, Obeys}
+use Rattle.sd_status.specs.Comes.{StopsFirst, refused, ended, unclosed, exhausted, failed, nowhere, cut_off, Obeys}
 
 unmade_moved : (calls : ℕ) (p q : Place) → IsUnmade (recalled calls p) q → IsUnmade p q
 unmade_moved calls p q h = record { files = h.files; made = h.made }
@@ -29,6 +29,11 @@ stands_moved meant p page calls steps other b (writing work e out f h k) = writi
 stands_moved meant p page calls steps other b (printing work e h k) = printing work e
     (made_moved work.out calls p b.place h) k
 
+first_moved : (meant : Result Work Status) (p : Place) (calls : ℕ) (q : Place) →
+    StopsFirst meant (recalled calls p) q → StopsFirst meant p q
+first_moved (Ok work) p calls q h = h
+first_moved (Err status) p calls q h = h
+
 -- how a command comes to its status doesn't hang on the counts of calls and of steps where it begins
 pub comes_moved : (meant : Result Work Status) (p : Place) (page : Page) (calls steps other : ℕ) (b : Outside)
     (status : Status) →
@@ -37,12 +42,12 @@ comes_moved meant p page calls steps other b status (refused e r h k c m) =
     refused e r (unmade_moved calls p b.place h) k (calm_moved p page calls steps other b c) m
 comes_moved meant p page calls steps other b status (ended work e s i h k c m) =
     ended work e s i (made_moved work.out calls p b.place h) k (calm_moved p page calls steps other b c) m
-comes_moved meant p page calls steps other b status (unclosed work e s i j t out f h k r c m) =
-    unclosed work e s i j t out f (short_moved out calls p b.place h) k r c m
-comes_moved meant p page calls steps other b status (exhausted s h c m) =
-    exhausted s (stands_moved meant p page calls steps other b h) (calm_moved p page calls steps other b c) m
-comes_moved meant p page calls steps other b status (failed s h r c m) =
-    failed s (stands_moved meant p page calls steps other b h) r c m
+comes_moved meant p page calls steps other b status (unclosed work e s i j t out f h k r v c m) =
+    unclosed work e s i j t out f (short_moved out calls p b.place h) k r v c m
+comes_moved meant p page calls steps other b status (exhausted s h v c m) =
+    exhausted s (stands_moved meant p page calls steps other b h) v c m
+comes_moved meant p page calls steps other b status (failed s h r v c m) =
+    failed s (stands_moved meant p page calls steps other b h) r (first_moved meant p calls b.place v) c m
 comes_moved meant p page calls steps other b status (nowhere work e out f s n h k c m) =
     nowhere work e out f s n (unmade_moved calls p b.place h) k (calm_moved p page calls steps other b c) m
 comes_moved meant p page calls steps other b status (cut_off work e s h k r c m) =

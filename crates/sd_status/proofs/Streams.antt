@@ -20,6 +20,7 @@ pub record IsRead (a b : Place) (status : Status) : Type 0 where
   pub ports : b.opened ≡ a.opened
   pub calls : b.calls ≤ with_added a.calls 2
   pub faults : IsCaused a.faults b.faults (status ≡ DepotFault)
+  pub stops : IsCaused a.stops b.stops (status ≡ DepotFault)
 
 -- the counts of faults of a depot that took over those of a port
 pub faults_added : (before opened now from port : ℕ) (status : Status) → opened ≡ before → opened < 2 ^ 64 →
@@ -49,13 +50,13 @@ printed_comes work p q page now steps status none ending read (inl (inl all)) =
     read.misses
 printed_comes work p q page now steps status none ending read (inl (inr (inl some))) =
     exhausted some.0 (printing work refl (none_made work.out p q none read.files read.made) some.1)
-    (record { depot = read.faults.calm (λ is. let x = sym some.0 ∙ is in cc); print = some.2 }) read.misses
+    (read.stops.calm (λ is. let x = sym some.0 ∙ is in cc)) some.2 read.misses
 printed_comes work p q page now steps status none ending read (inl (inr (inr cut))) =
     cut_off work refl cut.0 (none_made work.out p q none read.files read.made) cut.1 cut.2
     (read.faults.calm (λ is. let x = sym cut.0 ∙ is in cc)) read.misses
 printed_comes work p q page now steps status none ending read (inr broken) =
     failed broken.0 (printing work refl (none_made work.out p q none read.files read.made) broken.1)
-    (read.faults.failed broken.0) broken.2 read.misses
+    (read.faults.failed broken.0) (λ breaks. read.stops.failed broken.0) broken.2 read.misses
 
 -- so it follows what is meant by what the file gave
 pub reading_follows : (view : List ℕ → Work) (word : Word) (bytes : List ℕ) (p q : Place) (page now : Page) (steps : ℕ)

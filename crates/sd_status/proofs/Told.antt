@@ -77,9 +77,9 @@ page_later : (meant : Result Work Status) (a b : Outside) (status : Status) → 
     (b.page.faults ≡ a.page.faults) ⊎ Rose a.page.faults b.page.faults
 page_later meant a b status (refused e r h k c m) = inl c.print
 page_later meant a b status (ended work e s i h k c m) = inl c.print
-page_later meant a b status (unclosed work e s i j t out f h k r c m) = inl c
-page_later meant a b status (exhausted s h c m) = inl c.print
-page_later meant a b status (failed s h r c m) = inl c
+page_later meant a b status (unclosed work e s i j t out f h k r v c m) = inl c
+page_later meant a b status (exhausted s h v c m) = inl c
+page_later meant a b status (failed s h r v c m) = inl c
 page_later meant a b status (nowhere work e out f s n h k c m) = inl c.print
 page_later meant a b status (cut_off work e s h k r c m) = inr r
 
@@ -88,9 +88,9 @@ page_calm : (meant : Result Work Status) (a b : Outside) (status : Status) → C
     status ≢ PrintFault → b.page.faults ≡ a.page.faults
 page_calm meant a b status (refused e r h k c m) n = c.print
 page_calm meant a b status (ended work e s i h k c m) n = c.print
-page_calm meant a b status (unclosed work e s i j t out f h k r c m) n = c
-page_calm meant a b status (exhausted s h c m) n = c.print
-page_calm meant a b status (failed s h r c m) n = c
+page_calm meant a b status (unclosed work e s i j t out f h k r v c m) n = c
+page_calm meant a b status (exhausted s h v c m) n = c
+page_calm meant a b status (failed s h r v c m) n = c
 page_calm meant a b status (nowhere work e out f s v h k c m) n = c.print
 page_calm meant a b status (cut_off work e s h k r c m) n = absurd (n s)
 
@@ -99,9 +99,9 @@ print_failed : (meant : Result Work Status) (a b : Outside) (status : Status) �
     status ≡ PrintFault → Rose a.page.faults b.page.faults
 print_failed meant a b status (refused e r h k c m) is = absurd (subst IsRefusal is r)
 print_failed meant a b status (ended work e s i h k c m) is = absurd (subst IsEnding is i)
-print_failed meant a b status (unclosed work e s i j t out f h k r c m) is = absurd (subst IsEnding is i)
-print_failed meant a b status (exhausted s h c m) is = absurd (let x = sym s ∙ is in cc)
-print_failed meant a b status (failed s h r c m) is = absurd (let x = sym s ∙ is in cc)
+print_failed meant a b status (unclosed work e s i j t out f h k r v c m) is = absurd (subst IsEnding is i)
+print_failed meant a b status (exhausted s h v c m) is = absurd (let x = sym s ∙ is in cc)
+print_failed meant a b status (failed s h r v c m) is = absurd (let x = sym s ∙ is in cc)
 print_failed meant a b status (nowhere work e out f s n h k c m) is = absurd (let x = sym s ∙ is in cc)
 print_failed meant a b status (cut_off work e s h k r c m) is = r
 
@@ -109,9 +109,9 @@ depot_failed : (meant : Result Work Status) (a b : Outside) (status : Status) �
     status ≡ DepotFault → Rose a.place.faults b.place.faults
 depot_failed meant a b status (refused e r h k c m) is = absurd (subst IsRefusal is r)
 depot_failed meant a b status (ended work e s i h k c m) is = absurd (subst IsEnding is i)
-depot_failed meant a b status (unclosed work e s i j t out f h k r c m) is = absurd (subst IsEnding is i)
-depot_failed meant a b status (exhausted s h c m) is = absurd (let x = sym s ∙ is in cc)
-depot_failed meant a b status (failed s h r c m) is = r
+depot_failed meant a b status (unclosed work e s i j t out f h k r v c m) is = absurd (subst IsEnding is i)
+depot_failed meant a b status (exhausted s h v c m) is = absurd (let x = sym s ∙ is in cc)
+depot_failed meant a b status (failed s h r v c m) is = r
 depot_failed meant a b status (nowhere work e out f s n h k c m) is = absurd (let x = sym s ∙ is in cc)
 depot_failed meant a b status (cut_off work e s h k r c m) is = absurd (let x = sym s ∙ is in cc)
 
@@ -119,9 +119,9 @@ was_missing : (meant : Result Work Status) (a b : Outside) (status : Status) (wo
     status ≡ Missing word → Rose a.place.misses b.place.misses
 was_missing meant a b status word (refused e r h k c m) is = m.missing word is
 was_missing meant a b status word (ended work e s i h k c m) is = absurd (subst IsEnding is i)
-was_missing meant a b status word (unclosed work e s i j t out f h k r c m) is = absurd (subst IsEnding is i)
-was_missing meant a b status word (exhausted s h c m) is = absurd (let x = sym s ∙ is in cc)
-was_missing meant a b status word (failed s h r c m) is = absurd (let x = sym s ∙ is in cc)
+was_missing meant a b status word (unclosed work e s i j t out f h k r v c m) is = absurd (subst IsEnding is i)
+was_missing meant a b status word (exhausted s h v c m) is = absurd (let x = sym s ∙ is in cc)
+was_missing meant a b status word (failed s h r v c m) is = absurd (let x = sym s ∙ is in cc)
 was_missing meant a b status word (nowhere work e out f s n h k c m) is = m
 was_missing meant a b status word (cut_off work e s h k r c m) is = absurd (let x = sym s ∙ is in cc)
 
@@ -129,9 +129,9 @@ was_done : (meant : Result Work Status) (a b : Outside) (status : Status) → Co
     b.place.faults ≡ a.place.faults
 was_done meant a b status (refused e r h k c m) is = absurd (subst IsRefusal is r)
 was_done meant a b status (ended work e s i h k c m) is = c.depot
-was_done meant a b status (unclosed work e s i j t out f h k r c m) is = absurd (subst IsRefusal is j)
-was_done meant a b status (exhausted s h c m) is = absurd (let x = sym s ∙ is in cc)
-was_done meant a b status (failed s h r c m) is = absurd (let x = sym s ∙ is in cc)
+was_done meant a b status (unclosed work e s i j t out f h k r v c m) is = absurd (subst IsRefusal is j)
+was_done meant a b status (exhausted s h v c m) is = absurd (let x = sym s ∙ is in cc)
+was_done meant a b status (failed s h r v c m) is = absurd (let x = sym s ∙ is in cc)
 was_done meant a b status (nowhere work e out f s n h k c m) is = absurd (let x = sym s ∙ is in cc)
 was_done meant a b status (cut_off work e s h k r c m) is = absurd (let x = sym s ∙ is in cc)
 
@@ -189,10 +189,10 @@ own_meant meant files a b status answer told depot print (refused e r h k c m) i
     (λ (r : Result Work Status). IsMeant r answer) (sym e) (inl is)
 own_meant meant files a b status answer told depot print (ended work e s i h k c m) is = subst
     (λ (r : Result Work Status). IsMeant r answer) (sym e) (inl (is ∙ s))
-own_meant meant files a b status answer told depot print (unclosed work e s i j t out f h k r c m) is = absurd
+own_meant meant files a b status answer told depot print (unclosed work e s i j t out f h k r v c m) is = absurd
     (still_or_not _ _ depot r)
-own_meant meant files a b status answer told depot print (exhausted s h c m) is = out_of_memory meant answer (is ∙ s)
-own_meant meant files a b status answer told depot print (failed s h r c m) is = absurd (still_or_not _ _ depot r)
+own_meant meant files a b status answer told depot print (exhausted s h v c m) is = out_of_memory meant answer (is ∙ s)
+own_meant meant files a b status answer told depot print (failed s h r v c m) is = absurd (still_or_not _ _ depot r)
 own_meant meant files a b status answer told depot print (nowhere work e out f s n h k c m) is = absurd
     (let x = sym told ∙ n in cc)
 own_meant meant files a b status answer told depot print (cut_off work e s h k r c m) is = absurd (print r)
@@ -233,9 +233,9 @@ refused_usage : (meant : Result Work Status) (a b : Outside) (status : Status) �
     status ≡ Usage → meant ≡ Err Usage
 refused_usage meant a b status (refused e r h k c m) is = e ∙ ap Err is
 refused_usage meant a b status (ended work e s i h k c m) is = absurd (subst IsEnding is i)
-refused_usage meant a b status (unclosed work e s i j t out f h k r c m) is = absurd (subst IsEnding is i)
-refused_usage meant a b status (exhausted s h c m) is = absurd (let x = sym s ∙ is in cc)
-refused_usage meant a b status (failed s h r c m) is = absurd (let x = sym s ∙ is in cc)
+refused_usage meant a b status (unclosed work e s i j t out f h k r v c m) is = absurd (subst IsEnding is i)
+refused_usage meant a b status (exhausted s h v c m) is = absurd (let x = sym s ∙ is in cc)
+refused_usage meant a b status (failed s h r v c m) is = absurd (let x = sym s ∙ is in cc)
 refused_usage meant a b status (nowhere work e out f s n h k c m) is = absurd (let x = sym s ∙ is in cc)
 refused_usage meant a b status (cut_off work e s h k r c m) is = absurd (let x = sym s ∙ is in cc)
 

@@ -4,8 +4,9 @@ use Rattle.std.specs.Io.KnownBytes.{Appends}
 use Rattle.sd_cause.specs.Count.{Rose}
 use Rattle.sd_ports.specs.Bytes.{AppendsPrefix}
 use Rattle.sd_status.specs.declared.status.Status.{Status}
-use Rattle.sd_status.specs.declared.status.Status.TheVariants.{Done, Usage, Missing, DepotFault, PrintFault, NoMemory}
-use Rattle.sd_status.specs.declared.status.Status.TheVariants.{NoCat}
+use Rattle.sd_status.specs.declared.status.Status.TheVariants.{Done, Usage, Missing, Revoked, DepotFault, PrintFault}
+use Rattle.sd_status.specs.declared.status.Status.TheVariants.{BadSite, BadBook, BadCard, BadClear, BadStream, Limit}
+use Rattle.sd_status.specs.declared.status.Status.TheVariants.{NoMemory, Unheard, Unclosed, Gaps, NoCat, BadWord, Clash}
 use Rattle.sd_status.specs.Texts.{line_of}
 use Rattle.sd_status.specs.Outside.{Page, Outside}
 use Rattle.sd_status.specs.Meant.{Meant, Given}
@@ -16,11 +17,23 @@ use Rattle.sd_status.specs.Comes.{Follows}
 abbrev pub TakesMemory : Status → Type 0
 TakesMemory Done = ⊥
 TakesMemory Usage = ⊥
+TakesMemory (Missing word) = Unit {0}
+TakesMemory (Revoked leaf period) = Unit {0}
 TakesMemory DepotFault = ⊥
 TakesMemory PrintFault = ⊥
+TakesMemory (BadSite fault) = Unit {0}
+TakesMemory (BadBook word line) = Unit {0}
+TakesMemory (BadCard fault) = Unit {0}
+TakesMemory (BadClear packet cause) = Unit {0}
+TakesMemory (BadStream packet cause) = Unit {0}
+TakesMemory (Limit kind) = Unit {0}
 TakesMemory NoMemory = ⊥
+TakesMemory (Unheard leaf period) = Unit {0}
+TakesMemory (Unclosed number) = Unit {0}
+TakesMemory (Gaps packets) = Unit {0}
 TakesMemory NoCat = ⊥
-TakesMemory _ = Unit {0}
+TakesMemory (BadWord word) = Unit {0}
+TakesMemory (Clash clash) = Unit {0}
 
 -- the line of a status was printed and is answered, or printing failed at it
 abbrev pub Says : Page → Page → Status → Status → Type 0

@@ -7,7 +7,8 @@ use Rattle.sd_ports.specs.Files.{with_bytes}
 use Rattle.sd_ports.specs.Bytes.{IsPrefix, AppendsPrefix}
 use Rattle.sd_status.specs.declared.status.Status.{Status}
 use Rattle.sd_status.specs.declared.status.Status.TheVariants.{Done, Usage, Missing, Revoked, DepotFault, PrintFault}
-use Rattle.sd_status.specs.declared.status.Status.TheVariants.{NoMemory, Unheard, Unclosed, Gaps, NoCat}
+use Rattle.sd_status.specs.declared.status.Status.TheVariants.{BadSite, BadBook, BadCard, BadClear, BadStream, Limit}
+use Rattle.sd_status.specs.declared.status.Status.TheVariants.{NoMemory, Unheard, Unclosed, Gaps, NoCat, BadWord, Clash}
 use Rattle.sd_status.specs.Outside.{Place, Page, Outside}
 use Rattle.sd_status.specs.Meant.{Meant, Given, IsGiven}
 use Rattle.sd_status.specs.Work.{Out, Work, files_with, made_with, all_calls, TakesSteps}
@@ -15,24 +16,46 @@ use Rattle.sd_status.specs.Work.{Out, Work, files_with, made_with, all_calls, Ta
 -- the status refuses words or files: it isn't that work is done, and it doesn't come of the outside
 abbrev pub IsRefusal : Status → Type 0
 IsRefusal Done = ⊥
+IsRefusal Usage = Unit {0}
+IsRefusal (Missing word) = Unit {0}
 IsRefusal (Revoked leaf period) = ⊥
 IsRefusal DepotFault = ⊥
 IsRefusal PrintFault = ⊥
+IsRefusal (BadSite fault) = Unit {0}
+IsRefusal (BadBook word line) = Unit {0}
+IsRefusal (BadCard fault) = Unit {0}
+IsRefusal (BadClear packet cause) = Unit {0}
+IsRefusal (BadStream packet cause) = Unit {0}
+IsRefusal (Limit kind) = Unit {0}
 IsRefusal NoMemory = ⊥
 IsRefusal (Unheard leaf period) = ⊥
 IsRefusal (Unclosed number) = ⊥
 IsRefusal (Gaps packets) = ⊥
 IsRefusal NoCat = ⊥
-IsRefusal _ = Unit {0}
+IsRefusal (BadWord word) = Unit {0}
+IsRefusal (Clash clash) = Unit {0}
 
 -- the status may stand at the end of work
 abbrev pub IsEnding : Status → Type 0
+IsEnding Done = Unit {0}
 IsEnding Usage = ⊥
 IsEnding (Missing word) = ⊥
+IsEnding (Revoked leaf period) = Unit {0}
 IsEnding DepotFault = ⊥
 IsEnding PrintFault = ⊥
+IsEnding (BadSite fault) = Unit {0}
+IsEnding (BadBook word line) = Unit {0}
+IsEnding (BadCard fault) = Unit {0}
+IsEnding (BadClear packet cause) = Unit {0}
+IsEnding (BadStream packet cause) = Unit {0}
+IsEnding (Limit kind) = Unit {0}
 IsEnding NoMemory = ⊥
-IsEnding _ = Unit {0}
+IsEnding (Unheard leaf period) = Unit {0}
+IsEnding (Unclosed number) = Unit {0}
+IsEnding (Gaps packets) = Unit {0}
+IsEnding NoCat = Unit {0}
+IsEnding (BadWord word) = Unit {0}
+IsEnding (Clash clash) = Unit {0}
 
 -- no device failed
 pub record IsCalm (a b : Outside) : Type 0 where
@@ -82,6 +105,11 @@ pub data Stands (meant : Result Work Status) (a b : Outside) : Type 0 where
   printing : (work : Work) → meant ≡ Ok work → IsMade work.out a.place b.place → PrintsSome work a.page b.page →
       Stands meant a b
 
+-- if the work is a stream that is refused, the device failed before that was known: not only at closing OUT
+abbrev pub StopsFirst : Result Work Status → Place → Place → Type 0
+StopsFirst (Ok work) a b = work.breaks ≡ true → Rose a.stops b.stops
+StopsFirst (Err refusal) a b = Unit {0}
+
 pub data Comes (meant : Result Work Status) (a b : Outside) (status : Status) : Type 0 where
   -- the words or the files are refused, and nothing was made or printed
   refused : meant ≡ Err status → IsRefusal status → IsUnmade a.place b.place → b.page.printed ≡ a.page.printed →
@@ -94,14 +122,15 @@ pub data Comes (meant : Result Work Status) (a b : Outside) (status : Status) : 
   unclosed : (work : Work) → meant ≡ Ok work → status ≡ work.ends → IsEnding status → IsRefusal status →
       work.breaks ≡ true → (out : Out) → work.out ≡ Some out → IsMadeShort out a.place b.place →
       b.page.printed ≡ a.page.printed →
-      Rose a.place.faults b.place.faults → b.page.faults ≡ a.page.faults →
+      Rose a.place.faults b.place.faults → b.place.stops ≡ a.place.stops → b.page.faults ≡ a.page.faults →
       b.place.misses ≡ a.place.misses → Comes meant a b status
-  -- out of memory
-  exhausted : status ≡ NoMemory → Stands meant a b → IsCalm a b → b.place.misses ≡ a.place.misses →
-      Comes meant a b status
-  -- the device failed at a file
-  failed : status ≡ DepotFault → Stands meant a b → Rose a.place.faults b.place.faults →
+  -- out of memory, which stands though OUT failed to close after it
+  exhausted : status ≡ NoMemory → Stands meant a b → b.place.stops ≡ a.place.stops →
       b.page.faults ≡ a.page.faults → b.place.misses ≡ a.place.misses → Comes meant a b status
+  -- the device failed at a file: not at closing OUT alone, if the stream is refused
+  failed : status ≡ DepotFault → Stands meant a b → Rose a.place.faults b.place.faults →
+      StopsFirst meant a.place b.place → b.page.faults ≡ a.page.faults → b.place.misses ≡ a.place.misses →
+      Comes meant a b status
   -- there is no folder for OUT, in a depot that doesn't tell its files
   nowhere : (work : Work) → meant ≡ Ok work → (out : Out) → work.out ≡ Some out → status ≡ Missing out.word →
       a.place.files ≡ None → IsUnmade a.place b.place → b.page.printed ≡ a.page.printed → IsCalm a b →

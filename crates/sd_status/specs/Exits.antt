@@ -3,6 +3,7 @@ use Rattle.sd_status.specs.declared.status.Status.{Status}
 use Rattle.sd_status.specs.declared.status.Status.TheVariants.{Done, Usage, Missing, Revoked, DepotFault, PrintFault}
 use Rattle.sd_status.specs.declared.status.Status.TheVariants.{BadSite, BadBook, BadCard, BadClear, BadStream}
 use Rattle.sd_status.specs.declared.status.Status.TheVariants.{Limit, NoMemory, Unheard, Unclosed, Gaps, NoCat, BadWord}
+use Rattle.sd_status.specs.declared.status.Status.TheVariants.{Clash}
 
 -- the exit status of the program [this project, docs/FORMATS.md, Exits]
 abbrev pub code_of : Status → ℕ
@@ -24,3 +25,4 @@ code_of (Unclosed number) = 14
 code_of (Gaps packets) = 15
 code_of NoCat = 16
 code_of (BadWord word) = 17
+code_of (Clash clash) = 18

@@ -9,8 +9,10 @@ use Rattle.sd_ports.specs.declared.sink.Sink.{Ghosts as SinkMeanings}
 pub record Place : Type 0 where
   -- the files, where they are told
   pub files : Option Files
-  -- how often the device failed, and how often a file was asked for that isn't there
+  -- how often the device failed, and how often it did so but for the closing of a file that was made
   pub faults : ℕ
+  pub stops : ℕ
+  -- how often a file was asked for that isn't there
   pub misses : ℕ
   -- how many files were made, how many ports are open, and how many calls there were
   pub made : ℕ
@@ -32,6 +34,7 @@ abbrev pub place : {D Inlet Outlet : Type 0} → DepotMeanings D Inlet Outlet �
 place meanings depot = record {
   files = meanings.files depot;
   faults = meanings.faults depot;
+  stops = meanings.stops depot;
   misses = meanings.misses depot;
   made = meanings.made depot;
   opened = meanings.opened depot;
@@ -49,6 +52,7 @@ abbrev pub recalled : ℕ → Place → Place
 recalled calls at = record {
   files = at.files;
   faults = at.faults;
+  stops = at.stops;
   misses = at.misses;
   made = at.made;
   opened = at.opened;

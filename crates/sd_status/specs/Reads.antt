@@ -22,9 +22,14 @@ pub record IsRefused {Y : Type 0} (meant : Meant Y) (a b : Place) (status : Stat
   pub calm : b.faults ≡ a.faults
   pub miss : HasMiss status a.misses b.misses
 
+-- memory ran out and no device failed, or a device failed at something else than closing a file that was made
+abbrev pub StopCause : Place → Place → Status → Type 0
+StopCause a b status = ((status ≡ NoMemory) × (b.faults ≡ a.faults) × (b.stops ≡ a.stops))
+    ⊎ ((status ≡ DepotFault) × Rose a.faults b.faults × Rose a.stops b.stops)
+
 -- the outside stopped it
 pub record IsStopped (calls : ℕ) (a b : Place) (status : Status) : Type 0 where
-  pub cause : ((status ≡ NoMemory) × (b.faults ≡ a.faults)) ⊎ ((status ≡ DepotFault) × Rose a.faults b.faults)
+  pub cause : StopCause a b status
   pub asked : IsAsked calls a b
   pub misses : b.misses ≡ a.misses
 
@@ -52,6 +57,11 @@ pub record Reads {X Y : Type 0} (view : X → Y) (meant : Given → Meant Y) (a 
 abbrev pub Judges : {X Y : Type 0} → (X → Y) → Result Y Status → Result X Status → Type 0
 Judges view meant (Ok x) = meant ≡ Ok (view x)
 Judges view meant (Err status) = ((meant ≡ Err status) × IsRefusal status × IsEnding status) ⊎ (status ≡ NoMemory)
+
+-- a step that asks nothing of the outside, nor of memory, gives what is meant, or its refusal
+abbrev pub JudgesAlone : {X Y : Type 0} → (X → Y) → Result Y Status → Result X Status → Type 0
+JudgesAlone view meant (Ok x) = meant ≡ Ok (view x)
+JudgesAlone view meant (Err status) = (meant ≡ Err status) × IsRefusal status × IsEnding status
 
 -- steps of the generator are taken only where no refusal is meant
 abbrev pub TakesFor : {Y : Type 0} → Result Y Status → ℕ → ℕ → Type 0

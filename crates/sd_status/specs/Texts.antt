@@ -20,12 +20,14 @@ use Rattle.sd_ecm.specs.declared.fault.EcmFault.TheVariants as ecm
 use Rattle.sd_status.specs.declared.status.Status.{Status}
 use Rattle.sd_status.specs.declared.status.Status.TheVariants.{Done, Usage, Missing, Revoked, DepotFault, PrintFault}
 use Rattle.sd_status.specs.declared.status.Status.TheVariants.{BadSite, BadBook, BadCard, BadClear, BadStream}
-use Rattle.sd_status.specs.declared.status.Status.TheVariants.{Limit, NoMemory, Unheard, Unclosed, Gaps, NoCat, BadWord}
+use Rattle.sd_status.specs.declared.status.Status.TheVariants.{Limit, NoMemory, Unheard, Unclosed, Gaps, NoCat, BadWord, Clash}
 use Rattle.sd_status.specs.declared.status.LimitKind.{LimitKind}
 use Rattle.sd_status.specs.declared.status.LimitKind.TheVariants.{SiteBytes, BookBytes, CardBytes, Book, TrialHeight}
 use Rattle.sd_status.specs.declared.status.LimitKind.TheVariants.{TrialPackets, Traced}
 use Rattle.sd_status.specs.declared.status.ClearCause.{ClearCause}
 use Rattle.sd_status.specs.declared.status.ClearCause.TheVariants as clear
+use Rattle.sd_status.specs.declared.status.Clash.{Clash as ClashKind}
+use Rattle.sd_status.specs.declared.status.Clash.TheVariants.{Heights, Masters, NoWords, SharedWord, Books}
 use Rattle.sd_status.specs.declared.status.StreamCause.{StreamCause}
 use Rattle.sd_status.specs.declared.status.StreamCause.TheVariants.{Broken, TooLong, WrongKey, WrongWord}
 use Rattle.sd_status.specs.declared.status.StreamCause.TheVariants.{BadEmm, BadEcm, Parity}
@@ -164,6 +166,16 @@ book_line word line = codes "word " ++ (decimal word ++ (codes " line " ++ (deci
 unfoldable pub word_line : ℕ → List ℕ
 word_line word = codes "word " ++ (decimal word ++ codes " is out of range\n")
 
+-- the line of two broadcasts that may not go out under one set of cards
+unfoldable pub clash_line : ClashKind → List ℕ
+clash_line Heights = codes "sites have two heights\n"
+clash_line Masters = codes "sites have two masters\n"
+clash_line (NoWords site) = codes "site " ++ (decimal site ++ codes " has no control word\n")
+clash_line (SharedWord word) = codes "sites share control word " ++ (decimal word ++ codes "\n")
+clash_line (Books leaf period) =
+    codes "books disagree on receiver "
+    ++ (decimal leaf ++ (codes " in period " ++ (decimal period ++ codes "\n")))
+
 -- the line that a status prints; none where the work is done, or where printing failed
 unfoldable pub line_of : Status → List ℕ
 line_of Done = []
@@ -184,3 +196,4 @@ line_of (Unclosed number) = unclosed_line number
 line_of (Gaps packets) = gaps_line packets
 line_of NoCat = codes "no CAT for this card\n"
 line_of (BadWord word) = word_line word
+line_of (Clash clash) = clash_line clash

@@ -4,5 +4,5 @@
 mod status;
 mod telling;
 
-pub use status::{ClearCause, LimitKind, Status, StreamCause};
+pub use status::{Clash, ClearCause, LimitKind, Status, StreamCause};
 pub use telling::tell;

@@ -50,6 +50,8 @@ pub enum Status {
     NoCat,
     /// This word is no decimal, or its number is out of its range.
     BadWord(u8),
+    /// Two broadcasts may not go out under one set of cards.
+    Clash(Clash),
 }
 
 impl Status {
@@ -76,6 +78,7 @@ impl Status {
             Status::Gaps(_) => 15,
             Status::NoCat => 16,
             Status::BadWord(_) => 17,
+            Status::Clash(_) => 18,
         }
     }
 }
@@ -143,6 +146,22 @@ pub enum LimitKind {
     TrialPackets,
     /// At most 65,536 leaves may be revoked while leaves are traced.
     Traced,
+}
+
+/// Why two broadcasts may not go out under one set of cards. Sites are numbered from 1.
+#[derive(Clone, Copy, Debug, PartialEq, Eq)]
+pub enum Clash {
+    /// Their trees have two heights.
+    Heights,
+    /// They have two masters.
+    Masters,
+    /// This site's range of control words is empty.
+    NoWords(u8),
+    /// This is the least control word that both ranges have.
+    SharedWord(u32),
+    /// In this period, the first of both in which their books disagree, this leaf is the least that one book revokes
+    /// and the other doesn't.
+    Books { leaf: u32, period: u32 },
 }
 
 impl From<NoMemory> for Status {

@@ -9,12 +9,12 @@ ghost use Rattle.sd_status.specs.Texts.{emm_text as emm_text_of, ecm_text as ecm
 ghost use Rattle.sd_status.specs.Texts.{revoked_line as revoked_line_of, unheard_line as unheard_line_of};
 ghost use Rattle.sd_status.specs.Texts.{unclosed_line as unclosed_line_of, gaps_line as gaps_line_of};
 ghost use Rattle.sd_status.specs.Texts.{missing_line as missing_line_of, book_line as book_line_of};
-ghost use Rattle.sd_status.specs.Texts.{word_line as word_line_of};
+ghost use Rattle.sd_status.specs.Texts.{word_line as word_line_of, clash_line as clash_line_of};
 ghost use Rattle.sd_status.specs.Lines.{bytes_of};
 ghost use Rattle.sd_status.specs.Outside.{page};
 ghost use Rattle.sd_status.specs.Answers.{Says, Tells, TakesMemory};
 
-use crate::status::{ClearCause, LimitKind, Status, StreamCause};
+use crate::status::{Clash, ClearCause, LimitKind, Status, StreamCause};
 use sd_book::BookLimit;
 use sd_card::CardFault;
 use sd_ecm::EcmFault;
@@ -90,6 +90,7 @@ fn status_line(alloc: Global, status: Status) -> Result<Line, AllocError>
         Status::Gaps(packets) => gaps_line(alloc, packets),
         Status::NoCat => Ok(Line::Fixed("no CAT for this card\n")),
         Status::BadWord(word) => word_line(alloc, word),
+        Status::Clash(clash) => clash_line(alloc, clash),
     }
 }
 
@@ -115,6 +116,24 @@ fn word_line(alloc: Global, word: u8) -> Result<Line, AllocError>
     ensures { IfOk result (λ line. bytes_of line ≡ word_line_of word) }
 {
     Ok(Line::Made(format!(in alloc; "word {word} is out of range\n")?))
+}
+
+/// The line of two broadcasts that may not go out under one set of cards.
+#[tactic(auto, unfolding(crate::specs::Texts::clash_line))]
+fn clash_line(alloc: Global, clash: Clash) -> Result<Line, AllocError>
+    ensures { IfOk result (λ line. bytes_of line ≡ clash_line_of clash) }
+{
+    Ok(match clash {
+        Clash::Heights => Line::Fixed("sites have two heights\n"),
+        Clash::Masters => Line::Fixed("sites have two masters\n"),
+        Clash::NoWords(site) => Line::Made(format!(in alloc; "site {site} has no control word\n")?),
+        Clash::SharedWord(word) => Line::Made(format!(in alloc;
+            "sites share control word {word}\n"
+        )?),
+        Clash::Books { leaf, period } => Line::Made(format!(in alloc;
+            "books disagree on receiver {leaf} in period {period}\n"
+        )?),
+    })
 }
 
 /// The line of a leaf that is revoked.
