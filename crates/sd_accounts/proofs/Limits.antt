@@ -7,7 +7,7 @@ use Rattle.sd_book.specs.declared.fault.BookFault.{BookFault}
 use Rattle.sd_book.specs.declared.fault.BookFault.TheVariants.{Limit, NoMemory}
 use Rattle.sd_book.specs.declared.fault.BookLimit.{BookLimit}
 use Rattle.sd_book.specs.declared.fault.BookLimit.TheVariants.{Revoked}
-use Rattle.sd_tree.specs.declared.leaf.TheConstants.{MOST_REVOKED}
+use Rattle.sd_tree.specs.Limits.{most_revoked}
 use Rattle.sd_book.specs.Commands.{is_within, last_period, revoked_after}
 use Rattle.sd_book.specs.Faults.{Breaks, IsBroken, IsCauseOf}
 use Rattle.sd_book.specs.Limits.{IsDraft, IsWithinLimits}
@@ -59,9 +59,9 @@ book_ends d commands all = ap allowed (end_again d commands all)
 -- the end of commands, whatever it gives
 end_by : {A B : Type 0} (d : ℕ) (commands : List Command) (x : A) (y : B) (fault : BookFault) →
     ended d commands x ≡ Err fault → ended d commands y ≡ Err fault
-end_by d commands x y fault e = by_test (nat_lt MOST_REVOKED (length (revoked_after d commands))) refl e
+end_by d commands x y fault e = by_test (nat_lt most_revoked (length (revoked_after d commands))) refl e
   where
-    by_test : (b : Bool) → nat_lt MOST_REVOKED (length (revoked_after d commands)) ≡ b →
+    by_test : (b : Bool) → nat_lt most_revoked (length (revoked_after d commands)) ≡ b →
         (if b then Err (Limit (Revoked (last_period commands))) else Ok x) ≡ Err fault →
         ended d commands y ≡ Err fault
     by_test true is same = let why : Limit (Revoked (last_period commands)) ≡ fault = cc in rw (is, why) refl

@@ -5,7 +5,6 @@ use Rattle.std.specs.Char.{is_ascii_digit, is_ascii_lowercase}
 use Rattle.std.specs.List.{list_all}
 use Rattle.sd_text.specs.Lines.{lines_of}
 use Rattle.sd_text.specs.Number.{after, number_of}
-use Rattle.sd_accounts.specs.declared.name.TheConstants.{LONGEST_NAME}
 
 -- what a line says
 pub data Entry : Type 0 where
@@ -18,13 +17,17 @@ pub data Entry : Type 0 where
   -- the next period begins
   Ends : Entry
 
+-- the bytes of the longest name [this project, docs/FORMATS.md, Accounts]
+abbrev pub longest_name : ℕ
+longest_name = 32
+
 -- a to z, 0 to 9 and '-'
 abbrev pub is_name_byte : ℕ → Bool
 is_name_byte byte = is_ascii_lowercase byte || (is_ascii_digit byte || byte == 45)
 
--- 1 to 32 of those [this project, docs/FORMATS.md, Accounts]
+-- 1 or more of those, and not too many [this project, docs/FORMATS.md, Accounts]
 unfoldable pub is_name : List ℕ → Bool
-is_name text = nat_lt 0 (length text) && (nat_le (length text) LONGEST_NAME && list_all is_name_byte text)
+is_name text = nat_lt 0 (length text) && (nat_le (length text) longest_name && list_all is_name_byte text)
 
 -- the byte before the first of two parts
 abbrev pub onto_first : ℕ → List ℕ × List ℕ → List ℕ × List ℕ

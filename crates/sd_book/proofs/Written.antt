@@ -68,6 +68,11 @@ spelled d (command ∷ commands) small leaves =
     let rest = spelled d commands small (All-tail (λ c. is_within d c ≡ true) command commands leaves) in
     rw (first, rest) refl
 
+-- the lines of the text of commands of the tree spell these commands
+pub spelled_again : (d : ℕ) (commands : List Command) → d ≤ 20 → All (λ command. is_within d command ≡ true) commands →
+    SpellsBook (lines_of (text_of commands)) commands
+spelled_again d commands small leaves = rw (lines_written d commands small leaves) (spelled d commands small leaves)
+
 -- the text of commands of the tree is judged as these commands are
 pub judged_again : (d : ℕ) (commands : List Command) → d ≤ 20 → All (λ command. is_within d command ≡ true) commands
     → book_of d (text_of commands) ≡ judged d [] (map Some commands)
@@ -78,5 +83,5 @@ judged_again d commands small leaves =
 -- the text of commands within the limits is read as these commands
 pub read_again : (d : ℕ) (commands : List Command) → d ≤ 20 → IsWithinLimits d commands → book_of d (text_of commands)
     ≡ Ok commands
-read_again d commands small all = book_again d (text_of commands) commands
-    (rw (lines_written d commands small all.leaves) (spelled d commands small all.leaves)) all
+read_again d commands small all =
+    book_again d (text_of commands) commands (spelled_again d commands small all.leaves) all

@@ -17,13 +17,12 @@ use Rattle.sd_secrets.proofs.Written.{secrets_once, cut_count, file_said}
 use Rattle.sd_card.specs.declared.card.Card.{Card}
 use Rattle.sd_card.specs.declared.fault.CardFault.{CardFault}
 use Rattle.sd_card.specs.declared.fault.CardFault.TheVariants.{NoMemory}
-use Rattle.sd_card.specs.declared.format.TheConstants.{MAGIC, VERSION}
-use Rattle.sd_card.specs.Fields.{CardFields, IsCard, saying, fields_of, card_head, card_bytes}
+use Rattle.sd_card.specs.Fields.{CardFields, IsCard, saying, fields_of, card_head, card_bytes, card_magic, card_version}
 use Rattle.sd_card.specs.Faults.{height_in, leaf_in, ca_in, length_at, fault_in, IsFaultOf}
 
 -- what nothing is wrong with
 pub record IsGood (bytes : List ℕ) : Type 0 where
-  pub magic : MAGIC ≡ take 4 bytes
+  pub magic : card_magic ≡ take 4 bytes
   pub version : byte_at bytes 4 ≡ 1
   pub height : (1 ≤ height_in bytes) × (height_in bytes ≤ 20)
   pub leaf : leaf_in bytes < 2 ^ height_in bytes
@@ -61,23 +60,23 @@ ca_bytes bytes fits = two_again (bytes_from bytes 10 2) (bytes_at bytes 10 2 fit
 
 -- the file from its version to its secrets
 after_magic : (bytes : List ℕ) → AreBytes bytes → byte_at bytes 4 ≡ 1
-    → bytes_from bytes 4 8 ≡ VERSION ∷ height_in bytes ∷ (big_bytes 4 (leaf_in bytes) ++ big_bytes 2 (ca_in bytes))
+    → bytes_from bytes 4 8 ≡ card_version ∷ height_in bytes ∷ (big_bytes 4 (leaf_in bytes) ++ big_bytes 2 (ca_in bytes))
 after_magic bytes fits version =
     let d = height_in bytes in
     let u = bytes_from bytes 6 4 in
     let system = bytes_from bytes 10 2 in
     ap (λ (v : ℕ). v ∷ d ∷ (u ++ system)) version
-    ∙ (ap (λ (r : List ℕ). VERSION ∷ d ∷ (r ++ system)) (sym (leaf_bytes bytes fits))
-    ∙ ap (λ (r : List ℕ). VERSION ∷ d ∷ (big_bytes 4 (leaf_in bytes) ++ r)) (sym (ca_bytes bytes fits)))
+    ∙ (ap (λ (r : List ℕ). card_version ∷ d ∷ (r ++ system)) (sym (leaf_bytes bytes fits))
+    ∙ ap (λ (r : List ℕ). card_version ∷ d ∷ (big_bytes 4 (leaf_in bytes) ++ r)) (sym (ca_bytes bytes fits)))
 
 -- the bytes before the secrets
-head_said : (bytes : List ℕ) → AreBytes bytes → MAGIC ≡ take 4 bytes → byte_at bytes 4 ≡ 1 → 12 ≤ length bytes
+head_said : (bytes : List ℕ) → AreBytes bytes → card_magic ≡ take 4 bytes → byte_at bytes 4 ≡ 1 → 12 ≤ length bytes
     → take 12 bytes ≡ card_head (height_in bytes) (leaf_in bytes) (ca_in bytes)
 unfolding card_head
 head_said bytes fits magic version long =
     take-add 4 8 bytes
     ∙ (ap (λ (r : List ℕ). r ++ take 8 (drop 4 bytes)) (sym magic)
-    ∙ ap (λ (r : List ℕ). MAGIC ++ r) (cut_bytes bytes 4 8 (omega arith) ∙ after_magic bytes fits version))
+    ∙ ap (λ (r : List ℕ). card_magic ++ r) (cut_bytes bytes 4 8 (omega arith) ∙ after_magic bytes fits version))
 
 -- the system's number has two bytes
 ca_within : (bytes : List ℕ) → AreBytes bytes → ca_in bytes < 2 ^ 16
@@ -134,7 +133,7 @@ unfolding card_bytes
 check_good card = check_written _ card.secrets
 
 -- it begins as a card does
-magic_written : (card : CardFields) → bytes_eq (MAGIC) (take 4 (card_bytes card)) ≡ true
+magic_written : (card : CardFields) → bytes_eq (card_magic) (take 4 (card_bytes card)) ≡ true
 unfolding card_bytes file_bytes file_body card_head
 magic_written card = refl
 

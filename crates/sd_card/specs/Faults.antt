@@ -2,12 +2,13 @@
 use Rattle.std.specs.Prelude.{◌≡◌, ℕ, ◌+◌, ◌*◌, ◌/◌, ◌^◌, ◌==◌, ◌&&◌, ◌⊎◌, nat_le, nat_lt, bytes_eq}
 use Rattle.std.specs.Prelude.{List, length, take, Option, Some, None}
 use Rattle.byteorder.specs.Endian.{big_number}
-use Rattle.sd_tree.specs.declared.height.TheConstants.{HIGHEST}
+use Rattle.sd_tree.specs.Limits.{highest}
 use Rattle.sd_secrets.specs.Files.{byte_at, bytes_from, check_in, check_due, unless}
 use Rattle.sd_secrets.specs.declared.file.TheConstants.{SECRET_BYTES, CHECK_BYTES}
 use Rattle.sd_card.specs.declared.fault.CardFault.{CardFault}
 use Rattle.sd_card.specs.declared.fault.CardFault.TheVariants.{Magic, Version, Height, Leaf, Length, Check, NoMemory}
-use Rattle.sd_card.specs.declared.format.TheConstants.{MAGIC, VERSION, VERSION_AT, HEIGHT_AT, LEAF_AT, CA_AT}
+use Rattle.sd_card.specs.declared.format.TheConstants.{VERSION_AT, HEIGHT_AT, LEAF_AT, CA_AT}
+use Rattle.sd_card.specs.Fields.{card_magic, card_version}
 use Rattle.sd_card.specs.declared.format.TheConstants.{SECRETS_AT}
 
 -- the height that the file names [this project, docs/FORMATS.md, Card]
@@ -29,9 +30,9 @@ length_at d = SECRETS_AT + SECRET_BYTES * (d * (d + 1) / 2 + 1) + CHECK_BYTES
 -- what is wrong with the bytes, by the first field that isn't good [this project, docs/FORMATS.md, Card]
 unfoldable pub fault_in : List ℕ → Option CardFault
 fault_in bytes =
-    unless (bytes_eq MAGIC (take VERSION_AT bytes)) Magic
-    (unless (byte_at bytes VERSION_AT == VERSION) Version
-    (unless (nat_le 1 (height_in bytes) && nat_le (height_in bytes) HIGHEST) Height
+    unless (bytes_eq card_magic (take VERSION_AT bytes)) Magic
+    (unless (byte_at bytes VERSION_AT == card_version) Version
+    (unless (nat_le 1 (height_in bytes) && nat_le (height_in bytes) highest) Height
     (unless (nat_lt (leaf_in bytes) (2 ^ height_in bytes)) Leaf
     (unless (length bytes == length_at (height_in bytes)) Length
     (unless (bytes_eq (check_in bytes) (check_due bytes)) (Check (check_in bytes) (check_due bytes))

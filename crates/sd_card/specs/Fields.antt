@@ -1,13 +1,19 @@
 -- The card of a receiver, and the file that it is kept in.
-use Rattle.std.specs.Prelude.{◌≡◌, ℕ, ◌+◌, ◌*◌, ◌/◌, ◌^◌, ◌<◌, ◌≤◌, List, ◌∷◌, ◌++◌, length, map}
+use Rattle.std.specs.Prelude.{◌≡◌, ℕ, ◌+◌, ◌*◌, ◌/◌, ◌^◌, ◌<◌, ◌≤◌, List, ◌∷◌, ◌++◌, length, map, codes}
 use Rattle.byteorder.specs.Endian.{big_bytes}
-use Rattle.sd_tree.specs.declared.height.TheConstants.{HIGHEST}
+use Rattle.sd_tree.specs.Limits.{highest}
 use Rattle.sd_tree.specs.declared.set.SetName.{SetName}
 use Rattle.sd_label.specs.Names.{given}
 use Rattle.sd_secrets.specs.Files.{AreSecrets, file_bytes}
 use Rattle.sd_secrets.specs.Secrets.{secret_of, Derives, key_held}
 use Rattle.sd_card.specs.declared.card.Card.{Card}
-use Rattle.sd_card.specs.declared.format.TheConstants.{MAGIC, VERSION}
+
+-- the bytes that a card's file begins with, and its version [this project, docs/FORMATS.md, Card]
+abbrev pub card_magic : List ℕ
+card_magic = codes "SDCD"
+
+abbrev pub card_version : ℕ
+card_version = 1
 
 -- what a card says: the tree's height, its leaf, the conditional access system, and a secret for each name that the
 -- leaf is given
@@ -28,7 +34,7 @@ fields_of card = saying card.height card.leaf card.ca card.secrets.items
 -- the numbers are in their ranges, and there are as many secrets as a leaf is given names
 -- [this project, docs/FORMATS.md, Card]
 pub record IsCard (card : CardFields) : Type 0 where
-  pub height : (1 ≤ card.height) × (card.height ≤ HIGHEST)
+  pub height : (1 ≤ card.height) × (card.height ≤ highest)
   pub leaf : card.leaf < 2 ^ card.height
   pub ca : card.ca < 2 ^ 16
   pub count : length card.secrets ≡ card.height * (card.height + 1) / 2 + 1
@@ -40,7 +46,7 @@ card_of master ca d u = saying d u ca (map (secret_of master) (given d u))
 
 -- a card's file before its secrets [this project, docs/FORMATS.md, Card]
 unfoldable pub card_head : ℕ → ℕ → ℕ → List ℕ
-card_head d u ca = MAGIC ++ (VERSION ∷ d ∷ (big_bytes 4 u ++ big_bytes 2 ca))
+card_head d u ca = card_magic ++ (card_version ∷ d ∷ (big_bytes 4 u ++ big_bytes 2 ca))
 
 -- a card's file: its head, its secrets, and the check at its end [this project, docs/FORMATS.md, Card]
 unfoldable pub card_bytes : CardFields → List ℕ

@@ -2,12 +2,13 @@
 
 ghost use Rattle.std.specs.Prelude.{◌≡◌, ◌≤◌, ◌<◌, ◌^◌, ℕ, List, None, true};
 ghost use Rattle.sd_tree.specs.Leaves.{is_member};
+ghost use Rattle.sd_tree.specs.Limits.{highest};
 ghost use Rattle.sd_tree.specs.SetNames.{IsOfHeight};
 ghost use Rattle.sd_label.specs.Keys.{key_of};
 ghost use Rattle.sd_card.specs.Fields.{CardFields, IsCard, card_of, card_bytes, card_key};
 ghost use Rattle.sd_card.specs.Faults.{fault_in};
 
-use sd_tree::{HIGHEST, SetName};
+use sd_tree::SetName;
 
 /// A card's file says that card alone, and nothing is wrong with it. So a card that is written is read again.
 #[tactic(auto, using(crate::proofs::Spellings::written_once, crate::proofs::Spellings::written_is_good))]
@@ -19,13 +20,13 @@ pub fn card_files()
 /// The card of a leaf is a card. So the file that is made for a leaf is read, as this card.
 #[tactic(auto, using(crate::proofs::Made::made_is_card))]
 pub fn made_cards()
-    ensures { (master : List ℕ) (ca d u : ℕ) → ca < 2 ^ 16 → 1 ≤ d → d ≤ HIGHEST → u < 2 ^ d →
+    ensures { (master : List ℕ) (ca d u : ℕ) → ca < 2 ^ 16 → 1 ≤ d → d ≤ highest → u < 2 ^ d →
         IsCard (card_of master ca d u) }
 {}
 
 /// The card of a leaf gives the key of each set that the leaf is in.
 #[tactic(auto, using(crate::proofs::Keys::made_gives_key))]
 pub fn made_keys()
-    ensures { (master : List ℕ) (ca d u : ℕ) (name : SetName) → d ≤ HIGHEST → u < 2 ^ d → IsOfHeight d name →
+    ensures { (master : List ℕ) (ca d u : ℕ) (name : SetName) → d ≤ highest → u < 2 ^ d → IsOfHeight d name →
         is_member d name u ≡ true → card_key (card_of master ca d u) name ≡ key_of master name }
 {}

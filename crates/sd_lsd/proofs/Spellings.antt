@@ -17,14 +17,14 @@ use Rattle.sd_secrets.proofs.Written.{secrets_once, cut_count, file_said}
 use Rattle.sd_lsd.specs.declared.card.LayerCard.{LayerCard}
 use Rattle.sd_lsd.specs.declared.fault.LayerFault.{LayerFault}
 use Rattle.sd_lsd.specs.declared.fault.LayerFault.TheVariants.{NoMemory}
-use Rattle.sd_lsd.specs.declared.format.TheConstants.{MAGIC, VERSION}
+use Rattle.sd_lsd.specs.Fields.{layer_version}
 use Rattle.sd_lsd.specs.LayerNames.{layer_count}
-use Rattle.sd_lsd.specs.Fields.{LayerFields, IsLayerCard, saying, fields_of, layer_head, layer_bytes}
+use Rattle.sd_lsd.specs.Fields.{LayerFields, IsLayerCard, saying, fields_of, layer_head, layer_bytes, layer_magic}
 use Rattle.sd_lsd.specs.Faults.{height_in, width_in, leaf_in, ca_in, length_at, fault_in, IsFaultOf}
 
 -- what nothing is wrong with
 pub record IsGood (bytes : List ℕ) : Type 0 where
-  pub magic : MAGIC ≡ take 4 bytes
+  pub magic : layer_magic ≡ take 4 bytes
   pub version : byte_at bytes 4 ≡ 1
   pub height : (1 ≤ height_in bytes) × (height_in bytes ≤ 20)
   pub width : (1 ≤ width_in bytes) × (width_in bytes ≤ height_in bytes)
@@ -67,24 +67,24 @@ ca_bytes bytes fits = two_again (bytes_from bytes 11 2) (bytes_at bytes 11 2 fit
 -- the file from its version to its secrets
 after_magic : (bytes : List ℕ) → AreBytes bytes → byte_at bytes 4 ≡ 1
     → bytes_from bytes 4 9
-    ≡ VERSION ∷ height_in bytes ∷ width_in bytes ∷ (big_bytes 4 (leaf_in bytes) ++ big_bytes 2 (ca_in bytes))
+    ≡ layer_version ∷ height_in bytes ∷ width_in bytes ∷ (big_bytes 4 (leaf_in bytes) ++ big_bytes 2 (ca_in bytes))
 after_magic bytes fits version =
     let d = height_in bytes in
     let w = width_in bytes in
     let u = bytes_from bytes 7 4 in
     let system = bytes_from bytes 11 2 in
     ap (λ (v : ℕ). v ∷ d ∷ w ∷ (u ++ system)) version
-    ∙ (ap (λ (r : List ℕ). VERSION ∷ d ∷ w ∷ (r ++ system)) (sym (leaf_bytes bytes fits))
-    ∙ ap (λ (r : List ℕ). VERSION ∷ d ∷ w ∷ (big_bytes 4 (leaf_in bytes) ++ r)) (sym (ca_bytes bytes fits)))
+    ∙ (ap (λ (r : List ℕ). layer_version ∷ d ∷ w ∷ (r ++ system)) (sym (leaf_bytes bytes fits))
+    ∙ ap (λ (r : List ℕ). layer_version ∷ d ∷ w ∷ (big_bytes 4 (leaf_in bytes) ++ r)) (sym (ca_bytes bytes fits)))
 
 -- the bytes before the secrets
-head_said : (bytes : List ℕ) → AreBytes bytes → MAGIC ≡ take 4 bytes → byte_at bytes 4 ≡ 1 → 13 ≤ length bytes
+head_said : (bytes : List ℕ) → AreBytes bytes → layer_magic ≡ take 4 bytes → byte_at bytes 4 ≡ 1 → 13 ≤ length bytes
     → take 13 bytes ≡ layer_head (height_in bytes) (width_in bytes) (leaf_in bytes) (ca_in bytes)
 unfolding layer_head
 head_said bytes fits magic version long =
     take-add 4 9 bytes
     ∙ (ap (λ (r : List ℕ). r ++ take 9 (drop 4 bytes)) (sym magic)
-    ∙ ap (λ (r : List ℕ). MAGIC ++ r) (cut_bytes bytes 4 9 (omega arith) ∙ after_magic bytes fits version))
+    ∙ ap (λ (r : List ℕ). layer_magic ++ r) (cut_bytes bytes 4 9 (omega arith) ∙ after_magic bytes fits version))
 
 -- the system's number has two bytes
 ca_within : (bytes : List ℕ) → AreBytes bytes → ca_in bytes < 2 ^ 16
@@ -147,7 +147,7 @@ unfolding layer_bytes
 check_good card = check_written _ card.secrets
 
 -- it begins as a card does
-magic_written : (card : LayerFields) → bytes_eq (MAGIC) (take 4 (layer_bytes card)) ≡ true
+magic_written : (card : LayerFields) → bytes_eq (layer_magic) (take 4 (layer_bytes card)) ≡ true
 unfolding layer_bytes file_bytes file_body layer_head
 magic_written card = refl
 

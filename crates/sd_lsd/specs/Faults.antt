@@ -2,14 +2,15 @@
 use Rattle.std.specs.Prelude.{◌≡◌, ℕ, ◌+◌, ◌*◌, ◌^◌, ◌==◌, ◌&&◌, ◌⊎◌, nat_le, nat_lt, bytes_eq}
 use Rattle.std.specs.Prelude.{List, length, take, Option, Some, None}
 use Rattle.byteorder.specs.Endian.{big_number}
-use Rattle.sd_tree.specs.declared.height.TheConstants.{HIGHEST}
+use Rattle.sd_tree.specs.Limits.{highest}
 use Rattle.sd_secrets.specs.Files.{byte_at, bytes_from, check_in, check_due, unless}
 use Rattle.sd_secrets.specs.declared.file.TheConstants.{SECRET_BYTES, CHECK_BYTES}
 use Rattle.sd_lsd.specs.LayerNames.{layer_count}
 use Rattle.sd_lsd.specs.declared.fault.LayerFault.{LayerFault}
 use Rattle.sd_lsd.specs.declared.fault.LayerFault.TheVariants.{Magic, Version, Height, Width, Leaf, Length, Check}
 use Rattle.sd_lsd.specs.declared.fault.LayerFault.TheVariants.{NoMemory}
-use Rattle.sd_lsd.specs.declared.format.TheConstants.{MAGIC, VERSION, VERSION_AT, HEIGHT_AT, WIDTH_AT, LEAF_AT, CA_AT}
+use Rattle.sd_lsd.specs.declared.format.TheConstants.{VERSION_AT, HEIGHT_AT, WIDTH_AT, LEAF_AT, CA_AT}
+use Rattle.sd_lsd.specs.Fields.{layer_magic, layer_version}
 use Rattle.sd_lsd.specs.declared.format.TheConstants.{SECRETS_AT}
 
 -- the height that the file names [this project, docs/FORMATS.md, Layer card]
@@ -35,9 +36,9 @@ length_at d w = SECRETS_AT + SECRET_BYTES * (layer_count d w + 1) + CHECK_BYTES
 -- what is wrong with the bytes, by the first field that isn't good [this project, docs/FORMATS.md, Layer card]
 unfoldable pub fault_in : List ℕ → Option LayerFault
 fault_in bytes =
-    unless (bytes_eq MAGIC (take VERSION_AT bytes)) Magic
-    (unless (byte_at bytes VERSION_AT == VERSION) Version
-    (unless (nat_le 1 (height_in bytes) && nat_le (height_in bytes) HIGHEST) Height
+    unless (bytes_eq layer_magic (take VERSION_AT bytes)) Magic
+    (unless (byte_at bytes VERSION_AT == layer_version) Version
+    (unless (nat_le 1 (height_in bytes) && nat_le (height_in bytes) highest) Height
     (unless (nat_le 1 (width_in bytes) && nat_le (width_in bytes) (height_in bytes)) Width
     (unless (nat_lt (leaf_in bytes) (2 ^ height_in bytes)) Leaf
     (unless (length bytes == length_at (height_in bytes) (width_in bytes)) Length

@@ -1,13 +1,19 @@
 -- The layer card of a receiver, and the file that it is kept in.
-use Rattle.std.specs.Prelude.{◌≡◌, ℕ, ◌+◌, ◌^◌, ◌<◌, ◌≤◌, List, ◌∷◌, ◌++◌, length, map}
+use Rattle.std.specs.Prelude.{◌≡◌, ℕ, ◌+◌, ◌^◌, ◌<◌, ◌≤◌, List, ◌∷◌, ◌++◌, length, map, codes}
 use Rattle.byteorder.specs.Endian.{big_bytes}
-use Rattle.sd_tree.specs.declared.height.TheConstants.{HIGHEST}
+use Rattle.sd_tree.specs.Limits.{highest}
 use Rattle.sd_tree.specs.declared.set.SetName.{SetName}
 use Rattle.sd_secrets.specs.Files.{AreSecrets, file_bytes}
 use Rattle.sd_secrets.specs.Secrets.{secret_of, Derives, key_held}
 use Rattle.sd_lsd.specs.LayerNames.{layer_given, layer_count}
 use Rattle.sd_lsd.specs.declared.card.LayerCard.{LayerCard}
-use Rattle.sd_lsd.specs.declared.format.TheConstants.{MAGIC, VERSION}
+
+-- the bytes that a layer card's file begins with, and its version [this project, docs/FORMATS.md, Layer card]
+abbrev pub layer_magic : List ℕ
+layer_magic = codes "SDLC"
+
+abbrev pub layer_version : ℕ
+layer_version = 1
 
 -- what a layer card says: the tree's height, the layers' width, its leaf, the conditional access system, and a secret
 -- for each name that the leaf is given in layers
@@ -29,7 +35,7 @@ fields_of card = saying card.height card.width card.leaf card.ca card.secrets.it
 -- the numbers are in their ranges, and there are as many secrets as a leaf is given names in layers
 -- [this project, docs/FORMATS.md, Layer card]
 pub record IsLayerCard (card : LayerFields) : Type 0 where
-  pub height : (1 ≤ card.height) × (card.height ≤ HIGHEST)
+  pub height : (1 ≤ card.height) × (card.height ≤ highest)
   pub width : (1 ≤ card.width) × (card.width ≤ card.height)
   pub leaf : card.leaf < 2 ^ card.height
   pub ca : card.ca < 2 ^ 16
@@ -43,7 +49,7 @@ layer_card_of master ca d w u = saying d w u ca (map (secret_of master) (layer_g
 
 -- a layer card's file before its secrets [this project, docs/FORMATS.md, Layer card]
 unfoldable pub layer_head : ℕ → ℕ → ℕ → ℕ → List ℕ
-layer_head d w u ca = MAGIC ++ (VERSION ∷ d ∷ w ∷ (big_bytes 4 u ++ big_bytes 2 ca))
+layer_head d w u ca = layer_magic ++ (layer_version ∷ d ∷ w ∷ (big_bytes 4 u ++ big_bytes 2 ca))
 
 -- a layer card's file: its head, its secrets, and the check at its end [this project, docs/FORMATS.md, Layer card]
 unfoldable pub layer_bytes : LayerFields → List ℕ

@@ -3,7 +3,7 @@
 ghost use Rattle.std.specs.Prelude.{◌≡◌, ◌+◌, ◌≤◌, ◌<◌, ◌^◌, ◌↔◌, ◌⊎◌, ℕ, List, All, Any, Contains, None, true, length};
 ghost use Rattle.sd_tree.specs.Leaves.{is_member};
 ghost use Rattle.sd_tree.specs.SetNames.{IsOfHeight};
-ghost use Rattle.sd_tree.specs.declared.height.TheConstants.{HIGHEST};
+ghost use Rattle.sd_tree.specs.Limits.{highest};
 ghost use Rattle.sd_tree.specs.declared.set.SetName.{SetName};
 ghost use Rattle.sd_label.specs.Keys.{key_of};
 ghost use Rattle.sd_label.specs.Names.{given};
@@ -17,21 +17,21 @@ ghost use Rattle.sd_lsd.specs.Faults.{fault_in};
 /// How many names a leaf is given in layers; and of width 1, and of the tree's height, all that it is given without.
 #[tactic(auto, using(crate::proofs::Given::length_layer_given, crate::proofs::Given::all_given))]
 pub fn names_in_layers()
-    ensures count { (d w u : ℕ) → d ≤ HIGHEST → 1 ≤ w → u < 2 ^ d →
+    ensures count { (d w u : ℕ) → d ≤ highest → 1 ≤ w → u < 2 ^ d →
         length (layer_given d w u) ≡ layer_count d w + 1 }
-    ensures all { (d w u : ℕ) → d ≤ HIGHEST → u < 2 ^ d → (w ≡ 1) ⊎ (w ≡ d) → layer_given d w u ≡ given d u }
+    ensures all { (d w u : ℕ) → d ≤ highest → u < 2 ^ d → (w ≡ 1) ⊎ (w ≡ d) → layer_given d w u ≡ given d u }
 {}
 
 /// A leaf's names in layers reach only keys of sets that the leaf is in, and of useful sets all of them
 /// [Halevy, Shamir 2002, 3].
 #[tactic(auto, using(crate::proofs::Reaching::reaches_its_useful))]
 pub fn members_reach_useful()
-    ensures { (d w u : ℕ) → d ≤ HIGHEST → u < 2 ^ d → ReachesItsUseful d w u (layer_given d w u) }
+    ensures { (d w u : ℕ) → d ≤ highest → u < 2 ^ d → ReachesItsUseful d w u (layer_given d w u) }
 {}
 
 /// A leaf's names in layers reach the key of some set of the cover by useful sets exactly where the leaf isn't revoked.
 pub fn layer_cover_reached()
-    ensures { (d w : ℕ) (revoked : List ℕ) (sets : List SetName) (u : ℕ) → d ≤ HIGHEST → 1 ≤ w →
+    ensures { (d w : ℕ) (revoked : List ℕ) (sets : List SetName) (u : ℕ) → d ≤ highest → 1 ≤ w →
         All (λ v. v < 2 ^ d) revoked → IsLayerCover d w revoked sets → u < 2 ^ d →
         Any (λ name. IsReached (layer_given d w u) (Key name)) sets ↔ ¬ Contains revoked u }
 {}
@@ -46,14 +46,14 @@ pub fn layer_card_files()
 /// The layer card of a leaf is a layer card. So the file that is made for a leaf is read, as this card.
 #[tactic(auto, using(crate::proofs::Made::made_is_card))]
 pub fn made_layer_cards()
-    ensures { (master : List ℕ) (ca d w u : ℕ) → ca < 2 ^ 16 → 1 ≤ d → d ≤ HIGHEST → 1 ≤ w → w ≤ d → u < 2 ^ d →
+    ensures { (master : List ℕ) (ca d w u : ℕ) → ca < 2 ^ 16 → 1 ≤ d → d ≤ highest → 1 ≤ w → w ≤ d → u < 2 ^ d →
         IsLayerCard (layer_card_of master ca d w u) }
 {}
 
 /// The layer card of a leaf gives the key of each useful set that the leaf is in.
 #[tactic(auto, using(crate::proofs::Keys::made_gives_key))]
 pub fn made_layer_keys()
-    ensures { (master : List ℕ) (ca d w u : ℕ) (name : SetName) → d ≤ HIGHEST → u < 2 ^ d → IsOfHeight d name →
+    ensures { (master : List ℕ) (ca d w u : ℕ) (name : SetName) → d ≤ highest → u < 2 ^ d → IsOfHeight d name →
         is_useful w name ≡ true → is_member d name u ≡ true →
         layer_key (layer_card_of master ca d w u) name ≡ key_of master name }
 {}
