@@ -1,7 +1,9 @@
 -- What a run leaves in the files.
 use Rattle.std.proofs.Common.{◌≡◌, ◌⊎◌, ℕ, List, [], Option, None, Some, Result, Ok, refl, ap, subst, ◌∙◌}
 use Rattle.std.proofs.Common.{inl, inr, append-nil}
+use Rattle.sd_cause.specs.Count.{with_added}
 use Rattle.sd_ports.specs.Files.{Files, with_bytes}
+use Rattle.sd_ports.specs.Bytes.{IsPrefix}
 use Rattle.sd_status.specs.declared.status.Status.{Status}
 use Rattle.sd_status.specs.Outside.{Place, Outside}
 use Rattle.sd_status.specs.Meant.{Given, told_by}
@@ -13,69 +15,77 @@ use Rattle.sd_run_laws.specs.Left.{IsAsBefore, HasOut}
 use Rattle.sd_run.specs.Meaning.{meaning}
 use Rattle.sd_run_laws.proofs.Runs.{told_given}
 
-abbrev IsLeft : Files → Result Work Status → Place → Place → Type 0
-IsLeft files meant a b = IsAsBefore files a b ⊎ HasOut files meant a b
+-- OUT of the work that is meant was made, with a prefix of what it must hold
+pub record MadeOut (meant : Result Work Status) (a b : Place) : Type 0 where
+  pub work : Work
+  pub is_meant : meant ≡ Ok work
+  pub out : Out
+  pub makes : work.out ≡ Some out
+  pub prefix : List ℕ
+  pub is_prefix : IsPrefix prefix out.bytes
+  pub left : b.files ≡ with_bytes a.files out.name prefix
+  pub made : b.made ≡ with_added a.made 1
 
--- nothing was made
-none_made : (files : Files) (meant : Result Work Status) (a b : Place) → a.files ≡ Some files → IsUnmade a b →
-    IsLeft files meant a b
-none_made files meant a b told un = inl (record { left = un.files ∙ told; made = un.made })
+abbrev pub IsLeft : Result Work Status → Place → Place → Type 0
+IsLeft meant a b = IsUnmade a b ⊎ MadeOut meant a b
 
 -- OUT has a prefix
-short_made : (files : Files) (meant : Result Work Status) (work : Work) (out : Out) (a b : Place) →
-    a.files ≡ Some files → meant ≡ Ok work → work.out ≡ Some out → IsMadeShort out a b → IsLeft files meant a b
-short_made files meant work out a b told is makes short = inr (record {
+short_made : (meant : Result Work Status) (work : Work) (out : Out) (a b : Place) → meant ≡ Ok work →
+    work.out ≡ Some out → IsMadeShort out a b → IsLeft meant a b
+short_made meant work out a b is makes short = inr (record {
   work = work;
   is_meant = is;
   out = out;
   makes = makes;
   prefix = short.prefix;
   is_prefix = short.short;
-  left = short.files ∙ ap (λ (fs : Option Files). with_bytes fs out.name short.prefix) told;
+  left = short.files;
   made = short.made;
 })
 
--- OUT is whole, where there is one
-all_made : (files : Files) (meant : Result Work Status) (work : Work) (made : Option Out) (a b : Place) →
-    a.files ≡ Some files → meant ≡ Ok work → work.out ≡ made → b.files ≡ files_with made a.files →
-    b.made ≡ made_with made a.made → IsLeft files meant a b
-all_made files meant work None a b told is makes left count = inl (record { left = left ∙ told; made = count })
-all_made files meant work (Some out) a b told is makes left count = inr (record {
+-- OUT is whole, if there is one
+all_made : (meant : Result Work Status) (work : Work) (made : Option Out) (a b : Place) → meant ≡ Ok work →
+    work.out ≡ made → b.files ≡ files_with made a.files → b.made ≡ made_with made a.made → IsLeft meant a b
+all_made meant work None a b is makes left count = inl (record { files = left; made = count })
+all_made meant work (Some out) a b is makes left count = inr (record {
   work = work;
   is_meant = is;
   out = out;
   makes = makes;
   prefix = out.bytes;
   is_prefix = ([], append-nil out.bytes);
-  left = left ∙ ap (λ (fs : Option Files). with_bytes fs out.name out.bytes) told;
+  left = left;
   made = count;
 })
 
-whole_made : (files : Files) (meant : Result Work Status) (work : Work) (a b : Place) → a.files ≡ Some files →
-    meant ≡ Ok work → IsMade work.out a b → IsLeft files meant a b
-whole_made files meant work a b told is made = all_made files meant work work.out a b told is refl made.files made.made
+whole_made : (meant : Result Work Status) (work : Work) (a b : Place) → meant ≡ Ok work → IsMade work.out a b →
+    IsLeft meant a b
+whole_made meant work a b is made = all_made meant work work.out a b is refl made.files made.made
 
 -- however far it came
-stood : (files : Files) (meant : Result Work Status) (a b : Outside) → a.place.files ≡ Some files → Stands meant a b →
-    IsLeft files meant a.place b.place
-stood files meant a b told (untouched un k) = none_made files meant a.place b.place told un
-stood files meant a b told (writing work is out makes short k) =
-    short_made files meant work out a.place b.place told is makes short
-stood files meant a b told (printing work is made k) = whole_made files meant work a.place b.place told is made
+stood : (meant : Result Work Status) (a b : Outside) → Stands meant a b → IsLeft meant a.place b.place
+stood meant a b (untouched un k) = inl un
+stood meant a b (writing work is out makes short k) = short_made meant work out a.place b.place is makes short
+stood meant a b (printing work is made k) = whole_made meant work a.place b.place is made
 
-came : (files : Files) (meant : Result Work Status) (a b : Outside) (status : Status) → a.place.files ≡ Some files →
-    Comes meant a b status → IsLeft files meant a.place b.place
-came files meant a b status told (refused e r un k c m) = none_made files meant a.place b.place told un
-came files meant a b status told (ended work is s i made k c m) =
-    whole_made files meant work a.place b.place told is made
-came files meant a b status told (unclosed work is s i j t out makes short k r c m) =
-    short_made files meant work out a.place b.place told is makes short
-came files meant a b status told (exhausted s h c m) = stood files meant a b told h
-came files meant a b status told (failed s h r c m) = stood files meant a b told h
-came files meant a b status told (nowhere work is out f s n un k c m) =
-    none_made files meant a.place b.place told un
-came files meant a b status told (cut_off work is s made k r c m) =
-    whole_made files meant work a.place b.place told is made
+came : (meant : Result Work Status) (a b : Outside) (status : Status) → Comes meant a b status →
+    IsLeft meant a.place b.place
+came meant a b status (refused e r un k c m) = inl un
+came meant a b status (ended work is s i made k c m) = whole_made meant work a.place b.place is made
+came meant a b status (unclosed work is s i j t out makes short k r c m) =
+    short_made meant work out a.place b.place is makes short
+came meant a b status (exhausted s h c m) = stood meant a b h
+came meant a b status (failed s h r c m) = stood meant a b h
+came meant a b status (nowhere work is out f s n un k c m) = inl un
+came meant a b status (cut_off work is s made k r c m) = whole_made meant work a.place b.place is made
+
+-- by what the files gave
+pub answers_leave : (words : List (List ℕ)) (a b : Outside) (answer : Status) →
+    (answers : Answers (meaning words) a b answer) →
+    IsLeft (meaning words answers.obeyed.given).result a.place b.place
+answers_leave words a b answer answers =
+    came (meaning words answers.obeyed.given).result a (with_page b answers.page) answers.status
+    answers.obeyed.obeyed.comes
 
 -- a run leaves all files as they were, or OUT with a prefix beside them
 pub run_leaves : (words : List (List ℕ)) (files : Files) (a b : Outside) (answer : Status) →
@@ -84,6 +94,19 @@ pub run_leaves : (words : List (List ℕ)) (files : Files) (a b : Outside) (answ
 run_leaves words files a b answer told answers =
     let given : answers.obeyed.given ≡ told_by files =
     told_given a.place.files files answers.obeyed.given told answers.obeyed.is_given in
-    subst (λ (g : Given). IsLeft files (meaning words g).result a.place b.place) given
-    (came files (meaning words answers.obeyed.given).result a (with_page b answers.page) answers.status told
-    answers.obeyed.obeyed.comes)
+    let left : IsLeft (meaning words (told_by files)).result a.place b.place =
+    subst (λ (g : Given). IsLeft (meaning words g).result a.place b.place) given
+    (answers_leave words a b answer answers) in
+    elim left [
+      | inl un ↦ inl (record { left = un.files ∙ told; made = un.made })
+      | inr out ↦ inr (record {
+        work = out.work;
+        is_meant = out.is_meant;
+        out = out.out;
+        makes = out.makes;
+        prefix = out.prefix;
+        is_prefix = out.is_prefix;
+        left = out.left ∙ ap (λ (fs : Option Files). with_bytes fs out.out.name out.prefix) told;
+        made = out.made;
+      })
+    ]

@@ -28,12 +28,10 @@ use Rattle.sd_whole.proofs.Cut.{taken_synced, taken_whole}
 use Rattle.sd_whole.proofs.Taken.{broadcast_taken}
 use Rattle.sd_status.specs.declared.status.Status.{Status}
 use Rattle.sd_status.specs.declared.status.Status.TheVariants.{Done}
-use Rattle.sd_status.specs.Meant.{Meant, Word, Given, told_by, IsGiven, after, all_of, judged, value, within, ◌>>=◌}
+use Rattle.sd_status.specs.Meant.{Meant, Word, Given, told_by, after, all_of, judged, value, within, ◌>>=◌}
 use Rattle.sd_status.specs.Outside.{Outside}
 use Rattle.sd_status.specs.Work.{Work, files_with}
-use Rattle.sd_status.specs.Comes.{IsRefusal, Comes, refused, ended, unclosed, exhausted, failed, nowhere, cut_off}
-use Rattle.sd_status.specs.Answers.{with_page, Answers}
-use Rattle.sd_status.proofs.Told.{own_line}
+use Rattle.sd_status.specs.Answers.{Answers}
 use Rattle.sd_files.specs.declared.files.TheConstants.{MOST_SITE_BYTES, MOST_BOOK_BYTES}
 use Rattle.sd_status.specs.declared.status.LimitKind.TheVariants.{SiteBytes, BookBytes}
 use Rattle.sd_words.specs.Words.{Order, HeadOf, order_of}
@@ -42,6 +40,7 @@ use Rattle.sd_run_head.specs.Head.{status_where, sent_status, sending, sending_o
 use Rattle.sd_run.specs.Meaning.{order_meaning, meaning}
 use Rattle.sd_run_laws.specs.Sent.{IsSent}
 use Rattle.sd_run_laws.proofs.Plans.{ca_fits}
+use Rattle.sd_run_laws.proofs.Outs.{done_leaves}
 use Rattle.sd_run_head.proofs.Sending.{sent_unrefused}
 
 -- what came before a step that came to a value
@@ -138,28 +137,6 @@ status_is : (plan : Plan) (bytes : List ℕ) → sent_status plan bytes ≡ Done
 unfolding sent_status
 status_is plan bytes e = e
 
--- what is meant by a command that is done
-record WasDone (meant : Result Work Status) (a b : Outside) : Type 0 where
-  work : Work
-  meant_is : meant ≡ Ok work
-  ends : work.ends ≡ Done
-  left : b.place.files ≡ files_with work.out a.place.files
-
-was_done : (meant : Result Work Status) (a b : Outside) (status : Status) → Comes meant a b status → status ≡ Done →
-    WasDone meant a b
-was_done meant a b status (refused e r h k c m) is = absurd (subst IsRefusal is r)
-was_done meant a b status (ended work e s i h k c m) is =
-    record { work = work; meant_is = e; ends = sym s ∙ is; left = h.files }
-was_done meant a b status (unclosed work e s i j t out f h k r c m) is = absurd (subst IsRefusal is j)
-was_done meant a b status (exhausted s h c m) is = absurd (let x = sym s ∙ is in cc)
-was_done meant a b status (failed s h r c m) is = absurd (let x = sym s ∙ is in cc)
-was_done meant a b status (nowhere work e out f s n h k c m) is = absurd (let x = sym s ∙ is in cc)
-was_done meant a b status (cut_off work e s h k r c m) is = absurd (let x = sym s ∙ is in cc)
-
-told_given : (files : Option Files) (told : Files) (given : Given) → files ≡ Some told → IsGiven files given →
-    given ≡ told_by told
-told_given files told given e h = subst (λ (o : Option Files). IsGiven o given) e h
-
 -- each period of a broadcast names its cover in the file that the broadcast is
 pub file_names : (plan : Plan) (bytes : List ℕ) (q : ℕ) → IsPlan plan → IsClear plan.site (taken_of bytes) →
     AreBytes bytes → plan.site.first_period ≤ q → q ≤ period_of plan (length (taken_of bytes) - 1) →
@@ -206,14 +183,8 @@ module _ (words : List (List ℕ)) (site book clear out : Word) (files : Files) 
   -- by the answer
   pub head_done : Answers (meaning words) a b Done → IsSent site book clear out files b
   head_done answers =
-      let obeyed = answers.obeyed in
-      let own : answers.status ≡ Done =
-      own_line answers.page b.page answers.status Done answers.told (λ e. cc) (λ e. cc) in
-      let done = was_done (meaning words obeyed.given).result a (with_page b answers.page) answers.status
-      obeyed.obeyed.comes own in
-      let given = told_given a.place.files files obeyed.given known obeyed.is_given in
+      let done = done_leaves words files a b Done known refl answers in
       sent_work done.work
       (sym (ap (λ (r : Result Order Status). (judged r >>= λ o. order_meaning o (told_by files)).result) order)
-      ∙ (ap (λ (g : Given). (meaning words g).result) (sym given) ∙ done.meant_is))
-      done.ends
-      (done.left ∙ ap (files_with done.work.out) known)
+      ∙ done.is_meant)
+      done.ends (done.made.files ∙ ap (files_with done.work.out) known)

@@ -1,5 +1,10 @@
 //! The headline: the one call, and what its clauses say of `head`, `card` and `receive`.
-ghost use Rattle.std.specs.Prelude.{◌≡◌, ◌≢◌, ◌<◌, ◌^◌, ℕ, Bool, List, Some, Ok, map, string_bytes};
+ghost use Rattle.std.specs.Prelude.{◌≡◌, ◌≢◌, ◌⊎◌, ◌<◌, ◌^◌, ℕ, Bool, List, Some, IsSome, Ok, map, string_bytes};
+ghost use Rattle.std.specs.FinMap.{get};
+ghost use Rattle.std.specs.Io.KnownBytes.{Appends};
+ghost use Rattle.sd_cause.specs.Count.{with_added};
+ghost use Rattle.sd_status.specs.Comes.{IsUnmade};
+ghost use Rattle.sd_status.specs.Texts.{line_of};
 ghost use Rattle.sd_ports.specs.Files.{Files};
 ghost use Rattle.sd_status.specs.Meant.{Word, told_by};
 ghost use Rattle.sd_words.specs.Words.{HeadOf, order_of};
@@ -19,7 +24,7 @@ ghost use Rattle.sd_run_receive.specs.Receive.{receive_meaning};
 ghost use Rattle.sd_run.specs.Meaning.{meaning};
 ghost use Rattle.sd_run_laws.specs.Good.{IsGoodSite};
 ghost use Rattle.sd_run_laws.specs.Lost.{kept_of, LossResult};
-ghost use Rattle.sd_run_laws.specs.Outcome.{IsDone};
+ghost use Rattle.sd_run_laws.specs.Outcome.{IsDone, RefusesFirst, out_name};
 ghost use Rattle.sd_run_laws.specs.Headline.{Names, head_run, card_run, receive_run, file_in, AreGiven, WentWell};
 ghost use Rattle.sd_run_laws.specs.Headline.{stream_of, card_for, HeadResult, CardResult, ReceiveResult};
 
@@ -89,11 +94,22 @@ pub fn run<D: Depot, P: Sink, L: Ledger>(
         LossResult names plan u clear (kept_of plan clear flags)
         (outside (place D.Depot depot.old) (page P.Sink print.old) steps.old)
         (outside (place D.Depot depot.new) (page P.Sink print.new) steps.new) result }
+    // No file changes but OUT, which the last word names if the command makes a file.
+    ensures files { (files : Files) (name : List ℕ) → D.files depot.old ≡ Some files →
+        out_name (map string_bytes words.now) ≢ Some name →
+        file_in (outside (place D.Depot depot.new) (page P.Sink print.new) steps.new) name ≡ get files name }
+    // At most one file is made, and none by other commands.
+    ensures made { ((place D.Depot depot.new).made ≡ (place D.Depot depot.old).made)
+        ⊎ (((place D.Depot depot.new).made ≡ with_added (place D.Depot depot.old).made 1)
+        × IsSome (out_name (map string_bytes words.now))) }
     // `Done` is answered only if the work that is meant was done.
     ensures done { (files : Files) → D.files depot.old ≡ Some files → result ≡ Status.Done →
         IsDone (meaning (map string_bytes words.now) (told_by files)).result
         (outside (place D.Depot depot.old) (page P.Sink print.old) steps.old)
         (outside (place D.Depot depot.new) (page P.Sink print.new) steps.new) }
+    // A refusal of words or files has made no file and printed its line alone.
+    ensures refused { RefusesFirst result → IsUnmade (place D.Depot depot.old) (place D.Depot depot.new)
+        × Appends (page P.Sink print.old).printed (page P.Sink print.new).printed (line_of result) }
 {
     sd_run::run(alloc, words, depot, print, steps)
 }

@@ -6,7 +6,7 @@ use Rattle.sd_run.specs.Meaning.{meaning}
 use Rattle.sd_run_laws.proofs.Parts.{head_part, card_part, receive_part}
 use Rattle.sd_run_laws.proofs.Ordered.{head_answers, card_answers, receive_answers, leaf_low}
 use Rattle.sd_run_laws.proofs.Losing.{lost_part}
-use Rattle.sd_run_laws.proofs.Outs.{done_leaves}
+use Rattle.sd_run_laws.proofs.Outs.{done_leaves, file_stays, one_made, refusal_leaves}
 use Rattle.sd_run_laws.proofs.headline.run.Goals as goal
 
 pub returns-clause-head : goal.returns-clause-head
@@ -45,4 +45,25 @@ returns-clause-done g c files told is =
     done_leaves (map string_bytes c.args.words.now) files
     (outside (place g.D.Depot c.args.depot.now) (page g.P.Sink c.args.print.now) c.args.steps.now)
     (outside (place g.D.Depot c.run.new.depot) (page g.P.Sink c.run.new.print) c.run.new.steps) c.run.result told is
+    c.run.ensures.value
+
+pub returns-clause-files : goal.returns-clause-files
+returns-clause-files g c files name told other =
+    file_stays (map string_bytes c.args.words.now) files
+    (outside (place g.D.Depot c.args.depot.now) (page g.P.Sink c.args.print.now) c.args.steps.now)
+    (outside (place g.D.Depot c.run.new.depot) (page g.P.Sink c.run.new.print) c.run.new.steps) c.run.result told
+    c.run.ensures.value name other
+
+pub returns-clause-made : goal.returns-clause-made
+returns-clause-made g c =
+    one_made (map string_bytes c.args.words.now)
+    (outside (place g.D.Depot c.args.depot.now) (page g.P.Sink c.args.print.now) c.args.steps.now)
+    (outside (place g.D.Depot c.run.new.depot) (page g.P.Sink c.run.new.print) c.run.new.steps) c.run.result
+    c.run.ensures.value
+
+pub returns-clause-refused : goal.returns-clause-refused
+returns-clause-refused g c refuses =
+    refusal_leaves (map string_bytes c.args.words.now)
+    (outside (place g.D.Depot c.args.depot.now) (page g.P.Sink c.args.print.now) c.args.steps.now)
+    (outside (place g.D.Depot c.run.new.depot) (page g.P.Sink c.run.new.print) c.run.new.steps) c.run.result refuses
     c.run.ensures.value
