@@ -1,9 +1,12 @@
 -- What reading one file gives.
 use Rattle.std.proofs.Common.{◌≡◌, ◌⊎◌, ℕ, zero, suc, ◌+◌, ◌<◌, ◌≤◌, cond, List, [], ◌∷◌, length, Option, Some, None}
 use Rattle.std.proofs.Common.{Ok, Err, refl, sym, ap, ◌∙◌, inl, inr, arith, le-ltb, lt-ltb}
-use Rattle.std.specs.Prelude.{IsSome, IfSome}
+use Rattle.std.specs.Prelude.{IsSome, IfSome, IsErrOf}
 use Rattle.std.specs.FinMap.{get}
-use Rattle.sd_cause.specs.Count.{Rose, with_added}
+use Rattle.sd_cause.specs.Count.{IsCaused, Rose, with_added}
+use Rattle.sd_ports.specs.Causes.{HasDepotCause}
+use Rattle.sd_ports.specs.declared.fault.DepotFault.{DepotFault as PortRefusal}
+use Rattle.sd_ports.specs.declared.fault.DepotFault.TheVariants as port
 use Rattle.sd_ports.specs.Files.{Files, Opens, IsFile, IsLongFile, IsNotThere, IsThere}
 use Rattle.sd_status.specs.declared.status.Status.{Status}
 use Rattle.sd_status.specs.declared.status.Status.TheVariants.{Missing, Limit, DepotFault, NoMemory}
@@ -12,7 +15,8 @@ use Rattle.sd_status.specs.Outside.{Place, called}
 use Rattle.sd_status.specs.Meant.{within, all_of, IsGot}
 use Rattle.sd_status.proofs.Givens.{some_got as any_got}
 use Rattle.sd_engine.specs.Taken.{IsLeft}
-use Rattle.sd_status.specs.Reads.{IsAsked, Looks}
+use Rattle.sd_status.specs.Reads.{IsAsked, StopCause, Looks}
+use Rattle.sd_files.specs.Turned.{opening_status}
 
 file_got : (files : Option Files) (name bytes : List ℕ) → IsFile files name bytes → IsGot files name (Some bytes)
 file_got None name bytes h = tt
@@ -113,7 +117,7 @@ some_got (Some m) name word most kind before now once two = record {
 -- the outside stopped it
 pub looks_stopped : {X : Type 0} (view : X → List ℕ) (word most : ℕ) (kind : LimitKind) (name : List ℕ) (a b : Place)
     (status : Status) →
-    ((status ≡ NoMemory) × (b.faults ≡ a.faults)) ⊎ ((status ≡ DepotFault) × Rose a.faults b.faults) →
+    StopCause a b status →
     (b.calls ≤ with_added a.calls 1) ⊎ IsThere a.files name → IsAsked 2 a b → b.misses ≡ a.misses →
     Looks view (within word most kind) name a b (Err status)
 looks_stopped view word most kind name a b status cause once asked misses =
@@ -140,7 +144,7 @@ opened_got (Some m) name None bytes opens is = absurd (let h = opens.0 in cc)
 opened_got (Some m) name (Some xs) bytes opens is = sym (opens.1 ∙ ap Some is)
 
 -- there is no such file to be opened
-pub opens_missing : (word : ℕ) (name : List ℕ) (a b : Place) → IsNotThere a.files name → IsAsked 1 a b →
+opens_missing : (word : ℕ) (name : List ℕ) (a b : Place) → IsNotThere a.files name → IsAsked 1 a b →
     b.faults ≡ a.faults →
     Rose a.misses b.misses → Looks bytes_seen (all_of word) name a b (Err (Missing word))
 opens_missing word name a b none asked calm rose = record {
@@ -160,9 +164,8 @@ all_calls word None = omega arith
 all_calls word (Some bytes) = omega arith
 
 -- the outside stopped it before it was opened
-pub opens_stopped : (word : ℕ) (name : List ℕ) (a b : Place) (status : Status) →
-    ((status ≡ NoMemory) × (b.faults ≡ a.faults)) ⊎ ((status ≡ DepotFault) × Rose a.faults b.faults) →
-    IsAsked 1 a b → b.misses ≡ a.misses → Looks bytes_seen (all_of word) name a b (Err status)
+opens_stopped : (word : ℕ) (name : List ℕ) (a b : Place) (status : Status) →
+    StopCause a b status → IsAsked 1 a b → b.misses ≡ a.misses → Looks bytes_seen (all_of word) name a b (Err status)
 opens_stopped word name a b status cause asked misses =
     let g = any_got a.files name in record {
       got = g.0;
@@ -178,3 +181,18 @@ opens_stopped word name a b status cause asked misses =
         misses = misses;
       });
     }
+
+-- the file gave no port
+pub opens_refused : {T : Type 0} (word : ℕ) (name : List ℕ) (a b : Place) (fault : PortRefusal) →
+    (IsErrOf {T = T} (Err fault) port.Missing → IsNotThere a.files name) →
+    HasDepotCause {T = T} a.faults b.faults a.misses b.misses (Err fault) →
+    IsCaused a.stops b.stops (IsErrOf {T = T} (Err fault) port.Failed) → IsAsked 1 a b →
+    Looks bytes_seen (all_of word) name a b (Err (opening_status word fault))
+opens_refused word name a b port.Missing none cause stops asked =
+    opens_missing word name a b (none refl) asked (cause.no_fault (λ e. cc)) (cause.missing refl)
+opens_refused word name a b port.Failed none cause stops asked =
+    opens_stopped word name a b DepotFault (inr (refl, cause.failed refl, stops.failed refl)) asked
+    (cause.no_miss (λ e. cc))
+opens_refused word name a b port.NoMemory none cause stops asked =
+    opens_stopped word name a b NoMemory (inl (refl, cause.no_fault (λ e. cc), stops.calm (λ e. cc))) asked
+    (cause.no_miss (λ e. cc))

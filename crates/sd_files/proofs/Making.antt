@@ -1,5 +1,6 @@
 -- What making a file leaves.
 use Rattle.std.proofs.Common.{◌≡◌, ◌⊎◌, ℕ, ◌≤◌, List, Result, Ok, Err, refl, sym, subst, inl, inr, arith}
+use Rattle.std.specs.Prelude.{IsErrOf}
 use Rattle.std.proofs.KnownBytes.{Appends-nil}
 use Rattle.sd_cause.specs.Count.{with_added}
 use Rattle.sd_ports.specs.Files.{WritesFile, IsUnmade as IsNoFile, IsMadeShort as IsShortFile}
@@ -33,23 +34,25 @@ comes_made : (most : StepBound) (word : Word) (bytes : List ℕ) (a b : Place) (
     (written : Result (Unit {0}) FileFault) →
     WritesFile a.files b.files a.made b.made word.text bytes written → HasFileCause a.faults b.faults a.misses b.misses
     written →
+    (¬ IsErrOf written file.Failed → b.stops ≡ a.stops) →
     Comes (Ok (making most word bytes)) (outside a page steps) (outside b page steps)
     (status_of (making_told word.number written))
-comes_made most word bytes a b page steps (Ok done) file cause =
+comes_made most word bytes a b page steps (Ok done) file cause stops =
     ended (making most word bytes) refl refl tt (record { files = file.made.0; made = file.made.1 })
     (Appends-nil page.printed)
     (record { depot = cause.no_fault (λ e. cc); print = refl }) (cause.no_miss (λ e. cc))
-comes_made most word bytes a b page steps (Err file.Missing) file cause =
+comes_made most word bytes a b page steps (Err file.Missing) file cause stops =
     nowhere (making most word bytes) refl (out_of word bytes) refl refl (file.missing refl).1
     (record { files = (file.missing refl).0.0; made = (file.missing refl).0.1 }) refl
     (record { depot = cause.no_fault (λ e. cc); print = refl }) (cause.missing refl)
-comes_made most word bytes a b page steps (Err file.TooBig) file cause = absurd (file.fits refl)
-comes_made most word bytes a b page steps (Err file.Failed) file cause =
-    failed refl (stands_short most word bytes a b page steps (file.failed refl)) (cause.failed refl) refl
+comes_made most word bytes a b page steps (Err file.TooBig) file cause stops = absurd (file.fits refl)
+comes_made most word bytes a b page steps (Err file.Failed) file cause stops =
+    failed refl (stands_short most word bytes a b page steps (file.failed refl)) (cause.failed refl)
+    (λ breaks. cc) refl
     (cause.no_miss (λ e. cc))
-comes_made most word bytes a b page steps (Err file.NoMemory) file cause =
+comes_made most word bytes a b page steps (Err file.NoMemory) file cause stops =
     exhausted refl (untouched (record { files = (file.no_memory refl).0; made = (file.no_memory refl).1 }) refl)
-    (record { depot = cause.no_fault (λ e. cc); print = refl }) (cause.no_miss (λ e. cc))
+    (stops (λ e. cc)) refl (cause.no_miss (λ e. cc))
 
 -- a file that is meant to be made was made, or a prefix of it
 pub made_obeys : (most : StepBound) (word : Word) (bytes : List ℕ) (a b : Place) (page : Page) (steps : ℕ)
@@ -57,13 +60,13 @@ pub made_obeys : (most : StepBound) (word : Word) (bytes : List ℕ) (a b : Plac
     (result : Result (Unit {0}) Status) → result ≡ making_told word.number written →
     WritesFile a.files b.files a.made b.made word.text bytes written → HasFileCause a.faults b.faults a.misses b.misses
     written →
-    b.opened ≡ a.opened → b.calls ≤ with_added a.calls 2 →
+    (¬ IsErrOf written file.Failed → b.stops ≡ a.stops) → b.opened ≡ a.opened → b.calls ≤ with_added a.calls 2 →
     Obeys (value (making most word bytes)) (outside a page steps) (outside b page steps) (status_of result)
-made_obeys most word bytes a b page steps written result told file cause ports calls =
+made_obeys most word bytes a b page steps written result told file cause stops ports calls =
     subst (λ (r : Result (Unit {0}) Status). Obeys (value (making most word bytes)) (outside a page steps)
     (outside b page steps) (status_of r)) (sym told)
     (record {
-      comes = comes_made most word bytes a b page steps written file cause;
+      comes = comes_made most word bytes a b page steps written file cause stops;
       ports = ports;
       calls = omega arith;
       steps = takes_none (Ok (making most word bytes)) steps;

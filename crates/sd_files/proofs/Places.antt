@@ -4,17 +4,25 @@ use Rattle.sd_cause.specs.Count.{with_added}
 use Rattle.sd_ports.specs.Files.{Files}
 use Rattle.sd_status.specs.Outside.{Place, called}
 
-abbrev moment : Option Files → ℕ → ℕ → ℕ → ℕ → ℕ → Place
-moment files faults misses made opened calls =
-    record { files = files; faults = faults; misses = misses; made = made; opened = opened; calls = calls }
+abbrev moment : Option Files → ℕ → ℕ → ℕ → ℕ → ℕ → ℕ → Place
+moment files faults stops misses made opened calls = record {
+  files = files;
+  faults = faults;
+  stops = stops;
+  misses = misses;
+  made = made;
+  opened = opened;
+  calls = calls;
+}
 
-pub only_called : (n : ℕ) (a b : Place) → b.files ≡ a.files → b.faults ≡ a.faults → b.misses ≡ a.misses →
-    b.made ≡ a.made →
+pub only_called : (n : ℕ) (a b : Place) → b.files ≡ a.files → b.faults ≡ a.faults → b.stops ≡ a.stops →
+    b.misses ≡ a.misses → b.made ≡ a.made →
     b.opened ≡ a.opened → b.calls ≡ with_added a.calls n → b ≡ called n a
-only_called n a b files faults misses made opened calls =
-    ap (λ (x : Option Files). moment x b.faults b.misses b.made b.opened b.calls) files
-    ∙ ap (λ (x : ℕ). moment a.files x b.misses b.made b.opened b.calls) faults
-    ∙ ap (λ (x : ℕ). moment a.files a.faults x b.made b.opened b.calls) misses
-    ∙ ap (λ (x : ℕ). moment a.files a.faults a.misses x b.opened b.calls) made
-    ∙ ap (λ (x : ℕ). moment a.files a.faults a.misses a.made x b.calls) opened
-    ∙ ap (λ (x : ℕ). moment a.files a.faults a.misses a.made a.opened x) calls
+only_called n a b files faults stops misses made opened calls =
+    ap (λ (x : Option Files). moment x b.faults b.stops b.misses b.made b.opened b.calls) files
+    ∙ ap (λ (x : ℕ). moment a.files x b.stops b.misses b.made b.opened b.calls) faults
+    ∙ ap (λ (x : ℕ). moment a.files a.faults x b.misses b.made b.opened b.calls) stops
+    ∙ ap (λ (x : ℕ). moment a.files a.faults a.stops x b.made b.opened b.calls) misses
+    ∙ ap (λ (x : ℕ). moment a.files a.faults a.stops a.misses x b.opened b.calls) made
+    ∙ ap (λ (x : ℕ). moment a.files a.faults a.stops a.misses a.made x b.calls) opened
+    ∙ ap (λ (x : ℕ). moment a.files a.faults a.stops a.misses a.made a.opened x) calls

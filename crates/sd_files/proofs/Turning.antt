@@ -1,5 +1,5 @@
 -- What comes of a file that goes through a stage into OUT.
-use Rattle.std.proofs.Common.{◌≡◌, ◌≢◌, ◌⊎◌, ℕ, ◌^◌, ◌<◌, true, List, [], Option, Some, None, Result, Ok, Err, refl}
+use Rattle.std.proofs.Common.{◌≡◌, ◌≢◌, ◌⊎◌, ℕ, ◌^◌, ◌<◌, true, false, List, [], Option, Some, None, Result, Ok, Err, refl}
 use Rattle.std.proofs.Common.{sym, ap, subst, ◌∙◌, inl, inr, arith, append-nil}
 use Rattle.std.specs.Prelude.{IsSome}
 use Rattle.std.specs.FinMap.{get}
@@ -13,12 +13,12 @@ use Rattle.sd_ports.proofs.Outlets.{closed_whole, cut_short}
 use Rattle.sd_status.specs.declared.status.Status.{Status}
 use Rattle.sd_status.specs.declared.status.Status.TheVariants.{Done, Usage, Missing, Revoked, DepotFault, PrintFault}
 use Rattle.sd_status.specs.declared.status.Status.TheVariants.{BadSite, BadBook, BadCard, BadClear, BadStream, Limit}
-use Rattle.sd_status.specs.declared.status.Status.TheVariants.{NoMemory, Unheard, Unclosed, Gaps, NoCat, BadWord}
+use Rattle.sd_status.specs.declared.status.Status.TheVariants.{NoMemory, Unheard, Unclosed, Gaps, NoCat, BadWord, Clash}
 use Rattle.sd_status.specs.Outside.{Place, Page, Outside, outside}
 use Rattle.sd_status.specs.Meant.{Meant, Word, IsGot, all_of, value, ◌>>=◌}
 use Rattle.sd_status.specs.Work.{StepBound, Work, TakesSteps}
 use Rattle.sd_status.specs.Comes.{IsRefusal, IsEnding, IsUnmade, IsMadeShort, writing, Comes, ended, unclosed}
-use Rattle.sd_status.specs.Comes.{exhausted, failed, nowhere, Obeys, status_of}
+use Rattle.sd_status.specs.Comes.{StopsFirst, exhausted, failed, nowhere, Obeys, status_of}
 use Rattle.sd_status.specs.Reads.{IsAsked}
 use Rattle.sd_status.proofs.Firsts.{takes_none, stopped_comes, first_obeys}
 use Rattle.sd_status.proofs.Givens.{some_got as any_got}
@@ -79,51 +79,66 @@ missed : (out : Word) (bytes : List ℕ) (ends : Status) (p q r : Place) (left h
     IsThrough out bytes ends p q r left held held' from f f' o o' over result → r.misses ≡ p.misses
 missed out bytes ends p q r left held held' from f f' o o' over result h = h.closed.misses ∙ h.opened.misses
 
--- no device failed where the status doesn't say so and OUT was closed
-still : (p q r : Place) (f f' o o' : ℕ) (status : Status) → q.faults ≡ p.faults → q.faults < 2 ^ 64 → f ≡ 0 → o ≡ 0 →
-    HasPortCause f f' o o' status → status ≢ DepotFault → r.faults ≡ with_added (with_added q.faults f') o' →
-    r.faults ≡ p.faults
-still p q r f f' o o' status same within fresh empty cause other added =
-    let calm = cause.calm other in
-    added ∙ added_none q.faults f' o' within (calm.0 ∙ fresh) (calm.1 ∙ empty) ∙ same
+-- a count stands where the status doesn't say that a device failed, and nothing but the ports' counts was added to it
+still : (a b c f f' o o' : ℕ) (status : Status) → b ≡ a → b < 2 ^ 64 → f ≡ 0 → o ≡ 0 → HasPortCause f f' o o' status →
+    status ≢ DepotFault → c ≡ with_added (with_added b f') o' → c ≡ a
+still a b c f f' o o' status same within fresh empty cause other added =
+    let calm = cause.calm other in added ∙ added_none b f' o' within (calm.0 ∙ fresh) (calm.1 ∙ empty) ∙ same
 
--- one did where it does
-rises : (p q r : Place) (f f' o o' : ℕ) (status : Status) → q.faults ≡ p.faults → f ≡ 0 → o ≡ 0 →
-    HasPortCause f f' o o' status →
-    status ≡ DepotFault → r.faults ≡ with_added (with_added q.faults f') o' → Rose p.faults r.faults
-rises p q r f f' o o' status same fresh empty cause is added =
-    subst (λ (n : ℕ). Rose n r.faults) same
-    (subst (λ (n : ℕ). Rose q.faults n) (sym added)
-    (added_some q.faults f' o' (from_none (cause.failed is))))
+-- and it rises where the status does
+rises : (a b c f f' o o' : ℕ) (status : Status) → b ≡ a → f ≡ 0 → o ≡ 0 → HasPortCause f f' o o' status →
+    status ≡ DepotFault → c ≡ with_added (with_added b f') o' → Rose a c
+rises a b c f f' o o' status same fresh empty cause is added =
+    subst (λ (n : ℕ). Rose n c) same
+    (subst (λ (n : ℕ). Rose b n) (sym added) (added_some b f' o' (from_none (cause.failed is))))
   where
     from_none : Rose f f' ⊎ Rose o o' → Rose 0 f' ⊎ Rose 0 o'
     from_none (inl rose) = inl (subst (λ (n : ℕ). Rose n f') fresh rose)
     from_none (inr rose) = inr (subst (λ (n : ℕ). Rose n o') empty rose)
 
+-- no device failed but at closing OUT
+stops_stand : (out : Word) (bytes : List ℕ) (ends : Status) (p q r : Place) (left held held' : Option (List ℕ))
+    (from : List ℕ) (f f' o o' : ℕ) (over result : Result (Unit {0}) Status) →
+    IsThrough out bytes ends p q r left held held' from f f' o o' over result → status_of over ≢ DepotFault →
+    r.stops ≡ p.stops
+stops_stand out bytes ends p q r left held held' from f f' o o' over result h other =
+    still p.stops q.stops r.stops f f' o o' (status_of over) h.opened.stops h.closed.below h.opened.from_fresh
+    h.opened.out_fresh h.cause other h.closed.stops
+
+-- a device failed before OUT was to be closed
+stops_rose : (out : Word) (bytes : List ℕ) (ends : Status) (p q r : Place) (left held held' : Option (List ℕ))
+    (from : List ℕ) (f f' o o' : ℕ) (over result : Result (Unit {0}) Status) →
+    IsThrough out bytes ends p q r left held held' from f f' o o' over result → status_of over ≡ DepotFault →
+    Rose p.stops r.stops
+stops_rose out bytes ends p q r left held held' from f f' o o' over result h is =
+    rises p.stops q.stops r.stops f f' o o' (status_of over) h.opened.stops h.opened.from_fresh h.opened.out_fresh
+    h.cause is h.closed.stops
+
 ending_other : (status : Status) → IsEnding status → status ≢ DepotFault
 ending_other status ending is = absurd (subst IsEnding is ending)
 
--- a refusal in the midst of a stream stands where OUT wasn't closed, and every other status gives way
+-- a refusal of a stream stands where OUT wasn't closed, and running out of memory, and every other status gives way
 by_break : (s : Status) → ((unclosed_status s ≡ s) × (is_break s ≡ true) × IsRefusal s)
-    ⊎ (unclosed_status s ≡ DepotFault)
-by_break Done = inr refl
-by_break Usage = inr refl
-by_break (Missing word) = inr refl
-by_break (Revoked leaf period) = inr refl
-by_break DepotFault = inr refl
-by_break PrintFault = inr refl
-by_break (BadSite fault) = inr refl
-by_break (BadBook word line) = inr refl
-by_break (BadCard fault) = inr refl
+    ⊎ ((s ≡ NoMemory) ⊎ ((unclosed_status s ≡ DepotFault) × (is_break s ≡ false) × (s ≢ NoMemory)))
+by_break Done = inr (inr (refl, refl, λ e. cc))
+by_break Usage = inr (inr (refl, refl, λ e. cc))
+by_break (Missing word) = inr (inr (refl, refl, λ e. cc))
+by_break (Revoked leaf period) = inr (inr (refl, refl, λ e. cc))
+by_break DepotFault = inr (inr (refl, refl, λ e. cc))
+by_break PrintFault = inr (inr (refl, refl, λ e. cc))
+by_break (BadSite fault) = inr (inr (refl, refl, λ e. cc))
+by_break (BadBook word line) = inr (inr (refl, refl, λ e. cc))
+by_break (BadCard fault) = inr (inr (refl, refl, λ e. cc))
 by_break (BadClear packet cause) = inl (refl, refl, tt)
 by_break (BadStream packet cause) = inl (refl, refl, tt)
-by_break (Limit kind) = inr refl
-by_break NoMemory = inr refl
-by_break (Unheard leaf period) = inr refl
-by_break (Unclosed number) = inr refl
-by_break (Gaps packets) = inr refl
-by_break NoCat = inr refl
-by_break (BadWord word) = inr refl
+by_break (Limit kind) = inr (inr (refl, refl, λ e. cc))
+by_break NoMemory = inr (inl refl)
+by_break (Unheard leaf period) = inr (inr (refl, refl, λ e. cc))
+by_break (Unclosed number) = inr (inr (refl, refl, λ e. cc))
+by_break (Gaps packets) = inr (inr (refl, refl, λ e. cc))
+by_break NoCat = inr (inr (refl, refl, λ e. cc))
+by_break (BadWord word) = inr (inr (refl, refl, λ e. cc))
+by_break (Clash clash) = inr (inr (refl, refl, λ e. cc))
 
 no_break : (s : Status) → (s ≡ NoMemory) ⊎ (s ≡ DepotFault) → is_break s ≡ true → ⊥
 no_break s (inl is) breaks = let same : is_break NoMemory ≡ true = ap is_break (sym is) ∙ breaks in absurd (cc)
@@ -150,9 +165,8 @@ closed_comes steps out bytes ends p q r page i j left held held' from f f' o o' 
     })
     (Appends-nil page.printed)
     (record {
-      depot = still p q r f f' o o' (status_of over) h.opened.faults h.closed.within h.opened.from_fresh
-          h.opened.out_fresh h.cause
-          (λ e. ending_other status ending (is ∙ e)) added;
+      depot = still p.faults q.faults r.faults f f' o o' (status_of over) h.opened.faults h.closed.within
+          h.opened.from_fresh h.opened.out_fresh h.cause (λ e. ending_other status ending (is ∙ e)) added;
       print = refl;
     })
     (missed out bytes ends p q r left held held' from f f' o o' over result h)
@@ -161,21 +175,18 @@ closed_comes steps out bytes ends p q r page i j left held held' from f f' o o' 
     exhausted e
     (writing (turning steps out bytes ends) refl (record { word = out.number; name = out.text; bytes = bytes }) refl
     (made_short out bytes ends p q r left held held' from f f' o o' over result h) refl)
-    (record {
-      depot = still p q r f f' o o' (status_of over) h.opened.faults h.closed.within h.opened.from_fresh
-          h.opened.out_fresh h.cause
-          (λ d. let same = sym e ∙ is ∙ d in cc) added;
-      print = refl;
-    })
+    (stops_stand out bytes ends p q r left held held' from f f' o o' over result h
+    (λ d. let same = sym e ∙ is ∙ d in cc)) refl
     (missed out bytes ends p q r left held held' from f f' o o' over result h)
 closed_comes steps out bytes ends p q r page i j left held held' from f f' o o' over result status h is
     (some_written (inr e) w) closes added =
     failed e
     (writing (turning steps out bytes ends) refl (record { word = out.number; name = out.text; bytes = bytes }) refl
     (made_short out bytes ends p q r left held held' from f f' o o' over result h) refl)
-    (rises p q r f f' o o' (status_of over) h.opened.faults h.opened.from_fresh h.opened.out_fresh h.cause (sym is ∙ e)
-    added)
-    refl (missed out bytes ends p q r left held held' from f f' o o' over result h)
+    (rises p.faults q.faults r.faults f f' o o' (status_of over) h.opened.faults h.opened.from_fresh h.opened.out_fresh
+    h.cause (sym is ∙ e) added)
+    (λ breaks. stops_rose out bytes ends p q r left held held' from f f' o o' over result h (sym is ∙ e)) refl
+    (missed out bytes ends p q r left held held' from f f' o o' over result h)
 
 -- and where OUT was not closed a refusal stands
 break_comes : (steps : StepBound) (out : Word) (bytes : List ℕ) (ends : Status) (p q r : Place) (page : Page) (i j : ℕ)
@@ -183,17 +194,34 @@ break_comes : (steps : StepBound) (out : Word) (bytes : List ℕ) (ends : Status
     (status : Status) →
     (h : IsThrough out bytes ends p q r left held held' from f f' o o' over result) →
     Wrote bytes ends held held' status →
-    is_break status ≡ true → IsRefusal status → Rose p.faults r.faults →
+    is_break status ≡ true → IsRefusal status → Rose p.faults r.faults → r.stops ≡ p.stops →
     Comes (Ok (turning steps out bytes ends)) (outside p page i) (outside r page j) status
 break_comes steps out bytes ends p q r page i j left held held' from f f' o o' over result status h
-    (all_written e ending w) breaks refuses rose =
+    (all_written e ending w) breaks refuses rose calm =
     unclosed (turning steps out bytes ends) refl e ending refuses (ap is_break (sym e) ∙ breaks)
     (record { word = out.number; name = out.text; bytes = bytes }) refl
-    (made_short out bytes ends p q r left held held' from f f' o o' over result h) refl rose refl
+    (made_short out bytes ends p q r left held held' from f f' o o' over result h) refl rose calm refl
     (missed out bytes ends p q r left held held' from f f' o o' over result h)
 break_comes steps out bytes ends p q r page i j left held held' from f f' o o' over result status h (some_written c w)
-    breaks refuses rose =
+    breaks refuses rose calm =
     absurd (no_break status c breaks)
+
+-- work that is a stream that is refused, and whose refusal wasn't known, was stopped before OUT was to be closed
+first_stopped : (steps : StepBound) (out : Word) (bytes : List ℕ) (ends : Status) (p q r : Place)
+    (left held held' : Option (List ℕ)) (from : List ℕ) (f f' o o' : ℕ) (over result : Result (Unit {0}) Status)
+    (status : Status) →
+    IsThrough out bytes ends p q r left held held' from f f' o o' over result → status ≡ status_of over →
+    Wrote bytes ends held held' status → is_break status ≡ false → status ≢ NoMemory →
+    StopsFirst (Ok (turning steps out bytes ends)) p r
+first_stopped steps out bytes ends p q r left held held' from f f' o o' over result status h is
+    (all_written e ending w) calm other =
+    λ breaks. absurd (let same : true ≡ false = sym breaks ∙ ap is_break (sym e) ∙ calm in cc)
+first_stopped steps out bytes ends p q r left held held' from f f' o o' over result status h is
+    (some_written (inl e) w) calm other =
+    absurd (other e)
+first_stopped steps out bytes ends p q r left held held' from f f' o o' over result status h is
+    (some_written (inr e) w) calm other =
+    λ breaks. stops_rose out bytes ends p q r left held held' from f f' o o' over result h (sym is ∙ e)
 
 unclosed_comes : (steps : StepBound) (out : Word) (bytes : List ℕ) (ends : Status) (p q r : Place) (page : Page)
     (i j : ℕ)
@@ -206,14 +234,26 @@ unclosed_comes steps out bytes ends p q r page i j left held held' from f f' o o
           subst (λ (s : Status). Comes (Ok (turning steps out bytes ends)) (outside p page i) (outside r page j) s)
           (sym stands.0)
           (break_comes steps out bytes ends p q r page i j left held held' from f f' o o' over result (status_of over) h
-          h.wrote stands.1
-          stands.2 rose)
-      | inr gives ↦
-          failed gives
+          h.wrote stands.1 stands.2 rose
+          (stops_stand out bytes ends p q r left held held' from f f' o o' over result h
+          (λ is. absurd (subst IsRefusal is stands.2))))
+      | inr (inl out_of_memory) ↦
+          exhausted (ap unclosed_status out_of_memory)
           (writing (turning steps out bytes ends) refl (record { word = out.number; name = out.text; bytes = bytes })
           refl
           (made_short out bytes ends p q r left held held' from f f' o o' over result h) refl)
-          rose refl (missed out bytes ends p q r left held held' from f f' o o' over result h)
+          (stops_stand out bytes ends p q r left held held' from f f' o o' over result h
+          (λ is. let same = sym out_of_memory ∙ is in cc))
+          refl (missed out bytes ends p q r left held held' from f f' o o' over result h)
+      | inr (inr gives) ↦
+          failed gives.0
+          (writing (turning steps out bytes ends) refl (record { word = out.number; name = out.text; bytes = bytes })
+          refl
+          (made_short out bytes ends p q r left held held' from f f' o o' over result h) refl)
+          rose
+          (first_stopped steps out bytes ends p q r left held held' from f f' o o' over result (status_of over) h
+          refl h.wrote gives.1 gives.2)
+          refl (missed out bytes ends p q r left held held' from f f' o o' over result h)
     ]
 
 through_comes : (steps : StepBound) (out : Word) (bytes : List ℕ) (ends : Status) (p q r : Place) (page : Page)

@@ -25,6 +25,7 @@ pub record IsOpened (a b : Place) (from out : List ℕ) (left held : Option (Lis
   pub out_fresh : out_faults ≡ 0
   pub files : b.files ≡ with_bytes a.files out []
   pub faults : b.faults ≡ a.faults
+  pub stops : b.stops ≡ a.stops
   pub misses : b.misses ≡ a.misses
   pub made : b.made ≡ with_added a.made 1
   pub within : a.opened < 2 ^ 64
@@ -49,10 +50,11 @@ opening_status word port.Missing = Missing word
 opening_status word port.Failed = DepotFault
 opening_status word port.NoMemory = NoMemory
 
--- the status where OUT was not closed: a refusal in the midst of a stream stands, and else the device failed
+-- the status if OUT was not closed: a refusal of a stream stands, and running out of memory, and else the device failed
 abbrev pub unclosed_status : Status → Status
 unclosed_status (BadClear packet cause) = BadClear packet cause
 unclosed_status (BadStream packet cause) = BadStream packet cause
+unclosed_status NoMemory = NoMemory
 unclosed_status _ = DepotFault
 
 abbrev pub unclosed_by : Result (Unit {0}) Status → Result (Unit {0}) Status
@@ -72,8 +74,10 @@ EndsClosed a b out held faults ended result =
 pub record IsClosed (a b : Place) (out : List ℕ) (held : Option (List ℕ)) (from_faults out_faults : ℕ)
     (ended result : Result (Unit {0}) Status) : Type 0 where
   pub within : a.faults < 2 ^ 64
+  pub below : a.stops < 2 ^ 64
   pub prefix : LeavesPrefix a.files b.files out held
   pub ends : EndsClosed a b out held (with_added (with_added a.faults from_faults) out_faults) ended result
+  pub stops : b.stops ≡ with_added (with_added a.stops from_faults) out_faults
   pub misses : b.misses ≡ a.misses
   pub made : b.made ≡ a.made
   pub low : b.opened < 2 ^ 64

@@ -4,7 +4,7 @@ ghost use Rattle.sd_site.specs.Fields.{fields_of};
 ghost use Rattle.sd_site.specs.Text.{site_of};
 ghost use Rattle.sd_status.specs.Meant.{within};
 ghost use Rattle.sd_status.specs.Outside.{place};
-ghost use Rattle.sd_status.specs.Reads.{Judges, Looks};
+ghost use Rattle.sd_status.specs.Reads.{Judges, JudgesAlone, Looks};
 ghost use Rattle.sd_files.specs.Files.{site_of_file, book_of_file, refused_book, told_book, told_site};
 ghost use Rattle.sd_files.specs.Shown.{shown_word};
 
@@ -33,7 +33,7 @@ pub fn read_site<D: Depot>(alloc: Global, depot: &mut D, word: Word<'_>) -> Resu
 
 /// The site that a file's bytes say.
 fn judge_site(bytes: &[u8]) -> Result<Site, Status>
-    ensures { Judges fields_of (told_site (site_of bytes.now)) result }
+    ensures { JudgesAlone fields_of (told_site (site_of bytes.now)) result }
 {
     match sd_site::read(bytes) {
         Ok(site) => Ok(site),

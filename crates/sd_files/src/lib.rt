@@ -14,5 +14,5 @@ pub use files::{MOST_BOOK_BYTES, book_fault, read_book, read_bytes, read_site};
 pub use leaves::read_leaves;
 pub use made::{make_file, told};
 pub use print::print_text;
-pub use turn::{close_both, open_both};
+pub use turn::{close_both, open_both, opening_fault};
 pub use word::{Number, Word};

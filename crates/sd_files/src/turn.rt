@@ -24,19 +24,19 @@ pub fn open_both<D: Depot>(
 {
     let inlet = match depot.open_in(alloc, from.text) {
         Ok(inlet) => inlet,
-        Err(fault) => return Err(refused(from.number, fault)),
+        Err(fault) => return Err(opening_fault(from.number, fault)),
     };
     match depot.create_out(alloc, out.text) {
         Ok(outlet) => Ok((inlet, outlet)),
         Err(fault) => {
             depot.close_in(inlet);
-            Err(refused(out.number, fault))
+            Err(opening_fault(out.number, fault))
         }
     }
 }
 
-/// What is answered where the file of this word gave no port.
-fn refused(word: u8, fault: DepotFault) -> Status
+/// What the program answers if the file of this word gave no port.
+pub fn opening_fault(word: u8, fault: DepotFault) -> Status
     ensures { result ≡ opening_status word fault }
 {
     match fault {
@@ -65,13 +65,14 @@ pub fn close_both<D: Depot>(
     }
 }
 
-/// What is answered where OUT was not closed.
+/// What is answered where OUT was not closed: a refusal that is known stands, and running out of memory.
 fn unclosed(ended: Result<(), Status>) -> Result<(), Status>
     ensures { result ≡ unclosed_by ended }
 {
     match ended {
         Err(Status::BadClear { packet, cause }) => Err(Status::BadClear { packet, cause }),
         Err(Status::BadStream { packet, cause }) => Err(Status::BadStream { packet, cause }),
+        Err(Status::NoMemory) => Err(Status::NoMemory),
         _ => Err(Status::DepotFault),
     }
 }

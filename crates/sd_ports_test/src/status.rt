@@ -6,7 +6,7 @@ use sd_engine::BreakCause;
 use sd_ports::MemSink;
 use sd_psi::FormFault;
 use sd_site::SiteFault;
-use sd_status::{ClearCause, LimitKind, Status, StreamCause, tell};
+use sd_status::{Clash, ClearCause, LimitKind, Status, StreamCause, tell};
 use std::alloc::AllocError;
 
 #[test]
@@ -137,6 +137,23 @@ fn each_status_has_its_line(rt: HostRuntime) -> Result<(), AllocError> {
         (Status::Gaps(29), 15, "29 clear packets are missing\n"),
         (Status::NoCat, 16, "no CAT for this card\n"),
         (Status::BadWord(1), 17, "word 1 is out of range\n"),
+        (Status::Clash(Clash::Heights), 18, "sites have two heights\n"),
+        (Status::Clash(Clash::Masters), 18, "sites have two masters\n"),
+        (
+            Status::Clash(Clash::NoWords(1)),
+            18,
+            "site 1 has no control word\n",
+        ),
+        (
+            Status::Clash(Clash::SharedWord(1_999_999)),
+            18,
+            "sites share control word 1999999\n",
+        ),
+        (
+            Status::Clash(Clash::Books { leaf: 5, period: 2 }),
+            18,
+            "books disagree on receiver 5 in period 2\n",
+        ),
     ];
     for (status, code, text) in cases {
         let mut print = MemSink::new(alloc, 64, 64, Vec::new(alloc)).map_err(|_| AllocError)?;

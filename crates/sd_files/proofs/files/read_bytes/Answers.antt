@@ -12,7 +12,8 @@ returns-in-Ok g c =
     let h = c.in-Ok.ensures in
     looks_read (λ bytes. bytes.items) c.in-Ok.bytes c.args.word.number c.args.most c.args.kind c.args.word.text.now a b
     h.read h.within
-    (only_called 2 a b h.files (h.cause.no_fault (λ e. cc)) (h.cause.no_miss (λ e. cc)) h.made h.ports h.calls.done)
+    (only_called 2 a b h.files (h.cause.no_fault (λ e. cc)) (h.stops.calm (λ e. cc)) (h.cause.no_miss (λ e. cc)) h.made
+    h.ports h.calls.done)
 
 pub returns-in-Err-TooBig : goal.returns-in-Err-TooBig
 returns-in-Err-TooBig g c =
@@ -30,7 +31,7 @@ returns-in-Err-Failed g c =
     let b = place g.D.Depot c.read_file.new.depot in
     let h = rw c.in-Err-Failed.field-0-is at c.in-Err-Failed.ensures in
     looks_stopped (λ bytes. bytes.items) c.args.word.number c.args.most c.args.kind c.args.word.text.now a b DepotFault
-    (inr (refl, h.cause.failed refl)) h.once
+    (inr (refl, h.cause.failed refl, h.stops.failed refl)) h.once
     (record { files = h.files; made = h.made; ports = h.ports; calls = let most = h.calls.most in omega arith })
     (h.cause.no_miss (λ e. cc))
 
@@ -40,6 +41,6 @@ returns-in-Err-NoMemory g c =
     let b = place g.D.Depot c.read_file.new.depot in
     let h = rw c.in-Err-NoMemory.field-0-is at c.in-Err-NoMemory.ensures in
     looks_stopped (λ bytes. bytes.items) c.args.word.number c.args.most c.args.kind c.args.word.text.now a b NoMemory
-    (inl (refl, h.cause.no_fault (λ e. cc))) h.once
+    (inl (refl, h.cause.no_fault (λ e. cc), h.stops.calm (λ e. cc))) h.once
     (record { files = h.files; made = h.made; ports = h.ports; calls = let most = h.calls.most in omega arith })
     (h.cause.no_miss (λ e. cc))

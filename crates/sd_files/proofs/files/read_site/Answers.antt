@@ -4,7 +4,7 @@ use Rattle.sd_site.specs.Text.{site_of}
 use Rattle.sd_status.specs.declared.status.LimitKind.TheVariants.{SiteBytes}
 use Rattle.sd_status.specs.Outside.{place}
 use Rattle.sd_status.specs.Meant.{within, judged}
-use Rattle.sd_status.proofs.Follow.{looks_first, looks_judged}
+use Rattle.sd_status.proofs.Follow.{alone_judges, looks_first, looks_judged}
 use Rattle.sd_files.specs.declared.files.TheConstants.{MOST_SITE_BYTES}
 use Rattle.sd_files.specs.Files.{told_site, site_of_file}
 use Rattle.sd_files.proofs.files.read_site.Goals as goal
@@ -21,8 +21,9 @@ returns-in_err-bytes g c =
 pub returns : goal.returns
 unfolding site_of_file
 returns g c =
-    let judges = rw c.deref.ensures.value at c.judge_site.ensures in
+    let judged_alone = rw c.deref.ensures.value at c.judge_site.ensures in
     looks_judged (λ bytes. bytes.items) fields_of (within c.args.word.number MOST_SITE_BYTES SiteBytes)
     (λ bytes. told_site (site_of bytes)) c.args.word.text.now
     (place g.D.Depot c.args.depot.now) (place g.D.Depot c.read_bytes.new.depot) c.in_ok-bytes.bytes c.judge_site.result
-    c.in_ok-bytes.ensures judges
+    c.in_ok-bytes.ensures
+    (alone_judges fields_of (told_site (site_of c.in_ok-bytes.bytes.items)) c.judge_site.result judged_alone)

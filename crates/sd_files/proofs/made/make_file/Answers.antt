@@ -8,4 +8,4 @@ returns g c page steps most =
     let w = c.write_file.ensures in
     made_obeys most (shown_word c.args.word) c.args.bytes.now (place g.D.Depot c.args.depot.now)
     (place g.D.Depot c.write_file.new.depot)
-    page steps c.write_file.result c.told.result c.told.ensures w.file w.cause w.ports w.calls.most
+    page steps c.write_file.result c.told.result c.told.ensures w.file w.cause w.stops w.ports w.calls.most
