@@ -42,7 +42,7 @@ is_full_own site Pmt packet = not (is_none (rewrite_fault packet)) && is_none (r
 is_full_own site Passed packet = false
 is_full_own site Scrambled packet = false
 
--- another PID would have a position than those that may have one
+-- one PID more would have a position than may have one
 abbrev pub is_one_too_many : List (List ℕ) → List ℕ → Bool
 is_one_too_many before packet =
     is_placed packet && (not (has_moved before (pid_of packet)) && nat_le most_places (length (moved_pids before)))
