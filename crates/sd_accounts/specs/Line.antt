@@ -25,7 +25,7 @@ longest_name = 32
 abbrev pub is_name_byte : ℕ → Bool
 is_name_byte byte = is_ascii_lowercase byte || (is_ascii_digit byte || byte == 45)
 
--- 1 or more of those, and not too many [this project, docs/FORMATS.md, Accounts]
+-- 1 to `longest_name` of those [this project, docs/FORMATS.md, Accounts]
 unfoldable pub is_name : List ℕ → Bool
 is_name text = nat_lt 0 (length text) && (nat_le (length text) longest_name && list_all is_name_byte text)
 

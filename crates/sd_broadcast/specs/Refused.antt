@@ -10,6 +10,7 @@ use Rattle.sd_psi.specs.declared.fault.FormFault.{FormFault}
 use Rattle.sd_psi.specs.declared.fault.FormFault.TheVariants as Form
 use Rattle.sd_psi.specs.Forms.{pat_fault}
 use Rattle.sd_psi.specs.Rewriting.{rewrite_fault, restore_fault}
+use Rattle.sd_ecm.specs.Versions.{most_places}
 use Rattle.sd_broadcast.specs.Kinds.{kind_of, has_moved, moved_pids}
 use Rattle.sd_broadcast.specs.declared.kind.Kind.{Kind}
 use Rattle.sd_broadcast.specs.declared.kind.Kind.TheVariants.{Passed, Pmt, Scrambled}
@@ -41,10 +42,10 @@ is_full_own site Pmt packet = not (is_none (rewrite_fault packet)) && is_none (r
 is_full_own site Passed packet = false
 is_full_own site Scrambled packet = false
 
--- another PID would have a position than the 256 that may have one
+-- one PID more would have a position than may have one
 abbrev pub is_one_too_many : List (List ℕ) → List ℕ → Bool
 is_one_too_many before packet =
-    is_placed packet && (not (has_moved before (pid_of packet)) && nat_le 256 (length (moved_pids before)))
+    is_placed packet && (not (has_moved before (pid_of packet)) && nat_le most_places (length (moved_pids before)))
 
 -- no number of a packet, or no control word of the site's, is left for packet k [this project, docs/FORMATS.md,
 -- Broadcast]

@@ -5,7 +5,7 @@ use Rattle.std.specs.Prelude.{Result, Ok, Err}
 use Rattle.sd_ecm.specs.Spelled.{listed}
 use Rattle.sd_ecm.specs.Form.{ArePositioned, AreAscending, AreShort, IsEcm}
 use Rattle.sd_ecm.specs.Parts.{header_of}
-use Rattle.sd_ecm.specs.declared.format.TheConstants.{MOST_PLACES, POSITIONS}
+use Rattle.sd_ecm.specs.Versions.{most_places, most_positions}
 use Rattle.sd_ecm.specs.declared.part.Place.{Place}
 use Rattle.sd_ecm.specs.declared.part.EcmPart.{EcmPart}
 use Rattle.sd_ecm.specs.declared.message.EcmHead.{EcmHead}
@@ -38,7 +38,7 @@ newest_of (part ∷ run) = Some part
 
 -- positions that a message may have [this project, docs/FORMATS.md, Messages]
 pub record ArePlaces (all : List Place) : Type 0 where
-  pub few : length all ≤ MOST_PLACES
+  pub few : length all ≤ most_places
   pub positioned : ArePositioned all
   pub ascending : AreAscending all
   pub short : AreShort all
@@ -46,7 +46,7 @@ pub record ArePlaces (all : List Place) : Type 0 where
 -- a part in its form, with room for as many positions as a part may have
 pub record IsPart (part : EcmPart) : Type 0 where
   pub form : IsEcm part
-  pub long : length part.positions ≡ POSITIONS
+  pub long : length part.positions ≡ most_positions
 
 -- the part stands right after the newest of these, if there is one
 abbrev pub IsNext : List EcmPart → EcmPart → Type 0

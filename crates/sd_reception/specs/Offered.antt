@@ -9,6 +9,7 @@ use Rattle.sd_card.specs.Fields.{CardFields}
 use Rattle.sd_wrap.specs.Wrapping.{wrapped as under}
 use Rattle.sd_emm.specs.declared.emm.Emm.{Emm}
 use Rattle.sd_emm.specs.declared.fault.EmmFault.TheVariants as Emms
+use Rattle.sd_ecm.specs.Versions.{most_places}
 use Rattle.sd_ecm.specs.Spelled.{listed}
 use Rattle.sd_ecm.specs.Parts.{Message}
 use Rattle.sd_ecm.specs.declared.part.EcmPart.{EcmPart}
@@ -21,6 +22,10 @@ use Rattle.sd_reception.specs.Heard.{Heard, Dropped, Entitles, Controls, BadEmm,
 use Rattle.sd_reception.specs.Stretches.{Stretch, newest, run_to, completes, is_closed, current, seen, held_in}
 use Rattle.sd_reception.specs.Keys.{key_from, key_at}
 use Rattle.sd_reception.specs.Confirmed.{Wrote, position_in, written_from}
+
+-- the most packets that are held after a control message [this project, docs/FORMATS.md, Receiver]
+abbrev pub most_held : ℕ
+most_held = 4096
 
 abbrev pub heard_with : CardFields → Option Tuning → ℕ → List ℕ → List Heard → List Heard
 heard_with card None n packet past = past
@@ -89,7 +94,7 @@ part_fault [] = None
 part_fault (part ∷ run) =
     if list_any (λ other. not (same_header other part)) run then Some Mixed
     else if not (is_after part run) then Some Order
-    else if nat_lt 256 (length (flat_map listed (part ∷ run))) then Some Count
+    else if nat_lt most_places (length (flat_map listed (part ∷ run))) then Some Count
     else None
 
 -- the second message goes back before the first
@@ -106,7 +111,7 @@ is_back past b = nat_lt b.period (current past) || option_map_or (is_before b) (
 abbrev pub segment_wrote : CardFields → Tuning → Stretch → Message → Message → Option (List ℕ) → Wrote
 segment_wrote card tuning stretch a b None = record { packets = []; refused = None }
 segment_wrote card tuning stretch a b (Some key) =
-    if nat_lt 4096 (length (held_in stretch)) then record { packets = []; refused = None }
+    if nat_lt most_held (length (held_in stretch)) then record { packets = []; refused = None }
     else written_from (record {
       first = a;
       last = b;

@@ -12,15 +12,15 @@ use Rattle.sd_packet.specs.Positions.{moved, moved_by, is_positional, first_posi
 use Rattle.sd_packet.proofs.Positions.{one_more}
 use Rattle.sd_ecm.specs.Form.{ArePositioned}
 use Rattle.sd_reception.specs.Confirmed.{position_in}
+use Rattle.sd_reception.specs.Offered.{most_held}
 use Rattle.sd_ecm.specs.declared.part.Place.{Place}
-use Rattle.sd_ecm.specs.declared.format.TheConstants.{MOST_PLACES}
+use Rattle.sd_ecm.specs.Versions.{most_places}
 use Rattle.std.proofs.lemmas.Bool.{and_parts, leb-true}
 use Rattle.std.specs.Prelude.{nat_le}
 use Rattle.sd_segment.specs.Holding.{ArePlaces}
 use Rattle.sd_segment.specs.Tracking.{packets_in, led_to, start_of, IsClear, IsTracked, AreKnown, IsKept}
 use Rattle.sd_segment.specs.declared.tracks.Tracks.{Tracks}
 use Rattle.sd_segment.specs.declared.held.Held.{Held}
-use Rattle.sd_segment.specs.declared.held.TheConstants.{MOST_HELD}
 use Rattle.sd_segment.proofs.Tables.{none_started, tracked_more, own_more, led_within}
 
 -- a table of first positions
@@ -31,8 +31,8 @@ all_first = record {
 }
 
 -- nothing is held
-pub kept_none : (u : Tracks) → u.places.items ≡ [] → u.held.items ≡ [] → MOST_HELD ≤ vec_capacity u.held →
-    MOST_PLACES ≤ vec_capacity u.places → IsClear u.table.items → IsKept u
+pub kept_none : (u : Tracks) → u.places.items ≡ [] → u.held.items ≡ [] → most_held ≤ vec_capacity u.held →
+    most_places ≤ vec_capacity u.places → IsClear u.table.items → IsKept u
 kept_none u places held room space clear = record {
   few = omega (arith, ap (λ (hs : List Held). length hs) held);
   room = room;
@@ -60,7 +60,7 @@ places_known places are = All-weaker (λ (p : Place). is_positional p.pid ≡ tr
 
 -- nothing is held after places
 pub kept_begun : (u : Tracks) (places : List Place) → ArePlaces places → u.places.items ≡ places → u.held.items ≡ [] →
-    MOST_HELD ≤ vec_capacity u.held → MOST_PLACES ≤ vec_capacity u.places → IsTracked places [] u.table.items → IsKept u
+    most_held ≤ vec_capacity u.held → most_places ≤ vec_capacity u.places → IsTracked places [] u.table.items → IsKept u
 kept_begun u places are same held room space tracked = record {
   few = omega (arith, ap (λ (hs : List Held). length hs) held);
   room = room;
@@ -87,8 +87,8 @@ position_within t packet is =
 
 -- one packet more is held
 pub kept_more : (t : Tracks) (held : Vec Held) (table : Vec ℕ) (one : Held) → IsKept t →
-    length t.held.items < MOST_HELD →
-    held.items ≡ t.held.items ++ one ∷ [] → MOST_HELD ≤ vec_capacity held →
+    length t.held.items < most_held →
+    held.items ≡ t.held.items ++ one ∷ [] → most_held ≤ vec_capacity held →
     one.position ≡ moved (pid_of one.packet) (get_or t.table.items (pid_of one.packet) 0) one.packet →
     table.items ≡ set t.table.items (pid_of one.packet) one.position →
     IsKept (record { places = t.places; held = held; table = table })

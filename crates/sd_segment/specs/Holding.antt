@@ -3,11 +3,11 @@ use Rattle.std.specs.Prelude.{ℕ, ◌≤◌, List, [], ◌∷◌, ◌++◌, len
 use Rattle.sd_ecm.specs.Form.{ArePositioned, AreAscending, AreShort}
 use Rattle.sd_ecm.specs.Parts.{Message}
 use Rattle.sd_ecm.specs.declared.part.Place.{Place}
-use Rattle.sd_ecm.specs.declared.format.TheConstants.{MOST_PLACES}
+use Rattle.sd_ecm.specs.Versions.{most_places}
+use Rattle.sd_reception.specs.Offered.{most_held}
 use Rattle.sd_segment.specs.declared.held.Held.{Held}
 use Rattle.sd_segment.specs.declared.held.Word.{Word}
 use Rattle.sd_segment.specs.declared.tracks.Tracks.{Tracks}
-use Rattle.sd_segment.specs.declared.held.TheConstants.{MOST_HELD}
 
 -- the number of the message's control word, the word, the message's places, and the packets held, each after its number
 -- in the stream
@@ -35,7 +35,7 @@ holding_of (Some word) tracks = Some (record {
 abbrev pub held_more : Option Holding → ℕ → List ℕ → Option Holding
 held_more None number packet = None
 held_more (Some h) number packet =
-    if nat_lt (length h.held) MOST_HELD
+    if nat_lt (length h.held) most_held
     then Some (record {
       number = h.number;
       word = h.word;
@@ -51,7 +51,7 @@ after_message a word held = record { number = a.word; word = word; places = a.pl
 -- the places of a message: few enough, of PIDs that have positions, ascending, each position one of 48 bits
 -- [this project, docs/FORMATS.md, Messages]
 pub record ArePlaces (places : List Place) : Type 0 where
-  pub few : length places ≤ MOST_PLACES
+  pub few : length places ≤ most_places
   pub positioned : ArePositioned places
   pub ascending : AreAscending places
   pub short : AreShort places

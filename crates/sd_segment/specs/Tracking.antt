@@ -7,11 +7,11 @@ use Rattle.sd_packet.specs.Header.{pid_of}
 use Rattle.sd_packet.specs.Positions.{first_position, moved_by}
 use Rattle.sd_ecm.specs.Form.{AreShort}
 use Rattle.sd_ecm.specs.declared.part.Place.{Place}
-use Rattle.sd_ecm.specs.declared.format.TheConstants.{MOST_PLACES}
+use Rattle.sd_ecm.specs.Versions.{most_places}
 use Rattle.sd_reception.specs.Confirmed.{position_in}
+use Rattle.sd_reception.specs.Offered.{most_held}
 use Rattle.sd_segment.specs.declared.held.Held.{Held}
 use Rattle.sd_segment.specs.declared.tracks.Tracks.{Tracks}
-use Rattle.sd_segment.specs.declared.held.TheConstants.{MOST_HELD}
 use Rattle.sd_segment.specs.declared.tracks.TheConstants.{PIDS}
 
 -- the PIDs of places
@@ -56,9 +56,9 @@ HaveOwn places held =
 
 -- what is kept: places and packets within their room, and where the packets lead
 pub record IsKept (tracks : Tracks) : Type 0 where
-  pub few : length tracks.held.items ≤ MOST_HELD
-  pub room : MOST_HELD ≤ vec_capacity tracks.held
-  pub space : MOST_PLACES ≤ vec_capacity tracks.places
+  pub few : length tracks.held.items ≤ most_held
+  pub room : most_held ≤ vec_capacity tracks.held
+  pub space : most_places ≤ vec_capacity tracks.places
   pub known : AreKnown tracks.places.items
   pub short : AreShort tracks.places.items
   pub own : HaveOwn tracks.places.items tracks.held.items
