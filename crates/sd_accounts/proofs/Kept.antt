@@ -44,7 +44,7 @@ kept_none d leaf_for marks none is = record {
 }
 
 -- the leaf of a name, with one line more
-leaf_more : (name : List ℕ) (before : List (Option Entry)) (said : Option Entry) →
+pub leaf_more : (name : List ℕ) (before : List (Option Entry)) (said : Option Entry) →
     leaf_of name (before ++ said ∷ []) ≡ first_there (leaf_of name before) (leaf_on name said)
 leaf_more name [] said = none_after (leaf_on name said)
 leaf_more name (one ∷ before) said = rw (leaf_more name before said) (shifted (leaf_on name one))

@@ -1,3 +1,4 @@
+pub mod Causes
 pub mod Kept
 pub mod Leaves
 pub mod Limits

@@ -57,7 +57,7 @@ pub book_ends : (d : ℕ) (commands : List Command) → IsWithinLimits d command
 book_ends d commands all = ap allowed (end_again d commands all)
 
 -- the end of commands, whatever it gives
-end_by : {A B : Type 0} (d : ℕ) (commands : List Command) (x : A) (y : B) (fault : BookFault) →
+pub end_by : {A B : Type 0} (d : ℕ) (commands : List Command) (x : A) (y : B) (fault : BookFault) →
     ended d commands x ≡ Err fault → ended d commands y ≡ Err fault
 end_by d commands x y fault e = by_test (nat_lt most_revoked (length (revoked_after d commands))) refl e
   where

@@ -1,6 +1,7 @@
 pub mod Accounts
 pub mod Bound
 pub mod Fault
+pub mod Faults
 pub mod Judged
 pub mod Kept
 pub mod Line

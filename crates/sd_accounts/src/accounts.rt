@@ -1,8 +1,10 @@
-ghost use Rattle.std.specs.Prelude.{◌≡◌, ◌⊎◌, false, IfOk, Ok, Err, MatchResult};
+ghost use Rattle.std.specs.Prelude.{◌≡◌, ◌⊎◌, List, false, IfOk, IfErr, Ok, Err, MatchResult};
 ghost use Rattle.serde_json.specs.View.{view};
 ghost use Rattle.serde_json.specs.Written.{has_float};
+ghost use Rattle.sd_book.specs.declared.command.Command.{Command as Commands};
 ghost use Rattle.sd_book.specs.Limits.{IsWithinLimits};
 ghost use Rattle.sd_accounts.specs.Accounts.{IsListOf};
+ghost use Rattle.sd_accounts.specs.Faults.{AreGood, IsCauseOf};
 ghost use Rattle.sd_accounts.specs.Judged.{book_of};
 ghost use Rattle.sd_accounts.specs.Line.{said_by};
 ghost use Rattle.sd_accounts.specs.Report.{report_data};
@@ -39,10 +41,18 @@ impl Accounts {
     ///
     /// Lines are judged in order, and the first bad one decides. On one line the order is `Line`, `Unknown`, `Taken`,
     /// `Limit`. The last period is judged after the last line [this project, docs/FORMATS.md, Accounts].
+    #[tactic(auto, using(crate::proofs::Causes::read_sound, crate::proofs::Causes::read_again, crate::proofs::Causes::read_fault))]
     pub fn read(alloc: Global, bytes: &[u8], h: Height) -> Result<Accounts, AccountFault>
         ensures height { IfOk result (λ accounts. accounts.book.height ≡ h) }
         ensures fits { IfOk result (λ accounts. IsWithinLimits h accounts.book.commands) }
         ensures accounts { IfOk result (λ accounts. IsListOf (said_by h bytes.now) accounts.accounts) }
+        ensures sound { IfOk result (λ accounts. AreGood h (said_by h bytes.now) accounts.book.commands) }
+        ensures complete { (commands : List Commands) →
+            AreGood h (said_by h bytes.now) commands → IsWithinLimits h commands →
+            MatchResult result (λ accounts. accounts.book.commands ≡ commands)
+            (λ fault. fault ≡ AccountFault.NoMemory) }
+        ensures fault { IfErr result (λ fault.
+            (fault ≡ AccountFault.NoMemory) ⊎ IsCauseOf h (said_by h bytes.now) fault) }
         // The book, or the first fault.
         ensures value { MatchResult result (λ accounts. book_of h bytes.now ≡ Ok accounts.book.commands)
             (λ fault. (fault ≡ AccountFault.NoMemory) ⊎ (book_of h bytes.now ≡ Err fault)) }

@@ -3,6 +3,7 @@
 
 mod accounts;
 mod fault;
+pub mod laws;
 mod line;
 mod name;
 mod names;

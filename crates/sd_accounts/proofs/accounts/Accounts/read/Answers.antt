@@ -1,6 +1,29 @@
+use Rattle.std.proofs.Common.{◌≡◌, ◌∙◌, inr}
+use Rattle.std.specs.Prelude.{◌⊎◌}
+use Rattle.std.proofs.lemmas.Result.{err_from_is_err_and}
+use Rattle.sd_accounts.specs.declared.fault.AccountFault.TheVariants.{NoMemory}
+use Rattle.sd_accounts.specs.Faults.{IsCauseOf}
 use Rattle.sd_accounts.specs.Line.{said_by}
+use Rattle.sd_accounts.proofs.Causes.{read_fault}
 use Rattle.sd_accounts.proofs.accounts.Accounts.read.Goals as goal
 
 pub returns-clause-accounts : goal.returns-clause-accounts
 returns-clause-accounts c = c.in_ok-book.ensures.leaves c.args.h (said_by c.args.h c.args.bytes.now)
     c.in_ok-register.ensures.kept
+
+pub returns-in_err-register-clause-fault : goal.returns-in_err-register-clause-fault
+returns-in_err-register-clause-fault c =
+    let p = err_from_is_err_and c.from_residual.result c.from_residual.ensures.1 in
+    let why : (c.in_err-register.field-0.0 ≡ NoMemory)
+    ⊎ IsCauseOf c.args.h (said_by c.args.h c.args.bytes.now) c.in_err-register.field-0.0 =
+    read_fault c.args.h c.args.bytes.now c.in_err-register.field-0.0 c.in_err-register.ensures.value in
+    rw (p.1, p.2) why
+
+pub returns-in_err-book-clause-fault : goal.returns-in_err-book-clause-fault
+returns-in_err-book-clause-fault c =
+    let p = err_from_is_err_and c.from_residual-in_err-book.result c.from_residual-in_err-book.ensures.1 in
+    let why : (c.in_err-book.field-0.0 ≡ NoMemory)
+    ⊎ IsCauseOf c.args.h (said_by c.args.h c.args.bytes.now) c.in_err-book.field-0.0 =
+    read_fault c.args.h c.args.bytes.now c.in_err-book.field-0.0 (inr (c.in_ok-register.ensures.value
+    ∙ (rw c.in_ok-register.ensures.height at c.in_err-book.ensures.value))) in
+    rw (p.1, p.2) why
