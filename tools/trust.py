@@ -1,0 +1,343 @@
+#!/usr/bin/env python3
+"""trust.py [--write | --check | --why NAME]: every definition that the claims of LAWS rest on.
+
+Who trusts the checker still has to read what it checked: the clauses, and each definition that they cite, down to the
+words of the toolchain. Names are followed through the `use` lines of each file: to definitions in specs/, and by way of
+`declared` to the types, constants and traits in src/. Proofs are not followed, since the checker reads them. A name
+that a variable hides counts as cited, so the list may be too long and is never too short.
+
+Without an option it prints how much there is to read. --write writes docs/TRUST.md below the line of its mark, and
+leaves what is above it as it is. --check compares, prints what differs, and exits with 1 if something does. --why
+prints one chain of citations from a claim to NAME."""
+
+import difflib
+import hashlib
+import os
+import re
+import sys
+import textwrap
+from collections import defaultdict
+
+TOP = os.path.dirname(os.path.dirname(os.path.realpath(__file__)))
+PAGE = f"{TOP}/docs/TRUST.md"
+MARK = "<!-- From here on tools/trust.py writes this page. -->\n"
+LAWS = ["sd_run_laws::run.head,card,receive,lost", "sd_pooled::periods_known", "sd_pooled::words_known"]
+# The sources that comments name in brackets.
+SOURCES = ["ISO/IEC 13818-1", "Naor, Naor, Lotspiech", "FIPS 180-4", "this project"]
+
+NAME = r"[A-Za-z_][\w'-]*"
+CITED = re.compile(rf"(?<![\w'.]){NAME}(?:\.{NAME})*")
+USE = re.compile(r"^\s*(?:pub )?(?:ghost )?use Rattle\.([\w.◌]+?)(?:\.\{([^}]*)\})?(?: as (\w+))?;?$", re.M)
+RUST_USE = re.compile(r"^\s*(?:pub )?use (\w+)((?:::\w+)*)(?:::(\w+)|::\{([^}]*)\});$", re.M)
+SPEC_HEAD = re.compile(
+    rf"^(?:(?:abbrev|unfoldable)\s+(?:pub\s+)?|(?:pub\s+)?(?:record|data)\s+|pub\s+(?!mod|use))(◌\S+|{NAME})", re.M
+)
+SOURCE_HEAD = re.compile(
+    r"^(?:pub(?:\(\w+\))?\s+)?(struct|enum|trait|const)\s+(\w+)|^(impl)(?:<.*>)?\s+Model\s+for\s+(\w+)", re.M
+)
+FUNCTION = re.compile(r"^pub fn (\w+)", re.M)
+CLAUSE = re.compile(r"\b(?:requires|ensures)\b\s*(\w*)\s*\{")
+
+
+def bare(text, comment):
+    """The text without comments and with empty strings; each line stays a line."""
+    skipped = re.compile(rf'"(?:\\.|[^"\\\n])*"|(?:^|(?<=[\s(])){comment}[^\n]*', re.M)
+    return skipped.sub(lambda found: '""' if found[0].startswith('"') else "", text)
+
+
+def block(text, start):
+    """The index after the brace that closes the first one from `start` on; or after a `;` that comes before any."""
+    depth = 0
+    for at in range(start, len(text)):
+        if text[at] == ";" and depth == 0:
+            return at + 1
+        depth += {"{": 1, "}": -1}.get(text[at], 0)
+        if text[at] == "}" and depth == 0:
+            return at + 1
+    return len(text)
+
+
+class Item:
+    """A definition, type, constant, trait or function: where it is, its text, and the part of it that cites."""
+
+    def __init__(self, file, name, first, text, cites):
+        self.file, self.name, self.first = file, name, first
+        self.text, self.cites = text.strip("\n"), cites
+        mark = "--" if file.path.endswith(".antt") else "//"
+        kept = [line for line in self.text.split("\n") if line.strip() and not line.strip().startswith(mark)]
+        self.lines, self.claim = len(kept), re.sub(r"\s+", " ", " ".join(kept))
+        comments = [line.strip() for line in self.text.split("\n") if line.strip().startswith(mark)]
+        comments = " ".join(line.lstrip("-/ ") for line in comments)
+        self.sources = [source for source in SOURCES if re.search(rf"\[[^\]]*{source}", comments)]
+
+
+class File:
+    """A file of specs/ or src/: the names that its `use` lines bring in, and its items by their names."""
+
+    def __init__(self, crate, path):
+        self.crate, self.path = crate, path
+        with open(f"{TOP}/crates/{path}", encoding="utf-8") as file:
+            self.text = file.read()
+        self.is_spec = path.endswith(".antt")
+        self.bare = bare(self.text, "--" if self.is_spec else "//")
+        self.names, self.aliases, self.items = {}, {}, {}
+        for module, braces, alias in USE.findall(self.bare):
+            parts = tuple(module.split("."))
+            for part in filter(None, (it.strip() for it in braces.split(","))):
+                name, _, local = part.partition(" as ")
+                self.names[local.strip() or name] = (parts, name)
+            if not braces:
+                self.aliases[alias or parts[-1]] = parts
+                self.names[alias or parts[-1]] = (parts[:-1], parts[-1])
+        if self.is_spec:
+            self.read_definitions()
+        else:
+            self.read_sources()
+
+    def add(self, name, start, end, cites):
+        """An item with the comment lines right before it."""
+        lines = self.text.split("\n")
+        first = last = self.bare.count("\n", 0, start)
+        while first and re.match(r"\s*(--|//|#\[|infix)", lines[first - 1]):
+            first -= 1
+        last = self.bare.count("\n", 0, end) + (0 if self.bare[end - 1 : end] == "\n" else 1)
+        text = re.sub(r"(\n *(--[^\n]*|infix[^\n]*)?)*$", "", "\n".join(lines[first:last]))
+        self.items[name] = Item(self, name, first + 1, text, cites)
+
+    def read_definitions(self):
+        heads = list(SPEC_HEAD.finditer(self.bare))
+        for head, end in zip(heads, [*(it.start() for it in heads[1:]), len(self.bare)]):
+            text = re.sub(r"\n\s*infix[^\n]*\s*$", "", self.bare[head.start() : end])
+            self.add(head[1], head.start(), end, text[head.end() - head.start() :])
+            if re.match(r"(pub )?data", text):
+                for maker in re.findall(rf"^\s+({NAME})\s*:", text, re.M):
+                    self.items.setdefault(maker, self.items[head[1]])
+
+    def read_sources(self):
+        for crate, middle, one, several in RUST_USE.findall(self.bare):
+            owner = self.crate if crate in ("crate", "super", "self") else crate
+            for name in re.findall(r"\w+", one or several):
+                self.names.setdefault(name, ((owner, "src"), name))
+        for head in SOURCE_HEAD.finditer(self.bare):
+            end = block(self.bare, head.end())
+            name = f"impl {head[4]}" if head[3] else head[2]
+            self.add(name, head.start(), end, self.bare[head.end() : end])
+
+    def clauses(self, function, wanted):
+        """The item of a function with these of its clauses, or all: its signature and clauses, and no body."""
+        head = next(it for it in FUNCTION.finditer(self.bare) if it[1] == function)
+        end = first = self.bare.find("{", head.end())
+        parts = []
+        for found in CLAUSE.finditer(self.bare, head.end()):
+            if self.bare[end:found.start()].strip() and parts or not parts and found.start() > first:
+                break
+            end = block(self.bare, found.end() - 1)
+            parts.append((found[1], found.start(), end))
+        missing = set(wanted) - {name for name, _, _ in parts}
+        if missing:
+            sys.exit(f"trust.py: {function} has no clause {', '.join(missing)}")
+        kept = [(start, stop) for name, start, stop in parts if not wanted or name in wanted]
+        signature = self.bare[head.start() : parts[0][1]]
+        shown = [signature.rstrip(), *("    " + self.bare[start:stop] for start, stop in kept)]
+        self.add(f"fn {function}", head.start(), head.end(), "\n".join(shown))
+        item = self.items[f"fn {function}"]
+        item.text = re.sub(r"pub fn .*", "\n".join(shown), item.text, flags=re.S)
+        return item
+
+
+class Repository:
+    """The files of all crates, read as they are needed."""
+
+    def __init__(self):
+        self.specs, self.sources = {}, {}
+        self.crates = set(os.listdir(f"{TOP}/crates"))
+        with open(f"{TOP}/crates.txt", encoding="utf-8") as file:
+            rows = [line.partition("#")[0].partition(":") for line in file]
+        self.below = {name.split()[0]: deps.split() for name, colon, deps in rows if colon}
+
+    def height(self, crate):
+        return 1 + max((self.height(low) for low in self.below.get(crate, []) if low in self.crates), default=0)
+
+    def spec(self, crate, parts):
+        path = f"{crate}/specs/{'/'.join(parts)}.antt"
+        if path not in self.specs:
+            there = os.path.isfile(f"{TOP}/crates/{path}")
+            self.specs[path] = File(crate, path) if there else None
+        return self.specs[path]
+
+    def source(self, crate):
+        if crate not in self.sources:
+            found = []
+            for folder, _, names in os.walk(f"{TOP}/crates/{crate}/src"):
+                found += [f"{folder}/{name}" for name in names if name.endswith(".rt")]
+            self.sources[crate] = [File(crate, os.path.relpath(path, f"{TOP}/crates")) for path in sorted(found)]
+        return self.sources[crate]
+
+    def of_source(self, crate, name):
+        return next((file.items[name] for file in self.source(crate) if name in file.items), None)
+
+    def find(self, parts, name):
+        """What a name of a module is: an item, a word of the toolchain, or nothing."""
+        crate, rest = parts[0], list(parts[1:])
+        if crate not in self.crates:
+            return (".".join(parts), name)
+        if rest[:1] == ["src"]:
+            return self.of_source(crate, name)
+        if rest[:2] == ["specs", "declared"]:
+            owner = {"TheVariants": rest[-2], "TheConstants": name}.get(rest[-1], rest[-1])
+            return self.of_source(crate, owner) or self.of_source(crate, name)
+        if rest[:1] != ["specs"]:
+            return None
+        file = self.spec(crate, rest[1:])
+        if file is None:
+            return None
+        if name in file.items:
+            return file.items[name]
+        return self.find(*file.names[name]) if name in file.names else None
+
+    def cited(self, item):
+        """All that an item's text names."""
+        file, found = item.file, []
+        for use in CITED.finditer(item.cites):
+            first, *fields = use[0].split(".")
+            after = item.cites[use.end() : use.end() + 3].lstrip()
+            if fields and first in file.aliases:
+                found.append(self.find(file.aliases[first], fields[0]))
+            elif first in file.items and not after.startswith(":"):
+                found.append(file.items[first])
+            elif first in file.names and not after.startswith(":"):
+                found.append(self.find(*file.names[first]))
+            elif not file.is_spec and first[0].isupper():
+                found.append(self.of_source(file.crate, first))
+        for name in [*file.names, *file.items]:
+            marks = [part for part in name.split("◌") if part]
+            if "◌" in name and (all(part in item.cites for part in marks) or ">>=" in marks and " do\n" in item.cites):
+                found.append(file.items.get(name) or self.find(*file.names[name]))
+        if not file.is_spec:
+            found.append(file.items.get(f"impl {item.name}"))
+        return [it for it in found if it is not None and it is not item]
+
+
+def laws(repository):
+    for law in LAWS:
+        name, _, clauses = law.partition(".")
+        crate, function = name.split("::")
+        files = [it for it in repository.source(crate) if re.search(rf"^pub fn {function}\b", it.bare, re.M)]
+        yield files[0].clauses(function, [it for it in clauses.split(",") if it])
+
+
+def reached(repository, roots):
+    """The items under the laws, each with one that cites it, and the words of the toolchain by their modules."""
+    parents, words, waiting = {root: None for root in roots}, defaultdict(set), list(roots)
+    while waiting:
+        item = waiting.pop(0)
+        for found in repository.cited(item):
+            if isinstance(found, tuple):
+                words[found[0]].add(found[1])
+            elif found not in parents:
+                parents[found] = item
+                waiting.append(found)
+    return parents, words
+
+
+def reading_order(repository, items):
+    """The items by their files: lower crates first, and in a crate no file before those that it needs."""
+    by_file = defaultdict(list)
+    for item in items:
+        by_file[item.file].append(item)
+    done = {}
+
+    def visit(file, trail):
+        if file in done or file in trail:
+            return
+        needs = {it.file for item in by_file[file] for it in repository.cited(item) if isinstance(it, Item)}
+        for low in sorted(needs, key=lambda it: it.path):
+            if low.crate == file.crate and low in by_file:
+                visit(low, [*trail, file])
+        done[file] = sorted(by_file[file], key=lambda it: it.first)
+
+    for file in sorted(by_file, key=lambda it: (repository.height(it.crate), it.path)):
+        visit(file, [])
+    return done
+
+
+def purpose(crate):
+    with open(f"{TOP}/crates/{crate}/src/lib.rt", encoding="utf-8") as file:
+        return " ".join(line[3:].strip() for line in file if line.startswith("//!"))
+
+
+def summary(items, words):
+    specs = [item for item in items if item.file.is_spec]
+    others = [item for item in items if not item.file.is_spec]
+    files, crates = {it.file for it in items}, {it.file.crate for it in items}
+    return textwrap.fill(
+        f"{len(specs)} definitions of {sum(it.lines for it in specs)} lines in specs/, and {len(others)} types, "
+        f"constants and traits of {sum(it.lines for it in others)} lines in src/, in {len(files)} files of "
+        f"{len(crates)} crates. They cite {sum(map(len, words.values()))} words of the toolchain.",
+        120,
+    )
+
+
+def sum_of(items):
+    """One sum over what all of them say, without comments and layout."""
+    texts = sorted(f"{item.file.path} {item.claim}" for item in items)
+    return hashlib.sha256("\n".join(texts).encode()).hexdigest()
+
+
+def fenced(head, texts):
+    return ["", head, "", "```antt", "\n\n".join(texts), "```"]
+
+
+def page(repository, roots, parents, words):
+    """The part of docs/TRUST.md that this script writes."""
+    items = [item for item in parents if item not in roots]
+    lines = ["", summary(items, words), "", f"Their sum is `{sum_of(parents)}`.", "", "## The claims"]
+    for root in roots:
+        lines += fenced(f"`{root.file.path}`:", [root.text])
+    crate = None
+    for file, own in reading_order(repository, items).items():
+        if file.crate != crate:
+            crate = file.crate
+            lines += ["", f"## {crate}", "", purpose(crate)]
+        lines += fenced(f"`{file.path}`:", [item.text for item in own])
+    lines += ["", "## Words of the toolchain", ""]
+    lines += [f"- `{module}`: {' '.join(f'`{word}`' for word in sorted(words[module]))}" for module in sorted(words)]
+    lines += ["", "## Sources", "", "| Source that the comment names | Definitions |", "|---|---|"]
+    lines += [f"| {source} | {sum(source in item.sources for item in items)} |" for source in SOURCES]
+    lines += [f"| none | {sum(not item.sources for item in items)} |", ""]
+    return "\n".join(lines)
+
+
+def compare(old, new):
+    changes = list(difflib.unified_diff(old.split("\n"), new.split("\n"), "docs/TRUST.md", "now", n=1, lineterm=""))
+    print("\n".join(changes[:60]) or "docs/TRUST.md is what the claims rest on")
+    return bool(changes)
+
+
+def main(options):
+    if options not in ([], ["--write"], ["--check"]) and (options[0], len(options)) != ("--why", 2):
+        print(__doc__)
+        return 2
+    repository = Repository()
+    roots = list(laws(repository))
+    parents, words = reached(repository, roots)
+    if options[:1] == ["--why"]:
+        item = next((it for it in parents if it.name == options[1]), None)
+        while item is not None:
+            print(f"{item.name}  {item.file.path}:{item.first}")
+            item = parents[item]
+        return 0
+    new = page(repository, roots, parents, words)
+    with open(PAGE, encoding="utf-8") as file:
+        head, mark, old = file.read().partition(MARK)
+    if options == ["--check"]:
+        return compare(old, new)
+    if options == ["--write"]:
+        with open(PAGE, "w", encoding="utf-8") as file:
+            file.write(head + mark + new)
+    print(summary([item for item in parents if item not in roots], words))
+    return 0
+
+
+if __name__ == "__main__":
+    sys.exit(main(sys.argv[1:]))
