@@ -13,9 +13,8 @@ use Rattle.sd_status.specs.declared.status.Status.TheVariants.{Usage, Limit}
 use Rattle.sd_status.specs.declared.status.LimitKind.{LimitKind}
 use Rattle.sd_status.specs.declared.status.LimitKind.TheVariants.{SiteBytes, BookBytes}
 use Rattle.sd_status.specs.Meant.{Meant, after, all_of, judged, value, within, ◌>>=◌}
-use Rattle.sd_files.specs.declared.files.TheConstants.{MOST_SITE_BYTES, MOST_BOOK_BYTES}
 use Rattle.sd_files.specs.Both.{both_by}
-use Rattle.sd_files.specs.Files.{told_site, told_book, site_of_file, book_of_file}
+use Rattle.sd_files.specs.Files.{told_site, told_book, site_of_file, book_of_file, most_site_bytes, most_book_bytes}
 use Rattle.sd_files.specs.Leaves.{told_leaves, leaves_of_file}
 use Rattle.sd_leaves.specs.Text.{leaves_of_text}
 
@@ -55,15 +54,15 @@ other_book word (Err book.NoMemory) = λ e. cc
 pub other_site_file : (word : ℕ) (got : Option (List ℕ)) → IsOther (site_of_file word got).result
 unfolding site_of_file
 other_site_file word got =
-    other_after (within word MOST_SITE_BYTES SiteBytes got).calls (within word MOST_SITE_BYTES SiteBytes got).result
-    (λ bytes. judged (told_site (site_of bytes))) (other_file word MOST_SITE_BYTES SiteBytes got)
+    other_after (within word most_site_bytes SiteBytes got).calls (within word most_site_bytes SiteBytes got).result
+    (λ bytes. judged (told_site (site_of bytes))) (other_file word most_site_bytes SiteBytes got)
     (λ bytes. other_site (site_of bytes))
 
 pub other_book_file : (word d : ℕ) (got : Option (List ℕ)) → IsOther (book_of_file word d got).result
 unfolding book_of_file
 other_book_file word d got =
-    other_after (within word MOST_BOOK_BYTES BookBytes got).calls (within word MOST_BOOK_BYTES BookBytes got).result
-    (λ bytes. judged (told_book word (book_of d bytes))) (other_file word MOST_BOOK_BYTES BookBytes got)
+    other_after (within word most_book_bytes BookBytes got).calls (within word most_book_bytes BookBytes got).result
+    (λ bytes. judged (told_book word (book_of d bytes))) (other_file word most_book_bytes BookBytes got)
     (λ bytes. other_book word (book_of d bytes))
 
 pub other_both : (site book : ℕ) (site_got book_got : Option (List ℕ)) →
@@ -85,6 +84,6 @@ other_leaves word (Err k) = λ e. cc
 pub other_leaves_file : (word d : ℕ) (got : Option (List ℕ)) → IsOther (leaves_of_file word d got).result
 unfolding leaves_of_file
 other_leaves_file word d got =
-    other_after (within word MOST_BOOK_BYTES BookBytes got).calls (within word MOST_BOOK_BYTES BookBytes got).result
-    (λ bytes. judged (told_leaves word (leaves_of_text d bytes))) (other_file word MOST_BOOK_BYTES BookBytes got)
+    other_after (within word most_book_bytes BookBytes got).calls (within word most_book_bytes BookBytes got).result
+    (λ bytes. judged (told_leaves word (leaves_of_text d bytes))) (other_file word most_book_bytes BookBytes got)
     (λ bytes. other_leaves word (leaves_of_text d bytes))

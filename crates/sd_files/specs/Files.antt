@@ -10,8 +10,15 @@ use Rattle.sd_book.specs.Text.{book_of}
 use Rattle.sd_status.specs.declared.status.Status.{Status}
 use Rattle.sd_status.specs.declared.status.Status.TheVariants.{BadSite, BadBook, Limit, NoMemory}
 use Rattle.sd_status.specs.declared.status.LimitKind.TheVariants.{SiteBytes, BookBytes, Book}
-use Rattle.sd_files.specs.declared.files.TheConstants.{MOST_SITE_BYTES, MOST_BOOK_BYTES}
 use Rattle.sd_status.specs.Meant.{Meant, Word, Given, within, judged, ◌>>=◌}
+
+-- the bytes of the longest site file
+abbrev pub most_site_bytes : ℕ
+most_site_bytes = 4096
+
+-- the bytes of the longest file of a book, of accounts and of leaves [this project, docs/FORMATS.md, Leaves]
+abbrev pub most_book_bytes : ℕ
+most_book_bytes = 33554432
 
 -- the site that a file's bytes say
 abbrev pub told_site : Result SiteFields SiteFault → Result SiteFields Status
@@ -20,7 +27,7 @@ told_site (Err fault) = Err (BadSite fault)
 
 -- the site of what the file of this word gave
 unfoldable pub site_of_file : ℕ → Option (List ℕ) → Meant SiteFields
-site_of_file word got = within word MOST_SITE_BYTES SiteBytes got >>= λ bytes. judged (told_site (site_of bytes))
+site_of_file word got = within word most_site_bytes SiteBytes got >>= λ bytes. judged (told_site (site_of bytes))
 
 abbrev pub site_in : Given → Word → Meant SiteFields
 site_in given word = site_of_file word.number (given word)
@@ -39,7 +46,7 @@ told_book word (Err fault) = Err (refused_book word fault)
 -- the book, for a tree of height d, of what the file of this word gave
 unfoldable pub book_of_file : ℕ → ℕ → Option (List ℕ) → Meant (List Command)
 book_of_file word d got =
-    within word MOST_BOOK_BYTES BookBytes got >>= λ bytes. judged (told_book word (book_of d bytes))
+    within word most_book_bytes BookBytes got >>= λ bytes. judged (told_book word (book_of d bytes))
 
 abbrev pub book_in : Given → ℕ → Word → Meant (List Command)
 book_in given d word = book_of_file word.number d (given word)

@@ -5,7 +5,7 @@ use Rattle.sd_status.specs.declared.status.Status.{Status}
 use Rattle.sd_status.specs.declared.status.Status.TheVariants.{BadBook}
 use Rattle.sd_status.specs.declared.status.LimitKind.TheVariants.{BookBytes}
 use Rattle.sd_status.specs.Meant.{Meant, Word, Given, within, judged, ◌>>=◌}
-use Rattle.sd_files.specs.declared.files.TheConstants.{MOST_BOOK_BYTES}
+use Rattle.sd_files.specs.Files.{most_book_bytes}
 
 -- the leaves that a file's bytes say, or its first bad line
 abbrev pub told_leaves : ℕ → Result (List ℕ) ℕ → Result (List ℕ) Status
@@ -15,7 +15,7 @@ told_leaves word (Err k) = Err (BadBook word k)
 -- the leaves, of a tree of height d, of what the file of this word gave
 unfoldable pub leaves_of_file : ℕ → ℕ → Option (List ℕ) → Meant (List ℕ)
 leaves_of_file word d got =
-    within word MOST_BOOK_BYTES BookBytes got >>= λ bytes. judged (told_leaves word (leaves_of_text d bytes))
+    within word most_book_bytes BookBytes got >>= λ bytes. judged (told_leaves word (leaves_of_text d bytes))
 
 abbrev pub leaves_in : Given → ℕ → Word → Meant (List ℕ)
 leaves_in given d word = leaves_of_file word.number d (given word)

@@ -11,7 +11,7 @@ use Rattle.sd_reception.specs.Keys.{key_at}
 use Rattle.sd_reception.specs.Confirmed.{Wrote}
 use Rattle.sd_segment.specs.Holding.{Holding, after_message}
 use Rattle.sd_segment.specs.Writing.{wrote_of}
-use Rattle.sd_segment.specs.declared.held.TheConstants.{MOST_HELD}
+use Rattle.sd_reception.specs.Offered.{most_held}
 
 -- the control word of a message under the key of its period, where that is had
 abbrev pub word_under : Message → Option (List ℕ) → Option (List ℕ)
@@ -21,7 +21,7 @@ word_under message key = option_map (λ k. under k message.word message.wrapped)
 abbrev pub held_under : Stretch → Message → Option (List ℕ) → Option Holding
 held_under stretch message None = None
 held_under stretch message (Some word) =
-    if nat_lt MOST_HELD (length (held_in stretch)) then None else Some (after_message message word (held_in stretch))
+    if nat_lt most_held (length (held_in stretch)) then None else Some (after_message message word (held_in stretch))
 
 abbrev pub held_after : CardFields → Stretch → Option Message → Option Holding
 held_after card stretch None = None

@@ -4,8 +4,7 @@ use Rattle.sd_status.specs.declared.status.LimitKind.TheVariants.{BookBytes}
 use Rattle.sd_status.specs.Outside.{place}
 use Rattle.sd_status.specs.Meant.{within, judged}
 use Rattle.sd_status.proofs.Follow.{looks_first, looks_judged}
-use Rattle.sd_files.specs.declared.files.TheConstants.{MOST_BOOK_BYTES}
-use Rattle.sd_files.specs.Files.{told_book, book_of_file}
+use Rattle.sd_files.specs.Files.{told_book, book_of_file, most_book_bytes}
 use Rattle.sd_files.proofs.files.read_book.Goals as goal
 
 pub returns-in_err-bytes-clause-value : goal.returns-in_err-bytes-clause-value
@@ -13,7 +12,7 @@ unfolding book_of_file
 returns-in_err-bytes-clause-value g c =
     let p = err_from_is_err_and c.from_residual.result c.from_residual.ensures.1 in
     let word = c.args.word.number in
-    rw (p.1, p.2) (looks_first (λ bytes. bytes.items) (λ book. book.commands) (within word MOST_BOOK_BYTES BookBytes)
+    rw (p.1, p.2) (looks_first (λ bytes. bytes.items) (λ book. book.commands) (within word most_book_bytes BookBytes)
     (λ bytes. judged (told_book word (book_of c.args.h bytes))) c.args.word.text.now
     (place g.D.Depot c.args.depot.now) (place g.D.Depot c.read_bytes.new.depot) c.in_err-bytes.field-0.0
     c.in_err-bytes.ensures)
@@ -23,7 +22,7 @@ unfolding book_of_file
 returns-clause-value g c =
     let judges = rw c.deref.ensures.value at c.judge_book.ensures.value in
     let word = c.args.word.number in
-    looks_judged (λ bytes. bytes.items) (λ book. book.commands) (within word MOST_BOOK_BYTES BookBytes)
+    looks_judged (λ bytes. bytes.items) (λ book. book.commands) (within word most_book_bytes BookBytes)
     (λ bytes. told_book word (book_of c.args.h bytes)) c.args.word.text.now
     (place g.D.Depot c.args.depot.now) (place g.D.Depot c.read_bytes.new.depot) c.in_ok-bytes.bytes c.judge_book.result
     c.in_ok-bytes.ensures judges

@@ -5,15 +5,14 @@ use Rattle.sd_status.specs.declared.status.LimitKind.TheVariants.{SiteBytes}
 use Rattle.sd_status.specs.Outside.{place}
 use Rattle.sd_status.specs.Meant.{within, judged}
 use Rattle.sd_status.proofs.Follow.{alone_judges, looks_first, looks_judged}
-use Rattle.sd_files.specs.declared.files.TheConstants.{MOST_SITE_BYTES}
-use Rattle.sd_files.specs.Files.{told_site, site_of_file}
+use Rattle.sd_files.specs.Files.{told_site, site_of_file, most_site_bytes}
 use Rattle.sd_files.proofs.files.read_site.Goals as goal
 
 pub returns-in_err-bytes : goal.returns-in_err-bytes
 unfolding site_of_file
 returns-in_err-bytes g c =
     let p = err_from_is_err_and c.from_residual.result c.from_residual.ensures.1 in
-    rw (p.1, p.2) (looks_first (λ bytes. bytes.items) fields_of (within c.args.word.number MOST_SITE_BYTES SiteBytes)
+    rw (p.1, p.2) (looks_first (λ bytes. bytes.items) fields_of (within c.args.word.number most_site_bytes SiteBytes)
     (λ bytes. judged (told_site (site_of bytes))) c.args.word.text.now
     (place g.D.Depot c.args.depot.now) (place g.D.Depot c.read_bytes.new.depot) c.in_err-bytes.field-0.0
     c.in_err-bytes.ensures)
@@ -22,7 +21,7 @@ pub returns : goal.returns
 unfolding site_of_file
 returns g c =
     let judged_alone = rw c.deref.ensures.value at c.judge_site.ensures in
-    looks_judged (λ bytes. bytes.items) fields_of (within c.args.word.number MOST_SITE_BYTES SiteBytes)
+    looks_judged (λ bytes. bytes.items) fields_of (within c.args.word.number most_site_bytes SiteBytes)
     (λ bytes. told_site (site_of bytes)) c.args.word.text.now
     (place g.D.Depot c.args.depot.now) (place g.D.Depot c.read_bytes.new.depot) c.in_ok-bytes.bytes c.judge_site.result
     c.in_ok-bytes.ensures
