@@ -31,7 +31,7 @@ use Rattle.sd_run_laws.specs.Good.{IsGoodReceive}
 use Rattle.sd_run_laws.specs.Opened.{entitled_periods, revoked_status, IsBroadcastTo, IsOpened}
 use Rattle.sd_run.specs.Meaning.{order_meaning, meaning}
 use Rattle.sd_run_receive.proofs.Cards.{card_read}
-use Rattle.sd_run_receive.proofs.Received.{none_refused, bytes_are, steps_are, scaled}
+use Rattle.sd_run_receive.proofs.Received.{none_refused, bytes_are, unrefused_steps, scaled}
 use Rattle.sd_run_laws.proofs.Keyed.{keys_taken}
 
 then_is : {A B : Type 0} (first : Meant A) (x : A) (next : A → Meant B) → first.result ≡ Ok x →
@@ -119,7 +119,9 @@ module _ (plan : Plan) (u : ℕ) (clear : List (List ℕ)) (is : IsPlan plan) (a
   pub opened_steps : (bytes : List ℕ) → taken_of bytes ≡ broadcast plan clear →
       received_steps card bytes ≤ plan.site.height * entitled_periods plan u clear
   opened_steps bytes packets =
-      let most = steps_are card bytes ∙ ap (λ (h : ℕ). h * taken_keys card [] (taken_of bytes)) height_is
+      let most = unrefused_steps card bytes
+      (ap (break_from card []) packets ∙ whole_refused plan clear u is all whole leaf)
+      ∙ ap (λ (h : ℕ). h * taken_keys card [] (taken_of bytes)) height_is
       ∙ ap (λ (ps : List (List ℕ)). plan.site.height * taken_keys card [] ps) packets in
       let keys = ap (λ (n : ℕ). plan.site.height * n) (keys_taken plan clear u is all whole leaf) in
       omega (arith, most, keys)

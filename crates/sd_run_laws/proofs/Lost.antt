@@ -36,7 +36,7 @@ use Rattle.sd_run_laws.specs.Good.{IsGoodReceive}
 use Rattle.sd_files.specs.Turned.{is_break}
 use Rattle.sd_run_laws.specs.Lost.{kept_of, kept_periods, IsRestTo, IsConfirmed}
 use Rattle.sd_run.specs.Meaning.{meaning}
-use Rattle.sd_run_receive.proofs.Received.{none_refused, bytes_are, steps_are}
+use Rattle.sd_run_receive.proofs.Received.{none_refused, bytes_are, unrefused_steps}
 use Rattle.sd_run_laws.proofs.Broadcasts.{receive_good}
 
 -- no more are chosen than there are, and each is one of them
@@ -130,7 +130,9 @@ module _ (plan : Plan) (u : ℕ) (clear : List (List ℕ)) (flags : List Bool) (
 
   pub rest_steps : received_steps card bytes ≤ plan.site.height * kept_periods plan u clear (kept_of plan clear flags)
   rest_steps =
-      let most = steps_are card bytes ∙ (ap (λ (h : ℕ). h * taken_keys card [] (taken_of bytes)) height_is
+      let most = unrefused_steps card bytes
+      (ap (break_from card []) rest_taken ∙ lost.none_refused plan clear u flags is all whole leaf)
+      ∙ (ap (λ (h : ℕ). h * taken_keys card [] (taken_of bytes)) height_is
       ∙ (ap (λ (ps : List (List ℕ)). plan.site.height * taken_keys card [] ps) rest_taken
       ∙ ap (λ (n : ℕ). plan.site.height * n) rest_keys)) in
       omega (arith, most)

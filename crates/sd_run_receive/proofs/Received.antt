@@ -30,12 +30,14 @@ use Rattle.sd_receive.specs.Receiving.{IsAfter, IsLive, card_in, steps_at, taken
 use Rattle.sd_receive.specs.Receiving.{receiver_ends, receiver_refuses}
 use Rattle.sd_receive.specs.Receiving.{CameTo, BrokeAt}
 use Rattle.sd_receive.proofs.Chained.{came_to_all, broke_at, out_joined, steps_more}
+use Rattle.sd_receive.proofs.Turns.{first_none, rest_none, reversed}
 use Rattle.sd_status.specs.declared.status.Status.{Status}
 use Rattle.sd_status.specs.declared.status.Status.TheVariants.{DepotFault}
 use Rattle.sd_status.specs.Comes.{IsEnding}
 use Rattle.sd_files.specs.Turned.{Wrote, all_written, some_written}
 use Rattle.sd_run_receive.specs.Receive.{ended_status, ending_status, status_at, unless_refused, refused_status}
 use Rattle.sd_run_receive.specs.Receive.{stopped_status, received_of, received_status, received_steps, ReceivesLeft}
+use Rattle.sd_run_receive.specs.Receive.{upto_break}
 
 -- the statuses may stand at the end of work
 refused_ends : (why : StreamFault) → IsEnding (refused_status why)
@@ -232,38 +234,77 @@ scaled h a b few =
     let both : h * b ≡ h * a + h * more = ap (λ (n : ℕ). h * n) all ∙ apart in
     omega (arith, both)
 
--- the steps of some first packets are no more than those of all
-first_steps : (card : CardFields) (first more packets : List (List ℕ)) → first ++ more ≡ packets →
-    card.height * taken_keys card [] first ≤ card.height * taken_keys card [] packets
+-- packets of which none is refused are all offered, whatever comes after them
+upto_joined : (card : CardFields) (past packets more : List (List ℕ)) → break_from card past packets ≡ None →
+    upto_break card past (packets ++ more) ≡ packets ++ upto_break card (reverse packets ++ past) more
+unfolding upto_break break_from
+upto_joined card past [] more none = refl
+upto_joined card past (packet ∷ packets) more none =
+    let good = first_none (offered card past packet).fault (break_from card (packet ∷ past) packets) none in
+    let rest = rest_none (offered card past packet).fault (break_from card (packet ∷ past) packets) none in
+    let turned = reversed packet packets past in
+    rw good (ap (λ (ps : List (List ℕ)). packet ∷ ps) (upto_joined card (packet ∷ past) packets more rest
+    ∙ ap (λ (before : List (List ℕ)). packets ++ upto_break card before more) (sym turned)))
+
+upto_all : (card : CardFields) (packets : List (List ℕ)) → break_from card [] packets ≡ None →
+    upto_break card [] packets ≡ packets
+unfolding upto_break
+upto_all card packets none =
+    ap (upto_break card []) (sym (append-nil packets)) ∙ upto_joined card [] packets [] none ∙ append-nil packets
+
+-- a packet that is offered is offered whether or not it is refused
+upto_next : (card : CardFields) (past more : List (List ℕ)) (packet : List ℕ) →
+    (rest : List (List ℕ)) × (upto_break card past (packet ∷ more) ≡ packet ∷ rest)
+unfolding upto_break
+upto_next card past more packet =
+    (if is_none (offered card past packet).fault then upto_break card (packet ∷ past) more else [], refl)
+
+-- the most steps of a stream of these packets
+abbrev pub most_steps : CardFields → List (List ℕ) → ℕ
+most_steps card packets = card.height * taken_keys card [] (upto_break card [] packets)
+
+-- the steps of some first packets are no more than those of all that are offered
+first_steps : (card : CardFields) (first more packets : List (List ℕ)) → first ++ more ≡ upto_break card [] packets →
+    card.height * taken_keys card [] first ≤ most_steps card packets
 first_steps card first more packets joined =
-    scaled card.height (taken_keys card [] first) (taken_keys card [] packets)
+    scaled card.height (taken_keys card [] first) (taken_keys card [] (upto_break card [] packets))
     (subst (λ (ps : List (List ℕ)). taken_keys card [] first ≤ taken_keys card [] ps) joined
     (few_keys card [] first more))
 
-some_steps : (card : CardFields) (packets : List (List ℕ)) (k : ℕ) →
-    card.height * taken_keys card [] (take k packets) ≤ card.height * taken_keys card [] packets
-some_steps card packets k =
-    first_steps card (take k packets) (drop k packets) packets (take-append-drop k packets)
+some_steps : (card : CardFields) (packets : List (List ℕ)) (k : ℕ) → break_from card [] (take k packets) ≡ None →
+    card.height * taken_keys card [] (take k packets) ≤ most_steps card packets
+some_steps card packets k none =
+    let early = take k packets in
+    let late = drop k packets in
+    first_steps card early (upto_break card (reverse early ++ []) late) packets
+    (sym (ap (upto_break card []) (sym (take-append-drop k packets)) ∙ upto_joined card [] early late none))
 
 -- and so with the next one
 next_steps : (card : CardFields) (packets : List (List ℕ)) (k : ℕ) (packet : List ℕ) → slice_get packets k
-    ≡ Some packet →
-    card.height * taken_keys card [] (take k packets ++ packet ∷ []) ≤ card.height * taken_keys card [] packets
-next_steps card packets k packet at =
+    ≡ Some packet → break_from card [] (take k packets) ≡ None →
+    card.height * taken_keys card [] (take k packets ++ packet ∷ []) ≤ most_steps card packets
+next_steps card packets k packet at none =
+    let early = take k packets in
     let split = split_at packets k packet at in
-    first_steps card (take k packets ++ packet ∷ []) split.0 packets
-    (append_assoc (take k packets) (packet ∷ []) split.0 ∙ sym split.1)
+    let next = upto_next card (reverse early ++ []) split.0 packet in
+    let joined : upto_break card [] packets ≡ early ++ packet ∷ next.0 =
+    ap (upto_break card []) split.1 ∙ upto_joined card [] early (packet ∷ split.0) none
+    ∙ ap (λ (ps : List (List ℕ)). early ++ ps) next.1 in
+    first_steps card (early ++ packet ∷ []) next.0 packets
+    (append_assoc early (packet ∷ []) next.0 ∙ sym joined)
 
 -- the steps that were counted at a packet, or at the end, go on with those of the packets before it
 part_of_steps : (card : CardFields) (packets : List (List ℕ)) (k : ℕ) (mid : Receiver) (first bytes : List ℕ)
     (n from to : ℕ) (here : Option (List ℕ)) →
     CameTo card (take k packets) mid first n → length (take k packets) < 2 ^ 64 - 1 → slice_get packets k ≡ here →
     IsAllowedAt receiver_does receiver_ends receiver_refuses mid here from to bytes →
-    n + (to - from) ≤ card.height * taken_keys card [] packets
+    n + (to - from) ≤ most_steps card packets
 part_of_steps card packets k mid first bytes n from to None came few at (m, counted, inl (t, ends)) =
-    let before = came.few in let none = ends.2 in omega (arith, before, counted, none, some_steps card packets k)
+    let before = came.few in let none = ends.2 in
+    omega (arith, before, counted, none, some_steps card packets k came.unbroken)
 part_of_steps card packets k mid first bytes n from to None came few at (m, counted, inr (why, t, kept)) =
-    let before = came.few in let none = kept.none in omega (arith, before, counted, none, some_steps card packets k)
+    let before = came.few in let none = kept.none in
+    omega (arith, before, counted, none, some_steps card packets k came.unbroken)
 part_of_steps card packets k mid first bytes n from to (Some packet) came few at allowed =
     let early = take k packets in
     let long : length (reverse early) ≡ length early = length-reverse early in
@@ -272,12 +313,21 @@ part_of_steps card packets k mid first bytes n from to (Some packet) came few at
     in
     let both = steps_more card early packet n (to - from) came.few
     (subst (λ (past : List (List ℕ)). to - from ≤ steps_at card past packet) (sym (append-nil (reverse early))) one) in
-    omega (arith, both, next_steps card packets k packet at)
+    omega (arith, both, next_steps card packets k packet at came.unbroken)
 
-pub steps_are : (card : CardFields) (bytes : List ℕ) → received_steps card bytes ≡ card.height * taken_keys card []
-    (taken_of bytes)
+steps_are : (card : CardFields) (bytes : List ℕ) → received_steps card bytes ≡ most_steps card (taken_of bytes)
 unfolding received_steps
 steps_are card bytes = refl
+
+-- of a stream of which no packet is refused all packets count
+all_steps : (card : CardFields) (packets : List (List ℕ)) → break_from card [] packets ≡ None →
+    most_steps card packets ≡ card.height * taken_keys card [] packets
+all_steps card packets none =
+    ap (λ (ps : List (List ℕ)). card.height * taken_keys card [] ps) (upto_all card packets none)
+
+pub unrefused_steps : (card : CardFields) (bytes : List ℕ) → break_from card [] (taken_of bytes) ≡ None →
+    received_steps card bytes ≡ card.height * taken_keys card [] (taken_of bytes)
+unrefused_steps card bytes none = steps_are card bytes ∙ all_steps card (taken_of bytes) none
 
 pub bytes_are : (card : CardFields) (bytes : List ℕ) → received_of card bytes ≡ concat
     (out_from card [] (taken_of bytes))
@@ -293,7 +343,7 @@ record Receives (card : CardFields) (bytes : List ℕ) (a b : Moment Receiver) (
 wrote_all : (card : CardFields) (bytes : List ℕ) (a b : Moment Receiver) (status : Status) (wrote : List ℕ) (n : ℕ) →
     status ≡ received_status card bytes → wrote ≡ concat (out_from card [] (taken_of bytes)) →
     Appends a.sink.held b.sink.held wrote → b.steps ≤ a.steps + n →
-    n ≤ card.height * taken_keys card [] (taken_of bytes) →
+    n ≤ most_steps card (taken_of bytes) →
     Receives card bytes a b status
 wrote_all card bytes a b status wrote n is are taken counted few = record {
   wrote = all_written is (subst IsEnding (sym is) (received_ends card bytes))
@@ -304,7 +354,7 @@ wrote_all card bytes a b status wrote n is are taken counted few = record {
 -- the device failed after a prefix of it
 wrote_some : (card : CardFields) (bytes : List ℕ) (a b : Moment Receiver) (prefix : List ℕ) (n : ℕ) →
     IsPrefix prefix (concat (out_from card [] (taken_of bytes))) → Appends a.sink.held b.sink.held prefix →
-    b.steps ≤ a.steps + n → n ≤ card.height * taken_keys card [] (taken_of bytes) →
+    b.steps ≤ a.steps + n → n ≤ most_steps card (taken_of bytes) →
     Receives card bytes a b DepotFault
 wrote_some card bytes a b prefix n short taken counted few = record {
   wrote = some_written (inr refl) (
@@ -337,7 +387,9 @@ refused_wrote card bytes a b why is after h =
         let split = split_at packets h.count packet at in
         let broke = subst (λ (c : CardFields). BrokeAt c early packet split.0 why (first ++ last) (m + k)) is
         (broke_at early a.stage mid packet split.0 why first last m k after (some_few bytes h.count) chain refuses) in
-        let most = next_steps card packets h.count packet at in
+        let came = all_through card early a.stage mid first m is after (let few = some_few bytes h.count in
+        omega (arith, few)) chain in
+        let most = next_steps card packets h.count packet at came.unbroken in
         wrote_all card bytes a b (refused_status why) wrote n
         (sym (some_refused card bytes why (ap (break_from card []) split.1 ∙ broke.broken)))
         (joined ∙ broke.written ∙ ap (λ (ps : List (List ℕ)). concat (out_from card [] ps)) (sym split.1))
@@ -371,12 +423,14 @@ stopped_wrote card bytes a b (drive.Broken found) is after (end, grew) =
     let came = all_through card (taken_of bytes) a.stage b.stage grew.bytes grew.steps is after (all_few bytes)
     grew.says in
     wrote_all card bytes a b (stopped_status (drive.Broken found)) grew.bytes grew.steps
-    (sym (none_refused card bytes (Breaks found) came.unbroken end)) came.written grew.taken grew.counted came.few
+    (sym (none_refused card bytes (Breaks found) came.unbroken end)) came.written grew.taken grew.counted
+    (let few = came.few in let same = all_steps card (taken_of bytes) came.unbroken in omega (arith, few, same))
 stopped_wrote card bytes a b drive.TooLong is after (end, grew) =
     let came = all_through card (taken_of bytes) a.stage b.stage grew.bytes grew.steps is after (all_few bytes)
     grew.says in
     wrote_all card bytes a b (stopped_status drive.TooLong) grew.bytes grew.steps
-    (sym (none_refused card bytes RunsOn came.unbroken end)) came.written grew.taken grew.counted came.few
+    (sym (none_refused card bytes RunsOn came.unbroken end)) came.written grew.taken grew.counted
+    (let few = came.few in let same = all_steps card (taken_of bytes) came.unbroken in omega (arith, few, same))
 stopped_wrote card bytes a b drive.ReadFault is after (count, within, grew) =
     let few = some_few bytes count in
     let came = all_through card (take count (taken_of bytes)) a.stage b.stage grew.bytes grew.steps is after
@@ -384,7 +438,7 @@ stopped_wrote card bytes a b drive.ReadFault is after (count, within, grew) =
     wrote_some card bytes a b grew.bytes grew.steps
     (subst (λ (xs : List ℕ). IsPrefix xs (concat (out_from card [] (taken_of bytes)))) (sym came.written)
     (some_of_out card (taken_of bytes) count came.unbroken)) grew.taken grew.counted
-    (let before = came.few in omega (arith, before, some_steps card (taken_of bytes) count))
+    (let before = came.few in omega (arith, before, some_steps card (taken_of bytes) count came.unbroken))
 stopped_wrote card bytes a b drive.WriteFault is after h = cut_wrote card bytes a b is after h
 stopped_wrote card bytes a b (drive.Refused why) is after h = refused_wrote card bytes a b why is after h
 
@@ -421,7 +475,8 @@ ended_wrote card bytes a b count status is after (whole, counted, grew) told =
         (told (reverse (taken_of bytes)) stands ∙ ended_as card (taken_of bytes) b.stage (ap card_in ends.0 ∙ came.same)
         ∙ sym (none_refused card bytes Whole came.unbroken whole))
         (nothing_more first last wrote ends.1 joined ∙ came.written) taken most
-        (let few = came.few in let none = ends.2 in omega (arith, all, few, none))
+        (let few = came.few in let none = ends.2 in let same = all_steps card (taken_of bytes) came.unbroken in
+        omega (arith, all, few, none, same))
 
 -- the receiver was driven over the stream that was left
 pub left_stopped : (a b : Moment Receiver) (why : DriveFault StreamFault) (status : Status) → IsAfter [] a.stage →

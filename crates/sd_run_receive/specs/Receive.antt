@@ -1,6 +1,6 @@
 -- `receive CARD STREAM OUT` [this project, docs/FORMATS.md, Receiver].
 use Rattle.std.specs.Prelude.{ℕ, zero, suc, ◌+◌, ◌*◌, ◌/◌, ◌≤◌, List, [], ◌∷◌, length, take, drop, reverse, Option}
-use Rattle.std.specs.Prelude.{Some, None, Result, Ok, Err}
+use Rattle.std.specs.Prelude.{Some, None, is_none, if◌then◌else◌, Result, Ok, Err}
 use Rattle.std.specs.List.{concat}
 use Rattle.sd_engine.specs.Taken.{StreamEnd, Whole, Breaks, RunsOn, taken_of, end_of, IsLeft}
 use Rattle.sd_engine.specs.Driving.{most_packets}
@@ -16,7 +16,7 @@ use Rattle.sd_reception.specs.declared.fault.StreamFault.{StreamFault}
 use Rattle.sd_reception.specs.declared.fault.StreamFault.TheVariants as fault
 use Rattle.sd_reception.specs.declared.ending.Ending.{Ending}
 use Rattle.sd_reception.specs.declared.ending.Ending.TheVariants as end
-use Rattle.sd_reception.specs.Offered.{out_from, break_from}
+use Rattle.sd_reception.specs.Offered.{offered, out_from, break_from}
 use Rattle.sd_reception.specs.Ending.{ending_of}
 use Rattle.sd_receive.specs.Receiving.{taken_keys}
 use Rattle.sd_status.specs.declared.status.Status.{Status}
@@ -101,9 +101,15 @@ unfoldable pub received_status : CardFields → List ℕ → Status
 received_status card bytes =
     unless_refused (break_from card [] (taken_of bytes)) (status_at card (taken_of bytes) (end_of bytes))
 
--- as many steps as the tree is high for each key that is taken
+-- the first of these packets, up to the one that is refused, after others [this project, docs/FORMATS.md, Receiver]
+unfoldable pub upto_break : CardFields → List (List ℕ) → List (List ℕ) → List (List ℕ)
+upto_break card past [] = []
+upto_break card past (packet ∷ packets) =
+    packet ∷ (if is_none (offered card past packet).fault then upto_break card (packet ∷ past) packets else [])
+
+-- as many steps as the tree is high for each key that is taken, none of them after the packet that is refused
 unfoldable pub received_steps : CardFields → List ℕ → ℕ
-received_steps card bytes = card.height * taken_keys card [] (taken_of bytes)
+received_steps card bytes = card.height * taken_keys card [] (upto_break card [] (taken_of bytes))
 
 -- makes OUT of what a card opens of a stream of these bytes
 abbrev pub receiving : CardFields → Word → List ℕ → Work

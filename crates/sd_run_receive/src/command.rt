@@ -36,10 +36,13 @@ pub fn receive<D: Depot, L: Ledger>(
     steps: &mut Steps<L>,
 ) -> Result<(), Status>
     requires { card.number ≢ stream.number }
-    ensures { (page : Page) →
+    ensures value { (page : Page) →
         Follows (receive_meaning (shown_word card.entry) (shown_word stream.entry) (shown_word out.entry))
         (outside (place D.Depot depot.old) page steps.old) (outside (place D.Depot depot.new) page steps.new)
         (status_of result) }
+    // Out of memory, OUT isn't made.
+    ensures memory { status_of result ≡ Status.NoMemory →
+        (place D.Depot depot.new).made ≡ (place D.Depot depot.old).made }
 {
     let receiver = read_receiver(alloc, depot, card)?;
     receive_file(alloc, depot, receiver, stream, out, steps)
@@ -86,10 +89,12 @@ fn receive_file<D: Depot, L: Ledger>(
     steps: &mut Steps<L>,
 ) -> Result<(), Status>
     requires new { IsAfter [] receiver }
-    ensures { (page : Page) →
+    ensures value { (page : Page) →
         Follows (stream_meaning (card_in receiver) (shown_word stream.entry) (shown_word out.entry))
         (outside (place D.Depot depot.old) page steps.old) (outside (place D.Depot depot.new) page steps.new)
         (status_of result) }
+    ensures memory { status_of result ≡ Status.NoMemory →
+        (place D.Depot depot.new).made ≡ (place D.Depot depot.old).made }
 {
     let (mut inlet, mut outlet) = open_both(alloc, depot, stream, out)?;
     let ended = receive_all(&mut inlet, &mut outlet, receiver, steps);
@@ -108,6 +113,7 @@ pub fn receive_all<S: Source, K: Sink, L: Ledger>(
         steps.old steps.new (status_of result) }
     ensures cause { HasPortCause (S.faults source.old) (S.faults source.new) (K.faults sink.old) (K.faults sink.new)
         (status_of result) }
+    ensures memory { status_of result ≢ Status.NoMemory }
 {
     match drive(source, sink, &mut receiver, steps) {
         Ok(_) => ended(&receiver),

@@ -17,7 +17,7 @@ pub returns-in-Head : goal.returns-in-Head
 returns-in-Head g c = rw c.in-Head.is (c.head.ensures (page g.P.Sink c.args.print.now))
 
 pub returns-in-Receive : goal.returns-in-Receive
-returns-in-Receive g c = rw c.in-Receive.is (c.receive.ensures (page g.P.Sink c.args.print.now))
+returns-in-Receive g c = rw c.in-Receive.is (c.receive.ensures.value (page g.P.Sink c.args.print.now))
 
 pub returns-in-Accounts : goal.returns-in-Accounts
 returns-in-Accounts g c = rw c.in-Accounts.is (c.accounts.ensures c.args.steps.now)

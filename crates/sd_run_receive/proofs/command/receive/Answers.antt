@@ -1,3 +1,4 @@
+use Rattle.std.proofs.Common.{Ok, Err, ◌∙◌}
 use Rattle.std.proofs.lemmas.Result.{err_from_is_err_and}
 use Rattle.sd_receive.specs.Receiving.{card_in}
 use Rattle.sd_status.specs.Outside.{place, outside}
@@ -6,11 +7,12 @@ use Rattle.sd_status.specs.Comes.{status_of}
 use Rattle.sd_run_receive.specs.Receive.{card_of_file, receiving, stream_meaning, receive_meaning}
 use Rattle.sd_files.specs.Shown.{shown_word}
 use Rattle.sd_run_receive.proofs.Streamed.{first_follows, then_follows}
+use Rattle.sd_run_receive.proofs.Unmade.{looked_made}
 use Rattle.sd_run_receive.proofs.command.receive.Goals as goal
 
-pub returns-in_err-receiver : goal.returns-in_err-receiver
+pub returns-in_err-receiver-clause-value : goal.returns-in_err-receiver-clause-value
 unfolding receive_meaning
-returns-in_err-receiver g c page =
+returns-in_err-receiver-clause-value g c page =
     let p = err_from_is_err_and c.from_residual.result c.from_residual.ensures.1 in
     let card = shown_word c.args.card in
     rw (p.1, p.2) (first_follows card_in (card_of_file card.number)
@@ -18,9 +20,9 @@ returns-in_err-receiver g c page =
     (place g.D.Depot c.args.depot.now) (place g.D.Depot c.read_receiver.new.depot) page c.args.steps.now
     c.in_err-receiver.field-0.0 c.in_err-receiver.ensures.value)
 
-pub returns : goal.returns
+pub returns-clause-value : goal.returns-clause-value
 unfolding receive_meaning
-returns g c page =
+returns-clause-value g c page =
     let card = shown_word c.args.card in
     let stream = shown_word c.args.stream in
     then_follows card_in (card_of_file card.number)
@@ -28,4 +30,15 @@ returns g c page =
     stream
     (place g.D.Depot c.args.depot.now) (place g.D.Depot c.read_receiver.new.depot) page c.args.steps.now
     (outside (place g.D.Depot c.receive_file.new.depot) page c.receive_file.new.steps) c.in_ok-receiver.receiver
-    (status_of c.receive_file.result) c.requires c.in_ok-receiver.ensures.value (c.receive_file.ensures page)
+    (status_of c.receive_file.result) c.requires c.in_ok-receiver.ensures.value (c.receive_file.ensures.value page)
+
+pub returns-in_err-receiver-clause-memory : goal.returns-in_err-receiver-clause-memory
+returns-in_err-receiver-clause-memory g c = λ e. looked_made card_in (card_of_file (shown_word c.args.card).number)
+    (shown_word c.args.card).text (place g.D.Depot c.args.depot.now) (place g.D.Depot c.read_receiver.new.depot)
+    (Err c.in_err-receiver.field-0.0) c.in_err-receiver.ensures.value
+
+pub returns-clause-memory : goal.returns-clause-memory
+returns-clause-memory g c = λ e. c.receive_file.ensures.memory e
+    ∙ looked_made card_in (card_of_file (shown_word c.args.card).number) (shown_word c.args.card).text
+    (place g.D.Depot c.args.depot.now) (place g.D.Depot c.read_receiver.new.depot)
+    (Ok c.in_ok-receiver.receiver) c.in_ok-receiver.ensures.value

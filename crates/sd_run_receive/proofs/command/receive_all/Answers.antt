@@ -1,6 +1,7 @@
-use Rattle.std.proofs.Common.{subst}
+use Rattle.std.proofs.Common.{subst, sym, ◌∙◌}
 use Rattle.sd_status.specs.Comes.{IsEnding, status_of}
 use Rattle.sd_run_receive.proofs.Received.{new_lives, left_ended, left_stopped}
+use Rattle.sd_run_receive.proofs.Unmade.{never_memory}
 use Rattle.sd_run_receive.proofs.command.receive_all.Goals as goal
 
 pub drive-requires : goal.drive-requires
@@ -19,3 +20,9 @@ returns-in-Ok-clause-cause g c = record {
 pub returns-clause-value : goal.returns-clause-value
 returns-clause-value g c =
     left_stopped _ _ c.in-Err.fault c.stopped.result c.requires.new c.in-Err.ensures.value c.stopped.ensures
+
+pub returns-in-Ok-clause-memory : goal.returns-in-Ok-clause-memory
+returns-in-Ok-clause-memory g c = λ e. subst IsEnding e c.ended.ensures.ending
+
+pub returns-clause-memory : goal.returns-clause-memory
+returns-clause-memory g c = λ e. never_memory c.in-Err.fault (sym c.stopped.ensures ∙ e)

@@ -1,4 +1,5 @@
-use Rattle.std.proofs.Common.{[], Some}
+use Rattle.std.proofs.Common.{◌≡◌, [], Some, inl, inr}
+use Rattle.std.specs.Prelude.{◌⊎◌}
 use Rattle.std.proofs.lemmas.Result.{err_from_is_err_and}
 use Rattle.sd_ports.proofs.Outlets.{there_after}
 use Rattle.sd_receive.specs.Receiving.{card_in}
@@ -8,13 +9,15 @@ use Rattle.sd_status.specs.Work.{UpTo}
 use Rattle.sd_status.specs.Comes.{status_of}
 use Rattle.sd_run_receive.specs.Receive.{received_of, received_status, received_steps, receiving}
 use Rattle.sd_files.specs.Shown.{shown_word}
+use Rattle.sd_files.specs.Turned.{unclosed_by}
 use Rattle.sd_files.proofs.Looked.{opened_got}
 use Rattle.sd_files.proofs.Turning.{turned_obeys, not_turned}
 use Rattle.sd_run_receive.proofs.Streamed.{got_follows}
+use Rattle.sd_run_receive.proofs.Unmade.{not_opened, closed_memory}
 use Rattle.sd_run_receive.proofs.command.receive_file.Goals as goal
 
-pub returns-in_err-inlet : goal.returns-in_err-inlet
-returns-in_err-inlet g c page =
+pub returns-in_err-inlet-clause-value : goal.returns-in_err-inlet-clause-value
+returns-in_err-inlet-clause-value g c page =
     let result = err_from_is_err_and c.from_residual.result c.from_residual.ensures.1 in
     let card = card_in c.args.receiver in
     let stream = shown_word c.args.stream in
@@ -33,8 +36,8 @@ returns-in_err-inlet g c page =
 pub close_both-requires : goal.close_both-requires
 close_both-requires g c = there_after _ _ c.args.out.text.now [] c.in_ok-inlet.ensures.ok.files
 
-pub returns : goal.returns
-returns g c page =
+pub returns-clause-value : goal.returns-clause-value
+returns-clause-value g c page =
     let card = card_in c.args.receiver in
     let stream = shown_word c.args.stream in
     let out = shown_word c.args.out in
@@ -55,3 +58,18 @@ returns g c page =
     received.bytes p q r page
     i j _ _ _ _ _ _ _ c.receive_all-ended.result c.close_both.result opened c.receive_all-ended.ensures.cause
     received.wrote closed received.steps)
+
+pub returns-in_err-inlet-clause-memory : goal.returns-in_err-inlet-clause-memory
+returns-in_err-inlet-clause-memory g c = λ e. not_opened (shown_word c.args.stream) (shown_word c.args.out)
+    (place g.D.Depot c.args.depot.now) (place g.D.Depot c.open_both.new.depot) c.in_err-inlet.field-0.0
+    c.in_err-inlet.ensures.fault
+
+pub returns-clause-memory : goal.returns-clause-memory
+returns-clause-memory g c = λ e.
+    let closed : (c.close_both.result ≡ c.receive_all-ended.result)
+    ⊎ (c.close_both.result ≡ unclosed_by c.receive_all-ended.result) = elim c.close_both.ensures.ends [
+      | inl whole ↦ inl whole.0
+      | inr short ↦ inr short.0
+    ] in
+    absurd (c.receive_all-ended.ensures.memory
+    (closed_memory c.receive_all-ended.result c.close_both.result closed e))
