@@ -13,6 +13,7 @@ use Rattle.sd_engine.specs.Taken.{StreamEnd, Whole, Breaks, RunsOn, taken_of, en
 use Rattle.sd_broadcast.specs.Plan.{Plan, IsPlan}
 use Rattle.sd_broadcast.specs.Refused.{IsClear, refusal_from}
 use Rattle.sd_broadcast.specs.declared.fault.ClearFault.{ClearFault}
+use Rattle.sd_whole.specs.Synced.{AreBytes}
 use Rattle.sd_status.specs.declared.status.Status.{Status}
 use Rattle.sd_status.specs.declared.status.Status.TheVariants.{Done, Usage, Missing, Revoked, DepotFault, PrintFault}
 use Rattle.sd_status.specs.declared.status.Status.TheVariants.{BadSite, BadBook, BadCard, BadClear, BadStream, Limit}
@@ -21,6 +22,7 @@ use Rattle.sd_status.specs.declared.status.LimitKind.TheVariants.{SiteBytes, Boo
 use Rattle.sd_status.specs.Meant.{Word, Given, told_by, all_of, judged, value, within, ◌>>=◌}
 use Rattle.sd_status.specs.Outside.{Outside}
 use Rattle.sd_status.specs.Work.{Work}
+use Rattle.sd_status.specs.Comes.{PrintsAll}
 use Rattle.sd_status.specs.Answers.{Answers}
 use Rattle.sd_files.specs.declared.files.TheConstants.{MOST_SITE_BYTES, MOST_BOOK_BYTES}
 use Rattle.sd_files.specs.Files.{told_site, told_book, site_of_file, book_of_file}
@@ -32,6 +34,7 @@ use Rattle.sd_run_trial.proofs.Prefixes.{whole_prefix}
 use Rattle.sd_run_trial.specs.Trial.{told_low, low_site_of_file, plan_by, plan_meaning, sent_or, told_sent, told_line}
 use Rattle.sd_run_trial.specs.Trial.{receiver_line, then_line, lines_to, lines_of, clear_line, trial_text, printing}
 use Rattle.sd_run_trial.specs.Trial.{trying, trial_meaning}
+use Rattle.sd_printed.specs.Trials.{opened_lines}
 use Rattle.sd_printed.proofs.Tried.{trial_right, trial_done}
 use Rattle.sd_run_laws.specs.Tried.{IsTried}
 use Rattle.sd_run_laws.proofs.Plans.{ca_fits}
@@ -151,6 +154,17 @@ low_plan site book given plan e =
       subst (λ (s : SiteFields). s.height ≤ MOST_HEIGHT) low.0 low.1,
     )
 
+-- what is printed is the lines of a stream of which no packet is refused
+lines_printed : (plan : Plan) (bytes text : List ℕ) (work : Work) (a b : Outside) → IsPlan plan →
+    trial_text plan (record { bytes = bytes; more = false }) ≡ Ok text → work.pieces ≡ text ∷ [] →
+    PrintsAll work a.page b.page → AreBytes bytes →
+    Appends a.page.printed b.page.printed (opened_lines plan (taken_of bytes) (2 ^ plan.site.height))
+lines_printed plan bytes text work a b is told pieces printed are =
+    let lines = opened_lines plan (taken_of bytes) (2 ^ plan.site.height) in
+    let done = trial_done plan (record { bytes = bytes; more = false }) text is are told in
+    let printed_is : concat work.pieces ≡ lines = ap concat pieces ∙ (append-nil text ∙ done.3) in
+    subst (λ (l : List ℕ). Appends a.page.printed b.page.printed l) printed_is printed
+
 -- a trial that is done had good files and printed their lines
 pub trial_tried : (site book clear : Word) (files : Files) (a b : Outside) → a.place.files ≡ Some files →
     Answers (trial_meaning site book clear) a b Done → IsTried site book clear files a b
@@ -187,9 +201,6 @@ trial_tried site book clear files a b known answers =
       short = all.1;
       whole = subst (λ (p : Prefix). end_of p.bytes ≡ Whole) whole_is right.0;
       is_clear = subst (λ (p : Prefix). IsClear plan.from.site (taken_of p.bytes)) whole_is right.1;
-      printed = λ are.
-          let told = trial_done plan.from whole text.0 is.0 are
-          (ap (trial_text plan.from) (sym whole_is) ∙ text.1) in
-          subst (λ (l : List ℕ). Appends a.page.printed b.page.printed l)
-          (ap concat pieces ∙ (append-nil text.0 ∙ told.3)) done.printed;
+      printed = lines_printed plan.from read.from text.0 done.work a b is.0
+          (ap (trial_text plan.from) (sym whole_is) ∙ text.1) pieces done.printed;
     }
