@@ -185,7 +185,7 @@ sent_right plan prefix sent e =
     done_sent (end_of prefix.bytes) (refusal_from plan.site [] (taken_of prefix.bytes)) prefix.more
     (sent_of plan prefix.bytes) sent e
 
-trial_right : (plan : Plan) (prefix : Prefix) (text : List ℕ) → trial_text plan prefix ≡ Ok text →
+pub trial_right : (plan : Plan) (prefix : Prefix) (text : List ℕ) → trial_text plan prefix ≡ Ok text →
     (end_of prefix.bytes ≡ Whole) × IsClear plan.site (taken_of prefix.bytes) × (prefix.more ≡ false)
 unfolding trial_text
 trial_right plan prefix text e =

@@ -16,3 +16,4 @@ pub mod Left
 pub mod Orderly
 pub mod Outs
 pub mod Sent
+pub mod Trials

@@ -12,7 +12,7 @@ use Rattle.sd_status.specs.declared.status.Status.{Status}
 use Rattle.sd_status.specs.declared.status.Status.TheVariants.{Done}
 use Rattle.sd_status.specs.Texts.{line_of}
 use Rattle.sd_status.specs.Outside.{Page, Outside}
-use Rattle.sd_status.specs.Meant.{Given, told_by}
+use Rattle.sd_status.specs.Meant.{Meant, Given, told_by}
 use Rattle.sd_status.specs.Work.{Out, Work, files_with, made_with}
 use Rattle.sd_status.specs.Comes.{Comes, IsRefusal, IsMade, IsUnmade}
 use Rattle.sd_status.specs.Comes.{refused, ended, unclosed, exhausted, failed, nowhere, cut_off}
@@ -54,10 +54,10 @@ came_done meant a b status (nowhere work e out f s n h k c m) is = absurd (let x
 came_done meant a b status (cut_off work e s h k r c m) is = absurd (let x = sym s ∙ is in cc)
 
 -- a run that answers `Done` has done the work that is meant
-pub done_leaves : (words : List (List ℕ)) (files : Files) (a b : Outside) (answer : Status) →
-    a.place.files ≡ Some files → answer ≡ Done → Answers (meaning words) a b answer →
-    IsDone (meaning words (told_by files)).result a b
-done_leaves words files a b answer told is answers =
+pub done_leaves : (meant : Given → Meant Work) (files : Files) (a b : Outside) (answer : Status) →
+    a.place.files ≡ Some files → answer ≡ Done → Answers meant a b answer →
+    IsDone (meant (told_by files)).result a b
+done_leaves meant files a b answer told is answers =
     let line : Tells answers.page b.page answers.status Done =
     subst (λ (s : Status). Tells answers.page b.page answers.status s) is answers.told in
     let own : answers.status ≡ Done =
@@ -65,11 +65,11 @@ done_leaves words files a b answer told is answers =
     let quiet = silent answers.page b.page answers.status line in
     let given : answers.obeyed.given ≡ told_by files =
     told_given a.place.files files answers.obeyed.given told answers.obeyed.is_given in
-    let done = came_done (meaning words answers.obeyed.given).result a (with_page b answers.page) answers.status
+    let done = came_done (meant answers.obeyed.given).result a (with_page b answers.page) answers.status
     answers.obeyed.obeyed.comes own in
     record {
       work = done.work;
-      is_meant = sym (ap (λ (g : Given). (meaning words g).result) given) ∙ done.is_meant;
+      is_meant = sym (ap (λ (g : Given). (meant g).result) given) ∙ done.is_meant;
       ends = done.ends;
       made = done.made;
       printed = subst (λ (l : List ℕ). Appends a.page.printed b.page.printed l) (append-nil (concat done.work.pieces))

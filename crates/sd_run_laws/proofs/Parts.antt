@@ -1,5 +1,5 @@
 -- What `head`, `card` and `receive` leave, each by itself.
-use Rattle.std.proofs.Common.{◌≡◌, ℕ, ◌+◌, ◌-◌, ◌^◌, ◌<◌, ◌≤◌, Bool, cond, List, length}
+use Rattle.std.proofs.Common.{◌≡◌, ◌≢◌, ℕ, ◌+◌, ◌-◌, ◌^◌, ◌<◌, ◌≤◌, Bool, cond, List, length}
 use Rattle.std.proofs.Common.{Option, Some, None, Ok, Err, refl, sym, ap, subst, ◌∙◌, arith, lt-ltb}
 use Rattle.std.specs.FinMap.{get, insert}
 use Rattle.std.specs.List.{concat}
@@ -35,13 +35,17 @@ use Rattle.sd_run_head.specs.Head.{plan_meaning, sending_of, sent_status, head_m
 use Rattle.sd_run_head.proofs.Sending.{sent_unrefused}
 use Rattle.sd_run_receive.specs.Receive.{receiving, received_steps, receive_meaning}
 use Rattle.sd_run_laws.specs.Good.{IsGoodSite, IsGoodBook}
-use Rattle.sd_run_laws.specs.Headline.{Names, file_in, OthersStay, AreGiven, WentWell, stream_of, card_for}
+use Rattle.sd_run_laws.specs.Headline.{Names, file_in, AreGiven, WentWell, card_for}
 use Rattle.sd_run_laws.specs.Headline.{HeadResult, CardResult, ReceiveResult}
 use Rattle.sd_run_laws.proofs.Goodness.{then_is, site_good, plan_good}
 use Rattle.sd_run_laws.proofs.Broadcasts.{received, opened_bytes, opened_status, opened_steps}
 use Rattle.sd_run_laws.proofs.Shelf.{made_there, others_stay}
 use Rattle.sd_run_laws.proofs.Plans.{good_plan}
 use Rattle.sd_run_laws.proofs.Runs.{runs_work}
+
+-- the broadcast as a file
+abbrev stream_of : Plan → List (List ℕ) → List ℕ
+stream_of plan clear = concat (broadcast plan clear)
 
 -- a file that is there is one of told files
 pub record IsTold (o : Option Files) (name bytes : List ℕ) : Type 0 where
@@ -65,7 +69,10 @@ pub made_in : (at : Outside) (files : Files) (name bytes : List ℕ) → at.plac
 made_in at files name bytes told =
     of_told at (insert files name bytes) name told ∙ made_there files name bytes
 
--- and what stands of the other files
+-- and the other files are as they were
+abbrev OthersStay : List ℕ → Outside → Outside → Type 0
+OthersStay made a b = (name : List ℕ) → name ≢ made → file_in b name ≡ file_in a name
+
 pub others_in : (a b : Outside) (files : Files) (name bytes : List ℕ) → a.place.files ≡ Some files →
     b.place.files ≡ Some (insert files name bytes) → OthersStay name a b
 others_in a b files name bytes before after other apart =

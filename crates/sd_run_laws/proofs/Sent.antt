@@ -44,12 +44,12 @@ use Rattle.sd_run_laws.proofs.Outs.{done_leaves}
 use Rattle.sd_run_head.proofs.Sending.{sent_unrefused}
 
 -- what came before a step that came to a value
-record ThenOk {A B : Type 0} (first : Meant A) (next : A → Meant B) (y : B) : Type 0 where
-  from : A
-  first_is : first.result ≡ Ok from
-  next_is : (next from).result ≡ Ok y
+pub record ThenOk {A B : Type 0} (first : Meant A) (next : A → Meant B) (y : B) : Type 0 where
+  pub from : A
+  pub first_is : first.result ≡ Ok from
+  pub next_is : (next from).result ≡ Ok y
 
-then_ok : {A B : Type 0} (first : Meant A) (next : A → Meant B) (y : B) → (first >>= next).result ≡ Ok y →
+pub then_ok : {A B : Type 0} (first : Meant A) (next : A → Meant B) (y : B) → (first >>= next).result ≡ Ok y →
     ThenOk first next y
 then_ok {A} {B} first next y e = by_result first.result refl e
   where
@@ -59,11 +59,11 @@ then_ok {A} {B} first next y e = by_result first.result refl e
     by_result (Err s) f e = absurd (cc)
 
 -- a value is what it is answered as
-value_is : {A : Type 0} (x y : A) → (value x).result ≡ Ok y → x ≡ y
+pub value_is : {A : Type 0} (x y : A) → (value x).result ≡ Ok y → x ≡ y
 value_is x y e = cc
 
 -- the site that a file says is in its ranges
-site_right : (bytes : List ℕ) (site : SiteFields) → told_site (site_of bytes) ≡ Ok site → IsSite bytes site
+pub site_right : (bytes : List ℕ) (site : SiteFields) → told_site (site_of bytes) ≡ Ok site → IsSite bytes site
 site_right bytes site e = by_answer (site_of bytes) refl e
   where
     by_answer : (r : Result SiteFields SiteFault) → site_of bytes ≡ r → told_site r ≡ Ok site → IsSite bytes site
@@ -84,7 +84,7 @@ lines_within d before (said ∷ rest) commands all e =
     let one = bind_ok (judged_line d before said) (λ c. judged_lines d (before ++ c ∷ []) rest) commands e in
     lines_within d (before ++ one.0 ∷ []) rest commands (judged_more d before said one.0 all one.1) one.2
 
-book_right : (word d : ℕ) (bytes : List ℕ) (commands : List Command) → told_book word (book_of d bytes) ≡ Ok commands →
+pub book_right : (word d : ℕ) (bytes : List ℕ) (commands : List Command) → told_book word (book_of d bytes) ≡ Ok commands →
     IsWithinLimits d commands
 unfolding book_of
 book_right word d bytes commands e = by_answer (judged_lines d [] (said_by bytes)) refl e
@@ -120,7 +120,7 @@ plan_right site book given plan e =
     })
 
 -- all bytes of a file that was there
-all_read : (word : ℕ) (got : Option (List ℕ)) (bytes : List ℕ) → (all_of word got).result ≡ Ok bytes → got ≡ Some bytes
+pub all_read : (word : ℕ) (got : Option (List ℕ)) (bytes : List ℕ) → (all_of word got).result ≡ Ok bytes → got ≡ Some bytes
 all_read word None bytes e = absurd (cc)
 all_read word (Some found) bytes e = let same : found ≡ bytes = cc in ap (λ (b : List ℕ). Some b) same
 
@@ -183,7 +183,7 @@ module _ (words : List (List ℕ)) (site book clear out : Word) (files : Files) 
   -- by the answer
   pub head_done : Answers (meaning words) a b Done → IsSent site book clear out files b
   head_done answers =
-      let done = done_leaves words files a b Done known refl answers in
+      let done = done_leaves (meaning words) files a b Done known refl answers in
       sent_work done.work
       (sym (ap (λ (r : Result Order Status). (judged r >>= λ o. order_meaning o (told_by files)).result) order)
       ∙ done.is_meant)

@@ -46,10 +46,6 @@ receive_run names = codes "receive" ∷ names.card ∷ names.stream ∷ names.ou
 abbrev pub file_in : Outside → List ℕ → Option (List ℕ)
 file_in at name = option_and_then (λ files. get files name) at.place.files
 
--- each file but the one of that name is as it was
-abbrev pub OthersStay : List ℕ → Outside → Outside → Type 0
-OthersStay made a b = (name : List ℕ) → name ≢ made → file_in b name ≡ file_in a name
-
 -- SITE, BOOK and CLEAR are a site, a book of its tree and a clear stream, all within their limits
 pub record AreGiven (at : Outside) (names : Names) (plan : Plan) (packets : List (List ℕ)) : Type 0 where
   pub site : IsGoodSite (file_in at names.site) plan.site
@@ -62,10 +58,6 @@ pub record WentWell (a b : Outside) (answer : Status) : Type 0 where
   pub print : IsCalm a.page.faults b.page.faults
   pub memory : answer ≢ NoMemory
 
--- the broadcast as a file: its packets, one after the other [this project, docs/FORMATS.md, Broadcast]
-abbrev pub stream_of : Plan → List (List ℕ) → List ℕ
-stream_of plan clear = concat (broadcast plan clear)
-
 -- the card of leaf u as a file: its head, the secrets of the names that the leaf is given, and the check value of both
 -- [Naor, Naor, Lotspiech 2001, 3.2; this project, docs/FORMATS.md, Card]
 abbrev pub card_for : SiteFields → ℕ → List ℕ
@@ -75,21 +67,22 @@ card_for site u = file_bytes (card_head site.height u site.ca) (map (secret_of s
 pub record HeadResult (names : Names) (plan : Plan) (clear : List (List ℕ)) (a b : Outside) (answer : Status) : Type 0
   where
     pub done : answer ≡ Done
-    -- STREAM is the broadcast
-    pub sent_is : file_in b names.stream ≡ Some (stream_of plan clear)
+    -- STREAM is the broadcast: its packets, one after the other
+    pub sent_is : file_in b names.stream ≡ Some (concat (broadcast plan clear))
     -- each of its periods names, in the bytes of STREAM, disjoint sets that unite to exactly the leaves that aren't
     -- revoked, one set if none is and at most 2r - 1 if r are; no label or key of a named set is derivable from what a
     -- revoked leaf is given
     pub periods : (q : ℕ) → plan.site.first_period ≤ q → q ≤ period_of plan (length clear - 1) →
-        NamesPeriod plan q (named plan.site.height plan.site.emm q (taken_of (stream_of plan clear)))
-    pub others : OthersStay names.stream a b
+        NamesPeriod plan q (named plan.site.height plan.site.emm q (taken_of (concat (broadcast plan clear))))
+    -- all other files are as they were
+    pub others : (name : List ℕ) → name ≢ names.stream → file_in b name ≡ file_in a name
 
 -- The result of `card SITE LEAF CARD`.
 pub record CardResult (names : Names) (site : SiteFields) (u : ℕ) (a b : Outside) (answer : Status) : Type 0 where
   pub done : answer ≡ Done
   -- CARD is the card of the leaf
   pub card_is : file_in b names.card ≡ Some (card_for site u)
-  pub others : OthersStay names.card a b
+  pub others : (name : List ℕ) → name ≢ names.card → file_in b name ≡ file_in a name
 
 -- The result of `receive CARD STREAM OUT`, if CARD is the card of leaf u and STREAM is the broadcast.
 pub record ReceiveResult (names : Names) (plan : Plan) (u : ℕ) (clear : List (List ℕ)) (a b : Outside)
@@ -100,4 +93,4 @@ pub record ReceiveResult (names : Names) (plan : Plan) (u : ℕ) (clear : List (
   pub ends : answer ≡ revoked_status u (first_revoked plan u clear)
   -- at most as many steps of the generator as the tree is high, for each period in which the leaf isn't revoked
   pub steps : b.steps ≤ a.steps + plan.site.height * entitled_periods plan u clear
-  pub others : OthersStay names.out a b
+  pub others : (name : List ℕ) → name ≢ names.out → file_in b name ≡ file_in a name

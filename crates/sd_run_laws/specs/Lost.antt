@@ -1,5 +1,5 @@
 -- What `receive` makes of any choice of a broadcast's packets [this project, docs/FORMATS.md, Receiver].
-use Rattle.std.specs.Prelude.{◌≡◌, ℕ, ◌+◌, ◌-◌, ◌*◌, ◌≤◌, ◌++◌, Bool, true, false, List, [], length, Some, Ok}
+use Rattle.std.specs.Prelude.{◌≡◌, ◌≢◌, ℕ, ◌+◌, ◌-◌, ◌*◌, ◌≤◌, ◌++◌, Bool, true, false, List, [], length, Some, Ok}
 use Rattle.std.specs.List.{concat, list_any}
 use Rattle.sd_card.specs.Fields.{card_of, card_bytes}
 use Rattle.sd_broadcast.specs.Plan.{Plan, period_of}
@@ -16,7 +16,7 @@ use Rattle.sd_status.specs.Meant.{Word, Given}
 use Rattle.sd_status.specs.Work.{UpTo, Work}
 use Rattle.sd_words.specs.Words.{ReceiveOf, order_of}
 use Rattle.sd_run_receive.specs.Receive.{ending_status}
-use Rattle.sd_run_laws.specs.Headline.{Names, file_in, OthersStay}
+use Rattle.sd_run_laws.specs.Headline.{Names, file_in}
 
 -- the things of a broadcast that are kept
 unfoldable pub kept_of : Plan → List (List ℕ) → List Bool → List Item
@@ -69,4 +69,4 @@ pub record LossResult (names : Names) (plan : Plan) (u : ℕ) (clear : List (Lis
   -- at most as many steps of the generator as the tree is high, for each period of which a section with a set of the
   -- leaf arrived
   pub steps : b.steps ≤ a.steps + plan.site.height * kept_periods plan u clear kept
-  pub others : OthersStay names.out a b
+  pub others : (name : List ℕ) → name ≢ names.out → file_in b name ≡ file_in a name

@@ -1,15 +1,21 @@
--- Words and files that mean a trial.
-use Rattle.std.specs.Prelude.{◌≡◌, ℕ, List, Some, Ok, ◌≤◌, length}
+-- Words and files that mean a trial, and what a trial leaves.
+use Rattle.std.specs.Prelude.{◌≡◌, ℕ, List, Some, Ok, ◌≤◌, ◌^◌, length}
+use Rattle.std.specs.FinMap.{get}
+use Rattle.std.specs.Io.KnownBytes.{Appends}
+use Rattle.sd_ports.specs.Files.{Files}
 use Rattle.sd_engine.specs.Taken.{Whole, taken_of, end_of}
 use Rattle.sd_site.specs.Fields.{SiteFields}
 use Rattle.sd_book.specs.declared.command.Command.{Command}
-use Rattle.sd_broadcast.specs.Plan.{Plan}
+use Rattle.sd_broadcast.specs.Plan.{Plan, IsPlan}
 use Rattle.sd_broadcast.specs.Refused.{IsClear}
 use Rattle.sd_whole.specs.Synced.{AreBytes}
-use Rattle.sd_status.specs.Meant.{Word, Given}
+use Rattle.sd_status.specs.Meant.{Word, Given, told_by}
+use Rattle.sd_status.specs.Outside.{Outside}
 use Rattle.sd_words.specs.Words.{TrialOf, order_of}
 use Rattle.sd_run_trial.specs.declared.command.TheConstants.{MOST_CLEAR_BYTES}
 use Rattle.sd_run_trial.specs.declared.plan.TheConstants.{MOST_HEIGHT}
+use Rattle.sd_run_trial.specs.Trial.{plan_meaning}
+use Rattle.sd_printed.specs.Trials.{opened_lines}
 use Rattle.sd_run_laws.specs.Good.{IsGoodSite, IsGoodBook}
 
 -- the words are `trial SITE BOOK CLEAR`, and the files are there: a site whose tree is low enough, a book of its tree,
@@ -34,3 +40,20 @@ pub record IsGoodTrial (words : List (List ℕ)) (given : Given) : Type 0 where
 -- the plan that they say
 abbrev pub plan_tried : {words : List (List ℕ)} {given : Given} → IsGoodTrial words given → Plan
 plan_tried good = record { site = good.fields; commands = good.commands }
+
+-- What a trial that is done leaves: its files were such, and just their lines were printed.
+pub record IsTried (site book clear : Word) (files : Files) (a b : Outside) : Type 0 where
+  -- the site and the book that their files say, within their limits
+  pub plan : Plan
+  pub said : (plan_meaning site book (told_by files)).result ≡ Ok plan
+  pub is_plan : IsPlan plan
+  pub low : plan.site.height ≤ MOST_HEIGHT
+  -- the clear stream, of which no packet is refused
+  pub bytes : List ℕ
+  pub there : get files clear.text ≡ Some bytes
+  pub short : length bytes ≤ MOST_CLEAR_BYTES
+  pub whole : end_of bytes ≡ Whole
+  pub is_clear : IsClear plan.site (taken_of bytes)
+  -- what each receiver writes of the broadcast
+  pub printed : AreBytes bytes →
+      Appends a.page.printed b.page.printed (opened_lines plan (taken_of bytes) (2 ^ plan.site.height))

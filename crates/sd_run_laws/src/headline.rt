@@ -1,5 +1,6 @@
 //! The headline: the one call, and what its clauses say of `head`, `card` and `receive`.
-ghost use Rattle.std.specs.Prelude.{◌≡◌, ◌≢◌, ◌⊎◌, ◌<◌, ◌^◌, ℕ, Bool, List, Some, IsSome, Ok, map, string_bytes};
+ghost use Rattle.std.specs.Prelude.{◌≡◌, ◌≢◌, ◌⊎◌, ◌<◌, ◌^◌, ℕ, Bool, List, [], ◌∷◌, codes, Some, IsSome};
+ghost use Rattle.std.specs.Prelude.{Ok, map, string_bytes};
 ghost use Rattle.std.specs.FinMap.{get};
 ghost use Rattle.std.specs.Io.KnownBytes.{Appends};
 ghost use Rattle.sd_cause.specs.Count.{with_added};
@@ -26,7 +27,7 @@ ghost use Rattle.sd_run_laws.specs.Good.{IsGoodSite};
 ghost use Rattle.sd_run_laws.specs.Lost.{kept_of, LossResult};
 ghost use Rattle.sd_run_laws.specs.Outcome.{IsDone, RefusesFirst, out_name};
 ghost use Rattle.sd_run_laws.specs.Headline.{Names, head_run, card_run, receive_run, file_in, AreGiven, WentWell};
-ghost use Rattle.sd_run_laws.specs.Headline.{stream_of, card_for, HeadResult, CardResult, ReceiveResult};
+ghost use Rattle.sd_run_laws.specs.Headline.{card_for, HeadResult, CardResult, ReceiveResult};
 
 use sd_ports::{Depot, Sink};
 use sd_status::Status;
@@ -53,7 +54,8 @@ pub fn run<D: Depot, P: Sink, L: Ledger>(
 ) -> Status
     // Over a good site, book and clear stream `head` makes the broadcast, whose periods name their covers.
     ensures head { (names : Names) (plan : Plan) (clear : List (List ℕ)) →
-        map string_bytes words.now ≡ head_run names →
+        map string_bytes words.now
+        ≡ codes "head" ∷ names.site ∷ names.book ∷ names.clear ∷ names.stream ∷ [] →
         names.stream ≢ names.site → names.stream ≢ names.book → names.stream ≢ names.clear →
         AreGiven (outside (place D.Depot depot.old) (page P.Sink print.old) steps.old) names plan clear →
         WentWell (outside (place D.Depot depot.old) (page P.Sink print.old) steps.old)
@@ -62,7 +64,8 @@ pub fn run<D: Depot, P: Sink, L: Ledger>(
         (outside (place D.Depot depot.new) (page P.Sink print.new) steps.new) result }
     // Over a good site `card` makes the leaf's card.
     ensures card { (names : Names) (leaf : List ℕ) (site : SiteFields) (u : ℕ) →
-        map string_bytes words.now ≡ card_run names leaf → number_of leaf ≡ Some u → names.card ≢ names.site →
+        map string_bytes words.now ≡ codes "card" ∷ names.site ∷ leaf ∷ names.card ∷ [] →
+        number_of leaf ≡ Some u → names.card ≢ names.site →
         IsGoodSite (file_in (outside (place D.Depot depot.old) (page P.Sink print.old) steps.old) names.site) site →
         u < 2 ^ site.height →
         WentWell (outside (place D.Depot depot.old) (page P.Sink print.old) steps.old)
@@ -71,19 +74,21 @@ pub fn run<D: Depot, P: Sink, L: Ledger>(
         (outside (place D.Depot depot.new) (page P.Sink print.new) steps.new) result }
     // Over the card of a leaf and a broadcast, wherever they were made, `receive` makes what the leaf is entitled to.
     ensures receive { (names : Names) (plan : Plan) (u : ℕ) (clear : List (List ℕ)) (z : Outside) →
-        map string_bytes words.now ≡ receive_run names → names.out ≢ names.card → names.out ≢ names.stream →
+        map string_bytes words.now ≡ codes "receive" ∷ names.card ∷ names.stream ∷ names.out ∷ [] →
+        names.out ≢ names.card → names.out ≢ names.stream →
         AreGiven z names plan clear → u < 2 ^ plan.site.height →
         file_in (outside (place D.Depot depot.old) (page P.Sink print.old) steps.old) names.card
         ≡ Some (card_for plan.site u) →
         file_in (outside (place D.Depot depot.old) (page P.Sink print.old) steps.old) names.stream
-        ≡ Some (stream_of plan clear) →
+        ≡ Some (concat (broadcast plan clear)) →
         WentWell (outside (place D.Depot depot.old) (page P.Sink print.old) steps.old)
         (outside (place D.Depot depot.new) (page P.Sink print.new) steps.new) result →
         ReceiveResult names plan u clear (outside (place D.Depot depot.old) (page P.Sink print.old) steps.old)
         (outside (place D.Depot depot.new) (page P.Sink print.new) steps.new) result }
     // Over the card of a leaf and any choice of a broadcast's packets it makes what the messages that arrived confirm.
     ensures lost { (names : Names) (plan : Plan) (u : ℕ) (clear : List (List ℕ)) (z : Outside) (flags : List Bool) →
-        map string_bytes words.now ≡ receive_run names → names.out ≢ names.card → names.out ≢ names.stream →
+        map string_bytes words.now ≡ codes "receive" ∷ names.card ∷ names.stream ∷ names.out ∷ [] →
+        names.out ≢ names.card → names.out ≢ names.stream →
         AreGiven z names plan clear → u < 2 ^ plan.site.height →
         file_in (outside (place D.Depot depot.old) (page P.Sink print.old) steps.old) names.card
         ≡ Some (card_for plan.site u) →
@@ -126,7 +131,8 @@ pub fn exactly_the_unrevoked_receive()
         CardResult names site u a b answer }
     ensures receive { (names : Names) (plan : Plan) (u : ℕ) (clear : List (List ℕ)) (z a b : Outside)
         (answer : Status) → AreGiven z names plan clear → u < 2 ^ plan.site.height →
-        file_in a names.card ≡ Some (card_for plan.site u) → file_in a names.stream ≡ Some (stream_of plan clear) →
+        file_in a names.card ≡ Some (card_for plan.site u) →
+        file_in a names.stream ≡ Some (concat (broadcast plan clear)) →
         Answers (receive_meaning (word_at 1 names.card) (word_at 2 names.stream) (word_at 3 names.out)) a b answer →
         WentWell a b answer → ReceiveResult names plan u clear a b answer }
 {}

@@ -8,11 +8,11 @@ ghost use Rattle.sd_trace.specs.Trace.{trace_of};
 ghost use Rattle.sd_run_opens.specs.Opens.{opening};
 ghost use Rattle.sd_run_trace.specs.Trace.{revoked_last, telling, trace_text};
 ghost use Rattle.sd_printed.specs.Trials.{opened_lines};
-ghost use Rattle.sd_run_trial.specs.Trial.{printing as tried};
+ghost use Rattle.sd_run_trial.specs.Trial.{printing as tried, trial_meaning};
 ghost use Rattle.sd_run_laws.specs.Good.{IsGoodAccounts, IsGoodBooks, IsGoodLayered, IsGoodLcard, IsGoodOpens};
 ghost use Rattle.sd_run_laws.specs.Good.{IsGoodTrace};
 ghost use Rattle.sd_run_laws.specs.Left.{HasOut, IsAsBefore};
-ghost use Rattle.sd_run_laws.specs.Tried.{IsGoodTrial, plan_tried};
+ghost use Rattle.sd_run_laws.specs.Tried.{IsGoodTrial, IsTried, plan_tried};
 ghost use Rattle.sd_book.specs.Commands.{revoked};
 ghost use Rattle.sd_book.specs.declared.command.Command.{Command};
 ghost use Rattle.sd_steiner.specs.Cover.{cover_of};
@@ -22,7 +22,7 @@ ghost use Rattle.sd_card.specs.Fields.{card_bytes, card_of};
 ghost use Rattle.sd_ports.specs.Files.{Files};
 ghost use Rattle.sd_sample.specs.Sample.{sample_of};
 ghost use Rattle.sd_status.specs.Answers.{Answers};
-ghost use Rattle.sd_status.specs.Meant.{told_by};
+ghost use Rattle.sd_status.specs.Meant.{Word, told_by};
 ghost use Rattle.sd_status.specs.Outside.{Outside};
 ghost use Rattle.sd_status.specs.Work.{NoSteps, Uncounted};
 ghost use Rattle.sd_run_cover.specs.Cover.{covering};
@@ -133,6 +133,13 @@ pub fn good_trials_are_printed()
     ensures { (words : List (List ℕ)) (files : Files) (good : IsGoodTrial words (told_by files)) →
         (meaning words (told_by files)).result ≡ Ok (tried (Ok
         (opened_lines (plan_tried good) (taken_of good.bytes) (2 ^ good.fields.height)))) }
+{}
+
+/// A trial over told files that is done had such files, and printed just the lines of what is opened.
+#[tactic(auto, using(crate::proofs::Trials::trial_tried))]
+pub fn done_trials_had_good_files()
+    ensures { (site book clear : Word) (files : Files) (a b : Outside) → a.place.files ≡ Some files →
+        Answers (trial_meaning site book clear) a b Status.Done → IsTried site book clear files a b }
 {}
 
 /// Whatever a run over told files answers, all files are as they were, and none was made; or one was, OUT of the work

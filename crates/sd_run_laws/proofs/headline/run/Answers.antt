@@ -42,7 +42,7 @@ returns-clause-lost g c names plan u clear z flags words card stream given withi
 
 pub returns-clause-done : goal.returns-clause-done
 returns-clause-done g c files told is =
-    done_leaves (map string_bytes c.args.words.now) files
+    done_leaves (meaning (map string_bytes c.args.words.now)) files
     (outside (place g.D.Depot c.args.depot.now) (page g.P.Sink c.args.print.now) c.args.steps.now)
     (outside (place g.D.Depot c.run.new.depot) (page g.P.Sink c.run.new.print) c.run.new.steps) c.run.result told is
     c.run.ensures.value
