@@ -2,7 +2,7 @@
 use Rattle.std.proofs.Common.{◌≡◌, ◌⊎◌, ℕ, ◌≤◌, List, Result, Ok, Err}
 use Rattle.std.proofs.Common.{refl, sym, ap, subst, inl, inr, arith}
 use Rattle.std.proofs.lemmas.List.{append-nil}
-use Rattle.std.specs.Prelude.{IfOk}
+use Rattle.std.specs.Prelude.{IfOk, IsErrOf}
 use Rattle.std.specs.Io.KnownBytes.{Appends}
 use Rattle.sd_cause.specs.Count.{with_added}
 use Rattle.sd_ports.specs.Bytes.{AppendsPrefix}
@@ -44,30 +44,32 @@ module _ (word : Word) (bytes text : List ℕ) (a b : Place) (page : Page) (step
   not_whole : (fault : FileFault) →
       WritesFile {T = Unit {0}} a.files b.files a.made b.made word.text bytes (Err fault) →
       HasFileCause {T = Unit {0}} a.faults b.faults a.misses b.misses (Err fault) →
+      (¬ IsErrOf {T = Unit {0}} (Err fault) file.Failed → b.stops ≡ a.stops) →
       Comes (Ok (making_then word bytes text)) (outside a page steps) (outside b page steps)
       (status_of (making_told word.number (Err fault)))
-  not_whole file.Missing file cause =
+  not_whole file.Missing file cause stops =
       nowhere (making_then word bytes text) refl (out_of word bytes) refl refl (file.missing refl).1
       (record { files = (file.missing refl).0.0; made = (file.missing refl).0.1 }) refl
       (record { depot = cause.no_fault (λ e. cc); print = refl }) (cause.missing refl)
-  not_whole file.TooBig file cause = absurd (file.fits refl)
-  not_whole file.Failed file cause =
-      failed refl (stands_short (file.failed refl)) (cause.failed refl) refl (cause.no_miss (λ e. cc))
-  not_whole file.NoMemory file cause =
+  not_whole file.TooBig file cause stops = absurd (file.fits refl)
+  not_whole file.Failed file cause stops =
+      failed refl (stands_short (file.failed refl)) (cause.failed refl) (λ breaks. cc) refl (cause.no_miss (λ e. cc))
+  not_whole file.NoMemory file cause stops =
       exhausted refl (untouched (record { files = (file.no_memory refl).0; made = (file.no_memory refl).1 }) refl)
-      (record { depot = cause.no_fault (λ e. cc); print = refl }) (cause.no_miss (λ e. cc))
+      (stops (λ e. cc)) refl (cause.no_miss (λ e. cc))
 
   -- the file was not made whole, and nothing was printed
   pub not_made : (written : Result (Unit {0}) FileFault) (status : Status) →
       Err status ≡ making_told word.number written →
       WritesFile a.files b.files a.made b.made word.text bytes written →
-      HasFileCause a.faults b.faults a.misses b.misses written → b.opened ≡ a.opened →
+      HasFileCause a.faults b.faults a.misses b.misses written →
+      (¬ IsErrOf written file.Failed → b.stops ≡ a.stops) → b.opened ≡ a.opened →
       b.calls ≤ with_added a.calls 2 →
       Obeys (value (making_then word bytes text)) (outside a page steps) (outside b page steps) status
-  not_made (Ok done) status told file cause ports calls = absurd (let h = told in cc)
-  not_made (Err fault) status told file cause ports calls = record {
+  not_made (Ok done) status told file cause stops ports calls = absurd (let h = told in cc)
+  not_made (Err fault) status told file cause stops ports calls = record {
     comes = subst (λ (s : Status). Comes (Ok (making_then word bytes text)) (outside a page steps)
-        (outside b page steps) s) (sym (ap status_of told)) (not_whole fault file cause);
+        (outside b page steps) s) (sym (ap status_of told)) (not_whole fault file cause stops);
     ports = ports;
     calls = omega arith;
     steps = refl;

@@ -24,7 +24,7 @@ comes meant out p page steps now status (inl h) =
     (record { files = refl; made = refl }) refl (record { depot = refl; print = refl })
     (record { missing = λ word is. absurd (subst IsEnding is h.2); there = λ other. refl })
 comes meant out p page steps now status (inr h) =
-    exhausted h (untouched (record { files = refl; made = refl }) refl) (record { depot = refl; print = refl }) refl
+    exhausted h (untouched (record { files = refl; made = refl }) refl) refl refl refl
 
 -- the leaf was refused, or memory was out
 pub card_obeys : (view_meant : Result (List ℕ) Status) (out : Word) (p q : Place) (n : ℕ) (page : Page) (steps now : ℕ)

@@ -22,8 +22,7 @@ told_comes text place a b steps status (inl (inr cut)) =
 told_comes text place a b steps status (inr none) =
     subst (λ (page : Page). Comes (Ok (telling text)) (outside place a steps) (outside place page steps) status)
     (sym none.1)
-    (exhausted none.0 (untouched (record { files = refl; made = refl }) refl) (record { depot = refl; print = refl })
-    refl)
+    (exhausted none.0 (untouched (record { files = refl; made = refl }) refl) refl refl refl)
 
 -- the text was printed, or a prefix of it, or nothing where memory was out
 pub text_told : (text : List ℕ) (place : Place) (a b : Page) (steps : ℕ) (status : Status) →

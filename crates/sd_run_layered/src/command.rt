@@ -1,6 +1,6 @@
 ghost use Rattle.std.specs.Prelude.{◌≡◌, ◌≢◌, ◌≤◌, ℕ, IfOk};
 ghost use Rattle.sd_status.specs.Outside.{outside, page, place};
-ghost use Rattle.sd_status.specs.Reads.{Judges, Looks};
+ghost use Rattle.sd_status.specs.Reads.{JudgesAlone, Looks};
 ghost use Rattle.sd_status.specs.Comes.{Follows, status_of};
 ghost use Rattle.sd_files.specs.Shown.{shown_number, shown_word};
 ghost use Rattle.sd_run_layered.specs.Layered.{layered_meaning, layers_of_file, shown_layers, told_layers};
@@ -52,7 +52,7 @@ fn layers_of<D: Depot>(
 
 /// The height, and the width of this number, which is to be 1 to the height.
 fn judge_width(h: Height, width: Number) -> Result<(Height, Width), Status>
-    ensures value { Judges shown_layers (told_layers h (shown_number width)) result }
+    ensures value { JudgesAlone shown_layers (told_layers h (shown_number width)) result }
     ensures bound { IfOk result (λ layers. layers.1 ≤ layers.0) }
 {
     prove!(h.get() <= HIGHEST);

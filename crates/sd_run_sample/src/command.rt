@@ -1,4 +1,4 @@
-ghost use Rattle.std.specs.Prelude.{◌≡◌, ◌≤◌, ℕ};
+ghost use Rattle.std.specs.Prelude.{◌≡◌, ◌≤◌, ℕ, IsErrOf};
 ghost use Rattle.sd_ports.specs.Causes.{CountsCalls, HasFileCause};
 ghost use Rattle.sd_ports.specs.Files.{WritesFile};
 ghost use Rattle.sd_sample.specs.Sample.{sample_of};
@@ -47,6 +47,8 @@ fn write_sample<D: Depot>(
         name.now (sample_of number packets) result }
     ensures cause { HasFileCause
         (D.faults depot.old) (D.faults depot.new) (D.misses depot.old) (D.misses depot.new) result }
+    ensures stops { ¬ IsErrOf result FileFault.Failed → D.stops depot.new ≡ D.stops depot.old }
+    ensures later { D.stops depot.old ≤ D.stops depot.new }
     ensures ports { D.opened depot.new ≡ D.opened depot.old }
     ensures calls { CountsCalls (D.calls depot.old) (D.calls depot.new) result }
 {

@@ -10,8 +10,8 @@ ghost use Rattle.sd_files.specs.Shown.{shown_word};
 
 use sd_cause::NoMemory;
 use sd_engine::{BreakCause, DriveFault, MOST_PACKETS, drive};
-use sd_files::Word;
-use sd_ports::{Depot, DepotFault, Sink, Source};
+use sd_files::{Word, opening_fault};
+use sd_ports::{Depot, Sink, Source};
 use sd_status::{Status, StreamCause};
 use sd_steps::Steps;
 use sd_tables::Inspector;
@@ -33,9 +33,7 @@ pub fn tables<D: Depot, P: Sink>(
 {
     let mut port = match depot.open_in(alloc, stream.text) {
         Ok(port) => port,
-        Err(DepotFault::Missing) => return Err(Status::Missing(stream.number)),
-        Err(DepotFault::Failed) => return Err(Status::DepotFault),
-        Err(DepotFault::NoMemory) => return Err(Status::NoMemory),
+        Err(fault) => return Err(opening_fault(stream.number, fault)),
     };
     let printed = print_tables(alloc, &mut port, print);
     depot.close_in(port);

@@ -11,7 +11,7 @@ returns-in_err-told g c steps =
     let w = c.write_file.ensures in
     rw (p.1, p.2) (not_made (shown_word c.args.out) c.args.bytes.now c.args.text.now
     (place g.D.Depot c.args.depot.now) (place g.D.Depot c.write_file.new.depot) (page g.P.Sink c.args.print.now) steps
-    c.write_file.result c.in_err-told.field-0.0 c.in_err-told.ensures w.file w.cause w.ports w.calls.most)
+    c.write_file.result c.in_err-told.field-0.0 c.in_err-told.ensures w.file w.cause w.stops w.ports w.calls.most)
 
 pub returns : goal.returns
 returns g c steps =

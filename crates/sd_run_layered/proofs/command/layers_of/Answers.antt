@@ -2,7 +2,7 @@ use Rattle.std.proofs.lemmas.Result.{err_from_is_err_and}
 use Rattle.sd_site.specs.Fields.{fields_of}
 use Rattle.sd_status.specs.Outside.{place}
 use Rattle.sd_status.specs.Meant.{judged}
-use Rattle.sd_status.proofs.Follow.{looks_first, looks_judged}
+use Rattle.sd_status.proofs.Follow.{alone_judges, looks_first, looks_judged}
 use Rattle.sd_files.specs.Files.{site_of_file}
 use Rattle.sd_files.specs.Shown.{shown_number}
 use Rattle.sd_run_layered.specs.Layered.{shown_layers, told_layers}
@@ -23,4 +23,6 @@ returns-clause-value g c =
     looks_judged fields_of shown_layers (site_of_file c.args.site.number)
     (λ fields. told_layers fields.height width) c.args.site.text.now
     (place g.D.Depot c.args.depot.now) (place g.D.Depot c.read_site.new.depot) c.in_ok-site.site c.judge_width.result
-    c.in_ok-site.ensures c.judge_width.ensures.value
+    c.in_ok-site.ensures
+    (alone_judges shown_layers (told_layers (fields_of c.in_ok-site.site).height width) c.judge_width.result
+    c.judge_width.ensures.value)

@@ -1,4 +1,4 @@
-use Rattle.std.proofs.Common.{subst, ℕ, List}
+use Rattle.std.proofs.Common.{inl, subst, ℕ, List}
 use Rattle.std.proofs.lemmas.Result.{err_from_is_err_and}
 use Rattle.sd_site.specs.Fields.{fields_of}
 use Rattle.sd_lsd.specs.Fields.{layer_card_of, layer_bytes}
@@ -42,7 +42,7 @@ returns-in_err-u g c page =
     (judged_refused (λ (u : ℕ). u) (told_leaf f.height leaf)
     (λ u. judged (told_width f.height width)
     >>= λ w. value (making Uncounted out (layer_bytes (layer_card_of f.master f.ca f.height w u))))
-    q page c.args.steps.now status c.in_err-u.ensures.value))
+    q page c.args.steps.now status (inl c.in_err-u.ensures.value)))
 
 pub returns-in_err-w : goal.returns-in_err-w
 returns-in_err-w g c page =
@@ -64,7 +64,7 @@ returns-in_err-w g c page =
     b b status c.in_ok-u.ensures.value
     (judged_refused (λ (w : ℕ). w) (told_width f.height width)
     (λ w. value (making Uncounted out (layer_bytes (layer_card_of f.master f.ca f.height w u))))
-    q page c.args.steps.now status c.in_err-w.ensures.value)))
+    q page c.args.steps.now status (inl c.in_err-w.ensures.value))))
 
 pub returns-in_err-bytes : goal.returns-in_err-bytes
 returns-in_err-bytes g c page =

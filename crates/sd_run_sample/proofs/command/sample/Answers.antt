@@ -16,5 +16,5 @@ returns g c page steps =
       is_given = given.is_given;
       obeyed = made_obeys NoSteps (shown_word c.args.out) (sample_of c.args.number c.args.packets) a
           (place g.D.Depot c.write_sample.new.depot)
-          page steps c.write_sample.result c.told.result c.told.ensures w.file w.cause w.ports w.calls.most;
+          page steps c.write_sample.result c.told.result c.told.ensures w.file w.cause w.stops w.ports w.calls.most;
     }
