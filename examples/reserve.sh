@@ -72,11 +72,11 @@ reached=$((period + (words - 1) / span))
 [ "$reached" -le "$last" ] || reached=$last
 [ "$reached" -ge "$period" ] || reached=$period
 
-# It is on the disk before anything is sent.
+# All is on the disk before anything is sent.
 state="$first $((reached + 1))"
 echo "$state" >next.new
 [ "$(cat next.new)" = "$state" ] || fail "next can't be written"
-sync next.new
+sync book.txt next.new
 mv next.new next
 sync .
 mv day.new "day-$period"
