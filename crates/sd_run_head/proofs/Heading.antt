@@ -191,8 +191,7 @@ no_plan view site book clear out p q page steps status read = record {
 pub wanting_obeys : (meant : Meant Work) (q : Place) (page : Page) (steps : ℕ) (status : Status) → status ≡ NoMemory →
     Obeys meant (outside q page steps) (outside q page steps) status
 wanting_obeys meant q page steps status is = record {
-  comes = exhausted is (untouched (record { files = refl; made = refl }) refl) (record { depot = refl; print = refl })
-      refl;
+  comes = exhausted is (untouched (record { files = refl; made = refl }) refl) refl refl refl;
   ports = refl;
   calls = omega arith;
   steps = takes_none meant.result steps;

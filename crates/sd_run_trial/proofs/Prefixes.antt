@@ -14,7 +14,7 @@ use Rattle.sd_engine.specs.Taken.{IsLeft}
 use Rattle.sd_status.specs.declared.status.Status.{Status}
 use Rattle.sd_status.specs.declared.status.Status.TheVariants.{DepotFault, NoMemory}
 use Rattle.sd_status.specs.Outside.{Place, called}
-use Rattle.sd_status.specs.Reads.{IsAsked, Looks}
+use Rattle.sd_status.specs.Reads.{IsAsked, StopCause, Looks}
 use Rattle.sd_files.proofs.Looked.{opened_got}
 use Rattle.sd_files.proofs.Places.{only_called}
 use Rattle.sd_run_trial.specs.Prefixes.{prefix_of_file, told_prefix}
@@ -73,8 +73,7 @@ some_left (Some bytes) = (bytes, refl)
 -- reading was stopped
 pub prefix_stopped : (word most : ℕ) (name : List ℕ) (a b : Place) (left : Option (List ℕ)) (status : Status) →
     Opens a.files name left →
-    ((status ≡ NoMemory) × (b.faults ≡ a.faults)) ⊎ ((status ≡ DepotFault) × Rose a.faults b.faults) →
-    IsAsked 2 a b → b.misses ≡ a.misses →
+    StopCause a b status → IsAsked 2 a b → b.misses ≡ a.misses →
     Looks (λ (prefix : Prefix). prefix) (prefix_of_file word most) name a b (Err status)
 unfolding prefix_of_file
 prefix_stopped word most name a b left status opens cause asked misses =
@@ -108,23 +107,32 @@ whole_prefix most bytes few =
     (le-ltb most (length bytes) few)
 
 -- once the file was closed
-pub prefix_answered : (word most : ℕ) (name : List ℕ) (p q : Place) (left : Option (List ℕ)) (opened fresh from : ℕ)
+pub prefix_answered : (word most : ℕ) (name : List ℕ) (p q : Place) (left : Option (List ℕ)) (opened stops fresh from : ℕ)
     (read : Result Prefix ReadMostFault) → Opens p.files name left → opened ≡ p.faults → opened < 2 ^ 64 →
-    q.faults ≡ with_added opened from → fresh ≡ 0 → PrefixRead left most fresh from read → q.files ≡ p.files →
+    q.faults ≡ with_added opened from → stops ≡ p.stops → stops < 2 ^ 64 → q.stops ≡ with_added stops from → fresh ≡ 0 → PrefixRead left most fresh from read → q.files ≡ p.files →
     q.misses ≡ p.misses → q.made ≡ p.made → q.opened ≡ p.opened → q.calls ≡ with_added p.calls 2 →
     Looks (λ (prefix : Prefix). prefix) (prefix_of_file word most) name p q (told_prefix read)
-prefix_answered word most name p q left opened fresh from (Ok prefix) is_open same within now none r files misses made
-    ports calls =
+prefix_answered word most name p q left opened stops fresh from (Ok prefix) is_open same within now stood below stopped
+    none r files misses made ports calls =
     prefix_looks word most name p q left prefix is_open (prefix_left left most prefix r.value r.within r.full)
     (only_called 2 p q files
-    (none_added p.faults opened q.faults from same within now (r.calm (λ e. cc) ∙ none)) misses made ports calls)
-prefix_answered word most name p q left opened fresh from (Err fault.Failed) is_open same within now none r files misses
-    made ports calls =
+    (none_added p.faults opened q.faults from same within now (r.calm (λ e. cc) ∙ none))
+    (none_added p.stops stops q.stops from stood below stopped (r.calm (λ e. cc) ∙ none)) misses made ports calls)
+prefix_answered word most name p q left opened stops fresh from (Err fault.Failed) is_open same within now stood below
+    stopped none r files misses made ports calls =
     prefix_stopped word most name p q left DepotFault is_open
-    (inr (refl, some_added p.faults opened q.faults fresh from same within now none (r.failed refl)))
+    (inr (
+      refl,
+      some_added p.faults opened q.faults fresh from same within now none (r.failed refl),
+      some_added p.stops stops q.stops fresh from stood below stopped none (r.failed refl),
+    ))
     (record { files = files; made = made; ports = ports; calls = omega (arith, calls) }) misses
-prefix_answered word most name p q left opened fresh from (Err fault.NoMemory) is_open same within now none r files
-    misses made ports calls =
+prefix_answered word most name p q left opened stops fresh from (Err fault.NoMemory) is_open same within now stood below
+    stopped none r files misses made ports calls =
     prefix_stopped word most name p q left NoMemory is_open
-    (inl (refl, none_added p.faults opened q.faults from same within now (r.calm (λ e. cc) ∙ none)))
+    (inl (
+      refl,
+      none_added p.faults opened q.faults from same within now (r.calm (λ e. cc) ∙ none),
+      none_added p.stops stops q.stops from stood below stopped (r.calm (λ e. cc) ∙ none),
+    ))
     (record { files = files; made = made; ports = ports; calls = omega (arith, calls) }) misses

@@ -150,15 +150,13 @@ nothing_printed view meant q page steps more status (inl told) =
       steps = tt;
     })
 nothing_printed view (Ok text) q page steps more status (inr out) = record {
-  comes = exhausted out (untouched (record { files = refl; made = refl }) refl) (record { depot = refl; print = refl })
-      refl;
+  comes = exhausted out (untouched (record { files = refl; made = refl }) refl) refl refl refl;
   ports = refl;
   calls = omega arith;
   steps = tt;
 }
 nothing_printed view (Err other) q page steps more status (inr out) = record {
-  comes = exhausted out (untouched (record { files = refl; made = refl }) refl) (record { depot = refl; print = refl })
-      refl;
+  comes = exhausted out (untouched (record { files = refl; made = refl }) refl) refl refl refl;
   ports = refl;
   calls = omega arith;
   steps = tt;

@@ -1,7 +1,7 @@
 ghost use Rattle.std.specs.Prelude.{◌≡◌, ◌≢◌, IfOk};
 ghost use Rattle.sd_site.specs.Fields.{fields_of};
 ghost use Rattle.sd_status.specs.Outside.{place};
-ghost use Rattle.sd_status.specs.Reads.{Judges, Looks, Reads};
+ghost use Rattle.sd_status.specs.Reads.{JudgesAlone, Looks, Reads};
 ghost use Rattle.sd_files.specs.Shown.{shown_word};
 ghost use Rattle.sd_run_trial.specs.Trial.{told_low, low_site_of_file, plan_meaning};
 
@@ -44,7 +44,7 @@ fn read_low_site<D: Depot>(alloc: Global, depot: &mut D, word: Word<'_>) -> Resu
 
 /// The site, where its tree is low enough.
 fn judge_height(site: Site) -> Result<Site, Status>
-    ensures { Judges fields_of (told_low (fields_of site)) result }
+    ensures { JudgesAlone fields_of (told_low (fields_of site)) result }
 {
     if site.height.get() > MOST_HEIGHT {
         return Err(Status::Limit(LimitKind::TrialHeight));

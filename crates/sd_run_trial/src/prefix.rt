@@ -3,8 +3,8 @@ ghost use Rattle.sd_status.specs.Outside.{place};
 ghost use Rattle.sd_status.specs.Reads.{Looks};
 ghost use Rattle.sd_run_trial.specs.Prefixes.{prefix_of_file, told_prefix};
 
-use sd_files::Word;
-use sd_ports::{Depot, DepotFault, ReadMostFault, Taken, read_most};
+use sd_files::{Word, opening_fault};
+use sd_ports::{Depot, ReadMostFault, Taken, read_most};
 use sd_status::Status;
 use std::alloc::Global;
 
@@ -20,9 +20,7 @@ pub fn read_prefix<D: Depot>(
 {
     let mut port = match depot.open_in(alloc, word.text) {
         Ok(port) => port,
-        Err(DepotFault::Missing) => return Err(Status::Missing(word.number)),
-        Err(DepotFault::Failed) => return Err(Status::DepotFault),
-        Err(DepotFault::NoMemory) => return Err(Status::NoMemory),
+        Err(fault) => return Err(opening_fault(word.number, fault)),
     };
     let read = read_most(alloc, &mut port, most);
     depot.close_in(port);

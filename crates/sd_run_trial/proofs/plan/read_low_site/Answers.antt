@@ -2,7 +2,7 @@ use Rattle.std.proofs.lemmas.Result.{err_from_is_err_and}
 use Rattle.sd_site.specs.Fields.{fields_of}
 use Rattle.sd_status.specs.Outside.{place}
 use Rattle.sd_status.specs.Meant.{judged}
-use Rattle.sd_status.proofs.Follow.{looks_first, looks_judged}
+use Rattle.sd_status.proofs.Follow.{alone_judges, looks_first, looks_judged}
 use Rattle.sd_files.specs.Files.{site_of_file}
 use Rattle.sd_run_trial.specs.Trial.{told_low, low_site_of_file}
 use Rattle.sd_run_trial.proofs.plan.read_low_site.Goals as goal
@@ -22,4 +22,5 @@ returns g c =
     looks_judged fields_of fields_of (site_of_file c.args.word.number)
     told_low c.args.word.text.now
     (place g.D.Depot c.args.depot.now) (place g.D.Depot c.read_site.new.depot) c.in_ok-site.site c.judge_height.result
-    c.in_ok-site.ensures c.judge_height.ensures
+    c.in_ok-site.ensures
+    (alone_judges fields_of (told_low (fields_of c.in_ok-site.site)) c.judge_height.result c.judge_height.ensures)
