@@ -16,9 +16,8 @@ use Rattle.sd_status.specs.declared.status.LimitKind.{LimitKind}
 use Rattle.sd_status.specs.declared.status.LimitKind.TheVariants.{SiteBytes, BookBytes}
 use Rattle.sd_status.specs.Meant.{Meant, Word, Given, after, all_of, judged, value, within, ◌>>=◌}
 use Rattle.sd_status.specs.Work.{Uncounted, NoSteps}
-use Rattle.sd_files.specs.declared.files.TheConstants.{MOST_SITE_BYTES, MOST_BOOK_BYTES}
 use Rattle.sd_words.specs.Words.{Order, order_of, CoverOf, CardOf, SampleOf, TablesOf, HeadOf}
-use Rattle.sd_files.specs.Files.{told_site, told_book, site_of_file, book_of_file, site_in, book_in}
+use Rattle.sd_files.specs.Files.{most_site_bytes, most_book_bytes, told_site, told_book, site_of_file, book_of_file, site_in, book_in}
 use Rattle.sd_run_laws.specs.Good.{IsGoodSite, IsGoodBook}
 use Rattle.sd_run_cover.specs.Cover.{covering, cover_meaning}
 use Rattle.sd_run_laws.specs.Good.{IsGoodCover}
@@ -50,9 +49,9 @@ pub site_good : (given : Given) (word : Word) (fields : SiteFields) → IsGoodSi
 unfolding site_of_file
 site_good given word fields good =
     ap (λ (got : Option (List ℕ)). (site_of_file word.number got).result) good.there
-    ∙ then_is (within word.number MOST_SITE_BYTES SiteBytes (Some good.bytes)) good.bytes
+    ∙ then_is (within word.number most_site_bytes SiteBytes (Some good.bytes)) good.bytes
     (λ bytes. judged (told_site (site_of bytes)))
-    (file_read word.number MOST_SITE_BYTES SiteBytes good.bytes good.short)
+    (file_read word.number most_site_bytes SiteBytes good.bytes good.short)
     ∙ ap told_site (answered (lines_of good.bytes) (Ok fields) (good.is_site.text, good.is_site.ranges))
 
 pub book_good : (given : Given) (d : ℕ) (word : Word) (commands : List Command) → IsGoodBook (given word) d commands →
@@ -60,9 +59,9 @@ pub book_good : (given : Given) (d : ℕ) (word : Word) (commands : List Command
 unfolding book_of_file
 book_good given d word commands good =
     ap (λ (got : Option (List ℕ)). (book_of_file word.number d got).result) good.there
-    ∙ then_is (within word.number MOST_BOOK_BYTES BookBytes (Some good.bytes)) good.bytes
+    ∙ then_is (within word.number most_book_bytes BookBytes (Some good.bytes)) good.bytes
     (λ bytes. judged (told_book word.number (book_of d bytes)))
-    (file_read word.number MOST_BOOK_BYTES BookBytes good.bytes good.short)
+    (file_read word.number most_book_bytes BookBytes good.bytes good.short)
     ∙ ap (told_book word.number) (book_again d good.bytes commands good.is_book good.within)
 
 -- the work of an order is the words'
