@@ -20,20 +20,18 @@ use Rattle.sd_run_trace.specs.Trace.{revoked_last}
 use Rattle.sd_text.specs.Lines.{lines_of}
 use Rattle.sd_book.specs.Text.{SpellsBook}
 use Rattle.sd_book.specs.Limits.{IsWithinLimits}
-use Rattle.sd_files.specs.Files.{most_site_bytes, most_book_bytes}
+use Rattle.sd_files.specs.Files.{most_book_bytes}
 
 -- a file is there and a site, and says this
 pub record IsGoodSite (got : Option (List ℕ)) (fields : SiteFields) : Type 0 where
   pub bytes : List ℕ
   pub there : got ≡ Some bytes
-  pub short : length bytes ≤ most_site_bytes
   pub is_site : IsSite bytes fields
 
 -- a file is there and a book for a tree of height d, within the limits, and says these commands
 pub record IsGoodBook (got : Option (List ℕ)) (d : ℕ) (commands : List Command) : Type 0 where
   pub bytes : List ℕ
   pub there : got ≡ Some bytes
-  pub short : length bytes ≤ most_book_bytes
   pub is_book : SpellsBook (lines_of bytes) commands
   pub within : IsWithinLimits d commands
 
