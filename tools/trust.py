@@ -323,6 +323,8 @@ def main(options):
     parents, words = reached(repository, roots)
     if options[:1] == ["--why"]:
         item = next((it for it in parents if it.name == options[1]), None)
+        if item is None:
+            sys.exit(f"trust.py: no claim rests on {options[1]}")
         while item is not None:
             print(f"{item.name}  {item.file.path}:{item.first}")
             item = parents[item]
