@@ -1,13 +1,13 @@
 -- Good words over good files mean work.
 use Rattle.std.proofs.Common.{◌≡◌, ℕ, ◌≤◌, ◌^◌, cond, List, length, Option, Some, Result, Ok, Err, ap, ◌∙◌, le-ltb}
-use Rattle.std.proofs.Common.{lt-ltb}
+use Rattle.std.proofs.Common.{lt-ltb, arith, refl}
 use Rattle.sd_site.specs.Fields.{SiteFields}
-use Rattle.sd_site.specs.Text.{site_of}
+use Rattle.sd_site.specs.Text.{site_of, IsSite}
 use Rattle.sd_site.proofs.Alone.{answered}
 use Rattle.sd_card.specs.Fields.{card_of, card_bytes}
 use Rattle.sd_sample.specs.Sample.{sample_of}
 use Rattle.sd_book.specs.declared.command.Command.{Command}
-use Rattle.sd_book.specs.Text.{book_of}
+use Rattle.sd_book.specs.Text.{SpellsBook, book_of, text_of}
 use Rattle.sd_book.proofs.Judged.{book_again}
 use Rattle.sd_text.specs.Lines.{lines_of}
 use Rattle.sd_status.specs.declared.status.Status.{Status}
@@ -16,9 +16,12 @@ use Rattle.sd_status.specs.declared.status.LimitKind.{LimitKind}
 use Rattle.sd_status.specs.declared.status.LimitKind.TheVariants.{SiteBytes, BookBytes}
 use Rattle.sd_status.specs.Meant.{Meant, Word, Given, after, all_of, judged, value, within, ◌>>=◌}
 use Rattle.sd_status.specs.Work.{Uncounted, NoSteps}
-use Rattle.sd_files.specs.declared.files.TheConstants.{MOST_SITE_BYTES, MOST_BOOK_BYTES}
 use Rattle.sd_words.specs.Words.{Order, order_of, CoverOf, CardOf, SampleOf, TablesOf, HeadOf}
-use Rattle.sd_files.specs.Files.{told_site, told_book, site_of_file, book_of_file, site_in, book_in}
+use Rattle.sd_files.specs.Files.{most_site_bytes, most_book_bytes, told_site, told_book, site_of_file, book_of_file, site_in, book_in}
+use Rattle.sd_book.proofs.Short.{book_short}
+use Rattle.sd_site.proofs.Short.{site_short}
+use Rattle.sd_book.proofs.Written.{spelled_again}
+use Rattle.sd_book.specs.Limits.{IsWithinLimits}
 use Rattle.sd_run_laws.specs.Good.{IsGoodSite, IsGoodBook}
 use Rattle.sd_run_cover.specs.Cover.{covering, cover_meaning}
 use Rattle.sd_run_laws.specs.Good.{IsGoodCover}
@@ -45,24 +48,37 @@ pub file_read : (word most : ℕ) (kind : LimitKind) (bytes : List ℕ) → leng
     (within word most kind (Some bytes)).result ≡ Ok bytes
 file_read word most kind bytes short = ap (λ b. cond b (Err (Limit kind)) (Ok bytes)) (le-ltb most (length bytes) short)
 
+-- sites and books are short enough
+site_fits : (bytes : List ℕ) (site : SiteFields) → IsSite bytes site → length bytes ≤ most_site_bytes
+site_fits bytes site is = omega (arith, site_short bytes site is)
+
+pub book_fits : (d : ℕ) (bytes : List ℕ) (commands : List Command) → d ≤ 20 → SpellsBook (lines_of bytes) commands →
+    IsWithinLimits d commands → length bytes ≤ most_book_bytes
+book_fits d bytes commands low spells within = omega (arith, book_short d bytes commands low spells within)
+
+-- a site's tree is at most 20 high
+pub site_low : (got : Option (List ℕ)) (fields : SiteFields) → IsGoodSite got fields → fields.height ≤ 20
+site_low got fields good = good.is_site.ranges.height.1
+
 pub site_good : (given : Given) (word : Word) (fields : SiteFields) → IsGoodSite (given word) fields →
     (site_in given word).result ≡ Ok fields
 unfolding site_of_file
 site_good given word fields good =
     ap (λ (got : Option (List ℕ)). (site_of_file word.number got).result) good.there
-    ∙ then_is (within word.number MOST_SITE_BYTES SiteBytes (Some good.bytes)) good.bytes
+    ∙ then_is (within word.number most_site_bytes SiteBytes (Some good.bytes)) good.bytes
     (λ bytes. judged (told_site (site_of bytes)))
-    (file_read word.number MOST_SITE_BYTES SiteBytes good.bytes good.short)
+    (file_read word.number most_site_bytes SiteBytes good.bytes (site_fits good.bytes fields good.is_site))
     ∙ ap told_site (answered (lines_of good.bytes) (Ok fields) (good.is_site.text, good.is_site.ranges))
 
-pub book_good : (given : Given) (d : ℕ) (word : Word) (commands : List Command) → IsGoodBook (given word) d commands →
-    (book_in given d word).result ≡ Ok commands
+pub book_good : (given : Given) (d : ℕ) (word : Word) (commands : List Command) → d ≤ 20 →
+    IsGoodBook (given word) d commands → (book_in given d word).result ≡ Ok commands
 unfolding book_of_file
-book_good given d word commands good =
+book_good given d word commands low good =
     ap (λ (got : Option (List ℕ)). (book_of_file word.number d got).result) good.there
-    ∙ then_is (within word.number MOST_BOOK_BYTES BookBytes (Some good.bytes)) good.bytes
+    ∙ then_is (within word.number most_book_bytes BookBytes (Some good.bytes)) good.bytes
     (λ bytes. judged (told_book word.number (book_of d bytes)))
-    (file_read word.number MOST_BOOK_BYTES BookBytes good.bytes good.short)
+    (file_read word.number most_book_bytes BookBytes good.bytes
+    (book_fits d good.bytes commands low good.is_book good.within))
     ∙ ap (told_book word.number) (book_again d good.bytes commands good.is_book good.within)
 
 -- the work of an order is the words'
@@ -80,7 +96,7 @@ cover_good words given good =
     value (covering fields.height commands))
     (site_good given good.site good.fields good.good_site)
     ∙ then_is (book_in given d good.book) good.commands (λ commands. value (covering d commands))
-    (book_good given d good.book good.commands good.good_book)
+    (book_good given d good.book good.commands (site_low (given good.site) good.fields good.good_site) good.good_book)
 
 pub card_good : (words : List (List ℕ)) (given : Given) (good : IsGoodCard words given) →
     (meaning words given).result
@@ -123,7 +139,7 @@ plan_good given site book fields commands good_site good_book =
     (site_good given site fields good_site)
     ∙ then_is (book_in given fields.height book) commands
     (λ commands. value (record { site = fields; commands = commands }))
-    (book_good given fields.height book commands good_book)
+    (book_good given fields.height book commands (site_low (given site) fields good_site) good_book)
 
 pub head_good : (words : List (List ℕ)) (given : Given) (good : IsGoodHead words given) →
     ((meaning words given).result ≡ Ok (sending (plan_told good) good.out good.bytes))
@@ -140,3 +156,14 @@ head_good words given good =
       sent.0,
       sent.1,
     )
+
+-- the text of commands within the limits is a good book
+pub made_good : (d : ℕ) (commands : List Command) → d ≤ 20 → IsWithinLimits d commands →
+    IsGoodBook (Some (text_of commands)) d commands
+made_good d commands low within =
+    record {
+      bytes = text_of commands;
+      there = refl;
+      is_book = spelled_again d commands low within.leaves;
+      within = within;
+    }

@@ -14,7 +14,7 @@ use Rattle.sd_run_accounts.proofs.Good.{accounts_good}
 use Rattle.sd_run_book.proofs.Longer.{good_files}
 use Rattle.sd_run_laws.specs.Good.{IsGoodSite, IsGoodBook, IsGoodAccounts, IsGoodBooks}
 use Rattle.sd_run.specs.Meaning.{meaning}
-use Rattle.sd_run_laws.proofs.Goodness.{then_is, site_good, book_good, ordered}
+use Rattle.sd_run_laws.proofs.Goodness.{then_is, site_good, site_low, book_good, ordered}
 
 -- accounts make their book, and are reported
 pub accounts_kept : (words : List (List ℕ)) (given : Given) (good : IsGoodAccounts words given) →
@@ -36,7 +36,7 @@ both_good given site book fields commands good_site good_book =
     (site_good given site fields good_site)
     ∙ then_is (book_in given fields.height book) commands
     (λ commands. value {A = SiteBook} (record { site = fields; commands = commands }))
-    (book_good given fields.height book commands good_book)
+    (book_good given fields.height book commands (site_low (given site) fields good_site) good_book)
 
 -- two books make a longer one
 pub books_joined : (words : List (List ℕ)) (given : Given) (good : IsGoodBooks words given) →
@@ -46,4 +46,5 @@ books_joined words given good =
     ∙ good_files good.site good.book good.commands good.out given
     (record { site = good.fields; commands = good.before }) good.added
     (both_good given good.site good.book good.fields good.before good.good_site good.good_book)
-    (book_good given good.fields.height good.commands good.added good.good_added) good.within
+    (book_good given good.fields.height good.commands good.added
+    (site_low (given good.site) good.fields good.good_site) good.good_added) good.within

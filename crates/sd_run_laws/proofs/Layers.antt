@@ -12,7 +12,7 @@ use Rattle.sd_run_layered.specs.Layered.{layers, layers_of_file, told_layers, la
 use Rattle.sd_run_lcard.specs.Lcard.{told_leaf, told_width, carding}
 use Rattle.sd_run_laws.specs.Good.{IsGoodLayered, IsGoodLcard}
 use Rattle.sd_run.specs.Meaning.{meaning}
-use Rattle.sd_run_laws.proofs.Goodness.{then_is, site_good, book_good, ordered}
+use Rattle.sd_run_laws.proofs.Goodness.{then_is, site_good, site_low, book_good, ordered}
 
 -- a width from 1 to the height passes
 width_good : (d n : ℕ) → 1 ≤ n → n ≤ d → (nat_le 1 n && nat_le n d) ≡ true
@@ -33,7 +33,7 @@ layered_good words given good =
     ∙ ap (λ b. cond b (Ok (layers d width.value)) (Err (BadWord width.word)))
     (width_good d width.value good.some good.within))
     ∙ then_is (book_in given d good.book) good.commands (λ commands. value (layering d width.value commands))
-    (book_good given d good.book good.commands good.good_book)
+    (book_good given d good.book good.commands (site_low (given good.site) good.fields good.good_site) good.good_book)
 
 -- the layer card of the leaf is made
 pub lcard_good : (words : List (List ℕ)) (given : Given) (good : IsGoodLcard words given) →

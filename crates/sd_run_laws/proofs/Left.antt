@@ -72,10 +72,10 @@ came : (meant : Result Work Status) (a b : Outside) (status : Status) → Comes 
     IsLeft meant a.place b.place
 came meant a b status (refused e r un k c m) = inl un
 came meant a b status (ended work is s i made k c m) = whole_made meant work a.place b.place is made
-came meant a b status (unclosed work is s i j t out makes short k r c m) =
+came meant a b status (unclosed work is s i j t out makes short k r o c m) =
     short_made meant work out a.place b.place is makes short
-came meant a b status (exhausted s h c m) = stood meant a b h
-came meant a b status (failed s h r c m) = stood meant a b h
+came meant a b status (exhausted s h o c m) = stood meant a b h
+came meant a b status (failed s h r o c m) = stood meant a b h
 came meant a b status (nowhere work is out f s n un k c m) = inl un
 came meant a b status (cut_off work is s made k r c m) = whole_made meant work a.place b.place is made
 

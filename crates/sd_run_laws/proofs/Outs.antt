@@ -47,9 +47,9 @@ came_done : (meant : Result Work Status) (a b : Outside) (status : Status) → C
 came_done meant a b status (refused e r h k c m) is = absurd (subst IsRefusal is r)
 came_done meant a b status (ended work e s i h k c m) is =
     record { work = work; is_meant = e; ends = sym s ∙ is; made = h; printed = k; calm = c }
-came_done meant a b status (unclosed work e s i j t out f h k r c m) is = absurd (subst IsRefusal is j)
-came_done meant a b status (exhausted s h c m) is = absurd (let x = sym s ∙ is in cc)
-came_done meant a b status (failed s h r c m) is = absurd (let x = sym s ∙ is in cc)
+came_done meant a b status (unclosed work e s i j t out f h k r o c m) is = absurd (subst IsRefusal is j)
+came_done meant a b status (exhausted s h o c m) is = absurd (let x = sym s ∙ is in cc)
+came_done meant a b status (failed s h r o c m) is = absurd (let x = sym s ∙ is in cc)
 came_done meant a b status (nowhere work e out f s n h k c m) is = absurd (let x = sym s ∙ is in cc)
 came_done meant a b status (cut_off work e s h k r c m) is = absurd (let x = sym s ∙ is in cc)
 
@@ -139,12 +139,12 @@ came_quiet out meant a b status orderly refuses (ended work is s i made prints c
       unmade = nothing_made work.out a b keeps.0 made;
       printed = subst (λ (ps : List (List ℕ)). Appends a.page.printed b.page.printed (concat ps)) keeps.1 prints;
     }
-came_quiet out meant a b status orderly refuses (unclosed work is s i j t made makes short k r c m) =
+came_quiet out meant a b status orderly refuses (unclosed work is s i j t made makes short k r o c m) =
     let own : IsOrderly out work = subst (AreOrderly out) is orderly in
     let keeps = own.keeps (subst RefusesFirst s refuses) in
     absurd (let both = sym keeps.0 ∙ makes in cc)
-came_quiet out meant a b status orderly refuses (exhausted s h c m) = absurd (subst RefusesFirst s refuses)
-came_quiet out meant a b status orderly refuses (failed s h r c m) = absurd (subst RefusesFirst s refuses)
+came_quiet out meant a b status orderly refuses (exhausted s h o c m) = absurd (subst RefusesFirst s refuses)
+came_quiet out meant a b status orderly refuses (failed s h r o c m) = absurd (subst RefusesFirst s refuses)
 came_quiet out meant a b status orderly refuses (nowhere work is made f s n un k c m) =
     record { unmade = un; printed = none_printed a.page.printed b.page.printed k }
 came_quiet out meant a b status orderly refuses (cut_off work is s made k r c m) =

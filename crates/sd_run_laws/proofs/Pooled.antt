@@ -2,11 +2,11 @@
 use Rattle.std.proofs.Common.{◌≡◌, ℕ, ◌+◌, cond, List, length, Option, Some, Ok, Err, ap, ◌∙◌, le-ltb}
 use Rattle.sd_leaves.specs.Text.{leaves_of_text}
 use Rattle.sd_trace.specs.Trace.{outside, trace_of}
-use Rattle.sd_tree.specs.declared.leaf.TheConstants.{MOST_REVOKED}
+use Rattle.sd_tree.specs.Limits.{most_revoked}
 use Rattle.sd_status.specs.declared.status.Status.TheVariants.{Limit}
 use Rattle.sd_status.specs.declared.status.LimitKind.TheVariants.{BookBytes, Traced}
 use Rattle.sd_status.specs.Meant.{Word, Given, judged, value, within, ◌>>=◌}
-use Rattle.sd_files.specs.declared.files.TheConstants.{MOST_BOOK_BYTES}
+use Rattle.sd_files.specs.Files.{most_book_bytes}
 use Rattle.sd_files.specs.Both.{SiteBook, both_meaning}
 use Rattle.sd_files.specs.Leaves.{told_leaves, leaves_of_file, leaves_in}
 use Rattle.sd_words.specs.Words.{OpensOf, TraceOf}
@@ -22,9 +22,9 @@ leaves_good : (given : Given) (d : ℕ) (word : Word) (leaves : List ℕ) → Is
 unfolding leaves_of_file
 leaves_good given d word leaves good =
     ap (λ (got : Option (List ℕ)). (leaves_of_file word.number d got).result) good.there
-    ∙ then_is (within word.number MOST_BOOK_BYTES BookBytes (Some good.bytes)) good.bytes
+    ∙ then_is (within word.number most_book_bytes BookBytes (Some good.bytes)) good.bytes
     (λ bytes. judged (told_leaves word.number (leaves_of_text d bytes)))
-    (file_read word.number MOST_BOOK_BYTES BookBytes good.bytes good.short)
+    (file_read word.number most_book_bytes BookBytes good.bytes good.short)
     ∙ ap (told_leaves word.number) good.are_leaves
 
 -- the sets of each period are printed, with which of them are open
@@ -62,4 +62,4 @@ trace_good words given good =
     (leaves_good given d good.leaves good.coalition good.good_leaves)
     ∙ then_is (judged (traced d good.coalition good.commands)) text (λ text. value (telling text))
     (ap (λ b. cond b (Err (Limit Traced)) (Ok text))
-    (le-ltb MOST_REVOKED (length gone + length (outside d gone good.coalition)) good.few))
+    (le-ltb most_revoked (length gone + length (outside d gone good.coalition)) good.few))

@@ -32,10 +32,9 @@ use Rattle.sd_status.specs.Meant.{Meant, Word, Given, told_by, after, all_of, ju
 use Rattle.sd_status.specs.Outside.{Outside}
 use Rattle.sd_status.specs.Work.{Work, files_with}
 use Rattle.sd_status.specs.Answers.{Answers}
-use Rattle.sd_files.specs.declared.files.TheConstants.{MOST_SITE_BYTES, MOST_BOOK_BYTES}
 use Rattle.sd_status.specs.declared.status.LimitKind.TheVariants.{SiteBytes, BookBytes}
 use Rattle.sd_words.specs.Words.{Order, HeadOf, order_of}
-use Rattle.sd_files.specs.Files.{told_site, told_book, site_of_file, book_of_file}
+use Rattle.sd_files.specs.Files.{most_site_bytes, most_book_bytes, told_site, told_book, site_of_file, book_of_file}
 use Rattle.sd_run_head.specs.Head.{status_where, sent_status, sending, sending_of, plan_by, plan_meaning, head_meaning}
 use Rattle.sd_run.specs.Meaning.{order_meaning, meaning}
 use Rattle.sd_run_laws.specs.Sent.{IsSent}
@@ -106,9 +105,9 @@ plan_right site book given plan e =
     value (record { site = fields; commands = commands })) plan e in
     let commands = then_ok (book_of_file book.number fields.from.height (given book))
     (λ commands. value (record { site = fields.from; commands = commands })) plan fields.next_is in
-    let site_read = then_ok (within site.number MOST_SITE_BYTES SiteBytes (given site))
+    let site_read = then_ok (within site.number most_site_bytes SiteBytes (given site))
     (λ bytes. judged (told_site (site_of bytes))) fields.from fields.first_is in
-    let book_read = then_ok (within book.number MOST_BOOK_BYTES BookBytes (given book))
+    let book_read = then_ok (within book.number most_book_bytes BookBytes (given book))
     (λ bytes. judged (told_book book.number (book_of fields.from.height bytes))) commands.from commands.first_is in
     let is_site = site_right site_read.from fields.from site_read.next_is in
     let is_within = book_right book.number fields.from.height book_read.from commands.from book_read.next_is in

@@ -17,15 +17,14 @@ use Rattle.sd_whole.specs.Synced.{AreBytes}
 use Rattle.sd_status.specs.declared.status.Status.{Status}
 use Rattle.sd_status.specs.declared.status.Status.TheVariants.{Done, Usage, Missing, Revoked, DepotFault, PrintFault}
 use Rattle.sd_status.specs.declared.status.Status.TheVariants.{BadSite, BadBook, BadCard, BadClear, BadStream, Limit}
-use Rattle.sd_status.specs.declared.status.Status.TheVariants.{NoMemory, Unheard, Unclosed, Gaps, NoCat, BadWord}
+use Rattle.sd_status.specs.declared.status.Status.TheVariants.{NoMemory, Unheard, Unclosed, Gaps, NoCat, BadWord, Clash}
 use Rattle.sd_status.specs.declared.status.LimitKind.TheVariants.{SiteBytes, BookBytes, TrialHeight}
 use Rattle.sd_status.specs.Meant.{Word, Given, told_by, all_of, judged, value, within, ◌>>=◌}
 use Rattle.sd_status.specs.Outside.{Outside}
 use Rattle.sd_status.specs.Work.{Work}
 use Rattle.sd_status.specs.Comes.{PrintsAll}
 use Rattle.sd_status.specs.Answers.{Answers}
-use Rattle.sd_files.specs.declared.files.TheConstants.{MOST_SITE_BYTES, MOST_BOOK_BYTES}
-use Rattle.sd_files.specs.Files.{told_site, told_book, site_of_file, book_of_file}
+use Rattle.sd_files.specs.Files.{most_site_bytes, most_book_bytes, told_site, told_book, site_of_file, book_of_file}
 use Rattle.sd_run_head.specs.Head.{sent_of, sent_status, status_where}
 use Rattle.sd_run_trial.specs.declared.plan.TheConstants.{MOST_HEIGHT}
 use Rattle.sd_run_trial.specs.declared.command.TheConstants.{MOST_CLEAR_BYTES}
@@ -75,6 +74,7 @@ line_refused u wrote (Unclosed number) e = absurd (cc)
 line_refused u wrote (Gaps packets) e = absurd (cc)
 line_refused u wrote NoCat e = absurd (cc)
 line_refused u wrote (BadWord word) e = absurd (cc)
+line_refused u wrote (Clash clash) e = absurd (cc)
 
 receiver_refused : (site : SiteFields) (bytes : List ℕ) (u : ℕ) → receiver_line site bytes u ≡ Err Done → ⊥
 unfolding receiver_line
@@ -142,9 +142,9 @@ low_plan site book given plan e =
     let any = then_ok (site_of_file site.number (given site)) (λ site. judged (told_low site)) fields.from
     fields.first_is in
     let low = low_right any.from fields.from any.next_is in
-    let site_read = then_ok (within site.number MOST_SITE_BYTES SiteBytes (given site))
+    let site_read = then_ok (within site.number most_site_bytes SiteBytes (given site))
     (λ bytes. judged (told_site (site_of bytes))) any.from any.first_is in
-    let book_read = then_ok (within book.number MOST_BOOK_BYTES BookBytes (given book))
+    let book_read = then_ok (within book.number most_book_bytes BookBytes (given book))
     (λ bytes. judged (told_book book.number (book_of fields.from.height bytes))) commands.from commands.first_is in
     let is_site = subst (IsSite site_read.from) low.0 (site_right site_read.from any.from site_read.next_is) in
     let is_within = book_right book.number fields.from.height book_read.from commands.from book_read.next_is in

@@ -15,7 +15,7 @@ use Rattle.sd_printed.proofs.Tried as opened
 use Rattle.sd_run_laws.specs.Good.{IsGoodSite, IsGoodBook}
 use Rattle.sd_run_laws.specs.Tried.{IsGoodTrial, plan_tried}
 use Rattle.sd_run.specs.Meaning.{meaning}
-use Rattle.sd_run_laws.proofs.Goodness.{then_is, site_good, book_good, ordered}
+use Rattle.sd_run_laws.proofs.Goodness.{then_is, site_good, site_low, book_good, ordered}
 use Rattle.sd_run_laws.proofs.Plans.{good_plan}
 
 -- a site whose tree is low enough is taken
@@ -38,7 +38,7 @@ plan_said given site book plan good_site low good_book =
     (low_good given site plan.site good_site low)
     ∙ then_is (book_in given plan.site.height book) plan.commands
     (λ commands. value {A = Plan} (record { site = plan.site; commands = commands }))
-    (book_good given plan.site.height book plan.commands good_book)
+    (book_good given plan.site.height book plan.commands (site_low (given site) plan.site good_site) good_book)
 
 pub trial_good : (words : List (List ℕ)) (given : Given) (good : IsGoodTrial words given) →
     (meaning words given).result

@@ -15,25 +15,23 @@ use Rattle.sd_whole.specs.Synced.{AreBytes}
 use Rattle.sd_site.specs.Text.{IsSite}
 use Rattle.sd_leaves.specs.Text.{leaves_of_text}
 use Rattle.sd_trace.specs.Trace.{outside}
-use Rattle.sd_tree.specs.declared.leaf.TheConstants.{MOST_REVOKED}
+use Rattle.sd_tree.specs.Limits.{most_revoked}
 use Rattle.sd_run_trace.specs.Trace.{revoked_last}
 use Rattle.sd_text.specs.Lines.{lines_of}
 use Rattle.sd_book.specs.Text.{SpellsBook}
 use Rattle.sd_book.specs.Limits.{IsWithinLimits}
-use Rattle.sd_files.specs.declared.files.TheConstants.{MOST_SITE_BYTES, MOST_BOOK_BYTES}
+use Rattle.sd_files.specs.Files.{most_book_bytes}
 
 -- a file is there and a site, and says this
 pub record IsGoodSite (got : Option (List ℕ)) (fields : SiteFields) : Type 0 where
   pub bytes : List ℕ
   pub there : got ≡ Some bytes
-  pub short : length bytes ≤ MOST_SITE_BYTES
   pub is_site : IsSite bytes fields
 
 -- a file is there and a book for a tree of height d, within the limits, and says these commands
 pub record IsGoodBook (got : Option (List ℕ)) (d : ℕ) (commands : List Command) : Type 0 where
   pub bytes : List ℕ
   pub there : got ≡ Some bytes
-  pub short : length bytes ≤ MOST_BOOK_BYTES
   pub is_book : SpellsBook (lines_of bytes) commands
   pub within : IsWithinLimits d commands
 
@@ -126,7 +124,7 @@ pub record IsGoodAccounts (words : List (List ℕ)) (given : Given) : Type 0 whe
   pub good_site : IsGoodSite (given site) fields
   pub bytes : List ℕ
   pub there : given accounts ≡ Some bytes
-  pub short : length bytes ≤ MOST_BOOK_BYTES
+  pub short : length bytes ≤ most_book_bytes
   pub commands : List Command
   pub is_book : book_of fields.height bytes ≡ Ok commands
 
@@ -177,7 +175,7 @@ pub record IsGoodLcard (words : List (List ℕ)) (given : Given) : Type 0 where
 pub record IsGoodLeaves (given : Given) (d : ℕ) (word : Word) (leaves : List ℕ) : Type 0 where
   pub bytes : List ℕ
   pub there : given word ≡ Some bytes
-  pub short : length bytes ≤ MOST_BOOK_BYTES
+  pub short : length bytes ≤ most_book_bytes
   pub are_leaves : leaves_of_text d bytes ≡ Ok leaves
 
 -- the words are `opens SITE BOOK LEAVES`, and the three files are good
@@ -207,4 +205,4 @@ pub record IsGoodTrace (words : List (List ℕ)) (given : Given) : Type 0 where
   pub coalition : List ℕ
   pub good_leaves : IsGoodLeaves given fields.height leaves coalition
   pub few : length (revoked_last fields.height commands)
-      + length (outside fields.height (revoked_last fields.height commands) coalition) ≤ MOST_REVOKED
+      + length (outside fields.height (revoked_last fields.height commands) coalition) ≤ most_revoked

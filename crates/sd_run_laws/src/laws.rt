@@ -10,7 +10,8 @@ ghost use Rattle.sd_run_trace.specs.Trace.{revoked_last, telling, trace_text};
 ghost use Rattle.sd_printed.specs.Trials.{opened_lines};
 ghost use Rattle.sd_run_trial.specs.Trial.{printing as tried, trial_meaning};
 ghost use Rattle.sd_run_laws.specs.Good.{IsGoodAccounts, IsGoodBooks, IsGoodLayered, IsGoodLcard, IsGoodOpens};
-ghost use Rattle.sd_run_laws.specs.Good.{IsGoodTrace};
+ghost use Rattle.sd_run_laws.specs.Good.{IsGoodTrace, IsGoodBook};
+ghost use Rattle.sd_book.specs.Limits.{IsWithinLimits};
 ghost use Rattle.sd_run_laws.specs.Left.{HasOut, IsAsBefore};
 ghost use Rattle.sd_run_laws.specs.Tried.{IsGoodTrial, IsTried, plan_tried};
 ghost use Rattle.sd_book.specs.Commands.{revoked};
@@ -95,6 +96,13 @@ pub fn good_accounts_are_kept()
 pub fn good_books_are_joined()
     ensures { (words : List (List ℕ)) (files : Files) (good : IsGoodBooks words (told_by files)) →
         (meaning words (told_by files)).result ≡ Ok (making NoSteps good.out (text_of (good.before ++ good.added))) }
+{}
+
+/// The book that `accounts` and `book` make is one that each other command reads, as the same commands.
+#[tactic(auto, using(crate::proofs::Goodness::made_good))]
+pub fn made_books_are_read()
+    ensures { (d : ℕ) (commands : List Command) → d ≤ 20 → IsWithinLimits d commands →
+        IsGoodBook (Some (text_of commands)) d commands }
 {}
 
 /// `layered SITE BOOK WIDTH` over a site and a book prints the useful sets of each period.
