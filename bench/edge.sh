@@ -110,7 +110,7 @@ sdca cover S >S9 2>err
 row "too few words: usage is printed" is "$(cat S9)" usage
 
 # --- devices
-sdca head S /dev/null C /dev/null >lines
+sdca head S /dev/null C /dev/null >lines 2>err
 row "/dev/null as BOOK, and /dev/null as OUT by the same word: usage" is "$status" 1
 sdca head S /dev/null C /dev/stdout >/dev/null 2>err
 row "an empty book by /dev/null, and OUT by /dev/stdout that is /dev/null" is "$status" 0
