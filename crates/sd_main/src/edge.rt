@@ -1,27 +1,35 @@
+ghost use Rattle.std.specs.Prelude.{◌≡◌, ◌↔◌, Ok, map, string_bytes, true};
+ghost use Rattle.sd_words.specs.Words.{order_of, MakesCard, Order};
+
 use sd_commands::{Command, Kind};
 use sd_host::HostDepot;
+use sd_words::{holds_secrets, read_words};
 use std::fs::Files;
 
-/// The command that the first word is.
-fn command_of(words: &[String]) -> Option<Command> {
-    Command::of(words.first()?.as_str())
+/// Whether the file that the words make holds the secrets of a receiver.
+pub(crate) fn makes_secrets(words: &[String]) -> bool
+    ensures { (order : Order) → order_of (map string_bytes words.now) ≡ Ok order →
+        ((result ≡ true) ↔ MakesCard order) }
+{
+    match read_words(words) {
+        Ok(order) => holds_secrets(&order),
+        Err(_) => false,
+    }
 }
 
-/// Whether a file that the words make holds the secrets of a receiver.
-pub(crate) fn makes_secrets(words: &[String]) -> bool {
-    command_of(words).is_some_and(|command| command.holds_secrets())
-}
-
-/// Whether a file that the words have read or made is the standard output.
+/// Whether a file that the words name is the standard output, also if one of their numbers is refused.
 pub(crate) fn names_output<R: Files + Print>(depot: &HostDepot<'_, R>, words: &[String]) -> bool {
-    let Some(command) = command_of(words) else {
+    let [name, texts @ ..] = words else {
+        return false;
+    };
+    let Some(command) = Command::of(name.as_str()) else {
         return false;
     };
     let operands = command.operands();
-    if words.len() != operands.len() + 1 {
+    if texts.len() != operands.len() {
         return false;
     }
-    for (operand, text) in operands.iter().zip(&words[1..]) {
+    for (operand, text) in operands.iter().zip(texts) {
         let is_file = !matches!(operand.kind(), Kind::Number(_));
         if is_file && depot.is_output(text.as_str()) {
             return true;
