@@ -1,5 +1,5 @@
 -- What words that are an order, or none, come to.
-use Rattle.std.proofs.Common.{◌≡◌, ℕ, List, Result, Ok, Err, refl, sym, ap, subst, ◌∙◌, inl, inr, arith}
+use Rattle.std.proofs.Common.{◌≡◌, ◌≤◌, ℕ, List, [], ◌∷◌, Result, Ok, Err, refl, sym, ap, subst, ◌∙◌, inl, inr, arith}
 use Rattle.sd_status.specs.declared.status.Status.{Status}
 use Rattle.sd_status.specs.declared.status.Status.TheVariants.{Usage, Missing}
 use Rattle.sd_status.specs.Outside.{Outside}
@@ -21,10 +21,14 @@ use Rattle.sd_run_opens.proofs.Others.{other_opens}
 use Rattle.sd_run_trace.proofs.Others.{other_trace}
 use Rattle.sd_run_trial.proofs.Others.{other_trial}
 use Rattle.sd_run_help.proofs.Others.{other_help, other_version}
-use Rattle.sd_words.specs.Words.{Order, CoverOf, CardOf, SampleOf, TablesOf, HeadOf, ReceiveOf, order_of}
-use Rattle.sd_words.specs.Words.{AccountsOf, BookOf, LayeredOf, LcardOf, OpensOf, TraceOf, TrialOf, HelpOf, VersionOf}
-use Rattle.sd_words.specs.Orders.{RefusesWords}
-use Rattle.sd_run.specs.Meaning.{order_meaning, meaning}
+use Rattle.sd_commands.specs.declared.command.Command.{Command}
+use Rattle.sd_commands.specs.declared.command.Command.TheVariants.{Accounts, Book, Card, Cover, Head, Layered, Lcard}
+use Rattle.sd_commands.specs.declared.command.Command.TheVariants.{Opens, Receive, Sample, Tables, Trace, Trial}
+use Rattle.sd_words.specs.Words.{Argument, InputOf, OutOf, NumberOf, Order, CommandOf, HelpOf, VersionOf, file, number}
+use Rattle.sd_words.specs.Words.{order_of}
+use Rattle.sd_commands.specs.Commands.{operands_of}
+use Rattle.sd_words.specs.Orders.{AreOf, RefusesWords}
+use Rattle.sd_run.specs.Meaning.{command_meaning, order_meaning, meaning}
 
 err_is : {A : Type 0} (a b : Status) (r : Result A Status) → r ≡ Err a → r ≡ Err b → a ≡ b
 err_is a b r e f = cc
@@ -75,21 +79,35 @@ words_follow words status a read h =
       };
     })
 
+-- a sample's packets are within their limit
+pub packets_fit : (a : List Argument) → AreOf 1 (operands_of Sample) a → (number 2 a).value ≤ 1000000
+unfolding operands_of
+packets_fit [] h = absurd h
+packets_fit (first ∷ []) h = absurd h.1
+packets_fit (first ∷ InputOf word ∷ rest) h = absurd h.1.0
+packets_fit (first ∷ OutOf word ∷ rest) h = absurd h.1.0
+packets_fit (first ∷ NumberOf n ∷ rest) h = h.1.0.1
+
+-- no command answers `Usage`
+other_command : (command : Command) (words : List Argument) (given : Given) →
+    IsOther (command_meaning command words given).result
+other_command Accounts words given = other_accounts (file 1 words) (file 2 words) (file 3 words) given
+other_command Book words given = other_book_order (file 1 words) (file 2 words) (file 3 words) (file 4 words) given
+other_command Card words given = other_card_order (file 1 words) (number 2 words) (file 3 words) given
+other_command Cover words given = other_cover (file 1 words) (file 2 words) given
+other_command Head words given = other_head (file 1 words) (file 2 words) (file 3 words) (file 4 words) given
+other_command Layered words given = other_layered (file 1 words) (file 2 words) (number 3 words) given
+other_command Lcard words given = other_lcard (file 1 words) (number 2 words) (number 3 words) (file 4 words) given
+other_command Opens words given = other_opens (file 1 words) (file 2 words) (file 3 words) given
+other_command Receive words given = other_receive (file 1 words) (file 2 words) (file 3 words) given
+other_command Sample words given = tt
+other_command Tables words given = other_tables (file 1 words) given
+other_command Trace words given = other_trace (file 1 words) (file 2 words) (file 3 words) given
+other_command Trial words given = other_trial (file 1 words) (file 2 words) (file 3 words) given
+
 -- no order answers `Usage`
 other_order : (order : Order) (given : Given) → IsOther (order_meaning order given).result
-other_order (CoverOf site book) given = other_cover site book given
-other_order (CardOf site leaf out) given = other_card_order site leaf out given
-other_order (SampleOf number packets out) given = tt
-other_order (TablesOf stream) given = other_tables stream given
-other_order (HeadOf site book clear out) given = other_head site book clear out given
-other_order (ReceiveOf card stream out) given = other_receive card stream out given
-other_order (AccountsOf site accounts out) given = other_accounts site accounts out given
-other_order (BookOf site book commands out) given = other_book_order site book commands out given
-other_order (LayeredOf site book width) given = other_layered site book width given
-other_order (LcardOf site leaf width out) given = other_lcard site leaf width out given
-other_order (OpensOf site book leaves) given = other_opens site book leaves given
-other_order (TraceOf site book leaves) given = other_trace site book leaves given
-other_order (TrialOf site book clear) given = other_trial site book clear given
+other_order (CommandOf command arguments) given = other_command command arguments given
 other_order (HelpOf topic) given = other_help topic given
 other_order VersionOf given = other_version given
 

@@ -2,8 +2,10 @@
 use Rattle.std.specs.Prelude.{List, ℕ}
 use Rattle.sd_status.specs.Meant.{Meant, Given, judged, ◌>>=◌}
 use Rattle.sd_status.specs.Work.{Work}
-use Rattle.sd_words.specs.Words.{Order, CoverOf, CardOf, SampleOf, TablesOf, HeadOf, ReceiveOf, order_of}
-use Rattle.sd_words.specs.Words.{AccountsOf, BookOf, LayeredOf, LcardOf, OpensOf, TraceOf, TrialOf, HelpOf, VersionOf}
+use Rattle.sd_commands.specs.declared.command.Command.{Command}
+use Rattle.sd_commands.specs.declared.command.Command.TheVariants.{Accounts, Book, Card, Cover, Head, Layered, Lcard}
+use Rattle.sd_commands.specs.declared.command.Command.TheVariants.{Opens, Receive, Sample, Tables, Trace, Trial}
+use Rattle.sd_words.specs.Words.{Argument, Order, CommandOf, HelpOf, VersionOf, file, number, order_of}
 use Rattle.sd_run_cover.specs.Cover.{cover_meaning}
 use Rattle.sd_run_card.specs.Card.{card_meaning}
 use Rattle.sd_run_sample.specs.Sample.{sample_meaning}
@@ -19,21 +21,25 @@ use Rattle.sd_run_trace.specs.Trace.{trace_meaning}
 use Rattle.sd_run_trial.specs.Trial.{trial_meaning}
 use Rattle.sd_run_help.specs.Help.{help_meaning, version_meaning}
 
+-- the work of a command with its arguments
+abbrev pub command_meaning : Command → List Argument → Given → Meant Work
+command_meaning Accounts words given = accounts_meaning (file 1 words) (file 2 words) (file 3 words) given
+command_meaning Book words given = book_meaning (file 1 words) (file 2 words) (file 3 words) (file 4 words) given
+command_meaning Card words given = card_meaning (file 1 words) (number 2 words) (file 3 words) given
+command_meaning Cover words given = cover_meaning (file 1 words) (file 2 words) given
+command_meaning Head words given = head_meaning (file 1 words) (file 2 words) (file 3 words) (file 4 words) given
+command_meaning Layered words given = layered_meaning (file 1 words) (file 2 words) (number 3 words) given
+command_meaning Lcard words given = lcard_meaning (file 1 words) (number 2 words) (number 3 words) (file 4 words) given
+command_meaning Opens words given = opens_meaning (file 1 words) (file 2 words) (file 3 words) given
+command_meaning Receive words given = receive_meaning (file 1 words) (file 2 words) (file 3 words) given
+command_meaning Sample words given = sample_meaning (number 1 words).value (number 2 words).value (file 3 words) given
+command_meaning Tables words given = tables_meaning (file 1 words) given
+command_meaning Trace words given = trace_meaning (file 1 words) (file 2 words) (file 3 words) given
+command_meaning Trial words given = trial_meaning (file 1 words) (file 2 words) (file 3 words) given
+
 -- the work of an order
 abbrev pub order_meaning : Order → Given → Meant Work
-order_meaning (CoverOf site book) given = cover_meaning site book given
-order_meaning (CardOf site leaf out) given = card_meaning site leaf out given
-order_meaning (SampleOf number packets out) given = sample_meaning number packets out given
-order_meaning (TablesOf stream) given = tables_meaning stream given
-order_meaning (HeadOf site book clear out) given = head_meaning site book clear out given
-order_meaning (ReceiveOf card stream out) given = receive_meaning card stream out given
-order_meaning (AccountsOf site accounts out) given = accounts_meaning site accounts out given
-order_meaning (BookOf site book commands out) given = book_meaning site book commands out given
-order_meaning (LayeredOf site book width) given = layered_meaning site book width given
-order_meaning (LcardOf site leaf width out) given = lcard_meaning site leaf width out given
-order_meaning (OpensOf site book leaves) given = opens_meaning site book leaves given
-order_meaning (TraceOf site book leaves) given = trace_meaning site book leaves given
-order_meaning (TrialOf site book clear) given = trial_meaning site book clear given
+order_meaning (CommandOf command arguments) given = command_meaning command arguments given
 order_meaning (HelpOf topic) given = help_meaning topic given
 order_meaning VersionOf given = version_meaning given
 

@@ -5,10 +5,12 @@ ghost use Rattle.sd_status.specs.Outside.{outside, page, place};
 ghost use Rattle.sd_status.specs.Meant.{told_by};
 ghost use Rattle.sd_status.specs.Comes.{Follows, status_of};
 ghost use Rattle.sd_status.specs.Answers.{Answers, HasCause, IsMeant, IsToldAs};
+ghost use Rattle.sd_commands.specs.Commands.{operands_of};
 ghost use Rattle.sd_words.specs.Words.{order_of};
-ghost use Rattle.sd_run.specs.Meaning.{meaning, order_meaning};
-ghost use Rattle.sd_words.specs.Orders.{order_said, IsSound};
+ghost use Rattle.sd_run.specs.Meaning.{command_meaning, meaning, order_meaning};
+ghost use Rattle.sd_words.specs.Orders.{arguments_said, order_said, AreOf, IsSound};
 
+use sd_commands::Command;
 use sd_ports::{Depot, Sink};
 use sd_run_card::card;
 use sd_run_cover::cover;
@@ -24,7 +26,7 @@ use sd_run_trace::trace;
 use sd_run_trial::trial;
 use sd_status::{Status, tell};
 use sd_steps::Steps;
-use sd_words::{Order, read_words};
+use sd_words::{Arguments, Order, read_words};
 use std::alloc::Global;
 use std::sync::ledger::Ledger;
 
@@ -75,61 +77,105 @@ fn obey<D: Depot, P: Sink, L: Ledger>(
         (outside (place D.Depot depot.new) (page P.Sink print.new) steps.new) (status_of result) }
     ensures words { (status : Status) → order_of (map string_bytes words.now) ≡ Err status → IsErrOf result status }
 {
-    let order = read_words(words)?;
-    work(alloc, order, depot, print, steps)
+    match read_words(words) {
+        Ok(order) => follow(alloc, &order, depot, print, steps),
+        Err(status) => Err(status),
+    }
 }
 
 /// Does what is ordered.
-fn work<D: Depot, P: Sink, L: Ledger>(
+fn follow<D: Depot, P: Sink, L: Ledger>(
     alloc: Global,
-    order: Order<'_>,
+    order: &Order<'_>,
     depot: &mut D,
     print: &mut P,
     steps: &mut Steps<L>,
 ) -> Result<(), Status>
-    requires { IsSound order }
-    ensures { Follows (order_meaning (order_said order.entry))
+    requires { IsSound (order_said order.now) }
+    ensures { Follows (order_meaning (order_said order.now))
         (outside (place D.Depot depot.old) (page P.Sink print.old) steps.old)
         (outside (place D.Depot depot.new) (page P.Sink print.new) steps.new) (status_of result) }
 {
     match order {
-        Order::Cover { site, book } => cover(alloc, depot, print, site, book),
-        Order::Card { site, leaf, out } => card(alloc, depot, site, leaf, out, steps),
-        Order::Sample {
-            number,
-            packets,
-            out,
-        } => sample(alloc, depot, number, packets, out),
-        Order::Tables { stream } => tables(alloc, depot, print, stream),
-        Order::Head {
-            site,
-            book,
-            clear,
-            out,
-        } => head(alloc, depot, site, book, clear, out, steps),
-        Order::Receive { card, stream, out } => receive(alloc, depot, card, stream, out, steps),
-        Order::Accounts {
-            site,
-            accounts,
-            out,
-        } => sd_run_accounts::accounts(alloc, depot, print, site, accounts, out),
-        Order::Book {
-            site,
-            book,
-            commands,
-            out,
-        } => sd_run_book::book(alloc, depot, site, book, commands, out),
-        Order::Layered { site, book, width } => layered(alloc, depot, print, site, book, width),
-        Order::Lcard {
-            site,
-            leaf,
-            width,
-            out,
-        } => lcard(alloc, depot, site, leaf, width, out, steps),
-        Order::Opens { site, book, leaves } => opens(alloc, depot, print, site, book, leaves),
-        Order::Trace { site, book, leaves } => trace(alloc, depot, print, site, book, leaves),
-        Order::Trial { site, book, clear } => trial(alloc, depot, print, site, book, clear, steps),
-        Order::Help { topic } => help(alloc, print, topic),
+        Order::Command { command, arguments } => {
+            work(alloc, *command, arguments, depot, print, steps)
+        }
+        Order::Help { topic } => help(alloc, print, *topic),
         Order::Version => version(print),
+    }
+}
+
+/// Does a command with its arguments.
+fn work<D: Depot, P: Sink, L: Ledger>(
+    alloc: Global,
+    command: Command,
+    row: &Arguments<'_>,
+    depot: &mut D,
+    print: &mut P,
+    steps: &mut Steps<L>,
+) -> Result<(), Status>
+    requires { AreOf 1 (operands_of command) (arguments_said 1 row.now.list.items) }
+    ensures { Follows (command_meaning command (arguments_said 1 row.now.list.items))
+        (outside (place D.Depot depot.old) (page P.Sink print.old) steps.old)
+        (outside (place D.Depot depot.new) (page P.Sink print.new) steps.new) (status_of result) }
+{
+    match command {
+        Command::Accounts => sd_run_accounts::accounts(
+            alloc,
+            depot,
+            print,
+            row.file(1),
+            row.file(2),
+            row.file(3),
+        ),
+        Command::Book => sd_run_book::book(
+            alloc,
+            depot,
+            row.file(1),
+            row.file(2),
+            row.file(3),
+            row.file(4),
+        ),
+        Command::Card => card(alloc, depot, row.file(1), row.number(2), row.file(3), steps),
+        Command::Cover => cover(alloc, depot, print, row.file(1), row.file(2)),
+        Command::Head => head(
+            alloc,
+            depot,
+            row.file(1),
+            row.file(2),
+            row.file(3),
+            row.file(4),
+            steps,
+        ),
+        Command::Layered => layered(alloc, depot, print, row.file(1), row.file(2), row.number(3)),
+        Command::Lcard => lcard(
+            alloc,
+            depot,
+            row.file(1),
+            row.number(2),
+            row.number(3),
+            row.file(4),
+            steps,
+        ),
+        Command::Opens => opens(alloc, depot, print, row.file(1), row.file(2), row.file(3)),
+        Command::Receive => receive(alloc, depot, row.file(1), row.file(2), row.file(3), steps),
+        Command::Sample => sample(
+            alloc,
+            depot,
+            row.number(1).value,
+            row.number(2).value,
+            row.file(3),
+        ),
+        Command::Tables => tables(alloc, depot, print, row.file(1)),
+        Command::Trace => trace(alloc, depot, print, row.file(1), row.file(2), row.file(3)),
+        Command::Trial => trial(
+            alloc,
+            depot,
+            print,
+            row.file(1),
+            row.file(2),
+            row.file(3),
+            steps,
+        ),
     }
 }

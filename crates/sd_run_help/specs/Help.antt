@@ -3,7 +3,7 @@ use Rattle.std.specs.Prelude.{ℕ, false, List, [], ◌∷◌, Option, None}
 use Rattle.sd_status.specs.declared.status.Status.TheVariants.{Done}
 use Rattle.sd_status.specs.Meant.{Meant, Given, value}
 use Rattle.sd_status.specs.Work.{NoSteps, Work}
-use Rattle.sd_run_help.specs.declared.topic.Topic.{Topic}
+use Rattle.sd_commands.specs.declared.command.Command.{Command}
 use Rattle.sd_run_help.specs.Pages.{help_text, version_text}
 
 -- a text is printed
@@ -11,7 +11,7 @@ abbrev pub telling : List ℕ → Work
 telling text = record { out = None; pieces = text ∷ []; ends = Done; breaks = false; steps = NoSteps }
 
 -- no file is read for it
-abbrev pub help_meaning : Option Topic → Given → Meant Work
+abbrev pub help_meaning : Option Command → Given → Meant Work
 help_meaning topic given = value (telling (help_text topic))
 
 abbrev pub version_meaning : Given → Meant Work

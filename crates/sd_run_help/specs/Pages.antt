@@ -2,11 +2,11 @@
 use Rattle.std.specs.Prelude.{ℕ, ◌-◌, ◌^◌, List, ◌++◌, codes, Option, Some, None}
 use Rattle.std.specs.List.{flat_map}
 use Rattle.std.specs.Fmt.{padded, format_spec}
-use Rattle.sd_run_help.specs.declared.topic.Topic.{Topic}
-use Rattle.sd_run_help.specs.declared.operand.Operand.{Operand}
-use Rattle.sd_run_help.specs.Operands.{meaning_of, name_of as word_of}
-use Rattle.sd_run_help.specs.Exits.{exit_line}
-use Rattle.sd_run_help.specs.Topics.{example_of, exits_of, name_of, operands_of, topics, work_of}
+use Rattle.sd_commands.specs.declared.command.Command.{Command}
+use Rattle.sd_commands.specs.declared.operand.Operand.{Operand}
+use Rattle.sd_commands.specs.Operands.{meaning_of, name_of as word_of}
+use Rattle.sd_commands.specs.Exits.{exit_line}
+use Rattle.sd_commands.specs.Commands.{commands, example_of, exits_of, name_of, operands_of, work_of}
 
 -- a text at the left of a column of so many characters, filled up with spaces
 abbrev pub at_left : ℕ → List ℕ → List ℕ
@@ -17,11 +17,11 @@ unfoldable pub spaced : Operand → List ℕ
 spaced operand = codes " " ++ word_of operand
 
 -- the words of a command
-abbrev pub usage_of : Topic → List ℕ
+abbrev pub usage_of : Command → List ℕ
 usage_of topic = name_of topic ++ flat_map spaced (operands_of topic)
 
 -- the line of a command in the list of all
-unfoldable pub topic_line : Topic → List ℕ
+unfoldable pub topic_line : Command → List ℕ
 topic_line topic = codes "  " ++ (at_left 27 (usage_of topic) ++ (codes "  " ++ (work_of topic ++ codes "\n")))
 
 -- the line of a word that a command takes
@@ -33,26 +33,26 @@ operand_line operand =
 unfoldable pub overview : List ℕ
 overview =
     codes "sdca: conditional access for transport streams, by Subset Difference\n\n"
-    ++ flat_map topic_line topics
+    ++ flat_map topic_line commands
     ++ codes "  help [COMMAND]               prints this list, or the words of a command, its exits and an example\n"
     ++ codes "  version                      prints the version, and the toolchain that proved it\n"
 
 -- the first lines of a command's page
-unfoldable pub head_text : Topic → List ℕ
+unfoldable pub head_text : Command → List ℕ
 head_text topic = codes "sdca " ++ (usage_of topic ++ (codes "\n" ++ (work_of topic ++ codes "\n\nwords\n")))
 
 -- the last lines of it
-unfoldable pub tail_text : Topic → List ℕ
+unfoldable pub tail_text : Command → List ℕ
 tail_text topic = codes "\nexample\n  sdca " ++ (example_of topic ++ codes "\n")
 
 -- the page of a command: its words with what each says, its exits and an example
-unfoldable pub page_text : Topic → List ℕ
+unfoldable pub page_text : Command → List ℕ
 page_text topic =
     head_text topic ++ flat_map operand_line (operands_of topic) ++ codes "\nexits\n"
     ++ flat_map exit_line (exits_of topic) ++ tail_text topic
 
 -- what help prints of a command, or of all
-unfoldable pub help_text : Option Topic → List ℕ
+unfoldable pub help_text : Option Command → List ℕ
 help_text None = overview
 help_text (Some topic) = page_text topic
 

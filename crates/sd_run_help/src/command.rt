@@ -5,14 +5,14 @@ ghost use Rattle.sd_run_help.specs.Help.{help_meaning, version_meaning};
 ghost use Rattle.sd_run_help.specs.Pages.{help_text, version_text};
 
 use crate::page::{overview, page as page_of};
-use crate::topic::Topic;
+use sd_commands::Command;
 use sd_files::print_text;
 use sd_ports::Sink;
 use sd_status::Status;
 use std::alloc::{AllocError, Global};
 
 /// Does `help COMMAND`, and `help` where no command is named.
-pub fn help<P: Sink>(alloc: Global, print: &mut P, topic: Option<Topic>) -> Result<(), Status>
+pub fn help<P: Sink>(alloc: Global, print: &mut P, topic: Option<Command>) -> Result<(), Status>
     ensures { (place : Place) (steps : ℕ) → Follows (help_meaning topic)
         (outside place (page P.Sink print.old) steps) (outside place (page P.Sink print.new) steps)
         (status_of result) }
@@ -23,7 +23,7 @@ pub fn help<P: Sink>(alloc: Global, print: &mut P, topic: Option<Topic>) -> Resu
 
 /// What is told of a command, or of all.
 #[tactic(auto, unfolding(crate::specs::Pages::help_text))]
-fn text_of(alloc: Global, topic: Option<Topic>) -> Result<String, AllocError>
+fn text_of(alloc: Global, topic: Option<Command>) -> Result<String, AllocError>
     ensures { IfOk result (λ text. string_bytes text ≡ help_text topic) }
 {
     match topic {

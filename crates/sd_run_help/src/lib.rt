@@ -2,10 +2,6 @@
 #![tactic(auto)]
 
 mod command;
-mod exit;
-mod operand;
 mod page;
-mod topic;
 
 pub use command::{help, version};
-pub use topic::Topic;

@@ -1,12 +1,10 @@
 ghost use Rattle.std.specs.Prelude.{◌≡◌, ◌++◌, IfOk, OnOk, string_bytes};
 ghost use Rattle.std.specs.List.{flat_map};
-ghost use Rattle.sd_run_help.specs.Exits.{exit_line};
+ghost use Rattle.sd_commands.specs.Exits.{exit_line};
 ghost use Rattle.sd_run_help.specs.Pages.{head_text, operand_line, overview as overview_text, page_text, spaced};
 ghost use Rattle.sd_run_help.specs.Pages.{tail_text, topic_line, usage_of};
 
-use crate::exit::Exit;
-use crate::operand::Operand;
-use crate::topic::{TOPICS, Topic};
+use sd_commands::{COMMANDS, Command, Exit, Operand};
 use std::alloc::{AllocError, Global};
 use std::fmt::Write;
 
@@ -19,7 +17,7 @@ pub fn overview(alloc: Global) -> Result<String, AllocError>
         alloc,
         "sdca: conditional access for transport streams, by Subset Difference\n\n",
     )?;
-    push_topics(alloc, &mut text, &TOPICS)?;
+    push_topics(alloc, &mut text, &COMMANDS)?;
     text.push_str(
         "  help [COMMAND]               prints this list, or the words of a command, its exits and an example\n",
     )?;
@@ -31,7 +29,7 @@ pub fn overview(alloc: Global) -> Result<String, AllocError>
 
 /// The page of a command.
 #[tactic(auto, unfolding(crate::specs::Pages::page_text))]
-pub fn page(alloc: Global, topic: Topic) -> Result<String, AllocError>
+pub fn page(alloc: Global, topic: Command) -> Result<String, AllocError>
     ensures { IfOk result (λ text. string_bytes text ≡ page_text topic) }
 {
     let mut text = head(alloc, topic)?;
@@ -44,7 +42,7 @@ pub fn page(alloc: Global, topic: Topic) -> Result<String, AllocError>
 
 /// The first lines of a command's page.
 #[tactic(auto, unfolding(crate::specs::Pages::head_text))]
-fn head(alloc: Global, topic: Topic) -> Result<String, AllocError>
+fn head(alloc: Global, topic: Command) -> Result<String, AllocError>
     ensures { IfOk result (λ text. string_bytes text ≡ head_text topic) }
 {
     let usage = usage(alloc, topic)?;
@@ -53,7 +51,7 @@ fn head(alloc: Global, topic: Topic) -> Result<String, AllocError>
 }
 
 /// The words of a command.
-fn usage(alloc: Global, topic: Topic) -> Result<String, AllocError>
+fn usage(alloc: Global, topic: Command) -> Result<String, AllocError>
     ensures { IfOk result (λ text. string_bytes text ≡ usage_of topic) }
 {
     let mut text = String::from_str(alloc, topic.name())?;
@@ -112,7 +110,7 @@ fn push_exits(text: &mut String, exits: &[Exit]) -> Result<(), AllocError>
 
 /// The last lines of a command's page.
 #[tactic(auto, unfolding(crate::specs::Pages::tail_text))]
-fn push_tail(text: &mut String, topic: Topic) -> Result<(), AllocError>
+fn push_tail(text: &mut String, topic: Command) -> Result<(), AllocError>
     ensures { OnOk result (string_bytes text.new ≡ string_bytes text.old ++ tail_text topic) }
 {
     let example = topic.example();
@@ -120,7 +118,7 @@ fn push_tail(text: &mut String, topic: Topic) -> Result<(), AllocError>
 }
 
 /// The lines of commands.
-fn push_topics(alloc: Global, text: &mut String, topics: &[Topic]) -> Result<(), AllocError>
+fn push_topics(alloc: Global, text: &mut String, topics: &[Command]) -> Result<(), AllocError>
     ensures { OnOk result (string_bytes text.new ≡ string_bytes text.old ++ flat_map topic_line topics.now) }
 {
     for topic in topics {
@@ -131,7 +129,7 @@ fn push_topics(alloc: Global, text: &mut String, topics: &[Topic]) -> Result<(),
 
 /// The line of a command in the list of all.
 #[tactic(auto, unfolding(crate::specs::Pages::topic_line))]
-fn push_topic(alloc: Global, text: &mut String, topic: Topic) -> Result<(), AllocError>
+fn push_topic(alloc: Global, text: &mut String, topic: Command) -> Result<(), AllocError>
     ensures { OnOk result (string_bytes text.new ≡ string_bytes text.old ++ topic_line topic) }
 {
     let usage = usage(alloc, topic)?;

@@ -1,66 +1,74 @@
 -- What an order that was read is, and when its words are refused.
-use Rattle.std.specs.Prelude.{◌≡◌, ◌≢◌, ◌≤◌, ◌⊎◌, ℕ, Result, Ok, Err}
-use Rattle.sd_sample.specs.declared.stream.TheConstants.{MOST_PACKETS}
+use Rattle.std.specs.Prelude.{◌≡◌, ◌+◌, ◌≤◌, ◌⊎◌, ℕ, List, [], ◌∷◌, Result, Ok, Err}
+use Rattle.sd_commands.specs.declared.operand.Operand.{Operand}
+use Rattle.sd_commands.specs.declared.operand.Kind.{Kind}
+use Rattle.sd_commands.specs.declared.operand.Kind.TheVariants as kind
+use Rattle.sd_commands.specs.Commands.{operands_of}
+use Rattle.sd_commands.specs.Operands.{kind_of}
 use Rattle.sd_status.specs.declared.status.Status.{Status}
 use Rattle.sd_status.specs.declared.status.Status.TheVariants.{Usage, BadWord}
-use Rattle.sd_files.specs.Shown.{shown_word, shown_number}
-use Rattle.sd_files.specs.declared.word.Word.{Word}
+use Rattle.sd_files.specs.Shown.{word_at}
+use Rattle.sd_words.specs.declared.argument.Argument.{Argument}
+use Rattle.sd_words.specs.declared.argument.Argument.TheVariants.{Input, Output, Number}
+use Rattle.sd_words.specs.declared.argument.Arguments.{Arguments}
 use Rattle.sd_words.specs.declared.order.Order.{Order}
-use Rattle.sd_words.specs.declared.order.Order.TheVariants.{Cover, Card, Sample, Tables, Head, Receive, Accounts, Book}
-use Rattle.sd_words.specs.declared.order.Order.TheVariants.{Layered, Lcard, Opens, Trace, Trial, Help}
-use Rattle.sd_words.specs.declared.order.Order.TheVariants.{Version}
+use Rattle.sd_words.specs.declared.order.Order.TheVariants.{Command, Help, Version}
 use Rattle.sd_words.specs.Words as words
+
+-- an argument at its place
+abbrev pub argument_said : ℕ → Argument → words.Argument
+argument_said place (Input text) = words.InputOf (word_at place text.now)
+argument_said place (Output text) = words.OutOf (word_at place text.now)
+argument_said place (Number value) = words.NumberOf (record { word = place; value = value })
+
+-- arguments from a place on
+abbrev pub arguments_said : ℕ → List Argument → List words.Argument
+arguments_said place [] = []
+arguments_said place (argument ∷ arguments) = argument_said place argument ∷ arguments_said (place + 1) arguments
+
+abbrev pub one_said : ℕ → Result Argument Status → Result words.Argument Status
+one_said place (Ok argument) = Ok (argument_said place argument)
+one_said place (Err status) = Err status
+
+abbrev pub all_said : Result Arguments Status → Result (List words.Argument) Status
+all_said (Ok arguments) = Ok (arguments_said 1 arguments.list.items)
+all_said (Err status) = Err status
 
 -- the order as the words say it
 abbrev pub order_said : Order → words.Order
-order_said (Cover site book) = words.CoverOf (shown_word site) (shown_word book)
-order_said (Card site leaf out) = words.CardOf (shown_word site) (shown_number leaf) (shown_word out)
-order_said (Sample number packets out) = words.SampleOf number packets (shown_word out)
-order_said (Tables stream) = words.TablesOf (shown_word stream)
-order_said (Head site book clear out) =
-    words.HeadOf (shown_word site) (shown_word book) (shown_word clear) (shown_word out)
-order_said (Receive card stream out) = words.ReceiveOf (shown_word card) (shown_word stream) (shown_word out)
-order_said (Accounts site accounts out) = words.AccountsOf (shown_word site) (shown_word accounts) (shown_word out)
-order_said (Book site book commands out) =
-    words.BookOf (shown_word site) (shown_word book) (shown_word commands) (shown_word out)
-order_said (Layered site book width) = words.LayeredOf (shown_word site) (shown_word book) (shown_number width)
-order_said (Lcard site leaf width out) =
-    words.LcardOf (shown_word site) (shown_number leaf) (shown_number width) (shown_word out)
-order_said (Opens site book leaves) = words.OpensOf (shown_word site) (shown_word book) (shown_word leaves)
-order_said (Trace site book leaves) = words.TraceOf (shown_word site) (shown_word book) (shown_word leaves)
-order_said (Trial site book clear) = words.TrialOf (shown_word site) (shown_word book) (shown_word clear)
+order_said (Command command arguments) = words.CommandOf command (arguments_said 1 arguments.list.items)
 order_said (Help topic) = words.HelpOf topic
 order_said Version = words.VersionOf
 
--- the same of an answer
 abbrev pub shown : Result Order Status → Result words.Order Status
 shown (Ok order) = Ok (order_said order)
 shown (Err status) = Err status
 
--- words of two files or of three have numbers of their own
-abbrev pub AreTwo : Word → Word → Type 0
-AreTwo a b = a.number ≢ b.number
+-- an argument is of its kind, has its place as its number, and a number is within its limit
+abbrev pub IsOf : ℕ → Kind → words.Argument → Type 0
+IsOf place kind.Input (words.InputOf word) = word.number ≡ place
+IsOf place kind.Input (words.OutOf word) = ⊥
+IsOf place kind.Input (words.NumberOf number) = ⊥
+IsOf place kind.Output (words.InputOf word) = ⊥
+IsOf place kind.Output (words.OutOf word) = word.number ≡ place
+IsOf place kind.Output (words.NumberOf number) = ⊥
+IsOf place (kind.Number most) (words.InputOf word) = ⊥
+IsOf place (kind.Number most) (words.OutOf word) = ⊥
+IsOf place (kind.Number most) (words.NumberOf number) = (number.word ≡ place) × (number.value ≤ most)
 
-abbrev pub AreThree : Word → Word → Word → Type 0
-AreThree a b c = AreTwo a b × AreTwo a c × AreTwo b c
+-- arguments are those of a row, from a place on
+abbrev pub AreOf : ℕ → List Operand → List words.Argument → Type 0
+AreOf place [] [] = Unit {0}
+AreOf place [] (argument ∷ arguments) = ⊥
+AreOf place (operand ∷ operands) [] = ⊥
+AreOf place (operand ∷ operands) (argument ∷ arguments) =
+    IsOf place (kind_of operand) argument × AreOf (place + 1) operands arguments
 
--- the words of the files that are read have numbers of their own, and a sample stream's packets are within their limit
-abbrev pub IsSound : Order → Type 0
-IsSound (Cover site book) = AreTwo site book
-IsSound (Card site leaf out) = Unit {0}
-IsSound (Sample number packets out) = packets ≤ MOST_PACKETS
-IsSound (Tables stream) = Unit {0}
-IsSound (Head site book clear out) = AreThree site book clear
-IsSound (Receive card stream out) = AreTwo card stream
-IsSound (Accounts site accounts out) = AreTwo site accounts
-IsSound (Book site book commands out) = AreThree site book commands
-IsSound (Layered site book width) = AreTwo site book
-IsSound (Lcard site leaf width out) = Unit {0}
-IsSound (Opens site book leaves) = AreThree site book leaves
-IsSound (Trace site book leaves) = AreThree site book leaves
-IsSound (Trial site book clear) = AreThree site book clear
-IsSound (Help topic) = Unit {0}
-IsSound Version = Unit {0}
+-- The arguments are those of the command's row: each file has a number of its own, each number is within its limit.
+abbrev pub IsSound : words.Order → Type 0
+IsSound (words.CommandOf command arguments) = AreOf 1 (operands_of command) arguments
+IsSound (words.HelpOf topic) = Unit {0}
+IsSound words.VersionOf = Unit {0}
 
 -- the two refusals of words
 abbrev pub RefusesWords : Status → Type 0

@@ -1,156 +1,229 @@
 -- What the words after the program's name say [this project, docs/FORMATS.md, Commands].
-use Rattle.std.specs.Prelude.{ℕ, ◌-◌, ◌^◌, nat_lt, List, [], ◌∷◌, codes, bytes_eq, ◌||◌, if◌then◌else◌, Option, Some}
-use Rattle.std.specs.Prelude.{None, Bool, Result, Ok, Err}
+use Rattle.std.specs.Prelude.{◌≡◌, ◌⊎◌, ℕ, ◌+◌, ◌-◌, ◌==◌, nat_lt, not, List, [], ◌∷◌, codes, length, slice_get, bytes_eq, ◌||◌}
+use Rattle.std.specs.Prelude.{if◌then◌else◌, Option, Some, None, Bool, false, Result, Ok, Err}
+use Rattle.std.specs.List.{list_any}
 use Rattle.sd_text.specs.Number.{number_of}
-use Rattle.sd_sample.specs.declared.stream.TheConstants.{MOST_PACKETS}
-use Rattle.sd_run_help.specs.declared.topic.Topic.{Topic}
-use Rattle.sd_run_help.specs.Topics.{topic_of}
+use Rattle.sd_commands.specs.declared.command.Command.{Command}
+use Rattle.sd_commands.specs.declared.command.Command.TheVariants as commands
+use Rattle.sd_commands.specs.declared.operand.Operand.{Operand}
+use Rattle.sd_commands.specs.declared.operand.Kind.{Kind}
+use Rattle.sd_commands.specs.declared.operand.Kind.TheVariants as kind
+use Rattle.sd_commands.specs.Commands.{command_of, operands_of}
+use Rattle.sd_commands.specs.Operands.{kind_of}
 use Rattle.sd_status.specs.Meant.{Word}
 use Rattle.sd_files.specs.Shown.{Number, word_at}
 use Rattle.sd_status.specs.declared.status.Status.{Status}
 use Rattle.sd_status.specs.declared.status.Status.TheVariants.{Usage, BadWord}
 
--- a command and what its words say
+-- what an argument says: a file that is read, the file that is made, or a number
+pub data Argument : Type 0 where
+  InputOf : (word : Word) → Argument
+  OutOf : (word : Word) → Argument
+  NumberOf : (number : Number) → Argument
+
+-- a command of the table with its arguments, or one of the two that the table doesn't have
 pub data Order : Type 0 where
-  CoverOf : (site book : Word) → Order
-  CardOf : (site : Word) (leaf : Number) (out : Word) → Order
-  SampleOf : (number packets : ℕ) (out : Word) → Order
-  TablesOf : (stream : Word) → Order
-  HeadOf : (site book clear out : Word) → Order
-  ReceiveOf : (card stream out : Word) → Order
-  AccountsOf : (site accounts out : Word) → Order
-  BookOf : (site book commands out : Word) → Order
-  LayeredOf : (site book : Word) (width : Number) → Order
-  LcardOf : (site : Word) (leaf width : Number) (out : Word) → Order
-  OpensOf : (site book leaves : Word) → Order
-  TraceOf : (site book leaves : Word) → Order
-  TrialOf : (site book clear : Word) → Order
-  HelpOf : (topic : Option Topic) → Order
+  CommandOf : (command : Command) (arguments : List Argument) → Order
+  HelpOf : (topic : Option Command) → Order
   VersionOf : Order
 
--- what is done with a number, where there is one
-abbrev pub with_number : {A : Type 0} → Result ℕ Status → (ℕ → Result A Status) → Result A Status
-with_number (Ok n) next = next n
-with_number (Err status) next = Err status
+-- the file that an argument names
+abbrev pub file_of : ℕ → Option Argument → Word
+file_of place None = word_at place []
+file_of place (Some (InputOf word)) = word
+file_of place (Some (OutOf word)) = word
+file_of place (Some (NumberOf number)) = word_at place []
+
+-- the file of the argument at this place, counted from 1
+abbrev pub file : ℕ → List Argument → Word
+file place arguments = file_of place (slice_get arguments (place - 1))
+
+-- the number that an argument says
+abbrev pub value_of : ℕ → Option Argument → Number
+value_of place None = record { word = place; value = 0 }
+value_of place (Some (InputOf word)) = record { word = place; value = 0 }
+value_of place (Some (OutOf word)) = record { word = place; value = 0 }
+value_of place (Some (NumberOf number)) = number
+
+-- the number of the argument at this place, counted from 1
+abbrev pub number : ℕ → List Argument → Number
+number place arguments = value_of place (slice_get arguments (place - 1))
 
 abbrev pub at_most : ℕ → ℕ → Option ℕ → Result ℕ Status
 at_most word most None = Err (BadWord word)
 at_most word most (Some n) = if nat_lt most n then Err (BadWord word) else Ok n
 
--- the number of a word, which is to be a decimal and at most so large
+-- the number of a word, which must be a decimal and at most the greatest
 abbrev pub number_in : ℕ → ℕ → List ℕ → Result ℕ Status
 number_in word most text = at_most word most (number_of text)
 
--- `card SITE LEAF OUT`, where the two files are to differ; LEAF is a number of 32 bits before the site is known
-unfoldable pub card_words : List ℕ → List ℕ → List ℕ → Result Order Status
-card_words site leaf out =
-    if bytes_eq site out then Err Usage
-    else with_number (number_in 2 (2 ^ 32 - 1) leaf) (λ u.
-    Ok (CardOf (word_at 1 site) (record { word = 2; value = u }) (word_at 3 out)))
+-- the argument that is a number, if there is one
+abbrev pub numbered : ℕ → Result ℕ Status → Result Argument Status
+numbered place (Ok n) = Ok (NumberOf (record { word = place; value = n }))
+numbered place (Err status) = Err status
 
--- `sample NUMBER PACKETS OUT`
-unfoldable pub sample_words : List ℕ → List ℕ → List ℕ → Result Order Status
-sample_words number packets out =
-    with_number (number_in 1 (2 ^ 32 - 1) number) (λ n.
-    with_number (number_in 2 MOST_PACKETS packets) (λ k. Ok (SampleOf n k (word_at 3 out))))
+-- an argument by its kind
+abbrev pub argument_of : ℕ → Kind → List ℕ → Result Argument Status
+argument_of place kind.Input text = Ok (InputOf (word_at place text))
+argument_of place kind.Output text = Ok (OutOf (word_at place text))
+argument_of place (kind.Number most) text = numbered place (number_in place most text)
 
--- `head SITE BOOK CLEAR OUT`, where OUT is to differ from the other files
-unfoldable pub head_words : List ℕ → List ℕ → List ℕ → List ℕ → Result Order Status
-head_words site book clear out =
-    if bytes_eq site out || (bytes_eq book out || bytes_eq clear out) then Err Usage
-    else Ok (HeadOf (word_at 1 site) (word_at 2 book) (word_at 3 clear) (word_at 4 out))
+-- an argument before others; the first refusal counts
+abbrev pub before : Result Argument Status → Result (List Argument) Status → Result (List Argument) Status
+before (Err status) rest = Err status
+before (Ok argument) (Err status) = Err status
+before (Ok argument) (Ok arguments) = Ok (argument ∷ arguments)
 
--- `receive CARD STREAM OUT`, where OUT is to differ from the two files that are read
-unfoldable pub receive_words : List ℕ → List ℕ → List ℕ → Result Order Status
-receive_words card stream out =
-    if bytes_eq card out || bytes_eq stream out then Err Usage
-    else Ok (ReceiveOf (word_at 1 card) (word_at 2 stream) (word_at 3 out))
+-- the arguments from this place on
+abbrev pub arguments_from : ℕ → List Operand → List (List ℕ) → Result (List Argument) Status
+arguments_from place [] texts = Ok []
+arguments_from place (operand ∷ operands) [] = Ok []
+arguments_from place (operand ∷ operands) (text ∷ texts) =
+    before (argument_of place (kind_of operand) text) (arguments_from (place + 1) operands texts)
 
--- `accounts SITE ACCOUNTS OUT`, where OUT is to differ from the two files that are read
-unfoldable pub accounts_words : List ℕ → List ℕ → List ℕ → Result Order Status
-accounts_words site accounts out =
-    if bytes_eq site out || bytes_eq accounts out then Err Usage
-    else Ok (AccountsOf (word_at 1 site) (word_at 2 accounts) (word_at 3 out))
+abbrev pub with_input : Kind → List ℕ → List (List ℕ) → List (List ℕ)
+with_input kind.Input text texts = text ∷ texts
+with_input kind.Output text texts = texts
+with_input (kind.Number most) text texts = texts
 
--- `book SITE BOOK COMMANDS OUT`, where OUT is to differ from the other files
-unfoldable pub book_words : List ℕ → List ℕ → List ℕ → List ℕ → Result Order Status
-book_words site book commands out =
-    if bytes_eq site out || (bytes_eq book out || bytes_eq commands out) then Err Usage
-    else Ok (BookOf (word_at 1 site) (word_at 2 book) (word_at 3 commands) (word_at 4 out))
+-- the texts that name files to be read
+abbrev pub input_texts : List Operand → List (List ℕ) → List (List ℕ)
+input_texts [] texts = []
+input_texts (operand ∷ operands) [] = []
+input_texts (operand ∷ operands) (text ∷ texts) = with_input (kind_of operand) text (input_texts operands texts)
 
--- `layered SITE BOOK WIDTH`; WIDTH is a number of 32 bits before the site is known
-unfoldable pub layered_words : List ℕ → List ℕ → List ℕ → Result Order Status
-layered_words site book width =
-    with_number (number_in 3 (2 ^ 32 - 1) width) (λ w.
-    Ok (LayeredOf (word_at 1 site) (word_at 2 book) (record { word = 3; value = w })))
+abbrev pub or_output : Kind → List ℕ → Option (List ℕ) → Option (List ℕ)
+or_output kind.Output text later = Some text
+or_output kind.Input text later = later
+or_output (kind.Number most) text later = later
 
--- `lcard SITE LEAF WIDTH OUT`, where the two files are to differ
-unfoldable pub lcard_words : List ℕ → List ℕ → List ℕ → List ℕ → Result Order Status
-lcard_words site leaf width out =
-    if bytes_eq site out then Err Usage
-    else with_number (number_in 2 (2 ^ 32 - 1) leaf) (λ u.
-    with_number (number_in 3 (2 ^ 32 - 1) width) (λ w.
-    Ok (LcardOf (word_at 1 site) (record { word = 2; value = u }) (record { word = 3; value = w }) (word_at 4 out))))
+-- the text that names the file to be made, if there is one
+abbrev pub out_text : List Operand → List (List ℕ) → Option (List ℕ)
+out_text [] texts = None
+out_text (operand ∷ operands) [] = None
+out_text (operand ∷ operands) (text ∷ texts) = or_output (kind_of operand) text (out_text operands texts)
 
--- a command of three files that are read: `opens SITE BOOK LEAVES`, `trace SITE BOOK LEAVES`, `trial SITE BOOK CLEAR`
-unfoldable pub input_words : List ℕ → List ℕ → List ℕ → List ℕ → Result Order Status
-input_words command a b c =
-    if bytes_eq command (codes "opens") then Ok (OpensOf (word_at 1 a) (word_at 2 b) (word_at 3 c))
-    else if bytes_eq command (codes "trace") then Ok (TraceOf (word_at 1 a) (word_at 2 b) (word_at 3 c))
-    else if bytes_eq command (codes "trial") then Ok (TrialOf (word_at 1 a) (word_at 2 b) (word_at 3 c))
-    else Err Usage
+abbrev pub is_among : List (List ℕ) → Option (List ℕ) → Bool
+is_among texts None = false
+is_among texts (Some out) = list_any (λ text. bytes_eq text out) texts
+
+-- OUT is one of the files that are read
+abbrev pub out_is_read : List Operand → List (List ℕ) → Bool
+out_is_read operands texts = is_among (input_texts operands texts) (out_text operands texts)
+
+abbrev pub ordered : Command → Result (List Argument) Status → Result Order Status
+ordered command (Ok arguments) = Ok (CommandOf command arguments)
+ordered command (Err status) = Err status
+
+-- a command takes as many arguments as its row has, OUT is none of its other files, and then come the numbers
+abbrev pub command_words : Command → List Operand → List (List ℕ) → Result Order Status
+command_words command operands texts =
+    if not (length texts == length operands) || out_is_read operands texts then Err Usage
+    else ordered command (arguments_from 1 operands texts)
+
+abbrev pub words_of : Option Command → List (List ℕ) → Result Order Status
+words_of None texts = Err Usage
+words_of (Some command) texts = command_words command (operands_of command) texts
 
 -- `help`, `--help` and `-h` are one command
 abbrev pub is_help : List ℕ → Bool
-is_help command =
-    bytes_eq command (codes "help") || (bytes_eq command (codes "--help") || bytes_eq command (codes "-h"))
+is_help name = bytes_eq name (codes "help") || (bytes_eq name (codes "--help") || bytes_eq name (codes "-h"))
 
 -- `version` and `--version` are one command
 abbrev pub is_version : List ℕ → Bool
-is_version command = bytes_eq command (codes "version") || bytes_eq command (codes "--version")
-
--- a command without words
-unfoldable pub bare_words : List ℕ → Result Order Status
-bare_words command =
-    if is_help command then Ok (HelpOf None) else if is_version command then Ok VersionOf else Err Usage
+is_version name = bytes_eq name (codes "version") || bytes_eq name (codes "--version")
 
 -- help on a command, if it is one
-abbrev pub help_on : Option Topic → Result Order Status
+abbrev pub help_on : Option Command → Result Order Status
 help_on None = Err Usage
 help_on (Some topic) = Ok (HelpOf (Some topic))
 
--- a command of one word
-unfoldable pub one_word : List ℕ → List ℕ → Result Order Status
-one_word command a =
-    if bytes_eq command (codes "tables") then Ok (TablesOf (word_at 1 a))
-    else if is_help command then help_on (topic_of a)
-    else Err Usage
+abbrev pub help_words : List (List ℕ) → Result Order Status
+help_words [] = Ok (HelpOf None)
+help_words (name ∷ []) = help_on (command_of name)
+help_words (name ∷ word ∷ words) = Err Usage
 
--- a command of three words
-unfoldable pub three_words : List ℕ → List ℕ → List ℕ → List ℕ → Result Order Status
-three_words command a b c =
-    if bytes_eq command (codes "card") then card_words a b c
-    else if bytes_eq command (codes "sample") then sample_words a b c
-    else if bytes_eq command (codes "receive") then receive_words a b c
-    else if bytes_eq command (codes "accounts") then accounts_words a b c
-    else if bytes_eq command (codes "layered") then layered_words a b c
-    else input_words command a b c
+abbrev pub version_words : List (List ℕ) → Result Order Status
+version_words [] = Ok VersionOf
+version_words (word ∷ words) = Err Usage
 
--- a command of four words
-unfoldable pub four_words : List ℕ → List ℕ → List ℕ → List ℕ → List ℕ → Result Order Status
-four_words command a b c e =
-    if bytes_eq command (codes "head") then head_words a b c e
-    else if bytes_eq command (codes "book") then book_words a b c e
-    else if bytes_eq command (codes "lcard") then lcard_words a b c e
-    else Err Usage
+unfoldable pub named_words : List ℕ → List (List ℕ) → Result Order Status
+named_words name texts =
+    if is_help name then help_words texts
+    else if is_version name then version_words texts
+    else words_of (command_of name) texts
 
--- Whether the words are a command with as many words as it takes comes first, and then the numbers.
+-- The first word is the name of a command, whose row says what the others are.
 abbrev pub order_of : List (List ℕ) → Result Order Status
 order_of [] = Err Usage
-order_of (command ∷ []) = bare_words command
-order_of (command ∷ a ∷ []) = one_word command a
-order_of (command ∷ a ∷ b ∷ []) =
-    if bytes_eq command (codes "cover") then Ok (CoverOf (word_at 1 a) (word_at 2 b)) else Err Usage
-order_of (command ∷ a ∷ b ∷ c ∷ []) = three_words command a b c
-order_of (command ∷ a ∷ b ∷ c ∷ e ∷ []) = four_words command a b c e
-order_of (command ∷ a ∷ b ∷ c ∷ e ∷ f ∷ words) = Err Usage
+order_of (name ∷ texts) = named_words name texts
+
+-- the texts that name files to be read, of arguments and of an order
+abbrev pub files_in : List Argument → List (List ℕ)
+files_in [] = []
+files_in (InputOf word ∷ arguments) = word.text ∷ files_in arguments
+files_in (OutOf word ∷ arguments) = files_in arguments
+files_in (NumberOf number ∷ arguments) = files_in arguments
+
+abbrev pub files_of : Order → List (List ℕ)
+files_of (CommandOf command arguments) = files_in arguments
+files_of (HelpOf topic) = []
+files_of VersionOf = []
+
+-- the text that names the file to be made, of arguments and of an order
+abbrev pub out_in : List Argument → Option (List ℕ)
+out_in [] = None
+out_in (InputOf word ∷ arguments) = out_in arguments
+out_in (OutOf word ∷ arguments) = Some word.text
+out_in (NumberOf number ∷ arguments) = out_in arguments
+
+abbrev pub out_of : Order → Option (List ℕ)
+out_of (CommandOf command arguments) = out_in arguments
+out_of (HelpOf topic) = None
+out_of VersionOf = None
+
+-- the command of an order makes a card
+abbrev pub MakesCard : Order → Type 0
+MakesCard (CommandOf command arguments) = (command ≡ commands.Card) ⊎ (command ≡ commands.Lcard)
+MakesCard (HelpOf topic) = ⊥
+MakesCard VersionOf = ⊥
+
+-- the orders of the commands, by their names
+abbrev pub AccountsOf : Word → Word → Word → Order
+AccountsOf site accounts out = CommandOf commands.Accounts (InputOf site ∷ InputOf accounts ∷ OutOf out ∷ [])
+
+abbrev pub BookOf : Word → Word → Word → Word → Order
+BookOf site book more out = CommandOf commands.Book (InputOf site ∷ InputOf book ∷ InputOf more ∷ OutOf out ∷ [])
+
+abbrev pub CardOf : Word → Number → Word → Order
+CardOf site leaf out = CommandOf commands.Card (InputOf site ∷ NumberOf leaf ∷ OutOf out ∷ [])
+
+abbrev pub CoverOf : Word → Word → Order
+CoverOf site book = CommandOf commands.Cover (InputOf site ∷ InputOf book ∷ [])
+
+abbrev pub HeadOf : Word → Word → Word → Word → Order
+HeadOf site book clear out = CommandOf commands.Head (InputOf site ∷ InputOf book ∷ InputOf clear ∷ OutOf out ∷ [])
+
+abbrev pub LayeredOf : Word → Word → Number → Order
+LayeredOf site book width = CommandOf commands.Layered (InputOf site ∷ InputOf book ∷ NumberOf width ∷ [])
+
+abbrev pub LcardOf : Word → Number → Number → Word → Order
+LcardOf site leaf width out = CommandOf commands.Lcard (InputOf site ∷ NumberOf leaf ∷ NumberOf width ∷ OutOf out ∷ [])
+
+abbrev pub OpensOf : Word → Word → Word → Order
+OpensOf site book leaves = CommandOf commands.Opens (InputOf site ∷ InputOf book ∷ InputOf leaves ∷ [])
+
+abbrev pub ReceiveOf : Word → Word → Word → Order
+ReceiveOf card stream out = CommandOf commands.Receive (InputOf card ∷ InputOf stream ∷ OutOf out ∷ [])
+
+abbrev pub SampleOf : ℕ → ℕ → Word → Order
+SampleOf value packets out = CommandOf commands.Sample (NumberOf (record { word = 1; value = value }) ∷ NumberOf (record { word = 2; value = packets }) ∷ OutOf out ∷ [])
+
+abbrev pub TablesOf : Word → Order
+TablesOf stream = CommandOf commands.Tables (InputOf stream ∷ [])
+
+abbrev pub TraceOf : Word → Word → Word → Order
+TraceOf site book leaves = CommandOf commands.Trace (InputOf site ∷ InputOf book ∷ InputOf leaves ∷ [])
+
+abbrev pub TrialOf : Word → Word → Word → Order
+TrialOf site book clear = CommandOf commands.Trial (InputOf site ∷ InputOf book ∷ InputOf clear ∷ [])

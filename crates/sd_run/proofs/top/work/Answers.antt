@@ -1,47 +1,74 @@
-use Rattle.sd_status.specs.Outside.{page, place}
+use Rattle.std.proofs.Common.{ap}
+use Rattle.sd_files.specs.Shown.{Number}
+use Rattle.sd_status.specs.Outside.{page}
+use Rattle.sd_words.specs.Orders.{arguments_said}
+use Rattle.sd_run.proofs.Ordered.{packets_fit}
 use Rattle.sd_run.proofs.top.work.Goals as goal
 
-pub returns-in-Cover : goal.returns-in-Cover
-returns-in-Cover g c = rw c.in-Cover.is (c.cover.ensures c.args.steps.now)
-
-pub returns-in-Card : goal.returns-in-Card
-returns-in-Card g c = rw c.in-Card.is (c.card.ensures (page g.P.Sink c.args.print.now))
-
-pub returns-in-Sample : goal.returns-in-Sample
-returns-in-Sample g c = rw c.in-Sample.is (c.sample.ensures (page g.P.Sink c.args.print.now) c.args.steps.now)
-
-pub returns-in-Tables : goal.returns-in-Tables
-returns-in-Tables g c = rw c.in-Tables.is (c.tables.ensures c.args.steps.now)
-
-pub returns-in-Head : goal.returns-in-Head
-returns-in-Head g c = rw c.in-Head.is (c.head.ensures (page g.P.Sink c.args.print.now))
-
-pub returns-in-Receive : goal.returns-in-Receive
-returns-in-Receive g c = rw c.in-Receive.is (c.receive.ensures (page g.P.Sink c.args.print.now))
+pub sample-requires : goal.sample-requires
+sample-requires g c =
+    let fits = rw c.in-Sample.is at c.requires in
+    let packets = ap (λ (n : Number). n.value) c.number-in-Sample-2.ensures.value in
+    rw packets (packets_fit (arguments_said 1 c.args.row.now.list.items) fits)
 
 pub returns-in-Accounts : goal.returns-in-Accounts
-returns-in-Accounts g c = rw c.in-Accounts.is (c.accounts.ensures c.args.steps.now)
+returns-in-Accounts g c =
+    let done = rw (c.file.ensures.value, c.file-in-Accounts.ensures.value, c.file-in-Accounts-2.ensures.value) at c.accounts.ensures c.args.steps.now in
+    rw c.in-Accounts.is done
 
 pub returns-in-Book : goal.returns-in-Book
-returns-in-Book g c = rw c.in-Book.is (c.book.ensures (page g.P.Sink c.args.print.now) c.args.steps.now)
+returns-in-Book g c =
+    let done = rw (c.file-in-Book.ensures.value, c.file-in-Book-2.ensures.value, c.file-in-Book-3.ensures.value, c.file-in-Book-4.ensures.value) at c.book.ensures (page g.P.Sink c.args.print.now) c.args.steps.now in
+    rw c.in-Book.is done
+
+pub returns-in-Card : goal.returns-in-Card
+returns-in-Card g c =
+    let done = rw (c.file-in-Card.ensures.value, c.number.ensures.value, c.file-in-Card-2.ensures.value) at c.card.ensures (page g.P.Sink c.args.print.now) in
+    rw c.in-Card.is done
+
+pub returns-in-Cover : goal.returns-in-Cover
+returns-in-Cover g c =
+    let done = rw (c.file-in-Cover.ensures.value, c.file-in-Cover-2.ensures.value) at c.cover.ensures c.args.steps.now in
+    rw c.in-Cover.is done
+
+pub returns-in-Head : goal.returns-in-Head
+returns-in-Head g c =
+    let done = rw (c.file-in-Head.ensures.value, c.file-in-Head-2.ensures.value, c.file-in-Head-3.ensures.value, c.file-in-Head-4.ensures.value) at c.head.ensures (page g.P.Sink c.args.print.now) in
+    rw c.in-Head.is done
 
 pub returns-in-Layered : goal.returns-in-Layered
-returns-in-Layered g c = rw c.in-Layered.is (c.layered.ensures c.args.steps.now)
+returns-in-Layered g c =
+    let done = rw (c.file-in-Layered.ensures.value, c.file-in-Layered-2.ensures.value, c.number-in-Layered.ensures.value) at c.layered.ensures c.args.steps.now in
+    rw c.in-Layered.is done
 
 pub returns-in-Lcard : goal.returns-in-Lcard
-returns-in-Lcard g c = rw c.in-Lcard.is (c.lcard.ensures (page g.P.Sink c.args.print.now))
+returns-in-Lcard g c =
+    let done = rw (c.file-in-Lcard.ensures.value, c.number-in-Lcard.ensures.value, c.number-in-Lcard-2.ensures.value, c.file-in-Lcard-2.ensures.value) at c.lcard.ensures (page g.P.Sink c.args.print.now) in
+    rw c.in-Lcard.is done
 
 pub returns-in-Opens : goal.returns-in-Opens
-returns-in-Opens g c = rw c.in-Opens.is (c.opens.ensures c.args.steps.now)
+returns-in-Opens g c =
+    let done = rw (c.file-in-Opens.ensures.value, c.file-in-Opens-2.ensures.value, c.file-in-Opens-3.ensures.value) at c.opens.ensures c.args.steps.now in
+    rw c.in-Opens.is done
+
+pub returns-in-Receive : goal.returns-in-Receive
+returns-in-Receive g c =
+    let done = rw (c.file-in-Receive.ensures.value, c.file-in-Receive-2.ensures.value, c.file-in-Receive-3.ensures.value) at c.receive.ensures (page g.P.Sink c.args.print.now) in
+    rw c.in-Receive.is done
+
+pub returns-in-Sample : goal.returns-in-Sample
+returns-in-Sample g c =
+    let number = ap (λ (n : Number). n.value) c.number-in-Sample.ensures.value in
+    let packets = ap (λ (n : Number). n.value) c.number-in-Sample-2.ensures.value in
+    let done = rw (number, packets, c.file-in-Sample.ensures.value) at c.sample.ensures (page g.P.Sink c.args.print.now) c.args.steps.now in
+    rw c.in-Sample.is done
+
+pub returns-in-Tables : goal.returns-in-Tables
+returns-in-Tables g c =
+    let done = rw c.file-in-Tables.ensures.value at c.tables.ensures c.args.steps.now in
+    rw c.in-Tables.is done
 
 pub returns-in-Trace : goal.returns-in-Trace
-returns-in-Trace g c = rw c.in-Trace.is (c.trace.ensures c.args.steps.now)
-
-pub returns-in-Trial : goal.returns-in-Trial
-returns-in-Trial g c = rw c.in-Trial.is c.trial.ensures
-
-pub returns-in-Help : goal.returns-in-Help
-returns-in-Help g c = rw c.in-Help.is (c.help.ensures (place g.D.Depot c.args.depot.now) c.args.steps.now)
-
-pub returns-in-Version : goal.returns-in-Version
-returns-in-Version g c = rw c.in-Version.is (c.version.ensures (place g.D.Depot c.args.depot.now) c.args.steps.now)
+returns-in-Trace g c =
+    let done = rw (c.file-in-Trace.ensures.value, c.file-in-Trace-2.ensures.value, c.file-in-Trace-3.ensures.value) at c.trace.ensures c.args.steps.now in
+    rw c.in-Trace.is done

@@ -1,7 +1,18 @@
 ghost use Rattle.std.specs.Prelude.{◌≡◌};
-ghost use Rattle.sd_run_help.specs.Operands.{meaning_of, name_of};
+ghost use Rattle.sd_commands.specs.Operands.{kind_of, meaning_of, name_of};
 
-/// A word that a command takes.
+/// What an argument is.
+#[derive(Clone, Copy, Debug, PartialEq, Eq)]
+pub enum Kind {
+    /// A file that is read.
+    Input,
+    /// The file that is made.
+    Output,
+    /// A number that is at most this.
+    Number(u32),
+}
+
+/// An argument that a command takes.
 #[derive(Clone, Copy)]
 pub enum Operand {
     Site,
@@ -39,6 +50,25 @@ impl Operand {
             Operand::Number => "NUMBER",
             Operand::Packets => "PACKETS",
             Operand::Out => "OUT",
+        }
+    }
+
+    /// What it is.
+    pub fn kind(self) -> Kind
+        ensures { result ≡ kind_of self }
+    {
+        match self {
+            Operand::Site
+            | Operand::Book
+            | Operand::Accounts
+            | Operand::Commands
+            | Operand::Clear
+            | Operand::Stream
+            | Operand::Card
+            | Operand::Leaves => Kind::Input,
+            Operand::Leaf | Operand::Width | Operand::Number => Kind::Number(u32::MAX),
+            Operand::Packets => Kind::Number(1_000_000),
+            Operand::Out => Kind::Output,
         }
     }
 

@@ -1,8 +1,26 @@
--- The words that commands take [this project, docs/FORMATS.md, Commands].
-use Rattle.std.specs.Prelude.{ℕ, List, codes}
-use Rattle.sd_run_help.specs.declared.operand.Operand.{Operand}
-use Rattle.sd_run_help.specs.declared.operand.Operand.TheVariants.{Site, Book, Accounts, Commands, Clear, Stream, Card}
-use Rattle.sd_run_help.specs.declared.operand.Operand.TheVariants.{Leaves, Leaf, Width, Number, Packets, Out}
+-- The arguments that commands take [this project, docs/FORMATS.md, Commands].
+use Rattle.std.specs.Prelude.{ℕ, ◌-◌, ◌^◌, List, codes}
+use Rattle.sd_commands.specs.declared.operand.Operand.{Operand}
+use Rattle.sd_commands.specs.declared.operand.Operand.TheVariants.{Site, Book, Accounts, Commands, Clear, Stream, Card}
+use Rattle.sd_commands.specs.declared.operand.Operand.TheVariants.{Leaves, Leaf, Width, Number, Packets, Out}
+use Rattle.sd_commands.specs.declared.operand.Kind.{Kind}
+use Rattle.sd_commands.specs.declared.operand.Kind.TheVariants as kind
+
+-- what it is: a file that is read, the file that is made, or a number and the greatest that it may be
+abbrev pub kind_of : Operand → Kind
+kind_of Site = kind.Input
+kind_of Book = kind.Input
+kind_of Accounts = kind.Input
+kind_of Commands = kind.Input
+kind_of Clear = kind.Input
+kind_of Stream = kind.Input
+kind_of Card = kind.Input
+kind_of Leaves = kind.Input
+kind_of Leaf = kind.Number (2 ^ 32 - 1)
+kind_of Width = kind.Number (2 ^ 32 - 1)
+kind_of Number = kind.Number (2 ^ 32 - 1)
+kind_of Packets = kind.Number 1000000
+kind_of Out = kind.Output
 
 -- the name that it has in the texts
 unfoldable pub name_of : Operand → List ℕ

@@ -1,9 +1,9 @@
 -- The line of each exit, and the exits that commands have [this project, docs/FORMATS.md, Exits].
 use Rattle.std.specs.Prelude.{ℕ, List, [], ◌∷◌, codes}
-use Rattle.sd_run_help.specs.declared.exit.Exit.{Exit}
-use Rattle.sd_run_help.specs.declared.exit.Exit.TheVariants.{Done, Usage, Missing, Revoked, DepotFault, PrintFault}
-use Rattle.sd_run_help.specs.declared.exit.Exit.TheVariants.{BadSite, BadBook, BadCard, BadClear, BadStream, Limit}
-use Rattle.sd_run_help.specs.declared.exit.Exit.TheVariants.{NoMemory, Unheard, Unclosed, Gaps, NoCat, BadWord}
+use Rattle.sd_commands.specs.declared.exit.Exit.{Exit}
+use Rattle.sd_commands.specs.declared.exit.Exit.TheVariants.{Done, Usage, Missing, Revoked, DepotFault, PrintFault}
+use Rattle.sd_commands.specs.declared.exit.Exit.TheVariants.{BadSite, BadBook, BadCard, BadClear, BadStream, Limit}
+use Rattle.sd_commands.specs.declared.exit.Exit.TheVariants.{NoMemory, Unheard, Unclosed, Gaps, NoCat, BadWord}
 
 -- its number, and when it comes
 unfoldable pub exit_line : Exit → List ℕ

@@ -1,6 +1,6 @@
 ghost use Rattle.std.specs.Prelude.{◌≡◌};
-ghost use Rattle.sd_run_help.specs.Exits.{exits_of_books, exits_of_cards, exits_of_clear_streams, exits_of_layers};
-ghost use Rattle.sd_run_help.specs.Exits.{exits_of_receivers, exits_of_samples, exits_of_tables, exit_line};
+ghost use Rattle.sd_commands.specs.Exits.{exits_of_books, exits_of_cards, exits_of_clear_streams, exits_of_layers};
+ghost use Rattle.sd_commands.specs.Exits.{exits_of_receivers, exits_of_samples, exits_of_tables, exit_line};
 
 /// An exit of the program.
 #[derive(Clone, Copy)]

@@ -1,6 +1,6 @@
 use Rattle.std.proofs.Common.{sym, ◌∙◌}
 use Rattle.sd_words.proofs.Words.{number_taken, number_above, number_refused}
-use Rattle.sd_words.proofs.order.read_number.Goals as goal
+use Rattle.sd_words.proofs.argument.read_number.Goals as goal
 
 pub returns-in-Ok-clause-value : goal.returns-in-Ok-clause-value
 returns-in-Ok-clause-value c =

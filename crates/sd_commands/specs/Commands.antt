@@ -1,16 +1,16 @@
 -- What help says of each command [this project, docs/FORMATS.md, Help].
 use Rattle.std.specs.Prelude.{ℕ, List, [], ◌∷◌, codes, bytes_eq, if◌then◌else◌, Option, Some, None}
-use Rattle.sd_run_help.specs.declared.topic.Topic.{Topic}
-use Rattle.sd_run_help.specs.declared.topic.Topic.TheVariants.{Accounts, Book, Card, Cover, Head, Layered, Lcard, Opens}
-use Rattle.sd_run_help.specs.declared.topic.Topic.TheVariants.{Receive, Sample, Tables, Trace, Trial}
-use Rattle.sd_run_help.specs.declared.operand.Operand.{Operand}
-use Rattle.sd_run_help.specs.declared.operand.Operand.TheVariants as word
-use Rattle.sd_run_help.specs.declared.exit.Exit.{Exit}
-use Rattle.sd_run_help.specs.Exits.{exits_of_books, exits_of_cards, exits_of_clear_streams, exits_of_layers}
-use Rattle.sd_run_help.specs.Exits.{exits_of_receivers, exits_of_samples, exits_of_tables}
+use Rattle.sd_commands.specs.declared.command.Command.{Command}
+use Rattle.sd_commands.specs.declared.command.Command.TheVariants.{Accounts, Book, Card, Cover, Head, Layered, Lcard, Opens}
+use Rattle.sd_commands.specs.declared.command.Command.TheVariants.{Receive, Sample, Tables, Trace, Trial}
+use Rattle.sd_commands.specs.declared.operand.Operand.{Operand}
+use Rattle.sd_commands.specs.declared.operand.Operand.TheVariants as word
+use Rattle.sd_commands.specs.declared.exit.Exit.{Exit}
+use Rattle.sd_commands.specs.Exits.{exits_of_books, exits_of_cards, exits_of_clear_streams, exits_of_layers}
+use Rattle.sd_commands.specs.Exits.{exits_of_receivers, exits_of_samples, exits_of_tables}
 
 -- the command's name
-unfoldable pub name_of : Topic → List ℕ
+unfoldable pub name_of : Command → List ℕ
 name_of Accounts = codes "accounts"
 name_of Book = codes "book"
 name_of Card = codes "card"
@@ -26,21 +26,21 @@ name_of Trace = codes "trace"
 name_of Trial = codes "trial"
 
 -- all commands, by their names
-abbrev pub topics : List Topic
-topics =
+abbrev pub commands : List Command
+commands =
     Accounts ∷ Book ∷ Card ∷ Cover ∷ Head ∷ Layered ∷ Lcard ∷ Opens ∷ Receive ∷ Sample ∷ Tables ∷ Trace ∷ Trial ∷ []
 
 -- the first of them that has this name
-abbrev pub named : List ℕ → List Topic → Option Topic
+abbrev pub named : List ℕ → List Command → Option Command
 named word [] = None
-named word (topic ∷ rest) = if bytes_eq word (name_of topic) then Some topic else named word rest
+named word (command ∷ rest) = if bytes_eq word (name_of command) then Some command else named word rest
 
 -- the command of this name
-unfoldable pub topic_of : List ℕ → Option Topic
-topic_of word = named word topics
+unfoldable pub command_of : List ℕ → Option Command
+command_of word = named word commands
 
 -- the words after the name
-unfoldable pub operands_of : Topic → List Operand
+unfoldable pub operands_of : Command → List Operand
 operands_of Accounts = word.Site ∷ word.Accounts ∷ word.Out ∷ []
 operands_of Book = word.Site ∷ word.Book ∷ word.Commands ∷ word.Out ∷ []
 operands_of Card = word.Site ∷ word.Leaf ∷ word.Out ∷ []
@@ -56,7 +56,7 @@ operands_of Trace = word.Site ∷ word.Book ∷ word.Leaves ∷ []
 operands_of Trial = word.Site ∷ word.Book ∷ word.Clear ∷ []
 
 -- what the command does
-unfoldable pub work_of : Topic → List ℕ
+unfoldable pub work_of : Command → List ℕ
 work_of Accounts = codes "makes the book of accounts that are kept by name, and reports them"
 work_of Book = codes "makes a longer book, with more commands at its end"
 work_of Card = codes "makes the card of a receiver"
@@ -72,7 +72,7 @@ work_of Trace = codes "prints which receivers' cards a box has, found by trials"
 work_of Trial = codes "prints what each receiver writes of a broadcast"
 
 -- the exits that it may have
-unfoldable pub exits_of : Topic → List Exit
+unfoldable pub exits_of : Command → List Exit
 exits_of Accounts = exits_of_books
 exits_of Book = exits_of_books
 exits_of Card = exits_of_cards
@@ -88,7 +88,7 @@ exits_of Trace = exits_of_books
 exits_of Trial = exits_of_clear_streams
 
 -- an example of its words
-unfoldable pub example_of : Topic → List ℕ
+unfoldable pub example_of : Command → List ℕ
 example_of Accounts = codes "accounts examples/site.txt examples/accounts.txt book.txt"
 example_of Book = codes "book examples/site.txt examples/book.txt examples/today.txt longer.txt"
 example_of Card = codes "card examples/site.txt 2 card-2"

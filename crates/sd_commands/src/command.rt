@@ -1,0 +1,185 @@
+ghost use Rattle.std.specs.Prelude.{◌≡◌, ◌↔◌, ◌⊎◌, ◌≤◌, length, true};
+ghost use Rattle.sd_commands.specs.Commands.{example_of, exits_of, name_of, operands_of, command_of, work_of};
+
+use crate::exit::{self, Exit};
+use crate::operand::Operand;
+
+/// A command that takes files, numbers or both.
+#[derive(Clone, Copy, Debug, PartialEq, Eq)]
+pub enum Command {
+    Accounts,
+    Book,
+    Card,
+    Cover,
+    Head,
+    Layered,
+    Lcard,
+    Opens,
+    Receive,
+    Sample,
+    Tables,
+    Trace,
+    Trial,
+}
+
+/// All commands, by their names.
+pub const COMMANDS: [Command; 13] = [
+    Command::Accounts,
+    Command::Book,
+    Command::Card,
+    Command::Cover,
+    Command::Head,
+    Command::Layered,
+    Command::Lcard,
+    Command::Opens,
+    Command::Receive,
+    Command::Sample,
+    Command::Tables,
+    Command::Trace,
+    Command::Trial,
+];
+
+impl Command {
+    /// The command of this name.
+    #[tactic(auto, unfolding(crate::specs::Commands::command_of, crate::specs::Commands::name_of))]
+    pub fn of(word: &str) -> Option<Command>
+        ensures { result ≡ command_of word.now }
+    {
+        match word {
+            "accounts" => Some(Command::Accounts),
+            "book" => Some(Command::Book),
+            "card" => Some(Command::Card),
+            "cover" => Some(Command::Cover),
+            "head" => Some(Command::Head),
+            "layered" => Some(Command::Layered),
+            "lcard" => Some(Command::Lcard),
+            "opens" => Some(Command::Opens),
+            "receive" => Some(Command::Receive),
+            "sample" => Some(Command::Sample),
+            "tables" => Some(Command::Tables),
+            "trace" => Some(Command::Trace),
+            "trial" => Some(Command::Trial),
+            _ => None,
+        }
+    }
+
+    /// The command's name.
+    #[tactic(auto, unfolding(crate::specs::Commands::name_of))]
+    pub fn name(self) -> &'static str
+        ensures { result.now ≡ name_of self }
+    {
+        match self {
+            Command::Accounts => "accounts",
+            Command::Book => "book",
+            Command::Card => "card",
+            Command::Cover => "cover",
+            Command::Head => "head",
+            Command::Layered => "layered",
+            Command::Lcard => "lcard",
+            Command::Opens => "opens",
+            Command::Receive => "receive",
+            Command::Sample => "sample",
+            Command::Tables => "tables",
+            Command::Trace => "trace",
+            Command::Trial => "trial",
+        }
+    }
+
+    /// The words after the name.
+    #[tactic(auto, unfolding(crate::specs::Commands::operands_of))]
+    pub fn operands(self) -> &'static [Operand]
+        ensures value { result.now ≡ operands_of self }
+        ensures few { length result.now ≤ 4 }
+    {
+        match self {
+            Command::Accounts => &[Operand::Site, Operand::Accounts, Operand::Out],
+            Command::Book => &[
+                Operand::Site,
+                Operand::Book,
+                Operand::Commands,
+                Operand::Out,
+            ],
+            Command::Card => &[Operand::Site, Operand::Leaf, Operand::Out],
+            Command::Cover => &[Operand::Site, Operand::Book],
+            Command::Head => &[Operand::Site, Operand::Book, Operand::Clear, Operand::Out],
+            Command::Layered => &[Operand::Site, Operand::Book, Operand::Width],
+            Command::Lcard => &[Operand::Site, Operand::Leaf, Operand::Width, Operand::Out],
+            Command::Opens => &[Operand::Site, Operand::Book, Operand::Leaves],
+            Command::Receive => &[Operand::Card, Operand::Stream, Operand::Out],
+            Command::Sample => &[Operand::Number, Operand::Packets, Operand::Out],
+            Command::Tables => &[Operand::Stream],
+            Command::Trace => &[Operand::Site, Operand::Book, Operand::Leaves],
+            Command::Trial => &[Operand::Site, Operand::Book, Operand::Clear],
+        }
+    }
+
+    /// Whether OUT holds the secrets of a receiver.
+    pub fn holds_secrets(self) -> bool
+        ensures { (result ≡ true) ↔ ((self ≡ Command.Card) ⊎ (self ≡ Command.Lcard)) }
+    {
+        matches!(self, Command::Card | Command::Lcard)
+    }
+
+    /// What the command does.
+    #[tactic(auto, unfolding(crate::specs::Commands::work_of))]
+    pub fn work(self) -> &'static str
+        ensures { result.now ≡ work_of self }
+    {
+        match self {
+            Command::Accounts =>
+                "makes the book of accounts that are kept by name, and reports them",
+            Command::Book => "makes a longer book, with more commands at its end",
+            Command::Card => "makes the card of a receiver",
+            Command::Cover => "prints the sets that each period names",
+            Command::Head => "makes the scrambled broadcast of a clear stream",
+            Command::Layered => "prints the sets that each period names in layers",
+            Command::Lcard => "makes the card of a receiver for layers, which is smaller",
+            Command::Opens => "prints which sets of each period pooled cards open",
+            Command::Receive => "makes the clear packets of a broadcast that a card opens",
+            Command::Sample => "makes a clear stream for trials",
+            Command::Tables => "prints the tables of a stream, a line of JSON for each",
+            Command::Trace => "prints which receivers' cards a box has, found by trials",
+            Command::Trial => "prints what each receiver writes of a broadcast",
+        }
+    }
+
+    /// The exits that it may have.
+    #[tactic(auto, unfolding(crate::specs::Commands::exits_of))]
+    pub fn exits(self) -> &'static [Exit]
+        ensures { result.now ≡ exits_of self }
+    {
+        match self {
+            Command::Accounts | Command::Book | Command::Cover | Command::Opens | Command::Trace =>
+                { exit::of_books() }
+            Command::Card | Command::Lcard => exit::of_cards(),
+            Command::Head | Command::Trial => exit::of_clear_streams(),
+            Command::Layered => exit::of_layers(),
+            Command::Receive => exit::of_receivers(),
+            Command::Sample => exit::of_samples(),
+            Command::Tables => exit::of_tables(),
+        }
+    }
+
+    /// An example of its words.
+    #[tactic(auto, unfolding(crate::specs::Commands::example_of))]
+    pub fn example(self) -> &'static str
+        ensures { result.now ≡ example_of self }
+    {
+        match self {
+            Command::Accounts => "accounts examples/site.txt examples/accounts.txt book.txt",
+            Command::Book =>
+                "book examples/site.txt examples/book.txt examples/today.txt longer.txt",
+            Command::Card => "card examples/site.txt 2 card-2",
+            Command::Cover => "cover examples/site.txt examples/book.txt",
+            Command::Head => "head examples/site.txt examples/book.txt clear.ts broadcast.ts",
+            Command::Layered => "layered examples/site.txt examples/book.txt 2",
+            Command::Lcard => "lcard examples/site.txt 2 2 layer-card-2",
+            Command::Opens => "opens examples/site.txt examples/book.txt examples/pooled.txt",
+            Command::Receive => "receive card-2 broadcast.ts opened.ts",
+            Command::Sample => "sample 7 600 clear.ts",
+            Command::Tables => "tables broadcast.ts",
+            Command::Trace => "trace examples/site.txt examples/book.txt examples/pair.txt",
+            Command::Trial => "trial examples/site.txt examples/book.txt clear.ts",
+        }
+    }
+}
