@@ -17,3 +17,4 @@ pub mod Orderly
 pub mod Outs
 pub mod Sent
 pub mod Trials
+pub mod Examples

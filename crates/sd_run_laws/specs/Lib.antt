@@ -6,3 +6,4 @@ pub mod Lost
 pub mod Tried
 pub mod Left
 pub mod Outcome
+pub mod Helped
