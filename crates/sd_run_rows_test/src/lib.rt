@@ -7,4 +7,8 @@ mod commands;
 #[cfg(test)]
 mod covers;
 #[cfg(test)]
+mod parts;
+#[cfg(test)]
+mod refusals;
+#[cfg(test)]
 mod rows;
