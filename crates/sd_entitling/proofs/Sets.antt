@@ -8,8 +8,7 @@ use Rattle.sd_tree.specs.Node.{IsAbove}
 use Rattle.sd_tree.specs.SetNames.{AreAscending}
 use Rattle.sd_tree.specs.declared.set.SetName.{SetName}
 use Rattle.sd_tree.specs.declared.set.SetName.TheVariants.{Whole, Diff}
-use Rattle.sd_tree.specs.declared.leaf.TheConstants.{MOST_REVOKED}
-use Rattle.sd_tree.specs.declared.height.TheConstants.{HIGHEST}
+use Rattle.sd_tree.specs.Limits.{most_revoked, highest}
 use Rattle.sd_emm.specs.declared.emm.Entry.{Entry}
 use Rattle.sd_tree.proofs.Ancestors.{above_self, above_trans}
 use Rattle.sd_site.specs.Fields.{SiteFields}
@@ -48,8 +47,8 @@ all_keyed d leaves sets cover = All-from_get_or IsKeyed sets Whole
     (λ i h. set_keyed d leaves sets cover (get_or sets i Whole) (Contains-get_or sets i Whole h))
 
 -- they are no more than a period may have
-pub sets_few : (d : ℕ) (leaves : List ℕ) (sets : List SetName) → d ≤ HIGHEST → All (λ u. u < 2 ^ d) leaves →
-    length leaves ≤ MOST_REVOKED → IsChainCover d leaves sets → length sets ≤ MOST_SETS
+pub sets_few : (d : ℕ) (leaves : List ℕ) (sets : List SetName) → d ≤ highest → All (λ u. u < 2 ^ d) leaves →
+    length leaves ≤ most_revoked → IsChainCover d leaves sets → length sets ≤ MOST_SETS
 sets_few d [] sets small all few cover = rw (cover.none_revoked refl) (omega arith)
 sets_few d (u ∷ us) sets small all few cover =
     let count = (cover_small d (u ∷ us) sets (omega (arith, small))

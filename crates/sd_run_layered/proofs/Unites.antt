@@ -2,7 +2,7 @@
 use Rattle.std.proofs.Common.{◌≡◌, ℕ, ◌^◌, ◌<◌, ◌≤◌, List, length, get_or, true, refl}
 use Rattle.std.specs.Prelude.{All, Contains}
 use Rattle.std.proofs.lemmas.List.Elements.{All-contains, Contains-get_or}
-use Rattle.sd_tree.specs.declared.height.TheConstants.{HIGHEST}
+use Rattle.sd_tree.specs.Limits.{highest}
 use Rattle.sd_tree.specs.declared.set.SetName.{SetName}
 use Rattle.sd_tree.specs.Leaves.{unrevoked}
 use Rattle.sd_tree.specs.SetNames.{IsOfHeight}
@@ -15,7 +15,7 @@ use Rattle.sd_layers.specs.Cover.{IsLayerCover, IsDoubleSmall, layer_cover_of}
 use Rattle.sd_layers.proofs.Covers.{cover_listed, layer_cover_useful, layer_cover_unites, layer_cover_small}
 
 -- the useful sets of a cover are of the tree's height
-pub cover_of_height : (d w : ℕ) (revoked : List ℕ) (sets : List SetName) → d ≤ HIGHEST → 1 ≤ w →
+pub cover_of_height : (d w : ℕ) (revoked : List ℕ) (sets : List SetName) → d ≤ highest → 1 ≤ w →
     All (λ u. u < 2 ^ d) revoked → IsLayerCover d w revoked sets → All (IsOfHeight d) sets
 cover_of_height d w revoked sets low some leaves cover = λ k x within.
     let part = layer_cover_useful d w revoked low some (λ u m. All-contains (λ v. v < 2 ^ d) revoked u leaves m) sets
@@ -27,14 +27,14 @@ of_tree : (d q : ℕ) (commands : List Command) (u : ℕ) → Contains (revoked 
 of_tree d q commands u m = All-contains (λ v. v < 2 ^ d) (revoked d commands q) u (below d commands q) m
 
 -- the list is their cover by useful sets
-listed : (d w q : ℕ) (commands : List Command) → d ≤ HIGHEST → 1 ≤ w →
+listed : (d w q : ℕ) (commands : List Command) → d ≤ highest → 1 ≤ w →
     IsLayerCover d w (revoked d commands q) (layer_cover_of d w (revoked d commands q))
 listed d w q commands low some =
     (cover_listed d w (revoked d commands q) (layer_cover_of d w (revoked d commands q)) low some
     (of_tree d q commands)).1 refl
 
 -- its sets are useful and of the tree's height
-pub all_useful : (d w q : ℕ) (commands : List Command) → d ≤ HIGHEST → 1 ≤ w →
+pub all_useful : (d w q : ℕ) (commands : List Command) → d ≤ highest → 1 ≤ w →
     All (λ name. IsOfHeight d name × (is_useful w name ≡ true)) (layer_cover_of d w (revoked d commands q))
 all_useful d w q commands low some = λ k x within.
     let sets = layer_cover_of d w (revoked d commands q) in
@@ -43,14 +43,14 @@ all_useful d w q commands low some = λ k x within.
     (part.height, part.useful)
 
 -- they unite to the leaves that are not revoked
-pub sets_unite : (d w q : ℕ) (commands : List Command) → d ≤ HIGHEST → 1 ≤ w →
+pub sets_unite : (d w q : ℕ) (commands : List Command) → d ≤ highest → 1 ≤ w →
     IsPartition d (layer_cover_of d w (revoked d commands q)) (unrevoked d (revoked d commands q))
 sets_unite d w q commands low some =
     layer_cover_unites d w (revoked d commands q) low some (of_tree d q commands)
     (layer_cover_of d w (revoked d commands q)) (listed d w q commands low some)
 
 -- and are few
-pub sets_few : (d w q : ℕ) (commands : List Command) → d ≤ HIGHEST → 1 ≤ w →
+pub sets_few : (d w q : ℕ) (commands : List Command) → d ≤ highest → 1 ≤ w →
     IsDoubleSmall (layer_cover_of d w (revoked d commands q)) (length (revoked d commands q))
 sets_few d w q commands low some =
     layer_cover_small d w (revoked d commands q) low some (of_tree d q commands)

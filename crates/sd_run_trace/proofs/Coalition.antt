@@ -2,8 +2,7 @@
 use Rattle.std.proofs.Common.{◌≡◌, ◌≢◌, ℕ, ◌+◌, ◌^◌, ◌<◌, ◌≤◌, Bool, true, false, List, length, Ok, Err}
 use Rattle.std.specs.Prelude.{◌↔◌, AllPairs, Contains, map, nat_lt, if◌then◌else◌}
 use Rattle.std.proofs.lemmas.List.Elements.{All-contains, All-map, All-weaker}
-use Rattle.sd_tree.specs.declared.height.TheConstants.{HIGHEST}
-use Rattle.sd_tree.specs.declared.leaf.TheConstants.{MOST_REVOKED}
+use Rattle.sd_tree.specs.Limits.{highest, most_revoked}
 use Rattle.sd_book.specs.declared.command.Command.{Command}
 use Rattle.sd_book.specs.Commands.{last_period}
 use Rattle.sd_book.proofs.Revocations.{below}
@@ -26,17 +25,17 @@ pub text_is : (d : ℕ) (coalition : List ℕ) (commands : List Command) (text :
 unfolding traced
 text_is d coalition commands text e =
     let gone = revoked_last d commands in
-    told_text (nat_lt MOST_REVOKED (length gone + length (outside d gone coalition))) (Limit Traced)
+    told_text (nat_lt most_revoked (length gone + length (outside d gone coalition))) (Limit Traced)
     (trace_text (trace_of d coalition gone)) text e
 
 -- there is the trace
-pub trace_is : (d : ℕ) (coalition : List ℕ) (commands : List Command) → 1 ≤ d → d ≤ HIGHEST →
+pub trace_is : (d : ℕ) (coalition : List ℕ) (commands : List Command) → 1 ≤ d → d ≤ highest →
     IsTrace d coalition (revoked_last d commands) (trace_of d coalition (revoked_last d commands))
 trace_is d coalition commands some low =
     there_is_a_trace d coalition (revoked_last d commands) some low (below d commands (last_period commands))
 
 -- its leaves are those of the coalition that aren't revoked
-pub leaves_are : (d : ℕ) (coalition : List ℕ) (commands : List Command) (u : ℕ) → 1 ≤ d → d ≤ HIGHEST →
+pub leaves_are : (d : ℕ) (coalition : List ℕ) (commands : List Command) (u : ℕ) → 1 ≤ d → d ≤ highest →
     Contains (map (λ f. f.leaf) (trace_of d coalition (revoked_last d commands))) u
     ↔ ((u < 2 ^ d) × Contains coalition u × ¬ Contains (revoked_last d commands) u)
 leaves_are d coalition commands u some low =
@@ -54,7 +53,7 @@ leaves_are d coalition commands u some low =
     )
 
 -- each is found once
-pub found_once : (d : ℕ) (coalition : List ℕ) (commands : List Command) → 1 ≤ d → d ≤ HIGHEST →
+pub found_once : (d : ℕ) (coalition : List ℕ) (commands : List Command) → 1 ≤ d → d ≤ highest →
     AllPairs (λ f g. f.leaf ≢ g.leaf) (trace_of d coalition (revoked_last d commands))
 found_once d coalition commands some low =
     trace_once d coalition (revoked_last d commands) (trace_of d coalition (revoked_last d commands)) some low

@@ -1,7 +1,7 @@
 -- `trace` never means `Usage`.
 use Rattle.std.proofs.Common.{ℕ, ◌+◌, Bool, true, false, List, length, Ok, Err}
 use Rattle.std.specs.Prelude.{nat_lt, if◌then◌else◌}
-use Rattle.sd_tree.specs.declared.leaf.TheConstants.{MOST_REVOKED}
+use Rattle.sd_tree.specs.Limits.{most_revoked}
 use Rattle.sd_book.specs.declared.command.Command.{Command}
 use Rattle.sd_trace.specs.Trace.{outside, trace_of}
 use Rattle.sd_status.specs.declared.status.Status.TheVariants.{Limit}
@@ -20,7 +20,7 @@ other_traced : (d : ℕ) (coalition : List ℕ) (commands : List Command) → Is
 unfolding traced
 other_traced d coalition commands =
     let gone = revoked_last d commands in
-    other_limit (nat_lt MOST_REVOKED (length gone + length (outside d gone coalition)))
+    other_limit (nat_lt most_revoked (length gone + length (outside d gone coalition)))
     (trace_text (trace_of d coalition gone))
 
 pub other_trace : (site book leaves : Word) (given : Given) → IsOther (trace_meaning site book leaves given).result

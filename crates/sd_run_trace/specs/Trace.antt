@@ -3,7 +3,7 @@ use Rattle.std.specs.Prelude.{ℕ, ◌+◌, nat_lt, false, List, [], ◌∷◌, 
 use Rattle.std.specs.Prelude.{Ok, Err}
 use Rattle.std.specs.List.{flat_map}
 use Rattle.std.specs.Fmt.{decimal}
-use Rattle.sd_tree.specs.declared.leaf.TheConstants.{MOST_REVOKED}
+use Rattle.sd_tree.specs.Limits.{most_revoked}
 use Rattle.sd_book.specs.declared.command.Command.{Command}
 use Rattle.sd_book.specs.Commands.{last_period, revoked}
 use Rattle.sd_trace.specs.declared.found.Found.{Found}
@@ -39,7 +39,7 @@ trace_text found = flat_map found_line found ++ silent_line
 unfoldable pub traced : ℕ → List ℕ → List Command → Result (List ℕ) Status
 traced d coalition commands =
     let gone = revoked_last d commands in
-    if nat_lt MOST_REVOKED (length gone + length (outside d gone coalition)) then Err (Limit Traced)
+    if nat_lt most_revoked (length gone + length (outside d gone coalition)) then Err (Limit Traced)
     else Ok (trace_text (trace_of d coalition gone))
 
 -- prints this text

@@ -12,6 +12,7 @@ ghost use Rattle.sd_steiner.specs.Partition.{IsPartition, IsSmall};
 ghost use Rattle.sd_reach.specs.Reach.{ReachesNoneOf};
 ghost use Rattle.sd_emm.specs.Form.{AreSets};
 ghost use Rattle.sd_emm.specs.Period.{IsPeriod};
+ghost use Rattle.sd_ecm.specs.Versions.{most_places};
 ghost use Rattle.sd_ecm.specs.Parts.{IsMessage, parts_of};
 ghost use Rattle.sd_ecm.specs.declared.part.EcmPart.{EcmPart};
 ghost use Rattle.sd_broadcast.specs.Plan.{Plan, IsPlan, sets_at, word_of, period_of, since_of, closing_number};
@@ -50,7 +51,7 @@ pub fn clear_streams_go_on()
 /// above the site's last.
 pub fn clear_streams_are_bounded()
     ensures packets { (site : SiteFields) (clear : List (List ℕ)) → IsClear site clear → length clear < 2 ^ 32 }
-    ensures pids { (site : SiteFields) (clear : List (List ℕ)) → IsClear site clear → length (moved_pids clear) ≤ 256 }
+    ensures pids { (site : SiteFields) (clear : List (List ℕ)) → IsClear site clear → length (moved_pids clear) ≤ most_places }
     ensures words { (site : SiteFields) (clear : List (List ℕ)) (k : ℕ) → IsClear site clear → k < length clear →
         word_of site k ≤ site.last_word }
 {}
