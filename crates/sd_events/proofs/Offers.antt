@@ -232,7 +232,7 @@ new_is_offered_nothing plan clear u n w off =
     ap (λ (to : Watch). map (λ i. get_or (stream plan clear) i []) (reverse to.now)) (on_is u n w off)
 
 -- and has written nothing
-switched_writes_nothing : (plan : Plan) (card : CardFields) (clear : List (List ℕ)) (w : Watch) →
+pub switched_writes_nothing : (plan : Plan) (card : CardFields) (clear : List (List ℕ)) (w : Watch) →
     written plan card clear (switched_on w) ≡ written plan card clear w
 unfolding written times present at_places out_from
 switched_writes_nothing plan card clear w =

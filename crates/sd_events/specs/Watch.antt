@@ -66,7 +66,7 @@ watch plan clear u (event ∷ past) =
 unfoldable pub times : Watch → List (List ℕ)
 times w = reverse (map reverse (w.now ∷ w.earlier))
 
--- those that are at these places
+-- the elements of a list at these indices, or `none` past its end
 unfoldable pub at_places : {A : Type 0} → A → List A → List ℕ → List A
 at_places none xs places = map (λ i. get_or xs i none) places
 
