@@ -1,5 +1,5 @@
 -- The words of `head`, `card` and `receive` mean what the commands do.
-use Rattle.std.proofs.Common.{◌≡◌, ◌≢◌, ℕ, ◌-◌, ◌^◌, ◌<◌, ◌≤◌, Bool, false, List}
+use Rattle.std.proofs.Common.{◌≡◌, ◌≢◌, ℕ, ◌-◌, ◌^◌, ◌<◌, ◌≤◌, Bool, false, List, [], ◌∷◌}
 use Rattle.std.proofs.Common.{Option, Some, Result, Ok, Err, refl, sym, ap, subst, ◌∙◌, arith, le-ltb}
 use Rattle.std.specs.Prelude.{◌||◌, if◌then◌else◌}
 use Rattle.std.specs.Str.{bytes_eq}
@@ -12,8 +12,10 @@ use Rattle.sd_status.specs.Meant.{Given, judged, ◌>>=◌}
 use Rattle.sd_status.specs.Outside.{Outside}
 use Rattle.sd_status.specs.Comes.{Obeys, Follows}
 use Rattle.sd_status.specs.Answers.{Answers, with_page}
-use Rattle.sd_words.specs.Words.{Order, HeadOf, CardOf, ReceiveOf, with_number, at_most, number_in}
-use Rattle.sd_words.specs.Words.{card_words, four_words, head_words, receive_words, three_words, order_of}
+use Rattle.sd_commands.specs.declared.command.Command.TheVariants.{Card}
+use Rattle.sd_commands.specs.Commands.{command_of, name_of, operands_of}
+use Rattle.sd_words.specs.Words.{InputOf, OutOf, Order, HeadOf, CardOf, ReceiveOf, at_most, before, number_in}
+use Rattle.sd_words.specs.Words.{named_words, numbered, order_of, ordered}
 use Rattle.sd_files.specs.Shown.{word_at}
 use Rattle.sd_run_card.specs.Card.{card_meaning}
 use Rattle.sd_run_head.specs.Head.{head_meaning}
@@ -24,23 +26,21 @@ use Rattle.sd_run_laws.specs.Headline.{Names, head_run, card_run, receive_run}
 use Rattle.sd_run_laws.proofs.Shelf.{apart_texts}
 
 -- words that differ are refused for no other word
-one_apart : (p : Bool) (order : Result Order Status) → p ≡ false → (if p then Err Usage else order) ≡ order
+one_apart : (p : Bool) (order : Result Order Status) → p ≡ false → (if p || false then Err Usage else order) ≡ order
 one_apart p order a = rw a refl
 
 two_apart : (p q : Bool) (order : Result Order Status) → p ≡ false → q ≡ false →
-    (if p || q then Err Usage else order) ≡ order
+    (if p || (q || false) then Err Usage else order) ≡ order
 two_apart p q order a b = rw (a, b) refl
 
 three_apart : (p q r : Bool) (order : Result Order Status) → p ≡ false → q ≡ false → r ≡ false →
-    (if p || (q || r) then Err Usage else order) ≡ order
+    (if p || (q || (r || false)) then Err Usage else order) ≡ order
 three_apart p q r order a b d = rw (a, b, d) refl
 
 -- a number within its bound is taken
-number_fits : (word most n : ℕ) (found : Option ℕ) (next : ℕ → Result Order Status) → found ≡ Some n → n ≤ most →
-    with_number (at_most word most found) next ≡ next n
-number_fits word most n found next e low =
-    ap (λ (o : Option ℕ). with_number (at_most word most o) next) e
-    ∙ ap (λ (b : Bool). with_number (if b then Err (BadWord word) else Ok n) next) (le-ltb most n low)
+number_fits : (word most n : ℕ) (found : Option ℕ) → found ≡ Some n → n ≤ most → at_most word most found ≡ Ok n
+number_fits word most n found e low =
+    ap (at_most word most) e ∙ ap (λ (b : Bool). if b then Err (BadWord word) else Ok n) (le-ltb most n low)
 
 -- a leaf of a site's tree is a number of 32 bits
 pub leaf_low : (got : Option (List ℕ)) (site : SiteFields) (u : ℕ) → IsGoodSite got site → u < 2 ^ site.height →
@@ -54,7 +54,7 @@ leaf_low got site u good leaf =
 head_order : (names : Names) → names.stream ≢ names.site → names.stream ≢ names.book → names.stream ≢ names.clear →
     order_of (head_run names)
     ≡ Ok (HeadOf (word_at 1 names.site) (word_at 2 names.book) (word_at 3 names.clear) (word_at 4 names.stream))
-unfolding four_words head_words
+unfolding named_words command_of name_of operands_of
 head_order names site book clear =
     three_apart (bytes_eq names.site names.stream) (bytes_eq names.book names.stream)
     (bytes_eq names.clear names.stream)
@@ -63,21 +63,25 @@ head_order names site book clear =
     (apart_texts names.book names.stream (λ e. book (sym e)))
     (apart_texts names.clear names.stream (λ e. clear (sym e)))
 
+abbrev leaf_order : Names → Result ℕ Status → Result Order Status
+leaf_order names found =
+    ordered Card
+    (before (Ok (InputOf (word_at 1 names.site)))
+    (before (numbered 2 found) (Ok (OutOf (word_at 3 names.card) ∷ []))))
+
 card_order : (names : Names) (leaf : List ℕ) (u : ℕ) → names.card ≢ names.site → number_of leaf ≡ Some u →
     u < 2 ^ 32 → order_of (card_run names leaf)
     ≡ Ok (CardOf (word_at 1 names.site) (record { word = 2; value = u }) (word_at 3 names.card))
-unfolding three_words card_words
+unfolding named_words command_of name_of operands_of
 card_order names leaf u apart says low =
-    let order : ℕ → Result Order Status =
-    λ n. Ok (CardOf (word_at 1 names.site) (record { word = 2; value = n }) (word_at 3 names.card)) in
-    one_apart (bytes_eq names.site names.card) (with_number (number_in 2 (2 ^ 32 - 1) leaf) order)
+    one_apart (bytes_eq names.site names.card) (leaf_order names (number_in 2 (2 ^ 32 - 1) leaf))
     (apart_texts names.site names.card (λ e. apart (sym e)))
-    ∙ number_fits 2 (2 ^ 32 - 1) u (number_of leaf) order says (omega (arith, low))
+    ∙ ap (leaf_order names) (number_fits 2 (2 ^ 32 - 1) u (number_of leaf) says (omega (arith, low)))
 
 receive_order : (names : Names) → names.out ≢ names.card → names.out ≢ names.stream →
     order_of (receive_run names)
     ≡ Ok (ReceiveOf (word_at 1 names.card) (word_at 2 names.stream) (word_at 3 names.out))
-unfolding three_words receive_words
+unfolding named_words command_of name_of operands_of
 receive_order names card stream =
     two_apart (bytes_eq names.card names.out) (bytes_eq names.stream names.out)
     (Ok (ReceiveOf (word_at 1 names.card) (word_at 2 names.stream) (word_at 3 names.out)))

@@ -1,7 +1,7 @@
 -- The works of commands: each makes OUT of its words or no file, and refuses words or files before anything is made.
-use Rattle.std.proofs.Common.{◌≡◌, ℕ, ◌-◌, ◌^◌, Bool, true, false, List, [], ◌∷◌, Option, Some, None, Result, Ok, Err}
+use Rattle.std.proofs.Common.{◌≡◌, ℕ, ◌-◌, Bool, true, false, List, [], ◌∷◌, Option, Some, None, Result, Ok, Err}
 use Rattle.std.proofs.Common.{refl, sym, ap, ◌∙◌}
-use Rattle.std.specs.Prelude.{codes, if◌then◌else◌, ◌||◌}
+use Rattle.std.specs.Prelude.{if◌then◌else◌, ◌||◌}
 use Rattle.std.specs.Str.{bytes_eq}
 use Rattle.std.specs.List.{list_any}
 use Rattle.std.specs.Option.{option_map}
@@ -49,15 +49,19 @@ use Rattle.sd_sample.specs.Sample.{sample_of}
 use Rattle.sd_site.specs.Fields.{SiteFields}
 use Rattle.sd_book.specs.Text.{text_of}
 use Rattle.sd_lsd.specs.Fields.{layer_card_of, layer_bytes}
-use Rattle.sd_words.specs.Words.{Order, CoverOf, CardOf, SampleOf, TablesOf, HeadOf, ReceiveOf, order_of, with_number}
-use Rattle.sd_words.specs.Words.{AccountsOf, BookOf, LayeredOf, LcardOf, OpensOf, TraceOf, TrialOf, HelpOf, VersionOf}
-use Rattle.sd_words.specs.Words.{accounts_words, book_words, card_words, head_words, lcard_words, receive_words}
-use Rattle.sd_words.specs.Words.{sample_words, layered_words, input_words, bare_words, one_word, three_words}
-use Rattle.sd_words.specs.Words.{four_words, help_on, is_help, is_version, number_in}
-use Rattle.sd_run_help.specs.Topics.{topic_of}
-use Rattle.sd_run_help.specs.declared.topic.Topic.{Topic}
-use Rattle.sd_sample.specs.declared.stream.TheConstants.{MOST_PACKETS}
-use Rattle.sd_run.specs.Meaning.{order_meaning, meaning}
+use Rattle.sd_commands.specs.declared.command.Command.{Command}
+use Rattle.sd_commands.specs.declared.command.Command.TheVariants.{Accounts, Book, Card, Cover, Head, Layered, Lcard}
+use Rattle.sd_commands.specs.declared.command.Command.TheVariants.{Opens, Receive, Sample, Tables, Trace, Trial}
+use Rattle.sd_commands.specs.declared.operand.Operand.{Operand}
+use Rattle.sd_commands.specs.declared.operand.Kind.{Kind}
+use Rattle.sd_commands.specs.declared.operand.Kind.TheVariants as kind
+use Rattle.sd_commands.specs.Commands.{commands, command_of, named, name_of, operands_of}
+use Rattle.sd_commands.specs.Operands.{kind_of}
+use Rattle.sd_words.specs.Words.{Argument, OutOf, Order, CommandOf, HelpOf, VersionOf, file, file_of, number, before}
+use Rattle.sd_words.specs.Words.{argument_of, arguments_from, out_is_read, ordered, command_words, words_of, is_help}
+use Rattle.sd_words.specs.Words.{is_version, help_on, help_words, version_words, named_words, order_of}
+use Rattle.std.proofs.Common.{suc, length, slice_get, not, ◌==◌, ◌+◌, arith, eqb-true}
+use Rattle.sd_run.specs.Meaning.{command_meaning, order_meaning, meaning}
 use Rattle.sd_run_laws.specs.Outcome.{makers, last_of, out_name, RefusesFirst}
 
 -- the work makes the file of this name or none; and if it ends with a refusal of words or files, it does nothing
@@ -278,37 +282,44 @@ trial_orderly site book clear given =
     (λ prefix. value (trying plan prefix)) (λ prefix. trial_quiet (trial_text plan prefix)))
 
 -- the file that an order makes
+abbrev out_by : Command → List Argument → Option (List ℕ)
+out_by Accounts words = Some (file 3 words).text
+out_by Book words = Some (file 4 words).text
+out_by Card words = Some (file 3 words).text
+out_by Cover words = None
+out_by Head words = Some (file 4 words).text
+out_by Layered words = None
+out_by Lcard words = Some (file 4 words).text
+out_by Opens words = None
+out_by Receive words = Some (file 3 words).text
+out_by Sample words = Some (file 3 words).text
+out_by Tables words = None
+out_by Trace words = None
+out_by Trial words = None
+
 abbrev out_of : Order → Option (List ℕ)
-out_of (CoverOf site book) = None
-out_of (CardOf site leaf out) = Some out.text
-out_of (SampleOf number packets out) = Some out.text
-out_of (TablesOf stream) = None
-out_of (HeadOf site book clear out) = Some out.text
-out_of (ReceiveOf card stream out) = Some out.text
-out_of (AccountsOf site accounts out) = Some out.text
-out_of (BookOf site book commands out) = Some out.text
-out_of (LayeredOf site book width) = None
-out_of (LcardOf site leaf width out) = Some out.text
-out_of (OpensOf site book leaves) = None
-out_of (TraceOf site book leaves) = None
-out_of (TrialOf site book clear) = None
+out_of (CommandOf command arguments) = out_by command arguments
 out_of (HelpOf topic) = None
 out_of VersionOf = None
 
+command_orderly : (command : Command) (words : List Argument) (given : Given) →
+    AreOrderly (out_by command words) (command_meaning command words given).result
+command_orderly Accounts words given = accounts_orderly (file 1 words) (file 2 words) (file 3 words) given
+command_orderly Book words given = book_orderly (file 1 words) (file 2 words) (file 3 words) (file 4 words) given
+command_orderly Card words given = card_orderly (file 1 words) (number 2 words) (file 3 words) given
+command_orderly Cover words given = cover_orderly (file 1 words) (file 2 words) given
+command_orderly Head words given = head_orderly (file 1 words) (file 2 words) (file 3 words) (file 4 words) given
+command_orderly Layered words given = layered_orderly (file 1 words) (file 2 words) (number 3 words) given
+command_orderly Lcard words given = lcard_orderly (file 1 words) (number 2 words) (number 3 words) (file 4 words) given
+command_orderly Opens words given = opens_orderly (file 1 words) (file 2 words) (file 3 words) given
+command_orderly Receive words given = receive_orderly (file 1 words) (file 2 words) (file 3 words) given
+command_orderly Sample words given = sample_orderly (number 1 words).value (number 2 words).value (file 3 words) given
+command_orderly Tables words given = tables_orderly (file 1 words) given
+command_orderly Trace words given = trace_orderly (file 1 words) (file 2 words) (file 3 words) given
+command_orderly Trial words given = trial_orderly (file 1 words) (file 2 words) (file 3 words) given
+
 order_orderly : (order : Order) (given : Given) → AreOrderly (out_of order) (order_meaning order given).result
-order_orderly (CoverOf site book) given = cover_orderly site book given
-order_orderly (CardOf site leaf out) given = card_orderly site leaf out given
-order_orderly (SampleOf number packets out) given = sample_orderly number packets out given
-order_orderly (TablesOf stream) given = tables_orderly stream given
-order_orderly (HeadOf site book clear out) given = head_orderly site book clear out given
-order_orderly (ReceiveOf card stream out) given = receive_orderly card stream out given
-order_orderly (AccountsOf site accounts out) given = accounts_orderly site accounts out given
-order_orderly (BookOf site book commands out) given = book_orderly site book commands out given
-order_orderly (LayeredOf site book width) given = layered_orderly site book width given
-order_orderly (LcardOf site leaf width out) given = lcard_orderly site leaf width out given
-order_orderly (OpensOf site book leaves) given = opens_orderly site book leaves given
-order_orderly (TraceOf site book leaves) given = trace_orderly site book leaves given
-order_orderly (TrialOf site book clear) given = trial_orderly site book clear given
+order_orderly (CommandOf command arguments) given = command_orderly command arguments given
 order_orderly (HelpOf topic) given = none_made (help.telling (help_text topic)) refl (λ refusal. absurd refusal)
 order_orderly VersionOf given = none_made (help.telling version_text) refl (λ refusal. absurd refusal)
 
@@ -317,136 +328,167 @@ abbrev IsLast : List (List ℕ) → Result Order Status → Type 0
 IsLast words (Ok order) = (name : List ℕ) → out_of order ≡ Some name → out_name words ≡ Some name
 IsLast words (Err status) = Unit {0}
 
-abbrev Makes : Option (List ℕ) → Result Order Status → Type 0
-Makes out (Ok order) = out_of order ≡ out
-Makes out (Err status) = Unit {0}
-
-makes_if : (t : Bool) (out : Option (List ℕ)) (order : Result Order Status) → Makes out order →
-    Makes out (if t then Err Usage else order)
-makes_if true out order h = tt
-makes_if false out order h = h
-
-makes_with : (number : Result ℕ Status) (out : Option (List ℕ)) (next : ℕ → Result Order Status) →
-    ((n : ℕ) → Makes out (next n)) → Makes out (with_number number next)
-makes_with (Ok n) out next h = h n
-makes_with (Err status) out next h = tt
-
-last_if : (t : Bool) (words : List (List ℕ)) (then_order else_order : Result Order Status) →
-    (t ≡ true → IsLast words then_order) → IsLast words else_order → IsLast words (if t then then_order else else_order)
-last_if true words then_order else_order h k = h refl
+last_if : (t : Bool) (words : List (List ℕ)) (then_order else_order : Result Order Status) → IsLast words then_order →
+    IsLast words else_order → IsLast words (if t then then_order else else_order)
+last_if true words then_order else_order h k = h
 last_if false words then_order else_order h k = k
 
-makes_last : (words : List (List ℕ)) (out : Option (List ℕ)) (order : Result Order Status) → out_name words ≡ out →
-    Makes out order → IsLast words order
-makes_last words out (Ok order) last makes = λ name e. last ∙ (sym makes ∙ e)
-makes_last words out (Err status) last makes = tt
+-- the last argument of a row that ends with OUT
+abbrev EndsOut : List Operand → Type 0
+EndsOut [] = ⊥
+EndsOut (operand ∷ []) = kind_of operand ≡ kind.Output
+EndsOut (operand ∷ next ∷ operands) = EndsOut (next ∷ operands)
 
-makes_none : (words : List (List ℕ)) (order : Result Order Status) → Makes None order → IsLast words order
-makes_none words (Ok order) makes = λ name e. absurd (let both = sym makes ∙ e in cc)
-makes_none words (Err status) makes = tt
+record HasOut (operands : List Operand) (texts : List (List ℕ)) (arguments : List Argument) : Type 0 where
+  word : Word
+  last : last_of texts ≡ Some word.text
+  at : ℕ
+  at_is : at + 1 ≡ length operands
+  there : slice_get arguments at ≡ Some (OutOf word)
+
+record Before (first : Result Argument Status) (rest : Result (List Argument) Status) (arguments : List Argument) :
+    Type 0 where
+  argument : Argument
+  later : List Argument
+  first_is : first ≡ Ok argument
+  rest_is : rest ≡ Ok later
+  same : arguments ≡ argument ∷ later
+
+both_ok : (first : Result Argument Status) (rest : Result (List Argument) Status) (arguments : List Argument) →
+    before first rest ≡ Ok arguments → Before first rest arguments
+both_ok (Err status) rest arguments e = absurd (cc)
+both_ok (Ok argument) (Err status) arguments e = absurd (cc)
+both_ok (Ok argument) (Ok later) arguments e =
+    record { argument = argument; later = later; first_is = refl; rest_is = refl; same = cc }
+
+out_read : (place : ℕ) (k : Kind) (text : List ℕ) (argument : Argument) → k ≡ kind.Output →
+    argument_of place k text ≡ Ok argument → argument ≡ OutOf (word_at place text)
+out_read place k text argument is e =
+    let read = sym (ap (λ (o : Kind). argument_of place o text) is) ∙ e in cc
+
+out_last : (operands : List Operand) (texts : List (List ℕ)) (place : ℕ) (arguments : List Argument) →
+    EndsOut operands → length texts ≡ length operands → arguments_from place operands texts ≡ Ok arguments →
+    HasOut operands texts arguments
+out_last [] texts place arguments ends same e = absurd ends
+out_last (operand ∷ operands) [] place arguments ends same e = absurd (omega (arith, same))
+out_last (operand ∷ []) (text ∷ next ∷ texts) place arguments ends same e = absurd (omega (arith, same))
+out_last (operand ∷ []) (text ∷ []) place arguments ends same e =
+    let both = both_ok (argument_of place (kind_of operand) text) (Ok []) arguments e in
+    let is = out_read place (kind_of operand) text both.argument ends both.first_is in
+    record {
+      word = word_at place text;
+      last = refl;
+      at = 0;
+      at_is = refl;
+      there = ap (λ (xs : List Argument). slice_get xs 0) both.same ∙ ap (λ (a : Argument). Some a) is;
+    }
+out_last (operand ∷ next ∷ operands) (text ∷ []) place arguments ends same e = absurd (omega (arith, same))
+out_last (operand ∷ next ∷ operands) (text ∷ later ∷ texts) place arguments ends same e =
+    let both = both_ok (argument_of place (kind_of operand) text)
+    (arguments_from (place + 1) (next ∷ operands) (later ∷ texts)) arguments e in
+    let rest = out_last (next ∷ operands) (later ∷ texts) (place + 1) both.later ends (omega (arith, same))
+    both.rest_is in
+    record {
+      word = rest.word;
+      last = rest.last;
+      at = suc rest.at;
+      at_is = let low = rest.at_is in omega (arith, low);
+      there = ap (λ (xs : List Argument). slice_get xs (suc rest.at)) both.same ∙ rest.there;
+    }
+
+-- a command by its name
+named_is : (name : List ℕ) (commands : List Command) (command : Command) → named name commands ≡ Some command →
+    bytes_eq name (name_of command) ≡ true
+named_is name [] command e = absurd (cc)
+named_is name (first ∷ rest) command e = by_test (bytes_eq name (name_of first)) refl e (named_is name rest command)
+  where
+    by_test : (t : Bool) → bytes_eq name (name_of first) ≡ t →
+        (if t then Some first else named name rest) ≡ Some command →
+        (named name rest ≡ Some command → bytes_eq name (name_of command) ≡ true) →
+        bytes_eq name (name_of command) ≡ true
+    by_test true f e later = let same : first ≡ command = cc in
+        ap (λ (c : Command). bytes_eq name (name_of c)) (sym same) ∙ f
+    by_test false f e later = later e
 
 -- a command that makes a file
-is_maker : (command name : List ℕ) (words : List (List ℕ)) → list_any (bytes_eq name) makers ≡ true →
-    bytes_eq command name ≡ true → out_name (command ∷ words) ≡ last_of words
-is_maker command name words maker same =
-    let is : command ≡ name = (bytes_eq-Decides command name).0 same in
-    ap (λ (t : Bool). if t then last_of words else None) (ap (λ (c : List ℕ). list_any (bytes_eq c) makers) is ∙ maker)
+maker_last : (command : Command) (name : List ℕ) (texts : List (List ℕ)) (arguments : List Argument) →
+    EndsOut (operands_of command) → list_any (bytes_eq (name_of command)) makers ≡ true →
+    bytes_eq name (name_of command) ≡ true → length texts ≡ length (operands_of command) →
+    arguments_from 1 (operands_of command) texts ≡ Ok arguments →
+    out_name (name ∷ texts) ≡ Some (file (length (operands_of command)) arguments).text
+maker_last command name texts arguments ends maker named same e =
+    let is : name ≡ name_of command = (bytes_eq-Decides name (name_of command)).0 named in
+    let out = out_last (operands_of command) texts 1 arguments ends same e in
+    let last = out.at_is in
+    let at : out.at ≡ length (operands_of command) - 1 = omega (arith, last) in
+    let there : slice_get arguments (length (operands_of command) - 1) ≡ Some (OutOf out.word) =
+    ap (slice_get arguments) (sym at) ∙ out.there in
+    ap (λ (t : Bool). if t then last_of texts else None) (ap (λ (c : List ℕ). list_any (bytes_eq c) makers) is ∙ maker)
+    ∙ (out.last ∙ ap (λ (a : Option Argument). Some (file_of (length (operands_of command)) a).text) (sym there))
 
-card_makes : (site leaf out : List ℕ) → Makes (Some out) (card_words site leaf out)
-unfolding card_words
-card_makes site leaf out =
-    makes_if (bytes_eq site out) (Some out) _ (makes_with (number_in 2 (2 ^ 32 - 1) leaf) (Some out) _ (λ u. refl))
+command_last : (command : Command) (name : List ℕ) (texts : List (List ℕ)) (arguments : List Argument) →
+    bytes_eq name (name_of command) ≡ true → length texts ≡ length (operands_of command) →
+    arguments_from 1 (operands_of command) texts ≡ Ok arguments →
+    IsLast (name ∷ texts) (Ok (CommandOf command arguments))
+unfolding operands_of name_of
+command_last Accounts name texts arguments named same read text e = maker_last Accounts name texts arguments refl refl named same read ∙ e
+command_last Book name texts arguments named same read text e = maker_last Book name texts arguments refl refl named same read ∙ e
+command_last Card name texts arguments named same read text e = maker_last Card name texts arguments refl refl named same read ∙ e
+command_last Cover name texts arguments named same read text e = absurd (cc)
+command_last Head name texts arguments named same read text e = maker_last Head name texts arguments refl refl named same read ∙ e
+command_last Layered name texts arguments named same read text e = absurd (cc)
+command_last Lcard name texts arguments named same read text e = maker_last Lcard name texts arguments refl refl named same read ∙ e
+command_last Opens name texts arguments named same read text e = absurd (cc)
+command_last Receive name texts arguments named same read text e = maker_last Receive name texts arguments refl refl named same read ∙ e
+command_last Sample name texts arguments named same read text e = maker_last Sample name texts arguments refl refl named same read ∙ e
+command_last Tables name texts arguments named same read text e = absurd (cc)
+command_last Trace name texts arguments named same read text e = absurd (cc)
+command_last Trial name texts arguments named same read text e = absurd (cc)
 
-sample_makes : (number packets out : List ℕ) → Makes (Some out) (sample_words number packets out)
-unfolding sample_words
-sample_makes number packets out =
-    makes_with (number_in 1 (2 ^ 32 - 1) number) (Some out) _ (λ n. makes_with (number_in 2 MOST_PACKETS packets)
-    (Some out) _ (λ k. refl))
-
-lcard_makes : (site leaf width out : List ℕ) → Makes (Some out) (lcard_words site leaf width out)
-unfolding lcard_words
-lcard_makes site leaf width out =
-    makes_if (bytes_eq site out) (Some out) _ (makes_with (number_in 2 (2 ^ 32 - 1) leaf) (Some out) _ (λ u.
-    makes_with (number_in 3 (2 ^ 32 - 1) width) (Some out) _ (λ w. refl)))
-
-layered_makes : (site book width : List ℕ) → Makes None (layered_words site book width)
-unfolding layered_words
-layered_makes site book width = makes_with (number_in 3 (2 ^ 32 - 1) width) None _ (λ w. refl)
-
-input_makes : (command a b c : List ℕ) → Makes None (input_words command a b c)
-unfolding input_words
-input_makes command a b c =
-    either (bytes_eq command (codes "opens")) _ _ refl
-    (either (bytes_eq command (codes "trace")) _ _ refl (either (bytes_eq command (codes "trial")) _ _ refl tt))
+row_last : (command : Command) (name : List ℕ) (texts : List (List ℕ)) → bytes_eq name (name_of command) ≡ true →
+    IsLast (name ∷ texts) (command_words command (operands_of command) texts)
+row_last command name texts named =
+    by_count (length texts == length (operands_of command)) (out_is_read (operands_of command) texts) refl
   where
-    either : (t : Bool) (x y : Result Order Status) → Makes None x → Makes None y → Makes None (if t then x else y)
-    either true x y h k = h
-    either false x y h k = k
+    by_arguments : (r : Result (List Argument) Status) → length texts ≡ length (operands_of command) →
+        arguments_from 1 (operands_of command) texts ≡ r → IsLast (name ∷ texts) (ordered command r)
+    by_arguments (Ok arguments) same e = command_last command name texts arguments named same e
+    by_arguments (Err status) same e = tt
 
-three_last : (command a b c : List ℕ) → IsLast (command ∷ a ∷ b ∷ c ∷ []) (three_words command a b c)
-unfolding three_words receive_words accounts_words
-three_last command a b c =
-    let words = command ∷ a ∷ b ∷ c ∷ [] in
-    let rest = a ∷ b ∷ c ∷ [] in
-    last_if (bytes_eq command (codes "card")) words (card_words a b c) _
-    (λ e. makes_last words (Some c) (card_words a b c) (is_maker command (codes "card") rest refl e)
-    (card_makes a b c))
-    (last_if (bytes_eq command (codes "sample")) words (sample_words a b c) _
-    (λ e. makes_last words (Some c) (sample_words a b c) (is_maker command (codes "sample") rest refl e)
-    (sample_makes a b c))
-    (last_if (bytes_eq command (codes "receive")) words (receive_words a b c) _
-    (λ e. makes_last words (Some c) (receive_words a b c) (is_maker command (codes "receive") rest refl e)
-    (makes_if (bytes_eq a c || bytes_eq b c) (Some c) _ refl))
-    (last_if (bytes_eq command (codes "accounts")) words (accounts_words a b c) _
-    (λ e. makes_last words (Some c) (accounts_words a b c) (is_maker command (codes "accounts") rest refl e)
-    (makes_if (bytes_eq a c || bytes_eq b c) (Some c) _ refl))
-    (last_if (bytes_eq command (codes "layered")) words (layered_words a b c) _
-    (λ e. makes_none words (layered_words a b c) (layered_makes a b c))
-    (makes_none words (input_words command a b c) (input_makes command a b c))))))
+    by_count : (same read : Bool) → (length texts == length (operands_of command)) ≡ same →
+        IsLast (name ∷ texts) (if not same || read then Err Usage
+        else ordered command (arguments_from 1 (operands_of command) texts))
+    by_count false read e = tt
+    by_count true true e = tt
+    by_count true false e =
+        by_arguments (arguments_from 1 (operands_of command) texts)
+        (eqb-true (length texts) (length (operands_of command)) e) refl
 
-four_last : (command a b c d : List ℕ) → IsLast (command ∷ a ∷ b ∷ c ∷ d ∷ []) (four_words command a b c d)
-unfolding four_words head_words book_words
-four_last command a b c d =
-    let words = command ∷ a ∷ b ∷ c ∷ d ∷ [] in
-    let rest = a ∷ b ∷ c ∷ d ∷ [] in
-    last_if (bytes_eq command (codes "head")) words (head_words a b c d) _
-    (λ e. makes_last words (Some d) (head_words a b c d) (is_maker command (codes "head") rest refl e)
-    (makes_if (bytes_eq a d || (bytes_eq b d || bytes_eq c d)) (Some d) _ refl))
-    (last_if (bytes_eq command (codes "book")) words (book_words a b c d) _
-    (λ e. makes_last words (Some d) (book_words a b c d) (is_maker command (codes "book") rest refl e)
-    (makes_if (bytes_eq a d || (bytes_eq b d || bytes_eq c d)) (Some d) _ refl))
-    (last_if (bytes_eq command (codes "lcard")) words (lcard_words a b c d) (Err Usage)
-    (λ e. makes_last words (Some d) (lcard_words a b c d) (is_maker command (codes "lcard") rest refl e)
-    (lcard_makes a b c d)) tt))
+help_last : (name : List ℕ) (texts : List (List ℕ)) → IsLast (name ∷ texts) (help_words texts)
+help_last name [] = λ text e. absurd (cc)
+help_last name (word ∷ next ∷ words) = tt
+help_last name (word ∷ []) = by_topic (command_of word)
+  where
+    by_topic : (topic : Option Command) → IsLast (name ∷ word ∷ []) (help_on topic)
+    by_topic None = tt
+    by_topic (Some topic) = λ text e. absurd (cc)
 
-help_last : (words : List (List ℕ)) (topic : Option Topic) → IsLast words (help_on topic)
-help_last words None = tt
-help_last words (Some topic) = λ name e. absurd (cc)
-
-bare_last : (command : List ℕ) → IsLast (command ∷ []) (bare_words command)
-unfolding bare_words
-bare_last command =
-    let words = command ∷ [] in
-    last_if (is_help command) words (Ok (HelpOf None)) _ (λ e name f. absurd (cc))
-    (last_if (is_version command) words (Ok VersionOf) (Err Usage) (λ e name f. absurd (cc)) tt)
-
-one_last : (command a : List ℕ) → IsLast (command ∷ a ∷ []) (one_word command a)
-unfolding one_word
-one_last command a =
-    let words = command ∷ a ∷ [] in
-    last_if (bytes_eq command (codes "tables")) words (Ok (TablesOf (word_at 1 a))) _ (λ e name f. absurd (cc))
-    (last_if (is_help command) words (help_on (topic_of a)) (Err Usage) (λ e. help_last words (topic_of a)) tt)
+version_last : (name : List ℕ) (texts : List (List ℕ)) → IsLast (name ∷ texts) (version_words texts)
+version_last name [] = λ text e. absurd (cc)
+version_last name (word ∷ words) = tt
 
 order_last : (words : List (List ℕ)) → IsLast words (order_of words)
+unfolding named_words command_of
 order_last [] = tt
-order_last (command ∷ []) = bare_last command
-order_last (command ∷ a ∷ []) = one_last command a
-order_last (command ∷ a ∷ b ∷ []) =
-    last_if (bytes_eq command (codes "cover")) (command ∷ a ∷ b ∷ []) (Ok (CoverOf (word_at 1 a) (word_at 2 b)))
-    (Err Usage) (λ e name f. absurd (cc)) tt
-order_last (command ∷ a ∷ b ∷ c ∷ []) = three_last command a b c
-order_last (command ∷ a ∷ b ∷ c ∷ d ∷ []) = four_last command a b c d
-order_last (command ∷ a ∷ b ∷ c ∷ d ∷ e ∷ words) = tt
+order_last (name ∷ texts) =
+    last_if (is_help name) (name ∷ texts) (help_words texts) _ (help_last name texts)
+    (last_if (is_version name) (name ∷ texts) (version_words texts) _ (version_last name texts)
+    (by_command (named name commands) refl))
+  where
+    by_command : (found : Option Command) → named name commands ≡ found →
+        IsLast (name ∷ texts) (words_of found texts)
+    by_command None e = tt
+    by_command (Some command) e = row_last command name texts (named_is name commands command e)
 
 -- the work that words mean makes the file that their last word names, or none
 widened : (out name : Option (List ℕ)) (meant : Result Work Status) →
