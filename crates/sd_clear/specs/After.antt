@@ -2,7 +2,7 @@
 use Rattle.std.specs.Prelude.{◌≡◌, ℕ, ◌-◌, ◌^◌, ◌<◌, true, List, length, slice_index}
 use Rattle.sd_packet.specs.Header.{pid_of, scrambling_of}
 use Rattle.sd_packet.specs.Positions.{is_positional, is_placed, position_of, first_position}
-use Rattle.sd_ecm.specs.declared.format.TheConstants.{MOST_PLACES}
+use Rattle.sd_ecm.specs.Versions.{most_places}
 use Rattle.sd_broadcast.specs.Kinds.{pmts_in, moved_pids}
 use Rattle.sd_clear.specs.Kept.{AreMarked}
 use Rattle.sd_clear.specs.declared.clear.Clear.{Clear}
@@ -23,4 +23,4 @@ pub record MayFollow (clear : Clear) (packet : List ℕ) : Type 0 where
   pub unscrambled : scrambling_of packet ≡ 0
   pub number : clear.count < 2 ^ 32 - 1
   pub room : is_placed packet ≡ true → slice_index clear.positions.items (pid_of packet) ≡ first_position →
-      length clear.pids.items < MOST_PLACES
+      length clear.pids.items < most_places

@@ -65,7 +65,7 @@ out_of_one_more card past (first ∷ packets) packet =
     (before_past first packets past))
 
 -- what was written in earlier times, and in the present one
-written_parts : (plan : Plan) (card : CardFields) (clear : List (List ℕ)) (w : Watch) →
+pub written_parts : (plan : Plan) (card : CardFields) (clear : List (List ℕ)) (w : Watch) →
     written plan card clear w
     ≡ flat_map (λ places. out_from card [] (at_places [] (stream plan clear) places)) (reverse (map reverse w.earlier))
     ++ out_from card [] (present plan clear w)
@@ -78,7 +78,7 @@ written_parts plan card clear w =
     (append-nil (out (reverse w.now))))
 
 -- a receiver that is on and has a packet left is offered it
-heard_is : (u n : ℕ) (w : Watch) → w.on ≡ true → w.cursor < n → watched u n (Offer u) w
+pub heard_is : (u n : ℕ) (w : Watch) → w.on ≡ true → w.cursor < n → watched u n (Offer u) w
     ≡ record { on = w.on; cursor = suc w.cursor; now = w.cursor ∷ w.now; earlier = w.earlier }
 heard_is u n w on left =
     let test : ((u == u) && nat_lt w.cursor n) ≡ true = grind (arith, nat_tests, left) in
@@ -221,7 +221,7 @@ unheard_writes_nothing plan card clear u n v w off =
     same_both plan card clear w (watched u n (Offer v) w) (unheard_same u n v w off)
 
 -- a receiver that is off is switched on as a new one
-on_is : (u n : ℕ) (w : Watch) → w.on ≡ false → watched u n (On u) w ≡ switched_on w
+pub on_is : (u n : ℕ) (w : Watch) → w.on ≡ false → watched u n (On u) w ≡ switched_on w
 on_is u n w off =
     let test : ((u == u) && not w.on) ≡ true = grind (arith, nat_tests, off) in rw test refl
 

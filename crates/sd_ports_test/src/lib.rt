@@ -1,9 +1,11 @@
 //! Tests of the outside and of what goes through it: ports in memory and on the machine, streams that are driven, sample
-//! streams, the inspector and its lines, statuses.
+//! streams, the inspector and its lines, statuses and what they are to a user.
 #![tactic(auto)]
 
 #[cfg(test)]
 mod engine;
+#[cfg(test)]
+mod explained;
 #[cfg(test)]
 mod files;
 #[cfg(test)]

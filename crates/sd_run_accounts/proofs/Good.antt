@@ -9,8 +9,7 @@ use Rattle.sd_status.specs.declared.status.Status.{Status}
 use Rattle.sd_status.specs.declared.status.Status.TheVariants.{Limit}
 use Rattle.sd_status.specs.declared.status.LimitKind.TheVariants.{BookBytes}
 use Rattle.sd_status.specs.Meant.{Meant, Word, Given, after, judged, value, within, ◌>>=◌}
-use Rattle.sd_files.specs.declared.files.TheConstants.{MOST_BOOK_BYTES}
-use Rattle.sd_files.specs.Files.{site_in}
+use Rattle.sd_files.specs.Files.{site_in, most_book_bytes}
 use Rattle.sd_run_accounts.specs.Accounts.{accounts_in, accounts_meaning, accounts_of_file, accounts_value}
 use Rattle.sd_run_accounts.specs.Accounts.{making_then, report_line, told_accounts}
 
@@ -19,14 +18,14 @@ then_is : {A B : Type 0} (first : Meant A) (x : A) (next : A → Meant B) → fi
 then_is {A} first x next e = ap (λ (r : Result A Status). (after first.calls r next).result) e
 
 -- an accounts file within the limit, whose lines make these commands
-file_good : (word d : ℕ) (bytes : List ℕ) (commands : List Command) → length bytes ≤ MOST_BOOK_BYTES →
+file_good : (word d : ℕ) (bytes : List ℕ) (commands : List Command) → length bytes ≤ most_book_bytes →
     book_of d bytes ≡ Ok commands →
     (accounts_of_file word d (Some bytes)).result ≡ Ok (accounts_value d bytes commands)
 unfolding accounts_of_file
 file_good word d bytes commands short book =
-    then_is (within word MOST_BOOK_BYTES BookBytes (Some bytes)) bytes
+    then_is (within word most_book_bytes BookBytes (Some bytes)) bytes
     (λ bytes. judged (told_accounts word (accounts_value d bytes) (book_of d bytes)))
-    (ap (λ (b : Bool). cond b (Err (Limit BookBytes)) (Ok bytes)) (le-ltb MOST_BOOK_BYTES (length bytes) short))
+    (ap (λ (b : Bool). cond b (Err (Limit BookBytes)) (Ok bytes)) (le-ltb most_book_bytes (length bytes) short))
     ∙ ap (told_accounts word (accounts_value d bytes)) book
 
 -- the site and the accounts
@@ -43,7 +42,7 @@ both_good site accounts given fields found good_site good_file =
 -- the book is made and the report printed
 pub accounts_good : (site accounts out : Word) (given : Given) (fields : SiteFields) (bytes : List ℕ)
     (commands : List Command) → (site_in given site).result ≡ Ok fields → given accounts ≡ Some bytes →
-    length bytes ≤ MOST_BOOK_BYTES → book_of fields.height bytes ≡ Ok commands →
+    length bytes ≤ most_book_bytes → book_of fields.height bytes ≡ Ok commands →
     (accounts_meaning site accounts out given).result ≡
     Ok (making_then out (text_of commands) (report_line (accounts_value fields.height bytes commands)))
 accounts_good site accounts out given fields bytes commands good_site there short book =

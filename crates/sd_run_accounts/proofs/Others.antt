@@ -8,8 +8,7 @@ use Rattle.sd_accounts.specs.declared.fault.AccountFault.{AccountFault}
 use Rattle.sd_accounts.specs.declared.fault.AccountFault.TheVariants.{Line, Unknown, Taken, Limit, NoMemory}
 use Rattle.sd_status.specs.declared.status.LimitKind.TheVariants.{BookBytes}
 use Rattle.sd_status.specs.Meant.{Word, Given, judged, value, within, ◌>>=◌}
-use Rattle.sd_files.specs.declared.files.TheConstants.{MOST_BOOK_BYTES}
-use Rattle.sd_files.specs.Files.{site_of_file}
+use Rattle.sd_files.specs.Files.{site_of_file, most_book_bytes}
 use Rattle.sd_files.proofs.Others.{IsOther, other_after, other_file, other_site_file}
 use Rattle.sd_run_accounts.specs.Accounts.{accounts_in, accounts_meaning, accounts_of_file, accounts_value}
 use Rattle.sd_run_accounts.specs.Accounts.{making_then, report_line, told_accounts}
@@ -26,9 +25,9 @@ other_told word accounts (Err NoMemory) = λ e. cc
 other_accounts_file : (word d : ℕ) (got : Option (List ℕ)) → IsOther (accounts_of_file word d got).result
 unfolding accounts_of_file
 other_accounts_file word d got =
-    other_after (within word MOST_BOOK_BYTES BookBytes got).calls (within word MOST_BOOK_BYTES BookBytes got).result
+    other_after (within word most_book_bytes BookBytes got).calls (within word most_book_bytes BookBytes got).result
     (λ bytes. judged (told_accounts word (accounts_value d bytes) (book_of d bytes)))
-    (other_file word MOST_BOOK_BYTES BookBytes got)
+    (other_file word most_book_bytes BookBytes got)
     (λ bytes. other_told word (accounts_value d bytes) (book_of d bytes))
 
 other_in : (site accounts : Word) (given : Given) → IsOther (accounts_in site accounts given).result

@@ -18,8 +18,7 @@ use Rattle.sd_status.specs.declared.status.Status.TheVariants.{Done, BadBook, Li
 use Rattle.sd_status.specs.declared.status.LimitKind.TheVariants.{BookBytes, Book}
 use Rattle.sd_status.specs.Meant.{Meant, Word, Given, value, judged, within, ◌>>=◌}
 use Rattle.sd_status.specs.Work.{NoSteps, Work}
-use Rattle.sd_files.specs.declared.files.TheConstants.{MOST_BOOK_BYTES}
-use Rattle.sd_files.specs.Files.{site_in}
+use Rattle.sd_files.specs.Files.{site_in, most_book_bytes}
 
 -- the account that a line binds
 abbrev pub account_on : Option Entry → Option Account
@@ -55,7 +54,7 @@ told_accounts word accounts (Err fault) = Err (refused_accounts word fault)
 -- the accounts, for a tree of height d, of what the file of this word gave
 unfoldable pub accounts_of_file : ℕ → ℕ → Option (List ℕ) → Meant AccountsValue
 accounts_of_file word d got =
-    within word MOST_BOOK_BYTES BookBytes got
+    within word most_book_bytes BookBytes got
     >>= λ bytes. judged (told_accounts word (accounts_value d bytes) (book_of d bytes))
 
 -- the accounts that the two files say

@@ -3,7 +3,7 @@ ghost use Rattle.std.specs.Prelude.{◌≤◌};
 use sd_ports::MemDepot;
 use std::alloc::{AllocError, Global};
 
-/// As many bytes as a file that is made has room for where no fewer are asked for, and as many as may be printed.
+/// As many bytes as a file that is made has room for if nothing else is asked for, and as many as may be printed at least.
 pub(crate) const ROOM: usize = 120_000;
 
 /// A site of height 3.
@@ -28,7 +28,7 @@ struct File {
 #[derive(Drop)]
 pub struct Files {
     list: Vec<File>,
-    /// As many bytes as a file that is made has room for.
+    /// As many bytes as a file that is made has room for. No fewer may be printed.
     pub room: usize,
 }
 

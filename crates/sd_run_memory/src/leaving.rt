@@ -64,7 +64,7 @@ pub fn left(
         Fault::Port(name, number) => depot.fail_port(String::from_str(alloc, name)?, number),
         Fault::Print(number) => fails.push(number)?,
     }
-    let mut print = MemSink::new(alloc, ROOM, most, fails).map_err(|_| AllocError)?;
+    let mut print = MemSink::new(alloc, ROOM.max(files.room), most, fails).map_err(|_| AllocError)?;
     let mut list = Vec::new(alloc);
     for word in words {
         list.push(String::from_str(alloc, word)?)?;

@@ -6,9 +6,8 @@ use Rattle.sd_card.specs.Faults.{fault_in}
 use Rattle.sd_status.specs.declared.status.LimitKind.TheVariants.{CardBytes}
 use Rattle.sd_status.specs.Meant.{Word, Given, all_of, judged, value, within}
 use Rattle.sd_files.proofs.Others.{IsOther, other_after, other_file, other_stream}
-use Rattle.sd_run_receive.specs.declared.command.TheConstants.{MOST_CARD_BYTES}
 use Rattle.sd_run_receive.specs.Receive.{card_said, card_unless, told_card, card_of_file, receiving, stream_meaning}
-use Rattle.sd_run_receive.specs.Receive.{receive_meaning}
+use Rattle.sd_run_receive.specs.Receive.{receive_meaning, most_card_bytes}
 
 other_unless : (fault : Option CardFault) (card : CardFields) → IsOther (card_unless fault card)
 other_unless None card = tt
@@ -21,8 +20,8 @@ other_receiver bytes = other_unless (fault_in bytes) (card_said bytes)
 other_card_file : (word : ℕ) (got : Option (List ℕ)) → IsOther (card_of_file word got).result
 unfolding card_of_file
 other_card_file word got =
-    other_after (within word MOST_CARD_BYTES CardBytes got).calls (within word MOST_CARD_BYTES CardBytes got).result
-    (λ bytes. judged (told_card bytes)) (other_file word MOST_CARD_BYTES CardBytes got) other_receiver
+    other_after (within word most_card_bytes CardBytes got).calls (within word most_card_bytes CardBytes got).result
+    (λ bytes. judged (told_card bytes)) (other_file word most_card_bytes CardBytes got) other_receiver
 
 pub other_receive : (card stream out : Word) (given : Given) → IsOther (receive_meaning card stream out given).result
 unfolding receive_meaning

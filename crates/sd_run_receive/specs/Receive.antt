@@ -27,8 +27,11 @@ use Rattle.sd_status.specs.declared.status.StreamCause.TheVariants.{BadEcm, Pari
 use Rattle.sd_status.specs.declared.status.LimitKind.TheVariants.{CardBytes}
 use Rattle.sd_status.specs.Meant.{Meant, Word, Given, all_of, within, judged, value, ◌>>=◌}
 use Rattle.sd_status.specs.Work.{UpTo, Work}
-use Rattle.sd_run_receive.specs.declared.command.TheConstants.{MOST_CARD_BYTES}
 use Rattle.sd_files.specs.Turned.{turning, Wrote}
+
+-- the bytes of the longest card file [this project, docs/FORMATS.md, Card]
+abbrev pub most_card_bytes : ℕ
+most_card_bytes = 8192
 
 -- the first n secrets in these bytes
 unfoldable pub secrets_of : ℕ → List ℕ → List (List ℕ)
@@ -56,7 +59,7 @@ told_card bytes = card_unless (fault_in bytes) (card_said bytes)
 
 -- the card of what the file of this word gave
 unfoldable pub card_of_file : ℕ → Option (List ℕ) → Meant CardFields
-card_of_file word got = within word MOST_CARD_BYTES CardBytes got >>= λ bytes. judged (told_card bytes)
+card_of_file word got = within word most_card_bytes CardBytes got >>= λ bytes. judged (told_card bytes)
 
 abbrev pub card_in : Given → Word → Meant CardFields
 card_in given word = card_of_file word.number (given word)

@@ -9,9 +9,13 @@ mod commands;
 #[cfg(test)]
 mod day;
 #[cfg(test)]
+mod days;
+#[cfg(test)]
 mod devices;
 #[cfg(test)]
 mod hostile;
+#[cfg(test)]
+mod runs;
 #[cfg(test)]
 mod several;
 #[cfg(test)]

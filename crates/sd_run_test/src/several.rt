@@ -45,9 +45,22 @@ fn elementary(alloc: Global, stream: &[u8]) -> Result<Vec<[u8; PACKET]>, AllocEr
 
 /// A clear stream and its broadcast.
 #[derive(Drop)]
-struct Run {
+pub(crate) struct Run {
     clear: Vec<[u8; PACKET]>,
     sent: Vec<[u8; PACKET]>,
+}
+
+/// The run of which these are the files.
+pub(crate) fn run_of(
+    alloc: Global,
+    depot: &MemDepot,
+    clear: &str,
+    sent: &str,
+) -> Result<Run, AllocError> {
+    Ok(Run {
+        clear: elementary(alloc, &file(alloc, depot, clear)?)?,
+        sent: elementary(alloc, &file(alloc, depot, sent)?)?,
+    })
 }
 
 fn broadcast_of(alloc: Global, lines: &str, sample: &str) -> Result<Run, AllocError> {
@@ -55,14 +68,11 @@ fn broadcast_of(alloc: Global, lines: &str, sample: &str) -> Result<Run, AllocEr
     site.extend_from_slice(lines.as_bytes())?;
     let mut depot = shelf(alloc, site, b"", sample)?;
     answered(alloc, &mut depot, "head site book clear broadcast")?;
-    Ok(Run {
-        clear: elementary(alloc, &file(alloc, &depot, "clear")?)?,
-        sent: elementary(alloc, &file(alloc, &depot, "broadcast")?)?,
-    })
+    run_of(alloc, &depot, "clear", "broadcast")
 }
 
 /// How many packets have in two broadcasts the XOR of the clear ones.
-fn two_time_pads(one: &Run, two: &Run) -> Option<usize> {
+pub(crate) fn two_time_pads(one: &Run, two: &Run) -> Option<usize> {
     let mut count = 0usize;
     for k in 0..one.sent.len() {
         let (a, b) = (one.sent.get(k)?, two.sent.get(k)?);

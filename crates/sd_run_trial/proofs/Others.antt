@@ -8,10 +8,9 @@ use Rattle.sd_status.specs.Meant.{Word, Given, all_of, judged, value, ◌>>=◌}
 use Rattle.sd_ports.specs.Bytes.{prefix_of}
 use Rattle.sd_files.specs.Files.{site_of_file, book_of_file}
 use Rattle.sd_files.proofs.Others.{IsOther, other_after, other_stream, other_site_file, other_book_file}
-use Rattle.sd_run_trial.specs.declared.plan.TheConstants.{MOST_HEIGHT}
-use Rattle.sd_run_trial.specs.declared.command.TheConstants.{MOST_CLEAR_BYTES}
+use Rattle.sd_run_trial.specs.Trial.{most_clear_bytes}
 use Rattle.sd_run_trial.specs.Prefixes.{prefix_of_file}
-use Rattle.sd_run_trial.specs.Trial.{told_low, low_site_of_file, plan_by, trial_meaning, trying}
+use Rattle.sd_run_trial.specs.Trial.{told_low, low_site_of_file, plan_by, trial_meaning, trying, most_height}
 
 other_height : (high : Bool) (site : SiteFields) → IsOther (cond high (Err (Limit TrialHeight)) (Ok site))
 other_height true site = λ e. cc
@@ -21,7 +20,7 @@ other_low : (word : ℕ) (got : Option (List ℕ)) → IsOther (low_site_of_file
 unfolding low_site_of_file
 other_low word got =
     other_after (site_of_file word got).calls (site_of_file word got).result (λ site. judged (told_low site))
-    (other_site_file word got) (λ site. other_height (nat_lt MOST_HEIGHT site.height) site)
+    (other_site_file word got) (λ site. other_height (nat_lt most_height site.height) site)
 
 other_plan : (site book : ℕ) (site_got book_got : Option (List ℕ)) →
     IsOther (plan_by site book site_got book_got).result
@@ -47,8 +46,8 @@ unfolding trial_meaning
 other_trial site book clear given =
     other_after (plan_by site.number book.number (given site) (given book)).calls
     (plan_by site.number book.number (given site) (given book)).result
-    (λ plan. prefix_of_file clear.number MOST_CLEAR_BYTES (given clear) >>= λ prefix. value (trying plan prefix))
+    (λ plan. prefix_of_file clear.number most_clear_bytes (given clear) >>= λ prefix. value (trying plan prefix))
     (other_plan site.number book.number (given site) (given book))
-    (λ plan. other_after (prefix_of_file clear.number MOST_CLEAR_BYTES (given clear)).calls
-    (prefix_of_file clear.number MOST_CLEAR_BYTES (given clear)).result (λ prefix. value (trying plan prefix))
-    (other_prefix clear.number MOST_CLEAR_BYTES (given clear)) (λ prefix. tt))
+    (λ plan. other_after (prefix_of_file clear.number most_clear_bytes (given clear)).calls
+    (prefix_of_file clear.number most_clear_bytes (given clear)).result (λ prefix. value (trying plan prefix))
+    (other_prefix clear.number most_clear_bytes (given clear)) (λ prefix. tt))

@@ -1,5 +1,5 @@
 -- `trial SITE BOOK CLEAR` [this project, docs/FORMATS.md, Trial].
-use Rattle.std.specs.Prelude.{◌≡◌, ◌⊎◌, ◌^◌, ◌/◌, ℕ, zero, suc, nat_lt, Bool, true, false, List, [], ◌∷◌, ◌++◌, length}
+use Rattle.std.specs.Prelude.{◌≡◌, ◌⊎◌, ◌^◌, ◌*◌, ◌/◌, ℕ, zero, suc, nat_lt, Bool, true, false, List, [], ◌∷◌, ◌++◌, length}
 use Rattle.std.specs.Prelude.{codes, if◌then◌else◌, Option, None, Result, Ok, Err}
 use Rattle.std.specs.Fmt.{decimal}
 use Rattle.sd_ports.specs.Bytes.{Prefix}
@@ -16,12 +16,18 @@ use Rattle.sd_files.specs.Files.{site_of_file, book_of_file}
 use Rattle.sd_run_head.specs.Head.{sent_of, sent_status}
 use Rattle.sd_run_receive.specs.Receive.{received_of, received_status}
 use Rattle.sd_run_trial.specs.Prefixes.{prefix_of_file}
-use Rattle.sd_run_trial.specs.declared.plan.TheConstants.{MOST_HEIGHT}
-use Rattle.sd_run_trial.specs.declared.command.TheConstants.{MOST_CLEAR_BYTES}
+
+-- the greatest height of a tree whose receivers are all run
+abbrev pub most_height : ℕ
+most_height = 6
+
+-- the bytes of the longest clear stream of a trial: 65,536 packets
+abbrev pub most_clear_bytes : ℕ
+most_clear_bytes = 65536 * 188
 
 -- a site whose tree is low enough
 abbrev pub told_low : SiteFields → Result SiteFields Status
-told_low site = if nat_lt MOST_HEIGHT site.height then Err (Limit TrialHeight) else Ok site
+told_low site = if nat_lt most_height site.height then Err (Limit TrialHeight) else Ok site
 
 unfoldable pub low_site_of_file : ℕ → Option (List ℕ) → Meant SiteFields
 low_site_of_file word got = site_of_file word got >>= λ site. judged (told_low site)
@@ -122,7 +128,7 @@ trying plan prefix = printing (trial_text plan prefix)
 unfoldable pub trial_meaning : Word → Word → Word → Given → Meant Work
 trial_meaning site book clear given =
     plan_meaning site book given
-    >>= λ plan. prefix_of_file clear.number MOST_CLEAR_BYTES (given clear) >>= λ prefix. value (trying plan prefix)
+    >>= λ plan. prefix_of_file clear.number most_clear_bytes (given clear) >>= λ prefix. value (trying plan prefix)
 
 -- a step in memory gives what is meant, or the status that it ends with, or memory was out
 abbrev pub Comes : {X : Type 0} → (X → List ℕ) → Result (List ℕ) Status → Result X Status → Type 0

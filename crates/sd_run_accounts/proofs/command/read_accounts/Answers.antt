@@ -4,7 +4,7 @@ use Rattle.sd_status.specs.declared.status.LimitKind.TheVariants.{BookBytes}
 use Rattle.sd_status.specs.Outside.{place}
 use Rattle.sd_status.specs.Meant.{within, judged}
 use Rattle.sd_status.proofs.Follow.{looks_first, looks_judged}
-use Rattle.sd_files.specs.declared.files.TheConstants.{MOST_BOOK_BYTES}
+use Rattle.sd_files.specs.Files.{most_book_bytes}
 use Rattle.sd_run_accounts.specs.Accounts.{accounts_of_file, accounts_value, told_accounts}
 use Rattle.sd_run_accounts.proofs.command.read_accounts.Goals as goal
 
@@ -13,7 +13,7 @@ unfolding accounts_of_file
 returns-in_err-bytes g c =
     let p = err_from_is_err_and c.from_residual.result c.from_residual.ensures.1 in
     let word = c.args.word.number in
-    rw (p.1, p.2) (looks_first (λ bytes. bytes.items) (λ accounts. accounts) (within word MOST_BOOK_BYTES BookBytes)
+    rw (p.1, p.2) (looks_first (λ bytes. bytes.items) (λ accounts. accounts) (within word most_book_bytes BookBytes)
     (λ bytes. judged (told_accounts word (accounts_value c.args.h bytes) (book_of c.args.h bytes)))
     c.args.word.text.now (place g.D.Depot c.args.depot.now) (place g.D.Depot c.read_bytes.new.depot)
     c.in_err-bytes.field-0.0 c.in_err-bytes.ensures)
@@ -23,7 +23,7 @@ unfolding accounts_of_file
 returns g c =
     let judges = rw c.deref.ensures.value at c.judge_accounts.ensures in
     let word = c.args.word.number in
-    looks_judged (λ bytes. bytes.items) (λ accounts. accounts) (within word MOST_BOOK_BYTES BookBytes)
+    looks_judged (λ bytes. bytes.items) (λ accounts. accounts) (within word most_book_bytes BookBytes)
     (λ bytes. told_accounts word (accounts_value c.args.h bytes) (book_of c.args.h bytes)) c.args.word.text.now
     (place g.D.Depot c.args.depot.now) (place g.D.Depot c.read_bytes.new.depot) c.in_ok-bytes.bytes
     c.judge_accounts.result c.in_ok-bytes.ensures judges

@@ -8,9 +8,8 @@ use Rattle.sd_status.specs.Meant.{value, ◌>>=◌}
 use Rattle.sd_status.specs.Comes.{Obeys, status_of}
 use Rattle.sd_files.specs.Shown.{shown_word}
 use Rattle.sd_files.proofs.Thirds.{not_both, not_third, third_looked}
-use Rattle.sd_run_trial.specs.declared.command.TheConstants.{MOST_CLEAR_BYTES}
 use Rattle.sd_run_trial.specs.Prefixes.{prefix_of_file}
-use Rattle.sd_run_trial.specs.Trial.{plan_by, printing, trial_meaning, trial_text, trying}
+use Rattle.sd_run_trial.specs.Trial.{plan_by, printing, trial_meaning, trial_text, trying, most_clear_bytes}
 use Rattle.sd_run_trial.proofs.Trying.{nothing_printed, text_printed}
 use Rattle.sd_run_trial.proofs.command.trial.Goals as goal
 
@@ -24,7 +23,7 @@ returns-in_err-site g c =
     let clear = shown_word c.args.clear in
     rw (p.1, p.2) (not_both (λ plan. record { site = fields_of plan.0; commands = plan.1.commands })
     (plan_by site.number book.number)
-    (λ plan got. prefix_of_file clear.number MOST_CLEAR_BYTES got >>= λ prefix. value (trying plan prefix))
+    (λ plan got. prefix_of_file clear.number most_clear_bytes got >>= λ prefix. value (trying plan prefix))
     site book clear (place g.D.Depot c.args.depot.now) (place g.D.Depot c.read_plan.new.depot)
     (page g.P.Sink c.args.print.now) c.args.steps.now c.in_err-site.field-0.0 c.in_err-site.ensures.value)
 
@@ -37,7 +36,7 @@ returns-in_err-prefix g c =
     let book = shown_word c.args.book in
     let clear = shown_word c.args.clear in
     rw (p.1, p.2) (not_third (λ plan. record { site = fields_of plan.0; commands = plan.1.commands })
-    (plan_by site.number book.number) (λ prefix. prefix) (λ plan got. prefix_of_file clear.number MOST_CLEAR_BYTES got)
+    (plan_by site.number book.number) (λ prefix. prefix) (λ plan got. prefix_of_file clear.number most_clear_bytes got)
     (λ plan prefix. value (trying plan prefix)) site book clear (place g.D.Depot c.args.depot.now)
     (place g.D.Depot c.read_plan.new.depot) (place g.D.Depot c.read_prefix.new.depot) (page g.P.Sink c.args.print.now)
     c.args.steps.now (c.in_ok-site.site, c.in_ok-site.book) c.in_err-prefix.field-0.0 c.requires.1 c.requires.2
@@ -57,7 +56,7 @@ returns-in_err-text g c =
     let prefix = c.in_ok-prefix.prefix in
     let status = c.in_err-text.field-0.0 in
     rw (p.1, p.2) (third_looked (λ plan. record { site = fields_of plan.0; commands = plan.1.commands })
-    (plan_by site.number book.number) (λ prefix. prefix) (λ plan got. prefix_of_file clear.number MOST_CLEAR_BYTES got)
+    (plan_by site.number book.number) (λ prefix. prefix) (λ plan got. prefix_of_file clear.number most_clear_bytes got)
     (λ plan prefix. value (trying plan prefix)) site book clear (place g.D.Depot c.args.depot.now)
     (place g.D.Depot c.read_plan.new.depot) r page c.args.steps.now (outside r page c.text_of.new.steps)
     (c.in_ok-site.site, c.in_ok-site.book) prefix status c.requires.1 c.requires.2 c.in_ok-site.ensures.value
@@ -82,7 +81,7 @@ returns g c =
     let status = status_of c.print_text.result in
     let prints = rw c.as_bytes.ensures.value at c.print_text.ensures.value in
     third_looked (λ plan. record { site = fields_of plan.0; commands = plan.1.commands })
-    (plan_by site.number book.number) (λ prefix. prefix) (λ plan got. prefix_of_file clear.number MOST_CLEAR_BYTES got)
+    (plan_by site.number book.number) (λ prefix. prefix) (λ plan got. prefix_of_file clear.number most_clear_bytes got)
     (λ plan prefix. value (trying plan prefix)) site book clear (place g.D.Depot c.args.depot.now)
     (place g.D.Depot c.read_plan.new.depot) r before c.args.steps.now (outside r now more)
     (c.in_ok-site.site, c.in_ok-site.book) prefix status c.requires.1 c.requires.2 c.in_ok-site.ensures.value
