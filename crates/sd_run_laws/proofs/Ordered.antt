@@ -98,8 +98,9 @@ order_answers : (words : List (List ℕ)) (order : Order) (a b : Outside) (answe
     order_of words ≡ Ok order → Answers (meaning words) a b answer → Answers (order_meaning order) a b answer
 order_answers words order a b answer read h =
     let at : Outside = with_page b h.page in
-    let f = subst (λ (r : Result Order Status). Follows (λ given. judged r >>= λ o. order_meaning o given) a at h.status)
-    read h.obeyed in
+    let f =
+    subst (λ (r : Result Order Status). Follows (λ given. judged r >>= λ o. order_meaning o given) a at h.status) read
+    h.obeyed in
     record {
       status = h.status;
       page = h.page;
@@ -122,7 +123,8 @@ head_answers names a b answer site book clear answers =
     (head_order names site book clear) answers
 
 pub card_answers : (names : Names) (leaf : List ℕ) (u : ℕ) (a b : Outside) (answer : Status) →
-    names.card ≢ names.site → number_of leaf ≡ Some u → u < 2 ^ 32 → Answers (meaning (card_run names leaf)) a b answer →
+    names.card ≢ names.site → number_of leaf ≡ Some u → u < 2 ^ 32 →
+    Answers (meaning (card_run names leaf)) a b answer →
     Answers (card_meaning (word_at 1 names.site) (record { word = 2; value = u }) (word_at 3 names.card)) a b answer
 card_answers names leaf u a b answer apart says low answers =
     order_answers (card_run names leaf)

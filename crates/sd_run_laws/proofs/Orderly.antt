@@ -31,12 +31,14 @@ use Rattle.sd_run_accounts.specs.Accounts.{accounts_in, making_then, report_line
 use Rattle.sd_run_book.specs.Book.{longer_book, book_meaning}
 use Rattle.sd_run_card.specs.Card.{told_card, card_meaning}
 use Rattle.sd_run_cover.specs.Cover.{covering, cover_meaning}
-use Rattle.sd_run_head.specs.Head.{plan_meaning as head_plan, status_where, sent_of, sent_status, sending, sending_of, head_meaning}
+use Rattle.sd_run_head.specs.Head.{plan_meaning as head_plan, status_where, sent_of, sent_status, sending}
+use Rattle.sd_run_head.specs.Head.{sending_of, head_meaning}
 use Rattle.sd_run_layered.specs.Layered.{layers_of_file, layering, layered_meaning}
 use Rattle.sd_run_lcard.specs.Lcard.{told_leaf, told_width, carding, lcard_meaning}
 use Rattle.sd_run_opens.specs.Opens.{opening, opens_meaning}
 use Rattle.sd_run_receive.specs.Receive.{ended_status, ending_status, status_at, unless_refused, received_status}
-use Rattle.sd_run_receive.specs.Receive.{card_in, received_of, received_steps, receiving, stream_meaning, receive_meaning}
+use Rattle.sd_run_receive.specs.Receive.{card_in, received_of, received_steps, receiving, stream_meaning}
+use Rattle.sd_run_receive.specs.Receive.{receive_meaning}
 use Rattle.sd_run_sample.specs.Sample.{sample_meaning}
 use Rattle.sd_run_tables.specs.Tables.{inspecting, tables_meaning}
 use Rattle.sd_run_trace.specs.Trace.{traced, telling, trace_meaning}
@@ -252,7 +254,8 @@ layered_orderly site book width given =
     (λ commands. value (layering layers.height layers.width commands))
     (λ commands. none_made (layering layers.height layers.width commands) refl (λ refusal. absurd refusal)))
 
-opens_orderly : (site book leaves : Word) (given : Given) → AreOrderly None (opens_meaning site book leaves given).result
+opens_orderly : (site book leaves : Word) (given : Given) →
+    AreOrderly None (opens_meaning site book leaves given).result
 unfolding opens_meaning
 opens_orderly site book leaves given =
     orderly_after None (both_meaning site book given)
@@ -262,7 +265,8 @@ opens_orderly site book leaves given =
     (λ found. value (opening both.site.height found both.commands))
     (λ found. none_made (opening both.site.height found both.commands) refl (λ refusal. absurd refusal)))
 
-trace_orderly : (site book leaves : Word) (given : Given) → AreOrderly None (trace_meaning site book leaves given).result
+trace_orderly : (site book leaves : Word) (given : Given) →
+    AreOrderly None (trace_meaning site book leaves given).result
 unfolding trace_meaning
 trace_orderly site book leaves given =
     orderly_after None (both_meaning site book given)
@@ -431,16 +435,23 @@ command_last : (command : Command) (name : List ℕ) (texts : List (List ℕ)) (
     arguments_from 1 (operands_of command) texts ≡ Ok arguments →
     IsLast (name ∷ texts) (Ok (CommandOf command arguments))
 unfolding operands_of name_of
-command_last Accounts name texts arguments named same read text e = maker_last Accounts name texts arguments refl refl named same read ∙ e
-command_last Book name texts arguments named same read text e = maker_last Book name texts arguments refl refl named same read ∙ e
-command_last Card name texts arguments named same read text e = maker_last Card name texts arguments refl refl named same read ∙ e
+command_last Accounts name texts arguments named same read text e =
+    maker_last Accounts name texts arguments refl refl named same read ∙ e
+command_last Book name texts arguments named same read text e =
+    maker_last Book name texts arguments refl refl named same read ∙ e
+command_last Card name texts arguments named same read text e =
+    maker_last Card name texts arguments refl refl named same read ∙ e
 command_last Cover name texts arguments named same read text e = absurd (cc)
-command_last Head name texts arguments named same read text e = maker_last Head name texts arguments refl refl named same read ∙ e
+command_last Head name texts arguments named same read text e =
+    maker_last Head name texts arguments refl refl named same read ∙ e
 command_last Layered name texts arguments named same read text e = absurd (cc)
-command_last Lcard name texts arguments named same read text e = maker_last Lcard name texts arguments refl refl named same read ∙ e
+command_last Lcard name texts arguments named same read text e =
+    maker_last Lcard name texts arguments refl refl named same read ∙ e
 command_last Opens name texts arguments named same read text e = absurd (cc)
-command_last Receive name texts arguments named same read text e = maker_last Receive name texts arguments refl refl named same read ∙ e
-command_last Sample name texts arguments named same read text e = maker_last Sample name texts arguments refl refl named same read ∙ e
+command_last Receive name texts arguments named same read text e =
+    maker_last Receive name texts arguments refl refl named same read ∙ e
+command_last Sample name texts arguments named same read text e =
+    maker_last Sample name texts arguments refl refl named same read ∙ e
 command_last Tables name texts arguments named same read text e = absurd (cc)
 command_last Trace name texts arguments named same read text e = absurd (cc)
 command_last Trial name texts arguments named same read text e = absurd (cc)

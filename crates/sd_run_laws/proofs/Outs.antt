@@ -82,7 +82,8 @@ done_leaves meant files a b answer told is answers =
 out_is : (words : List (List ℕ)) (given : Given) (work : Work) (out : Out) →
     (meaning words given).result ≡ Ok work → work.out ≡ Some out → out_name words ≡ Some out.name
 out_is words given work out is makes =
-    let orderly : IsOrderly (out_name words) work = subst (AreOrderly (out_name words)) is (words_orderly words given) in
+    let orderly : IsOrderly (out_name words) work =
+    subst (AreOrderly (out_name words)) is (words_orderly words given) in
     orderly.makes out makes
 
 -- so no other file changes

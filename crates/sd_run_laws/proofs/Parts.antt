@@ -190,8 +190,8 @@ card_part names site u a b answer good leaf answers well =
     (site_good (told_by t.files) (word_at 1 names.site) site own)
     ∙ then_is (judged (told_card site number)) bytes (λ bytes. value (making Uncounted out bytes))
     (ap (λ (b : Bool). cond b (Ok bytes) (Err (BadWord 2))) (lt-ltb u (2 ^ site.height) leaf)) in
-    let done = runs_work (card_meaning (word_at 1 names.site) number out) (making Uncounted out bytes) t.files a b answer
-    work t.told answers well in
+    let done = runs_work (card_meaning (word_at 1 names.site) number out) (making Uncounted out bytes) t.files a b
+    answer work t.told answers well in
     record {
       done = done.ends;
       card_is = made_in b t.files names.card bytes done.left ∙ ap (λ (bs : List ℕ). Some bs) (card_same site u);

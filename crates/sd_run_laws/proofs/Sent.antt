@@ -83,8 +83,8 @@ lines_within d before (said ∷ rest) commands all e =
     let one = bind_ok (judged_line d before said) (λ c. judged_lines d (before ++ c ∷ []) rest) commands e in
     lines_within d (before ++ one.0 ∷ []) rest commands (judged_more d before said one.0 all one.1) one.2
 
-pub book_right : (word d : ℕ) (bytes : List ℕ) (commands : List Command) → told_book word (book_of d bytes) ≡ Ok commands →
-    IsWithinLimits d commands
+pub book_right : (word d : ℕ) (bytes : List ℕ) (commands : List Command) →
+    told_book word (book_of d bytes) ≡ Ok commands → IsWithinLimits d commands
 unfolding book_of
 book_right word d bytes commands e = by_answer (judged_lines d [] (said_by bytes)) refl e
   where
@@ -119,7 +119,8 @@ plan_right site book given plan e =
     })
 
 -- all bytes of a file that was there
-pub all_read : (word : ℕ) (got : Option (List ℕ)) (bytes : List ℕ) → (all_of word got).result ≡ Ok bytes → got ≡ Some bytes
+pub all_read : (word : ℕ) (got : Option (List ℕ)) (bytes : List ℕ) → (all_of word got).result ≡ Ok bytes →
+    got ≡ Some bytes
 all_read word None bytes e = absurd (cc)
 all_read word (Some found) bytes e = let same : found ≡ bytes = cc in ap (λ (b : List ℕ). Some b) same
 
