@@ -17,7 +17,8 @@ use Rattle.sd_status.specs.declared.status.LimitKind.TheVariants.{SiteBytes, Boo
 use Rattle.sd_status.specs.Meant.{Meant, Word, Given, after, all_of, judged, value, within, ◌>>=◌}
 use Rattle.sd_status.specs.Work.{Uncounted, NoSteps}
 use Rattle.sd_words.specs.Words.{Order, order_of, CoverOf, CardOf, SampleOf, TablesOf, HeadOf}
-use Rattle.sd_files.specs.Files.{most_site_bytes, most_book_bytes, told_site, told_book, site_of_file, book_of_file, site_in, book_in}
+use Rattle.sd_files.specs.Files.{most_site_bytes, most_book_bytes, told_site, told_book, site_of_file, book_of_file}
+use Rattle.sd_files.specs.Files.{site_in, book_in}
 use Rattle.sd_book.proofs.Short.{book_short}
 use Rattle.sd_site.proofs.Short.{site_short}
 use Rattle.sd_book.proofs.Written.{spelled_again}
