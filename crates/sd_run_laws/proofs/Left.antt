@@ -68,10 +68,10 @@ came : (files : Files) (meant : Result Work Status) (a b : Outside) (status : St
 came files meant a b status told (refused e r un k c m) = none_made files meant a.place b.place told un
 came files meant a b status told (ended work is s i made k c m) =
     whole_made files meant work a.place b.place told is made
-came files meant a b status told (unclosed work is s i j t out makes short k r c m) =
+came files meant a b status told (unclosed work is s i j t out makes short k r v c m) =
     short_made files meant work out a.place b.place told is makes short
-came files meant a b status told (exhausted s h c m) = stood files meant a b told h
-came files meant a b status told (failed s h r c m) = stood files meant a b told h
+came files meant a b status told (exhausted s h v c m) = stood files meant a b told h
+came files meant a b status told (failed s h r v c m) = stood files meant a b told h
 came files meant a b status told (nowhere work is out f s n un k c m) =
     none_made files meant a.place b.place told un
 came files meant a b status told (cut_off work is s made k r c m) =

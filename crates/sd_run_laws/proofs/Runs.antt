@@ -37,10 +37,10 @@ ended_with meant work files a b status is told depot print memory (ended other e
       s ∙ ap (λ (w : Work). w.ends) same,
       h.files ∙ ap (λ (w : Work). files_with w.out a.place.files) same ∙ ap (files_with work.out) told,
     )
-ended_with meant work files a b status is told depot print memory (unclosed other e s i j t out f h k r c m) =
+ended_with meant work files a b status is told depot print memory (unclosed other e s i j t out f h k r v c m) =
     absurd (still_or_rose a.place.faults b.place.faults depot r)
-ended_with meant work files a b status is told depot print memory (exhausted s h c m) = absurd (memory s)
-ended_with meant work files a b status is told depot print memory (failed s h r c m) =
+ended_with meant work files a b status is told depot print memory (exhausted s h v c m) = absurd (memory s)
+ended_with meant work files a b status is told depot print memory (failed s h r v c m) =
     absurd (still_or_rose a.place.faults b.place.faults depot r)
 ended_with meant work files a b status is told depot print memory (nowhere other e out f s n h k c m) =
     absurd (let both = sym told ∙ n in cc)

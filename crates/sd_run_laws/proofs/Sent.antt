@@ -150,9 +150,9 @@ was_done : (meant : Result Work Status) (a b : Outside) (status : Status) → Co
 was_done meant a b status (refused e r h k c m) is = absurd (subst IsRefusal is r)
 was_done meant a b status (ended work e s i h k c m) is =
     record { work = work; meant_is = e; ends = sym s ∙ is; left = h.files }
-was_done meant a b status (unclosed work e s i j t out f h k r c m) is = absurd (subst IsRefusal is j)
-was_done meant a b status (exhausted s h c m) is = absurd (let x = sym s ∙ is in cc)
-was_done meant a b status (failed s h r c m) is = absurd (let x = sym s ∙ is in cc)
+was_done meant a b status (unclosed work e s i j t out f h k r v c m) is = absurd (subst IsRefusal is j)
+was_done meant a b status (exhausted s h v c m) is = absurd (let x = sym s ∙ is in cc)
+was_done meant a b status (failed s h r v c m) is = absurd (let x = sym s ∙ is in cc)
 was_done meant a b status (nowhere work e out f s n h k c m) is = absurd (let x = sym s ∙ is in cc)
 was_done meant a b status (cut_off work e s h k r c m) is = absurd (let x = sym s ∙ is in cc)
 
