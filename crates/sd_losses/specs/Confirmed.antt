@@ -10,6 +10,7 @@ use Rattle.sd_broadcast.specs.Kinds.{kind_of}
 use Rattle.sd_broadcast.specs.declared.kind.Kind.{Kind}
 use Rattle.sd_broadcast.specs.declared.kind.Kind.TheVariants.{Passed, Pmt, Scrambled}
 use Rattle.sd_broadcast.specs.Sent.{Item}
+use Rattle.sd_reception.specs.Offered.{most_held}
 use Rattle.sd_losses.specs.Kept.{is_kept, kept_in, arrived, greatest_at_most, least_above, is_entitled_before}
 use Rattle.sd_losses.specs.Kept.{after_cat}
 
@@ -33,7 +34,7 @@ unfoldable pub is_open : Plan → ℕ → List (List ℕ) → List Item → ℕ 
 is_open plan u clear kept a b =
     nat_le (since_of plan.site.messages plan.site.cryptos b) a
     && (is_entitled_before plan.site.height u (period_of plan (a * plan.site.every)) a kept
-    && nat_le (length (kept_between plan clear kept a b)) 4096)
+    && nat_le (length (kept_between plan clear kept a b)) most_held)
 
 -- the tracked position of the PID at b: that at a, moved by the kept packets
 -- [this project, docs/FORMATS.md, Receiver]
