@@ -12,3 +12,4 @@ pub mod Layers
 pub mod Pooled
 pub mod Tried
 pub mod Left
+pub mod Examples

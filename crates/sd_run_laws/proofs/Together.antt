@@ -1,5 +1,5 @@
 -- What `head`, `card` and `receive` come to, one after the other.
-use Rattle.std.proofs.Common.{◌≡◌, ℕ, ◌+◌, ◌-◌, ◌*◌, ◌^◌, ◌≤◌, Bool, false, List}
+use Rattle.std.proofs.Common.{◌≡◌, ℕ, ◌+◌, ◌-◌, ◌*◌, ◌^◌, ◌≤◌, Bool, false, List, [], ◌∷◌}
 use Rattle.std.proofs.Common.{length, Option, Some}
 use Rattle.std.proofs.Common.{Result, Ok, Err, refl, sym, ap, subst, ◌∙◌, arith, le-ltb}
 use Rattle.std.specs.Prelude.{◌||◌, if◌then◌else◌}
@@ -29,9 +29,11 @@ use Rattle.sd_status.specs.declared.status.Status.TheVariants.{Done, Usage, BadW
 use Rattle.sd_status.specs.Meant.{told_by}
 use Rattle.sd_status.specs.Outside.{Outside}
 use Rattle.sd_status.specs.Work.{StepBound, Uncounted, Out, Work, files_with, IsWithinSteps}
-use Rattle.sd_words.specs.Words.{Order, HeadOf, CardOf, ReceiveOf, with_number, at_most, number_in}
+use Rattle.sd_commands.specs.declared.command.Command.TheVariants.{Card}
+use Rattle.sd_commands.specs.Commands.{command_of, name_of, operands_of}
+use Rattle.sd_words.specs.Words.{InputOf, OutOf, Order, HeadOf, CardOf, ReceiveOf, at_most, before, number_in}
 use Rattle.sd_files.specs.Shown.{word_at}
-use Rattle.sd_words.specs.Words.{card_words, four_words, head_words, receive_words, three_words, order_of}
+use Rattle.sd_words.specs.Words.{named_words, numbered, order_of, ordered}
 use Rattle.sd_files.specs.Made.{making}
 use Rattle.sd_run_laws.specs.Good.{IsGoodCard}
 use Rattle.sd_run_head.specs.Head.{sent_status}
@@ -53,23 +55,21 @@ told_file : (at : Outside) (files : Files) (name bytes : List ℕ) → at.place.
 told_file at files name bytes told there = ap (option_and_then (λ (f : Files). get f name)) told ∙ there
 
 -- words that differ are refused for no other word
-one_apart : (p : Bool) (order : Result Order Status) → p ≡ false → (if p then Err Usage else order) ≡ order
+one_apart : (p : Bool) (order : Result Order Status) → p ≡ false → (if p || false then Err Usage else order) ≡ order
 one_apart p order a = rw a refl
 
 two_apart : (p q : Bool) (order : Result Order Status) → p ≡ false → q ≡ false →
-    (if p || q then Err Usage else order) ≡ order
+    (if p || (q || false) then Err Usage else order) ≡ order
 two_apart p q order a b = rw (a, b) refl
 
 three_apart : (p q r : Bool) (order : Result Order Status) → p ≡ false → q ≡ false → r ≡ false →
-    (if p || (q || r) then Err Usage else order) ≡ order
+    (if p || (q || (r || false)) then Err Usage else order) ≡ order
 three_apart p q r order a b d = rw (a, b, d) refl
 
 -- a number within its bound is taken
-number_fits : (word most n : ℕ) (found : Option ℕ) (next : ℕ → Result Order Status) → found ≡ Some n → n ≤ most →
-    with_number (at_most word most found) next ≡ next n
-number_fits word most n found next e low =
-    ap (λ (o : Option ℕ). with_number (at_most word most o) next) e
-    ∙ ap (λ (b : Bool). with_number (if b then Err (BadWord word) else Ok n) next) (le-ltb most n low)
+number_fits : (word most n : ℕ) (found : Option ℕ) → found ≡ Some n → n ≤ most → at_most word most found ≡ Ok n
+number_fits word most n found e low =
+    ap (at_most word most) e ∙ ap (λ (b : Bool). if b then Err (BadWord word) else Ok n) (le-ltb most n low)
 
 -- what `receive` left
 record IsReceived (names : Names) (plan : Plan) (u : ℕ) (clear : List (List ℕ)) (c d : Outside) (received : Status) :
@@ -102,7 +102,7 @@ module _ (names : Names) (plan : Plan) (u : ℕ) (clear : List (List ℕ)) (file
   -- `head`
   head_order : order_of (head_run names)
       ≡ Ok (HeadOf (word_at 1 names.site) (word_at 2 names.book) (word_at 3 names.clear) (word_at 4 names.stream))
-  unfolding four_words head_words
+  unfolding named_words command_of name_of operands_of
   head_order =
       three_apart (bytes_eq names.site names.stream) (bytes_eq names.book names.stream)
       (bytes_eq names.clear names.stream)
@@ -158,17 +158,19 @@ module _ (names : Names) (plan : Plan) (u : ℕ) (clear : List (List ℕ)) (file
       let below = given.of_tree in
       omega (arith, most, below)
 
-  abbrev leaf_order : ℕ → Result Order Status
-  leaf_order n = Ok (CardOf (word_at 1 names.site) (record { word = 2; value = n }) (word_at 3 names.card))
+  abbrev leaf_order : Result ℕ Status → Result Order Status
+  leaf_order found =
+      ordered Card
+      (before (Ok (InputOf (word_at 1 names.site)))
+      (before (numbered 2 found) (Ok (OutOf (word_at 3 names.card) ∷ []))))
 
   card_order : order_of (card_run names)
       ≡ Ok (CardOf (word_at 1 names.site) (record { word = 2; value = u }) (word_at 3 names.card))
-  unfolding three_words card_words
+  unfolding named_words command_of name_of operands_of
   card_order =
-      one_apart (bytes_eq names.site names.card)
-      (with_number (number_in 2 (2 ^ 32 - 1) names.leaf) leaf_order)
+      one_apart (bytes_eq names.site names.card) (leaf_order (number_in 2 (2 ^ 32 - 1) names.leaf))
       (apart_texts names.site names.card (λ e. apart.card_site (sym e)))
-      ∙ number_fits 2 (2 ^ 32 - 1) u (number_of names.leaf) leaf_order given.leaf leaf_low
+      ∙ ap leaf_order (number_fits 2 (2 ^ 32 - 1) u (number_of names.leaf) given.leaf leaf_low)
 
   good_card : IsGoodCard (card_run names) (told_by with_stream)
   good_card = record {
@@ -202,7 +204,7 @@ module _ (names : Names) (plan : Plan) (u : ℕ) (clear : List (List ℕ)) (file
   -- `receive`
   receive_order : order_of (receive_run names)
       ≡ Ok (ReceiveOf (word_at 1 names.card) (word_at 2 names.stream) (word_at 3 names.out))
-  unfolding three_words receive_words
+  unfolding named_words command_of name_of operands_of
   receive_order =
       two_apart (bytes_eq names.card names.out) (bytes_eq names.stream names.out)
       (Ok (ReceiveOf (word_at 1 names.card) (word_at 2 names.stream) (word_at 3 names.out)))

@@ -5,3 +5,4 @@ pub mod Sent
 pub mod Lost
 pub mod Tried
 pub mod Left
+pub mod Helped

@@ -2,5 +2,6 @@
 #![tactic(auto)]
 
 pub mod headline;
+pub mod helped;
 pub mod laws;
 pub mod losses;
