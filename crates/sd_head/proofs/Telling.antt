@@ -4,7 +4,6 @@ use Rattle.std.proofs.Common.{◌≤◌, ◌^◌, ◌%◌, ◌==◌, Bool, true,
 use Rattle.std.specs.Prelude.{Option, Some, None}
 use Rattle.std.proofs.lemmas.Bool.{ne_eqb}
 use Rattle.sd_site.specs.Fields.{SiteFields}
-use Rattle.sd_ecm.specs.declared.format.TheConstants.{MOST_PLACES}
 use Rattle.sd_ecm.specs.declared.message.EcmHead.{EcmHead}
 use Rattle.sd_ecm.specs.declared.part.Place.{Place}
 use Rattle.sd_clear.proofs.Placing.{positioned, ascending, short}
@@ -17,7 +16,7 @@ use Rattle.sd_ecm.specs.Parts.{message_of, parts_of}
 use Rattle.sd_head.specs.Sending.{numbered, packed_part}
 use Rattle.sd_head.specs.Items.{MayBeSent, message_bytes}
 use Rattle.sd_head.specs.declared.sender.Sender.{Sender}
-use Rattle.sd_ecm.specs.Versions.{IsVersion, IsSince, IsBefore}
+use Rattle.sd_ecm.specs.Versions.{IsVersion, IsSince, IsBefore, most_places}
 use Rattle.sd_broadcast.specs.Plan.{since_of}
 use Rattle.sd_broadcast.proofs.Schedule.{since_is_below}
 
@@ -67,12 +66,12 @@ since_fits version cryptos number = record { before = before number; fixed = fix
 pub may_be_sent : (site : SiteFields) (crypto : CryptoPeriod) (clear number : ℕ) (closing : Bool) (head : EcmHead)
     (places : List Place)
     (before : List (List ℕ)) → head ≡ head_of site crypto clear number closing → 1 ≤ site.messages → site.messages ≤ 2 →
-    places ≡ places_after before → length before < 2 ^ 32 → length places ≤ MOST_PLACES → MayBeSent head places
+    places ≡ places_after before → length before < 2 ^ 32 → length places ≤ most_places → MayBeSent head places
 unfolding head_of
 may_be_sent site crypto clear number closing head places before is low high are counted few = rw is (rw are (record {
   version = version_is site.messages low high;
   since = since_fits site.messages site.cryptos number;
-  few = subst (λ (ps : List Place). length ps ≤ MOST_PLACES) are few;
+  few = subst (λ (ps : List Place). length ps ≤ most_places) are few;
   positioned = positioned before;
   ascending = ascending before;
   short = short before counted;
