@@ -3,7 +3,7 @@ use Rattle.std.proofs.Common.{◌≡◌, ℕ, suc, ◌^◌, ◌<◌, ◌≤◌, 
 use Rattle.std.proofs.Common.{◌∙◌, length, arith}
 use Rattle.std.specs.Prelude.{◌↔◌, All, Any, Contains, get_or, if◌then◌else◌}
 use Rattle.std.specs.List.{flat_map, list_any}
-use Rattle.sd_tree.specs.declared.height.TheConstants.{HIGHEST}
+use Rattle.sd_tree.specs.Limits.{highest}
 use Rattle.sd_tree.specs.declared.set.SetName.{SetName}
 use Rattle.sd_tree.specs.SetNames.{IsOfHeight}
 use Rattle.sd_tree.specs.Leaves.{is_member}
@@ -26,7 +26,7 @@ end_is false = (
 )
 
 -- the line of a set says `open` exactly where the names of the leaves together reach its key
-pub open_is_reached : (d : ℕ) (leaves : List ℕ) (name : SetName) → d ≤ HIGHEST → All (λ u. u < 2 ^ d) leaves →
+pub open_is_reached : (d : ℕ) (leaves : List ℕ) (name : SetName) → d ≤ highest → All (λ u. u < 2 ^ d) leaves →
     IsOfHeight d name → (pool_end d leaves name ≡ open_end) ↔ IsReached (flat_map (given d) leaves) (Key name)
 open_is_reached d leaves name low fits height =
     let end = end_is (list_any (is_member d name) leaves) in
@@ -34,7 +34,7 @@ open_is_reached d leaves name low fits height =
     (λ e. reached.0 (end.0 e), λ r. end.1 (reached.1 r))
 
 -- to which the messages add nothing
-pub open_is_known : (service : Service) (leaves : List ℕ) (name : SetName) → service.height ≤ HIGHEST →
+pub open_is_known : (service : Service) (leaves : List ℕ) (name : SetName) → service.height ≤ highest →
     All (λ u. u < 2 ^ service.height) leaves → IsOfHeight service.height name →
     (pool_end service.height leaves name ≡ open_end) ↔ IsKnown service leaves (OfTree (Key name))
 open_is_known service leaves name low fits height =
@@ -43,7 +43,7 @@ open_is_known service leaves name low fits height =
     (λ e. known.1 (told.0 e), λ k. told.1 (known.0 k))
 
 -- some line says so exactly where the leaves' cards together give the key of the period
-pub open_gives_period : (service : Service) (leaves : List ℕ) (q : ℕ) → service.height ≤ HIGHEST →
+pub open_gives_period : (service : Service) (leaves : List ℕ) (q : ℕ) → service.height ≤ highest →
     All (λ u. u < 2 ^ service.height) leaves → q ≤ last_period service.commands →
     Any (λ name. pool_end service.height leaves name ≡ open_end) (sets_at service q)
     ↔ IsKnown service leaves (PeriodKey q)
@@ -66,7 +66,7 @@ same_ends end last (name ∷ sets) all =
     (same_ends end last sets (λ k other within. all (suc k) other (omega (arith, within))))
 
 -- where all leaves are revoked, each set of the cover is shut
-pub all_shut : (service : Service) (leaves : List ℕ) (q : ℕ) → service.height ≤ HIGHEST →
+pub all_shut : (service : Service) (leaves : List ℕ) (q : ℕ) → service.height ≤ highest →
     All (Contains (revoked_at service q)) leaves →
     opened_text service.height leaves service.commands q ≡ shut_text service.height service.commands q
 unfolding sets_at

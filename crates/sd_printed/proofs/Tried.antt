@@ -35,7 +35,7 @@ use Rattle.sd_run_receive.proofs.Received.{none_refused, bytes_are}
 use Rattle.sd_run_trial.specs.Trial.{clear_line, lines_of, lines_to, receiver_line, sent_or, then_line, told_line}
 use Rattle.sd_run_trial.specs.Trial.{plan_meaning, printing, told_sent, trial_meaning, trial_text, trying}
 use Rattle.sd_run_trial.specs.Prefixes.{prefix_of_file}
-use Rattle.sd_run_trial.specs.declared.command.TheConstants.{MOST_CLEAR_BYTES}
+use Rattle.sd_run_trial.specs.Trial.{most_clear_bytes}
 use Rattle.sd_run_trial.proofs.Prefixes.{whole_prefix}
 use Rattle.sd_printed.specs.Trials.{line_by, opened_line, opened_lines}
 
@@ -151,17 +151,17 @@ trial_opened plan bytes is all are end =
 
 -- a trial of good files, by its steps
 pub trial_good : (site book clear : Word) (given : Given) (plan : Plan) (bytes : List ℕ) → IsPlan plan →
-    (plan_meaning site book given).result ≡ Ok plan → given clear ≡ Some bytes → length bytes ≤ MOST_CLEAR_BYTES →
+    (plan_meaning site book given).result ≡ Ok plan → given clear ≡ Some bytes → length bytes ≤ most_clear_bytes →
     AreBytes bytes → end_of bytes ≡ Whole → IsClear plan.site (taken_of bytes) →
     (trial_meaning site book clear given).result
     ≡ Ok (printing (Ok (opened_lines plan (taken_of bytes) (2 ^ plan.site.height))))
 unfolding trial_meaning prefix_of_file
 trial_good site book clear given plan bytes is said there few are end all =
     ap (λ (r : Result Plan Status). (after (plan_meaning site book given).calls r (λ plan.
-    prefix_of_file clear.number MOST_CLEAR_BYTES (given clear) >>= λ prefix. value (trying plan prefix))).result) said
-    ∙ ap (λ (got : Option (List ℕ)). (prefix_of_file clear.number MOST_CLEAR_BYTES got
+    prefix_of_file clear.number most_clear_bytes (given clear) >>= λ prefix. value (trying plan prefix))).result) said
+    ∙ ap (λ (got : Option (List ℕ)). (prefix_of_file clear.number most_clear_bytes got
     >>= λ prefix. value (trying plan prefix)).result) there
-    ∙ ap (λ (prefix : Prefix). Ok (trying plan prefix)) (whole_prefix MOST_CLEAR_BYTES bytes few)
+    ∙ ap (λ (prefix : Prefix). Ok (trying plan prefix)) (whole_prefix most_clear_bytes bytes few)
     ∙ ap (λ (text : Result (List ℕ) Status). Ok (printing text)) (trial_opened plan bytes is all are end)
 
 -- a trial that is done, by the ways that it may end

@@ -2,7 +2,7 @@
 
 ghost use Rattle.std.specs.Prelude.{◌≡◌, ℕ, ◌^◌, ◌<◌, ◌≤◌, ◌↔◌, List, All, Any, Contains};
 ghost use Rattle.std.specs.List.{flat_map};
-ghost use Rattle.sd_tree.specs.declared.height.TheConstants.{HIGHEST};
+ghost use Rattle.sd_tree.specs.Limits.{highest};
 ghost use Rattle.sd_tree.specs.declared.set.SetName.{SetName};
 ghost use Rattle.sd_tree.specs.SetNames.{IsOfHeight};
 ghost use Rattle.sd_label.specs.Names.{given};
@@ -15,10 +15,10 @@ ghost use Rattle.sd_run_opens.specs.Opens.{open_end, shut_end, pool_end, opened_
 /// [Naor, Naor, Lotspiech 2001, 3.2], and all messages of the book add nothing to that.
 #[tactic(auto, using(crate::proofs::Ends::open_is_reached, crate::proofs::Ends::open_is_known))]
 pub fn open_sets_are_reached()
-    ensures reached { (d : ℕ) (leaves : List ℕ) (name : SetName) → d ≤ HIGHEST → All (λ u. u < 2 ^ d) leaves →
+    ensures reached { (d : ℕ) (leaves : List ℕ) (name : SetName) → d ≤ highest → All (λ u. u < 2 ^ d) leaves →
         IsOfHeight d name →
         (pool_end d leaves name ≡ open_end) ↔ IsReached (flat_map (given d) leaves) (Key name) }
-    ensures known { (service : Service) (leaves : List ℕ) (name : SetName) → service.height ≤ HIGHEST →
+    ensures known { (service : Service) (leaves : List ℕ) (name : SetName) → service.height ≤ highest →
         All (λ u. u < 2 ^ service.height) leaves → IsOfHeight service.height name →
         (pool_end service.height leaves name ≡ open_end) ↔ IsKnown service leaves (OfTree (Key name)) }
 {}
@@ -26,7 +26,7 @@ pub fn open_sets_are_reached()
 /// Some line of a period says `open` exactly where the listed leaves' cards together give the key of the period.
 #[tactic(auto, using(crate::proofs::Ends::open_gives_period))]
 pub fn open_lines_give_the_period()
-    ensures { (service : Service) (leaves : List ℕ) (q : ℕ) → service.height ≤ HIGHEST →
+    ensures { (service : Service) (leaves : List ℕ) (q : ℕ) → service.height ≤ highest →
         All (λ u. u < 2 ^ service.height) leaves → q ≤ last_period service.commands →
         Any (λ name. pool_end service.height leaves name ≡ open_end) (sets_at service q)
         ↔ IsKnown service leaves (PeriodKey q) }
@@ -35,9 +35,9 @@ pub fn open_lines_give_the_period()
 /// Where all listed leaves are revoked in a period, each line of its sets says `shut`, and their cards together give
 /// neither the key of the period nor a control word of it.
 pub fn revoked_leaves_open_none()
-    ensures shut { (service : Service) (leaves : List ℕ) (q : ℕ) → service.height ≤ HIGHEST →
+    ensures shut { (service : Service) (leaves : List ℕ) (q : ℕ) → service.height ≤ highest →
         All (Contains (revoked_at service q)) leaves →
         opened_text service.height leaves service.commands q ≡ shut_text service.height service.commands q }
-    ensures nothing { (service : Service) (leaves : List ℕ) (q : ℕ) → service.height ≤ HIGHEST →
+    ensures nothing { (service : Service) (leaves : List ℕ) (q : ℕ) → service.height ≤ highest →
         All (Contains (revoked_at service q)) leaves → KnowsNothingOf service leaves q }
 {}

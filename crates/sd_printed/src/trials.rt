@@ -7,8 +7,7 @@ ghost use Rattle.sd_broadcast.specs.Plan.{Plan, IsPlan};
 ghost use Rattle.sd_broadcast.specs.Refused.{IsClear};
 ghost use Rattle.sd_whole.specs.Synced.{AreBytes};
 ghost use Rattle.sd_status.specs.Meant.{Word, Given};
-ghost use Rattle.sd_run_trial.specs.declared.command.TheConstants.{MOST_CLEAR_BYTES};
-ghost use Rattle.sd_run_trial.specs.Trial.{plan_meaning, printing, trial_meaning, trial_text};
+ghost use Rattle.sd_run_trial.specs.Trial.{most_clear_bytes, plan_meaning, printing, trial_meaning, trial_text};
 ghost use Rattle.sd_printed.specs.Trials.{opened_lines};
 
 /// `trial SITE BOOK CLEAR` over a site and a book within the limits, and a clear stream of packets of which none is
@@ -18,7 +17,7 @@ ghost use Rattle.sd_printed.specs.Trials.{opened_lines};
 #[tactic(auto, using(crate::proofs::Tried::trial_good))]
 pub fn good_trials_print_what_is_opened()
     ensures { (site book clear : Word) (given : Given) (plan : Plan) (bytes : List ℕ) → IsPlan plan →
-        (plan_meaning site book given).result ≡ Ok plan → given clear ≡ Some bytes → length bytes ≤ MOST_CLEAR_BYTES →
+        (plan_meaning site book given).result ≡ Ok plan → given clear ≡ Some bytes → length bytes ≤ most_clear_bytes →
         AreBytes bytes → end_of bytes ≡ Whole → IsClear plan.site (taken_of bytes) →
         (trial_meaning site book clear given).result
         ≡ Ok (printing (Ok (opened_lines plan (taken_of bytes) (2 ^ plan.site.height)))) }
