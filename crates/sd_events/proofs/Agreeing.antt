@@ -3,7 +3,7 @@ use Rattle.std.proofs.Common.{arith, ◌≡◌, ℕ, ◌+◌, ◌<◌, ◌≤◌
 use Rattle.std.proofs.Common.{length, length-append, inl, inr, subst}
 use Rattle.sd_site.specs.Fields.{SiteFields, AreInRange}
 use Rattle.sd_book.specs.declared.command.Command.{Command}
-use Rattle.sd_book.specs.declared.limits.TheConstants.{MOST_PERIODS}
+use Rattle.sd_book.specs.Limits.{most_periods}
 use Rattle.sd_book.specs.Commands.{last_period, revoked, revoked_after}
 use Rattle.sd_book.proofs.Cuts.{revoked_past}
 use Rattle.sd_broadcast.specs.Plan.{Plan, period_of, sets_at}
@@ -61,12 +61,12 @@ revoked_stay site m later past k r below =
           ap (revoked_after site.height) (later_events site m later past q r (omega (arith, below)) within)
       | inr (past_all, all, last) ↦
           let up = reached_rises site (sends m past) (sends m (later ++ past)) r more in
-          let high : last_period (event_book site m (later ++ past)) ≡ MOST_PERIODS =
+          let high : last_period (event_book site m (later ++ past)) ≡ most_periods =
           omega (arith, up, all, book_reaches site m (later ++ past), book_short site m (later ++ past)) in
           revoked_past site.height q (event_book site m (later ++ past)) (omega (arith, past_all, high))
           ∙ (ap (revoked site.height (event_book site m (later ++ past))) high
           ∙ (ap (revoked_after site.height)
-          (later_events site m later past MOST_PERIODS r (omega (arith, below)) (omega (arith, all)))
+          (later_events site m later past most_periods r (omega (arith, below)) (omega (arith, all)))
           ∙ (ap (revoked site.height (event_book site m past)) (sym last)
           ∙ sym (revoked_past site.height q (event_book site m past) (omega (arith, past_all, last))))))
     ]

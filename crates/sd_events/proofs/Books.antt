@@ -6,7 +6,7 @@ use Rattle.std.proofs.lemmas.Bool.{cases_lt}
 use Rattle.std.proofs.lemmas.Bool.Decides.{nat_tests}
 use Rattle.sd_site.specs.Fields.{SiteFields, AreInRange}
 use Rattle.sd_book.specs.declared.command.Command.{Command}
-use Rattle.sd_book.specs.declared.limits.TheConstants.{MOST_PERIODS}
+use Rattle.sd_book.specs.Limits.{most_periods}
 use Rattle.sd_book.specs.Commands.{is_within, last_period, commands_until}
 use Rattle.sd_book.proofs.Cuts.{period_none, period_subscribe, period_revoke, period_append, until_after}
 use Rattle.sd_broadcast.specs.Plan.{crypto_of, period_in, period_of}
@@ -24,7 +24,7 @@ pub data Turn (site : SiteFields) (m k : ℕ) (event : Event) (book : List Comma
   fills : booked site m k event book ≡ filled (reached site (sends_with m event k)) book
       → accepted_at site k event ≡ [] → Turn site m k event book
   adds : (command : Command) → last_period (command ∷ []) ≡ 0 → ((d : ℕ) → is_within d command ≡ is_of d event)
-      → period_after site k ≤ MOST_PERIODS
+      → period_after site k ≤ most_periods
       → booked site m k event book ≡ filled (period_after site k) book ++ command ∷ []
       → sends_with m event k ≡ k → accepted_at site k event ≡ (period_after site k, command) ∷ []
       → Turn site m k event book
@@ -33,7 +33,7 @@ pub data Turn (site : SiteFields) (m k : ℕ) (event : Event) (book : List Comma
 
 -- a command is accepted if a book can have its period
 commands_turn : (site : SiteFields) (m k : ℕ) (event : Event) (command : Command) (book : List Command) (b : Bool)
-    → nat_le (period_after site k) MOST_PERIODS ≡ b → last_period (command ∷ []) ≡ 0
+    → nat_le (period_after site k) most_periods ≡ b → last_period (command ∷ []) ≡ 0
     → ((d : ℕ) → is_within d command ≡ is_of d event)
     → booked site m k event book ≡ commanded (period_after site k) command book → sends_with m event k ≡ k
     → accepted_at site k event ≡ taken_in (period_after site k) command → Turn site m k event book
@@ -46,9 +46,9 @@ commands_turn site m k event command book false test none tree is same taken =
 
 pub turn_of : (site : SiteFields) (m k : ℕ) (event : Event) (book : List Command) → Turn site m k event book
 turn_of site m k (Subscribe u) book = commands_turn site m k (Subscribe u) (Command.Subscribe u) book
-    (nat_le (period_after site k) MOST_PERIODS) refl (period_subscribe u [] ∙ period_none) (λ d. refl) refl refl refl
+    (nat_le (period_after site k) most_periods) refl (period_subscribe u [] ∙ period_none) (λ d. refl) refl refl refl
 turn_of site m k (Revoke u) book = commands_turn site m k (Revoke u) (Command.Revoke u) book
-    (nat_le (period_after site k) MOST_PERIODS) refl (period_revoke u [] ∙ period_none) (λ d. refl) refl refl refl
+    (nat_le (period_after site k) most_periods) refl (period_revoke u [] ∙ period_none) (λ d. refl) refl refl refl
 turn_of site m k Send book = fills refl refl
 turn_of site m k (Offer u) book = leaves refl refl refl
 turn_of site m k (Lose u) book = leaves refl refl refl
@@ -62,7 +62,7 @@ added_ends q command book none =
     omega (arith, period_append (filled q book) (command ∷ []), filled_ends q book, none)
 
 -- the book has no period that no book can have
-pub book_short : (site : SiteFields) (m : ℕ) (past : List Event) → last_period (event_book site m past) ≤ MOST_PERIODS
+pub book_short : (site : SiteFields) (m : ℕ) (past : List Event) → last_period (event_book site m past) ≤ most_periods
 unfolding event_book sends
 book_short site m [] = omega (arith, period_none)
 book_short site m (event ∷ past) =
@@ -184,29 +184,29 @@ period_by n first last most short enough = omega (arith, short, enough)
 
 -- the book has the period of each packet that was sent, if a book can have it
 pub sent_reached : (site : SiteFields) (k j : ℕ) → AreInRange site → j < k →
-    min (open_period site j) MOST_PERIODS ≤ reached site k
+    min (open_period site j) most_periods ≤ reached site k
 sent_reached site zero j r below = absurd (omega (arith, below))
 sent_reached site (suc k) j r below = omega (arith, open_rises site j k r (omega (arith, below)))
 
 -- the period of a packet that was sent depends on no command
 pub period_is : (site : SiteFields) (m : ℕ) (past : List Event) (j : ℕ) → AreInRange site → j < sends m past →
-    period_of (plan_after site m past) j ≡ max site.first_period (min (open_period site j) MOST_PERIODS)
+    period_of (plan_after site m past) j ≡ max site.first_period (min (open_period site j) most_periods)
 unfolding period_of period_in
 period_is site m past j r below =
-    period_by (crypto_of site j / site.span) site.first_period (last_period (event_book site m past)) MOST_PERIODS
+    period_by (crypto_of site j / site.span) site.first_period (last_period (event_book site m past)) most_periods
     (book_short site m past)
     (omega (arith, sent_reached site (sends m past) j r below, book_reaches site m past))
 
 -- it is a period that was reached, or the site's first, above all that a book can have
 pub period_kept : (site : SiteFields) (m : ℕ) (past : List Event) (j : ℕ) → AreInRange site → j < sends m past →
     (period_of (plan_after site m past) j ≤ reached site (sends m past))
-    ⊎ ((MOST_PERIODS < period_of (plan_after site m past) j) × (reached site (sends m past) ≡ MOST_PERIODS)
-    × (last_period (event_book site m past) ≡ MOST_PERIODS))
+    ⊎ ((most_periods < period_of (plan_after site m past) j) × (reached site (sends m past) ≡ most_periods)
+    × (last_period (event_book site m past) ≡ most_periods))
 period_kept site m past j r below =
     let is = period_is site m past j r below in
     let up = sent_reached site (sends m past) j r below in
     let most = reached_short site (sends m past) in
-    elim (cases_lt MOST_PERIODS site.first_period) [
+    elim (cases_lt most_periods site.first_period) [
       | inl past_all ↦ inr (
         omega (arith, is, past_all),
         omega (arith, up, most, past_all),

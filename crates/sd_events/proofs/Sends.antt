@@ -5,7 +5,7 @@ use Rattle.std.specs.Prelude.{min, count_by, if◌then◌else◌}
 use Rattle.std.proofs.lemmas.Grind.{common_steps}
 use Rattle.std.proofs.lemmas.Bool.Decides.{nat_tests}
 use Rattle.sd_site.specs.Fields.{SiteFields, AreInRange}
-use Rattle.sd_book.specs.declared.limits.TheConstants.{MOST_PERIODS}
+use Rattle.sd_book.specs.Limits.{most_periods}
 use Rattle.sd_broadcast.specs.Plan.{crypto_length, crypto_of}
 use Rattle.sd_broadcast.proofs.Schedule.{quotients_rise, quotients_step, crypto_length_some, cryptos_rise}
 use Rattle.sd_events.specs.declared.event.Event.{Event}
@@ -82,7 +82,7 @@ after_is_above site zero some = absurd (omega (arith, some))
 after_is_above site (suc k) some = omega arith
 
 -- it is of the next period, if a book can have it
-pub after_is_next : (site : SiteFields) (k : ℕ) → 0 < k → period_after site k ≤ MOST_PERIODS →
+pub after_is_next : (site : SiteFields) (k : ℕ) → 0 < k → period_after site k ≤ most_periods →
     period_after site k ≡ reached site k + 1
 after_is_next site zero some within = absurd (omega (arith, some))
 after_is_next site (suc k) some within = omega (arith, within)
@@ -93,7 +93,7 @@ reached_within site zero = omega arith
 reached_within site (suc k) = omega arith
 
 -- no book has to have a period that no book can have
-pub reached_short : (site : SiteFields) (k : ℕ) → reached site k ≤ MOST_PERIODS
+pub reached_short : (site : SiteFields) (k : ℕ) → reached site k ≤ most_periods
 reached_short site zero = omega arith
 reached_short site (suc k) = omega arith
 

@@ -3,7 +3,7 @@ use Rattle.std.specs.Prelude.{ℕ, zero, suc, ◌+◌, ◌-◌, ◌/◌, ◌==�
 use Rattle.std.specs.Prelude.{max, min, replicate, if◌then◌else◌}
 use Rattle.sd_site.specs.Fields.{SiteFields}
 use Rattle.sd_book.specs.declared.command.Command.{Command}
-use Rattle.sd_book.specs.declared.limits.TheConstants.{MOST_PERIODS}
+use Rattle.sd_book.specs.Limits.{most_periods}
 use Rattle.sd_book.specs.Commands.{last_period}
 use Rattle.sd_broadcast.specs.Plan.{Plan, crypto_of}
 use Rattle.sd_events.specs.declared.event.Event.{Event}
@@ -28,7 +28,7 @@ period_after site (suc k) = open_period site k + 1
 -- the period that the book has to have once k packets were sent: the one on air, if a book can have it
 abbrev pub reached : SiteFields → ℕ → ℕ
 reached site zero = 0
-reached site (suc k) = min (open_period site k) MOST_PERIODS
+reached site (suc k) = min (open_period site k) most_periods
 
 -- the book with as many Periods after it as make period q its last, if it isn't yet
 unfoldable pub filled : ℕ → List Command → List Command
@@ -36,7 +36,7 @@ filled q book = book ++ replicate (q - last_period book) Command.Period
 
 -- the book with a command of period q; a command of a period that no book can have isn't accepted
 unfoldable pub commanded : ℕ → Command → List Command → List Command
-commanded q command book = if nat_le q MOST_PERIODS then filled q book ++ command ∷ [] else book
+commanded q command book = if nat_le q most_periods then filled q book ++ command ∷ [] else book
 
 -- the book after one event more, which comes after k packets of m were sent
 abbrev pub booked : SiteFields → ℕ → ℕ → Event → List Command → List Command
@@ -59,7 +59,7 @@ plan_after site m past = record { site = site; commands = event_book site m past
 
 -- a command with its period, unless no book can have that period
 abbrev pub taken_in : ℕ → Command → List (ℕ × Command)
-taken_in q command = if nat_le q MOST_PERIODS then (q, command) ∷ [] else []
+taken_in q command = if nat_le q most_periods then (q, command) ∷ [] else []
 
 -- the accepted command of an event that comes after k packets were sent, with its period
 abbrev pub accepted_at : SiteFields → ℕ → Event → List (ℕ × Command)

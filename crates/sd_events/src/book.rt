@@ -3,7 +3,7 @@
 ghost use Rattle.std.specs.Prelude.{◌≡◌, ◌⊎◌, ◌+◌, ◌^◌, ◌<◌, ◌≤◌, ◌++◌, ℕ, true, List, All, count_by, length, max, min};
 ghost use Rattle.sd_site.specs.Fields.{SiteFields, AreInRange};
 ghost use Rattle.sd_book.specs.declared.command.Command.{Command};
-ghost use Rattle.sd_book.specs.declared.limits.TheConstants.{MOST_PERIODS};
+ghost use Rattle.sd_book.specs.Limits.{most_periods};
 ghost use Rattle.sd_book.specs.Commands.{commands_in, commands_until, last_period};
 ghost use Rattle.sd_book.specs.Limits.{IsDraft, IsWithinLimits};
 ghost use Rattle.sd_broadcast.specs.Plan.{Plan, IsPlan, period_of, sets_at};
@@ -25,7 +25,7 @@ pub fn sends_are_counted()
 /// with a packet after the first.
 pub fn commands_are_of_later_periods()
     ensures above { (site : SiteFields) (k : ℕ) → 0 < k → reached site k < period_after site k }
-    ensures next { (site : SiteFields) (k : ℕ) → 0 < k → period_after site k ≤ MOST_PERIODS →
+    ensures next { (site : SiteFields) (k : ℕ) → 0 < k → period_after site k ≤ most_periods →
         period_after site k ≡ reached site k + 1 }
     ensures rise { (site : SiteFields) (j k : ℕ) → AreInRange site → j ≤ k →
         (reached site j ≤ reached site k) × (period_after site j ≤ period_after site k) }
@@ -48,7 +48,7 @@ pub fn event_books_go_on()
     ensures reached { (site : SiteFields) (m : ℕ) (past : List Event) →
         reached site (sends m past) ≤ last_period (event_book site m past) }
     ensures most { (site : SiteFields) (m : ℕ) (past : List Event) →
-        last_period (event_book site m past) ≤ MOST_PERIODS }
+        last_period (event_book site m past) ≤ most_periods }
     ensures within { (site : SiteFields) (m : ℕ) (past : List Event) → AreInRange site →
         last_period (event_book site m past) ≤ period_after site (sends m past) }
 {}
@@ -80,11 +80,11 @@ pub fn commands_are_in_their_periods()
 /// first period, above all that a book can have, whose leaves are those of the book's last.
 pub fn periods_of_packets_stay()
     ensures period { (site : SiteFields) (m : ℕ) (past : List Event) (j : ℕ) → AreInRange site → j < sends m past →
-        period_of (plan_after site m past) j ≡ max site.first_period (min (open_period site j) MOST_PERIODS) }
+        period_of (plan_after site m past) j ≡ max site.first_period (min (open_period site j) most_periods) }
     ensures kept { (site : SiteFields) (m : ℕ) (past : List Event) (j : ℕ) → AreInRange site → j < sends m past →
         (period_of (plan_after site m past) j ≤ reached site (sends m past))
-        ⊎ ((MOST_PERIODS < period_of (plan_after site m past) j) × (reached site (sends m past) ≡ MOST_PERIODS)
-        × (last_period (event_book site m past) ≡ MOST_PERIODS)) }
+        ⊎ ((most_periods < period_of (plan_after site m past) j) × (reached site (sends m past) ≡ most_periods)
+        × (last_period (event_book site m past) ≡ most_periods)) }
 {}
 
 /// Later events change nothing of what decides the periods that the book has to have.

@@ -22,7 +22,7 @@ use Rattle.sd_status.specs.declared.status.Status.TheVariants.{Limit}
 use Rattle.sd_status.specs.declared.status.LimitKind.TheVariants.{CardBytes}
 use Rattle.sd_status.specs.Meant.{Meant, Word, Given, after, all_of, judged, value, within, ◌>>=◌}
 use Rattle.sd_status.specs.Work.{Work}
-use Rattle.sd_run_receive.specs.declared.command.TheConstants.{MOST_CARD_BYTES}
+use Rattle.sd_run_receive.specs.Receive.{most_card_bytes}
 use Rattle.sd_words.specs.Words.{Order, order_of, ReceiveOf}
 use Rattle.sd_run_receive.specs.Receive.{told_card, card_of_file, ending_status, ended_status}
 use Rattle.sd_run_receive.specs.Receive.{received_of, received_status, received_steps, receiving, stream_meaning}
@@ -39,7 +39,7 @@ then_is : {A B : Type 0} (first : Meant A) (x : A) (next : A → Meant B) → fi
 then_is {A} first x next e = ap (λ (r : Result A Status). (after first.calls r next).result) e
 
 -- a card's file is within the limit
-card_length : (card : CardFields) → IsCard card → length (card_bytes card) ≤ MOST_CARD_BYTES
+card_length : (card : CardFields) → IsCard card → length (card_bytes card) ≤ most_card_bytes
 unfolding length_at
 card_length card is =
     let good = good_parts (card_bytes card) (written_is_good card is) in
@@ -52,10 +52,10 @@ card_length card is =
 card_good : (word : ℕ) (card : CardFields) → IsCard card → (card_of_file word (Some (card_bytes card))).result ≡ Ok card
 unfolding card_of_file
 card_good word card is =
-    then_is (within word MOST_CARD_BYTES CardBytes (Some (card_bytes card))) (card_bytes card)
+    then_is (within word most_card_bytes CardBytes (Some (card_bytes card))) (card_bytes card)
     (λ bytes. judged (told_card bytes))
     (ap (λ b. cond b (Err (Limit CardBytes)) (Ok (card_bytes card)))
-    (le-ltb MOST_CARD_BYTES (length (card_bytes card)) (card_length card is)))
+    (le-ltb most_card_bytes (length (card_bytes card)) (card_length card is)))
     ∙ card_read (card_bytes card) card is refl
 
 pub received : (given : Given) (card stream out : Word) (fields : CardFields) (bytes : List ℕ) → IsCard fields →

@@ -44,7 +44,7 @@ use Rattle.sd_run_tables.specs.Tables.{inspecting, tables_meaning}
 use Rattle.sd_run_trace.specs.Trace.{traced, telling, trace_meaning}
 use Rattle.sd_run_trial.specs.Prefixes.{prefix_of_file}
 use Rattle.sd_run_trial.specs.Trial.{plan_meaning as trial_plan, trial_text, trying, trial_meaning, printing}
-use Rattle.sd_run_trial.specs.declared.command.TheConstants.{MOST_CLEAR_BYTES}
+use Rattle.sd_run_trial.specs.Trial.{most_clear_bytes}
 use Rattle.sd_run_help.specs.Help as help
 use Rattle.sd_run_help.specs.Pages.{help_text, version_text}
 use Rattle.sd_sample.specs.Sample.{sample_of}
@@ -281,8 +281,8 @@ trial_orderly : (site book clear : Word) (given : Given) → AreOrderly None (tr
 unfolding trial_meaning
 trial_orderly site book clear given =
     orderly_after None (trial_plan site book given)
-    (λ plan. prefix_of_file clear.number MOST_CLEAR_BYTES (given clear) >>= λ prefix. value (trying plan prefix))
-    (λ plan. orderly_after None (prefix_of_file clear.number MOST_CLEAR_BYTES (given clear))
+    (λ plan. prefix_of_file clear.number most_clear_bytes (given clear) >>= λ prefix. value (trying plan prefix))
+    (λ plan. orderly_after None (prefix_of_file clear.number most_clear_bytes (given clear))
     (λ prefix. value (trying plan prefix)) (λ prefix. trial_quiet (trial_text plan prefix)))
 
 -- the file that an order makes

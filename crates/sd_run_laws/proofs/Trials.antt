@@ -26,8 +26,8 @@ use Rattle.sd_status.specs.Comes.{PrintsAll}
 use Rattle.sd_status.specs.Answers.{Answers}
 use Rattle.sd_files.specs.Files.{most_site_bytes, most_book_bytes, told_site, told_book, site_of_file, book_of_file}
 use Rattle.sd_run_head.specs.Head.{sent_of, sent_status, status_where}
-use Rattle.sd_run_trial.specs.declared.plan.TheConstants.{MOST_HEIGHT}
-use Rattle.sd_run_trial.specs.declared.command.TheConstants.{MOST_CLEAR_BYTES}
+use Rattle.sd_run_trial.specs.Trial.{most_height}
+use Rattle.sd_run_trial.specs.Trial.{most_clear_bytes}
 use Rattle.sd_run_trial.specs.Prefixes.{prefix_of_file}
 use Rattle.sd_run_trial.proofs.Prefixes.{whole_prefix}
 use Rattle.sd_run_trial.specs.Trial.{told_low, low_site_of_file, plan_by, plan_meaning, sent_or, told_sent, told_line}
@@ -122,16 +122,16 @@ all_of_it most bytes e = (whole_prefix most bytes short, short)
     short = ltb-false most (length bytes) e
 
 -- the height of a site that is taken
-low_right : (site found : SiteFields) → told_low site ≡ Ok found → (site ≡ found) × (site.height ≤ MOST_HEIGHT)
-low_right site found e = by_test (nat_lt MOST_HEIGHT site.height) refl e
+low_right : (site found : SiteFields) → told_low site ≡ Ok found → (site ≡ found) × (site.height ≤ most_height)
+low_right site found e = by_test (nat_lt most_height site.height) refl e
   where
-    by_test : (t : Bool) → nat_lt MOST_HEIGHT site.height ≡ t → cond t (Err (Limit TrialHeight)) (Ok site) ≡ Ok found →
-        (site ≡ found) × (site.height ≤ MOST_HEIGHT)
+    by_test : (t : Bool) → nat_lt most_height site.height ≡ t → cond t (Err (Limit TrialHeight)) (Ok site) ≡ Ok found →
+        (site ≡ found) × (site.height ≤ most_height)
     by_test true f e = absurd (cc)
-    by_test false f e = (let same : site ≡ found = cc in same, ltb-false MOST_HEIGHT site.height f)
+    by_test false f e = (let same : site ≡ found = cc in same, ltb-false most_height site.height f)
 
 low_plan : (site book : Word) (given : Given) (plan : Plan) → (plan_meaning site book given).result ≡ Ok plan →
-    IsPlan plan × (plan.site.height ≤ MOST_HEIGHT)
+    IsPlan plan × (plan.site.height ≤ most_height)
 unfolding plan_by low_site_of_file site_of_file book_of_file
 low_plan site book given plan e =
     let fields = then_ok (low_site_of_file site.number (given site))
@@ -149,9 +149,9 @@ low_plan site book given plan e =
     let is_site = subst (IsSite site_read.from) low.0 (site_right site_read.from any.from site_read.next_is) in
     let is_within = book_right book.number fields.from.height book_read.from commands.from book_read.next_is in
     let made : Plan = record { site = fields.from; commands = commands.from } in
-    subst (λ (p : Plan). IsPlan p × (p.site.height ≤ MOST_HEIGHT)) (value_is made plan commands.next_is) (
+    subst (λ (p : Plan). IsPlan p × (p.site.height ≤ most_height)) (value_is made plan commands.next_is) (
       record { site = is_site.ranges; ca = ca_fits site_read.from fields.from is_site; book = is_within },
-      subst (λ (s : SiteFields). s.height ≤ MOST_HEIGHT) low.0 low.1,
+      subst (λ (s : SiteFields). s.height ≤ most_height) low.0 low.1,
     )
 
 -- what is printed is the lines of a stream of which no packet is refused
@@ -171,7 +171,7 @@ pub trial_tried : (site book clear : Word) (files : Files) (a b : Outside) → a
 unfolding trial_meaning prefix_of_file
 trial_tried site book clear files a b known answers =
     let given = told_by files in
-    let most = MOST_CLEAR_BYTES in
+    let most = most_clear_bytes in
     let done = done_leaves (trial_meaning site book clear) files a b Done known refl answers in
     let plan = then_ok (plan_meaning site book given)
     (λ plan. prefix_of_file clear.number most (given clear) >>= λ prefix. value (trying plan prefix)) done.work

@@ -8,7 +8,7 @@ use Rattle.sd_status.specs.declared.status.LimitKind.TheVariants.{TrialHeight}
 use Rattle.sd_status.specs.Meant.{Word, Given, judged, value, ◌>>=◌}
 use Rattle.sd_files.specs.Files.{site_in, book_in}
 use Rattle.sd_words.specs.Words.{TrialOf}
-use Rattle.sd_run_trial.specs.declared.plan.TheConstants.{MOST_HEIGHT}
+use Rattle.sd_run_trial.specs.Trial.{most_height}
 use Rattle.sd_printed.specs.Trials.{opened_lines}
 use Rattle.sd_run_trial.specs.Trial.{told_low, low_site_of_file, plan_by, plan_meaning, printing}
 use Rattle.sd_printed.proofs.Tried as opened
@@ -20,15 +20,15 @@ use Rattle.sd_run_laws.proofs.Plans.{good_plan}
 
 -- a site whose tree is low enough is taken
 low_good : (given : Given) (word : Word) (fields : SiteFields) → IsGoodSite (given word) fields →
-    fields.height ≤ MOST_HEIGHT → (low_site_of_file word.number (given word)).result ≡ Ok fields
+    fields.height ≤ most_height → (low_site_of_file word.number (given word)).result ≡ Ok fields
 unfolding low_site_of_file
 low_good given word fields good low =
     then_is (site_in given word) fields (λ site. judged (told_low site)) (site_good given word fields good)
-    ∙ ap (λ b. cond b (Err (Limit TrialHeight)) (Ok fields)) (le-ltb MOST_HEIGHT fields.height low)
+    ∙ ap (λ b. cond b (Err (Limit TrialHeight)) (Ok fields)) (le-ltb most_height fields.height low)
 
 -- it and a book of its tree are the plan
 plan_said : (given : Given) (site book : Word) (plan : Plan) → IsGoodSite (given site) plan.site →
-    plan.site.height ≤ MOST_HEIGHT → IsGoodBook (given book) plan.site.height plan.commands →
+    plan.site.height ≤ most_height → IsGoodBook (given book) plan.site.height plan.commands →
     (plan_meaning site book given).result ≡ Ok plan
 unfolding plan_by
 plan_said given site book plan good_site low good_book =

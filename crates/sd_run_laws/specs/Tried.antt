@@ -12,8 +12,8 @@ use Rattle.sd_whole.specs.Synced.{AreBytes}
 use Rattle.sd_status.specs.Meant.{Word, Given, told_by}
 use Rattle.sd_status.specs.Outside.{Outside}
 use Rattle.sd_words.specs.Words.{TrialOf, order_of}
-use Rattle.sd_run_trial.specs.declared.command.TheConstants.{MOST_CLEAR_BYTES}
-use Rattle.sd_run_trial.specs.declared.plan.TheConstants.{MOST_HEIGHT}
+use Rattle.sd_run_trial.specs.Trial.{most_clear_bytes}
+use Rattle.sd_run_trial.specs.Trial.{most_height}
 use Rattle.sd_run_trial.specs.Trial.{plan_meaning}
 use Rattle.sd_printed.specs.Trials.{opened_lines}
 use Rattle.sd_run_laws.specs.Good.{IsGoodSite, IsGoodBook}
@@ -27,12 +27,12 @@ pub record IsGoodTrial (words : List (List ℕ)) (given : Given) : Type 0 where
   pub order : order_of words ≡ Ok (TrialOf site book clear)
   pub fields : SiteFields
   pub good_site : IsGoodSite (given site) fields
-  pub low : fields.height ≤ MOST_HEIGHT
+  pub low : fields.height ≤ most_height
   pub commands : List Command
   pub good_book : IsGoodBook (given book) fields.height commands
   pub bytes : List ℕ
   pub there : given clear ≡ Some bytes
-  pub short : length bytes ≤ MOST_CLEAR_BYTES
+  pub short : length bytes ≤ most_clear_bytes
   pub are_bytes : AreBytes bytes
   pub whole : end_of bytes ≡ Whole
   pub is_clear : IsClear fields (taken_of bytes)
@@ -47,11 +47,11 @@ pub record IsTried (site book clear : Word) (files : Files) (a b : Outside) : Ty
   pub plan : Plan
   pub said : (plan_meaning site book (told_by files)).result ≡ Ok plan
   pub is_plan : IsPlan plan
-  pub low : plan.site.height ≤ MOST_HEIGHT
+  pub low : plan.site.height ≤ most_height
   -- the clear stream, of which no packet is refused
   pub bytes : List ℕ
   pub there : get files clear.text ≡ Some bytes
-  pub short : length bytes ≤ MOST_CLEAR_BYTES
+  pub short : length bytes ≤ most_clear_bytes
   pub whole : end_of bytes ≡ Whole
   pub is_clear : IsClear plan.site (taken_of bytes)
   -- what each receiver writes of the broadcast
