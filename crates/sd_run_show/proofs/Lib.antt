@@ -1,0 +1,4 @@
+pub mod Plain
+pub mod Cards
+pub mod Others
+pub mod Printed

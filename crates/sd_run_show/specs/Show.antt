@@ -1,0 +1,72 @@
+-- `show CARD` [this project, docs/FORMATS.md, Card].
+use Rattle.std.specs.Prelude.{ℕ, ◌+◌, ◌*◌, ◌/◌, false, List, [], ◌∷◌, ◌++◌, codes, Option, Some, None, Result, Ok, Err}
+use Rattle.hex.specs.Hex.{encode_lower}
+use Rattle.serde_json.specs.Data.{Data, number, unsigned, string, object, member, no_members}
+use Rattle.serde_json.specs.Written.{compact_text}
+use Rattle.sd_card.specs.declared.fault.CardFault.{CardFault}
+use Rattle.sd_card.specs.declared.fault.CardFault.TheVariants as card
+use Rattle.sd_card.specs.Faults.{height_in, leaf_in, ca_in, fault_in}
+use Rattle.sd_secrets.specs.Files.{check_in}
+use Rattle.sd_status.specs.declared.status.Status.{Status}
+use Rattle.sd_status.specs.declared.status.Status.TheVariants.{Done, BadCard, NoMemory}
+use Rattle.sd_status.specs.declared.status.LimitKind.TheVariants.{CardBytes}
+use Rattle.sd_status.specs.Meant.{Meant, Word, Given, within, judged, value, ◌>>=◌}
+use Rattle.sd_status.specs.Work.{NoSteps, Work}
+
+-- the bytes of the longest card file [this project, docs/FORMATS.md, Card]
+abbrev pub most_card_bytes : ℕ
+most_card_bytes = 8192
+
+-- the number of labels in a card at height d, the key of the whole set not among them [Naor, Naor, Lotspiech 2001, 3.2]
+abbrev pub labels_for : ℕ → ℕ
+labels_for d = d * (d + 1) / 2
+
+-- a number
+abbrev pub num : ℕ → Data
+num n = number (unsigned n)
+
+-- What is shown of a card: the height, the leaf, the conditional access system and the check at the end of its file. No
+-- key and no label is among them [this project, docs/FORMATS.md, Card].
+unfoldable pub shown_data : ℕ → ℕ → ℕ → List ℕ → Data
+shown_data height leaf ca check = object
+    (member (codes "card") (string (codes "plain"))
+    (member (codes "check") (string (encode_lower check))
+    (member (codes "height") (num height)
+    (member (codes "labels") (num (labels_for height))
+    (member (codes "leaf") (num leaf)
+    (member (codes "system") (num ca)
+    no_members))))))
+
+-- its line: compact JSON with the keys in ascending order, and a line feed
+unfoldable pub shown_line : ℕ → ℕ → ℕ → List ℕ → List ℕ
+shown_line height leaf ca check = compact_text (shown_data height leaf ca check) ++ 10 ∷ []
+
+-- the line of a card's file [this project, docs/FORMATS.md, Card]
+abbrev pub card_line : List ℕ → List ℕ
+card_line bytes = shown_line (height_in bytes) (leaf_in bytes) (ca_in bytes) (check_in bytes)
+
+-- a line, if nothing is wrong with the card's file
+abbrev pub line_unless : Option CardFault → List ℕ → Result (List ℕ) Status
+line_unless None line = Ok line
+line_unless (Some fault) line = Err (BadCard fault)
+
+-- the status of bytes that are no card
+abbrev pub refused_card : CardFault → Status
+refused_card card.NoMemory = NoMemory
+refused_card found = BadCard found
+
+-- the line of the card that a file's bytes are
+unfoldable pub told_show : List ℕ → Result (List ℕ) Status
+told_show bytes = line_unless (fault_in bytes) (card_line bytes)
+
+-- the line of what the file of this word gave
+unfoldable pub line_of_file : ℕ → Option (List ℕ) → Meant (List ℕ)
+line_of_file word got = within word most_card_bytes CardBytes got >>= λ bytes. judged (told_show bytes)
+
+-- prints a line
+abbrev pub printing : List ℕ → Work
+printing line = record { out = None; pieces = line ∷ []; ends = Done; breaks = false; steps = NoSteps }
+
+-- the work that the card's file says
+abbrev pub show_meaning : Word → Given → Meant Work
+show_meaning card given = line_of_file card.number (given card) >>= λ line. value (printing line)

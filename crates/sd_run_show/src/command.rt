@@ -1,0 +1,61 @@
+ghost use Rattle.std.specs.Prelude.{◌≡◌, ℕ, string_bytes};
+ghost use Rattle.sd_status.specs.Outside.{outside, page, place};
+ghost use Rattle.sd_status.specs.Reads.{Judges, Looks};
+ghost use Rattle.sd_status.specs.Comes.{Follows, status_of};
+ghost use Rattle.sd_files.specs.Shown.{shown_word};
+ghost use Rattle.sd_run_show.specs.Show.{line_of_file, refused_card, show_meaning, told_show};
+
+use crate::line::line_of;
+use sd_card::{Card, CardFault};
+use sd_files::{Word, print_text, read_bytes};
+use sd_ports::{Depot, Sink};
+use sd_status::{LimitKind, Status};
+use std::alloc::Global;
+
+/// The most bytes of a card's file.
+pub const MOST_CARD_BYTES: usize = 8_192;
+
+/// Does `show CARD`.
+#[inline(never)]
+pub fn show<D: Depot, P: Sink>(
+    alloc: Global,
+    depot: &mut D,
+    print: &mut P,
+    card: Word<'_>,
+) -> Result<(), Status>
+    ensures { (steps : ℕ) → Follows (show_meaning (shown_word card.entry))
+        (outside (place D.Depot depot.old) (page P.Sink print.old) steps)
+        (outside (place D.Depot depot.new) (page P.Sink print.new) steps) (status_of result) }
+{
+    let line = read_line(alloc, depot, card)?;
+    print_text(print, line.as_bytes())
+}
+
+/// The line of the card in the word's file.
+fn read_line<D: Depot>(alloc: Global, depot: &mut D, word: Word<'_>) -> Result<String, Status>
+    ensures { Looks (λ line. string_bytes line) (line_of_file word.entry.number) word.entry.text.now
+        (place D.Depot depot.old) (place D.Depot depot.new) result }
+{
+    let bytes = read_bytes(alloc, depot, word, MOST_CARD_BYTES, LimitKind::CardBytes)?;
+    judge_card(alloc, &bytes)
+}
+
+/// The line of the card that a file's bytes are.
+fn judge_card(alloc: Global, bytes: &[u8]) -> Result<String, Status>
+    ensures { Judges (λ line. string_bytes line) (told_show bytes.now) result }
+{
+    match Card::read(alloc, bytes) {
+        Ok(card) => Ok(line_of(alloc, &card, bytes)?),
+        Err(fault) => Err(card_status(fault)),
+    }
+}
+
+/// The status of bytes that are no card, or for which memory ran out.
+fn card_status(fault: CardFault) -> Status
+    ensures { result ≡ refused_card fault }
+{
+    match fault {
+        CardFault::NoMemory => Status::NoMemory,
+        _ => Status::BadCard(fault),
+    }
+}
