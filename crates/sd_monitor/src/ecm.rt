@@ -1,0 +1,62 @@
+ghost use Rattle.std.specs.Prelude.{◌≡◌, ◌≤◌, IfOk, map};
+ghost use Rattle.serde_json.specs.View.{view};
+ghost use Rattle.sd_lines.specs.Lines.{listed as list_of};
+ghost use Rattle.sd_ecm.specs.declared.format.TheConstants.{POSITIONS};
+ghost use Rattle.sd_monitor.specs.Lines.{ecm_data, place_data};
+
+use crate::object::object_of;
+use sd_ecm::{EcmPart, Place};
+use serde_json::{Value, json};
+use std::alloc::{AllocError, Global};
+
+// What is shown of a part of a control message on this PID, in the packet of this number.
+#[tactic(auto, unfolding(crate::specs::Lines::ecm_data))]
+pub(crate) fn ecm_value(
+    alloc: Global,
+    packet: u64,
+    pid: u16,
+    part: &EcmPart,
+) -> Result<Value, AllocError>
+    requires { part.now.count ≤ POSITIONS }
+    ensures { IfOk result (λ value. view value ≡ ecm_data packet pid part.now) }
+{
+    let check = hex::encode(alloc, &part.check)?;
+    let positions = places_value(alloc, part.listed())?;
+    let table = Value::try_from_str(alloc, "ecm")?;
+    let members = vec![in alloc;
+        ("check", check.into()),
+        ("clear", part.clear.into()),
+        ("closing", part.closing.into()),
+        ("last", part.last_part.into()),
+        ("number", part.number.into()),
+        ("packet", packet.into()),
+        ("part", part.part.into()),
+        ("period", part.period.into()),
+        ("pid", pid.into()),
+        ("positions", positions),
+        ("since", part.since.into()),
+        ("table", table),
+        ("version", part.version.into()),
+        ("word", part.word.into()),
+    ]?;
+    object_of(alloc, members)
+}
+
+// The positions of PIDs.
+fn places_value(alloc: Global, places: &[Place]) -> Result<Value, AllocError>
+    ensures { IfOk result (λ value. view value ≡ list_of (map place_data places.now)) }
+{
+    let mut positions = Vec::new(alloc);
+    for place in places {
+        positions.push(place_value(alloc, *place)?)?;
+    }
+    Ok(Value::Array(positions))
+}
+
+// The position of a PID.
+#[tactic(auto, unfolding(crate::specs::Lines::place_data))]
+fn place_value(alloc: Global, place: Place) -> Result<Value, AllocError>
+    ensures { IfOk result (λ value. view value ≡ place_data place) }
+{
+    json!(in alloc; {"pid": place.pid, "position": place.position})
+}

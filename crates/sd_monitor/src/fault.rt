@@ -1,0 +1,56 @@
+ghost use Rattle.std.specs.Prelude.{◌≡◌, IfOk};
+ghost use Rattle.serde_json.specs.View.{view};
+ghost use Rattle.sd_monitor.specs.Lines.{fault_data, emm_fault_word, ecm_fault_word};
+
+use crate::object::object_of;
+use sd_ecm::EcmFault;
+use sd_emm::EmmFault;
+use serde_json::Value;
+use std::alloc::{AllocError, Global};
+
+// What is shown of a fault of this table on this PID, in the packet of this number.
+#[tactic(auto, unfolding(crate::specs::Lines::fault_data))]
+pub(crate) fn fault_value(
+    alloc: Global,
+    fault: &str,
+    table: &str,
+    packet: u64,
+    pid: u16,
+) -> Result<Value, AllocError>
+    ensures { IfOk result (λ value. view value ≡ fault_data fault.now table.now packet pid) }
+{
+    let fault = Value::try_from_str(alloc, fault)?;
+    let table = Value::try_from_str(alloc, table)?;
+    let members = vec![in alloc;
+        ("fault", fault),
+        ("packet", packet.into()),
+        ("pid", pid.into()),
+        ("table", table),
+    ]?;
+    object_of(alloc, members)
+}
+
+// The word for a fault of a section of entitlements.
+pub(crate) fn emm_word(fault: EmmFault) -> &'static str
+    ensures { result.now ≡ emm_fault_word fault }
+{
+    match fault {
+        EmmFault::Count => "count",
+        EmmFault::Order => "order",
+        EmmFault::Node => "node",
+        EmmFault::Mixed => "mixed",
+    }
+}
+
+// The word for a fault of a part of a control message.
+pub(crate) fn ecm_word(fault: EcmFault) -> &'static str
+    ensures { result.now ≡ ecm_fault_word fault }
+{
+    match fault {
+        EcmFault::Count => "count",
+        EcmFault::Order => "order",
+        EcmFault::Pid => "pid",
+        EcmFault::Mixed => "mixed",
+        EcmFault::Back => "back",
+    }
+}
