@@ -1,0 +1,2 @@
+pub mod Monitored
+pub mod Others
