@@ -1,13 +1,15 @@
 -- What help says of each command [this project, docs/FORMATS.md, Help].
 use Rattle.std.specs.Prelude.{ℕ, List, [], ◌∷◌, codes, bytes_eq, if◌then◌else◌, Option, Some, None}
 use Rattle.sd_commands.specs.declared.command.Command.{Command}
-use Rattle.sd_commands.specs.declared.command.Command.TheVariants.{Accounts, Book, Card, Cover, Head, Layered, Lcard, Opens}
-use Rattle.sd_commands.specs.declared.command.Command.TheVariants.{Receive, Sample, Tables, Trace, Trial}
+use Rattle.sd_commands.specs.declared.command.Command.TheVariants.{Accounts, Book, Card, Cover, Head, Layered, Lcard}
+use Rattle.sd_commands.specs.declared.command.Command.TheVariants.{Messages, Opens, Receive, Sample, Show, Tables}
+use Rattle.sd_commands.specs.declared.command.Command.TheVariants.{Trace, Trial}
 use Rattle.sd_commands.specs.declared.operand.Operand.{Operand}
 use Rattle.sd_commands.specs.declared.operand.Operand.TheVariants as word
 use Rattle.sd_commands.specs.declared.exit.Exit.{Exit}
 use Rattle.sd_commands.specs.Exits.{exits_of_books, exits_of_cards, exits_of_clear_streams, exits_of_layers}
-use Rattle.sd_commands.specs.Exits.{exits_of_receivers, exits_of_samples, exits_of_tables}
+use Rattle.sd_commands.specs.Exits.{exits_of_monitors, exits_of_receivers, exits_of_samples, exits_of_shown_cards}
+use Rattle.sd_commands.specs.Exits.{exits_of_tables}
 
 -- the command's name
 unfoldable pub name_of : Command → List ℕ
@@ -18,9 +20,11 @@ name_of Cover = codes "cover"
 name_of Head = codes "head"
 name_of Layered = codes "layered"
 name_of Lcard = codes "lcard"
+name_of Messages = codes "messages"
 name_of Opens = codes "opens"
 name_of Receive = codes "receive"
 name_of Sample = codes "sample"
+name_of Show = codes "show"
 name_of Tables = codes "tables"
 name_of Trace = codes "trace"
 name_of Trial = codes "trial"
@@ -28,7 +32,8 @@ name_of Trial = codes "trial"
 -- all commands, by their names
 abbrev pub commands : List Command
 commands =
-    Accounts ∷ Book ∷ Card ∷ Cover ∷ Head ∷ Layered ∷ Lcard ∷ Opens ∷ Receive ∷ Sample ∷ Tables ∷ Trace ∷ Trial ∷ []
+    Accounts ∷ Book ∷ Card ∷ Cover ∷ Head ∷ Layered ∷ Lcard ∷ Messages ∷ Opens ∷ Receive ∷ Sample ∷ Show ∷ Tables ∷ Trace
+    ∷ Trial ∷ []
 
 -- the first of them that has this name
 abbrev pub named : List ℕ → List Command → Option Command
@@ -48,9 +53,11 @@ operands_of Cover = word.Site ∷ word.Book ∷ []
 operands_of Head = word.Site ∷ word.Book ∷ word.Clear ∷ word.Out ∷ []
 operands_of Layered = word.Site ∷ word.Book ∷ word.Width ∷ []
 operands_of Lcard = word.Site ∷ word.Leaf ∷ word.Width ∷ word.Out ∷ []
+operands_of Messages = word.Site ∷ word.Stream ∷ []
 operands_of Opens = word.Site ∷ word.Book ∷ word.Leaves ∷ []
 operands_of Receive = word.Card ∷ word.Stream ∷ word.Out ∷ []
 operands_of Sample = word.Number ∷ word.Packets ∷ word.Out ∷ []
+operands_of Show = word.Card ∷ []
 operands_of Tables = word.Stream ∷ []
 operands_of Trace = word.Site ∷ word.Book ∷ word.Leaves ∷ []
 operands_of Trial = word.Site ∷ word.Book ∷ word.Clear ∷ []
@@ -64,9 +71,11 @@ work_of Cover = codes "prints the sets that each period names"
 work_of Head = codes "makes the scrambled broadcast of a clear stream"
 work_of Layered = codes "prints the sets that each period names in layers"
 work_of Lcard = codes "makes the card of a receiver for layers, which is smaller"
+work_of Messages = codes "prints what a broadcast's messages say, a line each"
 work_of Opens = codes "prints which sets of each period pooled cards open"
 work_of Receive = codes "makes the clear packets of a broadcast that a card opens"
 work_of Sample = codes "makes a clear stream for trials"
+work_of Show = codes "prints what a card's file is, without its keys"
 work_of Tables = codes "prints the tables of a stream, a line of JSON for each"
 work_of Trace = codes "prints which receivers' cards a box has, found by trials"
 work_of Trial = codes "prints what each receiver writes of a broadcast"
@@ -80,9 +89,11 @@ exits_of Cover = exits_of_books
 exits_of Head = exits_of_clear_streams
 exits_of Layered = exits_of_layers
 exits_of Lcard = exits_of_cards
+exits_of Messages = exits_of_monitors
 exits_of Opens = exits_of_books
 exits_of Receive = exits_of_receivers
 exits_of Sample = exits_of_samples
+exits_of Show = exits_of_shown_cards
 exits_of Tables = exits_of_tables
 exits_of Trace = exits_of_books
 exits_of Trial = exits_of_clear_streams
@@ -96,9 +107,11 @@ example_of Cover = codes "cover examples/site.txt examples/book.txt"
 example_of Head = codes "head examples/site.txt examples/book.txt clear.ts broadcast.ts"
 example_of Layered = codes "layered examples/site.txt examples/book.txt 2"
 example_of Lcard = codes "lcard examples/site.txt 2 2 layer-card-2"
+example_of Messages = codes "messages examples/site.txt broadcast.ts"
 example_of Opens = codes "opens examples/site.txt examples/book.txt examples/pooled.txt"
 example_of Receive = codes "receive card-2 broadcast.ts opened.ts"
 example_of Sample = codes "sample 7 600 clear.ts"
+example_of Show = codes "show card-2"
 example_of Tables = codes "tables broadcast.ts"
 example_of Trace = codes "trace examples/site.txt examples/book.txt examples/pair.txt"
 example_of Trial = codes "trial examples/site.txt examples/book.txt clear.ts"

@@ -56,3 +56,12 @@ exits_of_samples = Done ∷ Usage ∷ Missing ∷ DepotFault ∷ PrintFault ∷ 
 -- those of a command that shows a stream
 abbrev pub exits_of_tables : List Exit
 exits_of_tables = Done ∷ Usage ∷ Missing ∷ DepotFault ∷ PrintFault ∷ BadStream ∷ NoMemory ∷ []
+
+-- those of a command that shows the messages of a site in a stream
+abbrev pub exits_of_monitors : List Exit
+exits_of_monitors =
+    Done ∷ Usage ∷ Missing ∷ DepotFault ∷ PrintFault ∷ BadSite ∷ BadStream ∷ Limit ∷ NoMemory ∷ []
+
+-- those of a command that shows a card
+abbrev pub exits_of_shown_cards : List Exit
+exits_of_shown_cards = Done ∷ Usage ∷ Missing ∷ DepotFault ∷ PrintFault ∷ BadCard ∷ Limit ∷ NoMemory ∷ []

@@ -1,6 +1,7 @@
 ghost use Rattle.std.specs.Prelude.{◌≡◌};
 ghost use Rattle.sd_commands.specs.Exits.{exits_of_books, exits_of_cards, exits_of_clear_streams, exits_of_layers};
-ghost use Rattle.sd_commands.specs.Exits.{exits_of_receivers, exits_of_samples, exits_of_tables, exit_line};
+ghost use Rattle.sd_commands.specs.Exits.{exits_of_monitors, exits_of_receivers, exits_of_samples};
+ghost use Rattle.sd_commands.specs.Exits.{exits_of_shown_cards, exits_of_tables, exit_line};
 
 /// An exit of the program.
 #[derive(Clone, Copy)]
@@ -172,6 +173,39 @@ pub fn of_tables() -> &'static [Exit]
         Exit::DepotFault,
         Exit::PrintFault,
         Exit::BadStream,
+        Exit::NoMemory,
+    ]
+}
+
+/// The exits of a command that shows the messages of a site in a stream.
+pub fn of_monitors() -> &'static [Exit]
+    ensures { result.now ≡ exits_of_monitors }
+{
+    &[
+        Exit::Done,
+        Exit::Usage,
+        Exit::Missing,
+        Exit::DepotFault,
+        Exit::PrintFault,
+        Exit::BadSite,
+        Exit::BadStream,
+        Exit::Limit,
+        Exit::NoMemory,
+    ]
+}
+
+/// The exits of a command that shows a card.
+pub fn of_shown_cards() -> &'static [Exit]
+    ensures { result.now ≡ exits_of_shown_cards }
+{
+    &[
+        Exit::Done,
+        Exit::Usage,
+        Exit::Missing,
+        Exit::DepotFault,
+        Exit::PrintFault,
+        Exit::BadCard,
+        Exit::Limit,
         Exit::NoMemory,
     ]
 }

@@ -17,13 +17,16 @@ use Rattle.sd_run_accounts.proofs.Others.{other_accounts}
 use Rattle.sd_run_book.proofs.Others.{other_book_order}
 use Rattle.sd_run_layered.proofs.Others.{other_layered}
 use Rattle.sd_run_lcard.proofs.Others.{other_lcard}
+use Rattle.sd_run_messages.proofs.Others.{other_messages}
 use Rattle.sd_run_opens.proofs.Others.{other_opens}
+use Rattle.sd_run_show.proofs.Others.{other_show}
 use Rattle.sd_run_trace.proofs.Others.{other_trace}
 use Rattle.sd_run_trial.proofs.Others.{other_trial}
 use Rattle.sd_run_help.proofs.Others.{other_help, other_version}
 use Rattle.sd_commands.specs.declared.command.Command.{Command}
 use Rattle.sd_commands.specs.declared.command.Command.TheVariants.{Accounts, Book, Card, Cover, Head, Layered, Lcard}
-use Rattle.sd_commands.specs.declared.command.Command.TheVariants.{Opens, Receive, Sample, Tables, Trace, Trial}
+use Rattle.sd_commands.specs.declared.command.Command.TheVariants.{Messages, Opens, Receive, Sample, Show, Tables}
+use Rattle.sd_commands.specs.declared.command.Command.TheVariants.{Trace, Trial}
 use Rattle.sd_words.specs.Words.{Argument, InputOf, OutOf, NumberOf, Order, CommandOf, HelpOf, VersionOf, file, number}
 use Rattle.sd_words.specs.Words.{order_of}
 use Rattle.sd_commands.specs.Commands.{operands_of}
@@ -98,9 +101,11 @@ other_command Cover words given = other_cover (file 1 words) (file 2 words) give
 other_command Head words given = other_head (file 1 words) (file 2 words) (file 3 words) (file 4 words) given
 other_command Layered words given = other_layered (file 1 words) (file 2 words) (number 3 words) given
 other_command Lcard words given = other_lcard (file 1 words) (number 2 words) (number 3 words) (file 4 words) given
+other_command Messages words given = other_messages (file 1 words) (file 2 words) given
 other_command Opens words given = other_opens (file 1 words) (file 2 words) (file 3 words) given
 other_command Receive words given = other_receive (file 1 words) (file 2 words) (file 3 words) given
 other_command Sample words given = tt
+other_command Show words given = other_show (file 1 words) given
 other_command Tables words given = other_tables (file 1 words) given
 other_command Trace words given = other_trace (file 1 words) (file 2 words) (file 3 words) given
 other_command Trial words given = other_trial (file 1 words) (file 2 words) (file 3 words) given

@@ -4,7 +4,8 @@ use Rattle.sd_status.specs.Meant.{Meant, Given, judged, ◌>>=◌}
 use Rattle.sd_status.specs.Work.{Work}
 use Rattle.sd_commands.specs.declared.command.Command.{Command}
 use Rattle.sd_commands.specs.declared.command.Command.TheVariants.{Accounts, Book, Card, Cover, Head, Layered, Lcard}
-use Rattle.sd_commands.specs.declared.command.Command.TheVariants.{Opens, Receive, Sample, Tables, Trace, Trial}
+use Rattle.sd_commands.specs.declared.command.Command.TheVariants.{Messages, Opens, Receive, Sample, Show, Tables}
+use Rattle.sd_commands.specs.declared.command.Command.TheVariants.{Trace, Trial}
 use Rattle.sd_words.specs.Words.{Argument, Order, CommandOf, HelpOf, VersionOf, file, number, order_of}
 use Rattle.sd_run_cover.specs.Cover.{cover_meaning}
 use Rattle.sd_run_card.specs.Card.{card_meaning}
@@ -16,7 +17,9 @@ use Rattle.sd_run_accounts.specs.Accounts.{accounts_meaning}
 use Rattle.sd_run_book.specs.Book.{book_meaning}
 use Rattle.sd_run_layered.specs.Layered.{layered_meaning}
 use Rattle.sd_run_lcard.specs.Lcard.{lcard_meaning}
+use Rattle.sd_run_messages.specs.Messages.{messages_meaning}
 use Rattle.sd_run_opens.specs.Opens.{opens_meaning}
+use Rattle.sd_run_show.specs.Show.{show_meaning}
 use Rattle.sd_run_trace.specs.Trace.{trace_meaning}
 use Rattle.sd_run_trial.specs.Trial.{trial_meaning}
 use Rattle.sd_run_help.specs.Help.{help_meaning, version_meaning}
@@ -30,9 +33,11 @@ command_meaning Cover words given = cover_meaning (file 1 words) (file 2 words) 
 command_meaning Head words given = head_meaning (file 1 words) (file 2 words) (file 3 words) (file 4 words) given
 command_meaning Layered words given = layered_meaning (file 1 words) (file 2 words) (number 3 words) given
 command_meaning Lcard words given = lcard_meaning (file 1 words) (number 2 words) (number 3 words) (file 4 words) given
+command_meaning Messages words given = messages_meaning (file 1 words) (file 2 words) given
 command_meaning Opens words given = opens_meaning (file 1 words) (file 2 words) (file 3 words) given
 command_meaning Receive words given = receive_meaning (file 1 words) (file 2 words) (file 3 words) given
 command_meaning Sample words given = sample_meaning (number 1 words).value (number 2 words).value (file 3 words) given
+command_meaning Show words given = show_meaning (file 1 words) given
 command_meaning Tables words given = tables_meaning (file 1 words) given
 command_meaning Trace words given = trace_meaning (file 1 words) (file 2 words) (file 3 words) given
 command_meaning Trial words given = trial_meaning (file 1 words) (file 2 words) (file 3 words) given

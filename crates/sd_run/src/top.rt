@@ -18,9 +18,11 @@ use sd_run_head::head;
 use sd_run_help::{help, version};
 use sd_run_layered::layered;
 use sd_run_lcard::lcard;
+use sd_run_messages::messages;
 use sd_run_opens::opens;
 use sd_run_receive::receive;
 use sd_run_sample::sample;
+use sd_run_show::show;
 use sd_run_tables::tables;
 use sd_run_trace::trace;
 use sd_run_trial::trial;
@@ -157,6 +159,7 @@ fn work<D: Depot, P: Sink, L: Ledger>(
             row.file(4),
             steps,
         ),
+        Command::Messages => messages(alloc, depot, print, row.file(1), row.file(2)),
         Command::Opens => opens(alloc, depot, print, row.file(1), row.file(2), row.file(3)),
         Command::Receive => receive(alloc, depot, row.file(1), row.file(2), row.file(3), steps),
         Command::Sample => sample(
@@ -166,6 +169,7 @@ fn work<D: Depot, P: Sink, L: Ledger>(
             row.number(2).value,
             row.file(3),
         ),
+        Command::Show => show(alloc, depot, print, row.file(1)),
         Command::Tables => tables(alloc, depot, print, row.file(1)),
         Command::Trace => trace(alloc, depot, print, row.file(1), row.file(2), row.file(3)),
         Command::Trial => trial(

@@ -39,7 +39,7 @@ then_is : {A B : Type 0} (first : Meant A) (x : A) (next : A → Meant B) → fi
 then_is {A} first x next e = ap (λ (r : Result A Status). (after first.calls r next).result) e
 
 -- a card's file is within the limit
-card_length : (card : CardFields) → IsCard card → length (card_bytes card) ≤ most_card_bytes
+pub card_length : (card : CardFields) → IsCard card → length (card_bytes card) ≤ most_card_bytes
 unfolding length_at
 card_length card is =
     let good = good_parts (card_bytes card) (written_is_good card is) in

@@ -6,7 +6,8 @@ use Rattle.sd_text.specs.Number.{number_of}
 use Rattle.sd_files.specs.Shown.{word_at}
 use Rattle.sd_commands.specs.declared.command.Command.{Command}
 use Rattle.sd_commands.specs.declared.command.Command.TheVariants.{Accounts, Book, Card, Cover, Head, Layered, Lcard}
-use Rattle.sd_commands.specs.declared.command.Command.TheVariants.{Opens, Receive, Sample, Tables, Trace, Trial}
+use Rattle.sd_commands.specs.declared.command.Command.TheVariants.{Messages, Opens, Receive, Sample, Show, Tables}
+use Rattle.sd_commands.specs.declared.command.Command.TheVariants.{Trace, Trial}
 use Rattle.sd_commands.specs.Commands.{command_of, example_of, name_of, operands_of}
 use Rattle.sd_commands.specs.Exits.{exit_line}
 use Rattle.sd_status.specs.Exits.{code_of}
@@ -107,6 +108,14 @@ examples_are_ordered Lcard = record {
   line = refl;
   order = refl;
 }
+examples_are_ordered Messages = record {
+  words = codes "messages" ∷ codes "examples/site.txt" ∷ codes "broadcast.ts" ∷ [];
+  arguments =
+      InputOf (word_at 1 (codes "examples/site.txt"))
+      ∷ InputOf (word_at 2 (codes "broadcast.ts")) ∷ [];
+  line = refl;
+  order = refl;
+}
 examples_are_ordered Opens = record {
   words = codes "opens" ∷ codes "examples/site.txt" ∷ codes "examples/book.txt" ∷ codes "examples/pooled.txt" ∷ [];
   arguments =
@@ -131,6 +140,13 @@ examples_are_ordered Sample = record {
       NumberOf (record { word = 1; value = 7 })
       ∷ NumberOf (record { word = 2; value = 600 })
       ∷ OutOf (word_at 3 (codes "clear.ts")) ∷ [];
+  line = refl;
+  order = refl;
+}
+examples_are_ordered Show = record {
+  words = codes "show" ∷ codes "card-2" ∷ [];
+  arguments =
+      InputOf (word_at 1 (codes "card-2")) ∷ [];
   line = refl;
   order = refl;
 }

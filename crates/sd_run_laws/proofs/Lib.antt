@@ -18,3 +18,4 @@ pub mod Outs
 pub mod Sent
 pub mod Trials
 pub mod Examples
+pub mod Monitors

@@ -35,11 +35,13 @@ use Rattle.sd_run_head.specs.Head.{plan_meaning as head_plan, status_where, sent
 use Rattle.sd_run_head.specs.Head.{sending_of, head_meaning}
 use Rattle.sd_run_layered.specs.Layered.{layers_of_file, layering, layered_meaning}
 use Rattle.sd_run_lcard.specs.Lcard.{told_leaf, told_width, carding, lcard_meaning}
+use Rattle.sd_run_messages.specs.Messages.{messages_meaning, monitoring, stream_meaning as monitor_meaning}
 use Rattle.sd_run_opens.specs.Opens.{opening, opens_meaning}
 use Rattle.sd_run_receive.specs.Receive.{ended_status, ending_status, status_at, unless_refused, received_status}
 use Rattle.sd_run_receive.specs.Receive.{card_in, received_of, received_steps, receiving, stream_meaning}
 use Rattle.sd_run_receive.specs.Receive.{receive_meaning}
 use Rattle.sd_run_sample.specs.Sample.{sample_meaning}
+use Rattle.sd_run_show.specs.Show.{line_of_file, show_meaning, printing as showing}
 use Rattle.sd_run_tables.specs.Tables.{inspecting, tables_meaning}
 use Rattle.sd_run_trace.specs.Trace.{traced, telling, trace_meaning}
 use Rattle.sd_run_trial.specs.Prefixes.{prefix_of_file}
@@ -53,7 +55,8 @@ use Rattle.sd_book.specs.Text.{text_of}
 use Rattle.sd_lsd.specs.Fields.{layer_card_of, layer_bytes}
 use Rattle.sd_commands.specs.declared.command.Command.{Command}
 use Rattle.sd_commands.specs.declared.command.Command.TheVariants.{Accounts, Book, Card, Cover, Head, Layered, Lcard}
-use Rattle.sd_commands.specs.declared.command.Command.TheVariants.{Opens, Receive, Sample, Tables, Trace, Trial}
+use Rattle.sd_commands.specs.declared.command.Command.TheVariants.{Messages, Opens, Receive, Sample, Show, Tables}
+use Rattle.sd_commands.specs.declared.command.Command.TheVariants.{Trace, Trial}
 use Rattle.sd_commands.specs.declared.operand.Operand.{Operand}
 use Rattle.sd_commands.specs.declared.operand.Kind.{Kind}
 use Rattle.sd_commands.specs.declared.operand.Kind.TheVariants as kind
@@ -244,6 +247,21 @@ tables_orderly stream given =
     orderly_after None (all_of stream.number (given stream)) (λ bytes. value (inspecting bytes))
     (λ bytes. none_made (inspecting bytes) refl (λ refusal. absurd (stream_apart (end_of bytes) refusal)))
 
+messages_orderly : (site stream : Word) (given : Given) →
+    AreOrderly None (messages_meaning site stream given).result
+unfolding messages_meaning
+messages_orderly site stream given =
+    orderly_after None (site_in given site) (λ fields. monitor_meaning fields stream given)
+    (λ fields. orderly_after None (all_of stream.number (given stream))
+    (λ bytes. value (monitoring fields bytes))
+    (λ bytes. none_made (monitoring fields bytes) refl
+    (λ refusal. absurd (stream_apart (end_of bytes) refusal))))
+
+show_orderly : (card : Word) (given : Given) → AreOrderly None (show_meaning card given).result
+show_orderly card given =
+    orderly_after None (line_of_file card.number (given card)) (λ line. value (showing line))
+    (λ line. none_made (showing line) refl (λ refusal. absurd refusal))
+
 layered_orderly : (site book : Word) (width : Number) (given : Given) →
     AreOrderly None (layered_meaning site book width given).result
 layered_orderly site book width given =
@@ -294,9 +312,11 @@ out_by Cover words = None
 out_by Head words = Some (file 4 words).text
 out_by Layered words = None
 out_by Lcard words = Some (file 4 words).text
+out_by Messages words = None
 out_by Opens words = None
 out_by Receive words = Some (file 3 words).text
 out_by Sample words = Some (file 3 words).text
+out_by Show words = None
 out_by Tables words = None
 out_by Trace words = None
 out_by Trial words = None
@@ -315,9 +335,11 @@ command_orderly Cover words given = cover_orderly (file 1 words) (file 2 words) 
 command_orderly Head words given = head_orderly (file 1 words) (file 2 words) (file 3 words) (file 4 words) given
 command_orderly Layered words given = layered_orderly (file 1 words) (file 2 words) (number 3 words) given
 command_orderly Lcard words given = lcard_orderly (file 1 words) (number 2 words) (number 3 words) (file 4 words) given
+command_orderly Messages words given = messages_orderly (file 1 words) (file 2 words) given
 command_orderly Opens words given = opens_orderly (file 1 words) (file 2 words) (file 3 words) given
 command_orderly Receive words given = receive_orderly (file 1 words) (file 2 words) (file 3 words) given
 command_orderly Sample words given = sample_orderly (number 1 words).value (number 2 words).value (file 3 words) given
+command_orderly Show words given = show_orderly (file 1 words) given
 command_orderly Tables words given = tables_orderly (file 1 words) given
 command_orderly Trace words given = trace_orderly (file 1 words) (file 2 words) (file 3 words) given
 command_orderly Trial words given = trial_orderly (file 1 words) (file 2 words) (file 3 words) given
@@ -447,11 +469,13 @@ command_last Head name texts arguments named same read text e =
 command_last Layered name texts arguments named same read text e = absurd (cc)
 command_last Lcard name texts arguments named same read text e =
     maker_last Lcard name texts arguments refl refl named same read ∙ e
+command_last Messages name texts arguments named same read text e = absurd (cc)
 command_last Opens name texts arguments named same read text e = absurd (cc)
 command_last Receive name texts arguments named same read text e =
     maker_last Receive name texts arguments refl refl named same read ∙ e
 command_last Sample name texts arguments named same read text e =
     maker_last Sample name texts arguments refl refl named same read ∙ e
+command_last Show name texts arguments named same read text e = absurd (cc)
 command_last Tables name texts arguments named same read text e = absurd (cc)
 command_last Trace name texts arguments named same read text e = absurd (cc)
 command_last Trial name texts arguments named same read text e = absurd (cc)

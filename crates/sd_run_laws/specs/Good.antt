@@ -2,7 +2,7 @@
 use Rattle.std.specs.Prelude.{◌≡◌, ℕ, List, Option, Some, Ok, ◌≤◌, [], ◌++◌, ◌+◌, length, None, ◌^◌, ◌<◌}
 use Rattle.sd_status.specs.Meant.{Word, Given}
 use Rattle.sd_words.specs.Words.{SampleOf, order_of, ReceiveOf, CoverOf, CardOf, TablesOf, HeadOf}
-use Rattle.sd_words.specs.Words.{AccountsOf, BookOf, LayeredOf, LcardOf, OpensOf, TraceOf}
+use Rattle.sd_words.specs.Words.{AccountsOf, BookOf, LayeredOf, LcardOf, MessagesOf, OpensOf, ShowOf, TraceOf}
 use Rattle.sd_engine.specs.Taken.{Whole, taken_of, end_of}
 use Rattle.sd_card.specs.Fields.{CardFields, IsCard, card_bytes}
 use Rattle.sd_accounts.specs.Judged.{book_of}
@@ -79,6 +79,26 @@ pub record IsGoodTables (words : List (List ℕ)) (given : Given) : Type 0 where
   pub bytes : List ℕ
   pub there : given stream ≡ Some bytes
   pub whole : end_of bytes ≡ Whole
+
+-- the words are `messages SITE STREAM`, and the two files are there, the first a site, and the second nothing but
+-- packets, and no more than a stream has
+pub record IsGoodMessages (words : List (List ℕ)) (given : Given) : Type 0 where
+  pub site : Word
+  pub stream : Word
+  pub order : order_of words ≡ Ok (MessagesOf site stream)
+  pub fields : SiteFields
+  pub good_site : IsGoodSite (given site) fields
+  pub bytes : List ℕ
+  pub there : given stream ≡ Some bytes
+  pub whole : end_of bytes ≡ Whole
+
+-- the words are `show CARD`, and the file is there and a card
+pub record IsGoodShow (words : List (List ℕ)) (given : Given) : Type 0 where
+  pub card : Word
+  pub order : order_of words ≡ Ok (ShowOf card)
+  pub fields : CardFields
+  pub is_card : IsCard fields
+  pub there : given card ≡ Some (card_bytes fields)
 
 -- the words are `head SITE BOOK CLEAR OUT`, the files are there, a site, a book and a stream of which no packet is
 -- refused

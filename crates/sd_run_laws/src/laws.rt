@@ -29,6 +29,10 @@ ghost use Rattle.sd_status.specs.Work.{NoSteps, Uncounted};
 ghost use Rattle.sd_run_cover.specs.Cover.{covering};
 ghost use Rattle.sd_run_laws.specs.Good.{IsGoodCover, IsGoodCard, IsGoodSample, IsGoodTables, plan_told, IsGoodHead};
 ghost use Rattle.sd_files.specs.Made.{making};
+ghost use Rattle.sd_run_messages.specs.Messages.{monitoring};
+ghost use Rattle.sd_run_show.specs.Show.{printing, shown_line, told_show};
+ghost use Rattle.sd_secrets.specs.Files.{check_in};
+ghost use Rattle.sd_run_laws.specs.Good.{IsGoodMessages, IsGoodShow};
 ghost use Rattle.sd_run_tables.specs.Tables.{inspecting};
 ghost use Rattle.std.specs.List.{concat};
 ghost use Rattle.sd_engine.specs.Taken.{taken_of};
@@ -72,6 +76,30 @@ pub fn good_tables_are_printed()
     ensures { (words : List (List ℕ)) (files : Files) (good : IsGoodTables words (told_by files)) →
         ((meaning words (told_by files)).result ≡ Ok (inspecting good.bytes))
         × ((inspecting good.bytes).ends ≡ Status.Done) }
+{}
+
+/// `messages SITE STREAM` over a site and a stream of packets prints the lines of its messages, and is done.
+#[tactic(auto, using(crate::proofs::Monitors::messages_good))]
+pub fn good_messages_are_printed()
+    ensures { (words : List (List ℕ)) (files : Files) (good : IsGoodMessages words (told_by files)) →
+        ((meaning words (told_by files)).result ≡ Ok (monitoring good.fields good.bytes))
+        × ((monitoring good.fields good.bytes).ends ≡ Status.Done) }
+{}
+
+/// `show CARD` over a card prints its line: its height, leaf and system, and the check at the end of its file.
+#[tactic(auto, using(crate::proofs::Monitors::show_good))]
+pub fn good_cards_are_shown()
+    ensures { (words : List (List ℕ)) (files : Files) (good : IsGoodShow words (told_by files)) →
+        (meaning words (told_by files)).result ≡ Ok (printing (shown_line good.fields.height good.fields.leaf
+        good.fields.ca (check_in (card_bytes good.fields)))) }
+{}
+
+/// The line of the card of a leaf names the leaf, the tree's height and the system that the card was made for.
+#[tactic(auto, using(crate::proofs::Monitors::made_shown))]
+pub fn made_cards_are_shown()
+    ensures { (master : List ℕ) (ca d u : ℕ) → ca < 2 ^ 16 → 1 ≤ d → d ≤ 20 → u < 2 ^ d →
+        told_show (card_bytes (card_of master ca d u))
+        ≡ Ok (shown_line d u ca (check_in (card_bytes (card_of master ca d u)))) }
 {}
 
 /// `head SITE BOOK CLEAR OUT` over a site, a book and a clear stream makes its broadcast, and is done.

@@ -45,7 +45,7 @@ const LISTED: [(usize, &str); 4] = [
         "  book SITE BOOK COMMANDS OUT  makes a longer book, with more commands at its end",
     ),
     (
-        14,
+        16,
         "  trial SITE BOOK CLEAR        prints what each receiver writes of a broadcast",
     ),
 ];
@@ -148,6 +148,65 @@ fn broadcasts_are_made(rt: HostRuntime) -> Result<(), AllocError> {
     let cut = left(alloc, &files, &words, 100, Fault::Nowhere)?;
     assert_eq!(rt; cut.status, Status::DepotFault);
     assert!(rt; cut.out.is_some_and(|out| out.len() < 564));
+    Ok(())
+}
+
+#[test]
+fn messages_are_printed(rt: HostRuntime) -> Result<(), AllocError> {
+    let alloc = rt.alloc();
+    for (packets, lines) in [
+        (
+            [
+                "474001100001b011ffffc1000009061234e1f0e1f192f94eeb",
+                "4741f0100082b04c0000c10000000000000000000100018e7c98755d4f1259303e2c26f84665c7010000000000000000a96fc38d45af14016d8f9f0d1688616d0d70f5ba661218fb326af486ddaa0354cdb2897d",
+                "4741f1100080b04b0000c1000000000000000000000000000000000000008229606edb4eb380c6745a1a0ef112fb4f37fd1a5ac322f2eb828187831d8c4016f21bec8b49a29a6bf944da8fbb98bb002a26ffa7",
+            ]
+            .as_slice(),
+            "{\"check\":\"8e7c98755d4f1259303e2c26f84665c7\",\"index\":0,\"names\":[\"all\"],\"packet\":1,\"period\":0,\"pid\":496,\"sections\":1,\"sets\":1,\"table\":\"emm\"}
+{\"check\":\"16f21bec8b49a29a6bf944da8fbb98bb\",\"clear\":0,\"closing\":false,\"last\":0,\"number\":0,\"packet\":2,\"part\":0,\"period\":0,\"pid\":497,\"positions\":[],\"since\":0,\"table\":\"ecm\",\"version\":1,\"word\":0}
+",
+        ),
+        (
+            &[
+                "4741f0100082b04c0000c10000000000000000000100028e7c98755d4f1259303e2c26f84665c7010000000000000000a96fc38d45af14016d8f9f0d1688616d0d70f5ba661218fb326af486ddaa03541809772d",
+            ],
+            "{\"fault\":\"count\",\"packet\":0,\"pid\":496,\"table\":\"emm\"}\n",
+        ),
+        (
+            &[
+                "4741f0100082b04c0000c10000000000000000000100018e7c98755d4f1259303e2c26f84665c7010000000000000001a96fc38d45af14016d8f9f0d1688616d0d70f5ba661218fb326af486ddaa035466f23e63",
+            ],
+            "{\"fault\":\"node\",\"packet\":0,\"pid\":496,\"table\":\"emm\"}\n",
+        ),
+        (
+            &[
+                "4741f1110080b0530000c1000000000001000000000000000000000003018229606edb4eb380c6745a1a0ef112fb4f37fd1a5ac322f2eb828187831d8c4016f21bec8b49a29a6bf944da8fbb98bb01001f000000000010927c7887",
+            ],
+            "{\"fault\":\"pid\",\"packet\":0,\"pid\":497,\"table\":\"ecm\"}\n",
+        ),
+    ] {
+        let stream = stream_of(alloc, packets)?;
+        let left = after(alloc, &["messages", "S", "X"], &[("X", &stream)], 100)?;
+        assert!(rt; printed(lines).is_left(&left), "{lines}");
+    }
+    Ok(())
+}
+
+#[test]
+fn cards_are_shown(rt: HostRuntime) -> Result<(), AllocError> {
+    let alloc = rt.alloc();
+    let line =
+        "{\"card\":\"plain\",\"check\":\"058ed3587196e436f13871ca96cfc690\",\"height\":1,\"labels\":1,\"leaf\":0,\"system\":38646}\n";
+    let card = hex::decode(
+        alloc,
+        "5344434401010000000096f685e5892971494fcc50e75b868272f7e50f7f27effca8c87c30598ab380d78ee67ab9bfe7bcc2714019729b03ccf923995ff581dd4f2a0798390b367dfa2294ff058ed3587196e436f13871ca96cfc690",
+    )
+    .map_err(|_| AllocError)?;
+    let left = after(alloc, &["show", "K"], &[("K", &card)], 100)?;
+    assert!(rt; printed(line).is_left(&left));
+    let left = after(alloc, &["show", "K"], &[("K", &card[..91])], 100)?;
+    assert_eq!(rt; left.status.code(), 8);
+    assert!(rt; left.printed.as_slice() == b"card: length\n".as_slice());
     Ok(())
 }
 

@@ -246,6 +246,14 @@ fn failing_calls_are_told_by_each_command(rt: HostRuntime) -> Result<(), Fail> {
         ),
         row(&["tables", "X"], &["X"], false, "", "d29b54c31bc48ee2"),
         row(
+            &["messages", "S", "X"],
+            &["S", "X"],
+            false,
+            "",
+            "0fb3c1549838f547",
+        ),
+        row(&["show", "K"], &["K"], false, "", "733f52ad790b39c9"),
+        row(
             &["opens", "S", "P", "L"],
             &["S", "P", "L"],
             false,

@@ -219,6 +219,12 @@ ReceiveOf card stream out = CommandOf commands.Receive (InputOf card ∷ InputOf
 abbrev pub SampleOf : ℕ → ℕ → Word → Order
 SampleOf value packets out = CommandOf commands.Sample (NumberOf (record { word = 1; value = value }) ∷ NumberOf (record { word = 2; value = packets }) ∷ OutOf out ∷ [])
 
+abbrev pub MessagesOf : Word → Word → Order
+MessagesOf site stream = CommandOf commands.Messages (InputOf site ∷ InputOf stream ∷ [])
+
+abbrev pub ShowOf : Word → Order
+ShowOf card = CommandOf commands.Show (InputOf card ∷ [])
+
 abbrev pub TablesOf : Word → Order
 TablesOf stream = CommandOf commands.Tables (InputOf stream ∷ [])
 

@@ -46,6 +46,11 @@ returns-in-Lcard g c =
     let done = rw (c.file-in-Lcard.ensures.value, c.number-in-Lcard.ensures.value, c.number-in-Lcard-2.ensures.value, c.file-in-Lcard-2.ensures.value) at c.lcard.ensures (page g.P.Sink c.args.print.now) in
     rw c.in-Lcard.is done
 
+pub returns-in-Messages : goal.returns-in-Messages
+returns-in-Messages g c =
+    let done = rw (c.file-in-Messages.ensures.value, c.file-in-Messages-2.ensures.value) at c.messages.ensures c.args.steps.now in
+    rw c.in-Messages.is done
+
 pub returns-in-Opens : goal.returns-in-Opens
 returns-in-Opens g c =
     let done = rw (c.file-in-Opens.ensures.value, c.file-in-Opens-2.ensures.value, c.file-in-Opens-3.ensures.value) at c.opens.ensures c.args.steps.now in
@@ -62,6 +67,11 @@ returns-in-Sample g c =
     let packets = ap (λ (n : Number). n.value) c.number-in-Sample-2.ensures.value in
     let done = rw (number, packets, c.file-in-Sample.ensures.value) at c.sample.ensures (page g.P.Sink c.args.print.now) c.args.steps.now in
     rw c.in-Sample.is done
+
+pub returns-in-Show : goal.returns-in-Show
+returns-in-Show g c =
+    let done = rw c.file-in-Show.ensures.value at c.show.ensures c.args.steps.now in
+    rw c.in-Show.is done
 
 pub returns-in-Tables : goal.returns-in-Tables
 returns-in-Tables g c =
