@@ -53,7 +53,8 @@ examples_are_ordered Accounts = record {
   order = refl;
 }
 examples_are_ordered Book = record {
-  words = codes "book" ∷ codes "examples/site.txt" ∷ codes "examples/book.txt" ∷ codes "examples/today.txt" ∷ codes "longer.txt" ∷ [];
+  words = codes "book" ∷ codes "examples/site.txt" ∷ codes "examples/book.txt" ∷ codes "examples/today.txt" ∷
+      codes "longer.txt" ∷ [];
   arguments =
       InputOf (word_at 1 (codes "examples/site.txt"))
       ∷ InputOf (word_at 2 (codes "examples/book.txt"))
@@ -80,7 +81,8 @@ examples_are_ordered Cover = record {
   order = refl;
 }
 examples_are_ordered Head = record {
-  words = codes "head" ∷ codes "examples/site.txt" ∷ codes "examples/book.txt" ∷ codes "clear.ts" ∷ codes "broadcast.ts" ∷ [];
+  words = codes "head" ∷ codes "examples/site.txt" ∷ codes "examples/book.txt" ∷ codes "clear.ts" ∷
+      codes "broadcast.ts" ∷ [];
   arguments =
       InputOf (word_at 1 (codes "examples/site.txt"))
       ∷ InputOf (word_at 2 (codes "examples/book.txt"))

@@ -17,7 +17,8 @@ use Rattle.sd_words.specs.Words.{ReceiveOf, order_of}
 -- how many periods of the broadcast there are in which leaf u isn't revoked
 unfoldable pub entitled_periods : Plan → ℕ → List (List ℕ) → ℕ
 entitled_periods plan u clear =
-    how_many (λ q. nat_le plan.site.first_period q && not (is_revoked_in plan u q)) (period_of plan (length clear - 1) + 1)
+    how_many (λ q. nat_le plan.site.first_period q && not (is_revoked_in plan u q))
+    (period_of plan (length clear - 1) + 1)
 
 -- done, or leaf u is revoked in this period
 abbrev pub revoked_status : ℕ → Option ℕ → Status
