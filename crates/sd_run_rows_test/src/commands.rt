@@ -27,7 +27,7 @@ example
 
 /// What `version` prints.
 const VERSION: &str = "sdca 1.0.0
-proved in logic dac8208d650f15bf (rattle-kit-13b, rattle-kit-13f)
+proved in logic dac8208d650f15bf (rattle-kit-13f)
 ";
 
 /// The lines of `help` that stand at its ends and beside the longest words.
