@@ -1,5 +1,6 @@
 ghost use Rattle.std.specs.Prelude.{◌≡◌, IfOk, string_bytes};
-ghost use Rattle.sd_explain.specs.Reasons.{card_reason, line_of, line_reason, missing_reason, range_reason, rule_of, site_reason};
+ghost use Rattle.sd_explain.specs.Reasons.{card_reason, line_of, line_reason, missing_reason};
+ghost use Rattle.sd_explain.specs.Reasons.{range_reason, rule_of, site_reason};
 
 use sd_card::CardFault;
 use sd_commands::Operand;

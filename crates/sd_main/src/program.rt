@@ -62,7 +62,8 @@ fn answer<R: Files + Print + AllocGlobal, O: Write + Drop, E: Write + Copy + Dro
     error: E,
 ) -> Status
     // The answer is one of `run` to these words, over files of which nothing is known.
-    ensures value { (a b : Outside) × (a.place.files ≡ None) × Answers (meaning (map string_bytes words.now)) a b result }
+    ensures value { (a b : Outside) × (a.place.files ≡ None) ×
+        Answers (meaning (map string_bytes words.now)) a b result }
     ensures words { (status : Status) → order_of (map string_bytes words.now) ≡ Err status → IsToldAs status result }
 {
     let alloc = rt.alloc();

@@ -265,6 +265,15 @@ pub(crate) fn put(
     depot.put(name, bytes).map_err(|_| AllocError)
 }
 
+// The clear streams and the cards.
+static MADE: [&str; 5] = [
+    "sample 7 600 clear",
+    "sample 7 400 clear-400",
+    "sample 7 401 clear-401",
+    "card site 0 card-0",
+    "card site 5 card-5",
+];
+
 /// A site with these last lines, a book, clear streams and cards.
 fn shelf(alloc: Global, lines: &str) -> Result<MemDepot, AllocError> {
     let mut depot = MemDepot::new(alloc, ROOM, PIECE).map_err(|_| AllocError)?;
@@ -273,21 +282,20 @@ fn shelf(alloc: Global, lines: &str) -> Result<MemDepot, AllocError> {
     put(alloc, &mut depot, "site", site.as_bytes())?;
     put(alloc, &mut depot, "book", BOOK)?;
     put(alloc, &mut depot, "empty", b"")?;
-    for words in [
-        "sample 7 600 clear",
-        "sample 7 400 clear-400",
-        "sample 7 401 clear-401",
-        "card site 0 card-0",
-        "card site 5 card-5",
-    ] {
+    for words in &MADE {
         answered(alloc, &mut depot, words)?;
     }
-    let long = file(alloc, &depot, "clear-401")?;
-    let scrambled = changed(alloc, &long, &[Change::Put(400 * 188 + 3, &[0x90])])?;
-    put(alloc, &mut depot, "scrambled", &scrambled)?;
-    let torn = changed(alloc, &long, &[Change::Cut(400 * 188 + 1)])?;
-    put(alloc, &mut depot, "torn", &torn)?;
+    add_unfit(alloc, &mut depot)?;
     Ok(depot)
+}
+
+/// Adds clear streams whose packet 400 is scrambled already or torn.
+fn add_unfit(alloc: Global, depot: &mut MemDepot) -> Result<(), AllocError> {
+    let long = file(alloc, depot, "clear-401")?;
+    let scrambled = changed(alloc, &long, &[Change::Put(75_203, &[0x90])])?;
+    put(alloc, depot, "scrambled", &scrambled)?;
+    let torn = changed(alloc, &long, &[Change::Cut(75_201)])?;
+    put(alloc, depot, "torn", &torn)
 }
 
 /// Whether a command goes as its row says.

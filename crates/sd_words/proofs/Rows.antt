@@ -1,6 +1,8 @@
 -- Arguments that are read one after another.
-use Rattle.std.proofs.Common.{◌≡◌, ℕ, suc, zero, ◌+◌, List, [], ◌∷◌, ◌++◌, Option, Some, None, Result, Ok, Err, slice_get, refl, sym, ap, ◌∙◌, arith}
-use Rattle.std.proofs.Common.{option_map, length, map, drop, get_or, string_bytes, String, Global, ◌<◌, ◌≢◌, ◌||◌, Bool, true, false, drop-cons, bytes_eq, ◌≤◌, ◌-◌, append_assoc}
+use Rattle.std.proofs.Common.{◌≡◌, ℕ, suc, zero, ◌+◌, List, [], ◌∷◌, ◌++◌, Option, Some, None, Result, Ok, Err}
+use Rattle.std.proofs.Common.{slice_get, refl, sym, ap, ◌∙◌, arith}
+use Rattle.std.proofs.Common.{option_map, length, map, drop, get_or, string_bytes, String, Global, ◌<◌, ◌≢◌, ◌||◌}
+use Rattle.std.proofs.Common.{Bool, true, false, drop-cons, bytes_eq, ◌≤◌, ◌-◌, append_assoc}
 use Rattle.std.specs.List.{list_any}
 use Rattle.sd_commands.specs.declared.operand.Operand.{Operand}
 use Rattle.sd_commands.specs.declared.operand.Kind.{Kind}
@@ -46,7 +48,9 @@ pub said_there : (arguments list : List Argument) (place at : ℕ) (argument : A
 said_there arguments list place at argument same is h within found =
     let within = rw (same, is) at within in
     let found = rw (same, is) at found in
-    sym (from_one arguments place h ∙ ap (option_map (argument_said place)) (there arguments (place - 1) argument within found))
+    sym
+    (from_one arguments place h
+    ∙ ap (option_map (argument_said place)) (there arguments (place - 1) argument within found))
 
 pub said_gone : (arguments list : List Argument) (place at : ℕ) → list ≡ arguments → at ≡ place → 0 < place →
     length list ≤ at - 1 → None ≡ slice_get (arguments_said 1 arguments) (place - 1)

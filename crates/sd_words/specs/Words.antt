@@ -1,5 +1,6 @@
 -- What the words after the program's name say [this project, docs/FORMATS.md, Commands].
-use Rattle.std.specs.Prelude.{◌≡◌, ◌⊎◌, ℕ, ◌+◌, ◌-◌, ◌==◌, nat_lt, not, List, [], ◌∷◌, codes, length, slice_get, bytes_eq, ◌||◌}
+use Rattle.std.specs.Prelude.{◌≡◌, ◌⊎◌, ℕ, ◌+◌, ◌-◌, ◌==◌, nat_lt, not, List, [], ◌∷◌, codes, length, slice_get}
+use Rattle.std.specs.Prelude.{bytes_eq, ◌||◌}
 use Rattle.std.specs.Prelude.{if◌then◌else◌, Option, Some, None, Bool, false, Result, Ok, Err}
 use Rattle.std.specs.List.{list_any}
 use Rattle.sd_text.specs.Number.{number_of}
@@ -217,7 +218,9 @@ abbrev pub ReceiveOf : Word → Word → Word → Order
 ReceiveOf card stream out = CommandOf commands.Receive (InputOf card ∷ InputOf stream ∷ OutOf out ∷ [])
 
 abbrev pub SampleOf : ℕ → ℕ → Word → Order
-SampleOf value packets out = CommandOf commands.Sample (NumberOf (record { word = 1; value = value }) ∷ NumberOf (record { word = 2; value = packets }) ∷ OutOf out ∷ [])
+SampleOf value packets out =
+    CommandOf commands.Sample
+    (NumberOf (record { word = 1; value = value }) ∷ NumberOf (record { word = 2; value = packets }) ∷ OutOf out ∷ [])
 
 abbrev pub MessagesOf : Word → Word → Order
 MessagesOf site stream = CommandOf commands.Messages (InputOf site ∷ InputOf stream ∷ [])

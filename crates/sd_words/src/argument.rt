@@ -1,4 +1,5 @@
-ghost use Rattle.std.specs.Prelude.{◌≡◌, ◌<◌, ◌≤◌, ℕ, IfErr, IfOk, length, map, option_map, slice_get, string_bytes, ◌-◌};
+ghost use Rattle.std.specs.Prelude.{◌≡◌, ◌<◌, ◌≤◌, ℕ, IfErr, IfOk, length, map, option_map, slice_get, string_bytes};
+ghost use Rattle.std.specs.Prelude.{◌-◌};
 ghost use Rattle.sd_files.specs.Shown.{shown_number, shown_word};
 ghost use Rattle.sd_words.specs.Orders.{all_said, argument_said, arguments_said, one_said};
 ghost use Rattle.sd_words.specs.Words.{argument_of, arguments_from, file, files_in, number, number_in, out_in};

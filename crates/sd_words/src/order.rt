@@ -119,7 +119,8 @@ fn out_among<'a>(operands: &[Operand], texts: &'a [String]) -> Option<&'a str>
 /// Whether a file that is read has this name.
 fn is_input(operands: &[Operand], texts: &[String], name: &str) -> bool
     requires { length operands.now ≡ length texts.now }
-    ensures { result ≡ list_any (λ text. bytes_eq text name.now) (input_texts operands.now (map string_bytes texts.now)) }
+    ensures { result
+        ≡ list_any (λ text. bytes_eq text name.now) (input_texts operands.now (map string_bytes texts.now)) }
 {
     for index in 0..operands.len() {
         if names_input(operands[index].kind(), texts[index].as_str(), name) {

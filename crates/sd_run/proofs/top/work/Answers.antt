@@ -13,37 +13,66 @@ sample-requires g c =
 
 pub returns-in-Accounts : goal.returns-in-Accounts
 returns-in-Accounts g c =
-    let done = rw (c.file.ensures.value, c.file-in-Accounts.ensures.value, c.file-in-Accounts-2.ensures.value) at c.accounts.ensures c.args.steps.now in
+    let done =
+    rw (c.file.ensures.value, c.file-in-Accounts.ensures.value, c.file-in-Accounts-2.ensures.value)
+    at c.accounts.ensures c.args.steps.now in
     rw c.in-Accounts.is done
 
 pub returns-in-Book : goal.returns-in-Book
 returns-in-Book g c =
-    let done = rw (c.file-in-Book.ensures.value, c.file-in-Book-2.ensures.value, c.file-in-Book-3.ensures.value, c.file-in-Book-4.ensures.value) at c.book.ensures (page g.P.Sink c.args.print.now) c.args.steps.now in
+    let done =
+    rw (
+      c.file-in-Book.ensures.value,
+      c.file-in-Book-2.ensures.value,
+      c.file-in-Book-3.ensures.value,
+      c.file-in-Book-4.ensures.value,
+    )
+    at c.book.ensures (page g.P.Sink c.args.print.now) c.args.steps.now in
     rw c.in-Book.is done
 
 pub returns-in-Card : goal.returns-in-Card
 returns-in-Card g c =
-    let done = rw (c.file-in-Card.ensures.value, c.number.ensures.value, c.file-in-Card-2.ensures.value) at c.card.ensures (page g.P.Sink c.args.print.now) in
+    let done =
+    rw (c.file-in-Card.ensures.value, c.number.ensures.value, c.file-in-Card-2.ensures.value)
+    at c.card.ensures (page g.P.Sink c.args.print.now) in
     rw c.in-Card.is done
 
 pub returns-in-Cover : goal.returns-in-Cover
 returns-in-Cover g c =
-    let done = rw (c.file-in-Cover.ensures.value, c.file-in-Cover-2.ensures.value) at c.cover.ensures c.args.steps.now in
+    let done =
+    rw (c.file-in-Cover.ensures.value, c.file-in-Cover-2.ensures.value)
+    at c.cover.ensures c.args.steps.now in
     rw c.in-Cover.is done
 
 pub returns-in-Head : goal.returns-in-Head
 returns-in-Head g c =
-    let done = rw (c.file-in-Head.ensures.value, c.file-in-Head-2.ensures.value, c.file-in-Head-3.ensures.value, c.file-in-Head-4.ensures.value) at c.head.ensures (page g.P.Sink c.args.print.now) in
+    let done =
+    rw (
+      c.file-in-Head.ensures.value,
+      c.file-in-Head-2.ensures.value,
+      c.file-in-Head-3.ensures.value,
+      c.file-in-Head-4.ensures.value,
+    )
+    at c.head.ensures (page g.P.Sink c.args.print.now) in
     rw c.in-Head.is done
 
 pub returns-in-Layered : goal.returns-in-Layered
 returns-in-Layered g c =
-    let done = rw (c.file-in-Layered.ensures.value, c.file-in-Layered-2.ensures.value, c.number-in-Layered.ensures.value) at c.layered.ensures c.args.steps.now in
+    let done =
+    rw (c.file-in-Layered.ensures.value, c.file-in-Layered-2.ensures.value, c.number-in-Layered.ensures.value)
+    at c.layered.ensures c.args.steps.now in
     rw c.in-Layered.is done
 
 pub returns-in-Lcard : goal.returns-in-Lcard
 returns-in-Lcard g c =
-    let done = rw (c.file-in-Lcard.ensures.value, c.number-in-Lcard.ensures.value, c.number-in-Lcard-2.ensures.value, c.file-in-Lcard-2.ensures.value) at c.lcard.ensures (page g.P.Sink c.args.print.now) in
+    let done =
+    rw (
+      c.file-in-Lcard.ensures.value,
+      c.number-in-Lcard.ensures.value,
+      c.number-in-Lcard-2.ensures.value,
+      c.file-in-Lcard-2.ensures.value,
+    )
+    at c.lcard.ensures (page g.P.Sink c.args.print.now) in
     rw c.in-Lcard.is done
 
 pub returns-in-Messages : goal.returns-in-Messages
@@ -53,19 +82,25 @@ returns-in-Messages g c =
 
 pub returns-in-Opens : goal.returns-in-Opens
 returns-in-Opens g c =
-    let done = rw (c.file-in-Opens.ensures.value, c.file-in-Opens-2.ensures.value, c.file-in-Opens-3.ensures.value) at c.opens.ensures c.args.steps.now in
+    let done =
+    rw (c.file-in-Opens.ensures.value, c.file-in-Opens-2.ensures.value, c.file-in-Opens-3.ensures.value)
+    at c.opens.ensures c.args.steps.now in
     rw c.in-Opens.is done
 
 pub returns-in-Receive : goal.returns-in-Receive
 returns-in-Receive g c =
-    let done = rw (c.file-in-Receive.ensures.value, c.file-in-Receive-2.ensures.value, c.file-in-Receive-3.ensures.value) at c.receive.ensures.value (page g.P.Sink c.args.print.now) in
+    let done =
+    rw (c.file-in-Receive.ensures.value, c.file-in-Receive-2.ensures.value, c.file-in-Receive-3.ensures.value)
+    at c.receive.ensures.value (page g.P.Sink c.args.print.now) in
     rw c.in-Receive.is done
 
 pub returns-in-Sample : goal.returns-in-Sample
 returns-in-Sample g c =
     let number = ap (λ (n : Number). n.value) c.number-in-Sample.ensures.value in
     let packets = ap (λ (n : Number). n.value) c.number-in-Sample-2.ensures.value in
-    let done = rw (number, packets, c.file-in-Sample.ensures.value) at c.sample.ensures (page g.P.Sink c.args.print.now) c.args.steps.now in
+    let done =
+    rw (number, packets, c.file-in-Sample.ensures.value)
+    at c.sample.ensures (page g.P.Sink c.args.print.now) c.args.steps.now in
     rw c.in-Sample.is done
 
 pub returns-in-Show : goal.returns-in-Show
@@ -80,5 +115,7 @@ returns-in-Tables g c =
 
 pub returns-in-Trace : goal.returns-in-Trace
 returns-in-Trace g c =
-    let done = rw (c.file-in-Trace.ensures.value, c.file-in-Trace-2.ensures.value, c.file-in-Trace-3.ensures.value) at c.trace.ensures c.args.steps.now in
+    let done =
+    rw (c.file-in-Trace.ensures.value, c.file-in-Trace-2.ensures.value, c.file-in-Trace-3.ensures.value)
+    at c.trace.ensures c.args.steps.now in
     rw c.in-Trace.is done
