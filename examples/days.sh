@@ -70,10 +70,10 @@ receive() {
     echo "$1 has $((size / 188)) packets of multiplex $2"
 }
 
-# Both multiplexes with new control words and periods, at the same time.
+# ARGUMENT..: both multiplexes with new control words and periods, at the same time.
 send_day() {
-    echo "$ reserve.sh . 2 1000"
-    day=$("$here/reserve.sh" . 2 1000)
+    echo "$ reserve.sh . 2 1000${*:+ $*}"
+    day=$("$here/reserve.sh" . 2 1000 "$@")
     echo "$day"
     for multiplex in 1 2; do
         echo "site-$multiplex.txt: $(tail -n 3 "$day/site-$multiplex.txt" | paste -s -d ' ' -)"
@@ -108,8 +108,8 @@ if [ ! -e next ]; then
     make_channel
 fi
 
-say "A day: each multiplex has control words of its own, and both have the next period."
-send_day
+say "A day: each multiplex has control words of its own, and both have the next period. The book may plan the next one."
+send_day later
 
 say "Bob's card is lost. The book gets longer, and isn't used before the next day's periods."
 echo "revoke 2" >today.txt

@@ -1,10 +1,12 @@
 #!/bin/sh
-# reserve.sh FOLDER MULTIPLEXES WORDS: reserves control words and periods for multiplexes that go on air together.
-# FOLDER has channel.txt, the first eight lines of their sites; book.txt; and next, a line with the first control word
-# and the first period that no broadcast has used. A new folder FOLDER/day-P, P being its first period, gets site-1.txt,
-# site-2.txt and so on, with WORDS control words for each multiplex, and book.txt as it is now. Its name is printed.
-# next is written anew before that, so what is reserved is used once at most, whatever breaks off later. If this fails,
-# nothing may be sent: next is as it was, or some numbers are left out for good.
+# reserve.sh FOLDER MULTIPLEXES WORDS [later]: reserves control words and periods for multiplexes that go on air
+# together. FOLDER has channel.txt, the first eight lines of their sites; book.txt; and next, a line with the first
+# control word and the first period that no broadcast has used. A new folder FOLDER/day-P, P being its first period, gets
+# site-1.txt, site-2.txt and so on, with WORDS control words for each multiplex, and book.txt as it is now. Its name is
+# printed. next is written anew before that, so what is reserved is used once at most, whatever breaks off later. If this
+# fails, nothing may be sent: next is as it was, or some numbers are left out for good.
+# All commands of the book must hold from the first period on. With `later` some may hold from a later one on; the
+# broadcasts after these have them from their beginning.
 # SDCA=PROGRAM names the program, else it is ../sdca.
 
 set -eu
@@ -27,9 +29,10 @@ case ${SDCA:=$here/../sdca} in
     */*) program=$(CDPATH='' cd "$(dirname "$SDCA")" && pwd -P)/$(basename "$SDCA") ;;
     *) program=$SDCA ;;
 esac
-[ $# -eq 3 ] || fail "usage: reserve.sh FOLDER MULTIPLEXES WORDS"
+[ $# -eq 3 ] || [ "${4:-}" = later ] || fail "usage: reserve.sh FOLDER MULTIPLEXES WORDS [later]"
 multiplexes=$2
 words=$3
+later=${4:-}
 for number in "$multiplexes" "$words"; do
     is_number "$number" || fail "$number is no number"
     [ "$number" -gt 0 ] || fail "MULTIPLEXES and WORDS must be above 0"
@@ -48,6 +51,11 @@ for number in "$word" "$period"; do
 done
 [ -z "$rest$more" ] || fail "next has more than a control word and a period"
 [ ! -e "day-$period" ] || fail "day-$period is there already, so an old next was put back"
+for site in day-[0-9]*/site-*.txt; do
+    [ -e "$site" ] || continue
+    [ "$(sed -n 's/^last-word //p' "$site")" -lt "$word" ] || fail "$site has control words from $word on"
+    [ "$(sed -n 's/^first-period //p' "$site")" -lt "$period" ] || fail "$site has periods from $period on"
+done
 
 # The sites, and a copy of the book, both judged by the program.
 rm -rf day.new
@@ -64,6 +72,13 @@ while [ "$multiplex" -lt "$multiplexes" ]; do
     first=$((first + words))
     "$program" book "day.new/site-$multiplex.txt" book.txt /dev/null day.new/book.txt >&2
 done
+
+# Whoever appends a command means it to hold at once, but it holds from the book's last period on.
+begins=$(awk -v first="$period" '
+    /^period$/ { period++ }
+    !/^period$/ && period > first { print period; exit }' day.new/book.txt)
+[ -z "$begins" ] || [ "$later" = later ] ||
+    fail "book.txt has commands that hold from period $begins on, and this is period $period; see the argument later"
 
 # The last period that WORDS control words reach: the next one with each span of them, up to the book's last.
 span=$(sed -n 's/^period-cryptos //p' channel.txt)

@@ -40,9 +40,14 @@ CLAUSE = re.compile(r"\b(?:requires|ensures)\b\s*(\w*)\s*\{")
 
 
 def bare(text, comment):
-    """The text without comments and with empty strings; each line stays a line."""
+    """The text with blanks for comments and for what strings hold; each character stays in its place."""
     skipped = re.compile(rf'"(?:\\.|[^"\\\n])*"|(?:^|(?<=[\s(])){comment}[^\n]*', re.M)
-    return skipped.sub(lambda found: '""' if found[0].startswith('"') else "", text)
+
+    def blanks(found):
+        length = len(found[0])
+        return f'"{" " * (length - 2)}"' if found[0].startswith('"') else " " * length
+
+    return skipped.sub(blanks, text)
 
 
 def block(text, start):
@@ -137,12 +142,20 @@ class File:
         if missing:
             sys.exit(f"trust.py: {function} has no clause {', '.join(missing)}")
         kept = [(start, stop) for name, start, stop in parts if not wanted or name in wanted]
-        signature = self.bare[head.start() : parts[0][1]]
-        shown = [signature.rstrip(), *("    " + self.bare[start:stop] for start, stop in kept)]
-        self.add(f"fn {function}", head.start(), head.end(), "\n".join(shown))
+        shown, cites = (
+            "\n".join([text[head.start() : parts[0][1]].rstrip(), *(f"    {text[start:stop]}" for start, stop in kept)])
+            for text in (self.text, self.bare)
+        )
+        self.add(f"fn {function}", head.start(), head.end(), cites)
         item = self.items[f"fn {function}"]
-        item.text = re.sub(r"pub fn .*", "\n".join(shown), item.text, flags=re.S)
-        return item
+        before, _, _ = item.text.partition(f"pub fn {function}")
+        return Item(self, item.name, item.first, before + shown, cites)
+
+    def renamed(self, items):
+        """A line for each name that these items use and that is another one where it is defined."""
+        found = [(local, ".".join([*parts, name])) for local, (parts, name) in self.names.items() if local != name]
+        used = [it for it in found if any(re.search(rf"(?<![\w'.]){re.escape(it[0])}\b", item.cites) for item in items)]
+        return [f"-- here {local} is {name}" for local, name in sorted(used)]
 
 
 class Repository:
@@ -279,9 +292,16 @@ def summary(items, words):
 
 
 def sum_of(items):
-    """One sum over what all of them say, without comments and layout."""
-    texts = sorted(f"{item.file.path} {item.claim}" for item in items)
-    return hashlib.sha256("\n".join(texts).encode()).hexdigest()
+    """One sum over what all of them say, and the names that they use for others, without comments and layout."""
+    texts = [f"{item.file.path} {item.claim}" for item in items]
+    for file in {item.file for item in items}:
+        texts += [f"{file.path} {line}" for line in file.renamed([item for item in items if item.file is file])]
+    return hashlib.sha256("\n".join(sorted(texts)).encode()).hexdigest()
+
+
+def joined(lines):
+    """The lines as one text, or none."""
+    return ["\n".join(lines)] if lines else []
 
 
 def fenced(head, texts):
@@ -293,13 +313,13 @@ def page(repository, roots, parents, words):
     items = [item for item in parents if item not in roots]
     lines = ["", summary(items, words), "", f"Their sum is `{sum_of(parents)}`.", "", "## The claims"]
     for root in roots:
-        lines += fenced(f"`{root.file.path}`:", [root.text])
+        lines += fenced(f"`{root.file.path}`:", [*joined(root.file.renamed([root])), root.text])
     crate = None
     for file, own in reading_order(repository, items).items():
         if file.crate != crate:
             crate = file.crate
             lines += ["", f"## {crate}", "", purpose(crate)]
-        lines += fenced(f"`{file.path}`:", [item.text for item in own])
+        lines += fenced(f"`{file.path}`:", [*joined(file.renamed(own)), *(item.text for item in own)])
     lines += ["", "## Words of the toolchain", ""]
     lines += [f"- `{module}`: {' '.join(f'`{word}`' for word in sorted(words[module]))}" for module in sorted(words)]
     lines += ["", "## Sources", "", "| Source that the comment names | Definitions |", "|---|---|"]

@@ -3,14 +3,14 @@ use Rattle.std.specs.Prelude.{ℕ, List, [], ◌∷◌, codes}
 use Rattle.sd_commands.specs.declared.exit.Exit.{Exit}
 use Rattle.sd_commands.specs.declared.exit.Exit.TheVariants.{Done, Usage, Missing, Revoked, DepotFault, PrintFault}
 use Rattle.sd_commands.specs.declared.exit.Exit.TheVariants.{BadSite, BadBook, BadCard, BadClear, BadStream, Limit}
-use Rattle.sd_commands.specs.declared.exit.Exit.TheVariants.{NoMemory, Unheard, Unclosed, Gaps, NoCat, BadWord}
+use Rattle.sd_commands.specs.declared.exit.Exit.TheVariants.{NoMemory, Unheard, Unclosed, Gaps, NoCat, BadWord, Clash}
 
 -- its number, and when it comes
 unfoldable pub exit_line : Exit → List ℕ
 exit_line Done = codes "   0  the work is done\n"
-exit_line Usage = codes "   1  usage: the words are no command, or OUT is a file that is read\n"
-exit_line Missing = codes "   2  the file that word N names is not there\n"
-exit_line Revoked = codes "   3  the receiver is revoked, from the period that is named on\n"
+exit_line Usage = codes "   1  usage: no such command, too few or too many words, or OUT is a file that is read\n"
+exit_line Missing = codes "   2  the file that word N names is not there, or for OUT its folder\n"
+exit_line Revoked = codes "   3  the receiver is revoked in the period that is named, the first such one that was heard\n"
 exit_line DepotFault = codes "   4  a device failed at a file\n"
 exit_line PrintFault = codes "   5  a device failed at printing\n"
 exit_line BadSite = codes "   6  the site file is refused\n"
@@ -25,6 +25,7 @@ exit_line Unclosed = codes "  14  the stream ends before its last message\n"
 exit_line Gaps = codes "  15  some clear packets are missing\n"
 exit_line NoCat = codes "  16  the stream has no CAT for this card\n"
 exit_line BadWord = codes "  17  word N is no decimal, or out of its range\n"
+exit_line Clash = codes "  18  two broadcasts may not go out under one set of cards\n"
 
 -- the exits of a command that reads a site, a book and maybe more text
 abbrev pub exits_of_books : List Exit

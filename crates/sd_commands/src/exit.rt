@@ -23,6 +23,7 @@ pub enum Exit {
     Gaps,
     NoCat,
     BadWord,
+    Clash,
 }
 
 impl Exit {
@@ -33,9 +34,12 @@ impl Exit {
     {
         match self {
             Exit::Done => "   0  the work is done\n",
-            Exit::Usage => "   1  usage: the words are no command, or OUT is a file that is read\n",
-            Exit::Missing => "   2  the file that word N names is not there\n",
-            Exit::Revoked => "   3  the receiver is revoked, from the period that is named on\n",
+            Exit::Usage =>
+                "   1  usage: no such command, too few or too many words, or OUT is a file that is read\n",
+            Exit::Missing =>
+                "   2  the file that word N names is not there, or for OUT its folder\n",
+            Exit::Revoked =>
+                "   3  the receiver is revoked in the period that is named, the first such one that was heard\n",
             Exit::DepotFault => "   4  a device failed at a file\n",
             Exit::PrintFault => "   5  a device failed at printing\n",
             Exit::BadSite => "   6  the site file is refused\n",
@@ -50,6 +54,7 @@ impl Exit {
             Exit::Gaps => "  15  some clear packets are missing\n",
             Exit::NoCat => "  16  the stream has no CAT for this card\n",
             Exit::BadWord => "  17  word N is no decimal, or out of its range\n",
+            Exit::Clash => "  18  two broadcasts may not go out under one set of cards\n",
         }
     }
 }

@@ -95,7 +95,8 @@ impl Operand {
             Operand::Width => "the width of the layers, from 1 to the height",
             Operand::Number => "a number below 2^32, of which the stream is made",
             Operand::Packets => "how many packets, at most 1000000",
-            Operand::Out => "the file to be made; /dev/stdout for a pipe",
+            Operand::Out =>
+                "the file to be made; /dev/stdout for a pipe, and lines then go to standard error",
         }
     }
 }

@@ -137,8 +137,16 @@ fn each_status_has_its_line(rt: HostRuntime) -> Result<(), AllocError> {
         (Status::Gaps(29), 15, "29 clear packets are missing\n"),
         (Status::NoCat, 16, "no CAT for this card\n"),
         (Status::BadWord(1), 17, "word 1 is out of range\n"),
-        (Status::Clash(Clash::Heights), 18, "sites have two heights\n"),
-        (Status::Clash(Clash::Masters), 18, "sites have two masters\n"),
+        (
+            Status::Clash(Clash::Heights),
+            18,
+            "sites have two heights\n",
+        ),
+        (
+            Status::Clash(Clash::Masters),
+            18,
+            "sites have two masters\n",
+        ),
         (
             Status::Clash(Clash::NoWords(1)),
             18,

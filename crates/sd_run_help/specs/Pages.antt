@@ -58,4 +58,4 @@ help_text (Some topic) = page_text topic
 
 -- the version, the logic of its proofs, and the toolchains with which the gate was seen to pass
 unfoldable pub version_text : List ℕ
-version_text = codes "sdca 1.0.0\nproved in logic dac8208d650f15bf (rattle-kit-13b, rattle-kit-13f)\n"
+version_text = codes "sdca 1.0.0\nproved in logic dac8208d650f15bf (rattle-kit-13f)\n"

@@ -46,5 +46,5 @@ pub fn version<P: Sink>(print: &mut P) -> Result<(), Status>
 fn version_line() -> &'static [u8]
     ensures { result.now ≡ version_text }
 {
-    b"sdca 1.0.0\nproved in logic dac8208d650f15bf (rattle-kit-13b, rattle-kit-13f)\n"
+    b"sdca 1.0.0\nproved in logic dac8208d650f15bf (rattle-kit-13f)\n"
 }

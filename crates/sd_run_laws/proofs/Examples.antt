@@ -13,7 +13,7 @@ use Rattle.sd_status.specs.Exits.{code_of}
 use Rattle.sd_status.specs.declared.status.Status.{Status}
 use Rattle.sd_status.specs.declared.status.Status.TheVariants.{Done, Usage, Missing, Revoked, DepotFault, PrintFault}
 use Rattle.sd_status.specs.declared.status.Status.TheVariants.{BadSite, BadBook, BadCard, BadClear, BadStream, Limit}
-use Rattle.sd_status.specs.declared.status.Status.TheVariants.{NoMemory, Unheard, Unclosed, Gaps, NoCat, BadWord}
+use Rattle.sd_status.specs.declared.status.Status.TheVariants.{NoMemory, Unheard, Unclosed, Gaps, NoCat, BadWord, Clash}
 use Rattle.sd_words.specs.Words.{InputOf, OutOf, NumberOf, named_words}
 use Rattle.sd_run_laws.specs.Helped.{help_exit, in_column, IsOrdered}
 
@@ -38,6 +38,7 @@ exit_numbers (Unclosed number) = refl
 exit_numbers (Gaps packets) = refl
 exit_numbers NoCat = refl
 exit_numbers (BadWord word) = refl
+exit_numbers (Clash clash) = refl
 
 -- the example of each command
 pub examples_are_ordered : (command : Command) → IsOrdered command
@@ -52,7 +53,8 @@ examples_are_ordered Accounts = record {
   order = refl;
 }
 examples_are_ordered Book = record {
-  words = codes "book" ∷ codes "examples/site.txt" ∷ codes "examples/book.txt" ∷ codes "examples/today.txt" ∷ codes "longer.txt" ∷ [];
+  words = codes "book" ∷ codes "examples/site.txt" ∷ codes "examples/book.txt" ∷ codes "examples/today.txt" ∷
+      codes "longer.txt" ∷ [];
   arguments =
       InputOf (word_at 1 (codes "examples/site.txt"))
       ∷ InputOf (word_at 2 (codes "examples/book.txt"))
@@ -79,7 +81,8 @@ examples_are_ordered Cover = record {
   order = refl;
 }
 examples_are_ordered Head = record {
-  words = codes "head" ∷ codes "examples/site.txt" ∷ codes "examples/book.txt" ∷ codes "clear.ts" ∷ codes "broadcast.ts" ∷ [];
+  words = codes "head" ∷ codes "examples/site.txt" ∷ codes "examples/book.txt" ∷ codes "clear.ts" ∷
+      codes "broadcast.ts" ∷ [];
   arguments =
       InputOf (word_at 1 (codes "examples/site.txt"))
       ∷ InputOf (word_at 2 (codes "examples/book.txt"))

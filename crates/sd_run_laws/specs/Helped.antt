@@ -9,7 +9,7 @@ use Rattle.sd_commands.specs.Commands.{example_of}
 use Rattle.sd_status.specs.declared.status.Status.{Status}
 use Rattle.sd_status.specs.declared.status.Status.TheVariants.{Done, Usage, Missing, Revoked, DepotFault, PrintFault}
 use Rattle.sd_status.specs.declared.status.Status.TheVariants.{BadSite, BadBook, BadCard, BadClear, BadStream, Limit}
-use Rattle.sd_status.specs.declared.status.Status.TheVariants.{NoMemory, Unheard, Unclosed, Gaps, NoCat, BadWord}
+use Rattle.sd_status.specs.declared.status.Status.TheVariants.{NoMemory, Unheard, Unclosed, Gaps, NoCat, BadWord, Clash}
 use Rattle.sd_words.specs.Words.{Argument, CommandOf, order_of}
 
 -- the exit of a status, as help lists it [this project, docs/FORMATS.md, Exits]
@@ -32,6 +32,7 @@ help_exit (Unclosed number) = exit.Unclosed
 help_exit (Gaps packets) = exit.Gaps
 help_exit NoCat = exit.NoCat
 help_exit (BadWord word) = exit.BadWord
+help_exit (Clash clash) = exit.Clash
 
 -- a number at the right of a column of four
 abbrev pub in_column : ℕ → List ℕ

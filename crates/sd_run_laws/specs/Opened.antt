@@ -1,12 +1,12 @@
 -- What `receive` makes of a broadcast [this project, docs/FORMATS.md, Receiver].
-use Rattle.std.specs.Prelude.{◌≡◌, ℕ, ◌+◌, ◌-◌, ◌*◌, ◌≤◌, ◌&&◌, not, List, [], length, Option, Some, None, Ok}
+use Rattle.std.specs.Prelude.{◌≡◌, ℕ, ◌+◌, ◌-◌, ◌*◌, ◌≤◌, nat_le, ◌&&◌, not, List, [], length, Option, Some, None, Ok}
 use Rattle.std.specs.List.{concat}
 use Rattle.sd_card.specs.Fields.{card_of, card_bytes}
 use Rattle.sd_engine.specs.Taken.{Whole, taken_of, end_of}
 use Rattle.sd_broadcast.specs.Plan.{Plan, period_of}
 use Rattle.sd_broadcast.specs.Sent.{broadcast}
 use Rattle.sd_losses.specs.Confirmed.{is_revoked_in, opened_by}
-use Rattle.sd_losses.specs.Endings.{first_revoked, is_on_air}
+use Rattle.sd_losses.specs.Endings.{first_revoked}
 use Rattle.sd_losses.specs.Taken.{how_many}
 use Rattle.sd_status.specs.declared.status.Status.{Status}
 use Rattle.sd_status.specs.declared.status.Status.TheVariants.{Done, Revoked}
@@ -17,7 +17,8 @@ use Rattle.sd_words.specs.Words.{ReceiveOf, order_of}
 -- how many periods of the broadcast there are in which leaf u isn't revoked
 unfoldable pub entitled_periods : Plan → ℕ → List (List ℕ) → ℕ
 entitled_periods plan u clear =
-    how_many (λ q. is_on_air plan q && not (is_revoked_in plan u q)) (period_of plan (length clear - 1) + 1)
+    how_many (λ q. nat_le plan.site.first_period q && not (is_revoked_in plan u q))
+    (period_of plan (length clear - 1) + 1)
 
 -- done, or leaf u is revoked in this period
 abbrev pub revoked_status : ℕ → Option ℕ → Status

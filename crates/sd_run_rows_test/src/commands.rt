@@ -14,8 +14,8 @@ words
 
 exits
    0  the work is done
-   1  usage: the words are no command, or OUT is a file that is read
-   2  the file that word N names is not there
+   1  usage: no such command, too few or too many words, or OUT is a file that is read
+   2  the file that word N names is not there, or for OUT its folder
    4  a device failed at a file
    5  a device failed at printing
   10  a packet of the stream is refused
@@ -27,7 +27,7 @@ example
 
 /// What `version` prints.
 const VERSION: &str = "sdca 1.0.0
-proved in logic dac8208d650f15bf (rattle-kit-13b, rattle-kit-13f)
+proved in logic dac8208d650f15bf (rattle-kit-13f)
 ";
 
 /// The lines of `help` that stand at its ends and beside the longest words.

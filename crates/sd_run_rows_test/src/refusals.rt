@@ -401,7 +401,7 @@ const ROOM: usize = 4_200_000;
 
 const PIECE: usize = 65_536;
 
-/// What the words leave over the site S and the files F and G.
+/// What the words leave over the site S and the files F and G, if no call fails.
 fn after(
     alloc: Global,
     words: &str,
@@ -409,12 +409,24 @@ fn after(
     f: &[Part],
     g: &[Part],
 ) -> Result<Leaving, AllocError> {
+    after_fault(alloc, words, site, f, g, Fault::Nowhere)
+}
+
+/// What the words leave if this call fails.
+fn after_fault(
+    alloc: Global,
+    words: &str,
+    site: Part,
+    f: &[Part],
+    g: &[Part],
+    fault: Fault<'_>,
+) -> Result<Leaving, AllocError> {
     let mut files = Files::with(alloc, "S", &bytes_of(alloc, &[site])?)?;
     files.add(alloc, "F", &bytes_of(alloc, f)?)?;
     files.add(alloc, "G", &bytes_of(alloc, g)?)?;
     files.room = ROOM;
     let words: Vec<&str> = words.split(' ').collect(alloc)?;
-    left(alloc, &files, &words, PIECE, Fault::Nowhere)
+    left(alloc, &files, &words, PIECE, fault)
 }
 
 /// How many bytes OUT has, if it was made.
@@ -456,6 +468,27 @@ fn unfit_streams_are_refused_by_name(rt: HostRuntime) -> Result<(), AllocError> 
         assert_eq!(rt; left.printed.as_slice(), line.as_bytes());
         assert_eq!(rt; length(&left), Some(*out), "{line}");
     }
+    Ok(())
+}
+
+/// A refusal that is known is answered though OUT fails to close after it. The calls that may fail are three that open,
+/// one that makes OUT and one that closes it.
+#[test]
+fn a_refusal_is_answered_if_out_fails_to_close(rt: HostRuntime) -> Result<(), AllocError> {
+    let left = after_fault(
+        rt.alloc(),
+        "head S F G O",
+        S,
+        NONE,
+        SCRAMBLED,
+        Fault::Call(4),
+    )?;
+    assert!(rt; left.failed);
+    assert_eq!(rt; left.status.code(), 9);
+    assert_eq!(rt;
+        left.printed.as_slice(),
+        "clear packet 1: already scrambled\n".as_bytes()
+    );
     Ok(())
 }
 

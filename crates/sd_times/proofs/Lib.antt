@@ -1,0 +1,10 @@
+pub mod Rising
+pub mod Chosen
+pub mod Streams
+pub mod Numbers
+pub mod Few
+pub mod Entitled
+pub mod Kept
+pub mod OneTime
+pub mod AllTimes
+pub mod Written
