@@ -1,0 +1,86 @@
+-- Two books beside one another, period by period.
+use Rattle.std.proofs.Common.{arith, ◌≡◌, ℕ, zero, suc, ◌+◌, ◌-◌, ◌<◌, ◌≤◌, min, List, [], ◌∷◌, ◌++◌, Option, Some, None}
+use Rattle.std.proofs.Common.{refl, sym, ap, ◌∙◌, inl, inr}
+use Rattle.std.specs.Option.{option_map, option_or}
+use Rattle.std.specs.List.{range_with_len}
+use Rattle.std.proofs.lemmas.Bool.{cases_lt}
+use Rattle.sd_book.specs.declared.command.Command.{Command}
+use Rattle.sd_book.specs.Commands.{last_period, revoked}
+use Rattle.sd_book.proofs.Cuts.{revoked_past}
+use Rattle.sd_broadcast.specs.Plan.{Plan}
+use Rattle.sd_status.specs.declared.status.Clash.{Clash as ClashKind}
+use Rattle.sd_status.specs.declared.status.Clash.TheVariants.{Books}
+use Rattle.sd_run_apart.specs.Apart.{clash_in, first_apart, first_of, first_shared}
+
+-- some first numbers, and the others
+range_split : (a i n : ℕ) → range_with_len a (i + n) ≡ range_with_len a i ++ range_with_len (a + i) n
+range_split a zero n =
+    let none : 0 + n ≡ n = omega arith in
+    let same : a ≡ a + 0 = omega arith in
+    ap (range_with_len a) none ∙ ap (λ (k : ℕ). range_with_len k n) same
+range_split a (suc i) n =
+    let more : suc i + n ≡ suc (i + n) = omega arith in
+    let same : a + 1 + i ≡ a + suc i = omega arith in
+    ap (range_with_len a) more
+    ∙ ap (λ (xs : List ℕ). a ∷ xs) (range_split (a + 1) i n
+    ∙ ap (λ (k : ℕ). range_with_len (a + 1) i ++ range_with_len k n) same)
+
+through : (o p q r : Option ClashKind) → option_or o p ≡ None → (p ≡ None → q ≡ r) → option_or o q ≡ r
+through None p q r h step = step h
+through (Some clash) p q r h step = absurd cc
+
+-- periods without a clash before others
+first_after : (clash : ℕ → Option ClashKind) (xs ys : List ℕ) → first_of clash xs ≡ None →
+    first_of clash (xs ++ ys) ≡ first_of clash ys
+first_after clash [] ys h = refl
+first_after clash (x ∷ xs) ys h =
+    through (clash x) (first_of clash xs) (first_of clash (xs ++ ys)) (first_of clash ys) h (first_after clash xs ys)
+
+-- the first clash in a period is that of all
+pub first_found : (clash : ℕ → Option ClashKind) (a i n : ℕ) (found : ClashKind) → i < n →
+    first_of clash (range_with_len a i) ≡ None → clash (a + i) ≡ Some found →
+    first_of clash (range_with_len a n) ≡ Some found
+first_found clash a i n found low none is =
+    let all : n ≡ i + suc (n - i - 1) = omega (arith, low) in
+    ap (λ (k : ℕ). first_of clash (range_with_len a k)) all
+    ∙ ap (first_of clash) (range_split a i (suc (n - i - 1)))
+    ∙ first_after clash (range_with_len a i) (range_with_len (a + i) (suc (n - i - 1))) none
+    ∙ ap (λ (o : Option ClashKind). option_or o (first_of clash (range_with_len (a + i + 1) (n - i - 1)))) is
+
+-- one period more without one
+pub none_more : (clash : ℕ → Option ClashKind) (a i : ℕ) → first_of clash (range_with_len a i) ≡ None →
+    clash (a + i) ≡ None → first_of clash (range_with_len a (i + 1)) ≡ None
+none_more clash a i none is =
+    ap (first_of clash) (range_split a i 1)
+    ∙ first_after clash (range_with_len a i) (range_with_len (a + i) 1) none
+    ∙ ap (λ (o : Option ClashKind). option_or o None) is
+
+-- the period of the book that a period of the broadcast has its revoked leaves from
+same_revoked : (d first before : ℕ) (commands : List Command) → before ≤ last_period commands - first →
+    revoked d commands (min first (last_period commands) + before) ≡ revoked d commands (first + before)
+same_revoked d first before commands within =
+    elim (cases_lt (last_period commands) first) [
+      | inl past ↦
+          let low : min first (last_period commands) + before ≡ last_period commands = omega (arith, past, within) in
+          let high : last_period commands ≤ first + before = omega (arith, past) in
+          ap (revoked d commands) low ∙ sym (revoked_past d (first + before) commands high)
+      | inr le ↦
+          let same : min first (last_period commands) + before ≡ first + before = omega (arith, le) in
+          ap (revoked d commands) same
+    ]
+
+-- what is found in the two lists is the clash in the period
+pub clash_is : (a b : Plan) (before : ℕ) (left right : List ℕ) (found : Option ℕ) →
+    before ≤ last_period a.commands - first_shared a b → before ≤ last_period b.commands - first_shared a b →
+    left ≡ revoked a.site.height a.commands (min (first_shared a b) (last_period a.commands) + before) →
+    right ≡ revoked b.site.height b.commands (min (first_shared a b) (last_period b.commands) + before) →
+    found ≡ first_apart left right →
+    clash_in a b (first_shared a b + before) ≡ option_map (λ u. Books u (first_shared a b + before)) found
+clash_is a b before left right found low high one two is =
+    let q = first_shared a b + before in
+    let one_is : left ≡ revoked a.site.height a.commands q =
+    one ∙ same_revoked a.site.height (first_shared a b) before a.commands low in
+    let two_is : right ≡ revoked b.site.height b.commands q =
+    two ∙ same_revoked b.site.height (first_shared a b) before b.commands high in
+    ap (option_map (λ u. Books u q)) (sym (is ∙ ap (λ (xs : List ℕ). first_apart xs right) one_is
+    ∙ ap (first_apart (revoked a.site.height a.commands q)) two_is))

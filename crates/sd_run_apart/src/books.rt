@@ -1,0 +1,85 @@
+//! Whether two books agree on the periods of both.
+
+ghost use Rattle.std.specs.Prelude.{◌≡◌, ◌≤◌, IfOk};
+ghost use Rattle.sd_book.specs.Commands.{last_period as last_of};
+ghost use Rattle.sd_site.specs.Fields.{fields_of};
+ghost use Rattle.sd_run_apart.specs.Apart.{books_clash, first_apart as apart_of};
+
+use crate::sites::last_due;
+use sd_book::{Book, Periods};
+use sd_cause::NoMemory;
+use sd_site::Site;
+use sd_status::Clash;
+use sd_tree::Leaf;
+use std::alloc::Global;
+
+/// Why the books of two sites don't agree on the periods that broadcasts of both may use.
+pub(crate) fn clash_of_books(
+    alloc: Global,
+    site: &Site,
+    book: &Book,
+    other: &Site,
+    more: &Book,
+) -> Result<Option<Clash>, NoMemory>
+    requires first { book.now.height ≡ site.now.height }
+    requires second { more.now.height ≡ other.now.height }
+    ensures { IfOk result (λ clash. clash ≡ books_clash
+        (record { site = fields_of site.now; commands = book.now.commands })
+        (record { site = fields_of other.now; commands = more.now.commands })) }
+{
+    let last = book.last_period();
+    let last_more = more.last_period();
+    let first = site.first_period.max(other.first_period);
+    let end = last_due(site, last).min(last_due(other, last_more)) + 1;
+    let count = end.saturating_sub(u64::from(first)) as u32;
+    let mut left = replay_from(alloc, book, first.min(last))?;
+    let mut right = replay_from(alloc, more, first.min(last_more))?;
+    for before in 0..count {
+        let Some(a) = left.next(alloc)? else {
+            unreachable!();
+        };
+        let Some(b) = right.next(alloc)? else {
+            unreachable!();
+        };
+        if let Some(leaf) = first_apart(&a, &b) {
+            let period = first + before;
+            return Ok(Some(Clash::Books { leaf, period }));
+        }
+    }
+    Ok(None)
+}
+
+/// The least leaf that one of two ascending lists has and the other doesn't.
+fn first_apart(left: &[Leaf], right: &[Leaf]) -> Option<u32>
+    ensures { result ≡ apart_of left.now right.now }
+{
+    let shared = left.len().min(right.len());
+    for at in 0..shared {
+        let u = left[at].get();
+        let v = right[at].get();
+        if u != v {
+            return Some(u.min(v));
+        }
+    }
+    if shared < left.len() {
+        Some(left[shared].get())
+    } else if shared < right.len() {
+        Some(right[shared].get())
+    } else {
+        None
+    }
+}
+
+/// A replay of the book whose next period is q, one of its own.
+fn replay_from(alloc: Global, book: &Book, q: u32) -> Result<Periods<'_>, NoMemory>
+    requires { q ≤ last_of book.now.commands }
+    ensures height { IfOk result (λ periods. periods.height ≡ book.now.height) }
+    ensures commands { IfOk result (λ periods. periods.commands ≡ book.now.commands) }
+    ensures next { IfOk result (λ periods. periods.next ≡ q) }
+{
+    let mut periods = book.periods(alloc);
+    for _ in 0..q {
+        periods.next(alloc)?;
+    }
+    Ok(periods)
+}

@@ -1,0 +1,4 @@
+pub mod Few
+pub mod Counting
+pub mod Printing
+pub mod Others

@@ -1,0 +1,109 @@
+ghost use Rattle.std.specs.Prelude.{◌≡◌, ◌≢◌, ◌≤◌, ℕ, IfOk, IfErr, string_bytes};
+ghost use Rattle.sd_site.specs.Fields.{fields_of};
+ghost use Rattle.sd_status.specs.Outside.{outside, page, place};
+ghost use Rattle.sd_status.specs.Reads.{JudgesAlone, Looks};
+ghost use Rattle.sd_status.specs.Comes.{Follows, status_of};
+ghost use Rattle.sd_files.specs.Shown.{shown_number, shown_word};
+ghost use Rattle.sd_run_plan.specs.Air.{air_text as air_of, plan_meaning, roomy_site_of_file, told_room};
+
+use crate::lines::{push_ends, push_totals};
+use crate::periods::periods_text;
+use crate::schedule::{cryptos_for, last_word, messages_for, period_count};
+use sd_book::Book;
+use sd_ecm::part_count;
+use sd_files::{Number, Word, print_text, read_book, read_site};
+use sd_ports::{Depot, Sink};
+use sd_site::Site;
+use sd_status::Status;
+use std::alloc::Global;
+
+/// Does `plan SITE BOOK PACKETS PIDS`. The lines are made before the first is printed.
+#[inline(never)]
+pub fn plan<D: Depot, P: Sink>(
+    alloc: Global,
+    depot: &mut D,
+    print: &mut P,
+    site: Word<'_>,
+    book: Word<'_>,
+    packets: Number,
+    pids: u32,
+) -> Result<(), Status>
+    requires words { site.number ≢ book.number }
+    requires packets { 1 ≤ packets.value }
+    requires pids { pids ≤ 256 }
+    ensures { (steps : ℕ) → Follows
+        (plan_meaning (shown_word site.entry) (shown_word book.entry) (shown_number packets) pids)
+        (outside (place D.Depot depot.old) (page P.Sink print.old) steps)
+        (outside (place D.Depot depot.new) (page P.Sink print.new) steps) (status_of result) }
+{
+    let site = read_roomy_site(alloc, depot, site, packets)?;
+    let book = read_book(alloc, depot, book, site.height)?;
+    let text = air_text(alloc, &site, &book, packets.value, pids)?;
+    print_text(print, text.as_bytes())
+}
+
+/// The site of the word's file, which has a control word for each of so many packets.
+fn read_roomy_site<D: Depot>(
+    alloc: Global,
+    depot: &mut D,
+    word: Word<'_>,
+    packets: Number,
+) -> Result<Site, Status>
+    requires { 1 ≤ packets.value }
+    ensures { Looks fields_of (roomy_site_of_file word.entry.number (shown_number packets)) word.entry.text.now
+        (place D.Depot depot.old) (place D.Depot depot.new) result }
+{
+    let site = read_site(alloc, depot, word)?;
+    judge_room(site, packets)
+}
+
+/// The site, if it has a control word for each of so many packets.
+fn judge_room(site: Site, packets: Number) -> Result<Site, Status>
+    requires { 1 ≤ packets.value }
+    ensures { JudgesAlone fields_of (told_room (shown_number packets) (fields_of site)) result }
+{
+    let cryptos = cryptos_for(&site, packets.value);
+    if last_word(&site, cryptos) > u64::from(site.last_word) {
+        return Err(Status::BadWord(packets.word));
+    }
+    Ok(site)
+}
+
+/// All lines for so many packets, of which at most so many PIDs have positions.
+#[tactic(auto, unfolding(crate::specs::Air::air_text, crate::specs::Air::added_most))]
+fn air_text(
+    alloc: Global,
+    site: &Site,
+    book: &Book,
+    packets: u32,
+    pids: u32,
+) -> Result<String, Status>
+    requires height { book.now.height ≡ site.now.height }
+    requires packets { 1 ≤ packets }
+    requires pids { pids ≤ 256 }
+    ensures value { IfOk result (λ text. string_bytes text
+        ≡ air_of (record { site = fields_of site.now; commands = book.now.commands }) packets pids) }
+    ensures fault { IfErr result (λ status. status ≡ Status.NoMemory) }
+{
+    let cryptos = cryptos_for(site, packets);
+    let (mut text, tables) = periods_text(alloc, site, book, cryptos)?;
+    let messages = messages_for(site, packets);
+    let parts = part_count(site.messages, pids as usize);
+    push_totals(
+        &mut text,
+        messages,
+        parts,
+        packets,
+        tables + messages * u64::from(parts),
+    )?;
+    let count = period_count(site, book.last_period(), cryptos);
+    let last_period = u64::from(site.first_period) + u64::from(count) - 1;
+    push_ends(
+        &mut text,
+        u64::from(site.first_period),
+        u64::from(site.first_word),
+        last_period,
+        last_word(site, cryptos),
+    )?;
+    Ok(text)
+}
