@@ -8,6 +8,7 @@ use crate::operand::Operand;
 #[derive(Clone, Copy, Debug, PartialEq, Eq)]
 pub enum Command {
     Accounts,
+    Apart,
     Book,
     Card,
     Cover,
@@ -15,6 +16,7 @@ pub enum Command {
     Layered,
     Lcard,
     Opens,
+    Plan,
     Receive,
     Sample,
     Tables,
@@ -23,8 +25,9 @@ pub enum Command {
 }
 
 /// All commands, by their names.
-pub const COMMANDS: [Command; 13] = [
+pub const COMMANDS: [Command; 15] = [
     Command::Accounts,
+    Command::Apart,
     Command::Book,
     Command::Card,
     Command::Cover,
@@ -32,6 +35,7 @@ pub const COMMANDS: [Command; 13] = [
     Command::Layered,
     Command::Lcard,
     Command::Opens,
+    Command::Plan,
     Command::Receive,
     Command::Sample,
     Command::Tables,
@@ -47,6 +51,7 @@ impl Command {
     {
         match word {
             "accounts" => Some(Command::Accounts),
+            "apart" => Some(Command::Apart),
             "book" => Some(Command::Book),
             "card" => Some(Command::Card),
             "cover" => Some(Command::Cover),
@@ -54,6 +59,7 @@ impl Command {
             "layered" => Some(Command::Layered),
             "lcard" => Some(Command::Lcard),
             "opens" => Some(Command::Opens),
+            "plan" => Some(Command::Plan),
             "receive" => Some(Command::Receive),
             "sample" => Some(Command::Sample),
             "tables" => Some(Command::Tables),
@@ -70,6 +76,7 @@ impl Command {
     {
         match self {
             Command::Accounts => "accounts",
+            Command::Apart => "apart",
             Command::Book => "book",
             Command::Card => "card",
             Command::Cover => "cover",
@@ -77,6 +84,7 @@ impl Command {
             Command::Layered => "layered",
             Command::Lcard => "lcard",
             Command::Opens => "opens",
+            Command::Plan => "plan",
             Command::Receive => "receive",
             Command::Sample => "sample",
             Command::Tables => "tables",
@@ -93,6 +101,7 @@ impl Command {
     {
         match self {
             Command::Accounts => &[Operand::Site, Operand::Accounts, Operand::Out],
+            Command::Apart => &[Operand::Site, Operand::Book, Operand::Site, Operand::Book],
             Command::Book => &[
                 Operand::Site,
                 Operand::Book,
@@ -105,6 +114,7 @@ impl Command {
             Command::Layered => &[Operand::Site, Operand::Book, Operand::Width],
             Command::Lcard => &[Operand::Site, Operand::Leaf, Operand::Width, Operand::Out],
             Command::Opens => &[Operand::Site, Operand::Book, Operand::Leaves],
+            Command::Plan => &[Operand::Site, Operand::Book, Operand::Clears, Operand::Pids],
             Command::Receive => &[Operand::Card, Operand::Stream, Operand::Out],
             Command::Sample => &[Operand::Number, Operand::Packets, Operand::Out],
             Command::Tables => &[Operand::Stream],
@@ -128,6 +138,7 @@ impl Command {
         match self {
             Command::Accounts =>
                 "makes the book of accounts that are kept by name, and reports them",
+            Command::Apart => "tells whether two broadcasts may share cards",
             Command::Book => "makes a longer book, with more commands at its end",
             Command::Card => "makes the card of a receiver",
             Command::Cover => "prints the sets that each period names",
@@ -135,6 +146,7 @@ impl Command {
             Command::Layered => "prints the sets that each period names in layers",
             Command::Lcard => "makes the card of a receiver for layers, which is smaller",
             Command::Opens => "prints which sets of each period pooled cards open",
+            Command::Plan => "prints what a broadcast takes on air, before it is sent",
             Command::Receive => "makes the clear packets of a broadcast that a card opens",
             Command::Sample => "makes a clear stream for trials",
             Command::Tables => "prints the tables of a stream, a line of JSON for each",
@@ -151,9 +163,10 @@ impl Command {
         match self {
             Command::Accounts | Command::Book | Command::Cover | Command::Opens | Command::Trace =>
                 { exit::of_books() }
+            Command::Apart => exit::of_pairs(),
             Command::Card | Command::Lcard => exit::of_cards(),
             Command::Head | Command::Trial => exit::of_clear_streams(),
-            Command::Layered => exit::of_layers(),
+            Command::Layered | Command::Plan => exit::of_layers(),
             Command::Receive => exit::of_receivers(),
             Command::Sample => exit::of_samples(),
             Command::Tables => exit::of_tables(),
@@ -167,6 +180,8 @@ impl Command {
     {
         match self {
             Command::Accounts => "accounts examples/site.txt examples/accounts.txt book.txt",
+            Command::Apart =>
+                "apart examples/site.txt examples/book.txt site-2.txt examples/book.txt",
             Command::Book =>
                 "book examples/site.txt examples/book.txt examples/today.txt longer.txt",
             Command::Card => "card examples/site.txt 2 card-2",
@@ -175,6 +190,7 @@ impl Command {
             Command::Layered => "layered examples/site.txt examples/book.txt 2",
             Command::Lcard => "lcard examples/site.txt 2 2 layer-card-2",
             Command::Opens => "opens examples/site.txt examples/book.txt examples/pooled.txt",
+            Command::Plan => "plan examples/site.txt examples/book.txt 600 3",
             Command::Receive => "receive card-2 broadcast.ts opened.ts",
             Command::Sample => "sample 7 600 clear.ts",
             Command::Tables => "tables broadcast.ts",
