@@ -2,18 +2,19 @@
 use Rattle.std.specs.Prelude.{ℕ, List, [], ◌∷◌, codes, bytes_eq, if◌then◌else◌, Option, Some, None}
 use Rattle.sd_commands.specs.declared.command.Command.{Command}
 use Rattle.sd_commands.specs.declared.command.Command.TheVariants.{Accounts, Book, Card, Cover, Head, Layered, Lcard}
-use Rattle.sd_commands.specs.declared.command.Command.TheVariants.{Messages, Opens, Receive, Sample, Show, Tables}
+use Rattle.sd_commands.specs.declared.command.Command.TheVariants.{Apart, Messages, Opens, Plan, Receive, Sample, Show, Tables}
 use Rattle.sd_commands.specs.declared.command.Command.TheVariants.{Trace, Trial}
 use Rattle.sd_commands.specs.declared.operand.Operand.{Operand}
 use Rattle.sd_commands.specs.declared.operand.Operand.TheVariants as word
 use Rattle.sd_commands.specs.declared.exit.Exit.{Exit}
 use Rattle.sd_commands.specs.Exits.{exits_of_books, exits_of_cards, exits_of_clear_streams, exits_of_layers}
-use Rattle.sd_commands.specs.Exits.{exits_of_monitors, exits_of_receivers, exits_of_samples, exits_of_shown_cards}
-use Rattle.sd_commands.specs.Exits.{exits_of_tables}
+use Rattle.sd_commands.specs.Exits.{exits_of_monitors, exits_of_pairs, exits_of_receivers, exits_of_samples}
+use Rattle.sd_commands.specs.Exits.{exits_of_shown_cards, exits_of_tables}
 
 -- the command's name
 unfoldable pub name_of : Command → List ℕ
 name_of Accounts = codes "accounts"
+name_of Apart = codes "apart"
 name_of Book = codes "book"
 name_of Card = codes "card"
 name_of Cover = codes "cover"
@@ -22,6 +23,7 @@ name_of Layered = codes "layered"
 name_of Lcard = codes "lcard"
 name_of Messages = codes "messages"
 name_of Opens = codes "opens"
+name_of Plan = codes "plan"
 name_of Receive = codes "receive"
 name_of Sample = codes "sample"
 name_of Show = codes "show"
@@ -32,8 +34,8 @@ name_of Trial = codes "trial"
 -- all commands, by their names
 abbrev pub commands : List Command
 commands =
-    Accounts ∷ Book ∷ Card ∷ Cover ∷ Head ∷ Layered ∷ Lcard ∷ Messages ∷ Opens ∷ Receive ∷ Sample ∷ Show ∷ Tables ∷ Trace
-    ∷ Trial ∷ []
+    Accounts ∷ Apart ∷ Book ∷ Card ∷ Cover ∷ Head ∷ Layered ∷ Lcard ∷ Messages ∷ Opens ∷ Plan ∷ Receive ∷ Sample ∷ Show
+    ∷ Tables ∷ Trace ∷ Trial ∷ []
 
 -- the first of them that has this name
 abbrev pub named : List ℕ → List Command → Option Command
@@ -47,6 +49,7 @@ command_of word = named word commands
 -- the words after the name
 unfoldable pub operands_of : Command → List Operand
 operands_of Accounts = word.Site ∷ word.Accounts ∷ word.Out ∷ []
+operands_of Apart = word.Site ∷ word.Book ∷ word.Site ∷ word.Book ∷ []
 operands_of Book = word.Site ∷ word.Book ∷ word.Commands ∷ word.Out ∷ []
 operands_of Card = word.Site ∷ word.Leaf ∷ word.Out ∷ []
 operands_of Cover = word.Site ∷ word.Book ∷ []
@@ -55,6 +58,7 @@ operands_of Layered = word.Site ∷ word.Book ∷ word.Width ∷ []
 operands_of Lcard = word.Site ∷ word.Leaf ∷ word.Width ∷ word.Out ∷ []
 operands_of Messages = word.Site ∷ word.Stream ∷ []
 operands_of Opens = word.Site ∷ word.Book ∷ word.Leaves ∷ []
+operands_of Plan = word.Site ∷ word.Book ∷ word.Clears ∷ word.Pids ∷ []
 operands_of Receive = word.Card ∷ word.Stream ∷ word.Out ∷ []
 operands_of Sample = word.Number ∷ word.Packets ∷ word.Out ∷ []
 operands_of Show = word.Card ∷ []
@@ -65,6 +69,7 @@ operands_of Trial = word.Site ∷ word.Book ∷ word.Clear ∷ []
 -- what the command does
 unfoldable pub work_of : Command → List ℕ
 work_of Accounts = codes "makes the book of accounts that are kept by name, and reports them"
+work_of Apart = codes "tells whether two broadcasts may share cards"
 work_of Book = codes "makes a longer book, with more commands at its end"
 work_of Card = codes "makes the card of a receiver"
 work_of Cover = codes "prints the sets that each period names"
@@ -73,6 +78,7 @@ work_of Layered = codes "prints the sets that each period names in layers"
 work_of Lcard = codes "makes the card of a receiver for layers, which is smaller"
 work_of Messages = codes "prints what a broadcast's messages say, a line each"
 work_of Opens = codes "prints which sets of each period pooled cards open"
+work_of Plan = codes "prints what a broadcast takes on air, before it is sent"
 work_of Receive = codes "makes the clear packets of a broadcast that a card opens"
 work_of Sample = codes "makes a clear stream for trials"
 work_of Show = codes "prints what a card's file is, without its keys"
@@ -83,6 +89,7 @@ work_of Trial = codes "prints what each receiver writes of a broadcast"
 -- the exits that it may have
 unfoldable pub exits_of : Command → List Exit
 exits_of Accounts = exits_of_books
+exits_of Apart = exits_of_pairs
 exits_of Book = exits_of_books
 exits_of Card = exits_of_cards
 exits_of Cover = exits_of_books
@@ -91,6 +98,7 @@ exits_of Layered = exits_of_layers
 exits_of Lcard = exits_of_cards
 exits_of Messages = exits_of_monitors
 exits_of Opens = exits_of_books
+exits_of Plan = exits_of_layers
 exits_of Receive = exits_of_receivers
 exits_of Sample = exits_of_samples
 exits_of Show = exits_of_shown_cards
@@ -101,6 +109,7 @@ exits_of Trial = exits_of_clear_streams
 -- an example of its words
 unfoldable pub example_of : Command → List ℕ
 example_of Accounts = codes "accounts examples/site.txt examples/accounts.txt book.txt"
+example_of Apart = codes "apart examples/site.txt examples/book.txt site-2.txt examples/book.txt"
 example_of Book = codes "book examples/site.txt examples/book.txt examples/today.txt longer.txt"
 example_of Card = codes "card examples/site.txt 2 card-2"
 example_of Cover = codes "cover examples/site.txt examples/book.txt"
@@ -109,6 +118,7 @@ example_of Layered = codes "layered examples/site.txt examples/book.txt 2"
 example_of Lcard = codes "lcard examples/site.txt 2 2 layer-card-2"
 example_of Messages = codes "messages examples/site.txt broadcast.ts"
 example_of Opens = codes "opens examples/site.txt examples/book.txt examples/pooled.txt"
+example_of Plan = codes "plan examples/site.txt examples/book.txt 600 3"
 example_of Receive = codes "receive card-2 broadcast.ts opened.ts"
 example_of Sample = codes "sample 7 600 clear.ts"
 example_of Show = codes "show card-2"

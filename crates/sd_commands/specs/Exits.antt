@@ -44,6 +44,10 @@ exits_of_clear_streams =
 abbrev pub exits_of_layers : List Exit
 exits_of_layers = Done ∷ Usage ∷ Missing ∷ DepotFault ∷ PrintFault ∷ BadSite ∷ BadBook ∷ Limit ∷ NoMemory ∷ BadWord ∷ []
 
+-- those of a command that reads two sites and their books
+abbrev pub exits_of_pairs : List Exit
+exits_of_pairs = Done ∷ Usage ∷ Missing ∷ DepotFault ∷ PrintFault ∷ BadSite ∷ BadBook ∷ Limit ∷ NoMemory ∷ Clash ∷ []
+
 -- those of a command that opens a broadcast with a card
 abbrev pub exits_of_receivers : List Exit
 exits_of_receivers =

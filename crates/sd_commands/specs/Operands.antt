@@ -2,11 +2,12 @@
 use Rattle.std.specs.Prelude.{ℕ, ◌-◌, ◌^◌, List, codes}
 use Rattle.sd_commands.specs.declared.operand.Operand.{Operand}
 use Rattle.sd_commands.specs.declared.operand.Operand.TheVariants.{Site, Book, Accounts, Commands, Clear, Stream, Card}
-use Rattle.sd_commands.specs.declared.operand.Operand.TheVariants.{Leaves, Leaf, Width, Number, Packets, Out}
+use Rattle.sd_commands.specs.declared.operand.Operand.TheVariants.{Leaves, Leaf, Width, Number, Packets, Clears, Pids, Out}
 use Rattle.sd_commands.specs.declared.operand.Kind.{Kind}
 use Rattle.sd_commands.specs.declared.operand.Kind.TheVariants as kind
 
--- what it is: a file that is read, the file that is made, or a number and the greatest that it may be
+-- what it is: a file that is read, the file that is made, or a number and the greatest that it may be,
+-- from 0 or from 1 on
 abbrev pub kind_of : Operand → Kind
 kind_of Site = kind.Input
 kind_of Book = kind.Input
@@ -20,6 +21,8 @@ kind_of Leaf = kind.Number (2 ^ 32 - 1)
 kind_of Width = kind.Number (2 ^ 32 - 1)
 kind_of Number = kind.Number (2 ^ 32 - 1)
 kind_of Packets = kind.Number 1000000
+kind_of Clears = kind.Count (2 ^ 32 - 1)
+kind_of Pids = kind.Number 256
 kind_of Out = kind.Output
 
 -- the name that it has in the texts
@@ -36,6 +39,8 @@ name_of Leaf = codes "LEAF"
 name_of Width = codes "WIDTH"
 name_of Number = codes "NUMBER"
 name_of Packets = codes "PACKETS"
+name_of Clears = codes "PACKETS"
+name_of Pids = codes "PIDS"
 name_of Out = codes "OUT"
 
 -- what it says
@@ -53,4 +58,6 @@ meaning_of Leaf = codes "the receiver's number, from 0 to 2^height - 1"
 meaning_of Width = codes "the width of the layers, from 1 to the height"
 meaning_of Number = codes "a number below 2^32, of which the stream is made"
 meaning_of Packets = codes "how many packets, at most 1000000"
+meaning_of Clears = codes "how many clear packets, from 1 to 4294967295"
+meaning_of Pids = codes "how many PIDs have positions, at most 256"
 meaning_of Out = codes "the file to be made; /dev/stdout for a pipe, and lines then go to standard error"

@@ -8,6 +8,7 @@ use crate::operand::Operand;
 #[derive(Clone, Copy, Debug, PartialEq, Eq)]
 pub enum Command {
     Accounts,
+    Apart,
     Book,
     Card,
     Cover,
@@ -16,6 +17,7 @@ pub enum Command {
     Lcard,
     Messages,
     Opens,
+    Plan,
     Receive,
     Sample,
     Show,
@@ -25,8 +27,9 @@ pub enum Command {
 }
 
 /// All commands, by their names.
-pub const COMMANDS: [Command; 15] = [
+pub const COMMANDS: [Command; 17] = [
     Command::Accounts,
+    Command::Apart,
     Command::Book,
     Command::Card,
     Command::Cover,
@@ -35,6 +38,7 @@ pub const COMMANDS: [Command; 15] = [
     Command::Lcard,
     Command::Messages,
     Command::Opens,
+    Command::Plan,
     Command::Receive,
     Command::Sample,
     Command::Show,
@@ -51,6 +55,7 @@ impl Command {
     {
         match word {
             "accounts" => Some(Command::Accounts),
+            "apart" => Some(Command::Apart),
             "book" => Some(Command::Book),
             "card" => Some(Command::Card),
             "cover" => Some(Command::Cover),
@@ -59,6 +64,7 @@ impl Command {
             "lcard" => Some(Command::Lcard),
             "messages" => Some(Command::Messages),
             "opens" => Some(Command::Opens),
+            "plan" => Some(Command::Plan),
             "receive" => Some(Command::Receive),
             "sample" => Some(Command::Sample),
             "show" => Some(Command::Show),
@@ -76,6 +82,7 @@ impl Command {
     {
         match self {
             Command::Accounts => "accounts",
+            Command::Apart => "apart",
             Command::Book => "book",
             Command::Card => "card",
             Command::Cover => "cover",
@@ -84,6 +91,7 @@ impl Command {
             Command::Lcard => "lcard",
             Command::Messages => "messages",
             Command::Opens => "opens",
+            Command::Plan => "plan",
             Command::Receive => "receive",
             Command::Sample => "sample",
             Command::Show => "show",
@@ -101,6 +109,7 @@ impl Command {
     {
         match self {
             Command::Accounts => &[Operand::Site, Operand::Accounts, Operand::Out],
+            Command::Apart => &[Operand::Site, Operand::Book, Operand::Site, Operand::Book],
             Command::Book => &[
                 Operand::Site,
                 Operand::Book,
@@ -114,6 +123,7 @@ impl Command {
             Command::Lcard => &[Operand::Site, Operand::Leaf, Operand::Width, Operand::Out],
             Command::Messages => &[Operand::Site, Operand::Stream],
             Command::Opens => &[Operand::Site, Operand::Book, Operand::Leaves],
+            Command::Plan => &[Operand::Site, Operand::Book, Operand::Clears, Operand::Pids],
             Command::Receive => &[Operand::Card, Operand::Stream, Operand::Out],
             Command::Sample => &[Operand::Number, Operand::Packets, Operand::Out],
             Command::Show => &[Operand::Card],
@@ -138,6 +148,7 @@ impl Command {
         match self {
             Command::Accounts =>
                 "makes the book of accounts that are kept by name, and reports them",
+            Command::Apart => "tells whether two broadcasts may share cards",
             Command::Book => "makes a longer book, with more commands at its end",
             Command::Card => "makes the card of a receiver",
             Command::Cover => "prints the sets that each period names",
@@ -146,6 +157,7 @@ impl Command {
             Command::Lcard => "makes the card of a receiver for layers, which is smaller",
             Command::Messages => "prints what a broadcast's messages say, a line each",
             Command::Opens => "prints which sets of each period pooled cards open",
+            Command::Plan => "prints what a broadcast takes on air, before it is sent",
             Command::Receive => "makes the clear packets of a broadcast that a card opens",
             Command::Sample => "makes a clear stream for trials",
             Command::Show => "prints what a card's file is, without its keys",
@@ -163,9 +175,10 @@ impl Command {
         match self {
             Command::Accounts | Command::Book | Command::Cover | Command::Opens | Command::Trace =>
                 { exit::of_books() }
+            Command::Apart => exit::of_pairs(),
             Command::Card | Command::Lcard => exit::of_cards(),
             Command::Head | Command::Trial => exit::of_clear_streams(),
-            Command::Layered => exit::of_layers(),
+            Command::Layered | Command::Plan => exit::of_layers(),
             Command::Messages => exit::of_monitors(),
             Command::Receive => exit::of_receivers(),
             Command::Sample => exit::of_samples(),
@@ -181,6 +194,8 @@ impl Command {
     {
         match self {
             Command::Accounts => "accounts examples/site.txt examples/accounts.txt book.txt",
+            Command::Apart =>
+                "apart examples/site.txt examples/book.txt site-2.txt examples/book.txt",
             Command::Book =>
                 "book examples/site.txt examples/book.txt examples/today.txt longer.txt",
             Command::Card => "card examples/site.txt 2 card-2",
@@ -190,6 +205,7 @@ impl Command {
             Command::Lcard => "lcard examples/site.txt 2 2 layer-card-2",
             Command::Messages => "messages examples/site.txt broadcast.ts",
             Command::Opens => "opens examples/site.txt examples/book.txt examples/pooled.txt",
+            Command::Plan => "plan examples/site.txt examples/book.txt 600 3",
             Command::Receive => "receive card-2 broadcast.ts opened.ts",
             Command::Sample => "sample 7 600 clear.ts",
             Command::Show => "show card-2",

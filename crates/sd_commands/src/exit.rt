@@ -1,6 +1,6 @@
 ghost use Rattle.std.specs.Prelude.{◌≡◌};
 ghost use Rattle.sd_commands.specs.Exits.{exits_of_books, exits_of_cards, exits_of_clear_streams, exits_of_layers};
-ghost use Rattle.sd_commands.specs.Exits.{exits_of_monitors, exits_of_receivers, exits_of_samples};
+ghost use Rattle.sd_commands.specs.Exits.{exits_of_monitors, exits_of_pairs, exits_of_receivers, exits_of_samples};
 ghost use Rattle.sd_commands.specs.Exits.{exits_of_shown_cards, exits_of_tables, exit_line};
 
 /// An exit of the program.
@@ -127,6 +127,24 @@ pub fn of_layers() -> &'static [Exit]
         Exit::Limit,
         Exit::NoMemory,
         Exit::BadWord,
+    ]
+}
+
+/// The exits of a command that reads two sites and their books.
+pub fn of_pairs() -> &'static [Exit]
+    ensures { result.now ≡ exits_of_pairs }
+{
+    &[
+        Exit::Done,
+        Exit::Usage,
+        Exit::Missing,
+        Exit::DepotFault,
+        Exit::PrintFault,
+        Exit::BadSite,
+        Exit::BadBook,
+        Exit::Limit,
+        Exit::NoMemory,
+        Exit::Clash,
     ]
 }
 

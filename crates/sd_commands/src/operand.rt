@@ -10,6 +10,8 @@ pub enum Kind {
     Output,
     /// A number that is at most this.
     Number(u32),
+    /// A number that is at least 1 and at most this.
+    Count(u32),
 }
 
 /// An argument that a command takes.
@@ -27,6 +29,8 @@ pub enum Operand {
     Width,
     Number,
     Packets,
+    Clears,
+    Pids,
     Out,
 }
 
@@ -48,7 +52,8 @@ impl Operand {
             Operand::Leaf => "LEAF",
             Operand::Width => "WIDTH",
             Operand::Number => "NUMBER",
-            Operand::Packets => "PACKETS",
+            Operand::Packets | Operand::Clears => "PACKETS",
+            Operand::Pids => "PIDS",
             Operand::Out => "OUT",
         }
     }
@@ -68,6 +73,8 @@ impl Operand {
             | Operand::Leaves => Kind::Input,
             Operand::Leaf | Operand::Width | Operand::Number => Kind::Number(u32::MAX),
             Operand::Packets => Kind::Number(1_000_000),
+            Operand::Clears => Kind::Count(u32::MAX),
+            Operand::Pids => Kind::Number(256),
             Operand::Out => Kind::Output,
         }
     }
@@ -95,6 +102,8 @@ impl Operand {
             Operand::Width => "the width of the layers, from 1 to the height",
             Operand::Number => "a number below 2^32, of which the stream is made",
             Operand::Packets => "how many packets, at most 1000000",
+            Operand::Clears => "how many clear packets, from 1 to 4294967295",
+            Operand::Pids => "how many PIDs have positions, at most 256",
             Operand::Out =>
                 "the file to be made; /dev/stdout for a pipe, and lines then go to standard error",
         }

@@ -1,6 +1,6 @@
 -- What a refusal is to a user, on the standard error [this project, docs/FORMATS.md, Explanations].
 use Rattle.std.specs.Prelude.{ℕ, List, [], ◌∷◌, ◌++◌, codes, length, slice_get, Option, Some, None, zero, suc}
-use Rattle.std.specs.Prelude.{if◌then◌else◌, ◌==◌}
+use Rattle.std.specs.Prelude.{if◌then◌else◌, ◌==◌, Bool, false, bytes_eq}
 use Rattle.sd_commands.specs.declared.command.Command.{Command}
 use Rattle.sd_commands.specs.declared.operand.Operand.{Operand}
 use Rattle.sd_commands.specs.Commands.{command_of, operands_of}
@@ -45,6 +45,11 @@ found_line (Some argument) reason = argument_line (reason argument.0) argument
 abbrev pub of_argument : List (List ℕ) → ℕ → (Operand → List ℕ) → List ℕ
 of_argument words number reason = found_line (argument_of words number) reason
 
+-- the words are of a command that reads two sites: the status doesn't say which of them is refused
+abbrev pub has_two_sites : List (List ℕ) → Bool
+has_two_sites [] = false
+has_two_sites (name ∷ texts) = bytes_eq name (codes "apart")
+
 -- the line of a command, by its name and whether it takes as many arguments as it has
 abbrev pub command_line : List ℕ → ℕ → Option Command → List ℕ
 command_line name count None =
@@ -63,7 +68,8 @@ usage_line (name ∷ texts) = command_line name (length texts) (command_of name)
 unfoldable pub explained : List (List ℕ) → Status → List ℕ
 explained words Usage = usage_line words
 explained words (Missing word) = of_argument words word (λ operand. missing_reason operand)
-explained words (BadSite fault) = of_argument words 1 (λ operand. site_reason fault)
+explained words (BadSite fault) =
+    if has_two_sites words then [] else of_argument words 1 (λ operand. site_reason fault)
 explained words (BadBook word line) = of_argument words word (λ operand. line_reason operand line)
 explained words (BadCard fault) = of_argument words 1 (λ operand. card_reason fault)
 explained words (BadWord word) = of_argument words word (λ operand. range_reason operand)

@@ -1,5 +1,5 @@
-ghost use Rattle.std.specs.Prelude.{◌≡◌, map, string_bytes, IfOk, length};
-ghost use Rattle.sd_explain.specs.Explained.{argument_line, command_line, explained, of_argument, shown, usage_line};
+ghost use Rattle.std.specs.Prelude.{◌≡◌, [], if◌then◌else◌, map, string_bytes, IfOk, length};
+ghost use Rattle.sd_explain.specs.Explained.{argument_line, command_line, explained, has_two_sites as two_sites, of_argument, shown, usage_line};
 ghost use Rattle.sd_commands.specs.Commands.{command_of};
 ghost use Rattle.sd_explain.specs.Reasons.{card_reason, missing_reason, range_reason, line_reason, site_reason};
 
@@ -77,11 +77,25 @@ fn missing(alloc: Global, words: &[String], word: u8) -> Result<String, AllocErr
     }
 }
 
+/// Whether the words are of a command that reads two sites: the status doesn't say which of them is refused.
+fn has_two_sites(words: &[String]) -> bool
+    ensures { result ≡ two_sites (map string_bytes words.now) }
+{
+    match words {
+        [name, ..] => name.as_str() == "apart",
+        [] => false,
+    }
+}
+
 /// The line of a site that is refused.
 fn site(alloc: Global, words: &[String], fault: SiteFault) -> Result<String, AllocError>
     ensures { IfOk result (λ text. string_bytes text ≡
-        of_argument (map string_bytes words.now) 1 (λ operand. site_reason fault)) }
+        (if two_sites (map string_bytes words.now) then []
+        else of_argument (map string_bytes words.now) 1 (λ operand. site_reason fault))) }
 {
+    if has_two_sites(words) {
+        return Ok(String::new(alloc));
+    }
     match find_argument(words, FIRST) {
         Some(argument) => line(alloc, argument, reason::site(alloc, fault)?.as_str()),
         None => Ok(String::new(alloc)),

@@ -30,7 +30,7 @@ pub(crate) fn names_output<R: Files + Print>(depot: &HostDepot<'_, R>, words: &[
         return false;
     }
     for (operand, text) in operands.iter().zip(texts) {
-        let is_file = !matches!(operand.kind(), Kind::Number(_));
+        let is_file = !matches!(operand.kind(), Kind::Number(_) | Kind::Count(_));
         if is_file && depot.is_output(text.as_str()) {
             return true;
         }

@@ -14,18 +14,20 @@ use Rattle.sd_run_tables.proofs.Others.{other_tables}
 use Rattle.sd_run_head.proofs.Others.{other_head}
 use Rattle.sd_run_receive.proofs.Others.{other_receive}
 use Rattle.sd_run_accounts.proofs.Others.{other_accounts}
+use Rattle.sd_run_apart.proofs.Others.{other_apart}
 use Rattle.sd_run_book.proofs.Others.{other_book_order}
 use Rattle.sd_run_layered.proofs.Others.{other_layered}
 use Rattle.sd_run_lcard.proofs.Others.{other_lcard}
 use Rattle.sd_run_messages.proofs.Others.{other_messages}
 use Rattle.sd_run_opens.proofs.Others.{other_opens}
+use Rattle.sd_run_plan.proofs.Others.{other_plan}
 use Rattle.sd_run_show.proofs.Others.{other_show}
 use Rattle.sd_run_trace.proofs.Others.{other_trace}
 use Rattle.sd_run_trial.proofs.Others.{other_trial}
 use Rattle.sd_run_help.proofs.Others.{other_help, other_version}
 use Rattle.sd_commands.specs.declared.command.Command.{Command}
 use Rattle.sd_commands.specs.declared.command.Command.TheVariants.{Accounts, Book, Card, Cover, Head, Layered, Lcard}
-use Rattle.sd_commands.specs.declared.command.Command.TheVariants.{Messages, Opens, Receive, Sample, Show, Tables}
+use Rattle.sd_commands.specs.declared.command.Command.TheVariants.{Apart, Messages, Opens, Plan, Receive, Sample, Show, Tables}
 use Rattle.sd_commands.specs.declared.command.Command.TheVariants.{Trace, Trial}
 use Rattle.sd_words.specs.Words.{Argument, InputOf, OutOf, NumberOf, Order, CommandOf, HelpOf, VersionOf, file, number}
 use Rattle.sd_words.specs.Words.{order_of}
@@ -91,10 +93,25 @@ packets_fit (first ∷ InputOf word ∷ rest) h = absurd h.1.0
 packets_fit (first ∷ OutOf word ∷ rest) h = absurd h.1.0
 packets_fit (first ∷ NumberOf n ∷ rest) h = h.1.0.1
 
+-- a plan is of some packets, and of at most 256 PIDs
+pub plan_fits : (a : List Argument) → AreOf 1 (operands_of Plan) a →
+    (1 ≤ (number 3 a).value) × ((number 4 a).value ≤ 256)
+unfolding operands_of
+plan_fits [] h = absurd h
+plan_fits (site ∷ []) h = absurd h.1
+plan_fits (site ∷ book ∷ []) h = absurd h.1.1
+plan_fits (site ∷ book ∷ InputOf word ∷ rest) h = absurd h.1.1.0
+plan_fits (site ∷ book ∷ OutOf word ∷ rest) h = absurd h.1.1.0
+plan_fits (site ∷ book ∷ NumberOf packets ∷ []) h = absurd h.1.1.1
+plan_fits (site ∷ book ∷ NumberOf packets ∷ InputOf word ∷ rest) h = absurd h.1.1.1.0
+plan_fits (site ∷ book ∷ NumberOf packets ∷ OutOf word ∷ rest) h = absurd h.1.1.1.0
+plan_fits (site ∷ book ∷ NumberOf packets ∷ NumberOf pids ∷ rest) h = (h.1.1.0.1.0, h.1.1.1.0.1)
+
 -- no command answers `Usage`
 other_command : (command : Command) (words : List Argument) (given : Given) →
     IsOther (command_meaning command words given).result
 other_command Accounts words given = other_accounts (file 1 words) (file 2 words) (file 3 words) given
+other_command Apart words given = other_apart (file 1 words) (file 2 words) (file 3 words) (file 4 words) given
 other_command Book words given = other_book_order (file 1 words) (file 2 words) (file 3 words) (file 4 words) given
 other_command Card words given = other_card_order (file 1 words) (number 2 words) (file 3 words) given
 other_command Cover words given = other_cover (file 1 words) (file 2 words) given
@@ -103,6 +120,8 @@ other_command Layered words given = other_layered (file 1 words) (file 2 words) 
 other_command Lcard words given = other_lcard (file 1 words) (number 2 words) (number 3 words) (file 4 words) given
 other_command Messages words given = other_messages (file 1 words) (file 2 words) given
 other_command Opens words given = other_opens (file 1 words) (file 2 words) (file 3 words) given
+other_command Plan words given =
+    other_plan (file 1 words) (file 2 words) (number 3 words) (number 4 words).value given
 other_command Receive words given = other_receive (file 1 words) (file 2 words) (file 3 words) given
 other_command Sample words given = tt
 other_command Show words given = other_show (file 1 words) given

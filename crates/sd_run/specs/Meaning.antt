@@ -4,7 +4,7 @@ use Rattle.sd_status.specs.Meant.{Meant, Given, judged, ◌>>=◌}
 use Rattle.sd_status.specs.Work.{Work}
 use Rattle.sd_commands.specs.declared.command.Command.{Command}
 use Rattle.sd_commands.specs.declared.command.Command.TheVariants.{Accounts, Book, Card, Cover, Head, Layered, Lcard}
-use Rattle.sd_commands.specs.declared.command.Command.TheVariants.{Messages, Opens, Receive, Sample, Show, Tables}
+use Rattle.sd_commands.specs.declared.command.Command.TheVariants.{Apart, Messages, Opens, Plan, Receive, Sample, Show, Tables}
 use Rattle.sd_commands.specs.declared.command.Command.TheVariants.{Trace, Trial}
 use Rattle.sd_words.specs.Words.{Argument, Order, CommandOf, HelpOf, VersionOf, file, number, order_of}
 use Rattle.sd_run_cover.specs.Cover.{cover_meaning}
@@ -14,11 +14,13 @@ use Rattle.sd_run_tables.specs.Tables.{tables_meaning}
 use Rattle.sd_run_head.specs.Head.{head_meaning}
 use Rattle.sd_run_receive.specs.Receive.{receive_meaning}
 use Rattle.sd_run_accounts.specs.Accounts.{accounts_meaning}
+use Rattle.sd_run_apart.specs.Apart.{apart_meaning}
 use Rattle.sd_run_book.specs.Book.{book_meaning}
 use Rattle.sd_run_layered.specs.Layered.{layered_meaning}
 use Rattle.sd_run_lcard.specs.Lcard.{lcard_meaning}
 use Rattle.sd_run_messages.specs.Messages.{messages_meaning}
 use Rattle.sd_run_opens.specs.Opens.{opens_meaning}
+use Rattle.sd_run_plan.specs.Air.{plan_meaning}
 use Rattle.sd_run_show.specs.Show.{show_meaning}
 use Rattle.sd_run_trace.specs.Trace.{trace_meaning}
 use Rattle.sd_run_trial.specs.Trial.{trial_meaning}
@@ -27,6 +29,7 @@ use Rattle.sd_run_help.specs.Help.{help_meaning, version_meaning}
 -- the work of a command with its arguments
 abbrev pub command_meaning : Command → List Argument → Given → Meant Work
 command_meaning Accounts words given = accounts_meaning (file 1 words) (file 2 words) (file 3 words) given
+command_meaning Apart words given = apart_meaning (file 1 words) (file 2 words) (file 3 words) (file 4 words) given
 command_meaning Book words given = book_meaning (file 1 words) (file 2 words) (file 3 words) (file 4 words) given
 command_meaning Card words given = card_meaning (file 1 words) (number 2 words) (file 3 words) given
 command_meaning Cover words given = cover_meaning (file 1 words) (file 2 words) given
@@ -35,6 +38,8 @@ command_meaning Layered words given = layered_meaning (file 1 words) (file 2 wor
 command_meaning Lcard words given = lcard_meaning (file 1 words) (number 2 words) (number 3 words) (file 4 words) given
 command_meaning Messages words given = messages_meaning (file 1 words) (file 2 words) given
 command_meaning Opens words given = opens_meaning (file 1 words) (file 2 words) (file 3 words) given
+command_meaning Plan words given =
+    plan_meaning (file 1 words) (file 2 words) (number 3 words) (number 4 words).value given
 command_meaning Receive words given = receive_meaning (file 1 words) (file 2 words) (file 3 words) given
 command_meaning Sample words given = sample_meaning (number 1 words).value (number 2 words).value (file 3 words) given
 command_meaning Show words given = show_meaning (file 1 words) given

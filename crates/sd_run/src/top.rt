@@ -12,6 +12,7 @@ ghost use Rattle.sd_words.specs.Orders.{arguments_said, order_said, AreOf, IsSou
 
 use sd_commands::Command;
 use sd_ports::{Depot, Sink};
+use sd_run_apart::apart;
 use sd_run_card::card;
 use sd_run_cover::cover;
 use sd_run_head::head;
@@ -20,6 +21,7 @@ use sd_run_layered::layered;
 use sd_run_lcard::lcard;
 use sd_run_messages::messages;
 use sd_run_opens::opens;
+use sd_run_plan::plan;
 use sd_run_receive::receive;
 use sd_run_sample::sample;
 use sd_run_show::show;
@@ -130,6 +132,15 @@ fn work<D: Depot, P: Sink, L: Ledger>(
             row.file(2),
             row.file(3),
         ),
+        Command::Apart => apart(
+            alloc,
+            depot,
+            print,
+            row.file(1),
+            row.file(2),
+            row.file(3),
+            row.file(4),
+        ),
         Command::Book => sd_run_book::book(
             alloc,
             depot,
@@ -161,6 +172,15 @@ fn work<D: Depot, P: Sink, L: Ledger>(
         ),
         Command::Messages => messages(alloc, depot, print, row.file(1), row.file(2)),
         Command::Opens => opens(alloc, depot, print, row.file(1), row.file(2), row.file(3)),
+        Command::Plan => plan(
+            alloc,
+            depot,
+            print,
+            row.file(1),
+            row.file(2),
+            row.number(3),
+            row.number(4).value,
+        ),
         Command::Receive => receive(alloc, depot, row.file(1), row.file(2), row.file(3), steps),
         Command::Sample => sample(
             alloc,

@@ -6,7 +6,7 @@ use Rattle.sd_text.specs.Number.{number_of}
 use Rattle.sd_files.specs.Shown.{word_at}
 use Rattle.sd_commands.specs.declared.command.Command.{Command}
 use Rattle.sd_commands.specs.declared.command.Command.TheVariants.{Accounts, Book, Card, Cover, Head, Layered, Lcard}
-use Rattle.sd_commands.specs.declared.command.Command.TheVariants.{Messages, Opens, Receive, Sample, Show, Tables}
+use Rattle.sd_commands.specs.declared.command.Command.TheVariants.{Apart, Messages, Opens, Plan, Receive, Sample, Show, Tables}
 use Rattle.sd_commands.specs.declared.command.Command.TheVariants.{Trace, Trial}
 use Rattle.sd_commands.specs.Commands.{command_of, example_of, name_of, operands_of}
 use Rattle.sd_commands.specs.Exits.{exit_line}
@@ -50,6 +50,16 @@ examples_are_ordered Accounts = record {
       InputOf (word_at 1 (codes "examples/site.txt"))
       ∷ InputOf (word_at 2 (codes "examples/accounts.txt"))
       ∷ OutOf (word_at 3 (codes "book.txt")) ∷ [];
+  line = refl;
+  order = refl;
+}
+examples_are_ordered Apart = record {
+  words = codes "apart" ∷ codes "examples/site.txt" ∷ codes "examples/book.txt" ∷ codes "site-2.txt" ∷ codes "examples/book.txt" ∷ [];
+  arguments =
+      InputOf (word_at 1 (codes "examples/site.txt"))
+      ∷ InputOf (word_at 2 (codes "examples/book.txt"))
+      ∷ InputOf (word_at 3 (codes "site-2.txt"))
+      ∷ InputOf (word_at 4 (codes "examples/book.txt")) ∷ [];
   line = refl;
   order = refl;
 }
@@ -125,6 +135,16 @@ examples_are_ordered Opens = record {
       InputOf (word_at 1 (codes "examples/site.txt"))
       ∷ InputOf (word_at 2 (codes "examples/book.txt"))
       ∷ InputOf (word_at 3 (codes "examples/pooled.txt")) ∷ [];
+  line = refl;
+  order = refl;
+}
+examples_are_ordered Plan = record {
+  words = codes "plan" ∷ codes "examples/site.txt" ∷ codes "examples/book.txt" ∷ codes "600" ∷ codes "3" ∷ [];
+  arguments =
+      InputOf (word_at 1 (codes "examples/site.txt"))
+      ∷ InputOf (word_at 2 (codes "examples/book.txt"))
+      ∷ NumberOf (record { word = 3; value = 600 })
+      ∷ NumberOf (record { word = 4; value = 3 }) ∷ [];
   line = refl;
   order = refl;
 }

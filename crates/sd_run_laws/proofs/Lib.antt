@@ -9,6 +9,7 @@ pub mod Shelf
 pub mod Broadcasts
 pub mod Lost
 pub mod Runs
+pub mod Operators
 pub mod Ordered
 pub mod Parts
 pub mod Losing

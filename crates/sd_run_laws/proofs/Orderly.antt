@@ -28,6 +28,7 @@ use Rattle.sd_files.specs.Made.{making}
 use Rattle.sd_files.specs.Turned.{turning}
 use Rattle.sd_files.specs.Streams.{stream_status}
 use Rattle.sd_run_accounts.specs.Accounts.{accounts_in, making_then, report_line, accounts_meaning}
+use Rattle.sd_run_apart.specs.Apart.{apart_meaning, plan_of_both, saying, told_apart}
 use Rattle.sd_run_book.specs.Book.{longer_book, book_meaning}
 use Rattle.sd_run_card.specs.Card.{told_card, card_meaning}
 use Rattle.sd_run_cover.specs.Cover.{covering, cover_meaning}
@@ -37,6 +38,7 @@ use Rattle.sd_run_layered.specs.Layered.{layers_of_file, layering, layered_meani
 use Rattle.sd_run_lcard.specs.Lcard.{told_leaf, told_width, carding, lcard_meaning}
 use Rattle.sd_run_messages.specs.Messages.{messages_meaning, monitoring, stream_meaning as monitor_meaning}
 use Rattle.sd_run_opens.specs.Opens.{opening, opens_meaning}
+use Rattle.sd_run_plan.specs.Air.{plan_meaning as air_meaning, planning, roomy_site_of_file}
 use Rattle.sd_run_receive.specs.Receive.{ended_status, ending_status, status_at, unless_refused, received_status}
 use Rattle.sd_run_receive.specs.Receive.{card_in, received_of, received_steps, receiving, stream_meaning}
 use Rattle.sd_run_receive.specs.Receive.{receive_meaning}
@@ -55,8 +57,8 @@ use Rattle.sd_book.specs.Text.{text_of}
 use Rattle.sd_lsd.specs.Fields.{layer_card_of, layer_bytes}
 use Rattle.sd_commands.specs.declared.command.Command.{Command}
 use Rattle.sd_commands.specs.declared.command.Command.TheVariants.{Accounts, Book, Card, Cover, Head, Layered, Lcard}
-use Rattle.sd_commands.specs.declared.command.Command.TheVariants.{Messages, Opens, Receive, Sample, Show, Tables}
-use Rattle.sd_commands.specs.declared.command.Command.TheVariants.{Trace, Trial}
+use Rattle.sd_commands.specs.declared.command.Command.TheVariants.{Apart, Messages, Opens, Plan as Air, Receive, Sample, Show}
+use Rattle.sd_commands.specs.declared.command.Command.TheVariants.{Tables, Trace, Trial}
 use Rattle.sd_commands.specs.declared.operand.Operand.{Operand}
 use Rattle.sd_commands.specs.declared.operand.Kind.{Kind}
 use Rattle.sd_commands.specs.declared.operand.Kind.TheVariants as kind
@@ -272,6 +274,28 @@ layered_orderly site book width given =
     (λ commands. value (layering layers.height layers.width commands))
     (λ commands. none_made (layering layers.height layers.width commands) refl (λ refusal. absurd refusal)))
 
+apart_orderly : (site book other more : Word) (given : Given) →
+    AreOrderly None (apart_meaning site book other more given).result
+apart_orderly site book other more given =
+    orderly_after None (both_meaning site book given)
+    (λ first. both_meaning other more given
+    >>= λ second. judged (told_apart (plan_of_both first) (plan_of_both second)) >>= λ text. value (saying text))
+    (λ first. orderly_after None (both_meaning other more given)
+    (λ second. judged (told_apart (plan_of_both first) (plan_of_both second)) >>= λ text. value (saying text))
+    (λ second. orderly_after None (judged (told_apart (plan_of_both first) (plan_of_both second)))
+    (λ text. value (saying text)) (λ text. none_made (saying text) refl (λ refusal. absurd refusal))))
+
+air_orderly : (site book : Word) (packets : Number) (pids : ℕ) (given : Given) →
+    AreOrderly None (air_meaning site book packets pids given).result
+air_orderly site book packets pids given =
+    orderly_after None (roomy_site_of_file site.number packets (given site))
+    (λ fields. book_in given fields.height book
+    >>= λ commands. value (planning (record { site = fields; commands = commands }) packets.value pids))
+    (λ fields. orderly_after None (book_in given fields.height book)
+    (λ commands. value (planning (record { site = fields; commands = commands }) packets.value pids))
+    (λ commands. none_made (planning (record { site = fields; commands = commands }) packets.value pids) refl
+    (λ refusal. absurd refusal)))
+
 opens_orderly : (site book leaves : Word) (given : Given) →
     AreOrderly None (opens_meaning site book leaves given).result
 unfolding opens_meaning
@@ -306,6 +330,7 @@ trial_orderly site book clear given =
 -- the file that an order makes
 abbrev out_by : Command → List Argument → Option (List ℕ)
 out_by Accounts words = Some (file 3 words).text
+out_by Apart words = None
 out_by Book words = Some (file 4 words).text
 out_by Card words = Some (file 3 words).text
 out_by Cover words = None
@@ -314,6 +339,7 @@ out_by Layered words = None
 out_by Lcard words = Some (file 4 words).text
 out_by Messages words = None
 out_by Opens words = None
+out_by Air words = None
 out_by Receive words = Some (file 3 words).text
 out_by Sample words = Some (file 3 words).text
 out_by Show words = None
@@ -329,6 +355,7 @@ out_of VersionOf = None
 command_orderly : (command : Command) (words : List Argument) (given : Given) →
     AreOrderly (out_by command words) (command_meaning command words given).result
 command_orderly Accounts words given = accounts_orderly (file 1 words) (file 2 words) (file 3 words) given
+command_orderly Apart words given = apart_orderly (file 1 words) (file 2 words) (file 3 words) (file 4 words) given
 command_orderly Book words given = book_orderly (file 1 words) (file 2 words) (file 3 words) (file 4 words) given
 command_orderly Card words given = card_orderly (file 1 words) (number 2 words) (file 3 words) given
 command_orderly Cover words given = cover_orderly (file 1 words) (file 2 words) given
@@ -337,6 +364,8 @@ command_orderly Layered words given = layered_orderly (file 1 words) (file 2 wor
 command_orderly Lcard words given = lcard_orderly (file 1 words) (number 2 words) (number 3 words) (file 4 words) given
 command_orderly Messages words given = messages_orderly (file 1 words) (file 2 words) given
 command_orderly Opens words given = opens_orderly (file 1 words) (file 2 words) (file 3 words) given
+command_orderly Air words given =
+    air_orderly (file 1 words) (file 2 words) (number 3 words) (number 4 words).value given
 command_orderly Receive words given = receive_orderly (file 1 words) (file 2 words) (file 3 words) given
 command_orderly Sample words given = sample_orderly (number 1 words).value (number 2 words).value (file 3 words) given
 command_orderly Show words given = show_orderly (file 1 words) given
@@ -459,6 +488,7 @@ command_last : (command : Command) (name : List ℕ) (texts : List (List ℕ)) (
 unfolding operands_of name_of
 command_last Accounts name texts arguments named same read text e =
     maker_last Accounts name texts arguments refl refl named same read ∙ e
+command_last Apart name texts arguments named same read text e = absurd (cc)
 command_last Book name texts arguments named same read text e =
     maker_last Book name texts arguments refl refl named same read ∙ e
 command_last Card name texts arguments named same read text e =
@@ -471,6 +501,7 @@ command_last Lcard name texts arguments named same read text e =
     maker_last Lcard name texts arguments refl refl named same read ∙ e
 command_last Messages name texts arguments named same read text e = absurd (cc)
 command_last Opens name texts arguments named same read text e = absurd (cc)
+command_last Air name texts arguments named same read text e = absurd (cc)
 command_last Receive name texts arguments named same read text e =
     maker_last Receive name texts arguments refl refl named same read ∙ e
 command_last Sample name texts arguments named same read text e =

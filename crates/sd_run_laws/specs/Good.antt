@@ -2,7 +2,8 @@
 use Rattle.std.specs.Prelude.{◌≡◌, ℕ, List, Option, Some, Ok, ◌≤◌, [], ◌++◌, ◌+◌, length, None, ◌^◌, ◌<◌}
 use Rattle.sd_status.specs.Meant.{Word, Given}
 use Rattle.sd_words.specs.Words.{SampleOf, order_of, ReceiveOf, CoverOf, CardOf, TablesOf, HeadOf}
-use Rattle.sd_words.specs.Words.{AccountsOf, BookOf, LayeredOf, LcardOf, MessagesOf, OpensOf, ShowOf, TraceOf}
+use Rattle.sd_words.specs.Words.{AccountsOf, ApartOf, BookOf, LayeredOf, LcardOf, MessagesOf, OpensOf, PlanOf, ShowOf}
+use Rattle.sd_words.specs.Words.{TraceOf}
 use Rattle.sd_engine.specs.Taken.{Whole, taken_of, end_of}
 use Rattle.sd_card.specs.Fields.{CardFields, IsCard, card_bytes}
 use Rattle.sd_accounts.specs.Judged.{book_of}
@@ -16,6 +17,7 @@ use Rattle.sd_site.specs.Text.{IsSite}
 use Rattle.sd_leaves.specs.Text.{leaves_of_text}
 use Rattle.sd_trace.specs.Trace.{outside}
 use Rattle.sd_tree.specs.Limits.{most_revoked}
+use Rattle.sd_run_plan.specs.Air.{last_word_for}
 use Rattle.sd_run_trace.specs.Trace.{revoked_last}
 use Rattle.sd_text.specs.Lines.{lines_of}
 use Rattle.sd_book.specs.Text.{SpellsBook}
@@ -148,6 +150,22 @@ pub record IsGoodAccounts (words : List (List ℕ)) (given : Given) : Type 0 whe
   pub commands : List Command
   pub is_book : book_of fields.height bytes ≡ Ok commands
 
+-- the words are `apart SITE BOOK SITE BOOK`, and the four files are good
+pub record IsGoodApart (words : List (List ℕ)) (given : Given) : Type 0 where
+  pub site : Word
+  pub book : Word
+  pub other : Word
+  pub more : Word
+  pub order : order_of words ≡ Ok (ApartOf site book other more)
+  pub fields : SiteFields
+  pub good_site : IsGoodSite (given site) fields
+  pub commands : List Command
+  pub good_book : IsGoodBook (given book) fields.height commands
+  pub other_fields : SiteFields
+  pub good_other : IsGoodSite (given other) other_fields
+  pub more_commands : List Command
+  pub good_more : IsGoodBook (given more) other_fields.height more_commands
+
 -- the words are `book SITE BOOK COMMANDS OUT`, the three files are there, a site and two books, and the second book's
 -- commands after the first's are within the limits
 pub record IsGoodBooks (words : List (List ℕ)) (given : Given) : Type 0 where
@@ -190,6 +208,19 @@ pub record IsGoodLcard (words : List (List ℕ)) (given : Given) : Type 0 where
   pub of_tree : leaf.value < 2 ^ fields.height
   pub some : 1 ≤ width.value
   pub within : width.value ≤ fields.height
+
+-- the words are `plan SITE BOOK PACKETS PIDS`, the two files are good, and the site has a control word for each packet
+pub record IsGoodPlan (words : List (List ℕ)) (given : Given) : Type 0 where
+  pub site : Word
+  pub book : Word
+  pub packets : Number
+  pub pids : Number
+  pub order : order_of words ≡ Ok (PlanOf site book packets pids)
+  pub fields : SiteFields
+  pub good_site : IsGoodSite (given site) fields
+  pub room : last_word_for fields packets.value ≤ fields.last_word
+  pub commands : List Command
+  pub good_book : IsGoodBook (given book) fields.height commands
 
 -- the word's file is there and within the limit, and says these leaves of a tree of height d, ascending
 pub record IsGoodLeaves (given : Given) (d : ℕ) (word : Word) (leaves : List ℕ) : Type 0 where

@@ -1,14 +1,17 @@
 //! Good words over good files mean work, and so `run` does it, or is out of memory, where no device fails.
-ghost use Rattle.std.specs.Prelude.{◌≡◌, ◌⊎◌, ◌≤◌, ◌<◌, ◌^◌, ◌++◌, ℕ, List, Some, None, Ok, length};
+ghost use Rattle.std.specs.Prelude.{◌≡◌, ◌⊎◌, ◌≤◌, ◌<◌, ◌^◌, ◌++◌, ℕ, List, Some, None, Ok, Err, length};
 ghost use Rattle.sd_book.specs.Text.{text_of};
 ghost use Rattle.sd_lsd.specs.Fields.{layer_bytes, layer_card_of};
 ghost use Rattle.sd_run_accounts.specs.Accounts.{accounts_value, making_then, report_line};
+ghost use Rattle.sd_run_apart.specs.Apart.{apart_text, clash_of, saying};
 ghost use Rattle.sd_run_layered.specs.Layered.{layering};
 ghost use Rattle.sd_trace.specs.Trace.{trace_of};
 ghost use Rattle.sd_run_opens.specs.Opens.{opening};
 ghost use Rattle.sd_run_trace.specs.Trace.{revoked_last, telling, trace_text};
 ghost use Rattle.sd_printed.specs.Trials.{opened_lines};
 ghost use Rattle.sd_run_trial.specs.Trial.{printing as tried, trial_meaning};
+ghost use Rattle.sd_run_plan.specs.Air.{planning};
+ghost use Rattle.sd_run_laws.specs.Good.{IsGoodApart, IsGoodPlan};
 ghost use Rattle.sd_run_laws.specs.Good.{IsGoodAccounts, IsGoodBooks, IsGoodLayered, IsGoodLcard, IsGoodOpens};
 ghost use Rattle.sd_run_laws.specs.Good.{IsGoodTrace, IsGoodBook};
 ghost use Rattle.sd_book.specs.Limits.{IsWithinLimits};
@@ -22,6 +25,8 @@ ghost use Rattle.sd_tree.specs.Leaves.{unrevoked};
 ghost use Rattle.sd_card.specs.Fields.{card_bytes, card_of};
 ghost use Rattle.sd_ports.specs.Files.{Files};
 ghost use Rattle.sd_sample.specs.Sample.{sample_of};
+ghost use Rattle.sd_status.specs.declared.status.Clash.{Clash as ClashKind};
+ghost use Rattle.sd_status.specs.declared.status.Status.TheVariants.{Clash};
 ghost use Rattle.sd_status.specs.Answers.{Answers};
 ghost use Rattle.sd_status.specs.Meant.{Word, told_by};
 ghost use Rattle.sd_status.specs.Outside.{Outside};
@@ -138,6 +143,31 @@ pub fn made_books_are_read()
 pub fn good_layers_are_printed()
     ensures { (words : List (List ℕ)) (files : Files) (good : IsGoodLayered words (told_by files)) →
         (meaning words (told_by files)).result ≡ Ok (layering good.fields.height good.width.value good.commands) }
+{}
+
+/// `plan SITE BOOK PACKETS PIDS` over a site that has a control word for each packet, and a book, prints what the
+/// broadcast takes.
+#[tactic(auto, using(crate::proofs::Operators::air_good))]
+pub fn good_plans_are_printed()
+    ensures { (words : List (List ℕ)) (files : Files) (good : IsGoodPlan words (told_by files)) →
+        (meaning words (told_by files)).result ≡ Ok (planning
+        (record { site = good.fields; commands = good.commands }) good.packets.value good.pids.value) }
+{}
+
+/// `apart SITE BOOK SITE BOOK` over two sites and their books prints both lines if the two don't clash, and is refused by
+/// their clash if they do.
+#[tactic(auto, using(crate::proofs::Operators::apart_good, crate::proofs::Operators::apart_clashes))]
+pub fn good_sites_are_judged()
+    ensures apart { (words : List (List ℕ)) (files : Files) (good : IsGoodApart words (told_by files)) →
+        clash_of (record { site = good.fields; commands = good.commands })
+        (record { site = good.other_fields; commands = good.more_commands }) ≡ None →
+        (meaning words (told_by files)).result ≡ Ok (saying (apart_text
+        (record { site = good.fields; commands = good.commands })
+        (record { site = good.other_fields; commands = good.more_commands }))) }
+    ensures clash { (words : List (List ℕ)) (files : Files) (good : IsGoodApart words (told_by files)) (clash : ClashKind) →
+        clash_of (record { site = good.fields; commands = good.commands })
+        (record { site = good.other_fields; commands = good.more_commands }) ≡ Some clash →
+        (meaning words (told_by files)).result ≡ Err (Clash clash) }
 {}
 
 /// `lcard SITE LEAF WIDTH OUT` over a site with the leaf makes its layer card.

@@ -41,7 +41,7 @@ const LISTED: [(usize, &str); 4] = [
         "  accounts SITE ACCOUNTS OUT   makes the book of accounts that are kept by name, and reports them",
     ),
     (
-        3,
+        4,
         "  book SITE BOOK COMMANDS OUT  makes a longer book, with more commands at its end",
     ),
     (

@@ -86,7 +86,7 @@ type Refusal = (
     &'static str,
 );
 
-static REFUSALS: [Refusal; 29] = [
+static REFUSALS: [Refusal; 31] = [
     (
         "cover S F",
         Part::Site(3, "ca 123\n"),
@@ -243,6 +243,22 @@ static REFUSALS: [Refusal; 29] = [
         NONE,
         17,
         "word 3 is out of range\n",
+    ),
+    (
+        "plan S F 0 257",
+        S,
+        NONE,
+        NONE,
+        17,
+        "word 3 is out of range\n",
+    ),
+    (
+        "apart S F S F",
+        S,
+        NONE,
+        NONE,
+        18,
+        "sites share control word 0\n",
     ),
     (
         "lcard S 0 4 O",

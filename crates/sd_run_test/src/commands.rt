@@ -196,6 +196,13 @@ fn failing_calls_are_told_by_each_command(rt: HostRuntime) -> Result<(), Fail> {
             "49da13b5f9be295e",
         ),
         row(
+            &["plan", "S", "B", "600", "3"],
+            &["S", "B"],
+            false,
+            "",
+            "8a5646abe1cff276",
+        ),
+        row(
             &["accounts", "S", "A", "O"],
             &["S", "A"],
             false,

@@ -78,6 +78,7 @@ other_kind : (k : Kind) (text : List ℕ) (later : Option (List ℕ)) → k ≢ 
 other_kind kind.Input text later other = refl
 other_kind kind.Output text later other = absurd (other refl)
 other_kind (kind.Number most) text later other = refl
+other_kind (kind.Count most) text later other = refl
 
 one_left : {A : Type 0} (xs : List A) (i : ℕ) (d : A) → i < length xs → drop i xs ≡ get_or xs i d ∷ drop (i + 1) xs
 one_left {A} xs i d h =
@@ -111,6 +112,7 @@ some_input : (k : Kind) (text name : List ℕ) (texts : List (List ℕ)) →
 some_input kind.Input text name texts = either (bytes_eq text name) (list_any (λ t. bytes_eq t name) texts)
 some_input kind.Output text name texts = refl
 some_input (kind.Number most) text name texts = refl
+some_input (kind.Count most) text name texts = refl
 
 -- the first of them is no file that is read and has this name
 pub input_later : (operands : List Operand) (texts : List (String Global)) (text name : List ℕ) (i : ℕ) (d : Operand)

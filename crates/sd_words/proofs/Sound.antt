@@ -1,5 +1,5 @@
 -- An order that was read has the arguments of its command's row.
-use Rattle.std.proofs.Common.{◌≡◌, ℕ, ◌+◌, ◌==◌, ◌||◌, not, Bool, true, false, List, [], ◌∷◌, length}
+use Rattle.std.proofs.Common.{◌≡◌, ℕ, zero, suc, ◌+◌, ◌==◌, ◌||◌, not, Bool, true, false, List, [], ◌∷◌, length}
 use Rattle.std.proofs.Common.{Option, Some, None, Result, Ok, Err, IfOk, refl, sym, subst, arith, inl, inr}
 use Rattle.std.proofs.Common.{lt-ltb, le-ltb, if◌then◌else◌}
 use Rattle.std.proofs.lemmas.Bool.{cases_lt}
@@ -13,8 +13,8 @@ use Rattle.sd_text.specs.Number.{number_of}
 use Rattle.sd_status.specs.declared.status.Status.{Status}
 use Rattle.sd_status.specs.declared.status.Status.TheVariants.{Usage, BadWord}
 use Rattle.sd_words.specs.declared.order.Order as declared
-use Rattle.sd_words.specs.Words.{Argument, Order, argument_of, arguments_from, at_most, before}
-use Rattle.sd_words.specs.Words.{help_on, help_words, is_help, is_version, named_words, numbered, ordered}
+use Rattle.sd_words.specs.Words.{Argument, Order, argument_of, arguments_from, at_most, before, counted}
+use Rattle.sd_words.specs.Words.{help_on, help_words, is_help, is_version, named_words, number_in, numbered, ordered}
 use Rattle.sd_words.specs.Words.{out_is_read, version_words, words_of}
 use Rattle.sd_words.specs.Orders.{AreOf, IsOf, IsSound, order_said, shown}
 
@@ -34,10 +34,19 @@ number_sound place most (Some n) =
           (sym (le-ltb most n le)) (refl, le)
     ]
 
+-- a count is not 0 either
+count_sound : (place most : ℕ) (read : Result ℕ Status) → IfOk (numbered place read) (IsOf place (kind.Number most)) →
+    IfOk (numbered place (counted place read)) (IsOf place (kind.Count most))
+count_sound place most (Ok zero) h = tt
+count_sound place most (Ok (suc n)) h = (h.0, (omega arith, h.1))
+count_sound place most (Err status) h = tt
+
 argument_sound : (place : ℕ) (k : Kind) (text : List ℕ) → IfOk (argument_of place k text) (IsOf place k)
 argument_sound place kind.Input text = refl
 argument_sound place kind.Output text = refl
 argument_sound place (kind.Number most) text = number_sound place most (number_of text)
+argument_sound place (kind.Count most) text =
+    count_sound place most (number_in place most text) (number_sound place most (number_of text))
 
 before_sound : (place : ℕ) (operand : Operand) (operands : List Operand) (first : Result Argument Status)
     (rest : Result (List Argument) Status) → IfOk first (IsOf place (kind_of operand)) →

@@ -55,6 +55,10 @@ IsOf place kind.Output (words.NumberOf number) = ⊥
 IsOf place (kind.Number most) (words.InputOf word) = ⊥
 IsOf place (kind.Number most) (words.OutOf word) = ⊥
 IsOf place (kind.Number most) (words.NumberOf number) = (number.word ≡ place) × (number.value ≤ most)
+IsOf place (kind.Count most) (words.InputOf word) = ⊥
+IsOf place (kind.Count most) (words.OutOf word) = ⊥
+IsOf place (kind.Count most) (words.NumberOf number) =
+    (number.word ≡ place) × ((1 ≤ number.value) × (number.value ≤ most))
 
 -- arguments are those of a row, from a place on
 abbrev pub AreOf : ℕ → List Operand → List words.Argument → Type 0

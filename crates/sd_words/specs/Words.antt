@@ -1,5 +1,5 @@
 -- What the words after the program's name say [this project, docs/FORMATS.md, Commands].
-use Rattle.std.specs.Prelude.{◌≡◌, ◌⊎◌, ℕ, ◌+◌, ◌-◌, ◌==◌, nat_lt, not, List, [], ◌∷◌, codes, length, slice_get}
+use Rattle.std.specs.Prelude.{◌≡◌, ◌⊎◌, ℕ, zero, suc, ◌+◌, ◌-◌, ◌==◌, nat_lt, not, List, [], ◌∷◌, codes, length, slice_get}
 use Rattle.std.specs.Prelude.{bytes_eq, ◌||◌}
 use Rattle.std.specs.Prelude.{if◌then◌else◌, Option, Some, None, Bool, false, Result, Ok, Err}
 use Rattle.std.specs.List.{list_any}
@@ -58,6 +58,12 @@ at_most word most (Some n) = if nat_lt most n then Err (BadWord word) else Ok n
 abbrev pub number_in : ℕ → ℕ → List ℕ → Result ℕ Status
 number_in word most text = at_most word most (number_of text)
 
+-- 0 is no count
+abbrev pub counted : ℕ → Result ℕ Status → Result ℕ Status
+counted word (Ok zero) = Err (BadWord word)
+counted word (Ok (suc n)) = Ok (suc n)
+counted word (Err status) = Err status
+
 -- the argument that is a number, if there is one
 abbrev pub numbered : ℕ → Result ℕ Status → Result Argument Status
 numbered place (Ok n) = Ok (NumberOf (record { word = place; value = n }))
@@ -68,6 +74,7 @@ abbrev pub argument_of : ℕ → Kind → List ℕ → Result Argument Status
 argument_of place kind.Input text = Ok (InputOf (word_at place text))
 argument_of place kind.Output text = Ok (OutOf (word_at place text))
 argument_of place (kind.Number most) text = numbered place (number_in place most text)
+argument_of place (kind.Count most) text = numbered place (counted place (number_in place most text))
 
 -- an argument before others; the first refusal counts
 abbrev pub before : Result Argument Status → Result (List Argument) Status → Result (List Argument) Status
@@ -86,6 +93,7 @@ abbrev pub with_input : Kind → List ℕ → List (List ℕ) → List (List ℕ
 with_input kind.Input text texts = text ∷ texts
 with_input kind.Output text texts = texts
 with_input (kind.Number most) text texts = texts
+with_input (kind.Count most) text texts = texts
 
 -- the texts that name files to be read
 abbrev pub input_texts : List Operand → List (List ℕ) → List (List ℕ)
@@ -97,6 +105,7 @@ abbrev pub or_output : Kind → List ℕ → Option (List ℕ) → Option (List 
 or_output kind.Output text later = Some text
 or_output kind.Input text later = later
 or_output (kind.Number most) text later = later
+or_output (kind.Count most) text later = later
 
 -- the text that names the file to be made, if there is one
 abbrev pub out_text : List Operand → List (List ℕ) → Option (List ℕ)
@@ -193,6 +202,10 @@ MakesCard VersionOf = ⊥
 abbrev pub AccountsOf : Word → Word → Word → Order
 AccountsOf site accounts out = CommandOf commands.Accounts (InputOf site ∷ InputOf accounts ∷ OutOf out ∷ [])
 
+abbrev pub ApartOf : Word → Word → Word → Word → Order
+ApartOf site book other more =
+    CommandOf commands.Apart (InputOf site ∷ InputOf book ∷ InputOf other ∷ InputOf more ∷ [])
+
 abbrev pub BookOf : Word → Word → Word → Word → Order
 BookOf site book more out = CommandOf commands.Book (InputOf site ∷ InputOf book ∷ InputOf more ∷ OutOf out ∷ [])
 
@@ -213,6 +226,10 @@ LcardOf site leaf width out = CommandOf commands.Lcard (InputOf site ∷ NumberO
 
 abbrev pub OpensOf : Word → Word → Word → Order
 OpensOf site book leaves = CommandOf commands.Opens (InputOf site ∷ InputOf book ∷ InputOf leaves ∷ [])
+
+abbrev pub PlanOf : Word → Word → Number → Number → Order
+PlanOf site book packets pids =
+    CommandOf commands.Plan (InputOf site ∷ InputOf book ∷ NumberOf packets ∷ NumberOf pids ∷ [])
 
 abbrev pub ReceiveOf : Word → Word → Word → Order
 ReceiveOf card stream out = CommandOf commands.Receive (InputOf card ∷ InputOf stream ∷ OutOf out ∷ [])

@@ -2,7 +2,7 @@ ghost use Rattle.std.specs.Prelude.{◌≡◌, ◌<◌, ◌≤◌, ℕ, IfErr, I
 ghost use Rattle.std.specs.Prelude.{◌-◌};
 ghost use Rattle.sd_files.specs.Shown.{shown_number, shown_word};
 ghost use Rattle.sd_words.specs.Orders.{all_said, argument_said, arguments_said, one_said};
-ghost use Rattle.sd_words.specs.Words.{argument_of, arguments_from, file, files_in, number, number_in, out_in};
+ghost use Rattle.sd_words.specs.Words.{argument_of, arguments_from, counted, file, files_in, number, number_in, out_in};
 
 use arrayvec::ArrayVec;
 use sd_commands::{Kind, Operand};
@@ -129,6 +129,22 @@ fn read_argument<'a>(place: u8, kind: Kind, text: &'a str) -> Result<Argument<'a
             Ok(value) => Ok(Argument::Number(value)),
             Err(status) => Err(status),
         },
+        Kind::Count(most) => match read_count(place, text, most) {
+            Ok(value) => Ok(Argument::Number(value)),
+            Err(status) => Err(status),
+        },
+    }
+}
+
+/// The number of this word, which must be at least 1 and at most the greatest.
+fn read_count(word: u8, text: &str, most: u32) -> Result<u32, Status>
+    ensures value { result ≡ counted word (number_in word most text.now) }
+    ensures fault { IfErr result (λ status. status ≡ Status.BadWord word) }
+{
+    match read_number(word, text, most) {
+        Ok(0) => Err(Status::BadWord(word)),
+        Ok(number) => Ok(number),
+        Err(status) => Err(status),
     }
 }
 

@@ -136,6 +136,6 @@ fn names_input(kind: Kind, text: &str, name: &str) -> bool
 {
     match kind {
         Kind::Input => text == name,
-        Kind::Output | Kind::Number(_) => false,
+        Kind::Output | Kind::Number(_) | Kind::Count(_) => false,
     }
 }

@@ -2,7 +2,7 @@ use Rattle.std.proofs.Common.{ap}
 use Rattle.sd_files.specs.Shown.{Number}
 use Rattle.sd_status.specs.Outside.{page}
 use Rattle.sd_words.specs.Orders.{arguments_said}
-use Rattle.sd_run.proofs.Ordered.{packets_fit}
+use Rattle.sd_run.proofs.Ordered.{packets_fit, plan_fits}
 use Rattle.sd_run.proofs.top.work.Goals as goal
 
 pub sample-requires : goal.sample-requires
@@ -11,12 +11,36 @@ sample-requires g c =
     let packets = ap (λ (n : Number). n.value) c.number-in-Sample-2.ensures.value in
     rw packets (packets_fit (arguments_said 1 c.args.row.now.list.items) fits)
 
+pub plan-requires-packets : goal.plan-requires-packets
+plan-requires-packets g c =
+    let fits = rw c.in-Plan.is at c.requires in
+    let packets = ap (λ (n : Number). n.value) c.number-in-Plan.ensures.value in
+    rw packets (plan_fits (arguments_said 1 c.args.row.now.list.items) fits).0
+
+pub plan-requires-pids : goal.plan-requires-pids
+plan-requires-pids g c =
+    let fits = rw c.in-Plan.is at c.requires in
+    let pids = ap (λ (n : Number). n.value) c.number-in-Plan-2.ensures.value in
+    rw pids (plan_fits (arguments_said 1 c.args.row.now.list.items) fits).1
+
 pub returns-in-Accounts : goal.returns-in-Accounts
 returns-in-Accounts g c =
     let done =
     rw (c.file.ensures.value, c.file-in-Accounts.ensures.value, c.file-in-Accounts-2.ensures.value)
     at c.accounts.ensures c.args.steps.now in
     rw c.in-Accounts.is done
+
+pub returns-in-Apart : goal.returns-in-Apart
+returns-in-Apart g c =
+    let done =
+    rw (
+      c.file-in-Apart.ensures.value,
+      c.file-in-Apart-2.ensures.value,
+      c.file-in-Apart-3.ensures.value,
+      c.file-in-Apart-4.ensures.value,
+    )
+    at c.apart.ensures c.args.steps.now in
+    rw c.in-Apart.is done
 
 pub returns-in-Book : goal.returns-in-Book
 returns-in-Book g c =
@@ -86,6 +110,14 @@ returns-in-Opens g c =
     rw (c.file-in-Opens.ensures.value, c.file-in-Opens-2.ensures.value, c.file-in-Opens-3.ensures.value)
     at c.opens.ensures c.args.steps.now in
     rw c.in-Opens.is done
+
+pub returns-in-Plan : goal.returns-in-Plan
+returns-in-Plan g c =
+    let pids = ap (λ (n : Number). n.value) c.number-in-Plan-2.ensures.value in
+    let done =
+    rw (c.file-in-Plan.ensures.value, c.file-in-Plan-2.ensures.value, c.number-in-Plan.ensures.value, pids)
+    at c.plan.ensures c.args.steps.now in
+    rw c.in-Plan.is done
 
 pub returns-in-Receive : goal.returns-in-Receive
 returns-in-Receive g c =
