@@ -11,14 +11,14 @@ sample-requires g c =
     let packets = ap (λ (n : Number). n.value) c.number-in-Sample-2.ensures.value in
     rw packets (packets_fit (arguments_said 1 c.args.row.now.list.items) fits)
 
-pub plan-requires-packets : goal.plan-requires-packets
-plan-requires-packets g c =
+pub plan-requires-clause-packets : goal.plan-requires-clause-packets
+plan-requires-clause-packets g c =
     let fits = rw c.in-Plan.is at c.requires in
     let packets = ap (λ (n : Number). n.value) c.number-in-Plan.ensures.value in
     rw packets (plan_fits (arguments_said 1 c.args.row.now.list.items) fits).0
 
-pub plan-requires-pids : goal.plan-requires-pids
-plan-requires-pids g c =
+pub plan-requires-clause-pids : goal.plan-requires-clause-pids
+plan-requires-clause-pids g c =
     let fits = rw c.in-Plan.is at c.requires in
     let pids = ap (λ (n : Number). n.value) c.number-in-Plan-2.ensures.value in
     rw pids (plan_fits (arguments_said 1 c.args.row.now.list.items) fits).1
