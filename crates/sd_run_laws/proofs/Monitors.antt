@@ -1,7 +1,5 @@
 -- Good words over good files mean that messages and cards are shown.
-use Rattle.std.proofs.Common.{◌≡◌, ℕ, ◌+◌, ◌*◌, ◌/◌, ◌^◌, ◌<◌, ◌≤◌, List, length, Option, Some, Ok, refl, ap, ◌∙◌, arith}
-use Rattle.sd_engine.specs.Taken.{end_of}
-use Rattle.sd_site.specs.Fields.{SiteFields}
+use Rattle.std.proofs.Common.{◌≡◌, ℕ, ◌^◌, ◌<◌, ◌≤◌, List, Option, Some, Ok, refl, ap, ◌∙◌, arith}
 use Rattle.sd_card.specs.Fields.{CardFields, IsCard, card_bytes, card_of}
 use Rattle.sd_card.proofs.Made.{made_is_card}
 use Rattle.sd_card.proofs.Spellings.{written_is_good}
