@@ -1,0 +1,3 @@
+pub mod Airs
+pub mod Clashes
+pub mod Ranges

@@ -1,0 +1,8 @@
+use Rattle.sd_planned.proofs.Clashes.{all_agree, all_words}
+use Rattle.sd_planned.proofs.pairs.checked_broadcasts_are_apart.Goals as goal
+
+pub returns-clause-words : goal.returns-clause-words
+returns-clause-words c = all_words
+
+pub returns-clause-agree : goal.returns-clause-agree
+returns-clause-agree c = all_agree
