@@ -78,6 +78,7 @@ send_day() {
     for multiplex in 1 2; do
         echo "site-$multiplex.txt: $(tail -n 3 "$day/site-$multiplex.txt" | paste -s -d ' ' -)"
     done
+    run apart "$day/site-1.txt" "$day/book.txt" "$day/site-2.txt" "$day/book.txt"
     make_clear $((2 * ${day#day-} + 7))
     broadcast 1 &
     one=$!
