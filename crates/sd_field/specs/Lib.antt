@@ -1,3 +1,5 @@
 pub mod Heard
 pub mod Seats
 pub mod Fields
+pub mod Script
+pub mod Line

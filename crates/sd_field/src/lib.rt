@@ -1,9 +1,13 @@
 //! The events of a field, run one after the other.
 #![tactic(auto)]
 
+mod fault;
 mod field;
 mod hear;
+mod line;
+mod script;
 mod seat;
 
+pub use fault::ScriptFault;
 pub use field::Field;
-pub use seat::Seat;
+pub use script::{MOST_EVENTS, read_script};
