@@ -1,7 +1,7 @@
 -- What one event more makes of a seat.
 use Rattle.std.proofs.Common.{arith, ◌≡◌, ℕ, suc, ◌+◌, ◌<◌, ◌≤◌, List, [], ◌∷◌, ◌++◌, refl, ap, sym, subst, ◌∙◌, Bool, true, false}
-use Rattle.std.proofs.Common.{length}
-use Rattle.std.specs.Prelude.{◌&&◌, ◌==◌, get_or, map, nat_lt, not, reverse, IsSome, is_some, Option, None, Some}
+use Rattle.std.proofs.Common.{length, zero}
+use Rattle.std.specs.Prelude.{◌&&◌, ◌==◌, get_or, map, nat_lt, not, reverse, slice_get, IsSome, is_some, Option, None, Some}
 use Rattle.std.specs.List.{concat, flat_map}
 use Rattle.std.proofs.lemmas.Bool.Decides.{nat_tests}
 use Rattle.std.proofs.lemmas.List.Folds.{concat-append}
@@ -228,3 +228,24 @@ heard_full plan card clear total u n w seat before packet some left next seated 
     ∙ (ap (λ (first : List ℕ). first ++ concat (out_from card [] (present plan clear to))) before_same
     ∙ ap (λ (xs : List (List ℕ)). wrote_before plan card clear w ++ concat (out_from card [] xs)) now) in
     omega (arith, full, ap length all)
+
+-- a place that is there is below the length
+pub left_at : (xs : List (List ℕ)) (i : ℕ) → is_some (slice_get xs i) ≡ true → i < length xs
+left_at [] i is = absurd (let no = is in cc)
+left_at (x ∷ xs) zero is = omega arith
+left_at (x ∷ xs) (suc i) is = let rest = left_at xs i is in omega (arith, rest)
+
+-- one that isn't is at its end, or past it
+pub none_at : (xs : List (List ℕ)) (i : ℕ) → is_some (slice_get xs i) ≡ false → length xs ≤ i
+none_at [] i is = omega arith
+none_at (x ∷ xs) zero is = absurd (let no = is in cc)
+none_at (x ∷ xs) (suc i) is = let rest = none_at xs i is in omega (arith, rest)
+
+-- a receiver that isn't there is off
+pub off_if_none : (plan : Plan) (card : CardFields) (clear : List (List ℕ)) (total : ℕ) (w : Watch) (seat : Seat) →
+    is_some seat.receiver ≡ false → IsSeated plan card clear total w seat → w.on ≡ false
+off_if_none plan card clear total w seat none seated = by_on w.on refl
+  where
+    by_on : (on : Bool) → w.on ≡ on → w.on ≡ false
+    by_on true on = absurd (let no = subst IsSome (none_there seat.receiver none) (seated.on.1 on) in cc)
+    by_on false on = on

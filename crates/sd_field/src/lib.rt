@@ -7,7 +7,8 @@ mod hear;
 mod line;
 mod script;
 mod seat;
+mod station;
 
-pub use fault::ScriptFault;
+pub use fault::{FieldFault, ScriptFault};
 pub use field::Field;
 pub use script::{MOST_EVENTS, read_script};

@@ -1,6 +1,7 @@
-ghost use Rattle.std.specs.Prelude.{◌≡◌, ◌-◌, ◌^◌, ◌<◌, [], ℕ, List, get_or, length, IfSome, IsErr, OnOk};
+ghost use Rattle.std.specs.Prelude.{◌≡◌, ◌↔◌, ◌-◌, ◌^◌, ◌<◌, ◌≤◌, [], ℕ, List, get_or, length, slice_get, IfSome, IsSome, IsErr, OnOk, false, is_some};
 ghost use Rattle.std.specs.List.{concat};
 ghost use Rattle.sd_card.specs.Fields.{CardFields, card_of};
+ghost use Rattle.sd_engine.specs.Stream.{packets_of};
 ghost use Rattle.sd_broadcast.specs.Plan.{Plan};
 ghost use Rattle.sd_receive.specs.Receiving.{IsCountable, IsLive};
 ghost use Rattle.sd_events.specs.declared.event.Event.TheVariants.{Lose, Off, Offer, On};
@@ -10,7 +11,7 @@ ghost use Rattle.sd_field.specs.Seats.{IsSeated};
 use crate::hear::hear;
 use sd_card::Card;
 use sd_cause::NoMemory;
-use sd_packet::Packet;
+use sd_packet::{Packet, SIZE};
 use sd_ports::MemSink;
 use sd_receive::Receiver;
 use sd_site::Site;
@@ -37,6 +38,7 @@ impl Seat {
             IsCountable (present plan clear w) → w.cursor < n →
             packet.now ≡ get_or (stream plan clear) w.cursor [] → IsSeated plan card clear total w self.old →
             OnOk result (IsSeated plan card clear total (watched u n (Offer u) w) self.new) }
+        ensures there { IsErr result → IsSome self.new.receiver ↔ IsSome self.old.receiver }
         ensures full { (plan : Plan) (card : CardFields) (clear : List (List ℕ)) (total u n : ℕ) (w : Watch) →
             IsErr result → IsCountable (present plan clear w) → w.cursor < n →
             packet.now ≡ get_or (stream plan clear) w.cursor [] → IsSeated plan card clear total w self.old →
@@ -50,25 +52,53 @@ impl Seat {
     }
 }
 
-/// Passes the next of these packets, if one is left.
+/// Packet i of a stream of which all packets before it are there, if it is there.
+pub fn packet_at(bytes: &[u8], i: usize) -> Option<Packet>
+    requires before { i ≤ length (packets_of bytes.now) }
+    ensures value { result ≡ slice_get (packets_of bytes.now) i }
+    ensures few { IsSome result → i < 2 ^ 64 - 1 }
+{
+    if i >= bytes.len() / SIZE {
+        return None;
+    }
+    let rest = &bytes[SIZE * i..];
+    let piece = rest.first_chunk::<SIZE>()?;
+    Packet::new(*piece)
+}
+
+/// Passes the next packet of what was sent, if one is left.
 pub fn pass_next<L: Ledger>(
     seat: &mut Seat,
-    sent: &[Packet],
+    sent: &[u8],
     steps: &mut Steps<L>,
 ) -> Result<(), NoMemory>
     requires live { IfSome seat.old.receiver IsLive }
+    requires behind { seat.old.cursor ≤ length (packets_of sent.now) }
     ensures seated { (plan : Plan) (card : CardFields) (clear : List (List ℕ)) (total u : ℕ) (w : Watch) →
-        IsCountable (present plan clear w) → sent.now ≡ stream plan clear →
+        IsCountable (present plan clear w) → packets_of sent.now ≡ stream plan clear →
         IsSeated plan card clear total w seat.old →
-        OnOk result (IsSeated plan card clear total (watched u (length sent.now) (Offer u) w) seat.new) }
+        OnOk result (IsSeated plan card clear total (watched u (length (packets_of sent.now)) (Offer u) w) seat.new) }
     ensures full { (plan : Plan) (card : CardFields) (clear : List (List ℕ)) (total u : ℕ) (w : Watch) →
-        IsErr result → IsCountable (present plan clear w) → sent.now ≡ stream plan clear →
+        IsErr result → IsCountable (present plan clear w) → packets_of sent.now ≡ stream plan clear →
         IsSeated plan card clear total w seat.old →
-        total < length (concat (written plan card clear (watched u (length sent.now) (Offer u) w))) }
+        total < length (concat (written plan card clear (watched u (length (packets_of sent.now)) (Offer u) w))) }
+    ensures there { IsErr result → IsSome seat.new.receiver ↔ IsSome seat.old.receiver }
 {
-    match sent.get(seat.cursor) {
-        Some(packet) => seat.pass(packet, steps),
+    match packet_at(sent, seat.cursor) {
+        Some(packet) => seat.pass(&packet, steps),
         None => Ok(()),
+    }
+}
+
+/// Loses the next packet of what was sent, if one is left.
+pub fn lose_next(seat: &mut Seat, sent: &[u8])
+    requires behind { seat.old.cursor ≤ length (packets_of sent.now) }
+    ensures seated { (plan : Plan) (card : CardFields) (clear : List (List ℕ)) (total u : ℕ) (w : Watch) →
+        IsSeated plan card clear total w seat.old →
+        IsSeated plan card clear total (watched u (length (packets_of sent.now)) (Lose u) w) seat.new }
+{
+    if packet_at(sent, seat.cursor).is_some() {
+        seat.cursor += 1;
     }
 }
 
@@ -87,6 +117,7 @@ impl Seat {
             IsSeated plan card clear total w self.old →
             OnOk result (IsSeated plan card clear total (watched u n (On u) w) self.new) }
         ensures same { IsErr result → self.new ≡ self.old }
+        ensures was_off { IsErr result → is_some self.old.receiver ≡ false }
     {
         if self.receiver.is_some() {
             return Ok(());
@@ -103,16 +134,5 @@ impl Seat {
             IsSeated plan card clear total (watched u n (Off u) w) self.new }
     {
         self.receiver = None;
-    }
-
-    /// Passes the next of so many packets, which is lost, if one is left.
-    pub fn lose(&mut self, sent: usize)
-        ensures seated { (plan : Plan) (card : CardFields) (clear : List (List ℕ)) (total u : ℕ) (w : Watch) →
-            IsSeated plan card clear total w self.old →
-            IsSeated plan card clear total (watched u sent (Lose u) w) self.new }
-    {
-        if self.cursor < sent {
-            self.cursor += 1;
-        }
     }
 }
