@@ -1,0 +1,222 @@
+-- The lines of a script.
+use Rattle.std.proofs.Common.{arith, ◌≡◌, ◌∙◌, ℕ, ◌+◌, ◌≤◌, ◌^◌, Bool, true, false, nat_lt, nat_le, List, [], ◌∷◌, ◌++◌}
+use Rattle.std.proofs.Common.{Option, Some, None, Result, Ok, Err, refl, sym, ap, append-nil, append_assoc, suc, zero, All}
+use Rattle.std.proofs.lemmas.Bool.{ltb-false, leb-true}
+use Rattle.std.specs.Prelude.{◌&&◌, if◌then◌else◌, option_map, option_and_then, replicate, codes}
+use Rattle.std.proofs.lemmas.List.Elements.{All-nil, All-cons, All-append}
+use Rattle.sd_text.specs.declared.number.NumberFault.{NumberFault}
+use Rattle.sd_text.specs.declared.number.NumberFault.TheVariants.{TooLarge}
+use Rattle.sd_text.specs.Number.{after, fitting, number_of}
+use Rattle.sd_events.specs.declared.event.Event.{Event}
+use Rattle.sd_events.specs.declared.event.Event.TheVariants.{Subscribe, Revoke, Send, Offer, Lose, Off, On}
+use Rattle.sd_events.specs.Events.{is_of}
+use Rattle.sd_field.specs.declared.fault.ScriptFault.{ScriptFault}
+use Rattle.sd_field.specs.declared.fault.ScriptFault.TheVariants.{Leaf, Events}
+use Rattle.sd_field.specs.declared.line.LineFault.TheVariants.{Form}
+use Rattle.sd_field.specs.declared.line.LineFault.TheVariants as fault
+use Rattle.sd_field.specs.Line.{run_in, times_in}
+use Rattle.sd_field.specs.Script.{alone, both_of, by_word, count_of, counted, cut_at_space, judged}
+use Rattle.sd_field.specs.Script.{leaf_and_count, put_before, repeated, script_from, sends_said, spoken}
+
+-- the number of a text that fits in 32 bits
+fit_said : (number : Option ℕ) (n : ℕ) → fitting number ≡ Ok n → number ≡ Some n
+fit_said None n e = absurd cc
+fit_said (Some m) n e = by (nat_lt m (2 ^ 32)) e
+  where
+    by : (b : Bool) → (if b then Ok m else Err TooLarge) ≡ Ok n → Some m ≡ Some n
+    by true e = let same : m ≡ n = cc in ap Some same
+    by false e = absurd cc
+
+pub times_said : (text : List ℕ) (n : ℕ) → fitting (number_of text) ≡ Ok n →
+    times_in (count_of text) ≡ times_in (counted n)
+times_said text n e =
+    ap (λ (number : Option ℕ). times_in (option_and_then counted number)) (fit_said (number_of text) n e)
+
+-- a text that says none says no number of events
+none_counted : (number : Option ℕ) (fault : NumberFault) → fitting number ≡ Err fault →
+    option_and_then counted number ≡ None
+none_counted None fault e = refl
+none_counted (Some m) fault e = by (nat_lt m (2 ^ 32)) refl e
+  where
+    by : (b : Bool) → nat_lt m (2 ^ 32) ≡ b → (if b then Ok m else Err TooLarge) ≡ Err fault →
+        counted m ≡ None
+    by true t e = absurd cc
+    by false t e =
+        let high = ltb-false m (2 ^ 32) t in
+        let over : nat_le m 65536 ≡ false = grind (arith, high) in
+        by_first (nat_le 1 m) over
+      where
+        by_first : (b : Bool) → nat_le m 65536 ≡ false → (if b && nat_le m 65536 then Some m else None) ≡ None
+        by_first true over = rw over refl
+        by_first false over = refl
+
+pub times_unsaid : (text : List ℕ) (fault : NumberFault) → fitting (number_of text) ≡ Err fault →
+    times_in (count_of text) ≡ Err Form
+times_unsaid text fault e = ap times_in (none_counted (number_of text) fault e)
+
+-- a run has an event
+counted_some : (m n : ℕ) → counted m ≡ Some n → 1 ≤ n
+counted_some m n e = by (nat_le 1 m) (nat_le m 65536) refl e
+  where
+    by : (a b : Bool) → nat_le 1 m ≡ a → (if a && b then Some m else None) ≡ Some n → 1 ≤ n
+    by true true t e = let same : m ≡ n = cc in let low = leb-true 1 m t in omega (arith, low, same)
+    by true false t e = absurd cc
+    by false b t e = absurd cc
+
+count_some : (text : List ℕ) (n : ℕ) → count_of text ≡ Some n → 1 ≤ n
+count_some text n e = by (number_of text) e
+  where
+    by : (number : Option ℕ) → option_and_then counted number ≡ Some n → 1 ≤ n
+    by None e = absurd cc
+    by (Some m) e = counted_some m n e
+
+-- no run, or one that has an event
+abbrev HasSome : Option (Event × ℕ) → Type 0
+HasSome None = Unit {0}
+HasSome (Some run) = 1 ≤ run.1
+
+alone_some : (make : ℕ → Event) (text : List ℕ) → HasSome (alone make text)
+unfolding alone
+alone_some make text = by (number_of text)
+  where
+    by : (number : Option ℕ) → HasSome (option_map (λ u. (make u, 1)) number)
+    by None = tt
+    by (Some u) = omega arith
+
+sends_some : (text : List ℕ) → HasSome (sends_said text)
+unfolding sends_said
+sends_some text = by (count_of text) refl
+  where
+    by : (count : Option ℕ) → count_of text ≡ count → HasSome (option_map (λ n. (Send, n)) count)
+    by None e = tt
+    by (Some n) e = count_some text n e
+
+abbrev second_of : Option (ℕ × ℕ) → ℕ
+second_of None = 0
+second_of (Some pair) = pair.1
+
+both_some : (leaf : Option ℕ) (text : List ℕ) (u n : ℕ) → both_of leaf (count_of text) ≡ Some (u, n) → 1 ≤ n
+both_some None text u n e = absurd cc
+both_some (Some v) text u n e = by (count_of text) refl e
+  where
+    by : (count : Option ℕ) → count_of text ≡ count → option_map {U = ℕ × ℕ} (λ m. (v, m)) count ≡ Some (u, n) → 1 ≤ n
+    by None t e = absurd cc
+    by (Some m) t e = let low = count_some text m t in let same : m ≡ n = ap second_of e in omega (arith, low, same)
+
+pair_some : (text : List ℕ) (u n : ℕ) → leaf_and_count text ≡ Some (u, n) → 1 ≤ n
+unfolding leaf_and_count
+pair_some text u n e = by (cut_at_space text) e
+  where
+    by : (parts : Option (List ℕ × List ℕ)) →
+        option_and_then (λ parts. both_of (number_of parts.0) (count_of parts.1)) parts ≡ Some (u, n) → 1 ≤ n
+    by None e = absurd cc
+    by (Some parts) e = both_some (number_of parts.0) parts.1 u n e
+
+repeated_some : (make : ℕ → Event) (text : List ℕ) → HasSome (repeated make text)
+unfolding repeated
+repeated_some make text = by (leaf_and_count text) refl
+  where
+    by : (pair : Option (ℕ × ℕ)) → leaf_and_count text ≡ pair →
+        HasSome (option_map (λ pair. (make pair.0, pair.1)) pair)
+    by None e = tt
+    by (Some pair) e = pair_some text pair.0 pair.1 e
+
+word_some : (text : Option (List ℕ)) (says : List ℕ → Option (Event × ℕ)) (other : Option (Event × ℕ)) →
+    ((text : List ℕ) → HasSome (says text)) → HasSome other → HasSome (by_word text says other)
+word_some None says other some rest = rest
+word_some (Some text) says other some rest = some text
+
+spoken_some : (line : List ℕ) → HasSome (spoken line)
+unfolding spoken
+spoken_some line =
+    word_some (after (codes "subscribe ") line) (alone Subscribe) _ (alone_some Subscribe)
+    (word_some (after (codes "revoke ") line) (alone Revoke) _ (alone_some Revoke)
+    (word_some (after (codes "send ") line) sends_said _ sends_some
+    (word_some (after (codes "offer ") line) (repeated Offer) _ (repeated_some Offer)
+    (word_some (after (codes "lose ") line) (repeated Lose) _ (repeated_some Lose)
+    (word_some (after (codes "off ") line) (alone Off) _ (alone_some Off)
+    (word_some (after (codes "on ") line) (alone On) None (alone_some On) tt))))))
+
+-- a run of the tree is the one that is said
+run_said : (d : ℕ) (said : Option (Event × ℕ)) (run : Event × ℕ) → HasSome said → run_in d said ≡ Ok run → 1 ≤ run.1
+run_said d None run some e = absurd cc
+run_said d (Some other) run some e = by (is_of d other.0) e
+  where
+    by : (b : Bool) → (if b then Ok other else Err fault.Leaf) ≡ Ok run → 1 ≤ run.1
+    by true e = let same : other ≡ run = cc in rw (sym same) some
+    by false e = absurd cc
+
+pub run_some : (d : ℕ) (line : List ℕ) (run : Event × ℕ) → run_in d (spoken line) ≡ Ok run → 1 ≤ run.1
+run_some d line run e = run_said d (spoken line) run (spoken_some line) e
+
+-- what a good line says: a run of the tree, with which the events aren't too many
+pub record IsGood (d n : ℕ) (run : Event × ℕ) : Type 0 where
+  pub some : 1 ≤ run.1
+  pub few : n + run.1 ≤ 524288
+  pub leaf : is_of d run.0 ≡ true
+
+judged_good : (d k n : ℕ) (said : Option (Event × ℕ)) (run : Event × ℕ) → HasSome said →
+    judged d k n said ≡ Ok run → IsGood d n run
+judged_good d k n None run some e = absurd cc
+judged_good d k n (Some other) run some e = by_leaf (is_of d other.0) (nat_lt 524288 (n + other.1)) refl refl e
+  where
+    by_leaf : (a b : Bool) → is_of d other.0 ≡ a → nat_lt 524288 (n + other.1) ≡ b →
+        (if a then (if b then Err Events else Ok other) else Err (Leaf k)) ≡ Ok run → IsGood d n run
+    by_leaf true true s t e = absurd cc
+    by_leaf false b s t e = absurd cc
+    by_leaf true false s t e =
+        let same : other ≡ run = cc in
+        rw (sym same) (record { some = some; few = ltb-false 524288 (n + other.1) t; leaf = s })
+
+pub line_good : (d k n : ℕ) (line : List ℕ) (run : Event × ℕ) → judged d k n (spoken line) ≡ Ok run → IsGood d n run
+line_good d k n line run e = judged_good d k n (spoken line) run (spoken_some line) e
+
+-- the events of a good line, and those after it
+put_twice : (first second : List Event) (more : Result (List Event) ScriptFault) →
+    put_before first (put_before second more) ≡ put_before (first ++ second) more
+put_twice first second (Ok more) = ap (λ (events : List Event). Ok events) (sym (append_assoc first second more))
+put_twice first second (Err fault) = refl
+
+pub script_on : (d k n : ℕ) (events : List Event) (line : List ℕ) (lines : List (List ℕ)) (run : Event × ℕ) →
+    judged d k n (spoken line) ≡ Ok run →
+    put_before events (script_from d k n (line ∷ lines))
+    ≡ put_before (events ++ replicate run.1 run.0) (script_from d (k + 1) (n + run.1) lines)
+unfolding script_from
+script_on d k n events line lines run e =
+    rw e (put_twice events (replicate run.1 run.0) (script_from d (k + 1) (n + run.1) lines))
+
+-- a bad line is the fault
+pub script_broken : (d k n : ℕ) (events : List Event) (line : List ℕ) (lines : List (List ℕ)) (fault : ScriptFault) →
+    judged d k n (spoken line) ≡ Err fault → put_before events (script_from d k n (line ∷ lines)) ≡ Err fault
+unfolding script_from
+script_broken d k n events line lines fault e = rw e refl
+
+-- the end says nothing more
+pub script_ended : (d k n : ℕ) (events : List Event) (lines : List (List ℕ)) → lines ≡ [] →
+    put_before events (script_from d k n lines) ≡ Ok events
+unfolding script_from
+script_ended d k n events lines none = rw none (ap (λ (all : List Event). Ok all) (append-nil events))
+
+-- a run of one event more
+pub run_more : (n : ℕ) (event : Event) (events : List Event) →
+    (events ++ replicate n event) ++ event ∷ [] ≡ events ++ replicate (n + 1) event
+run_more n event events =
+    append_assoc events (replicate n event) (event ∷ []) ∙ ap (λ (rest : List Event). events ++ rest) (turned n)
+  where
+    turned : (n : ℕ) → replicate n event ++ event ∷ [] ≡ replicate (n + 1) event
+    turned zero = refl
+    turned (suc n) =
+        let more : suc n + 1 ≡ suc (n + 1) = omega arith in
+        rw more (ap (λ (rest : List Event). event ∷ rest) (turned n))
+
+-- all events of a run are of the tree
+equal_events : (d n : ℕ) (event : Event) → is_of d event ≡ true →
+    All (λ event. is_of d event ≡ true) (replicate n event)
+equal_events d zero event is = All-nil (λ event. is_of d event ≡ true)
+equal_events d (suc n) event is =
+    All-cons (λ event. is_of d event ≡ true) event (replicate n event) is (equal_events d n event is)
+
+pub run_of_tree : (d n : ℕ) (event : Event) (events : List Event) → is_of d event ≡ true →
+    All (λ event. is_of d event ≡ true) events → All (λ event. is_of d event ≡ true) (events ++ replicate n event)
+run_of_tree d n event events is all =
+    All-append (λ event. is_of d event ≡ true) events (replicate n event) all (equal_events d n event is)

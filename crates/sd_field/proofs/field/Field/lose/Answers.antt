@@ -1,0 +1,70 @@
+use Rattle.std.proofs.Common.{◌≡◌, ◌∙◌, ◌*◌, ◌<◌, ◌^◌, ℕ, List, length, arith, ap, sym, subst, None}
+use Rattle.std.specs.Prelude.{get_or, slice_get, Some}
+use Rattle.std.proofs.lemmas.List.{get_or_default}
+use Rattle.std.proofs.lemmas.Option.{slice_get-get_or}
+use Rattle.sd_engine.specs.Stream.{packets_of}
+use Rattle.sd_site.specs.Fields.{fields_of}
+use Rattle.sd_events.specs.declared.event.Event.TheVariants.{Lose}
+use Rattle.sd_events.specs.Watch.{watched}
+use Rattle.sd_field.specs.Seats.{IsSeated}
+use Rattle.sd_field.specs.Fields.{FieldValue, card_at, plan_in, taken, watch_of}
+use Rattle.sd_field.specs.declared.seat.Seat.{Seat}
+use Rattle.sd_field.proofs.Fields.{field_next, lose_at, seat_behind}
+use Rattle.sd_field.proofs.field.Field.lose.Goals as goal
+
+pub lose_next-requires : goal.lose_next-requires
+lose_next-requires c =
+    let v : FieldValue = record {
+      site = fields_of c.self.inside.site;
+      clear = c.self.inside.clear.items;
+      events = c.self.inside.events.items;
+      done = c.self.inside.done;
+      failed = c.self.inside.failed;
+    } in
+    let u : ℕ = c.get.result in
+    let calm : v.failed ≡ None = ap (λ (x : FieldValue). x.failed) c.self.view_is ∙ c.requires.calm in
+    let field = c.self.invariant in
+    let seat = c.index_mut-seat.result.now in
+    let seats = c.self.inside.seats.items in
+    let next : slice_get v.events v.done ≡ Some (Lose u) =
+    ap (λ (x : FieldValue). slice_get x.events x.done) c.self.view_is
+    ∙ (c.requires.next ∙ ap (λ (k : ℕ). Some (Lose k)) (sym c.get.ensures.value)) in
+    let low : u < 2 ^ v.site.height =
+    subst (λ (x : FieldValue). u < 2 ^ x.site.height) (sym c.self.view_is)
+    (subst (λ (k : ℕ). k < 2 ^ c.args.self.now.site.height) (sym c.get.ensures.value) c.requires.leaf) in
+    let inside : u < length seats = omega (arith, low, field.many) in
+    record {
+      behind = seat_behind v c.self.inside.book c.self.inside.station seats u seat c.bytes.result.now calm field
+          (slice_get-get_or seats u seat inside ∙ ap (λ (x : Seat). Some x) (sym c.index_mut-seat.ensures.value))
+          c.bytes.ensures;
+    }
+
+pub invariant_of-self : goal.invariant_of-self
+invariant_of-self c =
+    let v : FieldValue = record {
+      site = fields_of c.self.inside.site;
+      clear = c.self.inside.clear.items;
+      events = c.self.inside.events.items;
+      done = c.self.inside.done;
+      failed = c.self.inside.failed;
+    } in
+    let u : ℕ = c.get.result in
+    let calm : v.failed ≡ None = ap (λ (x : FieldValue). x.failed) c.self.view_is ∙ c.requires.calm in
+    let field = c.self.invariant in
+    let seat = c.index_mut-seat.result.now in
+    let seats = c.self.inside.seats.items in
+    let next : slice_get v.events v.done ≡ Some (Lose u) =
+    ap (λ (x : FieldValue). slice_get x.events x.done) c.self.view_is
+    ∙ (c.requires.next ∙ ap (λ (k : ℕ). Some (Lose k)) (sym c.get.ensures.value)) in
+    let low : u < 2 ^ v.site.height =
+    subst (λ (x : FieldValue). u < 2 ^ x.site.height) (sym c.self.view_is)
+    (subst (λ (k : ℕ). k < 2 ^ c.args.self.now.site.height) (sym c.get.ensures.value) c.requires.leaf) in
+    let inside : u < length seats = omega (arith, low, field.many) in
+    let to = c.lose_next.new.seat in
+    let same : get_or seats u to ≡ seat =
+    get_or_default seats u to seat inside ∙ sym c.index_mut-seat.ensures.value in
+    field_next v (Lose u) c.self.inside.book c.self.inside.station seats u to next (lose_at u) calm low field
+    (λ all seated. subst (λ (held : List ℕ). IsSeated (plan_in v) (card_at v u) (taken v) (188 * length v.clear)
+    (watched u (length (packets_of held)) (Lose u) (watch_of u v)) to) c.bytes.ensures
+    (c.lose_next.ensures.seated (plan_in v) (card_at v u) (taken v) (188 * length v.clear) u (watch_of u v)
+    (subst (IsSeated (plan_in v) (card_at v u) (taken v) (188 * length v.clear) (watch_of u v)) same seated)))

@@ -1,0 +1,35 @@
+-- What one receiver of a field has come to.
+use Rattle.std.specs.Prelude.{◌≡◌, ℕ, ◌-◌, ◌≤◌, List, [], ◌++◌, length, None, Some}
+use Rattle.std.specs.List.{concat}
+use Rattle.sd_card.specs.Fields.{CardFields}
+use Rattle.sd_ports.specs.Memory.{Store, room_in}
+use Rattle.sd_engine.specs.Stage.{Chain}
+use Rattle.sd_reception.specs.declared.fault.StreamFault.{StreamFault}
+use Rattle.sd_reception.specs.Offered.{out_from, break_from}
+use Rattle.sd_receive.specs.Receiving.{IsAfter, IsLive, card_in, receiver_does}
+use Rattle.sd_receive.specs.declared.receiver.Receiver.{Receiver}
+
+-- the receiver is a new one with this card that was offered these packets
+pub record StandsAfter (card : CardFields) (xs : List (List ℕ)) (receiver : Receiver) : Type 0 where
+  pub start : Receiver
+  pub bytes : List ℕ
+  pub steps : ℕ
+  pub new : IsAfter [] start
+  pub live : IsLive start
+  pub same : card_in start ≡ card
+  pub chain : Chain receiver_does start xs receiver bytes steps
+  pub wrote : bytes ≡ concat (out_from card [] xs)
+
+-- What one time has come to: what is held are the bytes of the times before, and what the card writes of these packets.
+-- The receiver was offered them, unless one of them is refused, and then it keeps that refusal
+pub record IsHeard (card : CardFields) (earlier : List ℕ) (xs : List (List ℕ)) (receiver : Receiver)
+    (held : List ℕ) : Type 0 where
+  pub bytes : held ≡ earlier ++ concat (out_from card [] xs)
+  pub stands : break_from card [] xs ≡ None → StandsAfter card xs receiver
+  pub broken : (why : StreamFault) → break_from card [] xs ≡ Some why → receiver.refusal ≡ Some why
+  pub live : IsLive receiver
+
+-- the sink has room for so many bytes in all
+pub record HasRoom (total : ℕ) (store : Store) : Type 0 where
+  pub fits : length store.held ≤ total
+  pub left : room_in store ≡ Some (total - length store.held)

@@ -1,0 +1,91 @@
+-- The script of a field: one event, or a run of equal ones, a line [this project, docs/FORMATS.md, Field].
+use Rattle.std.specs.Prelude.{ℕ, ◌+◌, ◌==◌, ◌&&◌, nat_le, nat_lt, List, [], ◌∷◌, ◌++◌, replicate, codes}
+use Rattle.std.specs.Prelude.{if◌then◌else◌, Option, Some, None, option_map, option_and_then, Result, Ok, Err}
+use Rattle.sd_text.specs.Lines.{lines_of}
+use Rattle.sd_text.specs.Number.{after, number_of}
+use Rattle.sd_events.specs.declared.event.Event.{Event}
+use Rattle.sd_events.specs.declared.event.Event.TheVariants.{Subscribe, Revoke, Send, Offer, Lose, Off, On}
+use Rattle.sd_events.specs.Events.{is_of}
+use Rattle.sd_field.specs.declared.fault.ScriptFault.{ScriptFault}
+use Rattle.sd_field.specs.declared.fault.ScriptFault.TheVariants.{Line, Leaf, Events}
+
+-- the byte before the first of two parts
+abbrev pub onto_first : ℕ → List ℕ × List ℕ → List ℕ × List ℕ
+onto_first byte parts = (byte ∷ parts.0, parts.1)
+
+-- the text before its first space, and after it
+abbrev pub cut_at_space : List ℕ → Option (List ℕ × List ℕ)
+cut_at_space [] = None
+cut_at_space (byte ∷ bytes) = if byte == 32 then Some ([], bytes) else option_map (onto_first byte) (cut_at_space bytes)
+
+-- a number of events on one line: from 1 to 65,536 [this project, docs/FORMATS.md, Field]
+abbrev pub counted : ℕ → Option ℕ
+counted n = if nat_le 1 n && nat_le n 65536 then Some n else None
+
+-- the number of events that a text says
+abbrev pub count_of : List ℕ → Option ℕ
+count_of text = option_and_then counted (number_of text)
+
+-- one event of the leaf that a text says, which is any number
+unfoldable pub alone : (ℕ → Event) → List ℕ → Option (Event × ℕ)
+alone make text = option_map (λ u. (make u, 1)) (number_of text)
+
+-- as many sends as a text says
+unfoldable pub sends_said : List ℕ → Option (Event × ℕ)
+sends_said text = option_map (λ n. (Send, n)) (count_of text)
+
+-- two numbers, if both are there
+abbrev pub both_of : Option ℕ → Option ℕ → Option (ℕ × ℕ)
+both_of leaf count = option_and_then (λ u. option_map (λ n. (u, n)) count) leaf
+
+-- the leaf and the number of events that a text says, with a space between them
+unfoldable pub leaf_and_count : List ℕ → Option (ℕ × ℕ)
+leaf_and_count text = option_and_then (λ parts. both_of (number_of parts.0) (count_of parts.1)) (cut_at_space text)
+
+-- as many events of a leaf as a text says
+unfoldable pub repeated : (ℕ → Event) → List ℕ → Option (Event × ℕ)
+repeated make text = option_map (λ pair. (make pair.0, pair.1)) (leaf_and_count text)
+
+-- what is said after a word, or on a line that doesn't begin with it
+abbrev pub by_word : Option (List ℕ) → (List ℕ → Option (Event × ℕ)) → Option (Event × ℕ) → Option (Event × ℕ)
+by_word None says other = other
+by_word (Some text) says other = says text
+
+-- the event that a line says, whose leaf is any number, and how often [this project, docs/FORMATS.md, Field]
+unfoldable pub spoken : List ℕ → Option (Event × ℕ)
+spoken line =
+    by_word (after (codes "subscribe ") line) (alone Subscribe)
+    (by_word (after (codes "revoke ") line) (alone Revoke)
+    (by_word (after (codes "send ") line) sends_said
+    (by_word (after (codes "offer ") line) (repeated Offer)
+    (by_word (after (codes "lose ") line) (repeated Lose)
+    (by_word (after (codes "off ") line) (alone Off)
+    (by_word (after (codes "on ") line) (alone On) None))))))
+
+-- The run of line k after n events, or what is wrong with it. On one line the grammar comes first, then the leaf, which
+-- is to be of a tree of height d, then the number of events of a script [this project, docs/FORMATS.md, Field]
+abbrev pub judged : ℕ → ℕ → ℕ → Option (Event × ℕ) → Result (Event × ℕ) ScriptFault
+judged d k n None = Err (Line k)
+judged d k n (Some run) =
+    if is_of d run.0 then (if nat_lt 524288 (n + run.1) then Err Events else Ok run) else Err (Leaf k)
+
+-- what comes of a run, if nothing is wrong with it
+abbrev pub by_run : Result (Event × ℕ) ScriptFault → (Event × ℕ → Result (List Event) ScriptFault) →
+    Result (List Event) ScriptFault
+by_run (Ok run) says = says run
+by_run (Err fault) says = Err fault
+
+-- these events before those of a script
+abbrev pub put_before : List Event → Result (List Event) ScriptFault → Result (List Event) ScriptFault
+put_before events (Ok more) = Ok (events ++ more)
+put_before events (Err fault) = Err fault
+
+-- the events of these lines, of which the first is line k and comes after n events: the first bad line decides
+unfoldable pub script_from : ℕ → ℕ → ℕ → List (List ℕ) → Result (List Event) ScriptFault
+script_from d k n [] = Ok []
+script_from d k n (line ∷ lines) = by_run (judged d k n (spoken line))
+    (λ run. put_before (replicate run.1 run.0) (script_from d (k + 1) (n + run.1) lines))
+
+-- the events of a script for a tree of height d, or its first fault
+abbrev pub script_of : ℕ → List ℕ → Result (List Event) ScriptFault
+script_of d bytes = script_from d 1 0 (lines_of bytes)

@@ -1,0 +1,25 @@
+-- What one seat of a field has come to: a leaf's receiver, how many packets it has passed, and what was written.
+use Rattle.std.specs.Prelude.{◌≡◌, ◌↔◌, ℕ, true, List, [], map, reverse, IsSome, Some}
+use Rattle.std.specs.List.{concat, flat_map}
+use Rattle.sd_card.specs.Fields.{CardFields}
+use Rattle.sd_broadcast.specs.Plan.{Plan}
+use Rattle.sd_reception.specs.Offered.{out_from}
+use Rattle.sd_receive.specs.declared.receiver.Receiver.{Receiver}
+use Rattle.sd_events.specs.Watch.{Watch, at_places, present, stream, written}
+use Rattle.sd_field.specs.Heard.{HasRoom, IsHeard}
+use Rattle.sd_field.specs.declared.seat.Seat.{Seat}
+
+-- the bytes that were written in the earlier times
+unfoldable pub wrote_before : Plan → CardFields → List (List ℕ) → Watch → List ℕ
+wrote_before plan card clear w = concat (flat_map (λ places. out_from card [] (at_places [] (stream plan clear) places))
+    (reverse (map reverse w.earlier)))
+
+-- the seat has come to what a watch says of it, with room for so many bytes in all
+pub record IsSeated (plan : Plan) (card : CardFields) (clear : List (List ℕ)) (total : ℕ) (w : Watch) (seat : Seat)
+    : Type 0 where
+  pub cursor : seat.cursor ≡ w.cursor
+  pub on : IsSome seat.receiver ↔ (w.on ≡ true)
+  pub held : seat.written.held ≡ concat (written plan card clear w)
+  pub room : HasRoom total seat.written
+  pub heard : (receiver : Receiver) → seat.receiver ≡ Some receiver →
+      IsHeard card (wrote_before plan card clear w) (present plan clear w) receiver seat.written.held

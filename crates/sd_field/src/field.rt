@@ -1,0 +1,288 @@
+ghost use Rattle.std.specs.Prelude.{◌≡◌, ◌↔◌, ◌<◌, ◌≤◌, ◌^◌, true, false, [], All, length, slice_get, Some, None, Ok, Err};
+ghost use Rattle.std.specs.Prelude.{IfOk, IfErr, IfSome, IsErr, IsSome, OnOk};
+ghost use Rattle.std.specs.List.{concat};
+ghost use Rattle.sd_site.specs.Fields.{fields_of};
+ghost use Rattle.sd_broadcast.specs.declared.fault.ClearFault.{ClearFault as Fault};
+ghost use Rattle.sd_broadcast.specs.Plan.{IsPlan};
+ghost use Rattle.sd_broadcast.specs.Refused.{IsClear};
+ghost use Rattle.sd_broadcast.specs.Sent.{body};
+ghost use Rattle.sd_reception.specs.Offered.{break_from};
+ghost use Rattle.sd_events.specs.declared.event.Event.TheVariants.{Lose, Off, Offer, On, Revoke, Send, Subscribe};
+ghost use Rattle.sd_events.specs.Events.{is_of};
+ghost use Rattle.sd_events.specs.Watch.{present, watched};
+ghost use Rattle.sd_field.specs.declared.fault.FieldFault.{FieldFault as Faults};
+ghost use Rattle.sd_field.specs.Fields.{IsCommand, IsSendRefused, IsSentCut, IsWrittenCut, IsWrittenOver, TakesMemory};
+ghost use Rattle.sd_field.specs.Fields.{after_fault, after_next, card_at, next_event, next_refusal, plan_in, sends_of};
+ghost use Rattle.sd_field.specs.Fields.{taken, watch_of, written_of};
+ghost use Rattle.sd_field.specs.Receivers.{ReceiverStands};
+ghost use Rattle.sd_field.specs.Stations.{HeadStands};
+
+use crate::fault::FieldFault;
+use crate::seat::{Seat, lose_next, pass_next};
+use crate::station::Station;
+use sd_book::Book;
+use sd_cause::NoMemory;
+use sd_events::Event;
+use sd_head::Head;
+use sd_packet::Packet;
+use sd_receive::Receiver;
+use sd_site::Site;
+use sd_steps::Steps;
+use sd_tree::Leaf;
+use std::alloc::Global;
+use std::marker::Model;
+use std::sync::ledger::Ledger;
+
+/// A field: a head end and a receiver for each leaf, and the events that happen to them.
+#[derive(Drop)]
+pub struct Field {
+    alloc: Global,
+    site: Site,
+    clear: Vec<Packet>,
+    events: Vec<Event>,
+    book: Book,
+    done: usize,
+    failed: Option<FieldFault>,
+    station: Station,
+    seats: Vec<Seat>,
+}
+
+impl Model for Field {
+    ghost use Rattle.sd_site.specs.Fields.{fields_of};
+    ghost use Rattle.sd_field.specs.Fields.{FieldValue, IsField};
+
+    ghost Value = { FieldValue };
+
+    ghost view = { λ f. record {
+      site = fields_of f.site;
+      clear = f.clear.items;
+      events = f.events.items;
+      done = f.done;
+      failed = f.failed;
+    } };
+
+    ghost invariant = { λ f. IsField (record {
+      site = fields_of f.site;
+      clear = f.clear.items;
+      events = f.events.items;
+      done = f.done;
+      failed = f.failed;
+    }) f.book f.station f.seats.items };
+}
+
+impl Field {
+    /// Runs the next event. `false` says that none is left. A fault stays: it is answered from then on, and nothing
+    /// more happens.
+    pub fn step<L: Ledger>(&mut self, steps: &mut Steps<L>) -> Result<bool, FieldFault>
+        ensures done { result ≡ Ok true → (self.old.done < length self.old.events) × (self.old.failed ≡ None)
+            × (self.new ≡ after_next self.old) }
+        ensures end { result ≡ Ok false ↔ ((self.old.failed ≡ None) × (self.old.done ≡ length self.old.events)) }
+        ensures idle { result ≡ Ok false → self.new ≡ self.old }
+        ensures refused { IfErr result (λ fault. self.new ≡ after_fault fault self.old) }
+        ensures again { (fault : Faults) → self.old.failed ≡ Some fault → result ≡ Err fault }
+        ensures clear { (fault : Fault) → self.old.failed ≡ None →
+            (result ≡ Err (FieldFault.Clear fault)) ↔ (next_refusal self.old ≡ Some fault) }
+        ensures memory { result ≡ Err FieldFault.NoMemory → self.old.failed ≡ None →
+            TakesMemory self.old (next_event self.old) }
+    {
+        if let Some(fault) = self.failed {
+            return Err(fault);
+        }
+        match self.events.get(self.done) {
+            Some(event) => {
+                let event = *event;
+                self.happen(event, steps)?;
+                Ok(true)
+            }
+            None => Ok(false),
+        }
+    }
+
+    /// Runs the next event, which is this one.
+    fn happen<L: Ledger>(&mut self, event: Event, steps: &mut Steps<L>) -> Result<(), FieldFault>
+        requires next { next_event self.old ≡ Some event }
+        requires tree { is_of self.old.site.height event ≡ true }
+        requires calm { self.old.failed ≡ None }
+        ensures ok { OnOk result (self.new ≡ after_next self.old) }
+        ensures refused { IfErr result (λ fault. self.new ≡ after_fault fault self.old) }
+        ensures allowed { OnOk result (next_refusal self.old ≡ None) }
+        ensures clear { (fault : Fault) → result ≡ Err (FieldFault.Clear fault) → next_refusal self.old ≡ Some fault }
+        ensures memory { result ≡ Err FieldFault.NoMemory →
+            (next_refusal self.old ≡ None) × TakesMemory self.old (Some event) }
+    {
+        match event {
+            Event::Subscribe(_) | Event::Revoke(_) => {
+                self.command();
+                Ok(())
+            }
+            Event::Send => self.send(steps),
+            Event::Offer(u) => self.offer(u, steps),
+            Event::Lose(u) => {
+                self.lose(u);
+                Ok(())
+            }
+            Event::Off(u) => {
+                self.off(u);
+                Ok(())
+            }
+            Event::On(u) => self.on(u, steps),
+        }
+    }
+
+    /// The next event, which is a command: the book has it already.
+    fn command(&mut self)
+        requires some { IsSome (next_event self.old) }
+        requires next { IfSome (next_event self.old) IsCommand }
+        requires calm { self.old.failed ≡ None }
+        ensures ok { self.new ≡ after_next self.old }
+    {
+        self.done += 1;
+    }
+
+    /// The next event, which is a send.
+    fn send<L: Ledger>(&mut self, steps: &mut Steps<L>) -> Result<(), FieldFault>
+        requires next { next_event self.old ≡ Some Send }
+        requires calm { self.old.failed ≡ None }
+        ensures ok { OnOk result (self.new ≡ after_next self.old) }
+        ensures refused { IfErr result (λ fault. self.new ≡ after_fault fault self.old) }
+        ensures allowed { OnOk result (next_refusal self.old ≡ None) }
+        ensures clear { (fault : Fault) → result ≡ Err (FieldFault.Clear fault) → next_refusal self.old ≡ Some fault }
+        ensures memory { result ≡ Err FieldFault.NoMemory →
+            (next_refusal self.old ≡ None) × TakesMemory self.old (Some Send) }
+    {
+        let Some(packet) = self.clear.get(self.station.count) else {
+            self.done += 1;
+            return Ok(());
+        };
+        match self.station.send(packet, steps) {
+            Ok(()) => {
+                self.done += 1;
+                Ok(())
+            }
+            Err(fault) => {
+                self.failed = Some(fault);
+                Err(fault)
+            }
+        }
+    }
+
+    /// The next event, which is an offer to this leaf.
+    fn offer<L: Ledger>(&mut self, u: Leaf, steps: &mut Steps<L>) -> Result<(), FieldFault>
+        requires next { next_event self.old ≡ Some (Offer u) }
+        requires leaf { u < 2 ^ self.old.site.height }
+        requires calm { self.old.failed ≡ None }
+        ensures ok { OnOk result (self.new ≡ after_next self.old) }
+        ensures refused { IfErr result (λ fault. self.new ≡ after_fault fault self.old) }
+        ensures fault { IfErr result (λ fault. fault ≡ FieldFault.NoMemory) }
+        ensures full { IsErr result → IsWrittenOver u self.old }
+    {
+        let seat = &mut self.seats[u.get() as usize];
+        match pass_next(seat, self.station.sent.bytes(), steps) {
+            Ok(()) => {
+                self.done += 1;
+                Ok(())
+            }
+            Err(_) => {
+                self.failed = Some(FieldFault::NoMemory);
+                Err(FieldFault::NoMemory)
+            }
+        }
+    }
+
+    /// The next event, at which this leaf's receiver loses a packet.
+    fn lose(&mut self, u: Leaf)
+        requires next { next_event self.old ≡ Some (Lose u) }
+        requires leaf { u < 2 ^ self.old.site.height }
+        requires calm { self.old.failed ≡ None }
+        ensures ok { self.new ≡ after_next self.old }
+    {
+        let seat = &mut self.seats[u.get() as usize];
+        lose_next(seat, self.station.sent.bytes());
+        self.done += 1;
+    }
+
+    /// The next event, which switches this leaf's receiver off.
+    fn off(&mut self, u: Leaf)
+        requires next { next_event self.old ≡ Some (Off u) }
+        requires leaf { u < 2 ^ self.old.site.height }
+        requires calm { self.old.failed ≡ None }
+        ensures ok { self.new ≡ after_next self.old }
+    {
+        let seat = &mut self.seats[u.get() as usize];
+        seat.turn_off();
+        self.done += 1;
+    }
+
+    /// The next event, which switches this leaf's receiver on.
+    fn on<L: Ledger>(&mut self, u: Leaf, steps: &mut Steps<L>) -> Result<(), FieldFault>
+        requires next { next_event self.old ≡ Some (On u) }
+        requires leaf { u < 2 ^ self.old.site.height }
+        requires calm { self.old.failed ≡ None }
+        ensures ok { OnOk result (self.new ≡ after_next self.old) }
+        ensures refused { IfErr result (λ fault. self.new ≡ after_fault fault self.old) }
+        ensures fault { IfErr result (λ fault. fault ≡ FieldFault.NoMemory) }
+        ensures was_off { IsErr result → (watch_of u self.old).on ≡ false }
+    {
+        let seat = &mut self.seats[u.get() as usize];
+        match seat.turn_on(self.alloc, &self.site, u, steps) {
+            Ok(()) => {
+                self.done += 1;
+                Ok(())
+            }
+            Err(_) => {
+                self.failed = Some(FieldFault::NoMemory);
+                Err(FieldFault::NoMemory)
+            }
+        }
+    }
+
+    /// The number of clear packets that were sent.
+    pub fn sends(&self) -> u64
+        ensures value { result ≡ sends_of self.now }
+        ensures fits { IsPlan (plan_in self.now) × IsClear self.now.site (taken self.now) }
+    {
+        self.station.count as u64
+    }
+
+    /// All that was sent.
+    pub fn sent(&self) -> &[u8]
+        ensures value { ¬ IsSentCut self.now → result.now ≡ concat (body (plan_in self.now) (taken self.now)) }
+    {
+        self.station.sent.bytes()
+    }
+
+    /// All that the receivers of a leaf wrote.
+    pub fn written(&self, u: Leaf) -> &[u8]
+        requires leaf { u < 2 ^ self.now.site.height }
+        ensures value { ¬ IsWrittenCut u self.now → result.now ≡ written_of u self.now }
+    {
+        self.seats[u.get() as usize].written.bytes()
+    }
+
+    /// The book of all events.
+    pub fn book(&self) -> &Book
+        ensures value { (result.now.height ≡ self.now.site.height)
+            × (result.now.commands ≡ (plan_in self.now).commands) }
+    {
+        &self.book
+    }
+
+    /// The receiver of a leaf, if it is on.
+    pub fn receiver(&self, u: Leaf) -> Option<&Receiver>
+        requires leaf { u < 2 ^ self.now.site.height }
+        ensures on { IsSome result ↔ ((watch_of u self.now).on ≡ true) }
+        ensures stands { ¬ IsWrittenCut u self.now →
+            break_from (card_at self.now u) [] (present (plan_in self.now) (taken self.now) (watch_of u self.now)) ≡ None →
+            IfSome result (λ receiver. ReceiverStands (card_at self.now u)
+            (present (plan_in self.now) (taken self.now) (watch_of u self.now)) (written_of u self.now) receiver.now) }
+    {
+        self.seats[u.get() as usize].receiver.as_ref()
+    }
+
+    /// The head end.
+    pub fn head(&self) -> &Head
+        ensures stands { ¬ IsSendRefused self.now → HeadStands (plan_in self.now) (taken self.now) result.now }
+    {
+        &self.station.head
+    }
+}

@@ -1,0 +1,113 @@
+ghost use Rattle.std.specs.Prelude.{◌≡◌, option_map};
+ghost use Rattle.sd_text.specs.Number.{fitting, number_of};
+ghost use Rattle.sd_field.specs.Line.{leaf_in, pair_in, run_in, times_in};
+ghost use Rattle.sd_field.specs.Script.{count_of, counted, cut_at_space, leaf_and_count, spoken};
+
+use memchr::memchr;
+use sd_events::Event;
+use sd_text::{NumberFault, number_after};
+use sd_tree::{Height, Leaf};
+
+/// The most events of one line.
+const MOST_TIMES: u32 = 65_536;
+
+/// Why a line says no events for a tree.
+#[derive(Clone, Copy)]
+pub(crate) enum LineFault {
+    /// It isn't in the grammar.
+    Form,
+    /// Its leaf isn't in the tree.
+    Leaf,
+}
+
+/// The event that a line says, and how often.
+#[tactic(auto, unfolding(crate::specs::Script::spoken, crate::specs::Script::alone, crate::specs::Script::sends_said, crate::specs::Script::repeated, sd_text::specs::Number::after))]
+pub(crate) fn run_on(line: &[u8], h: Height) -> Result<(Event, u32), LineFault>
+    ensures { result ≡ run_in h (spoken line.now) }
+{
+    if let Some(text) = line.strip_prefix(b"subscribe ".as_slice()) {
+        return Ok((Event::Subscribe(leaf_in(text, h)?), 1));
+    }
+    if let Some(text) = line.strip_prefix(b"revoke ".as_slice()) {
+        return Ok((Event::Revoke(leaf_in(text, h)?), 1));
+    }
+    if let Some(text) = line.strip_prefix(b"send ".as_slice()) {
+        return Ok((Event::Send, times_in(text)?));
+    }
+    if let Some(text) = line.strip_prefix(b"offer ".as_slice()) {
+        let (leaf, times) = leaf_times(text, h)?;
+        return Ok((Event::Offer(leaf), times));
+    }
+    if let Some(text) = line.strip_prefix(b"lose ".as_slice()) {
+        let (leaf, times) = leaf_times(text, h)?;
+        return Ok((Event::Lose(leaf), times));
+    }
+    if let Some(text) = line.strip_prefix(b"off ".as_slice()) {
+        return Ok((Event::Off(leaf_in(text, h)?), 1));
+    }
+    match line.strip_prefix(b"on ".as_slice()) {
+        Some(text) => Ok((Event::On(leaf_in(text, h)?), 1)),
+        None => Err(LineFault::Form),
+    }
+}
+
+/// The leaf that a text says.
+fn leaf_in(text: &[u8], h: Height) -> Result<Leaf, LineFault>
+    ensures { result ≡ leaf_in h (number_of text.now) }
+{
+    match number_in(text) {
+        Ok(u) => Leaf::new(h, u).ok_or(LineFault::Leaf),
+        Err(NumberFault::TooLarge) => Err(LineFault::Leaf),
+        Err(NumberFault::Malformed) => Err(LineFault::Form),
+    }
+}
+
+/// The number of events that a text says.
+#[tactic(auto, using(crate::proofs::Scripts::times_said, crate::proofs::Scripts::times_unsaid))]
+fn times_in(text: &[u8]) -> Result<u32, LineFault>
+    ensures { result ≡ times_in (count_of text.now) }
+{
+    match number_in(text) {
+        Ok(times) => counted(times),
+        Err(_) => Err(LineFault::Form),
+    }
+}
+
+/// A number of events that may be on one line.
+fn counted(times: u32) -> Result<u32, LineFault>
+    ensures { result ≡ times_in (counted times) }
+{
+    if times >= 1 && times <= MOST_TIMES {
+        Ok(times)
+    } else {
+        Err(LineFault::Form)
+    }
+}
+
+/// The number that a text says.
+#[tactic(auto, unfolding(sd_text::specs::Number::after))]
+fn number_in(text: &[u8]) -> Result<u32, NumberFault>
+    ensures { result ≡ fitting (number_of text.now) }
+{
+    number_after(b"", text)
+}
+
+/// A leaf, a space and a number of events.
+#[tactic(auto, unfolding(crate::specs::Script::leaf_and_count))]
+fn leaf_times(text: &[u8], h: Height) -> Result<(Leaf, u32), LineFault>
+    ensures { result ≡ pair_in h (leaf_and_count text.now) }
+{
+    let (leaf, times) = cut_at_space(text).ok_or(LineFault::Form)?;
+    let times = times_in(times)?;
+    let leaf = leaf_in(leaf, h)?;
+    Ok((leaf, times))
+}
+
+/// The text before the first space, and after it.
+#[tactic(auto, using(crate::proofs::Spaces::cut_there, crate::proofs::Spaces::no_cut, crate::proofs::Spaces::to_the_end))]
+fn cut_at_space(text: &[u8]) -> Option<(&[u8], &[u8])>
+    ensures { option_map (λ cut. (cut.0.now, cut.1.now)) result ≡ cut_at_space text.now }
+{
+    let space = memchr(b' ', text)?;
+    Some((&text[..space], &text[space + 1..]))
+}

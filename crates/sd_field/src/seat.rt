@@ -1,0 +1,138 @@
+ghost use Rattle.std.specs.Prelude.{◌≡◌, ◌↔◌, ◌-◌, ◌^◌, ◌<◌, ◌≤◌, [], ℕ, List, get_or, length, slice_get, IfSome, IsSome, IsErr, OnOk, false, is_some};
+ghost use Rattle.std.specs.List.{concat};
+ghost use Rattle.sd_card.specs.Fields.{CardFields, card_of};
+ghost use Rattle.sd_engine.specs.Stream.{packets_of};
+ghost use Rattle.sd_broadcast.specs.Plan.{Plan};
+ghost use Rattle.sd_receive.specs.Receiving.{IsCountable, IsLive};
+ghost use Rattle.sd_events.specs.declared.event.Event.TheVariants.{Lose, Off, Offer, On};
+ghost use Rattle.sd_events.specs.Watch.{Watch, present, stream, watched, written};
+ghost use Rattle.sd_field.specs.Seats.{IsSeated};
+
+use crate::hear::hear;
+use sd_card::Card;
+use sd_cause::NoMemory;
+use sd_packet::{Packet, SIZE};
+use sd_ports::MemSink;
+use sd_receive::Receiver;
+use sd_site::Site;
+use sd_steps::Steps;
+use sd_tree::Leaf;
+use std::alloc::Global;
+use std::sync::ledger::Ledger;
+
+/// A leaf's place in a field: its receiver, if it is on, the number of packets that it has passed, and what was
+/// written.
+#[derive(Drop)]
+pub struct Seat {
+    pub(crate) receiver: Option<Receiver>,
+    pub(crate) cursor: usize,
+    pub(crate) written: MemSink,
+}
+
+impl Seat {
+    /// Passes the next packet that was sent, which the receiver hears if it is on.
+    pub fn pass<L: Ledger>(&mut self, packet: &Packet, steps: &mut Steps<L>) -> Result<(), NoMemory>
+        requires live { IfSome self.old.receiver IsLive }
+        requires few { self.old.cursor < 2 ^ 64 - 1 }
+        ensures seated { (plan : Plan) (card : CardFields) (clear : List (List ℕ)) (total u n : ℕ) (w : Watch) →
+            IsCountable (present plan clear w) → w.cursor < n →
+            packet.now ≡ get_or (stream plan clear) w.cursor [] → IsSeated plan card clear total w self.old →
+            OnOk result (IsSeated plan card clear total (watched u n (Offer u) w) self.new) }
+        ensures there { IsErr result → IsSome self.new.receiver ↔ IsSome self.old.receiver }
+        ensures full { (plan : Plan) (card : CardFields) (clear : List (List ℕ)) (total u n : ℕ) (w : Watch) →
+            IsErr result → IsCountable (present plan clear w) → w.cursor < n →
+            packet.now ≡ get_or (stream plan clear) w.cursor [] → IsSeated plan card clear total w self.old →
+            total < length (concat (written plan card clear (watched u n (Offer u) w))) }
+    {
+        if let Some(receiver) = &mut self.receiver {
+            hear(receiver, packet, &mut self.written, steps)?;
+        }
+        self.cursor += 1;
+        Ok(())
+    }
+}
+
+/// Packet i of a stream of which all packets before it are there, if it is there.
+pub fn packet_at(bytes: &[u8], i: usize) -> Option<Packet>
+    requires before { i ≤ length (packets_of bytes.now) }
+    ensures value { result ≡ slice_get (packets_of bytes.now) i }
+    ensures few { IsSome result → i < 2 ^ 64 - 1 }
+{
+    if i >= bytes.len() / SIZE {
+        return None;
+    }
+    let rest = &bytes[SIZE * i..];
+    let piece = rest.first_chunk::<SIZE>()?;
+    Packet::new(*piece)
+}
+
+/// Passes the next packet of what was sent, if one is left.
+pub fn pass_next<L: Ledger>(
+    seat: &mut Seat,
+    sent: &[u8],
+    steps: &mut Steps<L>,
+) -> Result<(), NoMemory>
+    requires live { IfSome seat.old.receiver IsLive }
+    requires behind { seat.old.cursor ≤ length (packets_of sent.now) }
+    ensures seated { (plan : Plan) (card : CardFields) (clear : List (List ℕ)) (total u : ℕ) (w : Watch) →
+        IsCountable (present plan clear w) → packets_of sent.now ≡ stream plan clear →
+        IsSeated plan card clear total w seat.old →
+        OnOk result (IsSeated plan card clear total (watched u (length (packets_of sent.now)) (Offer u) w) seat.new) }
+    ensures full { (plan : Plan) (card : CardFields) (clear : List (List ℕ)) (total u : ℕ) (w : Watch) →
+        IsErr result → IsCountable (present plan clear w) → packets_of sent.now ≡ stream plan clear →
+        IsSeated plan card clear total w seat.old →
+        total < length (concat (written plan card clear (watched u (length (packets_of sent.now)) (Offer u) w))) }
+    ensures there { IsErr result → IsSome seat.new.receiver ↔ IsSome seat.old.receiver }
+{
+    match packet_at(sent, seat.cursor) {
+        Some(packet) => seat.pass(&packet, steps),
+        None => Ok(()),
+    }
+}
+
+/// Loses the next packet of what was sent, if one is left.
+pub fn lose_next(seat: &mut Seat, sent: &[u8])
+    requires behind { seat.old.cursor ≤ length (packets_of sent.now) }
+    ensures seated { (plan : Plan) (card : CardFields) (clear : List (List ℕ)) (total u : ℕ) (w : Watch) →
+        IsSeated plan card clear total w seat.old →
+        IsSeated plan card clear total (watched u (length (packets_of sent.now)) (Lose u) w) seat.new }
+{
+    if packet_at(sent, seat.cursor).is_some() {
+        seat.cursor += 1;
+    }
+}
+
+impl Seat {
+    /// Switches the leaf's receiver on, as a new one, if it is off. If memory is out, all is as it was.
+    pub fn turn_on<L: Ledger>(
+        &mut self,
+        alloc: Global,
+        site: &Site,
+        u: Leaf,
+        steps: &mut Steps<L>,
+    ) -> Result<(), NoMemory>
+        requires leaf { u < 2 ^ site.now.height }
+        ensures seated { (plan : Plan) (card : CardFields) (clear : List (List ℕ)) (total n : ℕ) (w : Watch) →
+            card ≡ card_of site.now.master site.now.ca site.now.height u →
+            IsSeated plan card clear total w self.old →
+            OnOk result (IsSeated plan card clear total (watched u n (On u) w) self.new) }
+        ensures same { IsErr result → self.new ≡ self.old }
+        ensures was_off { IsErr result → is_some self.old.receiver ≡ false }
+    {
+        if self.receiver.is_some() {
+            return Ok(());
+        }
+        let card = Card::make(alloc, site, u, steps)?;
+        self.receiver = Some(Receiver::new(alloc, card)?);
+        Ok(())
+    }
+
+    /// Switches the leaf's receiver off.
+    pub fn turn_off(&mut self)
+        ensures seated { (plan : Plan) (card : CardFields) (clear : List (List ℕ)) (total u n : ℕ) (w : Watch) →
+            IsSeated plan card clear total w self.old →
+            IsSeated plan card clear total (watched u n (Off u) w) self.new }
+    {
+        self.receiver = None;
+    }
+}
