@@ -78,7 +78,8 @@ begins=$(awk -v first="$period" '
     /^period$/ { period++ }
     !/^period$/ && period > first { print period; exit }' day.new/book.txt)
 [ -z "$begins" ] || [ "$later" = later ] ||
-    fail "book.txt has commands that hold from period $begins on, and this is period $period; see the argument later"
+    fail "book.txt has commands that hold from period $begins on only, and this is period $period: move them to before the
+lines period that are still to come, or take the argument later if that is meant"
 
 # The last period that WORDS control words reach: the next one with each span of them, up to the book's last.
 span=$(sed -n 's/^period-cryptos //p' channel.txt)
