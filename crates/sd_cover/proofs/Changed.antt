@@ -2,11 +2,10 @@
 use Rattle.std.proofs.Common.{◌≡◌, ◌∙◌, ℕ, ◌^◌, ◌==◌, ◌&&◌, ◌||◌, not, Bool, false, List, [], ◌∷◌, filter, nat_eq}
 use Rattle.std.proofs.Common.{arith, sym, ap, subst, refl}
 use Rattle.std.specs.List.{list_any}
-use Rattle.sd_tree.specs.Leaves.{leaves}
+use Rattle.sd_tree.specs.Leaves.{leaves, with_leaf, without_leaf}
 use Rattle.sd_tree.specs.declared.set.SetName.{SetName}
 use Rattle.sd_steiner.specs.Chains.{IsChainCover}
 use Rattle.sd_steiner.proofs.Names.{one_cover}
-use Rattle.sd_cover.specs.Index.{with_leaf, without_leaf}
 use Rattle.sd_cover.specs.Changes.{Change, Revokes, Subscribes, revoked_after, ends_revoked, last_revoked}
 use Rattle.sd_cover.proofs.Ranges.{filter_same, filter_twice, passes}
 use Rattle.sd_cover.proofs.Indexes.{none_passes}

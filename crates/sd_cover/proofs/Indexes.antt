@@ -13,13 +13,13 @@ use Rattle.sd_steiner.proofs.Lists.{counted_some}
 use Rattle.std.proofs.lemmas.Bool.{cases_Bool, cond-true, cond-false}
 use Rattle.std.proofs.lemmas.Bool.Decides.{eqb_tells, nat_tests}
 use Rattle.std.proofs.lemmas.Nat.{pow_pos}
-use Rattle.sd_tree.specs.Leaves.{is_below, leaves}
+use Rattle.sd_tree.specs.Leaves.{is_below, leaves, with_leaf, without_leaf}
 use Rattle.sd_tree.proofs.Levels.{doubled}
 use Rattle.sd_tree.proofs.Ancestors.{leaf_level}
 use Rattle.sd_steiner.proofs.Levels.{StandsAt, below_by_halvings}
 use Rattle.sd_cover.specs.Tally.{count_at}
 use Rattle.sd_cover.specs.Path.{met_by}
-use Rattle.sd_cover.specs.Index.{IndexValue, count_below, is_revoked, revoked_by, IsIndex, with_leaf, without_leaf}
+use Rattle.sd_cover.specs.Index.{IndexValue, count_below, is_revoked, revoked_by, IsIndex}
 use Rattle.sd_cover.proofs.Paths.{met_is_below}
 use Rattle.sd_cover.proofs.Ranges.{count_filter, count_same, count_point, count_one_more, filter_same, filter_twice}
 use Rattle.sd_cover.proofs.Ranges.{passes, found}

@@ -1,7 +1,6 @@
 -- Revocations and subscriptions one after the other.
 use Rattle.std.specs.Prelude.{ℕ, ◌==◌, ◌&&◌, ◌||◌, not, Bool, false, List, [], ◌∷◌, filter}
-use Rattle.sd_tree.specs.Leaves.{leaves}
-use Rattle.sd_cover.specs.Index.{with_leaf, without_leaf}
+use Rattle.sd_tree.specs.Leaves.{leaves, with_leaf, without_leaf}
 
 -- a change of the revoked leaves: a leaf is revoked, or revoked no more [this project, docs/FORMATS.md, Book]
 pub data Change : Type 0 where

@@ -1,6 +1,5 @@
 -- The index of the revoked leaves: a count for each node of the tree.
-use Rattle.std.specs.Prelude.{◌≡◌, ℕ, ◌+◌, ◌^◌, ◌<◌, ◌≤◌, ◌==◌, ◌||◌, not, nat_eq, Bool, List, filter, count_by, All}
-use Rattle.std.specs.List.{list_any}
+use Rattle.std.specs.Prelude.{◌≡◌, ℕ, ◌+◌, ◌^◌, ◌<◌, ◌≤◌, ◌==◌, Bool, List, filter, count_by, All}
 use Rattle.std.specs.List.Sorted.{IsStrictlyIncreasing}
 use Rattle.std.specs.Ordering.{nat_cmp}
 use Rattle.std.specs.FinMap.{FinMap}
@@ -29,14 +28,6 @@ revoked_by d counts = filter (is_revoked d counts) (leaves d)
 -- each node of the tree counts the revoked leaves at or below it
 pub record IsIndex (d : ℕ) (counts : FinMap nat_cmp ℕ) : Type 0 where
   pub count : (v : ℕ) → 1 ≤ v → v < 2 ^ (d + 1) → count_at counts v ≡ count_below d (revoked_by d counts) v
-
--- the leaves that are u or among these, ascending
-unfoldable pub with_leaf : ℕ → ℕ → List ℕ → List ℕ
-with_leaf d u revoked = filter (λ w. w == u || list_any (nat_eq w) revoked) (leaves d)
-
--- these leaves but for u
-unfoldable pub without_leaf : ℕ → List ℕ → List ℕ
-without_leaf u revoked = filter (λ w. not (w == u)) revoked
 
 -- they are leaves of a tree of height d, and ascend
 pub record AreRevocable (d : ℕ) (revoked : List ℕ) : Type 0 where

@@ -1,6 +1,6 @@
 ghost use Rattle.std.specs.Prelude.{◌≡◌, ℕ, ◌+◌, ◌^◌, ◌<◌, ◌≤◌, ◌↔◌, [], Contains, IsTrue, OnOk, OnErr};
+ghost use Rattle.sd_tree.specs.Leaves.{with_leaf, without_leaf};
 ghost use Rattle.sd_cover.specs.declared.index.TheConstants.{MOST_SPARE};
-ghost use Rattle.sd_cover.specs.Index.{with_leaf, without_leaf};
 
 use crate::counts::Counts;
 use crate::path::{lower_path, lowest_node, raise_path};

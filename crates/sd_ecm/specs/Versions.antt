@@ -46,8 +46,8 @@ even_table_id version = if version == 2 then table_id_2 else table_id_1
 unfoldable pub version_for : ℕ → ℕ
 version_for table_id = if nat_lt table_id table_id_2 then 1 else 2
 
--- from message `since` on each packet up to this message has its control word: `since` is below the number, unless both
--- are 0
+-- each packet from message `since` up to this message has the control word of message `since`, which is below the
+-- number, unless both are 0
 -- [this project, docs/FORMATS.md, Messages]
 abbrev pub IsBefore : ℕ → ℕ → Type 0
 IsBefore since number = (since < number) ⊎ ((since ≡ 0) × (number ≡ 0))

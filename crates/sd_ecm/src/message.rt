@@ -22,7 +22,8 @@ pub struct EcmHead {
     pub word: u32,
     /// How many clear packets stand before the message.
     pub clear: u32,
-    /// The first message from which on each packet up to this message has its control word.
+    /// A message before this one, whose control word each packet from there up to this message has. For message 0 it is
+    /// 0, and in version 1 it is the message before.
     pub since: u32,
     /// Whether the message closes the stream.
     pub closing: bool,

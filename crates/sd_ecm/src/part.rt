@@ -33,8 +33,8 @@ pub struct EcmPart {
     pub word: u32,
     /// How many clear packets stand before the message.
     pub clear: u32,
-    /// The first message from which on each packet up to this message has its control word. Version 1 doesn't write it:
-    /// there it is the message before, or 0 for message 0.
+    /// A message before this one, whose control word each packet from there up to this message has. For message 0 it is
+    /// 0. Version 1 doesn't write it: there it is the message before.
     pub since: u32,
     /// Whether the message closes the stream.
     pub closing: bool,
@@ -63,7 +63,7 @@ pub struct EcmHeader {
     pub word: u32,
     /// How many clear packets stand before the message.
     pub clear: u32,
-    /// The first message from which on each packet has the control word.
+    /// A message before this one, whose control word each packet from there up to this message has, or 0.
     pub since: u32,
     /// Whether the message closes the stream.
     pub closing: bool,

@@ -5,7 +5,7 @@ use Rattle.std.specs.Prelude.{◌||◌, not, nat_eq, Result, Ok, Err, OnOk}
 use Rattle.std.specs.List.{filter, list_any}
 use Rattle.std.proofs.lemmas.Bool.{cases_Bool}
 use Rattle.std.proofs.lemmas.Grind.{common_steps}
-use Rattle.sd_tree.specs.Leaves.{leaves, with_leaf as with_leaf_of_tree, without_leaf as without_leaf_of_tree}
+use Rattle.sd_tree.specs.Leaves.{leaves, with_leaf, without_leaf}
 use Rattle.sd_book.specs.declared.command.Command.{Command}
 use Rattle.sd_book.specs.declared.command.Command.TheVariants.{Subscribe, Revoke, Period}
 use Rattle.sd_book.specs.Commands.{is_revoked, revoked, revoked_after, after_commands, commands_in, commands_until}
@@ -13,7 +13,6 @@ use Rattle.sd_book.specs.Commands.{last_period}
 use Rattle.sd_book.proofs.Followed.{one_follows, first_follows, next_follows}
 use Rattle.sd_book.proofs.Replays.{none_revoked}
 use Rattle.sd_entitling.specs.Kept.{revoked_before}
-use Rattle.sd_cover.specs.Index.{with_leaf, without_leaf}
 use Rattle.sd_cover.proofs.Ranges.{filter_same, passes, found}
 
 -- a leaf that isn't among others is not missed
@@ -40,14 +39,14 @@ not_there u leaves h =
 -- a leaf that is subscribed
 pub subscribed : (d u : ℕ) (before : List Command) (old now : List ℕ) → old ≡ revoked_after d before →
     now ≡ without_leaf u old → now ≡ revoked_after d (before ++ Subscribe u ∷ [])
-unfolding without_leaf without_leaf_of_tree
+unfolding without_leaf
 subscribed d u before old now is e =
     e ∙ (ap (λ (xs : List ℕ). filter (λ w. not (w == u)) xs) is ∙ one_follows d before (Subscribe u))
 
 -- a leaf that is revoked
 pub revoked_now : (d u : ℕ) (before : List Command) (old now : List ℕ) → old ≡ revoked_after d before →
     now ≡ with_leaf d u old → now ≡ revoked_after d (before ++ Revoke u ∷ [])
-unfolding with_leaf with_leaf_of_tree
+unfolding with_leaf
 revoked_now d u before old now is e =
     e ∙ (ap (λ (xs : List ℕ). filter (λ w. w == u || list_any (nat_eq w) xs) (leaves d)) is
     ∙ one_follows d before (Revoke u))
@@ -55,7 +54,7 @@ revoked_now d u before old now is e =
 -- one that is revoked again
 pub there_already : (d u : ℕ) (before : List Command) (old : List ℕ) → old ≡ revoked_after d before →
     Contains old u → old ≡ revoked_after d (before ++ Revoke u ∷ [])
-unfolding with_leaf_of_tree
+unfolding with_leaf
 there_already d u before old is there = is ∙ (sym again ∙ one_follows d before (Revoke u))
   where
     passed : (w : ℕ) → w < 2 ^ d → (w == u || list_any (nat_eq w) (revoked_after d before)) ≡ is_revoked before w

@@ -2,7 +2,7 @@ ghost use Rattle.std.specs.Prelude.{◌≡◌, ◌+◌, ◌*◌, ◌^◌, ◌<�
 ghost use Rattle.sd_book.specs.declared.command.Command.{Command as Commands};
 ghost use Rattle.sd_book.specs.declared.command.Command.TheVariants.{Revoke as RevokeOf};
 ghost use Rattle.sd_book.specs.Commands.{is_within, revoked_after};
-ghost use Rattle.sd_cover.specs.Index.{without_leaf};
+ghost use Rattle.sd_tree.specs.Leaves.{without_leaf};
 
 use sd_book::Command;
 use sd_cause::NoMemory;

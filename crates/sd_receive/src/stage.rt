@@ -18,7 +18,8 @@ use std::alloc::Global;
 use std::sync::ledger::Ledger;
 
 impl Receiver {
-    /// Before the first packet. It takes all memory that it ever does, at most 1 MB.
+    /// Before the first packet. It takes all memory that it ever does: by its layout 995,328 bytes, which no clause
+    /// says.
     pub fn new(alloc: Global, card: Card) -> Result<Receiver, NoMemory>
         ensures value { IfOk result (IsAfter []) }
         ensures card { IfOk result (λ receiver. receiver.card ≡ card) }

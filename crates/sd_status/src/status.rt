@@ -20,7 +20,7 @@ pub enum Status {
     Usage,
     /// There is no file of the name that this word is, or no folder for a file to be made.
     Missing(u8),
-    /// The stream is closed, and the card's leaf is revoked in this period of it, before which it is in none.
+    /// The stream is closed, and the card's leaf is revoked in this period, the first of those heard in which it is.
     Revoked { leaf: u32, period: u32 },
     /// The device failed at a file.
     DepotFault,

@@ -1,5 +1,6 @@
 use Rattle.std.proofs.Common.{◌≡◌, ◌+◌, ◌^◌, ℕ, ap, ◌∙◌, arith}
-use Rattle.sd_cover.specs.Index.{IndexValue, with_leaf}
+use Rattle.sd_tree.specs.Leaves.{with_leaf}
+use Rattle.sd_cover.specs.Index.{IndexValue}
 use Rattle.sd_cover.specs.Path.{met_by}
 use Rattle.sd_cover.specs.Tally.{count_at}
 use Rattle.sd_cover.proofs.Indexes.{seen_leaf, seen_other, count_within, revoked_more, index_more}

@@ -1,5 +1,6 @@
 use Rattle.std.proofs.Common.{◌≡◌, ◌+◌, ◌^◌, ℕ, ap, ◌∙◌, arith}
-use Rattle.sd_cover.specs.Index.{IndexValue, without_leaf}
+use Rattle.sd_tree.specs.Leaves.{without_leaf}
+use Rattle.sd_cover.specs.Index.{IndexValue}
 use Rattle.sd_cover.specs.Path.{met_by}
 use Rattle.sd_cover.specs.Tally.{count_at}
 use Rattle.sd_cover.proofs.Indexes.{seen_leaf, seen_revoked, met_within, revoked_fewer, index_fewer}
