@@ -25,6 +25,7 @@ use sd_tree::{Height, SetName};
 
 /// The entitlements that a packet's section says, or `None` where the packet is of another kind. What stands after the
 /// section isn't read.
+#[inline(always)]
 pub fn read_emm(h: Height, packet: &Packet) -> Result<Option<Emm>, EmmFault>
     ensures none { (result ≡ Ok None) ↔ ¬ IsEmmPacket packet.now }
     ensures fault { (fault : EmmFault) →
