@@ -127,6 +127,21 @@ fn each_status_has_its_line(rt: HostRuntime) -> Result<(), AllocError> {
             "limit: trial packets\n",
         ),
         (Status::Limit(LimitKind::Traced), 11, "limit: traced\n"),
+        (
+            Status::Limit(LimitKind::FieldHeight),
+            11,
+            "limit: field height\n",
+        ),
+        (
+            Status::Limit(LimitKind::FieldPackets),
+            11,
+            "limit: field packets\n",
+        ),
+        (
+            Status::Limit(LimitKind::FieldEvents),
+            11,
+            "limit: field events\n",
+        ),
         (Status::NoMemory, 12, "no memory\n"),
         (
             Status::Unheard { leaf: 2, period: 1 },

@@ -23,7 +23,7 @@ use Rattle.sd_status.specs.declared.status.Status.TheVariants.{BadSite, BadBook,
 use Rattle.sd_status.specs.declared.status.Status.TheVariants.{Limit, NoMemory, Unheard, Unclosed, Gaps, NoCat, BadWord, Clash}
 use Rattle.sd_status.specs.declared.status.LimitKind.{LimitKind}
 use Rattle.sd_status.specs.declared.status.LimitKind.TheVariants.{SiteBytes, BookBytes, CardBytes, Book, TrialHeight}
-use Rattle.sd_status.specs.declared.status.LimitKind.TheVariants.{TrialPackets, Traced}
+use Rattle.sd_status.specs.declared.status.LimitKind.TheVariants.{TrialPackets, Traced, FieldHeight, FieldPackets, FieldEvents}
 use Rattle.sd_status.specs.declared.status.ClearCause.{ClearCause}
 use Rattle.sd_status.specs.declared.status.ClearCause.TheVariants as clear
 use Rattle.sd_status.specs.declared.status.Clash.{Clash as ClashKind}
@@ -134,6 +134,9 @@ limit_line (Book limit) = book_limit_line limit
 limit_line TrialHeight = codes "limit: trial height\n"
 limit_line TrialPackets = codes "limit: trial packets\n"
 limit_line Traced = codes "limit: traced\n"
+limit_line FieldHeight = codes "limit: field height\n"
+limit_line FieldPackets = codes "limit: field packets\n"
+limit_line FieldEvents = codes "limit: field events\n"
 
 -- the line of a leaf that is revoked
 unfoldable pub revoked_line : ℕ → ℕ → List ℕ

@@ -146,6 +146,12 @@ pub enum LimitKind {
     TrialPackets,
     /// At most 65,536 leaves may be revoked while leaves are traced.
     Traced,
+    /// A site's tree may be at most 6 high for a field.
+    FieldHeight,
+    /// A clear stream may have at most 3,080,192 bytes, those of 16,384 packets, for a field.
+    FieldPackets,
+    /// A field's script may have at most 524,288 events.
+    FieldEvents,
 }
 
 /// Why two broadcasts may not go out under one set of cards. Sites are numbered from 1.

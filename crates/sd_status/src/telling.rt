@@ -364,5 +364,8 @@ fn limit_line(alloc: Global, kind: LimitKind) -> Result<Line, AllocError>
         LimitKind::TrialHeight => Line::Fixed("limit: trial height\n"),
         LimitKind::TrialPackets => Line::Fixed("limit: trial packets\n"),
         LimitKind::Traced => Line::Fixed("limit: traced\n"),
+        LimitKind::FieldHeight => Line::Fixed("limit: field height\n"),
+        LimitKind::FieldPackets => Line::Fixed("limit: field packets\n"),
+        LimitKind::FieldEvents => Line::Fixed("limit: field events\n"),
     })
 }
