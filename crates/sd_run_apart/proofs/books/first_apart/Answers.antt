@@ -1,5 +1,5 @@
-use Rattle.std.proofs.Common.{arith, ◌≡◌, ◌∙◌, ℕ, ap, sym, min, Option, Some, None}
-use Rattle.sd_run_apart.proofs.Merging.{apart_here, both_end, left_on, merged, merged_is, right_on}
+use Rattle.std.proofs.Common.{arith, ◌≡◌, ◌∙◌, ap, sym, Some}
+use Rattle.sd_run_apart.proofs.Merging.{apart_here, both_end, left_on, merged_is, right_on}
 use Rattle.sd_run_apart.proofs.books.first_apart.Goals as goal
 
 -- the lists have other leaves at one place
