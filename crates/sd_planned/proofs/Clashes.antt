@@ -1,59 +1,25 @@
 -- Two broadcasts that don't clash.
-use Rattle.std.proofs.Common.{arith, ◌≡◌, ℕ, zero, suc, ◌-◌, ◌==◌, ◌&&◌, ◌<◌, ◌≤◌, max, not, nat_le, nat_lt}
-use Rattle.std.proofs.Common.{Bool, true, false, List, Option, Some, None, length, slice_get, get_or}
-use Rattle.std.proofs.Common.{refl, sym, ap, ◌∙◌, inl, inr}
+use Rattle.std.proofs.Common.{arith, ◌≡◌, ℕ, zero, suc, ◌-◌, ◌<◌, ◌≤◌, ◌^◌, List, Option, Some, None, length, slice_get}
+use Rattle.std.proofs.Common.{get_or, refl, sym, ap, ◌∙◌}
 use Rattle.std.specs.Prelude.{[], ◌∷◌}
+use Rattle.std.specs.List.{range_with_len}
 use Rattle.std.specs.Option.{option_map, option_or}
-use Rattle.std.specs.Str.{bytes_eq}
-use Rattle.std.proofs.lemmas.Bool.{cases_lt, le-leb}
-use Rattle.std.proofs.lemmas.Bool.Decides.{nat_tests}
-use Rattle.sd_site.specs.Fields.{SiteFields}
+use Rattle.sd_site.specs.Fields.{AreInRange}
+use Rattle.sd_book.specs.Commands.{commands_until, is_revoked}
 use Rattle.sd_broadcast.specs.Plan.{Plan}
 use Rattle.sd_broadcast.proofs.Schedule.{period_in_first, periods_in_rise}
 use Rattle.sd_many.specs.Runs.{Run, IsRun, HasWords, ShareNoWord, OwnWords, UsesPeriod, Agree, AllAgree}
+use Rattle.sd_many.specs.Known.{AreOneTree}
 use Rattle.sd_many.proofs.Words.{used_words}
 use Rattle.sd_status.specs.declared.status.Clash.{Clash as ClashKind}
-use Rattle.sd_status.specs.declared.status.Clash.TheVariants.{Heights, Masters, NoWords, SharedWord, Books}
-use Rattle.sd_run_apart.specs.Apart.{books_clash, clash_in, clash_of, clash_where, differing_in, due_in_both}
-use Rattle.sd_run_apart.specs.Apart.{first_of, first_shared, last_due, shared_count, shares_word, sites_clash}
-use Rattle.sd_planned.proofs.Ranges.{either_none, no_leaf, none_in, one_list, where_none}
-
--- what sites that don't clash have
-pub record ArePairs (a b : SiteFields) : Type 0 where
-  pub words : HasWords a
-  pub words_more : HasWords b
-  pub apart : ShareNoWord a b
-
-not_below : (m n : ℕ) → nat_lt m n ≡ false → n ≤ m
-not_below m n h = grind (arith, nat_tests, h)
-
--- ranges without a common control word
-ranges_apart : (a b : SiteFields) → HasWords a → HasWords b → shares_word a b ≡ false → ShareNoWord a b
-ranges_apart a b some more none =
-    elim (cases_lt a.last_word b.first_word) [
-      | inl lt ↦ inl lt
-      | inr le ↦ elim (cases_lt b.last_word a.first_word) [
-        | inl lt ↦ inr lt
-        | inr low ↦
-            let left = le-leb (max a.first_word b.first_word) a.last_word (omega (arith, some, le)) in
-            let right = le-leb (max a.first_word b.first_word) b.last_word (omega (arith, more, low)) in
-            let both : shares_word a b ≡ true =
-            ap (λ (t : Bool). t && nat_le (max a.first_word b.first_word) b.last_word) left ∙ right in
-            absurd (let e = sym both ∙ none in cc)
-      ]
-    ]
-
-sites_apart : (a b : SiteFields) → sites_clash a b ≡ None → ArePairs a b
-unfolding sites_clash
-sites_apart a b h =
-    let one = where_none (not (a.height == b.height)) Heights _ h in
-    let two = where_none (not (bytes_eq a.master b.master)) Masters _ one.1 in
-    let three = where_none (nat_lt a.last_word a.first_word) (NoWords 1) _ two.1 in
-    let four = where_none (nat_lt b.last_word b.first_word) (NoWords 2) _ three.1 in
-    let five = where_none (shares_word a b) (SharedWord (max a.first_word b.first_word)) None four.1 in
-    let some = not_below a.last_word a.first_word three.0 in
-    let more = not_below b.last_word b.first_word four.0 in
-    record { words = some; words_more = more; apart = ranges_apart a b some more five.0 }
+use Rattle.sd_status.specs.declared.status.Clash.TheVariants.{Books}
+use Rattle.sd_run_apart.specs.Apart.{books_clash, clash_in, clash_of, differing_in, due_in_both, first_differing}
+use Rattle.sd_run_apart.specs.Apart.{first_of, first_shared, last_due, shared_count, sites_clash}
+use Rattle.sd_run_plan.specs.Air.{cryptos_for, last_period_for, last_word_for}
+use Rattle.sd_planned.proofs.Found.{swapped_none}
+use Rattle.sd_planned.proofs.Ranges.{either_none, no_leaf, none_in, none_of}
+use Rattle.sd_planned.proofs.Sites.{later_shares_none, pairs_have_none, ranges_apart, shares_swapped, sites_apart}
+use Rattle.sd_planned.proofs.Told.{books_alike}
 
 -- a period that a run uses is between its first one and the last that it may use
 record IsDue (plan : Plan) (q : ℕ) : Type 0 where
@@ -72,14 +38,14 @@ used_is_due master run q is some (t, (n, below, word, period)) =
     record { low = omega (arith, first, rise, period); high = omega (arith, up, period) }
 
 books_agree : (master : List ℕ) (a b : Run) → IsRun master a → IsRun master b → HasWords a.plan.site →
-    HasWords b.plan.site → books_clash a.plan b.plan ≡ None → Agree a b
+    HasWords b.plan.site → a.plan.site.height ≡ b.plan.site.height → books_clash a.plan b.plan ≡ None → Agree a b
 unfolding books_clash
-books_agree master a b is more some some_more h q used used_more =
+books_agree master a b is more some some_more heights h q used used_more =
     let one = used_is_due master a q is some used in
     let two = used_is_due master b q more some_more used_more in
     let none = none_in (clash_in a.plan b.plan) (first_shared a.plan b.plan) (shared_count a.plan b.plan) q h
     (omega (arith, one.low, two.low)) (omega (arith, one.low, two.low, one.high, two.high)) in
-    one_list _ _ (no_leaf q (differing_in a.plan b.plan q) none)
+    books_alike a.plan b.plan q heights (no_leaf q (differing_in a.plan b.plan q) none)
 
 pub two_apart : (master : List ℕ) (a b : Run) → IsRun master a → IsRun master b → clash_of a.plan b.plan ≡ None →
     (HasWords a.plan.site × HasWords b.plan.site) × (ShareNoWord a.plan.site b.plan.site × Agree a b)
@@ -87,7 +53,10 @@ two_apart master a b is more h =
     let both = either_none (sites_clash a.plan.site b.plan.site) (books_clash a.plan b.plan) h in
     let sites = sites_apart a.plan.site b.plan.site both.0 in (
       (sites.words, sites.words_more),
-      (sites.apart, books_agree master a b is more sites.words sites.words_more both.1),
+      (
+        ranges_apart a.plan.site b.plan.site sites.words sites.words_more sites.apart,
+        books_agree master a b is more sites.words sites.words_more sites.heights both.1,
+      ),
     )
 
 -- each two of some runs don't clash
@@ -106,6 +75,18 @@ there : (runs : List Run) (i : ℕ) (d : Run) → i < length runs → slice_get 
 there [] i d h = absurd (omega (arith, h))
 there (run ∷ runs) zero d h = refl
 there (run ∷ runs) (suc i) d h = there runs i d (omega (arith, h))
+
+-- they are of one tree, and have one master
+pub one_set : (a b : Plan) → clash_of a b ≡ None → (a.site.height ≡ b.site.height) × (a.site.master ≡ b.site.master)
+one_set a b h =
+    let is = sites_apart a.site b.site (either_none (sites_clash a.site b.site) (books_clash a b) h).0 in
+    (is.heights, is.masters)
+
+pub one_tree : (run : Run) (runs : List Run) → EachTwo (run ∷ runs) → AreOneTree run.plan.site.height (run ∷ runs)
+one_tree run runs two zero d h = refl
+one_tree run runs two (suc i) d h =
+    sym (one_set run.plan (get_or runs i d).plan (two 0 (suc i) run (get_or runs i d) refl
+    (there runs i d (omega (arith, h))) (omega arith))).0
 
 one_has : (master : List ℕ) (runs : List Run) → EachIs master runs → 1 < length runs → EachTwo runs → (i : ℕ)
     (d : Run) → i < length runs → HasWords (get_or runs i d).plan.site
@@ -130,64 +111,51 @@ all_words master runs each many two = record {
       (two_apart master a b (each i a at_i) (each j b at_j) (two i j a b at_i at_j low)).1.0;
 }
 
--- what is told of a common control word
-record IsShared (a b : SiteFields) (t : ℕ) : Type 0 where
-  shares : shares_word a b ≡ true
-  is : t ≡ max a.first_word b.first_word
+-- the books say the same of each receiver, the other way round
+swapped_in : (a b : Plan) (q : ℕ) → a.site.height ≡ b.site.height → differing_in a b q ≡ None →
+    differing_in b a q ≡ None
+swapped_in a b q heights none =
+    let one = is_revoked (commands_until q a.commands) in
+    let other = is_revoked (commands_until q b.commands) in
+    ap (λ (d : ℕ). first_differing other one (2 ^ d)) (sym heights) ∙ swapped_none one other (2 ^ a.site.height) none
 
-no_shared : (t : Bool) (clash : ClashKind) (next : Option ClashKind) (word : ℕ) →
-    (clash ≡ SharedWord word → ⊥) → clash_where t clash next ≡ Some (SharedWord word) → next ≡ Some (SharedWord word)
-no_shared true clash next word other h = absurd (other (let e : clash ≡ SharedWord word = cc in e))
-no_shared false clash next word other h = h
-
-last_shared : (t : Bool) (k word : ℕ) → clash_where t (SharedWord k) None ≡ Some (SharedWord word) →
-    (t ≡ true) × (word ≡ k)
-last_shared true k word h = (refl, cc)
-last_shared false k word h = absurd cc
-
-site_shared : (a b : SiteFields) (word : ℕ) → sites_clash a b ≡ Some (SharedWord word) → IsShared a b word
-unfolding sites_clash
-site_shared a b word h =
-    let one = no_shared (not (a.height == b.height)) Heights _ word (λ e. cc) h in
-    let two = no_shared (not (bytes_eq a.master b.master)) Masters _ word (λ e. cc) one in
-    let three = no_shared (nat_lt a.last_word a.first_word) (NoWords 1) _ word (λ e. cc) two in
-    let four = no_shared (nat_lt b.last_word b.first_word) (NoWords 2) _ word (λ e. cc) three in
-    let five = last_shared (shares_word a b) (max a.first_word b.first_word) word four in
-    record { shares = five.0; is = five.1 }
-
-no_book : (q : ℕ) (found : Option ℕ) (rest : Option ClashKind) (word : ℕ) →
-    option_or (option_map (λ u. Books u q) found) rest ≡ Some (SharedWord word) → rest ≡ Some (SharedWord word)
-no_book q None rest word h = h
-no_book q (Some u) rest word h = absurd cc
-
-no_books : (a b : Plan) (qs : List ℕ) (word : ℕ) → first_of (clash_in a b) qs ≡ Some (SharedWord word) → ⊥
-no_books a b [] word h = absurd cc
-no_books a b (q ∷ qs) word h =
-    no_books a b qs word (no_book q (differing_in a b q) (first_of (clash_in a b) qs) word h)
-
-both_true : (p q : Bool) → (p && q) ≡ true → (p ≡ true) × (q ≡ true)
-both_true true q h = (refl, h)
-both_true false q h = absurd cc
-
-within : (m n : ℕ) → nat_le m n ≡ true → m ≤ n
-within m n h = grind (arith, nat_tests, h)
-
-shared_is : (a b : Plan) (word : ℕ) → clash_of a b ≡ Some (SharedWord word) → IsShared a.site b.site word
+-- the other way round
+pub swapped_have_none : (a b : Plan) → clash_of a b ≡ None → clash_of b a ≡ None
 unfolding books_clash
-shared_is a b word h = by_sites (sites_clash a.site b.site) refl h
-  where
-    by_sites : (o : Option ClashKind) → sites_clash a.site b.site ≡ o →
-        option_or o (books_clash a b) ≡ Some (SharedWord word) → IsShared a.site b.site word
-    by_sites None e h = absurd (no_books a b (due_in_both a b) word h)
-    by_sites (Some clash) e h = site_shared a.site b.site word (e ∙ h)
+swapped_have_none a b h =
+    let both = either_none (sites_clash a.site b.site) (books_clash a b) h in
+    let is = sites_apart a.site b.site both.0 in
+    let sites : sites_clash b.site a.site ≡ None = pairs_have_none b.site a.site (record {
+      heights = sym is.heights;
+      masters = sym is.masters;
+      words = is.words_more;
+      words_more = is.words;
+      apart = shares_swapped a.site b.site is.apart;
+    }) in
+    let books : first_of (clash_in b a) (due_in_both b a) ≡ None =
+    none_of (clash_in b a) (first_shared b a) (shared_count b a) (λ q low high.
+    ap (option_map (λ u. Books u q)) (swapped_in a b q is.heights (no_leaf q (differing_in a b q)
+    (none_in (clash_in a b) (first_shared a b) (shared_count a b) q both.1 (omega (arith, low))
+    (omega (arith, low, high)))))) in
+    ap (λ (o : Option ClashKind). option_or o (first_of (clash_in b a) (due_in_both b a))) sites ∙ books
 
-pub word_shared : (a b : Plan) (word : ℕ) → clash_of a b ≡ Some (SharedWord word) →
-    ((a.site.first_word ≤ word) × (word ≤ a.site.last_word)) × ((b.site.first_word ≤ word) × (word ≤ b.site.last_word))
-word_shared a b word h =
-    let shared = shared_is a b word h in
-    let most = max a.site.first_word b.site.first_word in
-    let both = both_true (nat_le most a.site.last_word) (nat_le most b.site.last_word) shared.shares in
-    let left = within most a.site.last_word both.0 in
-    let right = within most b.site.last_word both.1 in
-    let is = shared.is in
-    ((omega (arith, is), omega (arith, is, left)), (omega (arith, is), omega (arith, is, right)))
+-- a site from the next control word and period on
+pub next_have_none : (plan more : Plan) (m : ℕ) → AreInRange plan.site → plan.site.height ≡ more.site.height →
+    plan.site.master ≡ more.site.master → HasWords plan.site → HasWords more.site →
+    plan.site.last_word ≤ last_word_for plan.site m → last_word_for plan.site m < more.site.first_word →
+    last_period_for plan (cryptos_for plan.site m) < more.site.first_period → clash_of plan more ≡ None
+unfolding books_clash
+next_have_none plan more m r heights masters some some_more words word period =
+    let sites : sites_clash plan.site more.site ≡ None = pairs_have_none plan.site more.site (record {
+      heights = heights;
+      masters = masters;
+      words = some;
+      words_more = some_more;
+      apart = later_shares_none plan.site more.site (omega (arith, words, word));
+    }) in
+    let up = periods_in_rise plan (plan.site.last_word - plan.site.first_word) (cryptos_for plan.site m - 1) r
+    (omega (arith, words)) in
+    let none : shared_count plan more ≡ 0 = omega (arith, up, period) in
+    let books : first_of (clash_in plan more) (due_in_both plan more) ≡ None =
+    ap (λ (k : ℕ). first_of (clash_in plan more) (range_with_len (first_shared plan more) k)) none in
+    ap (λ (o : Option ClashKind). option_or o (first_of (clash_in plan more) (due_in_both plan more))) sites ∙ books

@@ -1,3 +1,6 @@
 pub mod Airs
 pub mod Clashes
+pub mod Found
 pub mod Ranges
+pub mod Sites
+pub mod Told

@@ -1,16 +1,17 @@
 -- Two books beside one another, period by period.
-use Rattle.std.proofs.Common.{arith, ◌≡◌, ℕ, zero, suc, ◌+◌, ◌-◌, ◌<◌, ◌≤◌, min, List, [], ◌∷◌, ◌++◌, Option, Some, None}
+use Rattle.std.proofs.Common.{arith, ◌≡◌, ℕ, zero, suc, ◌+◌, ◌-◌, ◌^◌, ◌<◌, ◌≤◌, min, Bool, List, [], ◌∷◌, ◌++◌, filter}
+use Rattle.std.proofs.Common.{Option, Some, None}
 use Rattle.std.proofs.Common.{refl, sym, ap, ◌∙◌, inl, inr}
 use Rattle.std.specs.Option.{option_map, option_or}
 use Rattle.std.specs.List.{range_with_len}
 use Rattle.std.proofs.lemmas.Bool.{cases_lt}
 use Rattle.sd_book.specs.declared.command.Command.{Command}
-use Rattle.sd_book.specs.Commands.{last_period, revoked}
+use Rattle.sd_book.specs.Commands.{commands_until, is_revoked, last_period, revoked}
 use Rattle.sd_book.proofs.Cuts.{revoked_past}
 use Rattle.sd_broadcast.specs.Plan.{Plan}
 use Rattle.sd_status.specs.declared.status.Clash.{Clash as ClashKind}
 use Rattle.sd_status.specs.declared.status.Clash.TheVariants.{Books}
-use Rattle.sd_run_apart.specs.Apart.{clash_in, first_apart, first_of, first_shared}
+use Rattle.sd_run_apart.specs.Apart.{clash_in, first_differing, first_of, first_shared}
 
 -- some first numbers, and the others
 range_split : (a i n : ℕ) → range_with_len a (i + n) ≡ range_with_len a i ++ range_with_len (a + i) n
@@ -71,16 +72,20 @@ same_revoked d first before commands within =
 
 -- what is found in the two lists is the clash in the period
 pub clash_is : (a b : Plan) (before : ℕ) (left right : List ℕ) (found : Option ℕ) →
+    a.site.height ≡ b.site.height →
     before ≤ last_period a.commands - first_shared a b → before ≤ last_period b.commands - first_shared a b →
     left ≡ revoked a.site.height a.commands (min (first_shared a b) (last_period a.commands) + before) →
     right ≡ revoked b.site.height b.commands (min (first_shared a b) (last_period b.commands) + before) →
-    found ≡ first_apart left right →
+    ((one other : ℕ → Bool) (n : ℕ) → left ≡ filter one (range_with_len 0 n) →
+    right ≡ filter other (range_with_len 0 n) → found ≡ first_differing one other n) →
     clash_in a b (first_shared a b + before) ≡ option_map (λ u. Books u (first_shared a b + before)) found
-clash_is a b before left right found low high one two is =
+clash_is a b before left right found high_is low high one two is =
     let q = first_shared a b + before in
     let one_is : left ≡ revoked a.site.height a.commands q =
     one ∙ same_revoked a.site.height (first_shared a b) before a.commands low in
-    let two_is : right ≡ revoked b.site.height b.commands q =
-    two ∙ same_revoked b.site.height (first_shared a b) before b.commands high in
-    ap (option_map (λ u. Books u q)) (sym (is ∙ ap (λ (xs : List ℕ). first_apart xs right) one_is
-    ∙ ap (first_apart (revoked a.site.height a.commands q)) two_is))
+    let two_is : right ≡ revoked a.site.height b.commands q =
+    two
+    ∙ same_revoked b.site.height (first_shared a b) before b.commands high
+    ∙ ap (λ (d : ℕ). revoked d b.commands q) (sym high_is) in
+    ap (option_map (λ u. Books u q)) (sym (is (is_revoked (commands_until q a.commands))
+    (is_revoked (commands_until q b.commands)) (2 ^ a.site.height) one_is two_is))

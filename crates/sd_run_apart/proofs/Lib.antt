@@ -1,3 +1,4 @@
 pub mod Agreeing
+pub mod Merging
 pub mod Pairs
 pub mod Others

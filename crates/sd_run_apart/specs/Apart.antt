@@ -1,11 +1,11 @@
 -- `apart SITE BOOK SITE BOOK` [this project, docs/FORMATS.md, Apart].
-use Rattle.std.specs.Prelude.{ℕ, ◌+◌, ◌-◌, ◌==◌, nat_lt, nat_le, not, ◌&&◌, min, max, List, [], ◌∷◌, ◌++◌, bytes_eq, codes}
-use Rattle.std.specs.Prelude.{Bool, true, false, if◌then◌else◌, Option, Some, None, Result, Ok, Err}
+use Rattle.std.specs.Prelude.{ℕ, ◌+◌, ◌-◌, ◌^◌, ◌==◌, nat_lt, nat_le, not, ◌&&◌, min, max, find, List, [], ◌∷◌, ◌++◌}
+use Rattle.std.specs.Prelude.{Bool, true, false, Option, Some, None, Result, Ok, Err, bytes_eq, codes}
 use Rattle.std.specs.Option.{option_map, option_or}
 use Rattle.std.specs.List.{range_with_len}
 use Rattle.std.specs.Fmt.{decimal}
 use Rattle.sd_site.specs.Fields.{SiteFields}
-use Rattle.sd_book.specs.Commands.{revoked}
+use Rattle.sd_book.specs.Commands.{commands_until, is_revoked}
 use Rattle.sd_broadcast.specs.Plan.{Plan, period_in}
 use Rattle.sd_status.specs.declared.status.Status.{Status}
 use Rattle.sd_status.specs.declared.status.Status.TheVariants.{Clash, Done}
@@ -30,17 +30,20 @@ shared_count a b = min (last_due a) (last_due b) + 1 - first_shared a b
 abbrev pub due_in_both : Plan → Plan → List ℕ
 due_in_both a b = range_with_len (first_shared a b) (shared_count a b)
 
--- the least number that one of two ascending lists has and the other doesn't
-abbrev pub first_apart : List ℕ → List ℕ → Option ℕ
-first_apart [] [] = None
-first_apart (u ∷ us) [] = Some u
-first_apart [] (v ∷ vs) = Some v
-first_apart (u ∷ us) (v ∷ vs) = if u == v then first_apart us vs else Some (min u v)
+-- one of two tests says yes alone
+abbrev pub differ : Bool → Bool → Bool
+differ false other = other
+differ true other = not other
 
--- the first receiver of which two books say another thing in period q
+-- the least number below n of which one of two tests says yes alone
+abbrev pub first_differing : (ℕ → Bool) → (ℕ → Bool) → ℕ → Option ℕ
+first_differing one other n = find (λ u. differ (one u) (other u)) (range_with_len 0 n)
+
+-- the first receiver that one book alone revokes in period q
 abbrev pub differing_in : Plan → Plan → ℕ → Option ℕ
 differing_in a b q =
-    first_apart (revoked a.site.height a.commands q) (revoked b.site.height b.commands q)
+    first_differing (is_revoked (commands_until q a.commands)) (is_revoked (commands_until q b.commands))
+    (2 ^ a.site.height)
 
 abbrev pub clash_in : Plan → Plan → ℕ → Option ClashKind
 clash_in a b q = option_map (λ u. Books u q) (differing_in a b q)

@@ -1,9 +1,10 @@
 //! Whether two books agree on the periods of both.
 
-ghost use Rattle.std.specs.Prelude.{◌≡◌, ◌≤◌, IfOk};
+ghost use Rattle.std.specs.Prelude.{◌≡◌, ◌≤◌, ℕ, Bool, filter, IfOk};
+ghost use Rattle.std.specs.List.{range_with_len};
 ghost use Rattle.sd_book.specs.Commands.{last_period as last_of};
 ghost use Rattle.sd_site.specs.Fields.{fields_of};
-ghost use Rattle.sd_run_apart.specs.Apart.{books_clash, first_apart as apart_of};
+ghost use Rattle.sd_run_apart.specs.Apart.{books_clash, first_differing};
 
 use crate::sites::last_due;
 use sd_book::{Book, Periods};
@@ -23,6 +24,7 @@ pub(crate) fn clash_of_books(
 ) -> Result<Option<Clash>, NoMemory>
     requires first { book.now.height ≡ site.now.height }
     requires second { more.now.height ≡ other.now.height }
+    requires heights { site.now.height ≡ other.now.height }
     ensures { IfOk result (λ clash. clash ≡ books_clash
         (record { site = fields_of site.now; commands = book.now.commands })
         (record { site = fields_of other.now; commands = more.now.commands })) }
@@ -49,9 +51,11 @@ pub(crate) fn clash_of_books(
     Ok(None)
 }
 
-/// The least leaf that one of two ascending lists has and the other doesn't.
+/// The least leaf that one of two ascending lists has and the other doesn't: where each list is what a test lets through
+/// of the numbers below n, the least of which one test says yes alone.
 fn first_apart(left: &[Leaf], right: &[Leaf]) -> Option<u32>
-    ensures { result ≡ apart_of left.now right.now }
+    ensures { (one other : ℕ → Bool) (n : ℕ) → left.now ≡ filter one (range_with_len 0 n) →
+        right.now ≡ filter other (range_with_len 0 n) → result ≡ first_differing one other n }
 {
     let shared = left.len().min(right.len());
     for at in 0..shared {

@@ -1,6 +1,6 @@
 //! What is judged of the two sites alone.
 
-ghost use Rattle.std.specs.Prelude.{◌≡◌, ◌≤◌, ◌+◌, ◌-◌, List};
+ghost use Rattle.std.specs.Prelude.{◌≡◌, ◌≤◌, ◌+◌, ◌-◌, List, IsNone};
 ghost use Rattle.sd_book.specs.declared.command.Command.{Command};
 ghost use Rattle.sd_book.specs.Commands.{last_period as last_of};
 ghost use Rattle.sd_site.specs.Fields.{fields_of};
@@ -12,7 +12,8 @@ use sd_status::Clash;
 /// Why the sites don't go together.
 #[tactic(auto, unfolding(crate::specs::Apart::sites_clash))]
 pub(crate) fn clash_of_sites(a: &Site, b: &Site) -> Option<Clash>
-    ensures { result ≡ sites_clash (fields_of a.now) (fields_of b.now) }
+    ensures value { result ≡ sites_clash (fields_of a.now) (fields_of b.now) }
+    ensures heights { IsNone result → a.now.height ≡ b.now.height }
 {
     let least = a.first_word.max(b.first_word);
     if a.height != b.height {

@@ -1,4 +1,4 @@
-use Rattle.sd_planned.proofs.Clashes.{all_agree, all_words}
+use Rattle.sd_planned.proofs.Clashes.{all_agree, all_words, one_tree}
 use Rattle.sd_planned.proofs.pairs.checked_broadcasts_are_apart.Goals as goal
 
 pub returns-clause-words : goal.returns-clause-words
@@ -6,3 +6,6 @@ returns-clause-words c = all_words
 
 pub returns-clause-agree : goal.returns-clause-agree
 returns-clause-agree c = all_agree
+
+pub returns-clause-tree : goal.returns-clause-tree
+returns-clause-tree c = one_tree

@@ -61,8 +61,9 @@ returns-in-Some-first_apart c =
     let one = rw (turn.height, turn.commands, turn.next, c.in-Some.is) at c.in_ok-a.ensures.value in
     let two = rw (turn.height_more, turn.commands_more, turn.next_more, c.in-Some-2.is) at c.in_ok-b.ensures.value in
     let found = rw (c.deref.ensures.value, c.deref-in-loop-before.ensures.value) at c.first_apart.ensures in
+    let heights : a.site.height ≡ b.site.height = c.requires.heights in
     let clash : clash_in a b (first_shared a b + before) ≡ Some (Books leaf (first_shared a b + before)) =
-    clash_is a b before c.in-Some.a.items c.in-Some-2.b.items c.first_apart.result low high one two found
+    clash_is a b before c.in-Some.a.items c.in-Some-2.b.items c.first_apart.result heights low high one two found
     ∙ ap (option_map (λ u. Books u (first_shared a b + before))) c.in-Some-first_apart.is in
     ap (λ (k : ℕ). Some (Books leaf (k + before))) c.max-first.ensures
     ∙ sym (first_found (clash_in a b) (first_shared a b) before (shared_count a b)
@@ -104,8 +105,9 @@ loop-before-preserved c =
     let one = rw (turn.height, turn.commands, turn.next, c.in-Some.is) at c.in_ok-a.ensures.value in
     let two = rw (turn.height_more, turn.commands_more, turn.next_more, c.in-Some-2.is) at c.in_ok-b.ensures.value in
     let found = rw (c.deref.ensures.value, c.deref-in-loop-before.ensures.value) at c.first_apart.ensures in
+    let heights : a.site.height ≡ b.site.height = c.requires.heights in
     let clash : clash_in a b (first_shared a b + before) ≡ None =
-    clash_is a b before c.in-Some.a.items c.in-Some-2.b.items c.first_apart.result low high one two found
+    clash_is a b before c.in-Some.a.items c.in-Some-2.b.items c.first_apart.result heights low high one two found
     ∙ ap (option_map (λ u. Books u (first_shared a b + before))) c.in_default-first_apart.is in
     let next = rw c.in-Some.is at c.in_ok-a.ensures.next in
     let next_more = rw c.in-Some-2.is at c.in_ok-b.ensures.next in
