@@ -1,5 +1,5 @@
 -- Refusals by the tests in their order.
-use Rattle.std.proofs.Common.{◌≡◌, ℕ, ◌-◌, ◌^◌, ◌<◌, ◌≤◌, ◌==◌, true, false, List, length, refl, ap, ◌∙◌, arith}
+use Rattle.std.proofs.Common.{◌≡◌, ℕ, ◌-◌, ◌^◌, ◌<◌, ◌≤◌, ◌==◌, true, false, List, length, refl, sym, ap, ◌∙◌, arith}
 use Rattle.std.proofs.lemmas.Bool.Decides.{nat_tests}
 use Rattle.std.specs.Prelude.{Some, None}
 use Rattle.sd_packet.specs.Header.{pid_of, scrambling_of}
@@ -13,54 +13,54 @@ use Rattle.sd_broadcast.specs.declared.fault.ClearFault.TheVariants.{AlreadyScra
 use Rattle.sd_broadcast.specs.declared.fault.ClearFault.TheVariants.{TooManyPids, TooLong}
 
 pub scrambled_refused : (site : SiteFields) (before : List (List ℕ)) (packet : List ℕ) (n : ℕ) → n ≡ length before
-    → (scrambling_of packet == 0) ≡ false → Some (AlreadyScrambled n) ≡ refusal_of site before packet
+    → (scrambling_of packet == 0) ≡ false → refusal_of site before packet ≡ Some (AlreadyScrambled n)
 unfolding refusal_of
 scrambled_refused site before packet n is scrambled =
-    rw scrambled (ap (λ (k : ℕ). Some (AlreadyScrambled k)) is)
+    rw scrambled (ap (λ (k : ℕ). Some (AlreadyScrambled k)) (sym is))
 
 pub taken_refused : (site : SiteFields) (before : List (List ℕ)) (packet : List ℕ) (n pid : ℕ) → n ≡ length before
     → pid ≡ pid_of packet → (scrambling_of packet == 0) ≡ true → is_taken site (pid_of packet) ≡ true
-    → Some (PidTaken n pid) ≡ refusal_of site before packet
+    → refusal_of site before packet ≡ Some (PidTaken n pid)
 unfolding refusal_of
 taken_refused site before packet n pid is same clear taken =
-    rw clear (rw taken (ap (λ (k : ℕ). Some (PidTaken k pid)) is
-    ∙ ap (λ (p : ℕ). Some (PidTaken (length before) p)) same))
+    rw clear (rw taken (sym (ap (λ (k : ℕ). Some (PidTaken k pid)) is
+    ∙ ap (λ (p : ℕ). Some (PidTaken (length before) p)) same)))
 
 pub pat_refused : (site : SiteFields) (before : List (List ℕ)) (packet : List ℕ) (n : ℕ) (fault : FormFault)
     → n ≡ length before → (scrambling_of packet == 0) ≡ true → is_taken site (pid_of packet) ≡ false
-    → pat_wrong packet ≡ Some fault → Some (PatForm n fault) ≡ refusal_of site before packet
+    → pat_wrong packet ≡ Some fault → refusal_of site before packet ≡ Some (PatForm n fault)
 unfolding refusal_of
 pat_refused site before packet n fault is clear free wrong =
-    rw clear (rw free (rw wrong (ap (λ (k : ℕ). Some (PatForm k fault)) is)))
+    rw clear (rw free (rw wrong (ap (λ (k : ℕ). Some (PatForm k fault)) (sym is))))
 
 pub full_refused : (site : SiteFields) (before : List (List ℕ)) (packet : List ℕ) (n : ℕ) → n ≡ length before
     → (scrambling_of packet == 0) ≡ true → is_taken site (pid_of packet) ≡ false → pat_wrong packet ≡ None
     → is_full_own site (kind_of before packet) packet ≡ true
-    → Some (PmtForm n Form.NoRoom) ≡ refusal_of site before packet
+    → refusal_of site before packet ≡ Some (PmtForm n Form.NoRoom)
 unfolding refusal_of
 full_refused site before packet n is clear free pat full =
-    rw clear (rw free (rw pat (rw full (ap (λ (k : ℕ). Some (PmtForm k Form.NoRoom)) is))))
+    rw clear (rw free (rw pat (rw full (ap (λ (k : ℕ). Some (PmtForm k Form.NoRoom)) (sym is)))))
 
 pub many_refused : (site : SiteFields) (before : List (List ℕ)) (packet : List ℕ) (n : ℕ) → n ≡ length before
     → (scrambling_of packet == 0) ≡ true → is_taken site (pid_of packet) ≡ false → pat_wrong packet ≡ None
     → is_full_own site (kind_of before packet) packet ≡ false → is_one_too_many before packet ≡ true
-    → Some (TooManyPids n) ≡ refusal_of site before packet
+    → refusal_of site before packet ≡ Some (TooManyPids n)
 unfolding refusal_of
 many_refused site before packet n is clear free pat full many =
-    rw clear (rw free (rw pat (rw full (rw many (ap (λ (k : ℕ). Some (TooManyPids k)) is)))))
+    rw clear (rw free (rw pat (rw full (rw many (ap (λ (k : ℕ). Some (TooManyPids k)) (sym is))))))
 
 pub long_refused : (site : SiteFields) (before : List (List ℕ)) (packet : List ℕ) (n : ℕ) → n ≡ length before
     → (scrambling_of packet == 0) ≡ true → is_taken site (pid_of packet) ≡ false → pat_wrong packet ≡ None
     → is_full_own site (kind_of before packet) packet ≡ false → is_one_too_many before packet ≡ false
-    → is_too_long site (length before) ≡ true → Some (TooLong n) ≡ refusal_of site before packet
+    → is_too_long site (length before) ≡ true → refusal_of site before packet ≡ Some (TooLong n)
 unfolding refusal_of
 long_refused site before packet n is clear free pat full many long =
-    rw clear (rw free (rw pat (rw full (rw many (rw long (ap (λ (k : ℕ). Some (TooLong k)) is))))))
+    rw clear (rw free (rw pat (rw full (rw many (rw long (ap (λ (k : ℕ). Some (TooLong k)) (sym is)))))))
 
 pub none_refused : (site : SiteFields) (before : List (List ℕ)) (packet : List ℕ)
     → (scrambling_of packet == 0) ≡ true → is_taken site (pid_of packet) ≡ false → pat_wrong packet ≡ None
     → is_full_own site (kind_of before packet) packet ≡ false → is_one_too_many before packet ≡ false
-    → is_too_long site (length before) ≡ false → None ≡ refusal_of site before packet
+    → is_too_long site (length before) ≡ false → refusal_of site before packet ≡ None
 unfolding refusal_of
 none_refused site before packet clear free pat full many long =
     rw clear (rw free (rw pat (rw full (rw many (rw long refl)))))

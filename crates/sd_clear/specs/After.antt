@@ -1,9 +1,11 @@
 -- What is kept after packets.
-use Rattle.std.specs.Prelude.{◌≡◌, ℕ, ◌-◌, ◌^◌, ◌<◌, true, List, length, slice_index}
+use Rattle.std.specs.Prelude.{◌≡◌, ◌≢◌, ℕ, ◌-◌, ◌^◌, ◌<◌, true, List, length, slice_index}
 use Rattle.sd_packet.specs.Header.{pid_of, scrambling_of}
 use Rattle.sd_packet.specs.Positions.{is_positional, is_placed, position_of, first_position}
 use Rattle.sd_ecm.specs.Versions.{most_places}
-use Rattle.sd_broadcast.specs.Kinds.{pmts_in, moved_pids}
+use Rattle.sd_broadcast.specs.Kinds.{kind_of, pmts_in, moved_pids}
+use Rattle.sd_broadcast.specs.declared.kind.Kind.{Kind}
+use Rattle.sd_broadcast.specs.declared.kind.Kind.TheVariants.{Passed}
 use Rattle.sd_clear.specs.Kept.{AreMarked}
 use Rattle.sd_clear.specs.declared.clear.Clear.{Clear}
 
@@ -24,3 +26,9 @@ pub record MayFollow (clear : Clear) (packet : List ℕ) : Type 0 where
   pub number : clear.count < 2 ^ 32 - 1
   pub room : is_placed packet ≡ true → slice_index clear.positions.items (pid_of packet) ≡ first_position →
       length clear.pids.items < most_places
+
+-- it is the packet's kind after what is kept, and what isn't passed has a position
+-- [this project, docs/FORMATS.md, Broadcast]
+pub record IsKindAfter (clear : Clear) (packet : List ℕ) (kind : Kind) : Type 0 where
+  pub value : (before : List (List ℕ)) → IsAfter before clear → kind ≡ kind_of before packet
+  pub placed : kind ≢ Passed → is_placed packet ≡ true

@@ -6,7 +6,7 @@ ghost use Rattle.sd_site.specs.Fields.{fields_of};
 ghost use Rattle.sd_scramble.specs.Scrambling.{scrambled};
 ghost use Rattle.sd_broadcast.specs.Plan.{word_of};
 ghost use Rattle.sd_broadcast.specs.Carried.{carried, pmt_carried, parity_of};
-ghost use Rattle.sd_clear.specs.After.{IsAfter, MayFollow};
+ghost use Rattle.sd_clear.specs.After.{IsAfter, MayFollow, IsKindAfter};
 
 use crate::clear::Clear;
 use sd_broadcast::Kind;
@@ -16,16 +16,24 @@ use sd_scramble::{Parity, scramble};
 use sd_site::Site;
 
 impl Clear {
-    /// What the packet becomes in the crypto period whose control word has this number and is this (docs/FORMATS.md,
-    /// Broadcast).
-    pub fn carry(&self, site: &Site, packet: &Packet, number: u32, word: &[u8; 32]) -> Packet
-        requires { MayFollow self.now packet.now }
+    /// What the packet, of this kind, becomes in the crypto period whose control word has this number and is this
+    /// (docs/FORMATS.md, Broadcast).
+    pub fn carry(
+        &self,
+        kind: Kind,
+        site: &Site,
+        packet: &Packet,
+        number: u32,
+        word: &[u8; 32],
+    ) -> Packet
+        requires follows { MayFollow self.now packet.now }
+        requires kind { IsKindAfter self.now packet.now kind }
         ensures { (before : List (List ℕ)) → IsAfter before self.now →
             number ≡ word_of (fields_of site.now) (length before) →
             word.now ≡ control_word_of site.now.master number →
             result ≡ carried (fields_of site.now) before packet.now }
     {
-        match self.kind(packet) {
+        match kind {
             Kind::Passed => *packet,
             Kind::Pmt => rewritten(site, packet),
             Kind::Scrambled => veiled(packet, word, self.next_position(packet), parity(number)),

@@ -1,4 +1,5 @@
-ghost use Rattle.std.specs.Prelude.{◌≡◌, ◌≢◌, ◌<◌, ◌≤◌, ◌==◌, ◌&&◌, ℕ, List, true, false, IsNone, nat_le};
+ghost use Rattle.std.specs.Prelude.{◌≡◌, ◌≢◌, ◌<◌, ◌≤◌, ◌==◌, ◌&&◌, ℕ, List, true, false, Some, None, nat_le};
+ghost use Rattle.std.specs.Prelude.{IfOk, OnOk, MatchResult};
 ghost use Rattle.std.specs.Prelude.{length, get_or, slice_index};
 ghost use Rattle.sd_packet.specs.Header.{pid_of, payload_start_of};
 ghost use Rattle.sd_packet.specs.Positions.{is_placed, first_position};
@@ -6,9 +7,9 @@ ghost use Rattle.sd_site.specs.Fields.{fields_of};
 ghost use Rattle.sd_broadcast.specs.Plan.{word_of};
 ghost use Rattle.sd_broadcast.specs.Kinds.{kind_of};
 ghost use Rattle.sd_broadcast.specs.declared.kind.Kind.TheVariants.{Passed, Pmt};
-ghost use Rattle.sd_broadcast.specs.Refused.{refusal_of, is_taken as is_taken_pid, pat_wrong, is_full_own};
-ghost use Rattle.sd_broadcast.specs.Refused.{is_one_too_many, is_too_long};
-ghost use Rattle.sd_clear.specs.After.{IsAfter, MayFollow};
+ghost use Rattle.sd_broadcast.specs.Refused.{refusal_of, is_taken as is_taken_pid, pat_wrong};
+ghost use Rattle.sd_broadcast.specs.Refused.{is_full_own as is_full_pmt, is_one_too_many, is_too_long};
+ghost use Rattle.sd_clear.specs.After.{IsAfter, MayFollow, IsKindAfter};
 
 use crate::clear::{Clear, FIRST_POSITION};
 use sd_broadcast::{ClearFault, Kind};
@@ -42,7 +43,7 @@ impl Clear {
     }
 
     // What becomes of the packet.
-    pub(crate) fn kind(&self, packet: &Packet) -> Kind
+    fn kind(&self, packet: &Packet) -> Kind
         ensures value { (before : List (List ℕ)) → IsAfter before self.now → result ≡ kind_of before packet.now }
         ensures placed { result ≢ Passed → is_placed packet.now ≡ true }
     {
@@ -55,43 +56,39 @@ impl Clear {
         }
     }
 
-    /// Why the packet is refused, by the first rule that it breaks (docs/FORMATS.md, Broadcast).
+    /// What becomes of the packet as the next one, or why it is refused: the first rule that it breaks
+    /// (docs/FORMATS.md, Broadcast).
     #[tactic(auto, using(crate::proofs::Refusing::word_left, crate::proofs::Refusing::number_left))]
-    pub fn refusal(&self, site: &Site, packet: &Packet) -> Option<ClearFault>
-        ensures value { (before : List (List ℕ)) → IsAfter before self.now →
-            result ≡ refusal_of (fields_of site.now) before packet.now }
-        ensures follows { IsNone result → MayFollow self.now packet.now }
-        ensures word { IsNone result → word_of (fields_of site.now) self.now.count ≤ site.now.last_word }
+    pub fn judge(&self, site: &Site, packet: &Packet) -> Result<Kind, ClearFault>
+        ensures value { (before : List (List ℕ)) → IsAfter before self.now → MatchResult result
+            (λ _. refusal_of (fields_of site.now) before packet.now ≡ None)
+            (λ fault. refusal_of (fields_of site.now) before packet.now ≡ Some fault) }
+        ensures kind { IfOk result (IsKindAfter self.now packet.now) }
+        ensures follows { OnOk result (MayFollow self.now packet.now) }
+        ensures word { OnOk result (word_of (fields_of site.now) self.now.count ≤ site.now.last_word) }
     {
         let number = u64::from(self.count);
         let pid = packet.pid();
         if packet.scrambling() != 0 {
-            return Some(ClearFault::AlreadyScrambled(number));
+            return Err(ClearFault::AlreadyScrambled(number));
         }
         if is_taken(site, pid) {
-            return Some(ClearFault::PidTaken(number, pid));
+            return Err(ClearFault::PidTaken(number, pid));
         }
         if let Some(fault) = pat_fault(packet) {
-            return Some(ClearFault::PatForm(number, fault));
+            return Err(ClearFault::PatForm(number, fault));
         }
-        if self.is_full_own(site, packet) {
-            return Some(ClearFault::PmtForm(number, FormFault::NoRoom));
+        let kind = self.kind(packet);
+        if is_full_own(kind, site, packet) {
+            return Err(ClearFault::PmtForm(number, FormFault::NoRoom));
         }
         if self.is_one_too_many(packet) {
-            return Some(ClearFault::TooManyPids(number));
+            return Err(ClearFault::TooManyPids(number));
         }
         if self.is_at_end(site) {
-            return Some(ClearFault::TooLong(number));
+            return Err(ClearFault::TooLong(number));
         }
-        None
-    }
-
-    // Whether it is a PMT that can't be rewritten, and that could be restored all the same.
-    fn is_full_own(&self, site: &Site, packet: &Packet) -> bool
-        ensures { (before : List (List ℕ)) → IsAfter before self.now →
-            result ≡ is_full_own (fields_of site.now) (kind_of before packet.now) packet.now }
-    {
-        self.kind(packet) == Kind::Pmt && is_full(site, packet)
+        Ok(kind)
     }
 
     // Whether another PID would have a position than those that may have one.
@@ -148,12 +145,23 @@ fn pat_fault(packet: &Packet) -> Option<FormFault>
     }
 }
 
-// Whether a PMT can't be rewritten, and could be restored all the same.
+// Whether it is a PMT that can't be rewritten, and that could be restored all the same.
+fn is_full_own(kind: Kind, site: &Site, packet: &Packet) -> bool
+    requires { kind ≢ Passed → payload_start_of packet.now < 188 }
+    ensures { result ≡ is_full_pmt (fields_of site.now) kind packet.now }
+{
+    kind == Kind::Pmt && is_full(site, packet)
+}
+
+// Whether a PMT could be restored, and can't be rewritten all the same.
 fn is_full(site: &Site, packet: &Packet) -> bool
     requires { payload_start_of packet.now < 188 }
-    ensures { result ≡ is_full_own (fields_of site.now) Pmt packet.now }
+    ensures { result ≡ is_full_pmt (fields_of site.now) Pmt packet.now }
 {
-    let mut copy = *packet;
-    rewrite_pmt(&mut copy, site.ca, site.ecm).is_err()
-        && restore_pmt(&mut copy, site.ca, site.ecm).is_ok()
+    let mut restored = *packet;
+    if restore_pmt(&mut restored, site.ca, site.ecm).is_err() {
+        return false;
+    }
+    let mut rewritten = *packet;
+    rewrite_pmt(&mut rewritten, site.ca, site.ecm).is_err()
 }

@@ -1,6 +1,7 @@
 -- Which crypto period is at work after so many packets.
 use Rattle.std.proofs.Common.{◌≡◌, ◌≢◌, ℕ, zero, suc, ◌+◌, ◌-◌, ◌*◌, ◌/◌, ◌%◌, ◌^◌, ◌<◌, ◌==◌, true}
 use Rattle.std.proofs.Common.{refl, sym, ap, subst, ◌∙◌, arith, eq-eqb}
+use Rattle.std.specs.Prelude.{Result, Ok, Err, OnErr}
 use Rattle.std.proofs.Math.Nat.{zero-div, div-eq_of_lt-le, mod-lt}
 use Rattle.std.proofs.lemmas.Nat.{div-add-mod'}
 use Rattle.sd_broadcast.specs.Plan.{Plan, IsPlan, crypto_length, crypto_of, word_of, period_of}
@@ -77,6 +78,11 @@ pub begun_at : (plan : Plan) (k length : ℕ) (entitling : Entitling) → length
     IsOf plan (k / length) entitling → IsOf plan (crypto_of plan.site k) entitling
 unfolding crypto_of
 begun_at plan k length entitling is of = subst (λ (n : ℕ). IsOf plan (k / n) entitling) is of
+
+-- what holds stands after an error
+pub on_err_holds : {A E : Type 0} (result : Result A E) (P : Type 0) → P → OnErr result P
+on_err_holds (Ok x) P holds = tt
+on_err_holds (Err fault) P holds = holds
 
 -- and a period begins with that packet where one begins with the crypto period
 pub begins_there : (plan : Plan) (k length : ℕ) → length ≡ crypto_length plan.site → k % length ≡ 0 →

@@ -5,7 +5,7 @@ ghost use Rattle.sd_head.specs.Schedule.{periods_begun};
 ghost use Rattle.sd_head.specs.Staged.{head_does, head_ends, head_refuses, IsAfter, IsReady};
 
 use crate::fault::HeadFault;
-use crate::schedule::{admit, begins_crypto, finish};
+use crate::schedule::{admit, finish};
 use crate::sender::Sender;
 use sd_book::Book;
 use sd_cause::NoMemory;
@@ -79,22 +79,32 @@ impl<K: Sink, L: Ledger> Stage<K, L> for Head {
         if let Some(fault) = self.refusal {
             return Err(StageFault::Refused(fault));
         }
-        if let Err(fault) = admit(&mut self.entitling, &self.clear, &self.site, packet, steps) {
-            self.refusal = Some(fault);
-            return Err(StageFault::Refused(fault));
-        }
-        let due = begins_crypto(&self.site, self.clear.count());
+        let admitted = match admit(&mut self.entitling, &self.clear, &self.site, packet, steps) {
+            Ok(admitted) => admitted,
+            Err(fault) => {
+                self.refusal = Some(fault);
+                return Err(StageFault::Refused(fault));
+            }
+        };
         let crypto = self.entitling.crypto();
         let message = self.sender.prepare(&self.site, crypto, &self.clear);
-        let carried = self
-            .clear
-            .carry(&self.site, packet, crypto.number, &crypto.word);
+        let carried = self.clear.carry(
+            admitted.kind,
+            &self.site,
+            packet,
+            crypto.number,
+            &crypto.word,
+        );
         self.clear.take(packet);
         let emms = self.entitling.emms();
-        match self
-            .sender
-            .send_packet(due, emms, message, self.site.ecm, &carried, out)
-        {
+        match self.sender.send_packet(
+            admitted.begins,
+            emms,
+            message,
+            self.site.ecm,
+            &carried,
+            out,
+        ) {
             Ok(()) => Ok(()),
             Err(_) => Err(StageFault::Write),
         }

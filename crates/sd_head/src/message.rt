@@ -32,7 +32,7 @@ pub fn message_head(
     }
 }
 
-// The first message from which on each packet up to this message has its control word.
+// The first message from which on all packets up to this one have one control word, and in version 1 the one before.
 #[tactic(auto, using(crate::proofs::Telling::since_first, crate::proofs::Telling::since_two, crate::proofs::Telling::since_one))]
 fn since(version: u8, cryptos: u32, number: u32) -> u32
     requires some { 1 ≤ cryptos }

@@ -1,13 +1,14 @@
-ghost use Rattle.std.specs.Prelude.{◌≡◌, ◌-◌, ◌%◌, ◌^◌, ◌==◌, ◌<◌, ℕ, List, Some, None, Err, true, OnOk, OnErr};
+ghost use Rattle.std.specs.Prelude.{◌≡◌, ◌-◌, ◌%◌, ◌^◌, ◌==◌, ◌<◌, ℕ, List, Some, None, Err, true, IfOk, OnOk, OnErr};
 ghost use Rattle.sd_site.specs.Fields.{fields_of};
 ghost use Rattle.sd_broadcast.specs.Plan.{crypto_length as length_of, crypto_of, word_of};
 ghost use Rattle.sd_broadcast.specs.Refused.{refusal_of};
-ghost use Rattle.sd_clear.specs.After.{IsAfter as IsKept, MayFollow};
+ghost use Rattle.sd_clear.specs.After.{IsAfter as IsKept, MayFollow, IsKindAfter};
 ghost use Rattle.sd_entitling.specs.Kept.{plan_of, IsOf};
 ghost use Rattle.sd_head.specs.declared.fault.HeadFault.{HeadFault as Faults};
 ghost use Rattle.sd_head.specs.Schedule.{begins_with, IsAt, IsDue};
 
 use crate::fault::HeadFault;
+use sd_broadcast::Kind;
 use sd_cause::NoMemory;
 use sd_clear::Clear;
 use sd_entitling::Entitling;
@@ -24,11 +25,13 @@ pub fn crypto_length(site: &Site) -> u32
     site.every * site.cryptos
 }
 
-/// Whether a crypto period begins with packet k.
-pub fn begins_crypto(site: &Site, k: u32) -> bool
-    ensures { result ≡ (k % length_of (fields_of site.now) == 0) }
-{
-    k % crypto_length(site) == 0
+/// What a packet that isn't refused comes to.
+#[derive(Clone, Copy)]
+pub struct Admitted {
+    /// What becomes of it.
+    pub kind: Kind,
+    /// Whether a crypto period begins with it.
+    pub begins: bool,
 }
 
 /// Judges the packet, and begins the crypto period that begins with it, if one does.
@@ -38,7 +41,7 @@ pub fn admit<L: Ledger>(
     site: &Site,
     packet: &Packet,
     steps: &mut Steps<L>,
-) -> Result<(), HeadFault>
+) -> Result<Admitted, HeadFault>
     requires { IsAt (plan_of site.now entitling.old.book) clear.now.count entitling.old }
     ensures book { entitling.new.book ≡ entitling.old.book }
     ensures follows { OnOk result (MayFollow clear.now packet.now) }
@@ -46,37 +49,43 @@ pub fn admit<L: Ledger>(
         OnOk result (refusal_of (fields_of site.now) before packet.now ≡ None) }
     ensures value { OnOk result
         (IsOf (plan_of site.now entitling.old.book) (crypto_of (fields_of site.now) clear.now.count) entitling.new) }
+    ensures kind { IfOk result (λ admitted. IsKindAfter clear.now packet.now admitted.kind) }
+    ensures begins { IfOk result (λ admitted.
+        admitted.begins ≡ (clear.now.count % length_of (fields_of site.now) == 0)) }
     ensures fault { (before : List (List ℕ)) (fault : Faults) → IsKept before clear.now → result ≡ Err fault →
         IsDue (plan_of site.now entitling.old.book) before (Some packet.now) fault }
 {
-    if let Some(fault) = clear.refusal(site, packet) {
-        return Err(HeadFault::Clear(fault));
-    }
+    let kind = match clear.judge(site, packet) {
+        Ok(kind) => kind,
+        Err(fault) => return Err(HeadFault::Clear(fault)),
+    };
     match begin(entitling, site, clear.count(), steps) {
-        Ok(()) => Ok(()),
+        Ok(begins) => Ok(Admitted { kind, begins }),
         Err(_) => Err(HeadFault::NoMemory),
     }
 }
 
-// Begins the crypto period that begins with packet k, if one does.
+// Begins the crypto period that begins with packet k, and says whether one does.
 fn begin<L: Ledger>(
     entitling: &mut Entitling,
     site: &Site,
     k: u32,
     steps: &mut Steps<L>,
-) -> Result<(), NoMemory>
+) -> Result<bool, NoMemory>
     requires at { IsAt (plan_of site.now entitling.old.book) k entitling.old }
     requires word { word_of (fields_of site.now) k < 2 ^ 32 }
     ensures book { entitling.new.book ≡ entitling.old.book }
     ensures value { OnOk result
         (IsOf (plan_of site.now entitling.old.book) (crypto_of (fields_of site.now) k) entitling.new) }
+    ensures begins { IfOk result (λ begins. begins ≡ (k % length_of (fields_of site.now) == 0)) }
     ensures fault { OnErr result (begins_with (plan_of site.now entitling.old.book) k ≡ true) }
 {
     let length = crypto_length(site);
     if k % length != 0 {
-        return Ok(());
+        return Ok(false);
     }
-    entitling.begin(site, k / length, steps)
+    entitling.begin(site, k / length, steps)?;
+    Ok(true)
 }
 
 /// Begins the first crypto period where the stream of so many packets ends with none.

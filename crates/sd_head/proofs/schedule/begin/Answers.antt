@@ -1,6 +1,5 @@
-use Rattle.std.proofs.lemmas.Result.{on_ok_weaker, on_err_weaker}
 use Rattle.sd_entitling.specs.Kept.{plan_of}
-use Rattle.sd_head.proofs.Starting.{starts, stays, word_begins, begun_at, begins_there}
+use Rattle.sd_head.proofs.Starting.{starts, stays, word_begins, begun_at, begins_there, on_err_holds}
 use Rattle.sd_head.proofs.schedule.begin.Goals as goal
 
 pub returns-then-k-length-ne0-clause-value : goal.returns-then-k-length-ne0-clause-value
@@ -22,13 +21,11 @@ begin-requires-clause-fits g c =
 
 pub returns-clause-value : goal.returns-clause-value
 returns-clause-value g c =
-    on_ok_weaker c.begin.result
-    (begun_at (plan_of c.args.site.now c.args.entitling.now.book) c.args.k c.crypto_length-length.result
-    c.begin.new.self
-    c.crypto_length-length.ensures.value) c.begin.ensures.value
+    begun_at (plan_of c.args.site.now c.args.entitling.now.book) c.args.k c.crypto_length-length.result
+    c.begin.new.self c.crypto_length-length.ensures.value c.in_ok-begin.ensures.value
 
-pub returns-clause-fault : goal.returns-clause-fault
-returns-clause-fault g c =
-    on_err_weaker c.begin.result
+pub returns-in_err-begin-clause-fault : goal.returns-in_err-begin-clause-fault
+returns-in_err-begin-clause-fault g c =
+    on_err_holds c.from_residual.result _
     (begins_there (plan_of c.args.site.now c.args.entitling.now.book) c.args.k c.crypto_length-length.result
-    c.crypto_length-length.ensures.value c.if-k-length-ne0.false) c.begin.ensures.fault
+    c.crypto_length-length.ensures.value c.if-k-length-ne0.false c.in_err-begin.ensures.fault)

@@ -1,9 +1,8 @@
-use Rattle.std.proofs.Common.{◌∙◌, ◌++◌, ◌+◌, ◌%◌, ◌==◌, ℕ, [], length, inl, inr, refl, sym, ap, subst, arith}
+use Rattle.std.proofs.Common.{◌∙◌, ◌++◌, ◌+◌, ◌%◌, ℕ, [], length, inl, inr, refl, sym, ap, subst, arith}
 use Rattle.std.specs.Prelude.{Some, if◌then◌else◌}
 use Rattle.sd_label.specs.Keys.{control_word_of}
 use Rattle.sd_site.specs.Fields.{fields_of}
 use Rattle.sd_engine.specs.Stage.{vessel}
-use Rattle.sd_broadcast.specs.Plan.{crypto_length}
 use Rattle.sd_broadcast.specs.Plan.{Plan}
 use Rattle.sd_entitling.specs.declared.crypto.CryptoPeriod.{CryptoPeriod}
 use Rattle.sd_head.specs.Messages.{message_due}
@@ -34,9 +33,9 @@ returns-in-Err-clause-fault g c = λ fault same.
       counted = omega arith;
     }
 
-pub returns-in-Ok-clause-value : goal.returns-in-Ok-clause-value
-returns-in-Ok-clause-value g c = record {
-  bytes = (tables_bytes c.prepare-message.new.self c.begins_crypto-due.result c.emms-emms.result.now
+pub returns-in-Ok-send_packet-clause-value : goal.returns-in-Ok-send_packet-clause-value
+returns-in-Ok-send_packet-clause-value g c = record {
+  bytes = (tables_bytes c.prepare-message.new.self c.in-Ok.admitted.begins c.emms-emms.result.now
       ++ message_bytes c.args.self.now.site.ecm c.prepare-message.new.self c.prepare-message.result)
       ++ c.carry-carried.result;
   steps = c.admit.new.steps;
@@ -46,14 +45,13 @@ returns-in-Ok-clause-value g c = record {
     entitling = c.admit.new.entitling;
     sender = c.send_packet.new.self;
     refusal = c.args.self.now.refusal;
-  }) c.args.packet.now c.prepare-message.new.self c.begins_crypto-due.result c.emms-emms.result.now
+  }) c.args.packet.now c.prepare-message.new.self c.in-Ok.admitted.begins c.emms-emms.result.now
       c.prepare-message.result c.carry-carried.result
       (record {
-        judged = c.in_default-admit.ensures.judged;
-        at_work = c.in_default-admit.ensures.value;
+        judged = c.in-Ok.ensures.judged;
+        at_work = c.in-Ok.ensures.value;
         placed = c.prepare-message.ensures.unchanged;
-        due_is = c.begins_crypto-due.ensures
-            ∙ ap (λ (n : ℕ). n % crypto_length (fields_of c.args.self.now.site) == 0) c.count.ensures;
+        due_is = c.in-Ok.ensures.begins;
         emms_of = c.emms-emms.ensures;
         message_of = c.prepare-message.ensures.value
             ∙ ap (λ (x : CryptoPeriod). message_due (fields_of c.args.self.now.site) x c.args.self.now.clear.count)
@@ -70,16 +68,16 @@ returns-in-Ok-clause-value g c = record {
         book_is = c.admit.ensures.book;
         refusal_is = refl;
         taken = c.take.ensures;
-        follows = c.in-Ok.ensures.next;
+        follows = c.in-Ok-send_packet.ensures.next;
       })
       c.admit.new.steps;
-  taken = c.in-Ok.ensures.value.taken;
-  room = c.in-Ok.ensures.value.room;
+  taken = c.in-Ok-send_packet.ensures.value.taken;
+  room = c.in-Ok-send_packet.ensures.value.room;
   counted = omega arith;
 }
 
-pub returns-in-Ok-clause-ok : goal.returns-in-Ok-clause-ok
-returns-in-Ok-clause-ok g c =
+pub returns-in-Ok-send_packet-clause-ok : goal.returns-in-Ok-send_packet-clause-ok
+returns-in-Ok-send_packet-clause-ok g c =
     let live = c.requires.live c.in_default.is in (
       λ calm. ready c.args.self.now (record {
         site = c.args.self.now.site;
@@ -87,14 +85,13 @@ returns-in-Ok-clause-ok g c =
         entitling = c.admit.new.entitling;
         sender = c.send_packet.new.self;
         refusal = c.args.self.now.refusal;
-      }) c.args.packet.now c.prepare-message.new.self c.begins_crypto-due.result c.emms-emms.result.now
+      }) c.args.packet.now c.prepare-message.new.self c.in-Ok.admitted.begins c.emms-emms.result.now
           c.prepare-message.result c.carry-carried.result
           (record {
-            judged = c.in_default-admit.ensures.judged;
-            at_work = c.in_default-admit.ensures.value;
+            judged = c.in-Ok.ensures.judged;
+            at_work = c.in-Ok.ensures.value;
             placed = c.prepare-message.ensures.unchanged;
-            due_is = c.begins_crypto-due.ensures
-                ∙ ap (λ (n : ℕ). n % crypto_length (fields_of c.args.self.now.site) == 0) c.count.ensures;
+            due_is = c.in-Ok.ensures.begins;
             emms_of = c.emms-emms.ensures;
             message_of = c.prepare-message.ensures.value
                 ∙ ap (λ (x : CryptoPeriod). message_due
@@ -111,7 +108,7 @@ returns-in-Ok-clause-ok g c =
             book_is = c.admit.ensures.book;
             refusal_is = refl;
             taken = c.take.ensures;
-            follows = c.in-Ok.ensures.next;
+            follows = c.in-Ok-send_packet.ensures.next;
           })
           live.0 live.1,
       c.in_default.is,
@@ -119,7 +116,7 @@ returns-in-Ok-clause-ok g c =
 
 pub returns-in-Err-send_packet-clause-prefix : goal.returns-in-Err-send_packet-clause-prefix
 returns-in-Err-send_packet-clause-prefix g c = λ fails. record {
-  bytes = (tables_bytes c.prepare-message.new.self c.begins_crypto-due.result c.emms-emms.result.now
+  bytes = (tables_bytes c.prepare-message.new.self c.in-Ok.admitted.begins c.emms-emms.result.now
       ++ message_bytes c.args.self.now.site.ecm c.prepare-message.new.self c.prepare-message.result)
       ++ c.carry-carried.result;
   says = (
@@ -132,9 +129,9 @@ returns-in-Err-send_packet-clause-prefix g c = λ fails. record {
         entitling = c.admit.new.entitling;
         sender = record {
           cat = c.prepare-message.new.self.cat;
-          cats = if c.begins_crypto-due.result then
+          cats = if c.in-Ok.admitted.begins then
               (c.prepare-message.new.self.cats + 1) % 16 else c.prepare-message.new.self.cats;
-          emms = if c.begins_crypto-due.result
+          emms = if c.in-Ok.admitted.begins
               then counter_after c.prepare-message.new.self.emms (length c.emms-emms.result.now)
               else c.prepare-message.new.self.emms;
           ecms = counter_after c.prepare-message.new.self.ecms
@@ -150,9 +147,9 @@ returns-in-Err-send_packet-clause-prefix g c = λ fails. record {
         entitling = c.admit.new.entitling;
         sender = record {
           cat = c.prepare-message.new.self.cat;
-          cats = if c.begins_crypto-due.result then
+          cats = if c.in-Ok.admitted.begins then
               (c.prepare-message.new.self.cats + 1) % 16 else c.prepare-message.new.self.cats;
-          emms = if c.begins_crypto-due.result
+          emms = if c.in-Ok.admitted.begins
               then counter_after c.prepare-message.new.self.emms (length c.emms-emms.result.now)
               else c.prepare-message.new.self.emms;
           ecms = counter_after c.prepare-message.new.self.ecms
@@ -161,14 +158,13 @@ returns-in-Err-send_packet-clause-prefix g c = λ fails. record {
           places_room = c.prepare-message.new.self.places_room;
         };
         refusal = c.args.self.now.refusal;
-      }) c.args.packet.now c.prepare-message.new.self c.begins_crypto-due.result c.emms-emms.result.now
+      }) c.args.packet.now c.prepare-message.new.self c.in-Ok.admitted.begins c.emms-emms.result.now
           c.prepare-message.result c.carry-carried.result
           (record {
-            judged = c.in_default-admit.ensures.judged;
-            at_work = c.in_default-admit.ensures.value;
+            judged = c.in-Ok.ensures.judged;
+            at_work = c.in-Ok.ensures.value;
             placed = c.prepare-message.ensures.unchanged;
-            due_is = c.begins_crypto-due.ensures
-                ∙ ap (λ (n : ℕ). n % crypto_length (fields_of c.args.self.now.site) == 0) c.count.ensures;
+            due_is = c.in-Ok.ensures.begins;
             emms_of = c.emms-emms.ensures;
             message_of = c.prepare-message.ensures.value
                 ∙ ap (λ (x : CryptoPeriod). message_due (fields_of c.args.self.now.site) x c.args.self.now.clear.count)

@@ -3,10 +3,10 @@ use Rattle.std.proofs.Common.{eq-eqb, ne_eqb}
 use Rattle.std.specs.Prelude.{None}
 use Rattle.sd_packet.specs.Header.{pid_of, scrambling_of}
 use Rattle.sd_site.specs.Fields.{fields_of}
-use Rattle.sd_broadcast.specs.Refused.{is_taken, pat_wrong, is_too_long}
+use Rattle.sd_broadcast.specs.Refused.{is_taken, pat_wrong, is_full_own, is_too_long}
 use Rattle.sd_clear.proofs.Refusing.{scrambled_refused, taken_refused, pat_refused, full_refused, many_refused}
 use Rattle.sd_clear.proofs.Refusing.{long_refused, none_refused}
-use Rattle.sd_clear.proofs.clear.Clear.refusal.Goals as goal
+use Rattle.sd_clear.proofs.clear.Clear.judge.Goals as goal
 
 pub returns-then-scrambling-ne0-clause-value : goal.returns-then-scrambling-ne0-clause-value
 returns-then-scrambling-ne0-clause-value c =
@@ -50,7 +50,8 @@ returns-then-is_full_own-clause-value c =
     let pat : pat_wrong packet ≡ None = sym c.pat_fault.ensures ∙ c.in_default.is in
     λ before after. full_refused (fields_of c.args.site.now) before packet c.from-number.result
     (c.from-number.ensures ∙ after.number) clear free pat
-    (sym (c.is_full_own.ensures before after) ∙ c.if-is_full_own.true)
+    (ap (λ kind. is_full_own (fields_of c.args.site.now) kind packet) (sym (c.kind-kind.ensures.value before after))
+    ∙ (sym c.is_full_own.ensures ∙ c.if-is_full_own.true))
 
 pub returns-then-is_one_too_many-clause-value : goal.returns-then-is_one_too_many-clause-value
 returns-then-is_one_too_many-clause-value c =
@@ -63,7 +64,8 @@ returns-then-is_one_too_many-clause-value c =
     let pat : pat_wrong packet ≡ None = sym c.pat_fault.ensures ∙ c.in_default.is in
     λ before after. many_refused (fields_of c.args.site.now) before packet c.from-number.result
     (c.from-number.ensures ∙ after.number) clear free pat
-    (sym (c.is_full_own.ensures before after) ∙ c.if-is_full_own.false)
+    (ap (λ kind. is_full_own (fields_of c.args.site.now) kind packet) (sym (c.kind-kind.ensures.value before after))
+    ∙ (sym c.is_full_own.ensures ∙ c.if-is_full_own.false))
     (sym (c.is_one_too_many.ensures.value before after) ∙ c.if-is_one_too_many.true)
 
 pub returns-then-is_at_end-clause-value : goal.returns-then-is_at_end-clause-value
@@ -77,7 +79,8 @@ returns-then-is_at_end-clause-value c =
     let pat : pat_wrong packet ≡ None = sym c.pat_fault.ensures ∙ c.in_default.is in
     λ before after. long_refused (fields_of c.args.site.now) before packet c.from-number.result
     (c.from-number.ensures ∙ after.number) clear free pat
-    (sym (c.is_full_own.ensures before after) ∙ c.if-is_full_own.false)
+    (ap (λ kind. is_full_own (fields_of c.args.site.now) kind packet) (sym (c.kind-kind.ensures.value before after))
+    ∙ (sym c.is_full_own.ensures ∙ c.if-is_full_own.false))
     (sym (c.is_one_too_many.ensures.value before after) ∙ c.if-is_one_too_many.false)
     (ap (is_too_long (fields_of c.args.site.now)) (sym after.number) ∙ (sym c.is_at_end.ensures ∙ c.if-is_at_end.true))
 
@@ -91,6 +94,7 @@ returns-clause-value c =
     ∙ (sym c.is_taken.ensures ∙ c.if-is_taken.false) in
     let pat : pat_wrong packet ≡ None = sym c.pat_fault.ensures ∙ c.in_default.is in
     λ before after. none_refused (fields_of c.args.site.now) before packet clear free pat
-    (sym (c.is_full_own.ensures before after) ∙ c.if-is_full_own.false)
+    (ap (λ kind. is_full_own (fields_of c.args.site.now) kind packet) (sym (c.kind-kind.ensures.value before after))
+    ∙ (sym c.is_full_own.ensures ∙ c.if-is_full_own.false))
     (sym (c.is_one_too_many.ensures.value before after) ∙ c.if-is_one_too_many.false)
     (ap (is_too_long (fields_of c.args.site.now)) (sym after.number) ∙ (sym c.is_at_end.ensures ∙ c.if-is_at_end.false))
