@@ -16,7 +16,7 @@ use Rattle.sd_events.specs.Watch.{Watch, at_places, passed_by, present, stream, 
 use Rattle.sd_events.specs.Watch.{switched_off, switched_on, written}
 use Rattle.sd_events.proofs.Offers.{heard_is, on_is, offer_is_present, switched_writes_nothing, written_parts}
 use Rattle.sd_field.specs.Heard.{HasRoom, IsHeard}
-use Rattle.sd_field.specs.Seats.{IsSeated, wrote_before}
+use Rattle.sd_field.specs.Seats.{IsNew, IsSeated, wrote_before}
 use Rattle.sd_field.specs.declared.seat.Seat.{Seat}
 
 -- what was written is what was written before, and in the present time
@@ -249,3 +249,36 @@ off_if_none plan card clear total w seat none seated = by_on w.on refl
     by_on : (on : Bool) → w.on ≡ on → w.on ≡ false
     by_on true on = absurd (let no = subst IsSome (none_there seat.receiver none) (seated.on.1 on) in cc)
     by_on false on = on
+
+-- the seat of a new receiver
+pub first_seat : (card : CardFields) (total : ℕ) (receiver : Receiver) (store : Store) → store.held ≡ [] →
+    HasRoom total store → IsAfter [] receiver → IsLive receiver → card_in receiver ≡ card →
+    IsNew card total (record { receiver = Some receiver; cursor = 0; written = store })
+unfolding present at_places out_from break_from wrote_before
+first_seat card total receiver store held room new live same plan clear =
+    let start : Watch = record { on = true; cursor = 0; now = []; earlier = [] } in
+    let none : concat (written plan card clear start) ≡ [] = written_in plan card clear start in
+    record {
+      cursor = refl;
+      on = (λ _. refl, λ _. refl);
+      held = held ∙ sym none;
+      room = room;
+      heard = λ other is.
+          subst (λ (r : Receiver). IsHeard card (wrote_before plan card clear start) [] r store.held)
+          (let e : receiver ≡ other = cc in e)
+          (record {
+            bytes = held;
+            stands = λ _. record {
+              start = receiver;
+              bytes = [];
+              steps = 0;
+              new = new;
+              live = live;
+              same = same;
+              chain = (refl, refl, refl);
+              wrote = refl;
+            };
+            broken = λ why is. absurd cc;
+            live = live;
+          });
+    }

@@ -4,6 +4,7 @@
 mod fault;
 mod field;
 mod hear;
+mod laid;
 mod line;
 mod script;
 mod seat;
