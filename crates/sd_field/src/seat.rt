@@ -1,4 +1,5 @@
-ghost use Rattle.std.specs.Prelude.{◌≡◌, ◌↔◌, ◌-◌, ◌^◌, ◌<◌, ◌≤◌, [], ℕ, List, get_or, length, slice_get, IfOk, IfSome, IsSome, IsErr, OnOk, false, is_some};
+ghost use Rattle.std.specs.Prelude.{◌≡◌, ◌↔◌, ◌-◌, ◌^◌, ◌<◌, ◌≤◌, ◌++◌, ◌∷◌, [], ℕ, List, get_or, length, slice_get};
+ghost use Rattle.std.specs.Prelude.{IfOk, IfSome, IsSome, IsErr, OnOk, false, is_some};
 ghost use Rattle.std.specs.List.{concat};
 ghost use Rattle.sd_card.specs.Fields.{CardFields, card_of};
 ghost use Rattle.sd_engine.specs.Stream.{packets_of};
@@ -179,8 +180,14 @@ pub fn new_seats<L: Ledger>(
     for number in 0..site.height.leaves() {
         if let Some(u) = Leaf::new(site.height, number) {
             let seat = Seat::new(alloc, site, u, room, steps)?;
-            seats.push(seat).map_err(|_| NoMemory)?;
+            add(&mut seats, seat)?;
         }
     }
     Ok(seats)
+}
+
+fn add(seats: &mut Vec<Seat>, seat: Seat) -> Result<(), NoMemory>
+    ensures { OnOk result (seats.new.items ≡ seats.old.items ++ seat ∷ []) }
+{
+    seats.push(seat).map_err(|_| NoMemory)
 }
