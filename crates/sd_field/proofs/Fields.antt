@@ -69,7 +69,7 @@ seat_live v seats u seat calm seated there = by_receiver seat.receiver refl
     by_receiver (Some receiver) is = ((seat_stands v seats u seat calm seated there).heard receiver is).live
 
 -- with one event more the past begins with it
-past_next : (v : FieldValue) (event : Event) → slice_get v.events v.done ≡ Some event →
+pub past_next : (v : FieldValue) (event : Event) → slice_get v.events v.done ≡ Some event →
     past_of (after_next v) ≡ event ∷ past_of v
 past_next v event is =
     let within = slice_get_within v.events v.done event is in
@@ -103,7 +103,7 @@ unfolding sends
 quiet_past v event is quiet =
     ap (sends (length v.clear)) (past_next v event is) ∙ rw quiet refl
 
-quiet_taken : (v : FieldValue) (event : Event) → slice_get v.events v.done ≡ Some event → is_send event ≡ false →
+pub quiet_taken : (v : FieldValue) (event : Event) → slice_get v.events v.done ≡ Some event → is_send event ≡ false →
     taken (after_next v) ≡ taken v
 quiet_taken v event is quiet = ap (λ (k : ℕ). take k v.clear) (quiet_past v event is quiet)
 
@@ -335,7 +335,7 @@ none_refused v is end =
     ap (option_and_then (refusal_at v)) is ∙ rw test refl
 
 -- one with a clear packet left sends it
-one_to_send : (v : FieldValue) → slice_get v.events v.done ≡ Some Send → sends_of v < length v.clear →
+pub one_to_send : (v : FieldValue) → slice_get v.events v.done ≡ Some Send → sends_of v < length v.clear →
     sends_of (after_next v) ≡ suc (sends_of v)
 unfolding sends
 one_to_send v is left =

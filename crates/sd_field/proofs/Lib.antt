@@ -7,3 +7,4 @@ pub mod Places
 pub mod Fields
 pub mod Lent
 pub mod Laying
+pub mod Refused

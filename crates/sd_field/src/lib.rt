@@ -5,6 +5,7 @@ mod fault;
 mod field;
 mod hear;
 mod laid;
+pub mod laws;
 mod line;
 mod script;
 mod seat;
