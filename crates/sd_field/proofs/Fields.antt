@@ -1,10 +1,13 @@
 -- What one event more makes of a field.
-use Rattle.std.proofs.Common.{arith, ◌≡◌, ◌≢◌, ℕ, zero, suc, ◌+◌, ◌*◌, ◌<◌, ◌≤◌, ◌^◌, List, [], ◌∷◌, ◌++◌, refl, ap, sym, subst}
+use Rattle.std.proofs.Common.{arith, ◌≡◌, ◌≢◌, ℕ, zero, suc, ◌+◌, ◌*◌, ◌<◌, ◌≤◌, ◌^◌, List, [], ◌∷◌, ◌++◌, refl, ap}
+use Rattle.std.proofs.Common.{sym, subst}
 use Rattle.std.proofs.Common.{◌∙◌, false, inl, inr, length, length-append, take}
 use Rattle.std.specs.List.{concat}
 use Rattle.std.proofs.lemmas.Bool.{cases_eq, ltb-true, lt-ltb, le-ltb}
-use Rattle.std.specs.Prelude.{◌↔◌, ◌⊎◌, IfSome, IsSome, Option, None, Some, option_and_then, All, nat_lt, true, get_or, reverse, slice_get, slice_set}
-use Rattle.std.proofs.lemmas.List.{append_cancel_right, length-map, length-reverse, length-take-le, reverse-append, take_more, length-set, get_or-set_same, get_or-set_other}
+use Rattle.std.specs.Prelude.{◌↔◌, ◌⊎◌, IfSome, IsSome, Option, None, Some, option_and_then, All, nat_lt, true, get_or}
+use Rattle.std.specs.Prelude.{reverse, slice_get, slice_set}
+use Rattle.std.proofs.lemmas.List.{append_cancel_right, length-map, length-reverse, length-take-le, reverse-append}
+use Rattle.std.proofs.lemmas.List.{take_more, length-set, get_or-set_same, get_or-set_other}
 use Rattle.std.proofs.lemmas.Option.{get_or_from_slice_get, slice_get-get_or, slice_get_within}
 use Rattle.sd_engine.specs.Stream.{packets_of}
 use Rattle.sd_broadcast.specs.Plan.{Plan}

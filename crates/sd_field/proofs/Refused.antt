@@ -1,10 +1,10 @@
 -- Which clear packet of those that a field's events send is the first that is refused.
 use Rattle.std.proofs.Common.{arith, ◌≡◌, ◌∙◌, ℕ, zero, suc, ◌+◌, ◌-◌, ◌<◌, List, [], ◌∷◌, ◌++◌, refl, ap, sym, subst}
 use Rattle.std.proofs.Common.{append-nil, append_assoc, inl, inr, length, take}
-use Rattle.std.specs.Prelude.{◌↔◌, Option, None, Some, drop, get_or, nat_lt, option_and_then, reverse, slice_get}
+use Rattle.std.specs.Prelude.{◌↔◌, Option, None, Some, drop, get_or, option_and_then, reverse}
 use Rattle.std.specs.Option.{option_map_or}
 use Rattle.std.proofs.Math.Seq.{take-add}
-use Rattle.std.proofs.lemmas.Bool.{cases_lt, lt-ltb}
+use Rattle.std.proofs.lemmas.Bool.{cases_lt}
 use Rattle.std.proofs.lemmas.List.{reverse-append}
 use Rattle.std.proofs.lemmas.Option.{slice_get-get_or}
 use Rattle.sd_site.specs.Fields.{SiteFields}
@@ -54,9 +54,9 @@ none_unrefused site start (x ∷ xs) (suc k) each =
     let rest : refusal_from site (start ++ x ∷ []) (take k xs) ≡ None =
     none_unrefused site (start ++ x ∷ []) xs k
     (λ j low within.
-        ap (λ (before : List (List ℕ)). refusal_of site before (get_or xs j []))
-        (append_assoc start (x ∷ []) (take j xs))
-        ∙ each (suc j) (omega (arith, low)) (omega (arith, within))) in
+    ap (λ (before : List (List ℕ)). refusal_of site before (get_or xs j []))
+    (append_assoc start (x ∷ []) (take j xs))
+    ∙ each (suc j) (omega (arith, low)) (omega (arith, within))) in
     rw first rest
 
 pub refused_in_front : (site : SiteFields) (clear : List (List ℕ)) (k : ℕ) → IsClear site (take k clear)

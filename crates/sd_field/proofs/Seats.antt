@@ -1,7 +1,9 @@
 -- What one event more makes of a seat.
-use Rattle.std.proofs.Common.{arith, ◌≡◌, ℕ, suc, ◌+◌, ◌<◌, ◌≤◌, List, [], ◌∷◌, ◌++◌, refl, ap, sym, subst, ◌∙◌, Bool, true, false}
+use Rattle.std.proofs.Common.{arith, ◌≡◌, ℕ, suc, ◌+◌, ◌<◌, ◌≤◌, List, [], ◌∷◌, ◌++◌, refl, ap, sym, subst, ◌∙◌, Bool}
+use Rattle.std.proofs.Common.{true, false}
 use Rattle.std.proofs.Common.{inl, inr, length, zero}
-use Rattle.std.specs.Prelude.{◌⊎◌, ◌&&◌, ◌==◌, get_or, map, nat_lt, not, reverse, slice_get, IsSome, is_some, Option, None, Some}
+use Rattle.std.specs.Prelude.{◌⊎◌, ◌&&◌, ◌==◌, get_or, map, nat_lt, not, reverse, slice_get, IsSome, is_some, Option}
+use Rattle.std.specs.Prelude.{None, Some}
 use Rattle.std.specs.List.{concat, flat_map}
 use Rattle.std.proofs.lemmas.Bool.Decides.{nat_tests}
 use Rattle.std.proofs.lemmas.List.Folds.{concat-append}
@@ -102,7 +104,8 @@ passed_seat plan card clear total u n w seat cursor none left seated more = by_o
     by_on false off =
         let next : cursor ≡ suc w.cursor = omega (arith, more, seated.cursor) in
         subst (λ (x : Watch). IsSeated plan card clear total x
-        (record { receiver = seat.receiver; cursor = cursor; written = seat.written })) (sym (off_passes u n w off left))
+        (record { receiver = seat.receiver; cursor = cursor; written = seat.written }))
+        (sym (off_passes u n w off left))
         (passed_same plan card clear total w seat cursor seated next)
 
 -- a seat whose receiver is switched on

@@ -1,4 +1,5 @@
-ghost use Rattle.std.specs.Prelude.{◌≡◌, ◌↔◌, ◌<◌, ◌≤◌, ◌^◌, true, false, [], All, length, slice_get, Some, None, Ok, Err};
+ghost use Rattle.std.specs.Prelude.{◌≡◌, ◌↔◌, ◌<◌, ◌≤◌, ◌^◌, true, false, [], All, length, slice_get, Some, None, Ok};
+ghost use Rattle.std.specs.Prelude.{Err};
 ghost use Rattle.std.specs.Prelude.{IfOk, IfErr, IfSome, IsErr, IsSome, OnOk};
 ghost use Rattle.std.specs.List.{concat};
 ghost use Rattle.sd_site.specs.Fields.{fields_of};
@@ -317,7 +318,8 @@ impl Field {
         requires leaf { u < 2 ^ self.now.site.height }
         ensures on { IsSome result ↔ ((watch_of u self.now).on ≡ true) }
         ensures stands { ¬ IsWrittenCut u self.now →
-            break_from (card_at self.now u) [] (present (plan_in self.now) (taken self.now) (watch_of u self.now)) ≡ None →
+            break_from (card_at self.now u) []
+            (present (plan_in self.now) (taken self.now) (watch_of u self.now)) ≡ None →
             IfSome result (λ receiver. ReceiverStands (card_at self.now u)
             (present (plan_in self.now) (taken self.now) (watch_of u self.now)) (written_of u self.now) receiver.now) }
     {

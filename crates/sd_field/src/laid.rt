@@ -1,12 +1,13 @@
 ghost use Rattle.std.specs.Prelude.{◌≡◌, ◌<◌, ◌≤◌, ◌^◌, ◌++◌, ◌∷◌, [], true, List, All, IfOk, OnOk, length, reverse, ℕ};
 ghost use Rattle.sd_site.specs.Fields.{fields_of};
 ghost use Rattle.sd_book.specs.Commands.{is_within, last_period};
+ghost use Rattle.sd_book.specs.Limits.{IsDraft, IsWithinLimits};
 ghost use Rattle.sd_events.specs.declared.event.Event.TheVariants.{Send};
 ghost use Rattle.sd_events.specs.Events.{is_of, sends_with};
 ghost use Rattle.sd_events.specs.Book.{booked, commanded, event_book, filled, open_period, period_after, reached};
 ghost use Rattle.sd_field.specs.Laid.{IsLaid};
 
-use sd_book::{Book, Command, Draft, MOST_PERIODS};
+use sd_book::{Book, BookFault, Command, Draft, MOST_PERIODS};
 use sd_cause::NoMemory;
 use sd_events::Event;
 use sd_site::Site;
@@ -58,15 +59,17 @@ fn reached(site: &Site, sends: usize) -> u32
     }
 }
 
-/// Puts a command of the tree at the end. No limit is broken by the events that a field may have.
+/// Puts a command of the tree at the end, with which no limit is broken.
 fn push(draft: &mut Draft, command: Command) -> Result<(), NoMemory>
     requires leaf { is_within draft.old.height command ≡ true }
+    requires fits { IsDraft draft.old.height (draft.old.commands ++ command ∷ []) }
     ensures height { draft.new.height ≡ draft.old.height }
     ensures value { OnOk result (draft.new.commands ≡ draft.old.commands ++ command ∷ []) }
 {
     match draft.push(command) {
         Ok(()) => Ok(()),
-        Err(_) => Err(NoMemory),
+        Err(BookFault::NoMemory) => Err(NoMemory),
+        Err(_) => unreachable!(),
     }
 }
 
@@ -85,6 +88,8 @@ impl Laid {
     /// As many Periods as make this period the last, if it isn't yet.
     fn fill(&mut self, period: u32) -> Result<(), NoMemory>
         requires last { self.old.last ≡ last_period self.old.draft.commands }
+        requires low { self.old.draft.height ≤ 6 }
+        requires fits { IsWithinLimits self.old.draft.height (filled period self.old.draft.commands) }
         ensures height { self.new.draft.height ≡ self.old.draft.height }
         ensures value { OnOk result (self.new.draft.commands ≡ filled period self.old.draft.commands) }
         ensures last { OnOk result (self.new.last ≡ last_period self.new.draft.commands) }
@@ -103,6 +108,9 @@ impl Laid {
         requires few { self.old.sends ≤ 16384 }
         requires leaf { is_within self.old.draft.height command ≡ true }
         requires single { last_period (command ∷ []) ≡ 0 }
+        requires low { self.old.draft.height ≤ 6 }
+        requires fits { IsWithinLimits self.old.draft.height
+            (commanded (period_after (fields_of site.now) self.old.sends) command self.old.draft.commands) }
         ensures height { self.new.draft.height ≡ self.old.draft.height }
         ensures value { OnOk result (self.new.draft.commands
             ≡ commanded (period_after (fields_of site.now) self.old.sends) command self.old.draft.commands) }
@@ -122,6 +130,9 @@ impl Laid {
         requires last { self.old.last ≡ last_period self.old.draft.commands }
         requires few { clear ≤ 16384 }
         requires within { self.old.sends ≤ clear }
+        requires low { self.old.draft.height ≤ 6 }
+        requires fits { IsWithinLimits self.old.draft.height
+            (booked (fields_of site.now) clear self.old.sends Send self.old.draft.commands) }
         ensures height { self.new.draft.height ≡ self.old.draft.height }
         ensures value { OnOk result (self.new.draft.commands
             ≡ booked (fields_of site.now) clear self.old.sends Send self.old.draft.commands) }
@@ -140,6 +151,9 @@ impl Laid {
         requires within { self.old.sends ≤ clear }
         requires last { self.old.last ≡ last_period self.old.draft.commands }
         requires leaf { is_of self.old.draft.height event ≡ true }
+        requires low { self.old.draft.height ≤ 6 }
+        requires fits { IsWithinLimits self.old.draft.height
+            (booked (fields_of site.now) clear self.old.sends event self.old.draft.commands) }
         ensures height { self.new.draft.height ≡ self.old.draft.height }
         ensures value { OnOk result (self.new.draft.commands
             ≡ booked (fields_of site.now) clear self.old.sends event self.old.draft.commands) }
@@ -164,6 +178,8 @@ pub(crate) fn event_book(
 ) -> Result<Book, NoMemory>
     requires few { clear ≤ 16384 }
     requires leaves { All (λ event. is_of site.now.height event ≡ true) events.now }
+    requires low { site.now.height ≤ 6 }
+    requires short { length events.now ≤ 524288 }
     ensures height { IfOk result (λ book. book.height ≡ site.now.height) }
     ensures value { IfOk result (λ book. book.commands
         ≡ event_book (fields_of site.now) clear (reverse events.now)) }
@@ -174,6 +190,6 @@ pub(crate) fn event_book(
     }
     match laid.draft.finish() {
         Ok(book) => Ok(book),
-        Err(_) => Err(NoMemory),
+        Err(_) => unreachable!(),
     }
 }

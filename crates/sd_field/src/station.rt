@@ -1,4 +1,5 @@
-ghost use Rattle.std.specs.Prelude.{◌≡◌, ◌⊎◌, ◌<◌, ◌++◌, ◌∷◌, [], ℕ, List, None, Some, Err, IfOk, IsErr, OnOk, length, true};
+ghost use Rattle.std.specs.Prelude.{◌≡◌, ◌⊎◌, ◌<◌, ◌++◌, ◌∷◌, [], ℕ, List, None, Some, Err, IfOk, IsErr, OnOk, length};
+ghost use Rattle.std.specs.Prelude.{true};
 ghost use Rattle.std.specs.List.{concat};
 ghost use Rattle.sd_broadcast.specs.declared.fault.ClearFault.{ClearFault as Fault};
 ghost use Rattle.sd_broadcast.specs.Plan.{Plan};

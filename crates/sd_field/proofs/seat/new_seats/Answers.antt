@@ -1,6 +1,5 @@
 use Rattle.std.proofs.Common.{arith, ◌≡◌, ◌∙◌, ◌+◌, ◌++◌, ◌∷◌, [], ℕ, List, ap, sym, subst}
 use Rattle.std.proofs.Common.{length, length-append}
-use Rattle.std.specs.Prelude.{IsSome}
 use Rattle.sd_card.specs.Fields.{card_of}
 use Rattle.sd_field.specs.Seats.{AreNew, IsNew}
 use Rattle.sd_field.specs.declared.seat.Seat.{Seat}

@@ -1,8 +1,18 @@
-use Rattle.std.proofs.Common.{arith, ◌≡◌, ◌∙◌, ◌+◌, ◌-◌, ◌++◌, ◌∷◌, [], ℕ, List, ap, sym, replicate}
+use Rattle.std.proofs.Common.{arith, ◌≡◌, ◌∙◌, ◌+◌, ◌-◌, ◌++◌, ◌∷◌, [], ℕ, List, ap, sym, subst, replicate}
+use Rattle.sd_book.specs.Limits.{IsDraft}
 use Rattle.sd_book.specs.declared.command.Command.{Command}
 use Rattle.sd_book.specs.declared.command.Command.TheVariants.{Period}
-use Rattle.sd_field.proofs.Laying.{filled_by, last_by, periods_more}
+use Rattle.sd_field.proofs.Laying.{filled_by, last_by, period_fits, periods_more}
 use Rattle.sd_field.proofs.laid.Laid.fill.Goals as goal
+
+pub push-requires-clause-fits : goal.push-requires-clause-fits
+push-requires-clause-fits c =
+    let inv = c.loop-self.invariant in
+    let old = c.args.self.now in
+    subst (λ (d : ℕ). IsDraft d (c.loop-self.self.draft.commands ++ Period ∷ [])) (sym inv.height)
+    (period_fits old.draft.height c.args.period c.loop-self.self.last old.last old.draft.commands
+    c.loop-self.self.draft.commands c.requires.low c.requires.fits c.requires.last inv.least c.loop-self-test.true
+    inv.commands)
 
 pub loop-self-preserved : goal.loop-self-preserved
 loop-self-preserved c =
