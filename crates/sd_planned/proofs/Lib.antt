@@ -1,6 +1,11 @@
 pub mod Airs
 pub mod Clashes
+pub mod Counts
 pub mod Found
+pub mod Periods
+pub mod Planned
 pub mod Ranges
 pub mod Sites
+pub mod Sizes
 pub mod Told
+pub mod Within
