@@ -2,6 +2,7 @@ pub mod Airs
 pub mod Clashes
 pub mod Counts
 pub mod Found
+pub mod Monitored
 pub mod Periods
 pub mod Planned
 pub mod Ranges

@@ -11,8 +11,8 @@ ghost use Rattle.sd_planned.specs.Within.{IsWithinPlan};
 
 /// The broadcast of a clear stream with packets has no more packets than `plan` prints for so many clear packets and
 /// PIDs, and just as many where one part of a message has room for all positions. Its periods and control words are
-/// those that are printed, and each period's sections are sent as often as is printed. No clear stream has more than 256
-/// PIDs with positions.
+/// those that are printed, and each period's sections are sent as often as is printed. No clear stream has more than
+/// 256 PIDs with positions.
 pub fn broadcasts_are_within_plans()
     ensures told { (plan : Plan) (n : ℕ) (clear : List (List ℕ)) → IsPlan plan → IsClear plan.site clear →
         AreLong clear → 0 < length clear → length (moved_pids clear) ≤ n → IsWithinPlan plan n clear }
