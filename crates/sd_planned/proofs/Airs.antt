@@ -8,7 +8,7 @@ use Rattle.sd_broadcast.proofs.Schedule.{period_of_first, periods_rise, words_ri
 use Rattle.sd_run_plan.specs.Air.{cryptos_for, last_period_for, last_word_for}
 
 -- the last control word is that of the last packet
-last_word_is : (site : SiteFields) (m : ℕ) → last_word_for site m ≡ word_of site (m - 1)
+pub last_word_is : (site : SiteFields) (m : ℕ) → last_word_for site m ≡ word_of site (m - 1)
 unfolding word_of
 last_word_is site m = omega arith
 
@@ -38,7 +38,7 @@ next_words plan more j k m r low next =
     omega (arith, up, is, next, first)
 
 -- and its periods
-last_period_is : (plan : Plan) (m : ℕ) → last_period_for plan (cryptos_for plan.site m) ≡ period_of plan (m - 1)
+pub last_period_is : (plan : Plan) (m : ℕ) → last_period_for plan (cryptos_for plan.site m) ≡ period_of plan (m - 1)
 unfolding period_of
 last_period_is plan m =
     let same : cryptos_for plan.site m - 1 ≡ crypto_of plan.site (m - 1) = omega arith in

@@ -5,6 +5,7 @@ use Rattle.std.specs.Prelude.{find, Contains, ◌⊎◌}
 use Rattle.std.specs.List.{range_with_len}
 use Rattle.std.proofs.lemmas.Bool.{cases_lt}
 use Rattle.std.proofs.lemmas.List.Elements.{All-contains, filter_passes, Contains-append_right}
+use Rattle.std.proofs.lemmas.List.FromFn.{get_or-range_with_len, length-range_with_len}
 use Rattle.sd_run_apart.specs.Apart.{differ, first_differing}
 
 -- the least number from a on, below a + n, that passes the test
@@ -134,3 +135,20 @@ pub swapped_none : (one other : ℕ → Bool) (n : ℕ) → first_differing one 
 swapped_none one other n h =
     all_fail (λ u. differ (other u) (one u)) 0 n (λ v low high. same_no (other v) (one v)
     (sym (both_same (one v) (other v) (find_none (λ u. differ (one u) (other u)) 0 n v h low high))))
+
+-- what a range of numbers has
+pub range_has : (a n v : ℕ) → a ≤ v → v < a + n → Contains (range_with_len a n) v
+range_has a zero v low high = absurd (omega (arith, low, high))
+range_has a (suc n) v low high = elim (cases_lt a v) [
+  | inl lt ↦ Contains-append_right (a ∷ []) (range_with_len (a + 1) n) v
+      (range_has (a + 1) n v (omega (arith, lt)) (omega (arith, high)))
+  | inr le ↦
+      let same : a ≡ v = omega (arith, low, le) in
+      (0, omega arith, same)
+]
+
+pub in_range : (a n v : ℕ) → Contains (range_with_len a n) v → (a ≤ v) × (v < a + n)
+in_range a n v (k, within, is) =
+    let low : k < n = omega (arith, within, length-range_with_len a n) in
+    let at = get_or-range_with_len a n k v low in
+    (omega (arith, at, is), omega (arith, at, is, low))

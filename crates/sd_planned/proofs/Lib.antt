@@ -1,6 +1,12 @@
 pub mod Airs
 pub mod Clashes
+pub mod Counts
 pub mod Found
+pub mod Monitored
+pub mod Periods
+pub mod Planned
 pub mod Ranges
 pub mod Sites
+pub mod Sizes
 pub mod Told
+pub mod Within

@@ -1,5 +1,6 @@
 -- What is told of two sites with their books is so.
-use Rattle.std.proofs.Common.{arith, ◌≡◌, ℕ, ◌^◌, ◌==◌, ◌&&◌, ◌<◌, ◌≤◌, max, not, nat_le, nat_lt, Bool, true, false, List}
+use Rattle.std.proofs.Common.{arith, ◌≡◌, ℕ, ◌^◌, ◌==◌, ◌&&◌, ◌<◌, ◌≤◌, max, not, nat_le, nat_lt, Bool, true, false}
+use Rattle.std.proofs.Common.{List}
 use Rattle.std.proofs.Common.{Option, Some, None, refl, sym, ap, subst, ◌∙◌, inl, inr, filter}
 use Rattle.std.specs.Prelude.{◌↔◌, ◌⊎◌, Contains}
 use Rattle.std.specs.List.{range_with_len}

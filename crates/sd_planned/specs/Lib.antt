@@ -1,1 +1,3 @@
+pub mod Monitored
 pub mod Told
+pub mod Within

@@ -1,5 +1,6 @@
-//! Laws of what `plan` prints and of what `apart` judges.
+//! Laws of what `plan` and `messages` print, and of what `apart` judges.
 #![tactic(auto)]
 
+pub mod messages;
 pub mod pairs;
 pub mod plans;

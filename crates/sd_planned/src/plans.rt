@@ -1,10 +1,24 @@
 //! What a plan says of streams, and of a broadcast after it.
 
-ghost use Rattle.std.specs.Prelude.{◌≡◌, ◌+◌, ◌^◌, ◌<◌, ◌≤◌, ℕ, false};
+ghost use Rattle.std.specs.Prelude.{◌≡◌, ◌+◌, ◌^◌, ◌<◌, ◌≤◌, ℕ, List, length, false};
 ghost use Rattle.sd_site.specs.Fields.{SiteFields, AreInRange};
-ghost use Rattle.sd_broadcast.specs.Plan.{Plan, period_of, word_of};
-ghost use Rattle.sd_broadcast.specs.Refused.{is_too_long};
+ghost use Rattle.sd_broadcast.specs.Kinds.{moved_pids};
+ghost use Rattle.sd_broadcast.specs.Plan.{Plan, IsPlan, period_of, word_of};
+ghost use Rattle.sd_broadcast.specs.Refused.{IsClear, is_too_long};
+ghost use Rattle.sd_sent.specs.Packets.{AreLong};
 ghost use Rattle.sd_run_plan.specs.Air.{cryptos_for, last_period_for, last_word_for};
+ghost use Rattle.sd_planned.specs.Within.{IsWithinPlan};
+
+/// The broadcast of a clear stream with packets has no more packets than `plan` prints for so many clear packets and
+/// PIDs, and just as many where one part of a message has room for all positions. Its periods and control words are
+/// those that are printed, and each period's sections are sent as often as is printed. No clear stream has more than
+/// 256 PIDs with positions.
+pub fn broadcasts_are_within_plans()
+    ensures told { (plan : Plan) (n : ℕ) (clear : List (List ℕ)) → IsPlan plan → IsClear plan.site clear →
+        AreLong clear → 0 < length clear → length (moved_pids clear) ≤ n → IsWithinPlan plan n clear }
+    ensures any { (plan : Plan) (clear : List (List ℕ)) → IsPlan plan → IsClear plan.site clear → AreLong clear →
+        0 < length clear → IsWithinPlan plan 256 clear }
+{}
 
 /// A stream of as many packets as a site has control words for has no packet that is too long.
 #[tactic(auto, using(crate::proofs::Airs::streams_have_words))]
