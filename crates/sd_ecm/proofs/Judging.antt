@@ -1,13 +1,15 @@
 -- What is wrong with a part of a control message, by what was read of it.
-use Rattle.std.proofs.Common.{◌≡◌, ℕ, ◌-◌, ◌^◌, ◌<◌, ◌≤◌, List, length, take, drop, refl, sym, ap, ◌∙◌, subst}
+use Rattle.std.proofs.Common.{◌≡◌, inl, inr, ℕ, ◌-◌, ◌^◌, ◌<◌, ◌≤◌, List, length, take, drop, eq-eqb, refl, sym, ap}
+use Rattle.std.proofs.Common.{◌∙◌, subst}
+use Rattle.std.proofs.lemmas.Bool.{cases_eq, ne_eqb, false≢true}
 use Rattle.std.specs.Prelude.{replicate}
 use Rattle.sd_bits.proofs.Fields.{field_below}
 use Rattle.sd_message.proofs.Items.{length_items, each_read}
 use Rattle.sd_message.proofs.Pieces.{filled_items, filled_rest}
-use Rattle.sd_ecm.specs.Versions.{IsVersion, IsBefore, IsSince}
+use Rattle.sd_ecm.specs.Versions.{IsVersion, IsNamed, IsBefore, IsSince}
 use Rattle.sd_ecm.specs.Spelled.{listed}
 use Rattle.sd_ecm.specs.Form.{nothing, ArePositioned, AreAscending, AreShort, IsEcm}
-use Rattle.sd_ecm.specs.Fields.{place_of, places_in, padded, from_flags, flags_of, since_in, ecm_in, with_places}
+use Rattle.sd_ecm.specs.Fields.{place_of, places_in, padded, from_flags, flags_of, since_in, run_in, ecm_in, with_places}
 use Rattle.sd_ecm.specs.Fields.{HasCount, IsMatched, IsGoodIn, BreaksIn}
 use Rattle.sd_ecm.specs.declared.part.Place.{Place}
 use Rattle.sd_ecm.specs.declared.part.EcmPart.{EcmPart}
@@ -181,6 +183,19 @@ since_right : (v number last : ℕ) (body : List ℕ) → IsBefore (ecm_in v num
 unfolding ecm_in since_in
 since_right v number last body before = record { before = before; fixed = λ one. rw one refl }
 
+-- so is the broadcast's name
+named_in : (v : ℕ) (body : List ℕ) → IsNamed v (run_in v body)
+unfolding run_in
+named_in v body = elim (cases_eq v 3) [
+  | inl e ↦ rw (eq-eqb v 3 e) (λ _. e, λ _. refl)
+  | inr g ↦ rw (ne_eqb v 3 g) (λ some. absurd (false≢true some), λ is. absurd (g is))
+]
+
+named_right : (v number last : ℕ) (body : List ℕ) →
+    IsNamed (ecm_in v number last body).version (ecm_in v number last body).run
+unfolding ecm_in
+named_right v number last body = named_in v body
+
 -- what breaks no rule is in its form
 pub version_in_is : (v number last : ℕ) (body : List ℕ) → (ecm_in v number last body).version ≡ v
 unfolding ecm_in
@@ -199,6 +214,7 @@ pub good_is_ecm : (table_id v number last : ℕ) (body : List ℕ) → IsVersion
     IsGoodIn table_id body (ecm_in v number last body) → IsEcm (ecm_in v number last body)
 good_is_ecm table_id v number last body version numbered good = record {
   version = version_read v number last body version;
+  named = named_right v number last body;
   since = since_right v number last body good.matched.since;
   numbered = numbers_read v number last body numbered;
   counted = good.has_count.1;

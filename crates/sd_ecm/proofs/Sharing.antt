@@ -7,7 +7,7 @@ use Rattle.sd_message.specs.Pieces.{pieces_for}
 use Rattle.sd_message.proofs.Pieces as Pieces
 use Rattle.sd_message.proofs.Pieces.{room, full_or_last, some_or_first, long_piece, each_of_piece, pairs_of_piece}
 use Rattle.sd_message.proofs.Pieces.{filled_items, filled_rest, filled_length}
-use Rattle.sd_ecm.specs.Versions.{IsVersion, IsSince, positions_for}
+use Rattle.sd_ecm.specs.Versions.{IsVersion, IsNamed, IsSince, positions_for}
 use Rattle.sd_ecm.specs.Spelled.{listed}
 use Rattle.sd_ecm.specs.Form.{IsCounted, IsPositioned, ArePositioned, AreAscending, AreShort, IsEcm, Fits, nothing}
 use Rattle.sd_ecm.specs.Fields.{padded}
@@ -26,6 +26,7 @@ made message x last own positions = record {
   word = message.word;
   clear = message.clear;
   since = message.since;
+  run = message.run;
   closing = message.closing;
   part = x;
   last_part = last;
@@ -126,16 +127,18 @@ counted_at message x within =
 -- what a part says of its version, its number and its rest
 record AreRight (part : EcmPart) : Type 0 where
   version : IsVersion part.version
+  named : IsNamed part.version part.run
   since : IsSince part.version part.number part.since
   numbered : part.part ≤ part.last_part
   counted : IsCounted (positions_for part.version) part.part part.last_part part.count
   rest : drop part.count part.positions ≡ replicate (13 - part.count) nothing
 
 are_right : (message : Message) (x : ℕ) → x < part_count_of message → IsVersion message.version →
-    IsSince message.version message.number message.since → AreRight (part_at message x)
+    IsNamed message.version message.run → IsSince message.version message.number message.since → AreRight (part_at message x)
 unfolding part_at
-are_right message x within version since = record {
+are_right message x within version named since = record {
   version = version;
+  named = named;
   since = since;
   numbered = omega arith;
   counted = counted_at message x within;
@@ -144,13 +147,14 @@ are_right message x within version since = record {
 
 -- a part of the message is one that this project writes
 pub is_ecm : (message : Message) (x : ℕ) → x < part_count_of message → IsVersion message.version →
-    IsSince message.version message.number message.since → ArePositioned message.places → AreAscending message.places →
-    AreShort message.places → IsEcm (part_at message x)
-is_ecm message x within version since places up positions =
+    IsNamed message.version message.run → IsSince message.version message.number message.since →
+    ArePositioned message.places → AreAscending message.places → AreShort message.places → IsEcm (part_at message x)
+is_ecm message x within version named since places up positions =
     let n : ℕ = positions_for message.version in
-    let parts = are_right message x within version since in
+    let parts = are_right message x within version named since in
     record {
       version = parts.version;
+      named = parts.named;
       since = parts.since;
       numbered = parts.numbered;
       counted = parts.counted;
@@ -164,9 +168,9 @@ is_ecm message x within version since places up positions =
 -- how many parts a message has at most
 few_parts : (version places : ℕ) → places ≤ 256 → parts_for version places ≤ 22
 unfolding pieces_for positions_for
-few_parts version places few = elim (cases_eq version 2) [
-  | inl e ↦ rw (eq-eqb version 2 e) (omega arith)
-  | inr g ↦ rw (ne_eqb version 2 g) (omega arith)
+few_parts version places few = elim (cases_eq version 1) [
+  | inl e ↦ rw (eq-eqb version 1 e) (omega arith)
+  | inr g ↦ rw (ne_eqb version 1 g) (omega arith)
 ]
 
 -- and each fits its fields
@@ -189,6 +193,7 @@ fits_at message x within is =
         word = is.word;
         clear = is.clear;
         since = omega arith;
+        run = is.run;
         wrapped = is.wrapped;
         check = is.check;
       };
@@ -202,7 +207,7 @@ pub all_are_ecms : (message : Message) → IsMessage message → All (λ part. I
 all_are_ecms message is =
     each_part (λ part. IsEcm part × Fits part) message
     (λ x within. (
-      is_ecm message x within is.version is.since is.places is.ascending is.positions,
+      is_ecm message x within is.version is.named is.since is.places is.ascending is.positions,
       fits_at message x
           within is,
     ))
@@ -218,6 +223,7 @@ all_are_of message =
       word = refl;
       clear = refl;
       since = refl;
+      run = refl;
       closing = refl;
       wrapped = refl;
       check = refl;

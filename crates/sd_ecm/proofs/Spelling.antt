@@ -12,7 +12,7 @@ use Rattle.sd_message.proofs.Items.{items_spelled}
 use Rattle.sd_ecm.specs.Versions.{flags_at}
 use Rattle.sd_ecm.specs.Spelled.{listed, place_bytes, flags_for, numbers_bytes, since_bytes, word_bytes, head_bytes}
 use Rattle.sd_ecm.specs.Spelled.{ecm_body}
-use Rattle.sd_ecm.specs.Fields.{place_of, from_flags, flags_of, since_in, ecm_in}
+use Rattle.sd_ecm.specs.Fields.{place_of, from_flags, flags_of, since_in, run_in, ecm_in}
 use Rattle.sd_ecm.specs.declared.part.Place.{Place}
 use Rattle.sd_ecm.proofs.Versions.{flags_after}
 use Rattle.sd_ecm.proofs.Judging.{listed_in}
@@ -64,15 +64,30 @@ numbers_spelled v number last body each long =
     ∙ ap (λ (l : List ℕ). take 4 body ++ l) (piece 4 8 body 4
     ∙ ap (λ (l : List ℕ). take 4 (drop 4 body) ++ l) (piece 4 4 body 8)))
 
--- so is `since`, where it is written
+same_two : (a a' b b' : List ℕ) → a ≡ a' → b ≡ b' → a ++ b ≡ a' ++ b'
+same_two a a' b b' p q = rw (p, q) refl
+
+-- so are `since` and the broadcast's name, where they are written
+eight_spelled : (body : List ℕ) → IsBytes body → 24 ≤ length body →
+    to_be_bytes w32 (field body 128 32) ++ to_be_bytes w32 (field body 160 32) ≡ take 8 (drop 16 body)
+eight_spelled body each long =
+    let since : to_be_bytes w32 (field body 128 32) ≡ take 4 (drop 16 body) = word_spelled body 16 each (omega arith) in
+    let run : to_be_bytes w32 (field body 160 32) ≡ take 4 (drop 20 body) = word_spelled body 20 each (omega arith) in
+    same_two _ _ _ _ since run ∙ sym (piece 4 4 body 16)
+
 since_spelled : (v number : ℕ) (body : List ℕ) → IsBytes body → flags_at v ≤ length body →
-    since_bytes v (since_in v number body) ≡ take (flags_at v - 16) (drop 16 body)
-unfolding since_bytes since_in flags_at
-since_spelled v number body each long = elim (cases_eq v 2) [
+    since_bytes v (since_in v number body) (run_in v body) ≡ take (flags_at v - 16) (drop 16 body)
+unfolding since_bytes since_in run_in flags_at
+since_spelled v number body each long = elim (cases_eq v 3) [
   | inl e ↦
-      let long_too : 20 ≤ length body = rw (eq-eqb v 2 e) at long in
-      rw (eq-eqb v 2 e) (word_spelled body 16 each long_too)
-  | inr g ↦ rw (ne_eqb v 2 g) refl
+      let long_too : 24 ≤ length body = rw e at long in
+      rw e (eight_spelled body each long_too)
+  | inr g ↦ elim (cases_eq v 2) [
+    | inl e ↦
+        let long_too : 20 ≤ length body = rw e at long in
+        rw e (word_spelled body 16 each long_too)
+    | inr f ↦ rw (ne_eqb v 3 g, ne_eqb v 2 f) refl
+  ]
 ]
 
 -- so is what stands between them and the positions
@@ -92,8 +107,8 @@ word_again v number last body long few =
     ∙ ap (λ (l : List ℕ). take 32 (drop 1 tail) ++ l) (piece 16 1 tail 33)))
 
 since_here : (v number last : ℕ) (body : List ℕ) → IsBytes body → flags_at v ≤ length body →
-    since_bytes (ecm_in v number last body).version (ecm_in v number last body).since ≡ take (flags_at v - 16)
-    (drop 16 body)
+    since_bytes (ecm_in v number last body).version (ecm_in v number last body).since (ecm_in v number last body).run
+    ≡ take (flags_at v - 16) (drop 16 body)
 unfolding ecm_in
 since_here v number last body each long = since_spelled v (field body 0 32) body each long
 
@@ -133,7 +148,7 @@ body_spelled v number last body each long few =
     let word : word_bytes part ++ ps ≡ tail =
     ap (λ (l : List ℕ). l ++ ps) (word_again v number last body (omega arith) few)
     ∙ (ap (λ (l : List ℕ). take 50 tail ++ l) places ∙ take-append-drop 50 tail) in
-    body_is (numbers_bytes part) (since_bytes part.version part.since) (word_bytes part) ps
+    body_is (numbers_bytes part) (since_bytes part.version part.since part.run) (word_bytes part) ps
     ∙ (same_three _ _ _ _ _ _ (numbers_spelled v number last body each (omega arith))
     (since_here v number last body each (omega arith)) word
     ∙ three 16 (flags_at v) body low)

@@ -1,5 +1,6 @@
 -- Parts of entitlement control messages as they are read.
 use Rattle.std.specs.Prelude.{◌≡◌, ℕ, ◌+◌, ◌-◌, ◌*◌, ◌%◌, ◌≤◌, ◌⊎◌, ◌==◌, if◌then◌else◌, List, length, drop}
+use Rattle.std.specs.Prelude.{Option, Some, None}
 use Rattle.std.specs.Prelude.{slice_index, slice_range}
 use Rattle.sd_bits.specs.Bits.{field}
 use Rattle.sd_section.specs.Header.{least_length, table_id_of, section_length_of, extension_of, number_of}
@@ -60,7 +61,11 @@ flags_of version body = slice_index (from_flags version body) 0
 
 -- `since` in a body: version 1 doesn't write it [this project, docs/FORMATS.md, Messages]
 unfoldable pub since_in : ℕ → ℕ → List ℕ → ℕ
-since_in version number body = if version == 2 then field body 128 32 else number - 1
+since_in version number body = if version == 1 then number - 1 else field body 128 32
+
+-- the broadcast's name in a body: version 3 alone writes it [this project, docs/FORMATS.md, Messages]
+unfoldable pub run_in : ℕ → List ℕ → Option ℕ
+run_in version body = if version == 3 then Some (field body 160 32) else None
 
 -- what the section of this version, these numbers and this body says [this project, docs/FORMATS.md, Messages]
 unfoldable pub ecm_in : ℕ → ℕ → ℕ → List ℕ → EcmPart
@@ -71,6 +76,7 @@ ecm_in version number last_number body = record {
   word = field body 64 32;
   clear = field body 96 32;
   since = since_in version (field body 0 32) body;
+  run = run_in version body;
   closing = flags_of version body == 1;
   part = number;
   last_part = last_number;
@@ -90,6 +96,7 @@ with_places part places = record {
   word = part.word;
   clear = part.clear;
   since = part.since;
+  run = part.run;
   closing = part.closing;
   part = part.part;
   last_part = part.last_part;

@@ -1,7 +1,7 @@
 -- Which parts are ones that a control message has.
-use Rattle.std.specs.Prelude.{◌≡◌, ℕ, ◌-◌, ◌^◌, ◌<◌, ◌≤◌, ◌⊎◌, true, List, length, drop, replicate, All, AllPairs}
+use Rattle.std.specs.Prelude.{◌≡◌, ℕ, ◌-◌, ◌^◌, ◌<◌, ◌≤◌, ◌⊎◌, true, List, length, drop, replicate, All, AllPairs, IfSome}
 use Rattle.sd_packet.specs.Positions.{is_positional}
-use Rattle.sd_ecm.specs.Versions.{IsVersion, IsSince, positions_for, most_positions}
+use Rattle.sd_ecm.specs.Versions.{IsVersion, IsNamed, IsSince, positions_for, most_positions}
 use Rattle.sd_ecm.specs.Spelled.{listed}
 use Rattle.sd_ecm.specs.declared.part.Place.{Place}
 use Rattle.sd_ecm.specs.declared.part.EcmPart.{EcmPart}
@@ -36,6 +36,7 @@ nothing = record { pid = 0; position = 0 }
 -- a part of a control message [this project, docs/FORMATS.md, Messages]
 pub record IsEcm (part : EcmPart) : Type 0 where
   pub version : IsVersion part.version
+  pub named : IsNamed part.version part.run
   pub since : IsSince part.version part.number part.since
   pub numbered : part.part ≤ part.last_part
   pub counted : IsCounted (positions_for part.version) part.part part.last_part part.count
@@ -51,6 +52,7 @@ pub record FitsHead (part : EcmPart) : Type 0 where
   pub word : part.word < 2 ^ 32
   pub clear : part.clear < 2 ^ 32
   pub since : part.since < 2 ^ 32
+  pub run : IfSome part.run (λ run. run < 2 ^ 32)
   pub wrapped : length part.wrapped ≡ 32
   pub check : length part.check ≡ 16
 

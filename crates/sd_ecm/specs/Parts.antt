@@ -1,7 +1,7 @@
 -- All parts of a control message.
-use Rattle.std.specs.Prelude.{◌≡◌, ℕ, ◌-◌, ◌^◌, ◌<◌, ◌≤◌, Bool, List, length}
+use Rattle.std.specs.Prelude.{◌≡◌, ℕ, ◌-◌, ◌^◌, ◌<◌, ◌≤◌, Bool, List, length, Option, IfSome}
 use Rattle.sd_message.specs.Pieces.{pieces_for, piece_at, each_below}
-use Rattle.sd_ecm.specs.Versions.{IsVersion, IsSince, positions_for, most_places}
+use Rattle.sd_ecm.specs.Versions.{IsVersion, IsNamed, IsSince, positions_for, most_places}
 use Rattle.sd_ecm.specs.Form.{ArePositioned, AreAscending, AreShort}
 use Rattle.sd_ecm.specs.Fields.{padded}
 use Rattle.sd_ecm.specs.declared.part.Place.{Place}
@@ -17,6 +17,7 @@ pub record Message : Type 0 where
   pub word : ℕ
   pub clear : ℕ
   pub since : ℕ
+  pub run : Option ℕ
   pub closing : Bool
   pub wrapped : List ℕ
   pub check : List ℕ
@@ -31,6 +32,7 @@ message_of head places = record {
   word = head.word;
   clear = head.clear;
   since = head.since;
+  run = head.run;
   closing = head.closing;
   wrapped = head.wrapped;
   check = head.check;
@@ -59,6 +61,7 @@ part_at message x = record {
   word = message.word;
   clear = message.clear;
   since = message.since;
+  run = message.run;
   closing = message.closing;
   part = x;
   last_part = part_count_of message - 1;
@@ -72,16 +75,18 @@ part_at message x = record {
 unfoldable pub parts_of : Message → List EcmPart
 parts_of message = each_below (part_at message) (part_count_of message)
 
--- the version is one of two, `since` is as it is to be, the PIDs are ones that have positions, strictly ascending and
+-- the version is one of three, `since` and the broadcast's name are as they are to be, the PIDs are ones that have positions, strictly ascending and
 -- no more than a
 -- message may have, and what the message says fits the fields of its parts [this project, docs/FORMATS.md, Messages]
 pub record IsMessage (message : Message) : Type 0 where
   pub version : IsVersion message.version
+  pub named : IsNamed message.version message.run
   pub number : message.number < 2 ^ 32
   pub period : message.period < 2 ^ 32
   pub word : message.word < 2 ^ 32
   pub clear : message.clear < 2 ^ 32
   pub since : IsSince message.version message.number message.since
+  pub run : IfSome message.run (λ run. run < 2 ^ 32)
   pub wrapped : length message.wrapped ≡ 32
   pub check : length message.check ≡ 16
   pub count : length message.places ≤ most_places
@@ -111,6 +116,7 @@ pub record IsOfMessage (message : Message) (part : EcmPart) : Type 0 where
   pub word : part.word ≡ message.word
   pub clear : part.clear ≡ message.clear
   pub since : part.since ≡ message.since
+  pub run : part.run ≡ message.run
   pub closing : part.closing ≡ message.closing
   pub wrapped : part.wrapped ≡ message.wrapped
   pub check : part.check ≡ message.check

@@ -1,5 +1,7 @@
 -- Parts of entitlement control messages as bytes.
 use Rattle.std.specs.Prelude.{ℕ, ◌+◌, ◌%◌, ◌==◌, Bool, if◌then◌else◌, List, [], ◌∷◌, ◌++◌, take, drop, flat_map}
+use Rattle.std.specs.Prelude.{Option}
+use Rattle.std.specs.Option.{unwrap_or}
 use Rattle.std.specs.Int.{w16, w32, w64, to_be_bytes}
 use Rattle.sd_section.specs.Written.{section_bytes}
 use Rattle.sd_section.specs.declared.write.Header.{Header}
@@ -23,9 +25,13 @@ numbers_bytes part =
     to_be_bytes w32 part.number
     ++ (to_be_bytes w32 part.period ++ (to_be_bytes w32 part.word ++ to_be_bytes w32 part.clear))
 
--- `since`, which version 2 alone writes [this project, docs/FORMATS.md, Messages]
-unfoldable pub since_bytes : ℕ → ℕ → List ℕ
-since_bytes version since = if version == 2 then to_be_bytes w32 since else []
+-- `since`, which version 1 doesn't write, and after it the broadcast's name, which version 3 alone writes
+-- [this project, docs/FORMATS.md, Messages]
+unfoldable pub since_bytes : ℕ → ℕ → Option ℕ → List ℕ
+since_bytes version since run =
+    if version == 3 then to_be_bytes w32 since ++ to_be_bytes w32 (unwrap_or run 0)
+    else if version == 2 then to_be_bytes w32 since
+    else []
 
 -- the flags: 1 for the closing message [this project, docs/FORMATS.md, Messages]
 abbrev pub flags_for : Bool → ℕ
@@ -38,7 +44,7 @@ word_bytes part = flags_for part.closing ∷ [] ++ (part.wrapped ++ (part.check 
 
 -- what stands before the positions [this project, docs/FORMATS.md, Messages]
 unfoldable pub head_bytes : EcmPart → List ℕ
-head_bytes part = numbers_bytes part ++ (since_bytes part.version part.since ++ word_bytes part)
+head_bytes part = numbers_bytes part ++ (since_bytes part.version part.since part.run ++ word_bytes part)
 
 -- the section's body: its head, and one position after the other [this project, docs/FORMATS.md, Messages]
 unfoldable pub ecm_body : EcmPart → List ℕ

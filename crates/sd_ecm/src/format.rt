@@ -1,5 +1,5 @@
-//! The numbers of a part of a control message (docs/FORMATS.md, Messages). There are two versions, 1 and 2; places are
-//! those of the body.
+//! The numbers of a part of a control message (docs/FORMATS.md, Messages). There are three versions, 1, 2 and 3; places
+//! are those of the body.
 
 ghost use Rattle.std.specs.Prelude.{◌≡◌, ◌≤◌};
 ghost use Rattle.sd_ecm.specs.Versions.{positions_for, flags_at as flags_place, even_table_id as even_table};
@@ -11,10 +11,13 @@ pub const TABLE_ID_1: u8 = 0x80;
 /// The same of version 2.
 pub const TABLE_ID_2: u8 = 0x84;
 
+/// The same of version 3.
+pub const TABLE_ID_3: u8 = 0x88;
+
 /// The most positions of a part of version 1, and of any part.
 pub const POSITIONS: usize = 13;
 
-/// The most positions of a part of version 2.
+/// The most positions of a part of versions 2 and 3.
 pub const POSITIONS_2: usize = 12;
 
 /// Where the flags stand in version 1.
@@ -22,6 +25,9 @@ pub const FLAGS_AT_1: usize = 16;
 
 /// Where the flags stand in version 2, in which `since` stands before them.
 pub const FLAGS_AT_2: usize = 20;
+
+/// Where the flags stand in version 3, in which the broadcast's name follows `since`.
+pub const FLAGS_AT_3: usize = 24;
 
 /// How many bytes after the flags the wrapped control word stands.
 pub const WRAPPED_AT: usize = 1;
@@ -47,23 +53,31 @@ pub fn positions_a_part(version: u8) -> usize
     ensures value { result ≡ positions_for version }
     ensures fits { result ≤ POSITIONS }
 {
-    if version == 2 { POSITIONS_2 } else { POSITIONS }
+    if version == 1 { POSITIONS } else { POSITIONS_2 }
 }
 
 /// Where the flags of this version stand.
 #[tactic(auto, unfolding(crate::specs::Versions::flags_at))]
 pub fn flags_at(version: u8) -> usize
     ensures value { result ≡ flags_place version }
-    ensures fits { result ≤ 20 }
+    ensures fits { result ≤ 24 }
 {
-    if version == 2 { FLAGS_AT_2 } else { FLAGS_AT_1 }
+    match version {
+        3 => FLAGS_AT_3,
+        2 => FLAGS_AT_2,
+        _ => FLAGS_AT_1,
+    }
 }
 
 /// The table_id of a part of this version whose control word has an even number.
 #[tactic(auto, unfolding(crate::specs::Versions::even_table_id))]
 pub fn even_table_id(version: u8) -> u8
     ensures value { result ≡ even_table version }
-    ensures fits { result ≤ 0x84 }
+    ensures fits { result ≤ 0x88 }
 {
-    if version == 2 { TABLE_ID_2 } else { TABLE_ID_1 }
+    match version {
+        3 => TABLE_ID_3,
+        2 => TABLE_ID_2,
+        _ => TABLE_ID_1,
+    }
 }

@@ -1,6 +1,6 @@
 ghost use Rattle.std.specs.Prelude.{◌≡◌, ◌<◌, ◌≤◌, Some, length, slice_get};
 ghost use Rattle.sd_message.specs.Pieces.{piece_at};
-ghost use Rattle.sd_ecm.specs.Versions.{IsVersion, IsSince, positions_for};
+ghost use Rattle.sd_ecm.specs.Versions.{IsVersion, IsNamed, IsSince, positions_for};
 ghost use Rattle.sd_ecm.specs.Form.{ArePositioned, AreAscending, AreShort, IsEcm};
 ghost use Rattle.sd_ecm.specs.Fields.{padded};
 ghost use Rattle.sd_ecm.specs.Parts.{message_of, parts_for, parts_of};
@@ -12,7 +12,7 @@ use crate::part::{EcmPart, NOTHING, Place};
 /// What each part of a control message says beside its positions (docs/FORMATS.md, Messages).
 #[derive(Clone, Copy)]
 pub struct EcmHead {
-    /// The version, 1 or 2.
+    /// The version, 1, 2 or 3.
     pub version: u8,
     /// The number of the message.
     pub number: u32,
@@ -25,6 +25,8 @@ pub struct EcmHead {
     /// A message before this one, whose control word each packet from there up to this message has. For message 0 it is
     /// 0, and in version 1 it is the message before.
     pub since: u32,
+    /// The broadcast's name, its first control word, in version 3; none in versions 1 and 2.
+    pub run: Option<u32>,
     /// Whether the message closes the stream.
     pub closing: bool,
     /// The wrapped control word.
@@ -40,10 +42,10 @@ pub fn part_count(version: u8, places: usize) -> u8
     requires { places ≤ MOST_PLACES }
     ensures { result ≡ parts_for version places }
 {
-    if version == 2 {
-        places.div_ceil(POSITIONS_2).max(1) as u8
-    } else {
+    if version == 1 {
         places.div_ceil(POSITIONS).max(1) as u8
+    } else {
+        places.div_ceil(POSITIONS_2).max(1) as u8
     }
 }
 
@@ -55,8 +57,8 @@ impl EcmPart {
         requires places { length places.now ≤ MOST_PLACES }
         requires part { part < parts_for head.now.version (length places.now) }
         ensures value { slice_get (parts_of (message_of head.now places.now)) part ≡ Some result }
-        ensures form { IsVersion head.now.version → IsSince head.now.version head.now.number head.now.since →
-            ArePositioned places.now → AreAscending places.now → AreShort places.now → IsEcm result }
+        ensures form { IsVersion head.now.version → IsNamed head.now.version head.now.run →
+            IsSince head.now.version head.now.number head.now.since → ArePositioned places.now → AreAscending places.now → AreShort places.now → IsEcm result }
     {
         let own = places_of(head.version, places, part);
         EcmPart {
@@ -66,6 +68,7 @@ impl EcmPart {
             word: head.word,
             clear: head.clear,
             since: head.since,
+            run: head.run,
             closing: head.closing,
             part,
             last_part: part_count(head.version, places.len()) - 1,

@@ -23,7 +23,7 @@ pub const NOTHING: Place = Place {
 /// One section of a control message (docs/FORMATS.md, Messages).
 #[derive(Clone, Copy, Debug, PartialEq, Eq)]
 pub struct EcmPart {
-    /// The version, 1 or 2.
+    /// The version, 1, 2 or 3.
     pub version: u8,
     /// The number of the message.
     pub number: u32,
@@ -36,6 +36,8 @@ pub struct EcmPart {
     /// A message before this one, whose control word each packet from there up to this message has. For message 0 it is
     /// 0. Version 1 doesn't write it: there it is the message before.
     pub since: u32,
+    /// The broadcast's name, its first control word, in version 3; none in versions 1 and 2.
+    pub run: Option<u32>,
     /// Whether the message closes the stream.
     pub closing: bool,
     /// Which part this is, from 0 on.

@@ -7,7 +7,7 @@ ghost use Rattle.sd_ecm.specs.Versions.{IsVersion, positions_for, flags_at as fl
 ghost use Rattle.sd_ecm.specs.Spelled.{Spells};
 ghost use Rattle.sd_ecm.specs.Form.{Fits, IsCounted, IsPositioned, ArePositioned, IsEcm, nothing};
 ghost use Rattle.sd_ecm.specs.Fields.{IsEcmSection, IsEcmPacket, HasCount, version_of, place_of, places_in, padded};
-ghost use Rattle.sd_ecm.specs.Fields.{from_flags, since_in as since_of, ecm_in, with_places, IsMatched, IsGoodIn};
+ghost use Rattle.sd_ecm.specs.Fields.{from_flags, since_in as since_of, run_in as run_of, ecm_in, with_places, IsMatched, IsGoodIn};
 ghost use Rattle.sd_ecm.specs.Fields.{BreaksIn, BreaksFirst};
 ghost use Rattle.sd_ecm.specs.Judged.{ecm_read};
 ghost use Rattle.sd_ecm.specs.declared.part.EcmPart.{EcmPart};
@@ -15,8 +15,8 @@ ghost use Rattle.sd_ecm.specs.declared.format.TheConstants.{POSITIONS, PLACES_AT
 
 use crate::fault::EcmFault;
 use crate::format::{
-    CHECK_AT, COUNT_AT, PLACE_BYTES, PLACES_AT, POSITIONS, TABLE_ID_2, WRAPPED_AT, even_table_id,
-    flags_at, positions_a_part,
+    CHECK_AT, COUNT_AT, PLACE_BYTES, PLACES_AT, POSITIONS, TABLE_ID_2, TABLE_ID_3, WRAPPED_AT,
+    even_table_id, flags_at, positions_a_part,
 };
 use crate::order::are_ascending;
 use crate::part::{EcmPart, NOTHING, Place};
@@ -87,7 +87,13 @@ fn version_in(table_id: u8) -> u8
     ensures value { result ≡ version_for table_id }
     ensures fits { IsVersion result }
 {
-    if table_id < TABLE_ID_2 { 1 } else { 2 }
+    if table_id < TABLE_ID_2 {
+        1
+    } else if table_id < TABLE_ID_3 {
+        2
+    } else {
+        3
+    }
 }
 
 // What the section of this table_id, these numbers and this body says.
@@ -150,6 +156,7 @@ fn read_head(version: u8, number: u8, last_number: u8, body: &[u8], tail: &[u8])
         word: word as u32,
         clear: clear as u32,
         since: since_in(version, ecm as u32, body),
+        run: run_in(version, body),
         closing: tail[0] == 1,
         part: number,
         last_part: last_number,
@@ -166,11 +173,25 @@ fn since_in(version: u8, number: u32, body: &[u8]) -> u32
     requires { head_length version ≤ length body.now }
     ensures { result ≡ since_of version number body.now }
 {
-    if version == 2 {
+    if version == 1 {
+        number.saturating_sub(1)
+    } else {
         fields! { body; since: 128, 32; }
         since as u32
+    }
+}
+
+// The broadcast's name, which version 3 alone writes.
+#[tactic(auto, unfolding(crate::specs::Fields::run_in, crate::specs::Versions::flags_at))]
+fn run_in(version: u8, body: &[u8]) -> Option<u32>
+    requires { head_length version ≤ length body.now }
+    ensures { result ≡ run_of version body.now }
+{
+    if version == 3 {
+        fields! { body; run: 160, 32; }
+        Some(run as u32)
     } else {
-        number.saturating_sub(1)
+        None
     }
 }
 

@@ -1,4 +1,4 @@
-ghost use Rattle.std.specs.Prelude.{◌≡◌, ◌^◌, ◌<◌, ◌≤◌, ◌+◌, ◌*◌, ◌++◌, length};
+ghost use Rattle.std.specs.Prelude.{◌≡◌, ◌^◌, ◌<◌, ◌≤◌, ◌+◌, ◌*◌, ◌++◌, length, IfSome};
 ghost use Rattle.sd_packet.specs.Packing.{packed};
 ghost use Rattle.sd_ecm.specs.Versions.{positions_for, flags_at as flags_place, head_length};
 ghost use Rattle.sd_ecm.specs.Spelled.{place_bytes, numbers_bytes, since_bytes, word_bytes, head_bytes, ecm_body};
@@ -63,7 +63,7 @@ fn head_of(part: &EcmPart) -> Body
     ensures fits { FitsHead part.now }
 {
     let mut body = numbers_of(part);
-    put_since(&mut body, part.version, part.since);
+    put_since(&mut body, part.version, part.since, part.run);
     put_word(&mut body, part);
     body
 }
@@ -86,23 +86,28 @@ fn numbers_of(part: &EcmPart) -> Body
     body
 }
 
-// Puts `since` after them, where the version writes it.
+// Puts `since` and the broadcast's name after them, where the version writes them.
 #[tactic(auto, unfolding(crate::specs::Spelled::since_bytes, crate::specs::Versions::flags_at))]
-fn put_since(body: &mut Body, version: u8, since: u32)
+fn put_since(body: &mut Body, version: u8, since: u32, run: Option<u32>)
     requires { length body.old ≡ 16 }
-    ensures value { body.new ≡ body.old ++ since_bytes version since }
+    ensures value { body.new ≡ body.old ++ since_bytes version since run }
     ensures length { length body.new ≡ flags_place version }
-    ensures few { length body.new ≤ 20 }
+    ensures few { length body.new ≤ 24 }
+    ensures run { IfSome run (λ run. run < 2 ^ 32) }
 {
-    if version == 2 {
+    let run = run.unwrap_or(0);
+    if version == 2 || version == 3 {
         body.put(&since.to_be_bytes());
+    }
+    if version == 3 {
+        body.put(&run.to_be_bytes());
     }
 }
 
 // Puts what stands between them and the positions.
 #[tactic(auto, unfolding(crate::specs::Spelled::word_bytes))]
 fn put_word(body: &mut Body, part: &EcmPart)
-    requires { length body.old ≤ 20 }
+    requires { length body.old ≤ 24 }
     ensures value { body.new ≡ body.old ++ word_bytes part.now }
     ensures length { length body.new ≡ length body.old + PLACES_AT }
     ensures wrapped { length part.now.wrapped ≡ 32 }

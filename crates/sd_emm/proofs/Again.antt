@@ -1,7 +1,7 @@
 -- What is spelled is read as what it was.
-use Rattle.std.proofs.Common.{◌≡◌, ℕ, ◌+◌, ◌*◌, ◌≤◌, List, [], ◌∷◌, ◌++◌, length, take, drop, get_or, append_assoc}
-use Rattle.std.proofs.Common.{length-append, length-take-le, arith, refl, sym, ap, ◌∙◌}
-use Rattle.std.specs.Prelude.{All, slice_index, flat_map}
+use Rattle.std.proofs.Common.{◌≡◌, ℕ, ◌+◌, ◌*◌, ◌^◌, ◌<◌, ◌≤◌, List, [], ◌∷◌, ◌++◌, length, take, drop, get_or, append_assoc}
+use Rattle.std.proofs.Common.{length-append, length-take-le, drop-drop, get_or-drop, arith, refl, sym, ap, ◌∙◌}
+use Rattle.std.specs.Prelude.{All, slice_index, flat_map, Option, Some, None, IfSome, is_some}
 use Rattle.std.proofs.lemmas.List.{take_at, drop_at, take_all, get_or_at}
 use Rattle.sd_bits.specs.Bits.{field}
 use Rattle.sd_tree.specs.declared.set.SetName.{SetName}
@@ -9,9 +9,9 @@ use Rattle.sd_tree.specs.declared.set.SetName.TheVariants.{Whole, Diff}
 use Rattle.sd_message.proofs.Numbers.{half_again, word_again}
 use Rattle.sd_message.proofs.Items.{items_again, long_items}
 use Rattle.sd_message.proofs.Pieces.{filled_again}
-use Rattle.sd_emm.specs.Spelled.{listed, name_bytes, entry_bytes, head_bytes, emm_body}
+use Rattle.sd_emm.specs.Spelled.{listed, name_bytes, entry_bytes, run_bytes, head_bytes, emm_body}
 use Rattle.sd_emm.specs.Form.{AreSets, IsEmm, Fits, nothing}
-use Rattle.sd_emm.specs.Fields.{name_of, entry_of, entries_in, padded, emm_in}
+use Rattle.sd_emm.specs.Fields.{name_of, entry_of, entries_in, padded, count_at, head_length, run_in, emm_in}
 use Rattle.sd_emm.specs.declared.emm.Entry.{Entry}
 use Rattle.sd_emm.specs.declared.emm.Emm.{Emm}
 use Rattle.sd_emm.proofs.Names.{name_again}
@@ -44,23 +44,24 @@ entry_alone entry fits =
     rw (fits.name entry.wrapped, after, take_all 32 entry.wrapped (omega (arith, fits.wrapped))) refl
 
 -- entitlements by their fields
-abbrev made : ℕ → ℕ → ℕ → ℕ → List ℕ → ℕ → List Entry → Emm
-made period sets sections index check count entries =
+abbrev made : ℕ → ℕ → ℕ → ℕ → List ℕ → Option ℕ → ℕ → List Entry → Emm
+made period sets sections index check run count entries =
     record {
       period = period;
       sets = sets;
       sections = sections;
       index = index;
       check = check;
+      run = run;
       count = count;
       entries =
           entries;
     }
 
-same_made : (p p' s s' n n' x : ℕ) (c c' : List ℕ) (k k' : ℕ) (e e' : List Entry) → p ≡ p' → s ≡ s' → n ≡ n' → c ≡ c' →
-    k ≡ k' → e ≡ e' →
-    made p s n x c k e ≡ made p' s' n' x c' k' e'
-same_made p p' s s' n n' x c c' k k' e e' f g h i j l = rw (f, g, h, i, j, l) refl
+same_made : (p p' s s' n n' x : ℕ) (c c' : List ℕ) (r r' : Option ℕ) (k k' : ℕ) (e e' : List Entry) → p ≡ p' → s ≡ s' →
+    n ≡ n' → c ≡ c' → r ≡ r' → k ≡ k' → e ≡ e' →
+    made p s n x c r k e ≡ made p' s' n' x c' r' k' e'
+same_made p p' s s' n n' x c c' r r' k k' e e' f g h i o j l = rw (f, g, h, i, o, j, l) refl
 
 -- how many entries there are
 pub few_entries : (emm : Emm) → IsEmm emm → emm.count ≤ 3
@@ -82,41 +83,82 @@ padded_again emm fits form =
     filled_again 3 emm.count nothing emm.entries (length-take-le emm.count emm.entries (omega (arith, fits.entries)))
     form.rest
 
+-- what is read after the check value
+record IsTail (name : Option ℕ) (many : ℕ) (entries xs : List ℕ) : Type 0 where
+  run : run_in (is_some name) xs ≡ name
+  count : slice_index xs (count_at (is_some name)) ≡ many
+  rest : drop (head_length (is_some name)) xs ≡ entries
+
+tail_read : (run : Option ℕ) (count : ℕ) (entries xs : List ℕ) → IfSome run (λ name. name < 2 ^ 32) →
+    drop 26 xs ≡ run_bytes run ++ count ∷ entries → IsTail run count entries xs
+unfolding run_in count_at
+tail_read None count entries xs fits is = record {
+  run = refl;
+  count = sym (get_or-drop 26 xs 0 0) ∙ ap (λ (l : List ℕ). get_or l 0 0) is;
+  rest = sym (drop-drop 1 26 xs) ∙ ap (drop 1) is;
+}
+tail_read (Some run) count entries xs fits is =
+    let byte : (k : ℕ) → get_or xs (26 + k) 0 ≡ get_or (run_bytes (Some run) ++ count ∷ entries) k 0 =
+    λ k. sym (get_or-drop 26 xs k 0) ∙ ap (λ (l : List ℕ). get_or l k 0) is in
+    record {
+      run = ap (λ (n : ℕ). Some n) (word_again xs 26 run fits (byte 0) (byte 1) (byte 2) (byte 3));
+      count = byte 4;
+      rest = sym (drop-drop 5 26 xs) ∙ ap (drop 5) is;
+    }
+
 -- the body is read as what it spells
 pub body_again : (h : ℕ) (emm : Emm) → h ≤ 20 → Fits emm → IsEmm emm → AreSets h emm.sets (listed emm) →
-    emm_in emm.index (emm_body emm) ≡ emm
+    emm_in (is_some emm.run) emm.index (emm_body emm) ≡ emm
 unfolding emm_in emm_body head_bytes
 body_again h emm high fits form sets =
     let xs : List ℕ = emm_body emm in
     let es : List ℕ = flat_map entry_bytes (listed emm) in
+    let end : List ℕ = run_bytes emm.run ++ emm.count ∷ [] in
+    let after : drop 10 xs ≡ emm.check ++ (run_bytes emm.run ++ emm.count ∷ es) =
+    append_assoc emm.check end es
+    ∙ ap (λ (l : List ℕ). emm.check ++ l) (append_assoc (run_bytes emm.run) (emm.count ∷ []) es) in
+    let last : drop 26 xs ≡ run_bytes emm.run ++ emm.count ∷ es =
+    ap (drop 16) after ∙ drop_at emm.check (run_bytes emm.run ++ emm.count ∷ es) 16 fits.head.check in
+    let tail : IsTail emm.run emm.count es xs = tail_read emm.run emm.count es xs fits.head.run last in
     let few = few_entries emm form in
-    let after : drop 10 xs ≡ emm.check ++ emm.count ∷ es = append_assoc emm.check (emm.count ∷ []) es in
-    let count : slice_index xs 26 ≡ emm.count =
-    ap (λ (l : List ℕ). get_or l 16 0) after ∙ get_or_at emm.check emm.count es 0 16 fits.head.check in
-    let rest : drop 27 xs ≡ es =
-    drop_at (emm.check ++ emm.count ∷ []) es 17
-    (omega (arith, length-append emm.check (emm.count ∷ []), fits.head.check)) in
     let long : emm.count ≡ length (listed emm) = sym
     (length-take-le emm.count emm.entries (omega (arith, fits.entries))) in
-    let entries : entries_in (slice_index xs 26) (drop 27 xs) ≡ listed emm =
-    ap (λ (n : ℕ). entries_in n (drop 27 xs)) (count ∙ long)
-    ∙ (ap (entries_in (length (listed emm))) rest ∙ items_again entry_of entry_bytes IsSpellable 40 (listed emm)
+    let entries : entries_in (slice_index xs (count_at (is_some emm.run))) (drop (head_length (is_some emm.run)) xs)
+    ≡ listed emm =
+    ap (λ (n : ℕ). entries_in n (drop (head_length (is_some emm.run)) xs)) (tail.count ∙ long)
+    ∙ (ap (entries_in (length (listed emm))) tail.rest ∙ items_again entry_of entry_bytes IsSpellable 40 (listed emm)
     long_entry entry_alone (all_spellable h emm high fits form sets)) in
-    same_made _ emm.period _ emm.sets _ emm.sections emm.index _ emm.check _ emm.count _ emm.entries
+    same_made _ emm.period _ emm.sets _ emm.sections emm.index _ emm.check _ emm.run _ emm.count _ emm.entries
     (word_again xs 0 emm.period fits.head.period refl refl refl refl)
     (word_again xs 4 emm.sets fits.head.sets refl refl refl refl)
     (half_again xs 8 emm.sections fits.head.sections refl refl)
-    (ap (take 16) after ∙ take_at emm.check (emm.count ∷ es) 16 fits.head.check)
-    count
+    (ap (take 16) after ∙ take_at emm.check (run_bytes emm.run ++ emm.count ∷ es) 16 fits.head.check)
+    tail.run
+    tail.count
     (ap padded entries ∙ padded_again emm fits form)
 
 -- how long the body is
-pub long_body : (emm : Emm) → length emm.check ≡ 16 → length (head_bytes emm) ≡ 27
+long_end : (run : Option ℕ) (count : ℕ) → length (run_bytes run ++ count ∷ []) + 26 ≡ head_length (is_some run)
+unfolding count_at
+long_end None count = refl
+long_end (Some run) count = refl
+
+pub few_head : (run : Option ℕ) → head_length (is_some run) ≤ 31
+unfolding count_at
+few_head None = omega arith
+few_head (Some run) = omega arith
+
+pub long_body : (emm : Emm) → length emm.check ≡ 16 → length (head_bytes emm) ≡ head_length (is_some emm.run)
 unfolding head_bytes
-long_body emm check = omega (arith, length-append emm.check (emm.count ∷ []))
+long_body emm check =
+    omega (
+      arith,
+      length-append emm.check (run_bytes emm.run ++ emm.count ∷ []),
+      long_end emm.run emm.count,
+    )
 
 pub long_whole : (h : ℕ) (emm : Emm) → h ≤ 20 → Fits emm → IsEmm emm → AreSets h emm.sets (listed emm) →
-    length (emm_body emm) ≡ 27 + 40 * emm.count
+    length (emm_body emm) ≡ head_length (is_some emm.run) + 40 * emm.count
 unfolding emm_body
 long_whole h emm high fits form sets =
     let few = few_entries emm form in

@@ -1,7 +1,7 @@
 -- The tests of what a packet is read as tell what the rules say.
 use Rattle.std.proofs.Common.{◌≡◌, inl, inr, ℕ, zero, suc, ◌+◌, ◌-◌, ◌*◌, ◌/◌, ◌^◌, ◌<◌, ◌≤◌, List, length, arith, refl}
 use Rattle.std.proofs.Common.{sym, ap, ◌∙◌, subst}
-use Rattle.std.specs.Prelude.{Bool, true, false, ◌==◌, not, nat_le, nat_lt, if◌then◌else◌, min, Option, Some, None}
+use Rattle.std.specs.Prelude.{Bool, true, false, ◌==◌, ◌||◌, is_some, not, nat_le, nat_lt, if◌then◌else◌, min, Option, Some, None}
 use Rattle.std.specs.Prelude.{Result, Ok, Err}
 use Rattle.std.specs.Bool.{Decides}
 use Rattle.std.specs.List.{list_all}
@@ -11,19 +11,20 @@ use Rattle.std.specs.declared.cmp.Ordering.TheVariants.{Less, Equal, Greater}
 use Rattle.std.proofs.Math.Nat.{div-eq_of_lt, div-one, pow-suc, mul-div-le, mul-le-mul_right}
 use Rattle.std.proofs.Math.Pow.{pow_mono}
 use Rattle.std.proofs.lemmas.Bool.{cases_lt, false≢true}
-use Rattle.std.proofs.lemmas.Bool.Decides.{Decides-and, Decides-eqb, Decides-ltb, Decides-like, Decides-by_and}
+use Rattle.std.proofs.lemmas.Bool.Decides.{Decides-and, Decides-or, Decides-eqb, Decides-ltb, Decides-like, Decides-by_and}
 use Rattle.std.proofs.lemmas.Bool.Decides.{Decides-below_or}
 use Rattle.sd_packet.specs.Packing.{packed}
 use Rattle.sd_tree.specs.SetNames.{IsPair, set_cmp, AreAscending}
 use Rattle.sd_tree.specs.Node.{IsProperlyAbove}
 use Rattle.sd_tree.specs.declared.set.SetName.{SetName}
 use Rattle.sd_tree.specs.declared.set.SetName.TheVariants.{Whole, Diff}
-use Rattle.sd_section.specs.Header.{extension_of, body_of, section_length_of, table_id_of, number_of, last_number_of}
+use Rattle.sd_section.specs.Header.{least_length, extension_of, body_of, section_length_of, table_id_of, number_of, last_number_of}
 use Rattle.sd_message.specs.Framed.{has_section, section_of}
 use Rattle.sd_message.proofs.Deciding.{tells_section, is_false, tells_le}
 use Rattle.sd_message.proofs.Ascending.{tells_pairs}
 use Rattle.sd_emm.specs.Spelled.{listed, names_in, emm_section, Spells}
 use Rattle.sd_emm.specs.Form.{IsSetBeside, AreSets, IsEmm, Fits, sections_for}
+use Rattle.sd_emm.specs.Fields.{is_named, head_length}
 use Rattle.sd_emm.specs.Fields.{HasCount, IsEmmSection, IsEmmPacket, IsGoodIn, BreaksIn, BreaksFirst, emm_in, emm_of}
 use Rattle.sd_emm.specs.Judged.{is_halved, is_pair, is_set_beside, are_sets, is_ascending, is_counted, emm_judged}
 use Rattle.sd_emm.specs.Judged.{is_emm_section, has_emm, emm_read}
@@ -32,7 +33,7 @@ use Rattle.sd_emm.specs.declared.emm.Emm.{Emm}
 use Rattle.sd_emm.specs.declared.fault.EmmFault.{EmmFault}
 use Rattle.sd_emm.specs.declared.fault.EmmFault.TheVariants.{Count, Order, Node, Mixed}
 use Rattle.sd_emm.proofs.Judging.{good_is_emm}
-use Rattle.sd_emm.proofs.Reading.{spelled_is_packet, spelled_is_read, spelled_is_good, written_spells}
+use Rattle.sd_emm.proofs.Reading.{IsParted, spelled_is_packet, spelled_is_read, spelled_is_good, written_spells}
 
 -- some number of halvings from 1 to n leads from j to i
 abbrev IsHalved : ℕ → ℕ → ℕ → Type 0
@@ -114,7 +115,8 @@ tells_counted length emm =
     Decides-like _
     (λ all. (all.0, record { sections_are = all.1.0; index_is = all.1.1.0; count_is = all.1.1.1 }))
     (λ has. (has.0, (has.1.sections_are, (has.1.index_is, has.1.count_is))))
-    (Decides-and (length == 27 + 40 * emm.count) _ (Decides-eqb length (27 + 40 * emm.count))
+    (Decides-and (length == head_length (is_some emm.run) + 40 * emm.count) _
+    (Decides-eqb length (head_length (is_some emm.run) + 40 * emm.count))
     (Decides-and (emm.sections == sections_for emm.sets) _ (Decides-eqb emm.sections (sections_for emm.sets))
     (Decides-and (nat_lt emm.index emm.sections) (emm.count == min 3 (emm.sets - 3 * emm.index))
     (Decides-ltb emm.index emm.sections)
@@ -123,14 +125,17 @@ tells_counted length emm =
 -- the section is one of entitlements
 tells_emm_section : (section : List ℕ) → Decides (is_emm_section section) (IsEmmSection section)
 tells_emm_section section =
+    let table : ℕ = table_id_of section in
+    let room : ℕ = head_length (is_named table) + least_length in
     Decides-like _
     (λ all. record { table_id = all.0; number = all.1.0; last_number = all.1.1.0; room = all.1.1.1 })
     (λ is. (is.table_id, (is.number, (is.last_number, is.room))))
-    (Decides-and (table_id_of section == 0x82) _ (Decides-eqb (table_id_of section) 0x82)
+    (Decides-and ((table == 0x82) || (table == 0x8A)) _
+    (Decides-or (table == 0x82) (table == 0x8A) (Decides-eqb table 0x82) (Decides-eqb table 0x8A))
     (Decides-and (number_of section == 0) _ (Decides-eqb (number_of section) 0)
-    (Decides-and (last_number_of section == 0) (nat_le 36 (section_length_of section))
+    (Decides-and (last_number_of section == 0) (nat_le room (section_length_of section))
     (Decides-eqb (last_number_of section) 0)
-    (tells_le 36 (section_length_of section)))))
+    (tells_le room (section_length_of section)))))
 
 -- the packet begins with one
 tells_emm : (packet : List ℕ) → Decides (has_emm packet) (IsEmmPacket packet)
@@ -220,34 +225,33 @@ unfolding emm_read
 good_reads h packet is good = rw ((tells_emm packet).1 is) (judged_good h _ (emm_of (section_of packet)) good)
 
 -- what is known of the parts of a packet's section, by themselves
-at_section : (P : ℕ → List ℕ → Type 0) (packet section body : List ℕ) (index : ℕ) → section ≡ section_of packet →
-    index ≡ extension_of section → body ≡ body_of section → P index body → P (extension_of (section_of packet))
-    (body_of (section_of packet))
-at_section P packet section body index is_section is_index is_body known =
-    subst (λ (s : List ℕ). P (extension_of s) (body_of s)) is_section
-    (subst (P (extension_of section)) is_body (subst (λ (n : ℕ). P n body) is_index known))
+at_section : (P : Bool → ℕ → List ℕ → Type 0) (packet section body : List ℕ) (named : Bool) (index : ℕ) →
+    section ≡ section_of packet → IsParted section body named index → P named index body →
+    P (is_named (table_id_of (section_of packet))) (extension_of (section_of packet)) (body_of (section_of packet))
+at_section P packet section body named index is_section are known =
+    subst (λ (s : List ℕ). P (is_named (table_id_of s)) (extension_of s) (body_of s)) is_section
+    (subst (P (is_named (table_id_of section)) (extension_of section)) are.is_body
+    (subst (λ (n : ℕ). P (is_named (table_id_of section)) n body) are.is_index
+    (subst (λ (b : Bool). P b index body) are.is_name known)))
 
-pub broken_at : (h : ℕ) (packet section body : List ℕ) (index : ℕ) (fault : EmmFault) → IsEmmPacket packet →
-    section ≡ section_of packet →
-    index ≡ extension_of section → body ≡ body_of section → BreaksIn h (length body) (emm_in index body) fault →
-    emm_read h packet ≡ Err fault
-broken_at h packet section body index fault is is_section is_index is_body breaks =
+pub broken_at : (h : ℕ) (packet section body : List ℕ) (named : Bool) (index : ℕ) (fault : EmmFault) →
+    IsEmmPacket packet → section ≡ section_of packet → IsParted section body named index →
+    BreaksIn h (length body) (emm_in named index body) fault → emm_read h packet ≡ Err fault
+broken_at h packet section body named index fault is is_section are breaks =
     broken_reads h packet fault is
-    (at_section (λ (n : ℕ) (b : List ℕ). BreaksIn h (length b) (emm_in n b) fault) packet section body index is_section
-    is_index is_body breaks)
+    (at_section (λ (m : Bool) (n : ℕ) (b : List ℕ). BreaksIn h (length b) (emm_in m n b) fault) packet section body
+    named index is_section are breaks)
 
-pub good_at : (h : ℕ) (packet section body : List ℕ) (index : ℕ) (emm : Emm) → IsEmmPacket packet →
-    section ≡ section_of packet →
-    index ≡ extension_of section → body ≡ body_of section → emm ≡ emm_in index body → IsGoodIn h (length body)
-    (emm_in index body) →
-    emm_read h packet ≡ Ok (Some emm)
-good_at h packet section body index emm is is_section is_index is_body is_emm good =
+pub good_at : (h : ℕ) (packet section body : List ℕ) (named : Bool) (index : ℕ) (emm : Emm) → IsEmmPacket packet →
+    section ≡ section_of packet → IsParted section body named index → emm ≡ emm_in named index body →
+    IsGoodIn h (length body) (emm_in named index body) → emm_read h packet ≡ Ok (Some emm)
+good_at h packet section body named index emm is is_section are is_emm good =
     good_reads h packet is
-    (at_section (λ (n : ℕ) (b : List ℕ). IsGoodIn h (length b) (emm_in n b)) packet section body index is_section
-    is_index is_body good)
+    (at_section (λ (m : Bool) (n : ℕ) (b : List ℕ). IsGoodIn h (length b) (emm_in m n b)) packet section body named
+    index is_section are good)
     ∙ ap (λ (e : Emm). Ok (Some e))
-    (sym (at_section (λ (n : ℕ) (b : List ℕ). emm ≡ emm_in n b) packet section body index is_section is_index is_body
-    is_emm))
+    (sym (at_section (λ (m : Bool) (n : ℕ) (b : List ℕ). emm ≡ emm_in m n b) packet section body named index is_section
+    are is_emm))
 
 -- a packet that spells entitlements is read as them
 pub spelled_reads : (h : ℕ) (emm : Emm) (packet : List ℕ) → h ≤ 20 → Fits emm → IsEmm emm →
@@ -255,11 +259,16 @@ pub spelled_reads : (h : ℕ) (emm : Emm) (packet : List ℕ) → h ≤ 20 → F
     Spells emm packet → emm_read h packet ≡ Ok (Some emm)
 spelled_reads h emm packet high fits form sets spells =
     let section : List ℕ = section_of packet in
+    let are : IsParted section (body_of section) (is_named (table_id_of section)) (extension_of section) = record {
+      is_name = refl;
+      is_index = refl;
+      is_body = refl;
+    } in
     good_reads h packet (spelled_is_packet h emm packet high fits form sets spells)
-    (spelled_is_good h emm packet section (body_of section) (extension_of section) high fits form sets spells refl refl
-    refl)
-    ∙ ap (λ (e : Emm). Ok (Some e)) (spelled_is_read h emm packet section (body_of section) (extension_of section) high
-    fits form sets spells refl refl refl)
+    (spelled_is_good h emm packet section (body_of section) _ (extension_of section) high fits form sets spells refl
+    are)
+    ∙ ap (λ (e : Emm). Ok (Some e)) (spelled_is_read h emm packet section (body_of section) _ (extension_of section)
+    high fits form sets spells refl are)
 
 pub packed_reads : (h : ℕ) (emm : Emm) (pid counter : ℕ) → h ≤ 20 → Fits emm → IsEmm emm →
     AreSets h emm.sets (listed emm) →
@@ -276,4 +285,4 @@ read_form h packet emm is =
     let judged = taken (has_emm packet) (emm_judged h (length (body_of section)) (emm_of section)) emm is in
     let good = good_judged h (length (body_of section)) (emm_of section) emm judged in
     subst (λ (e : Emm). IsEmm e × AreSets h e.sets (listed e)) good.0
-    (good_is_emm h (extension_of section) (body_of section) good.1, good.1.are_sets)
+    (good_is_emm h (is_named (table_id_of section)) (extension_of section) (body_of section) good.1, good.1.are_sets)

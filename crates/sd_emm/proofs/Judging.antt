@@ -1,11 +1,12 @@
 -- What is wrong with a section of entitlements, by what was read of it.
 use Rattle.std.proofs.Common.{◌≡◌, ℕ, ◌-◌, List, length, take, drop, refl, sym, ap, ◌∙◌, subst}
-use Rattle.std.specs.Prelude.{replicate, ◌↔◌}
+use Rattle.std.specs.Prelude.{Bool, replicate, ◌↔◌}
 use Rattle.std.proofs.lemmas.List.{take_at, drop_at}
 use Rattle.sd_tree.specs.SetNames.{AreAscending}
 use Rattle.sd_emm.specs.Spelled.{listed, names_in}
 use Rattle.sd_emm.specs.Form.{nothing, AreSets, IsEmm}
-use Rattle.sd_emm.specs.Fields.{entry_of, entries_in, padded, emm_in, with_entries, HasCount, IsGoodIn, BreaksIn}
+use Rattle.sd_emm.specs.Fields.{entry_of, entries_in, padded, head_length, emm_in, with_entries, HasCount, IsGoodIn}
+use Rattle.sd_emm.specs.Fields.{BreaksIn}
 use Rattle.sd_emm.specs.declared.emm.Entry.{Entry}
 use Rattle.sd_emm.specs.declared.emm.Emm.{Emm}
 use Rattle.sd_emm.specs.declared.fault.EmmFault.{EmmFault}
@@ -13,123 +14,122 @@ use Rattle.sd_emm.specs.declared.fault.EmmFault.TheVariants.{Count, Order, Node,
 use Rattle.sd_message.proofs.Items.{length_items}
 
 -- what stands before the entries was read
-abbrev pub IsPrefix : ℕ → List ℕ → Emm → Type 0
-IsPrefix index body head = head ≡ with_entries (emm_in index body) (replicate 3 nothing)
+abbrev pub IsPrefix : Bool → ℕ → List ℕ → Emm → Type 0
+IsPrefix named index body head = head ≡ with_entries (emm_in named index body) (replicate 3 nothing)
 
 -- the entries that a section has are those in its body
-pub listed_in : (index : ℕ) (body : List ℕ) → listed (emm_in index body) ≡ entries_in (emm_in index body).count
-    (drop 27 body)
+pub listed_in : (named : Bool) (index : ℕ) (body : List ℕ) → listed (emm_in named index body) ≡ entries_in (emm_in named index body).count
+    (drop (head_length named) body)
 unfolding emm_in
-listed_in index body =
-    let count : ℕ = (emm_in index body).count in
-    take_at (entries_in count (drop 27 body)) (replicate (3 - length (entries_in count (drop 27 body))) nothing) count
-    (length_items entry_of 40 count (drop 27 body))
+listed_in named index body =
+    let count : ℕ = (emm_in named index body).count in
+    take_at (entries_in count (drop (head_length named) body)) (replicate (3 - length (entries_in count (drop (head_length named) body))) nothing) count
+    (length_items entry_of 40 count (drop (head_length named) body))
 
-entries_are : (index : ℕ) (body : List ℕ) → (emm_in index body).entries
-    ≡ padded (entries_in (emm_in index body).count (drop 27 body))
+entries_are : (named : Bool) (index : ℕ) (body : List ℕ) → (emm_in named index body).entries
+    ≡ padded (entries_in (emm_in named index body).count (drop (head_length named) body))
 unfolding emm_in
-entries_are index body = refl
+entries_are named index body = refl
 
 -- the same entries by the count that was read
-same_entries : (index : ℕ) (body : List ℕ) (head : Emm) (count : ℕ) → IsPrefix index body head → count ≡ head.count →
-    entries_in count (drop 27 body) ≡ listed (emm_in index body)
-same_entries index body head count is counted =
-    ap (λ (n : ℕ). entries_in n (drop 27 body)) (counted ∙ ap (λ (e : Emm). e.count) is) ∙ sym (listed_in index body)
+same_entries : (named : Bool) (index : ℕ) (body : List ℕ) (head : Emm) (count : ℕ) → IsPrefix named index body head → count ≡ head.count →
+    entries_in count (drop (head_length named) body) ≡ listed (emm_in named index body)
+same_entries named index body head count is counted =
+    ap (λ (n : ℕ). entries_in n (drop (head_length named) body)) (counted ∙ ap (λ (e : Emm). e.count) is) ∙ sym (listed_in named index body)
 
 -- the numbers don't come to one another
-pub count_breaks : (h index : ℕ) (body : List ℕ) (head : Emm) → IsPrefix index body head →
+pub count_breaks : (h : ℕ) (named : Bool) (index : ℕ) (body : List ℕ) (head : Emm) → IsPrefix named index body head →
     ¬ HasCount (length body) head →
-    BreaksIn h (length body) (emm_in index body) Count
-count_breaks h index body head is unless has = unless (subst (HasCount (length body)) (sym is) has)
+    BreaksIn h (length body) (emm_in named index body) Count
+count_breaks h named index body head is unless has = unless (subst (HasCount (length body)) (sym is) has)
 
 -- they do
-has_count : (index : ℕ) (body : List ℕ) (head : Emm) → IsPrefix index body head → HasCount (length body) head →
-    HasCount (length body) (emm_in index body)
-has_count index body head is has = subst (HasCount (length body)) is has
+has_count : (named : Bool) (index : ℕ) (body : List ℕ) (head : Emm) → IsPrefix named index body head → HasCount (length body) head →
+    HasCount (length body) (emm_in named index body)
+has_count named index body head is has = subst (HasCount (length body)) is has
 
 -- the entries are sets by the number that was read where they are
-same_sets : (h index : ℕ) (body : List ℕ) (head : Emm) (count : ℕ) → IsPrefix index body head → count ≡ head.count →
-    AreSets h head.sets (entries_in count (drop 27 body)) ↔ AreSets h (emm_in index body).sets
-    (listed (emm_in index body))
-same_sets h index body head count is counted =
-    let entries = same_entries index body head count is counted in
-    let sets : head.sets ≡ (emm_in index body).sets = ap (λ (e : Emm). e.sets) is in (
-      λ all. subst (λ (n : ℕ). AreSets h n (listed (emm_in index body))) sets
+same_sets : (h : ℕ) (named : Bool) (index : ℕ) (body : List ℕ) (head : Emm) (count : ℕ) → IsPrefix named index body head → count ≡ head.count →
+    AreSets h head.sets (entries_in count (drop (head_length named) body)) ↔ AreSets h (emm_in named index body).sets
+    (listed (emm_in named index body))
+same_sets h named index body head count is counted =
+    let entries = same_entries named index body head count is counted in
+    let sets : head.sets ≡ (emm_in named index body).sets = ap (λ (e : Emm). e.sets) is in (
+      λ all. subst (λ (n : ℕ). AreSets h n (listed (emm_in named index body))) sets
           (subst (λ (es : List Entry). AreSets h head.sets es) entries all),
       λ all. subst (λ (es : List Entry). AreSets h head.sets es) (sym entries)
-          (subst (λ (n : ℕ). AreSets h n (listed (emm_in index body))) (sym sets) all),
+          (subst (λ (n : ℕ). AreSets h n (listed (emm_in named index body))) (sym sets) all),
     )
 
 -- an entry is no set that may stand there
-pub node_breaks : (h index : ℕ) (body : List ℕ) (head : Emm) (count : ℕ) → IsPrefix index body head →
+pub node_breaks : (h : ℕ) (named : Bool) (index : ℕ) (body : List ℕ) (head : Emm) (count : ℕ) → IsPrefix named index body head →
     HasCount (length body) head →
-    count ≡ head.count → ¬ AreSets h head.sets (entries_in count (drop 27 body)) → BreaksIn h (length body)
-    (emm_in index body) Node
-node_breaks h index body head count is has counted unless =
-    (has_count index body head is has, λ all. unless ((same_sets h index body head count is counted).1 all))
+    count ≡ head.count → ¬ AreSets h head.sets (entries_in count (drop (head_length named) body)) → BreaksIn h (length body)
+    (emm_in named index body) Node
+node_breaks h named index body head count is has counted unless =
+    (has_count named index body head is has, λ all. unless ((same_sets h named index body head count is counted).1 all))
 
 -- what was read is what the section says
-pub is_whole : (index : ℕ) (body : List ℕ) (head : Emm) (count : ℕ) (entries : List Entry) → IsPrefix index body head →
-    count ≡ head.count → entries ≡ padded (entries_in count (drop 27 body)) → with_entries head entries
-    ≡ emm_in index body
-is_whole index body head count entries is counted read =
-    let same : entries ≡ (emm_in index body).entries =
-    read ∙ (ap (λ (n : ℕ). padded (entries_in n (drop 27 body))) (counted ∙ ap (λ (e : Emm). e.count) is)
-    ∙ sym (entries_are index body)) in
-    ap (λ (f : Emm). with_entries f entries) is ∙ ap (with_entries (emm_in index body)) same
+pub is_whole : (named : Bool) (index : ℕ) (body : List ℕ) (head : Emm) (count : ℕ) (entries : List Entry) → IsPrefix named index body head →
+    count ≡ head.count → entries ≡ padded (entries_in count (drop (head_length named) body)) → with_entries head entries
+    ≡ emm_in named index body
+is_whole named index body head count entries is counted read =
+    let same : entries ≡ (emm_in named index body).entries =
+    read ∙ (ap (λ (n : ℕ). padded (entries_in n (drop (head_length named) body))) (counted ∙ ap (λ (e : Emm). e.count) is)
+    ∙ sym (entries_are named index body)) in
+    ap (λ (f : Emm). with_entries f entries) is ∙ ap (with_entries (emm_in named index body)) same
 
 -- the entries that were read are those that the section has
-same_listed : (index : ℕ) (body : List ℕ) (head : Emm) (count : ℕ) (entries : List Entry) → IsPrefix index body head →
-    count ≡ head.count → entries ≡ padded (entries_in count (drop 27 body)) → take count entries
-    ≡ listed (emm_in index body)
-same_listed index body head count entries is counted read =
-    ap (λ (n : ℕ). take n entries) counted ∙ ap listed (is_whole index body head count entries is counted read)
+same_listed : (named : Bool) (index : ℕ) (body : List ℕ) (head : Emm) (count : ℕ) (entries : List Entry) → IsPrefix named index body head →
+    count ≡ head.count → entries ≡ padded (entries_in count (drop (head_length named) body)) → take count entries
+    ≡ listed (emm_in named index body)
+same_listed named index body head count entries is counted read =
+    ap (λ (n : ℕ). take n entries) counted ∙ ap listed (is_whole named index body head count entries is counted read)
 
 -- the entries don't ascend
-pub order_breaks : (h index : ℕ) (body : List ℕ) (head : Emm) (count : ℕ) (entries : List Entry) →
-    IsPrefix index body head →
-    HasCount (length body) head → count ≡ head.count → AreSets h head.sets (entries_in count (drop 27 body)) →
-    entries ≡ padded (entries_in count (drop 27 body)) → ¬ AreAscending (names_in (take count entries)) →
-    BreaksIn h (length body) (emm_in index body) Order
-order_breaks h index body head count entries is has counted sets read unless = (
-  has_count index body head is has,
+pub order_breaks : (h : ℕ) (named : Bool) (index : ℕ) (body : List ℕ) (head : Emm) (count : ℕ) (entries : List Entry) →
+    IsPrefix named index body head →
+    HasCount (length body) head → count ≡ head.count → AreSets h head.sets (entries_in count (drop (head_length named) body)) →
+    entries ≡ padded (entries_in count (drop (head_length named) body)) → ¬ AreAscending (names_in (take count entries)) →
+    BreaksIn h (length body) (emm_in named index body) Order
+order_breaks h named index body head count entries is has counted sets read unless = (
+  has_count named index body head is has,
   (
-    (same_sets h index body head count is counted).0 sets,
+    (same_sets h named index body head count is counted).0 sets,
     λ up. unless (subst (λ (es : List Entry). AreAscending (names_in es))
-        (sym (same_listed index body head count entries is counted read)) up),
+        (sym (same_listed named index body head count entries is counted read)) up),
   ),
 )
 
 -- nothing is wrong
-pub is_good : (h index : ℕ) (body : List ℕ) (head : Emm) (count : ℕ) (entries : List Entry) → IsPrefix index body head →
-    HasCount (length body) head → count ≡ head.count → AreSets h head.sets (entries_in count (drop 27 body)) →
-    entries ≡ padded (entries_in count (drop 27 body)) → AreAscending (names_in (take count entries)) →
-    IsGoodIn h (length body) (emm_in index body)
-is_good h index body head count entries is has counted sets read up = record {
-  has_count = has_count index body head is has;
-  are_sets = (same_sets h index body head count is counted).0 sets;
+pub is_good : (h : ℕ) (named : Bool) (index : ℕ) (body : List ℕ) (head : Emm) (count : ℕ) (entries : List Entry) → IsPrefix named index body head →
+    HasCount (length body) head → count ≡ head.count → AreSets h head.sets (entries_in count (drop (head_length named) body)) →
+    entries ≡ padded (entries_in count (drop (head_length named) body)) → AreAscending (names_in (take count entries)) →
+    IsGoodIn h (length body) (emm_in named index body)
+is_good h named index body head count entries is has counted sets read up = record {
+  has_count = has_count named index body head is has;
+  are_sets = (same_sets h named index body head count is counted).0 sets;
   ascending = subst (λ (es : List Entry). AreAscending (names_in es))
-      (same_listed index body head count entries is counted read) up;
+      (same_listed named index body head count entries is counted read) up;
 }
 
 -- what follows the entries is as it is to be
-past_entries : (index : ℕ) (body : List ℕ) →
-    drop (emm_in index body).count (emm_in index body).entries ≡ replicate (3 - (emm_in index body).count) nothing
-past_entries index body =
-    let count : ℕ = (emm_in index body).count in
-    let entries : List Entry = entries_in count (drop 27 body) in
-    ap (drop count) (entries_are index body)
-    ∙ (drop_at entries (replicate (3 - length entries) nothing) count (length_items entry_of 40 count (drop 27 body))
-    ∙ ap (λ (n : ℕ). replicate (3 - n) nothing) (length_items entry_of 40 count (drop 27 body)))
+past_entries : (named : Bool) (index : ℕ) (body : List ℕ) →
+    drop (emm_in named index body).count (emm_in named index body).entries ≡ replicate (3 - (emm_in named index body).count) nothing
+past_entries named index body =
+    let count : ℕ = (emm_in named index body).count in
+    let entries : List Entry = entries_in count (drop (head_length named) body) in
+    ap (drop count) (entries_are named index body)
+    ∙ (drop_at entries (replicate (3 - length entries) nothing) count (length_items entry_of 40 count (drop (head_length named) body))
+    ∙ ap (λ (n : ℕ). replicate (3 - n) nothing) (length_items entry_of 40 count (drop (head_length named) body)))
 
 -- what breaks no rule is in its form
-pub good_is_emm : (h index : ℕ) (body : List ℕ) → IsGoodIn h (length body) (emm_in index body) →
-    IsEmm (emm_in index body)
-good_is_emm h index body good = record {
+pub good_is_emm : (h : ℕ) (named : Bool) (index : ℕ) (body : List ℕ) → IsGoodIn h (length body) (emm_in named index body) →
+    IsEmm (emm_in named index body)
+good_is_emm h named index body good = record {
   counted = good.has_count.1;
   ascending = good.ascending;
-  rest = past_entries
-      index body;
+  rest = past_entries named index body;
 }
 
 -- one rule alone is broken first

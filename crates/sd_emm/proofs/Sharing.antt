@@ -24,6 +24,7 @@ made period x sections own entries = record {
   sections = sections;
   index = x;
   check = period.check;
+  run = period.run;
   count = length own;
   entries = entries;
 }
@@ -127,7 +128,13 @@ fits_at period x within is =
     let few = is.sets in
     let long = long_piece 3 period.entries x in
     record {
-      head = record { period = is.number; sets = omega arith; sections = omega arith; check = is.check };
+      head = record {
+        period = is.number;
+        sets = omega arith;
+        sections = omega arith;
+        run = is.run;
+        check = is.check;
+      };
       index = omega arith;
       entries = filled_length 3 nothing (entries_at period.entries x) (omega arith);
       wrapped = wrapped_at period x is.wrapped;
@@ -158,4 +165,4 @@ pub all_are_of : (period : Period) → All (IsOfPeriod period) (emms_of period)
 unfolding emm_at
 all_are_of period =
     each_section (IsOfPeriod period) period
-    (λ x within. record { number = refl; sets = refl; sections = refl; check = refl })
+    (λ x within. record { run = refl; number = refl; sets = refl; sections = refl; check = refl })

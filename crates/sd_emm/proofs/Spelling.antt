@@ -2,7 +2,7 @@
 use Rattle.std.proofs.Common.{◌≡◌, ℕ, ◌+◌, ◌*◌, ◌<◌, ◌≤◌, List, [], ◌∷◌, ◌++◌, length, take, drop, take-add, drop-drop}
 use Rattle.std.proofs.Common.{length-drop, length-take-le, get_or-take, get_or, append_assoc, inl, inr, arith, refl}
 use Rattle.std.proofs.Common.{sym, ap, ◌∙◌}
-use Rattle.std.specs.Prelude.{slice_index, slice_range, flat_map}
+use Rattle.std.specs.Prelude.{Bool, true, false, is_some, ◌-◌, slice_index, slice_range, flat_map}
 use Rattle.std.specs.Int.{w16, w32, to_be_bytes}
 use Rattle.std.proofs.lemmas.Bool.{cases_lt}
 use Rattle.std.proofs.lemmas.List.{get_or_default, drop_more, take_all, take-append-drop}
@@ -11,14 +11,17 @@ use Rattle.sd_message.proofs.Numbers.{IsBytes, bytes_drop, word_spelled, half_sp
 use Rattle.sd_message.proofs.Items as Items
 use Rattle.sd_message.proofs.Items.{items_spelled}
 use Rattle.sd_emm.proofs.Names.{name_cases}
-use Rattle.sd_emm.proofs.Judging.{listed_in}
-use Rattle.sd_section.specs.Header.{extension_of, body_of}
+use Rattle.sd_emm.proofs.Judging.{IsPrefix, listed_in}
+use Rattle.sd_section.specs.Header.{table_id_of, extension_of, body_of}
 use Rattle.sd_section.specs.Written.{section_bytes}
 use Rattle.sd_message.specs.Framed.{header_of}
-use Rattle.sd_emm.specs.Spelled.{listed, emm_body, name_bytes, head_bytes, entry_bytes, emm_header}
+use Rattle.sd_emm.specs.Spelled.{listed, emm_body, name_bytes, run_bytes, head_bytes, entry_bytes, emm_header}
+use Rattle.sd_emm.specs.Spelled.{table_id_for}
 use Rattle.sd_emm.specs.Form.{AreWrapped}
-use Rattle.sd_emm.specs.Fields.{name_of, entry_of, emm_in, IsEmmSection}
+use Rattle.sd_emm.specs.Fields.{name_of, entry_of, is_named, IsTable, count_at, head_length, run_in, emm_in}
+use Rattle.sd_emm.specs.Fields.{IsEmmSection}
 use Rattle.sd_emm.specs.declared.emm.Entry.{Entry}
+use Rattle.sd_emm.specs.declared.emm.Emm.{Emm}
 
 -- what is put after something in three pieces
 pub put_after : (old a b c : List ℕ) → ((old ++ a) ++ b) ++ c ≡ old ++ ((a ++ b) ++ c)
@@ -49,9 +52,26 @@ one_wrapped entries k e within all one m d below =
 -- a section of entitlements has their header
 pub emm_headed : (section : List ℕ) → IsEmmSection section → section ≡ section_bytes (header_of section)
     (body_of section) →
-    section ≡ section_bytes (emm_header (extension_of section)) (body_of section)
+    section ≡ section_bytes (emm_header (table_id_of section) (extension_of section)) (body_of section)
 unfolding header_of
-emm_headed section emm is = rw (emm.table_id, emm.number, emm.last_number) at is
+emm_headed section emm is = rw (emm.number, emm.last_number) at is
+
+-- its table_id tells whether the broadcast is named
+pub table_again : (table_id : ℕ) (body : List ℕ) → IsTable table_id →
+    table_id_for (run_in (is_named table_id) body) ≡ table_id
+unfolding run_in
+table_again table_id body (inl e) = rw e refl
+table_again table_id body (inr e) = rw e refl
+
+pub named_again : (named : Bool) (body : List ℕ) → is_some (run_in named body) ≡ named
+unfolding run_in
+named_again false body = refl
+named_again true body = refl
+
+pub named_read : (named : Bool) (index : ℕ) (body : List ℕ) (head : Emm) → IsPrefix named index body head →
+    is_some head.run ≡ named
+unfolding emm_in
+named_read named index body head is = ap (λ (e : Emm). is_some e.run) is ∙ named_again named body
 
 -- a name is spelled as the pair that it was read from
 name_spelled : (i j : ℕ) → name_bytes (name_of i j) ≡ to_be_bytes w32 i ++ to_be_bytes w32 j
@@ -81,33 +101,71 @@ same_five : (a a' b b' c c' k d d' : List ℕ) → a ≡ a' → b ≡ b' → c �
     a ++ (b ++ (c ++ (k ++ d))) ≡ a' ++ (b' ++ (c' ++ (k ++ d')))
 same_five a a' b b' c c' k d d' p q r s = rw (p, q, r, s) refl
 
+-- the first bytes of a list in pieces
+piece : (m n k : ℕ) (xs : List ℕ) (p q : ℕ) → m + n ≡ k → p + m ≡ q →
+    take k (drop p xs) ≡ take m (drop p xs) ++ take n (drop q xs)
+piece m n k xs p q long next =
+    sym (ap (λ (j : ℕ). take j (drop p xs)) long)
+    ∙ (take-add m n (drop p xs)
+    ∙ (ap (λ (l : List ℕ). take m (drop p xs) ++ take n l) (drop-drop m p xs)
+    ∙ ap (λ (j : ℕ). take m (drop p xs) ++ take n (drop j xs)) next))
+
+-- those before the broadcast's name, and as many after them
+five_pieces : (n : ℕ) (body : List ℕ) →
+    take 4 body ++ (take 4 (drop 4 body) ++ (take 2 (drop 8 body) ++ (slice_range body 10 26 ++ take n (drop 26 body))))
+    ≡ take (26 + n) body
+five_pieces n body =
+    sym (piece 4 (22 + n) (26 + n) body 0 4 (omega arith) refl
+    ∙ ap (λ (l : List ℕ). take 4 body ++ l) (piece 4 (18 + n) (22 + n) body 4 8 (omega arith) refl
+    ∙ ap (λ (l : List ℕ). take 4 (drop 4 body) ++ l) (piece 2 (16 + n) (18 + n) body 8 10 (omega arith) refl
+    ∙ ap (λ (l : List ℕ). take 2 (drop 8 body) ++ l) (piece 16 n (16 + n) body 10 26 refl refl))))
+
+-- the name and the count are spelled as they were read
+count_spelled : (body : List ℕ) (p : ℕ) → p < length body → slice_index body p ∷ [] ≡ take 1 (drop p body)
+count_spelled body p within = sym (ap (take 1) (drop_more body p 0 within))
+
+same_two : (a a' b b' : List ℕ) → a ≡ a' → b ≡ b' → a ++ b ≡ a' ++ b'
+same_two a a' b b' p q = rw (p, q) refl
+
+name_and_count : (named : Bool) (body : List ℕ) → IsBytes body → head_length named ≤ length body →
+    run_bytes (run_in named body) ++ slice_index body (count_at named) ∷ [] ≡ take (head_length named - 26)
+    (drop 26 body)
+unfolding run_in count_at
+name_and_count false body each long = count_spelled body 26 (omega arith)
+name_and_count true body each long =
+    same_two _ _ _ _ (word_spelled body 26 each (omega arith)) (count_spelled body 30 (omega arith))
+    ∙ sym (piece 4 1 5 body 26 30 refl refl)
+
+-- the head is longer than what stands before the name
+head_long : (named : Bool) → 27 ≤ head_length named
+unfolding count_at
+head_long false = omega arith
+head_long true = omega arith
+
 -- so is the body before its entries
-head_spelled : (index : ℕ) (body : List ℕ) → IsBytes body → 27 ≤ length body → head_bytes (emm_in index body)
-    ≡ take 27 body
+head_spelled : (named : Bool) (index : ℕ) (body : List ℕ) → IsBytes body → head_length named ≤ length body →
+    head_bytes (emm_in named index body) ≡ take (head_length named) body
 unfolding head_bytes emm_in
-head_spelled index body each long =
+head_spelled named index body each long =
+    let low = head_long named in
     let period : to_be_bytes w32 (field body 0 32) ≡ take 4 body = word_spelled body 0 each (omega arith) in
     let sets : to_be_bytes w32 (field body 32 32) ≡ take 4 (drop 4 body) = word_spelled body 4 each (omega arith) in
     let sections : to_be_bytes w16 (field body 64 16) ≡ take 2 (drop 8 body) = half_spelled body 8 each (omega arith) in
-    let count : slice_index body 26 ∷ [] ≡ take 1 (drop 26 body) = sym (ap (take 1) (drop_more body 26 0 (omega arith)))
-    in
-    same_five _ _ _ _ _ _ (slice_range body 10 26) _ _ period sets sections count
-    ∙ (sym (take-add 4 23 body
-    ∙ ap (λ (l : List ℕ). take 4 body ++ l) (take-add 4 19 (drop 4 body)
-    ∙ ap (λ (l : List ℕ). take 4 (drop 4 body) ++ l) (ap (take 19) (drop-drop 4 4 body) ∙ (take-add 2 17 (drop 8 body)
-    ∙ ap (λ (l : List ℕ). take 2 (drop 8 body) ++ l) (ap (take 17) (drop-drop 2 8 body) ∙ (take-add 16 1 (drop 10 body)
-    ∙ ap (λ (l : List ℕ). take 16 (drop 10 body) ++ take 1 l) (drop-drop 16 10 body))))))))
+    let all : 26 + (head_length named - 26) ≡ head_length named = omega arith in
+    same_five _ _ _ _ _ _ (slice_range body 10 26) _ _ period sets sections (name_and_count named body each long)
+    ∙ (five_pieces (head_length named - 26) body ∙ ap (λ (n : ℕ). take n body) all)
 
 -- so is the whole body
-pub body_spelled : (index : ℕ) (body : List ℕ) → IsBytes body → length body ≡ 27 + 40 * (emm_in index body).count →
-    emm_body (emm_in index body) ≡ body
+pub body_spelled : (named : Bool) (index : ℕ) (body : List ℕ) → IsBytes body →
+    length body ≡ head_length named + 40 * (emm_in named index body).count → emm_body (emm_in named index body) ≡ body
 unfolding emm_body
-body_spelled index body each long =
-    let count : ℕ = (emm_in index body).count in
-    let entries : flat_map entry_bytes (listed (emm_in index body)) ≡ drop 27 body =
-    ap (flat_map entry_bytes) (listed_in index body)
-    ∙ items_spelled entry_of entry_bytes 40 count (drop 27 body) entry_spelled (bytes_drop 27 body each)
-    (omega (arith, length-drop 27 body)) in
-    ap (λ (l : List ℕ). l ++ flat_map entry_bytes (listed (emm_in index body)))
-    (head_spelled index body each (omega arith))
-    ∙ (ap (λ (l : List ℕ). take 27 body ++ l) entries ∙ take-append-drop 27 body)
+body_spelled named index body each long =
+    let count : ℕ = (emm_in named index body).count in
+    let n : ℕ = head_length named in
+    let entries : flat_map entry_bytes (listed (emm_in named index body)) ≡ drop n body =
+    ap (flat_map entry_bytes) (listed_in named index body)
+    ∙ items_spelled entry_of entry_bytes 40 count (drop n body) entry_spelled (bytes_drop n body each)
+    (omega (arith, length-drop n body)) in
+    ap (λ (l : List ℕ). l ++ flat_map entry_bytes (listed (emm_in named index body)))
+    (head_spelled named index body each (omega arith))
+    ∙ (ap (λ (l : List ℕ). take n body ++ l) entries ∙ take-append-drop n body)

@@ -1,6 +1,6 @@
 -- Entitlement management messages as they are read.
 use Rattle.std.specs.Prelude.{◌≡◌, ℕ, ◌+◌, ◌*◌, ◌≤◌, ◌==◌, ◌&&◌, if◌then◌else◌, List, length, drop, slice_index}
-use Rattle.std.specs.Prelude.{slice_range}
+use Rattle.std.specs.Prelude.{◌⊎◌, Bool, slice_range, Option, Some, None, is_some}
 use Rattle.sd_bits.specs.Bits.{field}
 use Rattle.sd_tree.specs.SetNames.{AreAscending}
 use Rattle.sd_tree.specs.declared.set.SetName.{SetName}
@@ -8,24 +8,41 @@ use Rattle.sd_tree.specs.declared.set.SetName.TheVariants.{Whole, Diff}
 use Rattle.sd_section.specs.Header.{least_length, table_id_of, section_length_of, extension_of, number_of}
 use Rattle.sd_section.specs.Header.{last_number_of, body_of}
 use Rattle.sd_message.specs.Framed.{HasSection, section_of}
-use Rattle.sd_emm.specs.Spelled.{listed, names_in, emm_table_id}
+use Rattle.sd_emm.specs.Spelled.{listed, names_in, emm_table_id, named_table_id}
 use Rattle.sd_emm.specs.Form.{IsCounted, nothing, AreSets, most_entries}
 use Rattle.sd_emm.specs.declared.emm.Entry.{Entry}
 use Rattle.sd_emm.specs.declared.emm.Emm.{Emm}
 use Rattle.sd_emm.specs.declared.fault.EmmFault.{EmmFault}
-use Rattle.sd_emm.specs.declared.format.TheConstants.{CHECK_AT, COUNT_AT, ENTRIES_AT}
+use Rattle.sd_emm.specs.declared.format.TheConstants.{CHECK_AT, RUN_AT, RUN_BYTES}
 use Rattle.sd_emm.specs.declared.format.TheConstants.{ENTRY_BYTES, WRAPPED_AT}
 use Rattle.sd_message.specs.Items.{items_in}
 use Rattle.sd_message.specs.Pieces.{filled}
 use Rattle.sd_emm.specs.declared.fault.EmmFault.TheVariants.{Count, Order, Node, Mixed}
 
+-- whether the table_id is that of a section that names its broadcast [this project, docs/FORMATS.md, Messages]
+abbrev pub is_named : ℕ → Bool
+is_named table_id = table_id == named_table_id
+
+-- it is that of a section of entitlements [this project, docs/FORMATS.md, Messages]
+abbrev pub IsTable : ℕ → Type 0
+IsTable table_id = (table_id ≡ emm_table_id) ⊎ (table_id ≡ named_table_id)
+
+-- where the count of entries stands: after the broadcast's name, where there is one [this project, docs/FORMATS.md,
+-- Messages]
+unfoldable pub count_at : Bool → ℕ
+count_at named = if named then RUN_AT + RUN_BYTES else RUN_AT
+
+-- how many bytes of the body stand before its entries [this project, docs/FORMATS.md, Messages]
+abbrev pub head_length : Bool → ℕ
+head_length named = count_at named + 1
+
 -- the section is one of entitlements, and has room for all that stands before the entries [this project,
 -- docs/FORMATS.md, Messages]
 pub record IsEmmSection (section : List ℕ) : Type 0 where
-  pub table_id : table_id_of section ≡ emm_table_id
+  pub table_id : IsTable (table_id_of section)
   pub number : number_of section ≡ 0
   pub last_number : last_number_of section ≡ 0
-  pub room : ENTRIES_AT + least_length ≤ section_length_of section
+  pub room : head_length (is_named (table_id_of section)) + least_length ≤ section_length_of section
 
 -- the packet begins with such a section
 pub record IsEmmPacket (packet : List ℕ) : Type 0 where
@@ -52,21 +69,27 @@ entries_in n bytes = items_in entry_of ENTRY_BYTES n bytes
 abbrev pub padded : List Entry → List Entry
 padded entries = filled most_entries nothing entries
 
--- what the section of this index and body says [this project, docs/FORMATS.md, Messages]
-unfoldable pub emm_in : ℕ → List ℕ → Emm
-emm_in index body = record {
+-- the broadcast's name in a body, where it is there [this project, docs/FORMATS.md, Messages]
+unfoldable pub run_in : Bool → List ℕ → Option ℕ
+run_in named body = if named then Some (field body 208 32) else None
+
+-- what the section of this index and body says, which names its broadcast or doesn't [this project, docs/FORMATS.md,
+-- Messages]
+unfoldable pub emm_in : Bool → ℕ → List ℕ → Emm
+emm_in named index body = record {
   period = field body 0 32;
   sets = field body 32 32;
   sections = field body 64 16;
   index = index;
-  check = slice_range body CHECK_AT COUNT_AT;
-  count = slice_index body COUNT_AT;
-  entries = padded (entries_in (slice_index body COUNT_AT) (drop ENTRIES_AT body));
+  check = slice_range body CHECK_AT RUN_AT;
+  run = run_in named body;
+  count = slice_index body (count_at named);
+  entries = padded (entries_in (slice_index body (count_at named)) (drop (head_length named) body));
 }
 
 -- what a section says
 abbrev pub emm_of : List ℕ → Emm
-emm_of section = emm_in (extension_of section) (body_of section)
+emm_of section = emm_in (is_named (table_id_of section)) (extension_of section) (body_of section)
 
 -- the same with other entries
 abbrev pub with_entries : Emm → List Entry → Emm
@@ -76,15 +99,17 @@ with_entries emm entries = record {
   sections = emm.sections;
   index = emm.index;
   check = emm.check;
+  run = emm.run;
   count = emm.count;
   entries = entries;
 }
 
--- the numbers come to one another and to the length of the body: section_length is 36 and 40 for each entry
--- [this project, docs/FORMATS.md, Messages]
+-- the numbers come to one another and to the length of the body: section_length is 36, or 40 where the broadcast is
+-- named, and 40 for each entry [this project, docs/FORMATS.md, Messages]
 abbrev pub HasCount : ℕ → Emm → Type 0
-HasCount length emm = (length ≡ ENTRIES_AT + ENTRY_BYTES * emm.count) × IsCounted emm.sets emm.sections emm.index
-    emm.count
+HasCount length emm =
+    (length ≡ head_length (is_some emm.run) + ENTRY_BYTES * emm.count)
+    × IsCounted emm.sets emm.sections emm.index emm.count
 
 -- no rule is broken
 pub record IsGoodIn (h length : ℕ) (emm : Emm) : Type 0 where

@@ -1,5 +1,5 @@
 -- Which entitlements are ones that a period has.
-use Rattle.std.specs.Prelude.{◌≡◌, ℕ, ◌-◌, ◌*◌, ◌^◌, ◌<◌, ◌≤◌, List, length, drop, min, replicate, All}
+use Rattle.std.specs.Prelude.{◌≡◌, ℕ, ◌-◌, ◌*◌, ◌^◌, ◌<◌, ◌≤◌, List, length, drop, min, replicate, All, IfSome}
 use Rattle.sd_tree.specs.SetNames.{IsOfHeight, AreAscending}
 use Rattle.sd_tree.specs.declared.set.SetName.{SetName}
 use Rattle.sd_tree.specs.declared.set.SetName.TheVariants.{Whole}
@@ -52,6 +52,7 @@ pub record FitsHead (emm : Emm) : Type 0 where
   pub period : emm.period < 2 ^ 32
   pub sets : emm.sets < 2 ^ 32
   pub sections : emm.sections < 2 ^ 16
+  pub run : IfSome emm.run (λ run. run < 2 ^ 32)
   pub check : length emm.check ≡ 16
 
 -- the numbers and the bytes fit their fields, as those of each value of the type do

@@ -1,5 +1,5 @@
 -- All sections of a period's entitlements.
-use Rattle.std.specs.Prelude.{◌≡◌, ℕ, ◌^◌, ◌<◌, ◌≤◌, List, length}
+use Rattle.std.specs.Prelude.{◌≡◌, ℕ, ◌^◌, ◌<◌, ◌≤◌, List, length, Option, IfSome}
 use Rattle.sd_tree.specs.SetNames.{AreAscending}
 use Rattle.sd_emm.specs.Spelled.{names_in}
 use Rattle.sd_emm.specs.Form.{sections_for, AreWrapped, most_entries}
@@ -9,8 +9,9 @@ use Rattle.sd_emm.specs.declared.emm.Emm.{Emm}
 use Rattle.sd_emm.specs.declared.format.TheConstants.{MOST_SETS}
 use Rattle.sd_message.specs.Pieces.{piece_at, each_below}
 
--- what a period's sections say: its number, the check value of its key, and all of its sets, each with the wrapped key
+-- what a period's sections say: the broadcast's name, where they tell it, the period's number, the check value of its key, and all of its sets, each with the wrapped key
 pub record Period : Type 0 where
+  pub run : Option ℕ
   pub number : ℕ
   pub check : List ℕ
   pub entries : List Entry
@@ -28,6 +29,7 @@ emm_at period x = record {
   sections = sections_for (length period.entries);
   index = x;
   check = period.check;
+  run = period.run;
   count = length (entries_at period.entries x);
   entries = padded (entries_at period.entries x);
 }
@@ -41,6 +43,7 @@ emms_of period = each_below (emm_at period) (sections_for (length period.entries
 -- [this project, docs/FORMATS.md, Messages]
 pub record IsPeriod (period : Period) : Type 0 where
   pub ascending : AreAscending (names_in period.entries)
+  pub run : IfSome period.run (λ run. run < 2 ^ 32)
   pub number : period.number < 2 ^ 32
   pub check : length period.check ≡ 16
   pub sets : length period.entries ≤ MOST_SETS
@@ -48,6 +51,7 @@ pub record IsPeriod (period : Period) : Type 0 where
 
 -- the section says of the period what each of its sections does
 pub record IsOfPeriod (period : Period) (emm : Emm) : Type 0 where
+  pub run : emm.run ≡ period.run
   pub number : emm.period ≡ period.number
   pub sets : emm.sets ≡ length period.entries
   pub sections : emm.sections ≡ sections_for (length period.entries)

@@ -1,5 +1,5 @@
 -- Entitlement management messages as bytes.
-use Rattle.std.specs.Prelude.{ℕ, List, [], ◌∷◌, ◌++◌, take, map, flat_map}
+use Rattle.std.specs.Prelude.{ℕ, List, [], ◌∷◌, ◌++◌, take, map, flat_map, Option, Some, None}
 use Rattle.std.specs.Int.{w16, w32, to_be_bytes}
 use Rattle.sd_tree.specs.declared.set.SetName.{SetName}
 use Rattle.sd_tree.specs.declared.set.SetName.TheVariants.{Whole, Diff}
@@ -9,9 +9,17 @@ use Rattle.sd_message.specs.Framed.{Begins}
 use Rattle.sd_emm.specs.declared.emm.Entry.{Entry}
 use Rattle.sd_emm.specs.declared.emm.Emm.{Emm}
 
--- the table_id [this project, docs/FORMATS.md, Messages]
+-- the table_id of a section that doesn't name its broadcast, and of one that does [this project, docs/FORMATS.md,
+-- Messages]
 abbrev pub emm_table_id : ℕ
 emm_table_id = 0x82
+
+abbrev pub named_table_id : ℕ
+named_table_id = 0x8A
+
+abbrev pub table_id_for : Option ℕ → ℕ
+table_id_for None = emm_table_id
+table_id_for (Some run) = named_table_id
 
 -- the entries that a section has
 abbrev pub listed : Emm → List Entry
@@ -30,24 +38,30 @@ name_bytes (Diff i j) = to_be_bytes w32 i ++ to_be_bytes w32 j
 unfoldable pub entry_bytes : Entry → List ℕ
 entry_bytes entry = name_bytes entry.name ++ entry.wrapped
 
--- the period, the number of its sets, that of its sections, the check value of its key, the count of entries
--- [this project, docs/FORMATS.md, Messages]
+-- the broadcast's name in 32 bits, where there is one [this project, docs/FORMATS.md, Messages]
+abbrev pub run_bytes : Option ℕ → List ℕ
+run_bytes None = []
+run_bytes (Some run) = to_be_bytes w32 run
+
+-- the period, the number of its sets, that of its sections, the check value of its key, the broadcast's name, the count
+-- of entries [this project, docs/FORMATS.md, Messages]
 unfoldable pub head_bytes : Emm → List ℕ
 head_bytes emm =
     to_be_bytes w32 emm.period
-    ++ (to_be_bytes w32 emm.sets ++ (to_be_bytes w16 emm.sections ++ (emm.check ++ emm.count ∷ [])))
+    ++ (to_be_bytes w32 emm.sets
+    ++ (to_be_bytes w16 emm.sections ++ (emm.check ++ (run_bytes emm.run ++ emm.count ∷ []))))
 
 -- the section's body: its head, and one entry after the other [this project, docs/FORMATS.md, Messages]
 unfoldable pub emm_body : Emm → List ℕ
 emm_body emm = head_bytes emm ++ flat_map entry_bytes (listed emm)
 
 -- its extension is the index, and both section numbers are 0 [this project, docs/FORMATS.md, Messages]
-abbrev pub emm_header : ℕ → Header
-emm_header index = record { table_id = emm_table_id; extension = index; number = 0; last_number = 0 }
+abbrev pub emm_header : ℕ → ℕ → Header
+emm_header table_id index = record { table_id = table_id; extension = index; number = 0; last_number = 0 }
 
 -- the one spelling of entitlements [this project, docs/FORMATS.md, Messages]
 unfoldable pub emm_section : Emm → List ℕ
-emm_section emm = section_bytes (emm_header emm.index) (emm_body emm)
+emm_section emm = section_bytes (emm_header (table_id_for emm.run) emm.index) (emm_body emm)
 
 -- the packet begins with that section
 abbrev pub Spells : Emm → List ℕ → Type 0

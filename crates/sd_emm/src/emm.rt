@@ -33,6 +33,8 @@ pub struct Emm {
     pub index: u16,
     /// The check value of the period key.
     pub check: [u8; 16],
+    /// The broadcast's name, its first control word, where the section tells it.
+    pub run: Option<u32>,
     /// How many entries this section has.
     pub count: u8,
     /// The entries. Those past `count` are the whole set with zeros.

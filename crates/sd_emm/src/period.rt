@@ -20,13 +20,21 @@ pub fn section_count(sets: usize) -> u16
 
 impl Emm {
     /// The section of this index, below `section_count`, of the period that has this number, this check value of its
-    /// key and these sets: all of them, ascending, at most [`MOST_SETS`] (docs/FORMATS.md, Messages).
+    /// key and these sets: all of them, ascending, at most [`MOST_SETS`] (docs/FORMATS.md, Messages). It names the
+    /// broadcast where a name is given.
     #[tactic(auto, using(crate::proofs::Sharing::stands_at), unfolding(crate::specs::Period::emm_at))]
-    pub fn of_period(period: u32, check: &[u8; 16], entries: &[Entry], index: u16) -> Emm
+    pub fn of_period(
+        run: Option<u32>,
+        period: u32,
+        check: &[u8; 16],
+        entries: &[Entry],
+        index: u16,
+    ) -> Emm
         requires sets { length entries.now ≤ MOST_SETS }
         requires index { index < sections_for (length entries.now) }
-        ensures value { slice_get (emms_of (record { number = period; check = check.now; entries = entries.now }))
-            index ≡ Some result }
+        ensures value { slice_get
+            (emms_of (record { run = run; number = period; check = check.now; entries = entries.now })) index ≡
+            Some result }
         ensures form { AreAscending (names_in entries.now) → IsEmm result }
     {
         let own = entries_of(entries, index);
@@ -36,6 +44,7 @@ impl Emm {
             sections: section_count(entries.len()),
             index,
             check: *check,
+            run,
             count: own.len() as u8,
             entries: filled_up(own),
         }

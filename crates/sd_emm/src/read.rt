@@ -1,20 +1,23 @@
 ghost use Rattle.std.specs.Prelude.{◌≡◌, ◌+◌, ◌*◌, ◌≤◌, ◌↔◌, ℕ, List, Some, None, Ok, Err, IsNone, IsSome, IsTrue};
-ghost use Rattle.std.specs.Prelude.{IfOk, IfErr, IfSome, slice_index, ◌<◌, length, replicate};
-ghost use Rattle.sd_section.specs.Header.{extension_of, body_of};
+ghost use Rattle.std.specs.Prelude.{IfOk, IfErr, IfSome, is_some, slice_index, ◌<◌, length, replicate};
+ghost use Rattle.sd_section.specs.Header.{table_id_of, extension_of, body_of};
 ghost use Rattle.sd_section.specs.Written.{section_bytes};
 ghost use Rattle.sd_message.specs.Framed.{section_of, Begins};
 ghost use Rattle.sd_emm.specs.Spelled.{listed, emm_header, emm_body, Spells};
 ghost use Rattle.sd_emm.specs.Form.{Fits, IsCounted, IsSetBeside, AreSets, IsEmm, nothing};
-ghost use Rattle.sd_emm.specs.Fields.{IsEmmSection, IsEmmPacket, name_of, entry_of, entries_in, padded, emm_in};
+ghost use Rattle.sd_emm.specs.Fields.{IsTable, IsEmmSection, IsEmmPacket, name_of, entry_of, entries_in, padded};
+ghost use Rattle.sd_emm.specs.Fields.{is_named as is_named_table, head_length as length_of_head, run_in as run_of};
+ghost use Rattle.sd_emm.specs.Fields.{emm_in};
 ghost use Rattle.sd_emm.specs.Fields.{with_entries, IsGoodIn, BreaksIn, BreaksFirst};
 ghost use Rattle.sd_emm.specs.Judged.{emm_read};
 ghost use Rattle.sd_emm.specs.declared.emm.Emm.{Emm};
-ghost use Rattle.sd_emm.specs.declared.format.TheConstants.{ENTRIES_AT, MOST_ENTRIES, ENTRY_BYTES};
+ghost use Rattle.sd_emm.specs.declared.format.TheConstants.{MOST_ENTRIES, ENTRY_BYTES};
 
 use crate::emm::{Emm, Entry, NOTHING};
 use crate::fault::EmmFault;
 use crate::format::{
-    CHECK_AT, COUNT_AT, ENTRIES_AT, ENTRY_BYTES, MOST_ENTRIES, TABLE_ID, WRAPPED_AT,
+    CHECK_AT, ENTRY_BYTES, MOST_ENTRIES, NAMED_TABLE_ID, RUN_AT, TABLE_ID, WRAPPED_AT, count_at,
+    head_length,
 };
 use crate::order::are_ascending;
 use sd_bits::fields;
@@ -39,7 +42,8 @@ pub fn read_emm(h: Height, packet: &Packet) -> Result<Option<Emm>, EmmFault>
     let Some(section) = emm_section_in(packet) else {
         return Ok(None);
     };
-    let emm = read_body(h, section.extension(), section.body())?;
+    let named = is_named(&section);
+    let emm = read_body(h, named, section.extension(), section.body())?;
     Ok(Some(emm))
 }
 
@@ -50,8 +54,11 @@ fn emm_section_in(packet: &Packet) -> Option<Section<'_>>
     ensures value { IfSome result (λ section. section.bytes.now ≡ section_of packet.now) }
     ensures begins { IfSome result (λ section. Begins section.bytes.now packet.now) }
     ensures spelled { IfSome result (λ section.
-        section.bytes.now ≡ section_bytes (emm_header (extension_of section.bytes.now)) (body_of section.bytes.now)) }
-    ensures room { IfSome result (λ section. ENTRIES_AT ≤ length (body_of section.bytes.now)) }
+        section.bytes.now ≡ section_bytes
+        (emm_header (table_id_of section.bytes.now) (extension_of section.bytes.now)) (body_of section.bytes.now)) }
+    ensures table { IfSome result (λ section. IsTable (table_id_of section.bytes.now)) }
+    ensures room { IfSome result (λ section.
+        length_of_head (is_named_table (table_id_of section.bytes.now)) ≤ length (body_of section.bytes.now)) }
 {
     let section = section_in(packet)?;
     if is_emm(&section) {
@@ -64,29 +71,38 @@ fn emm_section_in(packet: &Packet) -> Option<Section<'_>>
 // Whether the section is one of entitlements.
 fn is_emm(section: &Section<'_>) -> bool
     ensures value { IsTrue result ↔ IsEmmSection section.now.bytes.now }
-    ensures room { IsTrue result → ENTRIES_AT ≤ length (body_of section.now.bytes.now) }
+    ensures room { IsTrue result →
+        length_of_head (is_named_table (table_id_of section.now.bytes.now)) ≤ length (body_of section.now.bytes.now) }
 {
-    section.table_id() == TABLE_ID
+    let named = is_named(section);
+    (named || section.table_id() == TABLE_ID)
         && section.number() == 0
         && section.last_number() == 0
-        && section.body().len() >= ENTRIES_AT
+        && section.body().len() >= head_length(named)
 }
 
-// What the section of this index and body says.
+// Whether the section names its broadcast, where it is one of entitlements.
+fn is_named(section: &Section<'_>) -> bool
+    ensures { result ≡ is_named_table (table_id_of section.now.bytes.now) }
+{
+    section.table_id() == NAMED_TABLE_ID
+}
+
+// What the section of this index and body says, which names its broadcast or doesn't.
 #[tactic(auto, using(crate::proofs::Judging::count_breaks))]
-fn read_body(h: Height, index: u16, body: &[u8]) -> Result<Emm, EmmFault>
-    requires { ENTRIES_AT ≤ length body.now }
-    ensures value { IfOk result (λ emm. emm ≡ emm_in index body.now) }
-    ensures good { IfOk result (λ _. IsGoodIn h (length body.now) (emm_in index body.now)) }
-    ensures fault { IfErr result (λ fault. BreaksIn h (length body.now) (emm_in index body.now) fault) }
+fn read_body(h: Height, named: bool, index: u16, body: &[u8]) -> Result<Emm, EmmFault>
+    requires { length_of_head named ≤ length body.now }
+    ensures value { IfOk result (λ emm. emm ≡ emm_in named index body.now) }
+    ensures good { IfOk result (λ _. IsGoodIn h (length body.now) (emm_in named index body.now)) }
+    ensures fault { IfErr result (λ fault. BreaksIn h (length body.now) (emm_in named index body.now) fault) }
     ensures bytes { (i : ℕ) → slice_index body.now i < 256 }
 {
-    let mut emm = read_head(index, body);
+    let mut emm = read_head(named, index, body);
     if !is_counted(&emm, body.len()) {
         return Err(EmmFault::Count);
     }
     let count = usize::from(emm.count);
-    let Some(entries) = read_entries(h, emm.sets, count, &body[ENTRIES_AT..]) else {
+    let Some(entries) = read_entries(h, emm.sets, count, &body[head_length(named)..]) else {
         return Err(EmmFault::Node);
     };
     if !are_ascending(&entries[..count]) {
@@ -98,21 +114,37 @@ fn read_body(h: Height, index: u16, body: &[u8]) -> Result<Emm, EmmFault>
 
 // What stands before the entries.
 #[tactic(auto, unfolding(crate::specs::Fields::emm_in))]
-fn read_head(index: u16, body: &[u8]) -> Emm
-    requires { ENTRIES_AT ≤ length body.now }
-    ensures { result ≡ with_entries (emm_in index body.now) (replicate MOST_ENTRIES nothing) }
+fn read_head(named: bool, index: u16, body: &[u8]) -> Emm
+    requires { length_of_head named ≤ length body.now }
+    ensures { result ≡ with_entries (emm_in named index body.now) (replicate MOST_ENTRIES nothing) }
 {
+    let count_at = count_at(named);
     fields! { body; period: 0, 32; sets: 32, 32; sections: 64, 16; }
     let mut check = [0; 16];
-    check.copy_from_slice(&body[CHECK_AT..COUNT_AT]);
+    check.copy_from_slice(&body[CHECK_AT..RUN_AT]);
     Emm {
         period: period as u32,
         sets: sets as u32,
         sections: sections as u16,
         index,
         check,
-        count: body[COUNT_AT],
+        run: run_in(named, body),
+        count: body[count_at],
         entries: [NOTHING; MOST_ENTRIES],
+    }
+}
+
+// The broadcast's name, where it is there.
+#[tactic(auto, unfolding(crate::specs::Fields::run_in, crate::specs::Fields::count_at))]
+fn run_in(named: bool, body: &[u8]) -> Option<u32>
+    requires { length_of_head named ≤ length body.now }
+    ensures { result ≡ run_of named body.now }
+{
+    if named {
+        fields! { body; run: 208, 32; }
+        Some(run as u32)
+    } else {
+        None
     }
 }
 
@@ -120,8 +152,8 @@ fn read_head(index: u16, body: &[u8]) -> Emm
 #[tactic(auto, unfolding(sd_message::specs::Pieces::pieces_for))]
 fn is_counted(emm: &Emm, length: usize) -> bool
     ensures { IsTrue result ↔
-        ((length ≡ ENTRIES_AT + ENTRY_BYTES * emm.now.count) × IsCounted emm.now.sets emm.now.sections emm.now.index
-        emm.now.count) }
+        ((length ≡ length_of_head (is_some emm.now.run) + ENTRY_BYTES * emm.now.count)
+        × IsCounted emm.now.sets emm.now.sections emm.now.index emm.now.count) }
 {
     let most = MOST_ENTRIES as u32;
     let sections = emm.sets.div_ceil(most).max(1);
@@ -129,7 +161,7 @@ fn is_counted(emm: &Emm, length: usize) -> bool
         .sets
         .saturating_sub(most * u32::from(emm.index))
         .min(most);
-    length == ENTRIES_AT + ENTRY_BYTES * usize::from(emm.count)
+    length == head_length(emm.run.is_some()) + ENTRY_BYTES * usize::from(emm.count)
         && u32::from(emm.sections) == sections
         && emm.index < emm.sections
         && u32::from(emm.count) == count

@@ -1,12 +1,14 @@
-ghost use Rattle.std.specs.Prelude.{◌≡◌, ◌<◌, ◌≤◌, ◌+◌, ◌*◌, ◌++◌, length, take};
+ghost use Rattle.std.specs.Prelude.{◌≡◌, ◌^◌, ◌<◌, ◌≤◌, ◌+◌, ◌*◌, ◌++◌, length, take, is_some, IfSome};
 ghost use Rattle.std.specs.Int.{w32, to_be_bytes};
 ghost use Rattle.sd_packet.specs.Packing.{packed};
-ghost use Rattle.sd_emm.specs.Spelled.{listed, entry_bytes, name_bytes, head_bytes, emm_body, emm_section};
-ghost use Rattle.sd_emm.specs.declared.format.TheConstants.{ENTRIES_AT, MOST_ENTRIES, ENTRY_BYTES};
+ghost use Rattle.sd_emm.specs.Spelled.{listed, entry_bytes, name_bytes, run_bytes, head_bytes};
+ghost use Rattle.sd_emm.specs.Spelled.{emm_body, emm_section, table_id_for};
+ghost use Rattle.sd_emm.specs.Fields.{head_length, count_at as count_place};
+ghost use Rattle.sd_emm.specs.declared.format.TheConstants.{MOST_ENTRIES, ENTRY_BYTES};
 ghost use Rattle.sd_emm.specs.Form.{AreWrapped, FitsHead, Fits, IsEmm};
 
 use crate::emm::{Emm, Entry};
-use crate::format::TABLE_ID;
+use crate::format::{NAMED_TABLE_ID, TABLE_ID};
 use sd_message::{Body, pack};
 use sd_packet::Packet;
 use sd_section::Header;
@@ -22,7 +24,7 @@ pub fn write_emm(emm: &Emm, pid: u16, counter: u8) -> Packet
     ensures fits { Fits emm.now }
 {
     let header = Header {
-        table_id: TABLE_ID,
+        table_id: table_id_of(emm.run),
         extension: emm.index,
         number: 0,
         last_number: 0,
@@ -30,12 +32,23 @@ pub fn write_emm(emm: &Emm, pid: u16, counter: u8) -> Packet
     pack(&header, body_of(emm).bytes(), pid, counter)
 }
 
+// The section's table_id, by whether it names its broadcast.
+fn table_id_of(run: Option<u32>) -> u8
+    ensures { result ≡ table_id_for run }
+{
+    match run {
+        None => TABLE_ID,
+        Some(_) => NAMED_TABLE_ID,
+    }
+}
+
 // The section's body.
 #[tactic(auto, using(crate::proofs::Spelling::one_put, crate::proofs::Spelling::none_wrapped, crate::proofs::Spelling::one_wrapped), unfolding(crate::specs::Spelled::emm_body))]
 fn body_of(emm: &Emm) -> Body
     requires { emm.now.count ≤ MOST_ENTRIES }
     ensures value { result ≡ emm_body emm.now }
-    ensures length { length result ≡ ENTRIES_AT + ENTRY_BYTES * emm.now.count }
+    ensures length { length result ≡ head_length (is_some emm.now.run) + ENTRY_BYTES * emm.now.count }
+    ensures few { length result ≤ 151 }
     ensures head { FitsHead emm.now }
     ensures wrapped { AreWrapped (listed emm.now) }
 {
@@ -50,7 +63,8 @@ fn body_of(emm: &Emm) -> Body
 #[tactic(auto, unfolding(crate::specs::Spelled::head_bytes))]
 fn head_of(emm: &Emm) -> Body
     ensures value { result ≡ head_bytes emm.now }
-    ensures length { length result ≡ ENTRIES_AT }
+    ensures length { length result ≡ head_length (is_some emm.now.run) }
+    ensures few { length result ≤ 31 }
     ensures fits { FitsHead emm.now }
 {
     let mut body = Body::new();
@@ -58,8 +72,23 @@ fn head_of(emm: &Emm) -> Body
     body.put(&emm.sets.to_be_bytes());
     body.put(&emm.sections.to_be_bytes());
     body.put(&emm.check);
+    put_run(&mut body, emm.run);
     body.put(&[emm.count]);
     body
+}
+
+// Puts the broadcast's name after the body, where there is one.
+#[tactic(auto, unfolding(crate::specs::Fields::count_at))]
+fn put_run(body: &mut Body, run: Option<u32>)
+    requires { length body.old ≡ 26 }
+    ensures value { body.new ≡ body.old ++ run_bytes run }
+    ensures length { length body.new ≡ count_place (is_some run) }
+    ensures few { length body.new ≤ 30 }
+    ensures fits { IfSome run (λ run. run < 2 ^ 32) }
+{
+    if let Some(run) = run {
+        body.put(&run.to_be_bytes());
+    }
 }
 
 // Puts an entry after the body.

@@ -47,7 +47,7 @@ abbrev pub span_line : NumberLine
 span_line = record { word = codes "period-cryptos "; low = 1; high = 65535 }
 
 abbrev pub messages_line : NumberLine
-messages_line = record { word = codes "messages "; low = 1; high = 2 }
+messages_line = record { word = codes "messages "; low = 1; high = 3 }
 
 abbrev pub first_word_line : NumberLine
 first_word_line = record { word = codes "first-word "; low = 0; high = 4294967295 }

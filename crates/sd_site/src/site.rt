@@ -13,8 +13,8 @@ pub const MOST_CRYPTOS: u32 = 256;
 /// The most crypto periods of a period.
 pub const MOST_SPAN: u32 = 65_535;
 
-/// The greatest version of ECMs.
-pub const MOST_MESSAGES: u8 = 2;
+/// The greatest version of messages.
+pub const MOST_MESSAGES: u8 = 3;
 
 /// The greatest number of a control word.
 pub const MOST_WORD: u32 = 4_294_967_295;
@@ -42,7 +42,8 @@ pub struct Site {
     pub cryptos: u32,
     /// So many crypto periods are one period.
     pub span: u32,
-    /// The version of the ECMs that the head end writes.
+    /// The version of the ECMs that the head end writes. In version 3 they and the EMM sections name the run by its first
+    /// control word.
     pub messages: u8,
     /// The number of the first control word of a run of the head end.
     pub first_word: u32,

@@ -1,15 +1,32 @@
-use Rattle.std.proofs.Common.{List, ℕ, refl, sym, ap, ◌∙◌, subst}
+use Rattle.std.proofs.Common.{List, ℕ, length, drop, length-drop, arith, refl, sym, ap, ◌∙◌, subst}
 use Rattle.std.proofs.lemmas.Bool.{false≢true}
 use Rattle.std.proofs.lemmas.List.{take_rest}
 use Rattle.sd_emm.specs.Form.{AreSets}
-use Rattle.sd_emm.specs.Fields.{entries_in, padded}
+use Rattle.sd_emm.specs.Fields.{head_length, entries_in, padded}
 use Rattle.sd_emm.proofs.Judging.{node_breaks, order_breaks, is_good, is_whole}
+use Rattle.sd_emm.proofs.Spelling.{named_read}
 use Rattle.sd_emm.proofs.read.read_body.Goals as goal
+
+pub read_entries-requires-clause-room : goal.read_entries-requires-clause-room
+read_entries-requires-clause-room c =
+    let has = c.is_counted.ensures.0 c.if-not-is_counted.false in
+    let named =
+    named_read c.args.named c.args.index c.args.body.now c.read_head-emm.result c.read_head-emm.ensures in
+    omega (
+      arith,
+      has.0,
+      ap head_length named,
+      c.head_length.ensures.value,
+      ap (λ (l : List ℕ). length l) (take_rest c.args.body.now c.head_length.result),
+      length-drop c.head_length.result c.args.body.now,
+      c.from-count.ensures,
+    )
 
 pub returns-in_default-clause-fault : goal.returns-in_default-clause-fault
 returns-in_default-clause-fault c =
-    let after = take_rest c.args.body.now 27 in
-    node_breaks c.args.h c.args.index c.args.body.now c.read_head-emm.result c.from-count.result c.read_head-emm.ensures
+    let after = take_rest c.args.body.now c.head_length.result
+    ∙ ap (λ (n : ℕ). drop n c.args.body.now) c.head_length.ensures.value in
+    node_breaks c.args.h c.args.named c.args.index c.args.body.now c.read_head-emm.result c.from-count.result c.read_head-emm.ensures
     (c.is_counted.ensures.0 c.if-not-is_counted.false) c.from-count.ensures
     (λ all. false≢true (c.in_default.ensures.sets.1
     (subst (λ (l : List ℕ). AreSets c.args.h c.read_head-emm.result.sets (entries_in c.from-count.result l)) (sym after)
@@ -17,8 +34,9 @@ returns-in_default-clause-fault c =
 
 pub returns-then-not-are_ascending-clause-fault : goal.returns-then-not-are_ascending-clause-fault
 returns-then-not-are_ascending-clause-fault c =
-    let after = take_rest c.args.body.now 27 in
-    order_breaks c.args.h c.args.index c.args.body.now c.read_head-emm.result c.from-count.result c.in-Some.entries
+    let after = take_rest c.args.body.now c.head_length.result
+    ∙ ap (λ (n : ℕ). drop n c.args.body.now) c.head_length.ensures.value in
+    order_breaks c.args.h c.args.named c.args.index c.args.body.now c.read_head-emm.result c.from-count.result c.in-Some.entries
     c.read_head-emm.ensures
     (c.is_counted.ensures.0 c.if-not-is_counted.false) c.from-count.ensures
     (subst (λ (l : List ℕ). AreSets c.args.h c.read_head-emm.result.sets (entries_in c.from-count.result l)) after
@@ -28,16 +46,18 @@ returns-then-not-are_ascending-clause-fault c =
 
 pub returns-clause-value : goal.returns-clause-value
 returns-clause-value c =
-    is_whole c.args.index c.args.body.now c.read_head-emm.result c.from-count.result c.in-Some.entries
+    is_whole c.args.named c.args.index c.args.body.now c.read_head-emm.result c.from-count.result c.in-Some.entries
     c.read_head-emm.ensures
     c.from-count.ensures
     (c.in-Some.ensures.value ∙ ap (λ (l : List ℕ). padded (entries_in c.from-count.result l))
-    (take_rest c.args.body.now 27))
+    (take_rest c.args.body.now c.head_length.result
+    ∙ ap (λ (n : ℕ). drop n c.args.body.now) c.head_length.ensures.value))
 
 pub returns-clause-good : goal.returns-clause-good
 returns-clause-good c =
-    let after = take_rest c.args.body.now 27 in
-    is_good c.args.h c.args.index c.args.body.now c.read_head-emm.result c.from-count.result c.in-Some.entries
+    let after = take_rest c.args.body.now c.head_length.result
+    ∙ ap (λ (n : ℕ). drop n c.args.body.now) c.head_length.ensures.value in
+    is_good c.args.h c.args.named c.args.index c.args.body.now c.read_head-emm.result c.from-count.result c.in-Some.entries
     c.read_head-emm.ensures
     (c.is_counted.ensures.0 c.if-not-is_counted.false) c.from-count.ensures
     (subst (λ (l : List ℕ). AreSets c.args.h c.read_head-emm.result.sets (entries_in c.from-count.result l)) after

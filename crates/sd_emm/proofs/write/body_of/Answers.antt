@@ -1,6 +1,7 @@
-use Rattle.std.proofs.Common.{◌∙◌}
+use Rattle.std.proofs.Common.{◌∙◌, arith}
 use Rattle.sd_message.proofs.Items.{none_put}
 use Rattle.sd_emm.specs.Spelled.{entry_bytes}
+use Rattle.sd_emm.proofs.Again.{few_head}
 use Rattle.sd_emm.proofs.Spelling.{none_wrapped}
 use Rattle.sd_emm.proofs.write.body_of.Goals as goal
 
@@ -8,5 +9,6 @@ pub loop-k-init : goal.loop-k-init
 loop-k-init c = record {
   value = c.head_of-body.ensures.value ∙ none_put entry_bytes _ c.args.emm.now.entries;
   wrapped = none_wrapped c.args.emm.now.entries;
-  length = c.head_of-body.ensures.length;
+  length = omega (arith, c.head_of-body.ensures.length);
+  few = few_head c.args.emm.now.run;
 }

@@ -1,8 +1,9 @@
-use Rattle.std.proofs.Common.{◌≡◌, ◌+◌, ◌*◌, ◌++◌, length, take}
+use Rattle.std.proofs.Common.{◌≡◌, ◌≤◌, ◌+◌, ◌*◌, ◌++◌, length, take}
 use Rattle.sd_emm.specs.Spelled.{head_bytes, entry_bytes}
-use Rattle.std.specs.Prelude.{flat_map}
+use Rattle.std.specs.Prelude.{flat_map, is_some}
 use Rattle.sd_emm.specs.Form.{AreWrapped}
-use Rattle.sd_emm.specs.declared.format.TheConstants.{ENTRIES_AT, ENTRY_BYTES}
+use Rattle.sd_emm.specs.declared.format.TheConstants.{ENTRY_BYTES}
+use Rattle.sd_emm.specs.Fields.{head_length}
 use Rattle.sd_emm.proofs.write.body_of.Given as goal
 
 -- the entries before k are put
@@ -10,5 +11,6 @@ abbrev pub invariant-loop-k : goal.invariant-loop-k
 invariant-loop-k l = record {
   value : l.body ≡ head_bytes l.emm ++ flat_map entry_bytes (take l.k l.emm.entries);
   wrapped : AreWrapped (take l.k l.emm.entries);
-  length : length l.body ≡ ENTRIES_AT + ENTRY_BYTES * l.k;
+  length : length l.body ≡ head_length (is_some l.emm.run) + ENTRY_BYTES * l.k;
+  few : head_length (is_some l.emm.run) ≤ 31;
 }

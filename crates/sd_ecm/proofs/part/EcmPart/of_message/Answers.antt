@@ -5,9 +5,9 @@ use Rattle.sd_ecm.proofs.Sharing.{made_is, is_ecm}
 use Rattle.sd_ecm.proofs.part.EcmPart.of_message.Goals as goal
 
 pub returns-clause-form : goal.returns-clause-form
-returns-clause-form c = λ version since places up positions.
+returns-clause-form c = λ version named since places up positions.
     let message : Message = message_of c.args.head.now c.args.places.now in
     subst IsEcm
     (sym (made_is message c.args.part (c.part_count.result - 1) c.places_of-own.result.now c.filled_up.result
     (ap (λ (n : ℕ). n - 1) c.part_count.ensures) c.places_of-own.ensures.value c.filled_up.ensures))
-    (is_ecm message c.args.part c.requires.part version since places up positions)
+    (is_ecm message c.args.part c.requires.part version named since places up positions)
