@@ -33,45 +33,6 @@ make_plain_book() {
     }' >book
 }
 
-# PERIODS periods with 4,096 revoked leaves at the end of each.
-make_full_book() {
-    awk -v periods="$1" '
-        function revoke(place, leaf) {
-            do leaf = int(rand() * 1048576); while (leaf in revoked)
-            revoked[leaf]
-            leaf_at[place] = leaf
-            print "revoke " leaf
-        }
-        function subscribe(place) {
-            print "subscribe " leaf_at[place]
-            delete revoked[leaf_at[place]]
-        }
-        BEGIN {
-            srand(7)
-            for (place = 0; place < 4096; place++) revoke(place)
-            for (period = 1; period < periods; period++) {
-                print "period"
-                for (pair = 0; pair < 500; pair++) {
-                    place = int(rand() * 4096)
-                    subscribe(place)
-                    revoke(place)
-                }
-            }
-        }' >book
-}
-
-# The most leaves that may be revoked, at random places, ascending.
-make_widest_book() {
-    awk 'BEGIN {
-        srand(7)
-        for (count = 0; count < 65536; count++) {
-            do leaf = int(rand() * 1048576); while (leaf in revoked)
-            revoked[leaf]
-            print leaf
-        }
-    }' | sort -n | sed 's/^/revoke /' >book
-}
-
 cat >replay.awk <<'SCRIPT'
 $1 == "revoke" { revoked[$2] = 1 }
 $1 == "subscribe" { delete revoked[$2] }
@@ -126,11 +87,11 @@ compare_with_c() {
 }
 
 for periods in 1 64 256 1024; do
-    make_full_book $periods
+    make_full_book $periods 4096 500
     compare_with_c $periods $((periods < 20 ? 20 : 1))
 done
 show_peak
 
-make_widest_book
+make_book 65536
 compare_with_c 1 20
 show_peak

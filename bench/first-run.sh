@@ -1,7 +1,7 @@
 #!/bin/sh
-# `./sdca build` on a machine that keeps nothing, in a fresh clone: its time, the processor time that it takes, and the
-# ratio of the two. The toolchain's store is hidden by an empty folder in a mount namespace of its own,
-# so it wants root. It takes all processors for some minutes.
+# `./sdca build` on a machine that keeps nothing, in a fresh clone: its time, which is to be at most 780 s on 4 processors
+# at rest, the processor time that it takes, and the ratio of the two. The toolchain's store is hidden by an empty folder
+# in a mount namespace of its own, so it wants root. It takes all processors for some minutes.
 
 top=$(CDPATH='' cd "$(dirname "$0")/.." && pwd -P)
 work=$(mktemp -d)
@@ -20,7 +20,7 @@ unshare -m sh -c '
         function seconds(text, parts) { split(text, parts, \"m\"); return parts[1] * 60 + parts[2] }
         END {
             used = seconds(\$1) + seconds(\$2)
-            printf \"%d s on %d processors, %d s of processor time, ratio %.2f\n\",
+            printf \"%d s on %d processors (to reach: 780 on 4), %d s of processor time, ratio %.2f\n\",
                 real / 1000, processors, used, real / 1000 / used
         }" "$2/times"
 ' sh "$kept" "$work"

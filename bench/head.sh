@@ -32,18 +32,6 @@ fi
 head_ours() { ./sdca head site book "$streams/clear" "$streams/ours"; }
 head_c() { ./head head site book "$streams/clear" "$streams/theirs"; }
 
-# COUNT: a book that revokes so many of the 1,048,576 leaves, drawn at random, in ascending order.
-make_book() {
-    awk -v most="$1" 'BEGIN {
-        srand(7)
-        for (count = 0; count < most; count++) {
-            do leaf = int(rand() * 1048576); while (leaf in revoked)
-            revoked[leaf]
-            print leaf
-        }
-    }' | sort -n | sed 's/^/revoke /' >book
-}
-
 # PACKETS REVOKED: both programs on so many packets with so many leaves revoked.
 measure() {
     ./sdca sample 1 "$1" "$streams/clear"

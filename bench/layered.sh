@@ -19,14 +19,7 @@ rounds=10
 widths="4 5 20"
 leaves=$(seq 0 5243 1043357)
 
-awk 'BEGIN {
-    srand(7)
-    for (count = 0; count < 4096; count++) {
-        do leaf = int(rand() * 1048576); while (leaf in revoked)
-        revoked[leaf]
-        print leaf
-    }
-}' | sort -n | sed 's/^/revoke /' >book
+make_book 4096
 
 cards=.
 if [ -d /dev/shm ]; then

@@ -1,6 +1,6 @@
 # What the scripts of this folder share; they read it. It goes to a folder that is removed at the end, with `site` of
 # height 20 and `sdca`: the program itself, so that the launcher's look at the sources isn't timed. SDCA=PROGRAM names
-# one that is built already.
+# one that is built already, and OLD=PROGRAM an older one, which a script that says so measures beside it.
 top=$(CDPATH='' cd "$(dirname "$0")/.." && pwd -P)
 work=$(mktemp -d)
 trap 'rm -rf "$work"' EXIT
@@ -11,15 +11,24 @@ fail() {
     exit 1
 }
 
+# FILE: its name by which it is found from everywhere.
+absolute() { echo "$(CDPATH='' cd "$(dirname "$1")" && pwd -P)/$(basename "$1")"; }
+
 if [ -n "${SDCA:-}" ]; then
-    program=$(CDPATH='' cd "$(dirname "$SDCA")" && pwd -P)/$(basename "$SDCA")
+    program=$(absolute "$SDCA")
 else
     "$top/sdca" build || fail "the program can't be built"
     program=$top/out/sdca
 fi
 
+old=${OLD:+$(absolute "$OLD")}
 cd "$work" || exit
 ln -s "$program" sdca
+programs=./sdca
+if [ -n "$old" ]; then
+    ln -s "$old" old
+    programs="./sdca ./old"
+fi
 sed 's/^height .*/height 20/' "$top/examples/site.txt" >site
 
 # NAME LIBRARIES..: the program of bench/NAME.c.
@@ -30,6 +39,46 @@ compile() {
 }
 
 compile runs
+
+# COUNT: `book` revokes so many of the 1,048,576 leaves, drawn at random, in ascending order.
+make_book() {
+    awk -v most="$1" 'BEGIN {
+        srand(7)
+        for (count = 0; count < most; count++) {
+            do leaf = int(rand() * 1048576); while (leaf in revoked)
+            revoked[leaf]
+            print leaf
+        }
+    }' | sort -n | sed 's/^/revoke /' >book
+}
+
+# PERIODS REVOKED PAIRS: `book` has periods with so many leaves revoked at the end of each, drawn at random, and each
+# period but the first changes so many of them for others.
+make_full_book() {
+    awk -v periods="$1" -v most="$2" -v pairs="$3" '
+        function revoke(place, leaf) {
+            do leaf = int(rand() * 1048576); while (leaf in revoked)
+            revoked[leaf]
+            leaf_at[place] = leaf
+            print "revoke " leaf
+        }
+        function subscribe(place) {
+            print "subscribe " leaf_at[place]
+            delete revoked[leaf_at[place]]
+        }
+        BEGIN {
+            srand(7)
+            for (place = 0; place < most; place++) revoke(place)
+            for (period = 1; period < periods; period++) {
+                print "period"
+                for (pair = 0; pair < pairs; pair++) {
+                    place = int(rand() * most)
+                    subscribe(place)
+                    revoke(place)
+                }
+            }
+        }' >book
+}
 
 # COMMAND: the microseconds that it takes from its start to its end.
 timed() {

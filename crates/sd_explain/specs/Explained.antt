@@ -45,10 +45,27 @@ found_line (Some argument) reason = argument_line (reason argument.0) argument
 abbrev pub of_argument : List (List ℕ) → ℕ → (Operand → List ℕ) → List ℕ
 of_argument words number reason = found_line (argument_of words number) reason
 
--- the words are of a command that reads two sites: the status doesn't say which of them is refused
+-- the words are of a command that reads two sites, the first and the third of its arguments
 abbrev pub has_two_sites : List (List ℕ) → Bool
 has_two_sites [] = false
 has_two_sites (name ∷ texts) = bytes_eq name (codes "apart")
+
+-- the line of two sites of which one is refused: the status doesn't say which
+unfoldable pub sites_line : List ℕ → List ℕ → List ℕ → List ℕ
+sites_line reason first second =
+    codes "sdca: SITE " ++ (first ++ (codes " or SITE " ++ (second ++ (codes ": " ++ (reason ++ codes "\n")))))
+
+-- the line of the two sites that were found, or none
+abbrev pub of_sites : Option (Operand × List ℕ) → Option (Operand × List ℕ) → List ℕ → List ℕ
+of_sites None second reason = []
+of_sites (Some first) None reason = []
+of_sites (Some first) (Some second) reason = sites_line reason first.1 second.1
+
+-- the line of a refused site
+abbrev pub site_line : List (List ℕ) → List ℕ → List ℕ
+site_line words reason =
+    if has_two_sites words then of_sites (argument_of words 1) (argument_of words 3) reason
+    else of_argument words 1 (λ operand. reason)
 
 -- the line of a command, by its name and whether it takes as many arguments as it has
 abbrev pub command_line : List ℕ → ℕ → Option Command → List ℕ
@@ -68,8 +85,7 @@ usage_line (name ∷ texts) = command_line name (length texts) (command_of name)
 unfoldable pub explained : List (List ℕ) → Status → List ℕ
 explained words Usage = usage_line words
 explained words (Missing word) = of_argument words word (λ operand. missing_reason operand)
-explained words (BadSite fault) =
-    if has_two_sites words then [] else of_argument words 1 (λ operand. site_reason fault)
+explained words (BadSite fault) = site_line words (site_reason fault)
 explained words (BadBook word line) = of_argument words word (λ operand. line_reason operand line)
 explained words (BadCard fault) = of_argument words 1 (λ operand. card_reason fault)
 explained words (BadWord word) = of_argument words word (λ operand. range_reason operand)

@@ -1,5 +1,7 @@
-ghost use Rattle.std.specs.Prelude.{◌≡◌, [], if◌then◌else◌, map, string_bytes, IfOk, length};
-ghost use Rattle.sd_explain.specs.Explained.{argument_line, command_line, explained, has_two_sites as two_sites, of_argument, shown, usage_line};
+ghost use Rattle.std.specs.Prelude.{◌≡◌, map, string_bytes, IfOk, length};
+ghost use Rattle.sd_explain.specs.Explained.{argument_line, argument_of, command_line, explained};
+ghost use Rattle.sd_explain.specs.Explained.{has_two_sites as two_sites, of_argument, of_sites, shown};
+ghost use Rattle.sd_explain.specs.Explained.{site_line, sites_line, usage_line};
 ghost use Rattle.sd_commands.specs.Commands.{command_of};
 ghost use Rattle.sd_explain.specs.Reasons.{card_reason, missing_reason, range_reason, line_reason, site_reason};
 
@@ -13,6 +15,9 @@ use std::alloc::{AllocError, Global};
 
 /// The number of the argument that is a site or a card.
 const FIRST: u8 = 1;
+
+/// The number of the argument that is a second site.
+const SECOND_SITE: u8 = 3;
 
 /// The line that explains a status to a user, or no text if the status is about no argument.
 #[tactic(auto, unfolding(crate::specs::Explained::explained))]
@@ -77,7 +82,7 @@ fn missing(alloc: Global, words: &[String], word: u8) -> Result<String, AllocErr
     }
 }
 
-/// Whether the words are of a command that reads two sites: the status doesn't say which of them is refused.
+/// Whether the words are of a command that reads two sites.
 fn has_two_sites(words: &[String]) -> bool
     ensures { result ≡ two_sites (map string_bytes words.now) }
 {
@@ -89,17 +94,38 @@ fn has_two_sites(words: &[String]) -> bool
 
 /// The line of a site that is refused.
 fn site(alloc: Global, words: &[String], fault: SiteFault) -> Result<String, AllocError>
-    ensures { IfOk result (λ text. string_bytes text ≡
-        (if two_sites (map string_bytes words.now) then []
-        else of_argument (map string_bytes words.now) 1 (λ operand. site_reason fault))) }
+    ensures { IfOk result (λ text. string_bytes text ≡ site_line (map string_bytes words.now) (site_reason fault)) }
 {
+    let reason = reason::site(alloc, fault)?;
     if has_two_sites(words) {
-        return Ok(String::new(alloc));
+        return either_site(alloc, words, reason.as_str());
     }
     match find_argument(words, FIRST) {
-        Some(argument) => line(alloc, argument, reason::site(alloc, fault)?.as_str()),
+        Some(argument) => line(alloc, argument, reason.as_str()),
         None => Ok(String::new(alloc)),
     }
+}
+
+/// The line of two sites of which one is refused: the status doesn't say which.
+fn either_site(alloc: Global, words: &[String], reason: &str) -> Result<String, AllocError>
+    ensures { IfOk result (λ text. string_bytes text ≡ of_sites (argument_of (map string_bytes words.now) 1)
+        (argument_of (map string_bytes words.now) 3) reason.now) }
+{
+    match (
+        find_argument(words, FIRST),
+        find_argument(words, SECOND_SITE),
+    ) {
+        (Some(first), Some(second)) => sites(alloc, first.text, second.text, reason),
+        _ => Ok(String::new(alloc)),
+    }
+}
+
+/// The line that names two sites.
+#[tactic(auto, unfolding(crate::specs::Explained::sites_line))]
+fn sites(alloc: Global, first: &str, second: &str, reason: &str) -> Result<String, AllocError>
+    ensures { IfOk result (λ text. string_bytes text ≡ sites_line reason.now first.now second.now) }
+{
+    format!(in alloc; "sdca: SITE {first} or SITE {second}: {reason}\n")
 }
 
 /// The line of a file of which a line is refused.

@@ -61,11 +61,17 @@ pub struct Identity {
 }
 
 impl Identity {
-    fn of(metadata: &Metadata) -> Identity {
-        Identity {
-            device: metadata.dev(),
-            inode: metadata.ino(),
-        }
+    /// The file that has these. No clause can say which device and which inode number a file of the machine has.
+    pub fn of<M: MetadataExt>(metadata: &M) -> Identity {
+        Identity::new(metadata.dev(), metadata.ino())
+    }
+
+    /// The file of this inode number on this device.
+    fn new(device: u64, inode: u64) -> Identity
+        ensures device { result.device ≡ device }
+        ensures inode { result.inode ≡ inode }
+    {
+        Identity { device, inode }
     }
 }
 
@@ -110,8 +116,8 @@ pub fn open<R: Files>(
     Ok(file)
 }
 
-/// Whether a file may be read.
-fn may_read(output: Option<Identity>, kind: Kind, file: Identity) -> bool
+/// Whether a file may be read: it is no regular file that is the standard output.
+pub fn may_read(output: Option<Identity>, kind: Kind, file: Identity) -> bool
     ensures { IsTrue result ↔ ¬ ((kind ≡ Kind.Regular) × (output ≡ Some file)) }
 {
     kind != Kind::Regular || output != Some(file)
@@ -142,7 +148,7 @@ pub fn create<R: Files>(
 }
 
 /// Whether a file may be made: it is none of the inputs that keep what is written.
-fn may_make(inputs: &[Identity], kind: Kind, file: Identity) -> bool
+pub fn may_make(inputs: &[Identity], kind: Kind, file: Identity) -> bool
     ensures { IsTrue result ↔ ¬ (IsKept kind × Contains inputs.now file) }
 {
     !(kind.is_kept() && inputs.contains(&file))

@@ -24,6 +24,11 @@ fn refusals_are_explained(rt: HostRuntime) -> Result<(), AllocError> {
             "sdca: SITE S: line 4 is malformed\n",
         ),
         (
+            "apart S B T B",
+            Status::BadSite(SiteFault::Line(4)),
+            "sdca: SITE S or SITE T: line 4 is malformed\n",
+        ),
+        (
             "receive K X O",
             Status::BadCard(CardFault::Magic),
             "sdca: CARD K: it is no card\n",

@@ -1,5 +1,5 @@
-//! Tests of the outside and of what goes through it: ports in memory and on the machine, streams that are driven,
-//! sample streams, the inspector and its lines, statuses and what they are to a user.
+//! Tests of the outside and of what goes through it: ports in memory, streams that are driven, sample streams, the
+//! inspector and its lines, statuses and what they are to a user.
 #![tactic(auto)]
 
 #[cfg(test)]
@@ -7,13 +7,7 @@ mod engine;
 #[cfg(test)]
 mod explained;
 #[cfg(test)]
-mod files;
-#[cfg(test)]
-mod host;
-#[cfg(test)]
 mod lines;
-#[cfg(test)]
-mod machine;
 #[cfg(test)]
 mod ports;
 #[cfg(test)]

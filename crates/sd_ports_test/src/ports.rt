@@ -1,9 +1,11 @@
-use crate::files::{TEXT, gives};
 use sd_ports::{
     Depot, FileFault, MemDepot, MemSink, MemSource, PortFault, ReadAllFault, ReadMostFault,
     SliceSource, Source, read_all, read_file, read_most, write_all, write_file,
 };
 use std::alloc::{AllocError, Global};
+
+/// What is read and written.
+const TEXT: &[u8] = b"abcdefg";
 
 // Whether a source of TEXT, of which one read fails, is read so, and counts a fault where it failed.
 fn reads(
@@ -165,13 +167,13 @@ fn the_newest_choices_are_kept(rt: HostRuntime) -> Result<(), AllocError> {
 fn depots_keep_files_apart(rt: HostRuntime) -> Result<(), AllocError> {
     let alloc = rt.alloc();
     let mut depot = shelf(alloc)?;
-    for (name, most, want) in [
-        ("a", 3, Ok("new")),
-        ("b", 5, Ok("other")),
-        ("b", 4, Err(FileFault::TooBig)),
-        ("c", 9, Err(FileFault::Missing)),
-    ] {
-        assert!(rt; gives(alloc, &mut depot, name, most, want));
+    for (name, most, text) in [("a", 3, "new"), ("b", 5, "other")] {
+        let read = read_file(alloc, &mut depot, name, most);
+        assert!(rt; read.is_ok_and(|bytes| bytes.as_slice() == text.as_bytes()));
+    }
+    for (name, most, want) in [("b", 4, FileFault::TooBig), ("c", 9, FileFault::Missing)] {
+        let read = read_file(alloc, &mut depot, name, most);
+        assert!(rt; read.is_err_and(|fault| fault == want));
     }
     assert!(rt; depot.get("b") == Some(b"other") && depot.get("c").is_none());
     let fails = Vec::from_slice(alloc, &[0])?;
