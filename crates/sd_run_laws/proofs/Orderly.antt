@@ -2,10 +2,7 @@
 use Rattle.std.proofs.Common.{◌≡◌, ℕ, ◌-◌, Bool, true, false, List, [], ◌∷◌, Option, Some, None, Result, Ok, Err}
 use Rattle.std.proofs.Common.{refl, sym, ap, ◌∙◌}
 use Rattle.std.specs.Prelude.{if◌then◌else◌, ◌||◌}
-use Rattle.std.specs.Str.{bytes_eq}
-use Rattle.std.specs.List.{list_any}
 use Rattle.std.specs.Option.{option_map}
-use Rattle.std.proofs.lemmas.Slice.Eq.{bytes_eq-Decides}
 use Rattle.sd_engine.specs.Taken.{StreamEnd, Whole, Breaks, RunsOn, taken_of, end_of}
 use Rattle.sd_card.specs.Fields.{CardFields}
 use Rattle.sd_broadcast.specs.Plan.{Plan}
@@ -62,14 +59,15 @@ use Rattle.sd_commands.specs.declared.command.Command.TheVariants.{Tables, Trace
 use Rattle.sd_commands.specs.declared.operand.Operand.{Operand}
 use Rattle.sd_commands.specs.declared.operand.Kind.{Kind}
 use Rattle.sd_commands.specs.declared.operand.Kind.TheVariants as kind
-use Rattle.sd_commands.specs.Commands.{commands, command_of, named, name_of, operands_of}
+use Rattle.sd_commands.specs.Commands.{command_of, operands_of}
 use Rattle.sd_commands.specs.Operands.{kind_of}
 use Rattle.sd_words.specs.Words.{Argument, OutOf, Order, CommandOf, HelpOf, VersionOf, file, file_of, number, before}
+use Rattle.sd_words.specs.Words.{out_text, or_output}
 use Rattle.sd_words.specs.Words.{argument_of, arguments_from, out_is_read, ordered, command_words, words_of, is_help}
 use Rattle.sd_words.specs.Words.{is_version, help_on, help_words, version_words, named_words, order_of}
-use Rattle.std.proofs.Common.{suc, length, slice_get, not, ◌==◌, ◌+◌, arith, eqb-true}
+use Rattle.std.proofs.Common.{suc, length, slice_get, not, ◌==◌, ◌≤◌, ◌+◌, arith, eqb-true}
 use Rattle.sd_run.specs.Meaning.{command_meaning, order_meaning, meaning}
-use Rattle.sd_run_laws.specs.Outcome.{makers, last_of, out_name, RefusesFirst}
+use Rattle.sd_run_laws.specs.Outcome.{out_in_row, out_name, RefusesFirst}
 
 -- the work makes the file of this name or none; and if it ends with a refusal of words or files, it does nothing
 pub record IsOrderly (out : Option (List ℕ)) (work : Work) : Type 0 where
@@ -327,25 +325,15 @@ trial_orderly site book clear given =
     (λ plan. orderly_after None (prefix_of_file clear.number most_clear_bytes (given clear))
     (λ prefix. value (trying plan prefix)) (λ prefix. trial_quiet (trial_text plan prefix)))
 
+-- the file that a row names, whose first argument is at this place
+abbrev out_at : ℕ → List Operand → List Argument → Option (List ℕ)
+out_at at [] arguments = None
+out_at at (operand ∷ operands) arguments =
+    or_output (kind_of operand) (file at arguments).text (out_at (at + 1) operands arguments)
+
 -- the file that an order makes
 abbrev out_by : Command → List Argument → Option (List ℕ)
-out_by Accounts words = Some (file 3 words).text
-out_by Apart words = None
-out_by Book words = Some (file 4 words).text
-out_by Card words = Some (file 3 words).text
-out_by Cover words = None
-out_by Head words = Some (file 4 words).text
-out_by Layered words = None
-out_by Lcard words = Some (file 4 words).text
-out_by Messages words = None
-out_by Opens words = None
-out_by Air words = None
-out_by Receive words = Some (file 3 words).text
-out_by Sample words = Some (file 3 words).text
-out_by Show words = None
-out_by Tables words = None
-out_by Trace words = None
-out_by Trial words = None
+out_by command arguments = out_at 1 (operands_of command) arguments
 
 abbrev out_of : Order → Option (List ℕ)
 out_of (CommandOf command arguments) = out_by command arguments
@@ -354,6 +342,7 @@ out_of VersionOf = None
 
 command_orderly : (command : Command) (words : List Argument) (given : Given) →
     AreOrderly (out_by command words) (command_meaning command words given).result
+unfolding operands_of
 command_orderly Accounts words given = accounts_orderly (file 1 words) (file 2 words) (file 3 words) given
 command_orderly Apart words given = apart_orderly (file 1 words) (file 2 words) (file 3 words) (file 4 words) given
 command_orderly Book words given = book_orderly (file 1 words) (file 2 words) (file 3 words) (file 4 words) given
@@ -378,28 +367,15 @@ order_orderly (CommandOf command arguments) given = command_orderly command argu
 order_orderly (HelpOf topic) given = none_made (help.telling (help_text topic)) refl (λ refusal. absurd refusal)
 order_orderly VersionOf given = none_made (help.telling version_text) refl (λ refusal. absurd refusal)
 
--- an order that words are makes the file that their last word names
-abbrev IsLast : List (List ℕ) → Result Order Status → Type 0
-IsLast words (Ok order) = (name : List ℕ) → out_of order ≡ Some name → out_name words ≡ Some name
-IsLast words (Err status) = Unit {0}
+-- an order that words are makes the file that stands at OUT's place among them
+abbrev NamesOut : List (List ℕ) → Result Order Status → Type 0
+NamesOut words (Ok order) = (name : List ℕ) → out_of order ≡ Some name → out_name words ≡ Some name
+NamesOut words (Err status) = Unit {0}
 
-last_if : (t : Bool) (words : List (List ℕ)) (then_order else_order : Result Order Status) → IsLast words then_order →
-    IsLast words else_order → IsLast words (if t then then_order else else_order)
-last_if true words then_order else_order h k = h
-last_if false words then_order else_order h k = k
-
--- the last argument of a row that ends with OUT
-abbrev EndsOut : List Operand → Type 0
-EndsOut [] = ⊥
-EndsOut (operand ∷ []) = kind_of operand ≡ kind.Output
-EndsOut (operand ∷ next ∷ operands) = EndsOut (next ∷ operands)
-
-record HasOut (operands : List Operand) (texts : List (List ℕ)) (arguments : List Argument) : Type 0 where
-  word : Word
-  last : last_of texts ≡ Some word.text
-  at : ℕ
-  at_is : at + 1 ≡ length operands
-  there : slice_get arguments at ≡ Some (OutOf word)
+names_if : (t : Bool) (words : List (List ℕ)) (then_order else_order : Result Order Status) →
+    NamesOut words then_order → NamesOut words else_order → NamesOut words (if t then then_order else else_order)
+names_if true words then_order else_order h k = h
+names_if false words then_order else_order h k = k
 
 record Before (first : Result Argument Status) (rest : Result (List Argument) Status) (arguments : List Argument) :
     Type 0 where
@@ -421,108 +397,51 @@ out_read : (place : ℕ) (k : Kind) (text : List ℕ) (argument : Argument) → 
 out_read place k text argument is e =
     let read = sym (ap (λ (o : Kind). argument_of place o text) is) ∙ e in cc
 
-out_last : (operands : List Operand) (texts : List (List ℕ)) (place : ℕ) (arguments : List Argument) →
-    EndsOut operands → length texts ≡ length operands → arguments_from place operands texts ≡ Ok arguments →
-    HasOut operands texts arguments
-out_last [] texts place arguments ends same e = absurd ends
-out_last (operand ∷ operands) [] place arguments ends same e = absurd (omega (arith, same))
-out_last (operand ∷ []) (text ∷ next ∷ texts) place arguments ends same e = absurd (omega (arith, same))
-out_last (operand ∷ []) (text ∷ []) place arguments ends same e =
-    let both = both_ok (argument_of place (kind_of operand) text) (Ok []) arguments e in
-    let is = out_read place (kind_of operand) text both.argument ends both.first_is in
-    record {
-      word = word_at place text;
-      last = refl;
-      at = 0;
-      at_is = refl;
-      there = ap (λ (xs : List Argument). slice_get xs 0) both.same ∙ ap (λ (a : Argument). Some a) is;
-    }
-out_last (operand ∷ next ∷ operands) (text ∷ []) place arguments ends same e = absurd (omega (arith, same))
-out_last (operand ∷ next ∷ operands) (text ∷ later ∷ texts) place arguments ends same e =
-    let both = both_ok (argument_of place (kind_of operand) text)
-    (arguments_from (place + 1) (next ∷ operands) (later ∷ texts)) arguments e in
-    let rest = out_last (next ∷ operands) (later ∷ texts) (place + 1) both.later ends (omega (arith, same))
-    both.rest_is in
-    record {
-      word = rest.word;
-      last = rest.last;
-      at = suc rest.at;
-      at_is = let low = rest.at_is in omega (arith, low);
-      there = ap (λ (xs : List Argument). slice_get xs (suc rest.at)) both.same ∙ rest.there;
-    }
+-- the argument at OUT's place is the text there
+or_same : (k : Kind) (at : ℕ) (text : List ℕ) (argument : Argument) (all : List Argument)
+    (later other : Option (List ℕ)) → argument_of at k text ≡ Ok argument →
+    slice_get all (at - 1) ≡ Some argument → later ≡ other →
+    or_output k text later ≡ or_output k (file at all).text other
+or_same kind.Input at text argument all later other e there same = same
+or_same kind.Output at text argument all later other e there same =
+    let is : argument ≡ OutOf (word_at at text) = out_read at kind.Output text argument refl e in
+    sym (ap (λ (a : Option Argument). Some (file_of at a).text) (there ∙ ap (λ (a : Argument). Some a) is))
+or_same (kind.Number most) at text argument all later other e there same = same
+or_same (kind.Count most) at text argument all later other e there same = same
 
--- a command by its name
-named_is : (name : List ℕ) (commands : List Command) (command : Command) → named name commands ≡ Some command →
-    bytes_eq name (name_of command) ≡ true
-named_is name [] command e = absurd (cc)
-named_is name (first ∷ rest) command e = by_test (bytes_eq name (name_of first)) refl e (named_is name rest command)
-  where
-    by_test : (t : Bool) → bytes_eq name (name_of first) ≡ t →
-        (if t then Some first else named name rest) ≡ Some command →
-        (named name rest ≡ Some command → bytes_eq name (name_of command) ≡ true) →
-        bytes_eq name (name_of command) ≡ true
-    by_test true f e later = let same : first ≡ command = cc in
-        ap (λ (c : Command). bytes_eq name (name_of c)) (sym same) ∙ f
-    by_test false f e later = later e
+-- arguments that were read have OUT where the texts have it
+out_same : (operands : List Operand) (texts : List (List ℕ)) (at : ℕ) (arguments all : List Argument) → 1 ≤ at →
+    length texts ≡ length operands → arguments_from at operands texts ≡ Ok arguments →
+    ((i : ℕ) → slice_get all (at - 1 + i) ≡ slice_get arguments i) →
+    out_text operands texts ≡ out_at at operands all
+out_same [] texts at arguments all low same e there = refl
+out_same (operand ∷ operands) [] at arguments all low same e there = absurd (omega (arith, same))
+out_same (operand ∷ operands) (text ∷ texts) at arguments all low same e there =
+    let both = both_ok (argument_of at (kind_of operand) text) (arguments_from (at + 1) operands texts) arguments e in
+    let here : at - 1 ≡ at - 1 + 0 = omega arith in
+    let first : slice_get all (at - 1) ≡ Some both.argument =
+    ap (slice_get all) here ∙ (there 0 ∙ ap (λ (xs : List Argument). slice_get xs 0) both.same) in
+    or_same (kind_of operand) at text both.argument all (out_text operands texts) (out_at (at + 1) operands all)
+    both.first_is first
+    (out_same operands texts (at + 1) both.later all (omega arith) (omega (arith, same)) both.rest_is
+    (λ i. let next : at + 1 - 1 + i ≡ at - 1 + suc i = omega (arith, low) in
+    ap (slice_get all) next ∙ (there (suc i) ∙ ap (λ (xs : List Argument). slice_get xs (suc i)) both.same)))
 
--- a command that makes a file
-maker_last : (command : Command) (name : List ℕ) (texts : List (List ℕ)) (arguments : List Argument) →
-    EndsOut (operands_of command) → list_any (bytes_eq (name_of command)) makers ≡ true →
-    bytes_eq name (name_of command) ≡ true → length texts ≡ length (operands_of command) →
-    arguments_from 1 (operands_of command) texts ≡ Ok arguments →
-    out_name (name ∷ texts) ≡ Some (file (length (operands_of command)) arguments).text
-maker_last command name texts arguments ends maker named same e =
-    let is : name ≡ name_of command = (bytes_eq-Decides name (name_of command)).0 named in
-    let out = out_last (operands_of command) texts 1 arguments ends same e in
-    let last = out.at_is in
-    let at : out.at ≡ length (operands_of command) - 1 = omega (arith, last) in
-    let there : slice_get arguments (length (operands_of command) - 1) ≡ Some (OutOf out.word) =
-    ap (slice_get arguments) (sym at) ∙ out.there in
-    ap (λ (t : Bool). if t then last_of texts else None) (ap (λ (c : List ℕ). list_any (bytes_eq c) makers) is ∙ maker)
-    ∙ (out.last ∙ ap (λ (a : Option Argument). Some (file_of (length (operands_of command)) a).text) (sym there))
-
-command_last : (command : Command) (name : List ℕ) (texts : List (List ℕ)) (arguments : List Argument) →
-    bytes_eq name (name_of command) ≡ true → length texts ≡ length (operands_of command) →
-    arguments_from 1 (operands_of command) texts ≡ Ok arguments →
-    IsLast (name ∷ texts) (Ok (CommandOf command arguments))
-unfolding operands_of name_of
-command_last Accounts name texts arguments named same read text e =
-    maker_last Accounts name texts arguments refl refl named same read ∙ e
-command_last Apart name texts arguments named same read text e = absurd (cc)
-command_last Book name texts arguments named same read text e =
-    maker_last Book name texts arguments refl refl named same read ∙ e
-command_last Card name texts arguments named same read text e =
-    maker_last Card name texts arguments refl refl named same read ∙ e
-command_last Cover name texts arguments named same read text e = absurd (cc)
-command_last Head name texts arguments named same read text e =
-    maker_last Head name texts arguments refl refl named same read ∙ e
-command_last Layered name texts arguments named same read text e = absurd (cc)
-command_last Lcard name texts arguments named same read text e =
-    maker_last Lcard name texts arguments refl refl named same read ∙ e
-command_last Messages name texts arguments named same read text e = absurd (cc)
-command_last Opens name texts arguments named same read text e = absurd (cc)
-command_last Air name texts arguments named same read text e = absurd (cc)
-command_last Receive name texts arguments named same read text e =
-    maker_last Receive name texts arguments refl refl named same read ∙ e
-command_last Sample name texts arguments named same read text e =
-    maker_last Sample name texts arguments refl refl named same read ∙ e
-command_last Show name texts arguments named same read text e = absurd (cc)
-command_last Tables name texts arguments named same read text e = absurd (cc)
-command_last Trace name texts arguments named same read text e = absurd (cc)
-command_last Trial name texts arguments named same read text e = absurd (cc)
-
-row_last : (command : Command) (name : List ℕ) (texts : List (List ℕ)) → bytes_eq name (name_of command) ≡ true →
-    IsLast (name ∷ texts) (command_words command (operands_of command) texts)
-row_last command name texts named =
+row_names : (command : Command) (name : List ℕ) (texts : List (List ℕ)) → command_of name ≡ Some command →
+    NamesOut (name ∷ texts) (command_words command (operands_of command) texts)
+row_names command name texts found =
     by_count (length texts == length (operands_of command)) (out_is_read (operands_of command) texts) refl
   where
     by_arguments : (r : Result (List Argument) Status) → length texts ≡ length (operands_of command) →
-        arguments_from 1 (operands_of command) texts ≡ r → IsLast (name ∷ texts) (ordered command r)
-    by_arguments (Ok arguments) same e = command_last command name texts arguments named same e
+        arguments_from 1 (operands_of command) texts ≡ r → NamesOut (name ∷ texts) (ordered command r)
+    by_arguments (Ok arguments) same e = λ text made.
+        let all = out_same (operands_of command) texts 1 arguments arguments (omega arith) same e
+        (λ i. let here : 1 - 1 + i ≡ i = omega arith in ap (slice_get arguments) here) in
+        ap (λ (c : Option Command). out_in_row c texts) found ∙ (all ∙ made)
     by_arguments (Err status) same e = tt
 
     by_count : (same read : Bool) → (length texts == length (operands_of command)) ≡ same →
-        IsLast (name ∷ texts) (if not same || read then Err Usage
+        NamesOut (name ∷ texts) (if not same || read then Err Usage
         else ordered command (arguments_from 1 (operands_of command) texts))
     by_count false read e = tt
     by_count true true e = tt
@@ -530,33 +449,32 @@ row_last command name texts named =
         by_arguments (arguments_from 1 (operands_of command) texts)
         (eqb-true (length texts) (length (operands_of command)) e) refl
 
-help_last : (name : List ℕ) (texts : List (List ℕ)) → IsLast (name ∷ texts) (help_words texts)
-help_last name [] = λ text e. absurd (cc)
-help_last name (word ∷ next ∷ words) = tt
-help_last name (word ∷ []) = by_topic (command_of word)
+help_names : (name : List ℕ) (texts : List (List ℕ)) → NamesOut (name ∷ texts) (help_words texts)
+help_names name [] = λ text e. absurd (cc)
+help_names name (word ∷ next ∷ words) = tt
+help_names name (word ∷ []) = by_topic (command_of word)
   where
-    by_topic : (topic : Option Command) → IsLast (name ∷ word ∷ []) (help_on topic)
+    by_topic : (topic : Option Command) → NamesOut (name ∷ word ∷ []) (help_on topic)
     by_topic None = tt
     by_topic (Some topic) = λ text e. absurd (cc)
 
-version_last : (name : List ℕ) (texts : List (List ℕ)) → IsLast (name ∷ texts) (version_words texts)
-version_last name [] = λ text e. absurd (cc)
-version_last name (word ∷ words) = tt
+version_names : (name : List ℕ) (texts : List (List ℕ)) → NamesOut (name ∷ texts) (version_words texts)
+version_names name [] = λ text e. absurd (cc)
+version_names name (word ∷ words) = tt
 
-order_last : (words : List (List ℕ)) → IsLast words (order_of words)
-unfolding named_words command_of
-order_last [] = tt
-order_last (name ∷ texts) =
-    last_if (is_help name) (name ∷ texts) (help_words texts) _ (help_last name texts)
-    (last_if (is_version name) (name ∷ texts) (version_words texts) _ (version_last name texts)
-    (by_command (named name commands) refl))
+order_names : (words : List (List ℕ)) → NamesOut words (order_of words)
+unfolding named_words
+order_names [] = tt
+order_names (name ∷ texts) =
+    names_if (is_help name) (name ∷ texts) (help_words texts) _ (help_names name texts)
+    (names_if (is_version name) (name ∷ texts) (version_words texts) _ (version_names name texts)
+    (by_command (command_of name) refl))
   where
-    by_command : (found : Option Command) → named name commands ≡ found →
-        IsLast (name ∷ texts) (words_of found texts)
+    by_command : (found : Option Command) → command_of name ≡ found → NamesOut (name ∷ texts) (words_of found texts)
     by_command None e = tt
-    by_command (Some command) e = row_last command name texts (named_is name commands command e)
+    by_command (Some command) e = row_names command name texts e
 
--- the work that words mean makes the file that their last word names, or none
+-- the work that words mean makes the file that they name at OUT's place, or none
 widened : (out name : Option (List ℕ)) (meant : Result Work Status) →
     ((text : List ℕ) → out ≡ Some text → name ≡ Some text) → AreOrderly out meant → AreOrderly name meant
 widened out name (Ok work) wider h =
@@ -564,9 +482,9 @@ widened out name (Ok work) wider h =
 widened out name (Err status) wider h = tt
 
 pub words_orderly : (words : List (List ℕ)) (given : Given) → AreOrderly (out_name words) (meaning words given).result
-words_orderly words given = by_order (order_of words) (order_last words)
+words_orderly words given = by_order (order_of words) (order_names words)
   where
-    by_order : (r : Result Order Status) → IsLast words r →
+    by_order : (r : Result Order Status) → NamesOut words r →
         AreOrderly (out_name words) (judged r >>= λ order. order_meaning order given).result
     by_order (Ok order) last =
         widened (out_of order) (out_name words) (order_meaning order given).result last (order_orderly order given)

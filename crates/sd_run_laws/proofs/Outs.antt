@@ -78,7 +78,7 @@ done_leaves meant files a b answer told is answers =
       calm = record { depot = done.calm.depot; print = quiet.faults ∙ done.calm.print };
     }
 
--- the file that a run makes is the one that its last word names
+-- the file that a run makes is the one that its words name
 out_is : (words : List (List ℕ)) (given : Given) (work : Work) (out : Out) →
     (meaning words given).result ≡ Ok work → work.out ≡ Some out → out_name words ≡ Some out.name
 out_is words given work out is makes =

@@ -99,7 +99,7 @@ pub fn run<D: Depot, P: Sink, L: Ledger>(
         LossResult names plan u clear (kept_of plan clear flags)
         (outside (place D.Depot depot.old) (page P.Sink print.old) steps.old)
         (outside (place D.Depot depot.new) (page P.Sink print.new) steps.new) result }
-    // No file changes but OUT, which the last word names if the command makes a file.
+    // No file changes but OUT, which is the word at its place in the row of a command that makes a file.
     ensures files { (files : Files) (name : List ℕ) → D.files depot.old ≡ Some files →
         out_name (map string_bytes words.now) ≢ Some name →
         file_in (outside (place D.Depot depot.new) (page P.Sink print.new) steps.new) name ≡ get files name }
