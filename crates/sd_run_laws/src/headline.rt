@@ -25,7 +25,8 @@ ghost use Rattle.sd_run_receive.specs.Receive.{receive_meaning};
 ghost use Rattle.sd_run.specs.Meaning.{meaning};
 ghost use Rattle.sd_run_laws.specs.Good.{IsGoodSite};
 ghost use Rattle.sd_run_laws.specs.Lost.{kept_of, LossResult};
-ghost use Rattle.sd_run_laws.specs.Outcome.{IsDone, RefusesFirst, out_name};
+ghost use Rattle.sd_run.specs.Refusals.{RefusesFirst};
+ghost use Rattle.sd_run_laws.specs.Outcome.{IsDone, out_name};
 ghost use Rattle.sd_run_laws.specs.Headline.{Names, head_run, card_run, receive_run, file_in, AreGiven, WentWell};
 ghost use Rattle.sd_run_laws.specs.Headline.{card_for, HeadResult, CardResult, ReceiveResult};
 
