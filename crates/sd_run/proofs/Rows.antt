@@ -1,6 +1,5 @@
 -- What is said of each command of the table: here, and nowhere else above its own crate, has a command its row.
-use Rattle.std.proofs.Common.{ℕ, List, [], ◌∷◌, Option, Some, None}
-use Rattle.std.proofs.Common.{refl}
+use Rattle.std.proofs.Common.{ℕ, ◌+◌, List, [], ◌∷◌, Option, Some, None, refl}
 use Rattle.sd_engine.specs.Taken.{end_of}
 use Rattle.sd_status.specs.Meant.{Word, Given, all_of, judged, value, ◌>>=◌}
 use Rattle.sd_status.specs.Work.{Uncounted, NoSteps, UpTo}
@@ -40,12 +39,9 @@ use Rattle.sd_commands.specs.declared.command.Command.TheVariants.{Accounts, Boo
 use Rattle.sd_commands.specs.declared.command.Command.TheVariants.{Apart, Messages, Opens, Plan as Air, Receive, Sample, Show}
 use Rattle.sd_commands.specs.declared.command.Command.TheVariants.{Tables, Trace, Trial}
 use Rattle.sd_commands.specs.declared.operand.Operand.{Operand}
-use Rattle.sd_commands.specs.Commands.{command_of, operands_of}
+use Rattle.sd_commands.specs.Commands.{command_of, example_of, name_of, operands_of}
 use Rattle.sd_commands.specs.Operands.{kind_of}
-use Rattle.sd_words.specs.Words.{Argument, file, number}
-use Rattle.sd_words.specs.Words.{or_output}
-use Rattle.sd_words.specs.Words.{named_words}
-use Rattle.std.proofs.Common.{◌+◌}
+use Rattle.sd_words.specs.Words.{Argument, file, number, named_words, or_output}
 use Rattle.sd_run.specs.Meaning.{command_meaning}
 use Rattle.sd_files.proofs.Others.{IsOther}
 use Rattle.sd_run_cover.proofs.Others.{other_cover}
@@ -67,8 +63,6 @@ use Rattle.sd_run_trial.proofs.Others.{other_trial}
 use Rattle.sd_run.proofs.Works.{AreOrderly, orderly_after, same_name, made_whole, turned, none_made, sent_apart}
 use Rattle.sd_run.proofs.Works.{stream_apart, stream_received, trial_quiet}
 use Rattle.sd_run.proofs.Examples.{IsExample, words_in, onto_first, arguments_in}
-use Rattle.sd_words.specs.Words.{named_words}
-use Rattle.sd_commands.specs.Commands.{name_of, example_of}
 use Rattle.sd_text.specs.Number.{number_of}
 
 -- the commands that make a file

@@ -21,7 +21,6 @@ use Rattle.sd_files.specs.Streams.{stream_status}
 use Rattle.sd_run_head.specs.Head.{status_where, sent_status}
 use Rattle.sd_run_receive.specs.Receive.{ended_status, ending_status, status_at, unless_refused, received_status}
 use Rattle.sd_files.specs.Printed.{printing}
-use Rattle.sd_words.specs.Words.{number}
 use Rattle.sd_run.specs.Refusals.{RefusesFirst}
 
 -- the work makes the file of this name or none; and if it ends with a refusal of words or files, it does nothing
