@@ -82,7 +82,7 @@ open_says plan u clear kept a b is =
     (grind (arith, nat_tests, first.0), rest.0)
 
 -- a packet that is confirmed is of a period in which the leaf is not revoked
-confirmed_open : (plan : Plan) (clear : List (List ℕ)) (u j : ℕ) (kept : List Item) → IsPlan plan →
+pub confirmed_open : (plan : Plan) (clear : List (List ℕ)) (u j : ℕ) (kept : List Item) → IsPlan plan →
     u < 2 ^ plan.site.height →
     All (IsOfBroadcast plan clear) kept → is_confirmed_at plan u clear kept j ≡ true →
     not (is_revoked_in plan u (period_of plan j)) ≡ true

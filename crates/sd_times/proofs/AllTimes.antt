@@ -17,7 +17,8 @@ use Rattle.sd_losses.specs.Confirmed.{packet_at, packets_at, is_confirmed_at}
 use Rattle.sd_losses.proofs.Losses.{all_first, all_second}
 use Rattle.sd_events.specs.Watch.{stream, at_places}
 use Rattle.sd_times.specs.Times.{card_at, kept_at, places_in}
-use Rattle.sd_times.proofs.Rising.{Rises, rises_first, rises_second, rises_apart, rises_both, rises_increase, range_rises}
+use Rattle.sd_times.proofs.Rising.{Rises, rises_first, rises_second, rises_apart, rises_both, rises_increase}
+use Rattle.sd_times.proofs.Rising.{range_rises}
 use Rattle.sd_times.proofs.Kept.{kept_apart}
 use Rattle.sd_times.proofs.OneTime.{time_writes}
 

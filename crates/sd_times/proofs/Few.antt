@@ -2,7 +2,7 @@
 use Rattle.std.proofs.Common.{ℕ, ◌*◌, ◌/◌, ◌%◌, ◌^◌, ◌≤◌, ◌==◌, Bool, true, false, List, [], ◌∷◌, ◌++◌}
 use Rattle.std.proofs.Common.{length, map, sym, subst, arith, inl, inr, length-append, append_assoc, if◌then◌else◌}
 use Rattle.std.specs.List.{concat}
-use Rattle.std.proofs.lemmas.Bool.{cases_Bool, cases_lt}
+use Rattle.std.proofs.lemmas.Bool.{cases_lt}
 use Rattle.std.proofs.lemmas.List.{length-map}
 use Rattle.std.proofs.Math.Pow.{pow_mono}
 use Rattle.sd_message.specs.Pieces.{pieces_for}
@@ -11,8 +11,6 @@ use Rattle.sd_emm.specs.Period.{emms_of}
 use Rattle.sd_emm.specs.declared.emm.Emm.{Emm}
 use Rattle.sd_emm.proofs.Sharing.{as_many as sections_many}
 use Rattle.sd_ecm.specs.Parts.{Message, IsMessage, parts_of}
-use Rattle.sd_ecm.specs.Versions.{positions_for}
-use Rattle.sd_ecm.proofs.Sharing.{as_many as parts_many}
 use Rattle.sd_broadcast.specs.Plan.{Plan, IsPlan, crypto_length, period_of, sets_at}
 use Rattle.sd_broadcast.specs.Carried.{carried}
 use Rattle.sd_broadcast.specs.Messages.{period_at, message_at}
@@ -24,22 +22,13 @@ use Rattle.sd_sent.proofs.Clear.{prefix_clear}
 use Rattle.sd_sent.proofs.Fitting.{sets_small, period_count, message_before_fits, word_low}
 use Rattle.sd_losses.proofs.Losses.{packets_long}
 use Rattle.sd_whole.specs.Synced.{AreSynced}
+use Rattle.sd_whole.proofs.Counted.{parts_few}
 use Rattle.sd_whole.proofs.Joined.{joined_long}
 use Rattle.sd_whole.proofs.Synced.{body_synced}
 use Rattle.sd_events.proofs.Fitting.{revoked_few}
 use Rattle.sd_times.specs.Times.{most_added}
 
--- a message's parts are few
-shared_few : (v n : ℕ) → n ≤ 256 → pieces_for (positions_for v) n ≤ 22
-unfolding pieces_for positions_for
-shared_few v n few = elim (cases_Bool (v == 2)) [
-  | inl two ↦ rw two (omega (arith, few))
-  | inr one ↦ rw one (omega (arith, few))
-]
-
-parts_few : (message : Message) → IsMessage message → length (parts_of message) ≤ 22
-parts_few message is = omega (arith, parts_many message, shared_few message.version (length message.places) is.count)
-
+-- a message's parts are few, if it is there
 message_or_none : (b : Bool) (message : Message) → IsMessage message →
     length (if b then map Controls (parts_of message) else []) ≤ 22
 message_or_none true message fits = omega (arith, length-map (parts_of message) Controls, parts_few message fits)

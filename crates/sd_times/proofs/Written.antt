@@ -114,7 +114,8 @@ written_for plan clear u i j past is fit whole synced leaf at =
     let same = get_or_from_slice_get places i j 0 at in
     let long = length-take (sends (length clear) past) clear in
     let within : j < sends (length clear) past = omega (arith, here, same, long) in
-    ap (λ (packets : List (List ℕ)). slice_get packets i) (written_is_confirmed plan clear u past is fit whole synced leaf)
+    ap (λ (packets : List (List ℕ)). slice_get packets i)
+    (written_is_confirmed plan clear u past is fit whole synced leaf)
     ∙ (slice_get-map (packet_at (taken clear past)) places i
     ∙ (ap (option_map (packet_at (taken clear past))) at
     ∙ ap (λ (packet : List ℕ). Some packet) (get_or-take (sends (length clear) past) clear j [] within)))

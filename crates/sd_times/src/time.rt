@@ -26,8 +26,8 @@ pub fn places_are_chosen()
         All (λ i. i < length xs) places → chosen (flags_of places (length xs)) (xs ++ ys) ≡ at_places Cat xs places }
 {}
 
-/// In one time that it is on a receiver refuses nothing, whatever packets it isn't offered, and writes the clear packets
-/// that are confirmed to it.
+/// In one time that it is on a receiver refuses nothing, whatever packets it isn't offered, and writes the clear
+/// packets that are confirmed to it.
 #[tactic(auto, using(crate::proofs::OneTime::none_refused, crate::proofs::OneTime::time_writes))]
 pub fn times_are_confirmed()
     ensures none { (plan : Plan) (clear : List (List ℕ)) (u : ℕ) (places : List ℕ) → IsPlan plan →
@@ -48,8 +48,8 @@ pub fn confirmed_packets_were_offered()
         (i : ℕ) × (packet : List ℕ) × Contains places i × (get_or (sent plan clear) i Cat ≡ Carries j packet) }
 {}
 
-/// If a receiver was offered all packets of one time before those of another, it is confirmed later clear packets in the
-/// other.
+/// If a receiver was offered all packets of one time before those of another, it is confirmed later clear packets in
+/// the other.
 pub fn later_times_have_later_packets()
     ensures { (plan : Plan) (clear : List (List ℕ)) (u j l : ℕ) (places later : List ℕ) →
         ((i k : ℕ) → Contains places i → Contains later k → i < k) →

@@ -36,8 +36,8 @@ pub fn written_packets_are_confirmed()
         (places_of plan u (taken clear past) (watch plan clear u past)) }
 {}
 
-/// No two receivers ever write different packets for one clear packet, however their events and times interleave, and at
-/// whatever moments the two are looked at.
+/// No two receivers ever write different packets for one clear packet, however their events and times interleave, and
+/// at whatever moments the two are looked at.
 #[tactic(auto, using(crate::proofs::Written::one_packet))]
 pub fn one_packet_for_a_place()
     ensures { (plan : Plan) (clear : List (List ℕ)) (u v i k j : ℕ) (past other : List Event) → IsPlan plan →

@@ -41,7 +41,7 @@ shared_few v n few = elim (cases_Bool (v == 2)) [
   | inr one ↦ rw one (omega (arith, few))
 ]
 
-parts_few : (message : Message) → IsMessage message → length (parts_of message) ≤ 22
+pub parts_few : (message : Message) → IsMessage message → length (parts_of message) ≤ 22
 parts_few message is = omega (arith, parts_many message, shared_few message.version (length message.places) is.count)
 
 module _ (plan : Plan) (is : IsPlan plan) where
