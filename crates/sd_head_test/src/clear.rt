@@ -142,7 +142,7 @@ fn packets_are_refused(rt: HostRuntime) -> Result<(), Fail> {
         let mut clear = Clear::new(rt.alloc()).ok().ok_or("there is memory")?;
         let packet = packet.ok_or("it is a packet")?;
         assert!(rt; step(&mut clear, &site, &pack_section(&PAT, 0, 0)).is_ok());
-        assert_eq!(rt; clear.refusal(&site, &packet), Some(due));
+        assert_eq!(rt; clear.judge(&site, &packet).err(), Some(due));
     }
     Ok(())
 }
@@ -162,7 +162,7 @@ fn as_many_pids_move_as_may(rt: HostRuntime) -> Result<(), Fail> {
     }
     let more = packet([0x47, 0x02, 0x00, 0x10], 0x00, 0x00, 0x00).ok_or("it is a packet")?;
     assert_eq!(rt;
-        clear.refusal(&site, &more),
+        clear.judge(&site, &more).err(),
         Some(ClearFault::TooManyPids(256))
     );
     let empty = packet([0x47, 0x02, 0x00, 0x30], 0xB7, 0x55, 0x55).ok_or("it is a packet")?;
@@ -216,12 +216,12 @@ fn a_site_has_so_many_control_words(rt: HostRuntime) -> Result<(), Fail> {
             assert!(rt; step(&mut clear, &site, &null).is_ok());
         }
         assert_eq!(rt;
-            clear.refusal(&site, &null),
+            clear.judge(&site, &null).err(),
             Some(ClearFault::TooLong(count))
         );
         let scrambled = packet([0x47, 0x1F, 0xFF, 0x90], 0xFF, 0xFF, 0xFF).ok_or("it is a packet")?;
         assert_eq!(rt;
-            clear.refusal(&site, &scrambled),
+            clear.judge(&site, &scrambled).err(),
             Some(ClearFault::AlreadyScrambled(count))
         );
     }
