@@ -4,3 +4,4 @@ pub mod Making
 pub mod Turning
 pub mod Thirds
 pub mod Others
+pub mod Printed

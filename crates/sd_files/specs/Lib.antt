@@ -5,3 +5,4 @@ pub mod Made
 pub mod Shown
 pub mod Streams
 pub mod Turned
+pub mod Printed

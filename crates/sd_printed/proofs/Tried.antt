@@ -33,7 +33,8 @@ use Rattle.sd_run_head.proofs.Sending.{sent_unrefused}
 use Rattle.sd_run_receive.specs.Receive.{ending_status, ended_status, received_of, received_status}
 use Rattle.sd_run_receive.proofs.Received.{none_refused, bytes_are}
 use Rattle.sd_run_trial.specs.Trial.{clear_line, lines_of, lines_to, receiver_line, sent_or, then_line, told_line}
-use Rattle.sd_run_trial.specs.Trial.{plan_meaning, printing, told_sent, trial_meaning, trial_text, trying}
+use Rattle.sd_files.specs.Printed.{printing}
+use Rattle.sd_run_trial.specs.Trial.{plan_meaning, told_sent, trial_meaning, trial_text, trying}
 use Rattle.sd_run_trial.specs.Prefixes.{prefix_of_file}
 use Rattle.sd_run_trial.specs.Trial.{most_clear_bytes}
 use Rattle.sd_run_trial.proofs.Prefixes.{whole_prefix}

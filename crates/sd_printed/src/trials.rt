@@ -7,7 +7,8 @@ ghost use Rattle.sd_broadcast.specs.Plan.{Plan, IsPlan};
 ghost use Rattle.sd_broadcast.specs.Refused.{IsClear};
 ghost use Rattle.sd_whole.specs.Synced.{AreBytes};
 ghost use Rattle.sd_status.specs.Meant.{Word, Given};
-ghost use Rattle.sd_run_trial.specs.Trial.{most_clear_bytes, plan_meaning, printing, trial_meaning, trial_text};
+ghost use Rattle.sd_files.specs.Printed.{printing};
+ghost use Rattle.sd_run_trial.specs.Trial.{most_clear_bytes, plan_meaning, trial_meaning, trial_text};
 ghost use Rattle.sd_printed.specs.Trials.{opened_lines};
 
 /// `trial SITE BOOK CLEAR` over a site and a book within the limits, and a clear stream of packets of which none is

@@ -78,7 +78,7 @@ fn told(driven: Result<u64, DriveFault<HeadFault>>) -> Result<(), Status>
 }
 
 /// The status of a clear packet that is refused.
-fn refused(fault: ClearFault) -> Status
+pub fn refused(fault: ClearFault) -> Status
     ensures { result ≡ refused_status fault }
 {
     let (packet, cause) = match fault {

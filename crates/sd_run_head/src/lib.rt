@@ -3,4 +3,4 @@
 
 mod command;
 
-pub use command::{head, send};
+pub use command::{head, refused, send};

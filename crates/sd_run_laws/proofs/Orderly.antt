@@ -47,7 +47,8 @@ use Rattle.sd_run_show.specs.Show.{line_of_file, show_meaning, printing as showi
 use Rattle.sd_run_tables.specs.Tables.{inspecting, tables_meaning}
 use Rattle.sd_run_trace.specs.Trace.{traced, telling, trace_meaning}
 use Rattle.sd_run_trial.specs.Prefixes.{prefix_of_file}
-use Rattle.sd_run_trial.specs.Trial.{plan_meaning as trial_plan, trial_text, trying, trial_meaning, printing}
+use Rattle.sd_files.specs.Printed.{printing}
+use Rattle.sd_run_trial.specs.Trial.{plan_meaning as trial_plan, trial_text, trying, trial_meaning}
 use Rattle.sd_run_trial.specs.Trial.{most_clear_bytes}
 use Rattle.sd_run_help.specs.Help as help
 use Rattle.sd_run_help.specs.Pages.{help_text, version_text}

@@ -31,7 +31,8 @@ use Rattle.sd_run_trial.specs.Trial.{most_clear_bytes}
 use Rattle.sd_run_trial.specs.Prefixes.{prefix_of_file}
 use Rattle.sd_run_trial.proofs.Prefixes.{whole_prefix}
 use Rattle.sd_run_trial.specs.Trial.{told_low, low_site_of_file, plan_by, plan_meaning, sent_or, told_sent, told_line}
-use Rattle.sd_run_trial.specs.Trial.{receiver_line, then_line, lines_to, lines_of, clear_line, trial_text, printing}
+use Rattle.sd_files.specs.Printed.{printing}
+use Rattle.sd_run_trial.specs.Trial.{receiver_line, then_line, lines_to, lines_of, clear_line, trial_text}
 use Rattle.sd_run_trial.specs.Trial.{trying, trial_meaning}
 use Rattle.sd_printed.specs.Trials.{opened_lines}
 use Rattle.sd_printed.proofs.Tried.{trial_right, trial_done}

@@ -10,7 +10,8 @@ use Rattle.sd_files.specs.Files.{site_in, book_in}
 use Rattle.sd_words.specs.Words.{TrialOf}
 use Rattle.sd_run_trial.specs.Trial.{most_height}
 use Rattle.sd_printed.specs.Trials.{opened_lines}
-use Rattle.sd_run_trial.specs.Trial.{told_low, low_site_of_file, plan_by, plan_meaning, printing}
+use Rattle.sd_files.specs.Printed.{printing}
+use Rattle.sd_run_trial.specs.Trial.{told_low, low_site_of_file, plan_by, plan_meaning}
 use Rattle.sd_printed.proofs.Tried as opened
 use Rattle.sd_run_laws.specs.Good.{IsGoodSite, IsGoodBook}
 use Rattle.sd_run_laws.specs.Tried.{IsGoodTrial, plan_tried}

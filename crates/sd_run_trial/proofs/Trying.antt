@@ -1,21 +1,16 @@
 -- The lines of a trial.
 use Rattle.std.proofs.Common.{◌≡◌, ℕ, zero, suc, ◌+◌, ◌-◌, ◌^◌, ◌/◌, ◌<◌, Bool, List, length}
 use Rattle.std.proofs.Common.{append-nil, Result, Ok, Err, refl, sym, ap, subst, ◌∙◌, inl, inr, arith}
-use Rattle.std.specs.Io.KnownBytes.{Appends}
-use Rattle.std.proofs.KnownBytes.{Appends-nil}
 use Rattle.sd_site.specs.Fields.{SiteFields}
 use Rattle.sd_card.specs.Fields.{CardFields, card_of}
 use Rattle.sd_broadcast.specs.Plan.{Plan}
 use Rattle.sd_run_head.specs.Head.{sent_of, sent_status}
 use Rattle.sd_run_receive.specs.Receive.{received_of}
-use Rattle.sd_ports.specs.Bytes.{Prefix, AppendsPrefix}
+use Rattle.sd_ports.specs.Bytes.{Prefix}
 use Rattle.sd_status.specs.declared.status.Status.{Status}
-use Rattle.sd_status.specs.Outside.{Place, Page, outside}
-use Rattle.sd_status.specs.Meant.{value}
-use Rattle.sd_status.specs.Comes.{IsEnding, untouched, ended, exhausted, cut_off, Obeys}
-use Rattle.sd_status.specs.Prints.{PrintsText}
-use Rattle.sd_run_trial.specs.Trial.{Adds, Comes, HasHeard, HasSent, card_line, clear_line, lines_of, lines_to}
-use Rattle.sd_run_trial.specs.Trial.{printing, receiver_line, sent_or, then_line, told_line, told_sent, trial_text}
+use Rattle.sd_files.specs.Printed.{Comes}
+use Rattle.sd_run_trial.specs.Trial.{Adds, HasHeard, HasSent, card_line, clear_line, lines_of, lines_to}
+use Rattle.sd_run_trial.specs.Trial.{receiver_line, sent_or, then_line, told_line, told_sent, trial_text}
 
 -- The loop over the leaves.
 
@@ -112,52 +107,3 @@ pub receivers_run : {X : Type 0} (view : X → List ℕ) (plan : Plan) (prefix :
 unfolding trial_text
 receivers_run view plan prefix sent result is comes =
     subst (λ (r : Result (List ℕ) Status). Comes view (lines_of plan (length prefix.bytes) r) result) (sym is) comes
-
--- a text, and then its printing
-pub text_printed : (text : List ℕ) (q : Place) (page now : Page) (steps more : ℕ) (status : Status) →
-    PrintsText text page now status →
-    Obeys (value (printing (Ok text))) (outside q page steps) (outside q now more) status
-text_printed text q page now steps more status (inl all) = record {
-  comes = ended (printing (Ok text)) refl all.0 (subst IsEnding (sym all.0) tt) (record { files = refl; made = refl })
-      (subst (λ (xs : List ℕ). Appends page.printed now.printed xs) (sym (append-nil text)) all.1)
-      (record { depot = refl; print = all.2 }) refl;
-  ports = refl;
-  calls = omega arith;
-  steps = tt;
-}
-text_printed text q page now steps more status (inr cut) = record {
-  comes = cut_off (printing (Ok text)) refl cut.0 (record { files = refl; made = refl })
-      (subst (λ (xs : List ℕ). AppendsPrefix page.printed now.printed xs) (sym (append-nil text)) cut.1) cut.2
-      refl refl;
-  ports = refl;
-  calls = omega arith;
-  steps = tt;
-}
-
--- no text
-pub nothing_printed : {X : Type 0} (view : X → List ℕ) (meant : Result (List ℕ) Status) (q : Place) (page : Page)
-    (steps more : ℕ) (status : Status) → Comes view meant (Err status) →
-    Obeys (value (printing meant)) (outside q page steps) (outside q page more) status
-nothing_printed view meant q page steps more status (inl told) =
-    subst (λ (r : Result (List ℕ) Status). Obeys (value (printing r)) (outside q page steps) (outside q page more)
-    status)
-    (sym told.0)
-    (record {
-      comes = ended (printing (Err status)) refl refl told.1 (record { files = refl; made = refl })
-          (Appends-nil page.printed) (record { depot = refl; print = refl }) refl;
-      ports = refl;
-      calls = omega arith;
-      steps = tt;
-    })
-nothing_printed view (Ok text) q page steps more status (inr out) = record {
-  comes = exhausted out (untouched (record { files = refl; made = refl }) refl) refl refl refl;
-  ports = refl;
-  calls = omega arith;
-  steps = tt;
-}
-nothing_printed view (Err other) q page steps more status (inr out) = record {
-  comes = exhausted out (untouched (record { files = refl; made = refl }) refl) refl refl refl;
-  ports = refl;
-  calls = omega arith;
-  steps = tt;
-}

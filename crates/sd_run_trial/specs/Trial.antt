@@ -1,6 +1,6 @@
 -- `trial SITE BOOK CLEAR` [this project, docs/FORMATS.md, Trial].
-use Rattle.std.specs.Prelude.{◌≡◌, ◌⊎◌, ◌^◌, ◌*◌, ◌/◌, ℕ, zero, suc, nat_lt, Bool, true, false, List, [], ◌∷◌, ◌++◌, length}
-use Rattle.std.specs.Prelude.{codes, if◌then◌else◌, Option, None, Result, Ok, Err}
+use Rattle.std.specs.Prelude.{◌≡◌, ◌⊎◌, ◌^◌, ◌*◌, ◌/◌, ℕ, zero, suc, nat_lt, Bool, true, false, List, ◌++◌, length}
+use Rattle.std.specs.Prelude.{codes, if◌then◌else◌, Option, Result, Ok, Err}
 use Rattle.std.specs.Fmt.{decimal}
 use Rattle.sd_ports.specs.Bytes.{Prefix}
 use Rattle.sd_site.specs.Fields.{SiteFields}
@@ -10,9 +10,10 @@ use Rattle.sd_status.specs.declared.status.Status.{Status}
 use Rattle.sd_status.specs.declared.status.Status.TheVariants.{Done, Revoked, DepotFault, Limit, NoMemory}
 use Rattle.sd_status.specs.declared.status.LimitKind.TheVariants.{TrialHeight, TrialPackets}
 use Rattle.sd_status.specs.Meant.{Meant, Word, Given, judged, value, ◌>>=◌}
-use Rattle.sd_status.specs.Work.{Uncounted, Work}
+use Rattle.sd_status.specs.Work.{Work}
 use Rattle.sd_status.specs.Comes.{IsEnding}
 use Rattle.sd_files.specs.Files.{site_of_file, book_of_file}
+use Rattle.sd_files.specs.Printed.{printing}
 use Rattle.sd_run_head.specs.Head.{sent_of, sent_status}
 use Rattle.sd_run_receive.specs.Receive.{received_of, received_status}
 use Rattle.sd_run_trial.specs.Prefixes.{prefix_of_file}
@@ -116,11 +117,6 @@ lines_of plan clear (Err status) = Err status
 unfoldable pub trial_text : Plan → Prefix → Result (List ℕ) Status
 trial_text plan prefix = lines_of plan (length prefix.bytes) (told_sent plan prefix)
 
--- prints a text, or nothing and ends otherwise
-abbrev pub printing : Result (List ℕ) Status → Work
-printing (Ok text) = record { out = None; pieces = text ∷ []; ends = Done; breaks = false; steps = Uncounted }
-printing (Err status) = record { out = None; pieces = []; ends = status; breaks = false; steps = Uncounted }
-
 -- runs the head end and the receivers over memory
 abbrev pub trying : Plan → Prefix → Work
 trying plan prefix = printing (trial_text plan prefix)
@@ -129,11 +125,6 @@ unfoldable pub trial_meaning : Word → Word → Word → Given → Meant Work
 trial_meaning site book clear given =
     plan_meaning site book given
     >>= λ plan. prefix_of_file clear.number most_clear_bytes (given clear) >>= λ prefix. value (trying plan prefix)
-
--- a step in memory gives what is meant, or the status that it ends with, or memory was out
-abbrev pub Comes : {X : Type 0} → (X → List ℕ) → Result (List ℕ) Status → Result X Status → Type 0
-Comes view meant (Ok x) = meant ≡ Ok (view x)
-Comes view meant (Err status) = ((meant ≡ Err status) × IsEnding status) ⊎ (status ≡ NoMemory)
 
 -- a text grew by the line that is meant
 abbrev pub Adds : Result (List ℕ) Status → List ℕ → List ℕ → Result (Unit {0}) Status → Type 0

@@ -3,7 +3,8 @@ ghost use Rattle.sd_entitling.specs.Kept.{plan_of};
 ghost use Rattle.sd_status.specs.Outside.{outside, page, place};
 ghost use Rattle.sd_status.specs.Comes.{Follows, status_of};
 ghost use Rattle.sd_files.specs.Shown.{shown_word};
-ghost use Rattle.sd_run_trial.specs.Trial.{Comes, trial_meaning, trial_text};
+ghost use Rattle.sd_files.specs.Printed.{Comes};
+ghost use Rattle.sd_run_trial.specs.Trial.{trial_meaning, trial_text};
 
 use crate::lines::lines;
 use crate::plan::read_plan;

@@ -1,7 +1,8 @@
 ghost use Rattle.std.specs.Prelude.{◌≡◌, ◌^◌, ◌<◌, ◌/◌, string_bytes, length, IfOk};
 ghost use Rattle.sd_site.specs.Fields.{fields_of};
 ghost use Rattle.sd_status.specs.Comes.{IsEnding};
-ghost use Rattle.sd_run_trial.specs.Trial.{Adds, Comes, clear_line, lines_to, receiver_line, told_line};
+ghost use Rattle.sd_files.specs.Printed.{Comes};
+ghost use Rattle.sd_run_trial.specs.Trial.{Adds, clear_line, lines_to, receiver_line, told_line};
 
 use crate::hear::hear;
 use sd_card::Card;

@@ -1,7 +1,8 @@
 ghost use Rattle.std.specs.Prelude.{◌≡◌, IfOk};
 ghost use Rattle.sd_entitling.specs.Kept.{plan_of};
 ghost use Rattle.sd_status.specs.Comes.{IsEnding, status_of};
-ghost use Rattle.sd_run_trial.specs.Trial.{Comes, HasSent, is_wanting, sent_or, told_sent};
+ghost use Rattle.sd_files.specs.Printed.{Comes};
+ghost use Rattle.sd_run_trial.specs.Trial.{HasSent, is_wanting, sent_or, told_sent};
 
 use sd_book::Book;
 use sd_cause::NoMemory;

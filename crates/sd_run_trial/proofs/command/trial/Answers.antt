@@ -7,10 +7,11 @@ use Rattle.sd_status.specs.Outside.{place, page, outside}
 use Rattle.sd_status.specs.Meant.{value, ◌>>=◌}
 use Rattle.sd_status.specs.Comes.{Obeys, status_of}
 use Rattle.sd_files.specs.Shown.{shown_word}
+use Rattle.sd_files.specs.Printed.{printing}
+use Rattle.sd_files.proofs.Printed.{nothing_printed, text_printed}
 use Rattle.sd_files.proofs.Thirds.{not_both, not_third, third_looked}
 use Rattle.sd_run_trial.specs.Prefixes.{prefix_of_file}
-use Rattle.sd_run_trial.specs.Trial.{plan_by, printing, trial_meaning, trial_text, trying, most_clear_bytes}
-use Rattle.sd_run_trial.proofs.Trying.{nothing_printed, text_printed}
+use Rattle.sd_run_trial.specs.Trial.{plan_by, trial_meaning, trial_text, trying, most_clear_bytes}
 use Rattle.sd_run_trial.proofs.command.trial.Goals as goal
 
 -- the site and the book were not read as they are to be
