@@ -1,0 +1,4 @@
+pub mod Cutting
+pub mod Playing
+pub mod Telling
+pub mod Others

@@ -1,0 +1,75 @@
+-- The lines of a field.
+use Rattle.std.proofs.Common.{arith, ◌≡◌, ℕ, suc, ◌+◌, ◌/◌, ◌^◌, List, ◌++◌, length, refl, sym, ap, subst, ◌∙◌, inl, inr}
+use Rattle.std.proofs.Common.{Ok, Err, Result}
+use Rattle.std.specs.Prelude.{None, Option}
+use Rattle.std.specs.List.{concat}
+use Rattle.sd_site.specs.Fields.{SiteFields}
+use Rattle.sd_book.specs.declared.command.Command.{Command}
+use Rattle.sd_book.specs.Commands.{last_period}
+use Rattle.sd_broadcast.specs.Refused.{refusal_from}
+use Rattle.sd_broadcast.specs.Sent.{body}
+use Rattle.sd_broadcast.specs.declared.fault.ClearFault.{ClearFault}
+use Rattle.sd_events.specs.declared.event.Event.{Event}
+use Rattle.sd_field.specs.Fields.{FieldValue, IsSentCut, plan_in, sends_of, taken, written_of}
+use Rattle.sd_field.proofs.Fields.{unsent}
+use Rattle.sd_status.specs.declared.status.Status.{Status}
+use Rattle.sd_status.specs.Comes.{IsEnding}
+use Rattle.sd_run_head.specs.Head.{refused_status}
+use Rattle.sd_files.specs.Printed.{Comes}
+use Rattle.sd_run_field.specs.Field.{done_field, field_text, first_line, lines_to, text_in, unrefused, wrote_line}
+use Rattle.sd_run_field.specs.Played.{Plays}
+
+-- the first line
+pub first_told : (v : FieldValue) (sends packets period : ℕ) (sent text : List ℕ) (commands : List Command) →
+    v.failed ≡ None → sends ≡ sends_of v → (¬ IsSentCut v → sent ≡ concat (body (plan_in v) (taken v))) →
+    packets ≡ length sent / 188 → period ≡ last_period commands → commands ≡ (plan_in v).commands →
+    text ≡ first_line sends packets period → text ≡ lines_to v 0
+unfolding lines_to
+first_told v sends packets period sent text commands calm count all size last book is =
+    is
+    ∙ (ap (λ (k : ℕ). first_line k packets period) count
+    ∙ (ap (λ (p : ℕ). first_line (sends_of v) p period) (size ∙ ap (λ (xs : List ℕ). length xs / 188)
+    (all (unsent v calm)))
+    ∙ ap (first_line (sends_of v) (length (concat (body (plan_in v) (taken v))) / 188)) (last ∙ ap last_period book)))
+
+-- the lines so far, and the next
+pub next_told : (v : FieldValue) (u : ℕ) (text more : List ℕ) → text ≡ lines_to v u →
+    more ≡ text ++ wrote_line u (written_of u v) → more ≡ lines_to v (u + 1)
+unfolding lines_to
+next_told v u text more so_far is =
+    let next : u + 1 ≡ suc u = omega arith in
+    is ∙ (ap (λ (xs : List ℕ). xs ++ wrote_line u (written_of u v)) so_far ∙ ap (lines_to v) (sym next))
+
+abbrev new_field : SiteFields → List (List ℕ) → List Event → FieldValue
+new_field site clear events = record { site = site; clear = clear; events = events; done = 0; failed = None }
+
+-- a field that stopped has no text
+pub text_stopped : {X : Type 0} (view : X → List ℕ) (before now : FieldValue) (site : SiteFields)
+    (clear : List (List ℕ)) (events : List Event) (status : Status) → before ≡ new_field site clear events →
+    Plays before now (Err status) → Comes view (field_text site clear events) (Err status)
+unfolding text_in
+text_stopped view before now site clear events status is plays =
+    by_cause (subst (λ (v : FieldValue). Plays v now (Err status)) is plays)
+  where
+    v : FieldValue
+    v = done_field site clear events
+
+    by_cause : Plays (new_field site clear events) now (Err status) →
+        Comes view (field_text site clear events) (Err status)
+    by_cause (inl (fault, refused, told)) = inl (
+      ap (λ (r : Option ClearFault). unrefused r (lines_to v (2 ^ site.height))) refused
+          ∙ ap (λ (s : Status). Err s) (sym told),
+      subst IsEnding (sym told) tt,
+    )
+    by_cause (inr out) = inr out
+
+-- one whose events are all done has the text of its lines
+pub text_told : (before now : FieldValue) (site : SiteFields) (clear : List (List ℕ)) (events : List Event)
+    (text : List ℕ) → before ≡ new_field site clear events → Plays before now (Ok tt) →
+    text ≡ lines_to now (2 ^ site.height) → field_text site clear events ≡ Ok text
+unfolding text_in
+text_told before now site clear events text is plays told =
+    let p = subst (λ (v : FieldValue). Plays v now (Ok tt)) is plays in
+    let v : FieldValue = done_field site clear events in
+    ap (λ (r : Option ClearFault). unrefused r (lines_to v (2 ^ site.height))) p.1
+    ∙ ap (λ (xs : List ℕ). Ok xs) (sym (told ∙ ap (λ (w : FieldValue). lines_to w (2 ^ site.height)) p.0))

@@ -1,0 +1,57 @@
+use Rattle.std.proofs.Common.{refl}
+use Rattle.std.proofs.lemmas.Result.{err_from_is_err_and}
+use Rattle.sd_site.specs.Fields.{fields_of}
+use Rattle.sd_status.specs.Outside.{place}
+use Rattle.sd_status.specs.Meant.{value, ◌>>=◌}
+use Rattle.sd_status.proofs.Follow.{reads_first, reads_second, reads_two}
+use Rattle.sd_files.specs.Shown.{shown_word}
+use Rattle.sd_files.proofs.Thirds.{same_refusal, same_value}
+use Rattle.sd_run_field.specs.Field.{clear_of_file, inputs_by, inputs_meaning, low_site_of_file}
+use Rattle.sd_run_field.proofs.inputs.read_inputs.Goals as goal
+
+pub returns-in_err-site-clause-value : goal.returns-in_err-site-clause-value
+unfolding inputs_by
+returns-in_err-site-clause-value g c =
+    let p = err_from_is_err_and c.from_residual.result c.from_residual.ensures.1 in
+    let site = shown_word c.args.site in
+    let clear = shown_word c.args.clear in
+    rw (p.1, p.2) (reads_first fields_of (λ inputs. record { site = fields_of inputs.0; clear = inputs.1.items })
+    (low_site_of_file site.number)
+    (λ given fields. clear_of_file clear.number (given clear)
+    >>= λ packets. value (record { site = fields; clear = packets })) site
+    (place g.D.Depot c.args.depot.now) (place g.D.Depot c.read_low_site.new.depot) c.in_err-site.field-0.0
+    c.in_err-site.ensures.value)
+
+pub returns-in_err-clear-clause-value : goal.returns-in_err-clear-clause-value
+unfolding inputs_by
+returns-in_err-clear-clause-value g c =
+    let p = err_from_is_err_and c.from_residual-in_err-clear.result c.from_residual-in_err-clear.ensures.1 in
+    let site = shown_word c.args.site in
+    let clear = shown_word c.args.clear in
+    let fields = fields_of c.in_ok-site.site in
+    rw (p.1, p.2) (same_refusal (λ packets. record { site = fields; clear = packets.items })
+    (λ inputs. record { site = fields_of inputs.0; clear = inputs.1.items }) (inputs_meaning site clear)
+    (place g.D.Depot c.args.depot.now) (place g.D.Depot c.read_clear.new.depot) c.in_err-clear.field-0.0
+    (reads_second fields_of (λ packets. packets.items) (λ packets. record { site = fields; clear = packets.items })
+    (low_site_of_file site.number) (λ fields got. clear_of_file clear.number got)
+    (λ fields packets. value (record { site = fields; clear = packets })) site clear
+    (place g.D.Depot c.args.depot.now) (place g.D.Depot c.read_low_site.new.depot)
+    (place g.D.Depot c.read_clear.new.depot) c.in_ok-site.site c.in_err-clear.field-0.0 c.requires
+    c.in_ok-site.ensures.value c.in_err-clear.ensures.value))
+
+pub returns-clause-value : goal.returns-clause-value
+unfolding inputs_by
+returns-clause-value g c =
+    let site = shown_word c.args.site in
+    let clear = shown_word c.args.clear in
+    let fields = fields_of c.in_ok-site.site in
+    same_value (λ packets. record { site = fields; clear = packets.items })
+    (λ inputs. record { site = fields_of inputs.0; clear = inputs.1.items }) (inputs_meaning site clear)
+    (place g.D.Depot c.args.depot.now) (place g.D.Depot c.read_clear.new.depot) c.in_ok-clear.clear
+    (c.in_ok-site.site, c.in_ok-clear.clear) refl
+    (reads_two fields_of (λ packets. packets.items) (λ packets. record { site = fields; clear = packets.items })
+    (low_site_of_file site.number) (λ fields got. clear_of_file clear.number got)
+    (λ fields packets. record { site = fields; clear = packets }) site clear
+    (place g.D.Depot c.args.depot.now) (place g.D.Depot c.read_low_site.new.depot)
+    (place g.D.Depot c.read_clear.new.depot) c.in_ok-site.site c.in_ok-clear.clear c.requires
+    c.in_ok-site.ensures.value c.in_ok-clear.ensures.value refl)

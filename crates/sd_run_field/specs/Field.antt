@@ -1,0 +1,135 @@
+-- `field SITE CLEAR SCRIPT` [this project, docs/FORMATS.md, Field].
+use Rattle.std.specs.Prelude.{◌≡◌, ◌^◌, ◌*◌, ◌/◌, ℕ, zero, suc, nat_lt, List, [], ◌++◌, length, take}
+use Rattle.std.specs.Prelude.{codes, if◌then◌else◌, Option, Some, None, Result, Ok, Err}
+use Rattle.std.specs.List.{concat}
+use Rattle.std.specs.Fmt.{decimal}
+use Rattle.hex.specs.Hex.{encode_lower}
+use Rattle.sha2.specs.Sha256.{sha256}
+use Rattle.sd_engine.specs.Stream.{packets_of, break_of}
+use Rattle.sd_engine.specs.declared.fault.StreamBreak.{StreamBreak}
+use Rattle.sd_site.specs.Fields.{SiteFields}
+use Rattle.sd_book.specs.Commands.{last_period}
+use Rattle.sd_broadcast.specs.Refused.{refusal_from}
+use Rattle.sd_broadcast.specs.Sent.{body}
+use Rattle.sd_broadcast.specs.declared.fault.ClearFault.{ClearFault}
+use Rattle.sd_events.specs.declared.event.Event.{Event}
+use Rattle.sd_field.specs.declared.fault.ScriptFault.{ScriptFault}
+use Rattle.sd_field.specs.declared.fault.ScriptFault.TheVariants as script
+use Rattle.sd_field.specs.Fields.{FieldValue, plan_in, sends_of, taken, written_of}
+use Rattle.sd_field.specs.Script.{script_of}
+use Rattle.sd_status.specs.declared.status.Status.{Status}
+use Rattle.sd_status.specs.declared.status.Status.TheVariants.{BadBook, BadClear, Limit, NoMemory}
+use Rattle.sd_status.specs.declared.status.ClearCause.TheVariants.{Broken}
+use Rattle.sd_status.specs.declared.status.LimitKind.TheVariants.{BookBytes, FieldHeight, FieldPackets, FieldEvents}
+use Rattle.sd_status.specs.Meant.{Meant, Word, Given, judged, value, within, ◌>>=◌}
+use Rattle.sd_status.specs.Work.{Work}
+use Rattle.sd_files.specs.Files.{site_of_file, most_book_bytes}
+use Rattle.sd_files.specs.Printed.{printing}
+use Rattle.sd_run_head.specs.Head.{refused_status}
+
+-- the greatest height of a tree whose receivers are all run
+abbrev pub most_height : ℕ
+most_height = 6
+
+-- the bytes of the longest clear stream of a field: 16,384 packets
+abbrev pub most_clear_bytes : ℕ
+most_clear_bytes = 16384 * 188
+
+-- a site whose tree is low enough
+abbrev pub told_low : SiteFields → Result SiteFields Status
+told_low site = if nat_lt most_height site.height then Err (Limit FieldHeight) else Ok site
+
+unfoldable pub low_site_of_file : ℕ → Option (List ℕ) → Meant SiteFields
+low_site_of_file word got = site_of_file word got >>= λ site. judged (told_low site)
+
+-- the packets of a clear stream, or where it breaks
+abbrev pub unbroken : Option StreamBreak → List (List ℕ) → Result (List (List ℕ)) Status
+unbroken None packets = Ok packets
+unbroken (Some found) packets = Err (BadClear found.packet (Broken found.cause))
+
+abbrev pub told_clear : List ℕ → Result (List (List ℕ)) Status
+told_clear bytes = unbroken (break_of bytes) (packets_of bytes)
+
+-- those of what the file of this word gave
+unfoldable pub clear_of_file : ℕ → Option (List ℕ) → Meant (List (List ℕ))
+clear_of_file word got = within word most_clear_bytes FieldPackets got >>= λ bytes. judged (told_clear bytes)
+
+abbrev pub refused_script : ℕ → ScriptFault → Status
+refused_script word (script.Line k) = BadBook word k
+refused_script word (script.Leaf k) = BadBook word k
+refused_script word script.Events = Limit FieldEvents
+refused_script word script.NoMemory = NoMemory
+
+-- the events that a file's bytes say
+abbrev pub told_script : ℕ → Result (List Event) ScriptFault → Result (List Event) Status
+told_script word (Ok events) = Ok events
+told_script word (Err fault) = Err (refused_script word fault)
+
+-- the events, for a tree of height d, of what the file of this word gave
+unfoldable pub script_of_file : ℕ → ℕ → Option (List ℕ) → Meant (List Event)
+script_of_file word d got =
+    within word most_book_bytes BookBytes got >>= λ bytes. judged (told_script word (script_of d bytes))
+
+-- a site and the packets of a clear stream
+pub record Inputs : Type 0 where
+  pub site : SiteFields
+  pub clear : List (List ℕ)
+
+unfoldable pub inputs_by : ℕ → ℕ → Option (List ℕ) → Option (List ℕ) → Meant Inputs
+inputs_by site clear site_got clear_got = do
+  fields ← low_site_of_file site site_got
+  packets ← clear_of_file clear clear_got
+  value (record { site = fields; clear = packets })
+
+abbrev pub inputs_meaning : Word → Word → Given → Meant Inputs
+inputs_meaning site clear given = inputs_by site.number clear.number (given site) (given clear)
+
+-- a field whose events are all done
+abbrev pub done_field : SiteFields → List (List ℕ) → List Event → FieldValue
+done_field site clear events =
+    record { site = site; clear = clear; events = events; done = length events; failed = None }
+
+-- the line of so many sends, of so many packets that were sent, and of the book's last period
+unfoldable pub first_line : ℕ → ℕ → ℕ → List ℕ
+first_line sends packets period =
+    codes "sends " ++ (decimal sends ++ (codes " packets " ++ (decimal packets ++
+    (codes " period " ++ (decimal period ++ codes "\n")))))
+
+-- the line of a receiver that wrote so many packets, whose digest is this text
+unfoldable pub receiver_line : ℕ → ℕ → List ℕ → List ℕ
+receiver_line u wrote digest =
+    codes "receiver " ++ (decimal u ++ (codes " wrote " ++ (decimal wrote ++
+    (codes " digest " ++ (digest ++ codes "\n")))))
+
+-- the first 16 bytes of the SHA-256 of these, in hexadecimal [FIPS 180-4, 6.2]
+unfoldable pub digest_of : List ℕ → List ℕ
+digest_of bytes = encode_lower (take 16 (sha256 bytes))
+
+-- so it is of a receiver that wrote these bytes
+abbrev pub wrote_line : ℕ → List ℕ → List ℕ
+wrote_line u bytes = receiver_line u (length bytes / 188) (digest_of bytes)
+
+-- the first line of a field, and then those of the first n leaves
+unfoldable pub lines_to : FieldValue → ℕ → List ℕ
+lines_to v zero =
+    first_line (sends_of v) (length (concat (body (plan_in v) (taken v))) / 188) (last_period (plan_in v).commands)
+lines_to v (suc n) = lines_to v n ++ wrote_line n (written_of n v)
+
+-- a text, unless a clear packet is refused
+abbrev pub unrefused : Option ClearFault → List ℕ → Result (List ℕ) Status
+unrefused None text = Ok text
+unrefused (Some fault) text = Err (refused_status fault)
+
+-- all lines of a field, or the first refusal among the clear packets that are sent
+unfoldable pub text_in : FieldValue → Result (List ℕ) Status
+text_in v = unrefused (refusal_from v.site [] (taken v)) (lines_to v (2 ^ v.site.height))
+
+abbrev pub field_text : SiteFields → List (List ℕ) → List Event → Result (List ℕ) Status
+field_text site clear events = text_in (done_field site clear events)
+
+-- runs the head end and the receivers over memory
+unfoldable pub field_meaning : Word → Word → Word → Given → Meant Work
+field_meaning site clear script given =
+    inputs_meaning site clear given
+    >>= λ inputs. script_of_file script.number inputs.site.height (given script)
+    >>= λ events. value (printing (field_text inputs.site inputs.clear events))

@@ -1,0 +1,87 @@
+ghost use Rattle.std.specs.Prelude.{◌≡◌, ◌*◌, ◌≤◌, ◌++◌, ◌∷◌, [], IfOk, OnOk, length};
+ghost use Rattle.sd_status.specs.Outside.{place};
+ghost use Rattle.sd_status.specs.Reads.{Judges, Looks};
+ghost use Rattle.sd_run_field.specs.Clear.{Begins, broken_status};
+ghost use Rattle.sd_run_field.specs.Field.{clear_of_file, told_clear};
+
+use sd_cause::NoMemory;
+use sd_engine::BreakCause;
+use sd_files::{Word, read_bytes};
+use sd_packet::{Packet, SIZE};
+use sd_ports::Depot;
+use sd_status::{ClearCause, LimitKind, Status};
+use std::alloc::Global;
+
+/// As many bytes as a clear stream may have: those of 16,384 packets.
+pub const MOST_CLEAR_BYTES: usize = 16_384 * SIZE;
+
+/// The packets of the clear stream in the word's file.
+pub fn read_clear<D: Depot>(
+    alloc: Global,
+    depot: &mut D,
+    word: Word<'_>,
+) -> Result<Vec<Packet>, Status>
+    ensures value { Looks (λ packets. packets.items) (clear_of_file word.entry.number) word.entry.text.now
+        (place D.Depot depot.old) (place D.Depot depot.new) result }
+    ensures few { IfOk result (λ packets. length packets.items ≤ 16384) }
+{
+    let bytes = read_bytes(
+        alloc,
+        depot,
+        word,
+        MOST_CLEAR_BYTES,
+        LimitKind::FieldPackets,
+    )?;
+    cut(alloc, &bytes)
+}
+
+/// The packets of a clear stream of these bytes.
+fn cut(alloc: Global, bytes: &[u8]) -> Result<Vec<Packet>, Status>
+    ensures value { Judges (λ packets. packets.items) (told_clear bytes.now) result }
+    ensures few { IfOk result (λ packets. 188 * length packets.items ≤ length bytes.now) }
+{
+    let mut packets = Vec::new(alloc);
+    let mut rest = bytes;
+    while !rest.is_empty() {
+        let packet = match first_packet(rest) {
+            Ok(packet) => packet,
+            Err(cause) => return Err(broken(packets.len(), cause)),
+        };
+        put(&mut packets, packet)?;
+        rest = &rest[SIZE..];
+    }
+    Ok(packets)
+}
+
+/// Puts a packet at the end.
+fn put(packets: &mut Vec<Packet>, packet: Packet) -> Result<(), NoMemory>
+    ensures { OnOk result (packets.new.items ≡ packets.old.items ++ packet ∷ []) }
+{
+    match packets.push(packet) {
+        Ok(()) => Ok(()),
+        Err(_) => Err(NoMemory),
+    }
+}
+
+/// The packet with which some bytes begin.
+fn first_packet(bytes: &[u8]) -> Result<Packet, BreakCause>
+    ensures { Begins bytes.now result }
+{
+    let Some(piece) = bytes.first_chunk::<SIZE>() else {
+        return Err(BreakCause::Torn);
+    };
+    match Packet::new(*piece) {
+        Some(packet) => Ok(packet),
+        None => Err(BreakCause::NoSync),
+    }
+}
+
+/// The status of a clear stream that breaks after so many packets.
+fn broken(packets: usize, cause: BreakCause) -> Status
+    ensures { result ≡ broken_status packets cause }
+{
+    Status::BadClear {
+        packet: packets as u64,
+        cause: ClearCause::Broken(cause),
+    }
+}

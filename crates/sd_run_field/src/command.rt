@@ -1,0 +1,65 @@
+ghost use Rattle.std.specs.Prelude.{◌≡◌, ◌≢◌, ◌≤◌, All, length, string_bytes, true};
+ghost use Rattle.sd_site.specs.Fields.{fields_of};
+ghost use Rattle.sd_events.specs.Events.{is_of};
+ghost use Rattle.sd_status.specs.Outside.{outside, page, place};
+ghost use Rattle.sd_status.specs.Comes.{Follows, status_of};
+ghost use Rattle.sd_files.specs.Printed.{Comes};
+ghost use Rattle.sd_files.specs.Shown.{shown_word};
+ghost use Rattle.sd_run_field.specs.Field.{field_meaning, field_text};
+
+use crate::inputs::read_inputs;
+use crate::lines::lines;
+use crate::play::play;
+use crate::script::read_events;
+use sd_events::Event;
+use sd_field::Field;
+use sd_files::{Word, print_text};
+use sd_packet::Packet;
+use sd_ports::{Depot, Sink};
+use sd_site::Site;
+use sd_status::Status;
+use sd_steps::Steps;
+use std::alloc::Global;
+use std::sync::ledger::Ledger;
+
+/// Does `field SITE CLEAR SCRIPT`. All events are done before a line is printed. It holds the clear packets, room for
+/// 72 packets for each of them, and for each leaf a receiver and room for the clear packets.
+#[inline(never)]
+pub fn field<D: Depot, P: Sink, L: Ledger>(
+    alloc: Global,
+    depot: &mut D,
+    print: &mut P,
+    site: Word<'_>,
+    clear: Word<'_>,
+    script: Word<'_>,
+    steps: &mut Steps<L>,
+) -> Result<(), Status>
+    requires { (site.number ≢ clear.number) × (site.number ≢ script.number) × (clear.number ≢ script.number) }
+    ensures { Follows (field_meaning (shown_word site.entry) (shown_word clear.entry) (shown_word script.entry))
+        (outside (place D.Depot depot.old) (page P.Sink print.old) steps.old)
+        (outside (place D.Depot depot.new) (page P.Sink print.new) steps.new) (status_of result) }
+{
+    let (site, clear) = read_inputs(alloc, depot, site, clear)?;
+    let events = read_events(alloc, depot, script, site.height)?;
+    let text = text_of(alloc, site, clear, events, steps)?;
+    print_text(print, text.as_bytes())
+}
+
+/// The lines of a field in which all events are done.
+fn text_of<L: Ledger>(
+    alloc: Global,
+    site: Site,
+    clear: Vec<Packet>,
+    events: Vec<Event>,
+    steps: &mut Steps<L>,
+) -> Result<String, Status>
+    requires height { site.height ≤ 6 }
+    requires packets { length clear.items ≤ 16384 }
+    requires events { length events.items ≤ 524288 }
+    requires leaves { All (λ event. is_of site.height event ≡ true) events.items }
+    ensures { Comes (λ text. string_bytes text) (field_text (fields_of site) clear.items events.items) result }
+{
+    let mut field = Field::new(alloc, site, clear, events, steps)?;
+    play(&mut field, steps)?;
+    Ok(lines(alloc, &field, site.height)?)
+}

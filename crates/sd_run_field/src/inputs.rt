@@ -1,0 +1,57 @@
+ghost use Rattle.std.specs.Prelude.{◌≡◌, ◌≢◌, ◌≤◌, IfOk, length};
+ghost use Rattle.sd_site.specs.Fields.{fields_of};
+ghost use Rattle.sd_status.specs.Outside.{place};
+ghost use Rattle.sd_status.specs.Reads.{JudgesAlone, Looks, Reads};
+ghost use Rattle.sd_files.specs.Shown.{shown_word};
+ghost use Rattle.sd_run_field.specs.Field.{inputs_meaning, low_site_of_file, told_low};
+
+use crate::clear::read_clear;
+use sd_files::{Word, read_site};
+use sd_packet::Packet;
+use sd_ports::Depot;
+use sd_site::Site;
+use sd_status::{LimitKind, Status};
+use std::alloc::Global;
+
+/// The greatest height of a tree whose receivers are all run.
+pub const MOST_HEIGHT: u8 = 6;
+
+/// The site, whose tree is low enough, and then the packets of the clear stream.
+pub fn read_inputs<D: Depot>(
+    alloc: Global,
+    depot: &mut D,
+    site: Word<'_>,
+    clear: Word<'_>,
+) -> Result<(Site, Vec<Packet>), Status>
+    requires { site.number ≢ clear.number }
+    ensures value { Reads (λ inputs. record { site = fields_of inputs.0; clear = inputs.1.items })
+        (inputs_meaning (shown_word site.entry) (shown_word clear.entry))
+        (place D.Depot depot.old) (place D.Depot depot.new) result }
+    ensures low { IfOk result (λ inputs. inputs.0.height ≤ 6) }
+    ensures few { IfOk result (λ inputs. length inputs.1.items ≤ 16384) }
+{
+    let site = read_low_site(alloc, depot, site)?;
+    let clear = read_clear(alloc, depot, clear)?;
+    Ok((site, clear))
+}
+
+/// The site of the word's file, whose tree is low enough.
+fn read_low_site<D: Depot>(alloc: Global, depot: &mut D, word: Word<'_>) -> Result<Site, Status>
+    ensures value { Looks fields_of (low_site_of_file word.entry.number) word.entry.text.now
+        (place D.Depot depot.old) (place D.Depot depot.new) result }
+    ensures low { IfOk result (λ site. site.height ≤ 6) }
+{
+    let site = read_site(alloc, depot, word)?;
+    judge_height(site)
+}
+
+/// The site, where its tree is low enough.
+fn judge_height(site: Site) -> Result<Site, Status>
+    ensures value { JudgesAlone fields_of (told_low (fields_of site)) result }
+    ensures low { IfOk result (λ site. site.height ≤ 6) }
+{
+    if site.height.get() > MOST_HEIGHT {
+        return Err(Status::Limit(LimitKind::FieldHeight));
+    }
+    Ok(site)
+}

@@ -1,0 +1,74 @@
+ghost use Rattle.std.specs.Prelude.{◌≡◌, ◌<◌, ◌^◌, ◌++◌, ◌/◌, None, string_bytes, length, IfOk, OnOk};
+ghost use Rattle.sd_run_field.specs.Field.{digest_of as digest_text, first_line as line_of, lines_to, receiver_line};
+ghost use Rattle.sd_run_field.specs.Field.{wrote_line};
+ghost use Rattle.sd_field.specs.Fields.{written_of};
+
+use sd_field::Field;
+use sd_packet::SIZE;
+use sd_tree::{Height, Leaf};
+use sha2::{Digest, Sha256};
+use std::alloc::{AllocError, Global};
+use std::fmt::Write;
+
+/// The number of bytes of a digest that are printed.
+const SHOWN: usize = 16;
+
+/// The lines of a field whose events are all done: what was sent, and then what each leaf's receiver wrote.
+pub fn lines(alloc: Global, field: &Field, h: Height) -> Result<String, AllocError>
+    requires height { h ≡ field.now.site.height }
+    requires calm { field.now.failed ≡ None }
+    ensures { IfOk result (λ text. string_bytes text ≡ lines_to field.now (2 ^ h)) }
+{
+    let packets = field.sent().len() / SIZE;
+    let mut text = first_line(alloc, field.sends(), packets, field.book().last_period())?;
+    for u in 0..h.leaves() {
+        push_receiver(alloc, &mut text, field, h, u)?;
+    }
+    Ok(text)
+}
+
+/// The line of so many sends, of so many packets that were sent, and of the book's last period.
+#[tactic(auto, unfolding(crate::specs::Field::first_line))]
+fn first_line(alloc: Global, sends: u64, packets: usize, period: u32) -> Result<String, AllocError>
+    ensures { IfOk result (λ text. string_bytes text ≡ line_of sends packets period) }
+{
+    format!(in alloc; "sends {sends} packets {packets} period {period}\n")
+}
+
+/// Puts the line of leaf u's receiver after the text.
+fn push_receiver(
+    alloc: Global,
+    text: &mut String,
+    field: &Field,
+    h: Height,
+    u: u32,
+) -> Result<(), AllocError>
+    requires leaf { u < 2 ^ h }
+    requires height { h ≡ field.now.site.height }
+    requires calm { field.now.failed ≡ None }
+    ensures { OnOk result (string_bytes text.new ≡ string_bytes text.old ++ wrote_line u (written_of u field.now)) }
+{
+    let Some(leaf) = Leaf::new(h, u) else {
+        unreachable!();
+    };
+    let wrote = field.written(leaf);
+    let digest = digest_of(alloc, wrote)?;
+    push_line(text, u, wrote.len() / SIZE, digest.as_str())
+}
+
+/// The digest of some bytes, as it is printed.
+#[tactic(auto, unfolding(crate::specs::Field::digest_of))]
+fn digest_of(alloc: Global, bytes: &[u8]) -> Result<String, AllocError>
+    ensures { IfOk result (λ text. string_bytes text ≡ digest_text bytes.now) }
+{
+    let digest = Sha256::digest(bytes);
+    hex::encode(alloc, &digest[..SHOWN])
+}
+
+/// Puts the line of leaf u's receiver after the text, which wrote so many packets with this digest.
+#[tactic(auto, unfolding(crate::specs::Field::receiver_line))]
+fn push_line(text: &mut String, u: u32, wrote: usize, digest: &str) -> Result<(), AllocError>
+    ensures { OnOk result (string_bytes text.new ≡ string_bytes text.old ++ receiver_line u wrote digest.now) }
+{
+    Ok(write!(text, "receiver {u} wrote {wrote} digest {digest}\n")?)
+}

@@ -1,0 +1,30 @@
+ghost use Rattle.std.specs.Prelude.{◌≡◌, None};
+ghost use Rattle.sd_run_field.specs.Played.{Moves, Plays};
+
+use sd_field::{Field, FieldFault};
+use sd_run_head::refused;
+use sd_status::Status;
+use sd_steps::Steps;
+use std::sync::ledger::Ledger;
+
+/// Does all events of a field.
+pub fn play<L: Ledger>(field: &mut Field, steps: &mut Steps<L>) -> Result<(), Status>
+    requires new { field.old.done ≡ 0 }
+    requires calm { field.old.failed ≡ None }
+    ensures { Plays field.old field.new result }
+{
+    while advance(field, steps)? {}
+    Ok(())
+}
+
+/// Does the next event of a field, and answers whether one was left.
+fn advance<L: Ledger>(field: &mut Field, steps: &mut Steps<L>) -> Result<bool, Status>
+    requires calm { field.old.failed ≡ None }
+    ensures { Moves field.old field.new result }
+{
+    match field.step(steps) {
+        Ok(more) => Ok(more),
+        Err(FieldFault::Clear(fault)) => Err(refused(fault)),
+        Err(FieldFault::NoMemory) => Err(Status::NoMemory),
+    }
+}

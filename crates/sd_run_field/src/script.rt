@@ -1,0 +1,53 @@
+ghost use Rattle.std.specs.Prelude.{◌≡◌, ◌≤◌, All, IfOk, length, true};
+ghost use Rattle.sd_events.specs.Events.{is_of};
+ghost use Rattle.sd_field.specs.Script.{script_of};
+ghost use Rattle.sd_status.specs.Outside.{place};
+ghost use Rattle.sd_status.specs.Reads.{Judges, Looks};
+ghost use Rattle.sd_run_field.specs.Field.{refused_script, script_of_file, told_script};
+
+use sd_events::Event;
+use sd_field::{ScriptFault, read_script};
+use sd_files::{MOST_BOOK_BYTES, Word, read_bytes};
+use sd_ports::Depot;
+use sd_status::{LimitKind, Status};
+use sd_tree::Height;
+use std::alloc::Global;
+
+/// The events of the script in the word's file.
+pub fn read_events<D: Depot>(
+    alloc: Global,
+    depot: &mut D,
+    word: Word<'_>,
+    h: Height,
+) -> Result<Vec<Event>, Status>
+    ensures value { Looks (λ events. events.items) (script_of_file word.entry.number h) word.entry.text.now
+        (place D.Depot depot.old) (place D.Depot depot.new) result }
+    ensures few { IfOk result (λ events. length events.items ≤ 524288) }
+    ensures leaves { IfOk result (λ events. All (λ event. is_of h event ≡ true) events.items) }
+{
+    let bytes = read_bytes(alloc, depot, word, MOST_BOOK_BYTES, LimitKind::BookBytes)?;
+    judge_script(alloc, word.number, &bytes, h)
+}
+
+/// The events that the bytes of this word's file say.
+fn judge_script(alloc: Global, word: u8, bytes: &[u8], h: Height) -> Result<Vec<Event>, Status>
+    ensures value { Judges (λ events. events.items) (told_script word (script_of h bytes.now)) result }
+    ensures few { IfOk result (λ events. length events.items ≤ 524288) }
+    ensures leaves { IfOk result (λ events. All (λ event. is_of h event ≡ true) events.items) }
+{
+    match read_script(alloc, bytes, h) {
+        Ok(events) => Ok(events),
+        Err(fault) => Err(script_fault(word, fault)),
+    }
+}
+
+/// What the program answers to a script that is refused, which this word's file says.
+fn script_fault(word: u8, fault: ScriptFault) -> Status
+    ensures { result ≡ refused_script word fault }
+{
+    match fault {
+        ScriptFault::Line(line) | ScriptFault::Leaf(line) => Status::BadBook { word, line },
+        ScriptFault::Events => Status::Limit(LimitKind::FieldEvents),
+        ScriptFault::NoMemory => Status::NoMemory,
+    }
+}
