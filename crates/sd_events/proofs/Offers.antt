@@ -322,8 +322,8 @@ watches_agree a b clear u most (event ∷ past) same within =
     ∙ ap (watched u (count_sent b clear k) event) (watches_agree a b clear u most past same below)
 
 -- what was sent for the first packets depends on no later event
-streams_agree : (site : SiteFields) (m : ℕ) (later past : List Event) (clear : List (List ℕ)) (k : ℕ) → AreInRange site →
-    k ≤ sends m past →
+streams_agree : (site : SiteFields) (m : ℕ) (later past : List Event) (clear : List (List ℕ)) (k : ℕ) →
+    AreInRange site → k ≤ sends m past →
     stream (plan_after site m (later ++ past)) (take k clear) ≡ stream (plan_after site m past) (take k clear)
 unfolding stream
 streams_agree site m later past clear k r below =

@@ -33,8 +33,8 @@ pub fn commands_are_of_later_periods()
         (reached site (k + 1) ≤ reached site k + 1) × (period_after site (k + 1) ≤ period_after site k + 1) }
 {}
 
-/// A filled book ends with the period that it is filled to, or with a later one that it had. To fill it twice is to fill
-/// it once. The commands that decide its periods stay.
+/// A filled book ends with the period that it is filled to, or with a later one that it had. To fill it twice is to
+/// fill it once. The commands that decide its periods stay.
 pub fn periods_fill_books()
     ensures last { (q : ℕ) (book : List Command) → last_period (filled q book) ≡ max q (last_period book) }
     ensures again { (p q : ℕ) (book : List Command) → p ≤ q → filled q (filled p book) ≡ filled q book }
@@ -53,8 +53,8 @@ pub fn event_books_go_on()
         last_period (event_book site m past) ≤ period_after site (sends m past) }
 {}
 
-/// At most 524,288 events of a tree of height at most 6 make a book within the limits. Each front of it may be the front
-/// of a book, and the site with it is a plan.
+/// At most 524,288 events of a tree of height at most 6 make a book within the limits. Each front of it may be the
+/// front of a book, and the site with it is a plan.
 pub fn event_books_fit()
     ensures fits { (site : SiteFields) (m d : ℕ) (past : List Event) → d ≤ 6 → length past ≤ 524288 →
         All (λ event. is_of d event ≡ true) past → IsWithinLimits d (event_book site m past) }

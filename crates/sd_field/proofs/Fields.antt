@@ -1,10 +1,13 @@
 -- What one event more makes of a field.
-use Rattle.std.proofs.Common.{arith, ◌≡◌, ◌≢◌, ℕ, zero, suc, ◌+◌, ◌*◌, ◌<◌, ◌≤◌, ◌^◌, List, [], ◌∷◌, ◌++◌, refl, ap, sym, subst}
+use Rattle.std.proofs.Common.{arith, ◌≡◌, ◌≢◌, ℕ, zero, suc, ◌+◌, ◌*◌, ◌<◌, ◌≤◌, ◌^◌, List, [], ◌∷◌, ◌++◌, refl, ap}
+use Rattle.std.proofs.Common.{sym, subst}
 use Rattle.std.proofs.Common.{◌∙◌, false, inl, inr, length, length-append, take}
 use Rattle.std.specs.List.{concat}
 use Rattle.std.proofs.lemmas.Bool.{cases_eq, ltb-true, lt-ltb, le-ltb}
-use Rattle.std.specs.Prelude.{◌↔◌, ◌⊎◌, IfSome, IsSome, Option, None, Some, option_and_then, All, nat_lt, true, get_or, reverse, slice_get, slice_set}
-use Rattle.std.proofs.lemmas.List.{append_cancel_right, length-map, length-reverse, length-take-le, reverse-append, take_more, length-set, get_or-set_same, get_or-set_other}
+use Rattle.std.specs.Prelude.{◌↔◌, ◌⊎◌, IfSome, IsSome, Option, None, Some, option_and_then, All, nat_lt, true, get_or}
+use Rattle.std.specs.Prelude.{reverse, slice_get, slice_set}
+use Rattle.std.proofs.lemmas.List.{append_cancel_right, length-map, length-reverse, length-take-le, reverse-append}
+use Rattle.std.proofs.lemmas.List.{take_more, length-set, get_or-set_same, get_or-set_other}
 use Rattle.std.proofs.lemmas.Option.{get_or_from_slice_get, slice_get-get_or, slice_get_within}
 use Rattle.sd_engine.specs.Stream.{packets_of}
 use Rattle.sd_broadcast.specs.Plan.{Plan}
@@ -21,7 +24,7 @@ use Rattle.sd_events.proofs.Offers.{others_wait, present_stays, written_stays}
 use Rattle.sd_card.specs.Fields.{CardFields}
 use Rattle.sd_reception.specs.Offered.{out_from}
 use Rattle.sd_field.specs.Heard.{IsHeard}
-use Rattle.sd_field.specs.Seats.{IsSeated, wrote_before}
+use Rattle.sd_field.specs.Seats.{IsNew, IsSeated, wrote_before}
 use Rattle.sd_field.proofs.Seats.{written_in}
 use Rattle.sd_field.proofs.Stations.{head_after}
 use Rattle.sd_field.specs.Stations.{HeadStands, IsStation}
@@ -36,6 +39,7 @@ use Rattle.sd_book.specs.Value.{BookValue}
 use Rattle.sd_broadcast.specs.declared.fault.ClearFault.{ClearFault}
 use Rattle.sd_broadcast.specs.Sent.{body}
 use Rattle.sd_head.specs.Schedule.{begins_with}
+use Rattle.sd_entitling.specs.Kept.{HasBegun}
 use Rattle.sd_field.specs.declared.seat.Seat.{Seat}
 
 -- a field that hasn't failed was not cut short
@@ -68,7 +72,7 @@ seat_live v seats u seat calm seated there = by_receiver seat.receiver refl
     by_receiver (Some receiver) is = ((seat_stands v seats u seat calm seated there).heard receiver is).live
 
 -- with one event more the past begins with it
-past_next : (v : FieldValue) (event : Event) → slice_get v.events v.done ≡ Some event →
+pub past_next : (v : FieldValue) (event : Event) → slice_get v.events v.done ≡ Some event →
     past_of (after_next v) ≡ event ∷ past_of v
 past_next v event is =
     let within = slice_get_within v.events v.done event is in
@@ -102,7 +106,7 @@ unfolding sends
 quiet_past v event is quiet =
     ap (sends (length v.clear)) (past_next v event is) ∙ rw quiet refl
 
-quiet_taken : (v : FieldValue) (event : Event) → slice_get v.events v.done ≡ Some event → is_send event ≡ false →
+pub quiet_taken : (v : FieldValue) (event : Event) → slice_get v.events v.done ≡ Some event → is_send event ≡ false →
     taken (after_next v) ≡ taken v
 quiet_taken v event is quiet = ap (λ (k : ℕ). take k v.clear) (quiet_past v event is quiet)
 
@@ -334,7 +338,7 @@ none_refused v is end =
     ap (option_and_then (refusal_at v)) is ∙ rw test refl
 
 -- one with a clear packet left sends it
-one_to_send : (v : FieldValue) → slice_get v.events v.done ≡ Some Send → sends_of v < length v.clear →
+pub one_to_send : (v : FieldValue) → slice_get v.events v.done ≡ Some Send → sends_of v < length v.clear →
     sends_of (after_next v) ≡ suc (sends_of v)
 unfolding sends
 one_to_send v is left =
@@ -600,3 +604,41 @@ field_commanded v book station seats command some calm field = by_event (next_ev
     by_event (Some event) is command some =
         field_on v event book station seats is (command_quiet v event is command) (command_still event command) calm
         field
+
+-- the seats of all leaves are new
+abbrev pub AreFirst : FieldValue → List Seat → Type 0
+AreFirst v seats = (u : ℕ) (seat : Seat) → slice_get seats u ≡ Some seat →
+    IsNew (card_at v u) (188 * length v.clear) seat
+
+-- a field before its first event
+pub first_field : (v : FieldValue) (book : BookValue) (station : Station) (seats : List Seat) → v.done ≡ 0 →
+    length v.clear ≤ 16384 → length v.events ≤ 524288 → All (λ event. is_of v.site.height event ≡ true) v.events →
+    book.height ≡ v.site.height → book.commands ≡ (plan_in v).commands →
+    IsStation (plan_in v) [] (188 * 72 * length v.clear) station → length seats ≡ 2 ^ v.site.height →
+    AreFirst v seats → IsField v book station seats
+unfolding sends watch
+first_field v book station seats none packets few leaves height commands stands many first =
+    let past : past_of v ≡ [] = ap (λ (n : ℕ). reverse (take n v.events)) none in
+    let nothing : taken v ≡ [] = ap (λ (xs : List Event). take (sends (length v.clear) xs) v.clear) past in
+    let after = head_after (plan_in v) [] station.head stands.head in
+    let begun : HasBegun (plan_in v) 0 station.head.entitling = after.entitled in
+    record {
+      packets = packets;
+      few = few;
+      leaves = leaves;
+      done = let e = none in omega (arith, e);
+      plan = begun.is_plan;
+      clear = subst (IsClear v.site) (sym nothing) after.are_clear;
+      height = height;
+      commands = commands;
+      count = stands.count ∙ sym (ap (sends (length v.clear)) past);
+      head = λ _. subst (λ (xs : List (List ℕ)). HeadStands (plan_in v) xs station.head) (sym nothing) stands.head;
+      sent = λ _. stands.held ∙ ap (λ (xs : List (List ℕ)). concat (body (plan_in v) xs)) (sym nothing);
+      room = λ _. stands.room;
+      many = many;
+      seated = λ u seat there.
+          let stays : IsSeated (plan_in v) (card_at v u) (taken v) (188 * length v.clear) (watch_of u v) seat =
+          subst (λ (xs : List Event). IsSeated (plan_in v) (card_at v u) (taken v) (188 * length v.clear)
+          (watch (plan_in v) v.clear u xs) seat) (sym past) (first u seat there (plan_in v) (taken v)) in
+          record { on = stays.on; seated = λ _. stays };
+    }

@@ -97,7 +97,8 @@ heard_taken card earlier xs s packet t held bytes steps few heard calm does live
         new = stands.new;
         live = stands.live;
         same = stands.same;
-        chain = chain_on receiver_does stands.start xs s stands.bytes stands.steps packet t bytes steps stands.chain does;
+        chain = chain_on receiver_does stands.start xs s stands.bytes stands.steps packet t bytes steps stands.chain
+            does;
         wrote = wrote_more card [] xs packet stands.bytes bytes stands.wrote quiet wrote;
       };
       broken = λ why is. absurd (let no = sym none ∙ is in cc);

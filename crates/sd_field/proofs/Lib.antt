@@ -6,3 +6,5 @@ pub mod Stations
 pub mod Places
 pub mod Fields
 pub mod Lent
+pub mod Laying
+pub mod Refused

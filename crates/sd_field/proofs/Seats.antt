@@ -1,11 +1,14 @@
 -- What one event more makes of a seat.
-use Rattle.std.proofs.Common.{arith, ◌≡◌, ℕ, suc, ◌+◌, ◌<◌, ◌≤◌, List, [], ◌∷◌, ◌++◌, refl, ap, sym, subst, ◌∙◌, Bool, true, false}
-use Rattle.std.proofs.Common.{length, zero}
-use Rattle.std.specs.Prelude.{◌&&◌, ◌==◌, get_or, map, nat_lt, not, reverse, slice_get, IsSome, is_some, Option, None, Some}
+use Rattle.std.proofs.Common.{arith, ◌≡◌, ℕ, suc, ◌+◌, ◌<◌, ◌≤◌, List, [], ◌∷◌, ◌++◌, refl, ap, sym, subst, ◌∙◌, Bool}
+use Rattle.std.proofs.Common.{true, false}
+use Rattle.std.proofs.Common.{inl, inr, length, zero}
+use Rattle.std.specs.Prelude.{◌⊎◌, ◌&&◌, ◌==◌, get_or, map, nat_lt, not, reverse, slice_get, IsSome, is_some, Option}
+use Rattle.std.specs.Prelude.{None, Some}
 use Rattle.std.specs.List.{concat, flat_map}
 use Rattle.std.proofs.lemmas.Bool.Decides.{nat_tests}
 use Rattle.std.proofs.lemmas.List.Folds.{concat-append}
-use Rattle.sd_card.specs.Fields.{CardFields}
+use Rattle.sd_site.specs.declared.site.Site.{Site}
+use Rattle.sd_card.specs.Fields.{CardFields, card_of}
 use Rattle.sd_broadcast.specs.Plan.{Plan}
 use Rattle.sd_ports.specs.Memory.{Store}
 use Rattle.sd_reception.specs.Offered.{out_from, break_from}
@@ -16,7 +19,7 @@ use Rattle.sd_events.specs.Watch.{Watch, at_places, passed_by, present, stream, 
 use Rattle.sd_events.specs.Watch.{switched_off, switched_on, written}
 use Rattle.sd_events.proofs.Offers.{heard_is, on_is, offer_is_present, switched_writes_nothing, written_parts}
 use Rattle.sd_field.specs.Heard.{HasRoom, IsHeard}
-use Rattle.sd_field.specs.Seats.{IsSeated, wrote_before}
+use Rattle.sd_field.specs.Seats.{AreNew, IsNew, IsSeated, wrote_before}
 use Rattle.sd_field.specs.declared.seat.Seat.{Seat}
 
 -- what was written is what was written before, and in the present time
@@ -101,7 +104,8 @@ passed_seat plan card clear total u n w seat cursor none left seated more = by_o
     by_on false off =
         let next : cursor ≡ suc w.cursor = omega (arith, more, seated.cursor) in
         subst (λ (x : Watch). IsSeated plan card clear total x
-        (record { receiver = seat.receiver; cursor = cursor; written = seat.written })) (sym (off_passes u n w off left))
+        (record { receiver = seat.receiver; cursor = cursor; written = seat.written }))
+        (sym (off_passes u n w off left))
         (passed_same plan card clear total w seat cursor seated next)
 
 -- a seat whose receiver is switched on
@@ -249,3 +253,65 @@ off_if_none plan card clear total w seat none seated = by_on w.on refl
     by_on : (on : Bool) → w.on ≡ on → w.on ≡ false
     by_on true on = absurd (let no = subst IsSome (none_there seat.receiver none) (seated.on.1 on) in cc)
     by_on false on = on
+
+-- the seat of a new receiver
+pub first_seat : (card : CardFields) (total : ℕ) (receiver : Receiver) (store : Store) → store.held ≡ [] →
+    HasRoom total store → IsAfter [] receiver → IsLive receiver → card_in receiver ≡ card →
+    IsNew card total (record { receiver = Some receiver; cursor = 0; written = store })
+unfolding present at_places out_from break_from wrote_before
+first_seat card total receiver store held room new live same plan clear =
+    let start : Watch = record { on = true; cursor = 0; now = []; earlier = [] } in
+    let none : concat (written plan card clear start) ≡ [] = written_in plan card clear start in
+    record {
+      cursor = refl;
+      on = (λ _. refl, λ _. refl);
+      held = held ∙ sym none;
+      room = room;
+      heard = λ other is.
+          subst (λ (r : Receiver). IsHeard card (wrote_before plan card clear start) [] r store.held)
+          (let e : receiver ≡ other = cc in e)
+          (record {
+            bytes = held;
+            stands = λ _. record {
+              start = receiver;
+              bytes = [];
+              steps = 0;
+              new = new;
+              live = live;
+              same = same;
+              chain = (refl, refl, refl);
+              wrote = refl;
+            };
+            broken = λ why is. absurd cc;
+            live = live;
+          });
+    }
+
+-- no seat is new
+pub none_new : (site : Site) (total : ℕ) → AreNew site total []
+none_new site total u seat there = absurd (let no = there in cc)
+
+-- a new seat more
+pub seats_more : (site : Site) (total : ℕ) (seats : List Seat) (more : Seat) → AreNew site total seats →
+    IsNew (card_of site.master site.ca site.height (length seats)) total more → AreNew site total (seats ++ more ∷ [])
+seats_more site total seats more old new u seat there = elim (before_or_last seats u there) [
+  | inl before ↦ old u seat before
+  | inr last ↦
+      subst (λ (s : Seat). IsNew (card_of site.master site.ca site.height u) total s) last.1
+      (subst (λ (k : ℕ). IsNew (card_of site.master site.ca site.height k) total more) last.0 new)
+]
+  where
+    before_or_last : (xs : List Seat) (k : ℕ) → slice_get (xs ++ more ∷ []) k ≡ Some seat →
+        (slice_get xs k ≡ Some seat) ⊎ ((length xs ≡ k) × (more ≡ seat))
+    before_or_last [] zero is = inr (refl, let e : more ≡ seat = cc in e)
+    before_or_last [] (suc k) is = absurd (let no = is in cc)
+    before_or_last (x ∷ xs) zero is = inl is
+    before_or_last (x ∷ xs) (suc k) is = elim (before_or_last xs k is) [
+      | inl before ↦ inl before
+      | inr last ↦ inr (ap suc last.0, last.1)
+    ]
+
+-- what is there is some value
+pub some_there : {A : Type 0} (value : Option A) → IsSome value → ((x : A) → value ≡ Some x → ⊥) → ⊥
+some_there None some never = absurd (let none = some in cc)
+some_there (Some x) some never = never x refl

@@ -10,7 +10,7 @@ use Rattle.sd_engine.specs.Stage.{Chain, IsTooShort, all_from}
 use Rattle.sd_engine.proofs.Chains.{chain_on, chain_writes}
 use Rattle.sd_broadcast.specs.Plan.{Plan}
 use Rattle.sd_broadcast.specs.Refused.{refusal_of}
-use Rattle.sd_broadcast.specs.Sent.{Item, added, body, bytes_added, bytes_from, packets_from, sent}
+use Rattle.sd_broadcast.specs.Sent.{Item, added, body, bytes_added, bytes_from, packets_from, sent, sent_from}
 use Rattle.sd_broadcast.proofs.Bodies.{body_bytes}
 use Rattle.sd_broadcast.proofs.Sending.{packets_in_turn, sent_more}
 use Rattle.sd_head.specs.Schedule.{IsDue}
@@ -148,3 +148,15 @@ pub never_short : (left : Option ℕ) (total : ℕ) (bytes : List ℕ) → left 
 never_short left total bytes is short none =
     let passes : total < length bytes = subst (λ (left : Option ℕ). IsTooShort left (length bytes)) is short in
     omega (arith, passes, ap length none)
+
+-- a new head end
+pub first_station : (plan : Plan) (total : ℕ) (head : Head) (store : Store) → store.held ≡ [] → HasRoom total store →
+    IsAfter plan [] head → IsReady head →
+    IsStation plan [] total (record { head = head; count = 0; sent = store })
+unfolding body sent_from packets_from
+first_station plan total head store held room new ready = record {
+  count = refl;
+  head = record { start = head; steps = 0; new = (new, ready); chain = (refl, refl, refl) };
+  held = held;
+  room = room;
+}

@@ -67,6 +67,10 @@ abbrev pub after_next : FieldValue → FieldValue
 after_next v =
     record { site = v.site; clear = v.clear; events = v.events; done = v.done + 1; failed = v.failed }
 
+-- so many events are done
+abbrev pub done_to : ℕ → FieldValue → FieldValue
+done_to done v = record { site = v.site; clear = v.clear; events = v.events; done = done; failed = v.failed }
+
 -- the next event failed, and this fault is answered from now on
 abbrev pub after_fault : FieldFault → FieldValue → FieldValue
 after_fault fault v =

@@ -5,3 +5,4 @@ pub mod Receivers
 pub mod Fields
 pub mod Script
 pub mod Line
+pub mod Laid

@@ -1,7 +1,8 @@
 -- What one seat of a field has come to: a leaf's receiver, how many packets it has passed, and what was written.
-use Rattle.std.specs.Prelude.{◌≡◌, ◌↔◌, ℕ, true, List, [], map, reverse, IsSome, Some}
+use Rattle.std.specs.Prelude.{◌≡◌, ◌↔◌, ℕ, true, List, [], map, reverse, slice_get, IsSome, Some}
 use Rattle.std.specs.List.{concat, flat_map}
-use Rattle.sd_card.specs.Fields.{CardFields}
+use Rattle.sd_site.specs.declared.site.Site.{Site}
+use Rattle.sd_card.specs.Fields.{CardFields, card_of}
 use Rattle.sd_broadcast.specs.Plan.{Plan}
 use Rattle.sd_reception.specs.Offered.{out_from}
 use Rattle.sd_receive.specs.declared.receiver.Receiver.{Receiver}
@@ -23,3 +24,13 @@ pub record IsSeated (plan : Plan) (card : CardFields) (clear : List (List ℕ)) 
   pub room : HasRoom total seat.written
   pub heard : (receiver : Receiver) → seat.receiver ≡ Some receiver →
       IsHeard card (wrote_before plan card clear w) (present plan clear w) receiver seat.written.held
+
+-- the seat of a receiver that is on, and was offered nothing
+abbrev pub IsNew : CardFields → ℕ → Seat → Type 0
+IsNew card total seat = (plan : Plan) (clear : List (List ℕ)) →
+    IsSeated plan card clear total (record { on = true; cursor = 0; now = []; earlier = [] }) seat
+
+-- so is each of these seats, of the leaf of its place
+abbrev pub AreNew : Site → ℕ → List Seat → Type 0
+AreNew site total seats = (u : ℕ) (seat : Seat) → slice_get seats u ≡ Some seat →
+    IsNew (card_of site.master site.ca site.height u) total seat

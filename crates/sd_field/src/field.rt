@@ -1,4 +1,5 @@
-ghost use Rattle.std.specs.Prelude.{◌≡◌, ◌↔◌, ◌<◌, ◌≤◌, ◌^◌, true, false, [], All, length, slice_get, Some, None, Ok, Err};
+ghost use Rattle.std.specs.Prelude.{◌≡◌, ◌↔◌, ◌<◌, ◌≤◌, ◌^◌, true, false, [], All, length, slice_get, Some, None, Ok};
+ghost use Rattle.std.specs.Prelude.{Err};
 ghost use Rattle.std.specs.Prelude.{IfOk, IfErr, IfSome, IsErr, IsSome, OnOk};
 ghost use Rattle.std.specs.List.{concat};
 ghost use Rattle.sd_site.specs.Fields.{fields_of};
@@ -18,13 +19,14 @@ ghost use Rattle.sd_field.specs.Receivers.{ReceiverStands};
 ghost use Rattle.sd_field.specs.Stations.{HeadStands};
 
 use crate::fault::FieldFault;
-use crate::seat::{Seat, lose_next, pass_next};
+use crate::laid::event_book;
+use crate::seat::{Seat, lose_next, new_seats, pass_next};
 use crate::station::Station;
 use sd_book::Book;
 use sd_cause::NoMemory;
 use sd_events::Event;
 use sd_head::Head;
-use sd_packet::Packet;
+use sd_packet::{Packet, SIZE};
 use sd_receive::Receiver;
 use sd_site::Site;
 use sd_steps::Steps;
@@ -32,6 +34,9 @@ use sd_tree::Leaf;
 use std::alloc::Global;
 use std::marker::Model;
 use std::sync::ledger::Ledger;
+
+/// The room for what is sent with one clear packet, in packets. A head end of a tree of height at most 6 sends fewer.
+const MOST_WITH_ONE: usize = 72;
 
 /// A field: a head end and a receiver for each leaf, and the events that happen to them.
 #[derive(Drop)]
@@ -71,6 +76,47 @@ impl Model for Field {
 }
 
 impl Field {
+    /// A field before its first event: all receivers are on, and nothing is sent.
+    ///
+    /// It takes room for all that will be sent and written: 188 bytes times 72 for each clear packet, and times 1 for
+    /// each clear packet and leaf.
+    pub fn new<L: Ledger>(
+        alloc: Global,
+        site: Site,
+        clear: Vec<Packet>,
+        events: Vec<Event>,
+        steps: &mut Steps<L>,
+    ) -> Result<Field, NoMemory>
+        requires height { site.height ≤ 6 }
+        requires packets { length clear.items ≤ 16384 }
+        requires events { length events.items ≤ 524288 }
+        requires leaves { All (λ event. is_of site.height event ≡ true) events.items }
+        ensures { IfOk result (λ field. field ≡ record {
+          site = fields_of site;
+          clear = clear.items;
+          events = events.items;
+          done = 0;
+          failed = None;
+        }) }
+    {
+        let count = clear.len();
+        let book = event_book(alloc, &site, count, &events)?;
+        let plan = event_book(alloc, &site, count, &events)?;
+        let station = Station::new(alloc, site, plan, SIZE * MOST_WITH_ONE * count)?;
+        let seats = new_seats(alloc, &site, SIZE * count, steps)?;
+        Ok(Field {
+            alloc,
+            site,
+            clear,
+            events,
+            book,
+            done: 0,
+            failed: None,
+            station,
+            seats,
+        })
+    }
+
     /// Runs the next event. `false` says that none is left. A fault stays: it is answered from then on, and nothing
     /// more happens.
     pub fn step<L: Ledger>(&mut self, steps: &mut Steps<L>) -> Result<bool, FieldFault>
@@ -272,7 +318,8 @@ impl Field {
         requires leaf { u < 2 ^ self.now.site.height }
         ensures on { IsSome result ↔ ((watch_of u self.now).on ≡ true) }
         ensures stands { ¬ IsWrittenCut u self.now →
-            break_from (card_at self.now u) [] (present (plan_in self.now) (taken self.now) (watch_of u self.now)) ≡ None →
+            break_from (card_at self.now u) []
+            (present (plan_in self.now) (taken self.now) (watch_of u self.now)) ≡ None →
             IfSome result (λ receiver. ReceiverStands (card_at self.now u)
             (present (plan_in self.now) (taken self.now) (watch_of u self.now)) (written_of u self.now) receiver.now) }
     {

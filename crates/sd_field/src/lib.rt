@@ -4,6 +4,8 @@
 mod fault;
 mod field;
 mod hear;
+mod laid;
+pub mod laws;
 mod line;
 mod script;
 mod seat;

@@ -1,4 +1,5 @@
-ghost use Rattle.std.specs.Prelude.{◌≡◌, ◌⊎◌, ◌+◌, ◌≤◌, ◌++◌, true, replicate, length, All, IfErr, IfOk, OnOk, Ok, Err, MatchResult};
+ghost use Rattle.std.specs.Prelude.{◌≡◌, ◌⊎◌, ◌+◌, ◌≤◌, ◌++◌, true, replicate, length, All, IfErr, IfOk, OnOk, Ok, Err};
+ghost use Rattle.std.specs.Prelude.{MatchResult};
 ghost use Rattle.sd_events.specs.Events.{is_of};
 ghost use Rattle.sd_field.specs.Script.{judged, script_of, spoken};
 

@@ -1,4 +1,5 @@
-ghost use Rattle.std.specs.Prelude.{◌≡◌, ◌↔◌, ◌-◌, ◌^◌, ◌<◌, ◌≤◌, [], ℕ, List, get_or, length, slice_get, IfSome, IsSome, IsErr, OnOk, false, is_some};
+ghost use Rattle.std.specs.Prelude.{◌≡◌, ◌↔◌, ◌-◌, ◌^◌, ◌<◌, ◌≤◌, ◌++◌, ◌∷◌, [], ℕ, List, get_or, length, slice_get};
+ghost use Rattle.std.specs.Prelude.{IfOk, IfSome, IsSome, IsErr, OnOk, false, is_some};
 ghost use Rattle.std.specs.List.{concat};
 ghost use Rattle.sd_card.specs.Fields.{CardFields, card_of};
 ghost use Rattle.sd_engine.specs.Stream.{packets_of};
@@ -6,7 +7,8 @@ ghost use Rattle.sd_broadcast.specs.Plan.{Plan};
 ghost use Rattle.sd_receive.specs.Receiving.{IsCountable, IsLive};
 ghost use Rattle.sd_events.specs.declared.event.Event.TheVariants.{Lose, Off, Offer, On};
 ghost use Rattle.sd_events.specs.Watch.{Watch, present, stream, watched, written};
-ghost use Rattle.sd_field.specs.Seats.{IsSeated};
+ghost use Rattle.sd_field.specs.Heard.{HasRoom};
+ghost use Rattle.sd_field.specs.Seats.{AreNew, IsNew, IsSeated};
 
 use crate::hear::hear;
 use sd_card::Card;
@@ -29,7 +31,34 @@ pub struct Seat {
     pub(crate) written: MemSink,
 }
 
+/// A sink in memory with room for so many bytes.
+pub(crate) fn sink_of(alloc: Global, room: usize) -> Result<MemSink, NoMemory>
+    ensures held { IfOk result (λ sink. sink.held ≡ []) }
+    ensures room { IfOk result (λ sink. HasRoom room sink) }
+{
+    MemSink::new(alloc, room, usize::MAX, Vec::new(alloc))
+}
+
 impl Seat {
+    /// The seat of a leaf whose receiver is new, with room for so many bytes.
+    pub fn new<L: Ledger>(
+        alloc: Global,
+        site: &Site,
+        u: Leaf,
+        room: usize,
+        steps: &mut Steps<L>,
+    ) -> Result<Seat, NoMemory>
+        requires leaf { u < 2 ^ site.now.height }
+        ensures { IfOk result (IsNew (card_of site.now.master site.now.ca site.now.height u) room) }
+    {
+        let card = Card::make(alloc, site, u, steps)?;
+        Ok(Seat {
+            receiver: Some(Receiver::new(alloc, card)?),
+            cursor: 0,
+            written: sink_of(alloc, room)?,
+        })
+    }
+
     /// Passes the next packet that was sent, which the receiver hears if it is on.
     pub fn pass<L: Ledger>(&mut self, packet: &Packet, steps: &mut Steps<L>) -> Result<(), NoMemory>
         requires live { IfSome self.old.receiver IsLive }
@@ -135,4 +164,30 @@ impl Seat {
     {
         self.receiver = None;
     }
+}
+
+/// The seats of all leaves, whose receivers are new.
+pub fn new_seats<L: Ledger>(
+    alloc: Global,
+    site: &Site,
+    room: usize,
+    steps: &mut Steps<L>,
+) -> Result<Vec<Seat>, NoMemory>
+    ensures many { IfOk result (λ seats. length seats.items ≡ 2 ^ site.now.height) }
+    ensures new { IfOk result (λ seats. AreNew site.now room seats.items) }
+{
+    let mut seats = Vec::new(alloc);
+    for number in 0..site.height.leaves() {
+        if let Some(u) = Leaf::new(site.height, number) {
+            let seat = Seat::new(alloc, site, u, room, steps)?;
+            add(&mut seats, seat)?;
+        }
+    }
+    Ok(seats)
+}
+
+fn add(seats: &mut Vec<Seat>, seat: Seat) -> Result<(), NoMemory>
+    ensures { OnOk result (seats.new.items ≡ seats.old.items ++ seat ∷ []) }
+{
+    seats.push(seat).map_err(|_| NoMemory)
 }

@@ -1,19 +1,26 @@
-ghost use Rattle.std.specs.Prelude.{◌≡◌, ◌⊎◌, ◌<◌, ◌++◌, ◌∷◌, [], ℕ, List, None, Some, Err, IsErr, OnOk, length, true};
+ghost use Rattle.std.specs.Prelude.{◌≡◌, ◌⊎◌, ◌<◌, ◌++◌, ◌∷◌, [], ℕ, List, None, Some, Err, IfOk, IsErr, OnOk, length};
+ghost use Rattle.std.specs.Prelude.{true};
 ghost use Rattle.std.specs.List.{concat};
 ghost use Rattle.sd_broadcast.specs.declared.fault.ClearFault.{ClearFault as Fault};
 ghost use Rattle.sd_broadcast.specs.Plan.{Plan};
 ghost use Rattle.sd_broadcast.specs.Refused.{refusal_of};
 ghost use Rattle.sd_broadcast.specs.Sent.{body};
+ghost use Rattle.sd_entitling.specs.Kept.{plan_of};
 ghost use Rattle.sd_head.specs.Schedule.{begins_with};
 ghost use Rattle.sd_head.specs.Staged.{IsReady};
 ghost use Rattle.sd_field.specs.Stations.{IsStation};
 
 use crate::fault::FieldFault;
+use crate::seat::sink_of;
+use sd_book::Book;
+use sd_cause::NoMemory;
 use sd_engine::{Stage, StageFault};
 use sd_head::{Head, HeadFault};
 use sd_packet::Packet;
 use sd_ports::MemSink;
+use sd_site::Site;
 use sd_steps::Steps;
+use std::alloc::Global;
 use std::sync::ledger::Ledger;
 
 /// The head end of a field: how many clear packets it has sent, and all that it wrote for them.
@@ -25,6 +32,18 @@ pub struct Station {
 }
 
 impl Station {
+    /// A new head end, with room for so many bytes.
+    pub fn new(alloc: Global, site: Site, book: Book, room: usize) -> Result<Station, NoMemory>
+        requires height { book.height ≡ site.height }
+        ensures { IfOk result (IsStation (plan_of site book) [] room) }
+    {
+        Ok(Station {
+            head: Head::new(alloc, site, book)?,
+            count: 0,
+            sent: sink_of(alloc, room)?,
+        })
+    }
+
     /// Sends the next clear packet.
     pub fn send<L: Ledger>(
         &mut self,

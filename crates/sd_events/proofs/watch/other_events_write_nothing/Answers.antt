@@ -2,4 +2,9 @@ use Rattle.sd_events.proofs.Offers.{lost_writes_nothing, off_writes_nothing, unh
 use Rattle.sd_events.proofs.watch.other_events_write_nothing.Goals as goal
 
 pub returns : goal.returns
-returns c = record { lost = lost_writes_nothing; off = off_writes_nothing; unheard = unheard_writes_nothing; others = others_wait }
+returns c = record {
+  lost = lost_writes_nothing;
+  off = off_writes_nothing;
+  unheard = unheard_writes_nothing;
+  others = others_wait;
+}

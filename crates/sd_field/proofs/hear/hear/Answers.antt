@@ -45,9 +45,9 @@ returns-in-Err-Write-clause-full g c card earlier xs total failed few heard room
     let cut = e.prefix (ap (λ x. Err x) c.in-Err-Write.field-0-is) in
     by_kept (total < length (earlier ++ concat (out_from card [] (xs ++ packet ∷ [])))) s.refusal
     (λ calm. elim cut.says.2 [
-      | inl (t, does) ↦ full_more card earlier xs s packet total c.args.written.now cut.bytes few heard calm room cut.room
-          (λ past after within. (does past after within).bytes_are)
-      | inr (fault, t, refuses) ↦ full_more card earlier xs s packet total c.args.written.now cut.bytes few heard calm room
-          cut.room (λ past after within. (refuses past after within).bytes_are)
+      | inl (t, does) ↦ full_more card earlier xs s packet total c.args.written.now cut.bytes few heard calm room
+          cut.room (λ past after within. (does past after within).bytes_are)
+      | inr (fault, t, refuses) ↦ full_more card earlier xs s packet total c.args.written.now cut.bytes few heard calm
+          room cut.room (λ past after within. (refuses past after within).bytes_are)
     ])
     (λ why kept. absurd (let no = (e.again why kept).0 in cc))

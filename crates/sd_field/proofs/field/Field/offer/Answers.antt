@@ -10,7 +10,8 @@ use Rattle.sd_events.specs.Watch.{stream, watched, written}
 use Rattle.sd_field.specs.Seats.{IsSeated}
 use Rattle.sd_field.specs.Fields.{FieldValue, IsWrittenOver, card_at, plan_in, taken, watch_of}
 use Rattle.sd_field.specs.declared.seat.Seat.{Seat}
-use Rattle.sd_field.proofs.Fields.{field_cut, field_next, offer_at, over_next, present_few, seat_behind, seat_live, seat_stands, stream_sent}
+use Rattle.sd_field.proofs.Fields.{field_cut, field_next, offer_at, over_next, present_few, seat_behind, seat_live}
+use Rattle.sd_field.proofs.Fields.{seat_stands, stream_sent}
 use Rattle.sd_field.proofs.field.Field.offer.Goals as goal
 
 pub pass_next-requires : goal.pass_next-requires
