@@ -51,8 +51,8 @@ pub(crate) fn clash_of_books(
     Ok(None)
 }
 
-/// The least leaf that one of two ascending lists has and the other doesn't: where each list is what a test lets through
-/// of the numbers below n, the least of which one test says yes alone.
+/// The least leaf that one of two ascending lists has and the other doesn't: where each list is what a test lets
+/// through of the numbers below n, the least of which one test says yes alone.
 fn first_apart(left: &[Leaf], right: &[Leaf]) -> Option<u32>
     ensures { (one other : ℕ → Bool) (n : ℕ) → left.now ≡ filter one (range_with_len 0 n) →
         right.now ≡ filter other (range_with_len 0 n) → result ≡ first_differing one other n }
