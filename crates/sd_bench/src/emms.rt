@@ -82,7 +82,7 @@ fn write_all(period: u32, entries: &[Entry], packets: &mut Vec<Packet>) -> Resul
     requires ascending { AreAscending (names_in entries.now) }
 {
     for index in 0..section_count(entries.len()) {
-        let emm = Emm::of_period(period, &[0x5A; 16], entries, index);
+        let emm = Emm::of_period(None, period, &[0x5A; 16], entries, index);
         packets.push(write_emm(&emm, PID, (index % 16) as u8))?;
     }
     Ok(())

@@ -1,4 +1,5 @@
 pub mod Schedule
+pub mod Naming
 pub mod Following
 pub mod Sending
 pub mod Bodies

@@ -133,8 +133,7 @@ word_named : (version cryptos a b : ℕ) → since_of version cryptos b ≤ a �
 word_named version cryptos a zero named below = absurd (omega (arith, below))
 word_named zero cryptos a (suc b) named below = omega (arith, named, div-mul-le_self (suc b - 1) cryptos)
 word_named (suc zero) cryptos a (suc b) named below = omega (arith, named, div-mul-le_self (suc b - 1) cryptos)
-word_named (suc (suc zero)) cryptos a (suc b) named below = let e : suc b - 1 ≡ b = omega arith in rw e named
-word_named (suc (suc (suc v))) cryptos a (suc b) named below = omega (arith, named, div-mul-le_self (suc b - 1) cryptos)
+word_named (suc (suc v)) cryptos a (suc b) named below = let e : suc b - 1 ≡ b = omega arith in rw e named
 
 -- a number of a crypto period's messages, from the first up to one before b, has the quotient of b - 1
 in_block : (c b i : ℕ) → 0 < c → ((b - 1) / c) * c ≤ i → i < b → i / c ≡ (b - 1) / c

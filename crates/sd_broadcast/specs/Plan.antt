@@ -49,12 +49,11 @@ period_in plan n =
 unfoldable pub period_of : Plan → ℕ → ℕ
 period_of plan k = period_in plan (crypto_of plan.site k)
 
--- the first control message from which on all packets up to message b have one control word, in version 2; in version 1
--- the one before
--- [this project, docs/FORMATS.md, Messages]
+-- the first control message from which on all packets up to message b have one control word, in versions 2 and 3; in
+-- version 1 the one before [this project, docs/FORMATS.md, Messages]
 abbrev pub since_of : ℕ → ℕ → ℕ → ℕ
 since_of version cryptos zero = 0
-since_of (suc (suc zero)) cryptos (suc b) = (b / cryptos) * cryptos
+since_of (suc (suc v)) cryptos (suc b) = (b / cryptos) * cryptos
 since_of version cryptos (suc b) = b
 
 -- the number of the closing message after m packets: as many as there are begun stretches of e packets

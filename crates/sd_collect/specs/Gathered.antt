@@ -26,6 +26,7 @@ said_by part = record {
   word = part.word;
   clear = part.clear;
   since = part.since;
+  run = part.run;
   closing = part.closing;
   wrapped = part.wrapped;
   check = part.check;

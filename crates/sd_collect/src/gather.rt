@@ -162,6 +162,7 @@ pub fn head_of(part: &EcmPart) -> EcmHead
         word: part.word,
         clear: part.clear,
         since: part.since,
+        run: part.run,
         closing: part.closing,
         wrapped: part.wrapped,
         check: part.check,

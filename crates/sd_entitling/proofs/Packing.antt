@@ -1,6 +1,6 @@
 -- A period's sections, one after the other.
 use Rattle.std.proofs.Common.{◌≡◌, ℕ, zero, suc, ◌+◌, ◌≤◌, List, [], ◌∷◌, ◌++◌, refl, ap, sym, ◌∙◌, take, length, arith}
-use Rattle.std.specs.Prelude.{map, slice_get, Some}
+use Rattle.std.specs.Prelude.{map, slice_get, Option, Some}
 use Rattle.std.proofs.lemmas.List.{map-append, take_all}
 use Rattle.sd_packet.specs.Packing.{packed}
 use Rattle.sd_emm.specs.Spelled.{emm_section}
@@ -11,7 +11,7 @@ use Rattle.sd_emm.specs.declared.emm.Entry.{Entry}
 use Rattle.sd_emm.proofs.Sharing.{as_many}
 use Rattle.sd_tree.specs.declared.set.SetName.{SetName}
 use Rattle.sd_label.specs.Keys.{period_key_of, check_value_of}
-use Rattle.sd_site.specs.Fields.{SiteFields}
+use Rattle.sd_site.specs.Fields.{SiteFields, name_of}
 use Rattle.sd_broadcast.specs.Messages.{entry_of}
 use Rattle.sd_entitling.specs.Packets.{packets_of, period_of_sets, period_of_entries}
 
@@ -38,11 +38,12 @@ section_more pid k period packets emm so_far next =
     ∙ sym (map-append (λ emm. packed (emm_section emm) pid 0) (take k (emms_of period)) (emm ∷ [])))
 
 -- what a period is of, by its sets
-pub period_is : (site : SiteFields) (q : ℕ) (sets cover : List SetName) (entries : List Entry) (check key : List ℕ) →
-    sets ≡ cover → entries ≡ map (entry_of site q) sets → check ≡ check_value_of key →
-    key ≡ period_key_of site.master q → period_of_entries q check entries ≡ period_of_sets site q cover
+pub period_is : (site : SiteFields) (run : Option ℕ) (q : ℕ) (sets cover : List SetName) (entries : List Entry) (check key : List ℕ) →
+    run ≡ name_of site → sets ≡ cover → entries ≡ map (entry_of site q) sets → check ≡ check_value_of key →
+    key ≡ period_key_of site.master q → period_of_entries run q check entries ≡ period_of_sets site q cover
 unfolding period_of_sets
-period_is site q sets cover entries check key is made checked keyed = rw (made, checked, keyed, is) refl
+period_is site run q sets cover entries check key named is made checked keyed =
+    rw (named, made, checked, keyed, is) refl
 
 -- all of them
 pub all_sections : (pid k : ℕ) (period : Period) (packets : List (List ℕ)) → sections_for (length period.entries) ≤ k →

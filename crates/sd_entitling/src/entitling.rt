@@ -205,5 +205,5 @@ fn pack_period<L: Ledger>(
     let sets = index.sets(alloc, steps)?;
     let entries = entries_of(alloc, site, q, &sets, steps)?;
     let check = check_value(&period_key(&site.master, q));
-    pack_sections(packets, site.emm, q, &check, &entries)
+    pack_sections(packets, site.emm, site.name(), q, &check, &entries)
 }

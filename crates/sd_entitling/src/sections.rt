@@ -8,11 +8,13 @@ use sd_cause::NoMemory;
 use sd_emm::{Emm, Entry, section_count, write_emm};
 use sd_packet::Packet;
 
-/// Fills the list with the packets of the sections of period q, each with counter 0.
+/// Fills the list with the packets of the sections of period q, each with counter 0. They name the run where a name is
+/// given.
 #[tactic(auto, using(crate::proofs::Packing::section_more, crate::proofs::Packing::all_sections))]
 pub fn pack_sections(
     packets: &mut Vec<Packet>,
     pid: u16,
+    run: Option<u32>,
     q: u32,
     check: &[u8; 16],
     entries: &[Entry],
@@ -20,11 +22,11 @@ pub fn pack_sections(
     requires pid { pid < 8192 }
     requires few { length entries.now ≤ MOST_SETS }
     requires ascending { AreAscending (names_in entries.now) }
-    ensures { OnOk result (packets.new.items ≡ packets_of pid (period_of_entries q check.now entries.now)) }
+    ensures { OnOk result (packets.new.items ≡ packets_of pid (period_of_entries run q check.now entries.now)) }
 {
     packets.clear();
     for index in 0..section_count(entries.len()) {
-        let emm = Emm::of_period(q, check, entries, index);
+        let emm = Emm::of_period(run, q, check, entries, index);
         packets.push(write_emm(&emm, pid, 0)).map_err(|_| NoMemory)?;
     }
     Ok(())

@@ -3,6 +3,7 @@ use Rattle.std.proofs.Common.{◌≡◌, ℕ, zero, suc, ◌-◌, ◌*◌, ◌/�
 use Rattle.std.proofs.Common.{◌≤◌, ◌^◌, ◌%◌, ◌==◌, Bool, true, false, List, length, inl, inr, eq-eqb}
 use Rattle.std.specs.Prelude.{Option, Some, None}
 use Rattle.std.proofs.lemmas.Bool.{ne_eqb}
+use Rattle.sd_site.specs.Forms.{IsWithin, messages_line}
 use Rattle.sd_site.specs.Fields.{SiteFields}
 use Rattle.sd_ecm.specs.declared.message.EcmHead.{EcmHead}
 use Rattle.sd_ecm.specs.declared.part.Place.{Place}
@@ -19,36 +20,29 @@ use Rattle.sd_head.specs.declared.sender.Sender.{Sender}
 use Rattle.sd_ecm.specs.Versions.{IsVersion, IsSince, IsBefore, most_places}
 use Rattle.sd_broadcast.specs.Plan.{since_of}
 use Rattle.sd_broadcast.proofs.Schedule.{since_is_below}
+use Rattle.sd_broadcast.proofs.Naming.{version_is, named_is}
 
 -- message 0 has no message before it
 pub since_first : (version cryptos number : ℕ) → number ≡ 0 → since_of version cryptos number ≡ 0
 since_first version cryptos zero h = refl
 since_first version cryptos (suc b) h = absurd (omega (arith, h))
 
--- in version 2 its control word goes back to the first message of the crypto period of the one before
-pub since_two : (version cryptos number : ℕ) → version ≡ 2 → 0 < number →
+-- in versions 2 and 3 its control word goes back to the first message of the crypto period of the one before
+pub since_later : (version cryptos number : ℕ) → 1 < version → 0 < number →
     since_of version cryptos number ≡ (number - 1) / cryptos * cryptos
-since_two version cryptos zero is some = absurd (omega (arith, some))
-since_two version cryptos (suc b) is some =
-    let back : suc b - 1 ≡ b = omega arith in
-    rw is (rw back refl)
+since_later version cryptos zero later some = absurd (omega (arith, some))
+since_later zero cryptos (suc b) later some = absurd (omega (arith, later))
+since_later (suc zero) cryptos (suc b) later some = absurd (omega (arith, later))
+since_later (suc (suc v)) cryptos (suc b) later some = let back : suc b - 1 ≡ b = omega arith in rw back refl
 
 -- in version 1 it is the one before
-pub since_one : (version cryptos number : ℕ) → version ≢ 2 → 0 < number → since_of version cryptos number ≡ number - 1
-since_one version cryptos zero other some = absurd (omega (arith, some))
-since_one zero cryptos (suc b) other some = omega arith
-since_one (suc zero) cryptos (suc b) other some = omega arith
-since_one (suc (suc zero)) cryptos (suc b) other some = absurd (other refl)
-since_one (suc (suc (suc v))) cryptos (suc b) other some = omega arith
+pub since_one : (version cryptos number : ℕ) → version ≤ 1 → 0 < number → since_of version cryptos number ≡ number - 1
+since_one version cryptos zero first some = absurd (omega (arith, some))
+since_one zero cryptos (suc b) first some = omega arith
+since_one (suc zero) cryptos (suc b) first some = omega arith
+since_one (suc (suc v)) cryptos (suc b) first some = absurd (omega (arith, first))
 
--- a site's messages are of one of the two versions
-pub version_is : (version : ℕ) → 1 ≤ version → version ≤ 2 → IsVersion version
-version_is zero low high = absurd (omega (arith, low))
-version_is (suc zero) low high = inl refl
-version_is (suc (suc zero)) low high = inr refl
-version_is (suc (suc (suc v))) low high = absurd (omega (arith, high))
-
--- and say since which message their control word holds
+-- messages say since which message their control word holds
 pub since_fits : (version cryptos number : ℕ) → IsSince version number (since_of version cryptos number)
 since_fits version cryptos number = record { before = before number; fixed = fixed version number }
   where
@@ -65,11 +59,12 @@ since_fits version cryptos number = record { before = before number; fixed = fix
 -- the message with the positions after these packets may be sent
 pub may_be_sent : (site : SiteFields) (crypto : CryptoPeriod) (clear number : ℕ) (closing : Bool) (head : EcmHead)
     (places : List Place)
-    (before : List (List ℕ)) → head ≡ head_of site crypto clear number closing → 1 ≤ site.messages → site.messages ≤ 2 →
+    (before : List (List ℕ)) → head ≡ head_of site crypto clear number closing → IsWithin messages_line site.messages →
     places ≡ places_after before → length before < 2 ^ 32 → length places ≤ most_places → MayBeSent head places
 unfolding head_of
-may_be_sent site crypto clear number closing head places before is low high are counted few = rw is (rw are (record {
-  version = version_is site.messages low high;
+may_be_sent site crypto clear number closing head places before is range are counted few = rw is (rw are (record {
+  version = version_is site.messages range;
+  named = named_is site;
   since = since_fits site.messages site.cryptos number;
   few = subst (λ (ps : List Place). length ps ≤ most_places) are few;
   positioned = positioned before;

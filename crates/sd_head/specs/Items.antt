@@ -5,7 +5,7 @@ use Rattle.std.specs.List.{concat}
 use Rattle.sd_packet.specs.Packing.{packed}
 use Rattle.sd_psi.specs.Access.{cat_section}
 use Rattle.sd_site.specs.Fields.{SiteFields}
-use Rattle.sd_ecm.specs.Versions.{IsVersion, IsSince, most_places}
+use Rattle.sd_ecm.specs.Versions.{IsVersion, IsNamed, IsSince, most_places}
 use Rattle.sd_ecm.specs.Form.{ArePositioned, AreAscending, AreShort}
 use Rattle.sd_ecm.specs.Parts.{message_of, parts_of}
 use Rattle.sd_ecm.specs.declared.message.EcmHead.{EcmHead}
@@ -45,6 +45,7 @@ pub record HasSent (site : SiteFields) (earlier : List Item) (sender : Sender) :
 -- the message with these positions may be sent [this project, docs/FORMATS.md, Messages]
 pub record MayBeSent (head : EcmHead) (places : List Place) : Type 0 where
   pub version : IsVersion head.version
+  pub named : IsNamed head.version head.run
   pub since : IsSince head.version head.number head.since
   pub few : length places ≤ most_places
   pub positioned : ArePositioned places

@@ -26,6 +26,7 @@ pub fn message_head(
         word: crypto.number,
         clear,
         since: since(site.messages, site.cryptos, number),
+        run: site.name(),
         closing,
         wrapped: crypto.wrapped,
         check: crypto.check,
@@ -33,14 +34,14 @@ pub fn message_head(
 }
 
 // The first message from which on all packets up to this one have one control word, and in version 1 the one before.
-#[tactic(auto, using(crate::proofs::Telling::since_first, crate::proofs::Telling::since_two, crate::proofs::Telling::since_one))]
+#[tactic(auto, using(crate::proofs::Telling::since_first, crate::proofs::Telling::since_later, crate::proofs::Telling::since_one))]
 fn since(version: u8, cryptos: u32, number: u32) -> u32
     requires some { 1 ≤ cryptos }
     ensures { result ≡ since_of version cryptos number }
 {
     if number == 0 {
         0
-    } else if version == 2 {
+    } else if version > 1 {
         (number - 1) / cryptos * cryptos
     } else {
         number - 1

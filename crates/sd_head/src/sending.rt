@@ -3,7 +3,7 @@ ghost use Rattle.std.specs.List.{concat};
 ghost use Rattle.sd_cause.specs.Count.{HasCause};
 ghost use Rattle.sd_engine.specs.Stage.{vessel};
 ghost use Rattle.sd_ecm.specs.declared.format.TheConstants.{MOST_PLACES};
-ghost use Rattle.sd_ecm.specs.Versions.{IsVersion, IsSince};
+ghost use Rattle.sd_ecm.specs.Versions.{IsVersion, IsNamed, IsSince};
 ghost use Rattle.sd_ecm.specs.Form.{ArePositioned, AreAscending, AreShort};
 ghost use Rattle.sd_ecm.specs.Parts.{message_of, parts_of};
 ghost use Rattle.sd_head.specs.Sending.{Sends, counter_after, numbered, packed_part, recounted};
@@ -55,6 +55,7 @@ pub fn send_message<K: Sink>(
 ) -> Result<(), PortFault>
     requires pid { pid < 8192 }
     requires version { IsVersion head.now.version }
+    requires named { IsNamed head.now.version head.now.run }
     requires since { IsSince head.now.version head.now.number head.now.since }
     requires few { length places.now ≤ MOST_PLACES }
     requires positioned { ArePositioned places.now }

@@ -1,3 +1,4 @@
 pub mod Few
 pub mod Plain
 pub mod Chained
+pub mod Members

@@ -1,9 +1,9 @@
 -- Nothing that is shown is a float.
 use Rattle.std.proofs.Common.{ℕ, ◌≡◌, false, Bool, true, cond, List, [], ◌∷◌, map, refl, sym, subst}
 use Rattle.std.specs.Prelude.{Option, Some, None, Result, Ok, Err, codes, ◌==◌, IfSome}
-use Rattle.serde_json.specs.Data.{Data}
+use Rattle.serde_json.specs.Data.{Data, Members}
 use Rattle.serde_json.specs.View.{items_of}
-use Rattle.serde_json.specs.Written.{has_float, items_have_float}
+use Rattle.serde_json.specs.Written.{has_float, items_have_float, members_have_float}
 use Rattle.sd_tree.specs.declared.set.SetName.{SetName}
 use Rattle.sd_packet.specs.Header.{pid_of}
 use Rattle.sd_site.specs.Fields.{SiteFields}
@@ -16,7 +16,7 @@ use Rattle.sd_ecm.specs.Judged.{ecm_read}
 use Rattle.sd_ecm.specs.declared.part.Place.{Place}
 use Rattle.sd_ecm.specs.declared.part.EcmPart.{EcmPart}
 use Rattle.sd_ecm.specs.declared.fault.EcmFault.{EcmFault}
-use Rattle.sd_monitor.specs.Lines.{name_data, emm_data, place_data, ecm_data, fault_data, emm_told, ecm_told}
+use Rattle.sd_monitor.specs.Lines.{run_member, name_data, emm_data, place_data, ecm_data, fault_data, emm_told, ecm_told}
 use Rattle.sd_monitor.specs.Lines.{emm_fault_word, ecm_fault_word, message_data}
 
 plain_names : (names : List SetName) → items_have_float (items_of (map name_data names)) ≡ false
@@ -29,13 +29,18 @@ unfolding place_data
 plain_places [] = refl
 plain_places (place ∷ places) = plain_places places
 
+-- the run's name brings none
+plain_run : (run : Option ℕ) (more : Members) → members_have_float (run_member run more) ≡ members_have_float more
+plain_run None more = refl
+plain_run (Some run) more = refl
+
 plain_emm : (packet pid : ℕ) (emm : Emm) → has_float (emm_data packet pid emm) ≡ false
 unfolding emm_data
-plain_emm packet pid emm = rw (plain_names (names_in (entries_of emm))) refl
+plain_emm packet pid emm = rw (plain_names (names_in (entries_of emm)), plain_run emm.run _) refl
 
 plain_ecm : (packet pid : ℕ) (part : EcmPart) → has_float (ecm_data packet pid part) ≡ false
 unfolding ecm_data
-plain_ecm packet pid part = rw (plain_places (places_of part)) refl
+plain_ecm packet pid part = rw (plain_places (places_of part), plain_run part.run _) refl
 
 plain_fault : (fault table : List ℕ) (packet pid : ℕ) → has_float (fault_data fault table packet pid) ≡ false
 unfolding fault_data

@@ -3,7 +3,7 @@ use Rattle.std.specs.Prelude.{ℕ, suc, ◌==◌, List, [], ◌∷◌, ◌++◌,
 use Rattle.std.specs.Prelude.{Ok, Err}
 use Rattle.std.specs.Fmt.{decimal}
 use Rattle.hex.specs.Hex.{encode_lower}
-use Rattle.serde_json.specs.Data.{Data, boolean, string, object, member, no_members}
+use Rattle.serde_json.specs.Data.{Data, Members, boolean, string, object, member, no_members}
 use Rattle.serde_json.specs.Written.{compact_text}
 use Rattle.sd_tree.specs.declared.set.SetName.{SetName}
 use Rattle.sd_tree.specs.declared.set.SetName.TheVariants.{Whole, Diff}
@@ -30,6 +30,11 @@ set_word (Diff i j) = decimal i ++ (codes " " ++ decimal j)
 unfoldable pub name_data : SetName → Data
 name_data name = string (set_word name)
 
+-- the run's name before other members, where the message tells it
+abbrev pub run_member : Option ℕ → Members → Members
+run_member None more = more
+run_member (Some run) more = member (codes "run") (num run) more
+
 -- what is shown of a section of entitlements, in the packet of this number on this PID: no wrapped key
 -- [this project, docs/FORMATS.md, Messages printed]
 unfoldable pub emm_data : ℕ → ℕ → Emm → Data
@@ -40,10 +45,11 @@ emm_data packet pid emm = object
     (member (codes "packet") (num packet)
     (member (codes "period") (num emm.period)
     (member (codes "pid") (num pid)
+    (run_member emm.run
     (member (codes "sections") (num emm.sections)
     (member (codes "sets") (num emm.sets)
     (member (codes "table") (string (codes "emm"))
-    no_members)))))))))
+    no_members))))))))))
 
 -- the position of a PID
 unfoldable pub place_data : Place → Data
@@ -66,11 +72,12 @@ ecm_data packet pid part = object
     (member (codes "period") (num part.period)
     (member (codes "pid") (num pid)
     (member (codes "positions") (listed (map place_data (places_of part)))
+    (run_member part.run
     (member (codes "since") (num part.since)
     (member (codes "table") (string (codes "ecm"))
     (member (codes "version") (num part.version)
     (member (codes "word") (num part.word)
-    no_members))))))))))))))
+    no_members)))))))))))))))
 
 -- the words for what is wrong with a section [this project, docs/FORMATS.md, Receiver]
 abbrev pub emm_fault_word : EmmFault → List ℕ

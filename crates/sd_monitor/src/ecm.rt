@@ -1,8 +1,10 @@
-ghost use Rattle.std.specs.Prelude.{◌≡◌, ◌≤◌, IfOk, map};
+ghost use Rattle.std.specs.Prelude.{◌≡◌, ◌≤◌, ◌++◌, IfOk, OnOk, map};
 ghost use Rattle.serde_json.specs.View.{view};
 ghost use Rattle.sd_lines.specs.Lines.{listed as list_of};
 ghost use Rattle.sd_ecm.specs.declared.format.TheConstants.{POSITIONS};
+ghost use Rattle.sd_lines.specs.Members.{named};
 ghost use Rattle.sd_monitor.specs.Lines.{ecm_data, place_data};
+ghost use Rattle.sd_monitor.specs.Members.{ecm_members, run_members};
 
 use crate::object::object_of;
 use sd_ecm::{EcmPart, Place};
@@ -10,7 +12,7 @@ use serde_json::{Value, json};
 use std::alloc::{AllocError, Global};
 
 // What is shown of a part of a control message on this PID, in the packet of this number.
-#[tactic(auto, unfolding(crate::specs::Lines::ecm_data))]
+#[tactic(auto, using(crate::proofs::Members::ecm_shown))]
 pub(crate) fn ecm_value(
     alloc: Global,
     packet: u64,
@@ -19,6 +21,22 @@ pub(crate) fn ecm_value(
 ) -> Result<Value, AllocError>
     requires { part.now.count ≤ POSITIONS }
     ensures { IfOk result (λ value. view value ≡ ecm_data packet pid part.now) }
+{
+    let mut members = members_of(alloc, packet, pid, part)?;
+    push_run(&mut members, part.run)?;
+    object_of(alloc, members)
+}
+
+// The members that each part has.
+#[tactic(auto, unfolding(crate::specs::Members::ecm_members))]
+fn members_of(
+    alloc: Global,
+    packet: u64,
+    pid: u16,
+    part: &EcmPart,
+) -> Result<Vec<(&'static str, Value)>, AllocError>
+    requires { part.now.count ≤ POSITIONS }
+    ensures { IfOk result (λ members. named members.items ≡ ecm_members packet pid part.now) }
 {
     let check = hex::encode(alloc, &part.check)?;
     let positions = places_value(alloc, part.listed())?;
@@ -39,7 +57,17 @@ pub(crate) fn ecm_value(
         ("version", part.version.into()),
         ("word", part.word.into()),
     ]?;
-    object_of(alloc, members)
+    Ok(members)
+}
+
+// Puts the name of the run after them, where the message tells it.
+fn push_run(members: &mut Vec<(&'static str, Value)>, run: Option<u32>) -> Result<(), AllocError>
+    ensures { OnOk result (named members.new.items ≡ named members.old.items ++ run_members run) }
+{
+    if let Some(run) = run {
+        members.push(("run", run.into()))?;
+    }
+    Ok(())
 }
 
 // The positions of PIDs.

@@ -27,7 +27,7 @@ pub(crate) fn emm_value(
     let check = hex::encode(alloc, &emm.check)?;
     let names = names_value(alloc, emm.listed())?;
     let table = Value::try_from_str(alloc, "emm")?;
-    let members = vec![in alloc;
+    let mut members = vec![in alloc;
         ("check", check.into()),
         ("index", emm.index.into()),
         ("names", names),
@@ -38,6 +38,10 @@ pub(crate) fn emm_value(
         ("sets", emm.sets.into()),
         ("table", table),
     ]?;
+    if let Some(run) = emm.run {
+        members.push(("run", run.into()))?;
+        return object_of(alloc, members);
+    }
     object_of(alloc, members)
 }
 

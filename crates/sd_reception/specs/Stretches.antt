@@ -56,6 +56,7 @@ message_told (part ∷ run) = Some (record {
   word = part.word;
   clear = part.clear;
   since = part.since;
+  run = part.run;
   closing = part.closing;
   wrapped = part.wrapped;
   check = part.check;

@@ -27,6 +27,7 @@ bare word places = record {
   word = word;
   clear = 0;
   since = 0;
+  run = None;
   closing = false;
   wrapped = [];
   check = [];

@@ -42,6 +42,7 @@ use Rattle.sd_ecm.specs.Parts.{IsMessage}
 use Rattle.sd_ecm.specs.declared.part.Place.{Place}
 use Rattle.sd_broadcast.specs.Plan.{Plan, IsPlan, sets_at, crypto_length, crypto_of, word_of, period_of}
 use Rattle.sd_broadcast.specs.Plan.{since_of, closing_number}
+use Rattle.sd_broadcast.proofs.Naming.{version_is, named_is, name_short}
 use Rattle.sd_broadcast.specs.Kinds.{has_moved, positional_pids, moved_pids}
 use Rattle.sd_broadcast.specs.Messages.{entry_of, period_at, places_after, message_at}
 use Rattle.sd_broadcast.specs.Refused.{IsClear}
@@ -168,6 +169,7 @@ period_fits plan q is low =
     record {
       ascending = subst AreSetsAscending (sym (names_are plan.site q (sets_at plan q)))
           (sets_cover plan q is).ascending;
+      run = name_short plan.site is.site;
       number = low;
       check = check_length (period_key_of plan.site.master q);
       sets = rw (length-map (sets_at plan q) (entry_of plan.site q)) (sets_few plan q is);
@@ -225,13 +227,7 @@ places_ascend before (pid ∷ pids) up =
     (places_ascend before pids (λ i j d below within. up (suc i) (suc j) d (omega (arith, below)) (omega
     (arith, within))))
 
--- the version and the number from which on the word holds are as they are to be
-version_is : (n : ℕ) → 1 ≤ n → n ≤ 2 → IsVersion n
-version_is n low high = elim (cases_lt n 2) [
-  | inl one ↦ inl (omega (arith, low, one))
-  | inr two ↦ inr (omega (arith, high, two))
-]
-
+-- the number from which on the word holds is as it is to be
 since_first : (version cryptos : ℕ) → version ≡ 1 → (a : ℕ) → since_of version cryptos a ≡ a - 1
 since_first version cryptos one zero = refl
 since_first version cryptos one (suc a) = rw one (omega arith)
@@ -250,7 +246,9 @@ message_fits plan before a k closing is clear few near =
     let pids = clear_pids plan.site before clear in
     let word = control_word_of plan.site.master (word_of plan.site k) in
     record {
-      version = version_is plan.site.messages is.site.messages.0 is.site.messages.1;
+      version = version_is plan.site.messages is.site.messages;
+      named = named_is plan.site;
+      run = name_short plan.site is.site;
       number = few;
       period = period_short plan k is;
       word = near;

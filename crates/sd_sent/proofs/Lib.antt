@@ -8,3 +8,4 @@ pub mod Covering
 pub mod Numbers
 pub mod Coming
 pub mod Narrowing
+pub mod Runs

@@ -3,7 +3,7 @@ use Rattle.std.proofs.Common.{◌≡◌, ℕ, ◌+◌, ◌-◌, ◌/◌, ◌<◌
 use Rattle.std.proofs.Common.{Option, Some, None, refl, ap, arith, length-append}
 use Rattle.std.proofs.lemmas.Bool.Decides.{nat_tests}
 use Rattle.sd_packet.specs.Header.{scrambling_of}
-use Rattle.sd_site.specs.Fields.{SiteFields}
+use Rattle.sd_site.specs.Fields.{SiteFields, name_of}
 use Rattle.sd_psi.specs.declared.fault.FormFault.{FormFault}
 use Rattle.sd_broadcast.specs.Plan.{Plan, sets_at, crypto_of, word_of, period_in, period_of, closing_number}
 use Rattle.sd_broadcast.specs.Kinds.{kind_of}
@@ -38,12 +38,12 @@ carried_same x site before packet = by_kind (kind_of before packet)
 
 -- and so are the tables and the messages
 tables_same : (x : ℕ) (plan : Plan) (k : ℕ) → tables_at (plan_up_to x plan) k ≡ tables_at plan k
-unfolding tables_at period_at entry_of sets_at period_of period_in crypto_of
+unfolding tables_at period_at entry_of sets_at period_of period_in crypto_of name_of
 tables_same x plan k = refl
 
 message_same : (x : ℕ) (plan : Plan) (before : List (List ℕ)) (a k : ℕ) (closing : Bool) →
     message_at (plan_up_to x plan) before a k closing ≡ message_at plan before a k closing
-unfolding message_at word_of period_of period_in crypto_of
+unfolding message_at word_of period_of period_in crypto_of name_of
 message_same x plan before a k closing = refl
 
 -- so each packet adds what it did

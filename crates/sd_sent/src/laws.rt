@@ -6,12 +6,13 @@ ghost use Rattle.sd_tree.specs.Leaves.{is_member};
 ghost use Rattle.sd_packet.specs.Header.{pid_of, scrambling_of};
 ghost use Rattle.sd_packet.specs.Positions.{is_placed, moved};
 ghost use Rattle.sd_label.specs.Names.{given};
-ghost use Rattle.sd_site.specs.Fields.{SiteFields, AreInRange};
+ghost use Rattle.sd_site.specs.Fields.{SiteFields, AreInRange, name_of};
 ghost use Rattle.sd_book.specs.Commands.{revoked, entitled};
 ghost use Rattle.sd_steiner.specs.Partition.{IsPartition, IsSmall};
 ghost use Rattle.sd_reach.specs.Reach.{ReachesNoneOf};
 ghost use Rattle.sd_emm.specs.Form.{AreSets};
 ghost use Rattle.sd_emm.specs.Period.{IsPeriod};
+ghost use Rattle.sd_emm.specs.declared.emm.Emm.{Emm};
 ghost use Rattle.sd_ecm.specs.Versions.{most_places};
 ghost use Rattle.sd_ecm.specs.Parts.{IsMessage, parts_of};
 ghost use Rattle.sd_ecm.specs.declared.part.EcmPart.{EcmPart};
@@ -20,7 +21,7 @@ ghost use Rattle.sd_broadcast.specs.Kinds.{kind_of, moved_pids};
 ghost use Rattle.sd_broadcast.specs.Carried.{carried};
 ghost use Rattle.sd_broadcast.specs.Messages.{period_at, message_at};
 ghost use Rattle.sd_broadcast.specs.Refused.{refusal_of, IsClear};
-ghost use Rattle.sd_broadcast.specs.Sent.{Controls, sent_from, closing_of, broadcast};
+ghost use Rattle.sd_broadcast.specs.Sent.{Controls, Entitles, sent_from, closing_of, broadcast};
 ghost use Rattle.sd_broadcast.specs.Items.{IsOfBroadcast};
 ghost use Rattle.sd_broadcast.specs.declared.kind.Kind.TheVariants.{Passed};
 ghost use Rattle.sd_sent.specs.Accepted.{IsAccepted};
@@ -143,4 +144,14 @@ pub fn headers_are_carried()
         moved pid position new ≡ moved pid position old }
     ensures placed { (before : List (List ℕ)) (packet : List ℕ) → kind_of before packet ≢ Passed →
         is_placed packet ≡ true }
+{}
+
+/// Each section of entitlements and each part of a control message that is sent names its run: by the site's first
+/// control word in version 3, and not at all in versions 1 and 2.
+#[tactic(auto, using(crate::proofs::Runs::section_names, crate::proofs::Runs::part_names))]
+pub fn messages_name_their_run()
+    ensures sections { (plan : Plan) (clear : List (List ℕ)) (emm : Emm) → IsOfBroadcast plan clear (Entitles emm) →
+        emm.run ≡ name_of plan.site }
+    ensures parts { (plan : Plan) (clear : List (List ℕ)) (part : EcmPart) → IsOfBroadcast plan clear (Controls part) →
+        part.run ≡ name_of plan.site }
 {}

@@ -1,4 +1,4 @@
-use Rattle.std.specs.Prelude.{◌≢◌, ℕ, List}
+use Rattle.std.specs.Prelude.{◌≢◌, ℕ, ◌==◌, if◌then◌else◌, List, Option, Some, None}
 use Rattle.sd_site.specs.declared.site.Site.{Site}
 use Rattle.sd_site.specs.Forms.{IsWithin, height_line, emm_line, ecm_line, every_line, cryptos_line, span_line}
 use Rattle.sd_site.specs.Forms.{messages_line, first_word_line, last_word_line, first_period_line}
@@ -34,6 +34,11 @@ fields_of site = record {
   last_word = site.last_word;
   first_period = site.first_period;
 }
+
+-- the name that a run's messages tell: its first control word in version 3, and none in versions 1 and 2 [this
+-- project, docs/FORMATS.md, Messages]
+unfoldable pub name_of : SiteFields → Option ℕ
+name_of site = if site.messages == 3 then Some site.first_word else None
 
 -- the numbers are in their ranges, and the two PIDs differ [this project, docs/FORMATS.md, Site]
 pub record AreInRange (site : SiteFields) : Type 0 where

@@ -3,6 +3,7 @@
 
 mod fault;
 pub mod laws;
+mod name;
 mod optional;
 mod reader;
 mod site;

@@ -16,6 +16,9 @@ pub const MOST_SPAN: u32 = 65_535;
 /// The greatest version of messages.
 pub const MOST_MESSAGES: u8 = 3;
 
+// The version of messages that name their run.
+pub const NAMING_MESSAGES: u8 = 3;
+
 /// The greatest number of a control word.
 pub const MOST_WORD: u32 = 4_294_967_295;
 
@@ -42,8 +45,7 @@ pub struct Site {
     pub cryptos: u32,
     /// So many crypto periods are one period.
     pub span: u32,
-    /// The version of the ECMs that the head end writes. In version 3 they and the EMM sections name the run by its first
-    /// control word.
+    /// The version of the messages that the head end writes. Those of version 3 name their run.
     pub messages: u8,
     /// The number of the first control word of a run of the head end.
     pub first_word: u32,

@@ -161,6 +161,7 @@ made : (message : Message) (part : EcmPart) (places : List Place) → IsOfMessag
       word = part.word;
       clear = part.clear;
       since = part.since;
+      run = part.run;
       closing = part.closing;
       wrapped = part.wrapped;
       check = part.check;
@@ -174,6 +175,7 @@ made message part places is same =
       is.word,
       is.clear,
       is.since,
+      is.run,
       is.closing,
       is.wrapped,
       is.check,

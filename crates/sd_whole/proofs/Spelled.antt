@@ -24,10 +24,10 @@ use Rattle.sd_psi.proofs.Inverse.{packet_parts, may_rewrite}
 use Rattle.sd_section.specs.Header.{section_length_of}
 use Rattle.sd_scramble.specs.Scrambling.{stream_number, control_of, payload_under, laid_under}
 use Rattle.sd_scramble.proofs.Scramblings.{prefix_is}
-use Rattle.sd_emm.specs.Spelled.{listed, emm_body, emm_header, emm_section}
+use Rattle.sd_emm.specs.Spelled.{listed, table_id_for, emm_body, emm_header, emm_section}
 use Rattle.sd_emm.specs.Form.{AreSets, IsEmm, Fits}
 use Rattle.sd_emm.specs.declared.emm.Emm.{Emm}
-use Rattle.sd_emm.proofs.Again.{few_entries, long_whole}
+use Rattle.sd_emm.proofs.Again.{few_entries, few_head, long_whole}
 use Rattle.sd_ecm.specs.Spelled.{ecm_body, ecm_header, ecm_section}
 use Rattle.sd_ecm.specs.Form.{IsEcm, Fits as FitsPart}
 use Rattle.sd_ecm.specs.declared.part.EcmPart.{EcmPart}
@@ -58,8 +58,9 @@ unfolding emm_section
 emm_short h emm high fits form sets =
     omega (
       arith,
-      section_long (emm_header emm.index) (emm_body emm),
+      section_long (emm_header (table_id_for emm.run) emm.index) (emm_body emm),
       long_whole h emm high fits form sets,
+      few_head emm.run,
       few_entries emm form,
     )
 

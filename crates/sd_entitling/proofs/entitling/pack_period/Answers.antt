@@ -34,8 +34,8 @@ pub returns : goal.returns
 returns g c =
     subst (λ (p : Period). OnOk c.pack_sections.result
     (c.pack_sections.new.packets.items ≡ packets_of c.args.site.now.emm p))
-    (period_is (fields_of c.args.site.now) c.args.q c.in_ok-sets.sets.items _ c.deref-2.result.now _ c.period_key.result
-    c.in_ok-sets.ensures.value.0 (c.deref-2.ensures.value ∙ (c.in_ok-entries.ensures
+    (period_is (fields_of c.args.site.now) c.name.result c.args.q c.in_ok-sets.sets.items _ c.deref-2.result.now _
+    c.period_key.result c.name.ensures c.in_ok-sets.ensures.value.0 (c.deref-2.ensures.value ∙ (c.in_ok-entries.ensures
     ∙ ap (λ (sets : List SetName). map (entry_of (fields_of c.args.site.now) c.args.q) sets) c.deref.ensures.value))
     c.check_value-check.ensures c.period_key.ensures)
     c.pack_sections.ensures
