@@ -32,9 +32,9 @@ use Rattle.sd_times.specs.Times.{most_added}
 -- a message's parts are few
 shared_few : (v n : ℕ) → n ≤ 256 → pieces_for (positions_for v) n ≤ 22
 unfolding pieces_for positions_for
-shared_few v n few = elim (cases_Bool (v == 2)) [
-  | inl two ↦ rw two (omega (arith, few))
-  | inr one ↦ rw one (omega (arith, few))
+shared_few v n few = elim (cases_Bool (v == 1)) [
+  | inl one ↦ rw one (omega (arith, few))
+  | inr later ↦ rw later (omega (arith, few))
 ]
 
 parts_few : (message : Message) → IsMessage message → length (parts_of message) ≤ 22
