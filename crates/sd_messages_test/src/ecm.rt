@@ -14,6 +14,7 @@ struct Row {
     word: u32,
     clear: u32,
     since: u32,
+    run: Option<u32>,
     closing: bool,
     part: u8,
     last_part: u8,
@@ -23,7 +24,7 @@ struct Row {
     packet: &'static str,
 }
 
-static ROWS: [Row; 14] = [
+static ROWS: [Row; 19] = [
     Row {
         version: 1,
         number: 0,
@@ -31,6 +32,7 @@ static ROWS: [Row; 14] = [
         word: 0,
         clear: 0,
         since: 0,
+        run: None,
         closing: false,
         part: 0,
         last_part: 0,
@@ -47,6 +49,7 @@ static ROWS: [Row; 14] = [
         word: 0,
         clear: 200,
         since: 0,
+        run: None,
         closing: false,
         part: 0,
         last_part: 0,
@@ -64,6 +67,7 @@ static ROWS: [Row; 14] = [
         word: 1,
         clear: 600,
         since: 2,
+        run: None,
         closing: true,
         part: 0,
         last_part: 0,
@@ -80,6 +84,7 @@ static ROWS: [Row; 14] = [
         word: 27,
         clear: 200000,
         since: 1012,
+        run: None,
         closing: false,
         part: 0,
         last_part: 0,
@@ -112,6 +117,7 @@ static ROWS: [Row; 14] = [
         word: 29,
         clear: 200000,
         since: 1013,
+        run: None,
         closing: false,
         part: 0,
         last_part: 1,
@@ -144,6 +150,7 @@ static ROWS: [Row; 14] = [
         word: 29,
         clear: 200000,
         since: 1013,
+        run: None,
         closing: false,
         part: 1,
         last_part: 1,
@@ -160,6 +167,7 @@ static ROWS: [Row; 14] = [
         word: 61,
         clear: 200000,
         since: 1029,
+        run: None,
         closing: false,
         part: 0,
         last_part: 2,
@@ -192,6 +200,7 @@ static ROWS: [Row; 14] = [
         word: 61,
         clear: 200000,
         since: 1029,
+        run: None,
         closing: false,
         part: 1,
         last_part: 2,
@@ -224,6 +233,7 @@ static ROWS: [Row; 14] = [
         word: 61,
         clear: 200000,
         since: 1029,
+        run: None,
         closing: false,
         part: 2,
         last_part: 2,
@@ -246,6 +256,7 @@ static ROWS: [Row; 14] = [
         word: 0,
         clear: 200,
         since: 0,
+        run: None,
         closing: false,
         part: 0,
         last_part: 0,
@@ -263,6 +274,7 @@ static ROWS: [Row; 14] = [
         word: 1,
         clear: 400,
         since: 0,
+        run: None,
         closing: false,
         part: 0,
         last_part: 0,
@@ -280,6 +292,7 @@ static ROWS: [Row; 14] = [
         word: 1,
         clear: 600,
         since: 2,
+        run: None,
         closing: true,
         part: 0,
         last_part: 0,
@@ -297,6 +310,7 @@ static ROWS: [Row; 14] = [
         word: 2,
         clear: 240,
         since: 3,
+        run: None,
         closing: false,
         part: 0,
         last_part: 1,
@@ -328,6 +342,7 @@ static ROWS: [Row; 14] = [
         word: 2,
         clear: 240,
         since: 3,
+        run: None,
         closing: false,
         part: 1,
         last_part: 1,
@@ -337,6 +352,109 @@ static ROWS: [Row; 14] = [
         packet: "4741f1170084b0770000c10101000000060000000200000002000000f00000000300ac4874446c195930fb444ed85e64001a\
                 816f52753e56b767f7e629e8acd38524bc169e5df6f281d0db5e496724b6c42005010c000000000017010d00000000001701\
                 0e000000000017010f000000000016100000000000001741884403",
+    },
+    Row {
+        version: 3,
+        number: 0,
+        period: 1,
+        word: 2,
+        clear: 0,
+        since: 0,
+        run: Some(2),
+        closing: false,
+        part: 0,
+        last_part: 0,
+        wrapped: "9d331461fca0601d0d2a4d1e1ee5d59d2379e975793a2c4aa8ae15082309dd27",
+        check: "bc169e5df6f281d0db5e496724b6c420",
+        positions: &[],
+        packet: "4741f1100088b0530000c10000000000000000000100000002000000000000000000000002009d331461fca0601d0d2a4d1e1e\
+                e5d59d2379e975793a2c4aa8ae15082309dd27bc169e5df6f281d0db5e496724b6c42000905316ad",
+    },
+    Row {
+        version: 3,
+        number: 1,
+        period: 1,
+        word: 2,
+        clear: 200,
+        since: 0,
+        run: Some(2),
+        closing: false,
+        part: 0,
+        last_part: 0,
+        wrapped: "9d331461fca0601d0d2a4d1e1ee5d59d2379e975793a2c4aa8ae15082309dd27",
+        check: "bc169e5df6f281d0db5e496724b6c420",
+        positions: &[(256, 159), (257, 65), (4096, 17)],
+        packet: "4741f1110088b06b0000c10000000000010000000100000002000000c80000000000000002009d331461fca0601d0d2a4d1e1e\
+                e5d59d2379e975793a2c4aa8ae15082309dd27bc169e5df6f281d0db5e496724b6c42003010000000000009f010100000000004\
+                110000000000000112e1599a6",
+    },
+    Row {
+        version: 3,
+        number: 3,
+        period: 1,
+        word: 3,
+        clear: 600,
+        since: 2,
+        run: Some(2),
+        closing: true,
+        part: 0,
+        last_part: 0,
+        wrapped: "e118513884f5db6ccd67474cb26228a1ec18e2f34754600595ba3f8ad1552eeb",
+        check: "587a224989055a6bc416e85f0ddcf48b",
+        positions: &[(256, 447), (257, 165), (4096, 21)],
+        packet: "4741f1130089b06b0000c1000000000003000000010000000300000258000000020000000201e118513884f5db6ccd67474cb2\
+                6228a1ec18e2f34754600595ba3f8ad1552eeb587a224989055a6bc416e85f0ddcf48b0301000000000001bf01010000000000a\
+                510000000000000151c1ed9f5",
+    },
+    Row {
+        version: 3,
+        number: 6,
+        period: 9,
+        word: 303,
+        clear: 240,
+        since: 4,
+        run: Some(300),
+        closing: false,
+        part: 0,
+        last_part: 1,
+        wrapped: "59bd374d3456cc1f4a8530e3d47f3f4b3cb13b972bfe38c60d77bc511c004490",
+        check: "b659e6949399b4c5567cfeca5dbb4e44",
+        positions: &[
+            (256, 123),
+            (257, 23),
+            (258, 23),
+            (259, 23),
+            (260, 23),
+            (261, 23),
+            (262, 23),
+            (263, 23),
+            (264, 23),
+            (265, 23),
+            (266, 23),
+            (267, 23),
+        ],
+        packet: "4741f1160089b0b30000c1000100000006000000090000012f000000f0000000040000012c0059bd374d3456cc1f4a8530e3d4\
+                7f3f4b3cb13b972bfe38c60d77bc511c004490b659e6949399b4c5567cfeca5dbb4e440c010000000000007b010100000000001\
+                7010200000000001701030000000000170104000000000017010500000000001701060000000000170107000000000017010800\
+                00000000170109000000000017010a000000000017010b00000000001760e4ee3a",
+    },
+    Row {
+        version: 3,
+        number: 6,
+        period: 9,
+        word: 303,
+        clear: 240,
+        since: 4,
+        run: Some(300),
+        closing: false,
+        part: 1,
+        last_part: 1,
+        wrapped: "59bd374d3456cc1f4a8530e3d47f3f4b3cb13b972bfe38c60d77bc511c004490",
+        check: "b659e6949399b4c5567cfeca5dbb4e44",
+        positions: &[(268, 23), (269, 23), (270, 23), (271, 22), (4096, 23)],
+        packet: "4741f1170089b07b0000c1010100000006000000090000012f000000f0000000040000012c0059bd374d3456cc1f4a8530e3d4\
+                7f3f4b3cb13b972bfe38c60d77bc511c004490b659e6949399b4c5567cfeca5dbb4e4405010c000000000017010d00000000001\
+                7010e000000000017010f000000000016100000000000001777641e57",
     },
 ];
 
@@ -374,6 +492,7 @@ fn part_of(row: &Row) -> Option<EcmPart> {
         word: row.word,
         clear: row.clear,
         since: row.since,
+        run: row.run,
         closing: row.closing,
         part: row.part,
         last_part: row.last_part,
@@ -411,6 +530,7 @@ fn head_of(part: &EcmPart) -> EcmHead {
         word: part.word,
         clear: part.clear,
         since: part.since,
+        run: part.run,
         closing: part.closing,
         wrapped: part.wrapped,
         check: part.check,
@@ -442,7 +562,16 @@ fn part_again(row: &Row, places: &[Place]) -> Option<EcmPart> {
 #[test]
 fn parts_of_messages(rt: HostRuntime) -> Result<(), Fail> {
     // The first row of each message, and how many rows it has.
-    for (first, count) in [(0, 1), (1, 1), (4, 2), (6, 3), (9, 1), (12, 2)] {
+    for (first, count) in [
+        (0, 1),
+        (1, 1),
+        (4, 2),
+        (6, 3),
+        (9, 1),
+        (12, 2),
+        (15, 1),
+        (17, 2),
+    ] {
         let rows = ROWS.get(first..first + count).ok_or("no rows")?;
         let places = places_of(rt.alloc(), rows)?;
         let head = rows.first().and_then(part_of).ok_or("no part")?;
@@ -458,15 +587,18 @@ fn parts_of_messages(rt: HostRuntime) -> Result<(), Fail> {
 }
 
 // A count, a length, a part that isn't the last with 3 positions, and with 12, a last part with none; in version 2 13
-// positions; a part of version 2 under a table_id of version 1; a part that isn't the last, before its PID and flags.
-static OTHER_COUNTS: [Change; 8] = [
+// positions, and in version 3; a part of version 2 under a table_id of version 1, and one of version 3 under one of
+// version 2; a part that isn't the last, before its PID and flags.
+static OTHER_COUNTS: [Change; 10] = [
     (1, &[(78, 4)]),
     (1, &[(7, 0x64)]),
     (1, &[(12, 1)]),
     (6, &[(7, 0xAB), (78, 12)]),
     (0, &[(11, 1), (12, 1)]),
     (12, &[(82, 13)]),
+    (17, &[(86, 13)]),
     (9, &[(5, 0x80)]),
+    (15, &[(5, 0x84)]),
     (1, &[(12, 1), (79, 0x20), (29, 2)]),
 ];
 
@@ -485,17 +617,20 @@ static OTHER_ORDERS: [Change; 3] = [
 ];
 
 // Flags 2; table_id 0x81 for an even control word; in version 2 a `since` that is the number and one above it, and
-// another parity.
-static OTHER_HEADS: [Change; 5] = [
+// another parity; in version 3 flags 2, and another parity.
+static OTHER_HEADS: [Change; 7] = [
     (1, &[(29, 2)]),
     (1, &[(5, 0x81)]),
     (9, &[(32, 1)]),
     (9, &[(32, 2)]),
     (9, &[(5, 0x85)]),
+    (15, &[(37, 2)]),
+    (15, &[(5, 0x89)]),
 ];
 
-// table_id, the bit after the syntax indicator, version, extension, part above the last, pointer, unit start, length.
-static OTHER_KINDS: [Change; 8] = [
+// table_id, the bit after the syntax indicator, version, extension, part above the last, pointer, unit start, length, in
+// version 3 too.
+static OTHER_KINDS: [Change; 9] = [
     (1, &[(5, 0x82)]),
     (1, &[(6, 0xF0)]),
     (1, &[(10, 0xC3)]),
@@ -504,6 +639,7 @@ static OTHER_KINDS: [Change; 8] = [
     (1, &[(4, 1)]),
     (1, &[(1, 0x01)]),
     (0, &[(7, 0x4A)]),
+    (14, &[(7, 0x52)]),
 ];
 
 // Whether each packet that is changed so is read as this.

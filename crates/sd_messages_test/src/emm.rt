@@ -15,11 +15,12 @@ struct Row {
     sections: u16,
     index: u16,
     check: &'static str,
+    run: Option<u32>,
     entries: &'static [(u32, u32, &'static str)],
     packet: &'static str,
 }
 
-static ROWS: [Row; 7] = [
+static ROWS: [Row; 9] = [
     Row {
         height: 3,
         period: 0,
@@ -27,6 +28,7 @@ static ROWS: [Row; 7] = [
         sections: 1,
         index: 0,
         check: "bfc28b03bf4fdd1795074332e8ca393c",
+        run: None,
         entries: &[],
         packet: "4741f0180082b0240000c1000000000000000000000001bfc28b03bf4fdd1795074332e8ca393c0089e822a2",
     },
@@ -37,6 +39,7 @@ static ROWS: [Row; 7] = [
         sections: 1,
         index: 0,
         check: "5a35db9de2fafb13b54f559d8ea4512e",
+        run: None,
         entries: &[(
             0,
             0,
@@ -52,6 +55,7 @@ static ROWS: [Row; 7] = [
         sections: 1,
         index: 0,
         check: "598f3d3d0c98e0615af0d8a1b9021d9a",
+        run: None,
         entries: &[(
             1,
             13,
@@ -67,6 +71,7 @@ static ROWS: [Row; 7] = [
         sections: 1,
         index: 0,
         check: "975da9be681df46675a86efa0460a299",
+        run: None,
         entries: &[
             (
                 1,
@@ -96,6 +101,7 @@ static ROWS: [Row; 7] = [
         sections: 1,
         index: 0,
         check: "1e3a95f051d85b98985115e38810b190",
+        run: None,
         entries: &[
             (
                 3,
@@ -125,6 +131,7 @@ static ROWS: [Row; 7] = [
         sections: 2,
         index: 0,
         check: "a5f951e0236d2473a5aae5e9367160e4",
+        run: None,
         entries: &[
             (
                 3,
@@ -154,6 +161,7 @@ static ROWS: [Row; 7] = [
         sections: 2,
         index: 1,
         check: "a5f951e0236d2473a5aae5e9367160e4",
+        run: None,
         entries: &[
             (
                 9,
@@ -175,6 +183,52 @@ static ROWS: [Row; 7] = [
                 6d9272179a3b7c82bfe03cdcad9a3528732bbadd3eff476f414ac4eeecf80000000c0018b12146a715fd7d68b2cd27c6871b\
                 d10b8852bc0f4d1e09cb50d9fb2aed336a2202fe0000000d001ad03ee55a624d4c8bc2126dd75ee511a99f5a881674eef1a1\
                 6c0ff45c512c0f5134f305c6a84f",
+    },
+    Row {
+        height: 3,
+        period: 1,
+        sets: 1,
+        sections: 1,
+        index: 0,
+        check: "1dcd30913b9a37b4772694d78c1d7f2f",
+        run: Some(2),
+        entries: &[(
+            0,
+            0,
+            "ad14ade2c1043f7cebfb04240773f6111f9c9bbced1ac6a47c71e16c50b77dcf",
+        )],
+        packet: "4741f010008ab0500000c10000000000010000000100011dcd30913b9a37b4772694d78c1d7f2f000000020100000000000000\
+                00ad14ade2c1043f7cebfb04240773f6111f9c9bbced1ac6a47c71e16c50b77dcf4600102a",
+    },
+    Row {
+        height: 4,
+        period: 5,
+        sets: 3,
+        sections: 1,
+        index: 0,
+        check: "9505a2b5a1e5accf4161e9f08863b73f",
+        run: Some(4294867295),
+        entries: &[
+            (
+                2,
+                11,
+                "8d58f102cf27dec217646135d2c65a14a0219c4f7cb77cd1247742f59e8f349e",
+            ),
+            (
+                6,
+                27,
+                "65f971e26a6cd37ce91712fd6c185e88f49d01bafe884d4f6d4e7e9eb45cfc1c",
+            ),
+            (
+                7,
+                29,
+                "edb3a0701831a036c9fc09bffb339b0fac14b4828a0ee3d568dbe94b822009b9",
+            ),
+        ],
+        packet: "475b5610008ab0a00000c10000000000050000000300019505a2b5a1e5accf4161e9f08863b73ffffe795f0300000002000000\
+                0b8d58f102cf27dec217646135d2c65a14a0219c4f7cb77cd1247742f59e8f349e000000060000001b65f971e26a6cd37ce9171\
+                2fd6c185e88f49d01bafe884d4f6d4e7e9eb45cfc1c000000070000001dedb3a0701831a036c9fc09bffb339b0fac14b4828a0e\
+                e3d568dbe94b822009b9c6d32a5c",
     },
 ];
 
@@ -201,6 +255,7 @@ fn emm_of(row: &Row) -> Option<Emm> {
         sections: row.sections,
         index: row.index,
         check: <[u8; 16] as FromHex>::from_hex(row.check).ok()?,
+        run: row.run,
         count: u8::try_from(row.entries.len()).ok()?,
         entries,
     })
@@ -240,7 +295,7 @@ fn entries_of(alloc: Global, rows: &[Row]) -> Result<Vec<Entry>, Fail> {
 fn section_again(row: &Row, entries: &[Entry]) -> Option<Emm> {
     let due = emm_of(row)?;
     if entries.len() <= MOST_SETS && due.index < section_count(entries.len()) {
-        Some(Emm::of_period(row.period, &due.check, entries, due.index))
+        Some(Emm::of_period(row.run, row.period, &due.check, entries, due.index))
     } else {
         None
     }
@@ -249,7 +304,7 @@ fn section_again(row: &Row, entries: &[Entry]) -> Option<Emm> {
 #[test]
 fn sections_of_periods(rt: HostRuntime) -> Result<(), Fail> {
     // The first row of each period, and how many rows it has.
-    for (first, count) in [(0, 1), (1, 1), (3, 1), (5, 2)] {
+    for (first, count) in [(0, 1), (1, 1), (3, 1), (5, 2), (8, 1)] {
         let rows = ROWS.get(first..first + count).ok_or("no rows")?;
         let entries = entries_of(rt.alloc(), rows)?;
         assert!(rt; entries.len() <= MOST_SETS);
@@ -261,8 +316,9 @@ fn sections_of_periods(rt: HostRuntime) -> Result<(), Fail> {
     Ok(())
 }
 
-// A count of 2 with section_length 76; a length, a number of sections, an index, numbers of sets.
-static OTHER_COUNTS: [Change; 8] = [
+// A count of 2 with section_length 76; a length, a number of sections, an index, numbers of sets; a section that names
+// its broadcast under the table_id of one that doesn't, and the other way round; one with another count.
+static OTHER_COUNTS: [Change; 11] = [
     (1, &[(39, 2)]),
     (3, &[(7, 0x9D)]),
     (3, &[(22, 2)]),
@@ -271,6 +327,9 @@ static OTHER_COUNTS: [Change; 8] = [
     (3, &[(20, 2)]),
     (6, &[(20, 5)]),
     (5, &[(22, 1)]),
+    (8, &[(5, 0x82)]),
+    (3, &[(5, 0x8A)]),
+    (8, &[(43, 2)]),
 ];
 
 // S(2,3), the whole set beside others, a node below the leaves.

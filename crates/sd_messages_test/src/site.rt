@@ -31,11 +31,12 @@ fn text(alloc: Global, count: usize, k: usize, other: &str) -> Result<String, Al
 }
 
 // How many lines there are, a line of another text, that text, and the version of messages.
-static GOOD: [(usize, usize, &str, u8); 4] = [
+static GOOD: [(usize, usize, &str, u8); 5] = [
     (8, 0, "", 1),
     (8, 2, UPPER, 1),
     (9, 9, "messages 1", 1),
     (9, 0, "", 2),
+    (9, 9, "messages 3", 3),
 ];
 
 #[test]
@@ -78,7 +79,7 @@ static BAD: [(usize, usize, &str, SiteFault); 34] = [
     (8, 8, "period-cryptos 65536", SiteFault::Range(8)),
     (8, 8, "period-cryptos 1\n", SiteFault::Line(9)),
     (9, 9, "messages 0", SiteFault::Range(9)),
-    (9, 9, "messages 3", SiteFault::Range(9)),
+    (9, 9, "messages 4", SiteFault::Range(9)),
     (9, 9, "messages", SiteFault::Line(9)),
     (9, 9, "messages 2\n", SiteFault::Line(10)),
     (9, 9, "messages 2\nmessages 2", SiteFault::Line(10)),
@@ -164,6 +165,27 @@ fn a_site_names_its_words_and_its_first_period(rt: HostRuntime) -> Result<(), Fa
             (site.first_word, site.last_word, site.first_period),
             *named
         );
+    }
+    Ok(())
+}
+
+// The lines from the ninth on, and the name that the run's messages tell.
+static RUNS: [(&str, Option<u32>); 4] = [
+    ("messages 1\nfirst-word 7", None),
+    ("messages 2\nfirst-word 7", None),
+    ("messages 3", Some(0)),
+    (
+        "messages 3\nfirst-word 7\nlast-word 9\nfirst-period 4",
+        Some(7),
+    ),
+];
+
+#[test]
+fn a_run_is_named_by_its_first_word(rt: HostRuntime) -> Result<(), Fail> {
+    for (lines, name) in &RUNS {
+        let text = text(rt.alloc(), 9, 9, lines)?;
+        let site = read(text.as_bytes()).ok().ok_or("the text is a site file")?;
+        assert_eq!(rt; site.name(), *name);
     }
     Ok(())
 }

@@ -105,7 +105,7 @@ static REFUSALS: [Refusal; 31] = [
     ),
     (
         "cover S F",
-        Part::Site(9, "messages 3\n"),
+        Part::Site(9, "messages 4\n"),
         NONE,
         NONE,
         6,
