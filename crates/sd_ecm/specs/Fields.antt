@@ -16,7 +16,6 @@ use Rattle.sd_ecm.specs.declared.part.EcmPart.{EcmPart}
 use Rattle.sd_ecm.specs.declared.fault.EcmFault.{EcmFault}
 use Rattle.sd_ecm.specs.declared.fault.EcmFault.TheVariants.{Count, Order, Pid, Mixed, Back}
 use Rattle.sd_ecm.specs.Versions.{most_positions}
-use Rattle.sd_ecm.specs.declared.format.TheConstants.{WRAPPED_AT, CHECK_AT, COUNT_AT, PLACES_AT, PLACE_BYTES}
 
 -- the version of a section, if it is a part of a control message [this project, docs/FORMATS.md, Messages]
 abbrev pub version_of : List ℕ → ℕ
@@ -45,7 +44,7 @@ place_of bytes = record { pid = field bytes 0 16; position = field bytes 16 48 }
 
 -- so many positions, one after the other
 abbrev pub places_in : ℕ → List ℕ → List Place
-places_in n bytes = items_in place_of PLACE_BYTES n bytes
+places_in n bytes = items_in place_of 8 n bytes
 
 -- filled up to 13
 abbrev pub padded : List Place → List Place
@@ -80,11 +79,11 @@ ecm_in version number last_number body = record {
   closing = flags_of version body == 1;
   part = number;
   last_part = last_number;
-  wrapped = slice_range (from_flags version body) WRAPPED_AT CHECK_AT;
-  check = slice_range (from_flags version body) CHECK_AT COUNT_AT;
-  count = slice_index (from_flags version body) COUNT_AT;
-  positions = padded (places_in (slice_index (from_flags version body) COUNT_AT)
-      (drop PLACES_AT (from_flags version body)));
+  wrapped = slice_range (from_flags version body) 1 33;
+  check = slice_range (from_flags version body) 33 49;
+  count = slice_index (from_flags version body) 49;
+  positions = padded (places_in (slice_index (from_flags version body) 49)
+      (drop 50 (from_flags version body)));
 }
 
 -- the same with other positions
@@ -114,7 +113,7 @@ ecm_of section = ecm_in (version_of section) (number_of section) (last_number_of
 -- Messages]
 abbrev pub HasCount : ℕ → EcmPart → Type 0
 HasCount length part =
-    (length ≡ head_length part.version + PLACE_BYTES * part.count)
+    (length ≡ head_length part.version + 8 * part.count)
     × IsCounted (positions_for part.version) part.part part.last_part part.count
 
 -- the flags are 0 or 1, the table_id is odd where the number of the control word is, and `since` is below the number of

@@ -14,13 +14,12 @@ use Rattle.sd_ecm.specs.declared.part.Place.{Place}
 use Rattle.sd_ecm.specs.declared.part.EcmPart.{EcmPart}
 use Rattle.sd_ecm.specs.declared.fault.EcmFault.{EcmFault}
 use Rattle.sd_ecm.specs.declared.fault.EcmFault.TheVariants.{Count, Order, Pid, Mixed}
-use Rattle.sd_ecm.specs.declared.format.TheConstants.{PLACE_BYTES}
 
 -- whether the count is what the part is to have and what the length of the body comes to [this project,
 -- docs/FORMATS.md, Messages]
 abbrev pub is_counted : ℕ → EcmPart → Bool
 is_counted length part =
-    (length == head_length part.version + PLACE_BYTES * part.count)
+    (length == head_length part.version + 8 * part.count)
     && (nat_le part.count (positions_for part.version)
     && (((part.part == part.last_part) || (part.count == positions_for part.version))
     && ((part.part == 0) || nat_lt 0 part.count)))

@@ -1,7 +1,5 @@
 -- The three versions of control messages, and the numbers in which they differ.
 use Rattle.std.specs.Prelude.{◌≡◌, ℕ, ◌+◌, ◌-◌, ◌<◌, ◌⊎◌, ◌↔◌, ◌==◌, nat_lt, if◌then◌else◌, Option, IsSome}
-use Rattle.sd_ecm.specs.declared.format.TheConstants.{FLAGS_AT_1}
-use Rattle.sd_ecm.specs.declared.format.TheConstants.{FLAGS_AT_2, FLAGS_AT_3, PLACES_AT}
 
 -- the most positions of a message [this project, docs/FORMATS.md, Messages]
 abbrev pub most_places : ℕ
@@ -10,20 +8,6 @@ most_places = 256
 -- the most positions of a part of version 1, and of any part [this project, docs/FORMATS.md, Messages]
 abbrev pub most_positions : ℕ
 most_positions = 13
-
--- the most positions of a part of versions 2 and 3 [this project, docs/FORMATS.md, Messages]
-abbrev pub most_positions_2 : ℕ
-most_positions_2 = 12
-
--- the table_ids of the versions for a control word with an even number [this project, docs/FORMATS.md, Messages]
-abbrev pub table_id_1 : ℕ
-table_id_1 = 0x80
-
-abbrev pub table_id_2 : ℕ
-table_id_2 = 0x84
-
-abbrev pub table_id_3 : ℕ
-table_id_3 = 0x88
 
 -- there are three [this project, docs/FORMATS.md, Messages]
 abbrev pub IsVersion : ℕ → Type 0
@@ -35,24 +19,24 @@ IsNamed version run = IsSome run ↔ (version ≡ 3)
 
 -- how many positions a part has at most [this project, docs/FORMATS.md, Messages]
 unfoldable pub positions_for : ℕ → ℕ
-positions_for version = if version == 1 then most_positions else most_positions_2
+positions_for version = if version == 1 then most_positions else 12
 
 -- where the flags stand in the body: in version 2 after `since`, in version 3 after the broadcast's name
 -- [this project, docs/FORMATS.md, Messages]
 unfoldable pub flags_at : ℕ → ℕ
-flags_at version = if version == 3 then FLAGS_AT_3 else if version == 2 then FLAGS_AT_2 else FLAGS_AT_1
+flags_at version = if version == 3 then 24 else if version == 2 then 20 else 16
 
 -- how many bytes of the body stand before its positions [this project, docs/FORMATS.md, Messages]
 abbrev pub head_length : ℕ → ℕ
-head_length version = flags_at version + PLACES_AT
+head_length version = flags_at version + 50
 
 -- the table_id for a control word with an even number [this project, docs/FORMATS.md, Messages]
 unfoldable pub even_table_id : ℕ → ℕ
-even_table_id version = if version == 3 then table_id_3 else if version == 2 then table_id_2 else table_id_1
+even_table_id version = if version == 3 then 0x88 else if version == 2 then 0x84 else 0x80
 
 -- the version whose table_id this is, if it is one of them
 unfoldable pub version_for : ℕ → ℕ
-version_for table_id = if nat_lt table_id table_id_2 then 1 else if nat_lt table_id table_id_3 then 2 else 3
+version_for table_id = if nat_lt table_id 0x84 then 1 else if nat_lt table_id 0x88 then 2 else 3
 
 -- each packet from message `since` up to this message has the control word of message `since`, which is below the
 -- number, unless both are 0

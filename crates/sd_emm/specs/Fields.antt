@@ -8,29 +8,27 @@ use Rattle.sd_tree.specs.declared.set.SetName.TheVariants.{Whole, Diff}
 use Rattle.sd_section.specs.Header.{least_length, table_id_of, section_length_of, extension_of, number_of}
 use Rattle.sd_section.specs.Header.{last_number_of, body_of}
 use Rattle.sd_message.specs.Framed.{HasSection, section_of}
-use Rattle.sd_emm.specs.Spelled.{listed, names_in, emm_table_id, named_table_id}
+use Rattle.sd_emm.specs.Spelled.{listed, names_in}
 use Rattle.sd_emm.specs.Form.{IsCounted, nothing, AreSets, most_entries}
 use Rattle.sd_emm.specs.declared.emm.Entry.{Entry}
 use Rattle.sd_emm.specs.declared.emm.Emm.{Emm}
 use Rattle.sd_emm.specs.declared.fault.EmmFault.{EmmFault}
-use Rattle.sd_emm.specs.declared.format.TheConstants.{CHECK_AT, RUN_AT, RUN_BYTES}
-use Rattle.sd_emm.specs.declared.format.TheConstants.{ENTRY_BYTES, WRAPPED_AT}
 use Rattle.sd_message.specs.Items.{items_in}
 use Rattle.sd_message.specs.Pieces.{filled}
 use Rattle.sd_emm.specs.declared.fault.EmmFault.TheVariants.{Count, Order, Node, Mixed}
 
 -- whether the table_id is that of a section that names its broadcast [this project, docs/FORMATS.md, Messages]
 abbrev pub is_named : ℕ → Bool
-is_named table_id = table_id == named_table_id
+is_named table_id = table_id == 0x8A
 
 -- it is that of a section of entitlements [this project, docs/FORMATS.md, Messages]
 abbrev pub IsTable : ℕ → Type 0
-IsTable table_id = (table_id ≡ emm_table_id) ⊎ (table_id ≡ named_table_id)
+IsTable table_id = (table_id ≡ 0x82) ⊎ (table_id ≡ 0x8A)
 
 -- where the count of entries stands: after the broadcast's name, where there is one [this project, docs/FORMATS.md,
 -- Messages]
 unfoldable pub count_at : Bool → ℕ
-count_at named = if named then RUN_AT + RUN_BYTES else RUN_AT
+count_at named = if named then 30 else 26
 
 -- how many bytes of the body stand before its entries [this project, docs/FORMATS.md, Messages]
 abbrev pub head_length : Bool → ℕ
@@ -57,13 +55,12 @@ name_of i j = if (i == 0) && (j == 0) then Whole else Diff i j
 unfoldable pub entry_of : List ℕ → Entry
 entry_of bytes = record {
   name = name_of (field bytes 0 32) (field bytes 32 32);
-  wrapped = slice_range bytes WRAPPED_AT
-      ENTRY_BYTES;
+  wrapped = slice_range bytes 8 40;
 }
 
 -- so many entries, one after the other
 abbrev pub entries_in : ℕ → List ℕ → List Entry
-entries_in n bytes = items_in entry_of ENTRY_BYTES n bytes
+entries_in n bytes = items_in entry_of 40 n bytes
 
 -- filled up to three
 abbrev pub padded : List Entry → List Entry
@@ -81,7 +78,7 @@ emm_in named index body = record {
   sets = field body 32 32;
   sections = field body 64 16;
   index = index;
-  check = slice_range body CHECK_AT RUN_AT;
+  check = slice_range body 10 26;
   run = run_in named body;
   count = slice_index body (count_at named);
   entries = padded (entries_in (slice_index body (count_at named)) (drop (head_length named) body));
@@ -108,7 +105,7 @@ with_entries emm entries = record {
 -- named, and 40 for each entry [this project, docs/FORMATS.md, Messages]
 abbrev pub HasCount : ℕ → Emm → Type 0
 HasCount length emm =
-    (length ≡ head_length (is_some emm.run) + ENTRY_BYTES * emm.count)
+    (length ≡ head_length (is_some emm.run) + 40 * emm.count)
     × IsCounted emm.sets emm.sections emm.index emm.count
 
 -- no rule is broken

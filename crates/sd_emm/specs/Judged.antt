@@ -9,14 +9,13 @@ use Rattle.sd_tree.specs.declared.set.SetName.TheVariants.{Whole, Diff}
 use Rattle.sd_section.specs.Header.{least_length, table_id_of, section_length_of, number_of, last_number_of, body_of}
 use Rattle.sd_message.specs.Framed.{has_section, section_of}
 use Rattle.sd_message.specs.Items.{all_pairs}
-use Rattle.sd_emm.specs.Spelled.{listed, names_in, emm_table_id, named_table_id}
+use Rattle.sd_emm.specs.Spelled.{listed, names_in}
 use Rattle.sd_emm.specs.Form.{sections_for, most_entries}
 use Rattle.sd_emm.specs.Fields.{emm_of, is_named, head_length}
 use Rattle.sd_emm.specs.declared.emm.Entry.{Entry}
 use Rattle.sd_emm.specs.declared.emm.Emm.{Emm}
 use Rattle.sd_emm.specs.declared.fault.EmmFault.{EmmFault}
 use Rattle.sd_emm.specs.declared.fault.EmmFault.TheVariants.{Count, Order, Node}
-use Rattle.sd_emm.specs.declared.format.TheConstants.{ENTRY_BYTES}
 
 -- whether one halving to n of them lead from j to i
 unfoldable pub is_halved : ℕ → ℕ → ℕ → Bool
@@ -43,7 +42,7 @@ is_ascending names = all_pairs (λ a b. is_lt (set_cmp a b)) names
 -- whether the numbers come to one another and to the length of the body [this project, docs/FORMATS.md, Messages]
 abbrev pub is_counted : ℕ → Emm → Bool
 is_counted length emm =
-    (length == head_length (is_some emm.run) + ENTRY_BYTES * emm.count)
+    (length == head_length (is_some emm.run) + 40 * emm.count)
     && ((emm.sections == sections_for emm.sets)
     && (nat_lt emm.index emm.sections && (emm.count == min most_entries (emm.sets - most_entries * emm.index))))
 
@@ -58,7 +57,7 @@ emm_judged h length emm =
 -- whether a section is one of entitlements
 abbrev pub is_emm_section : List ℕ → Bool
 is_emm_section section =
-    ((table_id_of section == emm_table_id) || (table_id_of section == named_table_id))
+    ((table_id_of section == 0x82) || (table_id_of section == 0x8A))
     && ((number_of section == 0)
     && ((last_number_of section == 0)
     && nat_le (head_length (is_named (table_id_of section)) + least_length) (section_length_of section)))

@@ -6,7 +6,6 @@ use Rattle.sd_emm.specs.Form.{sections_for, AreWrapped, most_entries}
 use Rattle.sd_emm.specs.Fields.{padded}
 use Rattle.sd_emm.specs.declared.emm.Entry.{Entry}
 use Rattle.sd_emm.specs.declared.emm.Emm.{Emm}
-use Rattle.sd_emm.specs.declared.format.TheConstants.{MOST_SETS}
 use Rattle.sd_message.specs.Pieces.{piece_at, each_below}
 
 -- what a period's sections say: the broadcast's name, where they tell it, the period's number, the check value of its key, and all of its sets, each with the wrapped key
@@ -46,7 +45,7 @@ pub record IsPeriod (period : Period) : Type 0 where
   pub run : IfSome period.run (λ run. run < 2 ^ 32)
   pub number : period.number < 2 ^ 32
   pub check : length period.check ≡ 16
-  pub sets : length period.entries ≤ MOST_SETS
+  pub sets : length period.entries ≤ 131071
   pub wrapped : AreWrapped period.entries
 
 -- the section says of the period what each of its sections does

@@ -11,15 +11,9 @@ use Rattle.sd_emm.specs.declared.emm.Emm.{Emm}
 
 -- the table_id of a section that doesn't name its broadcast, and of one that does [this project, docs/FORMATS.md,
 -- Messages]
-abbrev pub emm_table_id : ℕ
-emm_table_id = 0x82
-
-abbrev pub named_table_id : ℕ
-named_table_id = 0x8A
-
 abbrev pub table_id_for : Option ℕ → ℕ
-table_id_for None = emm_table_id
-table_id_for (Some run) = named_table_id
+table_id_for None = 0x82
+table_id_for (Some run) = 0x8A
 
 -- the entries that a section has
 abbrev pub listed : Emm → List Entry

@@ -2,16 +2,9 @@
 use Rattle.std.specs.Prelude.{◌≡◌, ℕ, ◌+◌, ◌-◌, ◌%◌, ◌<◌, ◌≤◌, ◌==◌, ◌&&◌, Bool, List, [], ◌∷◌, nat_le, if◌then◌else◌}
 use Rattle.sd_packet.specs.Header.{pid_of, counter_of, has_payload}
 
--- the lowest and the highest PID whose packets have positions [this project, docs/FORMATS.md, Positions]
-abbrev pub lowest_positional : ℕ
-lowest_positional = 0x0020
-
-abbrev pub highest_positional : ℕ
-highest_positional = 0x1FEF
-
 -- a PID whose packets have positions [this project, docs/FORMATS.md, Positions]
 abbrev pub is_positional : ℕ → Bool
-is_positional pid = nat_le lowest_positional pid && nat_le pid highest_positional
+is_positional pid = nat_le 0x0020 pid && nat_le pid 0x1FEF
 
 -- the position that a counter leads to: position + ((counter - position - 1) mod 16) + 1
 -- [this project, docs/FORMATS.md, Positions]

@@ -5,13 +5,10 @@ use Rattle.sd_section.specs.Written.{section_bytes}
 use Rattle.sd_section.specs.declared.write.Header.{Header}
 use Rattle.sd_psi.specs.Tables.{tag_of, content_of}
 
--- descriptor_tag of a CA_descriptor [ISO/IEC 13818-1, 2.6.1]
-abbrev pub ca_tag : ℕ
-ca_tag = 9
-
--- the descriptor is a CA_descriptor in which CA_system_ID and CA_PID are there [ISO/IEC 13818-1, 2.6.16]
+-- the descriptor is a CA_descriptor, whose descriptor_tag is 9, in which CA_system_ID and CA_PID are there
+-- [ISO/IEC 13818-1, 2.6.1, 2.6.16]
 unfoldable pub is_ca : List ℕ → Bool
-is_ca descriptor = (tag_of descriptor == ca_tag) && nat_le 4 (length (content_of descriptor))
+is_ca descriptor = (tag_of descriptor == 9) && nat_le 4 (length (content_of descriptor))
 
 -- CA_system_ID [ISO/IEC 13818-1, 2.6.16]
 abbrev pub system_of : List ℕ → ℕ
@@ -34,7 +31,7 @@ pid_bytes pid = (0xE0 + pid / 256) ∷ pid % 256 ∷ []
 -- that of entitlement control messages [ISO/IEC 13818-1, 2.6.16; this project, docs/FORMATS.md, Tables]
 abbrev pub cat_descriptor : ℕ → ℕ → ℕ → List ℕ
 cat_descriptor ca emm ecm =
-    ca_tag ∷ 6 ∷ ca / 256 ∷ ca % 256 ∷ (0xE0 + emm / 256) ∷ emm % 256 ∷ pid_bytes ecm
+    9 ∷ 6 ∷ ca / 256 ∷ ca % 256 ∷ (0xE0 + emm / 256) ∷ emm % 256 ∷ pid_bytes ecm
 
 -- the header of the project's CAT: where other tables have an extension, its bits are reserved, and 1
 -- [ISO/IEC 13818-1, 2.4.4.6; this project, docs/FORMATS.md, Tables]

@@ -3,7 +3,6 @@ use Rattle.std.specs.Prelude.{ℕ, ◌*◌, ◌≤◌, ◌==◌, List, [], ◌�
 use Rattle.std.specs.Prelude.{if◌then◌else◌, Option, Some, None, option_and_then}
 use Rattle.std.specs.Result.{result_ok}
 use Rattle.hex.specs.Hex.{decode_of}
-use Rattle.sd_packet.specs.Positions.{lowest_positional, highest_positional}
 use Rattle.sd_text.specs.Number.{after, decimal_after}
 use Rattle.sd_tree.specs.Limits.{highest}
 
@@ -32,10 +31,10 @@ abbrev pub ca_line : BytesLine
 ca_line = record { word = codes "ca "; count = 2 }
 
 abbrev pub emm_line : NumberLine
-emm_line = record { word = codes "emm "; low = lowest_positional; high = highest_positional }
+emm_line = record { word = codes "emm "; low = 0x0020; high = 0x1FEF }
 
 abbrev pub ecm_line : NumberLine
-ecm_line = record { word = codes "ecm "; low = lowest_positional; high = highest_positional }
+ecm_line = record { word = codes "ecm "; low = 0x0020; high = 0x1FEF }
 
 abbrev pub every_line : NumberLine
 every_line = record { word = codes "ecm-every "; low = 1; high = 4096 }
