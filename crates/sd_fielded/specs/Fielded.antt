@@ -1,10 +1,10 @@
--- What the lines of a field tell of the clear packets that are confirmed to its receivers [this project, docs/FORMATS.md,
--- Field]. Here events are listed with the oldest first.
+-- What the lines of a field tell of the clear packets that are confirmed to its receivers [this project,
+-- docs/FORMATS.md, Field]. Here events are listed with the oldest first.
 use Rattle.std.specs.Prelude.{◌≡◌, ◌^◌, ◌<◌, ◌≤◌, ℕ, zero, suc, true, List, ◌++◌, All, length, reverse}
 use Rattle.std.specs.List.{concat}
 use Rattle.sd_site.specs.Fields.{SiteFields, AreInRange}
 use Rattle.sd_book.specs.Commands.{last_period}
-use Rattle.sd_broadcast.specs.Plan.{Plan}
+use Rattle.sd_broadcast.specs.Plan.{IsPlan, Plan}
 use Rattle.sd_broadcast.specs.Refused.{IsClear}
 use Rattle.sd_broadcast.specs.Sent.{body}
 use Rattle.sd_sent.specs.Packets.{AreWholePackets}
@@ -13,8 +13,10 @@ use Rattle.sd_losses.specs.Confirmed.{packets_at}
 use Rattle.sd_events.specs.declared.event.Event.{Event}
 use Rattle.sd_events.specs.Book.{sends, plan_after}
 use Rattle.sd_events.specs.Events.{is_of}
-use Rattle.sd_events.specs.Watch.{watch}
-use Rattle.sd_times.specs.Times.{places_of, taken}
+use Rattle.sd_events.specs.Watch.{watch, written}
+use Rattle.sd_times.specs.Times.{card_at, places_of, taken}
+use Rattle.sd_field.specs.Fields.{FieldValue, plan_in}
+use Rattle.sd_field.specs.Fields as field
 use Rattle.sd_run_field.specs.Field.{digest_of, first_line, receiver_line}
 
 -- the clear packets that the events send
@@ -55,3 +57,16 @@ pub record IsGoodField (site : SiteFields) (clear : List (List ℕ)) (events : L
   pub whole : AreWholePackets (sent_for clear events)
   pub synced : AreSynced (sent_for clear events)
   pub sent : IsClear site (sent_for clear events)
+
+-- what leaf u's receivers write, one time after the other
+abbrev pub wrote_for : SiteFields → List (List ℕ) → List Event → ℕ → List (List ℕ)
+wrote_for site clear events u = written (plan_for site clear events) (card_at (plan_for site clear events) u)
+    (sent_for clear events) (watch (plan_for site clear events) clear u (reverse events))
+
+-- a field over whole packets, as `Field` keeps it: `sends` of a field answers the last two
+pub record IsWhole (v : FieldValue) : Type 0 where
+  pub low : v.site.height ≤ 6
+  pub whole : AreWholePackets v.clear
+  pub synced : AreSynced v.clear
+  pub plan : IsPlan (plan_in v)
+  pub sent : IsClear v.site (field.taken v)
