@@ -4,10 +4,6 @@ use Rattle.std.specs.Prelude.{take_while, slice_index, nat_lt, if◌then◌else�
 use Rattle.sd_engine.specs.declared.fault.StreamBreak.{StreamBreak}
 use Rattle.sd_engine.specs.declared.fault.BreakCause.TheVariants.{Torn, NoSync}
 
--- how many whole packets' bytes there are [ISO/IEC 13818-1, 2.4.3.2]
-abbrev pub whole_in : List ℕ → ℕ
-whole_in bytes = length bytes / 188
-
 -- the first n pieces of 188 bytes
 unfoldable pub pieces : ℕ → List ℕ → List (List ℕ)
 pieces zero bytes = []
@@ -20,7 +16,7 @@ is_packet piece = slice_index piece 0 == 0x47
 -- the packets of a stream: its pieces of 188 bytes, up to the first that doesn't begin with the sync byte
 -- [ISO/IEC 13818-1, 2.4.3.2]
 unfoldable pub packets_of : List ℕ → List (List ℕ)
-packets_of bytes = take_while is_packet (pieces (whole_in bytes) bytes)
+packets_of bytes = take_while is_packet (pieces (length bytes / 188) bytes)
 
 -- fewer bytes than a packet has are left over as packet k
 abbrev pub torn : ℕ → StreamBreak
@@ -34,9 +30,9 @@ no_sync k = record { packet = k; cause = NoSync }
 -- at the end. The number is that of the packet at which it breaks [this project, docs/FORMATS.md, Streams].
 unfoldable pub break_after : ℕ → List ℕ → Option StreamBreak
 break_after k bytes =
-    if nat_lt (length (packets_of bytes)) (whole_in bytes) then Some (no_sync (k + length (packets_of bytes)))
+    if nat_lt (length (packets_of bytes)) (length bytes / 188) then Some (no_sync (k + length (packets_of bytes)))
     else if length bytes % 188 == 0 then None
-    else Some (torn (k + whole_in bytes))
+    else Some (torn (k + length bytes / 188))
 
 -- why bytes are no stream
 abbrev pub break_of : List ℕ → Option StreamBreak
