@@ -1,1 +1,4 @@
+pub mod Examples
+pub mod Works
+pub mod Rows
 pub mod Ordered

@@ -8,32 +8,14 @@ use Rattle.sd_status.specs.Work.{Work}
 use Rattle.sd_status.specs.Comes.{IsRefusal, refused, Obeys, Follows}
 use Rattle.sd_status.proofs.Givens.{any_given}
 use Rattle.sd_files.proofs.Others.{IsOther}
-use Rattle.sd_run_cover.proofs.Others.{other_cover}
-use Rattle.sd_run_card.proofs.Others.{other_card_order}
-use Rattle.sd_run_tables.proofs.Others.{other_tables}
-use Rattle.sd_run_head.proofs.Others.{other_head}
-use Rattle.sd_run_receive.proofs.Others.{other_receive}
-use Rattle.sd_run_accounts.proofs.Others.{other_accounts}
-use Rattle.sd_run_apart.proofs.Others.{other_apart}
-use Rattle.sd_run_book.proofs.Others.{other_book_order}
-use Rattle.sd_run_layered.proofs.Others.{other_layered}
-use Rattle.sd_run_lcard.proofs.Others.{other_lcard}
-use Rattle.sd_run_messages.proofs.Others.{other_messages}
-use Rattle.sd_run_opens.proofs.Others.{other_opens}
-use Rattle.sd_run_plan.proofs.Others.{other_plan}
-use Rattle.sd_run_show.proofs.Others.{other_show}
-use Rattle.sd_run_trace.proofs.Others.{other_trace}
-use Rattle.sd_run_trial.proofs.Others.{other_trial}
 use Rattle.sd_run_help.proofs.Others.{other_help, other_version}
-use Rattle.sd_commands.specs.declared.command.Command.{Command}
-use Rattle.sd_commands.specs.declared.command.Command.TheVariants.{Accounts, Book, Card, Cover, Head, Layered, Lcard}
-use Rattle.sd_commands.specs.declared.command.Command.TheVariants.{Apart, Messages, Opens, Plan, Receive, Sample, Show, Tables}
-use Rattle.sd_commands.specs.declared.command.Command.TheVariants.{Trace, Trial}
-use Rattle.sd_words.specs.Words.{Argument, InputOf, OutOf, NumberOf, Order, CommandOf, HelpOf, VersionOf, file, number}
+use Rattle.sd_commands.specs.declared.command.Command.TheVariants.{Plan, Sample}
+use Rattle.sd_words.specs.Words.{Argument, InputOf, OutOf, NumberOf, Order, CommandOf, HelpOf, VersionOf, number}
 use Rattle.sd_words.specs.Words.{order_of}
 use Rattle.sd_commands.specs.Commands.{operands_of}
 use Rattle.sd_words.specs.Orders.{AreOf, RefusesWords}
-use Rattle.sd_run.specs.Meaning.{command_meaning, order_meaning, meaning}
+use Rattle.sd_run.specs.Meaning.{order_meaning, meaning}
+use Rattle.sd_run.proofs.Rows.{other_command}
 
 err_is : {A : Type 0} (a b : Status) (r : Result A Status) → r ≡ Err a → r ≡ Err b → a ≡ b
 err_is a b r e f = cc
@@ -106,28 +88,6 @@ plan_fits (site ∷ book ∷ NumberOf packets ∷ []) h = absurd h.1.1.1
 plan_fits (site ∷ book ∷ NumberOf packets ∷ InputOf word ∷ rest) h = absurd h.1.1.1.0
 plan_fits (site ∷ book ∷ NumberOf packets ∷ OutOf word ∷ rest) h = absurd h.1.1.1.0
 plan_fits (site ∷ book ∷ NumberOf packets ∷ NumberOf pids ∷ rest) h = (h.1.1.0.1.0, h.1.1.1.0.1)
-
--- no command answers `Usage`
-other_command : (command : Command) (words : List Argument) (given : Given) →
-    IsOther (command_meaning command words given).result
-other_command Accounts words given = other_accounts (file 1 words) (file 2 words) (file 3 words) given
-other_command Apart words given = other_apart (file 1 words) (file 2 words) (file 3 words) (file 4 words) given
-other_command Book words given = other_book_order (file 1 words) (file 2 words) (file 3 words) (file 4 words) given
-other_command Card words given = other_card_order (file 1 words) (number 2 words) (file 3 words) given
-other_command Cover words given = other_cover (file 1 words) (file 2 words) given
-other_command Head words given = other_head (file 1 words) (file 2 words) (file 3 words) (file 4 words) given
-other_command Layered words given = other_layered (file 1 words) (file 2 words) (number 3 words) given
-other_command Lcard words given = other_lcard (file 1 words) (number 2 words) (number 3 words) (file 4 words) given
-other_command Messages words given = other_messages (file 1 words) (file 2 words) given
-other_command Opens words given = other_opens (file 1 words) (file 2 words) (file 3 words) given
-other_command Plan words given =
-    other_plan (file 1 words) (file 2 words) (number 3 words) (number 4 words).value given
-other_command Receive words given = other_receive (file 1 words) (file 2 words) (file 3 words) given
-other_command Sample words given = tt
-other_command Show words given = other_show (file 1 words) given
-other_command Tables words given = other_tables (file 1 words) given
-other_command Trace words given = other_trace (file 1 words) (file 2 words) (file 3 words) given
-other_command Trial words given = other_trial (file 1 words) (file 2 words) (file 3 words) given
 
 -- no order answers `Usage`
 other_order : (order : Order) (given : Given) → IsOther (order_meaning order given).result

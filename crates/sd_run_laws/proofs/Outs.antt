@@ -20,12 +20,14 @@ use Rattle.sd_status.specs.Answers.{Answers, Tells, with_page}
 use Rattle.sd_status.proofs.Told.{own_line, done_line}
 use Rattle.sd_run.specs.Meaning.{meaning}
 use Rattle.sd_run_laws.specs.Headline.{file_in}
-use Rattle.sd_run_laws.specs.Outcome.{IsDone, RefusesFirst, out_name}
+use Rattle.sd_run_laws.specs.Outcome.{IsDone, out_name}
+use Rattle.sd_run.specs.Refusals.{RefusesFirst}
 use Rattle.sd_run_laws.proofs.Shelf.{others_stay}
 use Rattle.sd_run_laws.proofs.Runs.{told_given}
 use Rattle.sd_run_laws.proofs.Parts.{of_told}
 use Rattle.sd_run_laws.proofs.Left.{answers_leave, run_leaves}
-use Rattle.sd_run_laws.proofs.Orderly.{IsOrderly, AreOrderly, words_orderly}
+use Rattle.sd_run.proofs.Works.{IsOrderly, AreOrderly}
+use Rattle.sd_run_laws.proofs.Orderly.{words_orderly}
 
 -- nothing is printed, and nothing fails, where `Done` is told
 record IsSilent (a b : Page) : Type 0 where
@@ -78,7 +80,7 @@ done_leaves meant files a b answer told is answers =
       calm = record { depot = done.calm.depot; print = quiet.faults ∙ done.calm.print };
     }
 
--- the file that a run makes is the one that its last word names
+-- the file that a run makes is the one that its words name
 out_is : (words : List (List ℕ)) (given : Given) (work : Work) (out : Out) →
     (meaning words given).result ≡ Ok work → work.out ≡ Some out → out_name words ≡ Some out.name
 out_is words given work out is makes =

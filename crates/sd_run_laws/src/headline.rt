@@ -25,7 +25,8 @@ ghost use Rattle.sd_run_receive.specs.Receive.{receive_meaning};
 ghost use Rattle.sd_run.specs.Meaning.{meaning};
 ghost use Rattle.sd_run_laws.specs.Good.{IsGoodSite};
 ghost use Rattle.sd_run_laws.specs.Lost.{kept_of, LossResult};
-ghost use Rattle.sd_run_laws.specs.Outcome.{IsDone, RefusesFirst, out_name};
+ghost use Rattle.sd_run.specs.Refusals.{RefusesFirst};
+ghost use Rattle.sd_run_laws.specs.Outcome.{IsDone, out_name};
 ghost use Rattle.sd_run_laws.specs.Headline.{Names, head_run, card_run, receive_run, file_in, AreGiven, WentWell};
 ghost use Rattle.sd_run_laws.specs.Headline.{card_for, HeadResult, CardResult, ReceiveResult};
 
@@ -99,7 +100,7 @@ pub fn run<D: Depot, P: Sink, L: Ledger>(
         LossResult names plan u clear (kept_of plan clear flags)
         (outside (place D.Depot depot.old) (page P.Sink print.old) steps.old)
         (outside (place D.Depot depot.new) (page P.Sink print.new) steps.new) result }
-    // No file changes but OUT, which the last word names if the command makes a file.
+    // No file changes but OUT, which is the word at its place in the row of a command that makes a file.
     ensures files { (files : Files) (name : List ℕ) → D.files depot.old ≡ Some files →
         out_name (map string_bytes words.now) ≢ Some name →
         file_in (outside (place D.Depot depot.new) (page P.Sink print.new) steps.new) name ≡ get files name }

@@ -1,0 +1,331 @@
+-- What is said of each command of the table: here, and nowhere else above its own crate, has a command its row.
+use Rattle.std.proofs.Common.{ℕ, List, [], ◌∷◌, Option, Some, None}
+use Rattle.std.proofs.Common.{refl}
+use Rattle.sd_engine.specs.Taken.{end_of}
+use Rattle.sd_status.specs.Meant.{Word, Given, all_of, judged, value, ◌>>=◌}
+use Rattle.sd_status.specs.Work.{Uncounted, NoSteps, UpTo}
+use Rattle.sd_files.specs.Shown.{Number}
+use Rattle.sd_files.specs.Both.{both_meaning}
+use Rattle.sd_files.specs.Files.{site_in, book_in}
+use Rattle.sd_files.specs.Leaves.{leaves_in}
+use Rattle.sd_files.specs.Made.{making}
+use Rattle.sd_run_accounts.specs.Accounts.{accounts_in, making_then, report_line, accounts_meaning}
+use Rattle.sd_run_apart.specs.Apart.{apart_meaning, plan_of_both, saying, told_apart}
+use Rattle.sd_run_book.specs.Book.{longer_book, book_meaning}
+use Rattle.sd_run_card.specs.Card.{told_card, card_meaning}
+use Rattle.sd_run_cover.specs.Cover.{covering, cover_meaning}
+use Rattle.sd_run_head.specs.Head.{plan_meaning as head_plan, sent_of, sent_status, sending}
+use Rattle.sd_run_head.specs.Head.{sending_of, head_meaning}
+use Rattle.sd_run_layered.specs.Layered.{layers_of_file, layering, layered_meaning}
+use Rattle.sd_run_lcard.specs.Lcard.{told_leaf, told_width, carding, lcard_meaning}
+use Rattle.sd_run_messages.specs.Messages.{messages_meaning, monitoring, stream_meaning as monitor_meaning}
+use Rattle.sd_run_opens.specs.Opens.{opening, opens_meaning}
+use Rattle.sd_run_plan.specs.Air.{plan_meaning as air_meaning, planning, roomy_site_of_file}
+use Rattle.sd_run_receive.specs.Receive.{received_status}
+use Rattle.sd_run_receive.specs.Receive.{card_in, received_of, received_steps, receiving, stream_meaning}
+use Rattle.sd_run_receive.specs.Receive.{receive_meaning}
+use Rattle.sd_run_sample.specs.Sample.{sample_meaning}
+use Rattle.sd_run_show.specs.Show.{line_of_file, show_meaning, printing as showing}
+use Rattle.sd_run_tables.specs.Tables.{inspecting, tables_meaning}
+use Rattle.sd_run_trace.specs.Trace.{traced, telling, trace_meaning}
+use Rattle.sd_files.specs.Printed.{printing}
+use Rattle.sd_run_field.specs.Field.{field_meaning, field_text, inputs_meaning, script_of_file}
+use Rattle.sd_run_trial.specs.Prefixes.{prefix_of_file}
+use Rattle.sd_run_trial.specs.Trial.{plan_meaning as trial_plan, trial_text, trying, trial_meaning}
+use Rattle.sd_run_trial.specs.Trial.{most_clear_bytes}
+use Rattle.sd_sample.specs.Sample.{sample_of}
+use Rattle.sd_site.specs.Fields.{SiteFields}
+use Rattle.sd_book.specs.Text.{text_of}
+use Rattle.sd_lsd.specs.Fields.{layer_card_of, layer_bytes}
+use Rattle.sd_commands.specs.declared.command.Command.{Command}
+use Rattle.sd_commands.specs.declared.command.Command.TheVariants.{Accounts, Book, Card, Cover, Field, Head, Layered, Lcard}
+use Rattle.sd_commands.specs.declared.command.Command.TheVariants.{Apart, Messages, Opens, Plan as Air, Receive, Sample, Show}
+use Rattle.sd_commands.specs.declared.command.Command.TheVariants.{Tables, Trace, Trial}
+use Rattle.sd_commands.specs.declared.operand.Operand.{Operand}
+use Rattle.sd_commands.specs.Commands.{command_of, operands_of}
+use Rattle.sd_commands.specs.Operands.{kind_of}
+use Rattle.sd_words.specs.Words.{Argument, file, number}
+use Rattle.sd_words.specs.Words.{or_output}
+use Rattle.sd_words.specs.Words.{named_words}
+use Rattle.std.proofs.Common.{◌+◌}
+use Rattle.sd_run.specs.Meaning.{command_meaning}
+use Rattle.sd_files.proofs.Others.{IsOther}
+use Rattle.sd_run_cover.proofs.Others.{other_cover}
+use Rattle.sd_run_card.proofs.Others.{other_card_order}
+use Rattle.sd_run_tables.proofs.Others.{other_tables}
+use Rattle.sd_run_head.proofs.Others.{other_head}
+use Rattle.sd_run_receive.proofs.Others.{other_receive}
+use Rattle.sd_run_accounts.proofs.Others.{other_accounts}
+use Rattle.sd_run_apart.proofs.Others.{other_apart}
+use Rattle.sd_run_book.proofs.Others.{other_book_order}
+use Rattle.sd_run_layered.proofs.Others.{other_layered}
+use Rattle.sd_run_lcard.proofs.Others.{other_lcard}
+use Rattle.sd_run_field.proofs.Others.{other_field}
+use Rattle.sd_run_messages.proofs.Others.{other_messages}
+use Rattle.sd_run_opens.proofs.Others.{other_opens}
+use Rattle.sd_run_plan.proofs.Others.{other_plan}
+use Rattle.sd_run_show.proofs.Others.{other_show}
+use Rattle.sd_run_trace.proofs.Others.{other_trace}
+use Rattle.sd_run_trial.proofs.Others.{other_trial}
+use Rattle.sd_run.proofs.Works.{AreOrderly, orderly_after, same_name, made_whole, turned, none_made, sent_apart}
+use Rattle.sd_run.proofs.Works.{stream_apart, stream_received, text_quiet}
+use Rattle.sd_run.proofs.Examples.{IsExample, words_in, onto_first, arguments_in}
+use Rattle.sd_words.specs.Words.{named_words}
+use Rattle.sd_commands.specs.Commands.{name_of, example_of}
+use Rattle.sd_text.specs.Number.{number_of}
+
+-- the commands that make a file
+accounts_orderly : (site accounts out : Word) (given : Given) →
+    AreOrderly (Some out.text) (accounts_meaning site accounts out given).result
+accounts_orderly site accounts out given =
+    orderly_after (Some out.text) (accounts_in site accounts given)
+    (λ found. value (making_then out (text_of found.book.commands) (report_line found)))
+    (λ found. record {
+      makes = λ made e. same_name (record {
+        word = out.number;
+        name = out.text;
+        bytes = text_of found.book.commands;
+      }) made e;
+      keeps = λ refusal. absurd refusal;
+    })
+
+book_orderly : (site book commands out : Word) (given : Given) →
+    AreOrderly (Some out.text) (book_meaning site book commands out given).result
+unfolding book_meaning
+book_orderly site book commands out given =
+    orderly_after (Some out.text) (both_meaning site book given)
+    (λ both. book_in given both.site.height commands
+    >>= λ added. judged (longer_book commands.number both.site.height both.commands added)
+    >>= λ longer. value (making NoSteps out (text_of longer)))
+    (λ both. orderly_after (Some out.text) (book_in given both.site.height commands)
+    (λ added. judged (longer_book commands.number both.site.height both.commands added)
+    >>= λ longer. value (making NoSteps out (text_of longer)))
+    (λ added. orderly_after (Some out.text)
+    (judged (longer_book commands.number both.site.height both.commands added))
+    (λ longer. value (making NoSteps out (text_of longer)))
+    (λ longer. made_whole NoSteps out (text_of longer))))
+
+card_orderly : (site : Word) (leaf : Number) (out : Word) (given : Given) →
+    AreOrderly (Some out.text) (card_meaning site leaf out given).result
+card_orderly site leaf out given =
+    orderly_after (Some out.text) (site_in given site)
+    (λ fields. judged (told_card fields leaf) >>= λ bytes. value (making Uncounted out bytes))
+    (λ fields. orderly_after (Some out.text) (judged (told_card fields leaf))
+    (λ bytes. value (making Uncounted out bytes)) (λ bytes. made_whole Uncounted out bytes))
+
+sample_orderly : (number packets : ℕ) (out : Word) (given : Given) →
+    AreOrderly (Some out.text) (sample_meaning number packets out given).result
+sample_orderly number packets out given = made_whole NoSteps out (sample_of number packets)
+
+lcard_orderly : (site : Word) (leaf width : Number) (out : Word) (given : Given) →
+    AreOrderly (Some out.text) (lcard_meaning site leaf width out given).result
+lcard_orderly site leaf width out given =
+    let bytes : SiteFields → ℕ → ℕ → List ℕ =
+    λ fields u w. layer_bytes (layer_card_of fields.master fields.ca fields.height w u) in
+    orderly_after (Some out.text) (site_in given site) (λ fields. carding fields leaf width out)
+    (λ fields. orderly_after (Some out.text) (judged (told_leaf fields.height leaf))
+    (λ u. judged (told_width fields.height width) >>= λ w. value (making Uncounted out (bytes fields u w)))
+    (λ u. orderly_after (Some out.text) (judged (told_width fields.height width))
+    (λ w. value (making Uncounted out (bytes fields u w))) (λ w. made_whole Uncounted out (bytes fields u w))))
+
+head_orderly : (site book clear out : Word) (given : Given) →
+    AreOrderly (Some out.text) (head_meaning site book clear out given).result
+unfolding head_meaning
+head_orderly site book clear out given =
+    orderly_after (Some out.text) (head_plan site book given) (sending_of clear out (given clear))
+    (λ plan. orderly_after (Some out.text) (all_of clear.number (given clear))
+    (λ bytes. value (sending plan out bytes))
+    (λ bytes. turned Uncounted out (sent_of plan bytes) (sent_status plan bytes) (sent_apart plan bytes)))
+
+receive_orderly : (card stream out : Word) (given : Given) →
+    AreOrderly (Some out.text) (receive_meaning card stream out given).result
+unfolding receive_meaning
+receive_orderly card stream out given =
+    orderly_after (Some out.text) (card_in given card) (λ fields. stream_meaning fields stream out given)
+    (λ fields. orderly_after (Some out.text) (all_of stream.number (given stream))
+    (λ bytes. value (receiving fields out bytes))
+    (λ bytes. turned (UpTo (received_steps fields bytes)) out (received_of fields bytes)
+    (received_status fields bytes) (stream_received fields bytes)))
+
+-- and those that make none
+cover_orderly : (site book : Word) (given : Given) → AreOrderly None (cover_meaning site book given).result
+unfolding cover_meaning
+cover_orderly site book given =
+    orderly_after None (site_in given site)
+    (λ fields. book_in given fields.height book >>= λ commands. value (covering fields.height commands))
+    (λ fields. orderly_after None (book_in given fields.height book)
+    (λ commands. value (covering fields.height commands))
+    (λ commands. none_made (covering fields.height commands) refl (λ refusal. absurd refusal)))
+
+tables_orderly : (stream : Word) (given : Given) → AreOrderly None (tables_meaning stream given).result
+unfolding tables_meaning
+tables_orderly stream given =
+    orderly_after None (all_of stream.number (given stream)) (λ bytes. value (inspecting bytes))
+    (λ bytes. none_made (inspecting bytes) refl (λ refusal. absurd (stream_apart (end_of bytes) refusal)))
+
+messages_orderly : (site stream : Word) (given : Given) →
+    AreOrderly None (messages_meaning site stream given).result
+unfolding messages_meaning
+messages_orderly site stream given =
+    orderly_after None (site_in given site) (λ fields. monitor_meaning fields stream given)
+    (λ fields. orderly_after None (all_of stream.number (given stream))
+    (λ bytes. value (monitoring fields bytes))
+    (λ bytes. none_made (monitoring fields bytes) refl
+    (λ refusal. absurd (stream_apart (end_of bytes) refusal))))
+
+show_orderly : (card : Word) (given : Given) → AreOrderly None (show_meaning card given).result
+show_orderly card given =
+    orderly_after None (line_of_file card.number (given card)) (λ line. value (showing line))
+    (λ line. none_made (showing line) refl (λ refusal. absurd refusal))
+
+layered_orderly : (site book : Word) (width : Number) (given : Given) →
+    AreOrderly None (layered_meaning site book width given).result
+layered_orderly site book width given =
+    orderly_after None (layers_of_file site.number width (given site))
+    (λ layers. book_in given layers.height book
+    >>= λ commands. value (layering layers.height layers.width commands))
+    (λ layers. orderly_after None (book_in given layers.height book)
+    (λ commands. value (layering layers.height layers.width commands))
+    (λ commands. none_made (layering layers.height layers.width commands) refl (λ refusal. absurd refusal)))
+
+apart_orderly : (site book other more : Word) (given : Given) →
+    AreOrderly None (apart_meaning site book other more given).result
+apart_orderly site book other more given =
+    orderly_after None (both_meaning site book given)
+    (λ first. both_meaning other more given
+    >>= λ second. judged (told_apart (plan_of_both first) (plan_of_both second)) >>= λ text. value (saying text))
+    (λ first. orderly_after None (both_meaning other more given)
+    (λ second. judged (told_apart (plan_of_both first) (plan_of_both second)) >>= λ text. value (saying text))
+    (λ second. orderly_after None (judged (told_apart (plan_of_both first) (plan_of_both second)))
+    (λ text. value (saying text)) (λ text. none_made (saying text) refl (λ refusal. absurd refusal))))
+
+air_orderly : (site book : Word) (packets : Number) (pids : ℕ) (given : Given) →
+    AreOrderly None (air_meaning site book packets pids given).result
+air_orderly site book packets pids given =
+    orderly_after None (roomy_site_of_file site.number packets (given site))
+    (λ fields. book_in given fields.height book
+    >>= λ commands. value (planning (record { site = fields; commands = commands }) packets.value pids))
+    (λ fields. orderly_after None (book_in given fields.height book)
+    (λ commands. value (planning (record { site = fields; commands = commands }) packets.value pids))
+    (λ commands. none_made (planning (record { site = fields; commands = commands }) packets.value pids) refl
+    (λ refusal. absurd refusal)))
+
+opens_orderly : (site book leaves : Word) (given : Given) →
+    AreOrderly None (opens_meaning site book leaves given).result
+unfolding opens_meaning
+opens_orderly site book leaves given =
+    orderly_after None (both_meaning site book given)
+    (λ both. leaves_in given both.site.height leaves
+    >>= λ found. value (opening both.site.height found both.commands))
+    (λ both. orderly_after None (leaves_in given both.site.height leaves)
+    (λ found. value (opening both.site.height found both.commands))
+    (λ found. none_made (opening both.site.height found both.commands) refl (λ refusal. absurd refusal)))
+
+trace_orderly : (site book leaves : Word) (given : Given) →
+    AreOrderly None (trace_meaning site book leaves given).result
+unfolding trace_meaning
+trace_orderly site book leaves given =
+    orderly_after None (both_meaning site book given)
+    (λ both. leaves_in given both.site.height leaves
+    >>= λ coalition. judged (traced both.site.height coalition both.commands) >>= λ text. value (telling text))
+    (λ both. orderly_after None (leaves_in given both.site.height leaves)
+    (λ coalition. judged (traced both.site.height coalition both.commands) >>= λ text. value (telling text))
+    (λ coalition. orderly_after None (judged (traced both.site.height coalition both.commands))
+    (λ text. value (telling text)) (λ text. none_made (telling text) refl (λ refusal. absurd refusal))))
+
+trial_orderly : (site book clear : Word) (given : Given) → AreOrderly None (trial_meaning site book clear given).result
+unfolding trial_meaning
+trial_orderly site book clear given =
+    orderly_after None (trial_plan site book given)
+    (λ plan. prefix_of_file clear.number most_clear_bytes (given clear) >>= λ prefix. value (trying plan prefix))
+    (λ plan. orderly_after None (prefix_of_file clear.number most_clear_bytes (given clear))
+    (λ prefix. value (trying plan prefix)) (λ prefix. text_quiet (trial_text plan prefix)))
+
+field_orderly : (site clear script : Word) (given : Given) →
+    AreOrderly None (field_meaning site clear script given).result
+unfolding field_meaning
+field_orderly site clear script given =
+    orderly_after None (inputs_meaning site clear given)
+    (λ inputs. script_of_file script.number inputs.site.height (given script)
+    >>= λ events. value (printing (field_text inputs.site inputs.clear events)))
+    (λ inputs. orderly_after None (script_of_file script.number inputs.site.height (given script))
+    (λ events. value (printing (field_text inputs.site inputs.clear events)))
+    (λ events. text_quiet (field_text inputs.site inputs.clear events)))
+
+-- the file that a row names, whose first argument is at this place
+abbrev pub out_at : ℕ → List Operand → List Argument → Option (List ℕ)
+out_at at [] arguments = None
+out_at at (operand ∷ operands) arguments =
+    or_output (kind_of operand) (file at arguments).text (out_at (at + 1) operands arguments)
+
+-- the file that an order makes
+abbrev pub out_by : Command → List Argument → Option (List ℕ)
+out_by command arguments = out_at 1 (operands_of command) arguments
+
+pub command_orderly : (command : Command) (words : List Argument) (given : Given) →
+    AreOrderly (out_by command words) (command_meaning command words given).result
+unfolding operands_of
+command_orderly Accounts words given = accounts_orderly (file 1 words) (file 2 words) (file 3 words) given
+command_orderly Apart words given = apart_orderly (file 1 words) (file 2 words) (file 3 words) (file 4 words) given
+command_orderly Book words given = book_orderly (file 1 words) (file 2 words) (file 3 words) (file 4 words) given
+command_orderly Card words given = card_orderly (file 1 words) (number 2 words) (file 3 words) given
+command_orderly Cover words given = cover_orderly (file 1 words) (file 2 words) given
+command_orderly Field words given = field_orderly (file 1 words) (file 2 words) (file 3 words) given
+command_orderly Head words given = head_orderly (file 1 words) (file 2 words) (file 3 words) (file 4 words) given
+command_orderly Layered words given = layered_orderly (file 1 words) (file 2 words) (number 3 words) given
+command_orderly Lcard words given = lcard_orderly (file 1 words) (number 2 words) (number 3 words) (file 4 words) given
+command_orderly Messages words given = messages_orderly (file 1 words) (file 2 words) given
+command_orderly Opens words given = opens_orderly (file 1 words) (file 2 words) (file 3 words) given
+command_orderly Air words given =
+    air_orderly (file 1 words) (file 2 words) (number 3 words) (number 4 words).value given
+command_orderly Receive words given = receive_orderly (file 1 words) (file 2 words) (file 3 words) given
+command_orderly Sample words given = sample_orderly (number 1 words).value (number 2 words).value (file 3 words) given
+command_orderly Show words given = show_orderly (file 1 words) given
+command_orderly Tables words given = tables_orderly (file 1 words) given
+command_orderly Trace words given = trace_orderly (file 1 words) (file 2 words) (file 3 words) given
+command_orderly Trial words given = trial_orderly (file 1 words) (file 2 words) (file 3 words) given
+
+-- no command answers `Usage`
+pub other_command : (command : Command) (words : List Argument) (given : Given) →
+    IsOther (command_meaning command words given).result
+other_command Accounts words given = other_accounts (file 1 words) (file 2 words) (file 3 words) given
+other_command Apart words given = other_apart (file 1 words) (file 2 words) (file 3 words) (file 4 words) given
+other_command Book words given = other_book_order (file 1 words) (file 2 words) (file 3 words) (file 4 words) given
+other_command Card words given = other_card_order (file 1 words) (number 2 words) (file 3 words) given
+other_command Cover words given = other_cover (file 1 words) (file 2 words) given
+other_command Field words given = other_field (file 1 words) (file 2 words) (file 3 words) given
+other_command Head words given = other_head (file 1 words) (file 2 words) (file 3 words) (file 4 words) given
+other_command Layered words given = other_layered (file 1 words) (file 2 words) (number 3 words) given
+other_command Lcard words given = other_lcard (file 1 words) (number 2 words) (number 3 words) (file 4 words) given
+other_command Messages words given = other_messages (file 1 words) (file 2 words) given
+other_command Opens words given = other_opens (file 1 words) (file 2 words) (file 3 words) given
+other_command Air words given =
+    other_plan (file 1 words) (file 2 words) (number 3 words) (number 4 words).value given
+other_command Receive words given = other_receive (file 1 words) (file 2 words) (file 3 words) given
+other_command Sample words given = tt
+other_command Show words given = other_show (file 1 words) given
+other_command Tables words given = other_tables (file 1 words) given
+other_command Trace words given = other_trace (file 1 words) (file 2 words) (file 3 words) given
+other_command Trial words given = other_trial (file 1 words) (file 2 words) (file 3 words) given
+
+-- the example of each command is words that order it
+pub example : (command : Command) → IsExample command
+unfolding example_of named_words command_of name_of operands_of number_of words_in onto_first arguments_in
+example Accounts = (refl, refl)
+example Apart = (refl, refl)
+example Book = (refl, refl)
+example Card = (refl, refl)
+example Cover = (refl, refl)
+example Field = (refl, refl)
+example Head = (refl, refl)
+example Layered = (refl, refl)
+example Lcard = (refl, refl)
+example Messages = (refl, refl)
+example Opens = (refl, refl)
+example Air = (refl, refl)
+example Receive = (refl, refl)
+example Sample = (refl, refl)
+example Show = (refl, refl)
+example Tables = (refl, refl)
+example Trace = (refl, refl)
+example Trial = (refl, refl)

@@ -1,0 +1,114 @@
+-- The kinds of work: each makes OUT or no file, and refuses words or files before anything is made.
+use Rattle.std.proofs.Common.{◌≡◌, ℕ, List, [], Option, Some, None, Result, Ok, Err}
+use Rattle.std.proofs.Common.{refl, sym, ap, ◌∙◌}
+use Rattle.std.specs.Option.{option_map}
+use Rattle.sd_engine.specs.Taken.{StreamEnd, Whole, Breaks, RunsOn, taken_of, end_of}
+use Rattle.sd_card.specs.Fields.{CardFields}
+use Rattle.sd_broadcast.specs.Plan.{Plan}
+use Rattle.sd_broadcast.specs.Refused.{refusal_from}
+use Rattle.sd_broadcast.specs.declared.fault.ClearFault.{ClearFault}
+use Rattle.sd_reception.specs.Offered.{break_from}
+use Rattle.sd_reception.specs.declared.ending.Ending.{Ending}
+use Rattle.sd_reception.specs.declared.ending.Ending.TheVariants as end
+use Rattle.sd_reception.specs.declared.fault.StreamFault.{StreamFault}
+use Rattle.sd_reception.specs.declared.fault.StreamFault.TheVariants as fault
+use Rattle.sd_status.specs.declared.status.Status.{Status}
+use Rattle.sd_status.specs.Meant.{Meant, Word, after, ◌>>=◌}
+use Rattle.sd_status.specs.Work.{StepBound, Out, Work}
+use Rattle.sd_files.specs.Made.{making}
+use Rattle.sd_files.specs.Turned.{turning}
+use Rattle.sd_files.specs.Streams.{stream_status}
+use Rattle.sd_run_head.specs.Head.{status_where, sent_status}
+use Rattle.sd_run_receive.specs.Receive.{ended_status, ending_status, status_at, unless_refused, received_status}
+use Rattle.sd_files.specs.Printed.{printing}
+use Rattle.sd_words.specs.Words.{number}
+use Rattle.sd_run.specs.Refusals.{RefusesFirst}
+
+-- the work makes the file of this name or none; and if it ends with a refusal of words or files, it does nothing
+pub record IsOrderly (out : Option (List ℕ)) (work : Work) : Type 0 where
+  pub makes : (made : Out) → work.out ≡ Some made → out ≡ Some made.name
+  pub keeps : RefusesFirst work.ends → (work.out ≡ None) × (work.pieces ≡ [])
+
+abbrev pub AreOrderly : Option (List ℕ) → Result Work Status → Type 0
+AreOrderly out (Ok work) = IsOrderly out work
+AreOrderly out (Err status) = Unit {0}
+
+-- so is what comes after a step
+pub orderly_after : {A : Type 0} (out : Option (List ℕ)) (first : Meant A) (next : A → Meant Work) →
+    ((x : A) → AreOrderly out (next x).result) → AreOrderly out (first >>= next).result
+orderly_after {A} out first next h = by_result first.result
+  where
+    by_result : (r : Result A Status) → AreOrderly out (after first.calls r next).result
+    by_result (Ok x) = h x
+    by_result (Err status) = tt
+
+-- the kinds of work
+pub same_name : (a b : Out) → Some a ≡ Some b → Some a.name ≡ Some b.name
+same_name a b e = ap (option_map (λ (o : Out). o.name)) e
+
+pub made_whole : (steps : StepBound) (out : Word) (bytes : List ℕ) → IsOrderly (Some out.text) (making steps out bytes)
+made_whole steps out bytes = record {
+  makes = λ made e. same_name (record { word = out.number; name = out.text; bytes = bytes }) made e;
+  keeps = λ refusal. absurd refusal;
+}
+
+pub turned : (steps : StepBound) (out : Word) (bytes : List ℕ) (ends : Status) → (RefusesFirst ends → ⊥) →
+    IsOrderly (Some out.text) (turning steps out bytes ends)
+turned steps out bytes ends apart = record {
+  makes = λ made e. same_name (record { word = out.number; name = out.text; bytes = bytes }) made e;
+  keeps = λ refusal. absurd (apart refusal);
+}
+
+pub none_made : (work : Work) → work.out ≡ None → (RefusesFirst work.ends → work.pieces ≡ []) → IsOrderly None work
+none_made work none quiet = record {
+  makes = λ made e. absurd (let both = sym none ∙ e in cc);
+  keeps = λ refusal. (none, quiet refusal);
+}
+
+-- the ends of streams refuse no words and no files
+pub clear_apart : (end : StreamEnd) (refusal : Option ClearFault) → RefusesFirst (status_where end refusal) → ⊥
+clear_apart Whole None e = e
+clear_apart (Breaks found) None e = e
+clear_apart RunsOn None e = e
+clear_apart end (Some fault) e = e
+
+pub sent_apart : (plan : Plan) (bytes : List ℕ) → RefusesFirst (sent_status plan bytes) → ⊥
+unfolding sent_status
+sent_apart plan bytes e = clear_apart (end_of bytes) (refusal_from plan.site [] (taken_of bytes)) e
+
+pub stream_apart : (end : StreamEnd) → RefusesFirst (stream_status end) → ⊥
+stream_apart Whole e = e
+stream_apart (Breaks found) e = e
+stream_apart RunsOn e = e
+
+pub ending_apart : (leaf : ℕ) (ending : Ending) → RefusesFirst (ending_status leaf ending) → ⊥
+ending_apart leaf end.Opened e = e
+ending_apart leaf (end.Revoked period) e = e
+ending_apart leaf (end.Unheard period) e = e
+ending_apart leaf end.NoCat e = e
+ending_apart leaf (end.Unclosed number) e = e
+ending_apart leaf (end.Gaps packets) e = e
+
+pub ended_apart : (card : CardFields) (packets : List (List ℕ)) → RefusesFirst (ended_status card packets) → ⊥
+unfolding ended_status
+ended_apart card packets e = ending_apart card.leaf _ e
+
+pub received_apart : (card : CardFields) (packets : List (List ℕ)) (refusal : Option StreamFault) (end : StreamEnd) →
+    RefusesFirst (unless_refused refusal (status_at card packets end)) → ⊥
+received_apart card packets None Whole e = ended_apart card packets e
+received_apart card packets None (Breaks found) e = e
+received_apart card packets None RunsOn e = e
+received_apart card packets (Some (fault.WrongKey packet period found due)) end e = e
+received_apart card packets (Some (fault.WrongWord packet word found due)) end e = e
+received_apart card packets (Some (fault.BadEmm packet emm)) end e = e
+received_apart card packets (Some (fault.BadEcm packet ecm)) end e = e
+received_apart card packets (Some (fault.Parity packet)) end e = e
+
+pub stream_received : (card : CardFields) (bytes : List ℕ) → RefusesFirst (received_status card bytes) → ⊥
+unfolding received_status
+stream_received card bytes e =
+    received_apart card (taken_of bytes) (break_from card [] (taken_of bytes)) (end_of bytes) e
+
+pub text_quiet : (text : Result (List ℕ) Status) → IsOrderly None (printing text)
+text_quiet (Ok text) = none_made (printing (Ok text)) refl (λ refusal. absurd refusal)
+text_quiet (Err status) = none_made (printing (Err status)) refl (λ refusal. refl)

@@ -1,0 +1,28 @@
+-- Which answers are refusals of words or files.
+use Rattle.sd_status.specs.declared.status.Status.{Status}
+use Rattle.sd_status.specs.declared.status.Status.TheVariants.{Done, Usage, Missing, Revoked, DepotFault, PrintFault}
+use Rattle.sd_status.specs.declared.status.Status.TheVariants.{BadSite, BadBook, BadCard, BadClear, BadStream, Limit}
+use Rattle.sd_status.specs.declared.status.Status.TheVariants.{NoMemory, Unheard, Unclosed, Gaps, NoCat, BadWord, Clash}
+
+-- Words or files are refused before a file is made or a text is printed. Each status has its row, so that a new one
+-- must be decided.
+abbrev pub RefusesFirst : Status → Type 0
+RefusesFirst Done = ⊥
+RefusesFirst Usage = Unit {0}
+RefusesFirst (Missing word) = Unit {0}
+RefusesFirst (Revoked leaf period) = ⊥
+RefusesFirst DepotFault = ⊥
+RefusesFirst PrintFault = ⊥
+RefusesFirst (BadSite fault) = Unit {0}
+RefusesFirst (BadBook word line) = Unit {0}
+RefusesFirst (BadCard fault) = Unit {0}
+RefusesFirst (BadClear packet cause) = ⊥
+RefusesFirst (BadStream packet cause) = ⊥
+RefusesFirst (Limit limit) = Unit {0}
+RefusesFirst NoMemory = ⊥
+RefusesFirst (Unheard leaf period) = ⊥
+RefusesFirst (Unclosed number) = ⊥
+RefusesFirst (Gaps packets) = ⊥
+RefusesFirst NoCat = ⊥
+RefusesFirst (BadWord word) = Unit {0}
+RefusesFirst (Clash clash) = Unit {0}
