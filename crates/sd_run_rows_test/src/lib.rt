@@ -7,6 +7,8 @@ mod commands;
 #[cfg(test)]
 mod covers;
 #[cfg(test)]
+mod fields;
+#[cfg(test)]
 mod parts;
 #[cfg(test)]
 mod refusals;
