@@ -1,5 +1,5 @@
 -- What comes of work that prints a text and makes no file.
-use Rattle.std.proofs.Common.{◌≡◌, ℕ, List, append-nil, Result, Ok, Err, refl, sym, subst, inl, inr, arith}
+use Rattle.std.proofs.Common.{ℕ, List, append-nil, Result, Ok, Err, refl, sym, subst, inl, inr, arith}
 use Rattle.std.specs.Io.KnownBytes.{Appends}
 use Rattle.std.proofs.KnownBytes.{Appends-nil}
 use Rattle.sd_ports.specs.Bytes.{AppendsPrefix}

@@ -1,6 +1,6 @@
 -- How a clear stream is cut into packets.
 use Rattle.std.proofs.Common.{arith, ◌≡◌, ℕ, ◌+◌, ◌-◌, ◌*◌, ◌<◌, List, [], ◌∷◌, ◌++◌, length, take, drop, refl, sym, ap}
-use Rattle.std.proofs.Common.{subst, ◌∙◌, append-nil, append_assoc, length-append, length-drop, take_all, Ok, Err, Result}
+use Rattle.std.proofs.Common.{subst, ◌∙◌, append-nil, append_assoc, length-append, length-drop, take_all, Ok, Err}
 use Rattle.std.specs.Prelude.{◌==◌, ◌≤◌, Bool, nat_lt, if◌then◌else◌, Option, Some, None, false, true}
 use Rattle.std.proofs.lemmas.Bool.{ltb-false}
 use Rattle.std.proofs.lemmas.Bool.Decides.{nat_tests}
@@ -9,7 +9,6 @@ use Rattle.sd_engine.specs.declared.fault.StreamBreak.{StreamBreak}
 use Rattle.sd_engine.specs.declared.fault.BreakCause.{BreakCause}
 use Rattle.sd_engine.specs.declared.fault.BreakCause.TheVariants.{Torn, NoSync}
 use Rattle.sd_engine.proofs.Walking.{none_at_end, no_piece, torn_here, no_sync_here, packets_more, break_after_more}
-use Rattle.sd_status.specs.declared.status.Status.{Status}
 use Rattle.sd_status.specs.declared.status.Status.TheVariants.{Limit}
 use Rattle.sd_status.specs.declared.status.LimitKind.{LimitKind}
 use Rattle.sd_status.specs.Meant.{within}

@@ -1,5 +1,5 @@
 -- What the events of a field come to.
-use Rattle.std.proofs.Common.{arith, ◌≡◌, ℕ, ◌<◌, ◌≤◌, Bool, true, false, List, [], refl, sym, ap, subst, ◌∙◌, inl, inr}
+use Rattle.std.proofs.Common.{arith, ◌≡◌, ℕ, ◌<◌, ◌≤◌, Bool, true, false, [], refl, sym, ap, subst, ◌∙◌, inl, inr}
 use Rattle.std.proofs.Common.{length, take, Ok, Err, Result}
 use Rattle.std.specs.Prelude.{◌↔◌, reverse, slice_get, Option, Some, None, option_and_then}
 use Rattle.std.proofs.lemmas.Option.{slice_get_within}
@@ -37,7 +37,8 @@ none_done v new calm = record {
     failed = f;
   }) calm;
   within = omega (arith, new);
-  clear = ap (λ (n : ℕ). refusal_from v.site [] (take (sends (length v.clear) (reverse (take n v.events))) v.clear)) new;
+  clear = ap (λ (n : ℕ). refusal_from v.site []
+      (take (sends (length v.clear) (reverse (take n v.events))) v.clear)) new;
 }
 
 -- one event more is done

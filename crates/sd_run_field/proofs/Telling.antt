@@ -1,12 +1,11 @@
 -- The lines of a field.
-use Rattle.std.proofs.Common.{arith, ◌≡◌, ℕ, suc, ◌+◌, ◌/◌, ◌^◌, List, ◌++◌, length, refl, sym, ap, subst, ◌∙◌, inl, inr}
-use Rattle.std.proofs.Common.{Ok, Err, Result}
+use Rattle.std.proofs.Common.{arith, ◌≡◌, ℕ, suc, ◌+◌, ◌/◌, ◌^◌, List, ◌++◌, length, sym, ap, subst, ◌∙◌, inl, inr}
+use Rattle.std.proofs.Common.{Ok, Err}
 use Rattle.std.specs.Prelude.{None, Option}
 use Rattle.std.specs.List.{concat}
 use Rattle.sd_site.specs.Fields.{SiteFields}
 use Rattle.sd_book.specs.declared.command.Command.{Command}
 use Rattle.sd_book.specs.Commands.{last_period}
-use Rattle.sd_broadcast.specs.Refused.{refusal_from}
 use Rattle.sd_broadcast.specs.Sent.{body}
 use Rattle.sd_broadcast.specs.declared.fault.ClearFault.{ClearFault}
 use Rattle.sd_events.specs.declared.event.Event.{Event}
@@ -14,7 +13,6 @@ use Rattle.sd_field.specs.Fields.{FieldValue, IsSentCut, plan_in, sends_of, take
 use Rattle.sd_field.proofs.Fields.{unsent}
 use Rattle.sd_status.specs.declared.status.Status.{Status}
 use Rattle.sd_status.specs.Comes.{IsEnding}
-use Rattle.sd_run_head.specs.Head.{refused_status}
 use Rattle.sd_files.specs.Printed.{Comes}
 use Rattle.sd_run_field.specs.Field.{done_field, field_text, first_line, lines_to, text_in, unrefused, wrote_line}
 use Rattle.sd_run_field.specs.Played.{Plays}

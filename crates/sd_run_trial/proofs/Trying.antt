@@ -1,6 +1,6 @@
 -- The lines of a trial.
 use Rattle.std.proofs.Common.{◌≡◌, ℕ, zero, suc, ◌+◌, ◌-◌, ◌^◌, ◌/◌, ◌<◌, Bool, List, length}
-use Rattle.std.proofs.Common.{append-nil, Result, Ok, Err, refl, sym, ap, subst, ◌∙◌, inl, inr, arith}
+use Rattle.std.proofs.Common.{Result, Ok, Err, sym, ap, subst, ◌∙◌, inl, inr, arith}
 use Rattle.sd_site.specs.Fields.{SiteFields}
 use Rattle.sd_card.specs.Fields.{CardFields, card_of}
 use Rattle.sd_broadcast.specs.Plan.{Plan}

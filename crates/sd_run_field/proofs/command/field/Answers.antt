@@ -9,7 +9,7 @@ use Rattle.sd_files.specs.Printed.{printing}
 use Rattle.sd_files.specs.Shown.{shown_word}
 use Rattle.sd_files.proofs.Printed.{nothing_printed, text_printed}
 use Rattle.sd_files.proofs.Thirds.{not_both, not_third, third_looked}
-use Rattle.sd_run_field.specs.Field.{Inputs, field_meaning, field_text, inputs_by, script_of_file}
+use Rattle.sd_run_field.specs.Field.{field_meaning, field_text, inputs_by, script_of_file}
 use Rattle.sd_run_field.proofs.command.field.Goals as goal
 
 -- the site and the clear stream were not read as they are to be

@@ -4,8 +4,8 @@ use Rattle.sd_run_field.proofs.lines.lines.Goals as goal
 
 pub loop-u-init : goal.loop-u-init
 loop-u-init c =
-    first_told c.args.field.now c.sends.result _ c.last_period.result c.sent.result.now (string_bytes c.in_ok-text.text)
-    c.book.result.now.commands c.requires.calm c.sends.ensures.value c.sent.ensures.value refl c.last_period.ensures.value
+    first_told c.args.field.now c.sends.result _ c.last_period.result c.sent.result.now
+    (string_bytes c.in_ok-text.text) c.book.result.now.commands c.requires.calm c.sends.ensures.value c.sent.ensures.value refl c.last_period.ensures.value
     c.book.ensures.value.1 c.in_ok-text.ensures
 
 pub loop-u-preserved : goal.loop-u-preserved

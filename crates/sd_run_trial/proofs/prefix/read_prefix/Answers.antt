@@ -1,4 +1,4 @@
-use Rattle.std.proofs.Common.{refl, ◌∙◌, inl, inr, arith}
+use Rattle.std.proofs.Common.{◌∙◌, arith}
 use Rattle.sd_ports.specs.Bytes.{prefix_of}
 use Rattle.sd_ports.proofs.Calls.{twice_called, open_as_before}
 use Rattle.sd_status.specs.Outside.{place}
