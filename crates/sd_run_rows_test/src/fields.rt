@@ -71,7 +71,12 @@ static ROWS: [Row; 9] = [
         "sends 400 packets 404 period 0\n",
         [0; 8],
     ),
-    ("", "off 0\non 0\noffer 0 3\n", "sends 0 packets 0 period 0\n", [0; 8]),
+    (
+        "",
+        "off 0\non 0\noffer 0 3\n",
+        "sends 0 packets 0 period 0\n",
+        [0; 8],
+    ),
 ];
 
 /// The files of a field: the site with lines after it, the clear stream of 600 packets, and the script.
@@ -105,7 +110,13 @@ fn fields_are_printed(rt: HostRuntime) -> Result<(), AllocError> {
     let alloc = rt.alloc();
     for (more, script, first, wrote) in ROWS {
         let files = field_files(alloc, more, script)?;
-        let left = left(alloc, &files, &["field", "S", "C", "E"], 4096, Fault::Nowhere)?;
+        let left = left(
+            alloc,
+            &files,
+            &["field", "S", "C", "E"],
+            4096,
+            Fault::Nowhere,
+        )?;
         assert_eq!(rt; left.status, Status::Done);
         let due = lines(alloc, first, &wrote)?;
         assert!(rt; left.printed.as_slice() == due.as_bytes(), "{script}");
@@ -118,7 +129,13 @@ fn refused_sends_are_told_alone(rt: HostRuntime) -> Result<(), AllocError> {
     let alloc = rt.alloc();
     let more = "messages 1\nfirst-word 7\nlast-word 7\nfirst-period 0\n";
     let files = field_files(alloc, more, "send 401\noffer 0 405\n")?;
-    let left = left(alloc, &files, &["field", "S", "C", "E"], 4096, Fault::Nowhere)?;
+    let left = left(
+        alloc,
+        &files,
+        &["field", "S", "C", "E"],
+        4096,
+        Fault::Nowhere,
+    )?;
     let cause = ClearCause::TooLong;
     assert_eq!(rt; left.status, Status::BadClear { packet: 400, cause });
     assert!(rt; left.printed.as_slice() == b"clear packet 400: too long\n".as_slice());

@@ -300,14 +300,7 @@ static REFUSALS: [Refusal; 42] = [
         7,
         "word 3 line 2 is refused\n",
     ),
-    (
-        "field S F G",
-        S,
-        NONE,
-        MORE,
-        11,
-        "limit: book bytes\n",
-    ),
+    ("field S F G", S, NONE, MORE, 11, "limit: book bytes\n"),
     (
         "field S F G",
         S,
