@@ -1,7 +1,7 @@
 -- What help says of each command [this project, docs/FORMATS.md, Help].
 use Rattle.std.specs.Prelude.{ℕ, List, [], ◌∷◌, codes, bytes_eq, if◌then◌else◌, Option, Some, None}
 use Rattle.sd_commands.specs.declared.command.Command.{Command}
-use Rattle.sd_commands.specs.declared.command.Command.TheVariants.{Accounts, Book, Card, Cover, Head, Layered, Lcard}
+use Rattle.sd_commands.specs.declared.command.Command.TheVariants.{Accounts, Book, Card, Cover, Field, Head, Layered, Lcard}
 use Rattle.sd_commands.specs.declared.command.Command.TheVariants.{Apart, Messages, Opens, Plan, Receive, Sample, Show, Tables}
 use Rattle.sd_commands.specs.declared.command.Command.TheVariants.{Trace, Trial}
 use Rattle.sd_commands.specs.declared.operand.Operand.{Operand}
@@ -18,6 +18,7 @@ name_of Apart = codes "apart"
 name_of Book = codes "book"
 name_of Card = codes "card"
 name_of Cover = codes "cover"
+name_of Field = codes "field"
 name_of Head = codes "head"
 name_of Layered = codes "layered"
 name_of Lcard = codes "lcard"
@@ -34,8 +35,8 @@ name_of Trial = codes "trial"
 -- all commands, by their names
 abbrev pub commands : List Command
 commands =
-    Accounts ∷ Apart ∷ Book ∷ Card ∷ Cover ∷ Head ∷ Layered ∷ Lcard ∷ Messages ∷ Opens ∷ Plan ∷ Receive ∷ Sample ∷ Show
-    ∷ Tables ∷ Trace ∷ Trial ∷ []
+    Accounts ∷ Apart ∷ Book ∷ Card ∷ Cover ∷ Field ∷ Head ∷ Layered ∷ Lcard ∷ Messages ∷ Opens ∷ Plan ∷ Receive ∷ Sample
+    ∷ Show ∷ Tables ∷ Trace ∷ Trial ∷ []
 
 -- the first of them that has this name
 abbrev pub named : List ℕ → List Command → Option Command
@@ -53,6 +54,7 @@ operands_of Apart = word.Site ∷ word.Book ∷ word.Site ∷ word.Book ∷ []
 operands_of Book = word.Site ∷ word.Book ∷ word.Commands ∷ word.Out ∷ []
 operands_of Card = word.Site ∷ word.Leaf ∷ word.Out ∷ []
 operands_of Cover = word.Site ∷ word.Book ∷ []
+operands_of Field = word.Site ∷ word.Clear ∷ word.Script ∷ []
 operands_of Head = word.Site ∷ word.Book ∷ word.Clear ∷ word.Out ∷ []
 operands_of Layered = word.Site ∷ word.Book ∷ word.Width ∷ []
 operands_of Lcard = word.Site ∷ word.Leaf ∷ word.Width ∷ word.Out ∷ []
@@ -73,6 +75,7 @@ work_of Apart = codes "tells whether two broadcasts may share cards"
 work_of Book = codes "makes a longer book, with more commands at its end"
 work_of Card = codes "makes the card of a receiver"
 work_of Cover = codes "prints the sets that each period names"
+work_of Field = codes "prints what receivers write that lose packets and power"
 work_of Head = codes "makes the scrambled broadcast of a clear stream"
 work_of Layered = codes "prints the sets that each period names in layers"
 work_of Lcard = codes "makes the card of a receiver for layers, which is smaller"
@@ -93,6 +96,7 @@ exits_of Apart = exits_of_pairs
 exits_of Book = exits_of_books
 exits_of Card = exits_of_cards
 exits_of Cover = exits_of_books
+exits_of Field = exits_of_clear_streams
 exits_of Head = exits_of_clear_streams
 exits_of Layered = exits_of_layers
 exits_of Lcard = exits_of_cards
@@ -113,6 +117,7 @@ example_of Apart = codes "apart examples/site.txt examples/book.txt site-2.txt e
 example_of Book = codes "book examples/site.txt examples/book.txt examples/today.txt longer.txt"
 example_of Card = codes "card examples/site.txt 2 card-2"
 example_of Cover = codes "cover examples/site.txt examples/book.txt"
+example_of Field = codes "field examples/site.txt clear.ts examples/script.txt"
 example_of Head = codes "head examples/site.txt examples/book.txt clear.ts broadcast.ts"
 example_of Layered = codes "layered examples/site.txt examples/book.txt 2"
 example_of Lcard = codes "lcard examples/site.txt 2 2 layer-card-2"

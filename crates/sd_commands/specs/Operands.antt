@@ -1,8 +1,8 @@
 -- The arguments that commands take [this project, docs/FORMATS.md, Commands].
 use Rattle.std.specs.Prelude.{ℕ, ◌-◌, ◌^◌, List, codes}
 use Rattle.sd_commands.specs.declared.operand.Operand.{Operand}
-use Rattle.sd_commands.specs.declared.operand.Operand.TheVariants.{Site, Book, Accounts, Commands, Clear, Stream, Card}
-use Rattle.sd_commands.specs.declared.operand.Operand.TheVariants.{Leaves, Leaf, Width, Number, Packets, Clears, Pids, Out}
+use Rattle.sd_commands.specs.declared.operand.Operand.TheVariants.{Site, Book, Accounts, Commands, Clear, Script, Stream}
+use Rattle.sd_commands.specs.declared.operand.Operand.TheVariants.{Card, Leaves, Leaf, Width, Number, Packets, Clears, Pids, Out}
 use Rattle.sd_commands.specs.declared.operand.Kind.{Kind}
 use Rattle.sd_commands.specs.declared.operand.Kind.TheVariants as kind
 
@@ -14,6 +14,7 @@ kind_of Book = kind.Input
 kind_of Accounts = kind.Input
 kind_of Commands = kind.Input
 kind_of Clear = kind.Input
+kind_of Script = kind.Input
 kind_of Stream = kind.Input
 kind_of Card = kind.Input
 kind_of Leaves = kind.Input
@@ -32,6 +33,7 @@ name_of Book = codes "BOOK"
 name_of Accounts = codes "ACCOUNTS"
 name_of Commands = codes "COMMANDS"
 name_of Clear = codes "CLEAR"
+name_of Script = codes "SCRIPT"
 name_of Stream = codes "STREAM"
 name_of Card = codes "CARD"
 name_of Leaves = codes "LEAVES"
@@ -51,6 +53,8 @@ meaning_of Accounts =
     codes "the accounts: a line for each change, assign NAME LEAF, drop NAME, restore NAME or period"
 meaning_of Commands = codes "a book by itself, whose lines go to the end of BOOK"
 meaning_of Clear = codes "a clear transport stream; /dev/stdin for a pipe"
+meaning_of Script =
+    codes "the events: a line for each run of them, as send PACKETS, offer LEAF PACKETS or off LEAF"
 meaning_of Stream = codes "a transport stream; /dev/stdin for a pipe"
 meaning_of Card = codes "the card of a receiver, as the command card makes it"
 meaning_of Leaves = codes "the receivers whose cards are pooled: a line for each leaf, ascending"

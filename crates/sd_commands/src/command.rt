@@ -12,6 +12,7 @@ pub enum Command {
     Book,
     Card,
     Cover,
+    Field,
     Head,
     Layered,
     Lcard,
@@ -27,12 +28,13 @@ pub enum Command {
 }
 
 /// All commands, by their names.
-pub const COMMANDS: [Command; 17] = [
+pub const COMMANDS: [Command; 18] = [
     Command::Accounts,
     Command::Apart,
     Command::Book,
     Command::Card,
     Command::Cover,
+    Command::Field,
     Command::Head,
     Command::Layered,
     Command::Lcard,
@@ -59,6 +61,7 @@ impl Command {
             "book" => Some(Command::Book),
             "card" => Some(Command::Card),
             "cover" => Some(Command::Cover),
+            "field" => Some(Command::Field),
             "head" => Some(Command::Head),
             "layered" => Some(Command::Layered),
             "lcard" => Some(Command::Lcard),
@@ -86,6 +89,7 @@ impl Command {
             Command::Book => "book",
             Command::Card => "card",
             Command::Cover => "cover",
+            Command::Field => "field",
             Command::Head => "head",
             Command::Layered => "layered",
             Command::Lcard => "lcard",
@@ -118,6 +122,7 @@ impl Command {
             ],
             Command::Card => &[Operand::Site, Operand::Leaf, Operand::Out],
             Command::Cover => &[Operand::Site, Operand::Book],
+            Command::Field => &[Operand::Site, Operand::Clear, Operand::Script],
             Command::Head => &[Operand::Site, Operand::Book, Operand::Clear, Operand::Out],
             Command::Layered => &[Operand::Site, Operand::Book, Operand::Width],
             Command::Lcard => &[Operand::Site, Operand::Leaf, Operand::Width, Operand::Out],
@@ -152,6 +157,7 @@ impl Command {
             Command::Book => "makes a longer book, with more commands at its end",
             Command::Card => "makes the card of a receiver",
             Command::Cover => "prints the sets that each period names",
+            Command::Field => "prints what receivers write that lose packets and power",
             Command::Head => "makes the scrambled broadcast of a clear stream",
             Command::Layered => "prints the sets that each period names in layers",
             Command::Lcard => "makes the card of a receiver for layers, which is smaller",
@@ -177,7 +183,7 @@ impl Command {
                 { exit::of_books() }
             Command::Apart => exit::of_pairs(),
             Command::Card | Command::Lcard => exit::of_cards(),
-            Command::Head | Command::Trial => exit::of_clear_streams(),
+            Command::Field | Command::Head | Command::Trial => exit::of_clear_streams(),
             Command::Layered | Command::Plan => exit::of_layers(),
             Command::Messages => exit::of_monitors(),
             Command::Receive => exit::of_receivers(),
@@ -200,6 +206,7 @@ impl Command {
                 "book examples/site.txt examples/book.txt examples/today.txt longer.txt",
             Command::Card => "card examples/site.txt 2 card-2",
             Command::Cover => "cover examples/site.txt examples/book.txt",
+            Command::Field => "field examples/site.txt clear.ts examples/script.txt",
             Command::Head => "head examples/site.txt examples/book.txt clear.ts broadcast.ts",
             Command::Layered => "layered examples/site.txt examples/book.txt 2",
             Command::Lcard => "lcard examples/site.txt 2 2 layer-card-2",

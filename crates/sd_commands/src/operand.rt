@@ -22,6 +22,7 @@ pub enum Operand {
     Accounts,
     Commands,
     Clear,
+    Script,
     Stream,
     Card,
     Leaves,
@@ -46,6 +47,7 @@ impl Operand {
             Operand::Accounts => "ACCOUNTS",
             Operand::Commands => "COMMANDS",
             Operand::Clear => "CLEAR",
+            Operand::Script => "SCRIPT",
             Operand::Stream => "STREAM",
             Operand::Card => "CARD",
             Operand::Leaves => "LEAVES",
@@ -68,6 +70,7 @@ impl Operand {
             | Operand::Accounts
             | Operand::Commands
             | Operand::Clear
+            | Operand::Script
             | Operand::Stream
             | Operand::Card
             | Operand::Leaves => Kind::Input,
@@ -94,6 +97,9 @@ impl Operand {
             }
             Operand::Commands => "a book by itself, whose lines go to the end of BOOK",
             Operand::Clear => "a clear transport stream; /dev/stdin for a pipe",
+            Operand::Script => {
+                "the events: a line for each run of them, as send PACKETS, offer LEAF PACKETS or off LEAF"
+            }
             Operand::Stream => "a transport stream; /dev/stdin for a pipe",
             Operand::Card => "the card of a receiver, as the command card makes it",
             Operand::Leaves =>

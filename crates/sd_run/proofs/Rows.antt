@@ -27,6 +27,8 @@ use Rattle.sd_run_sample.specs.Sample.{sample_meaning}
 use Rattle.sd_run_show.specs.Show.{line_of_file, show_meaning, printing as showing}
 use Rattle.sd_run_tables.specs.Tables.{inspecting, tables_meaning}
 use Rattle.sd_run_trace.specs.Trace.{traced, telling, trace_meaning}
+use Rattle.sd_files.specs.Printed.{printing}
+use Rattle.sd_run_field.specs.Field.{field_meaning, field_text, inputs_meaning, script_of_file}
 use Rattle.sd_run_trial.specs.Prefixes.{prefix_of_file}
 use Rattle.sd_run_trial.specs.Trial.{plan_meaning as trial_plan, trial_text, trying, trial_meaning}
 use Rattle.sd_run_trial.specs.Trial.{most_clear_bytes}
@@ -35,7 +37,7 @@ use Rattle.sd_site.specs.Fields.{SiteFields}
 use Rattle.sd_book.specs.Text.{text_of}
 use Rattle.sd_lsd.specs.Fields.{layer_card_of, layer_bytes}
 use Rattle.sd_commands.specs.declared.command.Command.{Command}
-use Rattle.sd_commands.specs.declared.command.Command.TheVariants.{Accounts, Book, Card, Cover, Head, Layered, Lcard}
+use Rattle.sd_commands.specs.declared.command.Command.TheVariants.{Accounts, Book, Card, Cover, Field, Head, Layered, Lcard}
 use Rattle.sd_commands.specs.declared.command.Command.TheVariants.{Apart, Messages, Opens, Plan as Air, Receive, Sample, Show}
 use Rattle.sd_commands.specs.declared.command.Command.TheVariants.{Tables, Trace, Trial}
 use Rattle.sd_commands.specs.declared.operand.Operand.{Operand}
@@ -54,6 +56,7 @@ use Rattle.sd_run_apart.proofs.Others.{other_apart}
 use Rattle.sd_run_book.proofs.Others.{other_book_order}
 use Rattle.sd_run_layered.proofs.Others.{other_layered}
 use Rattle.sd_run_lcard.proofs.Others.{other_lcard}
+use Rattle.sd_run_field.proofs.Others.{other_field}
 use Rattle.sd_run_messages.proofs.Others.{other_messages}
 use Rattle.sd_run_opens.proofs.Others.{other_opens}
 use Rattle.sd_run_plan.proofs.Others.{other_plan}
@@ -61,7 +64,7 @@ use Rattle.sd_run_show.proofs.Others.{other_show}
 use Rattle.sd_run_trace.proofs.Others.{other_trace}
 use Rattle.sd_run_trial.proofs.Others.{other_trial}
 use Rattle.sd_run.proofs.Works.{AreOrderly, orderly_after, same_name, made_whole, turned, none_made, sent_apart}
-use Rattle.sd_run.proofs.Works.{stream_apart, stream_received, trial_quiet}
+use Rattle.sd_run.proofs.Works.{stream_apart, stream_received, text_quiet}
 use Rattle.sd_run.proofs.Examples.{IsExample, words_in, onto_first, arguments_in}
 use Rattle.sd_text.specs.Number.{number_of}
 
@@ -230,7 +233,18 @@ trial_orderly site book clear given =
     orderly_after None (trial_plan site book given)
     (λ plan. prefix_of_file clear.number most_clear_bytes (given clear) >>= λ prefix. value (trying plan prefix))
     (λ plan. orderly_after None (prefix_of_file clear.number most_clear_bytes (given clear))
-    (λ prefix. value (trying plan prefix)) (λ prefix. trial_quiet (trial_text plan prefix)))
+    (λ prefix. value (trying plan prefix)) (λ prefix. text_quiet (trial_text plan prefix)))
+
+field_orderly : (site clear script : Word) (given : Given) →
+    AreOrderly None (field_meaning site clear script given).result
+unfolding field_meaning
+field_orderly site clear script given =
+    orderly_after None (inputs_meaning site clear given)
+    (λ inputs. script_of_file script.number inputs.site.height (given script)
+    >>= λ events. value (printing (field_text inputs.site inputs.clear events)))
+    (λ inputs. orderly_after None (script_of_file script.number inputs.site.height (given script))
+    (λ events. value (printing (field_text inputs.site inputs.clear events)))
+    (λ events. text_quiet (field_text inputs.site inputs.clear events)))
 
 -- the file that a row names, whose first argument is at this place
 abbrev pub out_at : ℕ → List Operand → List Argument → Option (List ℕ)
@@ -250,6 +264,7 @@ command_orderly Apart words given = apart_orderly (file 1 words) (file 2 words) 
 command_orderly Book words given = book_orderly (file 1 words) (file 2 words) (file 3 words) (file 4 words) given
 command_orderly Card words given = card_orderly (file 1 words) (number 2 words) (file 3 words) given
 command_orderly Cover words given = cover_orderly (file 1 words) (file 2 words) given
+command_orderly Field words given = field_orderly (file 1 words) (file 2 words) (file 3 words) given
 command_orderly Head words given = head_orderly (file 1 words) (file 2 words) (file 3 words) (file 4 words) given
 command_orderly Layered words given = layered_orderly (file 1 words) (file 2 words) (number 3 words) given
 command_orderly Lcard words given = lcard_orderly (file 1 words) (number 2 words) (number 3 words) (file 4 words) given
@@ -272,6 +287,7 @@ other_command Apart words given = other_apart (file 1 words) (file 2 words) (fil
 other_command Book words given = other_book_order (file 1 words) (file 2 words) (file 3 words) (file 4 words) given
 other_command Card words given = other_card_order (file 1 words) (number 2 words) (file 3 words) given
 other_command Cover words given = other_cover (file 1 words) (file 2 words) given
+other_command Field words given = other_field (file 1 words) (file 2 words) (file 3 words) given
 other_command Head words given = other_head (file 1 words) (file 2 words) (file 3 words) (file 4 words) given
 other_command Layered words given = other_layered (file 1 words) (file 2 words) (number 3 words) given
 other_command Lcard words given = other_lcard (file 1 words) (number 2 words) (number 3 words) (file 4 words) given
@@ -294,6 +310,7 @@ example Apart = (refl, refl)
 example Book = (refl, refl)
 example Card = (refl, refl)
 example Cover = (refl, refl)
+example Field = (refl, refl)
 example Head = (refl, refl)
 example Layered = (refl, refl)
 example Lcard = (refl, refl)

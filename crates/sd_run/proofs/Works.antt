@@ -21,6 +21,7 @@ use Rattle.sd_files.specs.Streams.{stream_status}
 use Rattle.sd_run_head.specs.Head.{status_where, sent_status}
 use Rattle.sd_run_receive.specs.Receive.{ended_status, ending_status, status_at, unless_refused, received_status}
 use Rattle.sd_files.specs.Printed.{printing}
+use Rattle.sd_words.specs.Words.{number}
 use Rattle.sd_run.specs.Refusals.{RefusesFirst}
 
 -- the work makes the file of this name or none; and if it ends with a refusal of words or files, it does nothing
@@ -108,6 +109,6 @@ unfolding received_status
 stream_received card bytes e =
     received_apart card (taken_of bytes) (break_from card [] (taken_of bytes)) (end_of bytes) e
 
-pub trial_quiet : (text : Result (List ℕ) Status) → IsOrderly None (printing text)
-trial_quiet (Ok text) = none_made (printing (Ok text)) refl (λ refusal. absurd refusal)
-trial_quiet (Err status) = none_made (printing (Err status)) refl (λ refusal. refl)
+pub text_quiet : (text : Result (List ℕ) Status) → IsOrderly None (printing text)
+text_quiet (Ok text) = none_made (printing (Ok text)) refl (λ refusal. absurd refusal)
+text_quiet (Err status) = none_made (printing (Err status)) refl (λ refusal. refl)

@@ -3,7 +3,7 @@ use Rattle.std.specs.Prelude.{List, ℕ}
 use Rattle.sd_status.specs.Meant.{Meant, Given, judged, ◌>>=◌}
 use Rattle.sd_status.specs.Work.{Work}
 use Rattle.sd_commands.specs.declared.command.Command.{Command}
-use Rattle.sd_commands.specs.declared.command.Command.TheVariants.{Accounts, Book, Card, Cover, Head, Layered, Lcard}
+use Rattle.sd_commands.specs.declared.command.Command.TheVariants.{Accounts, Book, Card, Cover, Field, Head, Layered, Lcard}
 use Rattle.sd_commands.specs.declared.command.Command.TheVariants.{Apart, Messages, Opens, Plan, Receive, Sample, Show, Tables}
 use Rattle.sd_commands.specs.declared.command.Command.TheVariants.{Trace, Trial}
 use Rattle.sd_words.specs.Words.{Argument, Order, CommandOf, HelpOf, VersionOf, file, number, order_of}
@@ -11,6 +11,7 @@ use Rattle.sd_run_cover.specs.Cover.{cover_meaning}
 use Rattle.sd_run_card.specs.Card.{card_meaning}
 use Rattle.sd_run_sample.specs.Sample.{sample_meaning}
 use Rattle.sd_run_tables.specs.Tables.{tables_meaning}
+use Rattle.sd_run_field.specs.Field.{field_meaning}
 use Rattle.sd_run_head.specs.Head.{head_meaning}
 use Rattle.sd_run_receive.specs.Receive.{receive_meaning}
 use Rattle.sd_run_accounts.specs.Accounts.{accounts_meaning}
@@ -33,6 +34,7 @@ command_meaning Apart words given = apart_meaning (file 1 words) (file 2 words) 
 command_meaning Book words given = book_meaning (file 1 words) (file 2 words) (file 3 words) (file 4 words) given
 command_meaning Card words given = card_meaning (file 1 words) (number 2 words) (file 3 words) given
 command_meaning Cover words given = cover_meaning (file 1 words) (file 2 words) given
+command_meaning Field words given = field_meaning (file 1 words) (file 2 words) (file 3 words) given
 command_meaning Head words given = head_meaning (file 1 words) (file 2 words) (file 3 words) (file 4 words) given
 command_meaning Layered words given = layered_meaning (file 1 words) (file 2 words) (number 3 words) given
 command_meaning Lcard words given = lcard_meaning (file 1 words) (number 2 words) (number 3 words) (file 4 words) given

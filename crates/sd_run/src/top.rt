@@ -15,6 +15,7 @@ use sd_ports::{Depot, Sink};
 use sd_run_apart::apart;
 use sd_run_card::card;
 use sd_run_cover::cover;
+use sd_run_field::field;
 use sd_run_head::head;
 use sd_run_help::{help, version};
 use sd_run_layered::layered;
@@ -151,6 +152,15 @@ fn work<D: Depot, P: Sink, L: Ledger>(
         ),
         Command::Card => card(alloc, depot, row.file(1), row.number(2), row.file(3), steps),
         Command::Cover => cover(alloc, depot, print, row.file(1), row.file(2)),
+        Command::Field => field(
+            alloc,
+            depot,
+            print,
+            row.file(1),
+            row.file(2),
+            row.file(3),
+            steps,
+        ),
         Command::Head => head(
             alloc,
             depot,

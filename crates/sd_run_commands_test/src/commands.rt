@@ -45,7 +45,7 @@ const LISTED: [(usize, &str); 4] = [
         "  book SITE BOOK COMMANDS OUT  makes a longer book, with more commands at its end",
     ),
     (
-        18,
+        19,
         "  trial SITE BOOK CLEAR        prints what each receiver writes of a broadcast",
     ),
 ];

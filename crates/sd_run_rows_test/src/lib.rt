@@ -4,4 +4,6 @@
 #[cfg(test)]
 mod covers;
 #[cfg(test)]
+mod fields;
+#[cfg(test)]
 mod rows;
