@@ -47,7 +47,7 @@ named word (command ∷ rest) = if bytes_eq word (name_of command) then Some com
 unfoldable pub command_of : List ℕ → Option Command
 command_of word = named word commands
 
--- the words after the name
+-- the arguments after the name
 unfoldable pub operands_of : Command → List Operand
 operands_of Accounts = word.Site ∷ word.Accounts ∷ word.Out ∷ []
 operands_of Apart = word.Site ∷ word.Book ∷ word.Site ∷ word.Book ∷ []
@@ -70,24 +70,24 @@ operands_of Trial = word.Site ∷ word.Book ∷ word.Clear ∷ []
 
 -- what the command does
 unfoldable pub work_of : Command → List ℕ
-work_of Accounts = codes "makes the book of accounts that are kept by name, and reports them"
-work_of Apart = codes "tells whether two broadcasts may share cards"
-work_of Book = codes "makes a longer book, with more commands at its end"
+work_of Accounts = codes "makes the book from the accounts of named subscribers, and reports them"
+work_of Apart = codes "checks whether two broadcasts may share cards"
+work_of Book = codes "makes a longer book: its commands, then those of COMMANDS"
 work_of Card = codes "makes the card of a receiver"
-work_of Cover = codes "prints the sets that each period names"
-work_of Field = codes "prints what receivers write that lose packets and power"
+work_of Cover = codes "prints the sets of each period's cover"
+work_of Field = codes "prints what receivers write that miss packets or lose power"
 work_of Head = codes "makes the scrambled broadcast of a clear stream"
-work_of Layered = codes "prints the sets that each period names in layers"
-work_of Lcard = codes "makes the card of a receiver for layers, which is smaller"
-work_of Messages = codes "prints what a broadcast's messages say, a line each"
-work_of Opens = codes "prints which sets of each period pooled cards open"
-work_of Plan = codes "prints what a broadcast takes on air, before it is sent"
-work_of Receive = codes "makes the clear packets of a broadcast that a card opens"
-work_of Sample = codes "makes a clear stream for trials"
-work_of Show = codes "prints what a card's file is, without its keys"
-work_of Tables = codes "prints the tables of a stream, a line of JSON for each"
-work_of Trace = codes "prints which receivers' cards a box has, found by trials"
-work_of Trial = codes "prints what each receiver writes of a broadcast"
+work_of Layered = codes "prints the sets of each period's layered cover"
+work_of Lcard = codes "makes the smaller card of a receiver for layered covers"
+work_of Messages = codes "prints the messages of a broadcast, one line each"
+work_of Opens = codes "prints which sets of each period the cards of a coalition open"
+work_of Plan = codes "prints the size of a broadcast on air, before it is made"
+work_of Receive = codes "writes the clear packets of a broadcast that a card opens"
+work_of Sample = codes "makes a clear stream for tests"
+work_of Show = codes "prints the fields of a card's file, without its keys"
+work_of Tables = codes "prints the tables of a stream, one line of JSON each"
+work_of Trace = codes "prints the receivers whose cards a decoder holds, found by queries"
+work_of Trial = codes "prints what each receiver writes from a broadcast"
 
 -- the exits that it may have
 unfoldable pub exits_of : Command → List Exit
@@ -110,7 +110,7 @@ exits_of Tables = exits_of_tables
 exits_of Trace = exits_of_books
 exits_of Trial = exits_of_clear_streams
 
--- an example of its words
+-- an example of its arguments
 unfoldable pub example_of : Command → List ℕ
 example_of Accounts = codes "accounts examples/site.txt examples/accounts.txt book.txt"
 example_of Apart = codes "apart examples/site.txt examples/book.txt site-2.txt examples/book.txt"

@@ -47,21 +47,22 @@ name_of Out = codes "OUT"
 
 -- what it says
 unfoldable pub meaning_of : Operand → List ℕ
-meaning_of Site = codes "the site file: height, master secret, PIDs, lengths of periods, numbers of words and periods"
-meaning_of Book = codes "the book: a line for each command, subscribe LEAF, revoke LEAF or period"
+meaning_of Site =
+    codes "the site file: height, master secret, PIDs, period lengths, range of control words, first period"
+meaning_of Book = codes "the book: one command per line, subscribe LEAF, revoke LEAF or period"
 meaning_of Accounts =
-    codes "the accounts: a line for each change, assign NAME LEAF, drop NAME, restore NAME or period"
-meaning_of Commands = codes "a book by itself, whose lines go to the end of BOOK"
+    codes "the accounts: one change per line, assign NAME LEAF, drop NAME, restore NAME or period"
+meaning_of Commands = codes "the commands to append to BOOK, in the form of a book"
 meaning_of Clear = codes "a clear transport stream; /dev/stdin for a pipe"
 meaning_of Script =
     codes "the events: a line for each run of them, as send PACKETS, offer LEAF PACKETS or off LEAF"
 meaning_of Stream = codes "a transport stream; /dev/stdin for a pipe"
-meaning_of Card = codes "the card of a receiver, as the command card makes it"
-meaning_of Leaves = codes "the receivers whose cards are pooled: a line for each leaf, ascending"
+meaning_of Card = codes "the card of a receiver, made by the command card"
+meaning_of Leaves = codes "the coalition: one leaf per line, ascending"
 meaning_of Leaf = codes "the receiver's number, from 0 to 2^height - 1"
 meaning_of Width = codes "the width of the layers, from 1 to the height"
-meaning_of Number = codes "a number below 2^32, of which the stream is made"
-meaning_of Packets = codes "how many packets, at most 1000000"
-meaning_of Clears = codes "how many clear packets, from 1 to 4294967295"
-meaning_of Pids = codes "how many PIDs have positions, at most 256"
-meaning_of Out = codes "the file to be made; /dev/stdout for a pipe, and lines then go to standard error"
+meaning_of Number = codes "the seed of the stream, a number below 2^32"
+meaning_of Packets = codes "the number of packets, at most 1000000"
+meaning_of Clears = codes "the number of clear packets, from 1 to 4294967295"
+meaning_of Pids = codes "the number of PIDs that have positions, at most 256"
+meaning_of Out = codes "the output file; /dev/stdout for a pipe, and messages then go to standard error"

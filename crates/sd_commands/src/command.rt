@@ -4,26 +4,44 @@ ghost use Rattle.sd_commands.specs.Commands.{example_of, exits_of, name_of, oper
 use crate::exit::{self, Exit};
 use crate::operand::Operand;
 
-/// A command that takes files, numbers or both.
+/// A command of the program that takes files, numbers or both.
 #[derive(Clone, Copy, Debug, PartialEq, Eq)]
 pub enum Command {
+    /// `accounts SITE ACCOUNTS OUT`: makes the book from subscriber accounts.
     Accounts,
+    /// `apart SITE BOOK SITE BOOK`: checks whether two broadcasts may share cards.
     Apart,
+    /// `book SITE BOOK COMMANDS OUT`: appends commands to a book.
     Book,
+    /// `card SITE LEAF OUT`: makes a receiver's card.
     Card,
+    /// `cover SITE BOOK`: prints the Subset Difference cover of each period.
     Cover,
+    /// `field SITE CLEAR SCRIPT`: prints what receivers write that miss packets or lose power.
     Field,
+    /// `head SITE BOOK CLEAR OUT`: makes the scrambled broadcast.
     Head,
+    /// `layered SITE BOOK WIDTH`: prints the layered cover of each period.
     Layered,
+    /// `lcard SITE LEAF WIDTH OUT`: makes a receiver's card for layered covers.
     Lcard,
+    /// `messages SITE STREAM`: prints the EMM sections and ECMs of a broadcast.
     Messages,
+    /// `opens SITE BOOK LEAVES`: prints which sets a coalition of cards opens.
     Opens,
+    /// `plan SITE BOOK PACKETS PIDS`: prints the size of a broadcast on air.
     Plan,
+    /// `receive CARD STREAM OUT`: writes the clear packets that a card opens.
     Receive,
+    /// `sample NUMBER PACKETS OUT`: makes a clear stream for tests.
     Sample,
+    /// `show CARD`: prints the fields of a card's file, without its keys.
     Show,
+    /// `tables STREAM`: prints the PSI tables of a stream as JSON.
     Tables,
+    /// `trace SITE BOOK LEAVES`: finds the cards in a decoder by queries.
     Trace,
+    /// `trial SITE BOOK CLEAR`: prints what each receiver writes from a broadcast.
     Trial,
 }
 
@@ -50,7 +68,7 @@ pub const COMMANDS: [Command; 18] = [
 ];
 
 impl Command {
-    /// The command of this name.
+    /// The command of this name, or none if no command has it.
     #[tactic(auto, unfolding(crate::specs::Commands::command_of, crate::specs::Commands::name_of))]
     pub fn of(word: &str) -> Option<Command>
         ensures { result ≡ command_of word.now }
@@ -105,7 +123,7 @@ impl Command {
         }
     }
 
-    /// The words after the name.
+    /// The arguments after the command's name, at most four.
     #[tactic(auto, unfolding(crate::specs::Commands::operands_of))]
     pub fn operands(self) -> &'static [Operand]
         ensures value { result.now ≡ operands_of self }
@@ -145,35 +163,35 @@ impl Command {
         matches!(self, Command::Card | Command::Lcard)
     }
 
-    /// What the command does.
+    /// The command's line in help: what it does.
     #[tactic(auto, unfolding(crate::specs::Commands::work_of))]
     pub fn work(self) -> &'static str
         ensures { result.now ≡ work_of self }
     {
         match self {
             Command::Accounts =>
-                "makes the book of accounts that are kept by name, and reports them",
-            Command::Apart => "tells whether two broadcasts may share cards",
-            Command::Book => "makes a longer book, with more commands at its end",
+                "makes the book from the accounts of named subscribers, and reports them",
+            Command::Apart => "checks whether two broadcasts may share cards",
+            Command::Book => "makes a longer book: its commands, then those of COMMANDS",
             Command::Card => "makes the card of a receiver",
-            Command::Cover => "prints the sets that each period names",
-            Command::Field => "prints what receivers write that lose packets and power",
+            Command::Cover => "prints the sets of each period's cover",
+            Command::Field => "prints what receivers write that miss packets or lose power",
             Command::Head => "makes the scrambled broadcast of a clear stream",
-            Command::Layered => "prints the sets that each period names in layers",
-            Command::Lcard => "makes the card of a receiver for layers, which is smaller",
-            Command::Messages => "prints what a broadcast's messages say, a line each",
-            Command::Opens => "prints which sets of each period pooled cards open",
-            Command::Plan => "prints what a broadcast takes on air, before it is sent",
-            Command::Receive => "makes the clear packets of a broadcast that a card opens",
-            Command::Sample => "makes a clear stream for trials",
-            Command::Show => "prints what a card's file is, without its keys",
-            Command::Tables => "prints the tables of a stream, a line of JSON for each",
-            Command::Trace => "prints which receivers' cards a box has, found by trials",
-            Command::Trial => "prints what each receiver writes of a broadcast",
+            Command::Layered => "prints the sets of each period's layered cover",
+            Command::Lcard => "makes the smaller card of a receiver for layered covers",
+            Command::Messages => "prints the messages of a broadcast, one line each",
+            Command::Opens => "prints which sets of each period the cards of a coalition open",
+            Command::Plan => "prints the size of a broadcast on air, before it is made",
+            Command::Receive => "writes the clear packets of a broadcast that a card opens",
+            Command::Sample => "makes a clear stream for tests",
+            Command::Show => "prints the fields of a card's file, without its keys",
+            Command::Tables => "prints the tables of a stream, one line of JSON each",
+            Command::Trace => "prints the receivers whose cards a decoder holds, found by queries",
+            Command::Trial => "prints what each receiver writes from a broadcast",
         }
     }
 
-    /// The exits that it may have.
+    /// The exits that the command may have, in ascending order.
     #[tactic(auto, unfolding(crate::specs::Commands::exits_of))]
     pub fn exits(self) -> &'static [Exit]
         ensures { result.now ≡ exits_of self }
@@ -193,7 +211,7 @@ impl Command {
         }
     }
 
-    /// An example of its words.
+    /// An example of the command's arguments, as help prints it.
     #[tactic(auto, unfolding(crate::specs::Commands::example_of))]
     pub fn example(self) -> &'static str
         ensures { result.now ≡ example_of self }

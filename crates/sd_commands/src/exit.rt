@@ -3,32 +3,70 @@ ghost use Rattle.sd_commands.specs.Exits.{exits_of_books, exits_of_cards, exits_
 ghost use Rattle.sd_commands.specs.Exits.{exits_of_monitors, exits_of_pairs, exits_of_receivers, exits_of_samples};
 ghost use Rattle.sd_commands.specs.Exits.{exits_of_shown_cards, exits_of_tables, exit_line};
 
-/// An exit of the program.
+/// An exit of the program, by its number.
 #[derive(Clone, Copy)]
 pub enum Exit {
+    /// Exit 0: the work is done.
+    /// Exit 0: the work is done.
     Done,
+    /// Exit 1: the arguments are no usage of a command.
+    /// Exit 1: the arguments are no usage of a command.
     Usage,
+    /// Exit 2: a file, or the folder of OUT, does not exist.
+    /// Exit 2: a file, or the folder of OUT, does not exist.
     Missing,
+    /// Exit 3: the card's leaf is revoked in a period.
+    /// Exit 3: the card's leaf is revoked in a period.
     Revoked,
+    /// Exit 4: an I/O error at a file.
+    /// Exit 4: an I/O error at a file.
     DepotFault,
+    /// Exit 5: an I/O error while printing.
+    /// Exit 5: an I/O error while printing.
     PrintFault,
+    /// Exit 6: the site file is refused.
+    /// Exit 6: the site file is refused.
     BadSite,
+    /// Exit 7: a line of a book, of accounts or of leaves is refused.
+    /// Exit 7: a line of a book, of accounts or of leaves is refused.
     BadBook,
+    /// Exit 8: the card's file is refused.
+    /// Exit 8: the card's file is refused.
     BadCard,
+    /// Exit 9: a packet of the clear stream is refused.
+    /// Exit 9: a packet of the clear stream is refused.
     BadClear,
+    /// Exit 10: a packet of the stream is refused.
+    /// Exit 10: a packet of the stream is refused.
     BadStream,
+    /// Exit 11: a limit is exceeded.
+    /// Exit 11: a limit is exceeded.
     Limit,
+    /// Exit 12: out of memory.
+    /// Exit 12: out of memory.
     NoMemory,
+    /// Exit 13: the receiver did not hear its entitlement for a period.
+    /// Exit 13: the receiver did not hear its entitlement for a period.
     Unheard,
+    /// Exit 14: the stream ends before its closing ECM is complete.
+    /// Exit 14: the stream ends before its closing ECM is complete.
     Unclosed,
+    /// Exit 15: clear packets are missing from OUT.
+    /// Exit 15: clear packets are missing from OUT.
     Gaps,
+    /// Exit 16: no CAT of the stream names the card's CA system.
+    /// Exit 16: no CAT of the stream names the card's CA system.
     NoCat,
+    /// Exit 17: an argument is not a decimal number in its range.
+    /// Exit 17: an argument is not a decimal number in its range.
     BadWord,
+    /// Exit 18: two broadcasts must not share one set of cards.
+    /// Exit 18: two broadcasts must not share one set of cards.
     Clash,
 }
 
 impl Exit {
-    /// Its line: its number, and when it comes.
+    /// The exit's line in a page of help: its number in four columns, and when the program ends so.
     #[tactic(auto, unfolding(crate::specs::Exits::exit_line))]
     pub fn line(self) -> &'static str
         ensures { result.now ≡ exit_line self }
@@ -36,31 +74,31 @@ impl Exit {
         match self {
             Exit::Done => "   0  the work is done\n",
             Exit::Usage =>
-                "   1  usage: no such command, too few or too many words, or OUT is a file that is read\n",
+                "   1  usage: unknown command, wrong number of arguments, text not in UTF-8, or OUT is one of the inputs\n",
             Exit::Missing =>
-                "   2  the file that word N names is not there, or for OUT its folder\n",
+                "   2  the file that argument N names does not exist; for OUT, its folder does not exist\n",
             Exit::Revoked =>
-                "   3  the receiver is revoked in the period that is named, the first such one that was heard\n",
-            Exit::DepotFault => "   4  a device failed at a file\n",
-            Exit::PrintFault => "   5  a device failed at printing\n",
+                "   3  the receiver is revoked in period Q, the first such period of which it heard\n",
+            Exit::DepotFault => "   4  an I/O error at a file\n",
+            Exit::PrintFault => "   5  an I/O error while printing\n",
             Exit::BadSite => "   6  the site file is refused\n",
-            Exit::BadBook => "   7  a line of the file that word N names is refused\n",
+            Exit::BadBook => "   7  line N of the file that argument W names is refused\n",
             Exit::BadCard => "   8  the card is refused\n",
             Exit::BadClear => "   9  a packet of the clear stream is refused\n",
             Exit::BadStream => "  10  a packet of the stream is refused\n",
-            Exit::Limit => "  11  a limit is passed\n",
-            Exit::NoMemory => "  12  memory ran out\n",
-            Exit::Unheard => "  13  the receiver did not hear its entitlement for a period\n",
-            Exit::Unclosed => "  14  the stream ends before its last message\n",
-            Exit::Gaps => "  15  some clear packets are missing\n",
+            Exit::Limit => "  11  a limit is exceeded\n",
+            Exit::NoMemory => "  12  out of memory\n",
+            Exit::Unheard => "  13  the receiver did not hear its entitlement for period Q\n",
+            Exit::Unclosed => "  14  the stream ends before its closing ECM is complete\n",
+            Exit::Gaps => "  15  clear packets are missing from OUT\n",
             Exit::NoCat => "  16  the stream has no CAT for this card\n",
-            Exit::BadWord => "  17  word N is no decimal, or out of its range\n",
-            Exit::Clash => "  18  two broadcasts may not go out under one set of cards\n",
+            Exit::BadWord => "  17  argument N is not a decimal number, or is out of range\n",
+            Exit::Clash => "  18  two broadcasts must not share one set of cards\n",
         }
     }
 }
 
-/// The exits of a command that reads a site, a book and maybe more text.
+/// The exits of a command that reads a site, a book and possibly another text file.
 pub fn of_books() -> &'static [Exit]
     ensures { result.now ≡ exits_of_books }
 {

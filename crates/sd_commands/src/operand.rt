@@ -17,26 +17,42 @@ pub enum Kind {
 /// An argument that a command takes.
 #[derive(Clone, Copy)]
 pub enum Operand {
+    /// SITE, the site file.
     Site,
+    /// BOOK, the file of the revocation log.
     Book,
+    /// ACCOUNTS, the file of the subscriber accounts.
     Accounts,
+    /// COMMANDS, a file of commands to append to BOOK.
     Commands,
+    /// CLEAR, a clear transport stream.
     Clear,
+    /// SCRIPT, the file of the events of a field.
     Script,
+    /// STREAM, a transport stream.
     Stream,
+    /// CARD, a receiver's card.
     Card,
+    /// LEAVES, a file with one leaf per line, ascending.
     Leaves,
+    /// LEAF, a receiver's number, from 0 to 2^height - 1.
     Leaf,
+    /// WIDTH, the width of the layers, from 1 to the height.
     Width,
+    /// NUMBER, the seed of a sample, below 2^32.
     Number,
+    /// PACKETS of `sample`, at most 1,000,000.
     Packets,
+    /// PACKETS of `plan`, from 1 to 2^32 - 1.
     Clears,
+    /// PIDS, the number of PIDs that have positions, at most 256.
     Pids,
+    /// OUT, the output file.
     Out,
 }
 
 impl Operand {
-    /// The name that it has in the texts.
+    /// The argument's name in help, in capital letters.
     #[tactic(auto, unfolding(crate::specs::Operands::name_of))]
     pub fn name(self) -> &'static str
         ensures { result.now ≡ name_of self }
@@ -60,7 +76,7 @@ impl Operand {
         }
     }
 
-    /// What it is.
+    /// The argument's kind: an input, the output, or a number and its range.
     pub fn kind(self) -> Kind
         ensures { result ≡ kind_of self }
     {
@@ -82,36 +98,35 @@ impl Operand {
         }
     }
 
-    /// What it says.
+    /// What help says of the argument.
     #[tactic(auto, unfolding(crate::specs::Operands::meaning_of))]
     pub fn meaning(self) -> &'static str
         ensures { result.now ≡ meaning_of self }
     {
         match self {
             Operand::Site =>
-                "the site file: height, master secret, PIDs, lengths of periods, numbers of words and periods",
+                "the site file: height, master secret, PIDs, period lengths, range of control words, first period",
             Operand::Book =>
-                "the book: a line for each command, subscribe LEAF, revoke LEAF or period",
+                "the book: one command per line, subscribe LEAF, revoke LEAF or period",
             Operand::Accounts => {
-                "the accounts: a line for each change, assign NAME LEAF, drop NAME, restore NAME or period"
+                "the accounts: one change per line, assign NAME LEAF, drop NAME, restore NAME or period"
             }
-            Operand::Commands => "a book by itself, whose lines go to the end of BOOK",
+            Operand::Commands => "the commands to append to BOOK, in the form of a book",
             Operand::Clear => "a clear transport stream; /dev/stdin for a pipe",
             Operand::Script => {
                 "the events: a line for each run of them, as send PACKETS, offer LEAF PACKETS or off LEAF"
             }
             Operand::Stream => "a transport stream; /dev/stdin for a pipe",
-            Operand::Card => "the card of a receiver, as the command card makes it",
-            Operand::Leaves =>
-                "the receivers whose cards are pooled: a line for each leaf, ascending",
+            Operand::Card => "the card of a receiver, made by the command card",
+            Operand::Leaves => "the coalition: one leaf per line, ascending",
             Operand::Leaf => "the receiver's number, from 0 to 2^height - 1",
             Operand::Width => "the width of the layers, from 1 to the height",
-            Operand::Number => "a number below 2^32, of which the stream is made",
-            Operand::Packets => "how many packets, at most 1000000",
-            Operand::Clears => "how many clear packets, from 1 to 4294967295",
-            Operand::Pids => "how many PIDs have positions, at most 256",
+            Operand::Number => "the seed of the stream, a number below 2^32",
+            Operand::Packets => "the number of packets, at most 1000000",
+            Operand::Clears => "the number of clear packets, from 1 to 4294967295",
+            Operand::Pids => "the number of PIDs that have positions, at most 256",
             Operand::Out =>
-                "the file to be made; /dev/stdout for a pipe, and lines then go to standard error",
+                "the output file; /dev/stdout for a pipe, and messages then go to standard error",
         }
     }
 }

@@ -36,7 +36,7 @@ fn refusals_are_explained(rt: HostRuntime) -> Result<(), AllocError> {
         (
             "opens S B L",
             Status::BadBook { word: 3, line: 2 },
-            "sdca: LEAVES L: line 2 is refused; LEAVES is the receivers whose cards are pooled: a line for each leaf, ascending\n",
+            "sdca: LEAVES L: line 2 is refused; LEAVES is the coalition: one leaf per line, ascending\n",
         ),
         (
             "card S 9 K",

@@ -7,19 +7,19 @@ use std::alloc::{AllocError, Global};
 
 /// The page of `tables`.
 const PAGE: &str = "sdca tables STREAM
-prints the tables of a stream, a line of JSON for each
+prints the tables of a stream, one line of JSON each
 
-words
+arguments
   STREAM    a transport stream; /dev/stdin for a pipe
 
 exits
    0  the work is done
-   1  usage: no such command, too few or too many words, or OUT is a file that is read
-   2  the file that word N names is not there, or for OUT its folder
-   4  a device failed at a file
-   5  a device failed at printing
+   1  usage: unknown command, wrong number of arguments, text not in UTF-8, or OUT is one of the inputs
+   2  the file that argument N names does not exist; for OUT, its folder does not exist
+   4  an I/O error at a file
+   5  an I/O error while printing
   10  a packet of the stream is refused
-  12  memory ran out
+  12  out of memory
 
 example
   sdca tables broadcast.ts
@@ -38,15 +38,15 @@ const LISTED: [(usize, &str); 4] = [
     ),
     (
         2,
-        "  accounts SITE ACCOUNTS OUT   makes the book of accounts that are kept by name, and reports them",
+        "  accounts SITE ACCOUNTS OUT   makes the book from the accounts of named subscribers, and reports them",
     ),
     (
         4,
-        "  book SITE BOOK COMMANDS OUT  makes a longer book, with more commands at its end",
+        "  book SITE BOOK COMMANDS OUT  makes a longer book: its commands, then those of COMMANDS",
     ),
     (
         19,
-        "  trial SITE BOOK CLEAR        prints what each receiver writes of a broadcast",
+        "  trial SITE BOOK CLEAR        prints what each receiver writes from a broadcast",
     ),
 ];
 

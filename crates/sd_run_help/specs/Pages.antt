@@ -8,15 +8,15 @@ use Rattle.sd_commands.specs.Operands.{meaning_of, name_of as word_of}
 use Rattle.sd_commands.specs.Exits.{exit_line}
 use Rattle.sd_commands.specs.Commands.{commands, example_of, exits_of, name_of, operands_of, work_of}
 
--- a text at the left of a column of so many characters, filled up with spaces
+-- a text at the left of a column of that width in characters, filled up with spaces
 abbrev pub at_left : ℕ → List ℕ → List ℕ
 at_left width text = padded (format_spec 32 1 0 width (2 ^ 64 - 1)) text
 
--- a word of a command, after a space
+-- the name of an argument, after a space
 unfoldable pub spaced : Operand → List ℕ
 spaced operand = codes " " ++ word_of operand
 
--- the words of a command
+-- a command's name and its arguments
 abbrev pub usage_of : Command → List ℕ
 usage_of topic = name_of topic ++ flat_map spaced (operands_of topic)
 
@@ -24,7 +24,7 @@ usage_of topic = name_of topic ++ flat_map spaced (operands_of topic)
 unfoldable pub topic_line : Command → List ℕ
 topic_line topic = codes "  " ++ (at_left 27 (usage_of topic) ++ (codes "  " ++ (work_of topic ++ codes "\n")))
 
--- the line of a word that a command takes
+-- the line of an argument: its name and its meaning
 unfoldable pub operand_line : Operand → List ℕ
 operand_line operand =
     codes "  " ++ (at_left 8 (word_of operand) ++ (codes "  " ++ (meaning_of operand ++ codes "\n")))
@@ -34,18 +34,18 @@ unfoldable pub overview : List ℕ
 overview =
     codes "sdca: conditional access for transport streams, by Subset Difference\n\n"
     ++ flat_map topic_line commands
-    ++ codes "  help [COMMAND]               prints this list, or the words of a command, its exits and an example\n"
+    ++ codes "  help [COMMAND]               prints this list, or a command's arguments, exits and an example\n"
     ++ codes "  version                      prints the version, and the toolchain that proved it\n"
 
 -- the first lines of a command's page
 unfoldable pub head_text : Command → List ℕ
-head_text topic = codes "sdca " ++ (usage_of topic ++ (codes "\n" ++ (work_of topic ++ codes "\n\nwords\n")))
+head_text topic = codes "sdca " ++ (usage_of topic ++ (codes "\n" ++ (work_of topic ++ codes "\n\narguments\n")))
 
 -- the last lines of it
 unfoldable pub tail_text : Command → List ℕ
 tail_text topic = codes "\nexample\n  sdca " ++ (example_of topic ++ codes "\n")
 
--- the page of a command: its words with what each says, its exits and an example
+-- the page of a command: its arguments with their meanings, its exits and an example
 unfoldable pub page_text : Command → List ℕ
 page_text topic =
     head_text topic ++ flat_map operand_line (operands_of topic) ++ codes "\nexits\n"

@@ -11,7 +11,7 @@ use sd_ports::Sink;
 use sd_status::Status;
 use std::alloc::{AllocError, Global};
 
-/// Does `help COMMAND`, and `help` where no command is named.
+/// Runs `help COMMAND`, or `help` if no command is named: prints the page of the command, or the list of all commands.
 pub fn help<P: Sink>(alloc: Global, print: &mut P, topic: Option<Command>) -> Result<(), Status>
     ensures { (place : Place) (steps : ℕ) → Follows (help_meaning topic)
         (outside place (page P.Sink print.old) steps) (outside place (page P.Sink print.new) steps)
@@ -21,7 +21,7 @@ pub fn help<P: Sink>(alloc: Global, print: &mut P, topic: Option<Command>) -> Re
     print_text(print, text.as_bytes())
 }
 
-/// What is told of a command, or of all.
+/// The page of a command, or the list of all commands.
 #[tactic(auto, unfolding(crate::specs::Pages::help_text))]
 fn text_of(alloc: Global, topic: Option<Command>) -> Result<String, AllocError>
     ensures { IfOk result (λ text. string_bytes text ≡ help_text topic) }
@@ -32,7 +32,7 @@ fn text_of(alloc: Global, topic: Option<Command>) -> Result<String, AllocError>
     }
 }
 
-/// Does `version`.
+/// Runs `version`: prints the version, and the toolchains that proved it.
 pub fn version<P: Sink>(print: &mut P) -> Result<(), Status>
     ensures { (place : Place) (steps : ℕ) → Follows version_meaning
         (outside place (page P.Sink print.old) steps) (outside place (page P.Sink print.new) steps)

@@ -1,4 +1,4 @@
-//! `help`, `help COMMAND` and `version`: what a user is told of the program itself.
+//! `help`, `help COMMAND` and `version`: what the program prints about itself.
 #![tactic(auto)]
 
 mod command;

@@ -19,7 +19,7 @@ pub fn overview(alloc: Global) -> Result<String, AllocError>
     )?;
     push_topics(alloc, &mut text, &COMMANDS)?;
     text.push_str(
-        "  help [COMMAND]               prints this list, or the words of a command, its exits and an example\n",
+        "  help [COMMAND]               prints this list, or a command's arguments, exits and an example\n",
     )?;
     text.push_str(
         "  version                      prints the version, and the toolchain that proved it\n",
@@ -47,10 +47,10 @@ fn head(alloc: Global, topic: Command) -> Result<String, AllocError>
 {
     let usage = usage(alloc, topic)?;
     let work = topic.work();
-    format!(in alloc; "sdca {usage}\n{work}\n\nwords\n")
+    format!(in alloc; "sdca {usage}\n{work}\n\narguments\n")
 }
 
-/// The words of a command.
+/// The name of a command and its arguments.
 fn usage(alloc: Global, topic: Command) -> Result<String, AllocError>
     ensures { IfOk result (λ text. string_bytes text ≡ usage_of topic) }
 {
@@ -59,7 +59,7 @@ fn usage(alloc: Global, topic: Command) -> Result<String, AllocError>
     Ok(text)
 }
 
-/// The words that a command takes, each after a space.
+/// The names of the arguments of a command, each after a space.
 fn push_words(text: &mut String, operands: &[Operand]) -> Result<(), AllocError>
     ensures { OnOk result (string_bytes text.new ≡ string_bytes text.old ++ flat_map spaced operands.now) }
 {
@@ -69,7 +69,7 @@ fn push_words(text: &mut String, operands: &[Operand]) -> Result<(), AllocError>
     Ok(())
 }
 
-/// A word that a command takes, after a space.
+/// The name of an argument, after a space.
 #[tactic(auto, unfolding(crate::specs::Pages::spaced))]
 fn push_word(text: &mut String, operand: Operand) -> Result<(), AllocError>
     ensures { OnOk result (string_bytes text.new ≡ string_bytes text.old ++ spaced operand) }
@@ -78,7 +78,7 @@ fn push_word(text: &mut String, operand: Operand) -> Result<(), AllocError>
     write!(text, " {name}")
 }
 
-/// The lines of the words that a command takes.
+/// The lines of a command's arguments.
 fn push_operands(text: &mut String, operands: &[Operand]) -> Result<(), AllocError>
     ensures { OnOk result (string_bytes text.new ≡ string_bytes text.old ++ flat_map operand_line operands.now) }
 {
@@ -88,7 +88,7 @@ fn push_operands(text: &mut String, operands: &[Operand]) -> Result<(), AllocErr
     Ok(())
 }
 
-/// The line of a word that a command takes.
+/// The line of an argument: its name and its meaning.
 #[tactic(auto, unfolding(crate::specs::Pages::operand_line))]
 fn push_operand(text: &mut String, operand: Operand) -> Result<(), AllocError>
     ensures { OnOk result (string_bytes text.new ≡ string_bytes text.old ++ operand_line operand) }

@@ -1,0 +1,91 @@
+#!/usr/bin/env python3
+"""exits.py: the texts of the exits are the same in all places that have them.
+
+The meaning of each exit has three places: help (sd_commands, specs/Exits), the last column of the table in
+docs/FORMATS.md, and the manual page docs/sdca.1. A cell of the table begins with the text that help prints; details may
+follow after a full stop. The manual page has that text as a sentence. The printed lines have two places: `line_of` and
+what it cites (sd_status, specs/Texts), and the second column of the table. Each printed text is in the table, and the
+table has no other text. It prints what differs, and exits with 1 if something does."""
+
+import os
+import re
+import sys
+
+TOP = os.path.dirname(os.path.dirname(os.path.realpath(__file__)))
+HELP = "crates/sd_commands/specs/Exits.antt"
+LINES = "crates/sd_status/specs/Texts.antt"
+TABLE = "docs/FORMATS.md"
+MANUAL = "docs/sdca.1"
+# What the table writes for a number, a digest or a text of another row.
+VARIABLE = re.compile(r"\b(?:[A-Z]|FORM|CAUSE|FOUND|DUE)\b")
+
+
+def read(path):
+    with open(f"{TOP}/{path}", encoding="utf-8") as file:
+        return file.read()
+
+
+def of_help():
+    """The text of each exit in help, by its number."""
+    lines = re.findall(r'^exit_line \w+ =\s+codes " *(\d+)  (.*)\\n"$', read(HELP), re.M)
+    return {int(number): text for number, text in lines}
+
+
+def rows():
+    """The rows of the table of exits: a number, the printed texts, and when the program ends so."""
+    part = read(TABLE).split("\n## Exits\n")[1].split("\n### ")[0]
+    return [(int(n), texts, when) for n, texts, when in re.findall(r"^\| (\d+) \| (.*?) ?\| (.*) \|$", part, re.M)]
+
+
+def of_manual():
+    """The sentence of each exit in the manual page, without its macros, by its number."""
+    part = read(MANUAL).split(".Sh EXIT STATUS\n")[1].split(".El\n")[0]
+    found = {}
+    for number, text in re.findall(r"^\.It (\d+)\n((?:(?!\.It ).*\n)+)", part, re.M):
+        text = re.sub(r"^\.Ar (\w+)", lambda name: name[1].upper(), text, flags=re.M)
+        text = re.sub(r"^\.Ql ", "", text, flags=re.M)
+        found[int(number)] = re.sub(r" ([:;,.])(?=\s|$)", r"\1", " ".join(text.split()))
+    return found
+
+
+def as_sentence(text):
+    return text[0].upper() + text[1:] + "."
+
+
+def meanings(table):
+    """What differs between help, the table and the manual page."""
+    help_texts, manual = of_help(), of_manual()
+    if len({*help_texts} | {*manual} | {n for n, _, _ in table}) != len(help_texts) or len(manual) != len(help_texts):
+        yield "help, the table and the manual page have different exits"
+    for number, _, when in table:
+        text = help_texts.get(number, "")
+        if when != text and not when.startswith(text + ". "):
+            yield f"{TABLE}: exit {number} doesn't begin as help does: {text}"
+    for number, text in help_texts.items():
+        said = manual.get(number, "")
+        if said.lower() != as_sentence(text).lower():
+            yield f"{MANUAL}: exit {number} is not as in help: {said}"
+
+
+def printed(table):
+    """What differs between the printed lines and the table."""
+    literals = {text.replace("\\n", "").strip(" :") for text in re.findall(r'codes "([^"]*)"', read(LINES))} - {""}
+    quoted = re.findall(r"`([^`]*)`", " ".join(texts for _, texts, _ in table))
+    causes = [text for _, _, when in table for text in re.findall(r"`([^`]*)`", when)]
+    known = {piece.strip(" :") for text in quoted + causes for piece in VARIABLE.split(text)}
+    pieces = known | {f"limit: {piece}" for piece in known}
+    for text in sorted(literals - pieces):
+        yield f"{TABLE}: no exit has the printed text: {text}"
+    for text in sorted(known - literals - {""}):
+        if f"limit: {text}" not in literals and text not in ("limit", "tables", "messages"):
+            yield f"{TABLE}: no line is printed with the text: {text}"
+
+
+def main():
+    table = rows()
+    differing = [*meanings(table), *printed(table)]
+    print("\n".join(differing) or f"exits.py: the texts of {len(of_help())} exits agree")
+    return 1 if differing else 0
+
+
+sys.exit(main())
