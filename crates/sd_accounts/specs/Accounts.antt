@@ -1,4 +1,4 @@
--- Accounts as contracts see them.
+-- Public meaning: accounts as contracts see them.
 use Rattle.std.specs.Prelude.{◌≡◌, ℕ, List, map, bytes_eq, Option}
 use Rattle.std.specs.Ordering.{nat_cmp}
 use Rattle.std.specs.Cmp.Lexicographic.{slice_cmp}

@@ -1,4 +1,5 @@
--- Which name is bound to which leaf. A name and its leaf stay bound for good [this project, docs/FORMATS.md, Accounts].
+-- Public meaning: which name is bound to which leaf. A name and its leaf stay bound for good [this
+-- project, docs/FORMATS.md, Accounts].
 use Rattle.std.specs.Prelude.{ℕ, ◌==◌, Bool, false, List, [], ◌∷◌, bytes_eq, if◌then◌else◌, Option, Some, None}
 use Rattle.std.specs.List.{list_any}
 use Rattle.sd_accounts.specs.Line.{Entry, Assigns, Drops, Restores, Ends}

@@ -1,4 +1,4 @@
--- The faults of a book as faults of accounts.
+-- Public meaning: the faults of a book as faults of accounts.
 use Rattle.sd_book.specs.declared.fault.BookFault.{BookFault}
 use Rattle.sd_book.specs.declared.fault.BookFault.TheVariants as book
 use Rattle.sd_accounts.specs.declared.fault.AccountFault.{AccountFault}

@@ -1,4 +1,4 @@
--- When each fault of accounts comes [this project, docs/FORMATS.md, Accounts].
+-- Public meaning: when each fault of accounts comes [this project, docs/FORMATS.md, Accounts].
 use Rattle.std.specs.Prelude.{◌≡◌, ◌⊎◌, ℕ, ◌+◌, ◌<◌, true, false, List, [], ◌∷◌, ◌++◌, length, take, slice_get}
 use Rattle.std.specs.Prelude.{is_some, Option, Some, None}
 use Rattle.sd_book.specs.declared.command.Command.{Command}

@@ -1,4 +1,4 @@
--- The book that an accounts file makes, and the first fault [this project, docs/FORMATS.md, Accounts].
+-- Public meaning: the book that an accounts file makes, and the first fault [this project, docs/FORMATS.md, Accounts].
 use Rattle.std.specs.Prelude.{ℕ, ◌+◌, ◌||◌, Bool, List, [], ◌∷◌, ◌++◌, length, is_some, if◌then◌else◌, Option, Some}
 use Rattle.std.specs.Prelude.{None}
 use Rattle.std.specs.Prelude.{Result, Ok, Err}

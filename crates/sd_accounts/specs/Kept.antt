@@ -1,4 +1,4 @@
--- What is kept of the lines so far: the leaf of each name, and a mark for each leaf that is bound.
+-- Public meaning: what is kept of the lines so far: the leaf of each name, and a mark for each leaf that is bound.
 use Rattle.std.specs.Prelude.{◌≡◌, ℕ, ◌<◌, ◌^◌, Bool, true, false, List, [], ◌++◌, length, get_or, slice_set}
 use Rattle.std.specs.Prelude.{map, bytes_eq, string_bytes, String, if◌then◌else◌, Option, Some}
 use Rattle.sd_book.specs.declared.command.Command.{Command}

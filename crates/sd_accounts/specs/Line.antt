@@ -1,4 +1,4 @@
--- The lines of an accounts file [this project, docs/FORMATS.md, Accounts].
+-- Public meaning: the lines of an accounts file [this project, docs/FORMATS.md, Accounts].
 use Rattle.std.specs.Prelude.{ℕ, ◌==◌, ◌&&◌, ◌||◌, ◌^◌, Bool, nat_lt, nat_le, List, [], ◌∷◌, map, length, codes}
 use Rattle.std.specs.Prelude.{bytes_eq, if◌then◌else◌, Option, Some, None, option_map, option_and_then}
 use Rattle.std.specs.Char.{is_ascii_digit, is_ascii_lowercase}

@@ -1,4 +1,4 @@
--- A line as the code keeps it.
+-- Inner: a line as the code keeps it.
 use Rattle.sd_accounts.specs.declared.line.Line.{Line}
 use Rattle.sd_accounts.specs.declared.line.Line.TheVariants.{Assign, Drop, Restore, Period}
 use Rattle.sd_accounts.specs.Line.{Entry, Assigns, Drops, Restores, Ends}

@@ -1,4 +1,4 @@
--- The report of accounts [this project, docs/FORMATS.md, Accounts].
+-- Public meaning: the report of accounts [this project, docs/FORMATS.md, Accounts].
 use Rattle.std.specs.Prelude.{ℕ, Bool, not, nat_eq, List, map, codes}
 use Rattle.std.specs.List.{list_any}
 use Rattle.serde_json.specs.Data.{Data, number, unsigned, string, boolean, array, object, member, no_members}

@@ -1,4 +1,4 @@
--- Bits of bytes, numbered as in the standard's tables: bit 0 is the top bit of the first byte.
+-- Public meaning: bits of bytes, numbered as in the standard's tables: bit 0 is the top bit of the first byte.
 use Rattle.std.specs.Prelude.{◌≡◌, ℕ, zero, suc, ◌+◌, ◌-◌, ◌*◌, ◌/◌, ◌%◌, ◌^◌, ◌≤◌, ◌⊎◌, List, slice_index}
 
 -- bit k: of each byte the highest comes first [ISO/IEC 13818-1, 2.2.6]

@@ -1,4 +1,4 @@
--- The bytes that a field touches.
+-- Inner: the bytes that a field touches.
 use Rattle.std.specs.Prelude.{◌≡◌, ℕ, ◌+◌, ◌*◌, ◌/◌, ◌%◌, ◌<◌, ◌≤◌}
 
 -- from byte `first` on `count` bytes hold the field, and after it stand so many bits of the last

@@ -1,4 +1,4 @@
--- A book is a list of commands. Its periods are cut by its Period commands.
+-- Public meaning: a book is a list of commands. Its periods are cut by its Period commands.
 use Rattle.std.specs.Prelude.{ℕ, zero, suc, ◌==◌, ◌^◌, Bool, true, false, nat_lt, List, [], ◌∷◌, reverse, filter, find}
 use Rattle.std.specs.Prelude.{count_by, if◌then◌else◌, Option}
 use Rattle.std.specs.Option.{option_map_or}

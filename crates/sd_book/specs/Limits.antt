@@ -1,4 +1,4 @@
--- The limits of a book [this project, docs/FORMATS.md, Book].
+-- Public meaning: the limits of a book [this project, docs/FORMATS.md, Book].
 use Rattle.std.specs.Prelude.{◌≡◌, ℕ, ◌<◌, ◌≤◌, true, List, length, All}
 use Rattle.sd_tree.specs.Limits.{most_revoked}
 use Rattle.sd_book.specs.declared.command.Command.{Command}

@@ -1,4 +1,4 @@
--- A line of a book by itself.
+-- Inner: a line of a book by itself.
 use Rattle.std.specs.Prelude.{ℕ, ◌^◌, nat_lt, if◌then◌else◌, Option, Some, None, Result, Ok, Err}
 use Rattle.sd_book.specs.declared.command.Command.{Command}
 use Rattle.sd_book.specs.declared.line.LineFault.{LineFault}

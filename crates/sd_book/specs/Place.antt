@@ -1,4 +1,4 @@
--- A place in a book: where the commands of a period begin, or after them all.
+-- Public meaning: a place in a book: where the commands of a period begin, or after them all.
 use Rattle.std.specs.Prelude.{◌≡◌, ℕ, zero, suc, ◌+◌, ◌≤◌, List, length}
 use Rattle.sd_book.specs.declared.command.Command.{Command}
 use Rattle.sd_book.specs.Commands.{commands_until, last_period}

@@ -1,4 +1,4 @@
--- A replay of a book, one period after the other.
+-- Public meaning: a replay of a book, one period after the other.
 use Rattle.std.specs.Prelude.{◌≡◌, ℕ, zero, suc, List, [], ◌++◌}
 use Rattle.sd_book.specs.declared.command.Command.{Command}
 use Rattle.sd_book.specs.Commands.{commands_in, commands_until, is_revoked, revoked_after}

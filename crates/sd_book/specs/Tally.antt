@@ -1,4 +1,4 @@
--- What a tally of commands keeps: a mark for each leaf, and two numbers.
+-- Public meaning: what a tally of commands keeps: a mark for each leaf, and two numbers.
 use Rattle.std.specs.Prelude.{◌≡◌, ℕ, ◌+◌, Bool, List, [], ◌∷◌, map, length, if◌then◌else◌}
 use Rattle.sd_tree.specs.Leaves.{leaves}
 use Rattle.sd_book.specs.declared.command.Command.{Command}

@@ -1,4 +1,4 @@
--- The book file: one command a line [this project, docs/FORMATS.md, Book].
+-- Public meaning: the book file: one command a line [this project, docs/FORMATS.md, Book].
 use Rattle.std.specs.Prelude.{◌≡◌, ℕ, ◌+◌, nat_lt, nat_le, List, [], ◌∷◌, ◌++◌, map, length, codes, bytes_eq}
 use Rattle.std.specs.Prelude.{if◌then◌else◌, Option, Some, None, Result, Ok, Err, option_map}
 use Rattle.std.specs.Fmt.{decimal}

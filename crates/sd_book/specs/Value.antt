@@ -1,3 +1,4 @@
+-- Public meaning: a book as contracts see it.
 use Rattle.std.specs.Prelude.{ℕ, List}
 use Rattle.sd_book.specs.declared.command.Command.{Command}
 

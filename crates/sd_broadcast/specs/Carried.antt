@@ -1,4 +1,4 @@
--- What a clear packet becomes.
+-- Public meaning: what a clear packet becomes.
 use Rattle.std.specs.Prelude.{ℕ, ◌%◌, ◌==◌, List, length, is_none, if◌then◌else◌}
 use Rattle.sd_packet.specs.Header.{pid_of}
 use Rattle.sd_packet.specs.Positions.{moved, position_of}

@@ -1,4 +1,4 @@
--- What each thing that is sent for a clear stream is.
+-- Public meaning: what each thing that is sent for a clear stream is.
 use Rattle.std.specs.Prelude.{◌≡◌, ℕ, ◌-◌, ◌/◌, ◌%◌, ◌<◌, ◌≤◌, true, false, List, [], length, take, get_or, Contains}
 use Rattle.sd_emm.specs.Period.{emms_of}
 use Rattle.sd_emm.specs.declared.emm.Emm.{Emm}

@@ -1,4 +1,4 @@
--- What a clear packet is, by the packets before it.
+-- Public meaning: what a clear packet is, by the packets before it.
 use Rattle.std.specs.Prelude.{ℕ, ◌==◌, ◌&&◌, Bool, nat_eq, nat_lt, List, [], ◌∷◌, filter, find}
 use Rattle.std.specs.Prelude.{reverse, is_none, if◌then◌else◌, Option}
 use Rattle.std.specs.List.{list_any, range_with_len}

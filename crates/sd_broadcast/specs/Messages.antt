@@ -1,4 +1,4 @@
--- What the messages of a broadcast say.
+-- Public meaning: what the messages of a broadcast say.
 use Rattle.std.specs.Prelude.{ℕ, Bool, List, length, map}
 use Rattle.sd_tree.specs.declared.set.SetName.{SetName}
 use Rattle.sd_label.specs.Keys.{key_of, period_key_of, control_word_of, check_value_of}

@@ -1,4 +1,4 @@
--- What a broadcast is made of, and its schedule.
+-- Public meaning: what a broadcast is made of, and its schedule.
 use Rattle.std.specs.Prelude.{ℕ, zero, suc, ◌+◌, ◌-◌, ◌*◌, ◌/◌, ◌^◌, ◌<◌, min, List}
 use Rattle.sd_tree.specs.declared.set.SetName.{SetName}
 use Rattle.sd_site.specs.Fields.{SiteFields, AreInRange}

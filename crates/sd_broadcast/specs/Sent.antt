@@ -1,4 +1,4 @@
--- What is sent for a clear stream, in order.
+-- Public meaning: what is sent for a clear stream, in order.
 use Rattle.std.specs.Prelude.{ℕ, ◌-◌, ◌/◌, ◌%◌, ◌==◌, Bool, true, false, List, [], ◌∷◌, ◌++◌, length, map}
 use Rattle.std.specs.Prelude.{count_by, if◌then◌else◌}
 use Rattle.std.specs.List.{concat}

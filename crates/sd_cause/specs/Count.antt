@@ -1,4 +1,4 @@
--- Counts of faults and of misses never fall, and stand at 2^64 - 1, a count's last value.
+-- Public meaning: counts of faults and of misses never fall, and stand at 2^64 - 1, a count's last value.
 use Rattle.std.specs.Prelude.{◌≡◌, ℕ, ◌+◌, ◌-◌, ◌^◌, ◌<◌, ◌≤◌, min, Result, OnOk, OnErr}
 
 -- the count rose: it is greater now, or stands at its last value [this project, docs/FORMATS.md, Counts]

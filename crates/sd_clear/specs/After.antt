@@ -1,4 +1,4 @@
--- What is kept after packets.
+-- Public meaning: what is kept after packets.
 use Rattle.std.specs.Prelude.{◌≡◌, ◌≢◌, ℕ, ◌-◌, ◌^◌, ◌<◌, true, List, length, slice_index}
 use Rattle.sd_packet.specs.Header.{pid_of, scrambling_of}
 use Rattle.sd_packet.specs.Positions.{is_positional, is_placed, position_of, first_position}

@@ -1,4 +1,4 @@
--- What is true of all that is kept.
+-- Public meaning: what is true of all that is kept.
 use Rattle.std.specs.Prelude.{◌≡◌, ℕ, ◌+◌, ◌*◌, ◌<◌, ◌≤◌, Bool, false, nat_eq, List, get_or, slice_index}
 use Rattle.std.specs.List.{list_any}
 use Rattle.sd_packet.specs.Positions.{first_position}

@@ -1,4 +1,4 @@
--- What help says of each command [this project, docs/FORMATS.md, Help].
+-- Public meaning: what help says of each command [this project, docs/FORMATS.md, Help].
 use Rattle.std.specs.Prelude.{ℕ, List, [], ◌∷◌, codes, bytes_eq, if◌then◌else◌, Option, Some, None}
 use Rattle.sd_commands.specs.declared.command.Command.{Command}
 use Rattle.sd_commands.specs.declared.command.Command.TheVariants.{Accounts, Book, Card, Cover, Field, Head, Layered, Lcard}

@@ -1,4 +1,4 @@
--- The line of each exit, and the exits that commands have [this project, docs/FORMATS.md, Exits].
+-- Public meaning: the line of each exit, and the exits that commands have [this project, docs/FORMATS.md, Exits].
 use Rattle.std.specs.Prelude.{ℕ, List, [], ◌∷◌, codes}
 use Rattle.sd_commands.specs.declared.exit.Exit.{Exit}
 use Rattle.sd_commands.specs.declared.exit.Exit.TheVariants.{Done, Usage, Missing, Revoked, DepotFault, PrintFault}
@@ -9,7 +9,7 @@ use Rattle.sd_commands.specs.declared.exit.Exit.TheVariants.{NoMemory, Unheard, 
 unfoldable pub exit_line : Exit → List ℕ
 exit_line Done = codes "   0  the work is done\n"
 exit_line Usage =
-    codes "   1  usage: unknown command, wrong number of arguments, text not in UTF-8, or OUT is one of the inputs\n"
+    codes "   1  usage: unknown command, wrong number of arguments, text not in UTF-8, or OUT is an input\n"
 exit_line Missing = codes "   2  the file that argument N names does not exist; for OUT, its folder does not exist\n"
 exit_line Revoked = codes "   3  the receiver is revoked in period Q, the first such period of which it heard\n"
 exit_line DepotFault = codes "   4  an I/O error at a file\n"

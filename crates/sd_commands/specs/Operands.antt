@@ -1,4 +1,4 @@
--- The arguments that commands take [this project, docs/FORMATS.md, Commands].
+-- Public meaning: the arguments that commands take [this project, docs/FORMATS.md, Commands].
 use Rattle.std.specs.Prelude.{ℕ, ◌-◌, ◌^◌, List, codes}
 use Rattle.sd_commands.specs.declared.operand.Operand.{Operand}
 use Rattle.sd_commands.specs.declared.operand.Operand.TheVariants.{Site, Book, Accounts, Commands, Clear, Script, Stream}

@@ -74,7 +74,7 @@ impl Exit {
         match self {
             Exit::Done => "   0  the work is done\n",
             Exit::Usage =>
-                "   1  usage: unknown command, wrong number of arguments, text not in UTF-8, or OUT is one of the inputs\n",
+                "   1  usage: unknown command, wrong number of arguments, text not in UTF-8, or OUT is an input\n",
             Exit::Missing =>
                 "   2  the file that argument N names does not exist; for OUT, its folder does not exist\n",
             Exit::Revoked =>

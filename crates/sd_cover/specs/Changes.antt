@@ -1,4 +1,4 @@
--- Revocations and subscriptions one after the other.
+-- Public meaning: revocations and subscriptions one after the other.
 use Rattle.std.specs.Prelude.{ℕ, ◌==◌, ◌&&◌, ◌||◌, not, Bool, false, List, [], ◌∷◌, filter}
 use Rattle.sd_tree.specs.Leaves.{leaves, with_leaf, without_leaf}
 

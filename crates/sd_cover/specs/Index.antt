@@ -1,4 +1,4 @@
--- The index of the revoked leaves: a count for each node of the tree.
+-- Public meaning: the index of the revoked leaves: a count for each node of the tree.
 use Rattle.std.specs.Prelude.{◌≡◌, ℕ, ◌+◌, ◌^◌, ◌<◌, ◌≤◌, ◌==◌, Bool, List, filter, count_by, All}
 use Rattle.std.specs.List.Sorted.{IsStrictlyIncreasing}
 use Rattle.std.specs.Ordering.{nat_cmp}

@@ -1,4 +1,4 @@
--- The path from a node up to the root.
+-- Inner: the path from a node up to the root.
 use Rattle.std.specs.Prelude.{ℕ, zero, suc, ◌+◌, ◌/◌, ◌^◌, ◌==◌, if◌then◌else◌}
 
 -- how many of the first k nodes of the path from a node upward are v

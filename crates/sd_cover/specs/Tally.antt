@@ -1,4 +1,4 @@
--- Counts by node number, as contracts see them.
+-- Public meaning: counts by node number, as contracts see them.
 use Rattle.std.specs.Prelude.{ℕ, zero, suc, refl}
 use Rattle.std.specs.Coded.{Coded, code_by, coded×, coded_ℕ}
 use Rattle.std.specs.Ordering.{nat_cmp}

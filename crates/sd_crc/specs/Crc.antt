@@ -1,4 +1,4 @@
--- The CRC over a section: a shift register of 32 bits.
+-- Public meaning: the CRC over a section: a shift register of 32 bits.
 use Rattle.std.specs.Prelude.{ℕ, zero, suc, ◌*◌, ◌/◌, ◌%◌, ◌^◌, ◌==◌, List, [], ◌∷◌, bit_xor, if◌then◌else◌}
 
 -- after one more bit: moved up by one, and changed by the polynomial where the bit that leaves isn't the bit that comes

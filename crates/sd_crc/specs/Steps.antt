@@ -1,4 +1,4 @@
--- The register under bits 0.
+-- Inner: the register under bits 0.
 use Rattle.std.specs.Prelude.{ℕ, zero, suc, ◌+◌, ◌*◌, ◌^◌}
 use Rattle.sd_crc.specs.Crc.{after_bit}
 

@@ -1,4 +1,4 @@
--- Which parts are ones that a control message has.
+-- Public meaning: which parts are ones that a control message has.
 use Rattle.std.specs.Prelude.{◌≡◌, ℕ, ◌-◌, ◌^◌, ◌<◌, ◌≤◌, ◌⊎◌, true, List, length, drop, replicate, All, AllPairs, IfSome}
 use Rattle.sd_packet.specs.Positions.{is_positional}
 use Rattle.sd_ecm.specs.Versions.{IsVersion, IsNamed, IsSince, positions_for, most_positions}

@@ -1,4 +1,4 @@
--- All parts of a control message.
+-- Public meaning: all parts of a control message.
 use Rattle.std.specs.Prelude.{◌≡◌, ℕ, ◌-◌, ◌^◌, ◌<◌, ◌≤◌, Bool, List, length, Option, IfSome}
 use Rattle.sd_message.specs.Pieces.{pieces_for, piece_at, each_below}
 use Rattle.sd_ecm.specs.Versions.{IsVersion, IsNamed, IsSince, positions_for, most_places}

@@ -1,4 +1,4 @@
--- Parts of entitlement control messages as bytes.
+-- Public meaning: parts of entitlement control messages as bytes.
 use Rattle.std.specs.Prelude.{ℕ, ◌+◌, ◌%◌, ◌==◌, Bool, if◌then◌else◌, List, [], ◌∷◌, ◌++◌, take, drop, flat_map}
 use Rattle.std.specs.Prelude.{Option}
 use Rattle.std.specs.Option.{unwrap_or}

@@ -1,4 +1,4 @@
--- The three versions of control messages, and the numbers in which they differ.
+-- Public meaning: the three versions of control messages, and the numbers in which they differ.
 use Rattle.std.specs.Prelude.{◌≡◌, ℕ, ◌+◌, ◌-◌, ◌<◌, ◌⊎◌, ◌↔◌, ◌==◌, nat_lt, if◌then◌else◌, Option, IsSome}
 
 -- the most positions of a message [this project, docs/FORMATS.md, Messages]

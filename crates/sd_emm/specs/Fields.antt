@@ -1,4 +1,4 @@
--- Entitlement management messages as they are read.
+-- Public meaning: entitlement management messages as they are read.
 use Rattle.std.specs.Prelude.{◌≡◌, ℕ, ◌+◌, ◌*◌, ◌≤◌, ◌==◌, ◌&&◌, if◌then◌else◌, List, length, drop, slice_index}
 use Rattle.std.specs.Prelude.{◌⊎◌, Bool, slice_range, Option, Some, None, is_some}
 use Rattle.sd_bits.specs.Bits.{field}

@@ -1,4 +1,4 @@
--- Which entitlements are ones that a period has.
+-- Public meaning: which entitlements are ones that a period has.
 use Rattle.std.specs.Prelude.{◌≡◌, ℕ, ◌-◌, ◌*◌, ◌^◌, ◌<◌, ◌≤◌, List, length, drop, min, replicate, All, IfSome}
 use Rattle.sd_tree.specs.SetNames.{IsOfHeight, AreAscending}
 use Rattle.sd_tree.specs.declared.set.SetName.{SetName}

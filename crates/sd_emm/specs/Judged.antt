@@ -1,4 +1,4 @@
--- Entitlement management messages as they are read, by tests.
+-- Public meaning: entitlement management messages as they are read, by tests.
 use Rattle.std.specs.Prelude.{ℕ, zero, suc, ◌+◌, ◌-◌, ◌*◌, ◌/◌, ◌^◌, Bool, false, ◌==◌, ◌&&◌, ◌||◌, not, nat_le, nat_lt}
 use Rattle.std.specs.Prelude.{if◌then◌else◌, is_some, List, length, min, Option, Some, None, Result, Ok, Err}
 use Rattle.std.specs.List.{list_all}

@@ -1,4 +1,4 @@
--- All sections of a period's entitlements.
+-- Public meaning: all sections of a period's entitlements.
 use Rattle.std.specs.Prelude.{◌≡◌, ℕ, ◌^◌, ◌<◌, ◌≤◌, List, length, Option, IfSome}
 use Rattle.sd_tree.specs.SetNames.{AreAscending}
 use Rattle.sd_emm.specs.Spelled.{names_in}

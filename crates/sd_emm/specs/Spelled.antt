@@ -1,4 +1,4 @@
--- Entitlement management messages as bytes.
+-- Public meaning: entitlement management messages as bytes.
 use Rattle.std.specs.Prelude.{ℕ, List, [], ◌∷◌, ◌++◌, take, map, flat_map, Option, Some, None}
 use Rattle.std.specs.Int.{w16, w32, to_be_bytes}
 use Rattle.sd_tree.specs.declared.set.SetName.{SetName}

@@ -1,4 +1,4 @@
--- How packets come from a source, a piece of its bytes at a time.
+-- Inner: how packets come from a source, a piece of its bytes at a time.
 use Rattle.std.specs.Prelude.{◌≡◌, ◌≢◌, ◌⊎◌, ℕ, ◌-◌, ◌<◌, ◌≤◌, List, [], ◌++◌, length, take, drop, slice_index, Option}
 use Rattle.std.specs.Prelude.{Some, None}
 use Rattle.std.specs.Prelude.{Result, Ok, Err}

@@ -1,4 +1,4 @@
--- What a stage of packets writes and counts, from one packet to the next.
+-- Public meaning: what a stage of packets writes and counts, from one packet to the next.
 use Rattle.std.specs.Prelude.{◌≡◌, ◌⊎◌, ℕ, ◌+◌, ◌<◌, ◌≤◌, List, [], ◌∷◌, ◌++◌, length, Option, Some, None}
 use Rattle.std.specs.Io.KnownBytes.{Appends}
 use Rattle.sd_ports.specs.Bytes.{IsPrefix}

@@ -1,4 +1,4 @@
--- A stream of bytes, cut into transport packets.
+-- Public meaning: a stream of bytes, cut into transport packets.
 use Rattle.std.specs.Prelude.{◌≡◌, ℕ, zero, suc, ◌+◌, ◌*◌, ◌/◌, ◌%◌, ◌<◌, ◌==◌, Bool, List, [], ◌∷◌, length, take, drop}
 use Rattle.std.specs.Prelude.{take_while, slice_index, nat_lt, if◌then◌else◌, Option, Some, None}
 use Rattle.sd_engine.specs.declared.fault.StreamBreak.{StreamBreak}

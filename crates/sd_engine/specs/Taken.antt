@@ -1,4 +1,4 @@
--- What a drive takes of all the bytes of a stream, and what it answers.
+-- Public meaning: what a drive takes of all the bytes of a stream, and what it answers.
 use Rattle.std.specs.Prelude.{◌≡◌, ℕ, ◌*◌, ◌≤◌, nat_lt, List, length, take, slice_get, if◌then◌else◌, Option, Some}
 use Rattle.std.specs.Prelude.{None}
 use Rattle.std.specs.Prelude.{Result, Ok, Err}

@@ -1,4 +1,4 @@
--- A crypto period, and the sets that have a key.
+-- Public meaning: a crypto period, and the sets that have a key.
 use Rattle.std.specs.Prelude.{ℕ, ◌≤◌, List}
 use Rattle.sd_tree.specs.Node.{IsAbove}
 use Rattle.sd_tree.specs.declared.set.SetName.{SetName}

@@ -1,4 +1,4 @@
--- What is kept of the period and the crypto period at work.
+-- Public meaning: what is kept of the period and the crypto period at work.
 use Rattle.std.specs.Prelude.{◌≡◌, ℕ, zero, suc, ◌+◌, ◌-◌, ◌==◌, ◌||◌, not, Bool, min, List, []}
 use Rattle.sd_site.specs.declared.site.Site.{Site}
 use Rattle.sd_site.specs.Fields.{fields_of}

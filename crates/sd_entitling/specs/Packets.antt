@@ -1,4 +1,4 @@
--- The packets of a period's entitlements.
+-- Public meaning: the packets of a period's entitlements.
 use Rattle.std.specs.Prelude.{ℕ, List, map, Option}
 use Rattle.sd_tree.specs.declared.set.SetName.{SetName}
 use Rattle.sd_packet.specs.Packing.{packed}

@@ -1,4 +1,4 @@
--- The book that the events of a field make. Events are listed with the newest first.
+-- Public meaning: the book that the events of a field make. Events are listed with the newest first.
 use Rattle.std.specs.Prelude.{ℕ, zero, suc, ◌+◌, ◌-◌, ◌/◌, ◌==◌, nat_le, List, [], ◌∷◌, ◌++◌, map, filter}
 use Rattle.std.specs.Prelude.{max, min, replicate, if◌then◌else◌}
 use Rattle.sd_site.specs.Fields.{SiteFields}

@@ -1,4 +1,4 @@
--- What the events of a field are about.
+-- Public meaning: what the events of a field are about.
 use Rattle.std.specs.Prelude.{ℕ, suc, ◌^◌, Bool, true, false, nat_lt, if◌then◌else◌}
 use Rattle.sd_events.specs.declared.event.Event.{Event}
 use Rattle.sd_events.specs.declared.event.Event.TheVariants.{Subscribe, Revoke, Send, Offer, Lose, Off, On}

@@ -1,5 +1,5 @@
--- What a receiver of a field is offered, and what it writes. Events, and the packets of a time, are listed with the
--- newest first.
+-- Public meaning: what a receiver of a field is offered, and what it writes. Events, and the packets of a time, are
+-- listed with the newest first.
 use Rattle.std.specs.Prelude.{ℕ, suc, ◌==◌, ◌&&◌, Bool, true, false, not, nat_lt, List, [], ◌∷◌, map}
 use Rattle.std.specs.Prelude.{length, take, reverse, get_or, if◌then◌else◌}
 use Rattle.std.specs.List.{concat, flat_map}

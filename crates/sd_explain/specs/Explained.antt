@@ -1,4 +1,4 @@
--- What a refusal is to a user, on the standard error [this project, docs/FORMATS.md, Explanations].
+-- Public meaning: what a refusal is to a user, on the standard error [this project, docs/FORMATS.md, Explanations].
 use Rattle.std.specs.Prelude.{ℕ, List, [], ◌∷◌, ◌++◌, codes, length, slice_get, Option, Some, None, zero, suc}
 use Rattle.std.specs.Prelude.{if◌then◌else◌, ◌==◌, Bool, false, bytes_eq}
 use Rattle.sd_commands.specs.declared.command.Command.{Command}

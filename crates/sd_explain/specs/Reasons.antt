@@ -1,4 +1,4 @@
--- Why an argument is refused, as a user reads it [this project, docs/FORMATS.md, Explanations].
+-- Public meaning: why an argument is refused, as a user reads it [this project, docs/FORMATS.md, Explanations].
 use Rattle.std.specs.Prelude.{ℕ, List, ◌++◌, codes}
 use Rattle.std.specs.Fmt.{decimal}
 use Rattle.sd_site.specs.declared.fault.SiteFault.{SiteFault}

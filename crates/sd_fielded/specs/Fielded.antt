@@ -1,5 +1,5 @@
--- What the lines of a field tell of the clear packets that are confirmed to its receivers [this project,
--- docs/FORMATS.md, Field]. Here events are listed with the oldest first.
+-- Public meaning: what the lines of a field tell of the clear packets that are confirmed to its receivers [this
+-- project, docs/FORMATS.md, Field]. Here events are listed with the oldest first.
 use Rattle.std.specs.Prelude.{◌≡◌, ◌^◌, ◌<◌, ◌≤◌, ℕ, zero, suc, true, List, ◌++◌, All, length, reverse}
 use Rattle.std.specs.List.{concat}
 use Rattle.sd_site.specs.Fields.{SiteFields, AreInRange}

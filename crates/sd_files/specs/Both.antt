@@ -1,4 +1,5 @@
--- The site and the book of its tree, which several commands read first [this project, docs/FORMATS.md, Site and Book].
+-- Public meaning: the site and the book of its tree, which several commands read first [this project,
+-- docs/FORMATS.md, Site and Book].
 use Rattle.std.specs.Prelude.{ℕ, List, Option}
 use Rattle.sd_site.specs.Fields.{SiteFields}
 use Rattle.sd_book.specs.declared.command.Command.{Command}

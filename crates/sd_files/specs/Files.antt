@@ -1,4 +1,4 @@
--- What the files say that several commands read [this project, docs/FORMATS.md, Site and Book].
+-- Public meaning: what the files say that several commands read [this project, docs/FORMATS.md, Site and Book].
 use Rattle.std.specs.Prelude.{ℕ, List, Option, Result, Ok, Err}
 use Rattle.sd_site.specs.Fields.{SiteFields}
 use Rattle.sd_site.specs.Text.{site_of}

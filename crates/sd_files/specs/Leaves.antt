@@ -1,4 +1,4 @@
--- What a file of leaves says [this project, docs/FORMATS.md, Leaves].
+-- Public meaning: what a file of leaves says [this project, docs/FORMATS.md, Leaves].
 use Rattle.std.specs.Prelude.{ℕ, List, Option, Result, Ok, Err}
 use Rattle.sd_leaves.specs.Text.{leaves_of_text}
 use Rattle.sd_status.specs.declared.status.Status.{Status}

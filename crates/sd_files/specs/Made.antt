@@ -1,4 +1,4 @@
--- A file that is made whole.
+-- Public meaning: a file that is made whole.
 use Rattle.std.specs.Prelude.{ℕ, List, [], false, Some, Result, Ok, Err}
 use Rattle.sd_status.specs.declared.status.Status.{Status}
 use Rattle.sd_status.specs.declared.status.Status.TheVariants.{Done, Missing, DepotFault, NoMemory}

@@ -1,4 +1,4 @@
--- Work that prints a text and makes no file.
+-- Public meaning: work that prints a text and makes no file.
 use Rattle.std.specs.Prelude.{◌≡◌, ◌⊎◌, ℕ, false, List, [], ◌∷◌, None, Result, Ok, Err}
 use Rattle.sd_status.specs.declared.status.Status.{Status}
 use Rattle.sd_status.specs.declared.status.Status.TheVariants.{Done, NoMemory}

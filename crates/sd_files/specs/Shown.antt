@@ -1,4 +1,4 @@
--- What words of an order are as bytes.
+-- Public meaning: what words of an order are as bytes.
 use Rattle.std.specs.Prelude.{ℕ, List}
 use Rattle.sd_status.specs.Meant as meant
 use Rattle.sd_files.specs.declared.word.Word.{Word}

@@ -1,4 +1,4 @@
--- How a stream's end is told.
+-- Public meaning: how a stream's end is told.
 use Rattle.sd_engine.specs.Driving.{most_packets}
 use Rattle.sd_engine.specs.Taken.{StreamEnd, Whole, Breaks, RunsOn}
 use Rattle.sd_status.specs.declared.status.Status.{Status}

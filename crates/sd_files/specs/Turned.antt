@@ -1,4 +1,4 @@
--- A file that goes through a stage into OUT: both are opened, and then both are closed.
+-- Public meaning: a file that goes through a stage into OUT: both are opened, and then both are closed.
 use Rattle.std.specs.Prelude.{◌≡◌, ◌≢◌, ◌⊎◌, ℕ, ◌^◌, ◌<◌, Bool, true, false, List, [], Option, Some, None, Result, Ok}
 use Rattle.std.specs.Prelude.{Err}
 use Rattle.std.specs.Io.KnownBytes.{Appends}

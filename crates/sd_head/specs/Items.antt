@@ -1,4 +1,4 @@
--- The things that a head end has sent, and the counters of its own messages after them.
+-- Public meaning: the things that a head end has sent, and the counters of its own messages after them.
 use Rattle.std.specs.Prelude.{◌≡◌, ℕ, ◌+◌, ◌%◌, ◌≤◌, Bool, true, false, List, [], ◌++◌, length, count_by, if◌then◌else◌}
 use Rattle.std.specs.Prelude.{Option, Some, None}
 use Rattle.std.specs.List.{concat}

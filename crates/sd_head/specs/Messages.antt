@@ -1,4 +1,4 @@
--- What a control message says beside its positions.
+-- Inner: what a control message says beside its positions.
 use Rattle.std.specs.Prelude.{ℕ, ◌/◌, ◌%◌, ◌==◌, Bool, false, if◌then◌else◌, Option, Some, None}
 use Rattle.sd_site.specs.Fields.{SiteFields, name_of}
 use Rattle.sd_ecm.specs.declared.message.EcmHead.{EcmHead}

@@ -1,4 +1,4 @@
--- When crypto periods and periods begin, and why a head end refuses.
+-- Public meaning: when crypto periods and periods begin, and why a head end refuses.
 use Rattle.std.specs.Prelude.{◌≡◌, ℕ, zero, suc, ◌+◌, ◌%◌, ◌==◌, ◌&&◌, Bool, true, List, [], length, Option, Some, None}
 use Rattle.sd_broadcast.specs.Plan.{Plan, crypto_length, crypto_of, period_of}
 use Rattle.sd_broadcast.specs.Refused.{refusal_of}

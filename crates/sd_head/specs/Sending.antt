@@ -1,4 +1,4 @@
--- What is sent into a sink, and the counters of inserted packets.
+-- Inner: what is sent into a sink, and the counters of inserted packets.
 use Rattle.std.specs.Prelude.{ℕ, zero, suc, ◌+◌, ◌%◌, List, [], ◌∷◌, length, slice_set, Result, Ok, Err}
 use Rattle.std.specs.Io.KnownBytes.{Appends}
 use Rattle.sd_packet.specs.Packing.{packed}

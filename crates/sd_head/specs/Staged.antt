@@ -1,4 +1,4 @@
--- The head end as a stage of packets.
+-- Public meaning: the head end as a stage of packets.
 use Rattle.std.specs.Prelude.{◌≡◌, ◌⊎◌, ℕ, ◌-◌, List, [], ◌∷◌, ◌++◌, length, Option, Some, None}
 use Rattle.std.specs.List.{concat}
 use Rattle.sd_broadcast.specs.Plan.{Plan, period_of}

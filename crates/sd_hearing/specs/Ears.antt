@@ -1,4 +1,4 @@
--- What a receiver hears, as the program keeps it.
+-- Public meaning: what a receiver hears, as the program keeps it.
 use Rattle.std.specs.Prelude.{ℕ, List}
 use Rattle.sd_emm.specs.Spelled.{listed}
 use Rattle.sd_emm.specs.Form.{IsEmm, AreSets}

@@ -1,4 +1,4 @@
--- What an error of the machine is to a depot.
+-- Inner: what an error of the machine is to a depot.
 use Rattle.std.specs.Prelude.{ℕ}
 use Rattle.std.specs.declared.io.ErrorKind.{ErrorKind}
 use Rattle.std.specs.declared.io.ErrorKind.TheVariants.{NotFound, NotADirectory, OutOfMemory}

@@ -1,4 +1,5 @@
--- Which files keep what is written, and which output is written through the descriptor of the standard output.
+-- Public meaning: which files keep what is written, and which output is written through the descriptor
+-- of the standard output.
 use Rattle.std.specs.Prelude.{◌≡◌, ◌⊎◌, List, ◌∷◌, [], ◌++◌}
 use Rattle.sd_host.specs.declared.identity.Identity.{Identity}
 use Rattle.sd_host.specs.declared.identity.Kind.{Kind}

@@ -1,3 +1,4 @@
+-- Public meaning: what a port with a buffer was given: the bytes that its writer has, and those that wait.
 use Rattle.std.specs.Prelude.{ℕ, List, drop, Option}
 use Rattle.std.specs.Io.KnownBytes.{append_known}
 

@@ -1,4 +1,4 @@
--- The keys, by SHA-256 of a master.
+-- Public meaning: the keys, by SHA-256 of a master.
 use Rattle.std.specs.Prelude.{ℕ, List, [], ◌∷◌, ◌++◌, take}
 use Rattle.std.specs.Int.{w32, to_be_bytes}
 use Rattle.sha2.specs.Sha256.{sha256}

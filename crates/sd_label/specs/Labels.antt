@@ -1,4 +1,5 @@
--- The labels of pairs of nodes [Naor, Naor, Lotspiech 2001, 3.2], by SHA-256 [FIPS 180-4] as the three-way generator.
+-- Public meaning: the labels of pairs of nodes [Naor, Naor, Lotspiech 2001, 3.2], by SHA-256 [FIPS
+-- 180-4] as the three-way generator.
 use Rattle.std.specs.Prelude.{ℕ, zero, suc, ◌-◌, ◌/◌, ◌%◌, ◌==◌, if◌then◌else◌, List, [], ◌∷◌, ◌++◌}
 use Rattle.std.specs.Int.{w32, to_be_bytes}
 use Rattle.sha2.specs.Sha256.{sha256}

@@ -1,4 +1,4 @@
--- What a receiver is given.
+-- Public meaning: what a receiver is given.
 use Rattle.std.specs.Prelude.{◌≡◌, ℕ, ◌≤◌, ◌+◌, ◌-◌, List, ◌∷◌, map}
 use Rattle.std.specs.List.{range_with_len, flat_map}
 use Rattle.sd_tree.specs.Node.{IsAbove, IsProperlyAbove}

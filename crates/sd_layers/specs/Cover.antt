@@ -1,4 +1,4 @@
--- The cover by useful sets of the leaves that are not revoked [Halevy, Shamir 2002, 3].
+-- Public meaning: the cover by useful sets of the leaves that are not revoked [Halevy, Shamir 2002, 3].
 use Rattle.std.specs.Prelude.{◌≡◌, ◌≢◌, ℕ, ◌-◌, ◌*◌, ◌<◌, ◌≤◌, List, [], ◌∷◌, length, All, if◌then◌else◌}
 use Rattle.std.specs.List.{flat_map}
 use Rattle.std.specs.List.Sorted.{IsPermutation}

@@ -1,4 +1,5 @@
--- The layers of the tree: a layer ends at each depth that is a multiple of their width [Halevy, Shamir 2002, 3].
+-- Public meaning: the layers of the tree: a layer ends at each depth that is a multiple of their width
+-- [Halevy, Shamir 2002, 3].
 use Rattle.std.specs.Prelude.{ℕ, ◌+◌, ◌-◌, ◌*◌, ◌/◌, ◌%◌, ◌^◌, Bool, true, ◌==◌, ◌||◌, nat_le, List, [], ◌∷◌}
 use Rattle.std.specs.Prelude.{if◌then◌else◌}
 use Rattle.sd_tree.specs.Node.{depth}

@@ -1,4 +1,4 @@
--- What the bytes of a section are on their PID: a table, or a fault.
+-- Public meaning: what the bytes of a section are on their PID: a table, or a fault.
 use Rattle.std.specs.Prelude.{◌≡◌, ◌≢◌, ◌⊎◌, ℕ, false, ◌==◌, Bool, List, [], ◌∷◌, ◌++◌, codes, if◌then◌else◌}
 use Rattle.std.specs.Prelude.{Some, None, Result, Ok, Err}
 use Rattle.serde_json.specs.Data.{Data}

@@ -1,4 +1,4 @@
--- What is wrong with bytes that are no layer card's file.
+-- Public meaning: what is wrong with bytes that are no layer card's file.
 use Rattle.std.specs.Prelude.{◌≡◌, ℕ, ◌+◌, ◌*◌, ◌^◌, ◌==◌, ◌&&◌, ◌⊎◌, nat_le, nat_lt, bytes_eq}
 use Rattle.std.specs.Prelude.{List, length, take, Option, Some, None}
 use Rattle.byteorder.specs.Endian.{big_number}

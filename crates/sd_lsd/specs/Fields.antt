@@ -1,4 +1,4 @@
--- The layer card of a receiver, and the file that it is kept in.
+-- Public meaning: the layer card of a receiver, and the file that it is kept in.
 use Rattle.std.specs.Prelude.{◌≡◌, ℕ, ◌+◌, ◌^◌, ◌<◌, ◌≤◌, List, ◌∷◌, ◌++◌, length, map, codes}
 use Rattle.byteorder.specs.Endian.{big_bytes}
 use Rattle.sd_tree.specs.Limits.{highest}

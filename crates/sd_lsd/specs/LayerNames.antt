@@ -1,4 +1,4 @@
--- What a receiver is given in layers [Halevy, Shamir 2002, 3].
+-- Public meaning: what a receiver is given in layers [Halevy, Shamir 2002, 3].
 use Rattle.std.specs.Prelude.{◌≡◌, ℕ, ◌-◌, ◌%◌, Bool, true, ◌==◌, ◌↔◌, min, List, filter, sum_by, if◌then◌else◌}
 use Rattle.std.specs.List.{range_with_len}
 use Rattle.sd_tree.specs.Leaves.{is_member}

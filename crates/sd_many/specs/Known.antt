@@ -1,5 +1,5 @@
--- What a coalition that pools its cards makes of the messages of several broadcasts of one master. It is said of names
--- and not of bytes.
+-- Public meaning: what a coalition that pools its cards makes of the messages of several broadcasts of one master. It
+-- is said of names and not of bytes.
 use Rattle.std.specs.Prelude.{◌≡◌, ℕ, List, All, Contains}
 use Rattle.sd_tree.specs.declared.set.SetName.{SetName}
 use Rattle.sd_reach.specs.Derivation.{IsDerived}

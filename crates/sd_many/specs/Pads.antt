@@ -1,4 +1,4 @@
--- What a broadcast lays keystreams over.
+-- Public meaning: what a broadcast lays keystreams over.
 use Rattle.std.specs.Prelude.{ℕ, List, [], ◌∷◌, Bool, true, false, take, map, if◌then◌else◌}
 use Rattle.std.specs.List.{flat_map}
 use Rattle.sd_tree.specs.declared.set.SetName.{SetName}

@@ -1,4 +1,4 @@
--- Broadcasts under one master, and what each of them uses.
+-- Public meaning: broadcasts under one master, and what each of them uses.
 use Rattle.std.specs.Prelude.{◌≡◌, ◌⊎◌, ℕ, ◌-◌, ◌<◌, ◌≤◌, List, ◌++◌, length, get_or, take, slice_get, Some, All, Bool}
 use Rattle.std.specs.Prelude.{[], true, false}
 use Rattle.sd_site.specs.Fields.{SiteFields}

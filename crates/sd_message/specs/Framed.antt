@@ -1,4 +1,4 @@
--- Packets that begin with a section of this project.
+-- Public meaning: packets that begin with a section of this project.
 use Rattle.std.specs.Prelude.{◌≡◌, ℕ, ◌+◌, ◌-◌, Bool, false, ◌==◌, ◌&&◌, bytes_eq, List, ◌∷◌, length, take, drop}
 use Rattle.std.specs.Prelude.{Option, Some, None, is_none, slice_get}
 use Rattle.sd_packet.specs.Header.{unit_start_of, payload_of}

@@ -1,4 +1,4 @@
--- Items of equally many bytes, one after the other.
+-- Public meaning: items of equally many bytes, one after the other.
 use Rattle.std.specs.Prelude.{ℕ, zero, suc, Bool, true, ◌&&◌, List, [], ◌∷◌, take, drop}
 use Rattle.std.specs.List.{list_all}
 

@@ -1,4 +1,4 @@
--- A message's items, shared out over its sections.
+-- Public meaning: a message's items, shared out over its sections.
 use Rattle.std.specs.Prelude.{ℕ, ◌+◌, ◌-◌, ◌*◌, ◌/◌, List, ◌++◌, length, take, drop, max, replicate, map}
 use Rattle.std.specs.List.{range_with_len}
 

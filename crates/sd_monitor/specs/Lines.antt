@@ -1,4 +1,4 @@
--- The line of compact JSON that a message is shown by.
+-- Public meaning: the line of compact JSON that a message is shown by.
 use Rattle.std.specs.Prelude.{ℕ, suc, ◌==◌, List, [], ◌∷◌, ◌++◌, map, codes, if◌then◌else◌, Option, Some, None, Result}
 use Rattle.std.specs.Prelude.{Ok, Err}
 use Rattle.std.specs.Fmt.{decimal}

@@ -1,4 +1,4 @@
--- The members of what is shown of a part of a control message, one after the other.
+-- Inner: the members of what is shown of a part of a control message, one after the other.
 use Rattle.std.specs.Prelude.{ℕ, List, [], ◌∷◌, map, codes, Option, Some, None}
 use Rattle.hex.specs.Hex.{encode_lower}
 use Rattle.serde_json.specs.Data.{Data, boolean, string}

@@ -1,4 +1,4 @@
--- The monitor as a stage of packets.
+-- Public meaning: the monitor as a stage of packets.
 use Rattle.std.specs.Prelude.{◌≡◌, ℕ, true, List, [], Option}
 use Rattle.sd_cause.specs.Count.{with_added}
 use Rattle.sd_cause.specs.declared.memory.NoMemory.{NoMemory}

@@ -1,4 +1,4 @@
--- The header and the payload of a transport packet of 188 bytes.
+-- Public meaning: the header and the payload of a transport packet of 188 bytes.
 use Rattle.std.specs.Prelude.{ℕ, ◌+◌, ◌*◌, ◌%◌, ◌==◌, ◌&&◌, Bool, List, drop, slice_index, slice_set, nat_le, nat_lt}
 use Rattle.std.specs.Prelude.{if◌then◌else◌}
 use Rattle.sd_bits.specs.Bits.{field}

@@ -1,4 +1,4 @@
--- Packets that are one section by itself.
+-- Public meaning: packets that are one section by itself.
 use Rattle.std.specs.Prelude.{◌≡◌, ℕ, ◌+◌, ◌-◌, ◌/◌, ◌%◌, List, [], ◌∷◌, ◌++◌, length, replicate}
 use Rattle.sd_packet.specs.Header.{error_of, unit_start_of, priority_of, pid_of, scrambling_of, adaptation_of}
 use Rattle.sd_packet.specs.Header.{counter_of}

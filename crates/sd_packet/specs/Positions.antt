@@ -1,4 +1,4 @@
--- Positions: the packets of a PID are numbered by what their continuity counters come to.
+-- Public meaning: positions: the packets of a PID are numbered by what their continuity counters come to.
 use Rattle.std.specs.Prelude.{◌≡◌, ℕ, ◌+◌, ◌-◌, ◌%◌, ◌<◌, ◌≤◌, ◌==◌, ◌&&◌, Bool, List, [], ◌∷◌, nat_le, if◌then◌else◌}
 use Rattle.sd_packet.specs.Header.{pid_of, counter_of, has_payload}
 

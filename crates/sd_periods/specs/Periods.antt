@@ -1,4 +1,4 @@
--- The texts of the periods of a book [this project, docs/FORMATS.md, Cover].
+-- Public meaning: the texts of the periods of a book [this project, docs/FORMATS.md, Cover].
 use Rattle.std.specs.Prelude.{ℕ, zero, suc, ◌+◌, List, [], ◌∷◌, ◌++◌, length, codes, false, None}
 use Rattle.std.specs.List.{flat_map}
 use Rattle.std.specs.Fmt.{decimal}

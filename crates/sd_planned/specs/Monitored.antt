@@ -1,4 +1,4 @@
--- What `messages` prints of a broadcast [this project, docs/FORMATS.md, Messages printed].
+-- Public meaning: what `messages` prints of a broadcast [this project, docs/FORMATS.md, Messages printed].
 use Rattle.std.specs.Prelude.{ℕ, suc, List, [], ◌∷◌, Some}
 use Rattle.sd_site.specs.Fields.{SiteFields}
 use Rattle.sd_broadcast.specs.Sent.{Item, Cat, Entitles, Controls, Carries}

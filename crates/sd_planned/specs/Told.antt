@@ -1,5 +1,5 @@
--- What is so where two sites with their books may not go out under one set of cards [this project, docs/FORMATS.md,
--- Apart].
+-- Public meaning: what is so where two sites with their books may not go out under one set of cards
+-- [this project, docs/FORMATS.md, Apart].
 use Rattle.std.specs.Prelude.{◌≡◌, ◌≢◌, ◌⊎◌, ◌↔◌, ℕ, ◌<◌, ◌≤◌, List, Contains}
 use Rattle.sd_book.specs.Commands.{revoked}
 use Rattle.sd_broadcast.specs.Plan.{Plan}

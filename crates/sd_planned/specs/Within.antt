@@ -1,5 +1,5 @@
--- What a broadcast has of what `plan` prints for a stream of so many packets and PIDs [this project, docs/FORMATS.md,
--- Plan].
+-- Public meaning: what a broadcast has of what `plan` prints for a stream of so many packets and PIDs
+-- [this project, docs/FORMATS.md, Plan].
 use Rattle.std.specs.Prelude.{◌≡◌, ℕ, ◌+◌, ◌*◌, ◌<◌, ◌≤◌, ◌==◌, Bool, false, List, ◌++◌, length, count_by, Contains}
 use Rattle.sd_ecm.specs.Versions.{positions_for}
 use Rattle.sd_ecm.specs.declared.part.EcmPart.{EcmPart}

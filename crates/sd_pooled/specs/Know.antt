@@ -1,5 +1,5 @@
--- What a coalition that pools its cards makes of the messages of all periods of a book. It is said of names and not of
--- bytes.
+-- Public meaning: what a coalition that pools its cards makes of the messages of all periods of a book. It is said of
+-- names and not of bytes.
 use Rattle.std.specs.Prelude.{◌≡◌, ℕ, ◌≤◌, ◌/◌, min, List, Contains, Any}
 use Rattle.std.specs.List.{flat_map}
 use Rattle.sd_tree.specs.declared.set.SetName.{SetName}

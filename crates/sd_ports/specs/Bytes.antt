@@ -1,3 +1,4 @@
+-- Public meaning: bytes that a reader gives and a writer takes: a prefix, all, or those up to a limit.
 use Rattle.std.specs.Prelude.{◌≡◌, ℕ, ◌<◌, nat_lt, Bool, List, ◌++◌, length, take, Option, None, Some}
 use Rattle.std.specs.Io.KnownBytes.{Appends, Consumes, IsAtEnd}
 

@@ -1,3 +1,4 @@
+-- Public meaning: why a file system refuses, and what it counts: misses, faults, ports made and ports open.
 use Rattle.std.specs.Prelude.{◌≡◌, ℕ, ◌+◌, ◌%◌, ◌^◌, ◌<◌, ◌≤◌, List, length, Bool, true, false, Option, Result, IfOk}
 use Rattle.std.specs.Prelude.{OnOk, OnErr, IsErrOf}
 use Rattle.sd_cause.specs.Count.{Rose, with_added}

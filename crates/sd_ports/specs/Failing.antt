@@ -1,4 +1,4 @@
--- Which calls of a depot in memory are to fail.
+-- Public meaning: which calls of a depot in memory are to fail.
 use Rattle.std.specs.Prelude.{refl, ℕ, Bool, nat_eq, List, [], ◌∷◌, ◌++◌, map, filter, string_bytes}
 use Rattle.std.specs.List.{list_any}
 use Rattle.std.specs.Coded.{Coded, code_by, coded×, coded_ℕ, coded_list}

@@ -1,4 +1,4 @@
--- Faults of depots as faults of whole files.
+-- Public meaning: faults of depots as faults of whole files.
 use Rattle.sd_ports.specs.declared.fault.DepotFault.{DepotFault}
 use Rattle.sd_ports.specs.declared.fault.DepotFault.TheVariants.{Missing, Failed, NoMemory}
 use Rattle.sd_ports.specs.declared.file.FileFault.{FileFault}

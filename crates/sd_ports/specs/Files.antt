@@ -1,3 +1,4 @@
+-- Public meaning: the contents of a file system that the model knows, and what a call changes in them.
 use Rattle.std.specs.Prelude.{◌≡◌, ℕ, ◌<◌, ◌≤◌, ◌⊎◌, List, [], length, Option, None, Some, IsSome, IfSome, Result, OnOk}
 use Rattle.std.specs.Prelude.{IsErrOf, All}
 use Rattle.std.specs.Ordering.{nat_cmp}

@@ -1,3 +1,4 @@
+-- Public meaning: sources, sinks and file systems in memory, with the calls that fail.
 use Rattle.std.specs.Prelude.{refl, ℕ, map, string_bytes, String, Vec, ◌-◌, Bool, ◌||◌, if◌then◌else◌}
 use Rattle.std.specs.Prelude.{nat_lt, min, List, [], ◌++◌, length, take, drop, Option, Some, None}
 use Rattle.std.specs.Prelude.{◌∷◌, ◌/◌}

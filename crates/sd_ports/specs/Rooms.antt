@@ -1,4 +1,4 @@
--- How much room a sink has left, where it tells it.
+-- Public meaning: how much room a sink has left, where it tells it.
 use Rattle.std.specs.Prelude.{◌≡◌, ℕ, ◌-◌, ◌<◌, ◌≤◌, Option, Some, None, Result, Ok, Err}
 
 -- A write of a piece of this size: where so many bytes of room are told, a piece that is no longer is taken, and the

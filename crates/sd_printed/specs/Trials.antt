@@ -1,4 +1,4 @@
--- What a trial of a broadcast prints [this project, docs/FORMATS.md, Trial].
+-- Public meaning: what a trial of a broadcast prints [this project, docs/FORMATS.md, Trial].
 use Rattle.std.specs.Prelude.{ℕ, zero, suc, List, ◌++◌, length, Option, Some, None}
 use Rattle.sd_broadcast.specs.Plan.{Plan}
 use Rattle.sd_broadcast.specs.Sent.{broadcast}

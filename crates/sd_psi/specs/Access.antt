@@ -1,4 +1,4 @@
--- CA_descriptors, and the project's CAT, which has one.
+-- Public meaning: CA_descriptors, and the project's CAT, which has one.
 use Rattle.std.specs.Prelude.{◌≡◌, true, ℕ, ◌/◌, ◌%◌, ◌+◌, ◌==◌, ◌&&◌, Bool, nat_le, List, [], ◌∷◌, length, drop}
 use Rattle.sd_bits.specs.Bits.{field}
 use Rattle.sd_section.specs.Written.{section_bytes}

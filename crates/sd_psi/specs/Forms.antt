@@ -1,4 +1,4 @@
--- What is wrong with a packet that is to be one section of a PAT, a CAT or a PMT by itself.
+-- Public meaning: what is wrong with a packet that is to be one section of a PAT, a CAT or a PMT by itself.
 use Rattle.std.specs.Prelude.{ℕ, ◌+◌, ◌%◌, Bool, true, false, ◌==◌, ◌&&◌, nat_le, List, length, drop, slice_index}
 use Rattle.std.specs.Prelude.{Option, Some, None}
 use Rattle.std.specs.List.{list_all}

@@ -1,4 +1,4 @@
--- Items that stand one after the other, each of which says in its first bytes how long it is.
+-- Public meaning: items that stand one after the other, each of which says in its first bytes how long it is.
 use Rattle.std.specs.Prelude.{ℕ, zero, suc, ◌+◌, ◌==◌, Bool, List, [], ◌∷◌, ◌++◌, length, take, drop}
 use Rattle.std.specs.List.{list_all}
 use Rattle.sd_bits.specs.Bits.{field}

@@ -1,4 +1,4 @@
--- The PMT with the project's CA_descriptor.
+-- Public meaning: the PMT with the project's CA_descriptor.
 use Rattle.std.specs.Prelude.{ℕ, ◌+◌, ◌-◌, ◌*◌, ◌/◌, ◌%◌, Bool, nat_le, List, [], ◌∷◌, ◌++◌, length, take, drop}
 use Rattle.std.specs.Prelude.{slice_range, slice_index, slice_set, get_or, replicate, bytes_eq, Option}
 use Rattle.sd_packet.specs.Header.{payload_start_of}

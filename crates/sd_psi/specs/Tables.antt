@@ -1,4 +1,4 @@
--- What stands in a PAT, a CAT and a PMT.
+-- Public meaning: what stands in a PAT, a CAT and a PMT.
 use Rattle.std.specs.Prelude.{◌≡◌, ℕ, ◌+◌, ◌==◌, ◌&&◌, Bool, List, length, take, drop, map, filter, not, nat_le}
 use Rattle.std.specs.List.{list_all}
 use Rattle.sd_bits.specs.Bits.{field}

@@ -1,4 +1,4 @@
--- What rewriting and restoring a PMT are to each other.
+-- Public meaning: what rewriting and restoring a PMT are to each other.
 use Rattle.std.specs.Prelude.{◌≡◌, ℕ, ◌<◌, List, length, slice_index}
 use Rattle.sd_packet.specs.Header.{error_of, unit_start_of, priority_of, pid_of, scrambling_of, adaptation_of}
 use Rattle.sd_packet.specs.Header.{counter_of}

@@ -1,4 +1,4 @@
--- What is had from what is held, by rules that make one thing from another.
+-- Public meaning: what is had from what is held, by rules that make one thing from another.
 use Rattle.std.specs.Prelude.{◌⊎◌, List, [], ◌∷◌, Contains}
 
 -- a list, the last one first, of which each is held or follows from an earlier one

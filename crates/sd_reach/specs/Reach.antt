@@ -1,4 +1,4 @@
--- What follows from names by the steps of the generator. It is said of names and not of bytes.
+-- Public meaning: what follows from names by the steps of the generator. It is said of names and not of bytes.
 use Rattle.std.specs.Prelude.{◌≡◌, true, ℕ, ◌+◌, ◌*◌, ◌≤◌, ◌⊎◌, ◌↔◌, List, Contains}
 use Rattle.sd_tree.specs.Node.{IsAbove}
 use Rattle.sd_tree.specs.Leaves.{is_member}

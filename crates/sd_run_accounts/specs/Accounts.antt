@@ -1,4 +1,4 @@
--- `accounts SITE ACCOUNTS OUT` [this project, docs/FORMATS.md, Accounts].
+-- Public meaning: `accounts SITE ACCOUNTS OUT` [this project, docs/FORMATS.md, Accounts].
 use Rattle.std.specs.Prelude.{ℕ, List, [], ◌∷◌, ◌++◌, false, Option, Some, None, Result, Ok, Err}
 use Rattle.std.specs.List.{filter_map}
 use Rattle.std.specs.Ordering.{nat_cmp}

@@ -1,4 +1,4 @@
--- `apart SITE BOOK SITE BOOK` [this project, docs/FORMATS.md, Apart].
+-- Public meaning: `apart SITE BOOK SITE BOOK` [this project, docs/FORMATS.md, Apart].
 use Rattle.std.specs.Prelude.{ℕ, ◌+◌, ◌-◌, ◌^◌, ◌==◌, nat_lt, nat_le, not, ◌&&◌, min, max, find, List, [], ◌∷◌, ◌++◌}
 use Rattle.std.specs.Prelude.{Bool, true, false, Option, Some, None, Result, Ok, Err, bytes_eq, codes}
 use Rattle.std.specs.Option.{option_map, option_or}

@@ -1,4 +1,4 @@
--- `book SITE BOOK COMMANDS OUT` [this project, docs/FORMATS.md, Book].
+-- Public meaning: `book SITE BOOK COMMANDS OUT` [this project, docs/FORMATS.md, Book].
 use Rattle.std.specs.Prelude.{ℕ, List, [], ◌++◌, map, Some, Result}
 use Rattle.sd_book.specs.declared.command.Command.{Command}
 use Rattle.sd_book.specs.Text.{judged as said, text_of}

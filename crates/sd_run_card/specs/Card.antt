@@ -1,4 +1,4 @@
--- `card SITE LEAF OUT` [this project, docs/FORMATS.md, Card].
+-- Public meaning: `card SITE LEAF OUT` [this project, docs/FORMATS.md, Card].
 use Rattle.std.specs.Prelude.{ℕ, ◌^◌, nat_lt, List, if◌then◌else◌, Result, Ok, Err}
 use Rattle.sd_site.specs.Fields.{SiteFields}
 use Rattle.sd_card.specs.Fields.{card_of, card_bytes}

@@ -14,7 +14,7 @@ arguments
 
 exits
    0  the work is done
-   1  usage: unknown command, wrong number of arguments, text not in UTF-8, or OUT is one of the inputs
+   1  usage: unknown command, wrong number of arguments, text not in UTF-8, or OUT is an input
    2  the file that argument N names does not exist; for OUT, its folder does not exist
    4  an I/O error at a file
    5  an I/O error while printing

@@ -1,4 +1,4 @@
--- `cover SITE BOOK` [this project, docs/FORMATS.md, Cover].
+-- Public meaning: `cover SITE BOOK` [this project, docs/FORMATS.md, Cover].
 use Rattle.std.specs.Prelude.{ℕ, List}
 use Rattle.sd_book.specs.declared.command.Command.{Command}
 use Rattle.sd_steiner.specs.Cover.{cover_of}

@@ -1,4 +1,4 @@
--- `head SITE BOOK CLEAR OUT` [this project, docs/FORMATS.md, Broadcast].
+-- Public meaning: `head SITE BOOK CLEAR OUT` [this project, docs/FORMATS.md, Broadcast].
 use Rattle.std.specs.Prelude.{ℕ, List, [], take, Option, Some, None, Result, Ok, Err}
 use Rattle.std.specs.List.{concat}
 use Rattle.sd_engine.specs.Driving.{most_packets}

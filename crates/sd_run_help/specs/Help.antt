@@ -1,4 +1,4 @@
--- `help`, `help COMMAND` and `version` [this project, docs/FORMATS.md, Help].
+-- Public meaning: `help`, `help COMMAND` and `version` [this project, docs/FORMATS.md, Help].
 use Rattle.std.specs.Prelude.{ℕ, false, List, [], ◌∷◌, Option, None}
 use Rattle.sd_status.specs.declared.status.Status.TheVariants.{Done}
 use Rattle.sd_status.specs.Meant.{Meant, Given, value}

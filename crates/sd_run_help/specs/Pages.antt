@@ -1,4 +1,4 @@
--- The texts that help prints, and that of the version [this project, docs/FORMATS.md, Help].
+-- Public meaning: the texts that help prints, and that of the version [this project, docs/FORMATS.md, Help].
 use Rattle.std.specs.Prelude.{ℕ, ◌-◌, ◌^◌, List, ◌++◌, codes, Option, Some, None}
 use Rattle.std.specs.List.{flat_map}
 use Rattle.std.specs.Fmt.{padded, format_spec}

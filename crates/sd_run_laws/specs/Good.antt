@@ -1,4 +1,4 @@
--- Words and files that mean work: they are there, in their grammars and within their limits.
+-- Public meaning: words and files that mean work: they are there, in their grammars and within their limits.
 use Rattle.std.specs.Prelude.{◌≡◌, ℕ, List, Option, Some, Ok, ◌≤◌, [], ◌++◌, ◌+◌, length, None, ◌^◌, ◌<◌}
 use Rattle.sd_status.specs.Meant.{Word, Given}
 use Rattle.sd_words.specs.Words.{SampleOf, order_of, ReceiveOf, CoverOf, CardOf, TablesOf, HeadOf}

@@ -1,4 +1,4 @@
--- The headline in three parts: the results of `head`, of `card` and of `receive`, each a run by itself.
+-- Public meaning: the headline in three parts: the results of `head`, of `card` and of `receive`, each a run by itself.
 use Rattle.std.specs.Prelude.{◌≡◌, ◌≢◌, ℕ, ◌+◌, ◌-◌, ◌*◌, ◌≤◌, List, [], ◌∷◌, codes, length, map, Option, Some}
 use Rattle.std.specs.FinMap.{get}
 use Rattle.std.specs.List.{concat}

@@ -1,4 +1,4 @@
--- What help says is true of the program: the numbers of exits, and the examples.
+-- Public meaning: what help says is true of the program: the numbers of exits, and the examples.
 use Rattle.std.specs.Prelude.{◌≡◌, ℕ, ◌-◌, List, ◌∷◌, ◌++◌, length, replicate, Ok}
 use Rattle.std.specs.List.{flat_map}
 use Rattle.std.specs.Fmt.{decimal}

@@ -1,4 +1,4 @@
--- What a run leaves in the files, whatever it answers [this project, docs/FORMATS.md, What OUT holds].
+-- Public meaning: what a run leaves in the files, whatever it answers [this project, docs/FORMATS.md, What OUT holds].
 use Rattle.std.specs.Prelude.{◌≡◌, List, ℕ, Some, Result, Ok}
 use Rattle.std.specs.FinMap.{insert}
 use Rattle.sd_cause.specs.Count.{with_added}

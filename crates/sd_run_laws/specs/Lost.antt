@@ -1,4 +1,5 @@
--- What `receive` makes of any choice of a broadcast's packets [this project, docs/FORMATS.md, Receiver].
+-- Public meaning: what `receive` makes of any choice of a broadcast's packets [this project,
+-- docs/FORMATS.md, Receiver].
 use Rattle.std.specs.Prelude.{◌≡◌, ◌≢◌, ℕ, ◌+◌, ◌-◌, ◌*◌, ◌≤◌, ◌++◌, Bool, true, false, List, [], length, Some, Ok}
 use Rattle.std.specs.List.{concat, list_any}
 use Rattle.sd_card.specs.Fields.{card_of, card_bytes}

@@ -1,4 +1,4 @@
--- What `receive` makes of a broadcast [this project, docs/FORMATS.md, Receiver].
+-- Public meaning: what `receive` makes of a broadcast [this project, docs/FORMATS.md, Receiver].
 use Rattle.std.specs.Prelude.{◌≡◌, ℕ, ◌+◌, ◌-◌, ◌*◌, ◌≤◌, nat_le, ◌&&◌, not, List, [], length, Option, Some, None, Ok}
 use Rattle.std.specs.List.{concat}
 use Rattle.sd_card.specs.Fields.{card_of, card_bytes}

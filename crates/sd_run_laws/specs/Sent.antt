@@ -1,4 +1,4 @@
--- What stands after `head` that is done.
+-- Public meaning: what stands after `head` that is done.
 use Rattle.std.specs.Prelude.{◌≡◌, ℕ, ◌-◌, ◌≤◌, List, length, Some, Ok}
 use Rattle.std.specs.FinMap.{get, insert}
 use Rattle.std.specs.List.{concat}

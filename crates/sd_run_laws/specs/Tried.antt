@@ -1,4 +1,4 @@
--- Words and files that mean a trial, and what a trial leaves.
+-- Public meaning: words and files that mean a trial, and what a trial leaves.
 use Rattle.std.specs.Prelude.{◌≡◌, ℕ, List, Some, Ok, ◌≤◌, ◌^◌, length}
 use Rattle.std.specs.FinMap.{get}
 use Rattle.std.specs.Io.KnownBytes.{Appends}

@@ -1,4 +1,4 @@
--- `layered SITE BOOK WIDTH` [this project, docs/FORMATS.md, Layers].
+-- Public meaning: `layered SITE BOOK WIDTH` [this project, docs/FORMATS.md, Layers].
 use Rattle.std.specs.Prelude.{ℕ, ◌&&◌, nat_le, if◌then◌else◌, List, Option, Result, Ok, Err}
 use Rattle.sd_book.specs.declared.command.Command.{Command}
 use Rattle.sd_layers.specs.Cover.{layer_cover_of}

@@ -1,4 +1,4 @@
--- `lcard SITE LEAF WIDTH OUT` [this project, docs/FORMATS.md, Layer card].
+-- Public meaning: `lcard SITE LEAF WIDTH OUT` [this project, docs/FORMATS.md, Layer card].
 use Rattle.std.specs.Prelude.{ℕ, ◌^◌, ◌&&◌, nat_lt, nat_le, if◌then◌else◌, Result, Ok, Err}
 use Rattle.sd_site.specs.Fields.{SiteFields}
 use Rattle.sd_lsd.specs.Fields.{layer_card_of, layer_bytes}

@@ -1,4 +1,4 @@
--- `messages SITE STREAM` [this project, docs/FORMATS.md, Messages printed].
+-- Public meaning: `messages SITE STREAM` [this project, docs/FORMATS.md, Messages printed].
 use Rattle.std.specs.Prelude.{ℕ, List, false, Option, None}
 use Rattle.sd_engine.specs.Taken.{taken_of, end_of, IsLeft}
 use Rattle.sd_site.specs.Fields.{SiteFields}

@@ -1,4 +1,4 @@
--- `opens SITE BOOK LEAVES` [this project, docs/FORMATS.md, Cover].
+-- Public meaning: `opens SITE BOOK LEAVES` [this project, docs/FORMATS.md, Cover].
 use Rattle.std.specs.Prelude.{ℕ, List, codes, if◌then◌else◌}
 use Rattle.std.specs.List.{list_any}
 use Rattle.sd_tree.specs.declared.set.SetName.{SetName}

@@ -1,4 +1,4 @@
--- `plan SITE BOOK PACKETS PIDS` [this project, docs/FORMATS.md, Plan].
+-- Public meaning: `plan SITE BOOK PACKETS PIDS` [this project, docs/FORMATS.md, Plan].
 use Rattle.std.specs.Prelude.{ℕ, ◌+◌, ◌-◌, ◌*◌, nat_le, min, map, List, [], ◌∷◌, ◌++◌, length, codes}
 use Rattle.std.specs.Prelude.{false, if◌then◌else◌, Option, None, Result, Ok, Err}
 use Rattle.std.specs.List.{concat, range_with_len, sum_by}

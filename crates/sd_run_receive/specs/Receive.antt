@@ -1,4 +1,4 @@
--- `receive CARD STREAM OUT` [this project, docs/FORMATS.md, Receiver].
+-- Public meaning: `receive CARD STREAM OUT` [this project, docs/FORMATS.md, Receiver].
 use Rattle.std.specs.Prelude.{ℕ, zero, suc, ◌+◌, ◌*◌, ◌/◌, ◌≤◌, List, [], ◌∷◌, length, take, drop, reverse, Option}
 use Rattle.std.specs.Prelude.{Some, None, is_none, if◌then◌else◌, Result, Ok, Err}
 use Rattle.std.specs.List.{concat}

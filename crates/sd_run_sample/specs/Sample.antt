@@ -1,4 +1,4 @@
--- `sample NUMBER PACKETS OUT` [this project, docs/FORMATS.md, Sample].
+-- Public meaning: `sample NUMBER PACKETS OUT` [this project, docs/FORMATS.md, Sample].
 use Rattle.std.specs.Prelude.{ℕ}
 use Rattle.sd_sample.specs.Sample.{sample_of}
 use Rattle.sd_status.specs.Meant.{Meant, Word, Given, value}

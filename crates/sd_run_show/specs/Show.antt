@@ -1,4 +1,4 @@
--- `show CARD` [this project, docs/FORMATS.md, Card].
+-- Public meaning: `show CARD` [this project, docs/FORMATS.md, Card].
 use Rattle.std.specs.Prelude.{ℕ, ◌+◌, ◌*◌, ◌/◌, false, List, [], ◌∷◌, ◌++◌, codes, Option, Some, None, Result, Ok, Err}
 use Rattle.hex.specs.Hex.{encode_lower}
 use Rattle.serde_json.specs.Data.{Data, number, unsigned, string, object, member, no_members}

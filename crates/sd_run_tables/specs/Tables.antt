@@ -1,4 +1,4 @@
--- `tables STREAM` [this project, docs/FORMATS.md, Inspector].
+-- Public meaning: `tables STREAM` [this project, docs/FORMATS.md, Inspector].
 use Rattle.std.specs.Prelude.{ℕ, List, [], ◌∷◌, length, false, Option, None, Result, Ok, Err}
 use Rattle.std.specs.List.{flat_map}
 use Rattle.sd_cause.specs.declared.memory.NoMemory.{NoMemory as OutOfMemory}

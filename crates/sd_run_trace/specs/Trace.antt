@@ -1,4 +1,4 @@
--- `trace SITE BOOK LEAVES` [this project, docs/FORMATS.md, Tracing].
+-- Public meaning: `trace SITE BOOK LEAVES` [this project, docs/FORMATS.md, Tracing].
 use Rattle.std.specs.Prelude.{ℕ, ◌+◌, nat_lt, false, List, [], ◌∷◌, ◌++◌, length, codes, if◌then◌else◌, None, Result}
 use Rattle.std.specs.Prelude.{Ok, Err}
 use Rattle.std.specs.List.{flat_map}

@@ -1,4 +1,4 @@
--- The first bytes of a file [this project, docs/FORMATS.md, Trial].
+-- Public meaning: the first bytes of a file [this project, docs/FORMATS.md, Trial].
 use Rattle.std.specs.Prelude.{ℕ, List, Option, Result, Ok, Err}
 use Rattle.sd_ports.specs.Bytes.{Prefix, prefix_of}
 use Rattle.sd_ports.specs.declared.prefix.ReadMostFault.{ReadMostFault}

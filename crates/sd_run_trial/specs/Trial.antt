@@ -1,4 +1,4 @@
--- `trial SITE BOOK CLEAR` [this project, docs/FORMATS.md, Trial].
+-- Public meaning: `trial SITE BOOK CLEAR` [this project, docs/FORMATS.md, Trial].
 use Rattle.std.specs.Prelude.{◌≡◌, ◌⊎◌, ◌^◌, ◌*◌, ◌/◌, ℕ, zero, suc, nat_lt, Bool, true, false, List, ◌++◌, length}
 use Rattle.std.specs.Prelude.{codes, if◌then◌else◌, Option, Result, Ok, Err}
 use Rattle.std.specs.Fmt.{decimal}

@@ -1,4 +1,4 @@
--- Packets under control words.
+-- Public meaning: packets under control words.
 use Rattle.std.specs.Prelude.{◌≡◌, ℕ, ◌+◌, ◌*◌, ◌^◌, List, ◌++◌, take}
 use Rattle.sd_keystream.specs.Keystream.{keystream, xored}
 use Rattle.sd_packet.specs.Header.{unit_start_of, pid_of, scrambling_of, adaptation_of, counter_of, payload_start_of}

@@ -1,4 +1,4 @@
--- How a card's file keeps secrets, and the check at its end.
+-- Public meaning: how a card's file keeps secrets, and the check at its end.
 use Rattle.std.specs.Prelude.{◌≡◌, ◌-◌, ℕ, zero, suc, Bool, true, false, List, [], ◌∷◌, ◌++◌, length, take}
 use Rattle.std.specs.Prelude.{drop, get_or, Option, Some}
 use Rattle.std.specs.List.{AllByRecursion, concat}

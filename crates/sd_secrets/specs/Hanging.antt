@@ -1,3 +1,4 @@
+-- Public meaning: the nodes that hang off the path to a leaf [Naor, Naor, Lotspiech 2001, 3.2].
 use Rattle.std.specs.Prelude.{◌≡◌, ℕ, ◌+◌, ◌^◌, ◌<◌, ◌≤◌}
 use Rattle.sd_tree.specs.Node.{depth, IsAbove}
 use Rattle.sd_tree.specs.Paths.{path_node, sibling_of}

@@ -1,4 +1,4 @@
--- The secrets of names, and the keys that they lead to.
+-- Public meaning: the secrets of names, and the keys that they lead to.
 use Rattle.std.specs.Prelude.{◌≡◌, ℕ, ◌+◌, ◌-◌, ◌/◌, ◌^◌, ◌==◌, ◌&&◌, Bool, List, [], ◌∷◌, get_or, slice_get, Some}
 use Rattle.std.specs.Prelude.{if◌then◌else◌}
 use Rattle.sd_tree.specs.Node.{depth, IsAbove}

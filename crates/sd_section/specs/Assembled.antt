@@ -1,4 +1,4 @@
--- Sections assembled from the packets of a PID.
+-- Public meaning: sections assembled from the packets of a PID.
 use Rattle.std.specs.Prelude.{ℕ, zero, suc, refl, ◌+◌, ◌%◌, Bool, false, not, ◌==◌, ◌&&◌, nat_le, nat_lt, if◌then◌else◌}
 use Rattle.std.specs.Prelude.{List, [], ◌∷◌, ◌++◌, length, take, drop, slice_index, slice_get, Option, Some, None}
 use Rattle.std.specs.Coded.{Coded, code_by, coded×, coded_list, coded_option, coded_ℕ}

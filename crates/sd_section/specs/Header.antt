@@ -1,4 +1,4 @@
--- A section in the long form: its header of eight bytes, its body, its CRC.
+-- Public meaning: a section in the long form: its header of eight bytes, its body, its CRC.
 use Rattle.std.specs.Prelude.{ℕ, ◌+◌, ◌-◌, List, length, take, drop, slice_range}
 use Rattle.sd_bits.specs.Bits.{field}
 pub use Rattle.sd_crc.specs.Crc.{crc_of}

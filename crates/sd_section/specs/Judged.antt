@@ -1,4 +1,4 @@
--- What is wrong with bytes that are to begin with a section in the long form.
+-- Public meaning: what is wrong with bytes that are to begin with a section in the long form.
 use Rattle.std.specs.Prelude.{ℕ, ◌+◌, Bool, true, false, ◌==◌, ◌&&◌, nat_le, List, length, Option, Some, None}
 use Rattle.sd_section.specs.Header.{least_length, most_length, syntax_of, section_length_of, whole_of, crc_in, crc_due}
 use Rattle.sd_section.specs.declared.fault.SectionFault.{SectionFault}

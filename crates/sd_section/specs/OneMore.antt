@@ -1,4 +1,4 @@
--- One packet more, from what an assembler keeps.
+-- Public meaning: one packet more, from what an assembler keeps.
 use Rattle.std.specs.Prelude.{ℕ, ◌+◌, ◌≤◌, Bool, true, false, if◌then◌else◌, List, [], ◌∷◌, ◌++◌, Option, Some}
 use Rattle.sd_section.specs.Header.{longest, section_length_of, whole_of}
 use Rattle.sd_section.specs.Assembled.{Fed, is_overlong, is_whole, Cut, no_cut, cut_of, is_next, is_taken, tail_of}

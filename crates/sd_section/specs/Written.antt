@@ -1,4 +1,4 @@
--- Sections that this project writes.
+-- Public meaning: sections that this project writes.
 use Rattle.std.specs.Prelude.{◌≡◌, ℕ, ◌+◌, ◌/◌, ◌%◌, ◌^◌, ◌<◌, List, [], ◌∷◌, ◌++◌, length}
 use Rattle.std.specs.Int.{w32, to_be_bytes}
 use Rattle.sd_crc.specs.Crc.{crc_of}

@@ -1,4 +1,4 @@
--- What the head end knows of a packet that it takes.
+-- Public meaning: what the head end knows of a packet that it takes.
 use Rattle.std.specs.Prelude.{◌≡◌, ◌≢◌, ℕ, ◌-◌, ◌^◌, ◌≤◌, false, List, length, None}
 use Rattle.sd_packet.specs.Header.{pid_of, scrambling_of}
 use Rattle.sd_site.specs.Fields.{SiteFields}

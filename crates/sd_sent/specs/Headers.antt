@@ -1,4 +1,4 @@
--- The header of a clear packet as it is carried.
+-- Public meaning: the header of a clear packet as it is carried.
 use Rattle.std.specs.Prelude.{◌≡◌, ℕ, ◌+◌, ◌%◌, List}
 use Rattle.sd_packet.specs.Header.{unit_start_of, pid_of, scrambling_of, adaptation_of, counter_of, payload_start_of}
 use Rattle.sd_broadcast.specs.declared.kind.Kind.{Kind}

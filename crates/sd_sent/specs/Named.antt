@@ -1,4 +1,4 @@
--- The sets that a broadcast names.
+-- Public meaning: the sets that a broadcast names.
 use Rattle.std.specs.Prelude.{◌≡◌, ℕ, ◌==◌, ◌&&◌, false, List, [], ◌∷◌, ◌++◌, length, find, flat_map, Option, Some}
 use Rattle.std.specs.Prelude.{None, Result, Ok, Err, All, Contains, if◌then◌else◌}
 use Rattle.std.specs.List.{range_with_len}

@@ -1,4 +1,4 @@
--- A site that may use other control words.
+-- Public meaning: a site that may use other control words.
 use Rattle.std.specs.Prelude.{ℕ}
 use Rattle.sd_site.specs.Fields.{SiteFields}
 use Rattle.sd_broadcast.specs.Plan.{Plan}

@@ -1,4 +1,4 @@
--- The control messages of a broadcast by their numbers.
+-- Public meaning: the control messages of a broadcast by their numbers.
 use Rattle.std.specs.Prelude.{ℕ, ◌-◌, ◌*◌, true, false, nat_lt, List, length, take, if◌then◌else◌}
 use Rattle.sd_ecm.specs.Parts.{Message}
 use Rattle.sd_broadcast.specs.Plan.{Plan, closing_number}

@@ -1,4 +1,4 @@
--- Packets as they are read and written: 188 bytes.
+-- Public meaning: packets as they are read and written: 188 bytes.
 use Rattle.std.specs.Prelude.{◌≡◌, ℕ, ◌<◌, List, length, slice_index, All}
 
 -- all bytes of a transport packet are there [ISO/IEC 13818-1, 2.4.3.2]

@@ -1,4 +1,4 @@
--- What is still to be sent from a packet on.
+-- Public meaning: what is still to be sent from a packet on.
 use Rattle.std.specs.Prelude.{◌≡◌, ℕ, ◌-◌, ◌/◌, ◌%◌, ◌<◌, ◌≤◌, true, false, List, [], length, take, get_or, Contains}
 use Rattle.sd_emm.specs.Period.{emms_of}
 use Rattle.sd_emm.specs.declared.emm.Emm.{Emm}

@@ -1,4 +1,4 @@
--- When each fault comes.
+-- Public meaning: when each fault comes.
 use Rattle.std.specs.Prelude.{◌≡◌, ℕ, ◌+◌, ◌<◌, ◌≤◌, List, length, slice_get, Some}
 use Rattle.sd_text.specs.Number.{decimal_after}
 use Rattle.sd_site.specs.Forms.{Form, number, bytes, forms, IsWithin, bytes_after, number_on, emm_line, ecm_line}

@@ -1,3 +1,4 @@
+-- Public meaning: the fields of a site file [this project, docs/FORMATS.md, Site].
 use Rattle.std.specs.Prelude.{◌≢◌, ℕ, ◌==◌, if◌then◌else◌, List, Option, Some, None}
 use Rattle.sd_site.specs.declared.site.Site.{Site}
 use Rattle.sd_site.specs.Forms.{IsWithin, height_line, emm_line, ecm_line, every_line, cryptos_line, span_line}

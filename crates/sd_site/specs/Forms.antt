@@ -1,4 +1,4 @@
--- The one table of a site's lines, with their words and ranges.
+-- Public meaning: the one table of a site's lines, with their words and ranges.
 use Rattle.std.specs.Prelude.{ℕ, ◌*◌, ◌≤◌, ◌==◌, List, [], ◌∷◌, length, codes}
 use Rattle.std.specs.Prelude.{if◌then◌else◌, Option, Some, None, option_and_then}
 use Rattle.std.specs.Result.{result_ok}

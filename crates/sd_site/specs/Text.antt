@@ -1,4 +1,4 @@
--- The site file: eight to twelve lines in a fixed order [this project, docs/FORMATS.md, Site].
+-- Public meaning: the site file: eight to twelve lines in a fixed order [this project, docs/FORMATS.md, Site].
 use Rattle.std.specs.Prelude.{◌≡◌, ℕ, ◌==◌, ◌&&◌, ◌≤◌, nat_le, List, [], ◌∷◌, length, slice_get}
 use Rattle.std.specs.Prelude.{if◌then◌else◌, Option, Some, None, Result, Ok, Err}
 use Rattle.std.specs.Int.{w16, from_be_bytes}

@@ -1,4 +1,4 @@
--- What a run answers, and what it leaves after it.
+-- Public meaning: what a run answers, and what it leaves after it.
 use Rattle.std.specs.Prelude.{◌≡◌, ◌≢◌, ◌⊎◌, ℕ, Result, Ok, Err}
 use Rattle.std.specs.Io.KnownBytes.{Appends}
 use Rattle.sd_cause.specs.Count.{Rose}

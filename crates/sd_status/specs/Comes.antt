@@ -1,4 +1,4 @@
--- How a command comes to its status, before the line of the status is told.
+-- Public meaning: how a command comes to its status, before the line of the status is told.
 use Rattle.std.specs.Prelude.{◌≡◌, ◌≢◌, ℕ, ◌+◌, ◌≤◌, true, List, take, Option, Some, None, Result, Ok, Err}
 use Rattle.std.specs.List.{concat}
 use Rattle.std.specs.Io.KnownBytes.{Appends}

@@ -1,3 +1,4 @@
+-- Public meaning: the exit status of the program [this project, docs/FORMATS.md, Exits].
 use Rattle.std.specs.Prelude.{ℕ}
 use Rattle.sd_status.specs.declared.status.Status.{Status}
 use Rattle.sd_status.specs.declared.status.Status.TheVariants.{Done, Usage, Missing, Revoked, DepotFault, PrintFault}

@@ -1,3 +1,4 @@
+-- Inner: the bytes of a line that is printed.
 use Rattle.std.specs.Prelude.{ℕ, List, string_bytes}
 use Rattle.sd_status.specs.declared.telling.Line.{Line}
 use Rattle.sd_status.specs.declared.telling.Line.TheVariants.{Fixed, Made}

@@ -1,4 +1,5 @@
--- What words and files mean, step by step: a value or a refusal, and how many calls of the depot it takes.
+-- Public meaning: what words and files mean, step by step: a value or a refusal, and how many calls of
+-- the depot it takes.
 use Rattle.std.specs.Prelude.{◌≡◌, ℕ, ◌+◌, nat_lt, List, length, if◌then◌else◌, Option, Some, None, Result, Ok, Err}
 use Rattle.std.specs.FinMap.{get}
 use Rattle.sd_ports.specs.Files.{Files}

@@ -1,4 +1,5 @@
--- What stands around a command at one moment: the depot, what was printed, and the steps that were counted.
+-- Public meaning: what stands around a command at one moment: the depot, what was printed, and the
+-- steps that were counted.
 use Rattle.std.specs.Prelude.{ℕ, List, Option}
 use Rattle.sd_cause.specs.Count.{with_added}
 use Rattle.sd_ports.specs.Files.{Files}

@@ -1,4 +1,4 @@
--- What a step of a command gives that reads files and makes none.
+-- Public meaning: what a step of a command gives that reads files and makes none.
 use Rattle.std.specs.Prelude.{◌≡◌, ◌⊎◌, ℕ, ◌+◌, ◌≤◌, List, Option, Result, Ok, Err}
 use Rattle.sd_cause.specs.Count.{Rose}
 use Rattle.sd_status.specs.declared.status.Status.{Status}

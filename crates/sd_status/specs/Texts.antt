@@ -1,4 +1,4 @@
--- The line of each status [this project, docs/FORMATS.md, Exits].
+-- Public meaning: the line of each status [this project, docs/FORMATS.md, Exits].
 use Rattle.std.specs.Prelude.{ℕ, List, [], ◌++◌, codes}
 use Rattle.std.specs.Fmt.{decimal}
 use Rattle.std.specs.Int.{w32, to_be_bytes}

@@ -1,4 +1,4 @@
--- The chain cover of the leaves that are not revoked [Naor, Naor, Lotspiech 2001, 3.2].
+-- Public meaning: the chain cover of the leaves that are not revoked [Naor, Naor, Lotspiech 2001, 3.2].
 use Rattle.std.specs.Prelude.{◌≡◌, ◌≢◌, ℕ, ◌+◌, ◌*◌, ◌/◌, ◌≤◌, ◌↔◌, ◌⊎◌, List, [], ◌∷◌, Contains}
 use Rattle.sd_tree.specs.Node.{IsAbove}
 use Rattle.sd_tree.specs.Paths.{leaf_node, sibling_of}

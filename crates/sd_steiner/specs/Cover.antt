@@ -1,4 +1,5 @@
--- The chain cover as a list, from a test that tells the nodes of the Steiner tree [Naor, Naor, Lotspiech 2001, 3.2].
+-- Public meaning: the chain cover as a list, from a test that tells the nodes of the Steiner tree
+-- [Naor, Naor, Lotspiech 2001, 3.2].
 use Rattle.std.specs.Prelude.{ℕ, zero, suc, ◌+◌, ◌-◌, ◌*◌, ◌^◌, ◌&&◌, ◌||◌, not, nat_eq, Bool, List, [], ◌∷◌, map}
 use Rattle.std.specs.Prelude.{filter, if◌then◌else◌}
 use Rattle.std.specs.List.{list_any, range_with_len}

@@ -1,4 +1,4 @@
--- Disjoint and few sets that unite to the leaves that are not revoked.
+-- Public meaning: disjoint and few sets that unite to the leaves that are not revoked.
 use Rattle.std.specs.Prelude.{◌≡◌, ◌≢◌, ℕ, ◌*◌, ◌-◌, ◌^◌, ◌<◌, ◌≤◌, nat_eq, List, [], ◌∷◌, length, count_by, All}
 use Rattle.std.specs.Prelude.{if◌then◌else◌}
 use Rattle.std.specs.List.{list_any}

@@ -1,4 +1,4 @@
--- The walk over the Steiner tree that finds the chains [Naor, Naor, Lotspiech 2001, 3.2].
+-- Inner: the walk over the Steiner tree that finds the chains [Naor, Naor, Lotspiech 2001, 3.2].
 use Rattle.std.specs.Prelude.{◌≡◌, ◌≢◌, ℕ, ◌/◌, ◌^◌, ◌<◌, ◌≤◌, ◌==◌, ◌↔◌, ◌⊎◌, List, [], ◌∷◌, ◌++◌, Contains}
 use Rattle.std.specs.Prelude.{AllPairs, if◌then◌else◌}
 use Rattle.std.specs.List.Sorted.{IsStrictlyIncreasing}

@@ -1,4 +1,4 @@
--- What the inspector prints of packets. In each list of packets the last comes first.
+-- Public meaning: what the inspector prints of packets. In each list of packets the last comes first.
 use Rattle.std.specs.Prelude.{ℕ, ◌==◌, ◌&&◌, ◌||◌, Bool, List, [], ◌∷◌, ◌++◌, length, map, filter, flat_map}
 use Rattle.std.specs.Prelude.{if◌then◌else◌, is_none}
 use Rattle.std.specs.List.{list_any}

@@ -1,4 +1,4 @@
--- The inspector as a stage of packets.
+-- Public meaning: the inspector as a stage of packets.
 use Rattle.std.specs.Prelude.{◌≡◌, ℕ, ◌-◌, ◌^◌, ◌<◌, Bool, true, false, List, [], ◌∷◌, length, Option}
 use Rattle.std.specs.List.{flat_map}
 use Rattle.sd_cause.specs.declared.memory.NoMemory.{NoMemory}

@@ -1,5 +1,5 @@
--- What the inspector keeps of packets, of which the last comes first: marks of the PIDs that are watched, and what
--- their assemblers keep.
+-- Public meaning: what the inspector keeps of packets, of which the last comes first: marks of the PIDs that are
+-- watched, and what their assemblers keep.
 use Rattle.std.specs.Prelude.{◌≡◌, ℕ, ◌<◌, ◌==◌, ◌||◌, Bool, false, List, [], if◌then◌else◌, get_or, Option, Some, None}
 use Rattle.std.specs.List.{flat_map, list_any}
 use Rattle.sd_section.specs.Assembled.{Fed, Assembling, after, all_lent}

@@ -1,3 +1,4 @@
+-- Public meaning: the lines of a text [this project, docs/FORMATS.md, Text files].
 use Rattle.std.specs.Prelude.{ℕ, ◌==◌, Bool, not, List, [], ◌∷◌, if◌then◌else◌}
 use Rattle.std.specs.List.{list_all}
 

@@ -1,3 +1,4 @@
+-- Public meaning: decimal numbers, and words with a number on a line [this project, docs/FORMATS.md, Text files].
 use Rattle.std.specs.Prelude.{ℕ, ◌==◌, ◌&&◌, ◌||◌, ◌^◌, Bool, not, nat_lt, List, take, drop, length, slice_index}
 use Rattle.std.specs.Prelude.{bytes_eq, if◌then◌else◌, Option, Some, None, Result, Ok, Err, option_and_then}
 use Rattle.std.specs.Str.{all_ascii_digits}

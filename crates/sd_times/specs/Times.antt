@@ -1,5 +1,5 @@
--- Which clear packets a receiver writes that is switched off and on and loses packets. Events are listed with the
--- newest first.
+-- Public meaning: which clear packets a receiver writes that is switched off and on and loses packets. Events are
+-- listed with the newest first.
 use Rattle.std.specs.Prelude.{ℕ, Bool, nat_eq, List, filter, length, map, take}
 use Rattle.std.specs.List.{flat_map, list_any, range_with_len}
 use Rattle.sd_card.specs.Fields.{CardFields, card_of}

@@ -1,4 +1,4 @@
--- Where the parts of a message stand.
+-- Public meaning: where the parts of a message stand.
 use Rattle.std.specs.Prelude.{◌≡◌, ◌+◌, List, ◌∷◌, length, None}
 use Rattle.sd_ecm.specs.Parts.{Message}
 use Rattle.sd_ecm.specs.declared.part.EcmPart.{EcmPart}

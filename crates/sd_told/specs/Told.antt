@@ -1,4 +1,4 @@
--- What things that are sent are to a receiver.
+-- Public meaning: what things that are sent are to a receiver.
 use Rattle.std.specs.Prelude.{ℕ}
 use Rattle.sd_site.specs.Fields.{SiteFields}
 use Rattle.sd_broadcast.specs.Sent.{Item, Cat, Entitles as SendsEmm, Controls as SendsEcm, Carries}

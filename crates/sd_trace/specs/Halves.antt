@@ -1,4 +1,4 @@
--- The two halves of a set, by which a leaf is searched [Naor, Naor, Lotspiech 2001, 5].
+-- Public meaning: the two halves of a set, by which a leaf is searched [Naor, Naor, Lotspiech 2001, 5].
 use Rattle.std.specs.Prelude.{◌<◌, ℕ, zero, suc, ◌+◌, ◌-◌, ◌*◌, ◌/◌, ◌^◌, Bool, ◌==◌, nat_lt, List, Option, Some, None}
 use Rattle.std.specs.Prelude.{if◌then◌else◌}
 use Rattle.std.specs.List.{list_any}

@@ -1,4 +1,4 @@
--- One round of a search, and the list of leaves that are revoked or found.
+-- Inner: one round of a search, and the list of leaves that are revoked or found.
 use Rattle.std.specs.Prelude.{◌≡◌, ℕ, ◌+◌, ◌-◌, ◌*◌, ◌^◌, ◌<◌, ◌≤◌, ◌⊎◌, ◌↔◌, true, false, List, All, Contains, length}
 use Rattle.std.specs.Prelude.{get_or}
 use Rattle.std.specs.Prelude.{Option, Some, None}

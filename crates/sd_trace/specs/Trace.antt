@@ -1,4 +1,5 @@
--- The leaves that a box still opens for, in the order in which they are found [Naor, Naor, Lotspiech 2001, 5].
+-- Public meaning: the leaves that a box still opens for, in the order in which they are found [Naor,
+-- Naor, Lotspiech 2001, 5].
 use Rattle.std.specs.Prelude.{◌≡◌, ◌&&◌, not, nat_eq, filter, ℕ, zero, suc, ◌+◌, ◌-◌, ◌*◌, ◌^◌, ◌<◌, ◌≤◌, max, List, []}
 use Rattle.std.specs.Prelude.{◌∷◌, Contains, length, get_or, Option, Some, None, if◌then◌else◌}
 use Rattle.std.specs.List.{list_any}

@@ -1,4 +1,4 @@
--- In a tree of height d leaf u is node 2^d + u, and the leaves below a node are an interval of numbers.
+-- Public meaning: in a tree of height d leaf u is node 2^d + u, and the leaves below a node are an interval of numbers.
 use Rattle.std.specs.Prelude.{◌≡◌, true, ℕ, ◌+◌, ◌-◌, ◌*◌, ◌^◌, ◌<◌, ◌&&◌, ◌||◌, ◌==◌, Bool, not, nat_eq, nat_le}
 use Rattle.std.specs.Prelude.{nat_lt, List}
 use Rattle.std.specs.Prelude.{filter}

@@ -1,4 +1,4 @@
--- The full binary tree: the root is node 1, the children of v are 2v and 2v + 1.
+-- Public meaning: the full binary tree: the root is node 1, the children of v are 2v and 2v + 1.
 use Rattle.std.specs.Prelude.{◌≡◌, ◌≢◌, ℕ, ◌+◌, ◌/◌, ◌^◌, nat_le, count_by}
 use Rattle.std.specs.List.{range_with_len}
 

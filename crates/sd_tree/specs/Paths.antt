@@ -1,4 +1,4 @@
--- The path of a leaf, from the root to its own node, and the nodes beside it.
+-- Public meaning: the path of a leaf, from the root to its own node, and the nodes beside it.
 use Rattle.std.specs.Prelude.{ℕ, ◌+◌, ◌-◌, ◌/◌, ◌%◌, ◌^◌, ◌==◌, if◌then◌else◌}
 
 -- the node of leaf u in a tree of height d [Naor, Naor, Lotspiech 2001, 3.2]

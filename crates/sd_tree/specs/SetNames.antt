@@ -1,3 +1,5 @@
+-- Public meaning: the names of the subset differences of a tree, and their order [this project,
+-- docs/FORMATS.md, Cover].
 use Rattle.std.specs.Prelude.{◌≡◌, ℕ, ◌+◌, ◌^◌, ◌<◌, ◌≤◌, List, AllPairs}
 use Rattle.std.specs.Ordering.{nat_cmp, ordering_then}
 use Rattle.std.specs.declared.cmp.Ordering.{Ordering}

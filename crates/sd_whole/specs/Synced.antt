@@ -1,4 +1,4 @@
--- Packets as a stream has them.
+-- Public meaning: packets as a stream has them.
 use Rattle.std.specs.Prelude.{◌≡◌, ℕ, ◌<◌, List, length, slice_index, All}
 
 -- a packet as it stands in a stream: 188 bytes, of which the first is the sync byte

@@ -1,4 +1,4 @@
--- What the words after the program's name say [this project, docs/FORMATS.md, Commands].
+-- Public meaning: what the words after the program's name say [this project, docs/FORMATS.md, Commands].
 use Rattle.std.specs.Prelude.{◌≡◌, ◌⊎◌, ℕ, zero, suc, ◌+◌, ◌-◌, ◌==◌, nat_lt, not, List, [], ◌∷◌, codes, length, slice_get}
 use Rattle.std.specs.Prelude.{bytes_eq, ◌||◌}
 use Rattle.std.specs.Prelude.{if◌then◌else◌, Option, Some, None, Bool, false, Result, Ok, Err}

@@ -1,4 +1,4 @@
--- Keys under keys.
+-- Public meaning: keys under keys.
 use Rattle.std.specs.Prelude.{ℕ, List}
 use Rattle.sd_keystream.specs.Keystream.{keystream, xored}
 
