@@ -31,7 +31,7 @@ pub(crate) fn draft_of(alloc: Global, bytes: &[u8], h: Height) -> Result<Draft, 
     Ok(draft)
 }
 
-/// The command on the line after so many.
+/// The command on the line after `count` lines.
 fn judged_line(line: &[u8], h: Height, count: usize) -> Result<Command, BookFault>
     requires { count ≤ MOST_COMMANDS }
     ensures { result ≡ (if nat_le MOST_COMMANDS count then Err (BookFault.Limit BookLimit.Lines)

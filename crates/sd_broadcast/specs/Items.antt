@@ -10,10 +10,8 @@ use Rattle.sd_broadcast.specs.Messages.{period_at, message_at}
 use Rattle.sd_broadcast.specs.Sent.{Item, Cat, Entitles, Controls, Carries}
 
 -- The thing is of the broadcast of a clear stream: the CAT; a section of the entitlements of a packet's period, or of
--- the
--- first period where there is no packet; a part of the message that stands before a packet; a part of the closing
--- message;
--- or a clear packet as it is carried [this project, docs/FORMATS.md, Broadcast].
+-- the first period where there is no packet; a part of the message that stands before a packet; a part of the closing
+-- message; or a clear packet as it is carried [this project, docs/FORMATS.md, Broadcast].
 pub data IsOfBroadcast (plan : Plan) (clear : List (List ℕ)) : Item → Type 0 where
   cat : IsOfBroadcast plan clear Cat
   entitlement : {emm : Emm} → (k : ℕ) → k ≤ length clear - 1

@@ -2,7 +2,8 @@ ghost use Rattle.std.specs.Prelude.{◌≡◌, ◌+◌, ◌-◌, ◌*◌, ◌/�
 
 use sd_tree::Height;
 
-// The place of the pair of an ancestor and a hanging node, at these depths, among the names that a leaf is given.
+/// The index of a pair of nodes among the names that a leaf is given: an ancestor of the leaf at the depth `ancestor`,
+/// and the node that hangs off the leaf's path at the depth `hanging`. Pairs begin at index 1.
 #[tactic(auto, using(crate::proofs::Places::place_within))]
 pub fn place(h: Height, ancestor: u32, hanging: u32) -> usize
     requires above { ancestor < hanging }

@@ -56,7 +56,7 @@ impl Counts {
         }
     }
 
-    /// Makes room for so many more nodes.
+    /// Reserves room for this number of further nodes.
     #[tactic(auto, using(crate::proofs::Tables::same_counts, crate::proofs::Tables::table_reserved))]
     pub fn reserve(&mut self, more: u32) -> Result<(), NoMemory>
         requires fits { more ≤ MOST_ROOM }

@@ -17,7 +17,9 @@ pub const MOST_SPARE: u32 = 1 << HIGHEST;
 /// The revoked leaves of a tree, by a count for each node: how many are at or below it.
 #[derive(Drop)]
 pub struct CoverIndex {
+    /// The height of the tree.
     pub height: Height,
+    /// The number of revoked leaves at or below each node that has one.
     pub counts: Counts,
 }
 
@@ -48,7 +50,7 @@ impl CoverIndex {
         }
     }
 
-    /// Makes room for so many more revocations, which then take no memory.
+    /// Reserves room for this number of further revocations, which then allocate nothing.
     pub fn reserve(&mut self, more: u32) -> Result<(), NoMemory>
         requires fits { more ≤ MOST_SPARE }
         ensures value { (self.new.height ≡ self.old.height) × (self.new.revoked ≡ self.old.revoked) }

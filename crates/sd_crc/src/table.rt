@@ -20,7 +20,7 @@ static REGISTERS: [[u32; 256]; 8] = [
     of_bits!([0] 0x5BA1_DCCA 0xB743_B994 0x6A46_6E9F 0xD48C_DD3E 0xADD8_A7CB 0x5F70_5221 0xBEE0_A442 0x7900_5533),
 ];
 
-// The register that a byte leads to by itself, with so many bytes of zeros after it.
+/// The CRC register after one byte from an empty register, followed by `after` bytes of zeros; `after` is below 8.
 #[inline]
 #[tactic(auto, using(crate::proofs::Rows::entry))]
 pub fn of_byte(byte: u8, after: usize) -> u32
@@ -30,7 +30,7 @@ pub fn of_byte(byte: u8, after: usize) -> u32
     REGISTERS[after][usize::from(byte)]
 }
 
-/// The register that four bytes lead to by themselves, with so many bytes of zeros after them.
+/// The CRC register after four bytes from an empty register, followed by `after` bytes of zeros, at most 4.
 #[inline]
 #[tactic(auto, using(crate::proofs::Words::of_bytes))]
 pub fn of_word(word: u32, after: usize) -> u32

@@ -117,8 +117,7 @@ HasCount length part =
     × IsCounted (positions_for part.version) part.part part.last_part part.count
 
 -- the flags are 0 or 1, the table_id is odd where the number of the control word is, and `since` is below the number of
--- the message,
--- unless both are 0 [this project, docs/FORMATS.md, Messages]
+-- the message, unless both are 0 [this project, docs/FORMATS.md, Messages]
 pub record IsMatched (table_id flags : ℕ) (part : EcmPart) : Type 0 where
   pub flags_are : flags ≤ 1
   pub parity : table_id % 2 ≡ part.word % 2

@@ -33,8 +33,7 @@ abbrev pub is_ascending : List Place → Bool
 is_ascending places = all_pairs (λ a b. nat_lt a.pid b.pid) places
 
 -- whether the flags are 0 or 1, the table_id is odd where the number of the control word is, and `since` is below the
--- number of the
--- message, unless both are 0 [this project, docs/FORMATS.md, Messages]
+-- number of the message, unless both are 0 [this project, docs/FORMATS.md, Messages]
 abbrev pub is_matched : ℕ → ℕ → EcmPart → Bool
 is_matched table_id flags part =
     nat_le flags 1

@@ -75,9 +75,9 @@ part_at message x = record {
 unfoldable pub parts_of : Message → List EcmPart
 parts_of message = each_below (part_at message) (part_count_of message)
 
--- the version is one of three, `since` and the broadcast's name are as they are to be, the PIDs are ones that have positions, strictly ascending and
--- no more than a
--- message may have, and what the message says fits the fields of its parts [this project, docs/FORMATS.md, Messages]
+-- the version is one of three, `since` and the broadcast's name are as they are to be, the PIDs are ones that have
+-- positions, strictly ascending and no more than a message may have, and what the message says fits the fields of its
+-- parts [this project, docs/FORMATS.md, Messages]
 pub record IsMessage (message : Message) : Type 0 where
   pub version : IsVersion message.version
   pub named : IsNamed message.version message.run

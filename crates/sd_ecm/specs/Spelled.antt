@@ -51,8 +51,7 @@ unfoldable pub ecm_body : EcmPart → List ℕ
 ecm_body part = head_bytes part ++ flat_map place_bytes (listed part)
 
 -- its table_id is the version's for an even control word and the next for an odd one, its extension 0, and the section
--- numbers are
--- the part's [this project, docs/FORMATS.md, Messages]
+-- numbers are the part's [this project, docs/FORMATS.md, Messages]
 abbrev pub ecm_header : EcmPart → Header
 ecm_header part = record {
   table_id = even_table_id part.version + part.word % 2;

@@ -39,8 +39,7 @@ unfoldable pub version_for : ℕ → ℕ
 version_for table_id = if nat_lt table_id 0x84 then 1 else if nat_lt table_id 0x88 then 2 else 3
 
 -- each packet from message `since` up to this message has the control word of message `since`, which is below the
--- number, unless both are 0
--- [this project, docs/FORMATS.md, Messages]
+-- number, unless both are 0 [this project, docs/FORMATS.md, Messages]
 abbrev pub IsBefore : ℕ → ℕ → Type 0
 IsBefore since number = (since < number) ⊎ ((since ≡ 0) × (number ≡ 0))
 

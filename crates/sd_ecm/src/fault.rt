@@ -1,7 +1,7 @@
 /// Why a section isn't a part of a control message that this project writes.
 #[derive(Clone, Copy, Debug, PartialEq, Eq)]
 pub enum EcmFault {
-    /// The count of positions isn't what the length comes to, or what the part is to have.
+    /// The number of positions differs from the number that the length leaves room for, or that the part must have.
     Count,
     /// The PIDs aren't strictly ascending.
     Order,

@@ -35,7 +35,7 @@ pub struct EcmHead {
     pub check: [u8; 16],
 }
 
-/// How many parts a message of this version with so many positions has: as many as have room for them, and at least
+/// The number of parts of a message of this version with `places` positions: enough to hold them, and at least
 /// one.
 #[tactic(auto, unfolding(sd_message::specs::Pieces::pieces_for, crate::specs::Versions::positions_for))]
 pub fn part_count(version: u8, places: usize) -> u8

@@ -5,7 +5,7 @@ ghost use Rattle.sd_ecm.specs.declared.format.TheConstants.{POSITIONS};
 
 use crate::format::POSITIONS;
 
-/// Where a PID stands: its position, which its packets' counters have come to (docs/FORMATS.md, Positions).
+/// A PID and its position, its extended continuity counter (docs/FORMATS.md, Positions).
 #[derive(Clone, Copy, Debug, PartialEq, Eq)]
 pub struct Place {
     /// The PID.
@@ -14,7 +14,7 @@ pub struct Place {
     pub position: u64,
 }
 
-// What stands past a part's positions.
+/// The entry that fills a part's list of positions beyond their number: PID 0 at position 0.
 pub const NOTHING: Place = Place {
     pid: 0,
     position: 0,

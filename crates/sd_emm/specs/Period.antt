@@ -8,7 +8,8 @@ use Rattle.sd_emm.specs.declared.emm.Entry.{Entry}
 use Rattle.sd_emm.specs.declared.emm.Emm.{Emm}
 use Rattle.sd_message.specs.Pieces.{piece_at, each_below}
 
--- what a period's sections say: the broadcast's name, where they tell it, the period's number, the check value of its key, and all of its sets, each with the wrapped key
+-- what a period's sections say: the broadcast's name, where they tell it, the period's number, the check value of its
+-- key, and all of its sets, each with the wrapped key
 pub record Period : Type 0 where
   pub run : Option ℕ
   pub number : ℕ
@@ -38,8 +39,7 @@ unfoldable pub emms_of : Period → List Emm
 emms_of period = each_below (emm_at period) (sections_for (length period.entries))
 
 -- the sets are strictly ascending and no more than a cover has, and what the period says fits the fields of its
--- sections
--- [this project, docs/FORMATS.md, Messages]
+-- sections [this project, docs/FORMATS.md, Messages]
 pub record IsPeriod (period : Period) : Type 0 where
   pub ascending : AreAscending (names_in period.entries)
   pub run : IfSome period.run (λ run. run < 2 ^ 32)

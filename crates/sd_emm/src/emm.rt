@@ -14,13 +14,13 @@ pub struct Entry {
     pub wrapped: [u8; 32],
 }
 
-// What stands past a section's entries.
+/// The entry that fills a section's list beyond the number of its entries: the whole set with zeros.
 pub const NOTHING: Entry = Entry {
     name: SetName::Whole,
     wrapped: [0; 32],
 };
 
-/// What one section says of a period's sets (docs/FORMATS.md, Messages).
+/// One section of an entitlement management message, with some of a period's sets (docs/FORMATS.md, Messages).
 #[derive(Clone, Copy, Debug, PartialEq, Eq)]
 pub struct Emm {
     /// The period.

@@ -9,7 +9,7 @@ ghost use Rattle.sd_emm.specs.declared.format.TheConstants.{MOST_ENTRIES, MOST_S
 use crate::emm::{Emm, Entry, NOTHING};
 use crate::format::{MOST_ENTRIES, MOST_SETS};
 
-/// How many sections a period with so many sets has: as many as have room for three in each, and at least one.
+/// The number of sections of a period with `sets` sets: three sets to a section, and at least one section.
 #[tactic(auto, unfolding(sd_message::specs::Pieces::pieces_for))]
 pub fn section_count(sets: usize) -> u16
     requires { sets ≤ MOST_SETS }

@@ -69,7 +69,7 @@ pub fn drive<S: Source, K: Sink, L: Ledger, G: Stage<K, L>>(
     }
 }
 
-/// Takes the stage to the end, after so many packets.
+/// Ends the stage after `count` packets.
 fn close<K: Sink, L: Ledger, G: Stage<K, L>>(
     sink: &mut K,
     stage: &mut G,
@@ -87,7 +87,7 @@ fn close<K: Sink, L: Ledger, G: Stage<K, L>>(
     }
 }
 
-/// Why no packet came after so many.
+/// Why no packet came after `count` packets.
 fn broken<F>(fault: FeedFault, count: u64) -> DriveFault<F>
     ensures { result ≡ broken_by count fault }
 {

@@ -12,5 +12,6 @@ pub enum BreakCause {
 pub struct StreamBreak {
     /// The number of the packet at which they break.
     pub packet: u64,
+    /// What is wrong at this packet.
     pub cause: BreakCause,
 }

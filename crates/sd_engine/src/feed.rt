@@ -7,10 +7,12 @@ use crate::fault::BreakCause;
 use sd_packet::{Packet, SIZE};
 use sd_ports::{PortFault, Source};
 
-/// Of a piece of a source's bytes, those that were read and not taken yet stand from `at` to `filled`.
+/// The range of a buffer that holds bytes that were read and not taken yet: from `at` up to, not including, `filled`.
 #[derive(Clone, Copy)]
 pub struct Span {
+    /// The index of the first byte that was not taken yet.
     pub at: usize,
+    /// The index after the last byte that was read.
     pub filled: usize,
 }
 

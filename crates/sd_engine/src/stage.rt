@@ -26,13 +26,14 @@ pub trait Stage<K: Sink, L: Ledger> {
     /// The refusal that it keeps, if it has one.
     ghost kept: { Self → Option Self.Fault };
 
-    /// What a packet comes to: the stage before, the packet, the stage after it, the bytes written and the steps taken.
+    /// The outcome of a packet: the stage before, the packet, the stage after it, the bytes written and the
+    /// steps taken.
     ghost does: { Self → List ℕ → Self → List ℕ → ℕ → Type 0 };
 
-    /// What the end of the stream comes to.
+    /// The outcome of the end of the stream.
     ghost ends: { Self → Self → List ℕ → ℕ → Type 0 };
 
-    /// What a refusal comes to, of a packet or of the end.
+    /// The outcome of a refusal, of a packet or of the end.
     ghost refuses: { Self → Option (List ℕ) → Self.Fault → Self → List ℕ → ℕ → Type 0 };
 
     /// Takes the next packet. A stage that refused answers the same refusal from then on, writes nothing and takes no

@@ -101,8 +101,7 @@ turning steps out bytes ends = record {
 }
 
 -- What came of a stream before its ports were closed: all the bytes were written, and this is how it ends; or a prefix
--- of
--- them, and the outside stopped it.
+-- of them, and the outside stopped it.
 pub data Wrote (bytes : List ℕ) (ends : Status) (before now : Option (List ℕ)) (status : Status) : Type 0 where
   all_written : status ≡ ends → IsEnding status → Appends before now bytes → Wrote bytes ends before now status
   some_written : (status ≡ NoMemory) ⊎ (status ≡ DepotFault) → AppendsPrefix before now bytes →

@@ -1,9 +1,11 @@
 ghost use Rattle.std.specs.Prelude.{◌≡◌};
 
-/// A word that names a file, and its number among the words after the program's name, counted from 0.
+/// An argument that names a file, and its number among the arguments after the program's name, counted from 0.
 #[derive(Clone, Copy)]
 pub struct Word<'a> {
+    /// The argument's number, from 0, the command.
     pub number: u8,
+    /// The argument's text, a file's name.
     pub text: &'a str,
 }
 
@@ -17,9 +19,11 @@ impl<'a> Word<'a> {
     }
 }
 
-/// The number that a word says, and which word it is.
+/// A numeric argument: its number among the arguments, and its value.
 #[derive(Clone, Copy)]
 pub struct Number {
+    /// The number of the argument, from 0, the command.
     pub word: u8,
+    /// The number that the argument says.
     pub value: u32,
 }

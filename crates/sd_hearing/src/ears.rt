@@ -28,8 +28,7 @@ pub enum Heard {
 }
 
 /// What the packet is to a receiver in a tree of this height that is tuned to these PIDs (this project,
-/// docs/FORMATS.md,
-/// Receiver).
+/// docs/FORMATS.md, Receiver).
 #[tactic(auto, unfolding(sd_reception::specs::Heard::hears))]
 pub fn hear(h: Height, tuning: Tuning, packet: &Packet) -> Heard
     ensures value { (number : ℕ) → heard_as number packet.now result ≡ hears h (tuned tuning) number packet.now }

@@ -19,13 +19,16 @@ const SHARED: u32 = 0o666;
 /// The path of the standard output.
 const OUTPUT: &str = "/dev/stdout";
 
-/// What a file is, as far as it matters here.
+/// The type of a file, as far as it decides how the file is opened and compared.
 #[derive(Clone, Copy, PartialEq, Eq)]
 pub enum Kind {
+    /// A regular file.
     Regular,
+    /// A block device.
     Block,
     /// A pipe or a socket.
     Stream,
+    /// Any other file: a folder, a terminal or another character device.
     Other,
 }
 

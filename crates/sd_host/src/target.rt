@@ -5,7 +5,9 @@ use std::io::Write;
 /// Where an output goes: into a file that was opened for it, or to the standard output by its own descriptor.
 #[derive(Drop)]
 pub enum Target<'a, R: Files> {
+    /// A file that was opened for writing.
     File(R::File),
+    /// The standard output.
     Output(&'a R),
 }
 

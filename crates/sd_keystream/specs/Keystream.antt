@@ -4,8 +4,7 @@ use Rattle.std.specs.Int.{w32, to_le_bytes}
 use Rattle.rand_chacha.specs.ChaCha.{word_at, key_of}
 
 -- the first k words of the ChaCha20 keystream with this 64-bit stream number from place 0 on, each as four
--- little-endian bytes
--- [this project, docs/FORMATS.md, Keystream]
+-- little-endian bytes [this project, docs/FORMATS.md, Keystream]
 unfoldable pub stream_words : List ℕ → ℕ → ℕ → List ℕ
 stream_words key number zero = []
 stream_words key number (suc k) = stream_words key number k ++ to_le_bytes w32 (word_at 10 (key_of key) number k)

@@ -1,4 +1,4 @@
-//! What laying streams over texts comes to, for crates that do it and undo it.
+//! Laws of texts that are XORed with a keystream, for crates that encrypt and decrypt.
 
 ghost use Rattle.std.specs.Prelude.{◌≡◌, ◌≤◌, ℕ, List, length};
 ghost use Rattle.sd_keystream.specs.Keystream.{keystream, xored};

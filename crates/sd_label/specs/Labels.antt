@@ -30,8 +30,8 @@ third_of Right label = right_of label
 abbrev pub side_of : ℕ → Side
 side_of v = if v % 2 == 0 then Left else Right
 
--- the label of node i, the hash with the byte I and i's four bytes
--- [FIPS 180-4; this project, docs/FORMATS.md, Keys and labels]
+-- the label of node i, the hash with the byte I and i's four bytes [FIPS 180-4; this project,
+-- docs/FORMATS.md, Keys and labels]
 unfoldable pub label_of_node : List ℕ → ℕ → List ℕ
 label_of_node master i = sha256 (master ++ 0x49 ∷ to_be_bytes w32 i)
 

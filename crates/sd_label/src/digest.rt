@@ -4,7 +4,7 @@ ghost use Rattle.sha2.specs.Sha256.{sha256};
 
 use sha2::{Digest, Sha256};
 
-// The hash of the bytes and one byte that says what they are hashed for.
+/// SHA-256 of the bytes followed by a tag, one byte that separates the uses of the hash (FIPS 180-4).
 pub fn tagged(bytes: &[u8; 32], tag: u8) -> [u8; 32]
     ensures { result ≡ sha256 (bytes.now ++ tag ∷ []) }
 {
@@ -14,7 +14,7 @@ pub fn tagged(bytes: &[u8; 32], tag: u8) -> [u8; 32]
     hasher.finalize()
 }
 
-// The same with a number after the byte.
+/// SHA-256 of the bytes followed by a tag and a number of four bytes, the highest first (FIPS 180-4).
 pub fn numbered(bytes: &[u8; 32], tag: u8, number: u32) -> [u8; 32]
     ensures { result ≡ sha256 (bytes.now ++ tag ∷ to_be_bytes w32 number) }
 {

@@ -27,7 +27,7 @@ pub fn control_word(master: &[u8; 32], t: u32) -> [u8; 32]
     numbered(master, b'C', t)
 }
 
-/// The bytes by which a key is told from a wrong one.
+/// The key check value of a key, by which a receiver detects a wrong key: sixteen bytes of a hash of the key.
 #[tactic(auto, unfolding(crate::specs::Keys::check_value_of))]
 pub fn check_value(key: &[u8; 32]) -> [u8; 16]
     ensures { result ≡ check_value_of key.now }

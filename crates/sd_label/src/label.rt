@@ -16,7 +16,9 @@ pub struct Label(pub [u8; 32]);
 /// Which child of its parent a node is.
 #[derive(Clone, Copy, Debug, PartialEq, Eq)]
 pub enum Side {
+    /// The left child, of an even number.
     Left,
+    /// The right child, of an odd number.
     Right,
 }
 

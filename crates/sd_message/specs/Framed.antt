@@ -25,9 +25,9 @@ header_of section = record {
   last_number = last_number_of section;
 }
 
--- each other bit of the header is as this project writes it: the syntax indicator is 1, the bit after it 0, reserved
--- bits are 1, the
--- version is 0, the section is current [ISO/IEC 13818-1, 2.4.4; this project, docs/FORMATS.md, Sections]
+-- each other bit of the header is as this project writes it: the syntax indicator is 1, the bit after it 0,
+-- reserved bits are 1, the version is 0, the section is current [ISO/IEC 13818-1, 2.4.4; this project,
+-- docs/FORMATS.md, Sections]
 abbrev pub IsPlain : List ℕ → Type 0
 IsPlain section = take 8 section ≡ header_bytes (header_of section) (length section - 12)
 

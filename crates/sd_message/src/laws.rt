@@ -19,7 +19,7 @@ pub fn framed_sections_are_read()
         Begins (section_bytes header body) packet → section_of packet ≡ section_bytes header body }
 {}
 
-/// Whether a packet begins with a section of this project is told by tests.
+/// Whether a packet begins with a section of this project can be computed.
 #[tactic(auto, using(crate::proofs::Deciding::tells_section))]
 pub fn sections_are_told()
     ensures { (packet : List ℕ) → Decides (has_section packet) (HasSection packet) }

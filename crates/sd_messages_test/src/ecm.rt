@@ -628,8 +628,8 @@ static OTHER_HEADS: [Change; 7] = [
     (15, &[(5, 0x89)]),
 ];
 
-// table_id, the bit after the syntax indicator, version, extension, part above the last, pointer, unit start, length, in
-// version 3 too.
+// table_id, the bit after the syntax indicator, version, extension, part above the last, pointer, unit start, length,
+// in version 3 too.
 static OTHER_KINDS: [Change; 9] = [
     (1, &[(5, 0x82)]),
     (1, &[(6, 0xF0)]),

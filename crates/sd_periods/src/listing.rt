@@ -8,9 +8,9 @@ use sd_cause::NoMemory;
 use sd_tree::{Height, Leaf, SetName};
 use std::alloc::Global;
 
-/// What is listed of each period of a book: some sets, and after the name of each what is told of it.
+/// The list that is printed of each period of a book: some sets, and a text after the name of each.
 pub trait Listing {
-    /// Whether it can be told in a tree of this height.
+    /// Whether it can be printed for a tree of this height.
     ghost fits: { Self → ℕ → Type 0 };
 
     /// The sets that are listed where these leaves are revoked, in a tree of this height.

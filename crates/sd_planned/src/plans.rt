@@ -9,8 +9,8 @@ ghost use Rattle.sd_sent.specs.Packets.{AreLong};
 ghost use Rattle.sd_run_plan.specs.Air.{cryptos_for, last_period_for, last_word_for};
 ghost use Rattle.sd_planned.specs.Within.{IsWithinPlan};
 
-/// The broadcast of a clear stream with packets has no more packets than `plan` prints for so many clear packets and
-/// PIDs, and just as many where one part of a message has room for all positions. Its periods and control words are
+/// The broadcast of a clear stream with packets has no more packets than `plan` prints for its numbers of clear packets
+/// and PIDs, and exactly as many if one part of a message has room for all positions. Its periods and control words are
 /// those that are printed, and each period's sections are sent as often as is printed. No clear stream has more than
 /// 256 PIDs with positions.
 pub fn broadcasts_are_within_plans()

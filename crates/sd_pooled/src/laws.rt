@@ -1,4 +1,4 @@
-//! What the definition of what is known comes to. It speaks of names, and of the messages of one book.
+//! Laws of what a coalition can derive from its cards and the messages of one book. The statements are symbolic.
 
 ghost use Rattle.std.specs.Prelude.{◌≡◌, ℕ, ◌^◌, ◌<◌, ◌≤◌, ◌↔◌, Bool, true, false, [], ◌∷◌, List, All, Any, Contains};
 ghost use Rattle.std.specs.List.{list_any, flat_map};

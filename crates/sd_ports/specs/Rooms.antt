@@ -2,8 +2,7 @@
 use Rattle.std.specs.Prelude.{◌≡◌, ℕ, ◌-◌, ◌<◌, ◌≤◌, Option, Some, None, Result, Ok, Err}
 
 -- A write of a piece of this size: where so many bytes of room are told, a piece that is no longer is taken, and the
--- room
--- is less by what was taken of it.
+-- room is less by what was taken of it.
 abbrev pub TakesRoom : {E : Type 0} → Option ℕ → Option ℕ → ℕ → Result ℕ E → Type 0
 TakesRoom None now size result = Unit {0}
 TakesRoom (Some room) now size (Ok taken) = (taken ≤ room) × (now ≡ Some (room - taken))

@@ -27,8 +27,7 @@ abbrev pub pid_bytes : ℕ → List ℕ
 pid_bytes pid = (0xE0 + pid / 256) ∷ pid % 256 ∷ []
 
 -- the descriptor of the project's CAT: CA_system_ID, as CA_PID the PID of entitlement management messages, and as
--- private bytes
--- that of entitlement control messages [ISO/IEC 13818-1, 2.6.16; this project, docs/FORMATS.md, Tables]
+-- private bytes that of entitlement control messages [ISO/IEC 13818-1, 2.6.16; this project, docs/FORMATS.md, Tables]
 abbrev pub cat_descriptor : ℕ → ℕ → ℕ → List ℕ
 cat_descriptor ca emm ecm =
     9 ∷ 6 ∷ ca / 256 ∷ ca % 256 ∷ (0xE0 + emm / 256) ∷ emm % 256 ∷ pid_bytes ecm

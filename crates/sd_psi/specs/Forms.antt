@@ -28,8 +28,7 @@ id_of Cat = 1
 id_of Pmt = 2
 
 -- section_length of an empty table: what stands after it up to the body and after the body, and for a PMT up to
--- program_info_length
--- [ISO/IEC 13818-1, 2.4.4.3, 2.4.4.6 and 2.4.4.8]
+-- program_info_length [ISO/IEC 13818-1, 2.4.4.3, 2.4.4.6 and 2.4.4.8]
 abbrev pub least_of : Table → ℕ
 least_of Pat = 9
 least_of Cat = 9
@@ -52,8 +51,7 @@ abbrev pub has_pointer : List ℕ → Bool
 has_pointer packet = (unit_start_of packet == 1) && (slice_index (payload_of packet) 0 == 0)
 
 -- the bytes begin with this table's id and the long form, and the section is the only one, if they go so far: past
--- their end a number is 0
--- [ISO/IEC 13818-1, 2.4.4; this project, docs/FORMATS.md, Tables]
+-- their end a number is 0 [ISO/IEC 13818-1, 2.4.4; this project, docs/FORMATS.md, Tables]
 abbrev pub has_table : Table → List ℕ → Bool
 has_table table bytes =
     nat_le 2 (length bytes) &&

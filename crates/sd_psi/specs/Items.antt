@@ -6,8 +6,7 @@ use Rattle.sd_psi.specs.declared.items.Kind.{Kind}
 use Rattle.sd_psi.specs.declared.items.Kind.TheVariants.{Program, Descriptor, Stream}
 
 -- how long the item is with which the bytes begin: a program of a PAT, a descriptor with descriptor_length, a stream of
--- a PMT with
--- ES_info_length [ISO/IEC 13818-1, 2.4.4.3, 2.4.4.8 and 2.6]
+-- a PMT with ES_info_length [ISO/IEC 13818-1, 2.4.4.3, 2.4.4.8 and 2.6]
 unfoldable pub size_of : Kind → List ℕ → ℕ
 size_of Program bytes = 4
 size_of Descriptor bytes = 2 + field bytes 8 8

@@ -15,8 +15,11 @@ const STUFFING: u8 = 0xFF;
 /// The tables that have a form.
 #[derive(Clone, Copy)]
 pub enum Table {
+    /// The program association table, table_id 0 (ISO/IEC 13818-1, 2.4.4.3).
     Pat,
+    /// The conditional access table, table_id 1 (ISO/IEC 13818-1, 2.4.4.6).
     Cat,
+    /// A program map table, table_id 2 (ISO/IEC 13818-1, 2.4.4.8).
     Pmt,
 }
 

@@ -50,7 +50,6 @@ pub fn restoring_is_undone()
 {}
 
 /// A packet that is rewritten, or restored, has its header as it was.
-
 pub fn rewritten_headers_stay()
     ensures rewritten { (ca pid : ℕ) (packet : List ℕ) → IsPacket packet →
         KeepsHeader packet (rewritten ca pid packet) }

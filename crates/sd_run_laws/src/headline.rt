@@ -154,9 +154,9 @@ pub fn words_are_their_commands()
         Answers (receive_meaning (word_at 1 names.card) (word_at 2 names.stream) (word_at 3 names.out)) a b answer }
 {}
 
-/// Where `head` is done over told files, OUT has the broadcast of the very site, book and clear stream that they say,
-/// and each period of it names its cover: disjoint sets that unite to exactly its unrevoked receivers, one if none is
-/// revoked and at most 2r - 1 if r > 0 are.
+/// If `head` succeeds in a file system whose contents the model knows, OUT has the broadcast of the site, book and
+/// clear stream that the files say. Each period of it names its cover: disjoint sets that unite to exactly its
+/// unrevoked receivers, one if none is revoked and at most 2r - 1 if r > 0 are.
 #[tactic(auto, using(crate::proofs::Sent::head_done))]
 pub fn done_heads_name_their_covers()
     ensures { (words : List (List ℕ)) (site book clear out : Word) (files : Files) (a b : Outside) →

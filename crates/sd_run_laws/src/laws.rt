@@ -155,8 +155,8 @@ pub fn good_plans_are_printed()
         (record { site = good.fields; commands = good.commands }) good.packets.value good.pids.value) }
 {}
 
-/// `apart SITE BOOK SITE BOOK` over two sites and their books prints both lines if the two don't clash, and is refused by
-/// their clash if they do.
+/// `apart SITE BOOK SITE BOOK` with two sites and their books prints both lines if the two don't clash, and is refused
+/// with their clash if they do.
 #[tactic(auto, using(crate::proofs::Operators::apart_good, crate::proofs::Operators::apart_clashes))]
 pub fn good_sites_are_judged()
     ensures apart { (words : List (List ℕ)) (files : Files) (good : IsGoodApart words (told_by files)) →
@@ -202,15 +202,17 @@ pub fn good_trials_are_printed()
         (opened_lines (plan_tried good) (taken_of good.bytes) (2 ^ good.fields.height)))) }
 {}
 
-/// A trial over told files that is done had such files, and printed just the lines of what is opened.
+/// A trial that succeeds in a file system whose contents the model knows had such files, and printed exactly the
+/// lines of what is opened.
 #[tactic(auto, using(crate::proofs::Trials::trial_tried))]
 pub fn done_trials_had_good_files()
     ensures { (site book clear : Word) (files : Files) (a b : Outside) → a.place.files ≡ Some files →
         Answers (trial_meaning site book clear) a b Status.Done → IsTried site book clear files a b }
 {}
 
-/// Whatever a run over told files answers, all files are as they were, and none was made; or one was, OUT of the work
-/// that the words and files mean, with a prefix of what it is to hold, and all others are as they were.
+/// After a run in a file system whose contents the model knows, whatever its answer, one of two things holds. All
+/// files are as they were, and none was made. Or OUT of the work that the arguments and files mean was made, with a
+/// prefix of its due contents, and all others are as they were.
 #[tactic(auto, using(crate::proofs::Left::run_leaves))]
 pub fn no_file_changes_but_out()
     ensures { (words : List (List ℕ)) (files : Files) (a b : Outside) (answer : Status) →

@@ -3,7 +3,8 @@ ghost use Rattle.std.specs.Prelude.{◌≤◌};
 use sd_ports::MemDepot;
 use std::alloc::{AllocError, Global};
 
-/// As many bytes as a file that is made has room for if nothing else is asked for, and as many as may be printed at least.
+/// As many bytes as a file that is made has room for if nothing else is asked for, and as many as may be
+/// printed at least.
 pub(crate) const ROOM: usize = 120_000;
 
 /// A site of height 3.
@@ -48,6 +49,7 @@ impl Files {
         Ok(files)
     }
 
+    /// Adds a file of this name and these bytes.
     pub fn add(&mut self, alloc: Global, name: &str, bytes: &[u8]) -> Result<(), AllocError> {
         let name = String::from_str(alloc, name)?;
         let bytes = Vec::from_slice(alloc, bytes)?;
@@ -55,7 +57,7 @@ impl Files {
         Ok(())
     }
 
-    /// A depot that has them, of which at most so many bytes go through a call of a port.
+    /// A file system with these files. A call of a port moves at most `most` bytes.
     pub(crate) fn shelf(&self, alloc: Global, most: usize) -> Result<MemDepot, AllocError>
         requires { 1 ≤ most }
     {

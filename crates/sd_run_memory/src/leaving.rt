@@ -12,6 +12,7 @@ use std::sync::ledger::{Blank, Ledger};
 /// The call of the outside that fails in a run.
 #[derive(Clone, Copy, Debug)]
 pub enum Fault<'a> {
+    /// No call fails.
     Nowhere,
     /// The depot's call of this number.
     Call(u32),
@@ -24,7 +25,9 @@ pub enum Fault<'a> {
 /// What a run leaves.
 #[derive(Drop)]
 pub struct Leaving {
+    /// The run's status.
     pub status: Status,
+    /// The bytes that were printed.
     pub printed: Vec<u8>,
     /// The file O.
     pub out: Option<Vec<u8>>,
@@ -46,7 +49,7 @@ impl Leaving {
     }
 }
 
-/// What the words leave over these files, where at most so many bytes go through a call of a port.
+/// What a run with these arguments leaves in these files, if a call of a port moves at most `most` bytes.
 pub fn left(
     alloc: Global,
     files: &Files,

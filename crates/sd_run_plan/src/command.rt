@@ -42,7 +42,7 @@ pub fn plan<D: Depot, P: Sink>(
     print_text(print, text.as_bytes())
 }
 
-/// The site of the word's file, which has a control word for each of so many packets.
+/// The site in the file that the argument names, if its range of control words is long enough for the packets.
 fn read_roomy_site<D: Depot>(
     alloc: Global,
     depot: &mut D,
@@ -57,7 +57,7 @@ fn read_roomy_site<D: Depot>(
     judge_room(site, packets)
 }
 
-/// The site, if it has a control word for each of so many packets.
+/// The site, if its range of control words is long enough for this number of packets.
 fn judge_room(site: Site, packets: Number) -> Result<Site, Status>
     requires { 1 ≤ packets.value }
     ensures { JudgesAlone fields_of (told_room (shown_number packets) (fields_of site)) result }
@@ -69,7 +69,7 @@ fn judge_room(site: Site, packets: Number) -> Result<Site, Status>
     Ok(site)
 }
 
-/// All lines for so many packets, of which at most so many PIDs have positions.
+/// All lines for this number of packets, of which at most `pids` PIDs have positions.
 #[tactic(auto, unfolding(crate::specs::Air::air_text, crate::specs::Air::added_most))]
 fn air_text(
     alloc: Global,

@@ -6,7 +6,7 @@ ghost use Rattle.sd_run_plan.specs.Air.{clear_line, end_lines, messages_line, pe
 use std::alloc::AllocError;
 use std::fmt::Write;
 
-/// What is told of a period.
+/// What is printed of a period.
 #[derive(Clone, Copy)]
 pub(crate) struct PeriodNumbers {
     pub(crate) period: u64,
@@ -61,7 +61,7 @@ fn push_messages(text: &mut String, messages: u64, parts: u8) -> Result<(), Allo
     write!(text, "messages {messages} parts {parts}\n")
 }
 
-/// Puts the line of so many packets added to the clear ones after the text.
+/// Appends the line of the packets that are added to the clear ones.
 #[tactic(auto, unfolding(crate::specs::Air::clear_line))]
 fn push_clear(text: &mut String, packets: u32, added: u64) -> Result<(), AllocError>
     requires { added < 2 ^ 60 }
@@ -74,7 +74,7 @@ fn push_clear(text: &mut String, packets: u32, added: u64) -> Result<(), AllocEr
     )
 }
 
-/// Puts the line of so many packets added to a thousand after the text.
+/// Appends the line of the packets that are added to a thousand.
 #[tactic(auto, unfolding(crate::specs::Air::rate_line))]
 fn push_rate(text: &mut String, rate: u128) -> Result<(), AllocError>
     requires { rate < 2 ^ 72 }

@@ -20,7 +20,7 @@ use sd_site::Site;
 use sd_tree::{HIGHEST, Height, Leaf};
 use std::alloc::Global;
 
-/// The lines of the periods of so many crypto periods, and how many packets their CATs and entitlements are.
+/// The lines of the periods of this number of crypto periods, and the number of packets of their CATs and EMMs.
 pub(crate) fn periods_text(
     alloc: Global,
     site: &Site,

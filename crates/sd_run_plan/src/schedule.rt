@@ -1,4 +1,4 @@
-//! The schedule of a broadcast of so many packets.
+//! The schedule of a broadcast, from the number of its clear packets.
 
 ghost use Rattle.std.specs.Prelude.{◌≡◌, ◌^◌, ◌≤◌, ◌+◌, ◌-◌, ℕ, List};
 ghost use Rattle.sd_book.specs.declared.command.Command.{Command};
@@ -10,7 +10,7 @@ ghost use Rattle.sd_run_plan.specs.Air.{last_period_for, last_word_for, messages
 
 use sd_site::Site;
 
-/// How many crypto periods so many packets begin.
+/// The number of crypto periods in this number of packets.
 #[tactic(auto, unfolding(sd_broadcast::specs::Plan::crypto_of))]
 pub(crate) fn cryptos_for(site: &Site, packets: u32) -> u32
     requires { 1 ≤ packets }
@@ -20,7 +20,7 @@ pub(crate) fn cryptos_for(site: &Site, packets: u32) -> u32
     (packets - 1) / (site.every * site.cryptos) + 1
 }
 
-/// The number of the last control word of so many crypto periods.
+/// The number of the last control word of this number of crypto periods.
 pub(crate) fn last_word(site: &Site, cryptos: u32) -> u64
     requires { 1 ≤ cryptos }
     ensures { (m : ℕ) → cryptos ≡ cryptos_of (fields_of site.now) m → result ≡ last_word_for (fields_of site.now) m }
@@ -28,7 +28,7 @@ pub(crate) fn last_word(site: &Site, cryptos: u32) -> u64
     u64::from(site.first_word) + u64::from(cryptos - 1)
 }
 
-/// How many control messages so many packets have, the closing one among them.
+/// The number of control messages for this number of packets, with the closing one.
 pub(crate) fn messages_for(site: &Site, packets: u32) -> u64
     ensures value { result ≡ messages_of (fields_of site.now) packets }
     ensures few { result ≤ 2 ^ 32 }
@@ -36,7 +36,7 @@ pub(crate) fn messages_for(site: &Site, packets: u32) -> u64
     u64::from(packets.div_ceil(site.every)) + 1
 }
 
-/// How many periods so many crypto periods begin, in a book with this last period.
+/// The number of periods in this number of crypto periods, in a book with this last period.
 #[tactic(auto, unfolding(sd_broadcast::specs::Plan::period_in))]
 pub(crate) fn period_count(site: &Site, last_period: u32, cryptos: u32) -> u32
     requires some { 1 ≤ cryptos }
@@ -53,8 +53,8 @@ pub(crate) fn period_count(site: &Site, last_period: u32, cryptos: u32) -> u32
     ((cryptos - 1) / site.span).min(last_period.saturating_sub(site.first_period)) + 1
 }
 
-/// How many of so many crypto periods are of the period that comes after `before` others of the broadcast, in a book with
-/// this last period.
+/// The number of crypto periods, of `cryptos` in all, in the period that comes after `before` others of the broadcast,
+/// in a book with this last period.
 pub(crate) fn cryptos_in(site: &Site, last_period: u32, cryptos: u32, before: u32) -> u32
     requires { before ≤ 1023 }
     ensures { (commands : List Command) → last_period ≡ last_of commands →

@@ -36,7 +36,7 @@ pub fn lines<L: Ledger>(
     Ok(text)
 }
 
-/// The line of a clear stream and its broadcast of so many packets.
+/// The line of a clear stream and its broadcast of this number of packets.
 #[tactic(auto, unfolding(crate::specs::Trial::clear_line))]
 fn first_line(alloc: Global, clear: usize, sent: usize) -> Result<String, AllocError>
     ensures { IfOk result (λ text. string_bytes text ≡ clear_line clear sent) }
@@ -67,7 +67,7 @@ fn push_receiver<L: Ledger>(
     push_line(text, u, wrote / SIZE, status)
 }
 
-/// Puts the line of leaf u's receiver after the text, which wrote so many packets and ended so.
+/// Appends the line of leaf u's receiver: the number of packets that it wrote, and how it ended.
 #[tactic(auto, unfolding(crate::specs::Trial::done_line, crate::specs::Trial::revoked_line))]
 fn push_line(text: &mut String, u: u32, wrote: usize, status: Status) -> Result<(), Status>
     requires { IsEnding status }

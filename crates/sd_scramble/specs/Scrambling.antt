@@ -35,8 +35,7 @@ abbrev pub descrambled : List ℕ → List ℕ → ℕ → List ℕ
 descrambled packet word position = laid_under packet word position 0
 
 -- what is read from a packet after scrambling or descrambling: it has this control and this payload, and the rest as
--- before
--- [this project, docs/FORMATS.md, Keystream]
+-- before [this project, docs/FORMATS.md, Keystream]
 pub record IsLaidUnder (old : List ℕ) (control : ℕ) (payload new : List ℕ) : Type 0 where
   pub unit_start : unit_start_of new ≡ unit_start_of old
   pub pid : pid_of new ≡ pid_of old

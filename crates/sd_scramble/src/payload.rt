@@ -10,7 +10,9 @@ use sd_packet::Packet;
 /// Whether the number of a control word is even or odd.
 #[derive(Clone, Copy, Debug, PartialEq, Eq)]
 pub enum Parity {
+    /// The number is even.
     Even,
+    /// The number is odd.
     Odd,
 }
 

@@ -8,8 +8,8 @@ use sd_tree::{Height, Leaf, path_node, sibling};
 use std::alloc::AllocError;
 use std::sync::ledger::Ledger;
 
-/// Adds the labels that a leaf's ancestor at this depth has for so many of the nodes that hang below it, from the
-/// highest down. Where memory runs out some of them may have been added.
+/// Appends the labels that a leaf's ancestor at this depth has for the highest `levels` nodes that hang below it, from
+/// the highest down. If memory runs out, some of them may have been appended.
 pub fn push_labels<L: Ledger>(
     secrets: &mut Vec<[u8; 32]>,
     master: &[u8; 32],

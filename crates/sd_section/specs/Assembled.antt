@@ -75,8 +75,7 @@ abbrev pub is_taken : Fed → Option ℕ → Bool
 is_taken packet last = has_payload packet && not (is_last packet.counter last)
 
 -- the bytes of a payload with unit start that belong to what came before: as many as its first byte, the pointer, says,
--- and none
--- where that passes the payload [ISO/IEC 13818-1, 2.4.4]
+-- and none where that passes the payload [ISO/IEC 13818-1, 2.4.4]
 abbrev pub tail_of : List ℕ → List ℕ
 tail_of payload = if nat_lt (slice_index payload 0) (length payload) then take (slice_index payload 0)
     (drop 1 payload) else []

@@ -20,7 +20,7 @@ pub struct Header {
 }
 
 impl Header {
-    /// The header before a body of so many bytes (ISO/IEC 13818-1, 2.4.4).
+    /// The header before a body of this number of bytes (ISO/IEC 13818-1, 2.4.4).
     pub fn bytes(&self, body: usize) -> [u8; 8]
         requires { body ≤ longest_body }
         ensures { result ≡ header_bytes self.now body }

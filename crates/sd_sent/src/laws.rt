@@ -57,8 +57,8 @@ pub fn clear_streams_are_bounded()
         word_of site k ≤ site.last_word }
 {}
 
-/// The entitlements of each period below 2^32 are a period's, and their sets may stand at the site's height; each packet
-/// is of such a period.
+/// The entitlements of each period below 2^32 are a period's, and their sets may stand at the site's height; each
+/// packet is of such a period.
 pub fn periods_fit()
     ensures form { (plan : Plan) (q : ℕ) → IsPlan plan → q < 2 ^ 32 → IsPeriod (period_at plan q) }
     ensures sets { (plan : Plan) (q : ℕ) → IsPlan plan →

@@ -1,4 +1,4 @@
-//! How long a site file is, for crates that take no more than so many bytes of it.
+//! The greatest length of a site file, for crates that read a limited number of bytes of it.
 
 ghost use Rattle.std.specs.Prelude.{ℕ, ◌≤◌, List, length};
 ghost use Rattle.sd_site.specs.Fields.{SiteFields};

@@ -16,7 +16,7 @@ pub const MOST_SPAN: u32 = 65_535;
 /// The greatest version of messages.
 pub const MOST_MESSAGES: u8 = 3;
 
-// The version of messages that name their run.
+/// The version of messages that name their broadcast.
 pub const NAMING_MESSAGES: u8 = 3;
 
 /// The greatest number of a control word.
@@ -39,7 +39,7 @@ pub struct Site {
     pub emm: u16,
     /// The PID of entitlement control messages.
     pub ecm: u16,
-    /// An ECM stands before each so many clear packets.
+    /// The number of clear packets from one ECM to the next, from 1 to 4,096.
     pub every: u32,
     /// So many ECMs are one crypto period.
     pub cryptos: u32,

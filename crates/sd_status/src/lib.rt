@@ -1,4 +1,4 @@
-//! What a run of the program answers: its statuses, their lines and exits, and how a command comes to one.
+//! The answers of a run of the program: its statuses, their printed lines and exits, and how a command ends with one.
 #![tactic(auto)]
 
 mod status;

@@ -11,46 +11,48 @@ use sd_psi::FormFault;
 use sd_site::SiteFault;
 use std::alloc::AllocError;
 
-/// What a run of the program answers. Words are numbered from 0, after the program's name.
+/// The outcome of a run of the program (docs/FORMATS.md, Exits). Arguments are numbered from 0, the command.
 #[derive(Clone, Copy, Debug, PartialEq, Eq)]
 pub enum Status {
-    /// The work is done: its text is printed, and its file made.
+    /// Exit 0: the work is done. The command's text is printed and its file made.
     Done,
-    /// The words are no command, or not as many as it takes, or the file to be made is one that is read.
+    /// Exit 1: unknown command, wrong number of arguments, text not in UTF-8, or OUT is an input.
     Usage,
-    /// There is no file of the name that this word is, or no folder for a file to be made.
+    /// Exit 2: the file that this argument names does not exist; for OUT, its folder does not exist.
     Missing(u8),
-    /// The stream is closed, and the card's leaf is revoked in this period, the first of those heard in which it is.
+    /// Exit 3: the receiver is revoked in this period, the first such period of which it heard. The stream is closed.
     Revoked { leaf: u32, period: u32 },
-    /// The device failed at a file.
+    /// Exit 4: an I/O error at a file.
     DepotFault,
-    /// The device failed at printing.
+    /// Exit 5: an I/O error while printing.
     PrintFault,
-    /// The site file is refused.
+    /// Exit 6: the site file is refused.
     BadSite(SiteFault),
-    /// This line of the file that this word names is the first refused one.
+    /// Exit 7: this line of the file that this argument names is refused, the first such line. Lines count from 1.
     BadBook { word: u8, line: u32 },
-    /// The card's file is refused.
+    /// Exit 8: the card is refused.
     BadCard(CardFault),
-    /// This packet of the clear stream is the first that is refused.
+    /// Exit 9: this packet of the clear stream is refused. Packets count from 0.
     BadClear { packet: u64, cause: ClearCause },
-    /// This packet of the stream is the first that breaks a rule.
+    /// Exit 10: this packet of the stream is refused. Packets count from 0.
     BadStream { packet: u64, cause: StreamCause },
-    /// Something is over its limit.
+    /// Exit 11: a limit is exceeded.
     Limit(LimitKind),
-    /// Out of memory.
+    /// Exit 12: out of memory.
     NoMemory,
-    /// The stream is closed, and of this period some section was never seen and none that entitles the leaf.
+    /// Exit 13: the receiver did not hear its entitlement for this period. The stream is closed, some section of the
+    /// period was never seen, and no section that was seen entitles the leaf.
     Unheard { leaf: u32, period: u32 },
-    /// The stream ends before this control message, which is the next one awaited.
+    /// Exit 14: the stream ends before its closing ECM is complete. This is the number of the next ECM awaited.
     Unclosed(u64),
-    /// The stream is closed, and so many of the clear packets that its closing message counts were not written.
+    /// Exit 15: this number of clear packets is missing from OUT, of those that the closing ECM counts. The stream is
+    /// closed.
     Gaps(u64),
-    /// No CAT of the stream is for the card's system.
+    /// Exit 16: the stream has no CAT for this card.
     NoCat,
-    /// This word is no decimal, or its number is out of its range.
+    /// Exit 17: this argument is not a decimal number, or is out of range.
     BadWord(u8),
-    /// Two broadcasts may not go out under one set of cards.
+    /// Exit 18: two broadcasts must not share one set of cards.
     Clash(Clash),
 }
 
@@ -96,9 +98,9 @@ pub enum ClearCause {
     PatForm(FormFault),
     /// It is a PMT without room that begins with the project's CA_descriptor.
     PmtForm(FormFault),
-    /// It would be the 257th PID with a position.
+    /// It would be on the 257th PID that has a position.
     TooManyPids,
-    /// As many packets as a clear stream may have stand before it, or its control word is above the site's last.
+    /// The most packets that a clear stream may have come before it, or its control word is above the site's last.
     TooLong,
 }
 
@@ -107,15 +109,15 @@ pub enum ClearCause {
 pub enum StreamCause {
     /// The stream breaks at it.
     Broken(BreakCause),
-    /// As many packets as a stream may have stand before it.
+    /// The most packets that a stream may have, 2^48, come before it.
     TooLong,
-    /// The key that it gives for this period isn't the one that it is to be.
+    /// The key that it gives for this period has another key check value than the one that is due.
     WrongKey {
         period: u32,
         found: [u8; 16],
         due: [u8; 16],
     },
-    /// The control word of this number that it gives isn't the one that it is to be.
+    /// The control word of this number that it gives has another key check value than the one that is due.
     WrongWord {
         word: u32,
         found: [u8; 16],
@@ -125,7 +127,7 @@ pub enum StreamCause {
     BadEmm(EmmFault),
     /// It is a faulty part of a control message.
     BadEcm(EcmFault),
-    /// It is scrambled as none is under the control word.
+    /// Its transport_scrambling_control is not that of the control word's parity.
     Parity,
 }
 

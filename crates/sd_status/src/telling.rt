@@ -25,10 +25,12 @@ use sd_psi::FormFault;
 use sd_site::SiteFault;
 use std::alloc::{AllocError, Global};
 
-/// A line that is the same each time, or one that was made.
+/// A line that is printed: a fixed text, or one with numbers in it.
 #[derive(Drop)]
 pub enum Line {
+    /// A line without numbers.
     Fixed(&'static str),
+    /// A line with numbers in it.
     Made(String),
 }
 

@@ -1,4 +1,4 @@
-//! What the chain cover is and comes to, for crates that broadcast, count or print it.
+//! Laws of the Subset Difference cover, for crates that broadcast, count or print it.
 
 ghost use Rattle.std.specs.Prelude.{◌≡◌, ℕ, ◌+◌, ◌^◌, ◌<◌, ◌≤◌, ◌↔◌, Bool, List, Contains, length, All};
 ghost use Rattle.sd_tree.specs.declared.set.SetName.{SetName};

@@ -1,4 +1,4 @@
-//! What a receiver is told by the things that a broadcast sends.
+//! What a receiver hears of each message and packet that a broadcast sends.
 #![tactic(auto)]
 
 pub mod laws;

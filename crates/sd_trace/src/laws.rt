@@ -1,4 +1,4 @@
-//! What a trace comes to.
+//! Laws of tracing: which leaves it finds.
 
 ghost use Rattle.std.specs.Prelude.{◌≡◌, ◌≢◌, ℕ, ◌+◌, ◌^◌, ◌<◌, ◌≤◌, ◌↔◌, ◌++◌, ◌∷◌, List, All, AllPairs, Contains};
 ghost use Rattle.std.specs.Prelude.{length, map};

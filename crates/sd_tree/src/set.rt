@@ -12,7 +12,9 @@ use std::cmp::Ordering;
 /// (Naor, Naor and Lotspiech, 2001, 3.2). The order is `Whole` first, then by i, then by j.
 #[derive(Clone, Copy, Debug, PartialEq, Eq, PartialOrd, Ord)]
 pub enum SetName {
+    /// The set of all leaves.
     Whole,
+    /// S(i,j), the leaves below node `i` that are not below node `j`. Nodes are numbered from 1, the root.
     Diff { i: u32, j: u32 },
 }
 

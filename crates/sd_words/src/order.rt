@@ -9,20 +9,23 @@ use crate::argument::Arguments;
 use sd_commands::{Command, Kind, Operand};
 use sd_status::Status;
 
-/// A command and what its words say.
+/// What the arguments of the program ask for.
 #[derive(Drop)]
 pub enum Order<'a> {
+    /// A command and its arguments.
     Command {
         command: Command,
         arguments: Arguments<'a>,
     },
+    /// `help`, or `help COMMAND`.
     Help {
         topic: Option<Command>,
     },
+    /// `version`.
     Version,
 }
 
-/// What the words say, or the status of their refusal.
+/// What the arguments ask for, or the status of their refusal.
 pub fn read_words(words: &[String]) -> Result<Order<'_>, Status>
     ensures value { shown result ≡ order_of (map string_bytes words.now) }
     ensures fits { IfOk result (λ order. IsSound (order_said order)) }

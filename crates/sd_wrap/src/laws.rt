@@ -1,4 +1,4 @@
-//! What wrapping twice comes to, for crates that wrap and unwrap.
+//! Wrapping twice gives the key back, for crates that wrap and unwrap.
 
 ghost use Rattle.std.specs.Prelude.{◌≡◌, ℕ, List, length};
 ghost use Rattle.sd_wrap.specs.Wrapping.{wrapped};
