@@ -31,7 +31,7 @@ end_of bytes =
     else if nat_lt (188 * most_packets) (length bytes) then RunsOn
     else Whole
 
--- these are the bytes to come, where they are told
+-- these are the bytes to come, if the model knows them
 abbrev pub IsLeft : Option (List ℕ) → List ℕ → Type 0
 IsLeft None bytes = Unit {0}
 IsLeft (Some left) bytes = left ≡ bytes

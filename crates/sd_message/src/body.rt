@@ -3,7 +3,8 @@ ghost use Rattle.std.specs.Prelude.{◌≡◌, ◌+◌, ◌≤◌, ◌++◌, [],
 use arrayvec::ArrayVec;
 use std::marker::Model;
 
-/// The body of a message's section in the making: at most 171 bytes, which with header, CRC and pointer fill a packet.
+/// The body of a message's section while it is built: at most 171 bytes, which with header, CRC and pointer
+/// fill a packet.
 #[derive(Drop)]
 pub struct Body {
     bytes: ArrayVec<u8, 171>,

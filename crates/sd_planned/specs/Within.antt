@@ -15,17 +15,17 @@ entitles q (Entitles emm) = emm.period == q
 entitles q (Controls part) = false
 entitles q (Carries k packet) = false
 
--- the periods that are told for so many packets
+-- the periods that are printed for this number of packets
 abbrev pub told_periods : Plan → ℕ → List ℕ
 told_periods plan m = periods_for plan (cryptos_for plan.site m)
 
 -- of a clear stream of which at most n PIDs have positions
 pub record IsWithinPlan (plan : Plan) (n : ℕ) (clear : List (List ℕ)) : Type 0 where
-  -- no more packets are sent than are told, and just as many where one part has room for all positions
+  -- no more packets are sent than are printed, and exactly as many if one part has room for all positions
   pub packets : length (broadcast plan clear) ≤ length clear + added_most plan (length clear) n
   pub exact : n ≤ positions_for plan.site.messages →
       length (broadcast plan clear) ≡ length clear + added_most plan (length clear) n
-  -- the periods that are told are those of the packets, and no others
+  -- the periods that are printed are those of the packets, and no others
   pub told : (k : ℕ) → k < length clear → Contains (told_periods plan (length clear)) (period_of plan k)
   pub reached : (q : ℕ) → Contains (told_periods plan (length clear)) q →
       (k : ℕ) × (k < length clear) × (period_of plan k ≡ q)
@@ -36,7 +36,7 @@ pub record IsWithinPlan (plan : Plan) (n : ℕ) (clear : List (List ℕ)) : Type
   pub sections : (q : ℕ) → Contains (told_periods plan (length clear)) q →
       count_by (entitles q) (sent plan clear ++ closing_of plan clear)
       ≡ cryptos_in plan (cryptos_for plan.site (length clear)) q * entitlements_at plan q
-  -- the control words are those from the first to the last that are told, each of them, and of the site's range
+  -- the control words are those from the first to the last that are printed, each of them, and of the site's range
   pub words : (part : EcmPart) → Contains (sent plan clear ++ closing_of plan clear) (Controls part) →
       (plan.site.first_word ≤ part.word) × (part.word ≤ last_word_for plan.site (length clear))
   pub spoken : (t : ℕ) → plan.site.first_word ≤ t → t ≤ last_word_for plan.site (length clear) →

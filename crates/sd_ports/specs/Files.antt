@@ -13,54 +13,54 @@ use Rattle.sd_ports.specs.declared.file.FileFault.TheVariants.{Missing, TooBig, 
 abbrev pub Files : Type 0
 Files = FinMap (slice_cmp nat_cmp) (List ℕ)
 
--- each number of the file of that name is a byte's, where files are told and it is there
+-- each number of the file of that name is a byte's, if the model knows the files and this one exists
 abbrev pub HoldsBytes : Option Files → List ℕ → Type 0
 HoldsBytes None name = Unit {0}
 HoldsBytes (Some files) name = IfSome (get files name) (All (λ byte. byte < 256))
 
--- an opened file's bytes are to come from its port, where files are told
+-- an opened file's bytes are to come from its port, if the model knows the files
 abbrev pub Opens : Option Files → List ℕ → Option (List ℕ) → Type 0
 Opens None name left = Unit {0}
 Opens (Some files) name left = IsSome left × (get files name ≡ left)
 
--- no file has the name, where files are told
+-- no file has the name, if the model knows the files
 abbrev pub IsNotThere : Option Files → List ℕ → Type 0
 IsNotThere None name = Unit {0}
 IsNotThere (Some files) name = get files name ≡ None
 
--- these are the bytes of the file of that name, where files are told
+-- these are the bytes of the file of that name, if the model knows the files
 abbrev pub IsFile : Option Files → List ℕ → List ℕ → Type 0
 IsFile None name bytes = Unit {0}
 IsFile (Some files) name bytes = get files name ≡ Some bytes
 
--- the file of that name is there and has more bytes than these, where files are told
+-- the file of that name is there and has more bytes than these, if the model knows the files
 abbrev pub IsLongFile : Option Files → List ℕ → ℕ → Type 0
 IsLongFile None name most = Unit {0}
 IsLongFile (Some files) name most = IsSome (get files name) × IfSome (get files name) (λ bytes. most < length bytes)
 
--- a file has the name, where files are told
+-- a file has the name, if the model knows the files
 abbrev pub IsThere : Option Files → List ℕ → Type 0
 IsThere None name = Unit {0}
 IsThere (Some files) name = IsSome (get files name)
 
--- the files, where they are told, once a file of that name has these bytes: the other files stay
+-- the files, if the model knows them, once a file of that name has these bytes: the other files stay
 abbrev pub with_bytes : Option Files → List ℕ → List ℕ → Option Files
 with_bytes None name bytes = None
 with_bytes (Some files) name bytes = Some (insert files name bytes)
 
--- a port took nothing so far, and tells what it takes where files are told
+-- a port took nothing so far, and tells what it takes if the model knows the files
 abbrev pub IsFresh : Option Files → Option (List ℕ) → Type 0
 IsFresh None None = Unit {0}
 IsFresh None (Some held) = held ≡ []
 IsFresh (Some files) held = held ≡ Some []
 
--- the file of that name has what its port held, where files are told, and the other files stay
+-- the file of that name has what its port held, if the model knows the files, and the other files stay
 abbrev pub Closes : Option Files → Option Files → List ℕ → Option (List ℕ) → Type 0
 Closes None now name held = now ≡ None
 Closes (Some files) now name None = (bytes : List ℕ) × (now ≡ Some (insert files name bytes))
 Closes (Some files) now name (Some held) = now ≡ Some (insert files name held)
 
--- the file of that name has a prefix of what its port held, where files are told, and the other files stay
+-- the file of that name has a prefix of what its port held, if the model knows the files, and the other files stay
 abbrev pub LeavesPrefix : Option Files → Option Files → List ℕ → Option (List ℕ) → Type 0
 LeavesPrefix None now name held = now ≡ None
 LeavesPrefix (Some files) now name None = (bytes : List ℕ) × (now ≡ Some (insert files name bytes))
@@ -83,7 +83,7 @@ IsMadeShort files_before files_now made_before made_now name bytes = (prefix : L
 
 -- What writing a whole file did: `Ok` made it with these bytes, `Failed` may have made it with a prefix of them, and
 -- other faults made none.
--- Where files are told, `Missing` never comes, and `TooBig` never does.
+-- If the model knows the files, `Missing` never comes, and `TooBig` never does.
 pub record WritesFile {T : Type 0} (files_before files_now : Option Files) (made_before made_now : ℕ)
     (name bytes : List ℕ) (result : Result T FileFault) : Type 0 where
   pub later : made_before ≤ made_now

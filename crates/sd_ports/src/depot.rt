@@ -17,10 +17,10 @@ pub trait Depot {
     /// The files, where the depot tells them.
     ghost files: { Self → Option Files };
 
-    /// How often the device failed, in the depot and in ports that were closed.
+    /// The number of I/O errors, in the depot and in ports that were closed.
     ghost faults: { Self → ℕ };
 
-    /// How often the device failed, but for the closing of a file that was made, after which no work is left.
+    /// The number of I/O errors, without those at the closing of a file that was made, after which no work is left.
     ghost stops: { Self → ℕ };
 
     /// How often a file was asked for that isn't there.

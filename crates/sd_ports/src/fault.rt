@@ -7,7 +7,7 @@ pub struct PortFault;
 pub enum DepotFault {
     /// There is no such file.
     Missing = 1,
-    /// The device failed.
+    /// An I/O error.
     Failed = 2,
     /// Out of memory.
     NoMemory = 3,

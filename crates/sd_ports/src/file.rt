@@ -15,7 +15,7 @@ pub enum FileFault {
     Missing = 1,
     /// It has more bytes than were allowed.
     TooBig = 2,
-    /// The device failed.
+    /// An I/O error.
     Failed = 3,
     /// Out of memory.
     NoMemory = 4,

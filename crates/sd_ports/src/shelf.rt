@@ -111,7 +111,7 @@ impl MemDepot {
         self.failing.add_port(name, number);
     }
 
-    /// How often the device failed, in its own calls and in the ports that were closed.
+    /// The number of I/O errors, in its own calls and in the ports that were closed.
     pub fn faults(&self) -> u64
         ensures { result ≡ self.now.faults }
     {

@@ -27,7 +27,7 @@ abbrev pub IsHeld : List Name → Secret → Type 0
 IsHeld held (Named name) = Contains held name
 IsHeld held (Key name) = ⊥
 
--- the secret is had from the held names, by the steps of the generator [Naor, Naor, Lotspiech 2001, 3.2]
+-- the secret is derivable from the held names, by the steps of the generator [Naor, Naor, Lotspiech 2001, 3.2]
 unfoldable pub IsReached : List Name → Secret → Type 0
 IsReached held secret = IsDerived (IsHeld held) Follows secret
 
@@ -48,7 +48,7 @@ abbrev pub ReachesNoneOf : List Name → List SetName → Type 0
 ReachesNoneOf held sets = (name : SetName) → Contains sets name → ¬ IsReached held (Named (source_of name))
     × ¬ IsReached held (Key name)
 
--- the secret is had from this one name: a label leads to those of all nodes below and to their keys [Naor, Naor,
+-- the secret is derivable from this one name: a label leads to those of all nodes below and to their keys [Naor, Naor,
 -- Lotspiech 2001, 3.2]
 abbrev pub LeadsTo : Name → Secret → Type 0
 LeadsTo Whole (Named Whole) = Unit {0}

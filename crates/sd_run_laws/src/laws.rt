@@ -1,4 +1,4 @@
-//! Good words over good files mean work, and so `run` does it, or is out of memory, where no device fails.
+//! Good arguments and good files mean work. `run` does that work if no I/O error occurs and memory suffices.
 ghost use Rattle.std.specs.Prelude.{◌≡◌, ◌⊎◌, ◌≤◌, ◌<◌, ◌^◌, ◌++◌, ℕ, List, Some, None, Ok, Err, length};
 ghost use Rattle.sd_book.specs.Text.{text_of};
 ghost use Rattle.sd_lsd.specs.Fields.{layer_bytes, layer_card_of};

@@ -23,12 +23,12 @@ is_overlong bytes = nat_le 3 (length bytes) && nat_lt most_length (section_lengt
 unfoldable pub is_whole : List ℕ → Bool
 is_whole bytes = nat_le 3 (length bytes) && nat_le (3 + section_length_of bytes) (length bytes)
 
--- bytes cut into sections, and what is there of one in the making, which is nothing where there is none
+-- bytes cut into sections, and what is there of a partial one, which is nothing where there is none
 pub record Cut : Type 0 where
   pub sections : List (List ℕ)
   pub making : List ℕ
 
--- no section, and none in the making
+-- no section, and no partial one
 abbrev pub no_cut : Cut
 no_cut = record { sections = []; making = [] }
 
@@ -126,7 +126,7 @@ completed_by (packet ∷ before) =
     if is_taken packet (last_counter before) then completed_in packet (kept_run packet (last_counter before)
     (run_after before)) else []
 
--- what an assembler keeps: the last counter, the section in the making, the completed sections that it has still to
+-- what an assembler keeps: the last counter, the partial section, the completed sections that it has still to
 -- lend
 pub record Assembling : Type 0 where
   pub counter : Option ℕ

@@ -13,7 +13,7 @@ abbrev pub begun_of : List ℕ → Begun
 begun_of bytes = if is_overlong bytes then Overlong else if is_whole bytes then Whole
     (3 + section_length_of bytes) else Part
 
--- what comes of a section in the making with more bytes after it
+-- what comes of a partial section with more bytes after it
 unfoldable pub added : List ℕ → List ℕ → Cut
 added [] bytes = no_cut
 added (byte ∷ making) bytes =
@@ -24,12 +24,12 @@ added (byte ∷ making) bytes =
     } else
     record { sections = []; making = byte ∷ making ++ bytes }
 
--- a section that is whole, or one in the making
+-- a section that is whole, or a partial one
 abbrev pub held : Bool → List ℕ → Cut
 held true bytes = record { sections = bytes ∷ []; making = [] }
 held false bytes = record { sections = []; making = bytes }
 
--- the bytes of a payload that go to the section in the making
+-- the bytes of a payload that go to the partial section
 abbrev pub tail_with : Bool → List ℕ → List ℕ
 tail_with unit_start payload = if unit_start then tail_of payload else payload
 
@@ -37,11 +37,11 @@ tail_with unit_start payload = if unit_start then tail_of payload else payload
 abbrev pub fresh_with : Bool → List ℕ → List ℕ
 fresh_with unit_start payload = if unit_start then fresh_of payload else []
 
--- what is still in the making after these bytes of a payload: nothing where others start
+-- what is still partial after these bytes of a payload: nothing where others start
 abbrev pub still_making : Bool → List ℕ → List ℕ → List ℕ
 still_making unit_start making payload = if unit_start then [] else (added making payload).making
 
--- what a payload does to the section in the making
+-- what a payload does to the partial section
 abbrev pub going_on : Fed → List ℕ → Assembling
 going_on packet making = record {
   counter = Some packet.counter;
@@ -65,13 +65,13 @@ kept Making bytes cut counter = record { counter = counter; making = bytes ++ cu
 kept Section bytes cut counter = record { counter = counter; making = cut.making; waiting = bytes ∷ cut.sections }
 kept Lent bytes cut counter = record { counter = counter; making = cut.making; waiting = cut.sections }
 
--- a section in the making and what may be added to it have room
+-- a partial section and what may be added to it have room
 abbrev pub HasRoom : Holds → ℕ → ℕ → Type 0
 HasRoom Making count more = count + more ≤ longest
 HasRoom Section count more = Unit {0}
 HasRoom Lent count more = Unit {0}
 
--- a whole section, or one in the making
+-- a whole section, or a partial one
 abbrev pub holds_of : Bool → Holds
 holds_of true = Section
 holds_of false = Making

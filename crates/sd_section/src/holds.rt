@@ -4,7 +4,7 @@ ghost use Rattle.sd_section.specs.OneMore.{holds_of, is_section as is_section_of
 /// What an assembler's buffer holds.
 #[derive(Clone, Copy)]
 pub enum Holds {
-    /// A section in the making, or nothing.
+    /// A partial section, or nothing.
     Making,
     /// A whole section, which is still to be lent.
     Section,

@@ -11,7 +11,7 @@ use crate::limits::LONGEST;
 
 const STUFFING: u8 = 0xFF;
 
-/// Adds bytes to the section in the making, if there is one. Whether it is whole now.
+/// Adds bytes to the partial section, if there is one. Whether it is whole now.
 #[tactic(auto, using(crate::proofs::Adding::add_nothing, crate::proofs::Adding::add_overlong, crate::proofs::Adding::add_whole, crate::proofs::Adding::add_part))]
 pub fn add(making: &mut Vec<u8>, bytes: &[u8]) -> bool
     requires room { longest ≤ vec_capacity making.old }
@@ -64,7 +64,7 @@ pub fn whole_length(bytes: &[u8]) -> Option<usize>
     }
 }
 
-/// What of the bytes is a section in the making, where no section in them is whole.
+/// What of the bytes is a partial section, where no section in them is whole.
 #[tactic(auto, using(crate::proofs::Adding::none_starts, crate::proofs::Adding::one_overlong, crate::proofs::Adding::none_whole, crate::proofs::Adding::one_part))]
 fn left_in(bytes: &[u8]) -> &[u8]
     requires { (cut_of bytes.now []).sections ≡ [] }
@@ -80,7 +80,7 @@ fn left_in(bytes: &[u8]) -> &[u8]
     }
 }
 
-/// Puts what is in the making into the buffer: what it holds of a section, and the bytes that weren't
+/// Puts the partial section into the buffer: what it holds of a section, and the bytes that weren't
 /// looked at.
 pub fn gather(buffer: &mut Vec<u8>, holds: Holds, payload: &[u8; 184], at: usize, end: usize)
     requires room { longest ≤ vec_capacity buffer.old }
@@ -114,7 +114,7 @@ pub fn keep_if(buffer: &mut Vec<u8>, kept: bool)
     }
 }
 
-/// Adds the bytes of a payload that go to the section in the making, if there is one. Whether it is whole now.
+/// Adds the bytes of a payload that go to the partial section, if there is one. Whether it is whole now.
 /// With unit start it is given up if it isn't.
 pub fn go_on(buffer: &mut Vec<u8>, unit_start: bool, payload: &[u8]) -> bool
     requires room { longest ≤ vec_capacity buffer.old }

@@ -10,6 +10,6 @@ pub record IsWholePacket (packet : List ℕ) : Type 0 where
 abbrev pub AreWholePackets : List (List ℕ) → Type 0
 AreWholePackets packets = All IsWholePacket packets
 
--- each has so many bytes, whatever they are
+-- each has this number of bytes, whatever they are
 abbrev pub AreLong : List (List ℕ) → Type 0
 AreLong packets = All (λ packet. length packet ≡ 188) packets

@@ -57,7 +57,7 @@ IsEnding NoCat = Unit {0}
 IsEnding (BadWord word) = Unit {0}
 IsEnding (Clash clash) = Unit {0}
 
--- no device failed
+-- no I/O error occurred
 pub record IsCalm (a b : Outside) : Type 0 where
   pub depot : b.place.faults ≡ a.place.faults
   pub print : b.page.faults ≡ a.page.faults
@@ -151,7 +151,7 @@ pub record Obeys (meant : Meant Work) (a b : Outside) (status : Status) : Type 0
 
 -- a command did what is meant by what the files gave
 pub record Follows (meant : Given → Meant Work) (a b : Outside) (status : Status) : Type 0 where
-  -- what the files of the words gave: told files their bytes
+  -- what the files of the arguments gave: files that the model knows give their bytes
   pub given : Given
   pub is_given : IsGiven a.place.files given
   pub obeyed : Obeys (meant given) a b status

@@ -40,7 +40,7 @@ Given = Word → Option (List ℕ)
 abbrev pub told_by : Files → Given
 told_by files word = get files word.text
 
--- told files give their bytes
+-- files that the model knows give their bytes
 abbrev pub IsGiven : Option Files → Given → Type 0
 IsGiven None given = Unit {0}
 IsGiven (Some files) given = given ≡ told_by files

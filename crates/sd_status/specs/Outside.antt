@@ -8,9 +8,9 @@ use Rattle.sd_ports.specs.declared.sink.Sink.{Ghosts as SinkMeanings}
 
 -- what a depot means
 pub record Place : Type 0 where
-  -- the files, where they are told
+  -- the files, if the model knows them
   pub files : Option Files
-  -- how often the device failed, and how often it did so but for the closing of a file that was made
+  -- the number of I/O errors, and their number without those at the closing of a file that was made
   pub faults : ℕ
   pub stops : ℕ
   -- how often a file was asked for that isn't there

@@ -27,7 +27,7 @@ pub record Work : Type 0 where
   pub breaks : Bool
   pub steps : StepBound
 
--- the files once OUT has these of its bytes, where they are told
+-- the files once OUT has these of its bytes, if the model knows them
 abbrev pub files_with : Option Out → Option Files → Option Files
 files_with None files = files
 files_with (Some out) files = with_bytes files out.name out.bytes
