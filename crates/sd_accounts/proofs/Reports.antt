@@ -5,15 +5,19 @@ use Rattle.std.proofs.Common.{refl, sym, ap, ◌∙◌, zero, suc, ◌++◌, app
 use Rattle.std.proofs.lemmas.Bool.{eqb-true, eqb-false, ltb-true, ltb-false}
 use Rattle.std.proofs.lemmas.List.Sorted.{searched}
 use Rattle.std.proofs.lemmas.List.Folds.{list_any_at}
-use Rattle.std.specs.Prelude.{map, nat_eq, String, string_bytes}
+use Rattle.std.specs.Prelude.{map, nat_eq, String, string_bytes, codes, decimal}
 use Rattle.std.specs.List.{list_any}
 use Rattle.std.specs.List.Sorted.{IsBinarySearchResult, IsStrictlyIncreasing}
 use Rattle.std.specs.Ordering.{nat_cmp}
-use Rattle.serde_json.specs.Data.{Data}
+use Rattle.json.specs.Token.{Token, begin_object, end_object, begin_array, end_array, key as key_token, number as number_token}
+use Rattle.json.specs.Print.{print}
+use Rattle.json.specs.Tree.{items_tokens, json_tokens}
+use Rattle.serde_json.specs.Data.{Data, array}
 use Rattle.serde_json.specs.View.{items_of}
-use Rattle.serde_json.specs.Written.{has_float, items_have_float}
+use Rattle.serde_json.specs.Written.{compact_text, items_outline, outline}
+use Rattle.serde_json.proofs.Texts.{print-outline}
 use Rattle.sd_book.specs.Commands.{last_period, revoked}
-use Rattle.sd_accounts.specs.Accounts.{Account, AccountsValue}
+use Rattle.sd_accounts.specs.Accounts.{AccountsValue}
 use Rattle.sd_accounts.specs.Kept.{accounts_in}
 use Rattle.sd_accounts.specs.Report.{is_active, account_data, report_data}
 
@@ -72,33 +76,54 @@ not_found revoked u place found up =
     apart k h same true e place_is = absurd (omega (arith, same, place_is.1 k (ltb-true k place e)))
     apart k h same false e place_is = absurd (omega (arith, same, place_is.2 k (ltb-false k place e) h))
 
--- no account is a float
-plain_accounts : (leaves : List ℕ) (accounts : List Account) →
-    items_have_float (items_of (map (account_data leaves) accounts)) ≡ false
-unfolding account_data
-plain_accounts leaves [] = refl
-plain_accounts leaves (account ∷ accounts) = plain_accounts leaves accounts
+-- the tokens of one account, one after another
+pub account_joined : (old : List Token) (a b c d e f g h : Token) →
+    (((((((old ++ a ∷ []) ++ b ∷ []) ++ c ∷ []) ++ d ∷ []) ++ e ∷ []) ++ f ∷ []) ++ g ∷ []) ++ h ∷ []
+    ≡ old ++ a ∷ b ∷ c ∷ d ∷ e ∷ f ∷ g ∷ h ∷ []
+account_joined old a b c d e f g h = simp append_assoc
 
--- nor is the report
-pub plain_report : (value : AccountsValue) → has_float (report_data value) ≡ false
+-- the tokens of the report, one member after another
+pub report_joined : (leaves : List ℕ) (value : AccountsValue) (h last : ℕ) (a b c d e f : List Token) →
+    leaves ≡ revoked value.book.height value.book.commands (last_period value.book.commands) →
+    h ≡ value.book.height → last ≡ last_period value.book.commands → b ≡ a ++ begin_object ∷ [] →
+    c ≡ b ++ key_token (codes "accounts") ∷ [] →
+    d ≡ c ++ json_tokens (outline (array (items_of (map (account_data leaves) value.accounts)))) →
+    e ≡ d ++ key_token (codes "height") ∷ number_token (decimal h) ∷ [] →
+    f ≡ e ++ key_token (codes "period") ∷ number_token (decimal last) ∷ [] →
+    f ++ end_object ∷ [] ≡ a ++ json_tokens (outline (report_data value))
 unfolding report_data
-plain_report value = rw
-    (plain_accounts (revoked value.book.height value.book.commands (last_period value.book.commands))
-    value.accounts) refl
+report_joined leaves value h last a b c d e f up high late to_b to_c to_d to_e to_f =
+    let shown = to_d ∙ ap (λ (xs : List ℕ). c ++ json_tokens (outline (array (items_of (map (account_data xs)
+    value.accounts))))) up in
+    rw (to_f, to_e, shown, to_c, to_b, high, late) (simp append_assoc)
 
--- the first of the accounts that are left is shown after the others
-pub account_first : {Z : Type 0} (leaves : List ℕ) (shown : List Data) (all rest : List (String Z × ℕ)) (key : String Z)
-    (leaf : ℕ) → all ≡ (key, leaf) ∷ rest →
-    (shown ++ account_data leaves (string_bytes key, leaf) ∷ []) ++ map (account_data leaves) (accounts_in rest)
-    ≡ shown ++ map (account_data leaves) (accounts_in all)
-account_first leaves shown all rest key leaf cut =
-    append_assoc shown (account_data leaves (string_bytes key, leaf) ∷ [])
-    (map (account_data leaves) (accounts_in rest)) ∙
-    ap (λ entries. shown ++ map (account_data leaves) (accounts_in entries)) (sym cut)
+-- the tokens of the accounts in these entries, with the closing bracket
+abbrev pub tokens_due : {Z : Type 0} → List ℕ → List (String Z × ℕ) → List Token
+tokens_due leaves entries = items_tokens (items_outline (items_of (map (account_data leaves) (accounts_in entries))))
 
--- where none is left, all are shown
-pub accounts_shown : {Z : Type 0} (leaves : List ℕ) (shown due : List Data) (rest : List (String Z × ℕ)) → rest ≡ [] →
-    shown ++ map (account_data leaves) (accounts_in rest) ≡ due → shown ≡ due
-accounts_shown leaves shown due rest none is =
-    sym (append-nil shown) ∙
-    (ap (λ entries. shown ++ map (account_data leaves) (accounts_in entries)) (sym none) ∙ is)
+-- the accounts come after the tokens before them and the bracket
+pub accounts_begin : {Z : Type 0} (leaves : List ℕ) (before now : List Token) (all rest : List (String Z × ℕ)) →
+    now ≡ before ++ begin_array ∷ [] → rest ≡ all →
+    now ++ tokens_due leaves rest
+    ≡ before ++ json_tokens (outline (array (items_of (map (account_data leaves) (accounts_in all)))))
+accounts_begin leaves before now all rest to_now is =
+    rw (to_now, is) (append_assoc before (begin_array ∷ []) (tokens_due leaves all))
+
+-- the first of the accounts that are left comes after the tokens so far
+pub account_first : {Z : Type 0} (leaves : List ℕ) (before now due : List Token) (all rest : List (String Z × ℕ))
+    (key : String Z) (leaf : ℕ) (name : List ℕ) → all ≡ (key, leaf) ∷ rest → name ≡ string_bytes key →
+    now ≡ before ++ json_tokens (outline (account_data leaves (name, leaf))) → before ++ tokens_due leaves all ≡ due →
+    now ++ tokens_due leaves rest ≡ due
+account_first leaves before now due all rest key leaf name cut same to_now is =
+    rw (to_now, same)
+    (append_assoc before (json_tokens (outline (account_data leaves (string_bytes key, leaf)))) (tokens_due leaves rest)
+    ∙ (ap (λ entries. before ++ tokens_due leaves entries) (sym cut) ∙ is))
+
+-- where none is left, the bracket closes
+pub accounts_end : {Z : Type 0} (leaves : List ℕ) (before due : List Token) (rest : List (String Z × ℕ)) → rest ≡ [] →
+    before ++ tokens_due leaves rest ≡ due → before ++ end_array ∷ [] ≡ due
+accounts_end leaves before due rest none is = ap (λ entries. before ++ tokens_due leaves entries) (sym none) ∙ is
+
+-- the tokens of a value are printed as its compact text
+pub printed : (value : Data) → print (json_tokens (outline value)) ≡ compact_text value
+printed value = print-outline value

@@ -1,6 +1,5 @@
 ghost use Rattle.std.specs.Prelude.{◌≡◌, ◌⊎◌, List, false, IfOk, IfErr, Ok, Err, MatchResult};
-ghost use Rattle.serde_json.specs.View.{view};
-ghost use Rattle.serde_json.specs.Written.{has_float};
+ghost use Rattle.serde_json.specs.Written.{compact_text};
 ghost use Rattle.sd_book.specs.declared.command.Command.{Command as Commands};
 ghost use Rattle.sd_book.specs.Limits.{IsWithinLimits};
 ghost use Rattle.sd_accounts.specs.Accounts.{IsListOf};
@@ -15,7 +14,6 @@ use crate::report::report;
 use sd_book::Book;
 use sd_cause::NoMemory;
 use sd_tree::{Height, Leaf};
-use serde_json::Value;
 use std::alloc::Global;
 use std::collections::BTreeMap;
 use std::marker::Model;
@@ -69,13 +67,10 @@ impl Accounts {
         &self.book
     }
 
-    /// The report: each account by name with its leaf and whether the leaf is active, not revoked, in the last period;
-    /// the height of the tree; the number of the last period.
-    #[tactic(auto, using(crate::proofs::Reports::plain_report))]
-    pub fn report(&self, alloc: Global) -> Result<Value, NoMemory>
-        ensures value { IfOk result (λ value. view value ≡ report_data self.now) }
-        // So it is written as compact JSON.
-        ensures plain { has_float (report_data self.now) ≡ false }
+    /// The report as compact JSON: each account by name with its leaf and whether the leaf is active, not revoked, in the
+    /// last period; the height of the tree; the number of the last period.
+    pub fn report(&self, alloc: Global) -> Result<Vec<u8>, NoMemory>
+        ensures { IfOk result (λ text. text.items ≡ compact_text (report_data self.now)) }
     {
         report(alloc, &self.book, &self.leaves).map_err(|_| NoMemory)
     }

@@ -101,11 +101,13 @@ impl Names {
             ≡ leaf_after (Assigns name.now leaf) (get_by_text self.old.leaves) other) }
         ensures marks { OnOk result (self.new.marks.items ≡ slice_set self.old.marks.items leaf true) }
     {
-        if self.leaves.contains_key(name) || self.marks[leaf.get() as usize] {
+        if self.marks[leaf.get() as usize] {
             return Err(AccountFault::Taken(k));
         }
         let key = String::from_str(alloc, name)?;
-        self.leaves.insert(key, leaf)?;
+        if self.leaves.insert(key, leaf)?.is_some() {
+            return Err(AccountFault::Taken(k));
+        }
         self.marks[leaf.get() as usize] = true;
         Ok(Command::Subscribe(leaf))
     }

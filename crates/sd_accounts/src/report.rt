@@ -1,63 +1,110 @@
-ghost use Rattle.std.specs.Prelude.{◌≡◌, IfOk, map};
+ghost use Rattle.std.specs.Prelude.{◌≡◌, [], ◌∷◌, ◌++◌, IfOk, OnOk, decimal, map};
 ghost use Rattle.std.specs.List.Sorted.{IsStrictlyIncreasing};
+ghost use Rattle.json.specs.Token.{key, number as shown_number};
+ghost use Rattle.json.specs.Tree.{json_tokens};
 ghost use Rattle.serde_json.specs.Data.{array};
-ghost use Rattle.serde_json.specs.View.{items_of, view};
+ghost use Rattle.serde_json.specs.View.{items_of};
+ghost use Rattle.serde_json.specs.Written.{compact_text, outline};
+ghost use Rattle.sd_book.specs.Commands.{last_period, revoked as revoked_in};
 ghost use Rattle.sd_accounts.specs.Kept.{accounts_in};
 ghost use Rattle.sd_accounts.specs.Report.{account_data, is_active, report_data};
 
+use json::Writer;
 use sd_book::Book;
 use sd_tree::Leaf;
-use serde_json::{Value, json};
 use std::alloc::{AllocError, Global};
 use std::collections::BTreeMap;
 
-/// The report of a book and the leaves of the names.
-#[tactic(auto, unfolding(crate::specs::Report::report_data))]
+/// The report of a book and the leaves of the names, as compact JSON.
+#[tactic(auto, using(crate::proofs::Reports::printed))]
 pub(crate) fn report(
     alloc: Global,
     book: &Book,
     leaves: &BTreeMap<String, Leaf>,
-) -> Result<Value, AllocError>
-    ensures { IfOk result (λ value. view value ≡
-        report_data (record { book = book.now; accounts = accounts_in leaves.now.entries })) }
+) -> Result<Vec<u8>, AllocError>
+    ensures { IfOk result (λ text. text.items ≡ compact_text
+        (report_data (record { book = book.now; accounts = accounts_in leaves.now.entries }))) }
 {
-    let last = book.last_period();
-    let revoked = book.revoked(alloc, last).map_err(|_| AllocError)?;
-    let accounts = accounts_value(alloc, &revoked, leaves)?;
-    json!(in alloc; {"accounts": accounts, "height": book.height().get(), "period": last})
+    let revoked = book
+        .revoked(alloc, book.last_period())
+        .map_err(|_| AllocError)?;
+    let mut out = Writer::new(Vec::new(alloc));
+    write_report(&mut out, book, &revoked, leaves)?;
+    Ok(out.into_inner())
 }
 
-/// The accounts by name, where these leaves are revoked.
-#[tactic(auto, using(crate::proofs::Reports::account_first, crate::proofs::Reports::accounts_shown, std::proofs::lemmas::List::map_push))]
-fn accounts_value(
-    alloc: Global,
+/// Writes the report, where these leaves are revoked in the last period.
+fn write_report(
+    out: &mut Writer,
+    book: &Book,
     revoked: &[Leaf],
     leaves: &BTreeMap<String, Leaf>,
-) -> Result<Value, AllocError>
-    requires { IsStrictlyIncreasing revoked.now }
-    ensures { IfOk result (λ value. view value ≡
-        array (items_of (map (account_data revoked.now) (accounts_in leaves.now.entries)))) }
+) -> Result<(), AllocError>
+    requires revoked { revoked.now ≡
+        revoked_in book.now.height book.now.commands (last_period book.now.commands) }
+    requires ascending { IsStrictlyIncreasing revoked.now }
+    ensures tokens { OnOk result (out.new.tokens ≡ out.old.tokens ++ json_tokens (outline
+        (report_data (record { book = book.now; accounts = accounts_in leaves.now.entries })))) }
+    ensures before { out.new.before ≡ out.old.before }
 {
-    let mut accounts = Vec::new(alloc);
-    for (name, leaf) in leaves.iter() {
-        accounts.push(account_value(alloc, revoked, name.as_str(), *leaf)?)?;
-    }
-    Ok(Value::Array(accounts))
+    out.begin_object()?;
+    out.key("accounts")?;
+    write_accounts(out, revoked, leaves)?;
+    write_number(out, "height", u64::from(book.height().get()))?;
+    write_number(out, "period", u64::from(book.last_period()))?;
+    out.end_object()
 }
 
-/// One of them.
-#[tactic(auto, unfolding(crate::specs::Report::account_data))]
-fn account_value(
-    alloc: Global,
+/// Writes a member that is a number.
+fn write_number(out: &mut Writer, name: &str, number: u64) -> Result<(), AllocError>
+    ensures tokens { OnOk result (out.new.tokens ≡
+        out.old.tokens ++ key name.now ∷ shown_number (decimal number) ∷ []) }
+    ensures before { out.new.before ≡ out.old.before }
+{
+    out.key(name)?;
+    out.u64(number)
+}
+
+/// Writes the accounts by name, where these leaves are revoked.
+#[tactic(auto, using(crate::proofs::Reports::accounts_end))]
+fn write_accounts(
+    out: &mut Writer,
+    revoked: &[Leaf],
+    leaves: &BTreeMap<String, Leaf>,
+) -> Result<(), AllocError>
+    requires { IsStrictlyIncreasing revoked.now }
+    ensures tokens { OnOk result (out.new.tokens ≡ out.old.tokens ++ json_tokens (outline
+        (array (items_of (map (account_data revoked.now) (accounts_in leaves.now.entries)))))) }
+    ensures before { out.new.before ≡ out.old.before }
+{
+    out.begin_array()?;
+    for (name, leaf) in leaves.iter() {
+        write_account(out, revoked, name.as_str(), *leaf)?;
+    }
+    out.end_array()
+}
+
+/// Writes one of them.
+#[tactic(auto, using(crate::proofs::Reports::account_joined), unfolding(crate::specs::Report::account_data))]
+fn write_account(
+    out: &mut Writer,
     revoked: &[Leaf],
     name: &str,
     leaf: Leaf,
-) -> Result<Value, AllocError>
+) -> Result<(), AllocError>
     requires { IsStrictlyIncreasing revoked.now }
-    ensures { IfOk result (λ value. view value ≡ account_data revoked.now (name.now, leaf)) }
+    ensures tokens { OnOk result (out.new.tokens ≡ out.old.tokens
+        ++ json_tokens (outline (account_data revoked.now (name.now, leaf)))) }
+    ensures before { out.new.before ≡ out.old.before }
 {
-    let active = is_active(revoked, leaf);
-    json!(in alloc; {"active": active, "leaf": leaf.get(), "name": name})
+    out.begin_object()?;
+    out.key("active")?;
+    out.boolean(is_active(revoked, leaf))?;
+    out.key("leaf")?;
+    out.u64(u64::from(leaf.get()))?;
+    out.key("name")?;
+    out.string(name)?;
+    out.end_object()
 }
 
 /// Whether the leaf isn't among these, which ascend.

@@ -35,7 +35,7 @@ fn accounts_make_a_book_and_a_report(rt: HostRuntime) -> Result<(), Fail> {
             .ok()
             .ok_or("accounts")?;
         assert_eq!(rt; accounts.book().write(alloc)?.as_slice(), book.as_bytes());
-        assert_eq!(rt; accounts.report(alloc)?.to_string(alloc)?.as_str(), *report);
+        assert_eq!(rt; accounts.report(alloc)?.as_slice(), report.as_bytes());
     }
     Ok(())
 }

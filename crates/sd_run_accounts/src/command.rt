@@ -1,4 +1,4 @@
-ghost use Rattle.std.specs.Prelude.{◌≡◌, ◌≢◌, ℕ, IfOk, IfErr, string_bytes};
+ghost use Rattle.std.specs.Prelude.{◌≡◌, ◌≢◌, ℕ, IfOk, IfErr};
 ghost use Rattle.sd_site.specs.Fields.{fields_of};
 ghost use Rattle.sd_accounts.specs.Judged.{book_of};
 ghost use Rattle.sd_status.specs.Meant.{value};
@@ -35,7 +35,7 @@ pub fn accounts<D: Depot, P: Sink>(
     let accounts = accounts_of_site(alloc, depot, site, accounts)?;
     let book = accounts.book().write(alloc)?;
     let report = report_text(alloc, &accounts)?;
-    make_and_print(alloc, depot, print, out, &book, report.as_bytes())
+    make_and_print(alloc, depot, print, out, &book, &report)
 }
 
 /// The accounts for the tree of the site.
@@ -94,12 +94,12 @@ fn refused(word: u8, fault: AccountFault) -> Status
 
 /// The report as a line.
 #[tactic(auto, unfolding(crate::specs::Accounts::report_line))]
-fn report_text(alloc: Global, accounts: &Accounts) -> Result<String, Status>
-    ensures value { IfOk result (λ text. string_bytes text ≡ report_line accounts.now) }
+fn report_text(alloc: Global, accounts: &Accounts) -> Result<Vec<u8>, Status>
+    ensures value { IfOk result (λ text. text.items ≡ report_line accounts.now) }
     ensures fault { IfErr result (λ status. status ≡ Status.NoMemory) }
 {
-    let mut text = accounts.report(alloc)?.to_string(alloc)?;
-    text.push('\n')?;
+    let mut text = accounts.report(alloc)?;
+    text.push(b'\n').map_err(|_| Status::NoMemory)?;
     Ok(text)
 }
 

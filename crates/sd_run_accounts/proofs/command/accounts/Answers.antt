@@ -59,7 +59,7 @@ returns g c steps =
     let now = page g.P.Sink c.args.print.now in
     let bytes : c.deref.result.now ≡ text_of found.book.commands =
     c.deref.ensures.value ∙ c.in_ok-book.ensures.value ∙ ap (λ (b : BookValue). text_of b.commands) c.book.ensures in
-    let text : c.as_bytes.result.now ≡ report_line found = c.as_bytes.ensures.value ∙ c.in_ok-report.ensures.value in
+    let text : c.deref-2.result.now ≡ report_line found = c.deref-2.ensures.value ∙ c.in_ok-report.ensures.value in
     let made = rw (bytes, text) at c.make_and_print.ensures steps in
     read_then (λ accounts. accounts) (accounts_in (shown_word c.args.site) (shown_word c.args.accounts))
     (λ found. making_then out (text_of found.book.commands) (report_line found))
