@@ -38,7 +38,7 @@ judge() {
 }
 
 # The checksums of the files that commands read.
-sums() { cksum S S12 B R M A L C K0 K5 X; }
+sums() { cksum S S12 B R M A L E C K0 K5 X; }
 
 # FILE WHOLE: whether the one's bytes begin the other's.
 begins() { cmp -s -n "$(wc -c <"$1")" "$1" "$2" && [ "$(wc -c <"$1")" -le "$(wc -c <"$2")" ]; }
@@ -115,7 +115,7 @@ try_all() {
 
 # Names for which a path says the same as a word: all that a command opens, and what it prints.
 paths=
-for file in S S12 B R M A L C K0 K5 X O lines; do paths="$paths -P $work/$file"; done
+for file in S S12 B R M A L E C K0 K5 X O lines; do paths="$paths -P $work/$file"; done
 
 sed 's/^height .*/height 3/; s/^ecm-every .*/ecm-every 200/; s/^crypto-ecms .*/crypto-ecms 2/
     s/^period-cryptos .*/period-cryptos 1/' "$top/examples/site.txt" >S
@@ -125,6 +125,10 @@ printf 'revoke 5\n' >R
 printf 'period\nsubscribe 5\n' >M
 printf 'assign ann 5\nperiod\ndrop ann\n' >A
 printf '1\n6\n' >L
+{
+    printf 'send 250\nrevoke 5\nsend 350\noffer 5 607\nlose 3 3\noffer 3 604\n'
+    printf 'offer 1 300\noff 1\non 1\noffer 1 307\n'
+} >E
 ./sdca sample 7 600 C
 ./sdca head S B C X
 ./sdca card S 0 K0
@@ -146,6 +150,7 @@ try_all tables X
 try_all opens S R L
 try_all trace S R L
 try_all trial S B C
+try_all field S C E
 
 # At height 6 a trial makes 64 cards and 64 receivers, so there is a request for memory of this number, and it is
 # wanted.
@@ -192,7 +197,7 @@ full() {
 }
 
 full /dev/full
-for line in "cover S B" "layered S B 2" "accounts S A O" "tables X" "card S 8 O" ""; do fill_print $line; done
+for line in "cover S B" "layered S B 2" "accounts S A O" "tables X" "field S C E" "card S 8 O" ""; do fill_print $line; done
 if mkdir small && mount -t tmpfs -o size=64k small small 2>errors; then
     trap 'umount "$work/small"; rm -rf "$work"' EXIT
     head -c 65536 /dev/zero >small/rest

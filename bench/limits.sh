@@ -72,6 +72,10 @@ for packet in range(12289):
 PYTHON
 ./sdca sample 7 1100 clear || fail "no clear stream is made"
 ./sdca sample 7 65536 long-clear || fail "no long clear stream is made"
+./sdca sample 7 16384 field-clear || fail "no clear stream of a field is made"
+
+# A script of 524,288 events.
+awk 'BEGIN { print "send 16384"; for (leaf = 0; leaf < 64; leaf++) print "offer", leaf, 7936 }' >script
 
 for name in longest periods revoked; do
     done_is "the $name book" cover site $name-book
@@ -97,6 +101,7 @@ done_is "1,048,576 lines" accounts site accounts book
 done_is "the longest book" book site empty-book longest-book longer
 done_is "height 6" trial low-site empty-book clear
 done_is "65,536 packets and an ECM before each" trial low-site empty-book long-clear
+done_is "16,384 packets and 524,288 events" field low-site field-clear script
 done_is "256 PIDs" head wide-site empty-book many-pids broadcast
 done_is "256 PIDs and 4,096 packets held" receive card broadcast opened
 holds "it opens the clear stream" cmp -s many-pids opened

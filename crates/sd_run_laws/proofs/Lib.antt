@@ -4,6 +4,7 @@ pub mod Kept
 pub mod Layers
 pub mod Pooled
 pub mod Tried
+pub mod Fielded
 pub mod Plans
 pub mod Shelf
 pub mod Broadcasts

@@ -4,6 +4,7 @@ pub mod Headline
 pub mod Sent
 pub mod Lost
 pub mod Tried
+pub mod Fielded
 pub mod Left
 pub mod Outcome
 pub mod Helped

@@ -17,6 +17,9 @@ ghost use Rattle.sd_run_laws.specs.Good.{IsGoodAccounts, IsGoodBooks, IsGoodLaye
 ghost use Rattle.sd_run_laws.specs.Good.{IsGoodTrace, IsGoodBook};
 ghost use Rattle.sd_book.specs.Limits.{IsWithinLimits};
 ghost use Rattle.sd_run_laws.specs.Left.{HasOut, IsAsBefore};
+ghost use Rattle.sd_engine.specs.Stream.{packets_of};
+ghost use Rattle.sd_fielded.specs.Fielded.{confirmed_lines};
+ghost use Rattle.sd_run_laws.specs.Fielded.{IsGoodField};
 ghost use Rattle.sd_run_laws.specs.Tried.{IsGoodTrial, IsTried, plan_tried};
 ghost use Rattle.sd_book.specs.Commands.{revoked};
 ghost use Rattle.sd_book.specs.declared.command.Command.{Command};
@@ -200,6 +203,15 @@ pub fn good_trials_are_printed()
     ensures { (words : List (List ℕ)) (files : Files) (good : IsGoodTrial words (told_by files)) →
         (meaning words (told_by files)).result ≡ Ok (tried (Ok
         (opened_lines (plan_tried good) (taken_of good.bytes) (2 ^ good.fields.height)))) }
+{}
+
+/// `field SITE CLEAR SCRIPT` over a good site, a clear stream and a script prints the lines of what is confirmed to its
+/// receivers.
+#[tactic(auto, using(crate::proofs::Fielded::field_good))]
+pub fn good_fields_are_printed()
+    ensures { (words : List (List ℕ)) (files : Files) (good : IsGoodField words (told_by files)) →
+        (meaning words (told_by files)).result ≡ Ok (tried (Ok (confirmed_lines good.fields (packets_of good.bytes)
+        good.events (2 ^ good.fields.height)))) }
 {}
 
 /// A trial that succeeds in a file system whose contents the model knows had such files, and printed exactly the

@@ -215,6 +215,9 @@ CardOf site leaf out = CommandOf commands.Card (InputOf site ∷ NumberOf leaf �
 abbrev pub CoverOf : Word → Word → Order
 CoverOf site book = CommandOf commands.Cover (InputOf site ∷ InputOf book ∷ [])
 
+abbrev pub FieldOf : Word → Word → Word → Order
+FieldOf site clear script = CommandOf commands.Field (InputOf site ∷ InputOf clear ∷ InputOf script ∷ [])
+
 abbrev pub HeadOf : Word → Word → Word → Word → Order
 HeadOf site book clear out = CommandOf commands.Head (InputOf site ∷ InputOf book ∷ InputOf clear ∷ OutOf out ∷ [])
 
