@@ -80,9 +80,9 @@ pids_grow before more =
 -- more positions want more parts, and no positions one
 pub parts_rise : (v a n : ℕ) → a ≤ n → parts_for v a ≤ parts_for v n
 unfolding pieces_for positions_for
-parts_rise v a n up = elim (cases_Bool (v == 2)) [
-  | inl two ↦ rw two (omega (arith, up))
-  | inr one ↦ rw one (omega (arith, up))
+parts_rise v a n up = elim (cases_Bool (v == 1)) [
+  | inl first ↦ rw first (omega (arith, up))
+  | inr later ↦ rw later (omega (arith, up))
 ]
 
 pub parts_some : (v n : ℕ) → 1 ≤ parts_for v n
@@ -91,9 +91,9 @@ parts_some v n = omega arith
 
 pub one_part : (v n : ℕ) → n ≤ positions_for v → parts_for v n ≡ 1
 unfolding pieces_for positions_for
-one_part v n few = elim (cases_Bool (v == 2)) [
-  | inl two ↦ rw two (omega (arith, rw two at few))
-  | inr one ↦ rw one (omega (arith, rw one at few))
+one_part v n few = elim (cases_Bool (v == 1)) [
+  | inl first ↦ rw first (omega (arith, rw first at few))
+  | inr later ↦ rw later (omega (arith, rw later at few))
 ]
 
 -- what stands before packet k: tables where a crypto period begins, and so many parts before each e-th packet
