@@ -14,7 +14,8 @@ use Rattle.sd_field.proofs.Fields.{unsent}
 use Rattle.sd_status.specs.declared.status.Status.{Status}
 use Rattle.sd_status.specs.Comes.{IsEnding}
 use Rattle.sd_files.specs.Printed.{Comes}
-use Rattle.sd_run_field.specs.Field.{done_field, field_text, first_line, lines_to, text_in, unrefused, wrote_line}
+use Rattle.sd_run_field.specs.Field.{digest_of, done_field, field_text, first_line, lines_to, receiver_line, text_in}
+use Rattle.sd_run_field.specs.Field.{unrefused, wrote_line}
 use Rattle.sd_run_field.specs.Played.{Plays}
 
 -- the first line
@@ -31,12 +32,16 @@ first_told v sends packets period sent text commands calm count all size last bo
     ∙ ap (first_line (sends_of v) (length (concat (body (plan_in v) (taken v))) / 188)) (last ∙ ap last_period book)))
 
 -- the lines so far, and the next
-pub next_told : (v : FieldValue) (u : ℕ) (text more : List ℕ) → text ≡ lines_to v u →
-    more ≡ text ++ wrote_line u (written_of u v) → more ≡ lines_to v (u + 1)
+pub next_told : (v : FieldValue) (u : ℕ) (text more wrote digest : List ℕ) → text ≡ lines_to v u →
+    wrote ≡ written_of u v → digest ≡ digest_of wrote → more ≡ text ++ receiver_line u (length wrote / 188) digest →
+    more ≡ lines_to v (u + 1)
 unfolding lines_to
-next_told v u text more so_far is =
+next_told v u text more wrote digest so_far same known is =
     let next : u + 1 ≡ suc u = omega arith in
-    is ∙ (ap (λ (xs : List ℕ). xs ++ wrote_line u (written_of u v)) so_far ∙ ap (lines_to v) (sym next))
+    is
+    ∙ (ap (λ (xs : List ℕ). xs ++ receiver_line u (length wrote / 188) digest) so_far
+    ∙ (ap (λ (d : List ℕ). lines_to v u ++ receiver_line u (length wrote / 188) d) known
+    ∙ (ap (λ (bytes : List ℕ). lines_to v u ++ wrote_line u bytes) same ∙ ap (lines_to v) (sym next))))
 
 abbrev new_field : SiteFields → List (List ℕ) → List Event → FieldValue
 new_field site clear events = record { site = site; clear = clear; events = events; done = 0; failed = None }

@@ -1,6 +1,5 @@
 ghost use Rattle.std.specs.Prelude.{◌≡◌, ◌<◌, ◌^◌, ◌++◌, ◌/◌, None, string_bytes, length, IfOk, OnOk};
 ghost use Rattle.sd_run_field.specs.Field.{digest_of as digest_text, first_line as line_of, lines_to, receiver_line};
-ghost use Rattle.sd_run_field.specs.Field.{wrote_line};
 ghost use Rattle.sd_field.specs.Fields.{written_of};
 
 use sd_field::Field;
@@ -21,8 +20,13 @@ pub fn lines(alloc: Global, field: &Field, h: Height) -> Result<String, AllocErr
 {
     let packets = field.sent().len() / SIZE;
     let mut text = first_line(alloc, field.sends(), packets, field.book().last_period())?;
+    let mut last: &[u8] = &[];
+    let mut digest = digest_of(alloc, last)?;
     for u in 0..h.leaves() {
-        push_receiver(alloc, &mut text, field, h, u)?;
+        let wrote = written(field, h, u);
+        digest = digest_beside(alloc, wrote, last, digest)?;
+        last = wrote;
+        push_line(&mut text, u, wrote, digest.as_str())?;
     }
     Ok(text)
 }
@@ -35,25 +39,33 @@ fn first_line(alloc: Global, sends: u64, packets: usize, period: u32) -> Result<
     format!(in alloc; "sends {sends} packets {packets} period {period}\n")
 }
 
-/// Puts the line of leaf u's receiver after the text.
-fn push_receiver(
-    alloc: Global,
-    text: &mut String,
-    field: &Field,
-    h: Height,
-    u: u32,
-) -> Result<(), AllocError>
+/// What leaf u's receivers wrote.
+fn written(field: &Field, h: Height, u: u32) -> &[u8]
     requires leaf { u < 2 ^ h }
     requires height { h ≡ field.now.site.height }
     requires calm { field.now.failed ≡ None }
-    ensures { OnOk result (string_bytes text.new ≡ string_bytes text.old ++ wrote_line u (written_of u field.now)) }
+    ensures { result.now ≡ written_of u field.now }
 {
     let Some(leaf) = Leaf::new(h, u) else {
         unreachable!();
     };
-    let wrote = field.written(leaf);
-    let digest = digest_of(alloc, wrote)?;
-    push_line(text, u, wrote.len() / SIZE, digest.as_str())
+    field.written(leaf)
+}
+
+/// The digest of some bytes beside others, of which it is known: receivers often write the same.
+fn digest_beside(
+    alloc: Global,
+    bytes: &[u8],
+    others: &[u8],
+    known: String,
+) -> Result<String, AllocError>
+    requires { string_bytes known ≡ digest_text others.now }
+    ensures { IfOk result (λ text. string_bytes text ≡ digest_text bytes.now) }
+{
+    if bytes == others {
+        return Ok(known);
+    }
+    digest_of(alloc, bytes)
 }
 
 /// The digest of some bytes, as it is printed.
@@ -65,10 +77,12 @@ fn digest_of(alloc: Global, bytes: &[u8]) -> Result<String, AllocError>
     hex::encode(alloc, &digest[..SHOWN])
 }
 
-/// Puts the line of leaf u's receiver after the text, which wrote so many packets with this digest.
+/// Puts the line of leaf u's receiver after the text, which wrote these bytes with this digest.
 #[tactic(auto, unfolding(crate::specs::Field::receiver_line))]
-fn push_line(text: &mut String, u: u32, wrote: usize, digest: &str) -> Result<(), AllocError>
-    ensures { OnOk result (string_bytes text.new ≡ string_bytes text.old ++ receiver_line u wrote digest.now) }
+fn push_line(text: &mut String, u: u32, wrote: &[u8], digest: &str) -> Result<(), AllocError>
+    ensures { OnOk result (string_bytes text.new
+        ≡ string_bytes text.old ++ receiver_line u (length wrote.now / 188) digest.now) }
 {
-    Ok(write!(text, "receiver {u} wrote {wrote} digest {digest}\n")?)
+    let packets = wrote.len() / SIZE;
+    Ok(write!(text, "receiver {u} wrote {packets} digest {digest}\n")?)
 }

@@ -1,13 +1,18 @@
 use Rattle.sd_run_field.proofs.Telling.{first_told, next_told}
-use Rattle.std.proofs.Common.{refl, string_bytes}
+use Rattle.std.proofs.Common.{refl, string_bytes, ◌∙◌}
 use Rattle.sd_run_field.proofs.lines.lines.Goals as goal
 
 pub loop-u-init : goal.loop-u-init
-loop-u-init c =
-    first_told c.args.field.now c.sends.result _ c.last_period.result c.sent.result.now
-    (string_bytes c.in_ok-text.text) c.book.result.now.commands c.requires.calm c.sends.ensures.value c.sent.ensures.value refl c.last_period.ensures.value
-    c.book.ensures.value.1 c.in_ok-text.ensures
+loop-u-init c = record {
+  told = first_told c.args.field.now c.sends.result _ c.last_period.result c.sent.result.now
+      (string_bytes c.in_ok-text.text) c.book.result.now.commands c.requires.calm c.sends.ensures.value
+      c.sent.ensures.value refl c.last_period.ensures.value c.book.ensures.value.1 c.in_ok-text.ensures;
+  known = c.in_ok-digest.ensures;
+}
 
 pub loop-u-preserved : goal.loop-u-preserved
-loop-u-preserved c =
-    next_told c.args.field.now c.loop-u.u _ _ c.loop-u.invariant c.in_ok-push_receiver.ensures
+loop-u-preserved c = record {
+  told = next_told c.args.field.now c.loop-u.u _ _ c.written-wrote.result.now c.as_str.result.now c.loop-u.invariant.told
+      c.written-wrote.ensures (c.as_str.ensures.value ∙ c.in_ok-digest-2.ensures) c.in_ok-push_line.ensures;
+  known = c.in_ok-digest-2.ensures;
+}
