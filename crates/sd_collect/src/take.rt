@@ -69,6 +69,15 @@ impl Collect {
         self.run.clear();
     }
 
+    /// Forgets all messages and parts: it stands as before anything was heard.
+    pub fn begin(&mut self)
+        ensures { Collects [] self.new }
+    {
+        self.run.clear();
+        self.last = None;
+        self.places.clear();
+    }
+
     /// What the newest complete message says.
     pub fn last(&self) -> Option<EcmHead>
         ensures { result ≡ self.now.last }

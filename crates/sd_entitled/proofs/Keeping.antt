@@ -284,16 +284,21 @@ none_set : (n x : ℕ) → get_or (replicate n false) x false ≡ false
 none_set n x = ⊎_elim (λ (h : x < n). get_or-replicate n x false false h)
     (λ (h : n ≤ x). get_or_past (replicate n false) x false (omega (arith, h, length-replicate n false))) (cases_lt x n)
 
+-- no mark of so many that are not set is
+pub none_marked : (n : ℕ) (marks : List Bool) → marks ≡ replicate n false → (x : ℕ) → x < 2 ^ 16 →
+    get_or marks x false ≡ false
+none_marked n marks is x g = ap (λ (l : List Bool). get_or l x false) is ∙ none_set n x
+
 -- before anything was heard nothing is kept
-pub first : (card : CardFields) (t : Entitled) (n : ℕ) → t.period ≡ 0 → t.says ≡ None →
-    t.marks.items ≡ replicate n false → t.told ≡ false →
+pub first : (card : CardFields) (t : Entitled) → t.period ≡ 0 → t.says ≡ None →
+    ((x : ℕ) → x < 2 ^ 16 → get_or t.marks.items x false ≡ false) → t.told ≡ false →
     t.key ≡ None → t.revoked ≡ None → t.unkeyed ≡ None → IsEntitled card [] t
 unfolding current seen key_in periods_told messages told_below is_in_turn
-first card t n period says marks told key revoked unkeyed = record {
+first card t period says marks told key revoked unkeyed = record {
   period = period;
   says = says;
   alike = λ k d g. absurd (omega (arith, g));
-  marks = λ x g. ap (λ (l : List Bool). get_or l x false) marks ∙ none_set n x;
+  marks = marks;
   told = told;
   key = key;
   revoked = revoked;

@@ -2,6 +2,7 @@
 //! one.
 #![tactic(auto)]
 
+mod anew;
 mod entitled;
 mod judge;
 mod key;

@@ -6,7 +6,8 @@ use Rattle.std.proofs.Common.{arith, sym, ap, ◌∙◌, inl, inr, ◌⊎◌, su
 use Rattle.std.specs.Prelude.{All}
 use Rattle.std.specs.List.{list_any, range_with_len}
 use Rattle.std.specs.Option.{option_map_or}
-use Rattle.std.proofs.lemmas.List.Elements.{All-tail, All-contains_itself}
+use Rattle.std.proofs.lemmas.List.Elements.{All-nil, All-tail, All-contains_itself}
+use Rattle.sd_site.specs.Fields.{name_of as site_name}
 use Rattle.std.proofs.lemmas.List.Folds.{list_any-append}
 use Rattle.std.proofs.lemmas.Bool.{cases_Bool}
 use Rattle.std.proofs.lemmas.Bool.Decides.{nat_tests}
@@ -30,7 +31,7 @@ use Rattle.sd_losses.proofs.Writing.{onto, Writes, writes_append, IsOpenUpto, op
 use Rattle.sd_losses.proofs.Arriving.{is_of}
 use Rattle.sd_losses.proofs.Setting.{Setting, AreLaws, tuning_at, final, told_by}
 use Rattle.sd_losses.proofs.Facts.{AreHeard, Passes}
-use Rattle.sd_losses.proofs.Hearing.{AreHearable, heard_from, heard_append, is_cat}
+use Rattle.sd_losses.proofs.Hearing.{AreHearable, heard_from, heard_append, is_cat, IsTuned}
 use Rattle.sd_losses.proofs.Remaining.{rest_at, rest_none, closing_items}
 use Rattle.sd_losses.proofs.Later.{chosen_append, chosen_fails, numbers_later, packets_later}
 use Rattle.sd_losses.proofs.Confirming.{confirms, confirmed_in}
@@ -39,7 +40,9 @@ use Rattle.sd_losses.proofs.Writings.{rest_unconfirmed}
 use Rattle.sd_losses.proofs.Losses.{all_first, all_second, packets_chosen, AreWritten, nothing_more, written_all}
 use Rattle.sd_losses.proofs.Losses.{closing_written}
 use Rattle.sd_losses.proofs.Tuned.{IsWrittenFrom, group_written, tuned_written}
-use Rattle.sd_losses.proofs.Untuned.{IsSkipped, packets_skipped, offered_none, untuned_heard, after_none}
+use Rattle.sd_losses.proofs.OneRun.{IsOfRun, untuned_turn}
+use Rattle.sd_losses.proofs.Untuned.{IsSkipped, packets_skipped, offered_none, untuned_heard, untuned_one_run}
+use Rattle.sd_losses.proofs.Untuned.{after_none}
 use Rattle.sd_losses.proofs.Untuned.{after_no_cat, no_part_cat, no_section_cat}
 use Rattle.sd_losses.proofs.Untuned.{sections_at, tail_at, no_tail_cat, due_rest, other_rest, kept_start, heard_start}
 
@@ -106,21 +109,36 @@ skipped_first s able group rest earlier fs past all none no_cat more =
         (length group) fs) rest)) 0 (length s.clear))
     after = more skipped.untuned
 
--- a CAT that is kept is taken, and what is written then
-pub taken_tuning : (s : Setting) (able : AreHearable s) (earlier : List Item) (past : List (List ℕ)) →
-    tuning_of s.card.ca past ≡ None →
-    tuning_of s.card.ca (packet_of s.plan.site earlier Cat ∷ past) ≡ Some (tuning_at s)
-unfolding tuning_of
-taken_tuning s able earlier past none =
-    ap (λ (t : Option Tuning). tuned_by t (cat_tuning s.card.ca (packet_of s.plan.site earlier Cat))) none
-    ∙ able.tuning earlier
-
+-- where no CAT was taken, nothing of the first one that is kept is heard
 pub taken_heard : (card : CardFields) (packet : List ℕ) (past : List (List ℕ)) → tuning_of card.ca past ≡ None →
     heard card (packet ∷ past) ≡ []
 unfolding heard
 taken_heard card packet past none =
     ap (λ (t : Option Tuning). heard_with card t (length past) packet (heard card past)) none
     ∙ untuned_heard card past none
+
+cat_tunes : (s : Setting) (able : AreHearable s) (earlier : List Item) (past : List (List ℕ)) →
+    tuning_of s.card.ca past ≡ None →
+    tuning_of s.card.ca (packet_of s.plan.site earlier Cat ∷ past) ≡ Some (tuning_at s)
+unfolding tuning_of
+cat_tunes s able earlier past none =
+    ap (λ (t : Option Tuning). tuned_by t (cat_tuning s.card.ca (packet_of s.plan.site earlier Cat))) none
+    ∙ able.tuning earlier
+
+-- a CAT that is kept is taken, and what is written then
+pub taken_tuning : (s : Setting) (able : AreHearable s) (earlier : List Item) (past : List (List ℕ)) →
+    tuning_of s.card.ca past ≡ None → IsTuned s (packet_of s.plan.site earlier Cat ∷ past)
+taken_tuning s able earlier past none = record {
+  tuning = cat_tunes s able earlier past none;
+  named = subst (All named) (sym (taken_heard s.card (packet_of s.plan.site earlier Cat) past none)) (All-nil named);
+  one = (
+    untuned_turn s.card past (packet_of s.plan.site earlier Cat) none,
+    untuned_one_run s.card past none,
+  );
+}
+  where
+    named : Heard → Type 0
+    named = IsOfRun (site_name s.plan.site)
 
 one_skipped : (s : Setting) (past packets wrote : List (List ℕ)) (packet : List ℕ) →
     offered s.card past packet ≡ nothing →
@@ -134,7 +152,7 @@ one_skipped s past packets wrote packet is rest = record {
 
 cat_taken : (s : Setting) (able : AreHearable s) (items earlier : List Item) (fs : List Bool) (past : List (List ℕ)) →
     tuning_of s.card.ca past ≡ None →
-    (tuning_of s.card.ca (packet_of s.plan.site earlier Cat ∷ past) ≡ Some (tuning_at s) →
+    (IsTuned s (packet_of s.plan.site earlier Cat ∷ past) →
     heard s.card (packet_of s.plan.site earlier Cat ∷ past) ≡ [] →
     IsWrittenFrom s (earlier ++ Cat ∷ []) items fs (packet_of s.plan.site earlier Cat ∷ past) None []) →
     IsWrittenBefore s earlier (Cat ∷ items) (true ∷ fs) past
@@ -187,7 +205,7 @@ after_cat_goes s laws k i fs later within is =
 cat_here : (s : Setting) (laws : AreLaws s) (able : AreHearable s) (n k : ℕ) (fs : List Bool) (earlier : List Item)
     (past : List (List ℕ)) → k + suc n ≡ length s.clear → (k % crypto_length s.plan.site == 0) ≡ true →
     All (IsOfBroadcast s.plan s.clear) ((sections_at s (period_of s.plan k) ++ tail_at s k) ++ rest_at s (k + 1)) →
-    tuning_of s.card.ca past ≡ Some (tuning_at s) → heard s.card past ≡ [] →
+    IsTuned s past → heard s.card past ≡ [] →
     IsWrittenFrom s earlier ((sections_at s (period_of s.plan k) ++ tail_at s k) ++ rest_at s (k + 1)) fs past None []
 cat_here s laws able n k fs earlier past count due all tuned none =
     group_written s laws able k (period_of s.plan k) (period_of s.plan k) (closing_number s.plan.site k)
@@ -287,7 +305,7 @@ sections_heard s laws i fs empty =
 -- the CAT of a broadcast without a packet is kept
 sections_end : (s : Setting) (laws : AreLaws s) (able : AreHearable s) (fs : List Bool) (earlier : List Item)
     (past : List (List ℕ)) → length s.clear ≡ 0 → All (IsOfBroadcast s.plan s.clear) (items_of_none s) →
-    tuning_of s.card.ca past ≡ Some (tuning_at s) → heard s.card past ≡ [] →
+    IsTuned s past → heard s.card past ≡ [] →
     IsWrittenFrom s earlier (items_of_none s) fs past None []
 sections_end s laws able fs earlier past empty all tuned none =
     written_all s able (items_of_none s) earlier fs past (confirmed_in s (chosen fs (items_of_none s)) 0

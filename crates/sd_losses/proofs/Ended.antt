@@ -16,7 +16,6 @@ use Rattle.sd_broadcast.specs.Plan.{period_of}
 use Rattle.sd_broadcast.specs.Messages.{period_at, message_at}
 use Rattle.sd_broadcast.specs.Sent.{Item, Controls, tables_at, closing_of, packets_from}
 use Rattle.sd_broadcast.specs.Items.{IsOfBroadcast}
-use Rattle.sd_reception.specs.Tuned.{tuning_of}
 use Rattle.sd_reception.specs.Heard.{Heard, Controls as HeardControls}
 use Rattle.sd_reception.specs.Stretches.{messages, newest, current, seen, is_closed, completes}
 use Rattle.sd_reception.specs.Keys.{key_at, key_in}
@@ -33,7 +32,7 @@ use Rattle.sd_losses.proofs.Facts.{AreKept, AreHeard, Passes, IsLast, from_last,
 use Rattle.sd_losses.proofs.Completing.{same_seen, arrived_with, parts_at, arrives, still_last, now_last, same_told}
 use Rattle.sd_losses.proofs.Completing.{calm_heard}
 use Rattle.sd_losses.proofs.Heeding.{what_comes, lost_arrived}
-use Rattle.sd_losses.proofs.Hearing.{AreHearable, heard_from, heard_append, heard_parts, packets_come}
+use Rattle.sd_losses.proofs.Hearing.{AreHearable, heard_from, heard_append, heard_parts, packets_come, IsTuned}
 use Rattle.sd_losses.proofs.Remaining.{closing_items}
 use Rattle.sd_losses.proofs.Later.{chosen_append, chosen_map}
 use Rattle.sd_losses.proofs.Groups.{tables_pass, may_rise}
@@ -194,12 +193,12 @@ end_ends s laws p i last fs kept past true is rises kept_is are =
 -- where a receiver stands after these packets
 pub record StandsEnded (s : Setting) (kept : List Item) (past : List (List ℕ)) : Type 0 where
   pub ended : HasEnded s kept (heard s.card past)
-  pub tuned : tuning_of s.card.ca past ≡ Some (tuning_at s)
+  pub tuned : IsTuned s past
 
 -- all packets of some things, up to the end
 pub all_stand : (s : Setting) (able : AreHearable s) (items earlier kept : List Item) (fs : List Bool) (past : List
     (List ℕ))
-    (wrote : List (List ℕ)) → All (IsOfBroadcast s.plan s.clear) items → tuning_of s.card.ca past ≡ Some (tuning_at s) →
+    (wrote : List (List ℕ)) → All (IsOfBroadcast s.plan s.clear) items → IsTuned s past →
     IsOpenUpto (heard s.card past) (heard_from (length past) (chosen fs items)) →
     Writes s.card (tuning_at s) (heard s.card past) (heard_from (length past) (chosen fs items)) wrote →
     HasEnded s (kept ++ chosen fs items) (onto (heard_from (length past) (chosen fs items)) (heard s.card past)) →
@@ -210,7 +209,7 @@ all_stand s able items earlier kept fs past wrote all tuned opened writes ends =
 
 pub end_stands : (s : Setting) (laws : AreLaws s) (able : AreHearable s) (p : ℕ) (last : Option ℕ) (fs : List Bool)
     (earlier kept : List Item) (past : List (List ℕ)) → All (IsOfBroadcast s.plan s.clear) (closing_of s.plan s.clear) →
-    tuning_of s.card.ca past ≡ Some (tuning_at s) → p ≤ period_of s.plan (length s.clear - 1) →
+    IsTuned s past → p ≤ period_of s.plan (length s.clear - 1) →
     AreKept (length s.clear) (final s) last kept → AreHeard s (length s.clear) p (final s) last kept
     (heard s.card past) →
     StandsEnded s (kept ++ chosen fs (closing_of s.plan s.clear)) (onto (chosen fs (packets_from s.plan.site earlier

@@ -24,10 +24,11 @@ use Rattle.sd_broadcast.proofs.Schedule.{closing_needed, closing_covers}
 use Rattle.sd_sent.proofs.Fitting.{period_count}
 use Rattle.sd_reception.specs.Tuned.{Tuning, tuning_of}
 use Rattle.sd_reception.specs.Heard.{Heard}
-use Rattle.sd_reception.specs.Stretches.{newest, is_closed, seen}
+use Rattle.sd_reception.specs.Stretches.{newest, seen}
 use Rattle.sd_reception.specs.Offered.{heard}
 use Rattle.sd_reception.specs.Ending.{periods_told, is_unkeyed, is_all_seen, are_all, ending_with, closed_ending}
-use Rattle.sd_reception.specs.Ending.{ending_of}
+use Rattle.sd_reception.specs.Ending.{joined, run_wrote, run_ending, ended_before, ending_of}
+use Rattle.sd_reception.specs.declared.ending.Ending.{Ending}
 use Rattle.sd_reception.specs.declared.ending.Ending.TheVariants.{NoCat, Unclosed}
 use Rattle.sd_losses.specs.Chosen.{chosen}
 use Rattle.sd_losses.specs.Kept.{is_cat, after_cat, has_arrived, arrived, is_section}
@@ -36,7 +37,8 @@ use Rattle.sd_losses.specs.Endings.{period_told, periods_arrived, is_untold, has
 use Rattle.sd_losses.specs.Endings.{ending_told}
 use Rattle.sd_losses.specs.Taken.{taken_keys, how_many}
 use Rattle.sd_losses.proofs.Taking.{keys_of, taken_heard, how_many_none}
-use Rattle.sd_losses.proofs.Untuned.{untuned_heard, after_no_cat}
+use Rattle.sd_losses.proofs.OneRun.{AreOneRun, none_ended, ending_alone, run_wrote_first}
+use Rattle.sd_losses.proofs.Untuned.{untuned_heard, untuned_one_run, after_no_cat}
 use Rattle.sd_losses.proofs.Writing.{onto}
 use Rattle.sd_losses.proofs.Neighbours.{greatest_none, greatest_is}
 use Rattle.sd_losses.proofs.Tests.{all_agree, not_all_range}
@@ -45,6 +47,7 @@ use Rattle.sd_losses.proofs.Pairs.{period_is, closing_is, number_is}
 use Rattle.sd_losses.proofs.Facts.{IsLast, is_told}
 use Rattle.sd_losses.proofs.Hearing.{AreHearable}
 use Rattle.sd_losses.proofs.Ended.{HasEnded, StandsEnded}
+use Rattle.sd_losses.proofs.AnyLoss.{losses_are_confirmed}
 use Rattle.sd_losses.proofs.Ends.{EndsBefore, losses_stand}
 
 -- packets in their order, turned round
@@ -175,93 +178,108 @@ next_is s kept (Some c) is =
     (arith, is.0)) is.1
     (λ b above within. is.2 b above)))
 
--- so it ends as it is told by what is kept after the CAT
-tuned_ending : (s : Setting) (kept : List Item) (past : List (List ℕ)) (written : ℕ) → AreInRange s.plan.site →
-    StandsEnded s kept past → ending_of s.card past written
+-- so the run ends as it is told by what is kept after the CAT
+run_ends : (s : Setting) (kept : List Item) (past : List Heard) (written : ℕ) → AreInRange s.plan.site →
+    HasEnded s kept past → run_ending s.card past written
     ≡ (if has_arrived kept (final s) then closed_told s.plan s.card.leaf s.clear kept written else Unclosed
     (next_number s.plan s.clear kept))
-unfolding ending_of closed_told
-tuned_ending s kept past written range stands =
-    ap (λ (t : Option Tuning). if is_none t then NoCat else (if is_closed (heard s.card past)
-    then closed_ending s.card (heard s.card past) written
-    else Unclosed (option_map_or (λ message. message.number + 1) (newest (heard s.card past)).message 0))) stands.tuned
-    ∙ (ap (λ (b : Bool). if b then closed_ending s.card (heard s.card past) written
-    else Unclosed (option_map_or (λ message. message.number + 1) (newest (heard s.card past)).message 0)) ends.closed
-    ∙ by_closed (has_arrived kept (final s)) refl)
+unfolding run_ending closed_told
+run_ends s kept past written range ends =
+    ap (λ (b : Bool). if b then closed_ending s.card past written
+    else Unclosed (option_map_or (λ message. message.number + 1) (newest past).message 0)) ends.closed
+    ∙ by_closed (has_arrived kept (final s)) refl
   where
-    ends : HasEnded s kept (heard s.card past)
-    ends = stands.ended
-
-    both : (q : ℕ) → (is_unkeyed s.card (heard s.card past) q && is_all_seen (heard s.card past) q)
+    both : (q : ℕ) → (is_unkeyed s.card past q && is_all_seen past q)
         ≡ (is_untold s.plan s.card.leaf kept q && has_all s.plan kept q)
-    both q = ap (λ (b : Bool). b && is_all_seen (heard s.card past) q) (unkeyed_is s kept (heard s.card past) q ends)
-        ∙ ap (λ (b : Bool). is_untold s.plan s.card.leaf kept q && b) (all_seen_is s kept (heard s.card past) q ends)
+    both q = ap (λ (b : Bool). b && is_all_seen past q) (unkeyed_is s kept past q ends)
+        ∙ ap (λ (b : Bool). is_untold s.plan s.card.leaf kept q && b) (all_seen_is s kept past q ends)
 
     by_closed : (b : Bool) → has_arrived kept (final s) ≡ b →
-        (if b then closed_ending s.card (heard s.card past) written
-        else Unclosed (option_map_or (λ message. message.number + 1) (newest (heard s.card past)).message 0))
+        (if b then closed_ending s.card past written
+        else Unclosed (option_map_or (λ message. message.number + 1) (newest past).message 0))
         ≡ (if b then closed_told s.plan s.card.leaf s.clear kept written else Unclosed
         (next_number s.plan s.clear kept))
     by_closed false none = ap Unclosed (ap (λ (m : Option Message). option_map_or
         (λ message. message.number + 1) m 0) ends.message
         ∙ next_is s kept ends.last ends.last_is)
     by_closed true there =
-        ap (λ (qs : List ℕ). ending_with (find (λ q. is_unkeyed s.card (heard s.card past) q && is_all_seen
-        (heard s.card past) q) qs)
-        (find (is_unkeyed s.card (heard s.card past)) qs)
-        (option_map_or (λ message. message.clear) (newest (heard s.card past)).message 0 - written))
-        (periods_are s kept (heard s.card past) range ends)
-        ∙ (ap (λ (o : Option ℕ). ending_with o (find (is_unkeyed s.card (heard s.card past))
+        ap (λ (qs : List ℕ). ending_with (find (λ q. is_unkeyed s.card past q && is_all_seen
+        past q) qs)
+        (find (is_unkeyed s.card past) qs)
+        (option_map_or (λ message. message.clear) (newest past).message 0 - written))
+        (periods_are s kept past range ends)
+        ∙ (ap (λ (o : Option ℕ). ending_with o (find (is_unkeyed s.card past)
         (periods_arrived s.plan s.clear kept))
-        (option_map_or (λ message. message.clear) (newest (heard s.card past)).message 0 - written))
-        (find_agree (λ q. is_unkeyed s.card (heard s.card past) q && is_all_seen (heard s.card past) q)
+        (option_map_or (λ message. message.clear) (newest past).message 0 - written))
+        (find_agree (λ q. is_unkeyed s.card past q && is_all_seen past q)
         (λ q. is_untold s.plan s.card.leaf kept q && has_all s.plan kept q) (periods_arrived s.plan s.clear kept) both)
         ∙ (ap (λ (o : Option ℕ). ending_with (find (λ q. is_untold s.plan s.card.leaf kept q && has_all s.plan kept q)
         (periods_arrived s.plan s.clear kept)) o
-        (option_map_or (λ message. message.clear) (newest (heard s.card past)).message 0 - written))
-        (find_agree (is_unkeyed s.card (heard s.card past)) (is_untold s.plan s.card.leaf kept)
+        (option_map_or (λ message. message.clear) (newest past).message 0 - written))
+        (find_agree (is_unkeyed s.card past) (is_untold s.plan s.card.leaf kept)
         (periods_arrived s.plan s.clear kept)
-        (λ q. unkeyed_is s kept (heard s.card past) q ends))
+        (λ q. unkeyed_is s kept past q ends))
         ∙ ap (λ (n : ℕ). ending_with (find (λ q. is_untold s.plan s.card.leaf kept q && has_all s.plan kept q)
         (periods_arrived s.plan s.clear kept))
         (find (is_untold s.plan s.card.leaf kept) (periods_arrived s.plan s.clear kept)) (n - written))
         (ap (λ (m : Option Message). option_map_or (λ message. message.clear) m 0) ends.message
         ∙ clear_is s kept ends.last ends.last_is there)))
 
-untuned_ending : (card : CardFields) (past : List (List ℕ)) (written : ℕ) → tuning_of card.ca past ≡ None →
-    ending_of card past written ≡ NoCat
+-- where none of the packets begins another run, it ends as the run
+tuned_ending : (s : Setting) (kept : List Item) (past : List (List ℕ)) → AreInRange s.plan.site →
+    StandsEnded s kept past → ending_of s.card past
+    ≡ (if has_arrived kept (final s) then closed_told s.plan s.card.leaf s.clear kept (run_wrote s.card past)
+    else Unclosed (next_number s.plan s.clear kept))
 unfolding ending_of
-untuned_ending card past written none =
-    ap (λ (t : Option Tuning). if is_none t then NoCat else (if is_closed (heard card past)
-    then closed_ending card (heard card past) written
-    else Unclosed (option_map_or (λ message. message.number + 1) (newest (heard card past)).message 0))) none
+tuned_ending s kept past range stands =
+    ap (λ (t : Option Tuning). if is_none t then NoCat else joined (ended_before s.card past) ending)
+    stands.tuned.tuning
+    ∙ (ap (λ (before : Ending). joined before ending) (none_ended s.card past stands.tuned.one)
+    ∙ (ending_alone ending ∙ run_ends s kept (heard s.card past) (run_wrote s.card past) range stands.ended))
+  where
+    ending : Ending
+    ending = run_ending s.card (heard s.card past) (run_wrote s.card past)
 
--- The ending of a broadcast, whatever is lost of it, after which so many packets were written as are confirmed.
+untuned_ending : (card : CardFields) (past : List (List ℕ)) → tuning_of card.ca past ≡ None →
+    ending_of card past ≡ NoCat
+unfolding ending_of
+untuned_ending card past none =
+    ap (λ (t : Option Tuning). if is_none t then NoCat else joined (ended_before card past)
+    (run_ending card (heard card past) (run_wrote card past))) none
+
+-- The ending of a broadcast, whatever is lost of it.
 pub losses_end : (s : Setting) → AreLaws s → AreHearable s → (fs : List Bool) →
     ending_of s.card (reverse (chosen fs (broadcast s.plan s.clear)))
-    (length (confirmed s.plan s.card.leaf s.clear (chosen fs (sent s.plan s.clear ++ closing_of s.plan s.clear))))
     ≡ ending_told s.plan s.card.leaf s.clear (chosen fs (sent s.plan s.clear ++ closing_of s.plan s.clear))
 unfolding ending_told
 losses_end s laws able fs =
-    ap (λ (ps : List (List ℕ)). ending_of s.card ps (length (confirmed s.plan s.card.leaf s.clear kept)))
-    (sym (append-nil (reverse (chosen fs (broadcast s.plan s.clear)))) ∙ sym (onto_reverse (chosen fs
-    (broadcast s.plan s.clear)) []))
+    ap (ending_of s.card) (sym (append-nil (reverse packets)) ∙ sym (onto_reverse packets []))
     ∙ by_cat (list_any is_cat kept) (losses_stand s laws able fs)
   where
     kept : List Item
     kept = chosen fs (sent s.plan s.clear ++ closing_of s.plan s.clear)
 
-    by_cat : (b : Bool) → EndsBefore s b kept (onto (chosen fs (broadcast s.plan s.clear)) []) →
-        ending_of s.card (onto (chosen fs (broadcast s.plan s.clear)) []) (length
-        (confirmed s.plan s.card.leaf s.clear kept))
+    packets : List (List ℕ)
+    packets = chosen fs (broadcast s.plan s.clear)
+
+    wrote_is : AreOneRun s.card (onto packets []) →
+        run_wrote s.card (onto packets []) ≡ length (confirmed s.plan s.card.leaf s.clear kept)
+    wrote_is one =
+        let written = losses_are_confirmed s laws able fs in
+        run_wrote_first s.card packets one written.none ∙ ap length written.out
+
+    by_cat : (b : Bool) → EndsBefore s b kept (onto packets []) →
+        ending_of s.card (onto packets [])
         ≡ (if b then (if has_arrived (after_cat kept) (final s)
         then closed_told s.plan s.card.leaf s.clear (after_cat kept) (length
         (confirmed s.plan s.card.leaf s.clear kept))
         else Unclosed (next_number s.plan s.clear (after_cat kept))) else NoCat)
-    by_cat true stands = tuned_ending s (after_cat kept) (onto (chosen fs (broadcast s.plan s.clear)) [])
-        (length (confirmed s.plan s.card.leaf s.clear kept)) laws.range stands
-    by_cat false none = untuned_ending s.card (onto (chosen fs (broadcast s.plan s.clear)) [])
-        (length (confirmed s.plan s.card.leaf s.clear kept)) none
+    by_cat true stands =
+        tuned_ending s (after_cat kept) (onto packets []) laws.range stands
+        ∙ ap (λ (written : ℕ). if has_arrived (after_cat kept) (final s)
+        then closed_told s.plan s.card.leaf s.clear (after_cat kept) written
+        else Unclosed (next_number s.plan s.clear (after_cat kept))) (wrote_is stands.tuned.one)
+    by_cat false none = untuned_ending s.card (onto packets []) none
 
 -- how many keys were taken: one for each period of which a section with a set that has the leaf is kept
 pub losses_take : (s : Setting) → AreLaws s → AreHearable s → (fs : List Bool) →
@@ -270,7 +288,7 @@ pub losses_take : (s : Setting) → AreLaws s → AreHearable s → (fs : List B
     (period_of s.plan (length s.clear - 1) + 1)
 unfolding heard
 losses_take s laws able fs =
-    omega (arith, taken_heard s.card packets [])
+    omega (arith, taken_heard s.card packets [] (one (list_any is_cat kept) (losses_stand s laws able fs)))
     ∙ by_cat (list_any is_cat kept) refl (losses_stand s laws able fs)
   where
     kept : List Item
@@ -278,6 +296,10 @@ losses_take s laws able fs =
 
     packets : List (List ℕ)
     packets = chosen fs (broadcast s.plan s.clear)
+
+    one : (b : Bool) → EndsBefore s b kept (onto packets []) → AreOneRun s.card (onto packets [])
+    one true stands = stands.tuned.one
+    one false none = untuned_one_run s.card (onto packets []) none
 
     by_cat : (b : Bool) → list_any is_cat kept ≡ b → EndsBefore s b kept (onto packets []) →
         keys_of s.card (heard s.card (onto packets []))

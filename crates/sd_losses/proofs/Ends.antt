@@ -1,6 +1,6 @@
 -- How a broadcast of which packets were lost ends for a receiver.
 use Rattle.std.proofs.Common.{◌≡◌, refl, ℕ, zero, suc, ◌+◌, ◌-◌, ◌%◌, ◌<◌, ◌==◌, ◌||◌, Bool, true, false}
-use Rattle.std.proofs.Common.{List, [], ◌∷◌, ◌++◌, map, length, take, drop, Option, Some, None, if◌then◌else◌}
+use Rattle.std.proofs.Common.{List, [], ◌∷◌, ◌++◌, map, length, take, drop, Option, None, if◌then◌else◌}
 use Rattle.std.proofs.Common.{arith, sym, ap, ◌∙◌, inl, inr, ◌⊎◌, subst, append_assoc}
 use Rattle.std.specs.Prelude.{All}
 use Rattle.std.specs.List.{list_any}
@@ -25,7 +25,7 @@ use Rattle.sd_losses.specs.Kept.{is_carried, after_cat}
 use Rattle.sd_losses.proofs.Writing.{onto, onto_append, open_upto, Writes, IsOpenUpto}
 use Rattle.sd_losses.proofs.Setting.{Setting, AreLaws, tuning_at, final, told_by}
 use Rattle.sd_losses.proofs.Facts.{AreKept, AreHeard}
-use Rattle.sd_losses.proofs.Hearing.{AreHearable, is_cat, heard_from, ComesTo, packets_come}
+use Rattle.sd_losses.proofs.Hearing.{AreHearable, is_cat, heard_from, ComesTo, packets_come, IsTuned}
 use Rattle.sd_losses.proofs.Remaining.{group_at, rest_at, rest_more, rest_none, closing_items}
 use Rattle.sd_losses.proofs.Later.{chosen_append, chosen_fails, packets_later}
 use Rattle.sd_losses.proofs.Groups.{Goes, group_goes}
@@ -46,11 +46,10 @@ EndsFrom s earlier items fs past kept =
 group_stands : (s : Setting) (able : AreHearable s) (k h q m : ℕ) (last : Option ℕ) (fs : List Bool)
     (all group rest earlier kept : List Item) (past : List (List ℕ)) → All (IsOfBroadcast s.plan s.clear)
     (group ++ rest) →
-    tuning_of s.card.ca past ≡ Some (tuning_at s) →
+    IsTuned s past →
     (goes : Goes s all k h q m last (kept ++ chosen (take (length group) fs) group) (heard s.card past)
     (heard_from (length past) (chosen (take (length group) fs) group))) →
-    (tuning_of s.card.ca (onto (chosen (take (length group) fs) (packets_from s.plan.site earlier group)) past) ≡ Some
-    (tuning_at s) →
+    (IsTuned s (onto (chosen (take (length group) fs) (packets_from s.plan.site earlier group)) past) →
     AreHeard s h q m goes.next (kept ++ chosen (take (length group) fs) group)
     (heard s.card (onto (chosen (take (length group) fs) (packets_from s.plan.site earlier group)) past)) →
     EndsFrom s (earlier ++ group) rest (drop (length group) fs)
@@ -81,7 +80,7 @@ group_stands s able k h q m last fs all group rest earlier kept past are tuned g
     others : List (List ℕ)
     others = chosen (drop (length group) fs) (packets_from s.plan.site (earlier ++ group) rest)
 
-    come : ComesTo s.card (tuning_at s) past first others (heard_from (length past) xs) goes.wrote
+    come : ComesTo s past first others (heard_from (length past) xs) goes.wrote
     come = packets_come s able group earlier (take (length group) fs) past others goes.wrote
         (all_first (IsOfBroadcast s.plan s.clear) group rest are) tuned
         (open_upto (heard s.card past) (heard_from (length past) xs) goes.passes.heard_is.open_yet) goes.passes.writes
@@ -89,7 +88,7 @@ group_stands s able k h q m last fs all group rest earlier kept past are tuned g
 -- from packet k on
 pub tuned_ends : (s : Setting) (laws : AreLaws s) (able : AreHearable s) (n k : ℕ) (last : Option ℕ) (fs : List Bool)
     (earlier kept : List Item) (past : List (List ℕ)) → k + n ≡ length s.clear →
-    All (IsOfBroadcast s.plan s.clear) (rest_at s k) → tuning_of s.card.ca past ≡ Some (tuning_at s) →
+    All (IsOfBroadcast s.plan s.clear) (rest_at s k) → IsTuned s past →
     AreKept k (closing_number s.plan.site k) last kept →
     AreHeard s k (period_of s.plan (k - 1)) (closing_number s.plan.site k) last kept (heard s.card past) →
     EndsFrom s earlier (rest_at s k) fs past kept
@@ -202,7 +201,7 @@ skipped_first s able group rest earlier fs past all none no_cat more =
 
 cat_taken : (s : Setting) (able : AreHearable s) (items earlier : List Item) (fs : List Bool) (past : List (List ℕ)) →
     tuning_of s.card.ca past ≡ None →
-    (tuning_of s.card.ca (packet_of s.plan.site earlier Cat ∷ past) ≡ Some (tuning_at s) →
+    (IsTuned s (packet_of s.plan.site earlier Cat ∷ past) →
     heard s.card (packet_of s.plan.site earlier Cat ∷ past) ≡ [] →
     EndsFrom s (earlier ++ Cat ∷ []) items fs (packet_of s.plan.site earlier Cat ∷ past) []) →
     EndsUntuned s earlier (Cat ∷ items) (true ∷ fs) past
@@ -214,7 +213,7 @@ cat_taken s able items earlier fs past none more =
 cat_here : (s : Setting) (laws : AreLaws s) (able : AreHearable s) (n k : ℕ) (fs : List Bool) (earlier : List Item)
     (past : List (List ℕ)) → k + suc n ≡ length s.clear →
     All (IsOfBroadcast s.plan s.clear) ((sections_at s (period_of s.plan k) ++ tail_at s k) ++ rest_at s (k + 1)) →
-    tuning_of s.card.ca past ≡ Some (tuning_at s) → heard s.card past ≡ [] →
+    IsTuned s past → heard s.card past ≡ [] →
     EndsFrom s earlier ((sections_at s (period_of s.plan k) ++ tail_at s k) ++ rest_at s (k + 1)) fs past []
 cat_here s laws able n k fs earlier past count all tuned none =
     group_stands s able k (k + 1) (period_of s.plan k) (closing_number s.plan.site (k + 1)) None fs
@@ -253,7 +252,7 @@ cat_here s laws able n k fs earlier past count all tuned none =
 -- the CAT of a broadcast without a packet is kept
 sections_ends : (s : Setting) (laws : AreLaws s) (able : AreHearable s) (fs : List Bool) (earlier : List Item)
     (past : List (List ℕ)) → length s.clear ≡ 0 → All (IsOfBroadcast s.plan s.clear) (items_of_none s) →
-    tuning_of s.card.ca past ≡ Some (tuning_at s) → heard s.card past ≡ [] → EndsFrom s earlier
+    IsTuned s past → heard s.card past ≡ [] → EndsFrom s earlier
     (items_of_none s) fs past []
 sections_ends s laws able fs earlier past empty all tuned none =
     all_stand s able (items_of_none s) earlier [] fs past (confirmed_in s (chosen fs (items_of_none s)) 0

@@ -42,6 +42,10 @@ use Rattle.sd_reception.specs.Keys.{key_from}
 use Rattle.sd_losses.specs.Confirmed.{packet_at, is_scrambled}
 use Rattle.sd_losses.proofs.Coming.{AreParts, is_nil}
 use Rattle.sd_losses.proofs.Setting.{Setting, IsDue, IsOpen, IsVeiled, AreLaws, told_by, carried_at, key_where}
+use Rattle.sd_broadcast.specs.Items.{IsOfBroadcast}
+use Rattle.sd_site.specs.Fields.{name_of as site_name}
+use Rattle.sd_sent.proofs.Runs.{section_names, part_names}
+use Rattle.sd_losses.proofs.OneRun.{IsOfRun, of_named}
 use Rattle.sd_losses.proofs.Hearing.{AreHearable, heard_as, is_cat}
 
 -- the card of leaf u
@@ -220,12 +224,21 @@ no_cat (Entitles emm) e = refl
 no_cat (Controls part) e = refl
 no_cat (Carries k packet) e = refl
 
+-- and no message of it names another run
+item_named : (plan : Plan) (clear : List (List ℕ)) (n : ℕ) (item : Item) → IsOfBroadcast plan clear item →
+    IsOfRun (site_name plan.site) (heard_as n item)
+item_named plan clear n Cat is = refl
+item_named plan clear n (Entitles emm) is = of_named (site_name plan.site) emm.run (section_names plan clear emm is)
+item_named plan clear n (Controls part) is = of_named (site_name plan.site) part.run (part_names plan clear part is)
+item_named plan clear n (Carries k packet) is = refl
+
 -- so the things of the broadcast can be heard
 pub can_be_heard : (plan : Plan) (clear : List (List ℕ)) (u : ℕ) → IsPlan plan → IsClear plan.site clear →
     AreWholePackets clear → AreHearable (setting plan clear u)
 unfolding card_of
 can_be_heard plan clear u is all whole = record {
   heard_is = λ n earlier item of'. items_heard plan clear earlier n item is all whole of' ∙ heard_same n item;
+  named = λ n item of'. item_named plan clear n item of';
   tuning = λ earlier. cat_taken plan earlier is;
   untuned = λ earlier item of' other. no_other_taken plan clear earlier item is all whole of' (no_cat item other);
 }

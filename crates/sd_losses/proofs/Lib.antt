@@ -4,6 +4,7 @@ pub mod Parts
 pub mod Places
 pub mod Traced
 pub mod Writing
+pub mod OneRun
 pub mod Taking
 pub mod Coming
 pub mod Neighbours

@@ -1,6 +1,6 @@
 -- Whatever is lost of a broadcast, a receiver that took its CAT writes exactly what is confirmed.
 use Rattle.std.proofs.Common.{◌≡◌, refl, ℕ, suc, ◌+◌, ◌-◌, ◌<◌, ◌≤◌, Bool, true, false}
-use Rattle.std.proofs.Common.{List, [], ◌∷◌, ◌++◌, map, length, take, drop, Option, Some, None}
+use Rattle.std.proofs.Common.{List, [], ◌∷◌, ◌++◌, map, length, take, drop, Option, None}
 use Rattle.std.proofs.Common.{arith, sym, ap, ◌∙◌, subst, append-nil}
 use Rattle.std.specs.Prelude.{All}
 use Rattle.std.specs.List.{list_any}
@@ -13,7 +13,6 @@ use Rattle.sd_broadcast.specs.Messages.{message_at}
 use Rattle.sd_broadcast.specs.Sent.{Item, Controls, packets_from}
 use Rattle.sd_broadcast.specs.Items.{IsOfBroadcast}
 use Rattle.sd_broadcast.proofs.Sending.{packets_in_turn}
-use Rattle.sd_reception.specs.Tuned.{tuning_of}
 use Rattle.sd_reception.specs.Heard.{Heard, Controls as HeardControls}
 use Rattle.sd_reception.specs.Offered.{heard, out_from, break_from}
 use Rattle.sd_losses.specs.Chosen.{chosen}
@@ -25,7 +24,7 @@ use Rattle.sd_losses.proofs.Pairs.{end_is_all, closing_is}
 use Rattle.sd_losses.proofs.Facts.{AreKept, AreHeard, from_last}
 use Rattle.sd_losses.proofs.Completing.{parts_at, parts_of_other, none_carried}
 use Rattle.sd_losses.proofs.Heeding.{Closes, next_last, written_where, what_comes, closing_comes}
-use Rattle.sd_losses.proofs.Hearing.{AreHearable, heard_from, heard_parts, ComesTo, packets_come}
+use Rattle.sd_losses.proofs.Hearing.{AreHearable, heard_from, heard_parts, ComesTo, packets_come, IsTuned}
 use Rattle.sd_losses.proofs.Later.{chosen_append, chosen_map}
 use Rattle.sd_losses.proofs.Confirming.{confirmed_in}
 use Rattle.sd_losses.proofs.Writings.{last_before, written_confirmed, rest_unconfirmed}
@@ -65,7 +64,7 @@ pub record AreWritten (s : Setting) (past packets : List (List ℕ)) (wrote : Li
 
 -- the first packets, and then the others
 pub written_first : (s : Setting) (past xs ys : List (List ℕ)) (things : List Heard) (v w : List (List ℕ)) →
-    ComesTo s.card (tuning_at s) past xs ys things v → AreWritten s (onto xs past) ys w → AreWritten s past
+    ComesTo s past xs ys things v → AreWritten s (onto xs past) ys w → AreWritten s past
     (xs ++ ys) (v ++ w)
 written_first s past xs ys things v w first after = record {
   out = first.out ∙ ap (λ (ps : List (List ℕ)). v ++ ps) after.out;
@@ -79,7 +78,7 @@ nothing_more s past = record { out = refl; none = refl }
 -- all packets of some things, up to the end
 pub written_all : (s : Setting) (able : AreHearable s) (items earlier : List Item) (fs : List Bool) (past : List
     (List ℕ))
-    (wrote : List (List ℕ)) → All (IsOfBroadcast s.plan s.clear) items → tuning_of s.card.ca past ≡ Some (tuning_at s) →
+    (wrote : List (List ℕ)) → All (IsOfBroadcast s.plan s.clear) items → IsTuned s past →
     IsOpenUpto (heard s.card past) (heard_from (length past) (chosen fs items)) →
     Writes s.card (tuning_at s) (heard s.card past) (heard_from (length past) (chosen fs items)) wrote →
     AreWritten s past (chosen fs (packets_from s.plan.site earlier items)) wrote

@@ -9,9 +9,13 @@ use Rattle.sd_card.specs.Fields.{CardFields}
 use Rattle.sd_reception.specs.Tuned.{Tuning, tuning_of}
 use Rattle.sd_reception.specs.Heard.{Heard, hears}
 use Rattle.sd_reception.specs.Stretches.{is_closed}
-use Rattle.sd_reception.specs.Offered.{heard, heard_with}
+use Rattle.sd_reception.specs.Runs.{is_turn}
+use Rattle.sd_reception.specs.Offered.{heard, heard_with, heard_more}
+use Rattle.sd_reception.specs.Ending.{turns_at}
+use Rattle.sd_reception.specs.Taken.{takes_key_in}
 use Rattle.sd_losses.specs.Taken.{takes_key_of, takes_key_at, taken_keys, how_many}
 use Rattle.sd_losses.proofs.Writing.{onto}
+use Rattle.sd_losses.proofs.OneRun.{AreOneRun, one_before, run_stays}
 
 -- the keys that were taken of what was heard
 abbrev pub keys_of : CardFields → List Heard → ℕ
@@ -87,27 +91,42 @@ how_many_below f g (suc n) same =
     rw (same n (omega arith)) (ap (λ (m : ℕ). m + (if g n then 1 else 0)) (how_many_below f g n (λ q below. same q
     (omega (arith, below)))))
 
--- one packet more of what is heard
-one_taken : (card : CardFields) (past : List (List ℕ)) (packet : List ℕ) → keys_of card (heard card (packet ∷ past))
-    ≡ keys_of card (heard card past) + (if takes_key_at card past packet then 1 else 0)
-unfolding heard takes_key_at
-one_taken card past packet = by_tuning (tuning_of card.ca past) (cases_Bool (is_closed (heard card past)))
+-- one thing more of the run at hand
+one_more_taken : (card : CardFields) (past : List Heard) (thing : Heard) → is_turn past thing ≡ false →
+    keys_of card (heard_more past thing) ≡ keys_of card past + (if takes_key_in card past thing then 1 else 0)
+one_more_taken card past thing straight = rw (run_stays past thing straight) (by_closed (cases_Bool (is_closed past)))
   where
-    by_tuning : (t : Option Tuning) → (is_closed (heard card past) ≡ true) ⊎ (is_closed (heard card past) ≡ false) →
-        keys_of card (heard_with card t (length past) packet (heard card past))
-        ≡ keys_of card (heard card past) + (if (if is_closed (heard card past) then false
-        else option_map_or (λ tuning. takes_key_of card (heard card past) (hears card.height tuning
-        (length past) packet)) t false)
-        then 1 else 0)
-    by_tuning None (inl closed) = rw closed (omega arith)
-    by_tuning None (inr opened) = rw opened (omega arith)
-    by_tuning (Some tuning) (inl closed) = rw closed (omega arith)
-    by_tuning (Some tuning) (inr opened) = rw opened refl
+    by_closed : (is_closed past ≡ true) ⊎ (is_closed past ≡ false) →
+        keys_of card (if is_closed past then past else thing ∷ past)
+        ≡ keys_of card past + (if (if is_closed past then false else takes_key_of card past thing) then 1 else 0)
+    by_closed (inl closed) = rw closed (omega arith)
+    by_closed (inr opened) = rw opened refl
 
--- the keys that packets take are those of what is heard of them
-pub taken_heard : (card : CardFields) (packets past : List (List ℕ)) →
+-- one packet more of what is heard
+one_taken : (card : CardFields) (past : List (List ℕ)) (packet : List ℕ) → turns_at card past packet ≡ false →
+    keys_of card (heard card (packet ∷ past))
+    ≡ keys_of card (heard card past) + (if takes_key_at card past packet then 1 else 0)
+unfolding heard takes_key_at turns_at
+one_taken card past packet straight = by_tuning (tuning_of card.ca past) straight
+  where
+    by_tuning : (t : Option Tuning) →
+        option_map_or (λ tuning. is_turn (heard card past) (hears card.height tuning (length past) packet)) t false
+        ≡ false →
+        keys_of card (heard_with card t (length past) packet (heard card past))
+        ≡ keys_of card (heard card past) + (if option_map_or (λ tuning. takes_key_in card (heard card past)
+        (hears card.height tuning (length past) packet)) t false then 1 else 0)
+    by_tuning None straight = omega arith
+    by_tuning (Some tuning) straight =
+        one_more_taken card (heard card past) (hears card.height tuning (length past) packet) straight
+
+-- the keys that packets of one run take are those of what is heard of them
+pub taken_heard : (card : CardFields) (packets past : List (List ℕ)) → AreOneRun card (onto packets past) →
     taken_keys card past packets + keys_of card (heard card past) ≡ keys_of card (heard card (onto packets past))
 unfolding taken_keys
-taken_heard card [] past = omega arith
-taken_heard card (packet ∷ packets) past =
-    omega (arith, taken_heard card packets (packet ∷ past), one_taken card past packet)
+taken_heard card [] past one = omega arith
+taken_heard card (packet ∷ packets) past one =
+    omega (
+      arith,
+      taken_heard card packets (packet ∷ past) one,
+      one_taken card past packet (one_before card packets (packet ∷ past) one).0,
+    )

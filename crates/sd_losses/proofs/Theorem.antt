@@ -48,15 +48,10 @@ none_refused plan clear u flags is all whole leaf =
 pub ends_as_told : (plan : Plan) (clear : List (List ℕ)) (u : ℕ) (flags : List Bool) → IsPlan plan →
     IsClear plan.site clear → AreWholePackets clear → u < 2 ^ plan.site.height →
     ending_of (card_of plan.site.master plan.site.ca plan.site.height u) (reverse (chosen flags (broadcast plan clear)))
-    (length (out_from (card_of plan.site.master plan.site.ca plan.site.height u) [] (chosen flags
-    (broadcast plan clear))))
     ≡ ending_told plan u clear (chosen flags (sent plan clear ++ closing_of plan clear))
 unfolding card_of
 ends_as_told plan clear u flags is all whole leaf =
-    ap (λ (written : List (List ℕ)). ending_of (card_of plan.site.master plan.site.ca plan.site.height u)
-    (reverse (chosen flags (broadcast plan clear))) (length written)) (confirmed_alone plan clear u flags is all whole
-    leaf)
-    ∙ losses_end (setting plan clear u) (laws_hold plan clear u is all whole leaf)
+    losses_end (setting plan clear u) (laws_hold plan clear u is all whole leaf)
     (can_be_heard plan clear u is all whole) flags
 
 -- a choice of all things
@@ -101,12 +96,10 @@ whole_refused plan clear u is all whole leaf =
 pub whole_ended : (plan : Plan) (clear : List (List ℕ)) (u : ℕ) → IsPlan plan → IsClear plan.site clear →
     AreWholePackets clear → u < 2 ^ plan.site.height →
     ending_of (card_of plan.site.master plan.site.ca plan.site.height u) (reverse (broadcast plan clear))
-    (length (out_from (card_of plan.site.master plan.site.ca plan.site.height u) [] (broadcast plan clear)))
     ≡ whole_ending (first_revoked plan u clear)
 whole_ended plan clear u is all whole leaf =
     ap (λ (packets : List (List ℕ)). ending_of (card_of plan.site.master plan.site.ca plan.site.height u)
-    (reverse packets)
-    (length (out_from (card_of plan.site.master plan.site.ca plan.site.height u) [] packets)))
+    (reverse packets))
     (sym (all_chosen (broadcast plan clear) n refl))
     ∙ (ends_as_told plan clear u (all_flags n) is all whole leaf
     ∙ (ap (ending_told plan u clear) (all_chosen (sent plan clear ++ closing_of plan clear) n (sym

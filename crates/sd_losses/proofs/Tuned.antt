@@ -10,7 +10,6 @@ use Rattle.sd_broadcast.specs.Plan.{period_of, closing_number}
 use Rattle.sd_broadcast.specs.Sent.{Item, Controls, tables_at, closing_of, packets_from}
 use Rattle.sd_broadcast.specs.Items.{IsOfBroadcast}
 use Rattle.sd_broadcast.proofs.Schedule.{periods_rise}
-use Rattle.sd_reception.specs.Tuned.{tuning_of}
 use Rattle.sd_reception.specs.Heard.{Heard}
 use Rattle.sd_reception.specs.Offered.{heard}
 use Rattle.sd_losses.specs.Chosen.{chosen}
@@ -19,7 +18,7 @@ use Rattle.sd_losses.proofs.Writing.{onto, Writes, writes_append, IsOpenUpto, op
 use Rattle.sd_losses.proofs.Arriving.{is_of, arrived_stays}
 use Rattle.sd_losses.proofs.Setting.{Setting, AreLaws, tuning_at, final, told_by}
 use Rattle.sd_losses.proofs.Facts.{AreKept, AreHeard, Passes, IsLast, from_last}
-use Rattle.sd_losses.proofs.Hearing.{AreHearable, heard_from, heard_append, ComesTo, packets_come}
+use Rattle.sd_losses.proofs.Hearing.{AreHearable, heard_from, heard_append, ComesTo, packets_come, IsTuned}
 use Rattle.sd_losses.proofs.Remaining.{group_at, rest_at, rest_more, rest_none, closing_items}
 use Rattle.sd_losses.proofs.Later.{chosen_append, chosen_fails, numbers_later, packets_later}
 use Rattle.sd_losses.proofs.Confirming.{confirmed_in}
@@ -93,7 +92,7 @@ end_heard s laws p i last fs kept past true is rises kept_is are =
 -- what is left after the last packet
 end_written : (s : Setting) (laws : AreLaws s) (able : AreHearable s) (p : ℕ) (last : Option ℕ) (fs : List Bool)
     (earlier kept : List Item) (past : List (List ℕ)) → All (IsOfBroadcast s.plan s.clear) (closing_of s.plan s.clear) →
-    tuning_of s.card.ca past ≡ Some (tuning_at s) → p ≤ period_of s.plan (length s.clear - 1) →
+    IsTuned s past → p ≤ period_of s.plan (length s.clear - 1) →
     AreKept (length s.clear) (final s) last kept → AreHeard s (length s.clear) p (final s) last kept
     (heard s.card past) →
     IsWrittenFrom s earlier (closing_of s.plan s.clear) fs past last kept
@@ -118,15 +117,14 @@ pub group_written : (s : Setting) (laws : AreLaws s) (able : AreHearable s) (k p
     closing_number s.plan.site k ≡ n →
     closing_number s.plan.site (k + 1) ≡ m → from_last s last ≤ k →
     All (IsOfBroadcast s.plan s.clear) (group ++ rest) →
-    tuning_of s.card.ca past ≡ Some (tuning_at s) → IsLast n kept last →
+    IsTuned s past → IsLast n kept last →
     ((b : ℕ) → b < n → list_any (is_of b) (group ++ rest) ≡ false) →
     ((b : ℕ) → b < m → list_any (is_of b) rest ≡ false) →
     (goes : Goes s (kept ++ (chosen (take (length group) fs) group ++ chosen (drop (length group) fs) rest)) k
     (k + 1) q m last
     (kept ++ chosen (take (length group) fs) group) (heard s.card past)
     (heard_from (length past) (chosen (take (length group) fs) group))) →
-    (tuning_of s.card.ca (onto (chosen (take (length group) fs) (packets_from s.plan.site earlier group)) past) ≡ Some
-    (tuning_at s) →
+    (IsTuned s (onto (chosen (take (length group) fs) (packets_from s.plan.site earlier group)) past) →
     AreHeard s (k + 1) q m goes.next (kept ++ chosen (take (length group) fs) group)
     (heard s.card (onto (chosen (take (length group) fs) (packets_from s.plan.site earlier group)) past)) →
     IsWrittenFrom s (earlier ++ group) rest (drop (length group) fs)
@@ -152,7 +150,7 @@ group_written s laws able k p q n m last fs group rest earlier kept past within 
     ys : List Item
     ys = chosen (drop (length group) fs) rest
 
-    come : ComesTo s.card (tuning_at s) past (chosen (take (length group) fs) (packets_from s.plan.site earlier group))
+    come : ComesTo s past (chosen (take (length group) fs) (packets_from s.plan.site earlier group))
         (chosen (drop (length group) fs) (packets_from s.plan.site (earlier ++ group) rest)) (heard_from
         (length past) xs) goes.wrote
     come = packets_come s able group earlier (take (length group) fs) past
@@ -186,7 +184,7 @@ group_written s laws able k p q n m last fs group rest earlier kept past within 
 -- so what is written from packet k on is what is confirmed from the last message on
 pub tuned_written : (s : Setting) (laws : AreLaws s) (able : AreHearable s) (n k : ℕ) (last : Option ℕ) (fs : List Bool)
     (earlier kept : List Item) (past : List (List ℕ)) → k + n ≡ length s.clear →
-    All (IsOfBroadcast s.plan s.clear) (rest_at s k) → tuning_of s.card.ca past ≡ Some (tuning_at s) →
+    All (IsOfBroadcast s.plan s.clear) (rest_at s k) → IsTuned s past →
     AreKept k (closing_number s.plan.site k) last kept →
     AreHeard s k (period_of s.plan (k - 1)) (closing_number s.plan.site k) last kept (heard s.card past) →
     IsWrittenFrom s earlier (rest_at s k) fs past last kept

@@ -29,6 +29,7 @@ use Rattle.sd_losses.specs.Kept.{is_kept, kept_in, has_arrived, after_cat}
 use Rattle.sd_losses.proofs.Taking.{how_many_none}
 use Rattle.sd_losses.proofs.Facts.{is_told}
 use Rattle.sd_losses.proofs.Writing.{onto}
+use Rattle.sd_losses.proofs.OneRun.{AreOneRun, untuned_turn}
 use Rattle.sd_losses.proofs.Setting.{Setting, told_by, carried_at}
 use Rattle.sd_losses.proofs.Facts.{AreKept, AreHeard}
 use Rattle.sd_losses.proofs.Carrying.{carrying}
@@ -54,6 +55,14 @@ untuned_heard card (packet ∷ past) none =
     ap (λ (t : Option Tuning). heard_with card t (length past) packet (heard card past))
     (untuned_before card packet past none)
     ∙ untuned_heard card past (untuned_before card packet past none)
+
+-- and no run begins
+pub untuned_one_run : (card : CardFields) (past : List (List ℕ)) → tuning_of card.ca past ≡ None → AreOneRun card past
+untuned_one_run card [] none = tt
+untuned_one_run card (packet ∷ past) none = (
+  untuned_turn card past packet (untuned_before card packet past none),
+  untuned_one_run card past (untuned_before card packet past none),
+)
 
 -- nothing comes of packets without a CAT
 pub record IsSkipped (s : Setting) (past packets more : List (List ℕ)) : Type 0 where

@@ -70,8 +70,6 @@ pub fn losses_are_told()
         IsClear plan.site clear → AreWholePackets clear → u < 2 ^ plan.site.height →
         ending_of (card_of plan.site.master plan.site.ca plan.site.height u)
         (reverse (chosen flags (broadcast plan clear)))
-        (length (out_from (card_of plan.site.master plan.site.ca plan.site.height u) []
-        (chosen flags (broadcast plan clear))))
         ≡ ending_told plan u clear (chosen flags (sent plan clear ++ closing_of plan clear)) }
     ensures revoked { (plan : Plan) (clear : List (List ℕ)) (u q : ℕ) (flags : List Bool) → IsPlan plan →
         u < 2 ^ plan.site.height →
@@ -119,7 +117,6 @@ pub fn whole_broadcasts_are_opened()
     ensures ending { (plan : Plan) (clear : List (List ℕ)) (u : ℕ) → IsPlan plan → IsClear plan.site clear →
         AreWholePackets clear → u < 2 ^ plan.site.height →
         ending_of (card_of plan.site.master plan.site.ca plan.site.height u) (reverse (broadcast plan clear))
-        (length (out_from (card_of plan.site.master plan.site.ca plan.site.height u) [] (broadcast plan clear)))
         ≡ whole_ending (first_revoked plan u clear) }
 {}
 

@@ -101,8 +101,7 @@ module _ (plan : Plan) (clear : List (List ℕ)) (is : IsPlan plan) (all : IsCle
       let taken = broadcast_taken plan clear is all whole synced in
       none_refused (card u) stream Whole
       (ap (break_from (card u) []) taken.0 ∙ whole_refused plan clear u is all whole leaf) taken.1
-      ∙ ap (λ (ps : List (List ℕ)). ending_status (card u).leaf (ending_of (card u) (reverse ps)
-      (length (out_from (card u) [] ps)))) taken.0
+      ∙ ap (λ (ps : List (List ℕ)). ending_status (card u).leaf (ending_of (card u) (reverse ps))) taken.0
       ∙ ap (ending_status (card u).leaf) (whole_ended plan clear u is all whole leaf)
       ∙ ap (λ (v : ℕ). ending_status v (whole_ending (first_revoked plan u clear))) (leaf_is u)
 

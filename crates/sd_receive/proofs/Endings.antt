@@ -6,21 +6,23 @@ use Rattle.std.proofs.lemmas.Bool.{lt-ltb}
 use Rattle.sd_ecm.specs.Parts.{Message}
 use Rattle.sd_ecm.specs.declared.part.Place.{Place}
 use Rattle.sd_ecm.specs.declared.message.EcmHead.{EcmHead}
+use Rattle.sd_card.specs.Fields.{CardFields}
+use Rattle.sd_reception.specs.declared.ending.Ending.{Ending}
 use Rattle.sd_reception.specs.declared.ending.Ending.TheVariants.{Opened, Revoked, Unheard, NoCat, Unclosed, Gaps}
 use Rattle.sd_reception.specs.Tuned.{tuning_of}
 use Rattle.sd_reception.specs.Stretches.{newest, is_closed}
-use Rattle.sd_reception.specs.Offered.{heard, out_from}
-use Rattle.sd_reception.specs.Ending.{periods_told, is_unkeyed, ending_with, ending_of}
+use Rattle.sd_reception.specs.Heard.{Heard}
+use Rattle.sd_reception.specs.Offered.{heard}
+use Rattle.sd_reception.specs.Ending.{periods_told, is_unkeyed, ending_with, run_ending, joined, run_wrote}
+use Rattle.sd_reception.specs.Ending.{ended_before, ending_of}
 use Rattle.sd_hearing.specs.Ears.{tuned}
 use Rattle.sd_hearing.specs.declared.tune.Tuning.{Tuning as Kept}
 use Rattle.sd_collect.specs.Collected.{Keeps}
 use Rattle.sd_entitled.specs.Entitled.{is_revoked}
+use Rattle.sd_receive.specs.Listening.{Follows}
 use Rattle.sd_receive.specs.Receiving.{card_in, IsAfter}
+use Rattle.sd_receive.specs.declared.listener.Listener.{Listener}
 use Rattle.sd_receive.specs.declared.receiver.Receiver.{Receiver}
-
--- how many packets were written of those that came
-abbrev pub outcome : Receiver → List (List ℕ) → ℕ
-outcome r past = length (out_from (card_in r) [] (reverse past))
 
 same_none : (tuning : Option Kept) → is_none (option_map tuned tuning) ≡ is_none tuning
 same_none None = refl
@@ -31,9 +33,18 @@ tuned_or_not : (r : Receiver) (past : List (List ℕ)) → IsAfter past r →
 tuned_or_not r past after = ap is_none (sym after.tuning) ∙ same_none r.tuning
 
 pub no_cat : (r : Receiver) (past : List (List ℕ)) → IsAfter past r → is_none r.tuning ≡ true →
-    NoCat ≡ ending_of (card_in r) past (outcome r past)
+    NoCat ≡ ending_of (card_in r) past
 unfolding ending_of
 no_cat r past after none = rw (tuned_or_not r past after ∙ none) refl
+
+-- the endings of the runs together
+pub all_runs : (r : Receiver) (past : List (List ℕ)) (last : Ending) → IsAfter past r → is_none r.tuning ≡ false →
+    last ≡ run_ending (card_in r) (heard (card_in r) past) (run_wrote (card_in r) past) →
+    joined r.so_far last ≡ ending_of (card_in r) past
+unfolding ending_of
+all_runs r past last after some is =
+    rw (tuned_or_not r past after ∙ some) (ap (λ (e : Ending). joined e last) after.so_far
+    ∙ ap (joined (ended_before (card_in r) past)) is)
 
 -- what is told of the newest message is told by what is kept of it
 number_kept : (message : Option Message) (last : Option EcmHead) (places : List Place) → Keeps message last places →
@@ -50,33 +61,27 @@ clear_kept message None places kept = ap (λ (o : Option Message). option_map_or
 clear_kept message (Some head) places kept = ap (λ (o : Option Message). option_map_or (λ (m : Message). m.clear) o 0)
     kept.says
 
-pub unclosed : (r : Receiver) (past : List (List ℕ)) → IsAfter past r → is_none r.tuning ≡ false →
-    r.listener.closed ≡ false →
-    Unclosed (option_map_or (λ head. head.number + 1) r.listener.collect.last 0) ≡ ending_of (card_in r) past
-    (outcome r past)
-unfolding ending_of
-unclosed r past after some open_yet =
-    let here = tuned_or_not r past after ∙ some in
-    let there : is_closed (heard (card_in r) past) ≡ false = sym after.follows.closed ∙ open_yet in
-    rw (here, there) (ap Unclosed (sym (number_kept (newest (heard (card_in r) past)).message r.listener.collect.last
-    r.listener.collect.places.items after.follows.collect.last)))
+pub unclosed : (card : CardFields) (past : List Heard) (total : ℕ) (l : Listener) → Follows card past l →
+    l.closed ≡ false →
+    Unclosed (option_map_or (λ head. head.number + 1) l.collect.last 0) ≡ run_ending card past total
+unfolding run_ending
+unclosed card past total l follows open_yet =
+    let there : is_closed past ≡ false = sym follows.closed ∙ open_yet in
+    rw there (ap Unclosed (sym (number_kept (newest past).message l.collect.last l.collect.places.items
+    follows.collect.last)))
 
--- the ending of a stream that was closed
-pub closed : (r : Receiver) (past : List (List ℕ)) → IsAfter past r → is_none r.tuning ≡ false →
-    r.listener.closed ≡ true →
-    ending_with (find (is_revoked (card_in r) (heard (card_in r) past)) (periods_told (heard (card_in r) past)))
-    (find (is_unkeyed (card_in r) (heard (card_in r) past)) (periods_told (heard (card_in r) past)))
-    (option_map_or (λ head. head.clear) r.listener.collect.last 0 - outcome r past)
-    ≡ ending_of (card_in r) past (outcome r past)
-unfolding ending_of
-closed r past after some yes_closed =
-    let here = tuned_or_not r past after ∙ some in
-    let there : is_closed (heard (card_in r) past) ≡ true = sym after.follows.closed ∙ yes_closed in
-    let tr = heard (card_in r) past in
-    rw (here, there) (ap (λ (n : ℕ). ending_with (find (is_revoked (card_in r) tr) (periods_told tr))
-    (find (is_unkeyed (card_in r) tr) (periods_told tr)) (n - outcome r past))
-    (sym (clear_kept (newest tr).message r.listener.collect.last r.listener.collect.places.items
-    after.follows.collect.last)))
+-- the ending of a run that was closed
+pub closed : (card : CardFields) (past : List Heard) (total : ℕ) (l : Listener) → Follows card past l →
+    l.closed ≡ true →
+    ending_with (find (is_revoked card past) (periods_told past)) (find (is_unkeyed card past) (periods_told past))
+    (option_map_or (λ head. head.clear) l.collect.last 0 - total)
+    ≡ run_ending card past total
+unfolding run_ending
+closed card past total l follows yes_closed =
+    let there : is_closed past ≡ true = sym follows.closed ∙ yes_closed in
+    rw there (ap (λ (n : ℕ). ending_with (find (is_revoked card past) (periods_told past))
+    (find (is_unkeyed card past) (periods_told past)) (n - total))
+    (sym (clear_kept (newest past).message l.collect.last l.collect.places.items follows.collect.last)))
 
 pub revoked_ending : (first second : Option ℕ) (gaps q : ℕ) → first ≡ Some q → Revoked q ≡ ending_with first second gaps
 revoked_ending first second gaps q is = rw is refl

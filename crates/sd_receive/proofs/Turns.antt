@@ -1,16 +1,18 @@
 -- What is written and refused of packets, of one packet more, and what is heard of it.
 use Rattle.std.proofs.Common.{◌≡◌, ℕ, ◌++◌, List, [], ◌∷◌, length, append-nil, append_assoc, refl, sym, ap, ◌∙◌, true}
-use Rattle.std.proofs.Common.{false, Bool}
+use Rattle.std.proofs.Common.{false, Bool, ◌+◌}
 use Rattle.std.specs.Prelude.{Option, Some, None, reverse, is_none, if◌then◌else◌}
-use Rattle.std.specs.Option.{option_map_or}
+use Rattle.std.specs.Option.{option_map_or, option_or}
+use Rattle.std.proofs.lemmas.Bool.{false≢true}
 use Rattle.std.proofs.lemmas.List.{reverse-append}
 use Rattle.sd_card.specs.Fields.{CardFields}
 use Rattle.sd_reception.specs.declared.fault.StreamFault.{StreamFault}
 use Rattle.sd_reception.specs.Tuned.{Tuning, tuning_of}
 use Rattle.sd_reception.specs.Heard.{Heard, hears}
 use Rattle.sd_reception.specs.Stretches.{is_closed}
-use Rattle.sd_reception.specs.Offered.{nothing, heard, heard_with, offered, tuned_offering, heard_offering, out_from}
-use Rattle.sd_reception.specs.Offered.{break_from}
+use Rattle.sd_reception.specs.Runs.{name_of, name_or, name_in, are_two, is_turn, of_run}
+use Rattle.sd_reception.specs.Offered.{nothing, heard, offered, heard_offering, out_from, break_from}
+use Rattle.sd_reception.specs.Ending.{run_ending, joined, turns_at, run_wrote, ended_before}
 
 -- packets before others stand before them
 pub reversed : (packet : List ℕ) (packets past : List (List ℕ)) →
@@ -72,33 +74,88 @@ pub not_tuned : (card : CardFields) (past : List (List ℕ)) (packet : List ℕ)
 unfolding offered heard
 not_tuned card past packet none = (rw none refl, rw none refl)
 
-closed_offering : (card : CardFields) (tuning : Option Tuning) (n : ℕ) (past : List Heard) (packet : List ℕ) →
-    is_closed past ≡ true →
-    tuned_offering card tuning n past packet ≡ nothing
-closed_offering card None n past packet closed = refl
-closed_offering card (Some tuning) n past packet closed = rw closed refl
-
-closed_heard : (card : CardFields) (tuning : Option Tuning) (n : ℕ) (packet : List ℕ) (past : List Heard) →
-    is_closed past ≡ true →
-    heard_with card tuning n packet past ≡ past
-closed_heard card None n packet past closed = refl
-closed_heard card (Some tuning) n packet past closed = rw closed refl
-
--- a packet after the closing message
-pub was_closed : (card : CardFields) (past : List (List ℕ)) (packet : List ℕ) → is_closed (heard card past) ≡ true →
+-- a packet after the closing message of its run
+pub was_closed : (card : CardFields) (past : List (List ℕ)) (packet : List ℕ) (tuning : Tuning) →
+    tuning_of card.ca past ≡ Some tuning →
+    is_closed (of_run (heard card past) (hears card.height tuning (length past) packet)) ≡ true →
     (offered card past packet ≡ nothing) × (heard card (packet ∷ past) ≡ heard card past)
 unfolding offered heard
-was_closed card past packet closed = (
-  closed_offering card (tuning_of card.ca past) (length past) (heard card past) packet closed,
-  closed_heard card (tuning_of card.ca past) (length past) packet (heard card past) closed,
-)
+was_closed card past packet tuning is closed = (rw (is, closed) refl, rw (is, closed) refl)
 
--- a packet between the two
+-- a packet before it
 pub was_heard : (card : CardFields) (past : List (List ℕ)) (packet : List ℕ) (tuning : Tuning) →
     tuning_of card.ca past ≡ Some tuning →
-    is_closed (heard card past) ≡ false →
-    (offered card past packet ≡ heard_offering card tuning (length past) (heard card past)
+    is_closed (of_run (heard card past) (hears card.height tuning (length past) packet)) ≡ false →
+    (offered card past packet ≡ heard_offering card tuning (length past)
+    (of_run (heard card past) (hears card.height tuning (length past) packet))
     (hears card.height tuning (length past) packet))
-    × (heard card (packet ∷ past) ≡ hears card.height tuning (length past) packet ∷ heard card past)
+    × (heard card (packet ∷ past) ≡ hears card.height tuning (length past) packet
+    ∷ of_run (heard card past) (hears card.height tuning (length past) packet))
 unfolding offered heard
 was_heard card past packet tuning is unclosed = (rw (is, unclosed) refl, rw (is, unclosed) refl)
+
+-- whether a packet ends the run at hand
+pub turns_is : (card : CardFields) (past : List (List ℕ)) (packet : List ℕ) (tuning : Tuning) →
+    tuning_of card.ca past ≡ Some tuning →
+    turns_at card past packet ≡ is_turn (heard card past) (hears card.height tuning (length past) packet)
+unfolding turns_at
+turns_is card past packet tuning is = rw is refl
+
+pub never_turns : (card : CardFields) (past : List (List ℕ)) (packet : List ℕ) → tuning_of card.ca past ≡ None →
+    turns_at card past packet ≡ false
+unfolding turns_at
+never_turns card past packet none = rw none refl
+
+-- what was heard of the run at hand
+pub same_run : (past : List Heard) (thing : Heard) → is_turn past thing ≡ false → of_run past thing ≡ past
+unfolding of_run
+same_run past thing stays = rw stays refl
+
+pub new_run : (past : List Heard) (thing : Heard) → is_turn past thing ≡ true → of_run past thing ≡ []
+unfolding of_run
+new_run past thing turns = rw turns refl
+
+-- a test holds or doesn't
+pub tested : {X : Type 0} (test : Bool) → (test ≡ true → X) → (test ≡ false → X) → X
+tested true holds fails = holds refl
+tested false holds fails = fails refl
+
+or_same : (a b : Option (Option ℕ)) → option_or a b ≡ name_or a b
+or_same None b = refl
+or_same (Some a) b = refl
+
+or_any : (before a b c : Option (Option ℕ)) → are_two before a ≡ true → name_or a b ≡ name_or a c
+or_any before (Some a) b c two = refl
+or_any None None b c two = absurd (false≢true two)
+or_any (Some n) None b c two = absurd (false≢true two)
+
+-- the name of the run at hand, once a thing is heard
+pub name_now : (past : List Heard) (thing : Heard) (name : Option (Option ℕ)) → name ≡ name_of thing →
+    option_or name (name_in past) ≡ name_in (thing ∷ of_run past thing)
+unfolding name_in is_turn
+name_now past thing name is =
+    or_same name (name_in past) ∙ (ap (λ (n : Option (Option ℕ)). name_or n (name_in past)) is
+    ∙ tested (is_turn past thing)
+    (λ turns. or_any (name_in past) (name_of thing) (name_in past) (name_in (of_run past thing)) turns)
+    (λ stays. ap (λ (p : List Heard). name_or (name_of thing) (name_in p)) (sym (same_run past thing stays))))
+
+-- the endings of the runs before the one at hand, and how many packets of that are written
+pub ended_on : (card : CardFields) (past : List (List ℕ)) (packet : List ℕ) → turns_at card past packet ≡ false →
+    ended_before card (packet ∷ past) ≡ ended_before card past
+unfolding ended_before
+ended_on card past packet stays = rw stays refl
+
+pub ended_now : (card : CardFields) (past : List (List ℕ)) (packet : List ℕ) → turns_at card past packet ≡ true →
+    ended_before card (packet ∷ past)
+    ≡ joined (ended_before card past) (run_ending card (heard card past) (run_wrote card past))
+unfolding ended_before
+ended_now card past packet turns = rw turns refl
+
+-- how many packets were written of the run that is at hand with a packet, before it
+abbrev pub wrote_before : CardFields → List (List ℕ) → List ℕ → ℕ
+wrote_before card past packet = if turns_at card past packet then 0 else run_wrote card past
+
+pub wrote_now : (card : CardFields) (past : List (List ℕ)) (packet : List ℕ) →
+    run_wrote card (packet ∷ past) ≡ wrote_before card past packet + length (offered card past packet).wrote
+unfolding run_wrote
+wrote_now card past packet = refl

@@ -1,34 +1,60 @@
 -- The receiver as a stage of packets.
-use Rattle.std.specs.Prelude.{◌≡◌, ℕ, ◌-◌, ◌*◌, ◌^◌, ◌<◌, ◌≤◌, List, [], ◌∷◌, ◌++◌, length, reverse}
+use Rattle.std.specs.Prelude.{◌≡◌, ℕ, ◌-◌, ◌*◌, ◌^◌, ◌<◌, ◌≤◌, true, false, List, [], ◌∷◌, ◌++◌, length, reverse}
 use Rattle.std.specs.Prelude.{if◌then◌else◌, Option, Some, None, option_map, IfSome}
 use Rattle.std.specs.List.{concat}
 use Rattle.sd_card.specs.Fields.{CardFields, fields_of}
 use Rattle.sd_reception.specs.declared.fault.StreamFault.{StreamFault}
+use Rattle.sd_reception.specs.declared.ending.Ending.{Ending}
 use Rattle.sd_reception.specs.Tuned.{tuning_of}
 use Rattle.sd_reception.specs.Heard.{Heard}
+use Rattle.sd_reception.specs.Runs.{name_in, are_two}
+use Rattle.sd_reception.specs.Ending.{joined, run_ending, run_wrote, ended_before}
 use Rattle.sd_reception.specs.Offered.{heard, offered, out_from, break_from}
 pub use Rattle.sd_reception.specs.Taken.{takes_key_of}
 unfoldable pub use Rattle.sd_reception.specs.Taken.{takes_key_at, taken_keys}
 use Rattle.sd_hearing.specs.Ears.{tuned}
 use Rattle.sd_receive.specs.Listening.{Follows, capped}
+use Rattle.sd_receive.specs.declared.listener.Listener.{Listener}
 use Rattle.sd_receive.specs.declared.receiver.Receiver.{Receiver}
 
 abbrev pub card_in : Receiver → CardFields
 card_in receiver = fields_of receiver.card
 
--- how many packets are written of these, as far as a count of 64 bits goes
-abbrev pub written_of : CardFields → List (List ℕ) → ℕ
-written_of card packets = capped (length (out_from card [] packets))
+-- the receiver with another run at hand
+abbrev pub with_run : Receiver → Ending → Listener → Receiver
+with_run s so_far listener = record {
+  card = s.card;
+  count = s.count;
+  tuning = s.tuning;
+  name = s.name;
+  so_far = so_far;
+  listener = listener;
+  refusal = s.refusal;
+}
 
 -- what is kept after these packets, of which the last comes first, and none was refused
 -- [this project, docs/FORMATS.md, Receiver]
 pub record IsAfter (past : List (List ℕ)) (receiver : Receiver) : Type 0 where
   pub count : receiver.count ≡ length past
   pub tuning : option_map tuned receiver.tuning ≡ tuning_of receiver.card.ca past
+  pub name : receiver.name ≡ name_in (heard (card_in receiver) past)
+  pub so_far : receiver.so_far ≡ ended_before (card_in receiver) past
   pub follows : Follows (card_in receiver) (heard (card_in receiver) past) receiver.listener
-  pub written : receiver.listener.written ≡ written_of (card_in receiver) (reverse past)
+  pub written : receiver.listener.written ≡ capped (run_wrote (card_in receiver) past)
   pub unbroken : break_from (card_in receiver) [] (reverse past) ≡ None
   pub unrefused : receiver.refusal ≡ None
+
+-- the run at hand was ended: all of it was forgotten but how it ended
+pub record HasTurned (s t : Receiver) : Type 0 where
+  pub same : t ≡ with_run s t.so_far t.listener
+  pub follows : (past : List Heard) → Follows (card_in s) past s.listener → Follows (card_in s) [] t.listener
+  pub written : t.listener.written ≡ 0
+  pub so_far : (past : List Heard) (total : ℕ) → Follows (card_in s) past s.listener →
+      s.listener.written ≡ capped total → t.so_far ≡ joined s.so_far (run_ending (card_in s) past total)
+
+-- a message of this name ends the run at hand, where that has another
+abbrev pub TurnsBy : Option (Option ℕ) → Receiver → Receiver → Type 0
+TurnsBy name s t = (are_two s.name name ≡ false → t ≡ s) × (are_two s.name name ≡ true → HasTurned s t)
 
 -- the most steps that a packet takes: as many as the tree is high where it takes a key, and else none
 abbrev pub steps_at : CardFields → List (List ℕ) → List ℕ → ℕ

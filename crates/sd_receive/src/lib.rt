@@ -9,6 +9,7 @@ mod listen;
 mod listener;
 mod receiver;
 mod stage;
+mod turn;
 mod word;
 
 pub use receiver::Receiver;

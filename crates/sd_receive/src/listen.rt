@@ -6,9 +6,9 @@ ghost use Rattle.sd_ecm.specs.Form.{IsEcm};
 ghost use Rattle.sd_emm.specs.Form.{IsEmm, AreSets};
 ghost use Rattle.sd_emm.specs.Spelled.{listed};
 ghost use Rattle.sd_engine.specs.Stage.{vessel};
-ghost use Rattle.sd_reception.specs.Heard.{Heard as Thing, Controls, hears};
+ghost use Rattle.sd_reception.specs.Heard.{Heard as Thing, Controls};
 ghost use Rattle.sd_reception.specs.Stretches.{is_closed};
-ghost use Rattle.sd_hearing.specs.Ears.{tuned};
+ghost use Rattle.sd_hearing.specs.Ears.{tuned, heard_as, IsFormed};
 ghost use Rattle.sd_receive.specs.Listening.{Follows, TakesHeard, RefusesHeard, Comes};
 ghost use Rattle.sd_receive.specs.Receiving.{takes_key_of};
 
@@ -19,7 +19,7 @@ use sd_collect::{Collect, Taken};
 use sd_ecm::EcmPart;
 use sd_engine::StageFault;
 use sd_entitled::Entitled;
-use sd_hearing::{Heard, Tuning, hear};
+use sd_hearing::{Heard, Tuning};
 use sd_packet::Packet;
 use sd_ports::Sink;
 use sd_reception::StreamFault;
@@ -45,43 +45,56 @@ impl Listener {
         })
     }
 
-    // Takes a packet with this number, before the stream is closed.
+    // Forgets what was heard: it stands as before anything was.
+    pub fn forget(&mut self)
+        ensures follows { (card : CardFields) (past : List Thing) → Follows card past self.old →
+            Follows card [] self.new }
+        ensures written { self.new.written ≡ 0 }
+    {
+        self.closed = false;
+        self.entitled.begin();
+        self.collect.begin();
+        self.segment.shut();
+        self.written = 0;
+    }
+
+    // Takes a packet with this number, which is heard as this, before the run is closed.
     pub fn take<K: Sink, L: Ledger>(
         &mut self,
         card: &Card,
         number: u64,
         tuning: Tuning,
         packet: &Packet,
+        heard: &Heard,
         out: &mut K,
         steps: &mut Steps<L>,
     ) -> Result<(), StageFault<StreamFault>>
         requires ecm { tuning.ecm < 8192 }
         requires live { (past : List Thing) × Follows (fields_of card.now) past self.old }
         requires open { self.old.closed ≡ false }
+        requires form { IsFormed card.now.height heard.now }
         ensures value { Comes
-            (TakesHeard (fields_of card.now) (tuned tuning) number
-            (hears card.now.height (tuned tuning) number packet.now) self.old)
-            (RefusesHeard (fields_of card.now) (tuned tuning) number
-            (hears card.now.height (tuned tuning) number packet.now) self.old)
+            (TakesHeard (fields_of card.now) (tuned tuning) number (heard_as number packet.now heard.now) self.old)
+            (RefusesHeard (fields_of card.now) (tuned tuning) number (heard_as number packet.now heard.now) self.old)
             (vessel K.Sink out.old) (vessel K.Sink out.new) self.new result }
         ensures steps { (past : List Thing) → Follows (fields_of card.now) past self.old → steps.new ≤ steps.old
-            + (if takes_key_of (fields_of card.now) past (hears card.now.height (tuned tuning) number packet.now)
+            + (if takes_key_of (fields_of card.now) past (heard_as number packet.now heard.now)
             then card.now.height else 0) }
         ensures cause { IsCaused (K.faults out.old) (K.faults out.new) (IsErrOf result StageFault.Write) }
     {
-        match hear(card.height(), tuning, packet) {
+        match heard {
             Heard::Dropped => Ok(()),
             Heard::Other => {
                 self.segment.hold(number, packet);
                 Ok(())
             }
-            Heard::Entitles(emm) => match self.entitled.section(card, number, &emm, steps) {
+            Heard::Entitles(emm) => match self.entitled.section(card, number, emm, steps) {
                 Ok(()) => Ok(()),
                 Err(fault) => Err(StageFault::Refused(fault)),
             },
-            Heard::Controls(part) => self.control(card, number, tuning, &part, out),
-            Heard::BadEmm(fault) => Err(StageFault::Refused(StreamFault::BadEmm(number, fault))),
-            Heard::BadEcm(fault) => Err(StageFault::Refused(StreamFault::BadEcm(number, fault))),
+            Heard::Controls(part) => self.control(card, number, tuning, part, out),
+            Heard::BadEmm(fault) => Err(StageFault::Refused(StreamFault::BadEmm(number, *fault))),
+            Heard::BadEcm(fault) => Err(StageFault::Refused(StreamFault::BadEcm(number, *fault))),
         }
     }
 

@@ -2,7 +2,7 @@ use sd_collect::Collect;
 use sd_entitled::Entitled;
 use sd_segment::Segment;
 
-// What a tuned receiver keeps of what it heard.
+// What a tuned receiver keeps of what it heard of the run at hand.
 #[derive(Drop)]
 pub struct Listener {
     // Whether the closing message came.
@@ -10,6 +10,6 @@ pub struct Listener {
     pub entitled: Entitled,
     pub collect: Collect,
     pub segment: Segment,
-    // How many packets were written.
+    // How many packets of the run were written.
     pub written: u64,
 }

@@ -6,13 +6,14 @@ ghost use Rattle.sd_receive.specs.Receiving.{receiver_refuses};
 
 use crate::listener::Listener;
 use crate::receiver::Receiver;
+use crate::turn::name_of;
 use sd_card::Card;
 use sd_cause::NoMemory;
 use sd_engine::{Stage, StageFault};
-use sd_hearing::cat_tuning;
+use sd_hearing::{cat_tuning, hear};
 use sd_packet::Packet;
 use sd_ports::Sink;
-use sd_reception::StreamFault;
+use sd_reception::{Ending, StreamFault};
 use sd_steps::Steps;
 use std::alloc::Global;
 use std::sync::ledger::Ledger;
@@ -30,6 +31,8 @@ impl Receiver {
             card,
             count: 0,
             tuning: None,
+            name: None,
+            so_far: Ending::Opened,
             listener,
             refusal: None,
         })
@@ -62,11 +65,15 @@ impl Receiver {
             self.tuning = cat_tuning(self.card.ca(), packet);
             return Ok(());
         };
+        let heard = hear(self.card.height(), tuning, packet);
+        let name = name_of(&heard);
+        self.turn(name);
         if self.listener.closed {
             return Ok(());
         }
+        self.name = name.or(self.name);
         self.listener
-            .take(&self.card, number, tuning, packet, out, steps)
+            .take(&self.card, number, tuning, packet, &heard, out, steps)
     }
 }
 

@@ -56,3 +56,24 @@ fn messages_are_collected(rt: HostRuntime) -> Result<(), Fail> {
     assert_eq!(rt; places_after(&mut collect, &second), 0);
     Ok(())
 }
+
+#[test]
+fn collected_messages_are_forgotten(rt: HostRuntime) -> Result<(), Fail> {
+    let mut collect = Collect::new(rt.alloc()).expect(&rt, "memory");
+    let [first, second] = PARTS;
+    let first = part_in(first).ok_or("no part")?;
+    let second = part_in(second).ok_or("no part")?;
+    assert_eq!(rt; places_after(&mut collect, &first), 0);
+    assert_eq!(rt; places_after(&mut collect, &second), 14);
+    collect.settle();
+    // Anew after the message, and between its parts.
+    collect.begin();
+    assert!(rt; collect.last().is_none());
+    assert!(rt; collect.places().is_empty());
+    assert_eq!(rt; places_after(&mut collect, &first), 0);
+    collect.begin();
+    assert_eq!(rt; places_after(&mut collect, &second), 0);
+    assert_eq!(rt; places_after(&mut collect, &first), 0);
+    assert_eq!(rt; places_after(&mut collect, &second), 14);
+    Ok(())
+}

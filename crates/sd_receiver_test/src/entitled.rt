@@ -79,14 +79,16 @@ fn emm_in(card: &Card, packet: &Packet) -> Option<Emm>
     }
 }
 
-// The key, the first revoked period and the first without a key after some rows, where each section is followed by a
-// message of its period.
+// The key, the first revoked period and the first without a key after the rows of some runs, where each section is
+// followed by a message of its period.
 type Kept = (Option<[u8; 32]>, Option<u32>, Option<u32>);
+
+type Row = (usize, u8);
 
 fn counted<L: Ledger>(
     alloc: Global,
     leaf: u32,
-    rows: &[(usize, u8)],
+    runs: &[&[Row]],
     blank: Blank,
 ) -> Option<Result<Kept, StreamFault>>
     requires name { blank.name ≡ L.name }
@@ -99,29 +101,42 @@ fn counted<L: Ledger>(
     let card = Card::read(alloc, &bytes).ok()?;
     let mut entitled = Entitled::new(alloc).ok()?;
     let mut steps = Steps::<L>::new(blank);
-    for (row, bits) in rows {
-        let emm = emm_of(&card, *row, *bits)?;
-        if let Err(fault) = entitled.section(&card, 9, &emm, &mut steps) {
-            return Some(Err(fault));
-        }
-        if entitled.period() <= emm.period {
-            entitled.message(emm.period);
+    for rows in runs {
+        entitled.begin();
+        for (row, bits) in *rows {
+            let emm = emm_of(&card, *row, *bits)?;
+            if let Err(fault) = entitled.section(&card, 9, &emm, &mut steps) {
+                return Some(Err(fault));
+            }
+            if entitled.period() <= emm.period {
+                entitled.message(emm.period);
+            }
         }
     }
     Some(Ok((entitled.key(), entitled.revoked(), entitled.unkeyed())))
 }
 
-fn kept(alloc: Global, leaf: u32, rows: &[(usize, u8)]) -> Option<Result<Kept, StreamFault>> {
-    counted::<Brand>(alloc, leaf, rows, Blank::new(1))
+fn kept_of(alloc: Global, leaf: u32, runs: &[&[Row]]) -> Option<Result<Kept, StreamFault>> {
+    counted::<Brand>(alloc, leaf, runs, Blank::new(1))
+}
+
+fn kept(alloc: Global, leaf: u32, rows: &[Row]) -> Option<Result<Kept, StreamFault>> {
+    kept_of(alloc, leaf, &[rows])
+}
+
+// The keys of periods 0, 1 and 2.
+const KEYS: [&str; 3] = [
+    "e9d9e51b1cde0cbaccbda5ec3d4ae31f9272291f6616d93ba6aa026ccbfa0936",
+    "58051f549ecdc36b3be133e50897d53baa1554ef7dc846a1e1fd585066a595be",
+    "b06c0d43278e31db25b9e7674bed115c89e00d759ad4b0251f8c9851a3f7608e",
+];
+
+fn key_of(period: Option<usize>) -> Option<[u8; 32]> {
+    <[u8; 32] as FromHex>::from_hex(KEYS.get(period?)?).ok()
 }
 
 #[test]
 fn keys_and_periods_are_kept(rt: HostRuntime) -> Result<(), Fail> {
-    let keys = [
-        "e9d9e51b1cde0cbaccbda5ec3d4ae31f9272291f6616d93ba6aa026ccbfa0936",
-        "58051f549ecdc36b3be133e50897d53baa1554ef7dc846a1e1fd585066a595be",
-        "b06c0d43278e31db25b9e7674bed115c89e00d759ad4b0251f8c9851a3f7608e",
-    ];
     // The leaf, the rows, of which period there is a key after them, the first period that is revoked.
     let table: [(u32, &[(usize, u8)], Option<usize>, Option<u32>); 8] = [
         (5, &[], None, None),
@@ -135,11 +150,32 @@ fn keys_and_periods_are_kept(rt: HostRuntime) -> Result<(), Fail> {
         (0, &[(0, 0), (2, 0), (3, 0)], Some(2), None),
     ];
     for (leaf, rows, period, revoked) in table {
-        let text = period.and_then(|q| keys.get(q));
-        let key = text.and_then(|text| <[u8; 32] as FromHex>::from_hex(text).ok());
+        let key = key_of(period);
         assert_eq!(rt; key.is_some(), period.is_some());
         assert_eq!(rt;
             kept(rt.alloc(), leaf, rows),
+            Some(Ok((key, revoked, revoked)))
+        );
+    }
+    Ok(())
+}
+
+#[test]
+fn what_was_heard_of_another_run_is_forgotten(rt: HostRuntime) -> Result<(), Fail> {
+    // The leaf, the rows of each run, of which period there is a key after them, the first period that is revoked.
+    let table: [(u32, &[&[Row]], Option<usize>, Option<u32>); 4] = [
+        (5, &[&[(0, 0), (1, 0)], &[]], None, None),
+        // A section of a lower period than those of the run before.
+        (5, &[&[(0, 0), (3, 0)], &[(0, 0)]], Some(0), None),
+        // A section that says otherwise than one of the run before.
+        (0, &[&[(1, 0)], &[(2, 0)]], Some(1), None),
+        (5, &[&[(0, 0)], &[(1, 0)]], None, Some(1)),
+    ];
+    for (leaf, runs, period, revoked) in table {
+        let key = key_of(period);
+        assert_eq!(rt; key.is_some(), period.is_some());
+        assert_eq!(rt;
+            kept_of(rt.alloc(), leaf, runs),
             Some(Ok((key, revoked, revoked)))
         );
     }

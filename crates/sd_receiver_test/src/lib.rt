@@ -4,6 +4,8 @@
 #[cfg(test)]
 mod collect;
 #[cfg(test)]
+mod ending;
+#[cfg(test)]
 mod entitled;
 #[cfg(test)]
 mod hearing;

@@ -1,6 +1,6 @@
 -- How a stream ends for a receiver.
-use Rattle.std.specs.Prelude.{ℕ, ◌+◌, ◌-◌, ◌==◌, ◌&&◌, Bool, false, nat_lt, List, [], ◌∷◌, map, reverse, find}
-use Rattle.std.specs.Prelude.{is_none, if◌then◌else◌, Option, Some, None}
+use Rattle.std.specs.Prelude.{ℕ, ◌+◌, ◌-◌, ◌^◌, ◌==◌, ◌&&◌, Bool, false, nat_lt, min, List, [], ◌∷◌, length, map}
+use Rattle.std.specs.Prelude.{reverse, find, is_none, if◌then◌else◌, Option, Some, None}
 use Rattle.std.specs.List.{list_any, list_all, range_with_len}
 use Rattle.std.specs.Option.{option_map_or}
 use Rattle.sd_card.specs.Fields.{CardFields}
@@ -8,10 +8,11 @@ use Rattle.sd_emm.specs.declared.emm.Emm.{Emm}
 use Rattle.sd_reception.specs.declared.ending.Ending.{Ending}
 use Rattle.sd_reception.specs.declared.ending.Ending.TheVariants.{Opened, Revoked, Unheard, NoCat, Unclosed, Gaps}
 use Rattle.sd_reception.specs.Tuned.{tuning_of}
-use Rattle.sd_reception.specs.Heard.{Heard}
+use Rattle.sd_reception.specs.Heard.{Heard, hears}
 use Rattle.sd_reception.specs.Stretches.{messages, newest, is_closed, seen}
 use Rattle.sd_reception.specs.Keys.{key_at}
-use Rattle.sd_reception.specs.Offered.{heard}
+use Rattle.sd_reception.specs.Runs.{is_turn}
+use Rattle.sd_reception.specs.Offered.{heard, offered}
 
 -- the periods of the complete messages, the oldest first
 unfoldable pub periods_told : List Heard → List ℕ
@@ -41,9 +42,64 @@ closed_ending card past written =
     (find (is_unkeyed card past) (periods_told past))
     (option_map_or (λ message. message.clear) (newest past).message 0 - written)
 
--- how it ends after these packets, of which so many were written [this project, docs/FORMATS.md, Receiver]
-unfoldable pub ending_of : CardFields → List (List ℕ) → ℕ → Ending
-ending_of card past written =
+-- how a run ends of which this was heard and so many packets were written [this project, docs/FORMATS.md, Receiver]
+unfoldable pub run_ending : CardFields → List Heard → ℕ → Ending
+run_ending card past written =
+    if is_closed past then closed_ending card past written
+    else Unclosed (option_map_or (λ message. message.number + 1) (newest past).message 0)
+
+-- the order of endings: of two runs the lower one counts
+abbrev pub rank_of : Ending → ℕ
+rank_of NoCat = 0
+rank_of (Unclosed n) = 1
+rank_of (Revoked q) = 2
+rank_of (Unheard q) = 3
+rank_of (Gaps n) = 4
+rank_of Opened = 5
+
+-- how many packets were not written, where that alone is amiss
+abbrev pub gaps_in : Ending → Option ℕ
+gaps_in (Gaps n) = Some n
+gaps_in NoCat = None
+gaps_in (Unclosed n) = None
+gaps_in (Revoked q) = None
+gaps_in (Unheard q) = None
+gaps_in Opened = None
+
+abbrev pub gaps_or : Option ℕ → Option ℕ → Ending → Ending
+gaps_or None b other = other
+gaps_or (Some a) None other = other
+gaps_or (Some a) (Some b) other = Gaps (min (a + b) (2 ^ 64 - 1))
+
+-- the ending of two runs together: the first that there is of NoCat, Unclosed, Revoked, Unheard, Gaps and Opened, of
+-- equal ones that of the earlier run; gaps add up, as far as a count of 64 bits goes
+-- [this project, docs/FORMATS.md, Receiver]
+unfoldable pub joined : Ending → Ending → Ending
+joined earlier later =
+    gaps_or (gaps_in earlier) (gaps_in later) (if nat_lt (rank_of later) (rank_of earlier) then later else earlier)
+
+-- a packet is the first message of another run
+unfoldable pub turns_at : CardFields → List (List ℕ) → List ℕ → Bool
+turns_at card past packet =
+    option_map_or (λ tuning. is_turn (heard card past) (hears card.height tuning (length past) packet))
+    (tuning_of card.ca past) false
+
+-- how many packets are written of the run at hand, after these packets
+unfoldable pub run_wrote : CardFields → List (List ℕ) → ℕ
+run_wrote card [] = 0
+run_wrote card (packet ∷ past) =
+    (if turns_at card past packet then 0 else run_wrote card past) + length (offered card past packet).wrote
+
+-- the endings of the runs before the one at hand, together; Opened where there is none
+unfoldable pub ended_before : CardFields → List (List ℕ) → Ending
+ended_before card [] = Opened
+ended_before card (packet ∷ past) =
+    if turns_at card past packet
+    then joined (ended_before card past) (run_ending card (heard card past) (run_wrote card past))
+    else ended_before card past
+
+-- how it ends after these packets: as the runs that were heard of, together [this project, docs/FORMATS.md, Receiver]
+unfoldable pub ending_of : CardFields → List (List ℕ) → Ending
+ending_of card past =
     if is_none (tuning_of card.ca past) then NoCat
-    else if is_closed (heard card past) then closed_ending card (heard card past) written
-    else Unclosed (option_map_or (λ message. message.number + 1) (newest (heard card past)).message 0)
+    else joined (ended_before card past) (run_ending card (heard card past) (run_wrote card past))

@@ -1,6 +1,7 @@
 pub mod Tuned
 pub mod Heard
 pub mod Stretches
+pub mod Runs
 pub mod Keys
 pub mod Confirmed
 pub mod Offered

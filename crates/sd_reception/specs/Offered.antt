@@ -20,6 +20,7 @@ use Rattle.sd_reception.specs.declared.fault.StreamFault.TheVariants as Fault
 use Rattle.sd_reception.specs.Tuned.{Tuning, tuning_of}
 use Rattle.sd_reception.specs.Heard.{Heard, Dropped, Entitles, Controls, BadEmm, BadEcm, Other, hears}
 use Rattle.sd_reception.specs.Stretches.{Stretch, newest, run_to, completes, is_closed, current, seen, held_in}
+use Rattle.sd_reception.specs.Runs.{of_run}
 use Rattle.sd_reception.specs.Keys.{key_from, key_at}
 use Rattle.sd_reception.specs.Confirmed.{Wrote, position_in, written_from}
 
@@ -27,12 +28,17 @@ use Rattle.sd_reception.specs.Confirmed.{Wrote, position_in, written_from}
 abbrev pub most_held : ℕ
 most_held = 4096
 
+-- what was heard of the run at hand once one thing more is: nothing more after a closing message of it
+-- [this project, docs/FORMATS.md, Receiver]
+abbrev pub heard_more : List Heard → Heard → List Heard
+heard_more past thing = if is_closed (of_run past thing) then past else thing ∷ of_run past thing
+
 abbrev pub heard_with : CardFields → Option Tuning → ℕ → List ℕ → List Heard → List Heard
 heard_with card None n packet past = past
-heard_with card (Some tuning) n packet past = if is_closed past then past else hears card.height tuning n packet ∷ past
+heard_with card (Some tuning) n packet past = heard_more past (hears card.height tuning n packet)
 
--- what is heard of these packets, the newest first of both: nothing before the CAT is taken, and nothing after a
--- closing message
+-- what is heard of the run at hand of these packets, the newest first of both: nothing before the CAT is taken, and
+-- nothing of it after its closing message
 unfoldable pub heard : CardFields → List (List ℕ) → List Heard
 heard card [] = []
 heard card (packet ∷ past) = heard_with card (tuning_of card.ca past) (length past) packet (heard card past)
@@ -162,10 +168,15 @@ heard_offering card tuning n past (BadEmm fault) = refuses (Fault.BadEmm n fault
 heard_offering card tuning n past (BadEcm fault) = refuses (Fault.BadEcm n fault)
 heard_offering card tuning n past (Other k packet) = nothing
 
+-- the same after what was heard of the run at hand, which the thing may end
+abbrev pub run_offering : CardFields → Tuning → ℕ → List Heard → Heard → Offering
+run_offering card tuning n past thing =
+    if is_closed (of_run past thing) then nothing else heard_offering card tuning n (of_run past thing) thing
+
 abbrev pub tuned_offering : CardFields → Option Tuning → ℕ → List Heard → List ℕ → Offering
 tuned_offering card None n past packet = nothing
 tuned_offering card (Some tuning) n past packet =
-    if is_closed past then nothing else heard_offering card tuning n past (hears card.height tuning n packet)
+    run_offering card tuning n past (hears card.height tuning n packet)
 
 -- what comes of a packet after these packets, the newest first
 unfoldable pub offered : CardFields → List (List ℕ) → List ℕ → Offering

@@ -6,6 +6,7 @@ use Rattle.sd_emm.specs.declared.emm.Emm.{Emm}
 use Rattle.sd_reception.specs.Tuned.{tuning_of}
 use Rattle.sd_reception.specs.Heard.{Heard, Dropped, Entitles, Controls, BadEmm, BadEcm, Other, hears}
 use Rattle.sd_reception.specs.Stretches.{current, is_closed}
+use Rattle.sd_reception.specs.Runs.{of_run}
 use Rattle.sd_reception.specs.Keys.{key_from, key_at}
 use Rattle.sd_reception.specs.Offered.{heard}
 
@@ -24,12 +25,16 @@ takes_key_of card past (BadEmm fault) = false
 takes_key_of card past (BadEcm fault) = false
 takes_key_of card past (Other n packet) = false
 
+-- it takes one of the run that is at hand with it, before that is closed
+abbrev pub takes_key_in : CardFields → List Heard → Heard → Bool
+takes_key_in card past thing =
+    if is_closed (of_run past thing) then false else takes_key_of card (of_run past thing) thing
+
 -- a packet takes a key: it is heard as a section that does
 unfoldable pub takes_key_at : CardFields → List (List ℕ) → List ℕ → Bool
 takes_key_at card past packet =
-    if is_closed (heard card past) then false
-    else option_map_or
-    (λ tuning. takes_key_of card (heard card past) (hears card.height tuning (length past) packet))
+    option_map_or
+    (λ tuning. takes_key_in card (heard card past) (hears card.height tuning (length past) packet))
     (tuning_of card.ca past) false
 
 -- how many of these packets take a key, after others [this project, docs/FORMATS.md, Receiver]

@@ -110,8 +110,7 @@ module _ (plan : Plan) (u : ℕ) (clear : List (List ℕ)) (is : IsPlan plan) (a
   unfolding ended_status
   opened_status bytes packets end =
       none_refused card bytes Whole (ap (break_from card []) packets ∙ whole_refused plan clear u is all whole leaf) end
-      ∙ ap (λ (ps : List (List ℕ)). ending_status card.leaf (ending_of card (reverse ps)
-      (length (out_from card [] ps)))) packets
+      ∙ ap (λ (ps : List (List ℕ)). ending_status card.leaf (ending_of card (reverse ps))) packets
       ∙ ap (ending_status card.leaf) (whole_ended plan clear u is all whole leaf)
       ∙ ap (λ (v : ℕ). ending_status v (whole_ending (first_revoked plan u clear))) leaf_is
       ∙ whole_status u (first_revoked plan u clear)

@@ -118,8 +118,7 @@ module _ (plan : Plan) (u : ℕ) (clear : List (List ℕ)) (flags : List Bool) (
   rest_status =
       none_refused card bytes Whole
       (ap (break_from card []) rest_taken ∙ lost.none_refused plan clear u flags is all whole leaf) rest_whole
-      ∙ (ap (λ (ps : List (List ℕ)). ending_status card.leaf (ending_of card (reverse ps)
-      (length (out_from card [] ps)))) rest_taken
+      ∙ (ap (λ (ps : List (List ℕ)). ending_status card.leaf (ending_of card (reverse ps))) rest_taken
       ∙ (ap (ending_status card.leaf) (lost.ends_as_told plan clear u flags is all whole leaf)
       ∙ ap (λ (v : ℕ). ending_status v (ending_told plan u clear (chosen flags
       (sent plan clear ++ closing_of plan clear)))) leaf_is))

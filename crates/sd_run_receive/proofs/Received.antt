@@ -57,8 +57,7 @@ ending_ends leaf (end.Gaps packets) = tt
 
 stream_ends : (card : CardFields) (packets : List (List ℕ)) (end : StreamEnd) → IsEnding (status_at card packets end)
 unfolding ended_status
-stream_ends card packets Whole =
-    ending_ends card.leaf (ending_of card (reverse packets) (length (out_from card [] packets)))
+stream_ends card packets Whole = ending_ends card.leaf (ending_of card (reverse packets))
 stream_ends card packets (Breaks found) = tt
 stream_ends card packets RunsOn = tt
 
@@ -444,23 +443,16 @@ stopped_wrote card bytes a b (drive.Refused why) is after h = refused_wrote card
 
 -- the status of a receiver after all packets
 ended_as : (card : CardFields) (packets : List (List ℕ)) (t : Receiver) → card_in t ≡ card →
-    ending_status t.card.leaf (ending_of (card_in t) (reverse packets)
-    (length (out_from (card_in t) [] (reverse (reverse packets)))))
-    ≡ ended_status card packets
+    ending_status t.card.leaf (ending_of (card_in t) (reverse packets)) ≡ ended_status card packets
 unfolding ended_status
-ended_as card packets t is =
-    ap (λ (ps : List (List ℕ)). ending_status t.card.leaf (ending_of (card_in t) (reverse packets)
-    (length (out_from (card_in t) [] ps))))
-    (reverse-reverse packets)
-    ∙ ap (λ (c : CardFields). ending_status c.leaf (ending_of c (reverse packets) (length (out_from c [] packets)))) is
+ended_as card packets t is = ap (λ (c : CardFields). ending_status c.leaf (ending_of c (reverse packets))) is
 
 -- what came of one that went to its end
 ended_wrote : (card : CardFields) (bytes : List ℕ) (a b : Moment Receiver) (count : ℕ) (status : Status) →
     card_in a.stage ≡ card →
     IsAfter [] a.stage → DrivesOver receiver_does receiver_ends receiver_refuses bytes a b (Ok count) →
     ((past : List (List ℕ)) → IsAfter past b.stage → status
-    ≡ ending_status b.stage.card.leaf (ending_of (card_in b.stage) past
-    (length (out_from (card_in b.stage) [] (reverse past))))) →
+    ≡ ending_status b.stage.card.leaf (ending_of (card_in b.stage) past)) →
     Receives card bytes a b status
 ended_wrote card bytes a b count status is after (whole, counted, grew) told =
     go grew.bytes grew.steps grew.taken grew.counted grew.says
@@ -491,8 +483,7 @@ left_stopped a b why status after drives is =
 pub left_ended : (a b : Moment Receiver) (count : ℕ) (status : Status) → IsAfter [] a.stage →
     Drives receiver_does receiver_ends receiver_refuses a b (Ok count) →
     ((past : List (List ℕ)) → IsAfter past b.stage → status
-    ≡ ending_status b.stage.card.leaf (ending_of (card_in b.stage) past
-    (length (out_from (card_in b.stage) [] (reverse past))))) →
+    ≡ ending_status b.stage.card.leaf (ending_of (card_in b.stage) past)) →
     ReceivesLeft (card_in a.stage) a.left a.sink.held b.sink.held a.steps b.steps status
 left_ended a b count status after drives told =
     let over = is_over receiver_does receiver_ends receiver_refuses a b (Ok count) drives in

@@ -83,8 +83,7 @@ ending_status leaf (end.Gaps packets) = Gaps packets
 
 -- how a stream ended for a card after all its packets
 unfoldable pub ended_status : CardFields → List (List ℕ) → Status
-ended_status card packets =
-    ending_status card.leaf (ending_of card (reverse packets) (length (out_from card [] packets)))
+ended_status card packets = ending_status card.leaf (ending_of card (reverse packets))
 
 -- the status of a stream of which no packet is refused
 abbrev pub status_at : CardFields → List (List ℕ) → StreamEnd → Status

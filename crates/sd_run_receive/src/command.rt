@@ -125,8 +125,7 @@ pub fn receive_all<S: Source, K: Sink, L: Ledger>(
 fn ended(receiver: &Receiver) -> Result<(), Status>
     ensures ending { IsEnding (status_of result) }
     ensures value { (past : List (List ℕ)) → IsAfter past receiver.now → status_of result
-        ≡ ending_status receiver.now.card.leaf (ending_of (card_in receiver.now) past
-        (length (out_from (card_in receiver.now) [] (reverse past)))) }
+        ≡ ending_status receiver.now.card.leaf (ending_of (card_in receiver.now) past) }
 {
     let leaf = receiver.leaf().get();
     match receiver.ending() {

@@ -1,12 +1,16 @@
-use Rattle.std.proofs.Common.{◌≡◌, ◌+◌, ◌∙◌, ap, arith, ℕ}
-use Rattle.std.specs.Prelude.{Some}
+use Rattle.std.proofs.Common.{◌≡◌, ◌+◌, ◌<◌, ◌∙◌, ap, arith, ℕ, sym, subst}
+use Rattle.std.specs.Prelude.{Option, Some, IfSome}
+use Rattle.std.specs.Option.{option_or}
 use Rattle.sd_engine.specs.Stage.{vessel}
 use Rattle.sd_reception.specs.Tuned.{cat_tuning}
 use Rattle.sd_reception.specs.Heard.{hears}
-use Rattle.sd_hearing.specs.Ears.{tuned}
+use Rattle.sd_reception.specs.Runs.{name_of}
+use Rattle.sd_hearing.specs.Ears.{tuned, heard_as}
+use Rattle.sd_hearing.specs.declared.tune.Tuning.{Tuning as Kept}
 use Rattle.sd_receive.specs.Listening.{capped, TakesHeard, RefusesHeard}
 use Rattle.sd_receive.specs.Receiving.{card_in, receiver_does, receiver_refuses, Refusing}
-use Rattle.sd_receive.proofs.Receiving.{next, idle_untuned, idle_closed, heard_does, heard_refuses, grew_of}
+use Rattle.sd_receive.proofs.Receiving.{counted, listening, thing_of, idle_untuned, idle_closed, heard_does}
+use Rattle.sd_receive.proofs.Receiving.{heard_refuses, fit_after, takes_same, refuses_same, few_same, ready, grew_of}
 use Rattle.sd_receive.proofs.Receiving.{refused_of, cut_of, grew_none, ecm_fits}
 use Rattle.sd_receive.proofs.receiver.Receiver.take.Goals as goal
 
@@ -14,11 +18,11 @@ pub returns-in_default-clause-value : goal.returns-in_default-clause-value
 returns-in_default-clause-value g c =
     let s = c.args.self.now in
     let packet = c.args.packet.now in
-    let counted : c.saturating_add-self.result ≡ capped (s.count + 1) = omega arith in
+    let added : c.saturating_add-self.result ≡ capped (s.count + 1) = omega arith in
     let is = c.cat_tuning-self.ensures ∙ ap (λ (ca : ℕ). cat_tuning ca packet) c.ca.ensures in
     grew_none (vessel g.K.Sink c.args.out.now) c.args.steps.now
-    (receiver_does s packet (next s c.saturating_add-self.result c.cat_tuning-self.result s.listener))
-    (idle_untuned s packet c.cat_tuning-self.result c.saturating_add-self.result c.in_default.is is counted)
+    (receiver_does s packet (counted s c.saturating_add-self.result c.cat_tuning-self.result))
+    (idle_untuned s packet c.cat_tuning-self.result c.saturating_add-self.result c.in_default.is is added)
 
 pub returns-in_default-clause-ok : goal.returns-in_default-clause-ok
 returns-in_default-clause-ok g c = record {
@@ -31,56 +35,113 @@ pub returns-then-self-clause-value : goal.returns-then-self-clause-value
 returns-then-self-clause-value g c =
     let s = c.args.self.now in
     let packet = c.args.packet.now in
-    let counted : c.saturating_add-self.result ≡ capped (s.count + 1) = omega arith in
-    grew_none (vessel g.K.Sink c.args.out.now) c.args.steps.now
-    (receiver_does s packet (next s c.saturating_add-self.result s.tuning s.listener))
-    (idle_closed s packet c.in-Some.tuning c.saturating_add-self.result c.in-Some.is c.if-self.true counted)
+    let u = c.turn.new.self in
+    let kept = c.in-Some.tuning in
+    let thing = heard_as s.count packet c.hear-heard.result in
+    let is : thing ≡ thing_of s kept packet = c.hear-heard.ensures.value s.count
+    ∙ ap (λ (h : ℕ). hears h (tuned kept) s.count packet) c.height.ensures in
+    let known = ready s packet kept c.saturating_add-self.result thing u c.name_of-name.result is
+    (c.name_of-name.ensures s.count packet) c.turn.ensures c.requires.fit.follows in
+    let added : c.saturating_add-self.result ≡ capped (s.count + 1) = omega arith in
+    grew_none (vessel g.K.Sink c.args.out.now) c.args.steps.now (receiver_does s packet u)
+    (idle_closed s packet kept c.saturating_add-self.result u c.in-Some.is known.turned c.if-self.true added)
 
 pub returns-clause-value : goal.returns-clause-value
 returns-clause-value g c =
     let s = c.args.self.now in
     let packet = c.args.packet.now in
-    let counted : c.saturating_add-self.result ≡ capped (s.count + 1) = omega arith in
-    let thing = hears s.card.height (tuned c.in-Some.tuning) s.count packet in
-    grew_of (TakesHeard (card_in s) (tuned c.in-Some.tuning) s.count thing s.listener)
-    (RefusesHeard (card_in s) (tuned c.in-Some.tuning) s.count thing s.listener)
-    (vessel g.K.Sink c.args.out.now) (vessel g.K.Sink c.take.new.out) c.take.new.self c.take.result c.args.steps.now
-    c.take.new.steps
-    (receiver_does s packet (next s c.saturating_add-self.result s.tuning c.take.new.self)) c.take.ensures.value
-    (λ bytes takes. heard_does s packet c.in-Some.tuning c.saturating_add-self.result c.take.new.self bytes
-    c.args.steps.now
-    c.take.new.steps c.in-Some.is c.if-self.false counted c.take.ensures.steps takes)
+    let u = c.turn.new.self in
+    let kept = c.in-Some.tuning in
+    let thing = heard_as s.count packet c.hear-heard.result in
+    let is : thing ≡ thing_of s kept packet = c.hear-heard.ensures.value s.count
+    ∙ ap (λ (h : ℕ). hears h (tuned kept) s.count packet) c.height.ensures in
+    let known = ready s packet kept c.saturating_add-self.result thing u c.name_of-name.result is
+    (c.name_of-name.ensures s.count packet) c.turn.ensures c.requires.fit.follows in
+    let added : c.saturating_add-self.result ≡ capped (s.count + 1) = omega arith in
+    let few = few_same (card_in u) (card_in s) thing (thing_of s kept packet) u.listener c.args.steps.now
+    c.take.new.steps known.card_is is c.take.ensures.steps in
+    let named : c.or-self.result ≡ option_or (name_of (thing_of s kept packet)) s.name = c.or-self.ensures
+    ∙ (ap (option_or c.name_of-name.result) known.name_is
+    ∙ ap (λ (n : Option (Option ℕ)). option_or n s.name) (c.name_of-name.ensures s.count packet ∙ ap name_of is)) in
+    grew_of (TakesHeard (card_in u) (tuned kept) s.count thing u.listener)
+    (RefusesHeard (card_in u) (tuned kept) s.count thing u.listener)
+    (vessel g.K.Sink c.args.out.now) (vessel g.K.Sink c.take.new.out) c.take.new.self c.take.result
+    c.args.steps.now c.take.new.steps (receiver_does s packet (listening u c.or-self.result c.take.new.self))
+    c.take.ensures.value
+    (λ bytes takes. heard_does s packet kept c.saturating_add-self.result u c.or-self.result c.take.new.self bytes
+    c.args.steps.now c.take.new.steps c.in-Some.is known.turned c.if-self.false added named few
+    (takes_same (card_in u) (card_in s) (tuned kept) s.count thing (thing_of s kept packet) u.listener
+    c.take.new.self bytes known.card_is is takes))
+
+pub returns-clause-ok : goal.returns-clause-ok
+returns-clause-ok g c =
+    let s = c.args.self.now in
+    let packet = c.args.packet.now in
+    let u = c.turn.new.self in
+    let kept = c.in-Some.tuning in
+    let thing = heard_as s.count packet c.hear-heard.result in
+    let is : thing ≡ thing_of s kept packet = c.hear-heard.ensures.value s.count
+    ∙ ap (λ (h : ℕ). hears h (tuned kept) s.count packet) c.height.ensures in
+    let known = ready s packet kept c.saturating_add-self.result thing u c.name_of-name.result is
+    (c.name_of-name.ensures s.count packet) c.turn.ensures c.requires.fit.follows in
+    fit_after u c.or-self.result c.take.new.self (tuned kept) s.count thing
+    (RefusesHeard (card_in u) (tuned kept) s.count thing u.listener)
+    (vessel g.K.Sink c.args.out.now) (vessel g.K.Sink c.take.new.out) c.take.result known.live c.if-self.false
+    (subst (λ (t : Option Kept). IfSome t (λ k. k.ecm < 8192)) (sym known.tuning_is) c.requires.fit.ecm)
+    c.take.ensures.value
 
 pub returns-clause-fault : goal.returns-clause-fault
-returns-clause-fault g c = λ fault is.
+returns-clause-fault g c = λ fault why.
     let s = c.args.self.now in
     let packet = c.args.packet.now in
-    let thing = hears s.card.height (tuned c.in-Some.tuning) s.count packet in
-    refused_of (TakesHeard (card_in s) (tuned c.in-Some.tuning) s.count thing s.listener)
-    (RefusesHeard (card_in s) (tuned c.in-Some.tuning) s.count thing s.listener)
-    (vessel g.K.Sink c.args.out.now) (vessel g.K.Sink c.take.new.out) c.take.new.self c.take.result c.args.steps.now
-    c.take.new.steps
-    fault (Refusing s packet fault) is c.take.ensures.value
-    (λ bytes refuses. heard_refuses s packet c.in-Some.tuning fault bytes c.args.steps.now c.take.new.steps c.in-Some.is
-    c.if-self.false c.take.ensures.steps refuses)
+    let u = c.turn.new.self in
+    let kept = c.in-Some.tuning in
+    let thing = heard_as s.count packet c.hear-heard.result in
+    let is : thing ≡ thing_of s kept packet = c.hear-heard.ensures.value s.count
+    ∙ ap (λ (h : ℕ). hears h (tuned kept) s.count packet) c.height.ensures in
+    let known = ready s packet kept c.saturating_add-self.result thing u c.name_of-name.result is
+    (c.name_of-name.ensures s.count packet) c.turn.ensures c.requires.fit.follows in
+    let few = few_same (card_in u) (card_in s) thing (thing_of s kept packet) u.listener c.args.steps.now
+    c.take.new.steps known.card_is is c.take.ensures.steps in
+    refused_of (TakesHeard (card_in u) (tuned kept) s.count thing u.listener)
+    (RefusesHeard (card_in u) (tuned kept) s.count thing u.listener)
+    (vessel g.K.Sink c.args.out.now) (vessel g.K.Sink c.take.new.out) c.take.new.self c.take.result
+    c.args.steps.now c.take.new.steps fault (Refusing s packet fault) why c.take.ensures.value
+    (λ bytes refuses. heard_refuses s packet kept c.saturating_add-self.result u fault bytes
+    c.args.steps.now c.take.new.steps c.in-Some.is known.turned c.if-self.false few
+    (refuses_same (card_in u) (card_in s) (tuned kept) s.count thing (thing_of s kept packet) u.listener fault bytes
+    known.card_is is refuses))
 
 pub returns-clause-prefix : goal.returns-clause-prefix
-returns-clause-prefix g c = λ is.
+returns-clause-prefix g c = λ failed.
     let s = c.args.self.now in
     let packet = c.args.packet.now in
-    let from = c.args.steps.now in
-    let to = c.take.new.steps in
-    let counted : c.saturating_add-self.result ≡ capped (s.count + 1) = omega arith in
-    let thing = hears s.card.height (tuned c.in-Some.tuning) s.count packet in
-    cut_of (TakesHeard (card_in s) (tuned c.in-Some.tuning) s.count thing s.listener)
-    (RefusesHeard (card_in s) (tuned c.in-Some.tuning) s.count thing s.listener)
-    (vessel g.K.Sink c.args.out.now) (vessel g.K.Sink c.take.new.out) c.take.new.self c.take.result from to
-    (receiver_does s packet) (receiver_refuses s (Some packet)) s is c.take.ensures.value
+    let u = c.turn.new.self in
+    let kept = c.in-Some.tuning in
+    let thing = heard_as s.count packet c.hear-heard.result in
+    let is : thing ≡ thing_of s kept packet = c.hear-heard.ensures.value s.count
+    ∙ ap (λ (h : ℕ). hears h (tuned kept) s.count packet) c.height.ensures in
+    let known = ready s packet kept c.saturating_add-self.result thing u c.name_of-name.result is
+    (c.name_of-name.ensures s.count packet) c.turn.ensures c.requires.fit.follows in
+    let added : c.saturating_add-self.result ≡ capped (s.count + 1) = omega arith in
+    let few = few_same (card_in u) (card_in s) thing (thing_of s kept packet) u.listener c.args.steps.now
+    c.take.new.steps known.card_is is c.take.ensures.steps in
+    let named : c.or-self.result ≡ option_or (name_of (thing_of s kept packet)) s.name = c.or-self.ensures
+    ∙ (ap (option_or c.name_of-name.result) known.name_is
+    ∙ ap (λ (n : Option (Option ℕ)). option_or n s.name) (c.name_of-name.ensures s.count packet ∙ ap name_of is)) in
+    cut_of (TakesHeard (card_in u) (tuned kept) s.count thing u.listener)
+    (RefusesHeard (card_in u) (tuned kept) s.count thing u.listener)
+    (vessel g.K.Sink c.args.out.now) (vessel g.K.Sink c.take.new.out) c.take.new.self c.take.result
+    c.args.steps.now c.take.new.steps (receiver_does s packet) (receiver_refuses s (Some packet)) s failed
+    c.take.ensures.value
     (λ x bytes takes. (
-      next s c.saturating_add-self.result s.tuning x,
-      heard_does s packet c.in-Some.tuning c.saturating_add-self.result x bytes from to c.in-Some.is c.if-self.false
-          counted
-          c.take.ensures.steps takes,
+      listening u c.or-self.result x,
+      heard_does s packet kept c.saturating_add-self.result u c.or-self.result x bytes
+          c.args.steps.now c.take.new.steps c.in-Some.is known.turned c.if-self.false added named few
+          (takes_same (card_in u) (card_in s) (tuned kept) s.count thing (thing_of s kept packet) u.listener
+          x bytes known.card_is is takes),
     ))
-    (λ fault bytes refuses. heard_refuses s packet c.in-Some.tuning fault bytes from to c.in-Some.is c.if-self.false
-    c.take.ensures.steps refuses)
+    (λ fault bytes refuses. heard_refuses s packet kept c.saturating_add-self.result u fault bytes
+    c.args.steps.now c.take.new.steps c.in-Some.is known.turned c.if-self.false few
+    (refuses_same (card_in u) (card_in s) (tuned kept) s.count thing (thing_of s kept packet) u.listener fault bytes
+    known.card_is is refuses))

@@ -1,0 +1,43 @@
+ghost use Rattle.std.specs.Prelude.{◌≡◌, ℕ, List};
+ghost use Rattle.sd_reception.specs.Runs.{are_two, name_of as name_heard};
+ghost use Rattle.sd_hearing.specs.Ears.{heard_as};
+ghost use Rattle.sd_receive.specs.Receiving.{TurnsBy};
+
+use crate::receiver::Receiver;
+use sd_hearing::Heard;
+
+impl Receiver {
+    // Ends the run at hand where this is the name of another: all of it is forgotten but how it ended.
+    pub fn turn(&mut self, name: Option<Option<u32>>)
+        ensures { TurnsBy name self.old self.new }
+    {
+        if !differ(self.name, name) {
+            return;
+        }
+        self.so_far = self.so_far.with(self.listener.ending());
+        self.listener.forget();
+    }
+}
+
+// Whether both are names, and of two runs.
+fn differ(before: Option<Option<u32>>, name: Option<Option<u32>>) -> bool
+    ensures { result ≡ are_two before name }
+{
+    match (before, name) {
+        (Some(Some(a)), Some(Some(b))) => a != b,
+        (Some(None), Some(None)) => false,
+        (Some(_), Some(_)) => true,
+        _ => false,
+    }
+}
+
+// The name of the run that a message is of.
+pub fn name_of(heard: &Heard) -> Option<Option<u32>>
+    ensures { (number : ℕ) (packet : List ℕ) → result ≡ name_heard (heard_as number packet heard.now) }
+{
+    match heard {
+        Heard::Entitles(emm) => Some(emm.run),
+        Heard::Controls(part) => Some(part.run),
+        _ => None,
+    }
+}

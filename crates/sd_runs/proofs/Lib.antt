@@ -1,0 +1,14 @@
+pub mod Later
+pub mod Offerings
+pub mod Agreeing
+pub mod Pieces
+pub mod Outs
+pub mod Breaks
+pub mod Endings
+pub mod Streams
+pub mod Leading
+pub mod Following
+pub mod Going
+pub mod Runs
+pub mod Many
+pub mod Whole

@@ -1,0 +1,172 @@
+-- Runs of one channel, one after the other.
+use Rattle.std.proofs.Common.{◌≡◌, refl, ℕ, ◌%◌, ◌^◌, ◌<◌, ◌==◌, ◌++◌, Bool, true, false, List, [], ◌∷◌, Option, Some}
+use Rattle.std.proofs.Common.{None, ap, ◌∙◌, arith, subst, inl, inr}
+use Rattle.std.specs.Prelude.{if◌then◌else◌, All}
+use Rattle.std.specs.List.{list_any}
+use Rattle.std.proofs.lemmas.List.Elements.{All-head, All-tail}
+use Rattle.std.proofs.lemmas.Bool.Decides.{nat_tests}
+use Rattle.sd_site.specs.Fields.{name_of as site_name}
+use Rattle.sd_card.specs.Fields.{CardFields}
+use Rattle.sd_broadcast.specs.Plan.{Plan, IsPlan, crypto_length}
+use Rattle.sd_broadcast.specs.Sent.{Item, Cat, Entitles, Controls, Carries, tables_at, sent, sent_from, closing_of}
+use Rattle.sd_broadcast.specs.Sent.{packet_of, packets_from, broadcast, added, message_before}
+use Rattle.sd_broadcast.specs.Carried.{carried}
+use Rattle.sd_broadcast.specs.Items.{IsOfBroadcast}
+use Rattle.sd_broadcast.specs.Refused.{IsClear}
+use Rattle.sd_broadcast.proofs.Items.{all_are_of_broadcast}
+use Rattle.sd_sent.specs.Packets.{AreWholePackets}
+use Rattle.sd_sent.proofs.Runs.{section_names, part_names}
+use Rattle.sd_reception.specs.Tuned.{Tuning, tuning_of, cat_tuning, tuned_by}
+use Rattle.sd_reception.specs.Heard.{hears}
+use Rattle.sd_reception.specs.Runs.{name_of}
+use Rattle.sd_reception.specs.Offered.{out_from, break_from}
+use Rattle.sd_losses.specs.Chosen.{chosen}
+use Rattle.sd_losses.specs.Kept.{is_cat}
+use Rattle.sd_losses.specs.Confirmed.{confirmed}
+use Rattle.sd_losses.proofs.Setting.{Setting, tuning_at}
+use Rattle.sd_losses.proofs.Hearing.{AreHearable}
+use Rattle.sd_losses.proofs.Lawful.{setting, can_be_heard}
+use Rattle.sd_losses.proofs.Theorem.{confirmed_alone, none_refused}
+use Rattle.sd_runs.specs.Channel.{Arrival}
+use Rattle.sd_runs.proofs.Leading.{is_quiet}
+use Rattle.sd_runs.proofs.Endings.{onto}
+use Rattle.sd_runs.proofs.Following.{IsPacketOf}
+use Rattle.sd_runs.proofs.Going.{IsOne, AreOnes}
+
+-- the things of a broadcast begin with the CAT
+pub begins_by : (plan : Plan) (clear : List (List ℕ)) →
+    (items : List Item) × (sent plan clear ++ closing_of plan clear ≡ Cat ∷ items)
+unfolding closing_of sent_from tables_at added
+begins_by plan [] = (_, refl)
+begins_by plan (packet ∷ packets) =
+    let due : (0 % crypto_length plan.site == 0) ≡ true = grind (arith, nat_tests) in (
+      _,
+      ap (λ (b : Bool). (((if b then tables_at plan 0 else [])
+          ++ (message_before plan [] ++ Carries 0 (carried plan.site [] packet) ∷ []))
+          ++ sent_from plan (packet ∷ []) packets) ++ closing_of plan (packet ∷ packets)) due,
+    )
+
+-- What is known of a broadcast and the card of a leaf.
+pub record IsGood (card : CardFields) (tuning : Tuning) (u : ℕ) (run : Arrival) (cat : List ℕ)
+    (tail : List (List ℕ)) : Type 0 where
+  pub sent_is : broadcast run.plan run.clear ≡ cat ∷ tail
+  pub cat_is : cat_tuning card.ca cat ≡ Some tuning
+  pub quiet : is_quiet (hears card.height tuning 0 cat) ≡ true
+  pub ones : AreOnes card tuning (site_name run.plan.site) (broadcast run.plan run.clear)
+  pub out : (fs : List Bool) → out_from card [] (chosen fs (broadcast run.plan run.clear))
+      ≡ confirmed run.plan u run.clear (chosen fs (sent run.plan run.clear ++ closing_of run.plan run.clear))
+  pub none : (fs : List Bool) → break_from card [] (chosen fs (broadcast run.plan run.clear)) ≡ None
+  pub cats : (fs : List Bool) (past : List (List ℕ)) → tuning_of card.ca past ≡ None →
+      tuning_of card.ca (onto (chosen fs (broadcast run.plan run.clear)) past)
+      ≡ (if list_any is_cat (chosen fs (sent run.plan run.clear ++ closing_of run.plan run.clear)) then Some tuning
+      else None)
+
+-- packets after the CAT
+pub stays_tuned : (card : CardFields) (tuning : Tuning) (packets past : List (List ℕ)) →
+    tuning_of card.ca past ≡ Some tuning → tuning_of card.ca (onto packets past) ≡ Some tuning
+unfolding tuning_of
+stays_tuned card tuning [] past tuned = tuned
+stays_tuned card tuning (packet ∷ packets) past tuned =
+    stays_tuned card tuning packets (packet ∷ past)
+    (ap (λ (t : Option Tuning). tuned_by t (cat_tuning card.ca packet)) tuned)
+
+module _ (s : Setting) (able : AreHearable s) where
+  item_of : (n : ℕ) (earlier : List Item) (item : Item) → IsOfBroadcast s.plan s.clear item →
+      IsPacketOf s.card (tuning_at s) (site_name s.plan.site) (packet_of s.plan.site earlier item)
+  item_of n earlier Cat of' = inl (ap is_quiet (able.heard_is 0 earlier Cat of'))
+  item_of n earlier (Entitles emm) of' =
+      inr (ap name_of (able.heard_is 0 earlier (Entitles emm) of')
+      ∙ ap {B = Option (Option ℕ)} (λ (run : Option ℕ). Some run) (section_names s.plan s.clear emm of'))
+  item_of n earlier (Controls part) of' =
+      inr (ap name_of (able.heard_is 0 earlier (Controls part) of')
+      ∙ ap {B = Option (Option ℕ)} (λ (run : Option ℕ). Some run) (part_names s.plan s.clear part of'))
+  item_of n earlier (Carries j packet) of' = inl (ap is_quiet (able.heard_is 0 earlier (Carries j packet) of'))
+
+  item_one : (earlier : List Item) (item : Item) → IsOfBroadcast s.plan s.clear item →
+      IsOne s.card (tuning_at s) (site_name s.plan.site) (packet_of s.plan.site earlier item)
+  item_one earlier Cat of' = record { of_run = item_of 0 earlier Cat of'; cat = inr (able.tuning earlier) }
+  item_one earlier (Entitles emm) of' = record {
+    of_run = item_of 0 earlier (Entitles emm) of';
+    cat = inl (able.untuned earlier (Entitles emm) of' refl);
+  }
+  item_one earlier (Controls part) of' = record {
+    of_run = item_of 0 earlier (Controls part) of';
+    cat = inl (able.untuned earlier (Controls part) of' refl);
+  }
+  item_one earlier (Carries j packet) of' = record {
+    of_run = item_of 0 earlier (Carries j packet) of';
+    cat = inl (able.untuned earlier (Carries j packet) of' refl);
+  }
+
+  items_ones : (items earlier : List Item) → All (IsOfBroadcast s.plan s.clear) items →
+      AreOnes s.card (tuning_at s) (site_name s.plan.site) (packets_from s.plan.site earlier items)
+  unfolding packets_from
+  items_ones [] earlier all = tt
+  items_ones (item ∷ items) earlier all = (
+    item_one earlier item (All-head (IsOfBroadcast s.plan s.clear) item items all),
+    items_ones items (earlier ++ item ∷ []) (All-tail (IsOfBroadcast s.plan s.clear) item items all),
+  )
+
+  first_tuned : (past : List (List ℕ)) (packet : List ℕ) (tuning : Option Tuning) → tuning_of s.card.ca past ≡ None →
+      cat_tuning s.card.ca packet ≡ tuning → tuning_of s.card.ca (packet ∷ past) ≡ tuning
+  unfolding tuning_of
+  first_tuned past packet tuning none is =
+      ap (λ (t : Option Tuning). tuned_by t (cat_tuning s.card.ca packet)) none ∙ is
+
+  items_tuned : (items earlier : List Item) (fs : List Bool) (past : List (List ℕ)) →
+      All (IsOfBroadcast s.plan s.clear) items → tuning_of s.card.ca past ≡ None →
+      tuning_of s.card.ca (onto (chosen fs (packets_from s.plan.site earlier items)) past)
+      ≡ (if list_any is_cat (chosen fs items) then Some (tuning_at s) else None)
+  unfolding packets_from chosen
+  items_tuned [] earlier [] past all none = none
+  items_tuned [] earlier (f ∷ fs) past all none = none
+  items_tuned (item ∷ items) earlier [] past all none = none
+  items_tuned (item ∷ items) earlier (false ∷ fs) past all none =
+      items_tuned items (earlier ++ item ∷ []) fs past (All-tail (IsOfBroadcast s.plan s.clear) item items all) none
+  items_tuned (Cat ∷ items) earlier (true ∷ fs) past all none =
+      stays_tuned s.card (tuning_at s) (chosen fs (packets_from s.plan.site (earlier ++ Cat ∷ []) items))
+      (packet_of s.plan.site earlier Cat ∷ past)
+      (first_tuned past (packet_of s.plan.site earlier Cat) (Some (tuning_at s)) none (able.tuning earlier))
+  items_tuned (Entitles emm ∷ items) earlier (true ∷ fs) past all none =
+      items_tuned items (earlier ++ Entitles emm ∷ []) fs (packet_of s.plan.site earlier (Entitles emm) ∷ past)
+      (All-tail (IsOfBroadcast s.plan s.clear) (Entitles emm) items all)
+      (first_tuned past (packet_of s.plan.site earlier (Entitles emm)) None none
+      (able.untuned earlier (Entitles emm) (All-head (IsOfBroadcast s.plan s.clear) (Entitles emm) items all) refl))
+  items_tuned (Controls part ∷ items) earlier (true ∷ fs) past all none =
+      items_tuned items (earlier ++ Controls part ∷ []) fs (packet_of s.plan.site earlier (Controls part) ∷ past)
+      (All-tail (IsOfBroadcast s.plan s.clear) (Controls part) items all)
+      (first_tuned past (packet_of s.plan.site earlier (Controls part)) None none
+      (able.untuned earlier (Controls part) (All-head (IsOfBroadcast s.plan s.clear) (Controls part) items all) refl))
+  items_tuned (Carries j packet ∷ items) earlier (true ∷ fs) past all none =
+      items_tuned items (earlier ++ Carries j packet ∷ []) fs (packet_of s.plan.site earlier (Carries j packet) ∷ past)
+      (All-tail (IsOfBroadcast s.plan s.clear) (Carries j packet) items all)
+      (first_tuned past (packet_of s.plan.site earlier (Carries j packet)) None none
+      (able.untuned earlier (Carries j packet) (All-head (IsOfBroadcast s.plan s.clear) (Carries j packet) items all)
+      refl))
+
+-- all of it for the card of a leaf
+pub good_of : (run : Arrival) (u : ℕ) → IsPlan run.plan → IsClear run.plan.site run.clear →
+    AreWholePackets run.clear → u < 2 ^ run.plan.site.height →
+    (cat : List ℕ) × (tail : List (List ℕ))
+    × IsGood (setting run.plan run.clear u).card (tuning_at (setting run.plan run.clear u)) u run cat tail
+unfolding broadcast packets_from
+good_of run u plan all whole leaf =
+    let s : Setting = setting run.plan run.clear u in
+    let able = can_be_heard run.plan run.clear u plan all whole in
+    let begins = begins_by run.plan run.clear in
+    let of_all = all_are_of_broadcast run.plan run.clear in
+    let of_cat = All-head (IsOfBroadcast run.plan run.clear) Cat begins.0
+    (subst (All (IsOfBroadcast run.plan run.clear)) begins.1 of_all) in (
+      packet_of run.plan.site [] Cat,
+      packets_from run.plan.site (Cat ∷ []) begins.0,
+      record {
+        sent_is = ap (packets_from run.plan.site []) begins.1;
+        cat_is = able.tuning [];
+        quiet = ap is_quiet (able.heard_is 0 [] Cat of_cat);
+        ones = items_ones s able (sent run.plan run.clear ++ closing_of run.plan run.clear) [] of_all;
+        out = λ fs. confirmed_alone run.plan run.clear u fs plan all whole leaf;
+        none = λ fs. none_refused run.plan run.clear u fs plan all whole leaf;
+        cats = λ fs past none. items_tuned s able (sent run.plan run.clear ++ closing_of run.plan run.clear) [] fs past
+            of_all none;
+      },
+    )

@@ -1,0 +1,5 @@
+pub mod Pieces
+pub mod Together
+pub mod Channel
+pub mod Many
+pub mod Ends

@@ -1,0 +1,59 @@
+//! Laws.
+
+ghost use Rattle.std.specs.Prelude.{◌≡◌, ◌^◌, ◌<◌, ℕ, Bool, false, List, [], ◌∷◌, map, None, reverse};
+ghost use Rattle.sd_card.specs.Fields.{CardFields, card_of};
+ghost use Rattle.sd_reception.specs.declared.ending.Ending.TheVariants.{Opened};
+ghost use Rattle.sd_reception.specs.Offered.{out_from, break_from};
+ghost use Rattle.sd_reception.specs.Ending.{ending_of};
+ghost use Rattle.sd_losses.specs.Chosen.{chosen};
+ghost use Rattle.sd_runs.specs.Together.{out_of, break_of, end_of, joined_to};
+ghost use Rattle.sd_runs.specs.Channel.{Arrival, Channel, AreRunsOf, arriving, all_sent};
+ghost use Rattle.sd_runs.specs.Many.{confirmed_from, opened_of_all};
+ghost use Rattle.sd_runs.specs.Ends.{ending_of_all, whole_ending_of};
+
+/// What a receiver writes of any stream, why it refuses it and how it ends is what comes of the stream's pieces, each
+/// behind the CAT by itself: the stream is cut before each message of another run.
+#[tactic(auto, using(crate::proofs::Streams::out_is, crate::proofs::Streams::break_is, crate::proofs::Streams::end_is))]
+pub fn streams_are_their_pieces()
+    ensures out { (card : CardFields) (packets : List (List ℕ)) → out_from card [] packets ≡ out_of card packets }
+    ensures refused { (card : CardFields) (packets : List (List ℕ)) →
+        break_from card [] packets ≡ break_of card packets }
+    ensures ending { (card : CardFields) (packets : List (List ℕ)) →
+        ending_of card (reverse packets) ≡ end_of card packets }
+{}
+
+/// Whatever is lost of broadcasts of one channel that follow one another, the receiver of a leaf refuses nothing and
+/// writes exactly the clear packets that are confirmed to it, of each broadcast by itself: a part, in order, of what
+/// the leaf is entitled to.
+#[tactic(auto, using(crate::proofs::Many::runs_break, crate::proofs::Many::runs_out))]
+pub fn losses_of_runs_are_confirmed()
+    ensures none { (channel : Channel) (runs : List Arrival) (u : ℕ) → AreRunsOf channel runs →
+        u < 2 ^ channel.height →
+        break_from (card_of channel.master channel.ca channel.height u) [] (arriving runs) ≡ None }
+    ensures out { (channel : Channel) (runs : List Arrival) (u : ℕ) → AreRunsOf channel runs →
+        u < 2 ^ channel.height →
+        out_from (card_of channel.master channel.ca channel.height u) [] (arriving runs)
+        ≡ confirmed_from false u runs }
+    ensures part { (channel : Channel) (runs : List Arrival) (u : ℕ) → AreRunsOf channel runs →
+        u < 2 ^ channel.height →
+        (parts : List Bool) × (confirmed_from false u runs ≡ chosen parts (opened_of_all u runs)) }
+    ensures ending { (channel : Channel) (runs : List Arrival) (u : ℕ) → AreRunsOf channel runs →
+        u < 2 ^ channel.height →
+        ending_of (card_of channel.master channel.ca channel.height u) (reverse (arriving runs))
+        ≡ ending_of_all u runs }
+{}
+
+/// Of whole broadcasts it writes the clear packets of the periods in which the leaf is not revoked, and no others.
+#[tactic(auto, using(crate::proofs::Whole::whole_break, crate::proofs::Whole::whole_out))]
+pub fn whole_runs_are_opened()
+    ensures none { (channel : Channel) (runs : List Arrival) (u : ℕ) → AreRunsOf channel runs →
+        u < 2 ^ channel.height →
+        break_from (card_of channel.master channel.ca channel.height u) [] (all_sent runs) ≡ None }
+    ensures out { (channel : Channel) (runs : List Arrival) (u : ℕ) → AreRunsOf channel runs →
+        u < 2 ^ channel.height →
+        out_from (card_of channel.master channel.ca channel.height u) [] (all_sent runs) ≡ opened_of_all u runs }
+    ensures ending { (channel : Channel) (run : Arrival) (runs : List Arrival) (u : ℕ) →
+        AreRunsOf channel (run ∷ runs) → u < 2 ^ channel.height →
+        ending_of (card_of channel.master channel.ca channel.height u) (reverse (all_sent (run ∷ runs)))
+        ≡ joined_to Opened (map (whole_ending_of u) (run ∷ runs)) }
+{}
