@@ -36,7 +36,7 @@ pub record EndsAlike (card : CardFields) (past alone : List (List ℕ)) : Type 0
   pub none : ended_before card alone ≡ Opened
   pub wrote : run_wrote card past ≡ run_wrote card alone
 
-opened_joins : (ending : Ending) → joined Opened ending ≡ ending
+pub opened_joins : (ending : Ending) → joined Opened ending ≡ ending
 unfolding joined
 opened_joins Opened = refl
 opened_joins (Revoked q) = refl
@@ -45,7 +45,7 @@ opened_joins NoCat = refl
 opened_joins (Unclosed n) = refl
 opened_joins (Gaps n) = refl
 
-ending_by : (card : CardFields) (tuning : Tuning) (past : List (List ℕ)) → tuning_of card.ca past ≡ Some tuning →
+pub ending_by : (card : CardFields) (tuning : Tuning) (past : List (List ℕ)) → tuning_of card.ca past ≡ Some tuning →
     ending_of card past ≡ joined (ended_before card past) (run_ending card (heard card past) (run_wrote card past))
 unfolding ending_of
 ending_by card tuning past tuned =
@@ -64,7 +64,7 @@ run_alone card tuning k past alone agrees alike =
     ∙ (ap (λ (e : Ending). joined e (run_ending card (heard card alone) (run_wrote card alone))) alike.none
     ∙ opened_joins (run_ending card (heard card alone) (run_wrote card alone))))))
 
-turns_by : (card : CardFields) (tuning : Tuning) (past : List (List ℕ)) (packet : List ℕ) →
+pub turns_by : (card : CardFields) (tuning : Tuning) (past : List (List ℕ)) (packet : List ℕ) →
     tuning_of card.ca past ≡ Some tuning →
     turns_at card past packet ≡ is_turn (heard card past) (hears card.height tuning (length past) packet)
 unfolding turns_at
@@ -73,13 +73,13 @@ turns_by card tuning past packet tuned =
     (λ (it : Tuning). is_turn (heard card past) (hears card.height it (length past) packet)) t false) tuned
 
 -- a packet of the run at hand
-wrote_on : (card : CardFields) (past : List (List ℕ)) (packet : List ℕ) → turns_at card past packet ≡ false →
+pub wrote_on : (card : CardFields) (past : List (List ℕ)) (packet : List ℕ) → turns_at card past packet ≡ false →
     run_wrote card (packet ∷ past) ≡ run_wrote card past + length (offered card past packet).wrote
 unfolding run_wrote
 wrote_on card past packet stays =
     ap (λ (t : Bool). (if t then 0 else run_wrote card past) + length (offered card past packet).wrote) stays
 
-ended_on : (card : CardFields) (past : List (List ℕ)) (packet : List ℕ) → turns_at card past packet ≡ false →
+pub ended_on : (card : CardFields) (past : List (List ℕ)) (packet : List ℕ) → turns_at card past packet ≡ false →
     ended_before card (packet ∷ past) ≡ ended_before card past
 unfolding ended_before
 ended_on card past packet stays =
@@ -99,13 +99,13 @@ alike_more card tuning k past alone packet agrees alike stays stays_alone = reco
 }
 
 -- the first message of another run
-wrote_anew : (card : CardFields) (past : List (List ℕ)) (packet : List ℕ) → turns_at card past packet ≡ true →
+pub wrote_anew : (card : CardFields) (past : List (List ℕ)) (packet : List ℕ) → turns_at card past packet ≡ true →
     run_wrote card (packet ∷ past) ≡ 0 + length (offered card past packet).wrote
 unfolding run_wrote
 wrote_anew card past packet turns =
     ap (λ (t : Bool). (if t then 0 else run_wrote card past) + length (offered card past packet).wrote) turns
 
-ended_now : (card : CardFields) (past : List (List ℕ)) (packet : List ℕ) → turns_at card past packet ≡ true →
+pub ended_now : (card : CardFields) (past : List (List ℕ)) (packet : List ℕ) → turns_at card past packet ≡ true →
     ended_before card (packet ∷ past)
     ≡ joined (ended_before card past) (run_ending card (heard card past) (run_wrote card past))
 unfolding ended_before

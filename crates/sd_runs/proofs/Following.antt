@@ -72,7 +72,7 @@ not_two_none : (name : Option (Option ℕ)) → are_two name None ≡ false
 not_two_none None = refl
 not_two_none (Some a) = refl
 
-quiet_stays : (past : List Heard) (thing : Heard) → is_quiet thing ≡ true → is_turn past thing ≡ false
+pub quiet_stays : (past : List Heard) (thing : Heard) → is_quiet thing ≡ true → is_turn past thing ≡ false
 unfolding is_turn
 quiet_stays past thing quiet =
     ap (are_two (name_in past)) (quiet_unnamed thing quiet) ∙ not_two_none (name_in past)
@@ -81,7 +81,7 @@ quiet_stays past thing quiet =
 abbrev pub more : List Heard → Heard → List Heard
 more past thing = if is_closed past then past else thing ∷ past
 
-more_is : (past : List Heard) (thing : Heard) → is_turn past thing ≡ false → heard_more past thing ≡ more past thing
+pub more_is : (past : List Heard) (thing : Heard) → is_turn past thing ≡ false → heard_more past thing ≡ more past thing
 more_is past thing stays =
     ap (λ (run : List Heard). if is_closed run then past else thing ∷ run) (same_run past thing stays)
 
@@ -90,13 +90,13 @@ quiet_by : (past : List Heard) (thing : Heard) (closed : Bool) → AreQuiet past
 quiet_by past thing true all quiet = all
 quiet_by past thing false all quiet = (quiet, all)
 
-quiet_more : (past : List Heard) (thing : Heard) → AreQuiet past → is_quiet thing ≡ true →
+pub quiet_more : (past : List Heard) (thing : Heard) → AreQuiet past → is_quiet thing ≡ true →
     AreQuiet (heard_more past thing)
 quiet_more past thing all quiet =
     subst AreQuiet (sym (more_is past thing (quiet_stays past thing quiet)))
     (quiet_by past thing (is_closed past) all quiet)
 
-name_goes_on : (past : List Heard) (thing : Heard) → is_quiet thing ≡ true →
+pub name_goes_on : (past : List Heard) (thing : Heard) → is_quiet thing ≡ true →
     name_in (heard_more past thing) ≡ name_in past
 unfolding is_turn
 name_goes_on past thing quiet =
@@ -201,7 +201,7 @@ named_by name past thing false named one =
     ap (name_or (name_of thing)) named ∙ sym (some_kept name (name_of thing) one)
 
 -- no thing of the run turns
-led_stays : (name : Option ℕ) (past lead : List Heard) (thing : Heard) → AreQuiet lead → name_in past ≡ Some name →
+pub led_stays : (name : Option ℕ) (past lead : List Heard) (thing : Heard) → AreQuiet lead → name_in past ≡ Some name →
     are_two (Some name) (name_of thing) ≡ false → is_turn (past ++ lead) thing ≡ false
 unfolding is_turn
 led_stays name past lead thing quiet named one =
@@ -246,7 +246,7 @@ both_offer card tuning k n m packet things count =
     (thing_later k (hears card.height tuning m packet))) count
     ∙ open_later k m card tuning things (hears card.height tuning m packet))
 
-one_name : (card : CardFields) (tuning : Tuning) (n : ℕ) (name : Option ℕ) (packet : List ℕ) →
+pub one_name : (card : CardFields) (tuning : Tuning) (n : ℕ) (name : Option ℕ) (packet : List ℕ) →
     are_two (Some name) (name_at card.height tuning packet) ≡ false →
     are_two (Some name) (name_of (hears card.height tuning n packet)) ≡ false
 one_name card tuning n name packet one =
@@ -293,7 +293,7 @@ follows_more card tuning k name past alone packet things old own one f =
     }
 
 -- the first message of the run
-unnamed_stays : (past : List Heard) (thing : Heard) → AreQuiet past → is_turn past thing ≡ false
+pub unnamed_stays : (past : List Heard) (thing : Heard) → AreQuiet past → is_turn past thing ≡ false
 unfolding is_turn
 unnamed_stays past thing quiet = ap (λ (n : Option (Option ℕ)). are_two n (name_of thing)) (name_quiet past quiet)
 
@@ -302,7 +302,7 @@ two_names a b apart =
     tested (is_same a b) (λ same. absurd (apart (same_is a b same)))
     (λ other. ap {B = Bool} (λ (t : Bool). not t) other)
 
-turn_there : (card : CardFields) (tuning : Tuning) (past : List (List ℕ)) (packet : List ℕ) (a name : Option ℕ) →
+pub turn_there : (card : CardFields) (tuning : Tuning) (past : List (List ℕ)) (packet : List ℕ) (a name : Option ℕ) →
     name_in (heard card past) ≡ Some a → a ≢ name → name_at card.height tuning packet ≡ Some name →
     is_turn (heard card past) (hears card.height tuning (length past) packet) ≡ true
 unfolding is_turn

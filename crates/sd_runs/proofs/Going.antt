@@ -62,7 +62,7 @@ IsStep card tuning k name Fresh past alone packet =
     (offered card past packet ≡ offering_later k (offered card alone packet))
     × Goes card tuning k name Fresh (packet ∷ past) (packet ∷ alone)
 
-no_heard : (card : CardFields) (past : List (List ℕ)) (packet : List ℕ) → IsUntuned card past →
+pub no_heard : (card : CardFields) (past : List (List ℕ)) (packet : List ℕ) → IsUntuned card past →
     AreQuiet (heard card (packet ∷ past))
 no_heard card past packet none = subst AreQuiet (sym (heard_none card past packet none)) tt
 
@@ -104,7 +104,7 @@ waits_step card tuning k name Fresh past alone packet apart (inr is) waits =
       inr (inr (hears card.height tuning (length alone) packet ∷ [], now.1.0, heard card alone, now.1.1)),
     )
 
-one_run : (card : CardFields) (tuning : Tuning) (name : Option ℕ) (packet : List ℕ) →
+pub one_run : (card : CardFields) (tuning : Tuning) (name : Option ℕ) (packet : List ℕ) →
     IsPacketOf card tuning name packet → are_two (Some name) (name_at card.height tuning packet) ≡ false
 one_run card tuning name packet (inl quiet) =
     ap (are_two (Some name)) (quiet_unnamed (hears card.height tuning 0 packet) quiet)
@@ -199,7 +199,7 @@ pub fresh_still : (card : CardFields) (Fresh Next : Option ℕ → Type 0) (past
 fresh_still card Fresh Next past still (inl quiet) = inl quiet
 fresh_still card Fresh Next past still (inr (a, named, fresh)) = inr (a, named, still a fresh)
 
-follows_named : (card : CardFields) (tuning : Tuning) (k : ℕ) (name : Option ℕ) (past alone : List (List ℕ)) →
+pub follows_named : (card : CardFields) (tuning : Tuning) (k : ℕ) (name : Option ℕ) (past alone : List (List ℕ)) →
     (begun : HasBegun card tuning k name past alone) →
     (tuning_of card.ca past ≡ Some tuning) × (name_in (heard card past) ≡ Some name)
 follows_named card tuning k name past alone (things, old, own, f) = (
@@ -232,7 +232,7 @@ goes_untuned card tuning k name Fresh past alone none (inr (inr begun)) =
     untuned_not (tuning_of card.ca past) tuning none (follows_named card tuning k name past alone begun).0
 
 -- a run that begins where a CAT came before: alone it has the CAT that it begins with
-some_past : (card : CardFields) (tuning : Tuning) (past : List (List ℕ)) → tuning_of card.ca past ≡ Some tuning →
+pub some_past : (card : CardFields) (tuning : Tuning) (past : List (List ℕ)) → tuning_of card.ca past ≡ Some tuning →
     1 ≤ length past
 unfolding tuning_of
 some_past card tuning [] tuned = absurd (cc tuned)

@@ -78,7 +78,7 @@ messages_quiet : (past : List Heard) → AreQuiet past → messages past ≡ []
 unfolding messages
 messages_quiet past quiet = quiet_induct messages [] refl (λ past. refl) (λ n packet past. refl) past quiet
 
-still : (closed : Bool) → (if closed then true else false) ≡ closed
+pub still : (closed : Bool) → (if closed then true else false) ≡ closed
 still true = refl
 still false = refl
 
@@ -88,7 +88,8 @@ closed_quiet past quiet =
     quiet_induct is_closed false refl (λ past. still (is_closed past)) (λ n packet past. still (is_closed past)) past
     quiet
 
-newest_quiet : (past : List Heard) → AreQuiet past → newest past ≡ record { message = None; before = []; after = past }
+pub newest_quiet : (past : List Heard) → AreQuiet past →
+    newest past ≡ record { message = None; before = []; after = past }
 unfolding newest
 newest_quiet [] quiet = refl
 newest_quiet (Dropped ∷ past) quiet =

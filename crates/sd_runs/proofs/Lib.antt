@@ -12,3 +12,9 @@ pub mod Going
 pub mod Runs
 pub mod Many
 pub mod Whole
+pub mod Trailing
+pub mod Sending
+pub mod Ended
+pub mod Standing
+pub mod Finishing
+pub mod WholeEnds

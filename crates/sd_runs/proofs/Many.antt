@@ -131,7 +131,7 @@ with_flags card tuning name Fresh Next cat tail past next (true ∷ fs) apart st
     (ones_chosen card tuning name fs tail ones) none passes.1.1 in
     record { out = passes.0 ∙ gone.out; breaks = passes.1.0 ∙ gone.breaks; between = gone.between }
 
-with_cat : (fs : List Bool) (cat : List ℕ) (tail : List (List ℕ)) →
+pub with_cat : (fs : List Bool) (cat : List ℕ) (tail : List (List ℕ)) →
     chosen (true ∷ fs) (cat ∷ tail) ≡ cat ∷ chosen fs tail
 unfolding chosen
 with_cat fs cat tail = refl

@@ -1,6 +1,6 @@
 -- Runs of one channel, one after the other.
 use Rattle.std.proofs.Common.{◌≡◌, refl, ℕ, ◌%◌, ◌^◌, ◌<◌, ◌==◌, ◌++◌, Bool, true, false, List, [], ◌∷◌, Option, Some}
-use Rattle.std.proofs.Common.{None, ap, ◌∙◌, arith, subst, inl, inr}
+use Rattle.std.proofs.Common.{None, reverse, ap, ◌∙◌, arith, subst}
 use Rattle.std.specs.Prelude.{if◌then◌else◌, All}
 use Rattle.std.specs.List.{list_any}
 use Rattle.std.proofs.lemmas.List.Elements.{All-head, All-tail}
@@ -20,18 +20,20 @@ use Rattle.sd_reception.specs.Tuned.{Tuning, tuning_of, cat_tuning, tuned_by}
 use Rattle.sd_reception.specs.Heard.{hears}
 use Rattle.sd_reception.specs.Runs.{name_of}
 use Rattle.sd_reception.specs.Offered.{out_from, break_from}
+use Rattle.sd_reception.specs.Ending.{ending_of}
 use Rattle.sd_losses.specs.Chosen.{chosen}
 use Rattle.sd_losses.specs.Kept.{is_cat}
 use Rattle.sd_losses.specs.Confirmed.{confirmed}
+use Rattle.sd_losses.specs.Endings.{ending_told}
 use Rattle.sd_losses.proofs.Setting.{Setting, tuning_at}
 use Rattle.sd_losses.proofs.Hearing.{AreHearable}
 use Rattle.sd_losses.proofs.Lawful.{setting, can_be_heard}
-use Rattle.sd_losses.proofs.Theorem.{confirmed_alone, none_refused}
+use Rattle.sd_losses.proofs.Theorem.{confirmed_alone, none_refused, ends_as_told}
 use Rattle.sd_runs.specs.Channel.{Arrival}
 use Rattle.sd_runs.proofs.Leading.{is_quiet}
 use Rattle.sd_runs.proofs.Endings.{onto}
-use Rattle.sd_runs.proofs.Following.{IsPacketOf}
-use Rattle.sd_runs.proofs.Going.{IsOne, AreOnes}
+use Rattle.sd_runs.proofs.Going.{AreOnes}
+use Rattle.sd_runs.proofs.Sending.{IsSentAs, AreSentAs, ones_of}
 
 -- the things of a broadcast begin with the CAT
 pub begins_by : (plan : Plan) (clear : List (List ℕ)) →
@@ -52,10 +54,14 @@ pub record IsGood (card : CardFields) (tuning : Tuning) (u : ℕ) (run : Arrival
   pub sent_is : broadcast run.plan run.clear ≡ cat ∷ tail
   pub cat_is : cat_tuning card.ca cat ≡ Some tuning
   pub quiet : is_quiet (hears card.height tuning 0 cat) ≡ true
+  pub sent_as : AreSentAs card tuning (site_name run.plan.site)
+      (sent run.plan run.clear ++ closing_of run.plan run.clear) (broadcast run.plan run.clear)
   pub ones : AreOnes card tuning (site_name run.plan.site) (broadcast run.plan run.clear)
   pub out : (fs : List Bool) → out_from card [] (chosen fs (broadcast run.plan run.clear))
       ≡ confirmed run.plan u run.clear (chosen fs (sent run.plan run.clear ++ closing_of run.plan run.clear))
   pub none : (fs : List Bool) → break_from card [] (chosen fs (broadcast run.plan run.clear)) ≡ None
+  pub ends : (fs : List Bool) → ending_of card (reverse (chosen fs (broadcast run.plan run.clear)))
+      ≡ ending_told run.plan u run.clear (chosen fs (sent run.plan run.clear ++ closing_of run.plan run.clear))
   pub cats : (fs : List Bool) (past : List (List ℕ)) → tuning_of card.ca past ≡ None →
       tuning_of card.ca (onto (chosen fs (broadcast run.plan run.clear)) past)
       ≡ (if list_any is_cat (chosen fs (sent run.plan run.clear ++ closing_of run.plan run.clear)) then Some tuning
@@ -71,40 +77,31 @@ stays_tuned card tuning (packet ∷ packets) past tuned =
     (ap (λ (t : Option Tuning). tuned_by t (cat_tuning card.ca packet)) tuned)
 
 module _ (s : Setting) (able : AreHearable s) where
-  item_of : (n : ℕ) (earlier : List Item) (item : Item) → IsOfBroadcast s.plan s.clear item →
-      IsPacketOf s.card (tuning_at s) (site_name s.plan.site) (packet_of s.plan.site earlier item)
-  item_of n earlier Cat of' = inl (ap is_quiet (able.heard_is 0 earlier Cat of'))
-  item_of n earlier (Entitles emm) of' =
-      inr (ap name_of (able.heard_is 0 earlier (Entitles emm) of')
-      ∙ ap {B = Option (Option ℕ)} (λ (run : Option ℕ). Some run) (section_names s.plan s.clear emm of'))
-  item_of n earlier (Controls part) of' =
-      inr (ap name_of (able.heard_is 0 earlier (Controls part) of')
-      ∙ ap {B = Option (Option ℕ)} (λ (run : Option ℕ). Some run) (part_names s.plan s.clear part of'))
-  item_of n earlier (Carries j packet) of' = inl (ap is_quiet (able.heard_is 0 earlier (Carries j packet) of'))
+  item_sent : (earlier : List Item) (item : Item) → IsOfBroadcast s.plan s.clear item →
+      IsSentAs s.card (tuning_at s) (site_name s.plan.site) item (packet_of s.plan.site earlier item)
+  item_sent earlier Cat of' = (able.tuning earlier, ap is_quiet (able.heard_is 0 earlier Cat of'))
+  item_sent earlier (Entitles emm) of' = (
+    able.untuned earlier (Entitles emm) of' refl,
+    ap name_of (able.heard_is 0 earlier (Entitles emm) of')
+        ∙ ap {B = Option (Option ℕ)} (λ (run : Option ℕ). Some run) (section_names s.plan s.clear emm of'),
+  )
+  item_sent earlier (Controls part) of' = (
+    able.untuned earlier (Controls part) of' refl,
+    ap name_of (able.heard_is 0 earlier (Controls part) of')
+        ∙ ap {B = Option (Option ℕ)} (λ (run : Option ℕ). Some run) (part_names s.plan s.clear part of'),
+  )
+  item_sent earlier (Carries j packet) of' = (
+    able.untuned earlier (Carries j packet) of' refl,
+    ap is_quiet (able.heard_is 0 earlier (Carries j packet) of'),
+  )
 
-  item_one : (earlier : List Item) (item : Item) → IsOfBroadcast s.plan s.clear item →
-      IsOne s.card (tuning_at s) (site_name s.plan.site) (packet_of s.plan.site earlier item)
-  item_one earlier Cat of' = record { of_run = item_of 0 earlier Cat of'; cat = inr (able.tuning earlier) }
-  item_one earlier (Entitles emm) of' = record {
-    of_run = item_of 0 earlier (Entitles emm) of';
-    cat = inl (able.untuned earlier (Entitles emm) of' refl);
-  }
-  item_one earlier (Controls part) of' = record {
-    of_run = item_of 0 earlier (Controls part) of';
-    cat = inl (able.untuned earlier (Controls part) of' refl);
-  }
-  item_one earlier (Carries j packet) of' = record {
-    of_run = item_of 0 earlier (Carries j packet) of';
-    cat = inl (able.untuned earlier (Carries j packet) of' refl);
-  }
-
-  items_ones : (items earlier : List Item) → All (IsOfBroadcast s.plan s.clear) items →
-      AreOnes s.card (tuning_at s) (site_name s.plan.site) (packets_from s.plan.site earlier items)
+  items_sent : (items earlier : List Item) → All (IsOfBroadcast s.plan s.clear) items →
+      AreSentAs s.card (tuning_at s) (site_name s.plan.site) items (packets_from s.plan.site earlier items)
   unfolding packets_from
-  items_ones [] earlier all = tt
-  items_ones (item ∷ items) earlier all = (
-    item_one earlier item (All-head (IsOfBroadcast s.plan s.clear) item items all),
-    items_ones items (earlier ++ item ∷ []) (All-tail (IsOfBroadcast s.plan s.clear) item items all),
+  items_sent [] earlier all = tt
+  items_sent (item ∷ items) earlier all = (
+    item_sent earlier item (All-head (IsOfBroadcast s.plan s.clear) item items all),
+    items_sent items (earlier ++ item ∷ []) (All-tail (IsOfBroadcast s.plan s.clear) item items all),
   )
 
   first_tuned : (past : List (List ℕ)) (packet : List ℕ) (tuning : Option Tuning) → tuning_of s.card.ca past ≡ None →
@@ -156,17 +153,21 @@ good_of run u plan all whole leaf =
     let begins = begins_by run.plan run.clear in
     let of_all = all_are_of_broadcast run.plan run.clear in
     let of_cat = All-head (IsOfBroadcast run.plan run.clear) Cat begins.0
-    (subst (All (IsOfBroadcast run.plan run.clear)) begins.1 of_all) in (
+    (subst (All (IsOfBroadcast run.plan run.clear)) begins.1 of_all) in
+    let things : List Item = sent run.plan run.clear ++ closing_of run.plan run.clear in
+    let as_sent = items_sent s able things [] of_all in (
       packet_of run.plan.site [] Cat,
       packets_from run.plan.site (Cat ∷ []) begins.0,
       record {
         sent_is = ap (packets_from run.plan.site []) begins.1;
         cat_is = able.tuning [];
         quiet = ap is_quiet (able.heard_is 0 [] Cat of_cat);
-        ones = items_ones s able (sent run.plan run.clear ++ closing_of run.plan run.clear) [] of_all;
+        sent_as = as_sent;
+        ones = ones_of s.card (tuning_at s) (site_name run.plan.site) things (packets_from run.plan.site [] things)
+            as_sent;
         out = λ fs. confirmed_alone run.plan run.clear u fs plan all whole leaf;
         none = λ fs. none_refused run.plan run.clear u fs plan all whole leaf;
-        cats = λ fs past none. items_tuned s able (sent run.plan run.clear ++ closing_of run.plan run.clear) [] fs past
-            of_all none;
+        ends = λ fs. ends_as_told run.plan run.clear u fs plan all whole leaf;
+        cats = λ fs past none. items_tuned s able things [] fs past of_all none;
       },
     )

@@ -49,12 +49,12 @@ never_turns : (card : CardFields) (past : List (List ℕ)) (packet : List ℕ) �
 unfolding turns_at
 never_turns card past packet none = rw none.tuned refl
 
-ended_none : (card : CardFields) (past : List (List ℕ)) (packet : List ℕ) → IsUntuned card past →
+pub ended_none : (card : CardFields) (past : List (List ℕ)) (packet : List ℕ) → IsUntuned card past →
     ended_before card (packet ∷ past) ≡ Opened
 unfolding ended_before
 ended_none card past packet none = rw (never_turns card past packet none) none.ended
 
-wrote_none : (card : CardFields) (past : List (List ℕ)) (packet : List ℕ) → IsUntuned card past →
+pub wrote_none : (card : CardFields) (past : List (List ℕ)) (packet : List ℕ) → IsUntuned card past →
     run_wrote card (packet ∷ past) ≡ 0
 unfolding run_wrote
 wrote_none card past packet none =
@@ -152,7 +152,7 @@ break_upto card (packet ∷ packets) past n none count =
         (no_name card packet))
 
 -- how it ends
-ending_none : (card : CardFields) (past : List (List ℕ)) → IsUntuned card past → ending_of card past ≡ NoCat
+pub ending_none : (card : CardFields) (past : List (List ℕ)) → IsUntuned card past → ending_of card past ≡ NoCat
 unfolding ending_of
 ending_none card past none = rw none.tuned refl
 
