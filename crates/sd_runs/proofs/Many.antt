@@ -1,28 +1,38 @@
--- What is confirmed of runs of one channel is what is written of them.
-use Rattle.std.proofs.Common.{◌≡◌, ◌≢◌, refl, ℕ, ◌-◌, ◌^◌, ◌<◌, ◌||◌, ◌++◌, Bool, true, false, List, [], ◌∷◌, length}
-use Rattle.std.proofs.Common.{drop, Option, Some, None, sym, ap, ◌∙◌, arith, subst, inl}
-use Rattle.std.specs.Prelude.{if◌then◌else◌, All}
-use Rattle.std.proofs.lemmas.List.Elements.{All-head, All-tail}
+-- What comes of a run within a stream of runs of one channel.
+use Rattle.std.proofs.Common.{◌≡◌, refl, ℕ, ◌-◌, ◌^◌, ◌<◌, ◌||◌, ◌++◌, Bool, true, false, List, [], ◌∷◌, length}
+use Rattle.std.proofs.Common.{drop, is_none, reverse, Option, Some, None, sym, ap, ◌∙◌, arith, subst, append-nil}
+use Rattle.std.specs.Prelude.{if◌then◌else◌}
+use Rattle.std.specs.List.{list_any}
+use Rattle.std.specs.Option.{option_map_or}
 use Rattle.sd_site.specs.Fields.{name_of as site_name}
 use Rattle.sd_card.specs.Fields.{CardFields, card_of}
-use Rattle.sd_broadcast.specs.Sent.{broadcast}
-use Rattle.sd_reception.specs.Tuned.{Tuning, cat_tuning}
+use Rattle.sd_broadcast.specs.Sent.{Item, Cat, sent, closing_of, broadcast}
+use Rattle.sd_reception.specs.declared.ending.Ending.{Ending}
+use Rattle.sd_reception.specs.Tuned.{Tuning}
 use Rattle.sd_reception.specs.Heard.{hears}
-use Rattle.sd_reception.specs.Offered.{out_from, break_from}
+use Rattle.sd_reception.specs.Offered.{Offering, out_from, break_from}
+use Rattle.sd_reception.specs.Ending.{ending_of}
 use Rattle.sd_losses.specs.Chosen.{chosen}
+use Rattle.sd_losses.specs.Kept.{is_cat, after_cat}
 use Rattle.sd_losses.specs.Confirmed.{confirmed}
+use Rattle.sd_losses.specs.Endings.{ending_told}
 use Rattle.sd_losses.proofs.Setting.{tuning_at}
 use Rattle.sd_losses.proofs.Lawful.{setting}
-use Rattle.sd_runs.specs.Channel.{Arrival, Channel, IsRunOf, HaveTwoNames, AreRunsOf, arriving}
-use Rattle.sd_runs.specs.Many.{kept_of, has_cat, confirmed_from}
+use Rattle.sd_runs.specs.Channel.{Arrival, Channel, IsRunOf}
+use Rattle.sd_runs.specs.Many.{kept_of, has_cat}
+use Rattle.sd_runs.specs.Ends.{is_message, is_told}
+use Rattle.sd_runs.proofs.Agreeing.{tuned_more}
 use Rattle.sd_runs.proofs.Leading.{is_quiet}
-use Rattle.sd_runs.proofs.Agreeing.{tested}
 use Rattle.sd_runs.proofs.Pieces.{cat_out, cat_break}
-use Rattle.sd_runs.proofs.Endings.{onto}
-use Rattle.sd_runs.proofs.Streams.{IsUntuned, nothing_came}
-use Rattle.sd_runs.proofs.Going.{AreOnes, ones_chosen, all_alike, IsBetween, fresh_still, goes_between, goes_untuned}
-use Rattle.sd_runs.proofs.Going.{starts, cat_passes}
-use Rattle.sd_runs.proofs.Runs.{IsGood, good_of, stays_tuned}
+use Rattle.sd_runs.proofs.Endings.{onto, reversed}
+use Rattle.sd_runs.proofs.Streams.{nothing_came}
+use Rattle.sd_runs.proofs.Following.{quiet_offered}
+use Rattle.sd_runs.proofs.Sending.{AreSentAs, sent_chosen, Progress, Untuned, Waiting, Begun, after_items}
+use Rattle.sd_runs.proofs.Sending.{after_waiting, after_untuned, untold}
+use Rattle.sd_runs.proofs.Ended.{ended_more}
+use Rattle.sd_runs.proofs.Standing.{StandsAt, items_stand, StandsBetween, told_more, IsPassed, over_tuned}
+use Rattle.sd_runs.proofs.Standing.{over_untuned, starts_standing}
+use Rattle.sd_runs.proofs.Runs.{begins_by, IsGood, good_of}
 
 -- the card of leaf u and the PIDs of the channel
 abbrev pub card_in : Channel → ℕ → CardFields
@@ -30,10 +40,6 @@ card_in channel u = card_of channel.master channel.ca channel.height u
 
 abbrev pub tuning_in : Channel → Tuning
 tuning_in channel = record { emm = channel.emm; ecm = channel.ecm }
-
--- none of these runs has the name
-abbrev pub IsFresh : List Arrival → Option ℕ → Type 0
-IsFresh runs a = All (λ (run : Arrival). a ≢ site_name run.plan.site) runs
 
 abbrev pub GoodRun : CardFields → Tuning → ℕ → Arrival → Type 0
 GoodRun card tuning u run = (cat : List ℕ) × (tail : List (List ℕ)) × IsGood card tuning u run cat tail
@@ -59,144 +65,204 @@ good_in channel run u is leaf =
     (subst (λ (tuning : Tuning). GoodRun (setting run.plan run.clear u).card tuning u run)
     (tuning_same channel run u is) (good_of run u is.plan is.clear is.whole within))
 
--- What comes of a run within the stream.
-pub record IsGone (card : CardFields) (tuning : Tuning) (Next : Option ℕ → Type 0) (tuned : Bool)
-    (wrote : List (List ℕ)) (past packets next : List (List ℕ)) : Type 0 where
+-- A run is over: nothing of it was refused, this was written of it, and the runs that messages came of end so.
+pub record IsOver (card : CardFields) (tuning : Tuning) (Next : Option ℕ → Type 0) (tuned : Bool)
+    (told : Option Ending) (wrote past packets next : List (List ℕ)) : Type 0 where
   pub out : out_from card past (packets ++ next) ≡ wrote ++ out_from card (onto packets past) next
   pub breaks : break_from card past (packets ++ next) ≡ break_from card (onto packets past) next
-  pub between : IsBetween card tuning Next tuned (onto packets past)
+  pub stands : StandsBetween card tuning Next tuned told (onto packets past)
 
--- where no CAT came before
-untuned_run : (card : CardFields) (tuning : Tuning) (u : ℕ) (run : Arrival) (cat : List ℕ)
-    (tail past next : List (List ℕ)) (Fresh Next : Option ℕ → Type 0) → IsGood card tuning u run cat tail →
-    ((a : Option ℕ) → Fresh a → a ≢ site_name run.plan.site) → ((a : Option ℕ) → Fresh a → Next a) →
-    Next (site_name run.plan.site) → IsUntuned card past →
-    IsGone card tuning Next (false || has_cat run) (confirmed run.plan u run.clear (kept_of false run)) past
-    (chosen run.flags (broadcast run.plan run.clear)) next
-untuned_run card tuning u run cat tail past next Fresh Next good apart still fresh none =
+-- how a run ends by itself, its packets put one after the other
+alone_ends : (card : CardFields) (packets : List (List ℕ)) (ending : Ending) →
+    ending_of card (reverse packets) ≡ ending → ending_of card (onto packets []) ≡ ending
+alone_ends card packets ending is =
+    ap (ending_of card) (sym (sym (append-nil (reverse packets)) ∙ reversed packets [])) ∙ is
+
+-- a first message comes only where the receiver is told of the run
+begun_told : (t : Bool) → (if t then Begun else Waiting) ≡ Begun → t ≡ true
+begun_told true is = refl
+begun_told false is = absurd (cc is)
+
+begun_tuned : (c t : Bool) → (if c then (if t then Begun else Waiting) else Untuned) ≡ Begun → t ≡ true
+begun_tuned true t is = begun_told t is
+begun_tuned false t is = absurd (cc is)
+
+-- a run before which no CAT came
+untuned_over : (card : CardFields) (tuning : Tuning) (u : ℕ) (run : Arrival) (cat : List ℕ)
+    (tail past next : List (List ℕ)) (Fresh Next : Option ℕ → Type 0) (told : Option Ending) →
+    IsGood card tuning u run cat tail →
+    IsPassed (is_told false run) (site_name run.plan.site) Fresh Next →
+    StandsBetween card tuning Fresh false told past →
+    IsOver card tuning Next (has_cat run)
+    (told_more told (is_told false run) (ending_told run.plan u run.clear (kept_of false run)))
+    (confirmed run.plan u run.clear (kept_of false run)) past (chosen run.flags (broadcast run.plan run.clear)) next
+untuned_over card tuning u run cat tail past next Fresh Next told good passed stands =
     let name : Option ℕ = site_name run.plan.site in
+    let kept : List Item = kept_of false run in
     let packets : List (List ℕ) = chosen run.flags (broadcast run.plan run.clear) in
-    let all = all_alike card tuning (length past) name Fresh packets past [] next apart
-    (ones_chosen card tuning name run.flags (broadcast run.plan run.clear) good.ones)
-    (inl (record { here = none; there = nothing_came card; count = omega arith })) (good.none run.flags) in
-    let tuned_is = good.cats run.flags past none.tuned in
+    let things : List Item = sent run.plan run.clear ++ closing_of run.plan run.clear in
+    let begun = λ (b : after_items Untuned kept ≡ Begun).
+    begun_tuned (list_any is_cat kept) (is_told false run) (sym (after_untuned kept) ∙ b) in
+    let gone = items_stand card tuning (length past) name Fresh told kept packets past [] next Untuned
+    (λ b. passed.apart (begun b))
+    (sent_chosen card tuning name run.flags things (broadcast run.plan run.clear) good.sent_as) (good.none run.flags)
+    (record { here = stands.0; there = nothing_came card; count = omega arith }, stands.1) in
     record {
-      out = all.0.out
+      out = gone.0.out
           ∙ ap (λ (wrote : List (List ℕ)). wrote ++ out_from card (onto packets past) next) (good.out run.flags);
-      breaks = all.0.breaks;
-      between = tested (has_cat run)
-          (λ some. subst (λ (b : Bool). IsBetween card tuning Next b (onto packets past)) (sym some)
-          (goes_between card tuning (length past) name Fresh Next (onto packets past) (onto packets []) still fresh
-          (tuned_is ∙ ap (λ (b : Bool). if b then Some tuning else None) some) all.1))
-          (λ no. subst (λ (b : Bool). IsBetween card tuning Next b (onto packets past)) (sym no)
-          (goes_untuned card tuning (length past) name Fresh (onto packets past) (onto packets [])
-          (tuned_is ∙ ap (λ (b : Bool). if b then Some tuning else None) no) all.1));
+      breaks = gone.0.breaks;
+      stands = subst (λ (e : Ending). StandsBetween card tuning Next (has_cat run)
+          (told_more told (is_told false run) e) (onto packets past))
+          (alone_ends card packets (ending_told run.plan u run.clear kept) (good.ends run.flags))
+          (over_untuned card tuning (length past) name Fresh Next told (onto packets past) (onto packets [])
+          (list_any is_cat kept) (is_told false run) passed (untold kept)
+          (subst (λ (at : Progress). StandsAt card tuning (length past) name Fresh told at (onto packets past)
+          (onto packets [])) (after_untuned kept) gone.1));
     }
 
--- where one came
-going_on : (card : CardFields) (tuning : Tuning) (name : Option ℕ) (Fresh Next : Option ℕ → Type 0) (cat : List ℕ)
-    (packets past next : List (List ℕ)) → ((a : Option ℕ) → Fresh a → a ≢ name) →
-    ((a : Option ℕ) → Fresh a → Next a) → Next name → cat_tuning card.ca cat ≡ Some tuning →
-    AreOnes card tuning name packets → break_from card (cat ∷ []) packets ≡ None →
-    IsBetween card tuning Fresh true past →
-    IsGone card tuning Next true (out_from card (cat ∷ []) packets) past packets next
-going_on card tuning name Fresh Next cat packets past next apart still fresh is ones none between =
-    let all = all_alike card tuning (length past - 1) name Fresh packets past (cat ∷ []) next apart ones
-    (starts card tuning name Fresh past cat is between) none in
-    record {
-      out = all.0.out;
-      breaks = all.0.breaks;
-      between = goes_between card tuning (length past - 1) name Fresh Next (onto packets past)
-          (onto packets (cat ∷ [])) still fresh (stays_tuned card tuning packets past between.0) all.1;
-    }
+-- what is kept behind the CAT that a run begins with
+told_behind : (run : Arrival) (items : List Item) →
+    sent run.plan run.clear ++ closing_of run.plan run.clear ≡ Cat ∷ items →
+    after_cat (kept_of true run) ≡ chosen (drop 1 run.flags) items
+unfolding after_cat chosen
+told_behind run items is = ap (λ (things : List Item). after_cat (chosen (true ∷ drop 1 run.flags) things)) is
 
-with_flags : (card : CardFields) (tuning : Tuning) (name : Option ℕ) (Fresh Next : Option ℕ → Type 0) (cat : List ℕ)
-    (tail past next : List (List ℕ)) (fs : List Bool) → ((a : Option ℕ) → Fresh a → a ≢ name) →
-    ((a : Option ℕ) → Fresh a → Next a) → Next name → cat_tuning card.ca cat ≡ Some tuning →
-    is_quiet (hears card.height tuning 0 cat) ≡ true → AreOnes card tuning name tail →
-    break_from card (cat ∷ []) (chosen (drop 1 fs) tail) ≡ None → IsBetween card tuning Fresh true past →
-    IsGone card tuning Next true (out_from card (cat ∷ []) (chosen (drop 1 fs) tail)) past (chosen fs (cat ∷ tail)) next
-unfolding chosen out_from
-with_flags card tuning name Fresh Next cat tail past next [] apart still fresh is quiet ones none between = record {
-  out = refl;
-  breaks = refl;
-  between = (between.0, fresh_still card Fresh Next past still between.1);
-}
-with_flags card tuning name Fresh Next cat tail past next (false ∷ fs) apart still fresh is quiet ones none between =
-    going_on card tuning name Fresh Next cat (chosen fs tail) past next apart still fresh is
-    (ones_chosen card tuning name fs tail ones) none between
-with_flags card tuning name Fresh Next cat tail past next (true ∷ fs) apart still fresh is quiet ones none between =
-    let passes = cat_passes card tuning Fresh past (chosen fs tail ++ next) cat quiet between in
-    let gone = going_on card tuning name Fresh Next cat (chosen fs tail) (cat ∷ past) next apart still fresh is
-    (ones_chosen card tuning name fs tail ones) none passes.1.1 in
-    record { out = passes.0 ∙ gone.out; breaks = passes.1.0 ∙ gone.breaks; between = gone.between }
+-- its things and packets behind that CAT
+tail_sent : (card : CardFields) (tuning : Tuning) (u : ℕ) (run : Arrival) (cat : List ℕ) (tail : List (List ℕ))
+    (items : List Item) → IsGood card tuning u run cat tail →
+    sent run.plan run.clear ++ closing_of run.plan run.clear ≡ Cat ∷ items →
+    AreSentAs card tuning (site_name run.plan.site) items tail
+tail_sent card tuning u run cat tail items good is =
+    let name : Option ℕ = site_name run.plan.site in
+    let both : AreSentAs card tuning name (Cat ∷ items) (cat ∷ tail) =
+    subst (λ (things : List Item). AreSentAs card tuning name things (cat ∷ tail)) is
+    (subst (AreSentAs card tuning name (sent run.plan run.clear ++ closing_of run.plan run.clear)) good.sent_is
+    good.sent_as) in
+    both.1
 
-pub with_cat : (fs : List Bool) (cat : List ℕ) (tail : List (List ℕ)) →
+-- what comes by itself of what arrives of it behind that CAT
+pub record IsTail (card : CardFields) (u : ℕ) (run : Arrival) (cat : List ℕ) (packets : List (List ℕ)) : Type 0 where
+  pub out : out_from card (cat ∷ []) packets ≡ confirmed run.plan u run.clear (kept_of true run)
+  pub none : break_from card (cat ∷ []) packets ≡ None
+  pub ends : ending_of card (onto packets (cat ∷ [])) ≡ ending_told run.plan u run.clear (kept_of true run)
+
+with_cat : (fs : List Bool) (cat : List ℕ) (tail : List (List ℕ)) →
     chosen (true ∷ fs) (cat ∷ tail) ≡ cat ∷ chosen fs tail
 unfolding chosen
 with_cat fs cat tail = refl
 
-tuned_run : (card : CardFields) (tuning : Tuning) (u : ℕ) (run : Arrival) (cat : List ℕ)
-    (tail past next : List (List ℕ)) (Fresh Next : Option ℕ → Type 0) → IsGood card tuning u run cat tail →
-    ((a : Option ℕ) → Fresh a → a ≢ site_name run.plan.site) → ((a : Option ℕ) → Fresh a → Next a) →
-    Next (site_name run.plan.site) → IsBetween card tuning Fresh true past →
-    IsGone card tuning Next true (confirmed run.plan u run.clear (kept_of true run)) past
-    (chosen run.flags (broadcast run.plan run.clear)) next
-tuned_run card tuning u run cat tail past next Fresh Next good apart still fresh between =
+tail_is : (card : CardFields) (tuning : Tuning) (u : ℕ) (run : Arrival) (cat : List ℕ) (tail : List (List ℕ)) →
+    IsGood card tuning u run cat tail → IsTail card u run cat (chosen (drop 1 run.flags) tail)
+tail_is card tuning u run cat tail good =
+    let fs : List Bool = drop 1 run.flags in
+    let packets : List (List ℕ) = chosen fs tail in
+    let same : cat ∷ packets ≡ chosen (true ∷ fs) (broadcast run.plan run.clear) =
+    sym (ap (chosen (true ∷ fs)) good.sent_is ∙ with_cat fs cat tail) in
+    record {
+      out = sym (cat_out card cat packets) ∙ (ap (out_from card []) same ∙ good.out (true ∷ fs));
+      none = sym (cat_break card cat packets) ∙ (ap (break_from card []) same ∙ good.none (true ∷ fs));
+      ends = alone_ends card (cat ∷ packets) (ending_told run.plan u run.clear (kept_of true run))
+          (ap (λ (ps : List (List ℕ)). ending_of card (reverse ps)) same ∙ good.ends (true ∷ fs));
+    }
+
+-- what arrives of it behind that CAT
+tuned_tail_over : (card : CardFields) (tuning : Tuning) (u : ℕ) (run : Arrival) (cat : List ℕ)
+    (tail past next : List (List ℕ)) (Fresh Next : Option ℕ → Type 0) (told : Option Ending) →
+    IsGood card tuning u run cat tail → IsPassed (is_told true run) (site_name run.plan.site) Fresh Next →
+    StandsBetween card tuning Fresh true told past →
+    IsOver card tuning Next true
+    (told_more told (is_told true run) (ending_told run.plan u run.clear (kept_of true run)))
+    (confirmed run.plan u run.clear (kept_of true run)) past (chosen (drop 1 run.flags) tail) next
+tuned_tail_over card tuning u run cat tail past next Fresh Next told good passed stands =
     let name : Option ℕ = site_name run.plan.site in
     let fs : List Bool = drop 1 run.flags in
-    let kept_is : chosen (true ∷ fs) (broadcast run.plan run.clear) ≡ cat ∷ chosen fs tail =
-    ap (chosen (true ∷ fs)) good.sent_is ∙ with_cat fs cat tail in
-    let ones : AreOnes card tuning name (cat ∷ tail) = subst (AreOnes card tuning name) good.sent_is good.ones in
-    let none : break_from card (cat ∷ []) (chosen fs tail) ≡ None =
-    sym (cat_break card cat (chosen fs tail))
-    ∙ (ap (break_from card []) (sym kept_is) ∙ good.none (true ∷ fs)) in
-    let wrote : out_from card (cat ∷ []) (chosen fs tail) ≡ confirmed run.plan u run.clear (kept_of true run) =
-    sym (cat_out card cat (chosen fs tail))
-    ∙ (ap (out_from card []) (sym kept_is) ∙ good.out (true ∷ fs)) in
-    subst (λ (w : List (List ℕ)). IsGone card tuning Next true w past
-    (chosen run.flags (broadcast run.plan run.clear)) next) wrote
-    (subst (λ (all : List (List ℕ)). IsGone card tuning Next true (out_from card (cat ∷ []) (chosen fs tail)) past
-    (chosen run.flags all) next) (sym good.sent_is)
-    (with_flags card tuning name Fresh Next cat tail past next run.flags apart still fresh good.cat_is good.quiet
-    ones.1 none between))
+    let k : ℕ = length past - 1 in
+    let begins = begins_by run.plan run.clear in
+    let things : List Item = chosen fs begins.0 in
+    let packets : List (List ℕ) = chosen fs tail in
+    let alone : List (List ℕ) = onto packets (cat ∷ []) in
+    let own = tail_is card tuning u run cat tail good in
+    let t_is : list_any is_message things ≡ is_told true run =
+    ap (list_any is_message) (sym (told_behind run begins.0 begins.1)) in
+    let at_is : after_items Waiting things ≡ (if is_told true run then Begun else Waiting) =
+    after_waiting things ∙ ap {B = Progress} (λ (t : Bool). if t then Begun else Waiting) t_is in
+    let gone = items_stand card tuning k name Fresh told things packets past (cat ∷ []) next Waiting
+    (λ b. passed.apart (begun_told (is_told true run) (sym at_is ∙ b)))
+    (sent_chosen card tuning name fs begins.0 tail (tail_sent card tuning u run cat tail begins.0 good begins.1))
+    own.none (starts_standing card tuning name Fresh told past cat good.cat_is stands) in
+    record {
+      out = gone.0.out
+          ∙ ap (λ (wrote : List (List ℕ)). wrote ++ out_from card (onto packets past) next) own.out;
+      breaks = gone.0.breaks;
+      stands = subst (λ (e : Ending). StandsBetween card tuning Next true (told_more told (is_told true run) e)
+          (onto packets past)) own.ends
+          (over_tuned card tuning k name Fresh Next told (onto packets past) alone (is_told true run) passed
+          (subst (λ (at : Progress). StandsAt card tuning k name Fresh told at (onto packets past) alone) at_is
+          gone.1));
+    }
 
-one_gone : (card : CardFields) (tuning : Tuning) (u : ℕ) (run : Arrival) (runs : List Arrival)
-    (past next : List (List ℕ)) (tuned : Bool) → GoodRun card tuning u run →
-    All (HaveTwoNames run) runs → IsBetween card tuning (IsFresh (run ∷ runs)) tuned past →
-    IsGone card tuning (IsFresh runs) (tuned || has_cat run) (confirmed run.plan u run.clear (kept_of tuned run)) past
-    (chosen run.flags (broadcast run.plan run.clear)) next
-one_gone card tuning u run runs past next false (cat, tail, good) others between =
-    untuned_run card tuning u run cat tail past next (IsFresh (run ∷ runs)) (IsFresh runs) good
-    (λ a fresh. All-head (λ (r : Arrival). a ≢ site_name r.plan.site) run runs fresh)
-    (λ a fresh. All-tail (λ (r : Arrival). a ≢ site_name r.plan.site) run runs fresh) others between
-one_gone card tuning u run runs past next true (cat, tail, good) others between =
-    tuned_run card tuning u run cat tail past next (IsFresh (run ∷ runs)) (IsFresh runs) good
-    (λ a fresh. All-head (λ (r : Arrival). a ≢ site_name r.plan.site) run runs fresh)
-    (λ a fresh. All-tail (λ (r : Arrival). a ≢ site_name r.plan.site) run runs fresh) others between
-
--- all runs
-runs_go : (channel : Channel) (runs : List Arrival) (u : ℕ) (past : List (List ℕ)) (tuned : Bool) →
-    AreRunsOf channel runs → u < 2 ^ channel.height →
-    IsBetween (card_in channel u) (tuning_in channel) (IsFresh runs) tuned past →
-    (out_from (card_in channel u) past (arriving runs) ≡ confirmed_from tuned u runs)
-    × (break_from (card_in channel u) past (arriving runs) ≡ None)
+-- the CAT of a run behind another changes nothing
+cat_over : (card : CardFields) (tuning : Tuning) (Fresh Next : Option ℕ → Type 0) (told after : Option Ending)
+    (wrote past packets next : List (List ℕ)) (cat : List ℕ) → is_quiet (hears card.height tuning 0 cat) ≡ true →
+    StandsBetween card tuning Fresh true told past →
+    IsOver card tuning Next true after wrote (cat ∷ past) packets next →
+    IsOver card tuning Next true after wrote past (cat ∷ packets) next
 unfolding out_from break_from
-runs_go channel [] u past tuned are leaf between = (refl, refl)
-runs_go channel (run ∷ runs) u past tuned (is, others, rest) leaf between =
-    let card : CardFields = card_in channel u in
-    let packets : List (List ℕ) = chosen run.flags (broadcast run.plan run.clear) in
-    let gone = one_gone card (tuning_in channel) u run runs past (arriving runs) tuned (good_in channel run u is leaf)
-    others between in
-    let then_is = runs_go channel runs u (onto packets past) (tuned || has_cat run) rest leaf gone.between in (
-      gone.out ∙ ap (λ (w : List (List ℕ)). confirmed run.plan u run.clear (kept_of tuned run) ++ w) then_is.0,
-      gone.breaks ∙ then_is.1,
-    )
+cat_over card tuning Fresh Next told after wrote past packets next cat quiet stands over =
+    let same = quiet_offered card tuning past cat stands.0 quiet in
+    let more : List (List ℕ) = packets ++ next in
+    record {
+      out = ap (λ (o : Offering). o.wrote ++ (if is_none o.fault then out_from card (cat ∷ past) more else [])) same
+          ∙ over.out;
+      breaks = ap (λ (o : Offering). option_map_or Some o.fault (break_from card (cat ∷ past) more)) same
+          ∙ over.breaks;
+      stands = over.stands;
+    }
 
-pub runs_out : (channel : Channel) (runs : List Arrival) (u : ℕ) → AreRunsOf channel runs → u < 2 ^ channel.height →
-    out_from (card_of channel.master channel.ca channel.height u) [] (arriving runs) ≡ confirmed_from false u runs
-runs_out channel runs u are leaf = (runs_go channel runs u [] false are leaf (nothing_came (card_in channel u))).0
+-- whether or not that CAT arrives
+cat_or_not : (card : CardFields) (tuning : Tuning) (Fresh Next : Option ℕ → Type 0) (told after : Option Ending)
+    (wrote tail past next : List (List ℕ)) (cat : List ℕ) (fs : List Bool) →
+    is_quiet (hears card.height tuning 0 cat) ≡ true → StandsBetween card tuning Fresh true told past →
+    ((before : List (List ℕ)) → StandsBetween card tuning Fresh true told before →
+    IsOver card tuning Next true after wrote before (chosen (drop 1 fs) tail) next) →
+    IsOver card tuning Next true after wrote past (chosen fs (cat ∷ tail)) next
+unfolding chosen
+cat_or_not card tuning Fresh Next told after wrote tail past next cat [] quiet stands over = over past stands
+cat_or_not card tuning Fresh Next told after wrote tail past next cat (false ∷ fs) quiet stands over =
+    over past stands
+cat_or_not card tuning Fresh Next told after wrote tail past next cat (true ∷ fs) quiet stands over =
+    cat_over card tuning Fresh Next told after wrote past (chosen fs tail) next cat quiet stands (over (cat ∷ past) (
+      tuned_more card tuning past cat stands.0,
+      ended_more card tuning Fresh told past cat stands.0 quiet stands.1,
+    ))
 
-pub runs_break : (channel : Channel) (runs : List Arrival) (u : ℕ) → AreRunsOf channel runs → u < 2 ^ channel.height →
-    break_from (card_of channel.master channel.ca channel.height u) [] (arriving runs) ≡ None
-runs_break channel runs u are leaf = (runs_go channel runs u [] false are leaf (nothing_came (card_in channel u))).1
+-- a run before which one came
+tuned_over : (card : CardFields) (tuning : Tuning) (u : ℕ) (run : Arrival) (cat : List ℕ)
+    (tail past next : List (List ℕ)) (Fresh Next : Option ℕ → Type 0) (told : Option Ending) →
+    IsGood card tuning u run cat tail → IsPassed (is_told true run) (site_name run.plan.site) Fresh Next →
+    StandsBetween card tuning Fresh true told past →
+    IsOver card tuning Next true
+    (told_more told (is_told true run) (ending_told run.plan u run.clear (kept_of true run)))
+    (confirmed run.plan u run.clear (kept_of true run)) past (chosen run.flags (broadcast run.plan run.clear)) next
+tuned_over card tuning u run cat tail past next Fresh Next told good passed stands =
+    let after : Option Ending =
+    told_more told (is_told true run) (ending_told run.plan u run.clear (kept_of true run)) in
+    let wrote : List (List ℕ) = confirmed run.plan u run.clear (kept_of true run) in
+    subst (λ (all : List (List ℕ)). IsOver card tuning Next true after wrote past (chosen run.flags all) next)
+    (sym good.sent_is)
+    (cat_or_not card tuning Fresh Next told after wrote tail past next cat run.flags good.quiet stands
+    (λ before there.
+    tuned_tail_over card tuning u run cat tail before next Fresh Next told good passed there))
+
+-- a run
+pub run_over : (card : CardFields) (tuning : Tuning) (u : ℕ) (run : Arrival) (past next : List (List ℕ))
+    (Fresh Next : Option ℕ → Type 0) (tuned : Bool) (told : Option Ending) → GoodRun card tuning u run →
+    IsPassed (is_told tuned run) (site_name run.plan.site) Fresh Next →
+    StandsBetween card tuning Fresh tuned told past →
+    IsOver card tuning Next (tuned || has_cat run)
+    (told_more told (is_told tuned run) (ending_told run.plan u run.clear (kept_of tuned run)))
+    (confirmed run.plan u run.clear (kept_of tuned run)) past (chosen run.flags (broadcast run.plan run.clear)) next
+run_over card tuning u run past next Fresh Next false told (cat, tail, good) passed stands =
+    untuned_over card tuning u run cat tail past next Fresh Next told good passed stands
+run_over card tuning u run past next Fresh Next true told (cat, tail, good) passed stands =
+    tuned_over card tuning u run cat tail past next Fresh Next told good passed stands

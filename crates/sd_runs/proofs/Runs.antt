@@ -1,8 +1,7 @@
 -- Runs of one channel, one after the other.
-use Rattle.std.proofs.Common.{◌≡◌, refl, ℕ, ◌%◌, ◌^◌, ◌<◌, ◌==◌, ◌++◌, Bool, true, false, List, [], ◌∷◌, Option, Some}
+use Rattle.std.proofs.Common.{◌≡◌, refl, ℕ, ◌%◌, ◌^◌, ◌<◌, ◌==◌, ◌++◌, Bool, true, List, [], ◌∷◌, Option, Some}
 use Rattle.std.proofs.Common.{None, reverse, ap, ◌∙◌, arith, subst}
 use Rattle.std.specs.Prelude.{if◌then◌else◌, All}
-use Rattle.std.specs.List.{list_any}
 use Rattle.std.proofs.lemmas.List.Elements.{All-head, All-tail}
 use Rattle.std.proofs.lemmas.Bool.Decides.{nat_tests}
 use Rattle.sd_site.specs.Fields.{name_of as site_name}
@@ -16,13 +15,12 @@ use Rattle.sd_broadcast.specs.Refused.{IsClear}
 use Rattle.sd_broadcast.proofs.Items.{all_are_of_broadcast}
 use Rattle.sd_sent.specs.Packets.{AreWholePackets}
 use Rattle.sd_sent.proofs.Runs.{section_names, part_names}
-use Rattle.sd_reception.specs.Tuned.{Tuning, tuning_of, cat_tuning, tuned_by}
+use Rattle.sd_reception.specs.Tuned.{Tuning, cat_tuning}
 use Rattle.sd_reception.specs.Heard.{hears}
 use Rattle.sd_reception.specs.Runs.{name_of}
 use Rattle.sd_reception.specs.Offered.{out_from, break_from}
 use Rattle.sd_reception.specs.Ending.{ending_of}
 use Rattle.sd_losses.specs.Chosen.{chosen}
-use Rattle.sd_losses.specs.Kept.{is_cat}
 use Rattle.sd_losses.specs.Confirmed.{confirmed}
 use Rattle.sd_losses.specs.Endings.{ending_told}
 use Rattle.sd_losses.proofs.Setting.{Setting, tuning_at}
@@ -31,9 +29,7 @@ use Rattle.sd_losses.proofs.Lawful.{setting, can_be_heard}
 use Rattle.sd_losses.proofs.Theorem.{confirmed_alone, none_refused, ends_as_told}
 use Rattle.sd_runs.specs.Channel.{Arrival}
 use Rattle.sd_runs.proofs.Leading.{is_quiet}
-use Rattle.sd_runs.proofs.Endings.{onto}
-use Rattle.sd_runs.proofs.Going.{AreOnes}
-use Rattle.sd_runs.proofs.Sending.{IsSentAs, AreSentAs, ones_of}
+use Rattle.sd_runs.proofs.Sending.{IsSentAs, AreSentAs}
 
 -- the things of a broadcast begin with the CAT
 pub begins_by : (plan : Plan) (clear : List (List ℕ)) →
@@ -56,25 +52,11 @@ pub record IsGood (card : CardFields) (tuning : Tuning) (u : ℕ) (run : Arrival
   pub quiet : is_quiet (hears card.height tuning 0 cat) ≡ true
   pub sent_as : AreSentAs card tuning (site_name run.plan.site)
       (sent run.plan run.clear ++ closing_of run.plan run.clear) (broadcast run.plan run.clear)
-  pub ones : AreOnes card tuning (site_name run.plan.site) (broadcast run.plan run.clear)
   pub out : (fs : List Bool) → out_from card [] (chosen fs (broadcast run.plan run.clear))
       ≡ confirmed run.plan u run.clear (chosen fs (sent run.plan run.clear ++ closing_of run.plan run.clear))
   pub none : (fs : List Bool) → break_from card [] (chosen fs (broadcast run.plan run.clear)) ≡ None
   pub ends : (fs : List Bool) → ending_of card (reverse (chosen fs (broadcast run.plan run.clear)))
       ≡ ending_told run.plan u run.clear (chosen fs (sent run.plan run.clear ++ closing_of run.plan run.clear))
-  pub cats : (fs : List Bool) (past : List (List ℕ)) → tuning_of card.ca past ≡ None →
-      tuning_of card.ca (onto (chosen fs (broadcast run.plan run.clear)) past)
-      ≡ (if list_any is_cat (chosen fs (sent run.plan run.clear ++ closing_of run.plan run.clear)) then Some tuning
-      else None)
-
--- packets after the CAT
-pub stays_tuned : (card : CardFields) (tuning : Tuning) (packets past : List (List ℕ)) →
-    tuning_of card.ca past ≡ Some tuning → tuning_of card.ca (onto packets past) ≡ Some tuning
-unfolding tuning_of
-stays_tuned card tuning [] past tuned = tuned
-stays_tuned card tuning (packet ∷ packets) past tuned =
-    stays_tuned card tuning packets (packet ∷ past)
-    (ap (λ (t : Option Tuning). tuned_by t (cat_tuning card.ca packet)) tuned)
 
 module _ (s : Setting) (able : AreHearable s) where
   item_sent : (earlier : List Item) (item : Item) → IsOfBroadcast s.plan s.clear item →
@@ -104,43 +86,6 @@ module _ (s : Setting) (able : AreHearable s) where
     items_sent items (earlier ++ item ∷ []) (All-tail (IsOfBroadcast s.plan s.clear) item items all),
   )
 
-  first_tuned : (past : List (List ℕ)) (packet : List ℕ) (tuning : Option Tuning) → tuning_of s.card.ca past ≡ None →
-      cat_tuning s.card.ca packet ≡ tuning → tuning_of s.card.ca (packet ∷ past) ≡ tuning
-  unfolding tuning_of
-  first_tuned past packet tuning none is =
-      ap (λ (t : Option Tuning). tuned_by t (cat_tuning s.card.ca packet)) none ∙ is
-
-  items_tuned : (items earlier : List Item) (fs : List Bool) (past : List (List ℕ)) →
-      All (IsOfBroadcast s.plan s.clear) items → tuning_of s.card.ca past ≡ None →
-      tuning_of s.card.ca (onto (chosen fs (packets_from s.plan.site earlier items)) past)
-      ≡ (if list_any is_cat (chosen fs items) then Some (tuning_at s) else None)
-  unfolding packets_from chosen
-  items_tuned [] earlier [] past all none = none
-  items_tuned [] earlier (f ∷ fs) past all none = none
-  items_tuned (item ∷ items) earlier [] past all none = none
-  items_tuned (item ∷ items) earlier (false ∷ fs) past all none =
-      items_tuned items (earlier ++ item ∷ []) fs past (All-tail (IsOfBroadcast s.plan s.clear) item items all) none
-  items_tuned (Cat ∷ items) earlier (true ∷ fs) past all none =
-      stays_tuned s.card (tuning_at s) (chosen fs (packets_from s.plan.site (earlier ++ Cat ∷ []) items))
-      (packet_of s.plan.site earlier Cat ∷ past)
-      (first_tuned past (packet_of s.plan.site earlier Cat) (Some (tuning_at s)) none (able.tuning earlier))
-  items_tuned (Entitles emm ∷ items) earlier (true ∷ fs) past all none =
-      items_tuned items (earlier ++ Entitles emm ∷ []) fs (packet_of s.plan.site earlier (Entitles emm) ∷ past)
-      (All-tail (IsOfBroadcast s.plan s.clear) (Entitles emm) items all)
-      (first_tuned past (packet_of s.plan.site earlier (Entitles emm)) None none
-      (able.untuned earlier (Entitles emm) (All-head (IsOfBroadcast s.plan s.clear) (Entitles emm) items all) refl))
-  items_tuned (Controls part ∷ items) earlier (true ∷ fs) past all none =
-      items_tuned items (earlier ++ Controls part ∷ []) fs (packet_of s.plan.site earlier (Controls part) ∷ past)
-      (All-tail (IsOfBroadcast s.plan s.clear) (Controls part) items all)
-      (first_tuned past (packet_of s.plan.site earlier (Controls part)) None none
-      (able.untuned earlier (Controls part) (All-head (IsOfBroadcast s.plan s.clear) (Controls part) items all) refl))
-  items_tuned (Carries j packet ∷ items) earlier (true ∷ fs) past all none =
-      items_tuned items (earlier ++ Carries j packet ∷ []) fs (packet_of s.plan.site earlier (Carries j packet) ∷ past)
-      (All-tail (IsOfBroadcast s.plan s.clear) (Carries j packet) items all)
-      (first_tuned past (packet_of s.plan.site earlier (Carries j packet)) None none
-      (able.untuned earlier (Carries j packet) (All-head (IsOfBroadcast s.plan s.clear) (Carries j packet) items all)
-      refl))
-
 -- all of it for the card of a leaf
 pub good_of : (run : Arrival) (u : ℕ) → IsPlan run.plan → IsClear run.plan.site run.clear →
     AreWholePackets run.clear → u < 2 ^ run.plan.site.height →
@@ -163,11 +108,8 @@ good_of run u plan all whole leaf =
         cat_is = able.tuning [];
         quiet = ap is_quiet (able.heard_is 0 [] Cat of_cat);
         sent_as = as_sent;
-        ones = ones_of s.card (tuning_at s) (site_name run.plan.site) things (packets_from run.plan.site [] things)
-            as_sent;
         out = λ fs. confirmed_alone run.plan run.clear u fs plan all whole leaf;
         none = λ fs. none_refused run.plan run.clear u fs plan all whole leaf;
         ends = λ fs. ends_as_told run.plan run.clear u fs plan all whole leaf;
-        cats = λ fs past none. items_tuned s able things [] fs past of_all none;
       },
     )

@@ -12,7 +12,7 @@ use Rattle.sd_losses.specs.Kept.{is_cat, after_cat}
 use Rattle.sd_runs.specs.Pieces.{name_at}
 use Rattle.sd_runs.specs.Ends.{is_message}
 use Rattle.sd_runs.proofs.Leading.{is_quiet}
-use Rattle.sd_runs.proofs.Going.{IsOne, AreOnes}
+use Rattle.sd_runs.proofs.Following.{IsPacketOf}
 
 -- the packet is the CAT
 abbrev pub IsCatOf : CardFields → Tuning → List ℕ → Type 0
@@ -44,22 +44,13 @@ AreSentAs card tuning name (item ∷ items) [] = ⊥
 AreSentAs card tuning name (item ∷ items) (packet ∷ packets) =
     IsSentAs card tuning name item packet × AreSentAs card tuning name items packets
 
--- each of them is a packet of the run
-pub one_of : (card : CardFields) (tuning : Tuning) (name : Option ℕ) (item : Item) (packet : List ℕ) →
-    IsSentAs card tuning name item packet → IsOne card tuning name packet
-one_of card tuning name Cat packet is = record { of_run = inl is.1; cat = inr is.0 }
-one_of card tuning name (Entitles emm) packet is = record { of_run = inr is.1; cat = inl is.0 }
-one_of card tuning name (Controls part) packet is = record { of_run = inr is.1; cat = inl is.0 }
-one_of card tuning name (Carries j carried) packet is = record { of_run = inl is.1; cat = inl is.0 }
-
--- all of them are packets of the run
-pub ones_of : (card : CardFields) (tuning : Tuning) (name : Option ℕ) (items : List Item) (packets : List (List ℕ)) →
-    AreSentAs card tuning name items packets → AreOnes card tuning name packets
-ones_of card tuning name [] [] sent = tt
-ones_of card tuning name [] (packet ∷ packets) sent = absurd sent
-ones_of card tuning name (item ∷ items) [] sent = absurd sent
-ones_of card tuning name (item ∷ items) (packet ∷ packets) sent =
-    (one_of card tuning name item packet sent.0, ones_of card tuning name items packets sent.1)
+-- no message, or one of the run
+pub packet_is : (card : CardFields) (tuning : Tuning) (name : Option ℕ) (item : Item) (packet : List ℕ) →
+    IsSentAs card tuning name item packet → IsPacketOf card tuning name packet
+packet_is card tuning name Cat packet is = inl is.1
+packet_is card tuning name (Entitles emm) packet is = inr is.1
+packet_is card tuning name (Controls part) packet is = inr is.1
+packet_is card tuning name (Carries j carried) packet is = inl is.1
 
 -- the same things and packets of them
 pub sent_chosen : (card : CardFields) (tuning : Tuning) (name : Option ℕ) (fs : List Bool) (items : List Item)
@@ -97,7 +88,8 @@ abbrev pub after_items : Progress → List Item → Progress
 after_items at [] = at
 after_items at (item ∷ items) = after_items (after_item at item) items
 
-begun_stays : (items : List Item) → after_items Begun items ≡ Begun
+-- after a message nothing changes
+pub begun_stays : (items : List Item) → after_items Begun items ≡ Begun
 begun_stays [] = refl
 begun_stays (item ∷ items) = begun_stays items
 

@@ -14,7 +14,7 @@ use Rattle.sd_losses.proofs.AllOpened.{all_are_opened}
 use Rattle.sd_runs.specs.Channel.{Arrival, Channel, HaveTwoNames, AreRunsOf, arriving, all_sent}
 use Rattle.sd_runs.specs.Many.{kept_of, has_cat, confirmed_from, opened_of_all}
 use Rattle.sd_runs.proofs.Runs.{begins_by}
-use Rattle.sd_runs.proofs.Many.{runs_out, runs_break}
+use Rattle.sd_runs.proofs.Finishing.{runs_out, runs_break}
 
 -- a choice of a list, made as long as the list
 abbrev pub fitting : {A : Type 0} → List Bool → List A → List Bool

@@ -10,13 +10,14 @@ use Rattle.sd_runs.specs.Together.{joined_to}
 use Rattle.sd_runs.specs.Channel.{Arrival}
 use Rattle.sd_runs.specs.Many.{kept_of, has_cat}
 
+-- a section of entitlements or a part of a control message
 abbrev pub is_message : Item → Bool
 is_message Cat = false
 is_message (Entitles emm) = true
 is_message (Controls part) = true
 is_message (Carries j packet) = false
 
--- a section of entitlements or a part of a control message is kept behind the CAT: the receiver is told of the run
+-- one is kept behind the CAT: the receiver is told of the run
 abbrev pub is_told : Bool → Arrival → Bool
 is_told tuned run = list_any is_message (after_cat (kept_of tuned run))
 
@@ -28,6 +29,7 @@ endings_from tuned u (run ∷ runs) =
     then ending_told run.plan u run.clear (kept_of tuned run) ∷ endings_from (tuned || has_cat run) u runs
     else endings_from (tuned || has_cat run) u runs
 
+-- endings together; where there is none, no message was heard, and the first is awaited
 abbrev pub all_joined : List Ending → Ending
 all_joined [] = Unclosed 0
 all_joined (ending ∷ endings) = joined_to ending endings

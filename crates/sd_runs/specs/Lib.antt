@@ -3,3 +3,4 @@ pub mod Together
 pub mod Channel
 pub mod Many
 pub mod Ends
+pub mod Switched

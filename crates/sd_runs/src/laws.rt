@@ -10,6 +10,7 @@ ghost use Rattle.sd_runs.specs.Together.{out_of, break_of, end_of, joined_to};
 ghost use Rattle.sd_runs.specs.Channel.{Arrival, Channel, AreRunsOf, arriving, all_sent};
 ghost use Rattle.sd_runs.specs.Many.{confirmed_from, opened_of_all};
 ghost use Rattle.sd_runs.specs.Ends.{ending_of_all, whole_ending_of};
+ghost use Rattle.sd_runs.specs.Switched.{ArePiecesOf};
 
 /// What a receiver writes of any stream, why it refuses it and how it ends is what comes of the stream's pieces, each
 /// behind the CAT by itself: the stream is cut before each message of another run.
@@ -24,8 +25,8 @@ pub fn streams_are_their_pieces()
 
 /// Whatever is lost of broadcasts of one channel that follow one another, the receiver of a leaf refuses nothing and
 /// writes exactly the clear packets that are confirmed to it, of each broadcast by itself: a part, in order, of what
-/// the leaf is entitled to.
-#[tactic(auto, using(crate::proofs::Many::runs_break, crate::proofs::Many::runs_out))]
+/// the leaf is entitled to. It ends as the broadcasts that it is told of do, together.
+#[tactic(auto, using(crate::proofs::Finishing::runs_break, crate::proofs::Finishing::runs_out))]
 pub fn losses_of_runs_are_confirmed()
     ensures none { (channel : Channel) (runs : List Arrival) (u : ℕ) → AreRunsOf channel runs →
         u < 2 ^ channel.height →
@@ -43,7 +44,8 @@ pub fn losses_of_runs_are_confirmed()
         ≡ ending_of_all u runs }
 {}
 
-/// Of whole broadcasts it writes the clear packets of the periods in which the leaf is not revoked, and no others.
+/// Of whole broadcasts it writes the clear packets of the periods in which the leaf is not revoked, and no others. It
+/// ends opened, or revoked in the leaf's first revoked period of the first broadcast that has one.
 #[tactic(auto, using(crate::proofs::Whole::whole_break, crate::proofs::Whole::whole_out))]
 pub fn whole_runs_are_opened()
     ensures none { (channel : Channel) (runs : List Arrival) (u : ℕ) → AreRunsOf channel runs →
@@ -56,4 +58,21 @@ pub fn whole_runs_are_opened()
         AreRunsOf channel (run ∷ runs) → u < 2 ^ channel.height →
         ending_of (card_of channel.master channel.ca channel.height u) (reverse (all_sent (run ∷ runs)))
         ≡ joined_to Opened (map (whole_ending_of u) (run ∷ runs)) }
+{}
+
+/// A switch to a spare head end and back: the same holds of pieces of broadcasts, if no two pieces that the receiver is
+/// told of one after the other have one name.
+#[tactic(auto, using(crate::proofs::Finishing::pieces_break, crate::proofs::Finishing::pieces_out))]
+pub fn switches_are_followed()
+    ensures none { (channel : Channel) (pieces : List Arrival) (u : ℕ) → ArePiecesOf channel pieces →
+        u < 2 ^ channel.height →
+        break_from (card_of channel.master channel.ca channel.height u) [] (arriving pieces) ≡ None }
+    ensures out { (channel : Channel) (pieces : List Arrival) (u : ℕ) → ArePiecesOf channel pieces →
+        u < 2 ^ channel.height →
+        out_from (card_of channel.master channel.ca channel.height u) [] (arriving pieces)
+        ≡ confirmed_from false u pieces }
+    ensures ending { (channel : Channel) (pieces : List Arrival) (u : ℕ) → ArePiecesOf channel pieces →
+        u < 2 ^ channel.height →
+        ending_of (card_of channel.master channel.ca channel.height u) (reverse (arriving pieces))
+        ≡ ending_of_all u pieces }
 {}
