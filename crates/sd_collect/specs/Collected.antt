@@ -1,4 +1,4 @@
--- What is kept of control messages after what was heard.
+-- Public meaning: what is kept of control messages after what was heard.
 use Rattle.std.specs.Prelude.{◌≡◌, List, ◌∷◌, Option, Some, None, option_map, if◌then◌else◌, Result, Ok, Err}
 use Rattle.std.specs.Option.{option_map_or}
 use Rattle.sd_ecm.specs.Parts.{Message, message_of}

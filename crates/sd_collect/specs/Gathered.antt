@@ -1,4 +1,4 @@
--- The parts that are collected of one control message.
+-- Public meaning: the parts of one control message that are collected.
 use Rattle.std.specs.Prelude.{◌≡◌, ◌+◌, ◌≤◌, ◌==◌, if◌then◌else◌, List, [], ◌∷◌, length, reverse, flat_map, All}
 use Rattle.std.specs.Prelude.{Option, Some, None}
 use Rattle.std.specs.Prelude.{Result, Ok, Err}

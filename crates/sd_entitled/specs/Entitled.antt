@@ -1,4 +1,5 @@
--- What a receiver keeps of the entitlements that it heard of.
+-- Public meaning: what a receiver keeps of the sections of entitlements that it heard, and of the periods of control
+-- messages.
 use Rattle.std.specs.Prelude.{◌≡◌, ℕ, ◌==◌, ◌&&◌, ◌^◌, ◌<◌, Bool, true, false, not, nat_le, nat_lt, List, [], ◌∷◌, All}
 use Rattle.std.specs.Prelude.{bytes_eq, find, filter, get_or, take, drop, replicate, ◌++◌, is_none, if◌then◌else◌}
 use Rattle.std.specs.Prelude.{Option, Some, None}

@@ -1,5 +1,5 @@
--- A field: a head end and a receiver for each leaf, to which events happen one after the other [this project,
--- docs/FORMATS.md, Field].
+-- Public meaning: a field: a head end and a receiver for each leaf, to which events happen one after the other [this
+-- project, docs/FORMATS.md, Field].
 use Rattle.std.specs.Prelude.{◌≡◌, ◌⊎◌, ◌↔◌, ℕ, suc, ◌*◌, ◌+◌, ◌^◌, ◌<◌, ◌≤◌, ◌&&◌, true, false, nat_lt, List, []}
 use Rattle.std.specs.Prelude.{All, length, reverse, take, get_or, slice_get, if◌then◌else◌}
 use Rattle.std.specs.Prelude.{Option, Some, None, IsSome, option_and_then}

@@ -1,4 +1,4 @@
--- What one receiver of a field has come to.
+-- Public meaning: what one receiver of a field keeps and wrote.
 use Rattle.std.specs.Prelude.{◌≡◌, ℕ, ◌-◌, ◌≤◌, List, [], ◌++◌, length, None, Some}
 use Rattle.std.specs.List.{concat}
 use Rattle.sd_card.specs.Fields.{CardFields}

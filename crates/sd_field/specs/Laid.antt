@@ -1,4 +1,4 @@
--- The book of a field, as far as it is made.
+-- Inner: the book of a field, as far as it is made.
 use Rattle.std.specs.Prelude.{◌≡◌, ℕ, List}
 use Rattle.sd_site.specs.Fields.{SiteFields}
 use Rattle.sd_book.specs.Commands.{last_period}

@@ -1,4 +1,4 @@
--- A line of a script by itself.
+-- Inner: a line of a script by itself.
 use Rattle.std.specs.Prelude.{ℕ, ◌^◌, nat_lt, if◌then◌else◌, Option, Some, None, Result, Ok, Err}
 use Rattle.sd_events.specs.declared.event.Event.{Event}
 use Rattle.sd_events.specs.Events.{is_of}

@@ -1,4 +1,5 @@
--- The script of a field: one event, or a run of equal ones, a line [this project, docs/FORMATS.md, Field].
+-- Public meaning: the script of a field. Each line says one event, or a number of equal ones [this project,
+-- docs/FORMATS.md, Field].
 use Rattle.std.specs.Prelude.{ℕ, ◌+◌, ◌==◌, ◌&&◌, nat_le, nat_lt, List, [], ◌∷◌, ◌++◌, replicate, codes}
 use Rattle.std.specs.Prelude.{if◌then◌else◌, Option, Some, None, option_map, option_and_then, Result, Ok, Err}
 use Rattle.sd_text.specs.Lines.{lines_of}

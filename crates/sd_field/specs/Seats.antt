@@ -1,4 +1,5 @@
--- What one seat of a field has come to: a leaf's receiver, how many packets it has passed, and what was written.
+-- Public meaning: one seat of a field: a leaf's receiver, the number of packets that it has passed, and what was
+-- written.
 use Rattle.std.specs.Prelude.{◌≡◌, ◌↔◌, ℕ, true, List, [], map, reverse, slice_get, IsSome, Some}
 use Rattle.std.specs.List.{concat, flat_map}
 use Rattle.sd_site.specs.declared.site.Site.{Site}

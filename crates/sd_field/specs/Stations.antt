@@ -1,4 +1,4 @@
--- What the head end of a field has come to.
+-- Public meaning: what the head end of a field keeps and sent.
 use Rattle.std.specs.Prelude.{◌≡◌, ℕ, List, [], length}
 use Rattle.std.specs.List.{concat}
 use Rattle.sd_broadcast.specs.Plan.{Plan}

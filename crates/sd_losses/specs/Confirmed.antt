@@ -1,4 +1,4 @@
--- The clear packets that a receiver writes of a broadcast of which packets are lost.
+-- Public meaning: the clear packets that a receiver writes of a broadcast that loses packets.
 use Rattle.std.specs.Prelude.{ℕ, ◌+◌, ◌*◌, ◌/◌, ◌&&◌, ◌||◌, Bool, true, false, not, nat_eq, nat_le, min}
 use Rattle.std.specs.Prelude.{List, [], length, take, map, filter, get_or, Option, Some, None}
 use Rattle.std.specs.List.{list_any, range_with_len}

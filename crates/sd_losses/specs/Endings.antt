@@ -1,4 +1,4 @@
--- How a broadcast of which packets are lost ends for a receiver.
+-- Public meaning: how a broadcast that loses packets ends for a receiver.
 use Rattle.std.specs.Prelude.{ℕ, ◌+◌, ◌-◌, ◌*◌, ◌&&◌, Bool, not, nat_le, min, List, length, map, find}
 use Rattle.std.specs.Prelude.{if◌then◌else◌, Option, Some, None}
 use Rattle.std.specs.List.{list_any, list_all, range_with_len}

@@ -1,4 +1,4 @@
--- Gaps in the positions of kept packets.
+-- Public meaning: gaps in the positions of kept packets.
 use Rattle.std.specs.Prelude.{ℕ, ◌+◌, ◌*◌, ◌&&◌, Bool, nat_le, List, [], ◌∷◌, map, filter, take, if◌then◌else◌}
 use Rattle.sd_packet.specs.Positions.{is_moving, moved, position_of}
 use Rattle.sd_broadcast.specs.Plan.{Plan}

@@ -1,4 +1,4 @@
--- What is kept of a broadcast of which packets are lost, by the things that were sent.
+-- Public meaning: what is kept of a broadcast that loses packets, in terms of the things that were sent.
 use Rattle.std.specs.Prelude.{ℕ, ◌+◌, ◌-◌, ◌==◌, ◌&&◌, ◌||◌, Bool, true, false, nat_le, nat_lt, List, [], ◌∷◌}
 use Rattle.std.specs.Prelude.{filter, if◌then◌else◌, Option, Some, None}
 use Rattle.std.specs.List.{list_any, list_all, range_with_len}

@@ -1,4 +1,4 @@
--- What a receiver holds after what was heard.
+-- Public meaning: the packets that a receiver buffers (holds) after what was heard.
 use Rattle.std.specs.Prelude.{ℕ, nat_le, nat_lt, List, [], length, if◌then◌else◌, Option, Some, None, option_map}
 use Rattle.sd_card.specs.Fields.{CardFields}
 use Rattle.sd_wrap.specs.Wrapping.{wrapped as under}

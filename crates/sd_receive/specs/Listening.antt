@@ -1,4 +1,4 @@
--- What a tuned receiver makes of what it hears.
+-- Public meaning: what a receiver that took a CAT does with what it hears.
 use Rattle.std.specs.Prelude.{◌≡◌, ◌⊎◌, ℕ, ◌+◌, ◌-◌, ◌^◌, min, false, List, ◌∷◌, length, Some, None, Result, Ok, Err}
 use Rattle.std.specs.List.{concat}
 use Rattle.sd_card.specs.Fields.{CardFields}

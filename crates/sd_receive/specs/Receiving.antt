@@ -1,4 +1,4 @@
--- The receiver as a stage of packets.
+-- Public meaning: the receiver as a stage of packets.
 use Rattle.std.specs.Prelude.{◌≡◌, ℕ, ◌-◌, ◌*◌, ◌^◌, ◌<◌, ◌≤◌, true, false, List, [], ◌∷◌, ◌++◌, length, reverse}
 use Rattle.std.specs.Prelude.{if◌then◌else◌, Option, Some, None, option_map, IfSome}
 use Rattle.std.specs.List.{concat}

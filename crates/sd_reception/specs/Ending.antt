@@ -1,4 +1,4 @@
--- How a stream ends for a receiver.
+-- Public meaning: how a stream ends for a receiver.
 use Rattle.std.specs.Prelude.{ℕ, ◌+◌, ◌-◌, ◌^◌, ◌==◌, ◌&&◌, Bool, false, nat_lt, min, List, [], ◌∷◌, length, map}
 use Rattle.std.specs.Prelude.{reverse, find, is_none, if◌then◌else◌, Option, Some, None}
 use Rattle.std.specs.List.{list_any, list_all, range_with_len}

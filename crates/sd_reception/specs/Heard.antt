@@ -1,4 +1,4 @@
--- What a receiver hears: one thing for each packet after the CAT that it took.
+-- Public meaning: what a receiver hears: one thing for each packet after the CAT that it took.
 use Rattle.std.specs.Prelude.{ℕ, ◌==◌, List, if◌then◌else◌, Option, Some, None, Result, Ok, Err}
 use Rattle.sd_packet.specs.Header.{pid_of}
 use Rattle.sd_emm.specs.declared.emm.Emm.{Emm}

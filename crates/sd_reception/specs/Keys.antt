@@ -1,4 +1,4 @@
--- The key of a period.
+-- Public meaning: the key of a period.
 use Rattle.std.specs.Prelude.{ℕ, List, [], ◌∷◌, find, Option, Some, None, option_map}
 use Rattle.sd_tree.specs.Leaves.{is_member}
 use Rattle.sd_card.specs.Fields.{CardFields, card_key}

@@ -1,4 +1,4 @@
--- What a packet makes a receiver write, and why it is refused, for whatever packets came before it.
+-- Public meaning: what a packet makes a receiver write, and why it is refused, for any packets before it.
 use Rattle.std.specs.Prelude.{ℕ, ◌==◌, ◌&&◌, ◌||◌, Bool, true, false, not, nat_le, nat_lt, List, [], ◌∷◌}
 use Rattle.std.specs.Prelude.{◌++◌, length, map, bytes_eq, flat_map, if◌then◌else◌, is_none, Option, Some}
 use Rattle.std.specs.Prelude.{None}

@@ -1,4 +1,4 @@
--- Runs of one channel that follow one another. All lists of what was heard have the newest first.
+-- Public meaning: runs of one channel that follow one another. All lists of what was heard have the newest first.
 use Rattle.std.specs.Prelude.{ℕ, ◌==◌, Bool, true, false, not, List, [], ◌∷◌, if◌then◌else◌, Option, Some, None}
 use Rattle.sd_reception.specs.Heard.{Heard, Dropped, Entitles, Controls, BadEmm, BadEcm, Other}
 

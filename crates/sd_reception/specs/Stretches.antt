@@ -1,5 +1,5 @@
--- Control messages among what was heard, and what stands between them. All lists of what was heard have the newest
--- first.
+-- Public meaning: control messages among what was heard, and what is between them. All lists of what was heard have the
+-- newest first.
 use Rattle.std.specs.Prelude.{ℕ, ◌+◌, ◌==◌, ◌&&◌, Bool, true, false, nat_le, nat_lt, max, List, [], ◌∷◌, flat_map}
 use Rattle.std.specs.Prelude.{reverse, if◌then◌else◌, Option, Some, None}
 use Rattle.std.specs.Option.{option_map_or}

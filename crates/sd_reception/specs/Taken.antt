@@ -1,4 +1,4 @@
--- How many packets take a period's key.
+-- Public meaning: how many packets take a period's key.
 use Rattle.std.specs.Prelude.{ℕ, ◌+◌, ◌&&◌, Bool, false, not, nat_le, List, [], ◌∷◌, length, is_none, if◌then◌else◌}
 use Rattle.std.specs.Option.{option_map_or}
 use Rattle.sd_card.specs.Fields.{CardFields}

@@ -1,4 +1,4 @@
--- The CAT that a receiver takes.
+-- Public meaning: the CAT that a receiver takes.
 use Rattle.std.specs.Prelude.{ℕ, ◌==◌, ◌&&◌, Bool, not, List, [], ◌∷◌, length, find, is_none, if◌then◌else◌, Option}
 use Rattle.std.specs.Prelude.{Some, None, option_map}
 use Rattle.sd_bits.specs.Bits.{field}

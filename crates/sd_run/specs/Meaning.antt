@@ -1,4 +1,4 @@
--- What the program means by its words and files.
+-- Public meaning: the work that the program's arguments and files ask for.
 use Rattle.std.specs.Prelude.{List, ℕ}
 use Rattle.sd_status.specs.Meant.{Meant, Given, judged, ◌>>=◌}
 use Rattle.sd_status.specs.Work.{Work}

@@ -1,4 +1,4 @@
--- Which answers are refusals of words or files.
+-- Public meaning: which answers are refusals of arguments or files.
 use Rattle.sd_status.specs.declared.status.Status.{Status}
 use Rattle.sd_status.specs.declared.status.Status.TheVariants.{Done, Usage, Missing, Revoked, DepotFault, PrintFault}
 use Rattle.sd_status.specs.declared.status.Status.TheVariants.{BadSite, BadBook, BadCard, BadClear, BadStream, Limit}

@@ -1,4 +1,4 @@
--- A clear stream, cut into packets.
+-- Inner: a clear stream, cut into packets.
 use Rattle.std.specs.Prelude.{◌≡◌, ◌≢◌, ◌≤◌, ◌<◌, ℕ, List, length, take, slice_index, Result, Ok, Err}
 use Rattle.sd_engine.specs.declared.fault.BreakCause.{BreakCause}
 use Rattle.sd_engine.specs.declared.fault.BreakCause.TheVariants.{Torn, NoSync}

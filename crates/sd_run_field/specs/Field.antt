@@ -1,4 +1,4 @@
--- `field SITE CLEAR SCRIPT` [this project, docs/FORMATS.md, Field].
+-- Public meaning: `field SITE CLEAR SCRIPT` [this project, docs/FORMATS.md, Field].
 use Rattle.std.specs.Prelude.{◌^◌, ◌*◌, ◌/◌, ℕ, zero, suc, nat_lt, List, [], ◌++◌, length, take}
 use Rattle.std.specs.Prelude.{codes, if◌then◌else◌, Option, Some, None, Result, Ok, Err}
 use Rattle.std.specs.List.{concat}

@@ -1,4 +1,4 @@
--- How the events of a field are done, one after the other.
+-- Inner: how the events of a field are done, one after the other.
 use Rattle.std.specs.Prelude.{◌≡◌, ◌⊎◌, ◌<◌, [], Bool, true, false, length, Some, None, Result, Ok, Err}
 use Rattle.sd_broadcast.specs.Refused.{refusal_from}
 use Rattle.sd_broadcast.specs.declared.fault.ClearFault.{ClearFault}

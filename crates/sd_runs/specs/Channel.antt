@@ -1,4 +1,4 @@
--- Broadcasts of one channel that follow one another, and which of their packets arrive.
+-- Public meaning: broadcasts of one channel that follow one another, and which of their packets arrive.
 use Rattle.std.specs.Prelude.{◌≡◌, ◌≢◌, ℕ, Bool, List, [], ◌∷◌, ◌++◌, All}
 use Rattle.sd_site.specs.Fields.{name_of}
 use Rattle.sd_broadcast.specs.Plan.{Plan, IsPlan}

@@ -1,4 +1,4 @@
--- How broadcasts that follow one another end for a receiver.
+-- Public meaning: how broadcasts that follow one another end for a receiver.
 use Rattle.std.specs.Prelude.{ℕ, ◌||◌, Bool, true, false, List, [], ◌∷◌, map, if◌then◌else◌}
 use Rattle.std.specs.List.{list_any}
 use Rattle.sd_broadcast.specs.Sent.{Item, Cat, Entitles, Controls, Carries}

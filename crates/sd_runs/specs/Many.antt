@@ -1,4 +1,4 @@
--- What is confirmed to a receiver of broadcasts that follow one another.
+-- Public meaning: the clear packets that are confirmed to a receiver of broadcasts that follow one another.
 use Rattle.std.specs.Prelude.{ℕ, ◌||◌, Bool, true, false, List, [], ◌∷◌, ◌++◌, drop}
 use Rattle.std.specs.List.{list_any}
 use Rattle.sd_broadcast.specs.Sent.{Item, sent, closing_of}

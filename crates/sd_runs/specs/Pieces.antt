@@ -1,4 +1,4 @@
--- The pieces that a stream is cut into, each of one run.
+-- Public meaning: the pieces into which a stream is cut, each of one run.
 use Rattle.std.specs.Prelude.{ℕ, suc, List, [], ◌∷◌, if◌then◌else◌, Option, Some, None}
 use Rattle.sd_reception.specs.Tuned.{Tuning, cat_tuning}
 use Rattle.sd_reception.specs.Heard.{hears}

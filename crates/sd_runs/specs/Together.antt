@@ -1,4 +1,5 @@
--- What comes of a stream's pieces, of which each is received by itself behind the CAT.
+-- Public meaning: what is written of a stream, why it is refused and how it ends, by its pieces. Each piece is received
+-- by itself after the CAT.
 use Rattle.std.specs.Prelude.{ℕ, ◌+◌, List, [], ◌∷◌, ◌++◌, length, map, reverse, if◌then◌else◌, is_none, Option, Some}
 use Rattle.std.specs.Prelude.{None}
 use Rattle.std.specs.Option.{option_map_or}

@@ -1,4 +1,4 @@
--- What is held after a control message, as contracts see it.
+-- Public meaning: the packets that are buffered (held) after a control message, as contracts see them.
 use Rattle.std.specs.Prelude.{ℕ, ◌≤◌, List, [], ◌∷◌, ◌++◌, length, map, nat_lt, if◌then◌else◌, Option, Some, None}
 use Rattle.sd_ecm.specs.Form.{ArePositioned, AreAscending, AreShort}
 use Rattle.sd_ecm.specs.Parts.{Message}

@@ -1,4 +1,4 @@
--- The positions to which the held packets lead.
+-- Public meaning: the positions to which the buffered packets lead.
 use Rattle.std.specs.Prelude.{◌≡◌, ℕ, ◌+◌, ◌<◌, ◌≤◌, false, ◌==◌, List, [], length, map, take, get_or, All}
 use Rattle.std.specs.Prelude.{vec_capacity}
 use Rattle.std.specs.List.{list_any}
