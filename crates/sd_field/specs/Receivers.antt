@@ -1,4 +1,4 @@
--- What the receiver of a leaf has come to.
+-- Public meaning: what the receiver of a leaf keeps and wrote.
 use Rattle.std.specs.Prelude.{◌≡◌, ℕ, List, [], ◌++◌}
 use Rattle.sd_card.specs.Fields.{CardFields}
 use Rattle.sd_engine.specs.Stage.{Chain}

@@ -1,4 +1,4 @@
--- Which of a list's members are there.
+-- Public meaning: which members of a list are there.
 use Rattle.std.specs.Prelude.{Bool, List, [], ◌∷◌, if◌then◌else◌}
 
 -- the members whose Bool is true; what is after the last Bool isn't there

@@ -1,4 +1,4 @@
--- What is kept of a broadcast of which packets are lost, by the things that were sent.
+-- Public meaning: what is kept of a broadcast that loses packets, in terms of the things that were sent.
 use Rattle.std.specs.Prelude.{ℕ, ◌+◌, ◌-◌, ◌==◌, ◌&&◌, ◌||◌, Bool, true, false, nat_le, nat_lt, List, [], ◌∷◌}
 use Rattle.std.specs.Prelude.{filter, if◌then◌else◌, Option, Some, None}
 use Rattle.std.specs.List.{list_any, list_all, range_with_len}
@@ -13,7 +13,7 @@ is_cat (Entitles emm) = false
 is_cat (Controls part) = false
 is_cat (Carries j packet) = false
 
--- what stands after the first CAT [this project, docs/FORMATS.md, Receiver]
+-- the things after the first CAT [this project, docs/FORMATS.md, Receiver]
 unfoldable pub after_cat : List Item → List Item
 after_cat [] = []
 after_cat (Cat ∷ kept) = kept
@@ -85,7 +85,7 @@ is_last_part a Cat = false
 is_last_part a (Entitles emm) = false
 is_last_part a (Carries j packet) = false
 
--- a section of period q that has a set with leaf u stands before the last part of message a
+-- a section of period q that has a set with leaf u is before the last part of message a, which is kept
 unfoldable pub is_entitled_before : ℕ → ℕ → ℕ → ℕ → List Item → Bool
 is_entitled_before h u q a [] = false
 is_entitled_before h u q a (item ∷ kept) =

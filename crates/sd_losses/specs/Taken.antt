@@ -1,4 +1,4 @@
--- How many numbers pass a test, beside how many packets take a period's key.
+-- Public meaning: how many numbers pass a test, and how many packets take a period's key.
 use Rattle.std.specs.Prelude.{ℕ, zero, suc, ◌+◌, Bool, if◌then◌else◌}
 pub use Rattle.sd_reception.specs.Taken.{takes_key_of}
 unfoldable pub use Rattle.sd_reception.specs.Taken.{takes_key, takes_key_at, taken_keys}

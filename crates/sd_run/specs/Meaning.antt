@@ -1,4 +1,4 @@
--- What the program means by its words and files.
+-- Public meaning: the work that the program's arguments and files ask for.
 use Rattle.std.specs.Prelude.{List, ℕ}
 use Rattle.sd_status.specs.Meant.{Meant, Given, judged, ◌>>=◌}
 use Rattle.sd_status.specs.Work.{Work}
@@ -55,6 +55,6 @@ order_meaning (CommandOf command arguments) given = command_meaning command argu
 order_meaning (HelpOf topic) given = help_meaning topic given
 order_meaning VersionOf given = version_meaning given
 
--- the work that the words ask for, or the status of their refusal
+-- the work that the arguments ask for, or the status of their refusal
 abbrev pub meaning : List (List ℕ) → Given → Meant Work
 meaning words given = judged (order_of words) >>= λ order. order_meaning order given
