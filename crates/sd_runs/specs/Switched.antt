@@ -1,4 +1,4 @@
--- Public meaning: pieces of broadcasts that follow one another, as when a transmitter goes over to a spare head end and back.
+-- Public meaning: pieces of broadcasts that follow one another, as at a switch to a spare head end and back.
 use Rattle.std.specs.Prelude.{◌≢◌, ℕ, ◌||◌, Bool, false, List, [], ◌∷◌, if◌then◌else◌, Option, All}
 use Rattle.sd_site.specs.Fields.{name_of}
 use Rattle.sd_runs.specs.Channel.{Arrival, Channel, IsRunOf}
