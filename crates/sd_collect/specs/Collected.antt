@@ -19,17 +19,17 @@ use Rattle.sd_collect.specs.declared.collect.Taken.TheVariants.{Waits, Complete}
 unfoldable pub run_in : List Heard → List EcmPart
 run_in past = run_of (counted (newest past).message (newest past).after)
 
--- kept are what a message says and its positions, or that there is no message
+-- what a message says and its positions are kept, or that there is no message
 pub record Keeps (message : Option Message) (head : Option EcmHead) (all : List Place) : Type 0 where
   pub says : message ≡ option_map (λ kept. message_of kept all) head
   pub good : ArePlaces all
 
--- kept are the newest complete message and the parts that came of the next one
+-- the newest complete message and the parts of the next one that arrived are kept
 pub record Collects (past : List Heard) (state : Collect) : Type 0 where
   pub run : Gathers (run_in past) state.run.part state.run.places.items
   pub last : Keeps (newest past).message state.last state.places.items
 
--- why a message that is complete is refused
+-- why the complete message is refused, if there is one and it goes back
 abbrev pub back_fault : List Heard → Option Message → Option EcmFault
 back_fault past None = None
 back_fault past (Some message) = if is_back past message then Some Back else None
@@ -45,8 +45,8 @@ pub record IsWaiting (past : List Heard) (part : EcmPart) (state : Collect) : Ty
   pub incomplete : completes past (Controls part) ≡ None
   pub after : Collects (Controls part ∷ past) state
 
--- Nothing is wrong with a part, and it completes the message that says this; kept are its positions and the message
--- before it.
+-- Nothing is wrong with a part, and it completes the message that says this. Its positions and the message before it
+-- are kept.
 pub record IsComplete (past : List Heard) (part : EcmPart) (head : EcmHead) (state : Collect) : Type 0 where
   pub fault : fault_of past part ≡ None
   pub complete : completes past (Controls part) ≡ Some (message_of head state.run.places.items)
@@ -55,7 +55,7 @@ pub record IsComplete (past : List Heard) (part : EcmPart) (head : EcmHead) (sta
   pub good : ArePlaces state.run.places.items
   pub last : Keeps (newest past).message state.last state.places.items
 
--- what a part comes to
+-- the result of a part: it is refused, completes no message, or completes one
 abbrev pub Takes : List Heard → EcmPart → Collect → Result Taken EcmFault → Type 0
 Takes past part state (Ok Waits) = IsWaiting past part state
 Takes past part state (Ok (Complete head)) = IsComplete past part head state

@@ -49,33 +49,33 @@ pub record IsPart (part : EcmPart) : Type 0 where
   pub form : IsEcm part
   pub long : length part.positions ≡ most_positions
 
--- the part stands right after the newest of these, if there is one
+-- the part comes next after the newest of these, if there is one
 abbrev pub IsNext : List EcmPart → EcmPart → Type 0
 IsNext [] part = Unit {0}
 IsNext (before ∷ run) part = before.part + 1 ≡ part.part
 
--- each part before says of the message what the newest says
+-- each other part says of the message what the newest says
 abbrev pub AreAlike : List EcmPart → Type 0
 AreAlike [] = Unit {0}
 AreAlike (part ∷ run) = All (λ other. header_of other ≡ header_of part) run
 
--- parts of one message with nothing wrong in them, the newest first
+-- parts of one message in which nothing is wrong, the newest first
 pub record IsRun (run : List EcmPart) : Type 0 where
   pub form : All IsPart run
   pub alike : AreAlike run
   pub places : ArePlaces (places_of run)
 
--- kept are the newest of these parts and the positions of all of them
+-- the newest of these parts and the positions of all of them are kept
 pub record Gathers (run : List EcmPart) (kept : Option EcmPart) (all : List Place) : Type 0 where
   pub part : kept ≡ newest_of run
   pub places : all ≡ places_of run
   pub good : IsRun run
 
--- the parts of the message that a part that counts belongs to: it begins one, goes on with these, or ends them
+-- the parts that are collected after a part that counts: it begins a message, is the next after these, or drops them
 unfoldable pub next_run : List EcmPart → EcmPart → List EcmPart
 next_run run part = if part.part == 0 then part ∷ [] else run_with part run
 
--- what parts come to: something is wrong with the newest, or they are kept
+-- something is wrong with the newest of these parts, or they are kept
 abbrev pub Becomes : List EcmPart → Option EcmPart → List Place → Result Unit EcmFault → Type 0
 Becomes run kept all (Ok done) = (part_fault run ≡ None) × Gathers run kept all
 Becomes run kept all (Err fault) = part_fault run ≡ Some fault

@@ -4,20 +4,24 @@ ghost use Rattle.sd_ecm.specs.declared.format.TheConstants.{MOST_PLACES};
 use crate::run::Run;
 use sd_ecm::{EcmHead, Place};
 
-/// What came of a part.
+/// What a part of a control message gives, if it isn't refused.
 #[derive(Clone, Copy)]
 pub enum Taken {
-    /// It completes no message.
+    /// The part completes no message.
     Waits,
-    /// It completes the message that says this. Its positions are those that came.
+    /// The part completes a message, which says this. The message's positions are in `Collect::coming`.
     Complete(EcmHead),
 }
 
-/// The newest complete control message, and the parts that came of the next one.
+/// The newest complete control message, and the parts of the next one that arrived [this project, docs/FORMATS.md,
+/// Receiver].
 #[derive(Drop)]
 pub struct Collect {
+    // The parts of the next message.
     pub(crate) run: Run,
+    // What the newest complete message says, but for its positions.
     pub(crate) last: Option<EcmHead>,
+    // The PIDs and positions of the newest complete message.
     pub(crate) places: Vec<Place>,
     ghost room: { MOST_PLACES ≤ vec_capacity places },
 }

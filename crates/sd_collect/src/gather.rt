@@ -14,7 +14,7 @@ use sd_ecm::{EcmFault, EcmHead, EcmPart, MOST_PLACES, Place};
 use std::alloc::Global;
 
 impl Run {
-    /// No part came. Room for all positions of a message is taken.
+    /// Before any part. Room for all positions of a message is allocated here.
     #[tactic(auto, using(crate::proofs::Gathering::none_gathered))]
     pub fn new(alloc: Global) -> Result<Run, NoMemory>
         ensures { IfOk result (λ run. Gathers [] run.part run.places.items) }
@@ -34,22 +34,22 @@ impl Run {
         self.places.clear();
     }
 
-    /// Whether no part came.
+    /// Whether there is no part.
     pub fn is_empty(&self) -> bool
         ensures { IsTrue result ↔ (self.now.part ≡ None) }
     {
         self.part.is_none()
     }
 
-    /// What the newest part says of its message.
+    /// What the newest part says of its message, but for the positions.
     pub fn head(&self) -> Option<EcmHead>
         ensures { result ≡ option_map said_by self.now.part }
     {
         self.part.as_ref().map(head_of)
     }
 
-    /// Takes a part that counts, or says what is wrong with it: it begins a message, goes on with the one that is
-    /// collected, or ends it. It takes no memory.
+    /// Takes a part of a later message than the newest complete one, or says what is wrong with it. Part 0 begins a
+    /// message, the part that is awaited next is added, and any other drops what was collected. Nothing is allocated.
     pub fn take(&mut self, part: &EcmPart) -> Result<(), EcmFault>
         requires { IsEcm part.now }
         ensures { (run : List EcmPart) → Gathers run self.old.part self.old.places.items →
@@ -81,7 +81,7 @@ impl Run {
         }
     }
 
-    // Adds the next part, where nothing is wrong with it.
+    // Adds the next part, if nothing is wrong with it.
     fn add(&mut self, part: &EcmPart) -> Result<(), EcmFault>
         requires { IsEcm part.now }
         ensures { (run : List EcmPart) → Gathers run self.old.part self.old.places.items →
@@ -151,7 +151,7 @@ fn positions_of(part: &EcmPart) -> &[Place]
     &positions[..usize::from(part.count)]
 }
 
-/// What a part says of its message.
+/// What a part says of its message, but for the positions.
 pub fn head_of(part: &EcmPart) -> EcmHead
     ensures { result ≡ said_by part.now }
 {

@@ -1,4 +1,4 @@
-//! What a receiver keeps of control messages: the parts of the one that comes, and the newest complete one.
+//! What a receiver keeps of control messages: the newest complete one, and the parts of the next.
 #![tactic(auto)]
 
 mod collect;

@@ -8,8 +8,8 @@ ghost use Rattle.sd_reception.specs.Offered.{is_before};
 
 use sd_ecm::{EcmHead, Place};
 
-/// Whether a message goes back before the one before it: in its period, its control word, the number of clear packets
-/// or a position, or by a PID that it no longer has [this project, docs/FORMATS.md, Receiver].
+/// Whether a message goes back behind the one before it, `last`: its period, its control word, its number of clear
+/// packets or some position is lower, or it lacks a PID [this project, docs/FORMATS.md, Receiver].
 #[tactic(auto, unfolding(sd_reception::specs::Offered::is_before))]
 pub fn goes_back(head: &EcmHead, coming: &[Place], last: &EcmHead, places: &[Place]) -> bool
     ensures { AreAscending coming.now → AreAscending places.now →
@@ -21,7 +21,7 @@ pub fn goes_back(head: &EcmHead, coming: &[Place], last: &EcmHead, places: &[Pla
         || places_go_back(coming, places)
 }
 
-// Whether some PID has no position any more, or a lower one.
+// Whether some PID of `places` has no position in `coming`, or a lower one.
 fn places_go_back(coming: &[Place], places: &[Place]) -> bool
     ensures { AreAscending coming.now → AreAscending places.now → result ≡ list_any (λ place.
         option_map_or (λ position. nat_lt position place.position) (position_in coming.now place.pid) true) places.now }

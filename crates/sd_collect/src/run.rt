@@ -4,7 +4,8 @@ ghost use Rattle.sd_ecm.specs.declared.format.TheConstants.{POSITIONS, MOST_PLAC
 
 use sd_ecm::{EcmPart, Place};
 
-/// The parts that came of one control message, one after the other: the newest, and the positions of all.
+/// The parts of one control message that arrived one after the other, from part 0 on: the newest, and the positions of
+/// all.
 #[derive(Drop)]
 pub struct Run {
     pub(crate) part: Option<EcmPart>,

@@ -18,7 +18,7 @@ use std::alloc::Global;
 use std::mem::swap;
 
 impl Collect {
-    /// Nothing was heard. All memory is taken here.
+    /// Before any part. All memory is allocated here.
     pub fn new(alloc: Global) -> Result<Collect, NoMemory>
         ensures { IfOk result (λ state. Collects [] state) }
     {
@@ -33,8 +33,8 @@ impl Collect {
         }
     }
 
-    /// Takes a part in the current period, or says why it is refused. Where it completes a message, `settle` is to come
-    /// before the next part [this project, docs/FORMATS.md, Receiver].
+    /// Takes a part of a control message, or says why it is refused. `current` is the current entitlement period. After
+    /// `Complete`, `settle` must be called before the next part is taken [this project, docs/FORMATS.md, Receiver].
     pub fn take(&mut self, current: u32, part: &EcmPart) -> Result<Taken, EcmFault>
         requires form { IsEcm part.now }
         ensures value { (past : List Heard) → Collects past self.old → current_period past ≡ current →
@@ -58,7 +58,7 @@ impl Collect {
 }
 
 impl Collect {
-    /// Keeps the message that the last part completed, in place of the one before it.
+    /// Keeps the message that the newest part completed, instead of the one before it.
     pub fn settle(&mut self)
         ensures places { self.new.places.items ≡ self.old.run.places.items }
         ensures value { (past : List Heard) (part : EcmPart) (head : EcmHead) → IsComplete past part head self.old →
@@ -69,7 +69,7 @@ impl Collect {
         self.run.clear();
     }
 
-    /// Forgets all messages and parts: it stands as before anything was heard.
+    /// Forgets all messages and parts.
     pub fn begin(&mut self)
         ensures { Collects [] self.new }
     {
@@ -78,21 +78,21 @@ impl Collect {
         self.places.clear();
     }
 
-    /// What the newest complete message says.
+    /// What the newest complete message says, but for its positions; `None` if there is none.
     pub fn last(&self) -> Option<EcmHead>
         ensures { result ≡ self.now.last }
     {
         self.last
     }
 
-    /// The positions of the newest complete message.
+    /// The PIDs and positions of the newest complete message.
     pub fn places(&self) -> &[Place]
         ensures { result.now ≡ self.now.places.items }
     {
         &self.places
     }
 
-    /// The positions that came of the next message.
+    /// The PIDs and positions in the parts of the next message that arrived.
     pub fn coming(&self) -> &[Place]
         ensures { result.now ≡ self.now.run.places.items }
     {
@@ -110,7 +110,7 @@ impl Collect {
         }
     }
 
-    // Whether the message that came goes back.
+    // Whether a message is of an earlier period than the current one, or goes back behind the newest complete one.
     #[tactic(auto, unfolding(sd_reception::specs::Offered::is_back))]
     fn is_back(&self, current: u32, head: &EcmHead) -> bool
         ensures { (past : List Heard) → Keeps (newest past).message self.now.last self.now.places.items →

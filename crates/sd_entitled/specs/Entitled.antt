@@ -25,12 +25,12 @@ abbrev pub said : List Emm → Option Says
 said [] = None
 said (emm ∷ sections) = Some (says_in emm)
 
--- each of these sections says this, and its index is that of one of as many as it says
+-- each of these sections says this of its period, and its index is below the number of sections that it says
 abbrev pub SayAlike : Option Says → List Emm → Type 0
 SayAlike says sections =
     All (λ emm. (says ≡ Some (says_in emm)) × ((emm.index < emm.sections) × (emm.sections < 2 ^ 16))) sections
 
--- the section says otherwise than was said
+-- the section disagrees with what was said, if something was
 abbrev pub is_said_otherwise : Option Says → Emm → Bool
 is_said_otherwise None emm = false
 is_said_otherwise (Some says) emm =
@@ -40,7 +40,7 @@ is_said_otherwise (Some says) emm =
 abbrev pub has_index : ℕ → List Emm → Bool
 has_index x sections = list_any (λ emm. emm.index == x) sections
 
--- all marks of the sections that a period is said to have are set
+-- the marks of all sections that a period is said to have are set
 abbrev pub all_marked : Option Says → List Bool → Bool
 all_marked None marks = false
 all_marked (Some says) marks = list_all (λ mark. mark) (take says.sections marks)
@@ -50,7 +50,7 @@ abbrev pub cleared : Option Says → List Bool → List Bool
 cleared None marks = marks
 cleared (Some says) marks = replicate says.sections false ++ drop says.sections marks
 
--- all sections of the period were seen, and none gave a key
+-- all sections of the period were seen, and its key isn't known
 abbrev pub is_revoked : CardFields → List Heard → ℕ → Bool
 is_revoked card tr q = is_unkeyed card tr q && is_all_seen tr q
 
@@ -58,14 +58,14 @@ is_revoked card tr q = is_unkeyed card tr q && is_all_seen tr q
 unfoldable pub told_below : ℕ → List Heard → List ℕ
 told_below q tr = filter (λ p. nat_lt p q) (periods_told tr)
 
--- no complete message told of a period that was past by then
+-- each complete message was of the period that was current then, or of a later one
 unfoldable pub is_in_turn : List Heard → Bool
 is_in_turn [] = true
 is_in_turn (heard ∷ tr) = option_map_or (λ message. nat_le (current tr) message.period) (completes tr heard) true
     && is_in_turn tr
 
--- what is kept of what was heard where q is the current period or, as one begins, a later one
--- [this project, docs/FORMATS.md, Receiver]
+-- what is kept of what was heard, if q is the current period or a later one that begins [this project, docs/FORMATS.md,
+-- Receiver]
 pub record StandsAt (card : CardFields) (tr : List Heard) (q : ℕ) (state : Entitled) : Type 0 where
   pub period : state.period ≡ q
   pub says : state.says ≡ said (seen q tr)
@@ -81,11 +81,11 @@ pub record StandsAt (card : CardFields) (tr : List Heard) (q : ℕ) (state : Ent
 abbrev pub IsEntitled : CardFields → List Heard → Entitled → Type 0
 IsEntitled card tr state = StandsAt card tr (current tr) state
 
--- the key of period q that is kept, where that is the current one
+-- the key of period q, if q is the current period and its key is known
 abbrev pub key_kept : Entitled → ℕ → Option (List ℕ)
 key_kept state q = if state.period == q then state.key else None
 
--- the result is this fault, where there is one
+-- the result is this fault if there is one, and no fault else
 abbrev pub HasFault : {X : Type 0} → Result X StreamFault → Option StreamFault → Type 0
 HasFault result due = MatchResult result (λ _. due ≡ None) (λ fault. due ≡ Some fault)
 

@@ -7,7 +7,7 @@ use crate::entitled::Entitled;
 use crate::marks::clear;
 
 impl Entitled {
-    /// Forgets what was heard: it stands as before anything was.
+    /// Forgets all that was heard.
     pub fn begin(&mut self)
         ensures { (card : CardFields) (tr : List Heard) → IsEntitled card tr self.old → IsEntitled card [] self.new }
     {

@@ -2,22 +2,23 @@ ghost use Rattle.std.specs.Prelude.{◌≡◌, vec_len};
 
 use crate::says::Says;
 
-/// What a receiver keeps of the entitlements that it heard of (docs/FORMATS.md, Receiver).
+/// What a receiver keeps of the sections of entitlements that it heard, and of the periods of control messages [this
+/// project, docs/FORMATS.md, Receiver].
 #[derive(Drop)]
 pub struct Entitled {
     // The current period.
     pub(crate) period: u32,
-    // What its sections say, where one was seen.
+    // What each of its sections says, if one was seen.
     pub(crate) says: Option<Says>,
     // Which of its sections were seen, by their index.
     pub(crate) marks: Vec<bool>,
-    // Whether a control message told of it.
+    // Whether a complete control message was of it.
     pub(crate) told: bool,
-    // Its key, where that was found.
+    // Its key, if that is known.
     pub(crate) key: Option<[u8; 32]>,
-    // Of the periods before it of which a message told, the first of which all sections were seen and no key was found.
+    // The first earlier period of a complete control message of which all sections were seen and no key is known.
     pub(crate) revoked: Option<u32>,
-    // The first of them of which no key was found.
+    // The first earlier period of a complete control message of which no key is known.
     pub(crate) unkeyed: Option<u32>,
     pub ghost long: { vec_len marks ≡ 65536 },
 }

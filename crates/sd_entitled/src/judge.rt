@@ -14,7 +14,7 @@ use sd_cause::NoMemory;
 use std::alloc::Global;
 
 impl Entitled {
-    /// Before anything was heard. It takes all memory.
+    /// Before anything was heard. All memory is allocated here.
     pub fn new(alloc: Global) -> Result<Entitled, NoMemory>
         ensures { IfOk result (λ entitled. (card : CardFields) → IsEntitled card [] entitled) }
     {
@@ -32,21 +32,21 @@ impl Entitled {
         })
     }
 
-    /// The current period.
+    /// The current entitlement period, 0 before anything was heard.
     pub fn period(&self) -> u32
         ensures { result ≡ self.now.period }
     {
         self.period
     }
 
-    /// Its key, where that was found.
+    /// The key of the current period, if that is known.
     pub fn key(&self) -> Option<[u8; 32]>
         ensures { result ≡ self.now.key }
     {
         self.key
     }
 
-    /// Takes a complete control message of this period.
+    /// Takes a complete control message of this period, which must not be before the current one.
     pub fn message(&mut self, period: u32)
         requires { self.old.period ≤ period }
         ensures { (card : CardFields) (tr : List Heard) (part : EcmPart) (message : Message) →
@@ -57,7 +57,7 @@ impl Entitled {
         self.told = true;
     }
 
-    /// The first period of which a message told, all sections were seen and no key was found.
+    /// The first period of a complete control message of which all sections were seen and no key is known.
     pub fn revoked(&self) -> Option<u32>
         ensures { (card : CardFields) (tr : List Heard) → IsEntitled card tr self.now →
             result ≡ find (is_revoked card tr) (periods_told tr) }
@@ -65,7 +65,7 @@ impl Entitled {
         self.or_this(self.revoked, self.shuts_out())
     }
 
-    /// The first period of which a message told and no key was found.
+    /// The first period of a complete control message of which no key is known.
     pub fn unkeyed(&self) -> Option<u32>
         ensures { (card : CardFields) (tr : List Heard) → IsEntitled card tr self.now →
             result ≡ find (is_unkeyed card tr) (periods_told tr) }
@@ -73,28 +73,29 @@ impl Entitled {
         self.or_this(self.unkeyed, self.lacks_key())
     }
 
-    // The first of the periods before, or else the current one, where it is such a one.
+    // The first of the earlier periods, or else the current one if it is such a one.
     fn or_this(&self, first: Option<u32>, is_such: bool) -> Option<u32>
         ensures { result ≡ option_or first (if is_such then Some self.now.period else None) }
     {
         first.or(is_such.then_some(self.period))
     }
 
-    // Whether a message told of the current period, and no key of it was found.
+    // Whether a complete control message was of the current period, and its key isn't known.
     fn lacks_key(&self) -> bool
         ensures { result ≡ (self.now.told && is_none self.now.key) }
     {
         self.told && self.key.is_none()
     }
 
-    // The same, and all its sections were seen.
+    // Whether a complete control message was of the current period, its key isn't known, and all its sections were
+    // seen.
     fn shuts_out(&self) -> bool
         ensures { result ≡ ((self.now.told && is_none self.now.key) && all_marked self.now.says self.now.marks.items) }
     {
         self.lacks_key() && are_all_marked(&self.marks, self.says)
     }
 
-    // Makes this period the current one, where it isn't yet. The one before it is judged.
+    // Makes this period the current one, if it isn't yet. The one before it is judged.
     pub(crate) fn move_to(&mut self, period: u32)
         requires { self.old.period ≤ period }
         ensures { (card : CardFields) (tr : List Heard) → IsEntitled card tr self.old →

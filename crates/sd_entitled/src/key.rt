@@ -15,8 +15,8 @@ use sd_steps::Steps;
 use sd_wrap::wrap;
 use std::sync::ledger::Ledger;
 
-/// The period key in the first entry whose set has the card's leaf. It takes at most as many steps as the tree is high,
-/// and none where there is no key.
+/// The period key in the first entry whose set has the card's leaf. It takes at most as many steps of the generator as
+/// the tree is high, and none if there is no such entry.
 pub fn key_in<L: Ledger>(card: &Card, emm: &Emm, steps: &mut Steps<L>) -> Option<[u8; 32]>
     requires count { emm.now.count ≤ MOST_ENTRIES }
     requires sets { AreSets card.now.height emm.now.sets (listed emm.now) }
@@ -32,7 +32,8 @@ pub fn key_in<L: Ledger>(card: &Card, emm: &Emm, steps: &mut Steps<L>) -> Option
     None
 }
 
-/// The same, where its check value is the one that the section says.
+/// The period key in the first entry whose set has the card's leaf, if there is one. `WrongKey` if its check value
+/// isn't the one in the section; `number` is the section's packet.
 pub fn good_key_in<L: Ledger>(
     card: &Card,
     number: u64,

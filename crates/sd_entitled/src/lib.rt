@@ -1,5 +1,4 @@
-//! What a receiver keeps of the entitlements that it heard of: the current period, its key, and the periods without
-//! one.
+//! What a receiver keeps of entitlements: the current period, its key, and the first periods without one.
 #![tactic(auto)]
 
 mod anew;

@@ -6,10 +6,10 @@ ghost use Rattle.sd_entitled.specs.Entitled.{all_marked, cleared};
 
 use crate::says::Says;
 
-/// How many indexes a section may have, of 16 bits.
+/// The number of indexes that sections may have, of 16 bits.
 pub const SECTIONS: usize = 1 << 16;
 
-/// Whether all sections of a period that says this are marked.
+/// Whether all sections of a period whose sections say this are marked; not if none was seen.
 pub fn are_all_marked(marks: &[bool], says: Option<Says>) -> bool
     requires { SECTIONS ≤ length marks.now }
     ensures { result ≡ all_marked says marks.now }

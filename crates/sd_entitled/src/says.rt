@@ -3,19 +3,19 @@ ghost use Rattle.sd_entitled.specs.Entitled.{says_in};
 
 use sd_emm::Emm;
 
-/// What all sections of a period say alike (docs/FORMATS.md, Messages).
+/// What all sections of a period say alike [this project, docs/FORMATS.md, Messages].
 #[derive(Clone, Copy, Debug, PartialEq, Eq)]
 pub struct Says {
-    /// How many sets the period has.
+    /// The number of sets of the period.
     pub sets: u32,
-    /// How many sections it has.
+    /// The number of sections of the period.
     pub sections: u16,
-    /// The check value of its key.
+    /// The check value of the period's key.
     pub check: [u8; 16],
 }
 
 impl Says {
-    /// What this section says.
+    /// What a section says of its period.
     pub fn of(emm: &Emm) -> Says
         ensures value { result ≡ says_in emm.now }
         ensures fits { result.sections < 2 ^ 16 }

@@ -21,8 +21,11 @@ use sd_steps::Steps;
 use std::sync::ledger::Ledger;
 
 impl Entitled {
-    /// Takes a section of entitlements, which is the packet of this number. One of a past period changes nothing. Its
-    /// key is derived where none of the period is kept.
+    /// Takes a section of entitlements, packet `number` of the stream. A section of an earlier period changes nothing.
+    /// The key of its period is derived if it isn't known yet.
+    ///
+    /// It returns `BadEmm` with `Mixed` if the section disagrees with earlier ones of its period, and `WrongKey` if the
+    /// key has another check value than the section names. Then all that is kept is as it was.
     pub fn section<L: Ledger>(
         &mut self,
         card: &Card,
@@ -53,7 +56,7 @@ impl Entitled {
         Ok(())
     }
 
-    // Whether a section says otherwise of the current period than those seen before it. One of a later period doesn't.
+    // Whether a section disagrees with those seen before it on the current period. One of a later period doesn't.
     fn differs(&self, emm: &Emm) -> bool
         ensures { result ≡
             (if self.now.period == emm.now.period then is_said_otherwise self.now.says emm.now else false) }
@@ -64,7 +67,7 @@ impl Entitled {
         }
     }
 
-    // The key of a section's period: the one that is kept, or else the one that the section gives.
+    // The key of a section's period: the known one, or else the one that the section gives.
     fn key_with<L: Ledger>(
         &self,
         card: &Card,

@@ -30,7 +30,7 @@ abbrev pub reached : SiteFields → ℕ → ℕ
 reached site zero = 0
 reached site (suc k) = min (open_period site k) most_periods
 
--- the book with as many Periods after it as make period q its last, if it isn't yet
+-- the book with Period commands after it until period q is its last, if it isn't yet
 unfoldable pub filled : ℕ → List Command → List Command
 filled q book = book ++ replicate (q - last_period book) Command.Period
 

@@ -12,8 +12,8 @@ use Rattle.sd_events.specs.declared.event.Event.{Event}
 use Rattle.sd_events.specs.declared.event.Event.TheVariants.{Subscribe, Revoke, Send, Offer, Lose, Off, On}
 use Rattle.sd_events.specs.Book.{sends}
 
--- One receiver: whether it is on; the number of packets that it has passed; the numbers of those that it was offered
--- since it was last switched on, and, for each earlier time that it was on, of those that it was offered then
+-- One receiver: whether it is on; the number of packets that it has passed; the numbers of the packets that it was
+-- offered since it was last switched on; and, for each earlier time that it was on, of those that it was offered then
 pub record Watch : Type 0 where
   pub on : Bool
   pub cursor : ℕ

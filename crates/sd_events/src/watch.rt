@@ -67,7 +67,7 @@ pub fn other_events_write_nothing()
         × (watched u n (Off v) w ≡ w) × (watched u n (On v) w ≡ w) }
 {}
 
-/// A receiver that is switched on begins anew: it was offered nothing yet, and what earlier ones wrote stays.
+/// A receiver that is switched on is a new one: it was offered nothing yet, and what earlier ones wrote stays.
 pub fn new_receivers_wrote_nothing()
     ensures present { (plan : Plan) (clear : List (List ℕ)) (u n : ℕ) (w : Watch) → w.on ≡ false →
         present plan clear (watched u n (On u) w) ≡ [] }

@@ -25,8 +25,8 @@ use Rattle.sd_field.specs.Stations.{HeadStands}
 use Rattle.sd_field.specs.declared.seat.Seat.{Seat}
 use Rattle.sd_field.specs.declared.station.Station.{Station}
 
--- a field: its site, its clear packets, its events with the oldest first, how many of them are done, and the fault that
--- is answered from now on
+-- a field: its site, its clear packets, its events with the oldest first, the number of events that are done, and the
+-- fault at which it stopped, if it did
 pub record FieldValue : Type 0 where
   pub site : SiteFields
   pub clear : List (List ℕ)
@@ -46,11 +46,11 @@ sends_of v = sends (length v.clear) (past_of v)
 abbrev pub taken : FieldValue → List (List ℕ)
 taken v = take (sends_of v) v.clear
 
--- the site with the book of all events
+-- the site with the book of all events, whether they are done or not
 abbrev pub plan_in : FieldValue → Plan
 plan_in v = plan_after v.site (length v.clear) (reverse v.events)
 
--- leaf u's receiver
+-- leaf u's receiver after the events that are done
 abbrev pub watch_of : ℕ → FieldValue → Watch
 watch_of u v = watch (plan_in v) v.clear u (past_of v)
 
@@ -67,11 +67,11 @@ abbrev pub after_next : FieldValue → FieldValue
 after_next v =
     record { site = v.site; clear = v.clear; events = v.events; done = v.done + 1; failed = v.failed }
 
--- so many events are done
+-- this number of events is done
 abbrev pub done_to : ℕ → FieldValue → FieldValue
 done_to done v = record { site = v.site; clear = v.clear; events = v.events; done = done; failed = v.failed }
 
--- the next event failed, and this fault is answered from now on
+-- the field stopped at the next event with this fault
 abbrev pub after_fault : FieldFault → FieldValue → FieldValue
 after_fault fault v =
     record { site = v.site; clear = v.clear; events = v.events; done = v.done; failed = Some fault }
@@ -90,31 +90,33 @@ refusal_at v event =
 abbrev pub next_refusal : FieldValue → Option ClearFault
 next_refusal v = option_and_then (refusal_at v) (next_event v)
 
--- a send failed
+-- the field stopped at a send
 abbrev pub IsSendRefused : FieldValue → Type 0
 IsSendRefused v = IsSome v.failed × (next_event v ≡ Some Send)
 
--- the next event is a send that isn't refused, and what is then sent in all passes the room
+-- the next event is a send that isn't refused, and all that is then sent is more than the room of 72 packets for each
+-- clear packet
 pub record IsSentOver (v : FieldValue) : Type 0 where
   pub next : next_event v ≡ Some Send
   pub allowed : next_refusal v ≡ None
   pub over : 188 * 72 * length v.clear < length (concat (body (plan_in v) (take (suc (sends_of v)) v.clear)))
 
--- the next event is an offer to leaf u, and what its receivers then wrote in all passes the room
+-- the next event is an offer to leaf u, and all that its receivers then wrote is more than the room of one packet for
+-- each clear packet
 pub record IsWrittenOver (u : ℕ) (v : FieldValue) : Type 0 where
   pub next : next_event v ≡ Some (Offer u)
   pub over : 188 * length v.clear < length (written_of u (after_next v))
 
--- a send was cut short, since it passed the room
+-- a send was cut short, since the room didn't suffice
 abbrev pub IsSentCut : FieldValue → Type 0
 IsSentCut v = (v.failed ≡ Some NoMemory) × IsSentOver v
 
--- an offer to leaf u was
+-- an offer to leaf u was cut short, since the room didn't suffice
 abbrev pub IsWrittenCut : ℕ → FieldValue → Type 0
 IsWrittenCut u v = (v.failed ≡ Some NoMemory) × IsWrittenOver u v
 
--- when memory may be out: where a period begins with a send, where a receiver is switched on that is off, and where
--- room is passed
+-- the next event may run out of memory: a send with which a period begins, a send or an offer for which the room
+-- doesn't suffice, or switching on a receiver that is off
 abbrev pub TakesMemory : FieldValue → Option Event → Type 0
 TakesMemory v None = ⊥
 TakesMemory v (Some (Subscribe u)) = ⊥
@@ -125,17 +127,17 @@ TakesMemory v (Some (Lose u)) = ⊥
 TakesMemory v (Some (Off u)) = ⊥
 TakesMemory v (Some (On u)) = (watch_of u v).on ≡ false
 
--- leaf u's seat has come to what the events say of it, unless an offer to it was cut short
+-- leaf u's seat is as the events that are done leave it, unless an offer to it was cut short
 pub record IsKept (u : ℕ) (v : FieldValue) (seat : Seat) : Type 0 where
   pub on : IsSome seat.receiver ↔ ((watch_of u v).on ≡ true)
   pub seated : ¬ IsWrittenCut u v →
       IsSeated (plan_in v) (card_at v u) (taken v) (188 * length v.clear) (watch_of u v) seat
 
--- so has each seat
+-- each seat is as the events that are done leave it
 abbrev pub AreSeated : FieldValue → List Seat → Type 0
 AreSeated v seats = (u : ℕ) (seat : Seat) → slice_get seats u ≡ Some seat → IsKept u v seat
 
--- what a field keeps
+-- what a field keeps: its limits, the book, the head end, and a seat for each leaf
 pub record IsField (v : FieldValue) (book : BookValue) (station : Station) (seats : List Seat) : Type 0 where
   pub packets : length v.clear ≤ 16384
   pub few : length v.events ≤ 524288

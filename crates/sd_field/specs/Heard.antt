@@ -20,8 +20,8 @@ pub record StandsAfter (card : CardFields) (xs : List (List ℕ)) (receiver : Re
   pub chain : Chain receiver_does start xs receiver bytes steps
   pub wrote : bytes ≡ concat (out_from card [] xs)
 
--- What one time has come to: what is held are the bytes of the times before, and what the card writes of these packets.
--- The receiver was offered them, unless one of them is refused, and then it keeps that refusal
+-- the receiver after the packets that it was offered since it was switched on. `held` is what was written before, and
+-- what a receiver with the card writes of these packets. If one of them is refused, the receiver keeps that refusal
 pub record IsHeard (card : CardFields) (earlier : List ℕ) (xs : List (List ℕ)) (receiver : Receiver)
     (held : List ℕ) : Type 0 where
   pub bytes : held ≡ earlier ++ concat (out_from card [] xs)
@@ -29,7 +29,7 @@ pub record IsHeard (card : CardFields) (earlier : List ℕ) (xs : List (List ℕ
   pub broken : (why : StreamFault) → break_from card [] xs ≡ Some why → receiver.refusal ≡ Some why
   pub live : IsLive receiver
 
--- the sink has room for so many bytes in all
+-- the sink has room for `total` bytes in all
 pub record HasRoom (total : ℕ) (store : Store) : Type 0 where
   pub fits : length store.held ≤ total
   pub left : room_in store ≡ Some (total - length store.held)

@@ -6,7 +6,7 @@ use Rattle.sd_events.specs.declared.event.Event.{Event}
 use Rattle.sd_events.specs.Book.{event_book, sends}
 use Rattle.sd_field.specs.declared.laid.Laid.{Laid}
 
--- it is the book of these events, of which the sends find m clear packets
+-- the book is that of these events, of a clear stream of m packets
 pub record IsLaid (site : SiteFields) (m : ℕ) (past : List Event) (laid : Laid) : Type 0 where
   pub height : laid.draft.height ≡ site.height
   pub commands : laid.draft.commands ≡ event_book site m past

@@ -10,7 +10,7 @@ abbrev pub leaf_in : ℕ → Option ℕ → Result ℕ LineFault
 leaf_in d None = Err Form
 leaf_in d (Some u) = if nat_lt u (2 ^ d) then Ok u else Err Leaf
 
--- two numbers of a line, of which the first is to be a leaf of a tree of height d
+-- two numbers of a line, of which the first must be a leaf of a tree of height d
 abbrev pub pair_in : ℕ → Option (ℕ × ℕ) → Result (ℕ × ℕ) LineFault
 pair_in d None = Err Form
 pair_in d (Some pair) = if nat_lt pair.0 (2 ^ d) then Ok pair else Err Leaf
@@ -20,7 +20,7 @@ abbrev pub times_in : Option ℕ → Result ℕ LineFault
 times_in None = Err Form
 times_in (Some n) = Ok n
 
--- a run of events, whose leaf is to be of a tree of height d
+-- an event and how often it happens, whose leaf must be of a tree of height d
 abbrev pub run_in : ℕ → Option (Event × ℕ) → Result (Event × ℕ) LineFault
 run_in d None = Err Form
 run_in d (Some run) = if is_of d run.0 then Ok run else Err Leaf

@@ -10,7 +10,7 @@ use Rattle.sd_events.specs.Events.{is_of}
 use Rattle.sd_field.specs.declared.fault.ScriptFault.{ScriptFault}
 use Rattle.sd_field.specs.declared.fault.ScriptFault.TheVariants.{Line, Leaf, Events}
 
--- the byte before the first of two parts
+-- a byte before the first of two parts
 abbrev pub onto_first : ℕ → List ℕ × List ℕ → List ℕ × List ℕ
 onto_first byte parts = (byte ∷ parts.0, parts.1)
 
@@ -31,7 +31,7 @@ count_of text = option_and_then counted (number_of text)
 unfoldable pub alone : (ℕ → Event) → List ℕ → Option (Event × ℕ)
 alone make text = option_map (λ u. (make u, 1)) (number_of text)
 
--- as many sends as a text says
+-- the number of sends that a text says
 unfoldable pub sends_said : List ℕ → Option (Event × ℕ)
 sends_said text = option_map (λ n. (Send, n)) (count_of text)
 
@@ -43,11 +43,11 @@ both_of leaf count = option_and_then (λ u. option_map (λ n. (u, n)) count) lea
 unfoldable pub leaf_and_count : List ℕ → Option (ℕ × ℕ)
 leaf_and_count text = option_and_then (λ parts. both_of (number_of parts.0) (count_of parts.1)) (cut_at_space text)
 
--- as many events of a leaf as a text says
+-- the leaf and the number of events of a text, as events of that leaf
 unfoldable pub repeated : (ℕ → Event) → List ℕ → Option (Event × ℕ)
 repeated make text = option_map (λ pair. (make pair.0, pair.1)) (leaf_and_count text)
 
--- what is said after a word, or on a line that doesn't begin with it
+-- what a line says by the text after its first word, or else what it says if it doesn't begin with that word
 abbrev pub by_word : Option (List ℕ) → (List ℕ → Option (Event × ℕ)) → Option (Event × ℕ) → Option (Event × ℕ)
 by_word None says other = other
 by_word (Some text) says other = says text
@@ -63,14 +63,15 @@ spoken line =
     (by_word (after (codes "off ") line) (alone Off)
     (by_word (after (codes "on ") line) (alone On) None))))))
 
--- The run of line k after n events, or what is wrong with it. On one line the grammar comes first, then the leaf, which
--- is to be of a tree of height d, then the number of events of a script [this project, docs/FORMATS.md, Field]
+-- the event of line k and how often, after n events, or what is wrong with the line. The grammar is judged first, then
+-- the leaf, which must be of a tree of height d, then the number of events of the script [this project,
+-- docs/FORMATS.md, Field]
 abbrev pub judged : ℕ → ℕ → ℕ → Option (Event × ℕ) → Result (Event × ℕ) ScriptFault
 judged d k n None = Err (Line k)
 judged d k n (Some run) =
     if is_of d run.0 then (if nat_lt 524288 (n + run.1) then Err Events else Ok run) else Err (Leaf k)
 
--- what comes of a run, if nothing is wrong with it
+-- the events of the line and of those after it, if nothing is wrong with the line
 abbrev pub by_run : Result (Event × ℕ) ScriptFault → (Event × ℕ → Result (List Event) ScriptFault) →
     Result (List Event) ScriptFault
 by_run (Ok run) says = says run

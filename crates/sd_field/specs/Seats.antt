@@ -11,12 +11,12 @@ use Rattle.sd_events.specs.Watch.{Watch, at_places, present, stream, written}
 use Rattle.sd_field.specs.Heard.{HasRoom, IsHeard}
 use Rattle.sd_field.specs.declared.seat.Seat.{Seat}
 
--- the bytes that were written in the earlier times
+-- the bytes that were written in the earlier times that the receiver was on
 unfoldable pub wrote_before : Plan → CardFields → List (List ℕ) → Watch → List ℕ
 wrote_before plan card clear w = concat (flat_map (λ places. out_from card [] (at_places [] (stream plan clear) places))
     (reverse (map reverse w.earlier)))
 
--- the seat has come to what a watch says of it, with room for so many bytes in all
+-- the seat is as a watch says, with room for `total` bytes in all
 pub record IsSeated (plan : Plan) (card : CardFields) (clear : List (List ℕ)) (total : ℕ) (w : Watch) (seat : Seat)
     : Type 0 where
   pub cursor : seat.cursor ≡ w.cursor
@@ -26,12 +26,12 @@ pub record IsSeated (plan : Plan) (card : CardFields) (clear : List (List ℕ)) 
   pub heard : (receiver : Receiver) → seat.receiver ≡ Some receiver →
       IsHeard card (wrote_before plan card clear w) (present plan clear w) receiver seat.written.held
 
--- the seat of a receiver that is on, and was offered nothing
+-- a seat whose receiver is on, and was offered nothing
 abbrev pub IsNew : CardFields → ℕ → Seat → Type 0
 IsNew card total seat = (plan : Plan) (clear : List (List ℕ)) →
     IsSeated plan card clear total (record { on = true; cursor = 0; now = []; earlier = [] }) seat
 
--- so is each of these seats, of the leaf of its place
+-- each of these seats is new: seat u is that of leaf u
 abbrev pub AreNew : Site → ℕ → List Seat → Type 0
 AreNew site total seats = (u : ℕ) (seat : Seat) → slice_get seats u ≡ Some seat →
     IsNew (card_of site.master site.ca site.height u) total seat

@@ -16,7 +16,7 @@ pub record HeadStands (plan : Plan) (packets : List (List ℕ)) (head : Head) : 
   pub new : IsAfter plan [] start × IsReady start
   pub chain : Chain head_does start packets head (concat (body plan packets)) steps
 
--- a head end that was offered these clear packets, with room for so many bytes in all
+-- a head end that was offered these clear packets, with room for `total` bytes in all
 pub record IsStation (plan : Plan) (packets : List (List ℕ)) (total : ℕ) (station : Station) : Type 0 where
   pub count : station.count ≡ length packets
   pub head : HeadStands plan packets station.head

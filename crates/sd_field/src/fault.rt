@@ -5,14 +5,15 @@ ghost use Rattle.sd_field.specs.declared.fault.FieldFault.TheVariants as FieldFa
 use sd_broadcast::ClearFault;
 use std::alloc::AllocFailed;
 
-/// Why bytes are no script. Lines are counted from 1 and judged in order; the first bad line decides.
+/// Why bytes are no script. Lines are numbered from 1 and judged in order, and the first bad line decides [this
+/// project, docs/FORMATS.md, Field].
 #[derive(Clone, Copy, Debug, PartialEq, Eq)]
 pub enum ScriptFault {
-    /// The line isn't in the grammar.
+    /// The line of this number isn't in the grammar.
     Line(u32),
-    /// The leaf on the line isn't in the tree.
+    /// The leaf on the line of this number isn't in the tree.
     Leaf(u32),
-    /// The script has more events than a script may have.
+    /// The script has more than 524,288 events.
     Events,
     /// Out of memory.
     NoMemory,
@@ -26,10 +27,10 @@ impl<T: Drop> From<AllocFailed<T>> for ScriptFault {
     }
 }
 
-/// Why a field stopped.
+/// Why a field stopped [this project, docs/FORMATS.md, Field].
 #[derive(Clone, Copy, Debug, PartialEq, Eq)]
 pub enum FieldFault {
-    /// A clear packet is refused.
+    /// The head end refuses the clear packet that a send sends, for this reason.
     Clear(ClearFault),
     /// Out of memory.
     NoMemory,

@@ -38,7 +38,8 @@ use std::sync::ledger::Ledger;
 /// The room for what is sent with one clear packet, in packets. A head end of a tree of height at most 6 sends fewer.
 const MOST_WITH_ONE: usize = 72;
 
-/// A field: a head end and a receiver for each leaf, and the events that happen to them.
+/// A field: a head end and a receiver for each leaf, and the events that happen to them [this project, docs/FORMATS.md,
+/// Field].
 #[derive(Drop)]
 pub struct Field {
     alloc: Global,
@@ -78,8 +79,8 @@ impl Model for Field {
 impl Field {
     /// A field before its first event: all receivers are on, and nothing is sent.
     ///
-    /// It takes room for all that will be sent and written: 188 bytes times 72 for each clear packet, and times 1 for
-    /// each clear packet and leaf.
+    /// It allocates room for all packets that will be sent and written, of 188 bytes each: 72 packets per clear packet
+    /// for what is sent, and for each leaf as many packets as there are clear ones.
     pub fn new<L: Ledger>(
         alloc: Global,
         site: Site,
@@ -117,8 +118,11 @@ impl Field {
         })
     }
 
-    /// Runs the next event. `false` says that none is left. A fault stays: it is answered from then on, and nothing
-    /// more happens.
+    /// Runs the next event, and returns whether one was left. After a fault nothing more happens: the same fault is
+    /// returned from then on.
+    ///
+    /// It returns `Clear` if the head end refuses the clear packet of a send. `NoMemory` is possible at a send, at an
+    /// offer, and when a receiver is switched on.
     pub fn step<L: Ledger>(&mut self, steps: &mut Steps<L>) -> Result<bool, FieldFault>
         ensures done { result ≡ Ok true → (self.old.done < length self.old.events) × (self.old.failed ≡ None)
             × (self.new ≡ after_next self.old) }
@@ -175,7 +179,7 @@ impl Field {
         }
     }
 
-    /// The next event, which is a command: the book has it already.
+    /// Runs the next event, which is a command: the book has it already.
     fn command(&mut self)
         requires some { IsSome (next_event self.old) }
         requires next { IfSome (next_event self.old) IsCommand }
@@ -185,7 +189,7 @@ impl Field {
         self.done += 1;
     }
 
-    /// The next event, which is a send.
+    /// Runs the next event, which is a send.
     fn send<L: Ledger>(&mut self, steps: &mut Steps<L>) -> Result<(), FieldFault>
         requires next { next_event self.old ≡ Some Send }
         requires calm { self.old.failed ≡ None }
@@ -212,7 +216,7 @@ impl Field {
         }
     }
 
-    /// The next event, which is an offer to this leaf.
+    /// Runs the next event, which is an offer to this leaf.
     fn offer<L: Ledger>(&mut self, u: Leaf, steps: &mut Steps<L>) -> Result<(), FieldFault>
         requires next { next_event self.old ≡ Some (Offer u) }
         requires leaf { u < 2 ^ self.old.site.height }
@@ -235,7 +239,7 @@ impl Field {
         }
     }
 
-    /// The next event, at which this leaf's receiver loses a packet.
+    /// Runs the next event, at which this leaf's receiver loses a packet.
     fn lose(&mut self, u: Leaf)
         requires next { next_event self.old ≡ Some (Lose u) }
         requires leaf { u < 2 ^ self.old.site.height }
@@ -247,7 +251,7 @@ impl Field {
         self.done += 1;
     }
 
-    /// The next event, which switches this leaf's receiver off.
+    /// Runs the next event, which switches this leaf's receiver off.
     fn off(&mut self, u: Leaf)
         requires next { next_event self.old ≡ Some (Off u) }
         requires leaf { u < 2 ^ self.old.site.height }
@@ -259,7 +263,7 @@ impl Field {
         self.done += 1;
     }
 
-    /// The next event, which switches this leaf's receiver on.
+    /// Runs the next event, which switches this leaf's receiver on.
     fn on<L: Ledger>(&mut self, u: Leaf, steps: &mut Steps<L>) -> Result<(), FieldFault>
         requires next { next_event self.old ≡ Some (On u) }
         requires leaf { u < 2 ^ self.old.site.height }
@@ -290,14 +294,14 @@ impl Field {
         self.station.count as u64
     }
 
-    /// All that was sent.
+    /// The bytes of all packets that were sent, in order.
     pub fn sent(&self) -> &[u8]
         ensures value { ¬ IsSentCut self.now → result.now ≡ concat (body (plan_in self.now) (taken self.now)) }
     {
         self.station.sent.bytes()
     }
 
-    /// All that the receivers of a leaf wrote.
+    /// The bytes of all packets that the receivers of a leaf wrote, one receiver after the other.
     pub fn written(&self, u: Leaf) -> &[u8]
         requires leaf { u < 2 ^ self.now.site.height }
         ensures value { ¬ IsWrittenCut u self.now → result.now ≡ written_of u self.now }
@@ -305,7 +309,7 @@ impl Field {
         self.seats[u.get() as usize].written.bytes()
     }
 
-    /// The book of all events.
+    /// The book of the commands of all events, whether they are done or not.
     pub fn book(&self) -> &Book
         ensures value { (result.now.height ≡ self.now.site.height)
             × (result.now.commands ≡ (plan_in self.now).commands) }
@@ -326,7 +330,7 @@ impl Field {
         self.seats[u.get() as usize].receiver.as_ref()
     }
 
-    /// The head end.
+    /// The head end of the field.
     pub fn head(&self) -> &Head
         ensures stands { ¬ IsSendRefused self.now → HeadStands (plan_in self.now) (taken self.now) result.now }
     {

@@ -13,8 +13,8 @@ use sd_receive::Receiver;
 use sd_steps::Steps;
 use std::sync::ledger::Ledger;
 
-/// Offers a packet to a receiver, which writes into a sink in memory. A refusal is ignored: nothing is written from
-/// then on.
+/// Offers a packet to a receiver, which writes into a sink in memory. If the receiver refuses it, that is no error:
+/// nothing is written from then on.
 pub fn hear<L: Ledger>(
     receiver: &mut Receiver,
     packet: &Packet,

@@ -13,7 +13,7 @@ use sd_events::Event;
 use sd_site::Site;
 use std::alloc::Global;
 
-/// The book that events make, as far as it is made: its last period, and how many clear packets were sent.
+/// The book that the events so far make: its commands, its last period, and the number of clear packets that were sent.
 #[derive(Drop)]
 pub struct Laid {
     draft: Draft,
@@ -32,7 +32,7 @@ fn open_period(site: &Site, k: u64) -> u64
     u64::from(site.first_period) + crypto / u64::from(site.span)
 }
 
-/// The period of a command that comes after so many sends.
+/// The period of a command after this number of sends.
 fn period_after(site: &Site, sends: usize) -> u64
     requires few { sends ≤ 16384 }
     ensures { result ≡ period_after (fields_of site.now) sends }
@@ -43,7 +43,7 @@ fn period_after(site: &Site, sends: usize) -> u64
     open_period(site, sends as u64 - 1) + 1
 }
 
-/// The period that the book has to have after so many sends.
+/// The last period that the book must have after this number of sends.
 fn reached(site: &Site, sends: usize) -> u32
     requires few { sends ≤ 16384 }
     ensures { result ≡ reached (fields_of site.now) sends }
@@ -59,7 +59,7 @@ fn reached(site: &Site, sends: usize) -> u32
     }
 }
 
-/// Puts a command of the tree at the end, with which no limit is broken.
+/// Puts a command at the end, with which the book is still within its limits.
 fn push(draft: &mut Draft, command: Command) -> Result<(), NoMemory>
     requires leaf { is_within draft.old.height command ≡ true }
     requires fits { IsDraft draft.old.height (draft.old.commands ++ command ∷ []) }
@@ -85,7 +85,7 @@ impl Laid {
         })
     }
 
-    /// As many Periods as make this period the last, if it isn't yet.
+    /// Puts Period commands at the end until this period is the last, if it isn't yet.
     fn fill(&mut self, period: u32) -> Result<(), NoMemory>
         requires last { self.old.last ≡ last_period self.old.draft.commands }
         requires low { self.old.draft.height ≤ 6 }
@@ -102,7 +102,7 @@ impl Laid {
         Ok(())
     }
 
-    /// Takes a command, if a book can have its period.
+    /// Takes a command. It is ignored if no book can have its period.
     fn command(&mut self, site: &Site, command: Command) -> Result<(), NoMemory>
         requires last { self.old.last ≡ last_period self.old.draft.commands }
         requires few { self.old.sends ≤ 16384 }
@@ -125,7 +125,7 @@ impl Laid {
         push(&mut self.draft, command)
     }
 
-    /// Takes a send, at which the book has to have the period that is then on air.
+    /// Takes a send, after which the book must have the period that is then on air.
     fn send(&mut self, site: &Site, clear: usize) -> Result<(), NoMemory>
         requires last { self.old.last ≡ last_period self.old.draft.commands }
         requires few { clear ≤ 16384 }
@@ -169,7 +169,7 @@ impl Laid {
     }
 }
 
-/// The book that the events make, of which the sends find so many clear packets.
+/// The book that the events make of a clear stream of `clear` packets.
 pub(crate) fn event_book(
     alloc: Global,
     site: &Site,

@@ -1,4 +1,4 @@
-//! Where a field stops.
+//! Laws on where a field stops.
 
 ghost use Rattle.std.specs.Prelude.{◌≡◌, ◌↔◌, ◌<◌, ℕ, [], List, None, Some, get_or, length, take};
 ghost use Rattle.sd_site.specs.Fields.{SiteFields};
@@ -6,14 +6,15 @@ ghost use Rattle.sd_broadcast.specs.declared.fault.ClearFault.{ClearFault};
 ghost use Rattle.sd_broadcast.specs.Refused.{IsClear, refusal_from, refusal_of};
 ghost use Rattle.sd_field.specs.Fields.{FieldValue, after_next, done_to, next_refusal, taken};
 
-/// The first so many packets of a clear stream are clear exactly where none of them is refused after those before it.
+/// The first k packets of a clear stream are accepted as a clear stream if and only if none of them is refused after
+/// those before it.
 pub fn refused_in_front()
     ensures { (site : SiteFields) (clear : List (List ℕ)) (k : ℕ) → IsClear site (take k clear)
         ↔ ((j : ℕ) → j < k → j < length clear → refusal_of site (take j clear) (get_or clear j []) ≡ None) }
 {}
 
-/// A field goes on while what it sends is clear, and stops at the first clear packet that is refused among those that
-/// its events send.
+/// A field goes on while no clear packet that it sends is refused. It stops at the first refused one of those that its
+/// events send.
 pub fn fields_stop_at_the_first_refusal()
     ensures on { (v : FieldValue) → v.done < length v.events → IsClear v.site (taken v) → next_refusal v ≡ None →
         IsClear v.site (taken (after_next v)) }

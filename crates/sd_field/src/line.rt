@@ -8,15 +8,15 @@ use sd_events::Event;
 use sd_text::{NumberFault, number_after};
 use sd_tree::{Height, Leaf};
 
-/// The most events of one line.
+/// The most events that one line of a script says [this project, docs/FORMATS.md, Field].
 const MOST_TIMES: u32 = 65_536;
 
-/// Why a line says no events for a tree.
+/// Why a line of a script says no events for a tree.
 #[derive(Clone, Copy)]
 pub(crate) enum LineFault {
-    /// It isn't in the grammar.
+    /// The line isn't in the grammar.
     Form,
-    /// Its leaf isn't in the tree.
+    /// The leaf on the line isn't in the tree.
     Leaf,
 }
 
@@ -73,7 +73,7 @@ fn times_in(text: &[u8]) -> Result<u32, LineFault>
     }
 }
 
-/// A number of events that may be on one line.
+/// The number, if one line may say it.
 fn counted(times: u32) -> Result<u32, LineFault>
     ensures { result ≡ times_in (counted times) }
 {
@@ -92,7 +92,7 @@ fn number_in(text: &[u8]) -> Result<u32, NumberFault>
     number_after(b"", text)
 }
 
-/// A leaf, a space and a number of events.
+/// The leaf and the number of events in a text, with one space between them.
 #[tactic(auto, unfolding(crate::specs::Script::leaf_and_count))]
 fn leaf_times(text: &[u8], h: Height) -> Result<(Leaf, u32), LineFault>
     ensures { result ≡ pair_in h (leaf_and_count text.now) }

@@ -10,13 +10,13 @@ use sd_text::next_line;
 use sd_tree::Height;
 use std::alloc::Global;
 
-/// The most events of a script.
+/// The most events of a script [this project, docs/FORMATS.md, Field].
 pub const MOST_EVENTS: usize = 524_288;
 
-/// The events that a script's bytes say for a tree of this height: one event, or a run of equal ones, a line.
+/// The events of a script for a tree of this height. Each line says one event, or a number of equal ones.
 ///
-/// Lines are judged in order, and the first bad one decides. On one line the order is `Line`, `Leaf`, `Events` [this
-/// project, docs/FORMATS.md, Field].
+/// Lines are judged in order, and the first bad one decides. Of one line the faults are looked for in the order `Line`,
+/// `Leaf`, `Events` [this project, docs/FORMATS.md, Field].
 pub fn read_script(alloc: Global, bytes: &[u8], h: Height) -> Result<Vec<Event>, ScriptFault>
     ensures exact { MatchResult result (λ events. script_of h bytes.now ≡ Ok events.items)
         (λ fault. (fault ≡ ScriptFault.NoMemory) ⊎ (script_of h bytes.now ≡ Err fault)) }
@@ -35,7 +35,7 @@ pub fn read_script(alloc: Global, bytes: &[u8], h: Height) -> Result<Vec<Event>,
     Ok(events)
 }
 
-/// The run that line k says after so many events.
+/// The event that line k says, and how often, after `count` events.
 fn judge(line: &[u8], h: Height, k: u32, count: usize) -> Result<(Event, u32), ScriptFault>
     requires few { count ≤ 524288 }
     ensures value { result ≡ judged h k count (spoken line.now) }
@@ -53,7 +53,7 @@ fn judge(line: &[u8], h: Height, k: u32, count: usize) -> Result<(Event, u32), S
     Ok((event, times))
 }
 
-/// Puts a run of events at the end.
+/// Puts a number of equal events at the end.
 fn push_run(events: &mut Vec<Event>, event: &Event, times: u32) -> Result<(), ScriptFault>
     ensures value { OnOk result (events.new.items ≡ events.old.items ++ replicate times event.now) }
     ensures fault { IfErr result (λ fault. fault ≡ ScriptFault.NoMemory) }

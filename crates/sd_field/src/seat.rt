@@ -22,8 +22,8 @@ use sd_tree::Leaf;
 use std::alloc::Global;
 use std::sync::ledger::Ledger;
 
-/// A leaf's place in a field: its receiver, if it is on, the number of packets that it has passed, and what was
-/// written.
+/// A leaf's seat in a field: its receiver if that is on, the number of sent packets that it has passed, and all that
+/// its receivers wrote.
 #[derive(Drop)]
 pub struct Seat {
     pub(crate) receiver: Option<Receiver>,
@@ -31,7 +31,7 @@ pub struct Seat {
     pub(crate) written: MemSink,
 }
 
-/// A sink in memory with room for so many bytes.
+/// A sink in memory with room for `room` bytes.
 pub(crate) fn sink_of(alloc: Global, room: usize) -> Result<MemSink, NoMemory>
     ensures held { IfOk result (λ sink. sink.held ≡ []) }
     ensures room { IfOk result (λ sink. HasRoom room sink) }
@@ -40,7 +40,7 @@ pub(crate) fn sink_of(alloc: Global, room: usize) -> Result<MemSink, NoMemory>
 }
 
 impl Seat {
-    /// The seat of a leaf whose receiver is new, with room for so many bytes.
+    /// The seat of a leaf whose receiver is on and new, with room for `room` bytes.
     pub fn new<L: Ledger>(
         alloc: Global,
         site: &Site,
@@ -59,7 +59,7 @@ impl Seat {
         })
     }
 
-    /// Passes the next packet that was sent, which the receiver hears if it is on.
+    /// Passes the next packet that was sent, which is offered to the receiver if that is on.
     pub fn pass<L: Ledger>(&mut self, packet: &Packet, steps: &mut Steps<L>) -> Result<(), NoMemory>
         requires live { IfSome self.old.receiver IsLive }
         requires few { self.old.cursor < 2 ^ 64 - 1 }
@@ -81,7 +81,7 @@ impl Seat {
     }
 }
 
-/// Packet i of a stream of which all packets before it are there, if it is there.
+/// Packet i of a stream that has all packets before it, if it has this one.
 pub fn packet_at(bytes: &[u8], i: usize) -> Option<Packet>
     requires before { i ≤ length (packets_of bytes.now) }
     ensures value { result ≡ slice_get (packets_of bytes.now) i }
@@ -132,7 +132,7 @@ pub fn lose_next(seat: &mut Seat, sent: &[u8])
 }
 
 impl Seat {
-    /// Switches the leaf's receiver on, as a new one, if it is off. If memory is out, all is as it was.
+    /// Switches the leaf's receiver on, as a new one, if it is off. On `NoMemory` the seat is as it was.
     pub fn turn_on<L: Ledger>(
         &mut self,
         alloc: Global,

@@ -23,7 +23,7 @@ use sd_steps::Steps;
 use std::alloc::Global;
 use std::sync::ledger::Ledger;
 
-/// The head end of a field: how many clear packets it has sent, and all that it wrote for them.
+/// The head end of a field, the number of clear packets that it has sent, and all that it wrote for them.
 #[derive(Drop)]
 pub struct Station {
     pub(crate) head: Head,
@@ -32,7 +32,7 @@ pub struct Station {
 }
 
 impl Station {
-    /// A new head end, with room for so many bytes.
+    /// A new head end, with room for `room` bytes.
     pub fn new(alloc: Global, site: Site, book: Book, room: usize) -> Result<Station, NoMemory>
         requires height { book.height ≡ site.height }
         ensures { IfOk result (IsStation (plan_of site book) [] room) }
@@ -44,7 +44,8 @@ impl Station {
         })
     }
 
-    /// Sends the next clear packet.
+    /// Sends the next clear packet. `Clear` if the head end refuses it, `NoMemory` if memory or the room doesn't
+    /// suffice.
     pub fn send<L: Ledger>(
         &mut self,
         packet: &Packet,

@@ -1,5 +1,5 @@
--- Public meaning: what the lines of a field tell of the clear packets that are confirmed to its receivers [this
--- project, docs/FORMATS.md, Field]. Here events are listed with the oldest first.
+-- Public meaning: what the lines of a field say of the clear packets that are confirmed to its receivers [this project,
+-- docs/FORMATS.md, Field]. Here events are listed with the oldest first.
 use Rattle.std.specs.Prelude.{◌≡◌, ◌^◌, ◌<◌, ◌≤◌, ℕ, zero, suc, true, List, ◌++◌, All, length, reverse}
 use Rattle.std.specs.List.{concat}
 use Rattle.sd_site.specs.Fields.{SiteFields, AreInRange}
@@ -32,13 +32,13 @@ abbrev pub confirmed_places : SiteFields → List (List ℕ) → List Event → 
 confirmed_places site clear events u = places_of (plan_for site clear events) u (sent_for clear events)
     (watch (plan_for site clear events) clear u (reverse events))
 
--- the line of leaf u, if just those are written
+-- the line of leaf u, if exactly the confirmed clear packets are written
 unfoldable pub confirmed_line : SiteFields → List (List ℕ) → List Event → ℕ → List ℕ
 confirmed_line site clear events u =
     receiver_line u (length (confirmed_places site clear events u))
     (digest_of (concat (packets_at (sent_for clear events) (confirmed_places site clear events u))))
 
--- the first line, and then those of the first n leaves
+-- the first line of a field, and then those of the first n leaves
 unfoldable pub confirmed_lines : SiteFields → List (List ℕ) → List Event → ℕ → List ℕ
 confirmed_lines site clear events zero =
     first_line (sends (length clear) (reverse events))

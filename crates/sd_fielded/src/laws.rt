@@ -1,4 +1,4 @@
-//! What a field prints, in terms of the clear packets that are confirmed to its receivers.
+//! Laws on what a field prints, in terms of the clear packets that are confirmed to its receivers.
 
 ghost use Rattle.std.specs.Prelude.{◌≡◌, ◌^◌, ◌<◌, [], ℕ, false, List, Ok, None, Some, All, length, slice_get};
 ghost use Rattle.std.specs.List.Sorted.{IsStrictlyIncreasing};
@@ -14,16 +14,17 @@ ghost use Rattle.sd_run_field.specs.Field.{field_text};
 ghost use Rattle.sd_fielded.specs.Fielded.{IsGoodField, IsWhole, confirmed_lines, confirmed_places};
 ghost use Rattle.sd_fielded.specs.Fielded.{plan_for, sent_for, wrote_for};
 
-/// A field within its limits, of which no clear packet that is sent is refused, prints just this: how many packets were
-/// sent, and of each leaf how many clear packets are confirmed to it in all times that its receiver was on, with their
-/// digest.
+/// Take a field within its limits, of which no clear packet that is sent is refused. It prints what was sent, and for
+/// each leaf the number and the digest of the clear packets that are confirmed to it in all times that its receiver was
+/// on. It prints nothing else.
 #[tactic(auto, using(crate::proofs::Fielded::text_is_confirmed))]
 pub fn good_fields_print_what_is_confirmed()
     ensures { (site : SiteFields) (clear : List (List ℕ)) (events : List Event) → IsGoodField site clear events →
         field_text site clear events ≡ Ok (confirmed_lines site clear events (2 ^ site.height)) }
 {}
 
-/// Those packets are in the order in which they were sent, and of periods in which the leaf isn't revoked.
+/// The clear packets that are confirmed to a leaf are in the order in which they were sent, and of periods in which the
+/// leaf isn't revoked.
 #[tactic(auto, using(crate::proofs::Fielded::confirmed_rise, crate::proofs::Fielded::confirmed_sent, crate::proofs::Fielded::confirmed_entitled))]
 pub fn confirmed_places_are_entitled()
     ensures rising { (site : SiteFields) (clear : List (List ℕ)) (events : List Event) (u : ℕ) →

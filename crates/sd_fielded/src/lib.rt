@@ -1,4 +1,4 @@
-//! Laws of what the lines of a field tell.
+//! Laws on what the lines of a field say.
 #![tactic(auto)]
 
 pub mod laws;

@@ -10,25 +10,25 @@ use sd_emm::{Emm, EmmFault, read_emm};
 use sd_packet::Packet;
 use sd_tree::Height;
 
-/// What a packet is to a receiver that took a CAT.
+/// What a packet is to a receiver that took a CAT [this project, docs/FORMATS.md, Receiver].
 #[derive(Clone, Copy, Debug, PartialEq, Eq)]
 pub enum Heard {
-    /// A packet that is dropped.
+    /// A packet that is dropped: one on PID 1, or one on a PID of messages that isn't one of them.
     Dropped,
     /// A section of entitlements.
     Entitles(Emm),
     /// A part of a control message.
     Controls(EcmPart),
-    /// A faulty section of entitlements.
+    /// A faulty section of entitlements, and its fault.
     BadEmm(EmmFault),
-    /// A faulty part of a control message.
+    /// A faulty part of a control message, and its fault.
     BadEcm(EcmFault),
-    /// Any other packet.
+    /// Any other packet: one on another PID.
     Other,
 }
 
-/// What the packet is to a receiver in a tree of this height that is tuned to these PIDs (this project,
-/// docs/FORMATS.md, Receiver).
+/// What a packet is to a receiver in a tree of this height that took a CAT with these PIDs [this project,
+/// docs/FORMATS.md, Receiver].
 #[tactic(auto, unfolding(sd_reception::specs::Heard::hears))]
 pub fn hear(h: Height, tuning: Tuning, packet: &Packet) -> Heard
     ensures value { (number : ℕ) → heard_as number packet.now result ≡ hears h (tuned tuning) number packet.now }

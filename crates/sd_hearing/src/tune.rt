@@ -11,7 +11,7 @@ use sd_psi::{CaDescriptor, Descriptor, Descriptors, cat_of};
 /// The PID of the CAT (ISO/IEC 13818-1, 2.4.3.3).
 pub const CAT_PID: u16 = 1;
 
-/// The PIDs of entitlements and of control messages.
+/// The PIDs of a broadcast's messages.
 #[derive(Clone, Copy, Debug, PartialEq, Eq)]
 pub struct Tuning {
     /// The PID of entitlements.
@@ -20,8 +20,8 @@ pub struct Tuning {
     pub ecm: u16,
 }
 
-/// What the packet says to a receiver of this conditional access system, where it is a CAT by itself with a descriptor
-/// for it (this project, docs/FORMATS.md, Receiver).
+/// The PIDs that a packet gives a receiver of this conditional access system, if it is a CAT by itself with a
+/// CA_descriptor for the system [this project, docs/FORMATS.md, Receiver].
 #[tactic(auto, using(crate::proofs::Tunings::other_pid, crate::proofs::Tunings::no_payload, crate::proofs::Tunings::faulty, crate::proofs::Tunings::taken))]
 pub fn cat_tuning(ca: u16, packet: &Packet) -> Option<Tuning>
     ensures { option_map tuned result ≡ tuning_of_cat ca packet.now }
@@ -35,7 +35,7 @@ pub fn cat_tuning(ca: u16, packet: &Packet) -> Option<Tuning>
     }
 }
 
-// What the first of the descriptors that is for the system says.
+// The PIDs in the first of the descriptors that is for the system.
 fn first_tuning(ca: u16, descriptors: Descriptors) -> Option<Tuning>
     ensures { option_map tuned result ≡ option_map tuning_in (find (is_for ca)
         (descriptors_of descriptors.entry.bytes.now)) }
@@ -49,7 +49,7 @@ fn first_tuning(ca: u16, descriptors: Descriptors) -> Option<Tuning>
     None
 }
 
-// What a descriptor says, where it is for the system.
+// The PIDs in a descriptor, if it is for the system.
 #[tactic(auto, using(crate::proofs::Tunings::not_ca, crate::proofs::Tunings::not_eight, crate::proofs::Tunings::is_for_system))]
 fn own_tuning(ca: u16, descriptor: &Descriptor) -> Option<Tuning>
     ensures { option_map tuned result ≡ (if is_for ca descriptor.now.bytes.now then Some
@@ -64,7 +64,7 @@ fn own_tuning(ca: u16, descriptor: &Descriptor) -> Option<Tuning>
     }
 }
 
-// Both PIDs that a descriptor names, where it is as long as one that names both.
+// Both PIDs in a descriptor, if it has the length of one with both.
 #[tactic(auto, using(crate::proofs::Tunings::private_field), unfolding(sd_reception::specs::Tuned::tuning_in))]
 fn pids_in(descriptor: &CaDescriptor) -> Option<Tuning>
     ensures none { IsNone result ↔ ((length descriptor.now.bytes.now == 8) ≡ false) }

@@ -14,41 +14,44 @@ use Rattle.sd_reception.specs.Offered.{most_held}
 use Rattle.sd_losses.specs.Kept.{is_kept, kept_in, arrived, greatest_at_most, least_above, is_entitled_before}
 use Rattle.sd_losses.specs.Kept.{after_cat}
 
+-- clear packet j
 abbrev pub packet_at : List (List ℕ) → ℕ → List ℕ
 packet_at clear j = get_or clear j []
 
+-- the clear packets of these numbers
 abbrev pub packets_at : List (List ℕ) → List ℕ → List (List ℕ)
 packets_at clear js = map (packet_at clear) js
 
--- how many clear packets stand before message b
+-- the number of clear packets before message b
 abbrev pub upto : Plan → List (List ℕ) → ℕ → ℕ
 upto plan clear b = min (b * plan.site.every) (length clear)
 
--- the clear packets kept between messages a and b
+-- the numbers of the clear packets that are kept between messages a and b
 abbrev pub kept_between : Plan → List (List ℕ) → List Item → ℕ → ℕ → List ℕ
 kept_between plan clear kept a b = kept_in kept (a * plan.site.every) (upto plan clear b)
 
--- message b has the control word from a or an earlier one on, the period's key is had at a, and not too many packets
--- are to be held between them [this project, docs/FORMATS.md, Receiver]
+-- what is between messages a and b may be written: the `since` of b is at most a, the key of a's period is known at a,
+-- and at most 4,096 packets are buffered between them [this project, docs/FORMATS.md, Receiver]
 unfoldable pub is_open : Plan → ℕ → List (List ℕ) → List Item → ℕ → ℕ → Bool
 is_open plan u clear kept a b =
     nat_le (since_of plan.site.messages plan.site.cryptos b) a
     && (is_entitled_before plan.site.height u (period_of plan (a * plan.site.every)) a kept
     && nat_le (length (kept_between plan clear kept a b)) most_held)
 
--- the tracked position of the PID at b: that at a, moved by the kept packets
--- [this project, docs/FORMATS.md, Receiver]
+-- the tracked position of a PID at message b: that at message a, moved by the kept packets between them [this project,
+-- docs/FORMATS.md, Receiver]
 unfoldable pub traced : Plan → List (List ℕ) → List Item → ℕ → ℕ → ℕ → ℕ
 traced plan clear kept a b pid =
     moved_by pid (position_of pid (take (a * plan.site.every) clear))
     (packets_at clear (kept_between plan clear kept a b))
 
--- the position at b is 0 to 15 above it
+-- the position of a PID at message b is 0 to 15 above the tracked one
 unfoldable pub is_traced : Plan → List (List ℕ) → List Item → ℕ → ℕ → ℕ → Bool
 is_traced plan clear kept a b pid =
     nat_le (traced plan clear kept a b pid) (position_of pid (take (upto plan clear b) clear))
     && nat_le (position_of pid (take (upto plan clear b) clear)) (traced plan clear kept a b pid + 15)
 
+-- a packet of this kind is scrambled
 abbrev pub is_scrambled : Kind → Bool
 is_scrambled Passed = false
 is_scrambled Pmt = false
@@ -61,13 +64,14 @@ is_written_between plan u clear kept j a b =
     && (not (is_scrambled (kind_of (take j clear) (packet_at clear j)))
     || is_traced plan clear kept a b (pid_of (packet_at clear j)))
 
+-- two numbers are there and pass a test
 abbrev pub between : Option ℕ → Option ℕ → (ℕ → ℕ → Bool) → Bool
 between None b test = false
 between (Some a) None test = false
 between (Some a) (Some b) test = test a b
 
--- clear packet j is kept, and the messages that arrived before and after it confirm it
--- [this project, docs/FORMATS.md, Receiver]
+-- clear packet j is kept, and the messages that arrived before and after it confirm it [this project, docs/FORMATS.md,
+-- Receiver]
 unfoldable pub is_confirmed_at : Plan → ℕ → List (List ℕ) → List Item → ℕ → Bool
 is_confirmed_at plan u clear kept j = is_kept kept j
     && between
@@ -75,7 +79,7 @@ is_confirmed_at plan u clear kept j = is_kept kept j
     (least_above (j / plan.site.every) (arrived (closing_number plan.site (length clear)) kept))
     (is_written_between plan u clear kept j)
 
--- the clear packets that leaf u's receiver is confirmed, where these things are kept
+-- the clear packets that are confirmed to the receiver of leaf u, if these things are kept
 unfoldable pub confirmed : Plan → ℕ → List (List ℕ) → List Item → List (List ℕ)
 confirmed plan u clear kept =
     packets_at clear (filter (is_confirmed_at plan u clear (after_cat kept)) (range_with_len 0 (length clear)))

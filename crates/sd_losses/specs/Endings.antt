@@ -12,7 +12,7 @@ use Rattle.sd_reception.specs.declared.ending.Ending.TheVariants.{Opened, Revoke
 use Rattle.sd_losses.specs.Kept.{is_cat, after_cat, has_arrived, arrived, greatest_at_most, entitles, is_section}
 use Rattle.sd_losses.specs.Confirmed.{confirmed, is_revoked_in}
 
--- the period of control message a: that of the packet that it stands before, or of the last one
+-- the period of control message a: that of the clear packet after it, or of the last one
 abbrev pub period_told : Plan → List (List ℕ) → ℕ → ℕ
 period_told plan clear a = period_of plan (min (a * plan.site.every) (length clear - 1))
 
@@ -21,7 +21,7 @@ unfoldable pub periods_arrived : Plan → List (List ℕ) → List Item → List
 periods_arrived plan clear kept =
     map (period_told plan clear) (arrived (closing_number plan.site (length clear)) kept)
 
--- no section of the period that is kept has a set with the leaf
+-- no section of the period that has a set with the leaf is kept
 abbrev pub is_untold : Plan → ℕ → List Item → ℕ → Bool
 is_untold plan u kept q = not (list_any (entitles plan.site.height u q) kept)
 
@@ -30,8 +30,8 @@ unfoldable pub has_all : Plan → List Item → ℕ → Bool
 has_all plan kept q =
     list_all (λ x. list_any (is_section q x) kept) (range_with_len 0 (sections_for (length (sets_at plan q))))
 
--- how it ends where the closing message arrives, with so many clear packets that are confirmed
--- [this project, docs/FORMATS.md, Receiver]
+-- how a broadcast ends for leaf u's receiver if its closing message arrives and this number of clear packets is
+-- confirmed [this project, docs/FORMATS.md, Receiver]
 unfoldable pub closed_told : Plan → ℕ → List (List ℕ) → List Item → ℕ → Ending
 closed_told plan u clear kept written =
     ending_with (find (λ q. is_untold plan u kept q && has_all plan kept q) (periods_arrived plan clear kept))
@@ -43,7 +43,7 @@ next_number plan clear kept = option_map_or (λ a. a + 1)
     (greatest_at_most (closing_number plan.site (length clear))
     (arrived (closing_number plan.site (length clear)) kept)) 0
 
--- how it ends where these things are kept [this project, docs/FORMATS.md, Receiver]
+-- how a broadcast ends for leaf u's receiver if these things are kept [this project, docs/FORMATS.md, Receiver]
 unfoldable pub ending_told : Plan → ℕ → List (List ℕ) → List Item → Ending
 ending_told plan u clear kept =
     if list_any is_cat kept

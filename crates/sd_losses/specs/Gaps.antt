@@ -14,7 +14,7 @@ kept_positions pid position (kept ∷ flags) (packet ∷ packets) =
     then moved pid position packet ∷ kept_positions pid (moved pid position packet) flags packets
     else kept_positions pid (moved pid position packet) flags packets
 
--- from this position on no two neighbours are more than 16 apart, and the end is at most 15 above the last of them
+-- from position `last` on no two neighbours are more than 16 apart, and the end is at most 15 above the last of them
 unfoldable pub are_near : ℕ → List ℕ → ℕ → Bool
 are_near last [] end = nat_le end (last + 15)
 are_near last (position ∷ positions) end = nat_le position (last + 16) && are_near position positions end
@@ -26,8 +26,8 @@ positions_between plan clear kept a b pid =
     map (λ j. position_of pid (take (j + 1) clear))
     (filter (λ j. is_moving pid (packet_at clear j)) (kept_between plan clear kept a b))
 
--- from the position at message a on no two neighbouring ones of these are more than 16 apart, and the position at
--- message b is at most 15 above the last of them
+-- the kept packets of a PID leave no wide gap: from its position at message a on no two neighbours are more than 16
+-- apart, and its position at message b is at most 15 above the last
 unfoldable pub has_no_gap : Plan → List (List ℕ) → List Item → ℕ → ℕ → ℕ → Bool
 has_no_gap plan clear kept a b pid =
     are_near (position_of pid (take (a * plan.site.every) clear)) (positions_between plan clear kept a b pid)

@@ -13,7 +13,7 @@ is_cat (Entitles emm) = false
 is_cat (Controls part) = false
 is_cat (Carries j packet) = false
 
--- what stands after the first CAT [this project, docs/FORMATS.md, Receiver]
+-- the things after the first CAT [this project, docs/FORMATS.md, Receiver]
 unfoldable pub after_cat : List Item → List Item
 after_cat [] = []
 after_cat (Cat ∷ kept) = kept
@@ -85,7 +85,7 @@ is_last_part a Cat = false
 is_last_part a (Entitles emm) = false
 is_last_part a (Carries j packet) = false
 
--- a section of period q that has a set with leaf u stands before the last part of message a
+-- a section of period q that has a set with leaf u is before the last part of message a, which is kept
 unfoldable pub is_entitled_before : ℕ → ℕ → ℕ → ℕ → List Item → Bool
 is_entitled_before h u q a [] = false
 is_entitled_before h u q a (item ∷ kept) =

@@ -1,4 +1,4 @@
-//! What is tracked and confirmed where packets are lost.
+//! Laws on what a receiver tracks and confirms if packets are lost.
 
 ghost use Rattle.std.specs.Prelude.{◌≡◌, ◌+◌, ◌*◌, ◌%◌, ◌^◌, ◌<◌, ◌≤◌, ◌++◌, ◌&&◌, ◌||◌, [], ℕ, List, Bool, true, false, not};
 ghost use Rattle.std.specs.Prelude.{nat_le, None, length, reverse, take};
@@ -24,9 +24,9 @@ ghost use Rattle.sd_losses.specs.Confirmed.{opened_by, is_revoked_in};
 ghost use Rattle.sd_losses.specs.Endings.{ending_told, first_revoked, is_on_air, whole_ending};
 ghost use Rattle.sd_losses.specs.Gaps.{kept_positions, are_near, has_no_gap};
 
-/// A tracked position is never above the true one: by how much it falls short of it stays or grows where packets are
-/// lost, if that is a multiple of 16. A position at most 15 above the tracked one after some packets shows that the
-/// packet before them was tracked exactly.
+/// A tracked position is never above the true one. If it is below by a multiple of 16, the difference stays or grows as
+/// packets are lost. A position that is at most 15 above the tracked one after some packets shows that the packet
+/// before them was tracked exactly.
 #[tactic(auto, using(crate::proofs::Residual::shortfall_stays, crate::proofs::Residual::near_shows_exact))]
 pub fn positions_are_confirmed()
     ensures stays { (pid near far short : ℕ) (flags : List Bool) (packets : List (List ℕ)) → short % 16 ≡ 0 →
@@ -38,8 +38,8 @@ pub fn positions_are_confirmed()
         moved pid near packet ≡ moved pid far packet }
 {}
 
-/// The tracked position is at most 15 below the true one exactly where no two neighbouring positions of kept packets
-/// are more than 16 apart, from the start on, and the end is at most 15 above the last of them.
+/// The tracked position is at most 15 below the true one if and only if the kept packets leave no wide gap: from the
+/// start on no two neighbouring positions are more than 16 apart, and the end is at most 15 above the last of them.
 #[tactic(auto, using(crate::proofs::Gaps::near_by_gaps))]
 pub fn gaps_are_told()
     ensures { (pid start : ℕ) (flags : List Bool) (packets : List (List ℕ)) →
@@ -47,8 +47,8 @@ pub fn gaps_are_told()
         ≡ nat_le (moved_by pid start packets) (moved_by pid start (chosen flags packets) + 15) }
 {}
 
-/// Whatever is lost of a broadcast, the receiver of a leaf of its site refuses nothing and writes exactly the clear
-/// packets that are confirmed to it by the messages that arrived.
+/// Whatever is lost of a broadcast, the receiver of a leaf of its site refuses nothing. It writes exactly the clear
+/// packets that the messages which arrived confirm to it.
 #[tactic(auto, using(crate::proofs::Theorem::none_refused, crate::proofs::Theorem::confirmed_alone))]
 pub fn losses_are_confirmed()
     ensures none { (plan : Plan) (clear : List (List ℕ)) (u : ℕ) (flags : List Bool) → IsPlan plan →
@@ -61,9 +61,9 @@ pub fn losses_are_confirmed()
         ≡ confirmed plan u clear (chosen flags (sent plan clear ++ closing_of plan clear)) }
 {}
 
-/// How it ends then: whether the CAT is kept, which messages have arrived, of which of their periods a section with a
-/// set that has the leaf is kept, and all sections, and how many clear packets are confirmed.
-/// Where it ends revoked in a period, the leaf is.
+/// How a broadcast that loses packets ends depends on this: whether the CAT is kept; which messages have arrived; of
+/// which of their periods all sections are kept, or one with a set that has the leaf; and how many clear packets are
+/// confirmed. If it ends as revoked in a period, the leaf is revoked in it.
 #[tactic(auto, using(crate::proofs::Theorem::ends_as_told, crate::proofs::Revoking::revoked_truly))]
 pub fn losses_are_told()
     ensures ending { (plan : Plan) (clear : List (List ℕ)) (u : ℕ) (flags : List Bool) → IsPlan plan →
@@ -77,9 +77,9 @@ pub fn losses_are_told()
         is_revoked_in plan u q ≡ true }
 {}
 
-/// Of the packets that are kept between two neighbouring messages that have arrived, and of which the first's period
-/// key is had, those that aren't scrambled are confirmed, and of a scrambled PID all where its kept packets have no
-/// wide gap, else none.
+/// Take two neighbouring messages that have arrived, and between which packets may be written. Of the kept packets
+/// between them those that aren't scrambled are confirmed. Of the scrambled ones of a PID all are confirmed if its kept
+/// packets leave no wide gap, and else none.
 #[tactic(auto, using(crate::proofs::Gapless::confirmed_by_gaps))]
 pub fn packets_are_confirmed_by_gaps()
     ensures { (plan : Plan) (clear : List (List ℕ)) (u : ℕ) (kept : List Item) (a b j : ℕ) → AreInRange plan.site →
@@ -90,7 +90,8 @@ pub fn packets_are_confirmed_by_gaps()
         || has_no_gap plan clear kept a b (pid_of (packet_at clear j))) }
 {}
 
-/// What is confirmed is a part of what the leaf is entitled to, in its order; of a whole broadcast it is all of it.
+/// The confirmed packets are a part of those that the leaf is entitled to, in their order. Of a whole broadcast they
+/// are all of them.
 #[tactic(auto, using(crate::proofs::Opened::confirmed_are_opened, crate::proofs::AllOpened::all_are_opened))]
 pub fn confirmed_packets_are_opened()
     ensures part { (plan : Plan) (clear : List (List ℕ)) (u : ℕ) (flags : List Bool) → IsPlan plan →
@@ -102,9 +103,9 @@ pub fn confirmed_packets_are_opened()
         confirmed plan u clear (sent plan clear ++ closing_of plan clear) ≡ opened_by plan u clear }
 {}
 
-/// Of a whole broadcast the receiver of a leaf refuses nothing, and writes the clear packets of the periods in which
-/// the leaf is not revoked, and no others. It ends opened, or revoked in the first period of the broadcast in which
-/// the leaf is.
+/// Of a whole broadcast the receiver of a leaf refuses nothing, and writes exactly the clear packets of the periods in
+/// which the leaf isn't revoked. It ends as opened, or as revoked in the first period of the broadcast in which the
+/// leaf is.
 #[tactic(auto, using(crate::proofs::Theorem::whole_refused, crate::proofs::Theorem::whole_opened, crate::proofs::Theorem::whole_ended))]
 pub fn whole_broadcasts_are_opened()
     ensures none { (plan : Plan) (clear : List (List ℕ)) (u : ℕ) → IsPlan plan → IsClear plan.site clear →
@@ -120,8 +121,8 @@ pub fn whole_broadcasts_are_opened()
         ≡ whole_ending (first_revoked plan u clear) }
 {}
 
-/// A receiver takes a key once for each period of which a section with a set that has its leaf is kept after the CAT;
-/// of a whole broadcast once for each of its periods in which the leaf is not revoked.
+/// A receiver takes a key once for each period of which a section with a set that has its leaf is kept after the CAT.
+/// Of a whole broadcast that is once for each of its periods in which the leaf isn't revoked.
 #[tactic(auto, using(crate::proofs::Theorem::keys_taken, crate::proofs::Theorem::whole_keys_taken))]
 pub fn keys_are_taken_once()
     ensures lost { (plan : Plan) (clear : List (List ℕ)) (u : ℕ) (flags : List Bool) → IsPlan plan →

@@ -6,7 +6,8 @@ use Rattle.sd_losses.specs.Confirmed.{opened_by}
 use Rattle.sd_losses.specs.Endings.{first_revoked}
 use Rattle.sd_run_trial.specs.Trial.{clear_line, done_line, revoked_line}
 
--- the line of a leaf's receiver that wrote so many packets, by the first period in which the leaf is revoked
+-- the line of a leaf's receiver by the number of packets that it wrote and the first period in which the leaf is
+-- revoked
 abbrev pub line_by : ℕ → ℕ → Option ℕ → List ℕ
 line_by u wrote None = done_line u wrote
 line_by u wrote (Some q) = revoked_line u wrote q

@@ -1,4 +1,5 @@
-//! What the printed lines tell of the pooled cards. It is said of names, and of the messages of one book.
+//! Laws on what the lines of `opens` say of a coalition's cards. They are symbolic: they speak of names of labels and
+//! keys, and of the messages of one book.
 
 ghost use Rattle.std.specs.Prelude.{◌≡◌, ℕ, ◌^◌, ◌<◌, ◌≤◌, ◌↔◌, List, All, Any, Contains};
 ghost use Rattle.std.specs.List.{flat_map};
@@ -11,8 +12,8 @@ ghost use Rattle.sd_reach.specs.Reach.{Key, IsReached};
 ghost use Rattle.sd_pooled.specs.Know.{Service, OfTree, PeriodKey, IsKnown, KnowsNothingOf, revoked_at, sets_at};
 ghost use Rattle.sd_run_opens.specs.Opens.{open_end, shut_end, pool_end, opened_text, shut_text};
 
-/// The line of a set says `open` exactly where the names of the listed leaves together reach its key
-/// [Naor, Naor, Lotspiech 2001, 3.2], and all messages of the book add nothing to that.
+/// The line of a set says `open` if and only if its key is derivable from the names of the listed leaves together
+/// [Naor, Naor, Lotspiech 2001, 3.2]. All messages of the book add nothing to that.
 #[tactic(auto, using(crate::proofs::Ends::open_is_reached, crate::proofs::Ends::open_is_known))]
 pub fn open_sets_are_reached()
     ensures reached { (d : ℕ) (leaves : List ℕ) (name : SetName) → d ≤ highest → All (λ u. u < 2 ^ d) leaves →
@@ -23,7 +24,8 @@ pub fn open_sets_are_reached()
         (pool_end service.height leaves name ≡ open_end) ↔ IsKnown service leaves (OfTree (Key name)) }
 {}
 
-/// Some line of a period says `open` exactly where the listed leaves' cards together give the key of the period.
+/// Some line of a period says `open` if and only if the key of the period is derivable from the listed leaves' cards
+/// together.
 #[tactic(auto, using(crate::proofs::Ends::open_gives_period))]
 pub fn open_lines_give_the_period()
     ensures { (service : Service) (leaves : List ℕ) (q : ℕ) → service.height ≤ highest →
@@ -32,8 +34,8 @@ pub fn open_lines_give_the_period()
         ↔ IsKnown service leaves (PeriodKey q) }
 {}
 
-/// Where all listed leaves are revoked in a period, each line of its sets says `shut`, and their cards together give
-/// neither the key of the period nor a control word of it.
+/// If all listed leaves are revoked in a period, each line of its sets says `shut`. Then neither the key of the period
+/// nor a control word of it is derivable from their cards together.
 pub fn revoked_leaves_open_none()
     ensures shut { (service : Service) (leaves : List ℕ) (q : ℕ) → service.height ≤ highest →
         All (Contains (revoked_at service q)) leaves →

@@ -1,4 +1,4 @@
-//! What a trial prints is what the theorems on the head end and the receiver say.
+//! Laws on what a trial prints, by the theorems on the head end and the receiver.
 
 ghost use Rattle.std.specs.Prelude.{◌≡◌, ◌^◌, ◌≤◌, ℕ, List, Some, Ok, false, length};
 ghost use Rattle.sd_ports.specs.Bytes.{Prefix};
@@ -11,10 +11,10 @@ ghost use Rattle.sd_files.specs.Printed.{printing};
 ghost use Rattle.sd_run_trial.specs.Trial.{most_clear_bytes, plan_meaning, trial_meaning, trial_text};
 ghost use Rattle.sd_printed.specs.Trials.{opened_lines};
 
-/// `trial SITE BOOK CLEAR` over a site and a book within the limits, and a clear stream of packets of which none is
-/// refused, means that these lines are printed, and is done: how many packets the stream and its broadcast have, and of
-/// each leaf's receiver how many it writes, those of the periods in which the leaf isn't revoked, and the first period
-/// of the broadcast in which it is. No receiver ends otherwise.
+/// Take a site and a book within the limits, and a clear stream of packets of which none is refused. Then the work of
+/// `trial SITE BOOK CLEAR` is to print these lines, and it ends as done. The first has the numbers of packets of the
+/// stream and its broadcast. That of a leaf has the number of packets in periods in which the leaf isn't revoked, and
+/// the first period of the broadcast in which it is.
 #[tactic(auto, using(crate::proofs::Tried::trial_good))]
 pub fn good_trials_print_what_is_opened()
     ensures { (site book clear : Word) (given : Given) (plan : Plan) (bytes : List ℕ) → IsPlan plan →
@@ -24,7 +24,8 @@ pub fn good_trials_print_what_is_opened()
         ≡ Ok (printing (Ok (opened_lines plan (taken_of bytes) (2 ^ plan.site.height)))) }
 {}
 
-/// A trial that prints lines took all of a clear stream of packets of which none is refused, and the lines are those.
+/// A trial that prints lines took all of a clear stream of packets of which none is refused, and printed the lines of
+/// what its receivers open.
 #[tactic(auto, using(crate::proofs::Tried::trial_done))]
 pub fn done_trials_print_what_is_opened()
     ensures { (plan : Plan) (prefix : Prefix) (text : List ℕ) → IsPlan plan → AreBytes prefix.bytes →

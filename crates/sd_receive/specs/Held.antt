@@ -13,22 +13,24 @@ use Rattle.sd_segment.specs.Holding.{Holding, after_message}
 use Rattle.sd_segment.specs.Writing.{wrote_of}
 use Rattle.sd_reception.specs.Offered.{most_held}
 
--- the control word of a message under the key of its period, where that is had
+-- the control word of a message under the key of its period, if that is known
 abbrev pub word_under : Message → Option (List ℕ) → Option (List ℕ)
 word_under message key = option_map (λ k. under k message.word message.wrapped) key
 
--- the packets after a message, where its control word is had and they are not too many
+-- the packets buffered after a message, if its control word is known and they are at most 4,096
 abbrev pub held_under : Stretch → Message → Option (List ℕ) → Option Holding
 held_under stretch message None = None
 held_under stretch message (Some word) =
     if nat_lt most_held (length (held_in stretch)) then None else Some (after_message message word (held_in stretch))
 
+-- the packets buffered after a message, if there is one
 abbrev pub held_after : CardFields → Stretch → Option Message → Option Holding
 held_after card stretch None = None
 held_after card stretch (Some message) =
     held_under stretch message (word_under message (key_at card stretch.before message.period))
 
--- what is held after what was heard: the packets after the newest message [this project, docs/FORMATS.md, Receiver]
+-- the packets that are buffered after what was heard: those after the newest complete message [this project,
+-- docs/FORMATS.md, Receiver]
 unfoldable pub holding_in : CardFields → List Heard → Option Holding
 holding_in card past = held_after card (newest past) (newest past).message
 
@@ -36,7 +38,8 @@ holding_in card past = held_after card (newest past) (newest past).message
 abbrev pub unwritten : Wrote
 unwritten = record { packets = []; refused = None }
 
--- what is written of what is held once a message with these positions came, which tells of the packets from `since` on
+-- what is written of the buffered packets with a complete message of these positions, if its `since` is at most the
+-- number of the one before it
 abbrev pub pair_wrote : Option EcmHead → Option Holding → ℕ → ℕ → ℕ → List Place → Wrote
 pair_wrote None held since ca ecm places = unwritten
 pair_wrote (Some last) held since ca ecm places = if nat_le since last.number then wrote_of held ca ecm places else

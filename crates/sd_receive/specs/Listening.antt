@@ -18,14 +18,14 @@ use Rattle.sd_segment.specs.Writing.{Took}
 use Rattle.sd_receive.specs.Held.{holding_in}
 use Rattle.sd_receive.specs.declared.listener.Listener.{Listener}
 
--- what is kept of what was heard [this project, docs/FORMATS.md, Receiver]
+-- what is kept of what was heard of the current run [this project, docs/FORMATS.md, Receiver]
 pub record Follows (card : CardFields) (past : List Heard) (state : Listener) : Type 0 where
   pub closed : state.closed ≡ is_closed past
   pub entitled : IsEntitled card past state.entitled
   pub collect : Collects past state.collect
   pub segment : state.segment ≡ holding_in card past
 
--- the same once a part came that completes the message that says this
+-- what is kept of what was heard before a part that completes the message that says this, and of the part
 pub record Completes (card : CardFields) (past : List Heard) (part : EcmPart) (head : EcmHead) (state : Listener) :
     Type 0 where
   pub unclosed : is_closed past ≡ false
@@ -33,11 +33,11 @@ pub record Completes (card : CardFields) (past : List Heard) (part : EcmPart) (h
   pub collect : IsComplete past part head state.collect
   pub segment : state.segment ≡ holding_in card past
 
--- as far as a count of 64 bits goes
+-- a number as a count of 64 bits, which is at most 2^64 - 1
 abbrev pub capped : ℕ → ℕ
 capped n = min n (2 ^ 64 - 1)
 
--- a count that was that of so many is that of some more
+-- a capped count rises by this number
 abbrev pub Counts : ℕ → ℕ → ℕ → Type 0
 Counts before after more = (total : ℕ) → before ≡ capped total → after ≡ capped (total + more)
 
@@ -52,33 +52,35 @@ pub record Stops (offering : Offering) (why : StreamFault) (bytes : List ℕ) : 
   pub fault : offering.fault ≡ Some why
   pub bytes_are : bytes ≡ concat offering.wrote
 
--- a thing that is heard as packet n is taken, or refused
+-- a thing that is heard as packet n is taken, with these bytes written
 abbrev pub TakesHeard : CardFields → Tuning → ℕ → Heard → Listener → Listener → List ℕ → Type 0
 TakesHeard card tuning n heard s t bytes = (past : List Heard) → Follows card past s → is_closed past ≡ false →
     Passes (heard_offering card tuning n past heard) s.written t.written bytes × Follows card (heard ∷ past) t
 
+-- a thing that is heard as packet n is refused, with these bytes written
 abbrev pub RefusesHeard : CardFields → Tuning → ℕ → Heard → Listener → StreamFault → List ℕ → Type 0
 RefusesHeard card tuning n heard s fault bytes = (past : List Heard) → Follows card past s → is_closed past ≡ false →
     Stops (heard_offering card tuning n past heard) fault bytes
 
--- the message that a part completes is taken, or refused
+-- the message that the part in packet n completes is taken, with these bytes written
 abbrev pub TakesMessage : CardFields → Tuning → ℕ → EcmHead → Listener → Listener → List ℕ → Type 0
 TakesMessage card tuning n head s t bytes = (past : List Heard) (part : EcmPart) → Completes card past part head s →
     Passes (heard_offering card tuning n past (Controls part)) s.written t.written bytes ×
     Follows card (Controls part ∷ past) t
 
+-- the message that the part in packet n completes is refused, with these bytes written
 abbrev pub RefusesMessage : CardFields → Tuning → ℕ → EcmHead → Listener → StreamFault → List ℕ → Type 0
 RefusesMessage card tuning n head s fault bytes = (past : List Heard) (part : EcmPart) →
     Completes card past part head s →
     Stops (heard_offering card tuning n past (Controls part)) fault bytes
 
--- a sink took some bytes, of which something is said
+-- a sink took some bytes that have a property
 pub record TookSome (old new : Vessel) (Says : List ℕ → Type 0) : Type 0 where
   pub bytes : List ℕ
   pub says : Says bytes
   pub took : Took old new bytes
 
--- what comes of a packet: what it writes is taken whole, or up to a write that failed
+-- the result of a packet: it is taken or refused and all that it writes went into the sink, or a write failed
 abbrev pub Comes : (Listener → List ℕ → Type 0) → (StreamFault → List ℕ → Type 0) → Vessel → Vessel → Listener
     → Result Unit (StageFault StreamFault) → Type 0
 Comes Takes Refuses old new t (Ok done) = TookSome old new (Takes t)

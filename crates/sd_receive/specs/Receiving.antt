@@ -17,10 +17,11 @@ use Rattle.sd_receive.specs.Listening.{Follows, capped}
 use Rattle.sd_receive.specs.declared.listener.Listener.{Listener}
 use Rattle.sd_receive.specs.declared.receiver.Receiver.{Receiver}
 
+-- what the receiver's card says
 abbrev pub card_in : Receiver → CardFields
 card_in receiver = fields_of receiver.card
 
--- the receiver with another run at hand
+-- the receiver with another current run, after runs that ended so
 abbrev pub with_run : Receiver → Ending → Listener → Receiver
 with_run s so_far listener = record {
   card = s.card;
@@ -32,8 +33,8 @@ with_run s so_far listener = record {
   refusal = s.refusal;
 }
 
--- what is kept after these packets, of which the last comes first, and none was refused
--- [this project, docs/FORMATS.md, Receiver]
+-- what is kept after these packets, of which the newest comes first, and none was refused [this project,
+-- docs/FORMATS.md, Receiver]
 pub record IsAfter (past : List (List ℕ)) (receiver : Receiver) : Type 0 where
   pub count : receiver.count ≡ length past
   pub tuning : option_map tuned receiver.tuning ≡ tuning_of receiver.card.ca past
@@ -44,7 +45,7 @@ pub record IsAfter (past : List (List ℕ)) (receiver : Receiver) : Type 0 where
   pub unbroken : break_from (card_in receiver) [] (reverse past) ≡ None
   pub unrefused : receiver.refusal ≡ None
 
--- the run at hand was ended: all of it was forgotten but how it ended
+-- the current run was ended: all that was heard of it was forgotten but how it ended
 pub record HasTurned (s t : Receiver) : Type 0 where
   pub same : t ≡ with_run s t.so_far t.listener
   pub follows : (past : List Heard) → Follows (card_in s) past s.listener → Follows (card_in s) [] t.listener
@@ -52,15 +53,15 @@ pub record HasTurned (s t : Receiver) : Type 0 where
   pub so_far : (past : List Heard) (total : ℕ) → Follows (card_in s) past s.listener →
       s.listener.written ≡ capped total → t.so_far ≡ joined s.so_far (run_ending (card_in s) past total)
 
--- a message of this name ends the run at hand, where that has another
+-- a message of the run of this name ends the current run, if that has another name
 abbrev pub TurnsBy : Option (Option ℕ) → Receiver → Receiver → Type 0
 TurnsBy name s t = (are_two s.name name ≡ false → t ≡ s) × (are_two s.name name ≡ true → HasTurned s t)
 
--- the most steps that a packet takes: as many as the tree is high where it takes a key, and else none
+-- the most steps of the generator for a packet: as many as the tree is high if it takes a key, and else none
 abbrev pub steps_at : CardFields → List (List ℕ) → List ℕ → ℕ
 steps_at card past packet = if takes_key_at card past packet then card.height else 0
 
--- what comes of a packet that is taken
+-- the result of a packet that is taken: what is written, the receiver after it, and a bound on the steps
 pub record DoesTake (past : List (List ℕ)) (s : Receiver) (packet : List ℕ) (t : Receiver) (bytes : List ℕ)
     (steps : ℕ) :
     Type 0 where
@@ -70,7 +71,7 @@ pub record DoesTake (past : List (List ℕ)) (s : Receiver) (packet : List ℕ) 
   pub after : IsAfter (packet ∷ past) t
   pub same : t.card ≡ s.card
 
--- and of one that is refused
+-- the result of a packet that is refused
 pub record DoesRefuse (past : List (List ℕ)) (s : Receiver) (packet : List ℕ) (why : StreamFault) (bytes : List ℕ)
     (steps : ℕ) :
     Type 0 where
@@ -78,43 +79,46 @@ pub record DoesRefuse (past : List (List ℕ)) (s : Receiver) (packet : List ℕ
   pub bytes_are : bytes ≡ concat (offered (card_in s) past packet).wrote
   pub few : steps ≤ steps_at (card_in s) past packet
 
--- it kept a refusal already: it answers the same, and writes nothing
+-- a packet was refused before: the receiver answers the same, and writes nothing
 pub record KeepsRefusal (s : Receiver) (why : StreamFault) (bytes : List ℕ) (steps : ℕ) : Type 0 where
   pub kept : s.refusal ≡ Some why
   pub bytes_are : bytes ≡ []
   pub none : steps ≡ 0
 
--- more packets may come than were counted
+-- one packet more can be counted
 abbrev pub IsCountable : List (List ℕ) → Type 0
 IsCountable past = length past < 2 ^ 64 - 1
 
+-- a packet is taken, whatever packets led to the receiver's state
 abbrev pub receiver_does : Receiver → List ℕ → Receiver → List ℕ → ℕ → Type 0
 receiver_does s packet t bytes steps = (past : List (List ℕ)) → IsAfter past s → IsCountable past →
     DoesTake past s packet t bytes steps
 
--- a packet is refused
+-- a packet is refused, whatever packets led to the receiver's state
 abbrev pub Refusing : Receiver → List ℕ → StreamFault → List ℕ → ℕ → Type 0
 Refusing s packet fault bytes steps =
     (past : List (List ℕ)) → IsAfter past s → IsCountable past → DoesRefuse past s packet fault bytes steps
 
+-- at the end of the stream nothing is changed, written or counted
 abbrev pub receiver_ends : Receiver → Receiver → List ℕ → ℕ → Type 0
 receiver_ends s t bytes steps = (t ≡ s) × (bytes ≡ []) × (steps ≡ 0)
 
+-- this packet is refused; or, without one, a packet was refused before
 abbrev pub receiver_refuses : Receiver → Option (List ℕ) → StreamFault → Receiver → List ℕ → ℕ → Type 0
 receiver_refuses s None fault t bytes steps = KeepsRefusal s fault bytes steps
 receiver_refuses s (Some packet) fault t bytes steps = Refusing s packet fault bytes steps
 
--- the PID of control messages is one, and what is kept is of what was heard
+-- the PID of control messages has 13 bits, and what is kept is of something that was heard
 pub record IsFit (receiver : Receiver) : Type 0 where
   pub ecm : IfSome receiver.tuning (λ tuning. tuning.ecm < 8192)
   pub follows : (past : List Heard) × Follows (card_in receiver) past receiver.listener
 
--- it may be offered a packet
+-- a receiver may be offered a packet
 abbrev pub IsLive : Receiver → Type 0
 IsLive receiver = receiver.refusal ≡ None → IsFit receiver
 
--- what packets came to after others, none of which was refused: what is written, the receiver after them, and the
--- steps that were taken [this project, docs/FORMATS.md, Receiver]
+-- the result of packets after others, none of which is refused: what is written, the receiver after them, and a bound
+-- on the steps [this project, docs/FORMATS.md, Receiver]
 pub record CameToAfter (card : CardFields) (past packets : List (List ℕ)) (t : Receiver) (bytes : List ℕ) (steps : ℕ)
     : Type 0 where
   pub written : bytes ≡ concat (out_from card past packets)
@@ -123,7 +127,7 @@ pub record CameToAfter (card : CardFields) (past packets : List (List ℕ)) (t :
   pub few : steps ≤ card.height * taken_keys card past packets
   pub same : card_in t ≡ card
 
--- the same of packets that are the first
+-- the result of the first packets of a stream, none of which is refused
 pub record CameTo (card : CardFields) (packets : List (List ℕ)) (t : Receiver) (bytes : List ℕ) (steps : ℕ) : Type 0
   where
     pub written : bytes ≡ concat (out_from card [] packets)
@@ -132,7 +136,7 @@ pub record CameTo (card : CardFields) (packets : List (List ℕ)) (t : Receiver)
     pub few : steps ≤ card.height * taken_keys card [] packets
     pub same : card_in t ≡ card
 
--- what packets came to of which one is refused, whatever comes after it
+-- the result of the first packets of a stream of which one is refused, whatever comes after it
 pub record BrokeAt (card : CardFields) (packets : List (List ℕ)) (packet : List ℕ) (more : List (List ℕ))
     (why : StreamFault)
     (bytes : List ℕ) (steps : ℕ) : Type 0 where

@@ -26,7 +26,7 @@ use sd_reception::StreamFault;
 use sd_segment::SegmentFault;
 
 impl Listener {
-    // Takes a message that the packet of this number completes.
+    // Takes a control message, which packet `number` of the stream completes.
     pub fn complete<K: Sink>(
         &mut self,
         card: &Card,
@@ -53,14 +53,15 @@ impl Listener {
             },
             Err(SegmentFault::Parity(held)) => Err(StageFault::Refused(StreamFault::Parity(held))),
             Err(SegmentFault::Write) => {
-                // What the packet comes to doesn't depend on the write that failed.
+                // The state after the packet doesn't depend on the write that failed.
                 let _ = self.begin(number, head);
                 Err(StageFault::Write)
             }
         }
     }
 
-    // Writes what the message confirms of what is held, where no message that it needs is missing before it.
+    // Writes what the message confirms of the buffered packets, if its `since` is at most the number of the one before
+    // it. It returns the number of packets written.
     fn write<K: Sink>(
         &self,
         card: &Card,
@@ -83,7 +84,7 @@ impl Listener {
         }
     }
 
-    // Begins to hold packets after the message, where its control word is had.
+    // Begins to buffer packets after the message, if its control word is known.
     fn begin(&mut self, number: u64, head: &EcmHead) -> Result<(), StreamFault>
         requires live { (card : CardFields) × (past : List Heard) × (part : EcmPart) ×
             Completes card past part head.now self.old }
@@ -108,7 +109,7 @@ impl Listener {
         }
     }
 
-    // Keeps the message, and holds packets from now on where its control word is had.
+    // Keeps the message, and buffers packets from now on if its control word is known.
     fn renew(&mut self, head: &EcmHead, word: Option<[u8; 32]>)
         requires live { (past : List Heard) × (part : EcmPart) × IsComplete past part head.now self.old.collect }
         ensures collect { (past : List Heard) (part : EcmPart) → IsComplete past part head.now self.old.collect →

@@ -11,7 +11,8 @@ use crate::receiver::Receiver;
 use sd_reception::Ending;
 
 impl Receiver {
-    /// How the stream ended, once it did: as the runs that were heard of, together (docs/FORMATS.md, Receiver).
+    /// How the stream ends for the receiver, if it ends here: the endings of all runs so far, together. The clause
+    /// holds as long as no packet was refused [this project, docs/FORMATS.md, Receiver].
     pub fn ending(&self) -> Ending
         ensures { (past : List (List ℕ)) → IsAfter past self.now → result ≡ ending_of (card_in self.now) past }
     {
@@ -23,7 +24,7 @@ impl Receiver {
 }
 
 impl Listener {
-    // How the run at hand ended, once it did.
+    // How the current run ends, if it ends here.
     pub fn ending(&self) -> Ending
         ensures { (card : CardFields) (past : List Heard) (total : ℕ) → Follows card past self.now →
             self.now.written ≡ capped total → result ≡ run_ending card past total }
@@ -44,7 +45,7 @@ impl Listener {
         Ending::Opened
     }
 
-    // The number of the next control message.
+    // The number of the control message that is awaited next, 0 if none was complete.
     fn awaited(&self) -> u64
         ensures { result ≡ option_map_or (λ head. head.number + 1) self.now.collect.last 0 }
     {
@@ -54,7 +55,7 @@ impl Listener {
         }
     }
 
-    // How many packets that the newest control message counts were not written.
+    // The number of clear packets that the newest complete control message counts and that were not written.
     fn missing(&self) -> u64
         ensures { (total : ℕ) → self.now.written ≡ capped total →
             result ≡ option_map_or (λ head. head.clear) self.now.collect.last 0 - total }

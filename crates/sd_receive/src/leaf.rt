@@ -4,7 +4,7 @@ use crate::receiver::Receiver;
 use sd_tree::Leaf;
 
 impl Receiver {
-    /// The leaf of its card.
+    /// The leaf of the receiver's card.
     pub fn leaf(&self) -> Leaf
         ensures { result ≡ self.now.card.leaf }
     {

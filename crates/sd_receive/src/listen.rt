@@ -29,7 +29,7 @@ use std::alloc::Global;
 use std::sync::ledger::Ledger;
 
 impl Listener {
-    // Nothing was heard. All memory is taken here.
+    // Before anything was heard. All memory is allocated here.
     pub fn new(alloc: Global) -> Result<Listener, NoMemory>
         ensures { IfOk result (λ listener. (listener.written ≡ 0) × ((card : CardFields) → Follows card [] listener)) }
     {
@@ -45,7 +45,7 @@ impl Listener {
         })
     }
 
-    // Forgets what was heard: it stands as before anything was.
+    // Forgets all that was heard of the run.
     pub fn forget(&mut self)
         ensures follows { (card : CardFields) (past : List Thing) → Follows card past self.old →
             Follows card [] self.new }
@@ -58,7 +58,7 @@ impl Listener {
         self.written = 0;
     }
 
-    // Takes a packet with this number, which is heard as this, before the run is closed.
+    // Takes packet `number` of the stream, which was read as `heard`. The run must not be closed.
     pub fn take<K: Sink, L: Ledger>(
         &mut self,
         card: &Card,

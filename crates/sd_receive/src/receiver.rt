@@ -3,20 +3,20 @@ use sd_card::Card;
 use sd_hearing::Tuning;
 use sd_reception::{Ending, StreamFault};
 
-/// A receiver with its card, and what it keeps of the packets that came (docs/FORMATS.md, Receiver).
+/// A receiver: its card, and what it keeps of the packets that were offered [this project, docs/FORMATS.md, Receiver].
 #[derive(Drop)]
 pub struct Receiver {
     pub(crate) card: Card,
-    // How many packets came.
+    // The number of packets that were offered, at most 2^64 - 1.
     pub(crate) count: u64,
-    // The PIDs of the CAT that was taken.
+    // The PIDs in the CAT that was taken, if one was.
     pub(crate) tuning: Option<Tuning>,
-    // The name of the run at hand, where a message of one came.
+    // The name of the current run, if a message of one was heard.
     pub(crate) name: Option<Option<u32>>,
     // How the runs before it ended, together.
     pub(crate) so_far: Ending,
-    // What it keeps of the run at hand.
+    // What it keeps of the current run.
     pub(crate) listener: Listener,
-    // Why a packet was refused.
+    // Why a packet was refused, if one was.
     pub(crate) refusal: Option<StreamFault>,
 }

@@ -19,8 +19,8 @@ use std::alloc::Global;
 use std::sync::ledger::Ledger;
 
 impl Receiver {
-    /// Before the first packet. It takes all memory that it ever does: by its layout 995,328 bytes, which no clause
-    /// says.
+    /// A receiver with this card, before the first packet. All memory that it needs is allocated here: by its layout
+    /// 995,328 bytes, which no clause says.
     pub fn new(alloc: Global, card: Card) -> Result<Receiver, NoMemory>
         ensures value { IfOk result (IsAfter []) }
         ensures card { IfOk result (λ receiver. receiver.card ≡ card) }
@@ -38,7 +38,7 @@ impl Receiver {
         })
     }
 
-    // Takes a packet, where none was refused.
+    // Takes the next packet, if none was refused before.
     fn take<K: Sink, L: Ledger>(
         &mut self,
         packet: &Packet,

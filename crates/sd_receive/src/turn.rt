@@ -7,7 +7,7 @@ use crate::receiver::Receiver;
 use sd_hearing::Heard;
 
 impl Receiver {
-    // Ends the run at hand where this is the name of another: all of it is forgotten but how it ended.
+    // Ends the current run if this is the name of another. All that was heard of it is forgotten but how it ended.
     pub fn turn(&mut self, name: Option<Option<u32>>)
         ensures { TurnsBy name self.old self.new }
     {
@@ -19,7 +19,7 @@ impl Receiver {
     }
 }
 
-// Whether both are names, and of two runs.
+// Whether both are names of runs, and the runs differ.
 fn differ(before: Option<Option<u32>>, name: Option<Option<u32>>) -> bool
     ensures { result ≡ are_two before name }
 {
@@ -31,7 +31,7 @@ fn differ(before: Option<Option<u32>>, name: Option<Option<u32>>) -> bool
     }
 }
 
-// The name of the run that a message is of.
+// The name of the run to which a message belongs, if the packet is a message without a fault.
 pub fn name_of(heard: &Heard) -> Option<Option<u32>>
     ensures { (number : ℕ) (packet : List ℕ) → result ≡ name_heard (heard_as number packet heard.now) }
 {

@@ -8,8 +8,8 @@ use sd_label::check_value;
 use sd_reception::StreamFault;
 use sd_wrap::wrap;
 
-/// The control word that a message gives under the key of its period, where that was found; or that its check value is
-/// another than the message says, in the packet of this number.
+/// The control word of a complete message, under the key of its period if that is known. `WrongWord` if its check value
+/// isn't the one in the message; `number` is the packet that completes it.
 pub fn word_of(
     number: u64,
     head: &EcmHead,

@@ -9,8 +9,8 @@ use Rattle.sd_scramble.specs.Scrambling.{descrambled}
 use Rattle.sd_ecm.specs.Parts.{Message}
 use Rattle.sd_ecm.specs.declared.part.Place.{Place}
 
--- two messages, the control word of the first, the system and the PID of control messages, and the packets held between
--- them
+-- two control messages, the control word of the first, the conditional access system, the PID of control messages, and
+-- the packets buffered between the two
 pub record Segment : Type 0 where
   pub first : Message
   pub last : Message
@@ -19,11 +19,12 @@ pub record Segment : Type 0 where
   pub ecm : ℕ
   pub packets : List (List ℕ)
 
--- the position of a PID
+-- the position of a PID, if it is among these places
 unfoldable pub position_in : List Place → ℕ → Option ℕ
 position_in places pid = option_map (λ place. place.position) (find (λ place. place.pid == pid) places)
 
--- the tracked position of a PID after some of the packets [this project, docs/FORMATS.md, Receiver]
+-- the tracked position of a PID after these packets, from that in the first message on [this project, docs/FORMATS.md,
+-- Receiver]
 unfoldable pub tracked : Message → ℕ → List (List ℕ) → ℕ
 tracked first pid packets = moved_by pid (option_map_or (λ p. p) (position_in first.places pid) first_position) packets
 
@@ -34,7 +35,7 @@ is_confirmed segment pid =
     option_map_or (λ position. nat_le (tracked segment.first pid segment.packets) position
     && nat_le position (tracked segment.first pid segment.packets + 15)) (position_in segment.last.places pid) false
 
--- a clear packet: without the project's descriptor where it is a PMT that has it
+-- a packet in the clear as it is written: without the project's CA_descriptor if it is a PMT that has it
 unfoldable pub unmarked : Segment → List ℕ → List ℕ
 unmarked segment packet =
     if is_placed packet && is_none (restore_fault segment.ca segment.ecm packet) then restored packet else packet
@@ -43,7 +44,7 @@ unmarked segment packet =
 abbrev pub is_odd : Segment → List ℕ → Bool
 is_odd segment packet = not (is_placed packet) || not (scrambling_of packet == 2 + segment.first.word % 2)
 
--- what a packet becomes after those held before it: itself, or nothing, or the number with which it is refused [this
+-- what is written of a buffered packet after those before it, one packet or none; or its number, if it is refused [this
 -- project, docs/FORMATS.md, Receiver]
 unfoldable pub judged : Segment → List (List ℕ) → ℕ × List ℕ → Result (List (List ℕ)) ℕ
 judged segment before held =
@@ -53,15 +54,18 @@ judged segment before held =
     then Ok (descrambled held.1 segment.word (tracked segment.first (pid_of held.1) (before ++ held.1 ∷ [])) ∷ [])
     else Ok []
 
--- what was written, and the number of the packet that was refused
+-- what is written, and the number of the packet that is refused, if one is
 pub record Wrote : Type 0 where
   pub packets : List (List ℕ)
   pub refused : Option ℕ
 
+-- what is written of a packet, and then of those after it, unless it is refused
 abbrev pub then_wrote : Result (List (List ℕ)) ℕ → Wrote → Wrote
 then_wrote (Err n) rest = record { packets = []; refused = Some n }
 then_wrote (Ok packets) rest = record { packets = packets ++ rest.packets; refused = rest.refused }
 
+-- what is written of buffered packets after others, up to the first that is refused [this project, docs/FORMATS.md,
+-- Receiver]
 unfoldable pub written_from : Segment → List (List ℕ) → List (ℕ × List ℕ) → Wrote
 written_from segment before [] = record { packets = []; refused = None }
 written_from segment before (held ∷ more) =

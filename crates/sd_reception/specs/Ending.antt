@@ -18,37 +18,41 @@ use Rattle.sd_reception.specs.Offered.{heard, offered}
 unfoldable pub periods_told : List Heard → List ℕ
 periods_told past = reverse (map (λ message. message.period) (messages past))
 
--- no key of the period is had
+-- no key of the period is known
 abbrev pub is_unkeyed : CardFields → List Heard → ℕ → Bool
 is_unkeyed card past q = is_none (key_at card past q)
 
+-- there is a section, and one of each index that it says there is
 abbrev pub are_all : List Emm → Bool
 are_all [] = false
 are_all (emm ∷ sections) =
     list_all (λ x. list_any (λ other. other.index == x) (emm ∷ sections)) (range_with_len 0 emm.sections)
 
--- some section of the period was seen, and all of them
+-- all sections of the period were seen, and at least one
 abbrev pub is_all_seen : List Heard → ℕ → Bool
 is_all_seen past q = are_all (seen q past)
 
+-- the ending by the first revoked period, the first period without a key, and the number of packets that are missing
 abbrev pub ending_with : Option ℕ → Option ℕ → ℕ → Ending
 ending_with (Some q) other gaps = Revoked q
 ending_with None (Some q) gaps = Unheard q
 ending_with None None gaps = if nat_lt 0 gaps then Gaps gaps else Opened
 
+-- how a closed run ends of which this was heard and this number of packets was written
 abbrev pub closed_ending : CardFields → List Heard → ℕ → Ending
 closed_ending card past written =
     ending_with (find (λ q. is_unkeyed card past q && is_all_seen past q) (periods_told past))
     (find (is_unkeyed card past) (periods_told past))
     (option_map_or (λ message. message.clear) (newest past).message 0 - written)
 
--- how a run ends of which this was heard and so many packets were written [this project, docs/FORMATS.md, Receiver]
+-- how a run ends of which this was heard and this number of packets was written [this project, docs/FORMATS.md,
+-- Receiver]
 unfoldable pub run_ending : CardFields → List Heard → ℕ → Ending
 run_ending card past written =
     if is_closed past then closed_ending card past written
     else Unclosed (option_map_or (λ message. message.number + 1) (newest past).message 0)
 
--- the order of endings: of two runs the lower one counts
+-- the order of endings: of two runs the ending with the lower rank counts
 abbrev pub rank_of : Ending → ℕ
 rank_of NoCat = 0
 rank_of (Unclosed n) = 1
@@ -57,7 +61,7 @@ rank_of (Unheard q) = 3
 rank_of (Gaps n) = 4
 rank_of Opened = 5
 
--- how many packets were not written, where that alone is amiss
+-- the number of packets that were not written, if the ending is Gaps
 abbrev pub gaps_in : Ending → Option ℕ
 gaps_in (Gaps n) = Some n
 gaps_in NoCat = None
@@ -66,14 +70,14 @@ gaps_in (Revoked q) = None
 gaps_in (Unheard q) = None
 gaps_in Opened = None
 
+-- Gaps with the sum of two numbers if both are there, up to 2^64 - 1; or else this ending
 abbrev pub gaps_or : Option ℕ → Option ℕ → Ending → Ending
 gaps_or None b other = other
 gaps_or (Some a) None other = other
 gaps_or (Some a) (Some b) other = Gaps (min (a + b) (2 ^ 64 - 1))
 
--- the ending of two runs together: the first that there is of NoCat, Unclosed, Revoked, Unheard, Gaps and Opened, of
--- equal ones that of the earlier run; gaps add up, as far as a count of 64 bits goes
--- [this project, docs/FORMATS.md, Receiver]
+-- the ending of two runs together: that which comes first in the order of endings, of equal ones that of the earlier
+-- run. The numbers of Gaps are added, up to 2^64 - 1 [this project, docs/FORMATS.md, Receiver]
 unfoldable pub joined : Ending → Ending → Ending
 joined earlier later =
     gaps_or (gaps_in earlier) (gaps_in later) (if nat_lt (rank_of later) (rank_of earlier) then later else earlier)
@@ -84,13 +88,13 @@ turns_at card past packet =
     option_map_or (λ tuning. is_turn (heard card past) (hears card.height tuning (length past) packet))
     (tuning_of card.ca past) false
 
--- how many packets are written of the run at hand, after these packets
+-- the number of packets that are written of the current run, after these packets
 unfoldable pub run_wrote : CardFields → List (List ℕ) → ℕ
 run_wrote card [] = 0
 run_wrote card (packet ∷ past) =
     (if turns_at card past packet then 0 else run_wrote card past) + length (offered card past packet).wrote
 
--- the endings of the runs before the one at hand, together; Opened where there is none
+-- the ending of the runs before the current one, together; Opened if there is none
 unfoldable pub ended_before : CardFields → List (List ℕ) → Ending
 ended_before card [] = Opened
 ended_before card (packet ∷ past) =
@@ -98,7 +102,8 @@ ended_before card (packet ∷ past) =
     then joined (ended_before card past) (run_ending card (heard card past) (run_wrote card past))
     else ended_before card past
 
--- how it ends after these packets: as the runs that were heard of, together [this project, docs/FORMATS.md, Receiver]
+-- how a stream of these packets ends: NoCat if no CAT was taken, or else the ending of its runs, together [this
+-- project, docs/FORMATS.md, Receiver]
 unfoldable pub ending_of : CardFields → List (List ℕ) → Ending
 ending_of card past =
     if is_none (tuning_of card.ca past) then NoCat

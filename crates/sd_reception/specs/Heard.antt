@@ -9,9 +9,8 @@ use Rattle.sd_reception.specs.Tuned.{Tuning}
 use Rattle.sd_emm.specs.Judged.{emm_read}
 use Rattle.sd_ecm.specs.Judged.{ecm_read}
 
--- a packet to a receiver: one that is dropped, a section of entitlements, a part of a control message, one of them that
--- is faulty, or any other
--- packet with its number
+-- what a packet is to a receiver: one that is dropped, a section of entitlements, a part of a control message, a faulty
+-- one of these, or any other packet with its number
 pub data Heard : Type 0 where
   Dropped : Heard
   Entitles : Emm → Heard
@@ -20,11 +19,13 @@ pub data Heard : Type 0 where
   BadEcm : EcmFault → Heard
   Other : ℕ → List ℕ → Heard
 
+-- what a packet on the PID of entitlements is, by what is read of it
 abbrev pub heard_emm : Result (Option Emm) EmmFault → Heard
 heard_emm (Ok None) = Dropped
 heard_emm (Ok (Some emm)) = Entitles emm
 heard_emm (Err fault) = BadEmm fault
 
+-- what a packet on the PID of control messages is, by what is read of it
 abbrev pub heard_ecm : Result (Option EcmPart) EcmFault → Heard
 heard_ecm (Ok None) = Dropped
 heard_ecm (Ok (Some part)) = Controls part

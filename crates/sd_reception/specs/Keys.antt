@@ -14,6 +14,7 @@ key_from card emm =
     option_map (λ entry. under (card_key card entry.name) emm.period entry.wrapped)
     (find (λ entry. is_member card.height entry.name card.leaf) (listed emm))
 
+-- the first of two keys that is there
 abbrev pub first_key : Option (List ℕ) → Option (List ℕ) → Option (List ℕ)
 first_key (Some key) other = Some key
 first_key None other = other
@@ -23,6 +24,6 @@ unfoldable pub key_in : CardFields → List Emm → Option (List ℕ)
 key_in card [] = None
 key_in card (emm ∷ sections) = first_key (key_in card sections) (key_from card emm)
 
--- the key of period q, where it is held [this project, docs/FORMATS.md, Receiver]
+-- the key of period q, if it is known [this project, docs/FORMATS.md, Receiver]
 abbrev pub key_at : CardFields → List Heard → ℕ → Option (List ℕ)
 key_at card past q = key_in card (seen q past)

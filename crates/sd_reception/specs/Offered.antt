@@ -24,33 +24,36 @@ use Rattle.sd_reception.specs.Runs.{of_run}
 use Rattle.sd_reception.specs.Keys.{key_from, key_at}
 use Rattle.sd_reception.specs.Confirmed.{Wrote, position_in, written_from}
 
--- the most packets that are held after a control message [this project, docs/FORMATS.md, Receiver]
+-- the most packets that are buffered (held) after a control message [this project, docs/FORMATS.md, Receiver]
 abbrev pub most_held : ℕ
 most_held = 4096
 
--- what was heard of the run at hand once one thing more is: nothing more after a closing message of it
--- [this project, docs/FORMATS.md, Receiver]
+-- what is heard of the current run with one thing more. After its closing message nothing more is heard of it [this
+-- project, docs/FORMATS.md, Receiver]
 abbrev pub heard_more : List Heard → Heard → List Heard
 heard_more past thing = if is_closed (of_run past thing) then past else thing ∷ of_run past thing
 
+-- what is heard of the current run with packet n: nothing more if no CAT was taken
 abbrev pub heard_with : CardFields → Option Tuning → ℕ → List ℕ → List Heard → List Heard
 heard_with card None n packet past = past
 heard_with card (Some tuning) n packet past = heard_more past (hears card.height tuning n packet)
 
--- what is heard of the run at hand of these packets, the newest first of both: nothing before the CAT is taken, and
--- nothing of it after its closing message
+-- what is heard of the current run in these packets: nothing before the CAT is taken, and nothing of the run after its
+-- closing message. Both lists have the newest first
 unfoldable pub heard : CardFields → List (List ℕ) → List Heard
 heard card [] = []
 heard card (packet ∷ past) = heard_with card (tuning_of card.ca past) (length past) packet (heard card past)
 
--- what an offered packet comes to
+-- the result of a packet that is offered: what is written, and why it is refused, if it is
 pub record Offering : Type 0 where
   pub wrote : List (List ℕ)
   pub fault : Option StreamFault
 
+-- nothing is written, and the packet isn't refused
 abbrev pub nothing : Offering
 nothing = record { wrote = []; fault = None }
 
+-- nothing is written, and the packet is refused
 abbrev pub refuses : StreamFault → Offering
 refuses fault = record { wrote = []; fault = Some fault }
 
@@ -58,21 +61,23 @@ refuses fault = record { wrote = []; fault = Some fault }
 abbrev pub says_same : Emm → Emm → Bool
 says_same a b = (a.sets == b.sets) && ((a.sections == b.sections) && bytes_eq a.check b.check)
 
--- a section differs from the sections seen before it
+-- a section disagrees with some of these sections
 abbrev pub is_mixed : List Emm → Emm → Bool
 is_mixed sections emm = list_any (λ other. not (says_same other emm)) sections
 
+-- the result of a section in packet n that gives this key, or none
 abbrev pub key_offering : ℕ → Emm → Option (List ℕ) → Offering
 key_offering n emm None = nothing
 key_offering n emm (Some key) =
     if bytes_eq (check_value_of key) emm.check then nothing
     else refuses (Fault.WrongKey n emm.period (check_value_of key) emm.check)
 
+-- the result of a section in packet n, if its period's key is known, and if not
 abbrev pub key_if_none : ℕ → Emm → Option (List ℕ) → Option (List ℕ) → Offering
 key_if_none n emm (Some key) found = nothing
 key_if_none n emm None found = key_offering n emm found
 
--- a section of entitlements
+-- the result of a section of entitlements in packet n, after what was heard before
 unfoldable pub emm_offering : CardFields → ℕ → List Heard → Emm → Offering
 emm_offering card n past emm =
     if nat_lt emm.period (current past) then nothing
@@ -103,17 +108,20 @@ part_fault (part ∷ run) =
     else if nat_lt most_places (length (flat_map listed (part ∷ run))) then Some Count
     else None
 
--- the second message goes back before the first
+-- message b goes back behind message a: its period, control word, clear packets or some position is lower, or it lacks
+-- a PID [this project, docs/FORMATS.md, Receiver]
 unfoldable pub is_before : Message → Message → Bool
 is_before b a = nat_lt b.period a.period || (nat_lt b.word a.word || (nat_lt b.clear a.clear
     || list_any
     (λ place. option_map_or (λ position. nat_lt position place.position) (position_in b.places place.pid) true)
     a.places))
 
+-- a message is of an earlier period than the current one, or goes back behind the newest complete one
 unfoldable pub is_back : List Heard → Message → Bool
 is_back past b = nat_lt b.period (current past) || option_map_or (is_before b) (newest past).message false
 
--- what is written where a control word is had, or not, and not too many packets are to be held
+-- what is written between messages a and b, if this is the key of a's period: nothing without a key, and nothing if too
+-- many packets are buffered
 abbrev pub segment_wrote : CardFields → Tuning → Stretch → Message → Message → Option (List ℕ) → Wrote
 segment_wrote card tuning stretch a b None = record { packets = []; refused = None }
 segment_wrote card tuning stretch a b (Some key) =
@@ -127,25 +135,27 @@ segment_wrote card tuning stretch a b (Some key) =
       packets = map (λ held. held.1) (held_in stretch);
     }) [] (held_in stretch)
 
--- what is written between the newest message and the next one
+-- what is written between the newest complete message, if there is one, and message b
 abbrev pub stretch_wrote : CardFields → Tuning → Stretch → Option Message → Message → Wrote
 stretch_wrote card tuning stretch None b = record { packets = []; refused = None }
 stretch_wrote card tuning stretch (Some a) b =
     if nat_le b.since a.number then segment_wrote card tuning stretch a b (key_at card stretch.before a.period)
     else record { packets = []; refused = None }
 
--- the control word that a message gives is not the one that it is to be
+-- why packet n, which completes message b, is refused: the control word under the period's key has another check value
+-- than the message says
 abbrev pub word_fault : ℕ → Message → Option (List ℕ) → Option StreamFault
 word_fault n b None = None
 word_fault n b (Some key) =
     if bytes_eq (check_value_of (under key b.word b.wrapped)) b.check then None
     else Some (Fault.WrongWord n b.word (check_value_of (under key b.word b.wrapped)) b.check)
 
+-- the result of a message of which this is written: a packet may be refused at that, and else there may be this fault
 abbrev pub wrote_or : Wrote → Option StreamFault → Offering
 wrote_or wrote fault =
     record { wrote = wrote.packets; fault = option_map_or (λ n. Some (Fault.Parity n)) wrote.refused fault }
 
--- a message that is complete, or a part that completes none
+-- the result of packet n, which completes a message, or none
 abbrev pub message_offering : CardFields → Tuning → ℕ → List Heard → Option Message → Offering
 message_offering card tuning n past None = nothing
 message_offering card tuning n past (Some b) =
@@ -153,11 +163,13 @@ message_offering card tuning n past (Some b) =
     else wrote_or (stretch_wrote card tuning (newest past) (newest past).message b)
     (word_fault n b (key_at card past b.period))
 
+-- the result of packet n, if this is the fault of its part, and if there is none
 abbrev pub part_offering : ℕ → Option EcmFault → Offering → Offering
 part_offering n None next = next
 part_offering n (Some fault) next = refuses (Fault.BadEcm n fault)
 
--- what comes of a thing that is heard as packet n after the past [this project, docs/FORMATS.md, Receiver]
+-- the result of packet n, which is heard as this, after what was heard of its run [this project, docs/FORMATS.md,
+-- Receiver]
 abbrev pub heard_offering : CardFields → Tuning → ℕ → List Heard → Heard → Offering
 heard_offering card tuning n past Dropped = nothing
 heard_offering card tuning n past (Entitles emm) = emm_offering card n past emm
@@ -168,17 +180,18 @@ heard_offering card tuning n past (BadEmm fault) = refuses (Fault.BadEmm n fault
 heard_offering card tuning n past (BadEcm fault) = refuses (Fault.BadEcm n fault)
 heard_offering card tuning n past (Other k packet) = nothing
 
--- the same after what was heard of the run at hand, which the thing may end
+-- the result of packet n, which is heard as this and may begin another run, after what was heard of the current one
 abbrev pub run_offering : CardFields → Tuning → ℕ → List Heard → Heard → Offering
 run_offering card tuning n past thing =
     if is_closed (of_run past thing) then nothing else heard_offering card tuning n (of_run past thing) thing
 
+-- the result of packet n: nothing if no CAT was taken
 abbrev pub tuned_offering : CardFields → Option Tuning → ℕ → List Heard → List ℕ → Offering
 tuned_offering card None n past packet = nothing
 tuned_offering card (Some tuning) n past packet =
     run_offering card tuning n past (hears card.height tuning n packet)
 
--- what comes of a packet after these packets, the newest first
+-- the result of a packet after these packets, of which the newest comes first
 unfoldable pub offered : CardFields → List (List ℕ) → List ℕ → Offering
 offered card past packet = tuned_offering card (tuning_of card.ca past) (length past) (heard card past) packet
 

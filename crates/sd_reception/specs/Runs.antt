@@ -2,8 +2,8 @@
 use Rattle.std.specs.Prelude.{ℕ, ◌==◌, Bool, true, false, not, List, [], ◌∷◌, if◌then◌else◌, Option, Some, None}
 use Rattle.sd_reception.specs.Heard.{Heard, Dropped, Entitles, Controls, BadEmm, BadEcm, Other}
 
--- the name of the run that a message with nothing wrong in it is of: a control word's number in version 3, and none in
--- versions 1 and 2; what is no such message is of no run [this project, docs/FORMATS.md, Receiver]
+-- the name of the run to which a message without a fault belongs: a control word's number in version 3, and none in
+-- versions 1 and 2. All else belongs to no run [this project, docs/FORMATS.md, Receiver]
 abbrev pub name_of : Heard → Option (Option ℕ)
 name_of (Entitles emm) = Some emm.run
 name_of (Controls part) = Some part.run
@@ -12,11 +12,12 @@ name_of (BadEmm fault) = None
 name_of (BadEcm fault) = None
 name_of (Other n packet) = None
 
+-- the first of two names that is there
 abbrev pub name_or : Option (Option ℕ) → Option (Option ℕ) → Option (Option ℕ)
 name_or (Some name) other = Some name
 name_or None other = other
 
--- the name of the run at hand, that of the newest message; where none came there is no run
+-- the name of the current run, which is that of the newest message. If there is no message there is no run
 unfoldable pub name_in : List Heard → Option (Option ℕ)
 name_in [] = None
 name_in (heard ∷ past) = name_or (name_of heard) (name_in past)
@@ -34,10 +35,10 @@ are_two None other = false
 are_two (Some a) None = false
 are_two (Some a) (Some b) = not (is_same a b)
 
--- what comes is a message of another run than the one at hand [this project, docs/FORMATS.md, Receiver]
+-- what comes is a message of another run than the current one [this project, docs/FORMATS.md, Receiver]
 unfoldable pub is_turn : List Heard → Heard → Bool
 is_turn past heard = are_two (name_in past) (name_of heard)
 
--- what was heard of the run that is at hand with what comes: nothing, where that begins a run
+-- what was heard before of the run that is current with what comes: nothing, if that begins a run
 unfoldable pub of_run : List Heard → Heard → List Heard
 of_run past heard = if is_turn past heard then [] else past

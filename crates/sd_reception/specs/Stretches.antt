@@ -9,13 +9,14 @@ use Rattle.sd_ecm.specs.Parts.{Message}
 use Rattle.sd_ecm.specs.declared.part.EcmPart.{EcmPart}
 use Rattle.sd_reception.specs.Heard.{Heard, Dropped, Entitles, Controls, BadEmm, BadEcm, Other}
 
--- the newest complete control message, what was heard before its last part, and what was heard after it; where there is
--- none, all that was heard
+-- the newest complete control message, what was heard before its last part, and what was heard after it. If there is no
+-- message, all that was heard is after it
 pub record Stretch : Type 0 where
   pub message : Option Message
   pub before : List Heard
   pub after : List Heard
 
+-- nothing was heard
 abbrev pub start : Stretch
 start = record { message = None; before = []; after = [] }
 
@@ -24,7 +25,8 @@ abbrev pub exceeds : Option Message → EcmPart → Bool
 exceeds None part = true
 exceeds (Some message) part = nat_lt message.number part.number
 
--- the parts that count, the newest first [this project, docs/FORMATS.md, Receiver]
+-- the parts that count, the newest first: those of later messages than the newest complete one [this project,
+-- docs/FORMATS.md, Receiver]
 unfoldable pub counted : Option Message → List Heard → List EcmPart
 counted message [] = []
 counted message (Controls part ∷ past) = if exceeds message part then part ∷ counted message past
@@ -35,13 +37,14 @@ counted message (BadEmm fault ∷ past) = counted message past
 counted message (BadEcm fault ∷ past) = counted message past
 counted message (Other n packet ∷ past) = counted message past
 
+-- a part and these before it, if it is the next part of their message; else none
 abbrev pub run_with : EcmPart → List EcmPart → List EcmPart
 run_with part [] = []
 run_with part (before ∷ run) =
     if (before.number == part.number) && (before.part + 1 == part.part) then part ∷ before ∷ run else []
 
--- the newest parts as far as they are parts of one message one after the other from part 0 on, the newest first; none
--- where they aren't
+-- the newest parts, if they are the parts of one message one after the other from part 0 on, the newest first; else
+-- none
 unfoldable pub run_of : List EcmPart → List EcmPart
 run_of [] = []
 run_of (part ∷ earlier) = if part.part == 0 then part ∷ [] else run_with part (run_of earlier)
@@ -76,12 +79,14 @@ completed stretch (BadEmm fault) = None
 completed stretch (BadEcm fault) = None
 completed stretch (Other n packet) = None
 
+-- the newest complete message and what is before and after it, once this is heard, with which this message is complete,
+-- or none
 abbrev pub stretched : List Heard → Stretch → Heard → Option Message → Stretch
 stretched past stretch heard None =
     record { message = stretch.message; before = stretch.before; after = heard ∷ stretch.after }
 stretched past stretch heard (Some message) = record { message = Some message; before = past; after = [] }
 
--- where what was heard stands
+-- the newest complete message of what was heard, and what is before and after it
 unfoldable pub newest : List Heard → Stretch
 newest [] = start
 newest (heard ∷ past) = stretched past (newest past) heard (completed (newest past) heard)
@@ -90,6 +95,7 @@ newest (heard ∷ past) = stretched past (newest past) heard (completed (newest 
 abbrev pub completes : List Heard → Heard → Option Message
 completes past heard = completed (newest past) heard
 
+-- these messages with one more, if there is one
 abbrev pub with_message : Option Message → List Message → List Message
 with_message None messages = messages
 with_message (Some message) messages = message ∷ messages
@@ -105,7 +111,7 @@ is_closed [] = false
 is_closed (heard ∷ past) = if is_closed past then true
     else option_map_or (λ message. message.closing) (completes past heard) false
 
--- the period that what comes tells of
+-- the period of what comes: of a section, or of the message that it completes; else 0
 abbrev pub period_in : List Heard → Heard → ℕ
 period_in past (Entitles emm) = emm.period
 period_in past (Controls part) = option_map_or (λ message. message.period) (completes past (Controls part)) 0
@@ -114,13 +120,13 @@ period_in past (BadEmm fault) = 0
 period_in past (BadEcm fault) = 0
 period_in past (Other n packet) = 0
 
--- the current period: the greatest that a section of entitlements or a complete message told of [this project,
--- docs/FORMATS.md, Receiver]
+-- the current period: the greatest of a section of entitlements or a complete message [this project, docs/FORMATS.md,
+-- Receiver]
 unfoldable pub current : List Heard → ℕ
 current [] = 0
 current (heard ∷ past) = max (period_in past heard) (current past)
 
--- what comes is a section of period q, which is seen where q isn't past
+-- the sections of period q with what comes: a section of q is seen if q isn't before the current period
 abbrev pub seen_with : ℕ → List Heard → Heard → List Emm → List Emm
 seen_with q past (Entitles emm) sections = if (emm.period == q) && nat_le (current past) q then emm ∷ sections
     else sections
@@ -135,6 +141,7 @@ unfoldable pub seen : ℕ → List Heard → List Emm
 seen q [] = []
 seen q (heard ∷ past) = seen_with q past heard (seen q past)
 
+-- the other packets with what comes, if that is one
 abbrev pub other_with : Heard → List (ℕ × List ℕ) → List (ℕ × List ℕ)
 other_with (Other n packet) others = (n, packet) ∷ others
 other_with Dropped others = others
@@ -148,6 +155,6 @@ unfoldable pub others : List Heard → List (ℕ × List ℕ)
 others [] = []
 others (heard ∷ past) = other_with heard (others past)
 
--- the packets to hold after the newest message, in order
+-- the packets that are buffered after the newest message, in order
 abbrev pub held_in : Stretch → List (ℕ × List ℕ)
 held_in stretch = reverse (others stretch.after)

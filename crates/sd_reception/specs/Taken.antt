@@ -10,8 +10,8 @@ use Rattle.sd_reception.specs.Runs.{of_run}
 use Rattle.sd_reception.specs.Keys.{key_from, key_at}
 use Rattle.sd_reception.specs.Offered.{heard}
 
--- a section takes a key: it is of the current period or a later one, of which no key is had, and gives one
--- [this project, docs/FORMATS.md, Receiver]
+-- a section takes a key: it is of the current period or a later one, of which no key is known, and gives one [this
+-- project, docs/FORMATS.md, Receiver]
 unfoldable pub takes_key : CardFields → List Heard → Emm → Bool
 takes_key card past emm = nat_le (current past) emm.period
     && (is_none (key_at card past emm.period) && not (is_none (key_from card emm)))
@@ -25,7 +25,7 @@ takes_key_of card past (BadEmm fault) = false
 takes_key_of card past (BadEcm fault) = false
 takes_key_of card past (Other n packet) = false
 
--- it takes one of the run that is at hand with it, before that is closed
+-- a thing that is heard takes a key of the run that is current with it, and that isn't closed before it
 abbrev pub takes_key_in : CardFields → List Heard → Heard → Bool
 takes_key_in card past thing =
     if is_closed (of_run past thing) then false else takes_key_of card (of_run past thing) thing

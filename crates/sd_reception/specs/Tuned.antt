@@ -27,7 +27,7 @@ is_for ca descriptor =
     (tag_of descriptor == 9)
     && ((length descriptor == 8) && ((field descriptor 16 16 == ca) && is_tuning (tuning_in descriptor)))
 
--- what a CAT says to a receiver of this system
+-- what a packet says to a receiver of this system, if it is a CAT by itself with a descriptor for the system
 unfoldable pub cat_tuning : ℕ → List ℕ → Option Tuning
 cat_tuning ca packet =
     if (pid_of packet == 1) && (has_payload packet && is_none (cat_fault packet))

@@ -1,27 +1,37 @@
 use sd_ecm::EcmFault;
 use sd_emm::EmmFault;
 
-/// Why a packet is refused.
+/// Why a receiver refuses a packet. Packets are numbered from 0, the first of the stream [this project,
+/// docs/FORMATS.md, Receiver].
 #[derive(Clone, Copy, Debug, PartialEq, Eq)]
 pub enum StreamFault {
-    /// The period key that the packet's section gives is not the one that it is to be.
+    /// The check value of the period key that a section of entitlements gives isn't the one in the section.
     WrongKey {
+        /// The number of the packet that has the section.
         packet: u64,
+        /// The entitlement period of the section.
         period: u32,
+        /// The check value of the key.
         found: [u8; 16],
+        /// The check value in the section.
         due: [u8; 16],
     },
-    /// The control word that the packet completes is not the one that it is to be.
+    /// The check value of the control word that a complete control message gives isn't the one in the message.
     WrongWord {
+        /// The number of the packet that completes the message.
         packet: u64,
+        /// The number of the control word.
         word: u32,
+        /// The check value of the control word.
         found: [u8; 16],
+        /// The check value in the message.
         due: [u8; 16],
     },
-    /// A faulty section of entitlements.
+    /// A section of entitlements is faulty: the number of its packet, and its fault.
     BadEmm(u64, EmmFault),
-    /// A faulty part of a control message.
+    /// A part of a control message is faulty, or the message that it completes: the number of its packet, and its
+    /// fault.
     BadEcm(u64, EcmFault),
-    /// A held packet is scrambled as none is under the control word.
+    /// A buffered packet isn't in the clear, and can't be one under its control word: the number of the packet.
     Parity(u64),
 }

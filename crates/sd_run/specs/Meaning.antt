@@ -55,6 +55,6 @@ order_meaning (CommandOf command arguments) given = command_meaning command argu
 order_meaning (HelpOf topic) given = help_meaning topic given
 order_meaning VersionOf given = version_meaning given
 
--- the work that the words ask for, or the status of their refusal
+-- the work that the arguments ask for, or the status of their refusal
 abbrev pub meaning : List (List ℕ) → Given → Meant Work
 meaning words given = judged (order_of words) >>= λ order. order_meaning order given

@@ -4,7 +4,7 @@ use Rattle.sd_status.specs.declared.status.Status.TheVariants.{Done, Usage, Miss
 use Rattle.sd_status.specs.declared.status.Status.TheVariants.{BadSite, BadBook, BadCard, BadClear, BadStream, Limit}
 use Rattle.sd_status.specs.declared.status.Status.TheVariants.{NoMemory, Unheard, Unclosed, Gaps, NoCat, BadWord, Clash}
 
--- Words or files are refused before a file is made or a text is printed. Each status has its row, so that a new one
+-- Arguments or files are refused before a file is made or a text is printed. Each status has its row, so that a new one
 -- must be decided.
 abbrev pub RefusesFirst : Status → Type 0
 RefusesFirst Done = ⊥

@@ -1,4 +1,4 @@
-//! The one call that the program makes: words in, files read and made, text printed, a status answered.
+//! The one call that the program makes: it takes arguments, reads and makes files, prints text, and returns a status.
 #![tactic(auto)]
 
 mod top;

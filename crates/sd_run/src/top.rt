@@ -35,8 +35,8 @@ use sd_words::{Arguments, Order, read_words};
 use std::alloc::Global;
 use std::sync::ledger::Ledger;
 
-/// Does what the words say, and prints the line of the status that it answers. Words are those after the program's
-/// name, numbered from 0.
+/// Runs the command that the arguments (`words`) say, and prints the line of the status that it returns. The arguments
+/// are those after the program's name, numbered from 0.
 pub fn run<D: Depot, P: Sink, L: Ledger>(
     alloc: Global,
     words: &[String],
@@ -44,20 +44,21 @@ pub fn run<D: Depot, P: Sink, L: Ledger>(
     print: &mut P,
     steps: &mut Steps<L>,
 ) -> Status
-    // What the words and files mean is done, printed, made and answered.
+    // The work that the arguments and files ask for is done: text is printed, a file made, and the status returned.
     ensures value { Answers (meaning (map string_bytes words.now))
         (outside (place D.Depot depot.old) (page P.Sink print.old) steps.old)
         (outside (place D.Depot depot.new) (page P.Sink print.new) steps.new) result }
     // Each port that was opened is closed.
     ensures ports { (place D.Depot depot.new).opened ≡ (place D.Depot depot.old).opened }
-    // Each answer of the outside has its cause.
+    // Each answer on the outside has its cause.
     ensures cause { HasCause
         (outside (place D.Depot depot.old) (page P.Sink print.old) steps.old)
         (outside (place D.Depot depot.new) (page P.Sink print.new) steps.new) result }
-    // Refused words are answered at once, and `Usage` is answered to them alone.
+    // Refused arguments are answered at once, and `Usage` is returned for them alone.
     ensures words { (status : Status) → order_of (map string_bytes words.now) ≡ Err status → IsToldAs status result }
     ensures usage { result ≡ Status.Usage → order_of (map string_bytes words.now) ≡ Err Status.Usage }
-    // Where files are told and no device failed, the answer is the one that is meant, or out of memory.
+    // If the model knows the file system's contents and no I/O error occurred, the answer is that of the work, or out
+    // of memory.
     ensures complete { (files : Files) → D.files depot.old ≡ Some files →
         IsCalm (D.faults depot.old) (D.faults depot.new) → IsCalm (P.faults print.old) (P.faults print.new) →
         IsMeant (meaning (map string_bytes words.now) (told_by files)).result result }
@@ -69,7 +70,7 @@ pub fn run<D: Depot, P: Sink, L: Ledger>(
     }
 }
 
-/// Does what the words say.
+/// Runs the command that the arguments say.
 fn obey<D: Depot, P: Sink, L: Ledger>(
     alloc: Global,
     words: &[String],
@@ -88,7 +89,7 @@ fn obey<D: Depot, P: Sink, L: Ledger>(
     }
 }
 
-/// Does what is ordered.
+/// Runs a command, or prints help or the version.
 fn follow<D: Depot, P: Sink, L: Ledger>(
     alloc: Global,
     order: &Order<'_>,
@@ -110,7 +111,7 @@ fn follow<D: Depot, P: Sink, L: Ledger>(
     }
 }
 
-/// Does a command with its arguments.
+/// Runs a command with its arguments.
 fn work<D: Depot, P: Sink, L: Ledger>(
     alloc: Global,
     command: Command,

@@ -6,7 +6,7 @@ use Rattle.sd_status.specs.declared.status.Status.{Status}
 use Rattle.sd_status.specs.declared.status.Status.TheVariants.{BadClear}
 use Rattle.sd_status.specs.declared.status.ClearCause.TheVariants.{Broken}
 
--- bytes begin with a packet, or with none for this cause [ISO/IEC 13818-1, 2.4.3.2]
+-- bytes begin with a packet, or don't for this cause [ISO/IEC 13818-1, 2.4.3.2]
 abbrev pub Begins : List ℕ → Result (List ℕ) BreakCause → Type 0
 Begins bytes (Ok packet) = (packet ≡ take 188 bytes) × (188 ≤ length bytes) × (slice_index bytes 0 ≡ 0x47)
 Begins bytes (Err Torn) = length bytes < 188

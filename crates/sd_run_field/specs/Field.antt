@@ -27,7 +27,7 @@ use Rattle.sd_files.specs.Files.{site_of_file, most_book_bytes}
 use Rattle.sd_files.specs.Printed.{printing}
 use Rattle.sd_run_head.specs.Head.{refused_status}
 
--- the greatest height of a tree whose receivers are all run
+-- the greatest height of a field's tree
 abbrev pub most_height : ℕ
 most_height = 6
 
@@ -35,10 +35,11 @@ most_height = 6
 abbrev pub most_clear_bytes : ℕ
 most_clear_bytes = 16384 * 188
 
--- a site whose tree is low enough
+-- a site, if its tree is low enough
 abbrev pub told_low : SiteFields → Result SiteFields Status
 told_low site = if nat_lt most_height site.height then Err (Limit FieldHeight) else Ok site
 
+-- the site in the file of argument `word`, if its tree is low enough
 unfoldable pub low_site_of_file : ℕ → Option (List ℕ) → Meant SiteFields
 low_site_of_file word got = site_of_file word got >>= λ site. judged (told_low site)
 
@@ -47,25 +48,27 @@ abbrev pub unbroken : Option StreamBreak → List (List ℕ) → Result (List (L
 unbroken None packets = Ok packets
 unbroken (Some found) packets = Err (BadClear found.packet (Broken found.cause))
 
+-- the packets of a clear stream of these bytes, or the status of the place where it breaks
 abbrev pub told_clear : List ℕ → Result (List (List ℕ)) Status
 told_clear bytes = unbroken (break_of bytes) (packets_of bytes)
 
--- those of what the file of this word gave
+-- the packets of the clear stream in the file of argument `word`
 unfoldable pub clear_of_file : ℕ → Option (List ℕ) → Meant (List (List ℕ))
 clear_of_file word got = within word most_clear_bytes FieldPackets got >>= λ bytes. judged (told_clear bytes)
 
+-- the status of a script that is refused, in the file of argument `word`
 abbrev pub refused_script : ℕ → ScriptFault → Status
 refused_script word (script.Line k) = BadBook word k
 refused_script word (script.Leaf k) = BadBook word k
 refused_script word script.Events = Limit FieldEvents
 refused_script word script.NoMemory = NoMemory
 
--- the events that a file's bytes say
+-- the events of a script in the file of argument `word`, or the status of its fault
 abbrev pub told_script : ℕ → Result (List Event) ScriptFault → Result (List Event) Status
 told_script word (Ok events) = Ok events
 told_script word (Err fault) = Err (refused_script word fault)
 
--- the events, for a tree of height d, of what the file of this word gave
+-- the events of the script in the file of argument `word`, for a tree of height d
 unfoldable pub script_of_file : ℕ → ℕ → Option (List ℕ) → Meant (List Event)
 script_of_file word d got =
     within word most_book_bytes BookBytes got >>= λ bytes. judged (told_script word (script_of d bytes))
@@ -75,12 +78,14 @@ pub record Inputs : Type 0 where
   pub site : SiteFields
   pub clear : List (List ℕ)
 
+-- the site and the clear stream in the files of two arguments
 unfoldable pub inputs_by : ℕ → ℕ → Option (List ℕ) → Option (List ℕ) → Meant Inputs
 inputs_by site clear site_got clear_got = do
   fields ← low_site_of_file site site_got
   packets ← clear_of_file clear clear_got
   value (record { site = fields; clear = packets })
 
+-- the site and the clear stream that the two files say
 abbrev pub inputs_meaning : Word → Word → Given → Meant Inputs
 inputs_meaning site clear given = inputs_by site.number clear.number (given site) (given clear)
 
@@ -89,13 +94,15 @@ abbrev pub done_field : SiteFields → List (List ℕ) → List Event → FieldV
 done_field site clear events =
     record { site = site; clear = clear; events = events; done = length events; failed = None }
 
--- the line of so many sends, of so many packets that were sent, and of the book's last period
+-- the line of the number of sends, the number of packets that were sent, and the book's last period [this project,
+-- docs/FORMATS.md, Field]
 unfoldable pub first_line : ℕ → ℕ → ℕ → List ℕ
 first_line sends packets period =
     codes "sends " ++ (decimal sends ++ (codes " packets " ++ (decimal packets ++
     (codes " period " ++ (decimal period ++ codes "\n")))))
 
--- the line of a receiver that wrote so many packets, whose digest is this text
+-- the line of leaf u, whose receivers wrote this number of packets with this digest [this project, docs/FORMATS.md,
+-- Field]
 unfoldable pub receiver_line : ℕ → ℕ → List ℕ → List ℕ
 receiver_line u wrote digest =
     codes "receiver " ++ (decimal u ++ (codes " wrote " ++ (decimal wrote ++
@@ -105,7 +112,7 @@ receiver_line u wrote digest =
 unfoldable pub digest_of : List ℕ → List ℕ
 digest_of bytes = encode_lower (take 16 (sha256 bytes))
 
--- so it is of a receiver that wrote these bytes
+-- the line of leaf u, whose receivers wrote these bytes
 abbrev pub wrote_line : ℕ → List ℕ → List ℕ
 wrote_line u bytes = receiver_line u (length bytes / 188) (digest_of bytes)
 
@@ -124,10 +131,12 @@ unrefused (Some fault) text = Err (refused_status fault)
 unfoldable pub text_in : FieldValue → Result (List ℕ) Status
 text_in v = unrefused (refusal_from v.site [] (taken v)) (lines_to v (2 ^ v.site.height))
 
+-- the text that `field` prints of a site, a clear stream and events, or the status of a refusal
 abbrev pub field_text : SiteFields → List (List ℕ) → List Event → Result (List ℕ) Status
 field_text site clear events = text_in (done_field site clear events)
 
--- runs the head end and the receivers over memory
+-- the work of `field SITE CLEAR SCRIPT`: all events are done in memory, and then the lines are printed [this project,
+-- docs/FORMATS.md, Field]
 unfoldable pub field_meaning : Word → Word → Word → Given → Meant Work
 field_meaning site clear script given =
     inputs_meaning site clear given

@@ -8,7 +8,7 @@ use Rattle.sd_status.specs.declared.status.Status.TheVariants.{NoMemory}
 use Rattle.sd_run_head.specs.Head.{refused_status}
 use Rattle.sd_run_field.specs.Field.{done_field}
 
--- one event was done, or none was left, or the clear packet that it sends is refused, or memory was out
+-- one event was done, or none was left, or the clear packet that it sends is refused, or memory didn't suffice
 abbrev pub Moves : FieldValue → FieldValue → Result Bool Status → Type 0
 Moves before now (Ok true) =
     (now ≡ after_next before) × (before.done < length before.events) × (next_refusal before ≡ None)
@@ -21,7 +21,7 @@ Moves before now (Err status) =
 abbrev pub all_done : FieldValue → FieldValue
 all_done v = done_field v.site v.clear v.events
 
--- all events were done, or one sends the first clear packet that is refused, or memory was out
+-- all events were done, or one sends the first clear packet that is refused, or memory didn't suffice
 abbrev pub Plays : FieldValue → FieldValue → Result (Unit {0}) Status → Type 0
 Plays before now (Ok done) =
     (now ≡ all_done before) × (refusal_from before.site [] (taken (all_done before)) ≡ None)

@@ -12,10 +12,10 @@ use sd_ports::Depot;
 use sd_status::{ClearCause, LimitKind, Status};
 use std::alloc::Global;
 
-/// As many bytes as a clear stream may have: those of 16,384 packets.
+/// The most bytes of a clear stream: those of 16,384 packets.
 pub const MOST_CLEAR_BYTES: usize = 16_384 * SIZE;
 
-/// The packets of the clear stream in the word's file.
+/// The packets of the clear stream in the file of this argument.
 pub fn read_clear<D: Depot>(
     alloc: Global,
     depot: &mut D,
@@ -35,7 +35,7 @@ pub fn read_clear<D: Depot>(
     cut(alloc, &bytes)
 }
 
-/// The packets of a clear stream of these bytes.
+/// The packets of a clear stream of these bytes, or the status of the first that is torn or has no sync byte.
 fn cut(alloc: Global, bytes: &[u8]) -> Result<Vec<Packet>, Status>
     ensures value { Judges (λ packets. packets.items) (told_clear bytes.now) result }
     ensures few { IfOk result (λ packets. 188 * length packets.items ≤ length bytes.now) }
@@ -63,7 +63,7 @@ fn put(packets: &mut Vec<Packet>, packet: Packet) -> Result<(), NoMemory>
     }
 }
 
-/// The packet with which some bytes begin.
+/// The packet with which these bytes begin.
 fn first_packet(bytes: &[u8]) -> Result<Packet, BreakCause>
     ensures { Begins bytes.now result }
 {
@@ -76,7 +76,7 @@ fn first_packet(bytes: &[u8]) -> Result<Packet, BreakCause>
     }
 }
 
-/// The status of a clear stream that breaks after so many packets.
+/// The status of a clear stream that breaks after this number of packets.
 fn broken(packets: usize, cause: BreakCause) -> Status
     ensures { result ≡ broken_status packets cause }
 {

@@ -22,8 +22,10 @@ use sd_steps::Steps;
 use std::alloc::Global;
 use std::sync::ledger::Ledger;
 
-/// Does `field SITE CLEAR SCRIPT`. All events are done before a line is printed. It holds the clear packets, room for
-/// 72 packets for each of them, and for each leaf a receiver and room for the clear packets.
+/// Runs `field SITE CLEAR SCRIPT` [this project, docs/FORMATS.md, Field]. All events are done before a line is printed.
+///
+/// In memory are the clear packets and the script's events, room for 72 packets for each clear packet, and for each
+/// leaf a receiver and room for all clear packets.
 #[inline(never)]
 pub fn field<D: Depot, P: Sink, L: Ledger>(
     alloc: Global,
@@ -45,7 +47,7 @@ pub fn field<D: Depot, P: Sink, L: Ledger>(
     print_text(print, text.as_bytes())
 }
 
-/// The lines of a field in which all events are done.
+/// Runs all events of a field, and returns its lines.
 fn text_of<L: Ledger>(
     alloc: Global,
     site: Site,

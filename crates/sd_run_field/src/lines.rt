@@ -12,7 +12,8 @@ use std::fmt::Write;
 /// The number of bytes of a digest that are printed.
 const SHOWN: usize = 16;
 
-/// The lines of a field whose events are all done: what was sent, and then what each leaf's receiver wrote.
+/// The lines of a field: what was sent, and then for each leaf what its receivers wrote [this project, docs/FORMATS.md,
+/// Field].
 pub fn lines(alloc: Global, field: &Field, h: Height) -> Result<String, AllocError>
     requires height { h ≡ field.now.site.height }
     requires calm { field.now.failed ≡ None }
@@ -31,7 +32,7 @@ pub fn lines(alloc: Global, field: &Field, h: Height) -> Result<String, AllocErr
     Ok(text)
 }
 
-/// The line of so many sends, of so many packets that were sent, and of the book's last period.
+/// The line of the number of sends, the number of packets that were sent, and the book's last period.
 #[tactic(auto, unfolding(crate::specs::Field::first_line))]
 fn first_line(alloc: Global, sends: u64, packets: usize, period: u32) -> Result<String, AllocError>
     ensures { IfOk result (λ text. string_bytes text ≡ line_of sends packets period) }
@@ -52,7 +53,7 @@ fn written(field: &Field, h: Height, u: u32) -> &[u8]
     field.written(leaf)
 }
 
-/// The digest of some bytes beside others, of which it is known: receivers often write the same.
+/// The digest of some bytes, if that of other ones is known: often receivers wrote the same.
 fn digest_beside(
     alloc: Global,
     bytes: &[u8],
@@ -68,7 +69,7 @@ fn digest_beside(
     digest_of(alloc, bytes)
 }
 
-/// The digest of some bytes, as it is printed.
+/// The digest of some bytes as it is printed: the first 16 bytes of the SHA-256, in hexadecimal.
 #[tactic(auto, unfolding(crate::specs::Field::digest_of))]
 fn digest_of(alloc: Global, bytes: &[u8]) -> Result<String, AllocError>
     ensures { IfOk result (λ text. string_bytes text ≡ digest_text bytes.now) }
@@ -77,7 +78,7 @@ fn digest_of(alloc: Global, bytes: &[u8]) -> Result<String, AllocError>
     hex::encode(alloc, &digest[..SHOWN])
 }
 
-/// Puts the line of leaf u's receiver after the text, which wrote these bytes with this digest.
+/// Puts the line of leaf u after the text, whose receivers wrote these bytes, with this digest.
 #[tactic(auto, unfolding(crate::specs::Field::receiver_line))]
 fn push_line(text: &mut String, u: u32, wrote: &[u8], digest: &str) -> Result<(), AllocError>
     ensures { OnOk result (string_bytes text.new

@@ -7,7 +7,7 @@ use sd_status::Status;
 use sd_steps::Steps;
 use std::sync::ledger::Ledger;
 
-/// Does all events of a field.
+/// Runs all events of a new field, or returns the status of the event at which it stops.
 pub fn play<L: Ledger>(field: &mut Field, steps: &mut Steps<L>) -> Result<(), Status>
     requires new { field.old.done ≡ 0 }
     requires calm { field.old.failed ≡ None }
@@ -17,7 +17,7 @@ pub fn play<L: Ledger>(field: &mut Field, steps: &mut Steps<L>) -> Result<(), St
     Ok(())
 }
 
-/// Does the next event of a field, and answers whether one was left.
+/// Runs the next event of a field, and returns whether one was left.
 fn advance<L: Ledger>(field: &mut Field, steps: &mut Steps<L>) -> Result<bool, Status>
     requires calm { field.old.failed ≡ None }
     ensures { Moves field.old field.new result }

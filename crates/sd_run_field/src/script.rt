@@ -13,7 +13,7 @@ use sd_status::{LimitKind, Status};
 use sd_tree::Height;
 use std::alloc::Global;
 
-/// The events of the script in the word's file.
+/// The events of the script in the file of this argument.
 pub fn read_events<D: Depot>(
     alloc: Global,
     depot: &mut D,
@@ -29,7 +29,7 @@ pub fn read_events<D: Depot>(
     judge_script(alloc, word.number, &bytes, h)
 }
 
-/// The events that the bytes of this word's file say.
+/// The events of the script of these bytes, which are those of the file of argument `word`.
 fn judge_script(alloc: Global, word: u8, bytes: &[u8], h: Height) -> Result<Vec<Event>, Status>
     ensures value { Judges (λ events. events.items) (told_script word (script_of h bytes.now)) result }
     ensures few { IfOk result (λ events. length events.items ≤ 524288) }
@@ -41,7 +41,7 @@ fn judge_script(alloc: Global, word: u8, bytes: &[u8], h: Height) -> Result<Vec<
     }
 }
 
-/// What the program answers to a script that is refused, which this word's file says.
+/// The status of a script that is refused, which is in the file of argument `word`.
 fn script_fault(word: u8, fault: ScriptFault) -> Status
     ensures { result ≡ refused_script word fault }
 {

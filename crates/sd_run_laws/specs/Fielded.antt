@@ -1,4 +1,4 @@
--- Public meaning: words and files that mean a field.
+-- Public meaning: arguments and files that mean a field.
 use Rattle.std.specs.Prelude.{◌≡◌, ℕ, List, Some, None, Ok, ◌≤◌, length}
 use Rattle.sd_engine.specs.Stream.{packets_of, break_of}
 use Rattle.sd_site.specs.Fields.{SiteFields}
@@ -11,9 +11,9 @@ use Rattle.sd_fielded.specs.Fielded.{sent_for}
 use Rattle.sd_words.specs.Words.{FieldOf, order_of}
 use Rattle.sd_run_laws.specs.Good.{IsGoodSite}
 
--- The words are `field SITE CLEAR SCRIPT`, and the files are there: a site whose tree is at most 6 high, at most 16,384
--- packets and nothing else, and a script for the tree. No packet that the script sends is refused
--- [this project, docs/FORMATS.md, Field].
+-- The arguments are `field SITE CLEAR SCRIPT`, and the files are there: a site whose tree is at most 6 high, at most
+-- 16,384 packets and nothing else, and a script for the tree. No packet that the script sends is refused [this project,
+-- docs/FORMATS.md, Field].
 pub record IsGoodField (words : List (List ℕ)) (given : Given) : Type 0 where
   pub site : Word
   pub clear : Word

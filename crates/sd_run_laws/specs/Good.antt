@@ -1,4 +1,4 @@
--- Public meaning: words and files that mean work: they are there, in their grammars and within their limits.
+-- Public meaning: arguments and files that mean work: they are there, in their grammars and within their limits.
 use Rattle.std.specs.Prelude.{◌≡◌, ℕ, List, Option, Some, Ok, ◌≤◌, [], ◌++◌, ◌+◌, length, None, ◌^◌, ◌<◌}
 use Rattle.sd_status.specs.Meant.{Word, Given}
 use Rattle.sd_words.specs.Words.{SampleOf, order_of, ReceiveOf, CoverOf, CardOf, TablesOf, HeadOf}
@@ -47,7 +47,7 @@ pub record IsGoodClear (got : Option (List ℕ)) (site : SiteFields) (clear : Li
   pub packets : taken_of bytes ≡ clear
   pub is_clear : IsClear site clear
 
--- the words are `cover SITE BOOK`, and the two files are there, in their grammars and within their limits
+-- the arguments are `cover SITE BOOK`, and the two files are there, in their grammars and within their limits
 pub record IsGoodCover (words : List (List ℕ)) (given : Given) : Type 0 where
   pub site : Word
   pub book : Word
@@ -57,7 +57,7 @@ pub record IsGoodCover (words : List (List ℕ)) (given : Given) : Type 0 where
   pub commands : List Command
   pub good_book : IsGoodBook (given book) fields.height commands
 
--- the words are `card SITE LEAF OUT`, the file is there and a site, and its tree has the leaf
+-- the arguments are `card SITE LEAF OUT`, the file is there and a site, and its tree has the leaf
 pub record IsGoodCard (words : List (List ℕ)) (given : Given) : Type 0 where
   pub site : Word
   pub leaf : Number
@@ -67,14 +67,14 @@ pub record IsGoodCard (words : List (List ℕ)) (given : Given) : Type 0 where
   pub good_site : IsGoodSite (given site) fields
   pub of_tree : leaf.value < 2 ^ fields.height
 
--- the words are `sample NUMBER PACKETS OUT`
+-- the arguments are `sample NUMBER PACKETS OUT`
 pub record IsGoodSample (words : List (List ℕ)) : Type 0 where
   pub number : ℕ
   pub packets : ℕ
   pub out : Word
   pub order : order_of words ≡ Ok (SampleOf number packets out)
 
--- the words are `tables STREAM`, and the file is there and nothing but packets, and no more than a stream has
+-- the arguments are `tables STREAM`, and the file is there and nothing but packets, and no more than a stream has
 pub record IsGoodTables (words : List (List ℕ)) (given : Given) : Type 0 where
   pub stream : Word
   pub order : order_of words ≡ Ok (TablesOf stream)
@@ -82,7 +82,7 @@ pub record IsGoodTables (words : List (List ℕ)) (given : Given) : Type 0 where
   pub there : given stream ≡ Some bytes
   pub whole : end_of bytes ≡ Whole
 
--- the words are `messages SITE STREAM`, and the two files are there, the first a site, and the second nothing but
+-- the arguments are `messages SITE STREAM`, and the two files are there, the first a site, and the second nothing but
 -- packets, and no more than a stream has
 pub record IsGoodMessages (words : List (List ℕ)) (given : Given) : Type 0 where
   pub site : Word
@@ -94,7 +94,7 @@ pub record IsGoodMessages (words : List (List ℕ)) (given : Given) : Type 0 whe
   pub there : given stream ≡ Some bytes
   pub whole : end_of bytes ≡ Whole
 
--- the words are `show CARD`, and the file is there and a card
+-- the arguments are `show CARD`, and the file is there and a card
 pub record IsGoodShow (words : List (List ℕ)) (given : Given) : Type 0 where
   pub card : Word
   pub order : order_of words ≡ Ok (ShowOf card)
@@ -102,7 +102,7 @@ pub record IsGoodShow (words : List (List ℕ)) (given : Given) : Type 0 where
   pub is_card : IsCard fields
   pub there : given card ≡ Some (card_bytes fields)
 
--- the words are `head SITE BOOK CLEAR OUT`, the files are there, a site, a book and a stream of which no packet is
+-- the arguments are `head SITE BOOK CLEAR OUT`, the files are there, a site, a book and a stream of which no packet is
 -- refused
 pub record IsGoodHead (words : List (List ℕ)) (given : Given) : Type 0 where
   pub site : Word
@@ -123,7 +123,7 @@ pub record IsGoodHead (words : List (List ℕ)) (given : Given) : Type 0 where
 abbrev pub plan_told : {words : List (List ℕ)} {given : Given} → IsGoodHead words given → Plan
 plan_told good = record { site = good.fields; commands = good.commands }
 
--- the words are `receive CARD STREAM OUT`, and the two files are there, the first a card within the limit
+-- the arguments are `receive CARD STREAM OUT`, and the two files are there, the first a card within the limit
 pub record IsGoodReceive (words : List (List ℕ)) (given : Given) : Type 0 where
   pub card : Word
   pub stream : Word
@@ -135,7 +135,7 @@ pub record IsGoodReceive (words : List (List ℕ)) (given : Given) : Type 0 wher
   pub bytes : List ℕ
   pub there : given stream ≡ Some bytes
 
--- the words are `accounts SITE ACCOUNTS OUT`, the two files are there, the first a site and the second within the
+-- the arguments are `accounts SITE ACCOUNTS OUT`, the two files are there, the first a site and the second within the
 -- limit, and its lines make a book within the limits
 pub record IsGoodAccounts (words : List (List ℕ)) (given : Given) : Type 0 where
   pub site : Word
@@ -150,7 +150,7 @@ pub record IsGoodAccounts (words : List (List ℕ)) (given : Given) : Type 0 whe
   pub commands : List Command
   pub is_book : book_of fields.height bytes ≡ Ok commands
 
--- the words are `apart SITE BOOK SITE BOOK`, and the four files are good
+-- the arguments are `apart SITE BOOK SITE BOOK`, and the four files are good
 pub record IsGoodApart (words : List (List ℕ)) (given : Given) : Type 0 where
   pub site : Word
   pub book : Word
@@ -166,8 +166,8 @@ pub record IsGoodApart (words : List (List ℕ)) (given : Given) : Type 0 where
   pub more_commands : List Command
   pub good_more : IsGoodBook (given more) other_fields.height more_commands
 
--- the words are `book SITE BOOK COMMANDS OUT`, the three files are there, a site and two books, and the second book's
--- commands after the first's are within the limits
+-- the arguments are `book SITE BOOK COMMANDS OUT`, the three files are there, a site and two books, and the second
+-- book's commands after the first's are within the limits
 pub record IsGoodBooks (words : List (List ℕ)) (given : Given) : Type 0 where
   pub site : Word
   pub book : Word
@@ -182,7 +182,7 @@ pub record IsGoodBooks (words : List (List ℕ)) (given : Given) : Type 0 where
   pub good_added : IsGoodBook (given commands) fields.height added
   pub within : IsWithinLimits fields.height (before ++ added)
 
--- the words are `layered SITE BOOK WIDTH`, the two files are good, and the width is 1 to the height
+-- the arguments are `layered SITE BOOK WIDTH`, the two files are good, and the width is 1 to the height
 pub record IsGoodLayered (words : List (List ℕ)) (given : Given) : Type 0 where
   pub site : Word
   pub book : Word
@@ -195,8 +195,8 @@ pub record IsGoodLayered (words : List (List ℕ)) (given : Given) : Type 0 wher
   pub commands : List Command
   pub good_book : IsGoodBook (given book) fields.height commands
 
--- the words are `lcard SITE LEAF WIDTH OUT`, the file is there and a site, its tree has the leaf, and the width is 1 to
--- the height
+-- the arguments are `lcard SITE LEAF WIDTH OUT`, the file is there and a site, its tree has the leaf, and the width is
+-- 1 to the height
 pub record IsGoodLcard (words : List (List ℕ)) (given : Given) : Type 0 where
   pub site : Word
   pub leaf : Number
@@ -209,7 +209,8 @@ pub record IsGoodLcard (words : List (List ℕ)) (given : Given) : Type 0 where
   pub some : 1 ≤ width.value
   pub within : width.value ≤ fields.height
 
--- the words are `plan SITE BOOK PACKETS PIDS`, the two files are good, and the site has a control word for each packet
+-- the arguments are `plan SITE BOOK PACKETS PIDS`, the two files are good, and the site has a control word for each
+-- packet
 pub record IsGoodPlan (words : List (List ℕ)) (given : Given) : Type 0 where
   pub site : Word
   pub book : Word
@@ -229,7 +230,7 @@ pub record IsGoodLeaves (given : Given) (d : ℕ) (word : Word) (leaves : List �
   pub short : length bytes ≤ most_book_bytes
   pub are_leaves : leaves_of_text d bytes ≡ Ok leaves
 
--- the words are `opens SITE BOOK LEAVES`, and the three files are good
+-- the arguments are `opens SITE BOOK LEAVES`, and the three files are good
 pub record IsGoodOpens (words : List (List ℕ)) (given : Given) : Type 0 where
   pub site : Word
   pub book : Word
@@ -242,8 +243,8 @@ pub record IsGoodOpens (words : List (List ℕ)) (given : Given) : Type 0 where
   pub pooled : List ℕ
   pub good_leaves : IsGoodLeaves given fields.height leaves pooled
 
--- the words are `trace SITE BOOK LEAVES`, the three files are good, and no more leaves are revoked in the last period
--- or of the coalition than may be revoked
+-- the arguments are `trace SITE BOOK LEAVES`, the three files are good, and no more leaves are revoked in the last
+-- period or of the coalition than may be revoked
 pub record IsGoodTrace (words : List (List ℕ)) (given : Given) : Type 0 where
   pub site : Word
   pub book : Word

@@ -70,8 +70,8 @@ pub record HeadResult (names : Names) (plan : Plan) (clear : List (List ℕ)) (a
     -- STREAM is the broadcast: its packets, one after the other
     pub sent_is : file_in b names.stream ≡ Some (concat (broadcast plan clear))
     -- each of its periods names, in the bytes of STREAM, disjoint sets that unite to exactly the leaves that aren't
-    -- revoked, one set if none is and at most 2r - 1 if r are; no label or key of a named set is derivable from what a
-    -- revoked leaf is given
+    -- revoked. It is one set if none is, and at most 2r - 1 sets if r > 0 are. No label or key of a named set is
+    -- derivable from what a revoked leaf is given
     pub periods : (q : ℕ) → plan.site.first_period ≤ q → q ≤ period_of plan (length clear - 1) →
         NamesPeriod plan q (named plan.site.height plan.site.emm q (taken_of (concat (broadcast plan clear))))
     -- all other files are as they were

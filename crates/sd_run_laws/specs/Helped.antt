@@ -38,7 +38,7 @@ help_exit (Clash clash) = exit.Clash
 abbrev pub in_column : ℕ → List ℕ
 in_column n = replicate (4 - length (decimal n)) 32 ++ decimal n
 
--- the example that help gives of a command is words that order this command
+-- the example that help gives of a command has arguments that the program takes for this command
 pub record IsOrdered (command : Command) : Type 0 where
   pub words : List (List ℕ)
   pub arguments : List Argument

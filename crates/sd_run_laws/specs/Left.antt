@@ -13,7 +13,7 @@ pub record IsAsBefore (files : Files) (a b : Place) : Type 0 where
   pub left : b.files ≡ Some files
   pub made : b.made ≡ a.made
 
--- OUT of the work that is meant was made, with a prefix of what it is to hold, and all other files are as they were
+-- OUT of the work was made, with a prefix of its due contents, and all other files are as they were
 pub record HasOut (files : Files) (meant : Result Work Status) (a b : Place) : Type 0 where
   pub work : Work
   pub is_meant : meant ≡ Ok work

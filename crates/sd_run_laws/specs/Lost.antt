@@ -1,5 +1,5 @@
--- Public meaning: what `receive` makes of any choice of a broadcast's packets [this project,
--- docs/FORMATS.md, Receiver].
+-- Public meaning: what `receive` writes of any choice of a broadcast's packets [this project, docs/FORMATS.md,
+-- Receiver].
 use Rattle.std.specs.Prelude.{◌≡◌, ◌≢◌, ℕ, ◌+◌, ◌-◌, ◌*◌, ◌≤◌, ◌++◌, Bool, true, false, List, [], length, Some, Ok}
 use Rattle.std.specs.List.{concat, list_any}
 use Rattle.sd_card.specs.Fields.{card_of, card_bytes}
@@ -23,13 +23,13 @@ use Rattle.sd_run_laws.specs.Headline.{Names, file_in}
 unfoldable pub kept_of : Plan → List (List ℕ) → List Bool → List Item
 kept_of plan clear flags = chosen flags (sent plan clear ++ closing_of plan clear)
 
--- of how many periods a section that has a set with leaf u is kept after the CAT
+-- the number of periods of which a section that has a set with leaf u is kept after the CAT
 unfoldable pub kept_periods : Plan → ℕ → List (List ℕ) → List Item → ℕ
 kept_periods plan u clear kept =
     how_many (λ q. list_any (entitles plan.site.height u q) (after_cat kept)) (period_of plan (length clear - 1) + 1)
 
--- the words are `receive CARD STREAM OUT`, the first file is the card of leaf u of the site, and the second is the
--- packets that are kept of the broadcast of the clear ones, one after the other
+-- the arguments are `receive CARD STREAM OUT`. CARD is the card of leaf u of the site, and STREAM is the packets that
+-- are kept of the broadcast of the clear stream, one after the other
 pub record IsRestTo (plan : Plan) (u : ℕ) (clear : List (List ℕ)) (flags : List Bool) (words : List (List ℕ))
     (given : Given) : Type 0 where
   pub card : Word
@@ -39,9 +39,10 @@ pub record IsRestTo (plan : Plan) (u : ℕ) (clear : List (List ℕ)) (flags : L
   pub card_there : given card ≡ Some (card_bytes (card_of plan.site.master plan.site.ca plan.site.height u))
   pub there : given stream ≡ Some (concat (chosen flags (broadcast plan clear)))
 
--- OUT is the clear packets that are confirmed to leaf u where these things are kept, a part of what it is entitled to,
--- in its order; no packet is refused, and the status is how it ends for the leaf, which is revoked where it says so;
--- for each period of which a section that has it is kept, as many steps are taken as the tree is high, or fewer
+-- OUT is the clear packets that are confirmed to leaf u if these things are kept, a part of what it is entitled to, in
+-- its order. No packet is refused. The status is how the broadcast ends for the leaf; if it is `Revoked` the leaf is.
+-- For each period of which a section with a set of the leaf is kept, at most as many steps are taken as the tree is
+-- high
 pub record IsConfirmed (plan : Plan) (u : ℕ) (clear : List (List ℕ)) (kept : List Item) (out : Word) (work : Work) :
     Type 0 where
   pub file : work.out

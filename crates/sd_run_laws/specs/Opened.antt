@@ -1,4 +1,4 @@
--- Public meaning: what `receive` makes of a broadcast [this project, docs/FORMATS.md, Receiver].
+-- Public meaning: what `receive` writes of a whole broadcast [this project, docs/FORMATS.md, Receiver].
 use Rattle.std.specs.Prelude.{◌≡◌, ℕ, ◌+◌, ◌-◌, ◌*◌, ◌≤◌, nat_le, ◌&&◌, not, List, [], length, Option, Some, None, Ok}
 use Rattle.std.specs.List.{concat}
 use Rattle.sd_card.specs.Fields.{card_of, card_bytes}
@@ -14,7 +14,7 @@ use Rattle.sd_status.specs.Meant.{Word, Given}
 use Rattle.sd_status.specs.Work.{UpTo, Work}
 use Rattle.sd_words.specs.Words.{ReceiveOf, order_of}
 
--- how many periods of the broadcast there are in which leaf u isn't revoked
+-- the number of the broadcast's periods in which leaf u isn't revoked
 unfoldable pub entitled_periods : Plan → ℕ → List (List ℕ) → ℕ
 entitled_periods plan u clear =
     how_many (λ q. nat_le plan.site.first_period q && not (is_revoked_in plan u q))
@@ -25,8 +25,8 @@ abbrev pub revoked_status : ℕ → Option ℕ → Status
 revoked_status u None = Done
 revoked_status u (Some q) = Revoked u q
 
--- the words are `receive CARD STREAM OUT`, the first file is the card of leaf u of the site, and the packets of the
--- second are the broadcast of the clear ones
+-- the arguments are `receive CARD STREAM OUT`. CARD is the card of leaf u of the site, and the packets of STREAM are
+-- the broadcast of the clear stream
 pub record IsBroadcastTo (plan : Plan) (u : ℕ) (clear : List (List ℕ)) (words : List (List ℕ)) (given : Given) : Type 0
   where
     pub card : Word
@@ -39,9 +39,9 @@ pub record IsBroadcastTo (plan : Plan) (u : ℕ) (clear : List (List ℕ)) (word
     pub packets : taken_of bytes ≡ broadcast plan clear
     pub whole : end_of bytes ≡ Whole
 
--- OUT is the clear packets of the periods in which leaf u isn't revoked, and the status is that it is done, or that the
--- leaf is revoked in the first of the broadcast's periods in which it is; for each period in which it isn't, as many
--- steps are taken as the tree is high, or fewer
+-- OUT is the clear packets of the periods in which leaf u isn't revoked. The status is `Done`, or names the leaf as
+-- revoked and the first of the broadcast's periods in which it is. For each period in which it isn't, at most as many
+-- steps are taken as the tree is high
 pub record IsOpened (plan : Plan) (u : ℕ) (clear : List (List ℕ)) (out : Word) (work : Work) : Type 0 where
   pub file : work.out ≡ Some (record { word = out.number; name = out.text; bytes = concat (opened_by plan u clear) })
   pub printed : work.pieces ≡ []

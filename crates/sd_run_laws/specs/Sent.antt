@@ -1,4 +1,4 @@
--- Public meaning: what stands after `head` that is done.
+-- Public meaning: what a run of `head` that is done leaves.
 use Rattle.std.specs.Prelude.{◌≡◌, ℕ, ◌-◌, ◌≤◌, List, length, Some, Ok}
 use Rattle.std.specs.FinMap.{get, insert}
 use Rattle.std.specs.List.{concat}
@@ -24,10 +24,11 @@ pub record IsSent (site book clear out : Word) (files : Files) (b : Outside) : T
   pub there : get files clear.text ≡ Some bytes
   pub whole : end_of bytes ≡ Whole
   pub is_clear : IsClear plan.site (taken_of bytes)
-  -- OUT is its broadcast's packets, and the other files stay
+  -- OUT is its broadcast's packets, and all other files are as they were
   pub made : b.place.files ≡ Some (insert files out.text (concat (broadcast plan (taken_of bytes))))
-  -- each period of the broadcast names, in OUT, disjoint sets that unite to exactly its leaves that aren't revoked, one
-  -- set if none is and at most 2r - 1 if r are; what a revoked leaf is given reaches no label or key of a named set
+  -- each period of the broadcast names, in OUT, disjoint sets that unite to exactly its leaves that aren't revoked. It
+  -- is one set if none is, and at most 2r - 1 sets if r > 0 are. No label or key of a named set is derivable from what
+  -- a revoked leaf is given
   pub periods : AreBytes bytes → (q : ℕ) → plan.site.first_period ≤ q →
       q ≤ period_of plan (length (taken_of bytes) - 1) →
       NamesPeriod plan q

@@ -1,4 +1,4 @@
--- Public meaning: words and files that mean a trial, and what a trial leaves.
+-- Public meaning: arguments and files that mean a trial, and what a trial leaves.
 use Rattle.std.specs.Prelude.{◌≡◌, ℕ, List, Some, Ok, ◌≤◌, ◌^◌, length}
 use Rattle.std.specs.FinMap.{get}
 use Rattle.std.specs.Io.KnownBytes.{Appends}
@@ -18,8 +18,8 @@ use Rattle.sd_run_trial.specs.Trial.{plan_meaning}
 use Rattle.sd_printed.specs.Trials.{opened_lines}
 use Rattle.sd_run_laws.specs.Good.{IsGoodSite, IsGoodBook}
 
--- the words are `trial SITE BOOK CLEAR`, and the files are there: a site whose tree is low enough, a book of its tree,
--- and a stream within the limit of which no packet is refused
+-- the arguments are `trial SITE BOOK CLEAR`, and the files are there: a site whose tree is low enough, a book of its
+-- tree, and a stream within the limit of which no packet is refused
 pub record IsGoodTrial (words : List (List ℕ)) (given : Given) : Type 0 where
   pub site : Word
   pub book : Word
@@ -41,7 +41,7 @@ pub record IsGoodTrial (words : List (List ℕ)) (given : Given) : Type 0 where
 abbrev pub plan_tried : {words : List (List ℕ)} {given : Given} → IsGoodTrial words given → Plan
 plan_tried good = record { site = good.fields; commands = good.commands }
 
--- What a trial that is done leaves: its files were such, and just their lines were printed.
+-- What a trial that is done leaves: its files were good, and exactly their lines were printed.
 pub record IsTried (site book clear : Word) (files : Files) (a b : Outside) : Type 0 where
   -- the site and the book that their files say, within their limits
   pub plan : Plan

@@ -39,10 +39,10 @@ use std::sync::ledger::Ledger;
 /// `sd_run::run` itself, and what follows for a caller who reads these clauses alone.
 ///
 /// For every book and every clear stream within limits, each period of the broadcast names disjoint sets that unite to
-/// exactly its unrevoked receivers, one set if none is revoked and at most 2r - 1 if r > 0 are. Each unrevoked receiver
-/// writes that period's clear packets, by at most log2 n steps of the generator. Each revoked receiver is refused by
-/// name, and no label of a named set is derivable from its own. This is symbolic: it speaks of names of labels and not
-/// of their bytes.
+/// exactly its unrevoked receivers. It is one set if none is revoked, and at most 2r - 1 sets if r > 0 are. Each
+/// unrevoked receiver writes that period's clear packets, by at most log2 n steps of the generator. Each revoked
+/// receiver is refused by name, and no label of a named set is derivable from its own. This is symbolic: it speaks of
+/// names of labels and not of their bytes.
 ///
 /// Each clause is of one run, which may begin anywhere: what it needs of another run is a file. So the three runs may
 /// be of three processes or machines, and of as many receivers as there are leaves.
@@ -113,14 +113,15 @@ pub fn run<D: Depot, P: Sink, L: Ledger>(
         IsDone (meaning (map string_bytes words.now) (told_by files)).result
         (outside (place D.Depot depot.old) (page P.Sink print.old) steps.old)
         (outside (place D.Depot depot.new) (page P.Sink print.new) steps.new) }
-    // A refusal of words or files has made no file and printed its line alone.
+    // A refusal of arguments or files has made no file and printed its line alone.
     ensures refused { RefusesFirst result → IsUnmade (place D.Depot depot.old) (place D.Depot depot.new)
         × Appends (page P.Sink print.old).printed (page P.Sink print.new).printed (line_of result) }
 {
     sd_run::run(alloc, words, depot, print, steps)
 }
 
-/// The same of each of the three commands by what it does: whatever meets the clause of `run` meets this too.
+/// What `run` gives for `head`, `card` and `receive` follows from the specification of each command: whatever meets the
+/// clause of `run` meets this too.
 pub fn exactly_the_unrevoked_receive()
     ensures head { (names : Names) (plan : Plan) (clear : List (List ℕ)) (a b : Outside) (answer : Status) →
         AreGiven a names plan clear → Answers (head_meaning (word_at 1 names.site) (word_at 2 names.book)
@@ -138,8 +139,8 @@ pub fn exactly_the_unrevoked_receive()
         WentWell a b answer → ReceiveResult names plan u clear a b answer }
 {}
 
-/// A run of the words of `head`, `card` or `receive` is a run of the command, if the file that it makes is none that it
-/// reads.
+/// A run with the arguments of `head`, `card` or `receive` is a run of the command, if the file that it makes is none
+/// that it reads.
 pub fn words_are_their_commands()
     ensures head { (names : Names) (a b : Outside) (answer : Status) → names.stream ≢ names.site →
         names.stream ≢ names.book → names.stream ≢ names.clear → Answers (meaning (head_run names)) a b answer →

@@ -135,7 +135,7 @@ pub fn good_books_are_joined()
         (meaning words (told_by files)).result ≡ Ok (making NoSteps good.out (text_of (good.before ++ good.added))) }
 {}
 
-/// The book that `accounts` and `book` make is one that each other command reads, as the same commands.
+/// The book that `accounts` or `book` makes is one that each other command reads, as the same commands.
 #[tactic(auto, using(crate::proofs::Goodness::made_good))]
 pub fn made_books_are_read()
     ensures { (d : ℕ) (commands : List Command) → d ≤ 20 → IsWithinLimits d commands →
@@ -214,8 +214,8 @@ pub fn good_fields_are_printed()
         good.events (2 ^ good.fields.height)))) }
 {}
 
-/// A trial that succeeds in a file system whose contents the model knows had such files, and printed exactly the
-/// lines of what is opened.
+/// If `trial` succeeds in a file system whose contents the model knows, its files were a good site, a good book and a
+/// clear stream. It printed exactly the lines of what is opened.
 #[tactic(auto, using(crate::proofs::Trials::trial_tried))]
 pub fn done_trials_had_good_files()
     ensures { (site book clear : Word) (files : Files) (a b : Outside) → a.place.files ≡ Some files →
@@ -232,8 +232,8 @@ pub fn no_file_changes_but_out()
         IsAsBefore files a.place b.place ⊎ HasOut files (meaning words (told_by files)).result a.place b.place }
 {}
 
-/// The sets of a period are disjoint and unite to just the leaves that are not revoked in it: one where none is, and
-/// at most 2r - 1 where r are [Naor, Naor, Lotspiech 2001, 3.2].
+/// The sets of a period are disjoint and unite to exactly the leaves that aren't revoked in it. It is one set if none
+/// is revoked, and at most 2r - 1 sets if r > 0 are [Naor, Naor, Lotspiech 2001, 3.2].
 pub fn printed_sets_unite()
     ensures { (d q : ℕ) (commands : List Command) → d ≤ 20 →
         IsPartition d (cover_of d (revoked d commands q)) (unrevoked d (revoked d commands q))
@@ -247,10 +247,10 @@ pub fn streams_are_received()
         (meaning words (told_by files)).result ≡ Ok (receiving good.fields good.out good.bytes) }
 {}
 
-/// Of every broadcast, to whatever site, book within the limits and clear stream, `receive` with the card of a leaf
-/// makes just the clear packets of the periods in which the leaf isn't revoked. It ends done, or revoked in the first
-/// of the broadcast's periods in which the leaf is. For each period in which the leaf isn't revoked it takes at most as
-/// many steps of the generator as the tree is high, and none else.
+/// Take any broadcast, of any site, book within the limits and clear stream. `receive` with the card of a leaf writes
+/// exactly the clear packets of the periods in which the leaf isn't revoked. It ends as done, or as revoked in the
+/// first of the broadcast's periods in which the leaf is. For each period in which the leaf isn't revoked it takes at
+/// most as many steps of the generator as the tree is high, and no others.
 #[tactic(auto, using(crate::proofs::Broadcasts::broadcast_opened))]
 pub fn broadcasts_are_opened_by_the_entitled()
     ensures { (plan : Plan) (u : ℕ) (clear : List (List ℕ)) (words : List (List ℕ)) (files : Files) → IsPlan plan →

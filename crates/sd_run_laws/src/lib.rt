@@ -1,4 +1,4 @@
-//! What follows from the one call's own clause: what good words over good files come to.
+//! What follows from the clauses of the one call: what it does with good arguments and good files.
 #![tactic(auto)]
 
 pub mod headline;

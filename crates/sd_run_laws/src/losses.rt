@@ -1,4 +1,4 @@
-//! What `receive` makes of a broadcast of which packets are lost.
+//! Laws on what `receive` writes of a broadcast that loses packets.
 
 ghost use Rattle.std.specs.Prelude.{◌≡◌, ◌<◌, ◌^◌, ℕ, Bool, List, Some, Ok};
 ghost use Rattle.std.specs.List.{concat};
@@ -21,11 +21,11 @@ ghost use Rattle.sd_run_laws.specs.Lost.{kept_of, IsRestTo, IsConfirmed, LossRes
 
 use sd_status::Status;
 
-/// Of every broadcast, to whatever site, book within the limits and clear stream, and whatever of its packets are lost,
-/// `receive` with the card of a leaf makes exactly the clear packets that the messages which arrived confirm: a part of
-/// what the leaf is entitled to, in its order. It never ends with a refusal, but as what arrived tells, with the exact
-/// count of what is missing; if it ends revoked in a period, the leaf is. For each period of which a section that has
-/// the leaf arrived it takes at most as many steps of the generator as the tree is high, and none else.
+/// Take any broadcast, of any site, book within the limits and clear stream, and any choice of its packets that arrive.
+/// `receive` with the card of a leaf writes exactly the clear packets that the messages which arrived confirm: a part
+/// of what the leaf is entitled to, in its order. It refuses no packet, and its ending depends on what arrived alone.
+/// If it ends as revoked in a period, the leaf is revoked in it. For each period of which a section that has the leaf
+/// arrived it takes at most as many steps of the generator as the tree is high, and no others.
 pub fn losses_are_received()
     // By what is meant, whatever happens to the run.
     ensures meant { (plan : Plan) (u : ℕ) (clear : List (List ℕ)) (flags : List Bool) (words : List (List ℕ))

@@ -44,6 +44,7 @@ card_said bytes =
     saying (height_in bytes) (leaf_in bytes) (ca_in bytes)
     (secrets_of (height_in bytes * (height_in bytes + 1) / 2 + 1) (drop SECRETS_AT bytes))
 
+-- a card, unless there is a fault
 abbrev pub card_unless : Option CardFault → CardFields → Result CardFields Status
 card_unless None card = Ok card
 card_unless (Some fault) card = Err (BadCard fault)
@@ -53,14 +54,15 @@ abbrev pub refused_card : CardFault → Status
 refused_card card.NoMemory = NoMemory
 refused_card found = BadCard found
 
--- the card that a file's bytes say
+-- the card of a file of these bytes, or the status of its fault
 unfoldable pub told_card : List ℕ → Result CardFields Status
 told_card bytes = card_unless (fault_in bytes) (card_said bytes)
 
--- the card of what the file of this word gave
+-- the card in the file of argument `word`
 unfoldable pub card_of_file : ℕ → Option (List ℕ) → Meant CardFields
 card_of_file word got = within word most_card_bytes CardBytes got >>= λ bytes. judged (told_card bytes)
 
+-- the card in the file of this argument
 abbrev pub card_in : Given → Word → Meant CardFields
 card_in given word = card_of_file word.number (given word)
 
@@ -91,14 +93,16 @@ status_at card packets Whole = ended_status card packets
 status_at card packets (Breaks found) = BadStream found.packet (Broken found.cause)
 status_at card packets RunsOn = BadStream most_packets TooLong
 
+-- this status, unless a packet is refused
 abbrev pub unless_refused : Option StreamFault → Status → Status
 unless_refused None status = status
 unless_refused (Some fault) status = refused_status fault
 
--- what the receiver of a card writes of a stream of these bytes, and how it ends
+-- what the receiver of a card writes of a stream of these bytes
 unfoldable pub received_of : CardFields → List ℕ → List ℕ
 received_of card bytes = concat (out_from card [] (taken_of bytes))
 
+-- the status with which the receiver of a card ends a stream of these bytes
 unfoldable pub received_status : CardFields → List ℕ → Status
 received_status card bytes =
     unless_refused (break_from card [] (taken_of bytes)) (status_at card (taken_of bytes) (end_of bytes))
@@ -109,23 +113,24 @@ upto_break card past [] = []
 upto_break card past (packet ∷ packets) =
     packet ∷ (if is_none (offered card past packet).fault then upto_break card (packet ∷ past) packets else [])
 
--- as many steps as the tree is high for each key that is taken, none of them after the packet that is refused
+-- the tree's height in steps of the generator for each key that is taken, up to the packet that is refused
 unfoldable pub received_steps : CardFields → List ℕ → ℕ
 received_steps card bytes = card.height * taken_keys card [] (upto_break card [] (taken_of bytes))
 
--- makes OUT of what a card opens of a stream of these bytes
+-- the work that makes OUT of what a card opens of a stream of these bytes
 abbrev pub receiving : CardFields → Word → List ℕ → Work
 receiving card out bytes =
     turning (UpTo (received_steps card bytes)) out (received_of card bytes) (received_status card bytes)
 
--- the same once the card is known
+-- the work of `receive` once the card is known
 abbrev pub stream_meaning : CardFields → Word → Word → Given → Meant Work
 stream_meaning card stream out given = all_of stream.number (given stream) >>= λ bytes. value (receiving card out bytes)
 
+-- the work of `receive CARD STREAM OUT` [this project, docs/FORMATS.md, Receiver]
 unfoldable pub receive_meaning : Word → Word → Word → Given → Meant Work
 receive_meaning card stream out given = card_in given card >>= λ fields. stream_meaning fields stream out given
 
--- the status of a drive that didn't come to the end of its stream
+-- the status of a drive that didn't reach the end of its stream
 abbrev pub stopped_status : DriveFault StreamFault → Status
 stopped_status (drive.Broken found) = BadStream found.packet (Broken found.cause)
 stopped_status drive.TooLong = BadStream most_packets TooLong
@@ -133,7 +138,7 @@ stopped_status drive.ReadFault = DepotFault
 stopped_status drive.WriteFault = DepotFault
 stopped_status (drive.Refused fault) = refused_status fault
 
--- what a card opens of the stream that was left was written, as far as the two ports went, within its steps
+-- what a card opens of the rest of a stream was written, as far as the two ports went, within its steps
 pub record ReceivesLeft (card : CardFields) (left held now : Option (List ℕ)) (from to : ℕ) (status : Status) : Type 0
   where
     pub bytes : List ℕ

@@ -22,10 +22,11 @@ use sd_steps::Steps;
 use std::alloc::Global;
 use std::sync::ledger::Ledger;
 
-/// As many bytes as a card's file may have.
+/// The most bytes of a card's file.
 pub const MOST_CARD_BYTES: usize = 8_192;
 
-/// Does `receive CARD STREAM OUT`: the stream goes through the receiver of the card into OUT.
+/// Runs `receive CARD STREAM OUT`: the stream goes through the receiver of the card into OUT [this project,
+/// docs/FORMATS.md, Receiver].
 #[inline(never)]
 pub fn receive<D: Depot, L: Ledger>(
     alloc: Global,
@@ -48,7 +49,8 @@ pub fn receive<D: Depot, L: Ledger>(
     receive_file(alloc, depot, receiver, stream, out, steps)
 }
 
-/// The receiver of the card in the word's file, before the first packet. It takes all memory that it ever does.
+/// The receiver of the card in the file of this argument, before the first packet. All memory that it needs is
+/// allocated here.
 fn read_receiver<D: Depot>(alloc: Global, depot: &mut D, word: Word<'_>) -> Result<Receiver, Status>
     ensures value { Looks card_in (card_of_file word.entry.number) word.entry.text.now
         (place D.Depot depot.old) (place D.Depot depot.new) result }
@@ -69,7 +71,7 @@ fn judge_card(alloc: Global, bytes: &[u8]) -> Result<Receiver, Status>
     }
 }
 
-/// What is answered to bytes that are no card, or where memory ran out.
+/// The status of bytes that are no card, or of an allocation that failed.
 fn card_status(fault: CardFault) -> Status
     ensures { result ≡ refused_card fault }
 {
@@ -101,7 +103,7 @@ fn receive_file<D: Depot, L: Ledger>(
     close_both(depot, inlet, outlet, out, ended)
 }
 
-/// Writes what the receiver opens of the stream that is left of a source, and answers how the stream ended.
+/// Writes what the receiver opens of the rest of a source's stream, and returns how the stream ended.
 pub fn receive_all<S: Source, K: Sink, L: Ledger>(
     source: &mut S,
     sink: &mut K,
@@ -121,7 +123,7 @@ pub fn receive_all<S: Source, K: Sink, L: Ledger>(
     }
 }
 
-/// What is answered where the stream came to its end.
+/// The result of a stream that was read to its end, of which no packet was refused.
 fn ended(receiver: &Receiver) -> Result<(), Status>
     ensures ending { IsEnding (status_of result) }
     ensures value { (past : List (List ℕ)) → IsAfter past receiver.now → status_of result
@@ -138,7 +140,7 @@ fn ended(receiver: &Receiver) -> Result<(), Status>
     }
 }
 
-/// What is answered where it didn't.
+/// The status of a stream that wasn't read to its end.
 fn stopped(fault: DriveFault<StreamFault>) -> Status
     ensures { result ≡ stopped_status fault }
 {
@@ -156,7 +158,7 @@ fn stopped(fault: DriveFault<StreamFault>) -> Status
     }
 }
 
-/// What is answered to a packet that is refused.
+/// The status of a packet that is refused.
 fn refused(fault: StreamFault) -> Status
     ensures { result ≡ refused_status fault }
 {

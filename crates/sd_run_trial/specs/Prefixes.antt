@@ -7,11 +7,11 @@ use Rattle.sd_status.specs.declared.status.Status.{Status}
 use Rattle.sd_status.specs.declared.status.Status.TheVariants.{DepotFault, NoMemory}
 use Rattle.sd_status.specs.Meant.{Meant, all_of, value, ◌>>=◌}
 
--- the first bytes of what the file of this word gave, at most so many
+-- the first bytes of the file of argument `word`, at most `most`
 unfoldable pub prefix_of_file : ℕ → ℕ → Option (List ℕ) → Meant Prefix
 prefix_of_file word most got = all_of word got >>= λ bytes. value (prefix_of most bytes)
 
--- the answer once they were read
+-- the result of reading the first bytes of a file
 abbrev pub told_prefix : {T : Type 0} → Result T ReadMostFault → Result T Status
 told_prefix (Ok prefix) = Ok prefix
 told_prefix (Err fault.Failed) = Err DepotFault

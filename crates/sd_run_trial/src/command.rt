@@ -20,11 +20,12 @@ use sd_steps::Steps;
 use std::alloc::Global;
 use std::sync::ledger::Ledger;
 
-/// As many bytes as a clear stream may have: those of 65,536 packets.
+/// The most bytes of a clear stream: those of 65,536 packets.
 pub const MOST_CLEAR_BYTES: usize = 65_536 * SIZE;
 
-/// Does `trial SITE BOOK CLEAR`. The lines are made before the first is printed. Besides the book and the room for the
-/// broadcast it holds the clear stream, and one receiver at a time with what that writes: less than 64 MiB.
+/// Runs `trial SITE BOOK CLEAR` [this project, docs/FORMATS.md, Trial]. All lines are made before the first is printed.
+/// In memory are the book, the room for the broadcast, the clear stream, and one receiver at a time with what it
+/// writes. The last two take less than 64 MiB.
 #[inline(never)]
 pub fn trial<D: Depot, P: Sink, L: Ledger>(
     alloc: Global,

@@ -12,8 +12,8 @@ use sd_steps::Steps;
 use std::alloc::Global;
 use std::sync::ledger::Ledger;
 
-/// How many bytes a receiver writes that is given these, for which it has so much room, and the status that it ends
-/// with.
+/// The number of bytes that a receiver writes if it is given the bytes `sent`, and the status with which it ends.
+/// `room` is the room for what it writes, in bytes.
 pub fn hear<L: Ledger>(
     alloc: Global,
     receiver: Receiver,

@@ -16,8 +16,9 @@ use std::alloc::{AllocError, Global};
 use std::fmt::Write;
 use std::sync::ledger::Ledger;
 
-/// The line of a clear stream of so many bytes and its broadcast, and then that of each leaf's receiver. The receivers
-/// are made and run one after the other, each of at most 1 MB, with room for as many bytes as the clear stream has.
+/// The line of a clear stream of `clear` bytes and its broadcast, and then that of each leaf's receiver [this project,
+/// docs/FORMATS.md, Trial]. The receivers are made and run one after the other. Each takes at most 1 MB, and room for
+/// `clear` bytes.
 pub fn lines<L: Ledger>(
     alloc: Global,
     site: &Site,
@@ -44,7 +45,7 @@ fn first_line(alloc: Global, clear: usize, sent: usize) -> Result<String, AllocE
     format!(in alloc; "clear {clear} broadcast {sent}\n")
 }
 
-/// Puts the line of leaf u's receiver after the text, which has so much room for what it writes.
+/// Appends the line of leaf u's receiver, which is run with room for `room` bytes.
 fn push_receiver<L: Ledger>(
     alloc: Global,
     text: &mut String,

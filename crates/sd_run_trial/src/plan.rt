@@ -12,10 +12,10 @@ use sd_site::Site;
 use sd_status::{LimitKind, Status};
 use std::alloc::Global;
 
-/// The greatest height of a tree whose receivers are all run.
+/// The greatest height of a trial's tree.
 pub const MOST_HEIGHT: u8 = 6;
 
-/// The site, whose tree is low enough, and then the book for its tree.
+/// Reads the site, whose tree must be of height at most 6, and then the book for its tree.
 pub fn read_plan<D: Depot>(
     alloc: Global,
     depot: &mut D,
@@ -33,7 +33,7 @@ pub fn read_plan<D: Depot>(
     Ok((site, book))
 }
 
-/// The site of the word's file, whose tree is low enough.
+/// The site in the file of this argument, whose tree must be of height at most 6.
 fn read_low_site<D: Depot>(alloc: Global, depot: &mut D, word: Word<'_>) -> Result<Site, Status>
     ensures { Looks fields_of (low_site_of_file word.entry.number) word.entry.text.now
         (place D.Depot depot.old) (place D.Depot depot.new) result }
@@ -42,7 +42,7 @@ fn read_low_site<D: Depot>(alloc: Global, depot: &mut D, word: Word<'_>) -> Resu
     judge_height(site)
 }
 
-/// The site, where its tree is low enough.
+/// The site, if its tree is of height at most 6.
 fn judge_height(site: Site) -> Result<Site, Status>
     ensures { JudgesAlone fields_of (told_low (fields_of site)) result }
 {

@@ -8,7 +8,7 @@ use sd_ports::{Depot, ReadMostFault, Taken, read_most};
 use sd_status::Status;
 use std::alloc::Global;
 
-/// The first bytes of the word's file, at most `most`: it opens, reads and closes it, and only then answers.
+/// Opens, reads and closes the file of this argument, and returns its first bytes, at most `most`.
 pub fn read_prefix<D: Depot>(
     alloc: Global,
     depot: &mut D,
@@ -27,7 +27,7 @@ pub fn read_prefix<D: Depot>(
     told(read)
 }
 
-/// What is answered once the first bytes of a file were read.
+/// The result of reading the first bytes of a file.
 fn told(read: Result<Taken, ReadMostFault>) -> Result<Taken, Status>
     ensures { result ≡ told_prefix read }
 {

@@ -16,11 +16,11 @@ use sd_steps::Steps;
 use std::alloc::Global;
 use std::sync::ledger::Ledger;
 
-/// The most packets that stand in a broadcast with one clear packet, or after the last: a CAT, the 43 packets of the
-/// entitlements to 127 sets, 22 of a control message, and the clear packet, rounded up.
+/// The room for what is sent with one clear packet, or after the last, in packets. It is at most a CAT, 43 packets of
+/// entitlements to 127 sets, 22 of a control message, and the clear packet; the number is rounded up.
 const MOST_WITH_ONE: usize = 72;
 
-/// The bytes of the broadcast of a clear stream, which is to be no longer than what was taken of it.
+/// The bytes of the broadcast of a clear stream, which must be no longer than what was taken of it.
 pub fn sent_for<L: Ledger>(
     alloc: Global,
     site: Site,
@@ -35,8 +35,8 @@ pub fn sent_for<L: Ledger>(
     judge(sent, status, clear.more())
 }
 
-/// What was sent, and the status that the head end ended with. The room for the broadcast is taken at once, and only
-/// what is sent is ever written to.
+/// What was sent, and the status with which the head end ended. The room for the broadcast is allocated at once, and
+/// only the part of it that is sent is ever written.
 fn send_all<L: Ledger>(
     alloc: Global,
     site: Site,
@@ -58,7 +58,7 @@ fn send_all<L: Ledger>(
     Ok((sink.into_bytes(), status))
 }
 
-/// The status that a step ended with.
+/// The status of a result.
 pub fn settled(ended: Result<(), Status>) -> Status
     ensures { result ≡ status_of ended }
 {
@@ -68,14 +68,14 @@ pub fn settled(ended: Result<(), Status>) -> Status
     }
 }
 
-/// Whether memory was out: for the stage, or as the room for what it writes.
+/// Whether a run in memory ended because memory didn't suffice: for the stage itself, or as room for what it writes.
 pub fn wants_memory(status: Status) -> bool
     ensures { result ≡ is_wanting status }
 {
     matches!(status, Status::NoMemory | Status::DepotFault)
 }
 
-/// What was sent, where the head end came to the end of the stream and no more stood after it.
+/// What was sent, if the head end sent the whole stream and no byte was left after it.
 fn judge(sent: Vec<u8>, status: Status, more: bool) -> Result<Vec<u8>, Status>
     requires { IsEnding status }
     ensures { Comes (λ sent. sent.items) (sent_or status more sent.items) result }

@@ -13,7 +13,7 @@ pub record Arrival : Type 0 where
   pub clear : List (List ℕ)
   pub flags : List Bool
 
--- what the sites of a channel's broadcasts have alike [this project, docs/FORMATS.md, Receiver]
+-- what the sites of a channel's broadcasts have in common [this project, docs/FORMATS.md, Receiver]
 pub record Channel : Type 0 where
   pub height : ℕ
   pub master : List ℕ
@@ -41,12 +41,12 @@ abbrev pub AreRunsOf : Channel → List Arrival → Type 0
 AreRunsOf channel [] = Unit {0}
 AreRunsOf channel (run ∷ runs) = IsRunOf channel run × All (HaveTwoNames run) runs × AreRunsOf channel runs
 
--- what arrives of broadcasts that are sent one behind the other
+-- the packets that arrive of broadcasts that are sent one after the other
 abbrev pub arriving : List Arrival → List (List ℕ)
 arriving [] = []
 arriving (run ∷ runs) = chosen run.flags (broadcast run.plan run.clear) ++ arriving runs
 
--- all that is sent
+-- all packets of broadcasts that are sent one after the other
 abbrev pub all_sent : List Arrival → List (List ℕ)
 all_sent [] = []
 all_sent (run ∷ runs) = broadcast run.plan run.clear ++ all_sent runs

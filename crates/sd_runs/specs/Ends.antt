@@ -10,17 +10,19 @@ use Rattle.sd_runs.specs.Together.{joined_to}
 use Rattle.sd_runs.specs.Channel.{Arrival}
 use Rattle.sd_runs.specs.Many.{kept_of, has_cat}
 
+-- a section of entitlements, or a part of a control message
 abbrev pub is_message : Item → Bool
 is_message Cat = false
 is_message (Entitles emm) = true
 is_message (Controls part) = true
 is_message (Carries j packet) = false
 
--- a section of entitlements or a part of a control message is kept behind the CAT: the receiver is told of the run
+-- the receiver hears a message of the run: a section of entitlements or a part of a control message is kept after the
+-- CAT
 abbrev pub is_told : Bool → Arrival → Bool
 is_told tuned run = list_any is_message (after_cat (kept_of tuned run))
 
--- how the broadcasts that it is told of end, each by itself
+-- how those broadcasts end of which leaf u's receiver hears a message, each by itself
 abbrev pub endings_from : Bool → ℕ → List Arrival → List Ending
 endings_from tuned u [] = []
 endings_from tuned u (run ∷ runs) =
@@ -28,14 +30,15 @@ endings_from tuned u (run ∷ runs) =
     then ending_told run.plan u run.clear (kept_of tuned run) ∷ endings_from (tuned || has_cat run) u runs
     else endings_from (tuned || has_cat run) u runs
 
+-- the ending of several broadcasts together; of none, no message was heard
 abbrev pub all_joined : List Ending → Ending
 all_joined [] = Unclosed 0
 all_joined (ending ∷ endings) = joined_to ending endings
 
--- how they end together [this project, docs/FORMATS.md, Receiver]
+-- how broadcasts that follow one another end for leaf u's receiver, together [this project, docs/FORMATS.md, Receiver]
 abbrev pub ending_of_all : ℕ → List Arrival → Ending
 ending_of_all u runs = if list_any has_cat runs then all_joined (endings_from false u runs) else NoCat
 
--- how whole broadcasts end for leaf u's receiver
+-- how a whole broadcast ends for leaf u's receiver
 abbrev pub whole_ending_of : ℕ → Arrival → Ending
 whole_ending_of u run = whole_ending (first_revoked run.plan u run.clear)

@@ -7,21 +7,22 @@ use Rattle.sd_losses.specs.Kept.{is_cat}
 use Rattle.sd_losses.specs.Confirmed.{confirmed, opened_by}
 use Rattle.sd_runs.specs.Channel.{Arrival}
 
--- which packets count as arrived: with the CAT that every broadcast begins with, where one came in a broadcast before
+-- which packets of a broadcast count as arrived. If a CAT was taken in an earlier broadcast, the one at the beginning
+-- of this one counts too
 abbrev pub flags_after : Bool → List Bool → List Bool
 flags_after true flags = true ∷ drop 1 flags
 flags_after false flags = flags
 
--- what is kept of a broadcast then
+-- the things of a broadcast that count as kept
 abbrev pub kept_of : Bool → Arrival → List Item
 kept_of tuned run = chosen (flags_after tuned run.flags) (sent run.plan run.clear ++ closing_of run.plan run.clear)
 
--- some CAT of it arrives
+-- some CAT of the broadcast arrives
 abbrev pub has_cat : Arrival → Bool
 has_cat run = list_any is_cat (kept_of false run)
 
--- the clear packets that leaf u's receiver is confirmed, of each broadcast by itself
--- [this project, docs/FORMATS.md, Receiver]
+-- the clear packets that are confirmed to leaf u's receiver, of each broadcast by itself [this project,
+-- docs/FORMATS.md, Receiver]
 abbrev pub confirmed_from : Bool → ℕ → List Arrival → List (List ℕ)
 confirmed_from tuned u [] = []
 confirmed_from tuned u (run ∷ runs) =

@@ -20,14 +20,14 @@ fault_later k (Fault.BadEmm n fault) = Fault.BadEmm (k + n) fault
 fault_later k (Fault.BadEcm n fault) = Fault.BadEcm (k + n) fault
 fault_later k (Fault.Parity n) = Fault.Parity (k + n)
 
--- what is written of pieces, up to and with the first in which a packet is refused
+-- what is written of pieces, up to the first packet that is refused
 abbrev pub out_with : CardFields → List ℕ → List (List (List ℕ)) → List (List ℕ)
 out_with card cat [] = []
 out_with card cat (piece ∷ pieces) =
     out_from card [] (cat ∷ piece)
     ++ (if is_none (break_from card [] (cat ∷ piece)) then out_with card cat pieces else [])
 
--- why the first packet of pieces that is refused is refused, where that before the pieces is number k
+-- why the first refused packet of pieces is refused, if the packet before all of them is number k
 abbrev pub break_with : CardFields → List ℕ → ℕ → List (List (List ℕ)) → Option StreamFault
 break_with card cat k [] = None
 break_with card cat k (piece ∷ pieces) =
@@ -43,17 +43,18 @@ joined_to earlier (ending ∷ endings) = joined_to (joined earlier ending) endin
 abbrev pub piece_ending : CardFields → List ℕ → List (List ℕ) → Ending
 piece_ending card cat piece = ending_of card (reverse (cat ∷ piece))
 
--- what is written of a stream, why it is refused, and how it ends, by its pieces
--- [this project, docs/FORMATS.md, Receiver]
+-- what is written of a stream, by its pieces [this project, docs/FORMATS.md, Receiver]
 unfoldable pub out_of : CardFields → List (List ℕ) → List (List ℕ)
 out_of card packets =
     option_map_or (λ tuned. out_with card tuned.cat (pieces_of card.height tuned)) (first_cat card.ca 0 packets) []
 
+-- why a stream is refused, if it is, by its pieces [this project, docs/FORMATS.md, Receiver]
 unfoldable pub break_of : CardFields → List (List ℕ) → Option StreamFault
 break_of card packets =
     option_map_or (λ tuned. break_with card tuned.cat tuned.number (pieces_of card.height tuned))
     (first_cat card.ca 0 packets) None
 
+-- how a stream ends, by its pieces [this project, docs/FORMATS.md, Receiver]
 unfoldable pub end_of : CardFields → List (List ℕ) → Ending
 end_of card packets =
     option_map_or

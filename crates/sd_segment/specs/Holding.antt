@@ -9,19 +9,19 @@ use Rattle.sd_segment.specs.declared.held.Held.{Held}
 use Rattle.sd_segment.specs.declared.held.Word.{Word}
 use Rattle.sd_segment.specs.declared.tracks.Tracks.{Tracks}
 
--- the number of the message's control word, the word, the message's places, and the packets held, each after its number
--- in the stream
+-- the number of the message's control word, the word, the message's PIDs and positions, and the buffered packets, each
+-- after its number in the stream
 pub record Holding : Type 0 where
   pub number : ℕ
   pub word : List ℕ
   pub places : List Place
   pub held : List (ℕ × List ℕ)
 
--- a held packet, after its number
+-- a buffered packet, after its number
 abbrev pub entry_of : Held → ℕ × List ℕ
 entry_of held = (held.number, held.packet)
 
--- what is held where there is a control word; without one, nothing
+-- what is buffered, if there is a control word; without one, nothing
 abbrev pub holding_of : Option Word → Tracks → Option Holding
 holding_of None tracks = None
 holding_of (Some word) tracks = Some (record {
@@ -31,7 +31,8 @@ holding_of (Some word) tracks = Some (record {
   held = map entry_of tracks.held.items;
 })
 
--- one packet more is held; or none any more, where as many are held as may be [this project, docs/FORMATS.md, Receiver]
+-- one packet more is buffered; or none any more, if 4,096 are buffered already [this project, docs/FORMATS.md,
+-- Receiver]
 abbrev pub held_more : Option Holding → ℕ → List ℕ → Option Holding
 held_more None number packet = None
 held_more (Some h) number packet =
@@ -44,7 +45,7 @@ held_more (Some h) number packet =
     })
     else None
 
--- these packets are held after this message, under its control word
+-- these packets are buffered after this message, under its control word
 abbrev pub after_message : Message → List ℕ → List (ℕ × List ℕ) → Holding
 after_message a word held = record { number = a.word; word = word; places = a.places; held = held }
 

@@ -18,11 +18,12 @@ use Rattle.sd_segment.specs.declared.tracks.TheConstants.{PIDS}
 abbrev pub pids_in : List Place → List ℕ
 pids_in places = map (λ (p : Place). p.pid) places
 
--- the packets of held ones
+-- the buffered packets, without their numbers and positions
 abbrev pub packets_in : List Held → List (List ℕ)
 packets_in held = map (λ (h : Held). h.packet) held
 
--- where a PID starts: at its place, or else at the first position [this project, docs/FORMATS.md, Positions]
+-- the position of a PID before the buffered packets: that of its place, or else the first one [this project,
+-- docs/FORMATS.md, Positions]
 unfoldable pub start_of : List Place → ℕ → ℕ
 start_of places pid = option_map_or (λ p. p) (position_in places pid) first_position
 
@@ -40,7 +41,7 @@ pub record IsClearBut (pids : List ℕ) (table : List ℕ) : Type 0 where
   pub long : length table ≡ PIDS
   pub clear : (pid : ℕ) → list_any (λ q. q == pid) pids ≡ false → pid < PIDS → get_or table pid 0 ≡ first_position
 
--- it has the first position for each
+-- a table by PID has the first position for each
 abbrev pub IsClear : List ℕ → Type 0
 IsClear table = IsClearBut [] table
 
@@ -48,13 +49,13 @@ IsClear table = IsClearBut [] table
 abbrev pub AreKnown : List Place → Type 0
 AreKnown places = All (λ place. place.pid < PIDS) places
 
--- each held packet has the position to which it led its PID
+-- each buffered packet has the position to which it led its PID
 abbrev pub HaveOwn : List Place → List Held → Type 0
 HaveOwn places held =
     (k : ℕ) (d : Held) → k < length held
     → (get_or held k d).position ≡ led_to places (take (k + 1) (packets_in held)) (pid_of (get_or held k d).packet)
 
--- what is kept: places and packets within their room, and where the packets lead
+-- what is kept: places and packets within their room, and the positions to which the packets lead
 pub record IsKept (tracks : Tracks) : Type 0 where
   pub few : length tracks.held.items ≤ most_held
   pub room : most_held ≤ vec_capacity tracks.held

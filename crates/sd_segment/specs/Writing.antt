@@ -18,7 +18,7 @@ use Rattle.sd_segment.specs.declared.confirm.Confirming.{Confirming}
 use Rattle.sd_segment.specs.declared.fault.SegmentFault.{SegmentFault}
 use Rattle.sd_segment.specs.declared.fault.SegmentFault.TheVariants as Fault
 
--- a message of which no more is said than the number of its control word and its places
+-- a message with this control word's number and these places, and nothing else
 abbrev pub bare : ℕ → List Place → Message
 bare word places = record {
   version = 0;
@@ -34,7 +34,7 @@ bare word places = record {
   places = places;
 }
 
--- what is held, with the places of the next message
+-- what is buffered, with the places of the next message
 unfoldable pub segment_of : Holding → ℕ → ℕ → List Place → Segment
 segment_of h ca ecm places = record {
   first = bare h.number h.places;
@@ -45,7 +45,7 @@ segment_of h ca ecm places = record {
   packets = map (λ e. e.1) h.held;
 }
 
--- what is written of what is held, once the next message has these places [this project, docs/FORMATS.md, Receiver]
+-- what is written of what is buffered, if the next message has these places [this project, docs/FORMATS.md, Receiver]
 abbrev pub wrote_of : Option Holding → ℕ → ℕ → List Place → Wrote
 wrote_of None ca ecm places = record { packets = []; refused = None }
 wrote_of (Some h) ca ecm places = written_from (segment_of h ca ecm places) [] h.held
@@ -55,18 +55,18 @@ pub record Took (old new : Vessel) (bytes : List ℕ) : Type 0 where
   pub taken : Appends old.held new.held bytes
   pub room : HasTaken old.room new.room (length bytes)
 
--- a sink took not all of these bytes
+-- a write of these bytes failed: the sink took a prefix of them, and if its room is known it is less than all of them
 pub record Stopped (old new : Vessel) (bytes : List ℕ) : Type 0 where
   pub prefix : AppendsPrefix old.held new.held bytes
   pub room : IsTooShort old.room (length bytes)
 
--- this was written into a sink, with this answer
+-- a sink took what is written, up to the packet that is refused or the write that failed, with this answer
 abbrev pub Writes : Wrote → Vessel → Vessel → Result ℕ SegmentFault → Type 0
 Writes wrote old new (Ok n) = (wrote.refused ≡ None) × (n ≡ length wrote.packets) × Took old new (concat wrote.packets)
 Writes wrote old new (Err (Fault.Parity k)) = (wrote.refused ≡ Some k) × Took old new (concat wrote.packets)
 Writes wrote old new (Err Fault.Write) = CutShort old new (λ bytes. bytes ≡ concat wrote.packets)
 
--- what is to be confirmed
+-- what is buffered, as contracts see it
 abbrev pub holding_in : Confirming → Holding
 holding_in c = record {
   number = c.word.now.number;
@@ -75,15 +75,15 @@ holding_in c = record {
   held = map entry_of c.tracks.now.held.items;
 }
 
--- and the segment that it is
+-- the segment between the two messages
 unfoldable pub segment_in : Confirming → Segment
 segment_in c = segment_of (holding_in c) c.ca c.ecm c.last.now
 
--- what the first of its packets come to
+-- what is written of the first k packets of the segment
 unfoldable pub first_wrote : Confirming → ℕ → Wrote
 first_wrote c k = written_from (segment_in c) [] (take k (holding_in c).held)
 
--- and this was written, of so many packets
+-- a sink took what is written of the first k packets, which is this number of packets, and none is refused
 pub record IsWritten (c : Confirming) (k : ℕ) (old new : Vessel) (count : ℕ) : Type 0 where
   pub calm : (first_wrote c k).refused ≡ None
   pub counted : count ≡ length (first_wrote c k).packets
@@ -95,6 +95,6 @@ pub record IsReady (c : Confirming) : Type 0 where
   pub short : AreShort c.last.now
   pub kept : IsKept c.tracks.now
 
--- a held packet after others has the position to which it led its PID
+-- a buffered packet after others has the position to which it led its PID
 pub record IsOwn (c : Confirming) (before : List (List ℕ)) (held : Held) : Type 0 where
   pub position : held.position ≡ led_to c.tracks.now.places.items (before ++ held.packet ∷ []) (pid_of held.packet)

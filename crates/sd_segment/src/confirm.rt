@@ -18,17 +18,17 @@ use sd_ports::{Sink, write_all};
 use sd_psi::restore_pmt;
 use sd_scramble::descramble;
 
-// The greatest number by which a confirmed position is above that which the packets lead to.
+// The greatest distance of a confirmed position above the one that the buffered packets lead to.
 const RESIDUAL: u64 = 15;
 
-// What is held after a control message, and what the next one and the card say of it.
+// The packets buffered after a control message, and what the next one and the card say of them.
 #[derive(Clone, Copy)]
 pub struct Confirming<'a> {
     pub word: &'a Word,
     pub tracks: &'a Tracks,
     pub ca: u16,
     pub ecm: u16,
-    // The places of the next control message.
+    // The PIDs and positions in the next control message.
     pub last: &'a [Place],
 }
 
@@ -46,7 +46,7 @@ fn put<K: Sink>(packet: &Packet, out: &mut K) -> Result<(), SegmentFault>
     }
 }
 
-// The position of a PID among places.
+// The position of a PID, if it is among these places.
 #[tactic(auto, unfolding(sd_reception::specs::Confirmed::position_in))]
 fn position(places: &[Place], pid: u16) -> Option<u64>
     ensures { result ≡ position_in places.now pid }
@@ -58,7 +58,7 @@ fn position(places: &[Place], pid: u16) -> Option<u64>
 }
 
 impl<'a> Confirming<'a> {
-    // Writes what is confirmed, up to the first packet that is refused.
+    // Writes what is confirmed, up to the first packet that is refused. It returns the number of packets written.
     pub fn write<K: Sink>(&self, out: &mut K) -> Result<u64, SegmentFault>
         requires ready { IsReady self.now }
         ensures value { Writes (written_from (segment_in self.now) [] (holding_in self.now).held)
@@ -77,8 +77,9 @@ impl<'a> Confirming<'a> {
         Ok(count)
     }
 
-    // Makes of a held packet what it becomes, and answers whether it is written: it is itself in the clear, or nothing,
-    // or it is refused.
+    // Turns a buffered packet into the clear packet that is written for it, and answers whether it is written. A
+    // scrambled packet isn't written if its PID isn't confirmed, and is refused if it can't be one under the control
+    // word.
     #[tactic(auto, using(crate::proofs::Judging::judged_clear, crate::proofs::Judging::judged_odd, crate::proofs::Judging::judged_far, crate::proofs::Judging::judged_near, crate::proofs::Judging::confirmed_short))]
     fn judge(&self, held: &Held, packet: &mut Packet) -> Result<bool, SegmentFault>
         requires ready { IsReady self.now }
@@ -112,7 +113,7 @@ impl<'a> Confirming<'a> {
         !packet.is_placed() || packet.scrambling() != self.word.control()
     }
 
-    // Takes the project's descriptor out of a packet that is a PMT with it.
+    // Removes the project's CA_descriptor from a packet that is a PMT with it.
     #[tactic(auto, using(crate::proofs::Judging::unmarked_is, crate::proofs::Judging::left_marked))]
     fn unmark(&self, packet: &mut Packet)
         requires ready { IsReady self.now }
@@ -123,7 +124,7 @@ impl<'a> Confirming<'a> {
         }
     }
 
-    // Whether the position of the next message is near above that which the packets lead to.
+    // Whether the PID's position in the next message is 0 to 15 above the one that the buffered packets lead to.
     #[tactic(auto, using(crate::proofs::Judging::unconfirmed, crate::proofs::Judging::near_is, crate::proofs::Judging::below_is))]
     fn is_confirmed(&self, pid: u16) -> bool
         requires ready { IsReady self.now }

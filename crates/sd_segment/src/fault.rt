@@ -1,8 +1,8 @@
-/// Why not all was written of what was held.
+/// Why `Segment::write` stopped.
 #[derive(Clone, Copy, Debug, PartialEq, Eq)]
 pub enum SegmentFault {
-    /// A write failed.
+    /// A write into the sink failed.
     Write,
-    /// A packet with this number is scrambled, and not as one under the control word.
+    /// The buffered packet of this number in the stream isn't in the clear, and can't be one under the control word.
     Parity(u64),
 }

@@ -2,18 +2,20 @@ ghost use Rattle.std.specs.Prelude.{◌≡◌, ◌+◌, ◌%◌};
 
 use sd_packet::Packet;
 
-/// The most packets that are held after a control message (docs/FORMATS.md, Receiver).
+/// The most packets that a receiver buffers (holds) after a control message [this project, docs/FORMATS.md, Receiver].
 pub const MOST_HELD: usize = 4096;
 
-/// A control word with its number.
+/// A control word and its number.
 #[derive(Clone, Copy)]
 pub struct Word {
+    /// The number of the control word.
     pub number: u32,
+    /// The control word.
     pub bytes: [u8; 32],
 }
 
 impl Word {
-    /// transport_scrambling_control of a packet under the word, which says its parity.
+    /// The transport_scrambling_control of a packet under the word: 2 if its number is even, 3 if it is odd.
     pub fn control(&self) -> u8
         ensures { result ≡ 2 + self.now.number % 2 }
     {
@@ -21,12 +23,13 @@ impl Word {
     }
 }
 
-/// A packet that is held.
+/// A packet that is buffered.
 #[derive(Clone, Copy)]
 pub struct Held {
-    /// Its number in the stream.
+    /// The number of the packet in the stream, from 0.
     pub number: u64,
-    /// Where its PID stood once it had come.
+    /// The position of the packet's PID, with this packet.
     pub position: u64,
+    /// The packet as it arrived.
     pub packet: Packet,
 }

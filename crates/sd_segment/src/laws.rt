@@ -1,4 +1,4 @@
-//! What a segment comes to in the terms of the messages that it stands between.
+//! What a segment writes, in terms of the two control messages around it.
 
 ghost use Rattle.std.specs.Prelude.{◌≡◌, ℕ, List, [], map, Some};
 ghost use Rattle.sd_ecm.specs.Parts.{Message};
@@ -6,7 +6,7 @@ ghost use Rattle.sd_reception.specs.Confirmed.{written_from};
 ghost use Rattle.sd_segment.specs.Holding.{after_message};
 ghost use Rattle.sd_segment.specs.Writing.{wrote_of};
 
-/// What is written of what is held after a message is what the two messages confirm.
+/// What a segment writes of the packets buffered after a message is what that message and the next one confirm.
 pub fn held_packets_are_confirmed()
     ensures { (a b : Message) (word : List ℕ) (ca ecm : ℕ) (held : List (ℕ × List ℕ)) →
         wrote_of (Some (after_message a word held)) ca ecm b.places ≡ written_from (record {

@@ -1,4 +1,4 @@
-//! The packets that a receiver holds between two control messages, and what of them the second message confirms.
+//! The packets that a receiver buffers between two control messages, and which of them the second message confirms.
 #![tactic(auto)]
 
 mod confirm;

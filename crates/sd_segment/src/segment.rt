@@ -16,8 +16,9 @@ use sd_ports::Sink;
 use std::alloc::Global;
 use std::marker::Model;
 
-/// The packets held since a control message, where any are: with the control word of the message and the positions that
-/// the packets lead to from those of the message (docs/FORMATS.md, Receiver).
+/// The packets that a receiver buffers after a control message [this project, docs/FORMATS.md, Receiver]. An open
+/// segment has the control word and the positions of the message, and buffers at most 4,096 packets. One that is shut
+/// buffers nothing.
 #[derive(Drop)]
 pub struct Segment {
     word: Option<Word>,
@@ -38,7 +39,7 @@ impl Model for Segment {
 }
 
 impl Segment {
-    /// It holds nothing, and takes all memory that it ever does.
+    /// A segment that is shut. All memory that it needs is allocated here.
     pub fn new(alloc: Global) -> Result<Segment, NoMemory>
         ensures { IfOk result (λ segment. segment ≡ None) }
     {
@@ -46,8 +47,8 @@ impl Segment {
         Ok(Segment { word: None, tracks })
     }
 
-    /// Holds packets from now on, after a control message with these places, under its control word. What was held is
-    /// dropped.
+    /// Opens the segment after a control message: `number` and `word` are the number and the bytes of its control word,
+    /// `places` its PIDs and positions. What was buffered before is dropped.
     pub fn open(&mut self, number: u32, word: [u8; 32], places: &[Place])
         requires { ArePlaces places.now }
         ensures { self.new ≡ Some (record { number = number; word = word; places = places.now; held = [] }) }
@@ -59,7 +60,7 @@ impl Segment {
         });
     }
 
-    /// Holds nothing until it is opened. What was held is dropped.
+    /// Shuts the segment. What was buffered is dropped.
     pub fn shut(&mut self)
         ensures { self.new ≡ None }
     {
@@ -67,7 +68,8 @@ impl Segment {
         self.word = None;
     }
 
-    /// Holds a packet, where packets are held. At one too many all are dropped, and no more are held.
+    /// Buffers a packet, which has this number in the stream, if the segment is open. If 4,096 are buffered already,
+    /// all are dropped and the segment is shut.
     pub fn hold(&mut self, number: u64, packet: &Packet)
         ensures { self.new ≡ held_more self.old number packet.now }
     {
@@ -81,8 +83,9 @@ impl Segment {
         }
     }
 
-    /// Writes what of the held packets the next control message confirms, which has these places: in order, up to the
-    /// first that is refused. It answers how many were written.
+    /// Writes what the next control message confirms of the buffered packets, in order, up to the first that is
+    /// refused. `ca` is the conditional access system, `ecm` the PID of control messages, and `places` are the PIDs and
+    /// positions in the next message. It returns the number of packets written: 0 if the segment is shut.
     pub fn write<K: Sink>(
         &self,
         ca: u16,

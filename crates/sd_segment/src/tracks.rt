@@ -11,23 +11,25 @@ use sd_ecm::{MOST_PLACES, Place};
 use sd_packet::{Packet, advance};
 use std::alloc::{AllocError, Global};
 
-/// How many PIDs there are.
+/// The number of PIDs, which have 13 bits [ISO/IEC 13818-1, 2.4.3.2].
 pub const PIDS: usize = 8192;
 
-// The position that no packet has moved.
+// The position of a PID before its first packet.
 const FIRST_POSITION: u64 = 15;
 
-/// Packets that are held, and where they lead the PIDs from their places.
+/// The packets buffered after a control message, and the positions that they lead to from those in the message.
 #[derive(Drop)]
 pub struct Tracks {
+    /// The PIDs and positions in the message.
     pub places: Vec<Place>,
+    /// The buffered packets, in the order in which they arrived.
     pub held: Vec<Held>,
-    /// Positions by PID.
+    /// The position of each PID after the buffered packets.
     pub table: Vec<u64>,
 }
 
 impl Tracks {
-    /// Nothing is held. It takes all memory that it ever does.
+    /// No place and no packet. All memory is allocated here.
     pub fn new(alloc: Global) -> Result<Tracks, AllocError>
         ensures { IfOk result (λ tracks. IsKept tracks) }
     {
@@ -42,7 +44,7 @@ impl Tracks {
         })
     }
 
-    /// Drops what is held.
+    /// Drops the buffered packets and the places.
     pub fn empty(&mut self)
         requires { IsKept self.old }
         ensures kept { IsKept self.new }
@@ -54,7 +56,7 @@ impl Tracks {
         self.held.clear();
     }
 
-    /// Drops what is held, and begins at these places.
+    /// Drops the buffered packets, and begins again at these places.
     pub fn begin(&mut self, places: &[Place])
         requires kept { IsKept self.old }
         requires places { ArePlaces places.now }
@@ -67,7 +69,7 @@ impl Tracks {
         self.places.extend_from_slice(places).unwrap();
     }
 
-    /// Holds one packet more.
+    /// Buffers one packet more, which has this number in the stream.
     pub fn hold(&mut self, number: u64, packet: &Packet)
         requires kept { IsKept self.old }
         requires room { length self.old.held.items < MOST_HELD }
@@ -99,7 +101,7 @@ fn start(table: &mut [u64], places: &[Place])
     }
 }
 
-// Moves the position of a packet's PID, which it answers.
+// Moves the position of a packet's PID by the packet, and returns it.
 fn step(table: &mut [u64], packet: &Packet) -> u64
     requires long { length table.old ≡ PIDS }
     requires low { get_or table.old (pid_of packet.now) 0 < 2 ^ 63 }
@@ -113,7 +115,7 @@ fn step(table: &mut [u64], packet: &Packet) -> u64
     table[pid]
 }
 
-// Puts the first position for the PIDs of the places and packets that a table is of.
+// Sets the PIDs of the places and packets that a table is built from back to the first position.
 #[tactic(auto, using(crate::proofs::Tables::tracked_but, crate::proofs::Tables::cleared))]
 fn clear(table: &mut [u64], places: &[Place], held: &[Held])
     requires tracked { IsTracked places.now (packets_in held.now) table.old }

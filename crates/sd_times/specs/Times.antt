@@ -33,11 +33,12 @@ flags_of places n = map (λ i. list_any (nat_eq i) places) (range_with_len 0 n)
 abbrev pub kept_at : Plan → List (List ℕ) → List ℕ → List Item
 kept_at plan clear places = after_cat (at_places Cat (sent plan clear) places)
 
--- the numbers of the clear packets that are confirmed to leaf u in that time [this project, docs/FORMATS.md, Receiver]
+-- the numbers of the clear packets that are confirmed to leaf u in one time that its receiver was on [this project,
+-- docs/FORMATS.md, Receiver]
 unfoldable pub places_in : Plan → ℕ → List (List ℕ) → List ℕ → List ℕ
 places_in plan u clear places =
     filter (is_confirmed_at plan u clear (kept_at plan clear places)) (range_with_len 0 (length clear))
 
--- and in all times that it was on
+-- the numbers of the clear packets that are confirmed to leaf u in all times that its receiver was on
 unfoldable pub places_of : Plan → ℕ → List (List ℕ) → Watch → List ℕ
 places_of plan u clear w = flat_map (places_in plan u clear) (times w)

@@ -1,4 +1,4 @@
-//! What is sent for a clear stream: its order and how much it is.
+//! Laws on what is sent for a clear stream: its order, and how many packets it is.
 
 ghost use Rattle.std.specs.Prelude.{◌≡◌, ◌*◌, ◌<◌, ◌≤◌, ◌++◌, ◌∷◌, [], ℕ, List, get_or, length};
 ghost use Rattle.std.specs.List.{concat};
@@ -24,8 +24,8 @@ pub fn packets_are_sent_in_order()
         get_or (sent plan clear) i Cat ≡ Carries j packet → get_or (sent plan clear) k Cat ≡ Carries l other → j < l }
 {}
 
-/// For a tree of height at most 6 no clear packet adds more than 67 packets to what is sent, so that 67 packets of 188
-/// bytes for each are enough.
+/// For a tree of height at most 6 each clear packet adds at most 67 packets to what is sent. Room for 67 packets of 188
+/// bytes for each is enough.
 #[tactic(auto, using(crate::proofs::Few::added_is_short, crate::proofs::Few::sent_is_short, crate::proofs::Few::body_is_short))]
 pub fn what_is_sent_has_room()
     ensures added { (plan : Plan) (before : List (List ℕ)) (packet : List ℕ) → plan.site.height ≤ 6 → IsPlan plan →

@@ -1,4 +1,4 @@
--- Public meaning: where the parts of a message stand.
+-- Public meaning: the places of parts in their message.
 use Rattle.std.specs.Prelude.{◌≡◌, ◌+◌, List, ◌∷◌, length, None}
 use Rattle.sd_ecm.specs.Parts.{Message}
 use Rattle.sd_ecm.specs.declared.part.EcmPart.{EcmPart}

@@ -1,4 +1,4 @@
--- Public meaning: what things that are sent are to a receiver.
+-- Public meaning: what a receiver hears of the things that are sent.
 use Rattle.std.specs.Prelude.{ℕ}
 use Rattle.sd_site.specs.Fields.{SiteFields}
 use Rattle.sd_broadcast.specs.Sent.{Item, Cat, Entitles as SendsEmm, Controls as SendsEcm, Carries}

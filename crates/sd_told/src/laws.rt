@@ -1,4 +1,4 @@
-//! What a receiver makes of the things that a broadcast sends.
+//! Laws on what a receiver reads in the things that a broadcast sends.
 
 ghost use Rattle.std.specs.Prelude.{◌≡◌, ◌≢◌, ◌^◌, ◌<◌, ◌≤◌, ◌++◌, ◌∷◌, ℕ, List, Some, None, true, false};
 ghost use Rattle.std.specs.Prelude.{All, Contains, length, take, reverse, if◌then◌else◌};
@@ -40,8 +40,8 @@ pub fn messages_never_back()
         is_before (numbered plan clear b) (numbered plan clear a) ≡ false }
 {}
 
-/// The parts of a message stand in their order and are without fault one after the other, and all of them tell the
-/// message.
+/// The parts of a message are numbered in their order. None of them is at fault after those before it, and all of them
+/// together give the message.
 pub fn parts_are_right()
     ensures some { (message : Message) → 1 ≤ length (parts_of message) }
     ensures order { (message : Message) (before : List EcmPart) (part : EcmPart) (after : List EcmPart) →
@@ -61,7 +61,7 @@ pub fn words_are_due()
         (numbered plan clear a).check ≡ check_value_of (control_word_of plan.site.master (numbered plan clear a).word) }
 {}
 
-/// Sections of one period say the same of it, and their number is the period's.
+/// All sections of a period have its number and agree on it.
 pub fn sections_say_same()
     ensures period { (plan : Plan) (q : ℕ) (emm : Emm) → Contains (emms_of (period_at plan q)) emm → emm.period ≡ q }
     ensures two { (period : Period) (a b : Emm) → Contains (emms_of period) a → Contains (emms_of period) b →
@@ -70,8 +70,8 @@ pub fn sections_say_same()
         All (Contains (emms_of period)) sections → is_mixed sections emm ≡ false }
 {}
 
-/// From a section of a period the card of a leaf gets the period's key where a set of the section has the leaf, and
-/// nothing else; the section has that key's check value.
+/// A section of a period gives the card of a leaf the period's key if one of its sets has the leaf, and else nothing.
+/// It has that key's check value.
 pub fn keys_are_due()
     ensures key { (plan : Plan) (q u : ℕ) (emm : Emm) → IsPlan plan → u < 2 ^ plan.site.height →
         Contains (emms_of (period_at plan q)) emm →
@@ -91,7 +91,7 @@ pub fn cat_is_taken()
         cat_tuning plan.site.ca (packet_of plan.site earlier item) ≡ None }
 {}
 
-/// Once the CAT is taken each thing that was sent is heard as what it is.
+/// After the CAT is taken, a receiver hears each thing as what was sent.
 pub fn items_are_heard()
     ensures { (plan : Plan) (clear : List (List ℕ)) (earlier : List Item) (n : ℕ) (item : Item) → IsPlan plan →
         IsClear plan.site clear → AreLong clear → IsOfBroadcast plan clear item →
