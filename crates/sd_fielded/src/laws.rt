@@ -14,9 +14,9 @@ ghost use Rattle.sd_run_field.specs.Field.{field_text};
 ghost use Rattle.sd_fielded.specs.Fielded.{IsGoodField, IsWhole, confirmed_lines, confirmed_places};
 ghost use Rattle.sd_fielded.specs.Fielded.{plan_for, sent_for, wrote_for};
 
-/// A field within its limits, of which no clear packet that is sent is refused, prints exactly this: the number of
-/// packets that were sent, and for each leaf the number and the digest of the clear packets that are confirmed to it in
-/// all times that its receiver was on.
+/// Take a field within its limits, of which no clear packet that is sent is refused. It prints what was sent, and for
+/// each leaf the number and the digest of the clear packets that are confirmed to it in all times that its receiver was
+/// on. It prints nothing else.
 #[tactic(auto, using(crate::proofs::Fielded::text_is_confirmed))]
 pub fn good_fields_print_what_is_confirmed()
     ensures { (site : SiteFields) (clear : List (List ℕ)) (events : List Event) → IsGoodField site clear events →

@@ -247,7 +247,7 @@ pub fn streams_are_received()
         (meaning words (told_by files)).result ≡ Ok (receiving good.fields good.out good.bytes) }
 {}
 
-/// Of every broadcast, of any site, book within the limits and clear stream, `receive` with the card of a leaf writes
+/// Take any broadcast, of any site, book within the limits and clear stream. `receive` with the card of a leaf writes
 /// exactly the clear packets of the periods in which the leaf isn't revoked. It ends as done, or as revoked in the
 /// first of the broadcast's periods in which the leaf is. For each period in which the leaf isn't revoked it takes at
 /// most as many steps of the generator as the tree is high, and no others.
