@@ -1,0 +1,256 @@
+use crate::broadcasts::{LONG, P1, P2, Q2, R1, R2, R3, file, has_digest, shelf};
+use crate::receptions::{Row, is_due};
+use std::alloc::AllocError;
+
+// Whole broadcasts of version 3 one behind the other.
+static WHOLE: [Row; 4] = [
+    Row {
+        stream: &[("R1", &[]), ("R2", &[])],
+        card: "card-0",
+        exit: 0,
+        line: "",
+        packets: 1200,
+        clear: &[("C7", &[]), ("C8", &[])],
+        digest: "5990ffa2d2757bdea54bfc9384c19eab",
+    },
+    Row {
+        stream: &[("R1", &[]), ("R2", &[]), ("R3", &[])],
+        card: "card-0",
+        exit: 0,
+        line: "",
+        packets: 1800,
+        clear: &[],
+        digest: "e8b2fbf995ac6ee0dc10bd0c4a34d9ad",
+    },
+    Row {
+        stream: &[("R3", &[]), ("R1", &[]), ("R2", &[])],
+        card: "card-0",
+        exit: 0,
+        line: "",
+        packets: 1800,
+        clear: &[("C9", &[]), ("C7", &[]), ("C8", &[])],
+        digest: "71c7533cf3e2ccdaa1460cf4c5310ba3",
+    },
+    Row {
+        stream: &[("R1", &[]), ("R3", &[])],
+        card: "card-0",
+        exit: 0,
+        line: "",
+        packets: 1200,
+        clear: &[("C7", &[]), ("C9", &[])],
+        digest: "",
+    },
+];
+
+// Broadcasts of version 2 one behind the other, and one of version 3 behind one of version 2.
+static OLDER: [Row; 2] = [
+    Row {
+        stream: &[("P1", &[]), ("P2", &[])],
+        card: "card-0",
+        exit: 0,
+        line: "",
+        packets: 600,
+        clear: &[("C7", &[])],
+        digest: "",
+    },
+    Row {
+        stream: &[("P1", &[]), ("R2", &[])],
+        card: "card-0",
+        exit: 0,
+        line: "",
+        packets: 1200,
+        clear: &[("C7", &[]), ("C8", &[])],
+        digest: "",
+    },
+];
+
+// A broadcast that broke off, with the next one behind it: of version 3, of version 2, and of version 3 where the
+// first packets of the next one are lost too.
+static BROKEN: [Row; 4] = [
+    Row {
+        stream: &[("R1", &[(607, 607)]), ("R2", &[])],
+        card: "card-0",
+        exit: 14,
+        line: "stream ends before message 3\n",
+        packets: 1000,
+        clear: &[("C7", &[(400, 599)]), ("C8", &[])],
+        digest: "7434050c25bc53ab07f2a1259a1d6af1",
+    },
+    Row {
+        stream: &[("R1", &[(300, 607)]), ("R2", &[])],
+        card: "card-0",
+        exit: 14,
+        line: "stream ends before message 2\n",
+        packets: 800,
+        clear: &[("C7", &[(200, 599)]), ("C8", &[])],
+        digest: "7c118e9fdc6989774a6dfa34320ed540",
+    },
+    Row {
+        stream: &[("P1", &[(300, 607)]), ("P2", &[])],
+        card: "card-0",
+        exit: 15,
+        line: "185 clear packets are missing\n",
+        packets: 415,
+        clear: &[],
+        digest: "",
+    },
+    Row {
+        stream: &[("R1", &[(300, 607)]), ("R2", &[(0, 100)])],
+        card: "card-0",
+        exit: 14,
+        line: "stream ends before message 2\n",
+        packets: 400,
+        clear: &[],
+        digest: "70ca7e3b44c6aa2c23f304b30323ab6c",
+    },
+];
+
+// A receiver that is revoked in the second broadcast or in the first, and one that is revoked in none.
+static REVOKED: [Row; 3] = [
+    Row {
+        stream: &[("R1", &[]), ("Q2", &[])],
+        card: "card-5",
+        exit: 3,
+        line: "receiver 5 is revoked in period 1\n",
+        packets: 600,
+        clear: &[("C7", &[])],
+        digest: "",
+    },
+    Row {
+        stream: &[("R1", &[]), ("Q2", &[])],
+        card: "card-0",
+        exit: 0,
+        line: "",
+        packets: 1200,
+        clear: &[("C7", &[]), ("C8", &[])],
+        digest: "",
+    },
+    Row {
+        stream: &[("Q2", &[]), ("R3", &[])],
+        card: "card-5",
+        exit: 3,
+        line: "receiver 5 is revoked in period 1\n",
+        packets: 600,
+        clear: &[("C9", &[])],
+        digest: "",
+    },
+];
+
+// Entitlements that are lost: the first of a broadcast, and all of a broadcast between two others. Then control
+// messages and packets of two broadcasts, whose gaps add up.
+static LOSSES: [Row; 3] = [
+    Row {
+        stream: &[("R1", &[]), ("R2", &[(1, 1)])],
+        card: "card-0",
+        exit: 15,
+        line: "400 clear packets are missing\n",
+        packets: 800,
+        clear: &[("C7", &[]), ("C8", &[(0, 399)])],
+        digest: "1561255740d23714ca38b4e5cc20c549",
+    },
+    Row {
+        stream: &[("R1", &[]), ("R2", &[(1, 1), (405, 405)]), ("R3", &[])],
+        card: "card-0",
+        exit: 13,
+        line: "receiver 0 did not hear its entitlement for period 1\n",
+        packets: 1200,
+        clear: &[("C7", &[]), ("C9", &[])],
+        digest: "",
+    },
+    Row {
+        stream: &[("R1", &[(203, 223)]), ("R2", &[(3, 23)]), ("R3", &[])],
+        card: "card-0",
+        exit: 15,
+        line: "41 clear packets are missing\n",
+        packets: 1759,
+        clear: &[],
+        digest: "18f441844619637c76764966c0022e24",
+    },
+];
+
+// How the SHA-256 of the two long broadcasts begins.
+static SENT: [(&str, &str); 2] = [
+    ("T1", "f27b3d1c8e0af6427d2ede23d8095ac9"),
+    ("T2", "2b88b0270570a8a136dd3095b97feb40"),
+];
+
+// A broadcast that broke off shortly before its second control message, with another one behind it: whole, and without
+// its CAT, its entitlements and its first control message, so that more packets are held than a receiver keeps.
+static HELD: [Row; 2] = [
+    Row {
+        stream: &[("T1", &[(4090, 9999)]), ("T2", &[])],
+        card: "card-0",
+        exit: 14,
+        line: "stream ends before message 1\n",
+        packets: 4200,
+        clear: &[("D8", &[])],
+        digest: "",
+    },
+    Row {
+        stream: &[("T1", &[(4090, 9999)]), ("T2", &[(0, 2)])],
+        card: "card-0",
+        exit: 14,
+        line: "stream ends before message 1\n",
+        packets: 104,
+        clear: &[],
+        digest: "",
+    },
+];
+
+#[test]
+fn whole_broadcasts_are_written_in_any_order(rt: HostRuntime) -> Result<(), AllocError> {
+    let mut depot = shelf(rt.alloc(), &[R1, R2, R3])?;
+    for row in &WHOLE {
+        assert!(rt; is_due(rt.alloc(), &mut depot, row)?, "{row:?}");
+    }
+    Ok(())
+}
+
+#[test]
+fn only_version_3_names_its_broadcast(rt: HostRuntime) -> Result<(), AllocError> {
+    let mut depot = shelf(rt.alloc(), &[P1, P2, R2])?;
+    for row in &OLDER {
+        assert!(rt; is_due(rt.alloc(), &mut depot, row)?, "{row:?}");
+    }
+    Ok(())
+}
+
+#[test]
+fn broadcasts_that_broke_off_end_at_the_next(rt: HostRuntime) -> Result<(), AllocError> {
+    let mut depot = shelf(rt.alloc(), &[R1, R2, P1, P2])?;
+    for row in &BROKEN {
+        assert!(rt; is_due(rt.alloc(), &mut depot, row)?, "{row:?}");
+    }
+    Ok(())
+}
+
+#[test]
+fn revocations_are_those_of_each_broadcast(rt: HostRuntime) -> Result<(), AllocError> {
+    let mut depot = shelf(rt.alloc(), &[R1, Q2, R3])?;
+    for row in &REVOKED {
+        assert!(rt; is_due(rt.alloc(), &mut depot, row)?, "{row:?}");
+    }
+    Ok(())
+}
+
+#[test]
+fn losses_cost_their_own_broadcast_alone(rt: HostRuntime) -> Result<(), AllocError> {
+    let mut depot = shelf(rt.alloc(), &[R1, R2, R3])?;
+    for row in &LOSSES {
+        assert!(rt; is_due(rt.alloc(), &mut depot, row)?, "{row:?}");
+    }
+    Ok(())
+}
+
+#[test]
+fn packets_held_at_a_seam_are_dropped(rt: HostRuntime) -> Result<(), AllocError> {
+    let mut depot = shelf(rt.alloc(), &LONG)?;
+    for (name, digest) in &SENT {
+        let broadcast = file(rt.alloc(), &depot, name)?;
+        assert!(rt; has_digest(&broadcast, digest), "{name}");
+    }
+    for row in &HELD {
+        assert!(rt; is_due(rt.alloc(), &mut depot, row)?, "{row:?}");
+    }
+    Ok(())
+}
