@@ -48,7 +48,7 @@ say "Bob's receiver opens all of it."
 run receive card-bob broadcast.ts bob.ts
 show cmp clear.ts bob.ts
 
-say "Ann's opens the first period, and is told of the second."
+say "Ann's opens the first period, and hears of the second."
 run receive card-ann broadcast.ts ann.ts
 show cmp -n $((400 * 188)) clear.ts ann.ts
 

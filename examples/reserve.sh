@@ -1,10 +1,11 @@
 #!/bin/sh
 # reserve.sh FOLDER MULTIPLEXES WORDS [later]: reserves control words and periods for multiplexes that go on air
 # together. FOLDER has channel.txt, the first eight lines of their sites; book.txt; and next, a line with the first
-# control word and the first period that no broadcast has used. A new folder FOLDER/day-P, P being its first period, gets
-# site-1.txt, site-2.txt and so on, with WORDS control words for each multiplex, and book.txt as it is now. Its name is
-# printed. next is written anew before that, so what is reserved is used once at most, whatever breaks off later. If this
-# fails, nothing may be sent: next is as it was, or some numbers are left out for good.
+# control word and the first period that no broadcast has used. A new folder FOLDER/day-P, P being its first period,
+# gets site-1.txt, site-2.txt and so on, with messages of version 3 and WORDS control words for each multiplex, and
+# book.txt as it is now. Its name is printed. next is written anew before that, so what is reserved is used once at
+# most, whatever breaks off later. If this fails, nothing may be sent: next is as it was, or some numbers are left out
+# for good.
 # All commands of the book must hold from the first period on. With `later` some may hold from a later one on; the
 # broadcasts after these have them from their beginning.
 # SDCA=PROGRAM names the program, else it is ../sdca.
@@ -66,7 +67,7 @@ while [ "$multiplex" -lt "$multiplexes" ]; do
     multiplex=$((multiplex + 1))
     {
         cat channel.txt
-        printf 'messages 1\nfirst-word %s\nlast-word %s\nfirst-period %s\n' \
+        printf 'messages 3\nfirst-word %s\nlast-word %s\nfirst-period %s\n' \
             "$first" $((first + words - 1)) "$period"
     } >"day.new/site-$multiplex.txt"
     first=$((first + words))
