@@ -117,7 +117,7 @@ say "The box is switched off. It says that one broadcast broke off."
 exec 7>&-
 wait "$box" || echo "exit $?"
 
-say "It wrote all of what was sent whole, and of the rest the beginning."
+say "It wrote all packets of the whole broadcasts, and the first ones of the other."
 of_first=$(packets "$first/clear.ts")
 of_third=$(packets "$third/clear.ts")
 of_second=$(($(packets seen.ts) - of_first - of_third))
@@ -130,9 +130,10 @@ echo "$third: $of_third packets of $of_third"
 tail -c $((of_third * 188)) seen.ts >back.ts
 echo "ffmpeg finds $(pictures seen.ts) pictures, $(pictures back.ts) of them of the last broadcast"
 
-say "Ann's box has the first day alone."
+say "Ann's box has nothing from the second day on."
 for day in "$first" "$second" "$third"; do whole "$day/sent.ts"; done |
     "$program" receive card-ann /dev/stdin ann.ts || echo "exit $?"
-cmp "$first/clear.ts" ann.ts && echo "$first: $(packets ann.ts) packets of $of_first"
+cmp -n "$(wc -c <ann.ts)" "$first/clear.ts" ann.ts
+echo "$first: $(packets ann.ts) packets of $of_first"
 
 printf '\nThe files are in %s\n' "$(pwd -P)"

@@ -48,7 +48,7 @@ name_of Out = codes "OUT"
 -- what it says
 unfoldable pub meaning_of : Operand → List ℕ
 meaning_of Site =
-    codes "the site file: height, master secret, PIDs, period lengths, range of control words, first period"
+    codes "the site file: height, master, PIDs, period lengths, version of messages, control words, first period"
 meaning_of Book = codes "the book: one command per line, subscribe LEAF, revoke LEAF or period"
 meaning_of Accounts =
     codes "the accounts: one change per line, assign NAME LEAF, drop NAME, restore NAME or period"

@@ -182,7 +182,8 @@ impl Command {
             Command::Messages => "prints the messages of a broadcast, one line each",
             Command::Opens => "prints which sets of each period the cards of a coalition open",
             Command::Plan => "prints the size of a broadcast on air, before it is made",
-            Command::Receive => "writes the clear packets of a broadcast that a card opens",
+            Command::Receive =>
+                "writes the clear packets that a card opens, of one broadcast or of several in a row",
             Command::Sample => "makes a clear stream for tests",
             Command::Show => "prints the fields of a card's file, without its keys",
             Command::Tables => "prints the tables of a stream, one line of JSON each",

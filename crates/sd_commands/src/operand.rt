@@ -105,7 +105,7 @@ impl Operand {
     {
         match self {
             Operand::Site =>
-                "the site file: height, master secret, PIDs, period lengths, range of control words, first period",
+                "the site file: height, master, PIDs, period lengths, version of messages, control words, first period",
             Operand::Book =>
                 "the book: one command per line, subscribe LEAF, revoke LEAF or period",
             Operand::Accounts => {
