@@ -51,7 +51,7 @@ reserve() {
 
 # OPTIONS..: eight seconds of a picture.
 picture() {
-    ffmpeg -v fatal "$@" -f lavfi -i testsrc2=size=640x360:rate=25:duration=8 -c:v mpeg2video -b:v 2M -f mpegts -
+    ffmpeg -nostdin -v fatal "$@" -f lavfi -i testsrc2=size=640x360:rate=25:duration=8 -c:v mpeg2video -b:v 2M -f mpegts -
 }
 
 # FILE: how many packets it has.
