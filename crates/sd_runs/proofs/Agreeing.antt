@@ -95,7 +95,7 @@ pub cat_unheard : (card : CardFields) (cat : List ℕ) → heard card (cat ∷ [
 unfolding heard tuning_of
 cat_unheard card cat = refl
 
-first_run : (thing : Heard) → of_run [] thing ≡ []
+pub first_run : (thing : Heard) → of_run [] thing ≡ []
 unfolding of_run is_turn name_in
 first_run thing = refl
 

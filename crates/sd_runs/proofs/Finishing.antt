@@ -1,6 +1,6 @@
 -- What comes of pieces of broadcasts of one channel, and of whole runs of it of which packets are lost.
-use Rattle.std.proofs.Common.{◌≡◌, refl, ℕ, ◌^◌, ◌<◌, ◌||◌, ◌++◌, Bool, true, false, List, [], ◌∷◌, reverse, Option}
-use Rattle.std.proofs.Common.{Some, None, sym, ap, ◌∙◌, append-nil}
+use Rattle.std.proofs.Common.{◌≡◌, refl, ℕ, ◌+◌, ◌^◌, ◌<◌, ◌||◌, ◌++◌, Bool, true, false, List, [], ◌∷◌, reverse}
+use Rattle.std.proofs.Common.{Option, Some, None, sym, ap, ◌∙◌, append-nil}
 use Rattle.std.specs.Prelude.{if◌then◌else◌, All}
 use Rattle.std.specs.List.{list_any}
 use Rattle.std.proofs.lemmas.Bool.{false≢true}
@@ -13,6 +13,7 @@ use Rattle.sd_reception.specs.declared.ending.Ending.TheVariants.{NoCat}
 use Rattle.sd_reception.specs.Tuned.{Tuning}
 use Rattle.sd_reception.specs.Offered.{heard, out_from, break_from}
 use Rattle.sd_reception.specs.Ending.{joined, run_ending, run_wrote, ending_of}
+use Rattle.sd_reception.specs.Taken.{taken_keys}
 use Rattle.sd_losses.specs.Chosen.{chosen}
 use Rattle.sd_losses.specs.Confirmed.{confirmed}
 use Rattle.sd_losses.specs.Endings.{ending_told}
@@ -20,6 +21,7 @@ use Rattle.sd_runs.specs.Together.{joined_to}
 use Rattle.sd_runs.specs.Channel.{Arrival, Channel, IsRunOf, HaveTwoNames, AreRunsOf, arriving}
 use Rattle.sd_runs.specs.Many.{kept_of, has_cat, confirmed_from}
 use Rattle.sd_runs.specs.Ends.{is_told, endings_from, all_joined, ending_of_all}
+use Rattle.sd_runs.specs.Keys.{kept_periods, keys_from}
 use Rattle.sd_runs.specs.Switched.{names_from, IsOtherThanFirst, AreAlternating, ArePiecesOf}
 use Rattle.sd_runs.proofs.Endings.{onto, reversed, opened_joins, ending_by}
 use Rattle.sd_runs.proofs.Trailing.{ending_quiet}
@@ -123,10 +125,11 @@ passes false name names alternate = (
   alternate,
 )
 
--- What comes of pieces: nothing is refused of them.
-pub record Come (card : CardFields) (past packets wrote : List (List ℕ)) (ending : Ending) : Type 0 where
+-- What comes of pieces: nothing is refused of them, and this number of keys is taken.
+pub record Come (card : CardFields) (past packets wrote : List (List ℕ)) (keys : ℕ) (ending : Ending) : Type 0 where
   pub out : out_from card past packets ≡ wrote
   pub none : break_from card past packets ≡ None
+  pub taken : taken_keys card past packets ≡ keys
   pub ends : ending_of card (onto packets past) ≡ ending
 
 pieces_come : (channel : Channel) (pieces : List Arrival) (u : ℕ) (past : List (List ℕ)) (tuned : Bool)
@@ -134,11 +137,13 @@ pieces_come : (channel : Channel) (pieces : List Arrival) (u : ℕ) (past : List
     u < 2 ^ channel.height →
     StandsBetween (card_in channel u) (tuning_in channel) (λ a. IsOtherThanFirst a (names_from tuned pieces)) tuned told
     past →
-    Come (card_in channel u) past (arriving pieces) (confirmed_from tuned u pieces) (ends_with tuned told u pieces)
-unfolding out_from break_from
+    Come (card_in channel u) past (arriving pieces) (confirmed_from tuned u pieces) (keys_from tuned u pieces)
+    (ends_with tuned told u pieces)
+unfolding out_from break_from taken_keys
 pieces_come channel [] u past tuned told are alternate leaf stands = record {
   out = refl;
   none = refl;
+  taken = refl;
   ends = none_left (card_in channel u) (tuning_in channel) (λ a. IsOtherThanFirst a []) tuned told u past stands;
 }
 pieces_come channel (run ∷ runs) u past tuned told are alternate leaf stands =
@@ -157,6 +162,7 @@ pieces_come channel (run ∷ runs) u past tuned told are alternate leaf stands =
       out = over.out
           ∙ ap (λ (w : List (List ℕ)). confirmed run.plan u run.clear (kept_of tuned run) ++ w) rest.out;
       none = over.breaks ∙ rest.none;
+      taken = over.taken ∙ ap (λ (n : ℕ). kept_periods run.plan u run.clear (kept_of tuned run) + n) rest.taken;
       ends = ap (ending_of card) (onto_more packets (arriving runs) past)
           ∙ (rest.ends
           ∙ ends_next tuned told u run runs (none_told card tuning
@@ -165,7 +171,8 @@ pieces_come channel (run ∷ runs) u past tuned told are alternate leaf stands =
 
 -- pieces of which nothing came before
 all_come : (channel : Channel) (pieces : List Arrival) (u : ℕ) → ArePiecesOf channel pieces → u < 2 ^ channel.height →
-    Come (card_in channel u) [] (arriving pieces) (confirmed_from false u pieces) (ending_of_all u pieces)
+    Come (card_in channel u) [] (arriving pieces) (confirmed_from false u pieces) (keys_from false u pieces)
+    (ending_of_all u pieces)
 all_come channel pieces u are leaf =
     pieces_come channel pieces u [] false None are.0 are.1 leaf (nothing_came (card_in channel u), refl)
 
@@ -185,6 +192,12 @@ pub pieces_end : (channel : Channel) (pieces : List Arrival) (u : ℕ) → ArePi
 pieces_end channel pieces u are leaf =
     ap (ending_of (card_in channel u)) (sym (append-nil (reverse (arriving pieces))) ∙ reversed (arriving pieces) [])
     ∙ (all_come channel pieces u are leaf).ends
+
+-- how many keys are taken of pieces
+pub pieces_taken : (channel : Channel) (pieces : List Arrival) (u : ℕ) → ArePiecesOf channel pieces →
+    u < 2 ^ channel.height →
+    taken_keys (card_of channel.master channel.ca channel.height u) [] (arriving pieces) ≡ keys_from false u pieces
+pieces_taken channel pieces u are leaf = (all_come channel pieces u are leaf).taken
 
 -- runs of which no two have one name are such pieces
 other_names : (run : Arrival) (runs : List Arrival) (tuned : Bool) → All (HaveTwoNames run) runs →
@@ -231,6 +244,11 @@ runs_out channel runs u are leaf = pieces_out channel runs u (runs_are_pieces ch
 pub runs_break : (channel : Channel) (runs : List Arrival) (u : ℕ) → AreRunsOf channel runs → u < 2 ^ channel.height →
     break_from (card_of channel.master channel.ca channel.height u) [] (arriving runs) ≡ None
 runs_break channel runs u are leaf = pieces_break channel runs u (runs_are_pieces channel runs are) leaf
+
+-- how many keys are taken of them
+pub runs_taken : (channel : Channel) (runs : List Arrival) (u : ℕ) → AreRunsOf channel runs → u < 2 ^ channel.height →
+    taken_keys (card_of channel.master channel.ca channel.height u) [] (arriving runs) ≡ keys_from false u runs
+runs_taken channel runs u are leaf = pieces_taken channel runs u (runs_are_pieces channel runs are) leaf
 
 pub runs_end : (channel : Channel) (runs : List Arrival) (u : ℕ) → AreRunsOf channel runs → u < 2 ^ channel.height →
     ending_of (card_of channel.master channel.ca channel.height u) (reverse (arriving runs)) ≡ ending_of_all u runs

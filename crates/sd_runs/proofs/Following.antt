@@ -230,7 +230,7 @@ heard_led card tuning past packet things lead tuned is quiet stays =
     ∙ (ap (λ (hs : List Heard). heard_more hs thing) is
     ∙ (more_is (things ++ lead) thing stays ∙ more_led things lead thing quiet))
 
-there_is : (card : CardFields) (tuning : Tuning) (k n m : ℕ) (packet : List ℕ) → n ≡ k + m →
+pub there_is : (card : CardFields) (tuning : Tuning) (k n m : ℕ) (packet : List ℕ) → n ≡ k + m →
     hears card.height tuning n packet ≡ thing_later k (hears card.height tuning m packet)
 there_is card tuning k n m packet count =
     ap (λ (j : ℕ). hears card.height tuning j packet) count ∙ hears_later card.height k m tuning packet
@@ -316,7 +316,7 @@ pub record Begins (card : CardFields) (tuning : Tuning) (past : List (List ℕ))
   pub run : of_run (heard card past) (hears card.height tuning (length past) packet) ≡ old
   pub quiet : AreQuiet old
 
-begun : (card : CardFields) (tuning : Tuning) (name : Option ℕ) (Fresh : Option ℕ → Type 0) (past : List (List ℕ))
+pub begun : (card : CardFields) (tuning : Tuning) (name : Option ℕ) (Fresh : Option ℕ → Type 0) (past : List (List ℕ))
     (packet : List ℕ) → ((a : Option ℕ) → Fresh a → a ≢ name) → name_at card.height tuning packet ≡ Some name →
     IsLast card Fresh past → (old : List Heard) × Begins card tuning past packet old
 begun card tuning name Fresh past packet apart is (inl quiet) = (
@@ -356,7 +356,7 @@ begun_heard card tuning past packet old tuned begins =
     ∙ ap (λ (closed : Bool). if closed then heard card past
     else hears card.height tuning (length past) packet ∷ old) (closed_quiet old begins.quiet))
 
-alone_begins : (card : CardFields) (tuning : Tuning) (alone : List (List ℕ)) (packet : List ℕ) →
+pub alone_begins : (card : CardFields) (tuning : Tuning) (alone : List (List ℕ)) (packet : List ℕ) →
     AreQuiet (heard card alone) → Begins card tuning alone packet (heard card alone)
 alone_begins card tuning alone packet quiet = record {
   run = same_run (heard card alone) (hears card.height tuning (length alone) packet)

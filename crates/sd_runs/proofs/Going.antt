@@ -1,5 +1,5 @@
 -- Packets of one run come to the same within a stream as by themselves.
-use Rattle.std.proofs.Common.{◌≡◌, refl, ℕ, ◌+◌, ◌≤◌, ◌++◌, false, List, [], ◌∷◌, length, Option}
+use Rattle.std.proofs.Common.{◌≡◌, refl, ℕ, ◌+◌, ◌≤◌, ◌++◌, Bool, false, List, [], ◌∷◌, length, Option}
 use Rattle.std.proofs.Common.{Some, None, is_none, sym, ap, ◌∙◌, arith, subst, inl, inr, append_assoc}
 use Rattle.std.specs.Prelude.{if◌then◌else◌, option_map}
 use Rattle.std.specs.Option.{option_map_or}
@@ -9,6 +9,7 @@ use Rattle.sd_reception.specs.Tuned.{Tuning, tuning_of}
 use Rattle.sd_reception.specs.Heard.{Heard, hears}
 use Rattle.sd_reception.specs.Runs.{name_in, are_two}
 use Rattle.sd_reception.specs.Offered.{heard, Offering, offered, out_from, break_from}
+use Rattle.sd_reception.specs.Taken.{takes_key_at, taken_keys}
 use Rattle.sd_losses.proofs.OneRun.{of_named}
 use Rattle.sd_runs.specs.Pieces.{name_at}
 use Rattle.sd_runs.specs.Together.{fault_later}
@@ -41,10 +42,12 @@ one_run card tuning name packet (inl quiet) =
     ap (are_two (Some name)) (quiet_unnamed (hears card.height tuning 0 packet) quiet)
 one_run card tuning name packet (inr is) = ap (are_two (Some name)) is ∙ of_named name name refl
 
--- What packets come to within a stream, where nothing is refused of them by themselves.
+-- What packets come to within a stream, where nothing is refused of them by themselves, and the keys that they take.
 pub record AreAlike (card : CardFields) (past alone packets next : List (List ℕ)) : Type 0 where
   pub out : out_from card past (packets ++ next) ≡ out_from card alone packets ++ out_from card (onto packets past) next
   pub breaks : break_from card past (packets ++ next) ≡ break_from card (onto packets past) next
+  pub taken : taken_keys card past (packets ++ next)
+      ≡ taken_keys card alone packets + taken_keys card (onto packets past) next
 
 pub first_none : (fault rest : Option StreamFault) → option_map_or Some fault rest ≡ None → fault ≡ None
 first_none None rest is = refl
@@ -54,12 +57,16 @@ pub rest_none : (fault rest : Option StreamFault) → option_map_or Some fault r
 rest_none None rest is = is
 rest_none (Some f) rest is = absurd cc
 
+-- the keys of a packet more, of those behind it and of what follows
+taken_then : (one all own later : ℕ) → all ≡ own + later → one + all ≡ (one + own) + later
+taken_then one all own later is = omega (arith, is)
+
 pub alike_more : (card : CardFields) (k : ℕ) (past alone packets next : List (List ℕ)) (packet : List ℕ) →
     offered card past packet ≡ offering_later k (offered card alone packet) →
-    (offered card alone packet).fault ≡ None → AreAlike card (packet ∷ past) (packet ∷ alone) packets next →
-    AreAlike card past alone (packet ∷ packets) next
-unfolding out_from break_from
-alike_more card k past alone packets next packet same none rest =
+    (offered card alone packet).fault ≡ None → takes_key_at card past packet ≡ takes_key_at card alone packet →
+    AreAlike card (packet ∷ past) (packet ∷ alone) packets next → AreAlike card past alone (packet ∷ packets) next
+unfolding out_from break_from taken_keys
+alike_more card k past alone packets next packet same none takes rest =
     let wrote : List (List ℕ) = (offered card alone packet).wrote in
     let others : List (List ℕ) = out_from card (packet ∷ past) (packets ++ next) in
     let own : List (List ℕ) = out_from card (packet ∷ alone) packets in
@@ -76,6 +83,10 @@ alike_more card k past alone packets next packet same none rest =
           ∙ (ap (λ (f : Option StreamFault). option_map_or Some (option_map (fault_later k) f)
           (break_from card (packet ∷ past) (packets ++ next))) none
           ∙ rest.breaks);
+      taken = ap (λ (t : Bool). (if t then 1 else 0) + taken_keys card (packet ∷ past) (packets ++ next)) takes
+          ∙ taken_then (if takes_key_at card alone packet then 1 else 0)
+          (taken_keys card (packet ∷ past) (packets ++ next)) (taken_keys card (packet ∷ alone) packets)
+          (taken_keys card (onto packets (packet ∷ past)) next) rest.taken;
     }
 
 pub follows_named : (card : CardFields) (tuning : Tuning) (k : ℕ) (name : Option ℕ) (past alone : List (List ℕ)) →

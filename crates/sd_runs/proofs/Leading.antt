@@ -203,7 +203,7 @@ period_led past lead (BadEmm fault) quiet = refl
 period_led past lead (BadEcm fault) quiet = refl
 period_led past lead (Other n packet) quiet = refl
 
-current_led : (past lead : List Heard) → AreQuiet lead → current (past ++ lead) ≡ current past
+pub current_led : (past lead : List Heard) → AreQuiet lead → current (past ++ lead) ≡ current past
 unfolding current
 current_led [] lead quiet = current_quiet lead quiet
 current_led (thing ∷ past) lead quiet =
@@ -224,7 +224,7 @@ seen_led q (BadEmm fault ∷ past) lead quiet = seen_led q past lead quiet
 seen_led q (BadEcm fault ∷ past) lead quiet = seen_led q past lead quiet
 seen_led q (Other n packet ∷ past) lead quiet = seen_led q past lead quiet
 
-key_led : (q : ℕ) (card : CardFields) (past lead : List Heard) → AreQuiet lead →
+pub key_led : (q : ℕ) (card : CardFields) (past lead : List Heard) → AreQuiet lead →
     key_at card (past ++ lead) q ≡ key_at card past q
 key_led q card past lead quiet = ap (key_in card) (seen_led q past lead quiet)
 

@@ -5,9 +5,12 @@ pub mod Pieces
 pub mod Outs
 pub mod Breaks
 pub mod Endings
+pub mod Taking
 pub mod Streams
+pub mod Keys
 pub mod Leading
 pub mod Following
+pub mod Taken
 pub mod Going
 pub mod Runs
 pub mod Many

@@ -1,5 +1,5 @@
 -- What comes of a run within a stream of runs of one channel.
-use Rattle.std.proofs.Common.{◌≡◌, refl, ℕ, ◌-◌, ◌^◌, ◌<◌, ◌||◌, ◌++◌, Bool, true, false, List, [], ◌∷◌, length}
+use Rattle.std.proofs.Common.{◌≡◌, refl, ℕ, ◌+◌, ◌-◌, ◌^◌, ◌<◌, ◌||◌, ◌++◌, Bool, true, false, List, [], ◌∷◌, length}
 use Rattle.std.proofs.Common.{drop, is_none, reverse, Option, Some, None, sym, ap, ◌∙◌, arith, subst, append-nil}
 use Rattle.std.specs.Prelude.{if◌then◌else◌}
 use Rattle.std.specs.List.{list_any}
@@ -12,6 +12,7 @@ use Rattle.sd_reception.specs.Tuned.{Tuning}
 use Rattle.sd_reception.specs.Heard.{hears}
 use Rattle.sd_reception.specs.Offered.{Offering, out_from, break_from}
 use Rattle.sd_reception.specs.Ending.{ending_of}
+use Rattle.sd_reception.specs.Taken.{taken_keys}
 use Rattle.sd_losses.specs.Chosen.{chosen}
 use Rattle.sd_losses.specs.Kept.{is_cat, after_cat}
 use Rattle.sd_losses.specs.Confirmed.{confirmed}
@@ -21,12 +22,15 @@ use Rattle.sd_losses.proofs.Lawful.{setting}
 use Rattle.sd_runs.specs.Channel.{Arrival, Channel, IsRunOf}
 use Rattle.sd_runs.specs.Many.{kept_of, has_cat}
 use Rattle.sd_runs.specs.Ends.{is_message, is_told}
+use Rattle.sd_runs.specs.Keys.{kept_periods}
 use Rattle.sd_runs.proofs.Agreeing.{tuned_more}
 use Rattle.sd_runs.proofs.Leading.{is_quiet}
 use Rattle.sd_runs.proofs.Pieces.{cat_out, cat_break}
 use Rattle.sd_runs.proofs.Endings.{onto, reversed}
 use Rattle.sd_runs.proofs.Streams.{nothing_came}
+use Rattle.sd_runs.proofs.Keys.{takes_none, cat_taken}
 use Rattle.sd_runs.proofs.Following.{quiet_offered}
+use Rattle.sd_runs.proofs.Taken.{quiet_taken}
 use Rattle.sd_runs.proofs.Sending.{AreSentAs, sent_chosen, Progress, Untuned, Waiting, Begun, after_items}
 use Rattle.sd_runs.proofs.Sending.{after_waiting, after_untuned, untold}
 use Rattle.sd_runs.proofs.Ended.{ended_more}
@@ -65,11 +69,13 @@ good_in channel run u is leaf =
     (subst (λ (tuning : Tuning). GoodRun (setting run.plan run.clear u).card tuning u run)
     (tuning_same channel run u is) (good_of run u is.plan is.clear is.whole within))
 
--- A run is over: nothing of it was refused, this was written of it, and the runs that messages came of end so.
+-- A run is over: nothing of it was refused, this was written of it, this number of keys was taken of it, and the runs
+-- that messages came of end so.
 pub record IsOver (card : CardFields) (tuning : Tuning) (Next : Option ℕ → Type 0) (tuned : Bool)
-    (told : Option Ending) (wrote past packets next : List (List ℕ)) : Type 0 where
+    (told : Option Ending) (keys : ℕ) (wrote past packets next : List (List ℕ)) : Type 0 where
   pub out : out_from card past (packets ++ next) ≡ wrote ++ out_from card (onto packets past) next
   pub breaks : break_from card past (packets ++ next) ≡ break_from card (onto packets past) next
+  pub taken : taken_keys card past (packets ++ next) ≡ keys + taken_keys card (onto packets past) next
   pub stands : StandsBetween card tuning Next tuned told (onto packets past)
 
 -- how a run ends by itself, its packets put one after the other
@@ -95,6 +101,7 @@ untuned_over : (card : CardFields) (tuning : Tuning) (u : ℕ) (run : Arrival) (
     StandsBetween card tuning Fresh false told past →
     IsOver card tuning Next (has_cat run)
     (told_more told (is_told false run) (ending_told run.plan u run.clear (kept_of false run)))
+    (kept_periods run.plan u run.clear (kept_of false run))
     (confirmed run.plan u run.clear (kept_of false run)) past (chosen run.flags (broadcast run.plan run.clear)) next
 untuned_over card tuning u run cat tail past next Fresh Next told good passed stands =
     let name : Option ℕ = site_name run.plan.site in
@@ -111,6 +118,8 @@ untuned_over card tuning u run cat tail past next Fresh Next told good passed st
       out = gone.0.out
           ∙ ap (λ (wrote : List (List ℕ)). wrote ++ out_from card (onto packets past) next) (good.out run.flags);
       breaks = gone.0.breaks;
+      taken = gone.0.taken
+          ∙ ap (λ (n : ℕ). n + taken_keys card (onto packets past) next) (good.taken run.flags);
       stands = subst (λ (e : Ending). StandsBetween card tuning Next (has_cat run)
           (told_more told (is_told false run) e) (onto packets past))
           (alone_ends card packets (ending_told run.plan u run.clear kept) (good.ends run.flags))
@@ -145,6 +154,7 @@ pub record IsTail (card : CardFields) (u : ℕ) (run : Arrival) (cat : List ℕ)
   pub out : out_from card (cat ∷ []) packets ≡ confirmed run.plan u run.clear (kept_of true run)
   pub none : break_from card (cat ∷ []) packets ≡ None
   pub ends : ending_of card (onto packets (cat ∷ [])) ≡ ending_told run.plan u run.clear (kept_of true run)
+  pub taken : taken_keys card (cat ∷ []) packets ≡ kept_periods run.plan u run.clear (kept_of true run)
 
 with_cat : (fs : List Bool) (cat : List ℕ) (tail : List (List ℕ)) →
     chosen (true ∷ fs) (cat ∷ tail) ≡ cat ∷ chosen fs tail
@@ -163,6 +173,7 @@ tail_is card tuning u run cat tail good =
       none = sym (cat_break card cat packets) ∙ (ap (break_from card []) same ∙ good.none (true ∷ fs));
       ends = alone_ends card (cat ∷ packets) (ending_told run.plan u run.clear (kept_of true run))
           (ap (λ (ps : List (List ℕ)). ending_of card (reverse ps)) same ∙ good.ends (true ∷ fs));
+      taken = sym (cat_taken card cat packets) ∙ (ap (taken_keys card []) same ∙ good.taken (true ∷ fs));
     }
 
 -- what arrives of it behind that CAT
@@ -172,6 +183,7 @@ tuned_tail_over : (card : CardFields) (tuning : Tuning) (u : ℕ) (run : Arrival
     StandsBetween card tuning Fresh true told past →
     IsOver card tuning Next true
     (told_more told (is_told true run) (ending_told run.plan u run.clear (kept_of true run)))
+    (kept_periods run.plan u run.clear (kept_of true run))
     (confirmed run.plan u run.clear (kept_of true run)) past (chosen (drop 1 run.flags) tail) next
 tuned_tail_over card tuning u run cat tail past next Fresh Next told good passed stands =
     let name : Option ℕ = site_name run.plan.site in
@@ -194,6 +206,7 @@ tuned_tail_over card tuning u run cat tail past next Fresh Next told good passed
       out = gone.0.out
           ∙ ap (λ (wrote : List (List ℕ)). wrote ++ out_from card (onto packets past) next) own.out;
       breaks = gone.0.breaks;
+      taken = gone.0.taken ∙ ap (λ (n : ℕ). n + taken_keys card (onto packets past) next) own.taken;
       stands = subst (λ (e : Ending). StandsBetween card tuning Next true (told_more told (is_told true run) e)
           (onto packets past)) own.ends
           (over_tuned card tuning k name Fresh Next told (onto packets past) alone (is_told true run) passed
@@ -203,12 +216,13 @@ tuned_tail_over card tuning u run cat tail past next Fresh Next told good passed
 
 -- the CAT of a run behind another changes nothing
 cat_over : (card : CardFields) (tuning : Tuning) (Fresh Next : Option ℕ → Type 0) (told after : Option Ending)
-    (wrote past packets next : List (List ℕ)) (cat : List ℕ) → is_quiet (hears card.height tuning 0 cat) ≡ true →
+    (keys : ℕ) (wrote past packets next : List (List ℕ)) (cat : List ℕ) →
+    is_quiet (hears card.height tuning 0 cat) ≡ true →
     StandsBetween card tuning Fresh true told past →
-    IsOver card tuning Next true after wrote (cat ∷ past) packets next →
-    IsOver card tuning Next true after wrote past (cat ∷ packets) next
+    IsOver card tuning Next true after keys wrote (cat ∷ past) packets next →
+    IsOver card tuning Next true after keys wrote past (cat ∷ packets) next
 unfolding out_from break_from
-cat_over card tuning Fresh Next told after wrote past packets next cat quiet stands over =
+cat_over card tuning Fresh Next told after keys wrote past packets next cat quiet stands over =
     let same = quiet_offered card tuning past cat stands.0 quiet in
     let more : List (List ℕ) = packets ++ next in
     record {
@@ -216,22 +230,24 @@ cat_over card tuning Fresh Next told after wrote past packets next cat quiet sta
           ∙ over.out;
       breaks = ap (λ (o : Offering). option_map_or Some o.fault (break_from card (cat ∷ past) more)) same
           ∙ over.breaks;
+      taken = takes_none card past more cat (quiet_taken card tuning past cat stands.0 quiet) ∙ over.taken;
       stands = over.stands;
     }
 
 -- whether or not that CAT arrives
 cat_or_not : (card : CardFields) (tuning : Tuning) (Fresh Next : Option ℕ → Type 0) (told after : Option Ending)
-    (wrote tail past next : List (List ℕ)) (cat : List ℕ) (fs : List Bool) →
+    (keys : ℕ) (wrote tail past next : List (List ℕ)) (cat : List ℕ) (fs : List Bool) →
     is_quiet (hears card.height tuning 0 cat) ≡ true → StandsBetween card tuning Fresh true told past →
     ((before : List (List ℕ)) → StandsBetween card tuning Fresh true told before →
-    IsOver card tuning Next true after wrote before (chosen (drop 1 fs) tail) next) →
-    IsOver card tuning Next true after wrote past (chosen fs (cat ∷ tail)) next
+    IsOver card tuning Next true after keys wrote before (chosen (drop 1 fs) tail) next) →
+    IsOver card tuning Next true after keys wrote past (chosen fs (cat ∷ tail)) next
 unfolding chosen
-cat_or_not card tuning Fresh Next told after wrote tail past next cat [] quiet stands over = over past stands
-cat_or_not card tuning Fresh Next told after wrote tail past next cat (false ∷ fs) quiet stands over =
+cat_or_not card tuning Fresh Next told after keys wrote tail past next cat [] quiet stands over = over past stands
+cat_or_not card tuning Fresh Next told after keys wrote tail past next cat (false ∷ fs) quiet stands over =
     over past stands
-cat_or_not card tuning Fresh Next told after wrote tail past next cat (true ∷ fs) quiet stands over =
-    cat_over card tuning Fresh Next told after wrote past (chosen fs tail) next cat quiet stands (over (cat ∷ past) (
+cat_or_not card tuning Fresh Next told after keys wrote tail past next cat (true ∷ fs) quiet stands over =
+    cat_over card tuning Fresh Next told after keys wrote past (chosen fs tail) next cat quiet stands
+    (over (cat ∷ past) (
       tuned_more card tuning past cat stands.0,
       ended_more card tuning Fresh told past cat stands.0 quiet stands.1,
     ))
@@ -243,14 +259,16 @@ tuned_over : (card : CardFields) (tuning : Tuning) (u : ℕ) (run : Arrival) (ca
     StandsBetween card tuning Fresh true told past →
     IsOver card tuning Next true
     (told_more told (is_told true run) (ending_told run.plan u run.clear (kept_of true run)))
+    (kept_periods run.plan u run.clear (kept_of true run))
     (confirmed run.plan u run.clear (kept_of true run)) past (chosen run.flags (broadcast run.plan run.clear)) next
 tuned_over card tuning u run cat tail past next Fresh Next told good passed stands =
     let after : Option Ending =
     told_more told (is_told true run) (ending_told run.plan u run.clear (kept_of true run)) in
+    let keys : ℕ = kept_periods run.plan u run.clear (kept_of true run) in
     let wrote : List (List ℕ) = confirmed run.plan u run.clear (kept_of true run) in
-    subst (λ (all : List (List ℕ)). IsOver card tuning Next true after wrote past (chosen run.flags all) next)
+    subst (λ (all : List (List ℕ)). IsOver card tuning Next true after keys wrote past (chosen run.flags all) next)
     (sym good.sent_is)
-    (cat_or_not card tuning Fresh Next told after wrote tail past next cat run.flags good.quiet stands
+    (cat_or_not card tuning Fresh Next told after keys wrote tail past next cat run.flags good.quiet stands
     (λ before there.
     tuned_tail_over card tuning u run cat tail before next Fresh Next told good passed there))
 
@@ -261,6 +279,7 @@ pub run_over : (card : CardFields) (tuning : Tuning) (u : ℕ) (run : Arrival) (
     StandsBetween card tuning Fresh tuned told past →
     IsOver card tuning Next (tuned || has_cat run)
     (told_more told (is_told tuned run) (ending_told run.plan u run.clear (kept_of tuned run)))
+    (kept_periods run.plan u run.clear (kept_of tuned run))
     (confirmed run.plan u run.clear (kept_of tuned run)) past (chosen run.flags (broadcast run.plan run.clear)) next
 run_over card tuning u run past next Fresh Next false told (cat, tail, good) passed stands =
     untuned_over card tuning u run cat tail past next Fresh Next told good passed stands

@@ -20,14 +20,16 @@ use Rattle.sd_reception.specs.Heard.{hears}
 use Rattle.sd_reception.specs.Runs.{name_of}
 use Rattle.sd_reception.specs.Offered.{out_from, break_from}
 use Rattle.sd_reception.specs.Ending.{ending_of}
+use Rattle.sd_reception.specs.Taken.{taken_keys}
 use Rattle.sd_losses.specs.Chosen.{chosen}
 use Rattle.sd_losses.specs.Confirmed.{confirmed}
 use Rattle.sd_losses.specs.Endings.{ending_told}
 use Rattle.sd_losses.proofs.Setting.{Setting, tuning_at}
 use Rattle.sd_losses.proofs.Hearing.{AreHearable}
 use Rattle.sd_losses.proofs.Lawful.{setting, can_be_heard}
-use Rattle.sd_losses.proofs.Theorem.{confirmed_alone, none_refused, ends_as_told}
+use Rattle.sd_losses.proofs.Theorem.{confirmed_alone, none_refused, ends_as_told, keys_taken}
 use Rattle.sd_runs.specs.Channel.{Arrival}
+use Rattle.sd_runs.specs.Keys.{kept_periods}
 use Rattle.sd_runs.proofs.Leading.{is_quiet}
 use Rattle.sd_runs.proofs.Sending.{IsSentAs, AreSentAs}
 
@@ -57,6 +59,8 @@ pub record IsGood (card : CardFields) (tuning : Tuning) (u : ℕ) (run : Arrival
   pub none : (fs : List Bool) → break_from card [] (chosen fs (broadcast run.plan run.clear)) ≡ None
   pub ends : (fs : List Bool) → ending_of card (reverse (chosen fs (broadcast run.plan run.clear)))
       ≡ ending_told run.plan u run.clear (chosen fs (sent run.plan run.clear ++ closing_of run.plan run.clear))
+  pub taken : (fs : List Bool) → taken_keys card [] (chosen fs (broadcast run.plan run.clear))
+      ≡ kept_periods run.plan u run.clear (chosen fs (sent run.plan run.clear ++ closing_of run.plan run.clear))
 
 module _ (s : Setting) (able : AreHearable s) where
   item_sent : (earlier : List Item) (item : Item) → IsOfBroadcast s.plan s.clear item →
@@ -111,5 +115,6 @@ good_of run u plan all whole leaf =
         out = λ fs. confirmed_alone run.plan run.clear u fs plan all whole leaf;
         none = λ fs. none_refused run.plan run.clear u fs plan all whole leaf;
         ends = λ fs. ends_as_told run.plan run.clear u fs plan all whole leaf;
+        taken = λ fs. keys_taken run.plan run.clear u fs plan all whole leaf;
       },
     )

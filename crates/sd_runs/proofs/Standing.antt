@@ -11,6 +11,7 @@ use Rattle.sd_reception.specs.Tuned.{Tuning, cat_tuning, tuning_of}
 use Rattle.sd_reception.specs.Heard.{hears}
 use Rattle.sd_reception.specs.Offered.{heard, offered, out_from, break_from}
 use Rattle.sd_reception.specs.Ending.{joined, ending_of}
+use Rattle.sd_reception.specs.Taken.{takes_key_at, taken_keys}
 use Rattle.sd_runs.proofs.Offerings.{offering_later}
 use Rattle.sd_runs.proofs.Leading.{is_quiet, AreQuiet}
 use Rattle.sd_runs.proofs.Agreeing.{cat_tuned, cat_unheard}
@@ -18,6 +19,8 @@ use Rattle.sd_runs.proofs.Endings.{onto, cat_alike}
 use Rattle.sd_runs.proofs.Streams.{IsUntuned, offered_none, tuned_next, ended_none, wrote_none, untuned_more}
 use Rattle.sd_runs.proofs.Following.{IsPacketOf, quiet_offered, Waits, waits_more, begun_follows, more, follows_offered}
 use Rattle.sd_runs.proofs.Following.{follows_more}
+use Rattle.sd_runs.proofs.Taking.{untuned_takes}
+use Rattle.sd_runs.proofs.Taken.{quiet_taken, follows_taken, begun_taken}
 use Rattle.sd_runs.proofs.Going.{AreUntuned, HasBegun, no_heard, one_run, AreAlike, first_none, rest_none, alike_more}
 use Rattle.sd_runs.proofs.Going.{follows_named, some_past}
 use Rattle.sd_runs.proofs.Ended.{HaveEnded, last_of, ended_still, ended_more, earlier, RunsOn, run_begins, run_goes_on}
@@ -39,6 +42,7 @@ abbrev pub StepsTo : CardFields → Tuning → ℕ → Option ℕ → (Option �
     List (List ℕ) → List (List ℕ) → List ℕ → Type 0
 StepsTo card tuning k name Fresh told at past alone packet =
     (offered card past packet ≡ offering_later k (offered card alone packet))
+    × (takes_key_at card past packet ≡ takes_key_at card alone packet)
     × StandsAt card tuning k name Fresh told at (packet ∷ past) (packet ∷ alone)
 
 -- before the CAT nothing comes of a packet
@@ -47,12 +51,19 @@ none_offered : (card : CardFields) (k : ℕ) (past alone : List (List ℕ)) (pac
 none_offered card k past alone packet both =
     offered_none card past packet both.here ∙ ap (offering_later k) (sym (offered_none card alone packet both.there))
 
+-- and it takes no key
+none_takes : (card : CardFields) (k : ℕ) (past alone : List (List ℕ)) (packet : List ℕ) →
+    AreUntuned card k past alone → takes_key_at card past packet ≡ takes_key_at card alone packet
+none_takes card k past alone packet both =
+    untuned_takes card past packet both.here.tuned ∙ sym (untuned_takes card alone packet both.there.tuned)
+
 untuned_other : (card : CardFields) (tuning : Tuning) (k : ℕ) (name : Option ℕ) (Fresh : Option ℕ → Type 0)
     (told : Option Ending) (past alone : List (List ℕ)) (packet : List ℕ) → cat_tuning card.ca packet ≡ None →
     StandsAt card tuning k name Fresh told Untuned past alone →
     StepsTo card tuning k name Fresh told Untuned past alone packet
 untuned_other card tuning k name Fresh told past alone packet other (both, none) = (
   none_offered card k past alone packet both,
+  none_takes card k past alone packet both,
   (
     record {
       here = untuned_more card past packet both.here other;
@@ -75,6 +86,7 @@ untuned_cat : (card : CardFields) (tuning : Tuning) (k : ℕ) (name : Option ℕ
     StepsTo card tuning k name Fresh told Waiting past alone packet
 untuned_cat card tuning k name Fresh told past alone packet is (both, none) = (
   none_offered card k past alone packet both,
+  none_takes card k past alone packet both,
   (
     record {
       tuned = tuned_next card past packet (Some tuning) both.here is.0;
@@ -98,6 +110,8 @@ waiting_quiet : (card : CardFields) (tuning : Tuning) (k : ℕ) (name : Option �
 waiting_quiet card tuning k name Fresh told past alone packet quiet (waits, ended, own) = (
   quiet_offered card tuning past packet waits.tuned quiet
       ∙ ap (offering_later k) (sym (quiet_offered card tuning alone packet waits.alone_tuned quiet)),
+  quiet_taken card tuning past packet waits.tuned quiet
+      ∙ sym (quiet_taken card tuning alone packet waits.alone_tuned quiet),
   (
     waits_more card tuning k Fresh past alone packet quiet waits,
     ended_more card tuning Fresh told past packet waits.tuned quiet ended,
@@ -113,6 +127,7 @@ waiting_message : (card : CardFields) (tuning : Tuning) (k : ℕ) (name : Option
 waiting_message card tuning k name Fresh told past alone packet apart is (waits, ended, own) =
     let now = begun_follows card tuning k name Fresh past alone packet apart is.1 waits in (
       now.0,
+      begun_taken card tuning k name Fresh past alone packet apart is.1 waits,
       (
         (hears card.height tuning (length alone) packet ∷ [], now.1.0, heard card alone, now.1.1),
         run_begins card tuning k name Fresh told past alone packet apart is.1 waits.tuned waits.alone_tuned ended own
@@ -128,6 +143,7 @@ begun_more : (card : CardFields) (tuning : Tuning) (k : ℕ) (name : Option ℕ)
 begun_more card tuning k name Fresh told past alone packet is ((things, old, own, f), on) =
     let one = one_run card tuning name packet is in (
       follows_offered card tuning k name past alone packet things old own one f,
+      follows_taken card tuning k name past alone packet things old own one f,
       (
         (
           more things (hears card.height tuning (length alone) packet),
@@ -172,9 +188,9 @@ pub items_stand : (card : CardFields) (tuning : Tuning) (k : ℕ) (name : Option
     StandsAt card tuning k name Fresh told at past alone →
     AreAlike card past alone packets next
     × StandsAt card tuning k name Fresh told (after_items at items) (onto packets past) (onto packets alone)
-unfolding break_from out_from
+unfolding break_from out_from taken_keys
 items_stand card tuning k name Fresh told [] [] past alone next at apart sent none stands =
-    (record { out = refl; breaks = refl }, stands)
+    (record { out = refl; breaks = refl; taken = omega arith }, stands)
 items_stand card tuning k name Fresh told [] (packet ∷ packets) past alone next at apart sent none stands =
     absurd sent
 items_stand card tuning k name Fresh told (item ∷ items) [] past alone next at apart sent none stands = absurd sent
@@ -184,8 +200,10 @@ items_stand card tuning k name Fresh told (item ∷ items) (packet ∷ packets) 
     let now = item_steps card tuning k name Fresh told past alone packet at item
     (λ begun. apart (ap (λ (p : Progress). after_items p items) begun ∙ begun_stays items)) sent.0 stands in
     let then_is = items_stand card tuning k name Fresh told items packets (packet ∷ past) (packet ∷ alone) next
-    (after_item at item) apart sent.1 (rest_none fault rest none) now.1 in
-    (alike_more card k past alone packets next packet now.0 (first_none fault rest none) then_is.0, then_is.1)
+    (after_item at item) apart sent.1 (rest_none fault rest none) now.2 in (
+      alike_more card k past alone packets next packet now.0 (first_none fault rest none) now.1 then_is.0,
+      then_is.1,
+    )
 
 -- between two runs: no CAT came, or the runs that messages came of end so
 abbrev pub StandsBetween : CardFields → Tuning → (Option ℕ → Type 0) → Bool → Option Ending → List (List ℕ) → Type 0

@@ -70,7 +70,7 @@ untuned_more card past packet none is = record {
 }
 
 -- the CAT itself
-cat_agrees : (card : CardFields) (tuning : Tuning) (n : ℕ) (past : List (List ℕ)) (cat : List ℕ) →
+pub cat_agrees : (card : CardFields) (tuning : Tuning) (n : ℕ) (past : List (List ℕ)) (cat : List ℕ) →
     IsUntuned card past → length past ≡ n → cat_tuning card.ca cat ≡ Some tuning →
     Agrees card tuning n (cat ∷ past) (cat ∷ [])
 cat_agrees card tuning n past cat none count is = record {
@@ -80,7 +80,7 @@ cat_agrees card tuning n past cat none count is = record {
   heard_is = heard_none card past cat none ∙ ap (things_later n) (sym (cat_unheard card cat));
 }
 
-no_name : (card : CardFields) (cat : List ℕ) → name_in (heard card (cat ∷ [])) ≡ None
+pub no_name : (card : CardFields) (cat : List ℕ) → name_in (heard card (cat ∷ [])) ≡ None
 unfolding name_in
 no_name card cat = ap name_in (cat_unheard card cat)
 

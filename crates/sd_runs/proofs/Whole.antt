@@ -1,20 +1,23 @@
 -- Runs of one channel of which nothing is lost, and what is confirmed as a part of what a leaf is entitled to.
-use Rattle.std.proofs.Common.{◌≡◌, refl, ℕ, ◌^◌, ◌<◌, ◌||◌, ◌++◌, Bool, true, false, List, [], ◌∷◌, length, drop, None}
-use Rattle.std.proofs.Common.{sym, ap, ◌∙◌, arith, subst}
+use Rattle.std.proofs.Common.{◌≡◌, refl, ℕ, ◌+◌, ◌^◌, ◌<◌, ◌||◌, ◌++◌, Bool, true, false, List, [], ◌∷◌, length, drop}
+use Rattle.std.proofs.Common.{None, sym, ap, ◌∙◌, arith, subst}
 use Rattle.std.specs.Prelude.{All}
 use Rattle.std.proofs.lemmas.List.Elements.{All-nil, All-cons, All-head, All-tail}
 use Rattle.sd_card.specs.Fields.{card_of}
 use Rattle.sd_broadcast.specs.Sent.{Item, Cat, sent, closing_of, broadcast}
 use Rattle.sd_reception.specs.Offered.{out_from, break_from}
+use Rattle.sd_reception.specs.Taken.{taken_keys}
 use Rattle.sd_losses.specs.Chosen.{chosen}
 use Rattle.sd_losses.specs.Confirmed.{confirmed, opened_by}
 use Rattle.sd_losses.proofs.Losses.{packets_long}
 use Rattle.sd_losses.proofs.Opened.{confirmed_are_opened}
 use Rattle.sd_losses.proofs.AllOpened.{all_are_opened}
+use Rattle.sd_losses.proofs.WholeEnding.{keys_whole}
 use Rattle.sd_runs.specs.Channel.{Arrival, Channel, HaveTwoNames, AreRunsOf, arriving, all_sent}
 use Rattle.sd_runs.specs.Many.{kept_of, has_cat, confirmed_from, opened_of_all}
+use Rattle.sd_runs.specs.Keys.{kept_periods, keys_from, entitled_periods, keys_of_all}
 use Rattle.sd_runs.proofs.Runs.{begins_by}
-use Rattle.sd_runs.proofs.Finishing.{runs_out, runs_break}
+use Rattle.sd_runs.proofs.Finishing.{runs_out, runs_break, runs_taken}
 
 -- a choice of a list, made as long as the list
 abbrev pub fitting : {A : Type 0} → List Bool → List A → List Bool
@@ -165,3 +168,25 @@ pub whole_break : (channel : Channel) (runs : List Arrival) (u : ℕ) → AreRun
 whole_break channel runs u are leaf =
     ap (break_from (card_of channel.master channel.ca channel.height u) []) (sym (whole_stream runs))
     ∙ runs_break channel (wholes runs) u (are_whole channel runs are) leaf
+
+-- of a whole broadcast the kept periods are those in which the leaf isn't revoked
+whole_keys : (channel : Channel) (runs : List Arrival) (u : ℕ) (tuned : Bool) → AreRunsOf channel runs →
+    u < 2 ^ channel.height → keys_from tuned u (wholes runs) ≡ keys_of_all u runs
+whole_keys channel [] u tuned are leaf = refl
+whole_keys channel (run ∷ runs) u tuned (is, others, rest) leaf =
+    let within : u < 2 ^ run.plan.site.height = subst (λ (h : ℕ). u < 2 ^ h) (sym is.height) leaf in
+    ap (λ (items : List Item). kept_periods run.plan u run.clear items
+    + keys_from (tuned || has_cat (whole run)) u (wholes runs)) (whole_kept tuned run)
+    ∙ (ap (λ (n : ℕ). n + keys_from (tuned || has_cat (whole run)) u (wholes runs))
+    (keys_whole run.plan run.clear u is.plan is.clear is.whole within)
+    ∙ ap (λ (n : ℕ). entitled_periods run.plan u run.clear + n)
+    (whole_keys channel runs u (tuned || has_cat (whole run)) rest leaf))
+
+-- so many keys are taken of whole broadcasts
+pub whole_taken : (channel : Channel) (runs : List Arrival) (u : ℕ) → AreRunsOf channel runs →
+    u < 2 ^ channel.height →
+    taken_keys (card_of channel.master channel.ca channel.height u) [] (all_sent runs) ≡ keys_of_all u runs
+whole_taken channel runs u are leaf =
+    ap (taken_keys (card_of channel.master channel.ca channel.height u) []) (sym (whole_stream runs))
+    ∙ (runs_taken channel (wholes runs) u (are_whole channel runs are) leaf
+    ∙ whole_keys channel runs u false are leaf)

@@ -4,3 +4,4 @@ pub mod Channel
 pub mod Many
 pub mod Ends
 pub mod Switched
+pub mod Keys

@@ -5,15 +5,17 @@ ghost use Rattle.sd_card.specs.Fields.{CardFields, card_of};
 ghost use Rattle.sd_reception.specs.declared.ending.Ending.TheVariants.{Opened};
 ghost use Rattle.sd_reception.specs.Offered.{out_from, break_from};
 ghost use Rattle.sd_reception.specs.Ending.{ending_of};
+ghost use Rattle.sd_reception.specs.Taken.{taken_keys};
 ghost use Rattle.sd_losses.specs.Chosen.{chosen};
 ghost use Rattle.sd_runs.specs.Together.{out_of, break_of, end_of, joined_to};
 ghost use Rattle.sd_runs.specs.Channel.{Arrival, Channel, AreRunsOf, arriving, all_sent};
 ghost use Rattle.sd_runs.specs.Many.{confirmed_from, opened_of_all};
 ghost use Rattle.sd_runs.specs.Ends.{ending_of_all, whole_ending_of};
+ghost use Rattle.sd_runs.specs.Keys.{taken_of, keys_from, keys_of_all};
 ghost use Rattle.sd_runs.specs.Switched.{ArePiecesOf};
 
-/// What a receiver writes of any stream, why it refuses it and how it ends is what comes of the stream's pieces, each
-/// behind the CAT by itself: the stream is cut before each message of another run.
+/// What a receiver writes of any stream, why it refuses it, how it ends and how many keys it takes is what comes of the
+/// stream's pieces, each behind the CAT by itself: the stream is cut before each message of another run.
 #[tactic(auto, using(crate::proofs::Streams::out_is, crate::proofs::Streams::break_is, crate::proofs::Streams::end_is))]
 pub fn streams_are_their_pieces()
     ensures out { (card : CardFields) (packets : List (List ℕ)) → out_from card [] packets ≡ out_of card packets }
@@ -21,6 +23,8 @@ pub fn streams_are_their_pieces()
         break_from card [] packets ≡ break_of card packets }
     ensures ending { (card : CardFields) (packets : List (List ℕ)) →
         ending_of card (reverse packets) ≡ end_of card packets }
+    ensures keys { (card : CardFields) (packets : List (List ℕ)) →
+        taken_keys card [] packets ≡ taken_of card packets }
 {}
 
 /// Whatever is lost of broadcasts of one channel that follow one another, the receiver of a leaf refuses nothing and
@@ -75,4 +79,22 @@ pub fn switches_are_followed()
         u < 2 ^ channel.height →
         ending_of (card_of channel.master channel.ca channel.height u) (reverse (arriving pieces))
         ≡ ending_of_all u pieces }
+{}
+
+/// Of broadcasts of one channel that follow one another a receiver takes a key once for each period of each broadcast
+/// of which a section with a set that has its leaf is kept after a CAT, whatever else is lost. So it does of pieces of
+/// broadcasts, at a switch to a spare head end and back. Of whole broadcasts that is once for each period of each
+/// broadcast in which the leaf is not revoked.
+#[tactic(auto, using(crate::proofs::Finishing::runs_taken, crate::proofs::Whole::whole_taken))]
+pub fn keys_of_runs_are_taken_once()
+    ensures lost { (channel : Channel) (runs : List Arrival) (u : ℕ) → AreRunsOf channel runs →
+        u < 2 ^ channel.height →
+        taken_keys (card_of channel.master channel.ca channel.height u) [] (arriving runs) ≡ keys_from false u runs }
+    ensures switched { (channel : Channel) (pieces : List Arrival) (u : ℕ) → ArePiecesOf channel pieces →
+        u < 2 ^ channel.height →
+        taken_keys (card_of channel.master channel.ca channel.height u) [] (arriving pieces)
+        ≡ keys_from false u pieces }
+    ensures whole { (channel : Channel) (runs : List Arrival) (u : ℕ) → AreRunsOf channel runs →
+        u < 2 ^ channel.height →
+        taken_keys (card_of channel.master channel.ca channel.height u) [] (all_sent runs) ≡ keys_of_all u runs }
 {}
