@@ -16,11 +16,31 @@ const EMM: &str = "8ab0500000c1000000000001000000010001\
 1dcd30913b9a37b4772694d78c1d7f2f0000000201";
 
 // The packets of R2 with its ECMs: how each section begins, then t, and `since` with the run's name behind it.
-static ECMS: [(usize, &str, &str, &str); 4] = [
-    (2, "88b053", "00000002", "0000000000000002"),
-    (203, "88b06b", "00000002", "0000000000000002"),
-    (406, "89b06b", "00000003", "0000000000000002"),
-    (607, "89b06b", "00000003", "0000000200000002"),
+static ECMS: [(usize, [u8; 3], [u8; 4], [u8; 8]); 4] = [
+    (
+        2,
+        [0x88, 0xB0, 0x53],
+        [0, 0, 0, 2],
+        [0, 0, 0, 0, 0, 0, 0, 2],
+    ),
+    (
+        203,
+        [0x88, 0xB0, 0x6B],
+        [0, 0, 0, 2],
+        [0, 0, 0, 0, 0, 0, 0, 2],
+    ),
+    (
+        406,
+        [0x89, 0xB0, 0x6B],
+        [0, 0, 0, 3],
+        [0, 0, 0, 0, 0, 0, 0, 2],
+    ),
+    (
+        607,
+        [0x89, 0xB0, 0x6B],
+        [0, 0, 0, 3],
+        [0, 0, 0, 2, 0, 0, 0, 2],
+    ),
 ];
 
 /// Where a message's section begins in its packet.
@@ -36,17 +56,14 @@ const EMM_LINE: &str =
     "{\"check\":\"1dcd30913b9a37b4772694d78c1d7f2f\",\"index\":0,\"names\":[\"all\"],\"packet\":1,\
 \"period\":1,\"pid\":496,\"run\":2,\"sections\":1,\"sets\":1,\"table\":\"emm\"}";
 
-/// Whether the section in a packet has at this offset the bytes of this hexadecimal text.
-fn has<const N: usize>(stream: &[u8], packet: usize, at: usize, text: &str) -> bool {
-    let Ok(due) = <[u8; N]>::from_hex(text) else {
-        return false;
-    };
+/// Whether the section in a packet has these bytes at this offset.
+fn has(stream: &[u8], packet: usize, at: usize, due: &[u8]) -> bool {
     let section = stream
         .chunks(PACKET)
         .nth(packet)
         .and_then(|bytes| bytes.get(SECTION..));
     match section.and_then(|bytes| bytes.get(at..)) {
-        Some(bytes) => bytes.starts_with(&due),
+        Some(bytes) => bytes.starts_with(due),
         None => false,
     }
 }
@@ -61,11 +78,12 @@ fn messages_name_their_run(rt: HostRuntime) -> Result<(), AllocError> {
         assert!(rt; has_digest(&broadcast, digest), "{name}");
     }
     let stream = file(alloc, &depot, "R2")?;
-    assert!(rt; has::<39>(&stream, 1, 0, EMM));
+    let emm = <[u8; 39]>::from_hex(EMM).unwrap_or([0; 39]);
+    assert!(rt; has(&stream, 1, 0, &emm));
     for (packet, first, t, since) in &ECMS {
-        assert!(rt; has::<3>(&stream, *packet, 0, first), "{packet}");
-        assert!(rt; has::<4>(&stream, *packet, T, t), "{packet}");
-        assert!(rt; has::<8>(&stream, *packet, SINCE, since), "{packet}");
+        assert!(rt; has(&stream, *packet, 0, first), "{packet}");
+        assert!(rt; has(&stream, *packet, T, t), "{packet}");
+        assert!(rt; has(&stream, *packet, SINCE, since), "{packet}");
     }
     Ok(())
 }
