@@ -9,7 +9,7 @@ use Rattle.std.proofs.Math.Seq.{take-append_seam}
 use Rattle.std.specs.Prelude.{◌⊎◌, MatchResult, bytes_eq, is_some, map, slice_get, if◌then◌else◌, option_map}
 use Rattle.std.specs.Prelude.{option_and_then, codes}
 use Rattle.sd_text.specs.Lines.{lines_of}
-use Rattle.sd_text.specs.Number.{after, number_of}
+use Rattle.sd_text.specs.Number.{rest_after, decimal_value}
 use Rattle.sd_tree.specs.declared.leaf.TheConstants.{MOST_REVOKED}
 use Rattle.sd_book.specs.declared.command.Command.{Command}
 use Rattle.sd_book.specs.declared.command.Command.TheVariants.{Subscribe, Revoke, Period}
@@ -19,7 +19,7 @@ use Rattle.sd_book.specs.declared.fault.BookLimit.{BookLimit}
 use Rattle.sd_book.specs.declared.fault.BookLimit.TheVariants.{Lines, Periods, Revoked}
 use Rattle.sd_book.specs.declared.limits.TheConstants.{MOST_COMMANDS, MOST_PERIODS}
 use Rattle.sd_book.specs.Commands.{is_within, last_period, revoked_after}
-use Rattle.sd_book.specs.Faults.{Breaks, IsBroken}
+use Rattle.sd_book.specs.Faults.{BreaksLimit, IsBroken}
 use Rattle.sd_book.specs.Limits.{IsDraft, IsWithinLimits}
 use Rattle.sd_book.specs.Text.{command_fits, ended}
 use Rattle.sd_book.proofs.Causes.{command_broken, end_broken}
@@ -28,10 +28,10 @@ use Rattle.sd_accounts.specs.declared.fault.AccountFault.{AccountFault}
 use Rattle.sd_accounts.specs.declared.fault.AccountFault.TheVariants.{Line, Unknown, Taken, NoMemory}
 use Rattle.sd_accounts.specs.Bound.{leaf_on, leaf_of, first_there, is_held}
 use Rattle.sd_accounts.specs.Fault.{as_fault}
-use Rattle.sd_accounts.specs.Faults.{Makes, IsWrong, AreGood, NextIsWrong, NextMakes, NextBreaks, IsCauseOf}
+use Rattle.sd_accounts.specs.Faults.{AddsCommand, IsWrong, AreGood, NextIsWrong, NextMakes, NextBreaks, IsCauseOf}
 use Rattle.sd_accounts.specs.Judged.{◌>>=◌, on_leaf, command_after, allowed, judged_line, judged, book_of}
 use Rattle.sd_accounts.specs.Kept.{IsBelow}
-use Rattle.sd_accounts.specs.Line.{Entry, Assigns, Drops, Restores, Ends, assigned, by_word, entry_of, leaf_numbered}
+use Rattle.sd_accounts.specs.Line.{Entry, Assigns, Drops, Restores, Ends, assigned, by_word, entry_on, leaf_numbered}
 use Rattle.sd_accounts.specs.Line.{name_in, cut_at_space, said_by}
 use Rattle.sd_accounts.proofs.Kept.{leaf_more}
 use Rattle.sd_accounts.proofs.Limits.{book_ends, end_by}
@@ -42,7 +42,7 @@ or_true true = refl
 or_true false = refl
 
 -- a good line gives its command
-makes_command : (before : List (Option Entry)) (entry : Entry) (command : Command) → Makes before entry command →
+makes_command : (before : List (Option Entry)) (entry : Entry) (command : Command) → AddsCommand before entry command →
     command_after before (Some entry) ≡ Ok command
 makes_command before (Assigns name u) command h = rw (h.1, h.2, h.0) refl
 makes_command before (Drops name) command h = rw (h.2, h.1) refl
@@ -64,25 +64,25 @@ wrong_command before (Some Ends) fault h = absurd h
 
 -- a line that gives a command is good
 command_makes : (before : List (Option Entry)) (entry : Entry) (command : Command) →
-    command_after before (Some entry) ≡ Ok command → Makes before entry command
+    command_after before (Some entry) ≡ Ok command → AddsCommand before entry command
 command_makes before (Assigns name u) command e = free (leaf_of name before) (is_held u before) refl refl e
   where
     free : (o : Option ℕ) (b : Bool) → leaf_of name before ≡ o → is_held u before ≡ b →
         (if is_some o || b then Err (Taken (length before + 1)) else Ok (Subscribe u)) ≡ Ok command →
-        Makes before (Assigns name u) command
+        AddsCommand before (Assigns name u) command
     free None false none unheld e = let same : Subscribe u ≡ command = cc in (sym same, none, unheld)
     free None true none held e = absurd cc
     free (Some leaf) b bound held e = absurd cc
 command_makes before (Drops name) command e = bound (leaf_of name before) refl e
   where
     bound : (o : Option ℕ) → leaf_of name before ≡ o → on_leaf (length before + 1) Revoke o ≡ Ok command →
-        Makes before (Drops name) command
+        AddsCommand before (Drops name) command
     bound None none e = absurd cc
     bound (Some u) is e = let same : Revoke u ≡ command = cc in (u, sym same, is)
 command_makes before (Restores name) command e = bound (leaf_of name before) refl e
   where
     bound : (o : Option ℕ) → leaf_of name before ≡ o → on_leaf (length before + 1) Subscribe o ≡ Ok command →
-        Makes before (Restores name) command
+        AddsCommand before (Restores name) command
     bound None none e = absurd cc
     bound (Some u) is e = let same : Subscribe u ≡ command = cc in (u, sym same, is)
 command_makes before Ends command e = cc
@@ -131,7 +131,7 @@ none_good d = record { same = refl; each = λ k h. absurd (omega (arith, h)); dr
 
 -- good lines and a good one
 good_more : (d : ℕ) (before : List (Option Entry)) (entry : Entry) (commands : List Command) (command : Command) →
-    AreGood d before commands → Makes before entry command → IsDraft d (commands ++ command ∷ []) →
+    AreGood d before commands → AddsCommand before entry command → IsDraft d (commands ++ command ∷ []) →
     AreGood d (before ++ Some entry ∷ []) (commands ++ command ∷ [])
 good_more d before entry commands command good makes draft = record {
   same = length_push commands command ∙ ap (λ n. n + 1) good.same ∙ sym (length_push before (Some entry));
@@ -145,36 +145,40 @@ good_more d before entry commands command good makes draft = record {
     all : List Command
     all = commands ++ command ∷ []
 
-    earlier : (k : ℕ) → k < length before → (entry : Entry) × (command : Command) × (slice_get said k ≡ Some (Some entry))
-        × (slice_get all k ≡ Some command) × Makes (take k said) entry command
+    earlier : (k : ℕ) → k < length before → (entry : Entry) × (command : Command) ×
+        (slice_get said k ≡ Some (Some entry))
+        × (slice_get all k ≡ Some command) × AddsCommand (take k said) entry command
     earlier k low =
         let one = good.each k low in (
           one.0,
           one.1,
           get_first before (Some entry ∷ []) k low ∙ one.2,
           get_first commands (command ∷ []) k (omega (arith, low, good.same)) ∙ one.3,
-          subst (λ lines. Makes lines one.0 one.1) (sym (take-append-le k before (Some entry ∷ []) (omega (arith, low))))
+          subst (λ lines. AddsCommand lines one.0 one.1)
+              (sym (take-append-le k before (Some entry ∷ []) (omega (arith, low))))
               one.4,
         )
 
-    newest : (k : ℕ) → k ≡ length before → (entry : Entry) × (command : Command) × (slice_get said k ≡ Some (Some entry))
-        × (slice_get all k ≡ Some command) × Makes (take k said) entry command
+    newest : (k : ℕ) → k ≡ length before → (entry : Entry) × (command : Command) ×
+        (slice_get said k ≡ Some (Some entry))
+        × (slice_get all k ≡ Some command) × AddsCommand (take k said) entry command
     newest k is = (
       entry,
       command,
       rw is (get_next before (Some entry)),
       ap (slice_get all) (is ∙ sym good.same) ∙ get_next commands command,
-      subst (λ lines. Makes lines entry command)
+      subst (λ lines. AddsCommand lines entry command)
           (sym (ap (λ n. take n said) is ∙ take-append_seam before (Some entry ∷ []))) makes,
     )
 
     each : (k : ℕ) → k < length before + 1 → (entry : Entry) × (command : Command)
-        × (slice_get said k ≡ Some (Some entry)) × (slice_get all k ≡ Some command) × Makes (take k said) entry command
+        × (slice_get said k ≡ Some (Some entry)) × (slice_get all k ≡ Some command) ×
+        AddsCommand (take k said) entry command
     each k h = by (nat_lt k (length before)) refl
       where
         by : (b : Bool) → nat_lt k (length before) ≡ b → (entry : Entry) × (command : Command)
             × (slice_get said k ≡ Some (Some entry)) × (slice_get all k ≡ Some command)
-            × Makes (take k said) entry command
+            × AddsCommand (take k said) entry command
         by true lt = earlier k (ltb-true k (length before) lt)
         by false le = newest k (grind (arith, common_steps, h, le))
 
@@ -205,7 +209,7 @@ within_more d before entry low within name u e =
 
 -- the command of a good line is of the tree
 makes_within : (d : ℕ) (before : List (Option Entry)) (entry : Entry) (command : Command) → IsBelow (2 ^ d) entry →
-    AreWithin d before → Makes before entry command → is_within d command ≡ true
+    AreWithin d before → AddsCommand before entry command → is_within d command ≡ true
 makes_within d before (Assigns name u) command low within h = ap (is_within d) h.0 ∙ lt-ltb u (2 ^ d) low
 makes_within d before (Drops name) command low within h =
     ap (is_within d) h.1 ∙ lt-ltb h.0 (2 ^ d) (within name h.0 h.2)
@@ -237,17 +241,18 @@ assigned_below d text entry e = by_cut (cut_at_space text) e
 
     by_cut : (cut : Option (List ℕ × List ℕ)) →
         option_and_then (λ parts. option_and_then
-        (λ name. option_map (Assigns name) (leaf_numbered d (number_of parts.1))) (name_in parts.0)) cut ≡ Some entry →
+        (λ name. option_map (Assigns name) (leaf_numbered d (decimal_value parts.1))) (name_in parts.0)) cut ≡ Some
+        entry →
         IsBelow (2 ^ d) entry
     by_cut None e = absurd cc
-    by_cut (Some parts) e = by_name (name_in parts.0) (number_of parts.1) e
+    by_cut (Some parts) e = by_name (name_in parts.0) (decimal_value parts.1) e
 
 -- each line says a leaf of the tree, if it says one
-entry_below : (d : ℕ) (line : List ℕ) (entry : Entry) → entry_of d line ≡ Some entry → IsBelow (2 ^ d) entry
-unfolding entry_of
+entry_below : (d : ℕ) (line : List ℕ) (entry : Entry) → entry_on d line ≡ Some entry → IsBelow (2 ^ d) entry
+unfolding entry_on
 entry_below d line entry e =
-    go (bytes_eq line (codes "period")) (after (codes "assign ") line) (after (codes "drop ") line)
-    (after (codes "restore ") line) e
+    go (bytes_eq line (codes "period")) (rest_after (codes "assign ") line) (rest_after (codes "drop ") line)
+    (rest_after (codes "restore ") line) e
   where
     drops : (name : Option (List ℕ)) → option_map Drops name ≡ Some entry → IsBelow (2 ^ d) entry
     drops None e = absurd cc
@@ -307,7 +312,7 @@ module _ (d : ℕ) (before : List (Option Entry)) (commands : List Command) (res
       ComesTo d (before ++ Some entry ∷ rest) (judged d before commands (Some entry ∷ rest))
   made_comes entry command low e next = rw e (by (command_fits d commands command) refl)
     where
-      makes : Makes before entry command
+      makes : AddsCommand before entry command
       makes = command_makes before entry command e
 
       by : (r : Result Command BookFault) → command_fits d commands command ≡ r →
@@ -331,10 +336,10 @@ line_comes : (d : ℕ) (line : List ℕ) (before : List (Option Entry)) (command
     (rest : List (Option Entry)) → AreGood d before commands → AreWithin d before →
     ((more : List (Option Entry)) (longer : List Command) → AreGood d more longer → AreWithin d more →
     ComesTo d (more ++ rest) (judged d more longer rest)) →
-    ComesTo d (before ++ entry_of d line ∷ rest) (judged d before commands (entry_of d line ∷ rest))
-line_comes d line before commands rest good within next = by_line (entry_of d line) refl
+    ComesTo d (before ++ entry_on d line ∷ rest) (judged d before commands (entry_on d line ∷ rest))
+line_comes d line before commands rest good within next = by_line (entry_on d line) refl
   where
-    by_line : (said : Option Entry) → entry_of d line ≡ said →
+    by_line : (said : Option Entry) → entry_on d line ≡ said →
         ComesTo d (before ++ said ∷ rest) (judged d before commands (said ∷ rest))
     by_line None none = wrong_comes d before commands rest good within None (Line (length before + 1)) refl
     by_line (Some entry) says = by_command (command_after before (Some entry)) refl
@@ -351,10 +356,10 @@ line_comes d line before commands rest good within next = by_line (entry_of d li
 -- after good lines
 rest_comes : (d : ℕ) (lines : List (List ℕ)) (before : List (Option Entry)) (commands : List Command) →
     AreGood d before commands → AreWithin d before →
-    ComesTo d (before ++ map (entry_of d) lines) (judged d before commands (map (entry_of d) lines))
+    ComesTo d (before ++ map (entry_on d) lines) (judged d before commands (map (entry_on d) lines))
 rest_comes d [] before commands good within = end_comes d before commands good
 rest_comes d (line ∷ lines) before commands good within =
-    line_comes d line before commands (map (entry_of d) lines) good within (rest_comes d lines)
+    line_comes d line before commands (map (entry_on d) lines) good within (rest_comes d lines)
 
 -- what an accounts file comes to
 pub file_comes : (d : ℕ) (bytes : List ℕ) → ComesTo d (said_by d bytes) (book_of d bytes)
@@ -376,7 +381,7 @@ read_fault d bytes fault (inr e) = inr (subst (ComesTo d (said_by d bytes)) e (f
 good_judged : (d : ℕ) (before : List (Option Entry)) (commands : List Command) (said : List (Option Entry))
     (more : List Command) (rest : List (Option Entry)) → length more ≡ length said →
     ((k : ℕ) → k < length said → (entry : Entry) × (command : Command) × (slice_get said k ≡ Some (Some entry))
-    × (slice_get more k ≡ Some command) × Makes (before ++ take k said) entry command) →
+    × (slice_get more k ≡ Some command) × AddsCommand (before ++ take k said) entry command) →
     IsDraft d (commands ++ more) → judged d before commands (said ++ rest) ≡ judged d (before ++ said)
     (commands ++ more) rest
 good_judged d before commands [] [] rest same each draft =
@@ -387,8 +392,8 @@ good_judged d before commands (one ∷ said) (command ∷ more) rest same each d
     let first = each 0 (omega arith) in
     let is_entry : one ≡ Some first.0 = cc in
     let is_command : command ≡ first.1 = cc in
-    let makes : Makes before first.0 first.1 =
-    subst (λ lines. Makes lines first.0 first.1) (append-nil before) first.4 in
+    let makes : AddsCommand before first.0 first.1 =
+    subst (λ lines. AddsCommand lines first.0 first.1) (append-nil before) first.4 in
     let gives : command_after before one ≡ Ok command =
     ap (command_after before) is_entry ∙ makes_command before first.0 first.1 makes ∙ ap Ok (sym is_command) in
     let fits = command_again d commands command more draft in
@@ -399,7 +404,7 @@ good_judged d before commands (one ∷ said) (command ∷ more) rest same each d
       next.1,
       next.2,
       next.3,
-      subst (λ lines. Makes lines next.0 next.1) (sym (append_assoc before (one ∷ []) (take k said))) next.4,
+      subst (λ lines. AddsCommand lines next.0 next.1) (sym (append_assoc before (one ∷ []) (take k said))) next.4,
     ))
     (subst (IsDraft d) (sym (append_assoc commands (command ∷ []) more)) draft) in
     rw line (others ∙ rw (append_assoc before (one ∷ []) said, append_assoc commands (command ∷ []) more) refl)
@@ -410,7 +415,8 @@ all_judged : (d : ℕ) (before : List (Option Entry)) (commands : List Command) 
 all_judged d before commands rest good = good_judged d [] [] before commands rest good.same good.each good.draft
 
 -- a period that may not end
-crowded : {A : Type 0} (d : ℕ) (commands : List Command) (value : A) → MOST_REVOKED < length (revoked_after d commands) →
+crowded : {A : Type 0} (d : ℕ) (commands : List Command) (value : A) →
+    MOST_REVOKED < length (revoked_after d commands) →
     ended d commands value ≡ Err (book.Limit (Revoked (last_period commands)))
 crowded d commands value many =
     let more : nat_lt MOST_REVOKED (length (revoked_after d commands)) ≡ true = grind (arith, common_steps, many) in
@@ -418,7 +424,7 @@ crowded d commands value many =
 
 -- a limit that a command breaks
 command_breaks : (d : ℕ) (commands : List Command) (command : Command) (limit : BookLimit) →
-    Breaks d commands (Some command ∷ []) limit → command_fits d commands command ≡ Err (book.Limit limit)
+    BreaksLimit d commands (Some command ∷ []) limit → command_fits d commands command ≡ Err (book.Limit limit)
 command_breaks d commands command Lines h =
     let full : nat_le MOST_COMMANDS (length commands) ≡ true = grind (arith, common_steps, h.0) in rw full refl
 command_breaks d commands command Periods h =
@@ -436,7 +442,8 @@ command_breaks d commands command (Revoked q) (inr period, many) =
     rw same (rw (room, open_periods, many.0) (crowded d commands Period many.1))
 
 -- a limit that the end breaks
-end_breaks : {A : Type 0} (d : ℕ) (commands : List Command) (value : A) (limit : BookLimit) → Breaks d commands [] limit →
+end_breaks : {A : Type 0} (d : ℕ) (commands : List Command) (value : A) (limit : BookLimit) →
+    BreaksLimit d commands [] limit →
     ended d commands value ≡ Err (book.Limit limit)
 end_breaks d commands value Lines h = let here : [] ≡ h.1 ∷ h.2.0 = h.2.1 in absurd cc
 end_breaks d commands value Periods h = let here : [] ≡ Some Period ∷ h.1.0 = h.1.1 in absurd cc
@@ -446,12 +453,12 @@ end_breaks d commands value (Revoked q) (ends, many) = rw many.0 (crowded d comm
 breaks_judged : (d : ℕ) (before : List (Option Entry)) (commands : List Command) (rest : List (Option Entry))
     (fault : AccountFault) → NextBreaks d before commands rest fault → judged d before commands rest ≡ Err fault
 breaks_judged d before commands [] fault (limit, next, none, is, breaks) =
-    let broken = end_breaks d commands commands limit (subst (λ rest. Breaks d commands rest limit) none breaks) in
+    let broken = end_breaks d commands commands limit (subst (λ rest. BreaksLimit d commands rest limit) none breaks) in
     rw (broken, is) refl
 breaks_judged d before commands (None ∷ others) fault (limit, next, makes, is, breaks) = absurd makes
 breaks_judged d before commands (Some entry ∷ others) fault (limit, next, makes, is, breaks) =
     let broken = command_breaks d commands makes.0 limit
-    (subst (λ rest. Breaks d commands rest limit) makes.2 breaks) in
+    (subst (λ rest. BreaksLimit d commands rest limit) makes.2 breaks) in
     rw (makes_command before entry makes.0 makes.1, broken, is) refl
 
 -- and where a line is wrong

@@ -6,14 +6,14 @@ use Rattle.std.proofs.lemmas.Bool.{lt-ltb, le-ltb, ltb-true, ltb-false}
 use Rattle.std.specs.Prelude.{if◌then◌else◌}
 use Rattle.sd_text.specs.declared.number.NumberFault.{NumberFault}
 use Rattle.sd_text.specs.declared.number.NumberFault.TheVariants.{TooLarge}
-use Rattle.sd_text.specs.Number.{number_of, after, decimal_after, fitting}
+use Rattle.sd_text.specs.Number.{decimal_value, rest_after, decimal_after, fitting}
 use Rattle.sd_accounts.specs.Line.{leaf_numbered, leaf_in}
 
 -- a decimal of 32 bits says its number
 pub said : (d u : ℕ) (text : List ℕ) → fitting (decimal_after [] text) ≡ Ok u →
     leaf_numbered d (Some u) ≡ leaf_in d text
-unfolding after
-said d u text e = ap (leaf_numbered d) (sym (said_by (number_of text) u e))
+unfolding rest_after
+said d u text e = ap (leaf_numbered d) (sym (said_by (decimal_value text) u e))
   where
     said_by : (n : Option ℕ) (u : ℕ) → fitting n ≡ Ok u → n ≡ Some u
     said_by None u e = absurd (cc)
@@ -26,8 +26,8 @@ said d u text e = ap (leaf_numbered d) (sym (said_by (number_of text) u e))
 -- another is no leaf
 pub unsaid : (d : ℕ) (text : List ℕ) (fault : NumberFault) → d ≤ 20 → fitting (decimal_after [] text) ≡ Err fault →
     leaf_in d text ≡ None
-unfolding after
-unsaid d text fault low e = unsaid_by (number_of text) e
+unfolding rest_after
+unsaid d text fault low e = unsaid_by (decimal_value text) e
   where
     unsaid_by : (n : Option ℕ) → fitting n ≡ Err fault → leaf_numbered d n ≡ None
     unsaid_by None e = refl

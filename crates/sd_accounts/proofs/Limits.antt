@@ -9,7 +9,7 @@ use Rattle.sd_book.specs.declared.fault.BookLimit.{BookLimit}
 use Rattle.sd_book.specs.declared.fault.BookLimit.TheVariants.{Revoked}
 use Rattle.sd_tree.specs.Limits.{most_revoked}
 use Rattle.sd_book.specs.Commands.{is_within, last_period, revoked_after}
-use Rattle.sd_book.specs.Faults.{Breaks, IsBroken, IsCauseOf}
+use Rattle.sd_book.specs.Faults.{BreaksLimit, IsBroken, IsCauseOf}
 use Rattle.sd_book.specs.Limits.{IsDraft, IsWithinLimits}
 use Rattle.sd_book.specs.Text.{command_fits, ended}
 use Rattle.sd_accounts.specs.Fault.{as_fault}
@@ -21,7 +21,7 @@ use Rattle.sd_book.proofs.Judged.{command_again, fits_same, judged_one_more, wit
 broken_cause : (d : ℕ) (before : List Command) (rest : List (Option Command)) (fault : BookFault) → IsDraft d before →
     IsBroken d before rest fault → IsCauseOf d (map Some before ++ rest) fault
 broken_cause d before rest fault all broken =
-    let why : (limit : BookLimit) (fault : BookFault) → fault ≡ Limit limit → Breaks d before rest limit →
+    let why : (limit : BookLimit) (fault : BookFault) → fault ≡ Limit limit → BreaksLimit d before rest limit →
     IsCauseOf d (map Some before ++ rest) fault =
     λ limit fault is breaks. rw is (before, rest, refl, all, breaks) in
     why broken.0 fault broken.1 broken.2

@@ -9,7 +9,8 @@ use Rattle.std.specs.Prelude.{map, nat_eq, String, string_bytes, codes, decimal}
 use Rattle.std.specs.List.{list_any}
 use Rattle.std.specs.List.Sorted.{IsBinarySearchResult, IsStrictlyIncreasing}
 use Rattle.std.specs.Ordering.{nat_cmp}
-use Rattle.json.specs.Token.{Token, begin_object, end_object, begin_array, end_array, key as key_token, number as number_token}
+use Rattle.json.specs.Token.{Token, begin_object, end_object, begin_array, end_array, key as key_token}
+use Rattle.json.specs.Token.{number as number_token}
 use Rattle.json.specs.Print.{print}
 use Rattle.json.specs.Tree.{items_tokens, json_tokens}
 use Rattle.serde_json.specs.Data.{Data, array}

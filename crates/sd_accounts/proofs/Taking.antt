@@ -9,7 +9,7 @@ use Rattle.sd_book.specs.Faults.{IsBroken}
 use Rattle.sd_book.specs.Limits.{IsDraft}
 use Rattle.sd_accounts.specs.declared.fault.AccountFault.{AccountFault}
 use Rattle.sd_accounts.specs.Fault.{as_fault}
-use Rattle.sd_accounts.specs.Line.{Entry, entry_of}
+use Rattle.sd_accounts.specs.Line.{Entry, entry_on}
 use Rattle.sd_accounts.specs.Judged.{command_by, command_after, judged_line}
 use Rattle.sd_accounts.specs.Kept.{IsBelow, leaf_after, marks_after, mark_of, IsKept}
 use Rattle.sd_accounts.proofs.Kept.{kept_more}
@@ -24,17 +24,17 @@ below_all d marks entry full low = subst (λ n. IsBelow n entry) (sym full) low
 
 module _ (d : ℕ) (before : List (Option Entry)) (text : List ℕ) (entry : Entry) (leaf_for : List ℕ → Option ℕ)
     (marks : List Bool) (k : ℕ) (commands : List Command) (kept : IsKept d before leaf_for marks)
-    (says : entry_of d text ≡ Some entry) (low : IsBelow (2 ^ d) entry) (number : k ≡ length before + 1) where
+    (says : entry_on d text ≡ Some entry) (low : IsBelow (2 ^ d) entry) (number : k ≡ length before + 1) where
   -- the command of the line
   made_after : (made : Result Command AccountFault) → command_by leaf_for (mark_of marks) k (Some entry) ≡ made →
-      command_after before (entry_of d text) ≡ made
+      command_after before (entry_on d text) ≡ made
   made_after made e = ap (command_after before) says ∙
       sym (same_command d before entry leaf_for marks k kept low number) ∙ e
 
   -- a line that makes no command
   pub takes_none : (fault : AccountFault) → command_by leaf_for (mark_of marks) k (Some entry) ≡ Err fault →
-      judged_line d before commands (entry_of d text) ≡ Err fault
-  takes_none fault e = command_refused d before commands (entry_of d text) fault (made_after (Err fault) e)
+      judged_line d before commands (entry_on d text) ≡ Err fault
+  takes_none fault e = command_refused d before commands (entry_on d text) fault (made_after (Err fault) e)
 
   -- the command is of the tree
   pub takes_within : (command : Command) → command_by leaf_for (mark_of marks) k (Some entry) ≡ Ok command →
@@ -46,22 +46,22 @@ module _ (d : ℕ) (before : List (Option Entry)) (text : List ℕ) (entry : Ent
   pub takes_too_much : (command : Command) (fault : BookFault) →
       command_by leaf_for (mark_of marks) k (Some entry) ≡ Ok command → IsDraft d commands → (fault ≡ NoMemory → ⊥) →
       (IsDraft d (commands ++ command ∷ []) → fault ≡ NoMemory) → IsBroken d commands (Some command ∷ []) fault →
-      judged_line d before commands (entry_of d text) ≡ Err (as_fault fault)
+      judged_line d before commands (entry_on d text) ≡ Err (as_fault fault)
   takes_too_much command fault e draft none complete broken =
-      limit_refused d before commands (entry_of d text) command fault (made_after (Ok command) e)
+      limit_refused d before commands (entry_on d text) command fault (made_after (Ok command) e)
       (refused_fits d commands command fault draft (takes_within command e) none complete broken)
 
   -- a line that is taken
   pub takes_line : (command : Command) → command_by leaf_for (mark_of marks) k (Some entry) ≡ Ok command →
-      IsDraft d (commands ++ command ∷ []) → judged_line d before commands (entry_of d text) ≡ Ok command
-  takes_line command e draft = line_taken d before commands (entry_of d text) command (made_after (Ok command) e)
+      IsDraft d (commands ++ command ∷ []) → judged_line d before commands (entry_on d text) ≡ Ok command
+  takes_line command e draft = line_taken d before commands (entry_on d text) command (made_after (Ok command) e)
       (taken_fits d commands command draft)
 
   -- and what is kept then
   pub keeps_line : (command : Command) (new : List ℕ → Option ℕ) (marked : List Bool) →
       command_by leaf_for (mark_of marks) k (Some entry) ≡ Ok command →
       ((name : List ℕ) → new name ≡ leaf_after entry leaf_for name) → marked ≡ marks_after entry marks →
-      IsKept d (before ++ entry_of d text ∷ []) new marked
+      IsKept d (before ++ entry_on d text ∷ []) new marked
   keeps_line command new marked e leaves is = rw (says, is)
       (kept_more d before entry leaf_for new marks low
       (name_free entry leaf_for (mark_of marks) k command e) leaves kept)

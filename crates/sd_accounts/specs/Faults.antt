@@ -4,7 +4,7 @@ use Rattle.std.specs.Prelude.{is_some, Option, Some, None}
 use Rattle.sd_book.specs.declared.command.Command.{Command}
 use Rattle.sd_book.specs.declared.command.Command.TheVariants.{Subscribe, Revoke, Period}
 use Rattle.sd_book.specs.declared.fault.BookLimit.{BookLimit}
-use Rattle.sd_book.specs.Faults.{Breaks}
+use Rattle.sd_book.specs.Faults.{BreaksLimit}
 use Rattle.sd_book.specs.Limits.{IsDraft}
 use Rattle.sd_accounts.specs.declared.fault.AccountFault.{AccountFault}
 use Rattle.sd_accounts.specs.declared.fault.AccountFault.TheVariants.{Line, Unknown, Taken, Limit}
@@ -13,12 +13,12 @@ use Rattle.sd_accounts.specs.Bound.{leaf_of, is_held}
 
 -- after these lines the line makes this command: the name and the leaf that it assigns are free, and the name that it
 -- drops or restores is bound to the command's leaf
-abbrev pub Makes : List (Option Entry) → Entry → Command → Type 0
-Makes before (Assigns name u) command =
+abbrev pub AddsCommand : List (Option Entry) → Entry → Command → Type 0
+AddsCommand before (Assigns name u) command =
     (command ≡ Subscribe u) × (leaf_of name before ≡ None) × (is_held u before ≡ false)
-Makes before (Drops name) command = (u : ℕ) × (command ≡ Revoke u) × (leaf_of name before ≡ Some u)
-Makes before (Restores name) command = (u : ℕ) × (command ≡ Subscribe u) × (leaf_of name before ≡ Some u)
-Makes before Ends command = command ≡ Period
+AddsCommand before (Drops name) command = (u : ℕ) × (command ≡ Revoke u) × (leaf_of name before ≡ Some u)
+AddsCommand before (Restores name) command = (u : ℕ) × (command ≡ Subscribe u) × (leaf_of name before ≡ Some u)
+AddsCommand before Ends command = command ≡ Period
 
 -- the fault of a line that says this after these lines, apart from the limits of a book; lines are counted from 1
 abbrev pub IsWrong : List (Option Entry) → Option Entry → AccountFault → Type 0
@@ -34,7 +34,7 @@ pub record AreGood (d : ℕ) (said : List (Option Entry)) (commands : List Comma
   pub same : length commands ≡ length said
   pub each : (k : ℕ) → k < length said →
       (entry : Entry) × (command : Command) × (slice_get said k ≡ Some (Some entry))
-      × (slice_get commands k ≡ Some command) × Makes (take k said) entry command
+      × (slice_get commands k ≡ Some command) × AddsCommand (take k said) entry command
   pub draft : IsDraft d commands
 
 -- the next line is there, and wrong
@@ -47,13 +47,13 @@ abbrev pub NextMakes : List (Option Entry) → List (Option Entry) → List (Opt
 NextMakes before [] next = next ≡ []
 NextMakes before (None ∷ others) next = ⊥
 NextMakes before (Some entry ∷ others) next =
-    (command : Command) × Makes before entry command × (next ≡ Some command ∷ [])
+    (command : Command) × AddsCommand before entry command × (next ≡ Some command ∷ [])
 
 -- the command that the next line makes breaks a limit of a book after these commands, or their end does
 abbrev pub NextBreaks : ℕ → List (Option Entry) → List Command → List (Option Entry) → AccountFault → Type 0
 NextBreaks d before commands rest fault =
     (limit : BookLimit) × (next : List (Option Command)) × NextMakes before rest next × (fault ≡ Limit limit)
-    × Breaks d commands next limit
+    × BreaksLimit d commands next limit
 
 -- The fault of lines that say this: after good lines the next one is wrong, or a limit of a book is broken
 abbrev pub IsCauseOf : ℕ → List (Option Entry) → AccountFault → Type 0

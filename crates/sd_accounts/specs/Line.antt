@@ -4,7 +4,7 @@ use Rattle.std.specs.Prelude.{bytes_eq, if◌then◌else◌, Option, Some, None,
 use Rattle.std.specs.Char.{is_ascii_digit, is_ascii_lowercase}
 use Rattle.std.specs.List.{list_all}
 use Rattle.sd_text.specs.Lines.{lines_of}
-use Rattle.sd_text.specs.Number.{after, number_of}
+use Rattle.sd_text.specs.Number.{rest_after, decimal_value}
 
 -- what a line says
 pub data Entry : Type 0 where
@@ -49,7 +49,7 @@ leaf_numbered d (Some u) = if nat_lt u (2 ^ d) then Some u else None
 
 -- the decimal of a leaf of the tree
 abbrev pub leaf_in : ℕ → List ℕ → Option ℕ
-leaf_in d text = leaf_numbered d (number_of text)
+leaf_in d text = leaf_numbered d (decimal_value text)
 
 -- a name, a space and a leaf
 unfoldable pub assigned : ℕ → List ℕ → Option Entry
@@ -64,13 +64,13 @@ by_word (Some text) says other = says text
 
 -- what a line says for a tree of height d, where it is in the grammar and its leaf in the tree [this project,
 -- docs/FORMATS.md, Accounts]
-unfoldable pub entry_of : ℕ → List ℕ → Option Entry
-entry_of d line =
+unfoldable pub entry_on : ℕ → List ℕ → Option Entry
+entry_on d line =
     if bytes_eq line (codes "period") then Some Ends
-    else by_word (after (codes "assign ") line) (assigned d)
-    (by_word (after (codes "drop ") line) (λ text. option_map Drops (name_in text))
-    (by_word (after (codes "restore ") line) (λ text. option_map Restores (name_in text)) None))
+    else by_word (rest_after (codes "assign ") line) (assigned d)
+    (by_word (rest_after (codes "drop ") line) (λ text. option_map Drops (name_in text))
+    (by_word (rest_after (codes "restore ") line) (λ text. option_map Restores (name_in text)) None))
 
 -- what each line of a text says, or none
 abbrev pub said_by : ℕ → List ℕ → List (Option Entry)
-said_by d bytes = map (entry_of d) (lines_of bytes)
+said_by d bytes = map (entry_on d) (lines_of bytes)

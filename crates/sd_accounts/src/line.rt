@@ -1,6 +1,6 @@
 ghost use Rattle.std.specs.Prelude.{◌≡◌, ◌<◌, ◌^◌, IfSome, option_map};
 ghost use Rattle.sd_accounts.specs.Kept.{IsBelow};
-ghost use Rattle.sd_accounts.specs.Line.{assigned, cut_at_space, entry_of, leaf_in, leaf_numbered};
+ghost use Rattle.sd_accounts.specs.Line.{assigned, cut_at_space, entry_on, leaf_in, leaf_numbered};
 ghost use Rattle.sd_accounts.specs.Read.{entry_in};
 
 use crate::name::name_in;
@@ -22,9 +22,9 @@ pub(crate) enum Line<'a> {
 }
 
 /// What a line says for a tree of this height, where it is in the grammar and its leaf in the tree.
-#[tactic(auto, unfolding(crate::specs::Line::entry_of, sd_text::specs::Number::after))]
+#[tactic(auto, unfolding(crate::specs::Line::entry_on, sd_text::specs::Number::rest_after))]
 pub(crate) fn line_in(text: &[u8], h: Height) -> Option<Line<'_>>
-    ensures value { option_map entry_in result ≡ entry_of h text.now }
+    ensures value { option_map entry_in result ≡ entry_on h text.now }
     ensures leaf { IfSome result (λ line. IsBelow (2 ^ h) (entry_in line)) }
 {
     if text == b"period".as_slice() {

@@ -6,7 +6,7 @@ ghost use Rattle.sd_book.specs.Text.{ended};
 ghost use Rattle.sd_accounts.specs.Accounts.{IsListOf};
 ghost use Rattle.sd_accounts.specs.Judged.{allowed, book_of, judged_line};
 ghost use Rattle.sd_accounts.specs.Kept.{IsKept, accounts_in};
-ghost use Rattle.sd_accounts.specs.Line.{Entry, entry_of, said_by};
+ghost use Rattle.sd_accounts.specs.Line.{Entry, entry_on, said_by};
 
 use crate::fault::AccountFault;
 use crate::line::line_in;
@@ -59,13 +59,13 @@ impl Register {
             IsKept h before (get_by_text self.old.names.leaves) self.old.names.marks.items →
             length before ≡ length self.old.draft.commands →
             MatchResult result
-            (λ _. IsKept h (before ++ entry_of h text.now ∷ []) (get_by_text self.new.names.leaves)
+            (λ _. IsKept h (before ++ entry_on h text.now ∷ []) (get_by_text self.new.names.leaves)
             self.new.names.marks.items
             × ((command : Commands) ×
-            (judged_line h before self.old.draft.commands (entry_of h text.now) ≡ Ok command)
+            (judged_line h before self.old.draft.commands (entry_on h text.now) ≡ Ok command)
             × (self.new.draft.commands ≡ self.old.draft.commands ++ command ∷ [])))
             (λ fault. (fault ≡ AccountFault.NoMemory) ⊎
-            (judged_line h before self.old.draft.commands (entry_of h text.now) ≡ Err fault)) }
+            (judged_line h before self.old.draft.commands (entry_on h text.now) ≡ Err fault)) }
     {
         let k = self.draft.commands().len() as u32 + 1;
         let Some(line) = line_in(text, h) else {

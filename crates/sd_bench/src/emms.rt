@@ -2,7 +2,7 @@
 
 ghost use Rattle.std.specs.Prelude.{◌≡◌, ◌^◌, ◌<◌, ◌≤◌, IfOk, length, vec_len};
 ghost use Rattle.sd_tree.specs.SetNames.{AreAscending};
-ghost use Rattle.sd_emm.specs.Spelled.{listed, names_in};
+ghost use Rattle.sd_emm.specs.Spelled.{listed_entries, names_in};
 ghost use Rattle.sd_emm.specs.Form.{AreSets, IsEmm};
 
 use sd_emm::{Emm, Entry, are_ascending, read_emm, section_count, write_emm};
@@ -117,7 +117,7 @@ fn key_of(h: Height, u: Leaf, packet: &Packet) -> Option<u64>
 fn holder(h: Height, u: Leaf, emm: &Emm) -> Option<Entry>
     requires leaf { u < 2 ^ h }
     requires form { IsEmm emm.now }
-    requires sets { AreSets h emm.now.sets (listed emm.now) }
+    requires sets { AreSets h emm.now.sets (listed_entries emm.now) }
 {
     for entry in emm.listed() {
         if contains(h, entry.name, u) {

@@ -14,7 +14,7 @@ use Rattle.sd_book.specs.declared.fault.BookFault.TheVariants.{Line, Leaf, Limit
 use Rattle.sd_book.specs.declared.fault.BookLimit.{BookLimit}
 use Rattle.sd_book.specs.declared.fault.BookLimit.TheVariants.{Lines, Periods, Revoked}
 use Rattle.sd_book.specs.Commands.{is_within, last_period, revoked_after}
-use Rattle.sd_book.specs.Faults.{HasRoom, IsCrowded, Breaks, IsBroken, FaultAfter, IsCauseOf, IsFirstLimit}
+use Rattle.sd_book.specs.Faults.{HasRoom, IsCrowded, BreaksLimit, IsBroken, FaultAfter, IsCauseOf, IsFirstLimit}
 use Rattle.sd_book.specs.Limits.{IsWithinLimits, IsDraft, most_commands, most_periods}
 use Rattle.sd_book.specs.Value.{BookValue}
 use Rattle.sd_book.specs.Text.{SpellsBook, in_tree, ended, period_fits, command_fits, judged, said_by, book_of}
@@ -156,7 +156,7 @@ end_broken d before fault e =
 
 -- a limit that is broken by a command is broken whatever comes after it
 longer_breaks : (d : ℕ) (before : List Command) (command : Command) (others : List (Option Command)) (limit : BookLimit)
-    → Breaks d before (Some command ∷ []) limit → Breaks d before (Some command ∷ others) limit
+    → BreaksLimit d before (Some command ∷ []) limit → BreaksLimit d before (Some command ∷ others) limit
 longer_breaks d before command others Lines h = (h.0, Some command, (others, refl))
 longer_breaks d before command others Periods h =
     let here : Some command ∷ [] ≡ Some Period ∷ h.1.0 = h.1.1 in

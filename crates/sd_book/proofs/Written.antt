@@ -6,7 +6,7 @@ use Rattle.std.proofs.lemmas.Grind.{common_steps}
 use Rattle.std.proofs.lemmas.List.Elements.{All-head, All-tail}
 use Rattle.std.proofs.Math.Pow.{pow_mono}
 use Rattle.sd_text.specs.Lines.{lines_of, is_line}
-use Rattle.sd_text.specs.Number.{after, decimal_after}
+use Rattle.sd_text.specs.Number.{rest_after, decimal_after}
 use Rattle.sd_text.proofs.Cuts.{line_cut}
 use Rattle.sd_text.proofs.Numbers.{decimal_in_line, decimal_after_decimal}
 use Rattle.sd_book.specs.declared.command.Command.{Command}
@@ -24,7 +24,7 @@ leaf_small d u small h =
 
 -- the line of a Revoke doesn't begin as that of a Subscribe does
 other_word : (u : ℕ) → decimal_after (codes "subscribe ") (codes "revoke " ++ decimal u) ≡ None
-unfolding after
+unfolding rest_after
 other_word u = refl
 
 -- a command's line says it

@@ -28,14 +28,14 @@ PeriodEnds before rest = (rest ≡ [])
     ⊎ (HasRoom before × NextSays (Some Period) rest × (last_period before < most_periods))
 
 -- the limit that is broken after these commands, where the rest of the lines says this
-abbrev pub Breaks : ℕ → List Command → List (Option Command) → BookLimit → Type 0
-Breaks d before rest Lines = (length before ≡ most_commands) × (said : Option Command) × NextSays said rest
-Breaks d before rest Periods = HasRoom before × NextSays (Some Period) rest × (last_period before ≡ most_periods)
-Breaks d before rest (Revoked q) = PeriodEnds before rest × IsCrowded d before q
+abbrev pub BreaksLimit : ℕ → List Command → List (Option Command) → BookLimit → Type 0
+BreaksLimit d before rest Lines = (length before ≡ most_commands) × (said : Option Command) × NextSays said rest
+BreaksLimit d before rest Periods = HasRoom before × NextSays (Some Period) rest × (last_period before ≡ most_periods)
+BreaksLimit d before rest (Revoked q) = PeriodEnds before rest × IsCrowded d before q
 
 -- the fault is the limit that is broken there
 abbrev pub IsBroken : ℕ → List Command → List (Option Command) → BookFault → Type 0
-IsBroken d before rest fault = (limit : BookLimit) × (fault ≡ Limit limit) × Breaks d before rest limit
+IsBroken d before rest fault = (limit : BookLimit) × (fault ≡ Limit limit) × BreaksLimit d before rest limit
 
 -- the fault that comes after these commands, where the rest of the lines says this; lines are counted from 1
 abbrev pub FaultAfter : ℕ → List Command → List (Option Command) → BookFault → Type 0
@@ -43,7 +43,7 @@ FaultAfter d before rest (Line k) = HasRoom before × (k ≡ length before + 1) 
 FaultAfter d before rest (Leaf k) =
     HasRoom before × (k ≡ length before + 1) × (command : Command) × NextSays (Some command) rest
     × (is_within d command ≡ false)
-FaultAfter d before rest (Limit limit) = Breaks d before rest limit
+FaultAfter d before rest (Limit limit) = BreaksLimit d before rest limit
 FaultAfter d before rest NoMemory = ⊥
 
 -- The fault of lines that say this: it comes after commands that a book of the tree may begin with

@@ -3,7 +3,7 @@ use Rattle.std.specs.Prelude.{ℕ, Bool, List, length, map}
 use Rattle.sd_tree.specs.declared.set.SetName.{SetName}
 use Rattle.sd_label.specs.Keys.{key_of, period_key_of, control_word_of, check_value_of}
 use Rattle.sd_packet.specs.Positions.{position_of}
-use Rattle.sd_site.specs.Fields.{SiteFields, name_of}
+use Rattle.sd_site.specs.Fields.{SiteFields, run_name_of}
 use Rattle.sd_wrap.specs.Wrapping.{wrapped as under}
 use Rattle.sd_emm.specs.Period.{Period}
 use Rattle.sd_emm.specs.declared.emm.Entry.{Entry}
@@ -19,7 +19,7 @@ entry_of site q name = record { name = name; wrapped = under (key_of site.master
 -- the entitlements of period q [this project, docs/FORMATS.md, Messages]
 unfoldable pub period_at : Plan → ℕ → Period
 period_at plan q = record {
-  run = name_of plan.site;
+  run = run_name_of plan.site;
   number = q;
   check = check_value_of (period_key_of plan.site.master q);
   entries = map (entry_of plan.site q) (sets_at plan q);
@@ -39,7 +39,7 @@ message_at plan before a k closing = record {
   word = word_of plan.site k;
   clear = length before;
   since = since_of plan.site.messages plan.site.cryptos a;
-  run = name_of plan.site;
+  run = run_name_of plan.site;
   closing = closing;
   wrapped =
       under (period_key_of plan.site.master (period_of plan k)) (word_of plan.site k)

@@ -29,8 +29,8 @@ form_where None told next = next
 form_where (Some fault) told next = Some (told fault)
 
 -- the PID is 1 or that of the site's messages
-abbrev pub is_taken : SiteFields → ℕ → Bool
-is_taken site pid = (pid == 1) || ((pid == site.emm) || (pid == site.ecm))
+abbrev pub is_reserved_pid : SiteFields → ℕ → Bool
+is_reserved_pid site pid = (pid == 1) || ((pid == site.emm) || (pid == site.ecm))
 
 -- what is wrong with a packet that is to be a PAT
 abbrev pub pat_wrong : List ℕ → Option FormFault
@@ -57,7 +57,7 @@ is_too_long site k = (k == 2 ^ 32 - 1) || nat_lt site.last_word (word_of site k)
 unfoldable pub refusal_of : SiteFields → List (List ℕ) → List ℕ → Option ClearFault
 refusal_of site before packet =
     fault_where (not (scrambling_of packet == 0)) (AlreadyScrambled (length before))
-    (fault_where (is_taken site (pid_of packet)) (PidTaken (length before) (pid_of packet))
+    (fault_where (is_reserved_pid site (pid_of packet)) (PidTaken (length before) (pid_of packet))
     (form_where (pat_wrong packet) (PatForm (length before))
     (fault_where (is_full_own site (kind_of before packet) packet) (PmtForm (length before) Form.NoRoom)
     (fault_where (is_one_too_many before packet) (TooManyPids (length before))

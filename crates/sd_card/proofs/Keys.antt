@@ -17,7 +17,7 @@ use Rattle.sd_label.specs.declared.name.Name.TheVariants.{Pair}
 use Rattle.sd_label.proofs.Hanging.{hangs}
 use Rattle.sd_label.proofs.Pairs.{given_is_hanging, hanging_is_given}
 use Rattle.sd_secrets.specs.Hanging.{IsHanging}
-use Rattle.sd_secrets.specs.Secrets.{secret_of, Holds, DerivesPair, key_held}
+use Rattle.sd_secrets.specs.Secrets.{secret_of, HoldsSecret, DerivesPair, key_held}
 use Rattle.sd_secrets.proofs.Held.{AreOfLeaf, derived_is_among, own_among}
 use Rattle.sd_secrets.proofs.Once.{given_once}
 use Rattle.sd_secrets.proofs.Paths.{node_within, ancestor_on_path}
@@ -38,7 +38,7 @@ place_of d a b = a * (2 * d - a + 1) / 2 + (b - a)
 -- the secret at the place of a pair is held for it
 pub held_at : (d u i j w k : ℕ) (secrets : List (List ℕ)) (label : List ℕ) → d ≤ 20 → u < 2 ^ d → IsPair d i j
     → is_member d (Diff i j) u ≡ true → IsHanging d u j w → k ≡ place_of d (depth i) (depth w)
-    → slice_get secrets k ≡ Some label → Holds (given d u) secrets (Pair i w) label
+    → slice_get secrets k ≡ Some label → HoldsSecret (given d u) secrets (Pair i w) label
 held_at d u i j w k secrets label low leaf pair member hanging place held =
     let beside = (member_of_pair d i j u low pair leaf).0 member in
     let less = hanging.below i pair.inner.0 pair.above.0 beside.0 in

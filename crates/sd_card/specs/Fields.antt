@@ -5,7 +5,7 @@ use Rattle.sd_tree.specs.Limits.{highest}
 use Rattle.sd_tree.specs.declared.set.SetName.{SetName}
 use Rattle.sd_label.specs.Names.{given}
 use Rattle.sd_secrets.specs.Files.{AreSecrets, file_bytes}
-use Rattle.sd_secrets.specs.Secrets.{secret_of, Derives, key_held}
+use Rattle.sd_secrets.specs.Secrets.{secret_of, DerivesKey, key_held}
 use Rattle.sd_card.specs.declared.card.Card.{Card}
 
 -- the bytes that a card's file begins with, and its version [this project, docs/FORMATS.md, Card]
@@ -58,4 +58,4 @@ card_key card name = key_held (given card.height card.leaf) card.secrets name
 
 -- the key is derived from what the card holds, by so many steps
 abbrev pub CardDerives : CardFields → SetName → List ℕ → ℕ → Type 0
-CardDerives card name key taken = Derives (given card.height card.leaf) card.secrets name key taken
+CardDerives card name key taken = DerivesKey (given card.height card.leaf) card.secrets name key taken

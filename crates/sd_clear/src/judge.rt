@@ -7,7 +7,7 @@ ghost use Rattle.sd_site.specs.Fields.{fields_of};
 ghost use Rattle.sd_broadcast.specs.Plan.{word_of};
 ghost use Rattle.sd_broadcast.specs.Kinds.{kind_of};
 ghost use Rattle.sd_broadcast.specs.declared.kind.Kind.TheVariants.{Passed, Pmt};
-ghost use Rattle.sd_broadcast.specs.Refused.{refusal_of, is_taken as is_taken_pid, pat_wrong};
+ghost use Rattle.sd_broadcast.specs.Refused.{refusal_of, is_reserved_pid as is_taken_pid, pat_wrong};
 ghost use Rattle.sd_broadcast.specs.Refused.{is_full_own as is_full_pmt, is_one_too_many, is_too_long};
 ghost use Rattle.sd_clear.specs.After.{IsAfter, MayFollow, IsKindAfter};
 

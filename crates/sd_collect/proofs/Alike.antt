@@ -5,7 +5,7 @@ use Rattle.std.specs.Bool.{Decides}
 use Rattle.std.proofs.lemmas.Bool.{false≢true, true≢false}
 use Rattle.std.proofs.lemmas.Bool.Decides.{Decides-and, Decides-like, Decides-eqb}
 use Rattle.std.proofs.lemmas.Slice.Eq.{bytes_eq-Decides}
-use Rattle.sd_ecm.specs.Parts.{header_of}
+use Rattle.sd_ecm.specs.Parts.{ecm_header_of}
 use Rattle.sd_ecm.specs.declared.part.EcmPart.{EcmPart}
 use Rattle.sd_ecm.specs.declared.part.EcmHeader.{EcmHeader}
 use Rattle.sd_reception.specs.Offered.{same_header}
@@ -31,10 +31,10 @@ tests_same a b =
     (Decides-and _ _ (Decides-eqb a.last_part b.last_part)
     (Decides-and _ _ (bytes_eq-Decides a.wrapped b.wrapped) (bytes_eq-Decides a.check b.check))))))))
 
-same_fields : (a b : EcmPart) → AreSame a b → header_of a ≡ header_of b
+same_fields : (a b : EcmPart) → AreSame a b → ecm_header_of a ≡ ecm_header_of b
 same_fields a b (v, (s, (p, (w, (c, (f, (l, (x, k)))))))) = cc
 
-fields_same : (a b : EcmPart) → header_of a ≡ header_of b → AreSame a b
+fields_same : (a b : EcmPart) → ecm_header_of a ≡ ecm_header_of b → AreSame a b
 fields_same a b e = (
   ap (λ (h : EcmHeader). h.version) e,
   (
@@ -59,5 +59,5 @@ fields_same a b e = (
 )
 
 -- the test of two headers tells whether they are the same
-pub headers_told : (a b : EcmPart) → Decides (same_header a b) (header_of a ≡ header_of b)
+pub headers_told : (a b : EcmPart) → Decides (same_header a b) (ecm_header_of a ≡ ecm_header_of b)
 headers_told a b = Decides-like (same_header a b) (same_fields a b) (fields_same a b) (tests_same a b)

@@ -14,22 +14,22 @@ use Rattle.sd_reception.specs.Stretches.{Stretch, exceeds, counted, run_with, ru
 use Rattle.sd_reception.specs.Stretches.{stretched}
 use Rattle.sd_reception.specs.Stretches.{completes}
 use Rattle.sd_reception.specs.Offered.{part_fault, is_back}
-use Rattle.sd_collect.specs.Gathered.{places_of, newest_of, said_by, ArePlaces, next_run, Gathers}
-use Rattle.sd_collect.specs.Collected.{run_in, Keeps, Collects, fault_of, IsWaiting, IsComplete}
+use Rattle.sd_collect.specs.Gathered.{places_of, newest_of, said_by, ArePlaces, next_run, IsGathered}
+use Rattle.sd_collect.specs.Collected.{parts_collected, IsMessageKept, IsCollected, fault_of, IsWaiting, IsComplete}
 use Rattle.sd_collect.specs.declared.collect.Collect.{Collect}
 use Rattle.sd_collect.proofs.Gathering.{no_places, none_newest}
 
 -- nothing was heard
-pub none_kept : Keeps None None []
+pub none_kept : IsMessageKept None None []
 none_kept = record { says = refl; good = no_places }
 
-pub none_collected : (state : Collect) → Gathers [] state.run.part state.run.places.items → state.last ≡ None →
-    state.places.items ≡ [] → Collects [] state
-unfolding run_in run_of counted newest
+pub none_collected : (state : Collect) → IsGathered [] state.run.part state.run.places.items → state.last ≡ None →
+    state.places.items ≡ [] → IsCollected [] state
+unfolding parts_collected run_of counted newest
 none_collected state run last places = record {
   run = run;
-  last = subst (λ (l : List Place). Keeps None state.last l) (sym places)
-      (subst (λ (o : Option EcmHead). Keeps None o []) (sym last) none_kept);
+  last = subst (λ (l : List Place). IsMessageKept None state.last l) (sym places)
+      (subst (λ (o : Option EcmHead). IsMessageKept None o []) (sym last) none_kept);
 }
 
 -- what is heard and completes nothing is among what was heard after the newest message
@@ -51,14 +51,14 @@ newest_completes past heard message done = ap (stretched past (newest past) hear
 
 -- the parts of a part that counts
 pub run_is_next : (past : List Heard) (part : EcmPart) → exceeds (newest past).message part ≡ true →
-    run_to (newest past) part ≡ next_run (run_in past) part
-unfolding run_to run_of run_in next_run
+    run_to (newest past) part ≡ next_run (parts_collected past) part
+unfolding run_to run_of parts_collected next_run
 run_is_next past part counts = rw counts refl
 
 -- they are what is collected then
 pub run_waits : (past : List Heard) (part : EcmPart) → exceeds (newest past).message part ≡ true →
-    completes past (Controls part) ≡ None → run_in (Controls part ∷ past) ≡ run_to (newest past) part
-unfolding run_in run_to counted
+    completes past (Controls part) ≡ None → parts_collected (Controls part ∷ past) ≡ run_to (newest past) part
+unfolding parts_collected run_to counted
 run_waits past part counts none =
     ap (λ (st : Stretch). run_of (counted st.message st.after)) (newest_waits past (Controls part) none) ∙
     rw counts refl
@@ -77,8 +77,8 @@ untold : (past : List Heard) (part : EcmPart) → run_to (newest past) part ≡ 
 untold past part none = none_told (part.part == part.last_part) (run_to (newest past) part) none
 
 uncounted_waits : (past : List Heard) (part : EcmPart) → exceeds (newest past).message part ≡ false →
-    run_in (Controls part ∷ past) ≡ run_in past
-unfolding run_in counted
+    parts_collected (Controls part ∷ past) ≡ parts_collected past
+unfolding parts_collected counted
 uncounted_waits past part past_it =
     ap (λ (st : Stretch). run_of (counted st.message st.after))
     (newest_waits past (Controls part) (untold past part (uncounted_run past part past_it))) ∙ rw past_it refl
@@ -97,7 +97,7 @@ no_fault_in_none : part_fault [] ≡ None
 unfolding part_fault
 no_fault_in_none = refl
 
-pub uncounted_part : (past : List Heard) (part : EcmPart) (state : Collect) → Collects past state →
+pub uncounted_part : (past : List Heard) (part : EcmPart) (state : Collect) → IsCollected past state →
     exceeds (newest past).message part ≡ false → IsWaiting past part state
 uncounted_part past part state collects past_it =
     let none = uncounted_run past part past_it in
@@ -106,18 +106,18 @@ uncounted_part past part state collects past_it =
       fault = no_fault past part (ap part_fault none ∙ no_fault_in_none) incomplete;
       incomplete = incomplete;
       after = record {
-        run = subst (λ (run : List EcmPart). Gathers run state.run.part state.run.places.items)
+        run = subst (λ (run : List EcmPart). IsGathered run state.run.part state.run.places.items)
             (sym (uncounted_waits past part past_it)) collects.run;
-        last = subst (λ (message : Option Message). Keeps message state.last state.places.items)
+        last = subst (λ (message : Option Message). IsMessageKept message state.last state.places.items)
             (sym (same_message past (Controls part) incomplete)) collects.last;
       };
     }
 
 -- a part that counts and completes nothing
 pub waiting_part : (past : List Heard) (part : EcmPart) (state : Collect) → exceeds (newest past).message part ≡ true →
-    part_fault (next_run (run_in past) part) ≡ None → Gathers (next_run (run_in past) part) state.run.part
-    state.run.places.items →
-    Keeps (newest past).message state.last state.places.items → completes past (Controls part) ≡ None →
+    part_fault (next_run (parts_collected past) part) ≡ None →
+    IsGathered (next_run (parts_collected past) part) state.run.part state.run.places.items →
+    IsMessageKept (newest past).message state.last state.places.items → completes past (Controls part) ≡ None →
     IsWaiting past part state
 waiting_part past part state counts good gathered kept incomplete =
     let is = run_is_next past part counts in
@@ -125,9 +125,9 @@ waiting_part past part state counts good gathered kept incomplete =
       fault = no_fault past part (ap part_fault is ∙ good) incomplete;
       incomplete = incomplete;
       after = record {
-        run = subst (λ (run : List EcmPart). Gathers run state.run.part state.run.places.items)
+        run = subst (λ (run : List EcmPart). IsGathered run state.run.part state.run.places.items)
             (sym (run_waits past part counts incomplete ∙ is)) gathered;
-        last = subst (λ (message : Option Message). Keeps message state.last state.places.items)
+        last = subst (λ (message : Option Message). IsMessageKept message state.last state.places.items)
             (sym (same_message past (Controls part) incomplete)) kept;
       };
     }
@@ -138,13 +138,14 @@ pub not_last : (past : List Heard) (part : EcmPart) → (part.part == part.last_
 not_last past part other = rw other refl
 
 pub no_run : (past : List Heard) (part : EcmPart) (all : List Place) → exceeds (newest past).message part ≡ true →
-    Gathers (next_run (run_in past) part) None all → completes past (Controls part) ≡ None
+    IsGathered (next_run (parts_collected past) part) None all → completes past (Controls part) ≡ None
 no_run past part all counts gathered =
-    untold past part (run_is_next past part counts ∙ none_newest (next_run (run_in past) part) (sym gathered.part))
+    untold past part (run_is_next past part counts ∙ none_newest (next_run (parts_collected past) part)
+    (sym gathered.part))
 
 -- a part that is refused by itself
 pub bad_part : (past : List Heard) (part : EcmPart) (fault : EcmFault) → exceeds (newest past).message part ≡ true →
-    part_fault (next_run (run_in past) part) ≡ Some fault → fault_of past part ≡ Some fault
+    part_fault (next_run (parts_collected past) part) ≡ Some fault → fault_of past part ≡ Some fault
 unfolding fault_of
 bad_part past part fault counts bad = rw (ap part_fault (run_is_next past part counts) ∙ bad) refl
 
@@ -185,7 +186,7 @@ told_of part rest = refl
 
 told_run : (run : List EcmPart) (part : EcmPart) (kept : EcmPart) (all : List Place) → (run ≡ []) ⊎
     ((rest : List EcmPart) × (run ≡ part ∷ rest)) →
-    Gathers run (Some kept) all → (kept ≡ part) × (message_told run ≡ Some (message_of (said_by part) all))
+    IsGathered run (Some kept) all → (kept ≡ part) × (message_told run ≡ Some (message_of (said_by part) all))
 told_run run part kept all (inl none) gathered = absurd (none_is_none run kept none (sym gathered.part))
 told_run run part kept all (inr (rest, is)) gathered = (
   some_is kept part (gathered.part ∙ ap newest_of is),
@@ -196,14 +197,15 @@ told_run run part kept all (inr (rest, is)) gathered = (
 -- a part that completes a message
 pub ends_message : (past : List Heard) (part kept : EcmPart) (all : List Place) →
     exceeds (newest past).message part ≡ true →
-    (part.part == part.last_part) ≡ true → Gathers (next_run (run_in past) part) (Some kept) all →
+    (part.part == part.last_part) ≡ true → IsGathered (next_run (parts_collected past) part) (Some kept) all →
     (kept ≡ part) × (completes past (Controls part) ≡ Some (message_of (said_by part) all))
 ends_message past part kept all counts last gathered =
-    let is = told_run (next_run (run_in past) part) part kept all (begins_with (run_in past) part) gathered in
+    let is = told_run (next_run (parts_collected past) part) part kept all (begins_with (parts_collected past) part)
+    gathered in
     (is.0, rw last (ap message_told (run_is_next past part counts) ∙ is.1))
 
 pub back_part : (past : List Heard) (part : EcmPart) (message : Message) → exceeds (newest past).message part ≡ true →
-    part_fault (next_run (run_in past) part) ≡ None → completes past (Controls part) ≡ Some message →
+    part_fault (next_run (parts_collected past) part) ≡ None → completes past (Controls part) ≡ Some message →
     is_back past message ≡ true → fault_of past part ≡ Some Back
 unfolding fault_of
 back_part past part message counts good done back =
@@ -211,7 +213,7 @@ back_part past part message counts good done back =
 
 pub complete_part : (past : List Heard) (part : EcmPart) (message : Message) →
     exceeds (newest past).message part ≡ true →
-    part_fault (next_run (run_in past) part) ≡ None → completes past (Controls part) ≡ Some message →
+    part_fault (next_run (parts_collected past) part) ≡ None → completes past (Controls part) ≡ Some message →
     is_back past message ≡ false → fault_of past part ≡ None
 unfolding fault_of
 complete_part past part message counts good done forth =
@@ -220,18 +222,20 @@ complete_part past part message counts good done forth =
 -- what is kept once the message is settled
 pub settled : (past : List Heard) (part : EcmPart) (head : EcmHead) (old new : Collect) →
     IsComplete past part head old →
-    Gathers [] new.run.part new.run.places.items → new.last ≡ Some (said_by part) →
+    IsGathered [] new.run.part new.run.places.items → new.last ≡ Some (said_by part) →
     new.places.items ≡ old.run.places.items →
-    Collects (Controls part ∷ past) new
-unfolding run_in run_of counted
+    IsCollected (Controls part ∷ past) new
+unfolding parts_collected run_of counted
 settled past part head old new complete empty last places =
     let after = newest_completes past (Controls part) (message_of head old.run.places.items) complete.complete in
     record {
-      run = subst (λ (st : Stretch). Gathers (run_of (counted st.message st.after)) new.run.part new.run.places.items)
-          (sym after) empty;
-      last = subst (λ (st : Stretch). Keeps st.message new.last new.places.items) (sym after)
-          (subst (λ (l : List Place). Keeps (Some (message_of head old.run.places.items)) new.last l) (sym places)
-          (subst (λ (o : Option EcmHead). Keeps (Some (message_of head old.run.places.items)) o old.run.places.items)
+      run = subst (λ (st : Stretch). IsGathered (run_of (counted st.message st.after)) new.run.part
+          new.run.places.items) (sym after) empty;
+      last = subst (λ (st : Stretch). IsMessageKept st.message new.last new.places.items) (sym after)
+          (subst (λ (l : List Place). IsMessageKept (Some (message_of head old.run.places.items)) new.last l)
+          (sym places)
+          (subst (λ (o : Option EcmHead).
+          IsMessageKept (Some (message_of head old.run.places.items)) o old.run.places.items)
           (sym (last ∙ ap Some (sym complete.says)))
           (record { says = refl; good = complete.good })));
     }
@@ -239,28 +243,28 @@ settled past part head old new complete empty last places =
 -- what is heard that is no part leaves all as it is
 pub passed : (past : List Heard) (heard : Heard) (state : Collect) → completes past heard ≡ None →
     counted (newest past).message (heard ∷ (newest past).after) ≡ counted (newest past).message (newest past).after →
-    Collects past state → Collects (heard ∷ past) state
-unfolding run_in
+    IsCollected past state → IsCollected (heard ∷ past) state
+unfolding parts_collected
 passed past heard state incomplete same collects =
     let after = newest_waits past heard incomplete in
     record {
-      run = subst (λ (run : List EcmPart). Gathers run state.run.part state.run.places.items)
+      run = subst (λ (run : List EcmPart). IsGathered run state.run.part state.run.places.items)
           (sym (ap (λ (st : Stretch). run_of (counted st.message st.after)) after ∙ ap run_of same)) collects.run;
-      last = subst (λ (message : Option Message). Keeps message state.last state.places.items)
+      last = subst (λ (message : Option Message). IsMessageKept message state.last state.places.items)
           (sym (same_message past heard incomplete)) collects.last;
     }
 
-pub dropped : (past : List Heard) (state : Collect) → Collects past state → Collects (Dropped ∷ past) state
+pub dropped : (past : List Heard) (state : Collect) → IsCollected past state → IsCollected (Dropped ∷ past) state
 unfolding counted
 dropped past state collects = passed past Dropped state refl refl collects
 
-pub entitles : (past : List Heard) (emm : Emm) (state : Collect) → Collects past state →
-    Collects (Entitles emm ∷ past) state
+pub entitles : (past : List Heard) (emm : Emm) (state : Collect) → IsCollected past state →
+    IsCollected (Entitles emm ∷ past) state
 unfolding counted
 entitles past emm state collects = passed past (Entitles emm) state refl refl collects
 
-pub other : (past : List Heard) (n : ℕ) (packet : List ℕ) (state : Collect) → Collects past state →
-    Collects (Other n packet ∷ past) state
+pub other : (past : List Heard) (n : ℕ) (packet : List ℕ) (state : Collect) → IsCollected past state →
+    IsCollected (Other n packet ∷ past) state
 unfolding counted
 other past n packet state collects = passed past (Other n packet) state refl refl collects
 
@@ -272,7 +276,7 @@ pub record Ends (past : List Heard) (part : EcmPart) (kept : Option EcmPart) (al
 -- the last part completes a message where some are kept
 pub ends_here : (past : List Heard) (part : EcmPart) (kept : Option EcmPart) (all : List Place) →
     exceeds (newest past).message part ≡ true →
-    part.part ≡ part.last_part → (kept ≡ None → ⊥) → Gathers (next_run (run_in past) part) kept all →
+    part.part ≡ part.last_part → (kept ≡ None → ⊥) → IsGathered (next_run (parts_collected past) part) kept all →
     Ends past part kept all
 ends_here past part None all counts last some gathered = absurd (some refl)
 ends_here past part (Some newest_part) all counts last some gathered =
@@ -280,5 +284,6 @@ ends_here past part (Some newest_part) all counts last some gathered =
     record { part_is = ap Some is.0; complete = is.1 }
 
 -- positions that are kept are ones that a message may have
-pub good_places : (run : List EcmPart) (kept : Option EcmPart) (all : List Place) → Gathers run kept all → ArePlaces all
+pub good_places : (run : List EcmPart) (kept : Option EcmPart) (all : List Place) → IsGathered run kept all →
+    ArePlaces all
 good_places run kept all gathered = subst ArePlaces (sym gathered.places) gathered.good.places

@@ -10,24 +10,24 @@ use Rattle.sd_ecm.specs.declared.fault.EcmFault.TheVariants.{Back}
 use Rattle.sd_reception.specs.Heard.{Heard, Controls}
 use Rattle.sd_reception.specs.Stretches.{counted, run_of, run_to, newest, completes}
 use Rattle.sd_reception.specs.Offered.{part_fault, is_back}
-use Rattle.sd_collect.specs.Gathered.{ArePlaces, Gathers, said_by}
+use Rattle.sd_collect.specs.Gathered.{ArePlaces, IsGathered, said_by}
 use Rattle.sd_collect.specs.declared.collect.Collect.{Collect}
 use Rattle.sd_collect.specs.declared.collect.Taken.{Taken}
 use Rattle.sd_collect.specs.declared.collect.Taken.TheVariants.{Waits, Complete}
 
 -- the parts that are being collected, the newest first
-unfoldable pub run_in : List Heard → List EcmPart
-run_in past = run_of (counted (newest past).message (newest past).after)
+unfoldable pub parts_collected : List Heard → List EcmPart
+parts_collected past = run_of (counted (newest past).message (newest past).after)
 
 -- what a message says and its positions are kept, or that there is no message
-pub record Keeps (message : Option Message) (head : Option EcmHead) (all : List Place) : Type 0 where
+pub record IsMessageKept (message : Option Message) (head : Option EcmHead) (all : List Place) : Type 0 where
   pub says : message ≡ option_map (λ kept. message_of kept all) head
   pub good : ArePlaces all
 
 -- the newest complete message and the parts of the next one that arrived are kept
-pub record Collects (past : List Heard) (state : Collect) : Type 0 where
-  pub run : Gathers (run_in past) state.run.part state.run.places.items
-  pub last : Keeps (newest past).message state.last state.places.items
+pub record IsCollected (past : List Heard) (state : Collect) : Type 0 where
+  pub run : IsGathered (parts_collected past) state.run.part state.run.places.items
+  pub last : IsMessageKept (newest past).message state.last state.places.items
 
 -- why the complete message is refused, if there is one and it goes back
 abbrev pub back_fault : List Heard → Option Message → Option EcmFault
@@ -43,7 +43,7 @@ fault_of past part =
 pub record IsWaiting (past : List Heard) (part : EcmPart) (state : Collect) : Type 0 where
   pub fault : fault_of past part ≡ None
   pub incomplete : completes past (Controls part) ≡ None
-  pub after : Collects (Controls part ∷ past) state
+  pub after : IsCollected (Controls part ∷ past) state
 
 -- Nothing is wrong with a part, and it completes the message that says this. Its positions and the message before it
 -- are kept.
@@ -53,10 +53,10 @@ pub record IsComplete (past : List Heard) (part : EcmPart) (head : EcmHead) (sta
   pub ends : state.run.part ≡ Some part
   pub says : head ≡ said_by part
   pub good : ArePlaces state.run.places.items
-  pub last : Keeps (newest past).message state.last state.places.items
+  pub last : IsMessageKept (newest past).message state.last state.places.items
 
 -- the result of a part: it is refused, completes no message, or completes one
-abbrev pub Takes : List Heard → EcmPart → Collect → Result Taken EcmFault → Type 0
-Takes past part state (Ok Waits) = IsWaiting past part state
-Takes past part state (Ok (Complete head)) = IsComplete past part head state
-Takes past part state (Err fault) = fault_of past part ≡ Some fault
+abbrev pub PartOutcome : List Heard → EcmPart → Collect → Result Taken EcmFault → Type 0
+PartOutcome past part state (Ok Waits) = IsWaiting past part state
+PartOutcome past part state (Ok (Complete head)) = IsComplete past part head state
+PartOutcome past part state (Err fault) = fault_of past part ≡ Some fault

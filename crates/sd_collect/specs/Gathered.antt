@@ -2,9 +2,9 @@
 use Rattle.std.specs.Prelude.{◌≡◌, ◌+◌, ◌≤◌, ◌==◌, if◌then◌else◌, List, [], ◌∷◌, length, reverse, flat_map, All}
 use Rattle.std.specs.Prelude.{Option, Some, None}
 use Rattle.std.specs.Prelude.{Result, Ok, Err}
-use Rattle.sd_ecm.specs.Spelled.{listed}
+use Rattle.sd_ecm.specs.Spelled.{listed_places}
 use Rattle.sd_ecm.specs.Form.{ArePositioned, AreAscending, AreShort, IsEcm}
-use Rattle.sd_ecm.specs.Parts.{header_of}
+use Rattle.sd_ecm.specs.Parts.{ecm_header_of}
 use Rattle.sd_ecm.specs.Versions.{most_places, most_positions}
 use Rattle.sd_ecm.specs.declared.part.Place.{Place}
 use Rattle.sd_ecm.specs.declared.part.EcmPart.{EcmPart}
@@ -15,7 +15,7 @@ use Rattle.sd_reception.specs.Offered.{part_fault}
 
 -- all positions of parts, the newest part first, in the order of the message [this project, docs/FORMATS.md, Messages]
 unfoldable pub places_of : List EcmPart → List Place
-places_of run = flat_map listed (reverse run)
+places_of run = flat_map listed_places (reverse run)
 
 -- what a part says of its message, but for the positions
 abbrev pub said_by : EcmPart → EcmHead
@@ -57,7 +57,7 @@ IsNext (before ∷ run) part = before.part + 1 ≡ part.part
 -- each other part says of the message what the newest says
 abbrev pub AreAlike : List EcmPart → Type 0
 AreAlike [] = Unit {0}
-AreAlike (part ∷ run) = All (λ other. header_of other ≡ header_of part) run
+AreAlike (part ∷ run) = All (λ other. ecm_header_of other ≡ ecm_header_of part) run
 
 -- parts of one message in which nothing is wrong, the newest first
 pub record IsRun (run : List EcmPart) : Type 0 where
@@ -66,7 +66,7 @@ pub record IsRun (run : List EcmPart) : Type 0 where
   pub places : ArePlaces (places_of run)
 
 -- the newest of these parts and the positions of all of them are kept
-pub record Gathers (run : List EcmPart) (kept : Option EcmPart) (all : List Place) : Type 0 where
+pub record IsGathered (run : List EcmPart) (kept : Option EcmPart) (all : List Place) : Type 0 where
   pub part : kept ≡ newest_of run
   pub places : all ≡ places_of run
   pub good : IsRun run
@@ -76,6 +76,6 @@ unfoldable pub next_run : List EcmPart → EcmPart → List EcmPart
 next_run run part = if part.part == 0 then part ∷ [] else run_with part run
 
 -- something is wrong with the newest of these parts, or they are kept
-abbrev pub Becomes : List EcmPart → Option EcmPart → List Place → Result Unit EcmFault → Type 0
-Becomes run kept all (Ok done) = (part_fault run ≡ None) × Gathers run kept all
-Becomes run kept all (Err fault) = part_fault run ≡ Some fault
+abbrev pub GatherOutcome : List EcmPart → Option EcmPart → List Place → Result Unit EcmFault → Type 0
+GatherOutcome run kept all (Ok done) = (part_fault run ≡ None) × IsGathered run kept all
+GatherOutcome run kept all (Err fault) = part_fault run ≡ Some fault

@@ -1,12 +1,12 @@
 ghost use Rattle.std.specs.Prelude.{◌≡◌, ◌↔◌, ◌+◌, ◌≤◌, ◌∷◌, [], List, None, option_map, length, if◌then◌else◌, IfOk};
 ghost use Rattle.std.specs.Prelude.{IfSome, IsTrue};
-ghost use Rattle.sd_ecm.specs.Spelled.{listed};
+ghost use Rattle.sd_ecm.specs.Spelled.{listed_places};
 ghost use Rattle.sd_ecm.specs.Form.{IsEcm};
 ghost use Rattle.sd_ecm.specs.declared.format.TheConstants.{POSITIONS, MOST_PLACES};
 ghost use Rattle.sd_ecm.specs.declared.part.EcmPart.{EcmPart};
 ghost use Rattle.sd_reception.specs.Stretches.{run_with};
 ghost use Rattle.sd_reception.specs.Offered.{part_fault, is_after as stands_after};
-ghost use Rattle.sd_collect.specs.Gathered.{said_by, next_run, IsNext, IsPart, Gathers, Becomes};
+ghost use Rattle.sd_collect.specs.Gathered.{said_by, next_run, IsNext, IsPart, IsGathered, GatherOutcome};
 
 use crate::run::Run;
 use sd_cause::NoMemory;
@@ -17,7 +17,7 @@ impl Run {
     /// Before any part. Room for all positions of a message is allocated here.
     #[tactic(auto, using(crate::proofs::Gathering::none_gathered))]
     pub fn new(alloc: Global) -> Result<Run, NoMemory>
-        ensures { IfOk result (λ run. Gathers [] run.part run.places.items) }
+        ensures { IfOk result (λ run. IsGathered [] run.part run.places.items) }
     {
         match Vec::with_capacity(alloc, MOST_PLACES) {
             Ok(places) => Ok(Run { part: None, places }),
@@ -28,7 +28,7 @@ impl Run {
     /// Forgets the parts.
     #[tactic(auto, using(crate::proofs::Gathering::none_gathered))]
     pub fn clear(&mut self)
-        ensures { Gathers [] self.new.part self.new.places.items }
+        ensures { IsGathered [] self.new.part self.new.places.items }
     {
         self.part = None;
         self.places.clear();
@@ -52,8 +52,8 @@ impl Run {
     /// message, the part that is awaited next is added, and any other drops what was collected. Nothing is allocated.
     pub fn take(&mut self, part: &EcmPart) -> Result<(), EcmFault>
         requires { IsEcm part.now }
-        ensures { (run : List EcmPart) → Gathers run self.old.part self.old.places.items →
-            Becomes (next_run run part.now) self.new.part self.new.places.items result }
+        ensures { (run : List EcmPart) → IsGathered run self.old.part self.old.places.items →
+            GatherOutcome (next_run run part.now) self.new.part self.new.places.items result }
     {
         if part.part == 0 {
             self.clear();
@@ -68,9 +68,9 @@ impl Run {
 
     // Whether the part is the next of the message that is collected.
     fn goes_on(&self, part: &EcmPart) -> bool
-        ensures value { (run : List EcmPart) → Gathers run self.now.part self.now.places.items →
+        ensures value { (run : List EcmPart) → IsGathered run self.now.part self.now.places.items →
             run_with part.now run ≡ (if result then part.now ∷ run else []) }
-        ensures next { (run : List EcmPart) → Gathers run self.now.part self.now.places.items → IsTrue result →
+        ensures next { (run : List EcmPart) → IsGathered run self.now.part self.now.places.items → IsTrue result →
             IsNext run part.now }
     {
         match &self.part {
@@ -84,8 +84,8 @@ impl Run {
     // Adds the next part, if nothing is wrong with it.
     fn add(&mut self, part: &EcmPart) -> Result<(), EcmFault>
         requires { IsEcm part.now }
-        ensures { (run : List EcmPart) → Gathers run self.old.part self.old.places.items →
-            IsNext run part.now → Becomes (part.now ∷ run) self.new.part self.new.places.items result }
+        ensures { (run : List EcmPart) → IsGathered run self.old.part self.old.places.items →
+            IsNext run part.now → GatherOutcome (part.now ∷ run) self.new.part self.new.places.items result }
     {
         if let Some(fault) = self.fault(part) {
             return Err(fault);
@@ -97,9 +97,9 @@ impl Run {
     // What is wrong with the part as the next one.
     fn fault(&self, part: &EcmPart) -> Option<EcmFault>
         requires { IsEcm part.now }
-        ensures value { (run : List EcmPart) → Gathers run self.now.part self.now.places.items →
+        ensures value { (run : List EcmPart) → IsGathered run self.now.part self.now.places.items →
             result ≡ part_fault (part.now ∷ run) }
-        ensures room { result ≡ None → length self.now.places.items + length (listed part.now) ≤ MOST_PLACES }
+        ensures room { result ≡ None → length self.now.places.items + length (listed_places part.now) ≤ MOST_PLACES }
     {
         if let Some(before) = &self.part {
             if !before.same_header(part) {
@@ -118,10 +118,10 @@ impl Run {
     // Adds the part.
     fn put(&mut self, part: &EcmPart)
         requires form { IsEcm part.now }
-        requires room { length self.old.places.items + length (listed part.now) ≤ MOST_PLACES }
-        ensures { (run : List EcmPart) → Gathers run self.old.part self.old.places.items →
+        requires room { length self.old.places.items + length (listed_places part.now) ≤ MOST_PLACES }
+        ensures { (run : List EcmPart) → IsGathered run self.old.part self.old.places.items →
             IsNext run part.now → part_fault (part.now ∷ run) ≡ None →
-            Gathers (part.now ∷ run) self.new.part self.new.places.items }
+            IsGathered (part.now ∷ run) self.new.part self.new.places.items }
     {
         self.places.extend_from_slice(positions_of(part)).unwrap();
         self.part = Some(*part);
@@ -144,7 +144,7 @@ fn is_after(before: &EcmPart, part: &EcmPart) -> bool
 #[tactic(auto, using(crate::proofs::Gathering::few))]
 fn positions_of(part: &EcmPart) -> &[Place]
     requires { IsEcm part.now }
-    ensures value { result.now ≡ listed part.now }
+    ensures value { result.now ≡ listed_places part.now }
     ensures form { IsPart part.now }
 {
     let positions: &[Place] = &part.positions;

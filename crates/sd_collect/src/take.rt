@@ -6,7 +6,7 @@ ghost use Rattle.sd_reception.specs.Heard.{Heard, Controls};
 ghost use Rattle.sd_reception.specs.Stretches.{current as current_period, exceeds, newest};
 ghost use Rattle.sd_reception.specs.Offered.{is_back as back};
 ghost use Rattle.sd_ecm.specs.declared.message.EcmHead.{EcmHead};
-ghost use Rattle.sd_collect.specs.Collected.{Keeps, Collects, IsComplete, Takes};
+ghost use Rattle.sd_collect.specs.Collected.{IsMessageKept, IsCollected, IsComplete, PartOutcome};
 
 use crate::collect::{Collect, Taken};
 use crate::gather::head_of;
@@ -20,7 +20,7 @@ use std::mem::swap;
 impl Collect {
     /// Before any part. All memory is allocated here.
     pub fn new(alloc: Global) -> Result<Collect, NoMemory>
-        ensures { IfOk result (λ state. Collects [] state) }
+        ensures { IfOk result (λ state. IsCollected [] state) }
     {
         let run = Run::new(alloc)?;
         match Vec::with_capacity(alloc, MOST_PLACES) {
@@ -37,8 +37,8 @@ impl Collect {
     /// `Complete`, `settle` must be called before the next part is taken [this project, docs/FORMATS.md, Receiver].
     pub fn take(&mut self, current: u32, part: &EcmPart) -> Result<Taken, EcmFault>
         requires form { IsEcm part.now }
-        ensures value { (past : List Heard) → Collects past self.old → current_period past ≡ current →
-            Takes past part.now self.new result }
+        ensures value { (past : List Heard) → IsCollected past self.old → current_period past ≡ current →
+            PartOutcome past part.now self.new result }
     {
         if !self.counts(part) {
             return Ok(Taken::Waits);
@@ -62,7 +62,7 @@ impl Collect {
     pub fn settle(&mut self)
         ensures places { self.new.places.items ≡ self.old.run.places.items }
         ensures value { (past : List Heard) (part : EcmPart) (head : EcmHead) → IsComplete past part head self.old →
-            Collects (Controls part ∷ past) self.new }
+            IsCollected (Controls part ∷ past) self.new }
     {
         swap(&mut self.places, &mut self.run.places);
         self.last = self.run.head();
@@ -71,7 +71,7 @@ impl Collect {
 
     /// Forgets all messages and parts.
     pub fn begin(&mut self)
-        ensures { Collects [] self.new }
+        ensures { IsCollected [] self.new }
     {
         self.run.clear();
         self.last = None;
@@ -101,7 +101,7 @@ impl Collect {
 
     // Whether the part is of a later message than the newest complete one.
     fn counts(&self, part: &EcmPart) -> bool
-        ensures { (message : Option Message) → Keeps message self.now.last self.now.places.items →
+        ensures { (message : Option Message) → IsMessageKept message self.now.last self.now.places.items →
             result ≡ exceeds message part.now }
     {
         match &self.last {
@@ -113,7 +113,7 @@ impl Collect {
     // Whether a message is of an earlier period than the current one, or goes back behind the newest complete one.
     #[tactic(auto, unfolding(sd_reception::specs::Offered::is_back))]
     fn is_back(&self, current: u32, head: &EcmHead) -> bool
-        ensures { (past : List Heard) → Keeps (newest past).message self.now.last self.now.places.items →
+        ensures { (past : List Heard) → IsMessageKept (newest past).message self.now.last self.now.places.items →
             AreAscending self.now.run.places.items → current_period past ≡ current →
             result ≡ back past (message_of head.now self.now.run.places.items) }
     {

@@ -1,8 +1,10 @@
 -- Public meaning: what help says of each command [this project, docs/FORMATS.md, Help].
 use Rattle.std.specs.Prelude.{ℕ, List, [], ◌∷◌, codes, bytes_eq, if◌then◌else◌, Option, Some, None}
 use Rattle.sd_commands.specs.declared.command.Command.{Command}
-use Rattle.sd_commands.specs.declared.command.Command.TheVariants.{Accounts, Book, Card, Cover, Field, Head, Layered, Lcard}
-use Rattle.sd_commands.specs.declared.command.Command.TheVariants.{Apart, Messages, Opens, Plan, Receive, Sample, Show, Tables}
+use Rattle.sd_commands.specs.declared.command.Command.TheVariants.{Accounts, Book, Card, Cover, Field, Head, Layered}
+use Rattle.sd_commands.specs.declared.command.Command.TheVariants.{Lcard}
+use Rattle.sd_commands.specs.declared.command.Command.TheVariants.{Apart, Messages, Opens, Plan, Receive, Sample, Show}
+use Rattle.sd_commands.specs.declared.command.Command.TheVariants.{Tables}
 use Rattle.sd_commands.specs.declared.command.Command.TheVariants.{Trace, Trial}
 use Rattle.sd_commands.specs.declared.operand.Operand.{Operand}
 use Rattle.sd_commands.specs.declared.operand.Operand.TheVariants as word
@@ -12,25 +14,25 @@ use Rattle.sd_commands.specs.Exits.{exits_of_monitors, exits_of_pairs, exits_of_
 use Rattle.sd_commands.specs.Exits.{exits_of_shown_cards, exits_of_tables}
 
 -- the command's name
-unfoldable pub name_of : Command → List ℕ
-name_of Accounts = codes "accounts"
-name_of Apart = codes "apart"
-name_of Book = codes "book"
-name_of Card = codes "card"
-name_of Cover = codes "cover"
-name_of Field = codes "field"
-name_of Head = codes "head"
-name_of Layered = codes "layered"
-name_of Lcard = codes "lcard"
-name_of Messages = codes "messages"
-name_of Opens = codes "opens"
-name_of Plan = codes "plan"
-name_of Receive = codes "receive"
-name_of Sample = codes "sample"
-name_of Show = codes "show"
-name_of Tables = codes "tables"
-name_of Trace = codes "trace"
-name_of Trial = codes "trial"
+unfoldable pub command_name : Command → List ℕ
+command_name Accounts = codes "accounts"
+command_name Apart = codes "apart"
+command_name Book = codes "book"
+command_name Card = codes "card"
+command_name Cover = codes "cover"
+command_name Field = codes "field"
+command_name Head = codes "head"
+command_name Layered = codes "layered"
+command_name Lcard = codes "lcard"
+command_name Messages = codes "messages"
+command_name Opens = codes "opens"
+command_name Plan = codes "plan"
+command_name Receive = codes "receive"
+command_name Sample = codes "sample"
+command_name Show = codes "show"
+command_name Tables = codes "tables"
+command_name Trace = codes "trace"
+command_name Trial = codes "trial"
 
 -- all commands, by their names
 abbrev pub commands : List Command
@@ -39,13 +41,13 @@ commands =
     ∷ Show ∷ Tables ∷ Trace ∷ Trial ∷ []
 
 -- the first of them that has this name
-abbrev pub named : List ℕ → List Command → Option Command
-named word [] = None
-named word (command ∷ rest) = if bytes_eq word (name_of command) then Some command else named word rest
+abbrev pub first_named : List ℕ → List Command → Option Command
+first_named word [] = None
+first_named word (command ∷ rest) = if bytes_eq word (command_name command) then Some command else first_named word rest
 
 -- the command of this name
-unfoldable pub command_of : List ℕ → Option Command
-command_of word = named word commands
+unfoldable pub command_named : List ℕ → Option Command
+command_named word = first_named word commands
 
 -- the arguments after the name
 unfoldable pub operands_of : Command → List Operand

@@ -1,49 +1,51 @@
 -- Public meaning: the arguments that commands take [this project, docs/FORMATS.md, Commands].
 use Rattle.std.specs.Prelude.{ℕ, ◌-◌, ◌^◌, List, codes}
 use Rattle.sd_commands.specs.declared.operand.Operand.{Operand}
-use Rattle.sd_commands.specs.declared.operand.Operand.TheVariants.{Site, Book, Accounts, Commands, Clear, Script, Stream}
-use Rattle.sd_commands.specs.declared.operand.Operand.TheVariants.{Card, Leaves, Leaf, Width, Number, Packets, Clears, Pids, Out}
+use Rattle.sd_commands.specs.declared.operand.Operand.TheVariants.{Site, Book, Accounts, Commands, Clear, Script}
+use Rattle.sd_commands.specs.declared.operand.Operand.TheVariants.{Stream}
+use Rattle.sd_commands.specs.declared.operand.Operand.TheVariants.{Card, Leaves, Leaf, Width, Number, Packets, Clears}
+use Rattle.sd_commands.specs.declared.operand.Operand.TheVariants.{Pids, Out}
 use Rattle.sd_commands.specs.declared.operand.Kind.{Kind}
 use Rattle.sd_commands.specs.declared.operand.Kind.TheVariants as kind
 
 -- what it is: a file that is read, the file that is made, or a number and the greatest that it may be,
 -- from 0 or from 1 on
-abbrev pub kind_of : Operand → Kind
-kind_of Site = kind.Input
-kind_of Book = kind.Input
-kind_of Accounts = kind.Input
-kind_of Commands = kind.Input
-kind_of Clear = kind.Input
-kind_of Script = kind.Input
-kind_of Stream = kind.Input
-kind_of Card = kind.Input
-kind_of Leaves = kind.Input
-kind_of Leaf = kind.Number (2 ^ 32 - 1)
-kind_of Width = kind.Number (2 ^ 32 - 1)
-kind_of Number = kind.Number (2 ^ 32 - 1)
-kind_of Packets = kind.Number 1000000
-kind_of Clears = kind.Count (2 ^ 32 - 1)
-kind_of Pids = kind.Number 256
-kind_of Out = kind.Output
+abbrev pub operand_kind : Operand → Kind
+operand_kind Site = kind.Input
+operand_kind Book = kind.Input
+operand_kind Accounts = kind.Input
+operand_kind Commands = kind.Input
+operand_kind Clear = kind.Input
+operand_kind Script = kind.Input
+operand_kind Stream = kind.Input
+operand_kind Card = kind.Input
+operand_kind Leaves = kind.Input
+operand_kind Leaf = kind.Number (2 ^ 32 - 1)
+operand_kind Width = kind.Number (2 ^ 32 - 1)
+operand_kind Number = kind.Number (2 ^ 32 - 1)
+operand_kind Packets = kind.Number 1000000
+operand_kind Clears = kind.Count (2 ^ 32 - 1)
+operand_kind Pids = kind.Number 256
+operand_kind Out = kind.Output
 
 -- the name that it has in the texts
-unfoldable pub name_of : Operand → List ℕ
-name_of Site = codes "SITE"
-name_of Book = codes "BOOK"
-name_of Accounts = codes "ACCOUNTS"
-name_of Commands = codes "COMMANDS"
-name_of Clear = codes "CLEAR"
-name_of Script = codes "SCRIPT"
-name_of Stream = codes "STREAM"
-name_of Card = codes "CARD"
-name_of Leaves = codes "LEAVES"
-name_of Leaf = codes "LEAF"
-name_of Width = codes "WIDTH"
-name_of Number = codes "NUMBER"
-name_of Packets = codes "PACKETS"
-name_of Clears = codes "PACKETS"
-name_of Pids = codes "PIDS"
-name_of Out = codes "OUT"
+unfoldable pub operand_name : Operand → List ℕ
+operand_name Site = codes "SITE"
+operand_name Book = codes "BOOK"
+operand_name Accounts = codes "ACCOUNTS"
+operand_name Commands = codes "COMMANDS"
+operand_name Clear = codes "CLEAR"
+operand_name Script = codes "SCRIPT"
+operand_name Stream = codes "STREAM"
+operand_name Card = codes "CARD"
+operand_name Leaves = codes "LEAVES"
+operand_name Leaf = codes "LEAF"
+operand_name Width = codes "WIDTH"
+operand_name Number = codes "NUMBER"
+operand_name Packets = codes "PACKETS"
+operand_name Clears = codes "PACKETS"
+operand_name Pids = codes "PIDS"
+operand_name Out = codes "OUT"
 
 -- what it says
 unfoldable pub meaning_of : Operand → List ℕ

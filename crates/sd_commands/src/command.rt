@@ -1,5 +1,5 @@
 ghost use Rattle.std.specs.Prelude.{◌≡◌, ◌↔◌, ◌⊎◌, ◌≤◌, length, true};
-ghost use Rattle.sd_commands.specs.Commands.{example_of, exits_of, name_of, operands_of, command_of, work_of};
+ghost use Rattle.sd_commands.specs.Commands.{example_of, exits_of, command_name, operands_of, command_named, work_of};
 
 use crate::exit::{self, Exit};
 use crate::operand::Operand;
@@ -69,9 +69,9 @@ pub const COMMANDS: [Command; 18] = [
 
 impl Command {
     /// The command of this name, or none if no command has it.
-    #[tactic(auto, unfolding(crate::specs::Commands::command_of, crate::specs::Commands::name_of))]
+    #[tactic(auto, unfolding(crate::specs::Commands::command_named, crate::specs::Commands::command_name))]
     pub fn of(word: &str) -> Option<Command>
-        ensures { result ≡ command_of word.now }
+        ensures { result ≡ command_named word.now }
     {
         match word {
             "accounts" => Some(Command::Accounts),
@@ -97,9 +97,9 @@ impl Command {
     }
 
     /// The command's name.
-    #[tactic(auto, unfolding(crate::specs::Commands::name_of))]
+    #[tactic(auto, unfolding(crate::specs::Commands::command_name))]
     pub fn name(self) -> &'static str
-        ensures { result.now ≡ name_of self }
+        ensures { result.now ≡ command_name self }
     {
         match self {
             Command::Accounts => "accounts",

@@ -1,5 +1,5 @@
 ghost use Rattle.std.specs.Prelude.{◌≡◌};
-ghost use Rattle.sd_commands.specs.Operands.{kind_of, meaning_of, name_of};
+ghost use Rattle.sd_commands.specs.Operands.{operand_kind, meaning_of, operand_name};
 
 /// What an argument is.
 #[derive(Clone, Copy, Debug, PartialEq, Eq)]
@@ -53,9 +53,9 @@ pub enum Operand {
 
 impl Operand {
     /// The argument's name in help, in capital letters.
-    #[tactic(auto, unfolding(crate::specs::Operands::name_of))]
+    #[tactic(auto, unfolding(crate::specs::Operands::operand_name))]
     pub fn name(self) -> &'static str
-        ensures { result.now ≡ name_of self }
+        ensures { result.now ≡ operand_name self }
     {
         match self {
             Operand::Site => "SITE",
@@ -78,7 +78,7 @@ impl Operand {
 
     /// The argument's kind: an input, the output, or a number and its range.
     pub fn kind(self) -> Kind
-        ensures { result ≡ kind_of self }
+        ensures { result ≡ operand_kind self }
     {
         match self {
             Operand::Site

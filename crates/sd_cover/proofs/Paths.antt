@@ -14,15 +14,15 @@ use Rattle.sd_tree.proofs.Ancestors.{node_level}
 use Rattle.sd_tree.proofs.Levels.{IsAtLevel, same_level, halved_level}
 use Rattle.sd_steiner.specs.Walk.{node_at}
 use Rattle.sd_steiner.proofs.Levels.{StandsAt, node_stands, below_by_halvings}
-use Rattle.sd_cover.specs.Tally.{count_at, with_count}
+use Rattle.sd_cover.specs.Tally.{tally_at, with_count}
 use Rattle.sd_cover.specs.Path.{met_by}
 use Rattle.sd_cover.proofs.Tables.{counted, get_with_count, count_counted}
 
 -- the count that was written, and the others as before
-pub count_written : (m : FinMap nat_cmp ℕ) (v n q : ℕ) → count_at (with_count m v n) q
-    ≡ (if q == v then n else count_at m q)
+pub count_written : (m : FinMap nat_cmp ℕ) (v n q : ℕ) → tally_at (with_count m v n) q
+    ≡ (if q == v then n else tally_at m q)
 count_written m v n q = ap (λ o. unwrap_or o 0) (get_with_count m v n q) ∙ elim (q == v) as
-    (λ b. unwrap_or (cond b (counted n) (get m q)) 0 ≡ (if b then n else count_at m q)) [
+    (λ b. unwrap_or (cond b (counted n) (get m q)) 0 ≡ (if b then n else tally_at m q)) [
       | true ↦ count_counted n
       | false ↦ refl
     ]
@@ -37,29 +37,29 @@ met_at_most node (suc k) v = let rest = met_at_most node k v in elim (node / 2 ^
     ]
 
 -- a raise of the next node of the path
-pub raised_further : (m : FinMap nat_cmp ℕ) (node k old q : ℕ) → count_at m q ≡ old + met_by node k q →
-    count_at (with_count m (node / 2 ^ k) (count_at m (node / 2 ^ k) + 1)) q ≡ old + met_by node (suc k) q
-raised_further m node k old q is = count_written m (node / 2 ^ k) (count_at m (node / 2 ^ k) + 1) q ∙
+pub raised_further : (m : FinMap nat_cmp ℕ) (node k old q : ℕ) → tally_at m q ≡ old + met_by node k q →
+    tally_at (with_count m (node / 2 ^ k) (tally_at m (node / 2 ^ k) + 1)) q ≡ old + met_by node (suc k) q
+raised_further m node k old q is = count_written m (node / 2 ^ k) (tally_at m (node / 2 ^ k) + 1) q ∙
     elim (eqb_tells q (node / 2 ^ k)) [
       | inl same ↦
           let e = eq-eqb (node / 2 ^ k) q (sym same.1) in
-          rw (same.0, e) (let s = ap (count_at m) same.1 in omega arith)
+          rw (same.0, e) (let s = ap (tally_at m) same.1 in omega arith)
       | inr other ↦
           let e = ne_eqb (node / 2 ^ k) q (λ s. other.1 (sym s)) in
           rw (other.0, e) (omega arith)
     ]
 
 -- a lowering of the next node of the path
-pub lowered_further : (m : FinMap nat_cmp ℕ) (node k old q : ℕ) → 0 < count_at m (node / 2 ^ k) →
-    count_at m q + met_by node k q ≡ old → count_at (with_count m (node / 2 ^ k) (count_at m (node / 2 ^ k) - 1)) q
+pub lowered_further : (m : FinMap nat_cmp ℕ) (node k old q : ℕ) → 0 < tally_at m (node / 2 ^ k) →
+    tally_at m q + met_by node k q ≡ old → tally_at (with_count m (node / 2 ^ k) (tally_at m (node / 2 ^ k) - 1)) q
     + met_by node (suc k) q ≡ old
 lowered_further m node k old q some is =
-    let written = count_written m (node / 2 ^ k) (count_at m (node / 2 ^ k) - 1) q in
+    let written = count_written m (node / 2 ^ k) (tally_at m (node / 2 ^ k) - 1) q in
     elim (eqb_tells q (node / 2 ^ k)) [
       | inl same ↦
           let e = eq-eqb (node / 2 ^ k) q (sym same.1) in
           let w = rw same.0 at written in
-          rw e (let s = ap (count_at m) same.1 in omega arith)
+          rw e (let s = ap (tally_at m) same.1 in omega arith)
       | inr other ↦
           let e = ne_eqb (node / 2 ^ k) q (λ s. other.1 (sym s)) in
           let w = rw other.0 at written in
@@ -67,14 +67,14 @@ lowered_further m node k old q some is =
     ]
 
 -- the same as a loop has it
-pub raised_next : (m : FinMap nat_cmp ℕ) (node k old q : ℕ) → count_at m q ≡ old + met_by node k q →
-    count_at (with_count m (node / 2 ^ k) (count_at m (node / 2 ^ k) + 1)) q ≡ old + met_by node (k + 1) q
+pub raised_next : (m : FinMap nat_cmp ℕ) (node k old q : ℕ) → tally_at m q ≡ old + met_by node k q →
+    tally_at (with_count m (node / 2 ^ k) (tally_at m (node / 2 ^ k) + 1)) q ≡ old + met_by node (k + 1) q
 raised_next m node k old q is =
     let e : k + 1 ≡ suc k = omega arith in
     rw e (raised_further m node k old q is)
 
-pub lowered_next : (m : FinMap nat_cmp ℕ) (node k old q : ℕ) → 0 < count_at m (node / 2 ^ k) →
-    count_at m q + met_by node k q ≡ old → count_at (with_count m (node / 2 ^ k) (count_at m (node / 2 ^ k) - 1)) q
+pub lowered_next : (m : FinMap nat_cmp ℕ) (node k old q : ℕ) → 0 < tally_at m (node / 2 ^ k) →
+    tally_at m q + met_by node k q ≡ old → tally_at (with_count m (node / 2 ^ k) (tally_at m (node / 2 ^ k) - 1)) q
     + met_by node (k + 1) q ≡ old
 lowered_next m node k old q some is =
     let e : k + 1 ≡ suc k = omega arith in

@@ -10,7 +10,7 @@ use Rattle.std.specs.FinMap.{FinMap, empty, get, get-insert, get-remove, get-emp
 use Rattle.std.proofs.lemmas.List.{get_or-set_same, get_or-set_other}
 use Rattle.std.proofs.lemmas.Bool.{cond-true}
 use Rattle.std.proofs.lemmas.Bool.Decides.{eqb_tells}
-use Rattle.sd_cover.specs.Tally.{count_at, with_count}
+use Rattle.sd_cover.specs.Tally.{tally_at, with_count}
 use Rattle.std.proofs.lemmas.List.Sums.{sum_by-set, count_by-le-length}
 use Rattle.std.proofs.lemmas.List.Folds.{sum_by-replicate}
 use Rattle.sd_cover.specs.Table.{map_from, map_of, used, IsTable}
@@ -46,7 +46,7 @@ count_counted zero = refl
 count_counted (suc n) = refl
 
 -- the count of a node is the number at its place
-pub count_in_table : (ns : List ℕ) (q : ℕ) → count_at (map_of ns) q ≡ get_or ns q 0
+pub count_in_table : (ns : List ℕ) (q : ℕ) → tally_at (map_of ns) q ≡ get_or ns q 0
 count_in_table ns q = ap (λ (o : Option ℕ). unwrap_or o 0) (get_table ns q) ∙ count_counted (get_or ns q 0)
 
 -- tables with the same numbers have the same map
@@ -156,7 +156,7 @@ used_made [] ms (suc n) k none is = ap used is ∙ used_zeros k
 used_made (x ∷ ns) ms n k none is = absurd (omega arith)
 
 -- the same by the counts that contracts see
-pub placed_count : (ns : List ℕ) (room v : ℕ) → IsTable ns room → v < NODES → (0 < count_at (map_of ns) v)
+pub placed_count : (ns : List ℕ) (room v : ℕ) → IsTable ns room → v < NODES → (0 < tally_at (map_of ns) v)
     ⊎ (0 < room) → v < length ns
 placed_count ns room v t h (inl some) = placed ns room v t h (inl (let e = count_in_table ns v in omega arith))
 placed_count ns room v t h (inr more) = placed ns room v t h (inr more)
@@ -176,14 +176,14 @@ raised_table ns room v (suc n) r t h is one some =
     table_written ns room (room - r) v (suc n + 1) t h (omega arith)
 
 pub raised_map : (ns : List ℕ) (v n : ℕ) → v < length ns → n ≡ get_or ns v 0 → map_of (set ns v (n + 1))
-    ≡ with_count (map_of ns) v (count_at (map_of ns) v + 1)
+    ≡ with_count (map_of ns) v (tally_at (map_of ns) v + 1)
 raised_map ns v n h is =
-    let e : n ≡ count_at (map_of ns) v = is ∙ sym (count_in_table ns v) in
+    let e : n ≡ tally_at (map_of ns) v = is ∙ sym (count_in_table ns v) in
     subst (λ (m : ℕ). map_of (set ns v (n + 1)) ≡ with_count (map_of ns) v (m + 1)) e (map_after_write ns v (n + 1) h)
 
 -- a count lowered by one
 pub lowered_map : (ns : List ℕ) (v n : ℕ) → v < length ns → n ≡ get_or ns v 0 →
-    map_of (set ns v (n - 1)) ≡ with_count (map_of ns) v (count_at (map_of ns) v - 1)
+    map_of (set ns v (n - 1)) ≡ with_count (map_of ns) v (tally_at (map_of ns) v - 1)
 lowered_map ns v n h is =
-    let e : n ≡ count_at (map_of ns) v = is ∙ sym (count_in_table ns v) in
+    let e : n ≡ tally_at (map_of ns) v = is ∙ sym (count_in_table ns v) in
     subst (λ (m : ℕ). map_of (set ns v (n - 1)) ≡ with_count (map_of ns) v (m - 1)) e (map_after_write ns v (n - 1) h)

@@ -25,8 +25,8 @@ use Rattle.sd_steiner.proofs.Walks.{on_chain_left, on_chain_right}
 use Rattle.sd_steiner.specs.Cover.{cover_of}
 use Rattle.sd_steiner.proofs.There.{the_cover}
 use Rattle.sd_steiner.proofs.Sorting.{sorted_chains}
-use Rattle.sd_cover.specs.Tally.{count_at}
-use Rattle.sd_cover.specs.Index.{count_below, is_revoked, revoked_by, IsIndex, AreRevocable}
+use Rattle.sd_cover.specs.Tally.{tally_at}
+use Rattle.sd_cover.specs.Index.{count_below, counts_one, revoked_by, IsIndex, AreRevocable}
 use Rattle.sd_cover.proofs.Bridge.{counts_in_tree, count_children, stands_low, stands_high}
 
 -- the leaves are the numbers below their number, and ascend
@@ -53,8 +53,8 @@ leaves_ascending d = λ k h. omega (
 pub revocable : (d : ℕ) (m : FinMap nat_cmp ℕ) → AreRevocable d (revoked_by d m)
 unfolding revoked_by
 revocable d m = record {
-  leaves = All-filter (is_revoked d m) (λ u. u < 2 ^ d) (leaves d) (all_leaves d);
-  ascending = IsStrictlyIncreasing-filter (is_revoked d m) (leaves d) (leaves_ascending d);
+  leaves = All-filter (counts_one d m) (λ u. u < 2 ^ d) (leaves d) (all_leaves d);
+  ascending = IsStrictlyIncreasing-filter (counts_one d m) (leaves d) (leaves_ascending d);
 }
 
 pub are_leaves : (d : ℕ) (m : FinMap nat_cmp ℕ) → AreLeaves d (revoked_by d m)
@@ -79,15 +79,15 @@ stands_root d =
 
 module _ (d : ℕ) (m : FinMap nat_cmp ℕ) (small : d < 32) (is : IsIndex d m) where
   -- a node's count is above 0 exactly where the node is in the tree
-  pub in_tree : (level v : ℕ) → StandsAt d level v → (0 < count_at m v) ↔ IsInTree d (revoked_by d m) v
+  pub in_tree : (level v : ℕ) → StandsAt d level v → (0 < tally_at m v) ↔ IsInTree d (revoked_by d m) v
   in_tree level v at =
       subst (λ (n : ℕ). (0 < n) ↔ IsInTree d (revoked_by d m) v)
       (sym (is.count v (stands_low d level v at) (stands_high d level v at)))
       (counts_in_tree d level v (revoked_by d m) small (are_leaves d m) at)
 
   -- a node above the leaves counts as its children do together
-  pub children : (level v : ℕ) → 0 < level → StandsAt d level v → count_at m v ≡ count_at m (2 * v)
-      + count_at m (2 * v + 1)
+  pub children : (level v : ℕ) → 0 < level → StandsAt d level v → tally_at m v ≡ tally_at m (2 * v)
+      + tally_at m (2 * v + 1)
   children zero v up at = absurd (omega arith)
   children (suc k) v up at =
       let left = child_stands d k v (2 * v) at (omega arith) in
@@ -99,7 +99,7 @@ module _ (d : ℕ) (m : FinMap nat_cmp ℕ) (small : d < 32) (is : IsIndex d m) 
       omega arith
 
   -- a node that doesn't count isn't in the tree
-  outside : (level v : ℕ) → StandsAt d level v → count_at m v ≡ 0 → IsInTree d (revoked_by d m) v → ⊥
+  outside : (level v : ℕ) → StandsAt d level v → tally_at m v ≡ 0 → IsInTree d (revoked_by d m) v → ⊥
   outside level v at none t = let some = (in_tree level v at).1 t in omega arith
 
   -- at a revoked leaf's node
@@ -118,7 +118,7 @@ module _ (d : ℕ) (m : FinMap nat_cmp ℕ) (small : d < 32) (is : IsIndex d m) 
       )
 
   -- the root counts all revoked leaves
-  pub root_counts : count_at m 1 ≡ length (revoked_by d m)
+  pub root_counts : tally_at m 1 ≡ length (revoked_by d m)
   unfolding count_below
   root_counts =
       let at = is.count 1 (omega arith) (stands_high d d 1 (stands_root d)) in
@@ -134,7 +134,7 @@ module _ (d : ℕ) (m : FinMap nat_cmp ℕ) (small : d < 32) (is : IsIndex d m) 
           sum_by-cons (λ w. cond (is_below d 1 w) 1 0) u us ∙ omega arith
 
   -- where it counts, it begins a chain
-  pub chain_root : 0 < count_at m 1 → IsOnChain d (revoked_by d m) 1 1
+  pub chain_root : 0 < tally_at m 1 → IsOnChain d (revoked_by d m) 1 1
   chain_root some = on_chain_begun d (revoked_by d m) 1 (inl refl) ((in_tree d 1 (stands_root d)).0 some)
 
   -- a chain cover is the list of the definition
@@ -142,7 +142,7 @@ module _ (d : ℕ) (m : FinMap nat_cmp ℕ) (small : d < 32) (is : IsIndex d m) 
   listed sets c = ((the_cover d (revoked_by d m) sets small (are_leaves d m)).0 c, c)
 
   -- what the walk from the root adds, sorted, is the cover
-  pub cover_of_walk : (old sets sorted : List SetName) → 0 < count_at m 1 → old ≡ [] → AddsChains d (revoked_by d m) 1 1
+  pub cover_of_walk : (old sets sorted : List SetName) → 0 < tally_at m 1 → old ≡ [] → AddsChains d (revoked_by d m) 1 1
       old sets → IsPermutation sets sorted → IsSorted set_cmp sorted → IsListed d (revoked_by d m) sorted
   cover_of_walk old sets sorted some none added moved up =
       let all = root_counts in
@@ -151,7 +151,7 @@ module _ (d : ℕ) (m : FinMap nat_cmp ℕ) (small : d < 32) (is : IsIndex d m) 
       (subst (λ (xs : List SetName). IsPermutation xs sorted) is_added moved) up)
 
   -- the whole set is the cover where no leaf is revoked
-  pub cover_of_none : (sets : List SetName) → count_at m 1 ≡ 0 → sets ≡ Whole ∷ [] → IsListed d (revoked_by d m) sets
+  pub cover_of_none : (sets : List SetName) → tally_at m 1 ≡ 0 → sets ≡ Whole ∷ [] → IsListed d (revoked_by d m) sets
   cover_of_none sets none whole =
       let all = root_counts in
       let empty : revoked_by d m ≡ [] = none_of_length (revoked_by d m) (omega arith) in
@@ -175,7 +175,7 @@ pub record IsInner (d : ℕ) (m : FinMap nat_cmp ℕ) (level head v : ℕ) : Typ
   pub on : IsOnChain d (revoked_by d m) head v
 
 module _ {d : ℕ} {m : FinMap nat_cmp ℕ} {level head v : ℕ} (here : IsInner d m level head v) where
-  inside : (k w : ℕ) → StandsAt d k w → (0 < count_at m w) ↔ IsInTree d (revoked_by d m) w
+  inside : (k w : ℕ) → StandsAt d k w → (0 < tally_at m w) ↔ IsInTree d (revoked_by d m) w
   inside = in_tree d m here.small here.index
 
   pub at_left : StandsAt d (level - 1) (2 * v)
@@ -185,58 +185,58 @@ module _ {d : ℕ} {m : FinMap nat_cmp ℕ} {level head v : ℕ} (here : IsInner
   at_right = stands_child d level v (2 * v + 1) here.up here.at (omega arith)
 
   -- it counts as its children do together
-  pub sum : count_at m v ≡ count_at m (2 * v) + count_at m (2 * v + 1)
+  pub sum : tally_at m v ≡ tally_at m (2 * v) + tally_at m (2 * v + 1)
   sum = children d m here.small here.index level v here.up here.at
 
   -- it counts
-  pub some_count : 0 < count_at m v
+  pub some_count : 0 < tally_at m v
   some_count = (inside level v here.at).1 here.on.inside
 
   -- what is left of its count is the right child's
-  pub split : (whole l : ℕ) → whole ≡ count_at m v → l ≡ count_at m (2 * v) →
-      (l ≤ whole) × (whole - l ≡ count_at m (2 * v + 1))
+  pub split : (whole l : ℕ) → whole ≡ tally_at m v → l ≡ tally_at m (2 * v) →
+      (l ≤ whole) × (whole - l ≡ tally_at m (2 * v + 1))
   split whole l a b = let s = sum in (omega arith, omega arith)
 
   -- where the right child doesn't count, the left one alone is in the tree
-  one_left : count_at m (2 * v + 1) ≡ 0 → HasOneChild d (revoked_by d m) v × IsInTree d (revoked_by d m) (2 * v)
+  one_left : tally_at m (2 * v + 1) ≡ 0 → HasOneChild d (revoked_by d m) v × IsInTree d (revoked_by d m) (2 * v)
   one_left none =
       let s = sum in
       let some = some_count in
       let l = (inside (level - 1) (2 * v) at_left).0 (omega arith) in
       (inl (l, outside d m here.small here.index (level - 1) (2 * v + 1) at_right none), l)
 
-  one_right : count_at m (2 * v) ≡ 0 → HasOneChild d (revoked_by d m) v × IsInTree d (revoked_by d m) (2 * v + 1)
+  one_right : tally_at m (2 * v) ≡ 0 → HasOneChild d (revoked_by d m) v × IsInTree d (revoked_by d m) (2 * v + 1)
   one_right none =
       let s = sum in
       let some = some_count in
       let r = (inside (level - 1) (2 * v + 1) at_right).0 (omega arith) in
       (inr (outside d m here.small here.index (level - 1) (2 * v) at_left none, r), r)
 
-  two : 0 < count_at m (2 * v) → 0 < count_at m (2 * v + 1) → HasTwoChildren d (revoked_by d m) v
+  two : 0 < tally_at m (2 * v) → 0 < tally_at m (2 * v + 1) → HasTwoChildren d (revoked_by d m) v
   two l r = ((inside (level - 1) (2 * v) at_left).0 l, (inside (level - 1) (2 * v + 1) at_right).0 r)
 
   -- where one child counts, the chain goes on there
-  pub chain_left : count_at m (2 * v + 1) ≡ 0 → IsOnChain d (revoked_by d m) head (2 * v)
+  pub chain_left : tally_at m (2 * v + 1) ≡ 0 → IsOnChain d (revoked_by d m) head (2 * v)
   chain_left none =
       let one = one_left none in
       on_chain_child d (revoked_by d m) head v (2 * v) (are_leaves d m) here.on one.0 (omega arith) one.1
 
-  pub chain_right : count_at m (2 * v) ≡ 0 → IsOnChain d (revoked_by d m) head (2 * v + 1)
+  pub chain_right : tally_at m (2 * v) ≡ 0 → IsOnChain d (revoked_by d m) head (2 * v + 1)
   chain_right none =
       let one = one_right none in
       on_chain_child d (revoked_by d m) head v (2 * v + 1) (are_leaves d m) here.on one.0 (omega arith) one.1
 
   -- where both count, each begins a chain
-  pub begins_left : 0 < count_at m (2 * v) → 0 < count_at m (2 * v + 1) →
+  pub begins_left : 0 < tally_at m (2 * v) → 0 < tally_at m (2 * v + 1) →
       IsOnChain d (revoked_by d m) (2 * v) (2 * v)
   begins_left l r = on_chain_left d v (revoked_by d m) (two l r)
 
-  pub begins_right : 0 < count_at m (2 * v) → 0 < count_at m (2 * v + 1) →
+  pub begins_right : 0 < tally_at m (2 * v) → 0 < tally_at m (2 * v + 1) →
       IsOnChain d (revoked_by d m) (2 * v + 1) (2 * v + 1)
   begins_right l r = on_chain_right d v (revoked_by d m) (two l r)
 
   -- what the walk adds
-  pub added_left : (old new : List SetName) → count_at m (2 * v + 1) ≡ 0 →
+  pub added_left : (old new : List SetName) → tally_at m (2 * v + 1) ≡ 0 →
       AddsChains d (revoked_by d m) head (2 * v) old new → AddsChains d (revoked_by d m) head v old new
   added_left old new none added =
       let one = one_left none in
@@ -244,7 +244,7 @@ module _ {d : ℕ} {m : FinMap nat_cmp ℕ} {level head v : ℕ} (here : IsInner
       added.2 in
       (added.0, added.1, sets)
 
-  pub added_right : (old new : List SetName) → count_at m (2 * v) ≡ 0 →
+  pub added_right : (old new : List SetName) → tally_at m (2 * v) ≡ 0 →
       AddsChains d (revoked_by d m) head (2 * v + 1) old new → AddsChains d (revoked_by d m) head v old new
   added_right old new none added =
       let one = one_right none in
@@ -252,7 +252,7 @@ module _ {d : ℕ} {m : FinMap nat_cmp ℕ} {level head v : ℕ} (here : IsInner
       let sets = walk_one d (revoked_by d m) head v (2 * v + 1) added.0 low one.0 (omega arith) one.1 added.2 in
       (added.0, added.1, sets)
 
-  pub added_both : (old first mid new : List SetName) → 0 < count_at m (2 * v) → 0 < count_at m (2 * v + 1) →
+  pub added_both : (old first mid new : List SetName) → 0 < tally_at m (2 * v) → 0 < tally_at m (2 * v + 1) →
       first ≡ old ++ of_ends head v → AddsChains d (revoked_by d m) (2 * v) (2 * v) first mid →
       AddsChains d (revoked_by d m) (2 * v + 1) (2 * v + 1) mid new → AddsChains d (revoked_by d m) head v old new
   added_both old first mid new l r begun a b = (

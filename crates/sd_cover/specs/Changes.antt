@@ -8,10 +8,10 @@ pub data Change : Type 0 where
   Subscribes : ℕ → Change
 
 -- the revoked leaves after these changes of an index
-abbrev pub revoked_after : ℕ → List ℕ → List Change → List ℕ
-revoked_after d revoked [] = revoked
-revoked_after d revoked (Revokes u ∷ changes) = revoked_after d (with_leaf d u revoked) changes
-revoked_after d revoked (Subscribes u ∷ changes) = revoked_after d (without_leaf u revoked) changes
+abbrev pub revoked_with : ℕ → List ℕ → List Change → List ℕ
+revoked_with d revoked [] = revoked
+revoked_with d revoked (Revokes u ∷ changes) = revoked_with d (with_leaf d u revoked) changes
+revoked_with d revoked (Subscribes u ∷ changes) = revoked_with d (without_leaf u revoked) changes
 
 -- whether a leaf ends revoked that was so at first
 abbrev pub ends_revoked : ℕ → Bool → List Change → Bool

@@ -16,8 +16,8 @@ tally_code = code_by (FinMap nat_cmp ℕ × ℕ) (coded× (code coded_ℕ coded_
     (λ p. record { counts = p.0; room = p.1 }) (λ _. refl)
 
 -- the count of a node: 0 where it isn't in the map
-abbrev pub count_at : FinMap nat_cmp ℕ → ℕ → ℕ
-count_at counts v = unwrap_or (get counts v) 0
+abbrev pub tally_at : FinMap nat_cmp ℕ → ℕ → ℕ
+tally_at counts v = unwrap_or (get counts v) 0
 
 -- the map with this count for the node, which leaves it where that is 0
 abbrev pub with_count : FinMap nat_cmp ℕ → ℕ → ℕ → FinMap nat_cmp ℕ

@@ -3,7 +3,7 @@ ghost use Rattle.std.specs.Prelude.{OnOk, OnErr, IsSome, get_or, vec_len};
 ghost use Rattle.std.specs.FinMap as map;
 ghost use Rattle.sd_cover.specs.declared.counts.TheConstants.{NODES, MOST_ROOM};
 ghost use Rattle.sd_cover.specs.Table.{used};
-ghost use Rattle.sd_cover.specs.Tally.{count_at, with_count};
+ghost use Rattle.sd_cover.specs.Tally.{tally_at, with_count};
 
 use sd_cause::NoMemory;
 use sd_steps::Steps;
@@ -74,7 +74,7 @@ impl Counts {
     pub fn get<L: Ledger>(&self, v: u32, steps: &mut Steps<L>) -> u32
         requires low { 1 ≤ v }
         requires high { v < NODES }
-        ensures value { result ≡ count_at self.now.counts v }
+        ensures value { result ≡ tally_at self.now.counts v }
         ensures some { IsSome (map.get self.now.counts v) ↔ (0 < result) }
         ensures steps { steps.new ≡ steps.old + 1 }
     {
@@ -86,10 +86,10 @@ impl Counts {
     pub fn raise<L: Ledger>(&mut self, v: u32, steps: &mut Steps<L>)
         requires low { 1 ≤ v }
         requires high { v < NODES }
-        requires fits { count_at self.old.counts v < 2 ^ 32 - 1 }
-        requires room { (0 < count_at self.old.counts v) ⊎ (0 < self.old.room) }
-        ensures value { self.new.counts ≡ with_count self.old.counts v (count_at self.old.counts v + 1) }
-        ensures fits { self.new.room ≡ (if count_at self.old.counts v == 0 then self.old.room - 1 else self.old.room) }
+        requires fits { tally_at self.old.counts v < 2 ^ 32 - 1 }
+        requires room { (0 < tally_at self.old.counts v) ⊎ (0 < self.old.room) }
+        ensures value { self.new.counts ≡ with_count self.old.counts v (tally_at self.old.counts v + 1) }
+        ensures fits { self.new.room ≡ (if tally_at self.old.counts v == 0 then self.old.room - 1 else self.old.room) }
         ensures steps { steps.new ≡ steps.old + 1 }
     {
         let count = visit(&self.table, v, steps);
@@ -102,9 +102,9 @@ impl Counts {
     pub fn lower<L: Ledger>(&mut self, v: u32, steps: &mut Steps<L>)
         requires low { 1 ≤ v }
         requires high { v < NODES }
-        requires some { 0 < count_at self.old.counts v }
-        ensures value { self.new.counts ≡ with_count self.old.counts v (count_at self.old.counts v - 1) }
-        ensures fits { self.new.room ≡ (if count_at self.old.counts v == 1 then self.old.room + 1 else self.old.room) }
+        requires some { 0 < tally_at self.old.counts v }
+        ensures value { self.new.counts ≡ with_count self.old.counts v (tally_at self.old.counts v - 1) }
+        ensures fits { self.new.room ≡ (if tally_at self.old.counts v == 1 then self.old.room + 1 else self.old.room) }
         ensures steps { steps.new ≡ steps.old + 1 }
     {
         let count = visit(&self.table, v, steps);

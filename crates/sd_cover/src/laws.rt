@@ -4,7 +4,7 @@ ghost use Rattle.std.specs.Prelude.{◌≡◌, ℕ, ◌+◌, ◌^◌, ◌<◌, �
 ghost use Rattle.sd_tree.specs.declared.set.SetName.{SetName};
 ghost use Rattle.sd_steiner.specs.Chains.{IsInTree, IsChainCover};
 ghost use Rattle.sd_cover.specs.Index.{count_below};
-ghost use Rattle.sd_cover.specs.Changes.{Change, revoked_after, last_revoked};
+ghost use Rattle.sd_cover.specs.Changes.{Change, revoked_with, last_revoked};
 
 /// The count of the revoked leaves at or below a node is above 0 exactly where the node is in the Steiner tree.
 pub fn counts_tell_the_tree()
@@ -14,12 +14,12 @@ pub fn counts_tell_the_tree()
 
 /// After any changes the revoked leaves are those whose last change is a revocation.
 pub fn last_change_decides()
-    ensures { (d : ℕ) (changes : List Change) → revoked_after d [] changes ≡ last_revoked d changes }
+    ensures { (d : ℕ) (changes : List Change) → revoked_with d [] changes ≡ last_revoked d changes }
 {}
 
 /// So the sets of an index after any changes are those of a cover from scratch.
 pub fn kept_is_as_fresh()
     ensures { (d : ℕ) (changes : List Change) (sets fresh : List SetName) →
-        IsChainCover d (revoked_after d [] changes) sets → IsChainCover d (last_revoked d changes) fresh →
+        IsChainCover d (revoked_with d [] changes) sets → IsChainCover d (last_revoked d changes) fresh →
         sets ≡ fresh }
 {}

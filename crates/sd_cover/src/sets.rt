@@ -4,7 +4,7 @@ ghost use Rattle.sd_steiner.specs.Cover.{cover_of};
 ghost use Rattle.sd_tree.specs.declared.height.TheConstants.{HIGHEST};
 ghost use Rattle.sd_steiner.specs.Walk.{of_ends, IsOnChain, AddsChains};
 ghost use Rattle.sd_steiner.proofs.Levels.{StandsAt};
-ghost use Rattle.sd_cover.specs.Tally.{count_at};
+ghost use Rattle.sd_cover.specs.Tally.{tally_at};
 ghost use Rattle.sd_cover.specs.Index.{IsIndex, AreRevocable, revoked_by};
 
 use crate::counts::Counts;
@@ -70,7 +70,7 @@ fn walk<L: Ledger>(
     requires height { h ≤ HIGHEST }
     requires index { IsIndex h counts.now.counts }
     requires stands { StandsAt h level v }
-    requires revoked { revoked ≡ count_at counts.now.counts v }
+    requires revoked { revoked ≡ tally_at counts.now.counts v }
     requires chain { IsOnChain h (revoked_by h counts.now.counts) head v }
     ensures value { OnOk result (AddsChains h (revoked_by h counts.now.counts) head v sets.old.items sets.new.items) }
     ensures steps { steps.new ≤ steps.old + revoked * level }

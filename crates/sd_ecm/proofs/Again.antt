@@ -13,10 +13,11 @@ use Rattle.sd_message.proofs.Numbers.{half_again, word_again, long_again}
 use Rattle.sd_message.proofs.Items.{items_again, long_items}
 use Rattle.sd_message.proofs.Pieces.{filled_again}
 use Rattle.sd_ecm.specs.Versions.{IsVersion, IsNamed, IsSince, flags_at}
-use Rattle.sd_ecm.specs.Spelled.{listed, place_bytes, flags_for, numbers_bytes, since_bytes, word_bytes, head_bytes}
+use Rattle.sd_ecm.specs.Spelled.{listed_places, place_bytes, flags_for, numbers_bytes, since_bytes, word_bytes}
+use Rattle.sd_ecm.specs.Spelled.{ecm_head_bytes}
 use Rattle.sd_ecm.specs.Spelled.{ecm_body}
-use Rattle.sd_ecm.specs.Form.{IsEcm, Fits, FitsHead, nothing}
-use Rattle.sd_ecm.specs.Fields.{place_of, places_in, padded, from_flags, flags_of, since_in, run_in, ecm_in}
+use Rattle.sd_ecm.specs.Form.{IsEcm, FitsFields, FitsHead, no_place}
+use Rattle.sd_ecm.specs.Fields.{place_of, places_in, padded_places, from_flags, flags_of, since_in, ecm_run_in, ecm_in}
 use Rattle.sd_ecm.specs.declared.part.Place.{Place}
 use Rattle.sd_ecm.specs.declared.part.EcmPart.{EcmPart}
 use Rattle.sd_ecm.proofs.Versions.{few_positions, by_version}
@@ -73,14 +74,14 @@ same_made v a a' b b' c c' d d' s s' r r' e e' x y f f' g g' k k' p p' h1 h2 h3 
     (h1, h2, h3, h4, h5, h6, h7, h8, h9, h10, h11) refl
 
 -- each that there is can be spelled
-all_spellable : (part : EcmPart) → IsEcm part → All IsSpellable (listed part)
+all_spellable : (part : EcmPart) → IsEcm part → All IsSpellable (listed_places part)
 all_spellable part form k d below =
-    let pid : ℕ = (get_or (listed part) k d).pid in
+    let pid : ℕ = (get_or (listed_places part) k d).pid in
     let parts = and_parts (nat_le 0x0020 pid) (nat_le pid 0x1FEF) (form.places k d below) in
     record { pid = omega (arith, leb-true pid 0x1FEF parts.1); position = form.positions k d below }
 
 -- how many there are
-pub listed_long : (part : EcmPart) → Fits part → IsEcm part → length (listed part) ≡ part.count
+pub listed_long : (part : EcmPart) → FitsFields part → IsEcm part → length (listed_places part) ≡ part.count
 listed_long part fits form =
     length-take-le part.count part.positions
     (omega (arith, fits.positions, form.counted.few, few_positions part.version))
@@ -135,9 +136,9 @@ short_name (Some run) fits = fits
 
 run_again : (v a b c d since : ℕ) (run : Option ℕ) (tail : List ℕ) → IsNamed v run →
     IfSome run (λ name. name < 2 ^ 32) →
-    run_in v ((to_be_bytes w32 a ++ (to_be_bytes w32 b ++ (to_be_bytes w32 c ++ to_be_bytes w32 d)))
+    ecm_run_in v ((to_be_bytes w32 a ++ (to_be_bytes w32 b ++ (to_be_bytes w32 c ++ to_be_bytes w32 d)))
     ++ (since_bytes v since run ++ tail)) ≡ run
-unfolding run_in since_bytes
+unfolding ecm_run_in since_bytes
 run_again v a b c d since run tail named fits = elim (cases_eq v 3) [
   | inl e ↦
       let xs : List ℕ =
@@ -152,19 +153,19 @@ run_again v a b c d since run tail named fits = elim (cases_eq v 3) [
 -- a part's body in its pieces
 body_split : (part : EcmPart) →
     ecm_body part ≡ numbers_bytes part
-    ++ (since_bytes part.version part.since part.run ++ (word_bytes part ++ flat_map place_bytes (listed part)))
-unfolding ecm_body head_bytes
+    ++ (since_bytes part.version part.since part.run ++ (word_bytes part ++ flat_map place_bytes (listed_places part)))
+unfolding ecm_body ecm_head_bytes
 body_split part =
     body_is (numbers_bytes part) (since_bytes part.version part.since part.run) (word_bytes part)
-    (flat_map place_bytes (listed part))
+    (flat_map place_bytes (listed_places part))
 
 pub tail_again : (part : EcmPart) → from_flags part.version (ecm_body part) ≡ word_bytes part ++ flat_map place_bytes
-    (listed part)
+    (listed_places part)
 unfolding numbers_bytes
 tail_again part =
     ap (drop (flags_at part.version)) (body_split part)
     ∙ tail_after part.version part.number part.period part.word part.clear part.since part.run
-    (word_bytes part ++ flat_map place_bytes (listed part))
+    (word_bytes part ++ flat_map place_bytes (listed_places part))
 
 -- what is read from there
 record IsTail (part : EcmPart) (tail : List ℕ) : Type 0 where
@@ -172,12 +173,13 @@ record IsTail (part : EcmPart) (tail : List ℕ) : Type 0 where
   wrapped : slice_range tail 1 33 ≡ part.wrapped
   check : slice_range tail 33 49 ≡ part.check
   count : slice_index tail 49 ≡ part.count
-  rest : drop 50 tail ≡ flat_map place_bytes (listed part)
+  rest : drop 50 tail ≡ flat_map place_bytes (listed_places part)
 
-tail_read : (part : EcmPart) → FitsHead part → IsTail part (word_bytes part ++ flat_map place_bytes (listed part))
+tail_read : (part : EcmPart) → FitsHead part →
+    IsTail part (word_bytes part ++ flat_map place_bytes (listed_places part))
 unfolding word_bytes
 tail_read part fits =
-    let ps : List ℕ = flat_map place_bytes (listed part) in
+    let ps : List ℕ = flat_map place_bytes (listed_places part) in
     let xs : List ℕ = word_bytes part ++ ps in
     let end : List ℕ = part.check ++ part.count ∷ [] in
     let after : drop 1 xs ≡ part.wrapped ++ (part.check ++ part.count ∷ ps) =
@@ -204,7 +206,7 @@ record IsNumbered (part : EcmPart) (body : List ℕ) : Type 0 where
   word : field body 64 32 ≡ part.word
   clear : field body 96 32 ≡ part.clear
   since : since_in part.version part.number body ≡ part.since
-  run : run_in part.version body ≡ part.run
+  run : ecm_run_in part.version body ≡ part.run
 
 numbers_read : (part : EcmPart) (rest : List ℕ) → FitsHead part → IsVersion part.version →
     IsNamed part.version part.run →
@@ -224,30 +226,31 @@ numbers_read part rest fits version named since =
     }
 
 -- the body is read as what it spells
-pub body_again : (part : EcmPart) → Fits part → IsEcm part → ecm_in part.version part.part part.last_part
+pub body_again : (part : EcmPart) → FitsFields part → IsEcm part → ecm_in part.version part.part part.last_part
     (ecm_body part) ≡ part
 unfolding ecm_in
 body_again part fits form =
     let xs : List ℕ = ecm_body part in
-    let rest : List ℕ = word_bytes part ++ flat_map place_bytes (listed part) in
+    let rest : List ℕ = word_bytes part ++ flat_map place_bytes (listed_places part) in
     let numbers : IsNumbered part xs = subst (IsNumbered part) (sym (body_split part))
     (numbers_read part rest fits.head form.version form.named form.since) in
     let tail : IsTail part (from_flags part.version xs) = subst (IsTail part) (sym (tail_again part))
     (tail_read part fits.head) in
     let long = listed_long part fits form in
     let places : places_in (slice_index (from_flags part.version xs) 49) (drop 50 (from_flags part.version xs))
-    ≡ listed part =
+    ≡ listed_places part =
     ap (λ (n : ℕ). places_in n (drop 50 (from_flags part.version xs))) (tail.count ∙ sym long)
-    ∙ (ap (places_in (length (listed part))) tail.rest
-    ∙ items_again place_of place_bytes IsSpellable 8 (listed part) long_place place_alone (all_spellable part form)) in
-    same_made part.version _ part.number _ part.period _ part.word _ part.clear _ part.since _ part.run _ part.closing part.part
-    part.last_part _ part.wrapped _ part.check _ part.count _
+    ∙ (ap (places_in (length (listed_places part))) tail.rest
+    ∙ items_again place_of place_bytes IsSpellable 8 (listed_places part) long_place place_alone
+    (all_spellable part form)) in
+    same_made part.version _ part.number _ part.period _ part.word _ part.clear _ part.since _ part.run _ part.closing
+    part.part part.last_part _ part.wrapped _ part.check _ part.count _
     part.positions
     numbers.number numbers.period numbers.word numbers.clear
     (ap (λ (n : ℕ). since_in part.version n xs) numbers.number ∙ numbers.since)
     numbers.run
     tail.flags tail.wrapped tail.check tail.count
-    (ap padded places ∙ filled_again 13 part.count nothing part.positions long form.rest)
+    (ap padded_places places ∙ filled_again 13 part.count no_place part.positions long form.rest)
 
 -- how long the body is
 long_since : (v since : ℕ) (run : Option ℕ) (rest : List ℕ) →
@@ -257,7 +260,8 @@ long_since v since run rest =
     by_version (λ three two.
     length ((if three then to_be_bytes w32 since ++ to_be_bytes w32 (unwrap_or run 0)
     else if two then to_be_bytes w32 since else []) ++ rest) + 16
-    ≡ (if three then 24 else if two then 20 else 16) + length rest) v (λ _. omega arith) (λ _. omega arith) (omega arith)
+    ≡ (if three then 24 else if two then 20 else 16) + length rest) v (λ _. omega arith) (λ _.
+    omega arith) (omega arith)
 
 long_word : (part : EcmPart) → FitsHead part → length (word_bytes part) ≡ 50
 unfolding word_bytes
@@ -269,10 +273,10 @@ long_numbers : (part : EcmPart) → length (numbers_bytes part) ≡ 16
 unfolding numbers_bytes
 long_numbers part = refl
 
-pub long_body : (part : EcmPart) → Fits part → IsEcm part → length (ecm_body part) ≡ flags_at part.version + 50
+pub long_body : (part : EcmPart) → FitsFields part → IsEcm part → length (ecm_body part) ≡ flags_at part.version + 50
     + 8 * part.count
 long_body part fits form =
-    let ps : List ℕ = flat_map place_bytes (listed part) in
+    let ps : List ℕ = flat_map place_bytes (listed_places part) in
     let rest : List ℕ = word_bytes part ++ ps in
     ap length (body_split part)
     ∙ omega (
@@ -282,7 +286,7 @@ long_body part fits form =
       long_since part.version part.since part.run rest,
       length-append (word_bytes part) ps,
       long_word part fits.head,
-      long_items place_bytes IsSpellable 8 (listed part) long_place (all_spellable part form),
+      long_items place_bytes IsSpellable 8 (listed_places part) long_place (all_spellable part form),
       listed_long part fits form,
     )
 
@@ -296,4 +300,4 @@ first_few part ps = flags_few part.closing
 
 -- the flags in it
 pub few_flags : (part : EcmPart) → flags_of part.version (ecm_body part) ≤ 1
-few_flags part = rw (tail_again part) (first_few part (flat_map place_bytes (listed part)))
+few_flags part = rw (tail_again part) (first_few part (flat_map place_bytes (listed_places part)))

@@ -8,17 +8,18 @@ use Rattle.std.proofs.lemmas.Bool.Decides.{Decides-and, Decides-or, Decides-eqb,
 use Rattle.std.proofs.lemmas.Bool.Decides.{Decides-by_and}
 use Rattle.sd_packet.specs.Packing.{packed}
 use Rattle.sd_packet.specs.Positions.{is_positional}
-use Rattle.sd_section.specs.Header.{least_length, table_id_of, section_length_of, extension_of, number_of}
+use Rattle.sd_section.specs.Header.{least_length, table_id_of, section_length_of, extension_of, section_number_of}
 use Rattle.sd_section.specs.Header.{last_number_of, body_of}
 use Rattle.sd_message.specs.Framed.{has_section, section_of}
 use Rattle.sd_message.proofs.Deciding.{tells_section, is_false, tells_le}
 use Rattle.sd_message.proofs.Ascending.{tells_pairs}
-use Rattle.sd_ecm.specs.Versions.{positions_for, head_length, even_table_id, version_for}
-use Rattle.sd_ecm.specs.Spelled.{listed, ecm_section, Spells}
-use Rattle.sd_ecm.specs.Form.{ArePositioned, IsPositioned, AreAscending, IsEcm, Fits}
+use Rattle.sd_ecm.specs.Versions.{positions_for, ecm_head_length, even_table_id, version_for}
+use Rattle.sd_ecm.specs.Spelled.{listed_places, ecm_section, SpellsPart}
+use Rattle.sd_ecm.specs.Form.{ArePositioned, IsPositioned, AreAscending, IsEcm, FitsFields}
 use Rattle.sd_ecm.specs.Fields.{version_of, flags_of, ecm_in, ecm_of, HasCount, IsMatched, IsEcmSection, IsEcmPacket}
 use Rattle.sd_ecm.specs.Fields.{IsGoodIn, BreaksIn, BreaksFirst}
-use Rattle.sd_ecm.specs.Judged.{is_counted, are_positioned, is_ascending, is_matched, ecm_judged, is_ecm_section}
+use Rattle.sd_ecm.specs.Judged.{is_count_due, are_positioned, is_ascending_by_pid, is_matched, ecm_judged}
+use Rattle.sd_ecm.specs.Judged.{is_ecm_section}
 use Rattle.sd_ecm.specs.Judged.{has_ecm, ecm_read}
 use Rattle.sd_ecm.specs.declared.part.Place.{Place}
 use Rattle.sd_ecm.specs.declared.part.EcmPart.{EcmPart}
@@ -28,14 +29,14 @@ use Rattle.sd_ecm.proofs.Reading.{IsParted, at_section, breaks_first, good_first
 use Rattle.sd_ecm.proofs.Reading.{spelled_is_read, spelled_is_good, written_spells}
 
 -- the count is what it is to be
-tells_counted : (length : ℕ) (part : EcmPart) → Decides (is_counted length part) (HasCount length part)
+tells_counted : (length : ℕ) (part : EcmPart) → Decides (is_count_due length part) (HasCount length part)
 tells_counted length part =
     let most : ℕ = positions_for part.version in
     Decides-like _
     (λ all. (all.0, record { few = all.1.0; full = all.1.1.0; some = all.1.1.1 }))
     (λ has. (has.0, (has.1.few, (has.1.full, has.1.some))))
-    (Decides-and (length == head_length part.version + 8 * part.count) _
-    (Decides-eqb length (head_length part.version + 8 * part.count))
+    (Decides-and (length == ecm_head_length part.version + 8 * part.count) _
+    (Decides-eqb length (ecm_head_length part.version + 8 * part.count))
     (Decides-and (nat_le part.count most) _ (tells_le part.count most)
     (Decides-and ((part.part == part.last_part) || (part.count == most)) ((part.part == 0) || nat_lt 0 part.count)
     (Decides-or (part.part == part.last_part) (part.count == most) (Decides-eqb part.part part.last_part)
@@ -53,7 +54,7 @@ tells_positioned places =
     (λ place. tells_same (is_positional place.pid)) refl (λ _ _. refl) places
 
 -- they ascend
-tells_ascending : (places : List Place) → Decides (is_ascending places) (AreAscending places)
+tells_ascending : (places : List Place) → Decides (is_ascending_by_pid places) (AreAscending places)
 tells_ascending places =
     tells_pairs (λ (a b : Place). nat_lt a.pid b.pid) (λ a b. a.pid < b.pid) (λ a b. Decides-ltb a.pid b.pid) places
 
@@ -77,15 +78,15 @@ tells_ecm_section : (section : List ℕ) → Decides (is_ecm_section section) (I
 tells_ecm_section section =
     let table : ℕ = table_id_of section in
     let even : ℕ = even_table_id (version_of section) in
-    let room : ℕ = head_length (version_of section) + least_length in
+    let room : ℕ = ecm_head_length (version_of section) + least_length in
     Decides-like _
     (λ all. record { table_id = all.0; extension = all.1.0; numbered = all.1.1.0; room = all.1.1.1 })
     (λ is. (is.table_id, (is.extension, (is.numbered, is.room))))
     (Decides-and ((table == even) || (table == even + 1)) _
     (Decides-or (table == even) (table == even + 1) (Decides-eqb table even) (Decides-eqb table (even + 1)))
     (Decides-and (extension_of section == 0) _ (Decides-eqb (extension_of section) 0)
-    (Decides-and (nat_le (number_of section) (last_number_of section)) (nat_le room (section_length_of section))
-    (tells_le (number_of section) (last_number_of section)) (tells_le room (section_length_of section)))))
+    (Decides-and (nat_le (section_number_of section) (last_number_of section)) (nat_le room (section_length_of section))
+    (tells_le (section_number_of section) (last_number_of section)) (tells_le room (section_length_of section)))))
 
 -- the packet begins with one
 tells_ecm : (packet : List ℕ) → Decides (has_ecm packet) (IsEcmPacket packet)
@@ -102,8 +103,8 @@ unfolding ecm_judged
 judged_good table_id body part good =
     rw (
       (tells_counted (length body) part).1 good.has_count,
-      (tells_positioned (listed part)).1 good.places,
-      (tells_ascending (listed part)).1 good.ascending,
+      (tells_positioned (listed_places part)).1 good.places,
+      (tells_ascending (listed_places part)).1 good.ascending,
       (tells_matched table_id (flags_of part.version body) part).1
           good.matched,
     )
@@ -115,20 +116,20 @@ judged_bad : (table_id : ℕ) (body : List ℕ) (part : EcmPart) (fault : EcmFau
 unfolding ecm_judged
 judged_bad table_id body part Count breaks = rw (is_false _ (tells_counted (length body) part) breaks) refl
 judged_bad table_id body part Pid breaks =
-    rw ((tells_counted (length body) part).1 breaks.0, is_false _ (tells_positioned (listed part)) breaks.1) refl
+    rw ((tells_counted (length body) part).1 breaks.0, is_false _ (tells_positioned (listed_places part)) breaks.1) refl
 judged_bad table_id body part Order breaks =
     rw (
       (tells_counted (length body) part).1 breaks.0,
-      (tells_positioned (listed part)).1 breaks.1.0,
+      (tells_positioned (listed_places part)).1 breaks.1.0,
       is_false _
-          (tells_ascending (listed part)) breaks.1.1,
+          (tells_ascending (listed_places part)) breaks.1.1,
     )
     refl
 judged_bad table_id body part Mixed breaks =
     rw (
       (tells_counted (length body) part).1 breaks.0,
-      (tells_positioned (listed part)).1 breaks.1.0,
-      (tells_ascending (listed part)).1 breaks.1.1.0,
+      (tells_positioned (listed_places part)).1 breaks.1.0,
+      (tells_ascending (listed_places part)).1 breaks.1.1.0,
       is_false _ (tells_matched table_id (flags_of part.version body)
           part) breaks.1.1.1,
     )
@@ -158,13 +159,14 @@ good_judged : (table_id : ℕ) (body : List ℕ) (part read : EcmPart) → ecm_j
     (part ≡ read) × IsGoodIn table_id body part
 unfolding ecm_judged
 good_judged table_id body part read is =
-    let all = all_passed (is_counted (length body) part) (are_positioned (listed part)) (is_ascending (listed part))
+    let all = all_passed (is_count_due (length body) part) (are_positioned (listed_places part))
+    (is_ascending_by_pid (listed_places part))
     (is_matched table_id (flags_of part.version body) part) part read is in (
       all.1.1.1,
       record {
         has_count = (tells_counted (length body) part).0 all.0.0;
-        places = (tells_positioned (listed part)).0 all.0.1;
-        ascending = (tells_ascending (listed part)).0 all.1.0;
+        places = (tells_positioned (listed_places part)).0 all.0.1;
+        ascending = (tells_ascending (listed_places part)).0 all.1.0;
         matched = (tells_matched table_id (flags_of part.version body) part).0 all.1.1.0;
       },
     )
@@ -209,14 +211,15 @@ good_at packet section body table_id number last part is is_section are is_part 
     ∙ ap (λ (p : EcmPart). Ok (Some p)) (sym (same ∙ ap ecm_of is_section))
 
 -- a packet that spells a part is read as it
-pub spelled_reads : (part : EcmPart) (packet : List ℕ) → Fits part → IsEcm part → Spells part packet → ecm_read packet
+pub spelled_reads : (part : EcmPart) (packet : List ℕ) → FitsFields part → IsEcm part → SpellsPart part packet →
+    ecm_read packet
     ≡ Ok (Some part)
 spelled_reads part packet fits form spells =
     good_reads packet (spelled_is_packet part packet fits form spells)
     (spelled_is_good part packet (section_of packet) fits form spells refl)
     ∙ ap (λ (p : EcmPart). Ok (Some p)) (spelled_is_read part packet (section_of packet) fits form spells refl)
 
-pub packed_reads : (part : EcmPart) (pid counter : ℕ) → Fits part → IsEcm part → pid < 8192 → counter < 16 →
+pub packed_reads : (part : EcmPart) (pid counter : ℕ) → FitsFields part → IsEcm part → pid < 8192 → counter < 16 →
     ecm_read (packed (ecm_section part) pid counter) ≡ Ok (Some part)
 packed_reads part pid counter fits form p c =
     spelled_reads part (packed (ecm_section part) pid counter) fits form (written_spells part pid counter p c)

@@ -7,9 +7,10 @@ use Rattle.sd_bits.proofs.Fields.{field_below}
 use Rattle.sd_message.proofs.Items.{length_items, each_read}
 use Rattle.sd_message.proofs.Pieces.{filled_items, filled_rest}
 use Rattle.sd_ecm.specs.Versions.{IsVersion, IsNamed, IsBefore, IsSince}
-use Rattle.sd_ecm.specs.Spelled.{listed}
-use Rattle.sd_ecm.specs.Form.{nothing, ArePositioned, AreAscending, AreShort, IsEcm}
-use Rattle.sd_ecm.specs.Fields.{place_of, places_in, padded, from_flags, flags_of, since_in, run_in, ecm_in, with_places}
+use Rattle.sd_ecm.specs.Spelled.{listed_places}
+use Rattle.sd_ecm.specs.Form.{no_place, ArePositioned, AreAscending, AreShort, IsEcm}
+use Rattle.sd_ecm.specs.Fields.{place_of, places_in, padded_places, from_flags, flags_of, since_in, ecm_run_in, ecm_in}
+use Rattle.sd_ecm.specs.Fields.{with_places}
 use Rattle.sd_ecm.specs.Fields.{HasCount, IsMatched, IsGoodIn, BreaksIn}
 use Rattle.sd_ecm.specs.declared.part.Place.{Place}
 use Rattle.sd_ecm.specs.declared.part.EcmPart.{EcmPart}
@@ -18,7 +19,7 @@ use Rattle.sd_ecm.specs.declared.fault.EcmFault.TheVariants.{Count, Order, Pid, 
 
 -- what stands before the positions was read
 abbrev pub IsPrefix : EcmPart → EcmPart → Type 0
-IsPrefix part head = head ≡ with_places part (replicate 13 nothing)
+IsPrefix part head = head ≡ with_places part (replicate 13 no_place)
 
 -- the bytes of the positions
 abbrev pub places_from : ℕ → List ℕ → List ℕ
@@ -26,23 +27,24 @@ places_from v body = drop 50 (from_flags v body)
 
 -- the positions that a part has are those in its body
 pub listed_in : (v number last : ℕ) (body : List ℕ) →
-    listed (ecm_in v number last body) ≡ places_in (ecm_in v number last body).count (places_from v body)
+    listed_places (ecm_in v number last body) ≡ places_in (ecm_in v number last body).count (places_from v body)
 unfolding ecm_in
 listed_in v number last body =
     let count : ℕ = (ecm_in v number last body).count in
     let places : List Place = places_in count (places_from v body) in
-    ap (λ (n : ℕ). take n (padded places)) (sym (length_items place_of 8 count (places_from v body)))
-    ∙ filled_items 13 nothing places
+    ap (λ (n : ℕ). take n (padded_places places)) (sym (length_items place_of 8 count (places_from v body)))
+    ∙ filled_items 13 no_place places
 
 positions_are : (v number last : ℕ) (body : List ℕ) →
-    (ecm_in v number last body).positions ≡ padded (places_in (ecm_in v number last body).count (places_from v body))
+    (ecm_in v number last body).positions ≡ padded_places (places_in
+    (ecm_in v number last body).count (places_from v body))
 unfolding ecm_in
 positions_are v number last body = refl
 
 -- the same positions by the count that was read
 same_places : (v number last : ℕ) (body : List ℕ) (head : EcmPart) (count : ℕ) → IsPrefix (ecm_in v number last body)
     head →
-    count ≡ head.count → places_in count (places_from v body) ≡ listed (ecm_in v number last body)
+    count ≡ head.count → places_in count (places_from v body) ≡ listed_places (ecm_in v number last body)
 same_places v number last body head count is counted =
     ap (λ (n : ℕ). places_in n (places_from v body)) (counted ∙ ap (λ (p : EcmPart). p.count) is)
     ∙ sym (listed_in v number last body)
@@ -61,21 +63,23 @@ has_count body part head is has = subst (HasCount (length body)) is has
 -- what was read is what the section says
 pub is_whole : (v number last : ℕ) (body : List ℕ) (head : EcmPart) (count : ℕ) (places : List Place) →
     IsPrefix (ecm_in v number last body) head → count ≡ head.count →
-    places ≡ padded (places_in count (places_from v body)) →
+    places ≡ padded_places (places_in count (places_from v body)) →
     with_places head places ≡ ecm_in v number last body
 is_whole v number last body head count places is counted read =
     let same : places ≡ (ecm_in v number last body).positions =
-    read ∙ (ap (λ (n : ℕ). padded (places_in n (places_from v body))) (counted ∙ ap (λ (p : EcmPart). p.count) is)
+    read ∙ (ap (λ (n : ℕ). padded_places (places_in n (places_from v body))) (counted ∙ ap (λ (p : EcmPart).
+    p.count) is)
     ∙ sym (positions_are v number last body)) in
     ap (λ (f : EcmPart). with_places f places) is ∙ ap (with_places (ecm_in v number last body)) same
 
 -- the positions that were read are those that the part has
 same_listed : (v number last : ℕ) (body : List ℕ) (head : EcmPart) (count : ℕ) (places : List Place) →
     IsPrefix (ecm_in v number last body) head → count ≡ head.count →
-    places ≡ padded (places_in count (places_from v body)) →
-    take count places ≡ listed (ecm_in v number last body)
+    places ≡ padded_places (places_in count (places_from v body)) →
+    take count places ≡ listed_places (ecm_in v number last body)
 same_listed v number last body head count places is counted read =
-    ap (λ (n : ℕ). take n places) counted ∙ ap listed (is_whole v number last body head count places is counted read)
+    ap (λ (n : ℕ). take n places) counted ∙ ap listed_places
+    (is_whole v number last body head count places is counted read)
 
 -- the head was read, and the count is good
 pub record IsJudged (v number last : ℕ) (body : List ℕ) (head : EcmPart) (count : ℕ) : Type 0 where
@@ -86,7 +90,7 @@ pub record IsJudged (v number last : ℕ) (body : List ℕ) (head : EcmPart) (co
 -- so were the positions, and the PIDs have them
 pub record AreRead (v : ℕ) (body : List ℕ) (count : ℕ) (places : List Place) : Type 0 where
   pub all : ArePositioned (places_in count (places_from v body))
-  pub read : places ≡ padded (places_in count (places_from v body))
+  pub read : places ≡ padded_places (places_in count (places_from v body))
 
 -- a PID has no positions
 pub pid_breaks : (table_id v number last : ℕ) (body : List ℕ) (head : EcmPart) (count : ℕ) →
@@ -159,14 +163,14 @@ is_good table_id v number last body head count places judged are up matched = re
 -- what follows the positions is as it is to be
 past_places : (v number last : ℕ) (body : List ℕ) →
     drop (ecm_in v number last body).count (ecm_in v number last body).positions
-    ≡ replicate (13 - (ecm_in v number last body).count) nothing
+    ≡ replicate (13 - (ecm_in v number last body).count) no_place
 past_places v number last body =
     let count : ℕ = (ecm_in v number last body).count in
     let places : List Place = places_in count (places_from v body) in
     ap (drop count) (positions_are v number last body)
-    ∙ subst (λ (n : ℕ). drop n (padded places) ≡ replicate (13 - n) nothing)
+    ∙ subst (λ (n : ℕ). drop n (padded_places places) ≡ replicate (13 - n) no_place)
     (length_items place_of 8 count (places_from v body))
-    (filled_rest 13 nothing places)
+    (filled_rest 13 no_place places)
 
 -- the positions that are read have 48 bits
 short_place : (piece : List ℕ) → (place_of piece).position < 2 ^ 48
@@ -184,8 +188,8 @@ unfolding ecm_in since_in
 since_right v number last body before = record { before = before; fixed = λ one. rw one refl }
 
 -- so is the broadcast's name
-named_in : (v : ℕ) (body : List ℕ) → IsNamed v (run_in v body)
-unfolding run_in
+named_in : (v : ℕ) (body : List ℕ) → IsNamed v (ecm_run_in v body)
+unfolding ecm_run_in
 named_in v body = elim (cases_eq v 3) [
   | inl e ↦ rw (eq-eqb v 3 e) (λ _. e, λ _. refl)
   | inr g ↦ rw (ne_eqb v 3 g) (λ some. absurd (false≢true some), λ is. absurd (g is))

@@ -2,16 +2,16 @@
 use Rattle.std.proofs.Common.{◌≡◌, inl, inr, ℕ, ◌+◌, ◌*◌, ◌%◌, ◌<◌, ◌≤◌, List, length, arith, refl, sym, ap, ◌∙◌, subst}
 use Rattle.std.proofs.lemmas.Bool.{cases_eq}
 use Rattle.sd_packet.specs.Packing.{packed}
-use Rattle.sd_section.specs.Header.{table_id_of, number_of, last_number_of, body_of}
-use Rattle.sd_section.specs.Written.{section_bytes, Fits as FitsHeader}
+use Rattle.sd_section.specs.Header.{table_id_of, section_number_of, last_number_of, body_of}
+use Rattle.sd_section.specs.Written.{section_bytes, FitsFields as FitsHeader}
 use Rattle.sd_section.specs.declared.write.Header.{Header}
 use Rattle.sd_section.proofs.Spelling.{fields_are_read}
-use Rattle.sd_message.specs.Framed.{section_of, header_of, Begins}
+use Rattle.sd_message.specs.Framed.{section_of, header_of, BeginsWithSection}
 use Rattle.sd_message.proofs.Numbers.{IsBytes}
 use Rattle.sd_message.proofs.Framing.{packed_begins, begun_is_there, begun_is_read}
-use Rattle.sd_ecm.specs.Versions.{head_length, even_table_id, version_for}
-use Rattle.sd_ecm.specs.Spelled.{ecm_header, ecm_body, ecm_section, Spells}
-use Rattle.sd_ecm.specs.Form.{IsEcm, Fits}
+use Rattle.sd_ecm.specs.Versions.{ecm_head_length, even_table_id, version_for}
+use Rattle.sd_ecm.specs.Spelled.{ecm_header, ecm_body, ecm_section, SpellsPart}
+use Rattle.sd_ecm.specs.Form.{IsEcm, FitsFields}
 use Rattle.sd_ecm.specs.Fields.{version_of, IsTableOf, flags_of, ecm_in, ecm_of, BreaksIn, BreaksFirst, IsEcmSection}
 use Rattle.sd_ecm.specs.Fields.{IsEcmPacket, IsGoodIn}
 use Rattle.sd_ecm.specs.declared.part.EcmPart.{EcmPart}
@@ -22,7 +22,7 @@ use Rattle.sd_ecm.proofs.Judging.{good_is_ecm, good_never, breaks_once}
 use Rattle.sd_ecm.proofs.Spelling.{body_spelled}
 
 -- the header's numbers fit
-header_fits : (part : EcmPart) → Fits part → FitsHeader (ecm_header part)
+header_fits : (part : EcmPart) → FitsFields part → FitsHeader (ecm_header part)
 header_fits part fits = record {
   table_id = omega (arith, even_fits part.version);
   extension = omega arith;
@@ -31,11 +31,11 @@ header_fits part fits = record {
 }
 
 -- a body is short
-short_body : (part : EcmPart) → Fits part → IsEcm part → length (ecm_body part) ≤ 4084
+short_body : (part : EcmPart) → FitsFields part → IsEcm part → length (ecm_body part) ≤ 4084
 short_body part fits form = omega (arith, long_body part fits form, form.counted.few, fits_packet part.version)
 
 -- the section of a packet that spells a part
-spelled_section : (part : EcmPart) (packet : List ℕ) → Fits part → IsEcm part → Spells part packet →
+spelled_section : (part : EcmPart) (packet : List ℕ) → FitsFields part → IsEcm part → SpellsPart part packet →
     section_of packet ≡ section_bytes (ecm_header part) (ecm_body part)
 unfolding ecm_section
 spelled_section part packet fits form spells =
@@ -45,11 +45,12 @@ spelled_section part packet fits form spells =
 record IsPart (part : EcmPart) (section : List ℕ) : Type 0 where
   table_id : table_id_of section ≡ even_table_id part.version + part.word % 2
   version : version_of section ≡ part.version
-  number : number_of section ≡ part.part
+  number : section_number_of section ≡ part.part
   last_number : last_number_of section ≡ part.last_part
   inner : body_of section ≡ ecm_body part
 
-part_read : (part : EcmPart) → Fits part → IsEcm part → IsPart part (section_bytes (ecm_header part) (ecm_body part))
+part_read : (part : EcmPart) → FitsFields part → IsEcm part →
+    IsPart part (section_bytes (ecm_header part) (ecm_body part))
 part_read part fits form =
     let read = fields_are_read (ecm_header part) (ecm_body part) (header_fits part fits) (short_body part fits form) in
     record {
@@ -61,12 +62,13 @@ part_read part fits form =
     }
 
 -- the table_id of a part's section is the version's and the parity of its control word
-pub table_of_section : (part : EcmPart) → Fits part → IsEcm part →
+pub table_of_section : (part : EcmPart) → FitsFields part → IsEcm part →
     table_id_of (ecm_section part) ≡ even_table_id part.version + part.word % 2
 unfolding ecm_section
 table_of_section part fits form = (part_read part fits form).table_id
 
-pub parity_of_section : (part : EcmPart) → Fits part → IsEcm part → table_id_of (ecm_section part) % 2 ≡ part.word % 2
+pub parity_of_section : (part : EcmPart) → FitsFields part → IsEcm part →
+    table_id_of (ecm_section part) % 2 ≡ part.word % 2
 parity_of_section part fits form = omega (arith, table_of_section part fits form, even_is_even part.version)
 
 -- the table_id is one of two
@@ -77,7 +79,7 @@ table_cases table_id version word is = elim (cases_eq (word % 2) 0) [
 ]
 
 -- such a packet is one of control messages
-pub spelled_is_packet : (part : EcmPart) (packet : List ℕ) → Fits part → IsEcm part → Spells part packet →
+pub spelled_is_packet : (part : EcmPart) (packet : List ℕ) → FitsFields part → IsEcm part → SpellsPart part packet →
     IsEcmPacket packet
 unfolding ecm_section
 spelled_is_packet part packet fits form spells =
@@ -98,7 +100,8 @@ spelled_is_packet part packet fits form spells =
     }
 
 -- what is read of it is what it spells
-pub spelled_is_read : (part : EcmPart) (packet section : List ℕ) → Fits part → IsEcm part → Spells part packet →
+pub spelled_is_read : (part : EcmPart) (packet section : List ℕ) → FitsFields part → IsEcm part →
+    SpellsPart part packet →
     section ≡ section_of packet → ecm_of section ≡ part
 spelled_is_read part packet section fits form spells is_section =
     let is = subst (IsPart part) (sym (is_section ∙ spelled_section part packet fits form spells))
@@ -106,7 +109,8 @@ spelled_is_read part packet section fits form spells is_section =
     rw (is.version, is.number, is.last_number, is.inner) (body_again part fits form)
 
 -- and nothing is wrong with it
-pub spelled_is_good : (part : EcmPart) (packet section : List ℕ) → Fits part → IsEcm part → Spells part packet →
+pub spelled_is_good : (part : EcmPart) (packet section : List ℕ) → FitsFields part → IsEcm part →
+    SpellsPart part packet →
     section ≡ section_of packet → IsGoodIn (table_id_of section) (body_of section) (ecm_of section)
 spelled_is_good part packet section fits form spells is_section =
     let is = subst (IsPart part) (sym (is_section ∙ spelled_section part packet fits form spells))
@@ -143,7 +147,7 @@ table_of table_id version word (inr e) parity = omega (arith, even_is_even versi
 
 -- what is read of a section, by its fields
 fields_of_section : (section : List ℕ) →
-    ((ecm_of section).version ≡ version_of section) × ((ecm_of section).part ≡ number_of section)
+    ((ecm_of section).version ≡ version_of section) × ((ecm_of section).part ≡ section_number_of section)
     × ((ecm_of section).last_part ≡ last_number_of section)
 unfolding ecm_in
 fields_of_section section = (refl, refl, refl)
@@ -162,37 +166,39 @@ header_is section ecm parity =
 -- the packet spells what was read of it
 read_spells : (packet section : List ℕ) → IsBytes (body_of section) → IsGoodIn (table_id_of section) (body_of section)
     (ecm_of section) →
-    IsEcmSection section → Begins section packet → section ≡ section_bytes (header_of section) (body_of section) →
-    Spells (ecm_of section) packet
+    IsEcmSection section → BeginsWithSection section packet →
+    section ≡ section_bytes (header_of section) (body_of section) →
+    SpellsPart (ecm_of section) packet
 unfolding ecm_section
 read_spells packet section each good ecm begins spelled =
     let part : EcmPart = ecm_of section in
     let are = fields_of_section section in
-    let long : length (body_of section) ≡ head_length (version_of section) + 8 * part.count =
-    subst (λ (v : ℕ). length (body_of section) ≡ head_length v + 8 * part.count) are.0 good.has_count.0 in
+    let long : length (body_of section) ≡ ecm_head_length (version_of section) + 8 * part.count =
+    subst (λ (v : ℕ). length (body_of section) ≡ ecm_head_length v + 8 * part.count) are.0 good.has_count.0 in
     let few : flags_of (version_of section) (body_of section) ≤ 1 =
     subst (λ (v : ℕ). flags_of v (body_of section) ≤ 1) are.0 good.matched.flags_are in
     let same_body : ecm_body part ≡ body_of section =
-    body_spelled (version_of section) (number_of section) (last_number_of section) (body_of section) each long few in
+    body_spelled (version_of section) (section_number_of section) (last_number_of section) (body_of section) each long
+    few in
     let head : header_of section ≡ ecm_header part = header_is section ecm good.matched.parity in
     let same : section ≡ section_bytes (ecm_header part) (ecm_body part) =
     spelled ∙ (ap (λ (h : Header). section_bytes h (body_of section)) head ∙ ap (section_bytes (ecm_header part))
     (sym same_body)) in
-    subst (λ (s : List ℕ). Begins s packet) same begins
+    subst (λ (s : List ℕ). BeginsWithSection s packet) same begins
 
 -- which is in its form
 pub good_form : (section : List ℕ) → IsEcmSection section → IsGoodIn (table_id_of section) (body_of section)
     (ecm_of section) →
     IsEcm (ecm_of section)
 good_form section ecm good =
-    good_is_ecm (table_id_of section) (version_of section) (number_of section) (last_number_of section)
+    good_is_ecm (table_id_of section) (version_of section) (section_number_of section) (last_number_of section)
     (body_of section)
     (version_is (table_id_of section)) ecm.numbered good
 
 -- what was read of a section's parts, which are those of the section
 pub record IsParted (section body : List ℕ) (table_id number last : ℕ) : Type 0 where
   pub is_table : table_id ≡ table_id_of section
-  pub is_number : number ≡ number_of section
+  pub is_number : number ≡ section_number_of section
   pub is_last : last ≡ last_number_of section
   pub is_body : body ≡ body_of section
 
@@ -201,21 +207,21 @@ pub at_section : (P : ℕ → List ℕ → EcmPart → Type 0) (section body : L
     IsParted section body table_id number last → P table_id body (ecm_in (version_for table_id) number last body) →
     P (table_id_of section) (body_of section) (ecm_of section)
 at_section P section body table_id number last are known =
-    subst (λ (b : List ℕ). P (table_id_of section) b (ecm_in (version_of section) (number_of section)
+    subst (λ (b : List ℕ). P (table_id_of section) b (ecm_in (version_of section) (section_number_of section)
     (last_number_of section) b)) are.is_body
-    (subst (λ (l : ℕ). P (table_id_of section) body (ecm_in (version_of section) (number_of section) l body))
+    (subst (λ (l : ℕ). P (table_id_of section) body (ecm_in (version_of section) (section_number_of section) l body))
     are.is_last
     (subst (λ (n : ℕ). P (table_id_of section) body (ecm_in (version_of section) n last body)) are.is_number
     (subst (λ (t : ℕ). P t body (ecm_in (version_for t) number last body)) are.is_table known)))
 
 abbrev pub IsRead : List ℕ → EcmPart → Type 0
-IsRead packet part = Spells part packet × IsEcm part
+IsRead packet part = SpellsPart part packet × IsEcm part
 
 pub read_is_right : (packet section body : List ℕ) (table_id number last : ℕ) (part : EcmPart) →
     IsParted section body table_id number last →
     part ≡ ecm_in (version_for table_id) number last body → IsBytes body →
     IsGoodIn table_id body (ecm_in (version_for table_id) number last body) → IsEcmSection section →
-    Begins section packet →
+    BeginsWithSection section packet →
     section ≡ section_bytes (header_of section) (body_of section) → IsRead packet part
 read_is_right packet section body table_id number last part are is each good ecm begins spelled =
     let good_too = at_section IsGoodIn section body table_id number last are good in
@@ -229,7 +235,7 @@ read_is_right packet section body table_id number last part are is each good ecm
 
 -- the packet of a part begins with its section
 pub written_spells : (part : EcmPart) (pid counter : ℕ) → pid < 8192 → counter < 16 →
-    Spells part (packed (ecm_section part) pid counter)
+    SpellsPart part (packed (ecm_section part) pid counter)
 written_spells part pid counter h k = packed_begins (ecm_section part) pid counter h k
 
 -- the rule that was broken is the one that the packet's section breaks first

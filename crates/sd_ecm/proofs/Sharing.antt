@@ -8,11 +8,12 @@ use Rattle.sd_message.proofs.Pieces as Pieces
 use Rattle.sd_message.proofs.Pieces.{room, full_or_last, some_or_first, long_piece, each_of_piece, pairs_of_piece}
 use Rattle.sd_message.proofs.Pieces.{filled_items, filled_rest, filled_length}
 use Rattle.sd_ecm.specs.Versions.{IsVersion, IsNamed, IsSince, positions_for}
-use Rattle.sd_ecm.specs.Spelled.{listed}
-use Rattle.sd_ecm.specs.Form.{IsCounted, IsPositioned, ArePositioned, AreAscending, AreShort, IsEcm, Fits, nothing}
-use Rattle.sd_ecm.specs.Fields.{padded}
+use Rattle.sd_ecm.specs.Spelled.{listed_places}
+use Rattle.sd_ecm.specs.Form.{IsCounted, IsPositioned, ArePositioned, AreAscending, AreShort, IsEcm, FitsFields}
+use Rattle.sd_ecm.specs.Form.{no_place}
+use Rattle.sd_ecm.specs.Fields.{padded_places}
 use Rattle.sd_ecm.specs.Parts.{Message, parts_for, part_count_of, places_at, part_at, parts_of, IsMessage, IsOfMessage}
-use Rattle.sd_ecm.specs.Parts.{header_of}
+use Rattle.sd_ecm.specs.Parts.{ecm_header_of}
 use Rattle.sd_ecm.specs.declared.part.Place.{Place}
 use Rattle.sd_ecm.specs.declared.part.EcmPart.{EcmPart}
 use Rattle.sd_ecm.proofs.Versions.{few_positions, some_positions}
@@ -38,7 +39,7 @@ made message x last own positions = record {
 
 -- a part of the message, by its fields
 pub made_is : (message : Message) (x last : ℕ) (own positions : List Place) → last ≡ part_count_of message - 1 →
-    own ≡ places_at message x → positions ≡ padded own → made message x last own positions ≡ part_at message x
+    own ≡ places_at message x → positions ≡ padded_places own → made message x last own positions ≡ part_at message x
 unfolding part_at
 made_is message x last own positions p q r = rw (r, q, p) refl
 
@@ -47,19 +48,20 @@ some_fit : (version : ℕ) → 1 ≤ positions_for version
 some_fit version = omega (arith, some_positions version)
 
 -- a part of the message has the positions of its place
-listed_at : (message : Message) (x : ℕ) → listed (part_at message x) ≡ places_at message x
+listed_at : (message : Message) (x : ℕ) → listed_places (part_at message x) ≡ places_at message x
 unfolding part_at
-listed_at message x = filled_items 13 nothing (places_at message x)
+listed_at message x = filled_items 13 no_place (places_at message x)
 
 -- joined, the parts have all positions
-pub joined_are_all : (message : Message) → flat_map listed (parts_of message) ≡ message.places
+pub joined_are_all : (message : Message) → flat_map listed_places (parts_of message) ≡ message.places
 unfolding parts_of
 joined_are_all message =
-    Pieces.joined_are_all listed (part_at message) (positions_for message.version) message.places
+    Pieces.joined_are_all listed_places (part_at message) (positions_for message.version) message.places
     (some_fit message.version) (listed_at message)
 
 -- so those ascend over all parts
-pub all_ascend : (message : Message) → AreAscending message.places → AreAscending (flat_map listed (parts_of message))
+pub all_ascend : (message : Message) → AreAscending message.places →
+    AreAscending (flat_map listed_places (parts_of message))
 all_ascend message up = subst AreAscending (sym (joined_are_all message)) up
 
 -- how many parts there are
@@ -92,22 +94,22 @@ unfolding part_at
 number_is message x part there = ap (λ (p : EcmPart). p.part) (made_at message x part there)
 
 -- two parts of the message say the same of it
-same_at : (message : Message) (x y : ℕ) → header_of (part_at message x) ≡ header_of (part_at message y)
+same_at : (message : Message) (x y : ℕ) → ecm_header_of (part_at message x) ≡ ecm_header_of (part_at message y)
 unfolding part_at
 same_at message x y = refl
 
 pub two_say_the_same : (message : Message) (x y : ℕ) (a b : EcmPart) → slice_get (parts_of message) x ≡ Some a →
-    slice_get (parts_of message) y ≡ Some b → header_of a ≡ header_of b
+    slice_get (parts_of message) y ≡ Some b → ecm_header_of a ≡ ecm_header_of b
 two_say_the_same message x y a b p q =
-    ap header_of (made_at message x a p) ∙ (same_at message x y ∙ sym (ap header_of (made_at message y b q)))
+    ap ecm_header_of (made_at message x a p) ∙ (same_at message x y ∙ sym (ap ecm_header_of (made_at message y b q)))
 
 -- position k stands in the part of its quotient by the number of positions in a part, at the remainder
 pub place_stands : (message : Message) (q r k : ℕ) → positions_for message.version * q + r ≡ k →
     r < positions_for message.version →
-    k < length message.places → slice_get (listed (part_at message q)) r ≡ slice_get message.places k
+    k < length message.places → slice_get (listed_places (part_at message q)) r ≡ slice_get message.places k
 place_stands message q r k place few within =
     ap (λ (l : List Place). slice_get l r) (listed_at message q)
-    ∙ Pieces.item_stands (positions_for message.version) q r k message.places nothing place few within
+    ∙ Pieces.item_stands (positions_for message.version) q r k message.places no_place place few within
 
 -- the counts of a part are good
 counted_at : (message : Message) (x : ℕ) → x < part_count_of message →
@@ -131,10 +133,11 @@ record AreRight (part : EcmPart) : Type 0 where
   since : IsSince part.version part.number part.since
   numbered : part.part ≤ part.last_part
   counted : IsCounted (positions_for part.version) part.part part.last_part part.count
-  rest : drop part.count part.positions ≡ replicate (13 - part.count) nothing
+  rest : drop part.count part.positions ≡ replicate (13 - part.count) no_place
 
 are_right : (message : Message) (x : ℕ) → x < part_count_of message → IsVersion message.version →
-    IsNamed message.version message.run → IsSince message.version message.number message.since → AreRight (part_at message x)
+    IsNamed message.version message.run → IsSince message.version message.number message.since →
+    AreRight (part_at message x)
 unfolding part_at
 are_right message x within version named since = record {
   version = version;
@@ -142,7 +145,7 @@ are_right message x within version named since = record {
   since = since;
   numbered = omega arith;
   counted = counted_at message x within;
-  rest = filled_rest 13 nothing (places_at message x);
+  rest = filled_rest 13 no_place (places_at message x);
 }
 
 -- a part of the message is one that this project writes
@@ -174,7 +177,7 @@ few_parts version places few = elim (cases_eq version 1) [
 ]
 
 -- and each fits its fields
-fits_at : (message : Message) (x : ℕ) → x < part_count_of message → IsMessage message → Fits (part_at message x)
+fits_at : (message : Message) (x : ℕ) → x < part_count_of message → IsMessage message → FitsFields (part_at message x)
 unfolding part_at
 fits_at message x within is =
     let few = few_parts message.version (length message.places) is.count in
@@ -199,13 +202,14 @@ fits_at message x within is =
       };
       part_fits = omega arith;
       last_part = omega arith;
-      positions = filled_length 13 nothing (places_at message x) (omega arith);
+      positions = filled_length 13 no_place (places_at message x) (omega arith);
     }
 
 -- each part of the message is one that this project writes, and fits its fields
-pub all_are_ecms : (message : Message) → IsMessage message → All (λ part. IsEcm part × Fits part) (parts_of message)
+pub all_are_ecms : (message : Message) → IsMessage message →
+    All (λ part. IsEcm part × FitsFields part) (parts_of message)
 all_are_ecms message is =
-    each_part (λ part. IsEcm part × Fits part) message
+    each_part (λ part. IsEcm part × FitsFields part) message
     (λ x within. (
       is_ecm message x within is.version is.named is.since is.places is.ascending is.positions,
       fits_at message x

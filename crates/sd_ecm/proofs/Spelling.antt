@@ -10,9 +10,10 @@ use Rattle.sd_message.proofs.Numbers.{IsBytes, bytes_drop, word_spelled, half_sp
 use Rattle.sd_message.proofs.Items as Items
 use Rattle.sd_message.proofs.Items.{items_spelled}
 use Rattle.sd_ecm.specs.Versions.{flags_at}
-use Rattle.sd_ecm.specs.Spelled.{listed, place_bytes, flags_for, numbers_bytes, since_bytes, word_bytes, head_bytes}
+use Rattle.sd_ecm.specs.Spelled.{listed_places, place_bytes, flags_for, numbers_bytes, since_bytes, word_bytes}
+use Rattle.sd_ecm.specs.Spelled.{ecm_head_bytes}
 use Rattle.sd_ecm.specs.Spelled.{ecm_body}
-use Rattle.sd_ecm.specs.Fields.{place_of, from_flags, flags_of, since_in, run_in, ecm_in}
+use Rattle.sd_ecm.specs.Fields.{place_of, from_flags, flags_of, since_in, ecm_run_in, ecm_in}
 use Rattle.sd_ecm.specs.declared.part.Place.{Place}
 use Rattle.sd_ecm.proofs.Versions.{flags_after}
 use Rattle.sd_ecm.proofs.Judging.{listed_in}
@@ -76,8 +77,8 @@ eight_spelled body each long =
     same_two _ _ _ _ since run ∙ sym (piece 4 4 body 16)
 
 since_spelled : (v number : ℕ) (body : List ℕ) → IsBytes body → flags_at v ≤ length body →
-    since_bytes v (since_in v number body) (run_in v body) ≡ take (flags_at v - 16) (drop 16 body)
-unfolding since_bytes since_in run_in flags_at
+    since_bytes v (since_in v number body) (ecm_run_in v body) ≡ take (flags_at v - 16) (drop 16 body)
+unfolding since_bytes since_in ecm_run_in flags_at
 since_spelled v number body each long = elim (cases_eq v 3) [
   | inl e ↦
       let long_too : 24 ≤ length body = rw e at long in
@@ -133,11 +134,11 @@ body_is numbers since word places =
 pub body_spelled : (v number last : ℕ) (body : List ℕ) → IsBytes body →
     length body ≡ flags_at v + 50 + 8 * (ecm_in v number last body).count → flags_of v body ≤ 1 →
     ecm_body (ecm_in v number last body) ≡ body
-unfolding ecm_body head_bytes
+unfolding ecm_body ecm_head_bytes
 body_spelled v number last body each long few =
     let part = ecm_in v number last body in
     let tail : List ℕ = from_flags v body in
-    let ps : List ℕ = flat_map place_bytes (listed part) in
+    let ps : List ℕ = flat_map place_bytes (listed_places part) in
     let low : 16 ≤ flags_at v = flags_after v in
     let long_tail : length tail ≡ 50 + 8 * part.count = omega (arith, length-drop (flags_at v) body) in
     let places : ps ≡ drop 50 tail =

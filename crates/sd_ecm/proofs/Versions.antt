@@ -35,8 +35,8 @@ some_positions v = elim (cases_eq v 1) [
 pub flags_after : (v : ℕ) → 16 ≤ flags_at v
 unfolding flags_at
 flags_after v =
-    by_version (λ three two. 16 ≤ (if three then 24 else if two then 20 else 16)) v (λ _. omega arith) (λ _. omega arith)
-    (omega arith)
+    by_version (λ three two. 16 ≤ (if three then 24 else if two then 20 else 16)) v (λ _. omega arith) (λ _.
+    omega arith) (omega arith)
 
 -- with all positions that fit a part goes into a packet
 pub fits_packet : (v : ℕ) → flags_at v + 50 + 8 * positions_for v ≤ 170
@@ -59,7 +59,8 @@ even_fits v =
 pub even_is_even : (v : ℕ) → even_table_id v % 2 ≡ 0
 unfolding even_table_id
 even_is_even v =
-    by_version (λ three two. (if three then 0x88 else if two then 0x84 else 0x80) % 2 ≡ 0) v (λ _. refl) (λ _. refl) refl
+    by_version (λ three two. (if three then 0x88 else if two then 0x84 else 0x80) % 2 ≡ 0) v (λ _. refl) (λ _.
+    refl) refl
 
 bit_cases : (w : ℕ) → (w % 2 ≡ 0) ⊎ (w % 2 ≡ 1)
 bit_cases w = elim (cases_eq (w % 2) 0) [ inl e ↦ inl e | inr g ↦ inr (omega arith) ]

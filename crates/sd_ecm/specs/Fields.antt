@@ -3,14 +3,14 @@ use Rattle.std.specs.Prelude.{◌≡◌, ℕ, ◌+◌, ◌-◌, ◌*◌, ◌%◌
 use Rattle.std.specs.Prelude.{Option, Some, None}
 use Rattle.std.specs.Prelude.{slice_index, slice_range}
 use Rattle.sd_bits.specs.Bits.{field}
-use Rattle.sd_section.specs.Header.{least_length, table_id_of, section_length_of, extension_of, number_of}
+use Rattle.sd_section.specs.Header.{least_length, table_id_of, section_length_of, extension_of, section_number_of}
 use Rattle.sd_section.specs.Header.{last_number_of, body_of}
 use Rattle.sd_message.specs.Framed.{HasSection, section_of}
 use Rattle.sd_message.specs.Items.{items_in}
 use Rattle.sd_message.specs.Pieces.{filled}
-use Rattle.sd_ecm.specs.Versions.{IsBefore, positions_for, flags_at, head_length, even_table_id, version_for}
-use Rattle.sd_ecm.specs.Spelled.{listed}
-use Rattle.sd_ecm.specs.Form.{IsCounted, ArePositioned, AreAscending, nothing}
+use Rattle.sd_ecm.specs.Versions.{IsBefore, positions_for, flags_at, ecm_head_length, even_table_id, version_for}
+use Rattle.sd_ecm.specs.Spelled.{listed_places}
+use Rattle.sd_ecm.specs.Form.{IsCounted, ArePositioned, AreAscending, no_place}
 use Rattle.sd_ecm.specs.declared.part.Place.{Place}
 use Rattle.sd_ecm.specs.declared.part.EcmPart.{EcmPart}
 use Rattle.sd_ecm.specs.declared.fault.EcmFault.{EcmFault}
@@ -30,8 +30,8 @@ IsTableOf version table_id = (table_id ≡ even_table_id version) ⊎ (table_id 
 pub record IsEcmSection (section : List ℕ) : Type 0 where
   pub table_id : IsTableOf (version_of section) (table_id_of section)
   pub extension : extension_of section ≡ 0
-  pub numbered : number_of section ≤ last_number_of section
-  pub room : head_length (version_of section) + least_length ≤ section_length_of section
+  pub numbered : section_number_of section ≤ last_number_of section
+  pub room : ecm_head_length (version_of section) + least_length ≤ section_length_of section
 
 -- the packet begins with such a section
 pub record IsEcmPacket (packet : List ℕ) : Type 0 where
@@ -47,8 +47,8 @@ abbrev pub places_in : ℕ → List ℕ → List Place
 places_in n bytes = items_in place_of 8 n bytes
 
 -- filled up to 13
-abbrev pub padded : List Place → List Place
-padded places = filled most_positions nothing places
+abbrev pub padded_places : List Place → List Place
+padded_places places = filled most_positions no_place places
 
 -- what stands in a body from the flags on
 abbrev pub from_flags : ℕ → List ℕ → List ℕ
@@ -63,8 +63,8 @@ unfoldable pub since_in : ℕ → ℕ → List ℕ → ℕ
 since_in version number body = if version == 1 then number - 1 else field body 128 32
 
 -- the broadcast's name in a body: version 3 alone writes it [this project, docs/FORMATS.md, Messages]
-unfoldable pub run_in : ℕ → List ℕ → Option ℕ
-run_in version body = if version == 3 then Some (field body 160 32) else None
+unfoldable pub ecm_run_in : ℕ → List ℕ → Option ℕ
+ecm_run_in version body = if version == 3 then Some (field body 160 32) else None
 
 -- what the section of this version, these numbers and this body says [this project, docs/FORMATS.md, Messages]
 unfoldable pub ecm_in : ℕ → ℕ → ℕ → List ℕ → EcmPart
@@ -75,14 +75,14 @@ ecm_in version number last_number body = record {
   word = field body 64 32;
   clear = field body 96 32;
   since = since_in version (field body 0 32) body;
-  run = run_in version body;
+  run = ecm_run_in version body;
   closing = flags_of version body == 1;
   part = number;
   last_part = last_number;
   wrapped = slice_range (from_flags version body) 1 33;
   check = slice_range (from_flags version body) 33 49;
   count = slice_index (from_flags version body) 49;
-  positions = padded (places_in (slice_index (from_flags version body) 49)
+  positions = padded_places (places_in (slice_index (from_flags version body) 49)
       (drop 50 (from_flags version body)));
 }
 
@@ -107,13 +107,13 @@ with_places part places = record {
 
 -- what a section says
 abbrev pub ecm_of : List ℕ → EcmPart
-ecm_of section = ecm_in (version_of section) (number_of section) (last_number_of section) (body_of section)
+ecm_of section = ecm_in (version_of section) (section_number_of section) (last_number_of section) (body_of section)
 
 -- the count is what the part is to have and what the length of the body comes to [this project, docs/FORMATS.md,
 -- Messages]
 abbrev pub HasCount : ℕ → EcmPart → Type 0
 HasCount length part =
-    (length ≡ head_length part.version + 8 * part.count)
+    (length ≡ ecm_head_length part.version + 8 * part.count)
     × IsCounted (positions_for part.version) part.part part.last_part part.count
 
 -- the flags are 0 or 1, the table_id is odd where the number of the control word is, and `since` is below the number of
@@ -126,18 +126,18 @@ pub record IsMatched (table_id flags : ℕ) (part : EcmPart) : Type 0 where
 -- no rule is broken
 pub record IsGoodIn (table_id : ℕ) (body : List ℕ) (part : EcmPart) : Type 0 where
   pub has_count : HasCount (length body) part
-  pub places : ArePositioned (listed part)
-  pub ascending : AreAscending (listed part)
+  pub places : ArePositioned (listed_places part)
+  pub ascending : AreAscending (listed_places part)
   pub matched : IsMatched table_id (flags_of part.version body) part
 
 -- the rule that a body under this table_id, and what it says, break first [this project, docs/FORMATS.md, Messages]
 abbrev pub BreaksIn : ℕ → List ℕ → EcmPart → EcmFault → Type 0
 BreaksIn table_id body part Count = ¬ HasCount (length body) part
-BreaksIn table_id body part Pid = HasCount (length body) part × (¬ ArePositioned (listed part))
+BreaksIn table_id body part Pid = HasCount (length body) part × (¬ ArePositioned (listed_places part))
 BreaksIn table_id body part Order = HasCount (length body) part
-    × (ArePositioned (listed part) × (¬ AreAscending (listed part)))
+    × (ArePositioned (listed_places part) × (¬ AreAscending (listed_places part)))
 BreaksIn table_id body part Mixed =
-    HasCount (length body) part × (ArePositioned (listed part) × (AreAscending (listed part)
+    HasCount (length body) part × (ArePositioned (listed_places part) × (AreAscending (listed_places part)
     × (¬ IsMatched table_id (flags_of part.version body) part)))
 BreaksIn table_id body part Back = ⊥
 

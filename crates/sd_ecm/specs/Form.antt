@@ -1,8 +1,9 @@
 -- Public meaning: which parts are ones that a control message has.
-use Rattle.std.specs.Prelude.{◌≡◌, ℕ, ◌-◌, ◌^◌, ◌<◌, ◌≤◌, ◌⊎◌, true, List, length, drop, replicate, All, AllPairs, IfSome}
+use Rattle.std.specs.Prelude.{◌≡◌, ℕ, ◌-◌, ◌^◌, ◌<◌, ◌≤◌, ◌⊎◌, true, List, length, drop, replicate, All, AllPairs}
+use Rattle.std.specs.Prelude.{IfSome}
 use Rattle.sd_packet.specs.Positions.{is_positional}
 use Rattle.sd_ecm.specs.Versions.{IsVersion, IsNamed, IsSince, positions_for, most_positions}
-use Rattle.sd_ecm.specs.Spelled.{listed}
+use Rattle.sd_ecm.specs.Spelled.{listed_places}
 use Rattle.sd_ecm.specs.declared.part.Place.{Place}
 use Rattle.sd_ecm.specs.declared.part.EcmPart.{EcmPart}
 
@@ -30,8 +31,8 @@ abbrev pub AreShort : List Place → Type 0
 AreShort places = All (λ place. place.position < 2 ^ 48) places
 
 -- what stands past the positions
-abbrev pub nothing : Place
-nothing = record { pid = 0; position = 0 }
+abbrev pub no_place : Place
+no_place = record { pid = 0; position = 0 }
 
 -- a part of a control message [this project, docs/FORMATS.md, Messages]
 pub record IsEcm (part : EcmPart) : Type 0 where
@@ -40,10 +41,10 @@ pub record IsEcm (part : EcmPart) : Type 0 where
   pub since : IsSince part.version part.number part.since
   pub numbered : part.part ≤ part.last_part
   pub counted : IsCounted (positions_for part.version) part.part part.last_part part.count
-  pub places : ArePositioned (listed part)
-  pub ascending : AreAscending (listed part)
-  pub positions : AreShort (listed part)
-  pub rest : drop part.count part.positions ≡ replicate (most_positions - part.count) nothing
+  pub places : ArePositioned (listed_places part)
+  pub ascending : AreAscending (listed_places part)
+  pub positions : AreShort (listed_places part)
+  pub rest : drop part.count part.positions ≡ replicate (most_positions - part.count) no_place
 
 -- what stands before the positions fits its fields
 pub record FitsHead (part : EcmPart) : Type 0 where
@@ -57,7 +58,7 @@ pub record FitsHead (part : EcmPart) : Type 0 where
   pub check : length part.check ≡ 16
 
 -- the numbers and the bytes fit their fields, as those of each value of the type do
-pub record Fits (part : EcmPart) : Type 0 where
+pub record FitsFields (part : EcmPart) : Type 0 where
   pub head : FitsHead part
   pub part_fits : part.part < 2 ^ 8
   pub last_part : part.last_part < 2 ^ 8

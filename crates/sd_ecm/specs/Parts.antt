@@ -3,7 +3,7 @@ use Rattle.std.specs.Prelude.{◌≡◌, ℕ, ◌-◌, ◌^◌, ◌<◌, ◌≤�
 use Rattle.sd_message.specs.Pieces.{pieces_for, piece_at, each_below}
 use Rattle.sd_ecm.specs.Versions.{IsVersion, IsNamed, IsSince, positions_for, most_places}
 use Rattle.sd_ecm.specs.Form.{ArePositioned, AreAscending, AreShort}
-use Rattle.sd_ecm.specs.Fields.{padded}
+use Rattle.sd_ecm.specs.Fields.{padded_places}
 use Rattle.sd_ecm.specs.declared.part.Place.{Place}
 use Rattle.sd_ecm.specs.declared.part.EcmPart.{EcmPart}
 use Rattle.sd_ecm.specs.declared.part.EcmHeader.{EcmHeader}
@@ -68,7 +68,7 @@ part_at message x = record {
   wrapped = message.wrapped;
   check = message.check;
   count = length (places_at message x);
-  positions = padded (places_at message x);
+  positions = padded_places (places_at message x);
 }
 
 -- all parts of the message, part 0 first [this project, docs/FORMATS.md, Messages]
@@ -95,8 +95,8 @@ pub record IsMessage (message : Message) : Type 0 where
   pub positions : AreShort message.places
 
 -- what each part of a message says of it beside its number, its own number and positions
-abbrev pub header_of : EcmPart → EcmHeader
-header_of part = record {
+abbrev pub ecm_header_of : EcmPart → EcmHeader
+ecm_header_of part = record {
   version = part.version;
   period = part.period;
   word = part.word;

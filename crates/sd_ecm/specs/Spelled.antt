@@ -5,14 +5,14 @@ use Rattle.std.specs.Option.{unwrap_or}
 use Rattle.std.specs.Int.{w16, w32, w64, to_be_bytes}
 use Rattle.sd_section.specs.Written.{section_bytes}
 use Rattle.sd_section.specs.declared.write.Header.{Header}
-use Rattle.sd_message.specs.Framed.{Begins}
+use Rattle.sd_message.specs.Framed.{BeginsWithSection}
 use Rattle.sd_ecm.specs.Versions.{even_table_id}
 use Rattle.sd_ecm.specs.declared.part.Place.{Place}
 use Rattle.sd_ecm.specs.declared.part.EcmPart.{EcmPart}
 
 -- the positions that a part has
-abbrev pub listed : EcmPart → List Place
-listed part = take part.count part.positions
+abbrev pub listed_places : EcmPart → List Place
+listed_places part = take part.count part.positions
 
 -- the PID in 16 bits, and its position in 48 [this project, docs/FORMATS.md, Messages]
 unfoldable pub place_bytes : Place → List ℕ
@@ -43,12 +43,12 @@ unfoldable pub word_bytes : EcmPart → List ℕ
 word_bytes part = flags_for part.closing ∷ [] ++ (part.wrapped ++ (part.check ++ part.count ∷ []))
 
 -- what stands before the positions [this project, docs/FORMATS.md, Messages]
-unfoldable pub head_bytes : EcmPart → List ℕ
-head_bytes part = numbers_bytes part ++ (since_bytes part.version part.since part.run ++ word_bytes part)
+unfoldable pub ecm_head_bytes : EcmPart → List ℕ
+ecm_head_bytes part = numbers_bytes part ++ (since_bytes part.version part.since part.run ++ word_bytes part)
 
 -- the section's body: its head, and one position after the other [this project, docs/FORMATS.md, Messages]
 unfoldable pub ecm_body : EcmPart → List ℕ
-ecm_body part = head_bytes part ++ flat_map place_bytes (listed part)
+ecm_body part = ecm_head_bytes part ++ flat_map place_bytes (listed_places part)
 
 -- its table_id is the version's for an even control word and the next for an odd one, its extension 0, and the section
 -- numbers are the part's [this project, docs/FORMATS.md, Messages]
@@ -65,5 +65,5 @@ unfoldable pub ecm_section : EcmPart → List ℕ
 ecm_section part = section_bytes (ecm_header part) (ecm_body part)
 
 -- the packet begins with that section
-abbrev pub Spells : EcmPart → List ℕ → Type 0
-Spells part packet = Begins (ecm_section part) packet
+abbrev pub SpellsPart : EcmPart → List ℕ → Type 0
+SpellsPart part packet = BeginsWithSection (ecm_section part) packet

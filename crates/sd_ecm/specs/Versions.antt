@@ -27,8 +27,8 @@ unfoldable pub flags_at : ℕ → ℕ
 flags_at version = if version == 3 then 24 else if version == 2 then 20 else 16
 
 -- how many bytes of the body stand before its positions [this project, docs/FORMATS.md, Messages]
-abbrev pub head_length : ℕ → ℕ
-head_length version = flags_at version + 50
+abbrev pub ecm_head_length : ℕ → ℕ
+ecm_head_length version = flags_at version + 50
 
 -- the table_id for a control word with an even number [this project, docs/FORMATS.md, Messages]
 unfoldable pub even_table_id : ℕ → ℕ

@@ -2,7 +2,7 @@ ghost use Rattle.std.specs.Prelude.{◌≡◌, ◌<◌, ◌≤◌, Some, length,
 ghost use Rattle.sd_message.specs.Pieces.{piece_at};
 ghost use Rattle.sd_ecm.specs.Versions.{IsVersion, IsNamed, IsSince, positions_for};
 ghost use Rattle.sd_ecm.specs.Form.{ArePositioned, AreAscending, AreShort, IsEcm};
-ghost use Rattle.sd_ecm.specs.Fields.{padded};
+ghost use Rattle.sd_ecm.specs.Fields.{padded_places};
 ghost use Rattle.sd_ecm.specs.Parts.{message_of, parts_for, parts_of};
 ghost use Rattle.sd_ecm.specs.declared.format.TheConstants.{POSITIONS, MOST_PLACES};
 
@@ -58,7 +58,8 @@ impl EcmPart {
         requires part { part < parts_for head.now.version (length places.now) }
         ensures value { slice_get (parts_of (message_of head.now places.now)) part ≡ Some result }
         ensures form { IsVersion head.now.version → IsNamed head.now.version head.now.run →
-            IsSince head.now.version head.now.number head.now.since → ArePositioned places.now → AreAscending places.now → AreShort places.now → IsEcm result }
+            IsSince head.now.version head.now.number head.now.since → ArePositioned places.now →
+            AreAscending places.now → AreShort places.now → IsEcm result }
     {
         let own = places_of(head.version, places, part);
         EcmPart {
@@ -93,7 +94,7 @@ fn places_of(version: u8, places: &[Place], part: u8) -> &[Place]
 // Filled up to 13.
 fn filled_up(own: &[Place]) -> [Place; POSITIONS]
     requires { length own.now ≤ POSITIONS }
-    ensures { result ≡ padded own.now }
+    ensures { result ≡ padded_places own.now }
 {
     let mut places = [NOTHING; POSITIONS];
     places[..own.len()].copy_from_slice(own);

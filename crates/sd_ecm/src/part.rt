@@ -1,6 +1,6 @@
 ghost use Rattle.std.specs.Prelude.{◌≡◌, ◌≤◌, ◌↔◌, IsTrue};
-ghost use Rattle.sd_ecm.specs.Spelled.{listed};
-ghost use Rattle.sd_ecm.specs.Parts.{header_of};
+ghost use Rattle.sd_ecm.specs.Spelled.{listed_places};
+ghost use Rattle.sd_ecm.specs.Parts.{ecm_header_of};
 ghost use Rattle.sd_ecm.specs.declared.format.TheConstants.{POSITIONS};
 
 use crate::format::POSITIONS;
@@ -81,14 +81,14 @@ impl EcmPart {
     /// The positions that the part has.
     pub fn listed(&self) -> &[Place]
         requires { self.now.count ≤ POSITIONS }
-        ensures { result.now ≡ listed self.now }
+        ensures { result.now ≡ listed_places self.now }
     {
         &self.positions[..usize::from(self.count)]
     }
 
     /// What all parts of its message say.
     pub fn header(&self) -> EcmHeader
-        ensures { result ≡ header_of self.now }
+        ensures { result ≡ ecm_header_of self.now }
     {
         EcmHeader {
             version: self.version,
@@ -105,7 +105,7 @@ impl EcmPart {
 
     /// Whether two parts say alike what all parts of a message do.
     pub fn same_header(&self, other: &EcmPart) -> bool
-        ensures { IsTrue result ↔ (header_of self.now ≡ header_of other.now) }
+        ensures { IsTrue result ↔ (ecm_header_of self.now ≡ ecm_header_of other.now) }
     {
         self.header() == other.header()
     }

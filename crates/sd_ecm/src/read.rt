@@ -1,13 +1,16 @@
 ghost use Rattle.std.specs.Prelude.{◌≡◌, ◌+◌, ◌*◌, ◌%◌, ◌<◌, ◌≤◌, ◌↔◌, ℕ, Some, None, Ok, Err, IsSome, IsTrue, IfOk};
 ghost use Rattle.std.specs.Prelude.{IfErr, IfSome, slice_index, length, replicate};
-ghost use Rattle.sd_section.specs.Header.{table_id_of, number_of, last_number_of, body_of};
+ghost use Rattle.sd_section.specs.Header.{table_id_of, section_number_of, last_number_of, body_of};
 ghost use Rattle.sd_section.specs.Written.{section_bytes};
-ghost use Rattle.sd_message.specs.Framed.{section_of, header_of, Begins};
-ghost use Rattle.sd_ecm.specs.Versions.{IsVersion, positions_for, flags_at as flags_place, head_length, version_for};
-ghost use Rattle.sd_ecm.specs.Spelled.{Spells};
-ghost use Rattle.sd_ecm.specs.Form.{Fits, IsCounted, IsPositioned, ArePositioned, IsEcm, nothing};
-ghost use Rattle.sd_ecm.specs.Fields.{IsEcmSection, IsEcmPacket, HasCount, version_of, place_of, places_in, padded};
-ghost use Rattle.sd_ecm.specs.Fields.{from_flags, since_in as since_of, run_in as run_of, ecm_in, with_places, IsMatched, IsGoodIn};
+ghost use Rattle.sd_message.specs.Framed.{section_of, header_of, BeginsWithSection};
+ghost use Rattle.sd_ecm.specs.Versions.{IsVersion, positions_for, flags_at as flags_place, ecm_head_length};
+ghost use Rattle.sd_ecm.specs.Versions.{version_for};
+ghost use Rattle.sd_ecm.specs.Spelled.{SpellsPart};
+ghost use Rattle.sd_ecm.specs.Form.{FitsFields, IsCounted, IsPositioned, ArePositioned, IsEcm, no_place};
+ghost use Rattle.sd_ecm.specs.Fields.{IsEcmSection, IsEcmPacket, HasCount, version_of, place_of, places_in};
+ghost use Rattle.sd_ecm.specs.Fields.{padded_places};
+ghost use Rattle.sd_ecm.specs.Fields.{from_flags, since_in as since_of, ecm_run_in as run_of, ecm_in, with_places};
+ghost use Rattle.sd_ecm.specs.Fields.{IsMatched, IsGoodIn};
 ghost use Rattle.sd_ecm.specs.Fields.{BreaksIn, BreaksFirst};
 ghost use Rattle.sd_ecm.specs.Judged.{ecm_read};
 ghost use Rattle.sd_ecm.specs.declared.part.EcmPart.{EcmPart};
@@ -32,8 +35,9 @@ pub fn read_ecm(packet: &Packet) -> Result<Option<EcmPart>, EcmFault>
     ensures none { (result ≡ Ok None) ↔ ¬ IsEcmPacket packet.now }
     ensures fault { (fault : EcmFault) →
         (result ≡ Err fault) ↔ (IsEcmPacket packet.now × BreaksFirst (section_of packet.now) fault) }
-    ensures sound { IfOk result (λ read. IfSome read (λ part. Spells part packet.now × IsEcm part)) }
-    ensures complete { (part : EcmPart) → Fits part → IsEcm part → Spells part packet.now → result ≡ Ok (Some part) }
+    ensures sound { IfOk result (λ read. IfSome read (λ part. SpellsPart part packet.now × IsEcm part)) }
+    ensures complete { (part : EcmPart) → FitsFields part → IsEcm part → SpellsPart part packet.now →
+        result ≡ Ok (Some part) }
 {
     let Some(section) = ecm_section_in(packet) else {
         return Ok(None);
@@ -51,12 +55,12 @@ pub fn read_ecm(packet: &Packet) -> Result<Option<EcmPart>, EcmFault>
 fn ecm_section_in(packet: &Packet) -> Option<Section<'_>>
     ensures some { IsSome result ↔ IsEcmPacket packet.now }
     ensures value { IfSome result (λ section. section.bytes.now ≡ section_of packet.now) }
-    ensures begins { IfSome result (λ section. Begins section.bytes.now packet.now) }
+    ensures begins { IfSome result (λ section. BeginsWithSection section.bytes.now packet.now) }
     ensures spelled { IfSome result (λ section.
         section.bytes.now ≡ section_bytes (header_of section.bytes.now) (body_of section.bytes.now)) }
     ensures is { IfSome result (λ section. IsEcmSection section.bytes.now) }
     ensures room { IfSome result (λ section.
-        head_length (version_of section.bytes.now) ≤ length (body_of section.bytes.now)) }
+        ecm_head_length (version_of section.bytes.now) ≤ length (body_of section.bytes.now)) }
 {
     let section = section_in(packet)?;
     if is_ecm(&section) {
@@ -69,7 +73,7 @@ fn ecm_section_in(packet: &Packet) -> Option<Section<'_>>
 // Whether the section is a part of a control message.
 fn is_ecm(section: &Section<'_>) -> bool
     ensures value { IsTrue result ↔ IsEcmSection section.now.bytes.now }
-    ensures room { IsTrue result → head_length (version_of section.now.bytes.now)
+    ensures room { IsTrue result → ecm_head_length (version_of section.now.bytes.now)
         ≤ length (body_of section.now.bytes.now) }
 {
     let table_id = section.table_id();
@@ -99,7 +103,7 @@ fn version_in(table_id: u8) -> u8
 // What the section of this table_id, these numbers and this body says.
 #[tactic(auto, using(crate::proofs::Judging::count_breaks))]
 fn read_body(table_id: u8, number: u8, last_number: u8, body: &[u8]) -> Result<EcmPart, EcmFault>
-    requires { head_length (version_for table_id) ≤ length body.now }
+    requires { ecm_head_length (version_for table_id) ≤ length body.now }
     ensures value { IfOk result (λ part. part ≡ ecm_in (version_for table_id) number last_number body.now) }
     ensures good { IfOk result (λ _.
         IsGoodIn table_id body.now (ecm_in (version_for table_id) number last_number body.now)) }
@@ -129,7 +133,7 @@ fn read_body(table_id: u8, number: u8, last_number: u8, body: &[u8]) -> Result<E
 
 // What stands in the body from the flags on.
 fn tail_of(version: u8, body: &[u8]) -> &[u8]
-    requires { head_length version ≤ length body.now }
+    requires { ecm_head_length version ≤ length body.now }
     ensures value { result.now ≡ from_flags version body.now }
     ensures length { length result.now + flags_place version ≡ length body.now }
 {
@@ -139,10 +143,10 @@ fn tail_of(version: u8, body: &[u8]) -> &[u8]
 // What stands before the positions.
 #[tactic(auto, unfolding(crate::specs::Fields::ecm_in))]
 fn read_head(version: u8, number: u8, last_number: u8, body: &[u8], tail: &[u8]) -> EcmPart
-    requires room { head_length version ≤ length body.now }
+    requires room { ecm_head_length version ≤ length body.now }
     requires tail { tail.now ≡ from_flags version body.now }
     requires long { length tail.now + flags_place version ≡ length body.now }
-    ensures { result ≡ with_places (ecm_in version number last_number body.now) (replicate POSITIONS nothing) }
+    ensures { result ≡ with_places (ecm_in version number last_number body.now) (replicate POSITIONS no_place) }
 {
     fields! { body; ecm: 0, 32; period: 32, 32; word: 64, 32; clear: 96, 32; }
     let mut wrapped = [0; 32];
@@ -170,7 +174,7 @@ fn read_head(version: u8, number: u8, last_number: u8, body: &[u8], tail: &[u8])
 // `since`, which version 1 doesn't write.
 #[tactic(auto, unfolding(crate::specs::Fields::since_in, crate::specs::Versions::flags_at))]
 fn since_in(version: u8, number: u32, body: &[u8]) -> u32
-    requires { head_length version ≤ length body.now }
+    requires { ecm_head_length version ≤ length body.now }
     ensures { result ≡ since_of version number body.now }
 {
     if version == 1 {
@@ -182,9 +186,9 @@ fn since_in(version: u8, number: u32, body: &[u8]) -> u32
 }
 
 // The broadcast's name, which version 3 alone writes.
-#[tactic(auto, unfolding(crate::specs::Fields::run_in, crate::specs::Versions::flags_at))]
+#[tactic(auto, unfolding(crate::specs::Fields::ecm_run_in, crate::specs::Versions::flags_at))]
 fn run_in(version: u8, body: &[u8]) -> Option<u32>
-    requires { head_length version ≤ length body.now }
+    requires { ecm_head_length version ≤ length body.now }
     ensures { result ≡ run_of version body.now }
 {
     if version == 3 {
@@ -221,7 +225,7 @@ fn is_matched(table_id: u8, flags: u8, part: &EcmPart) -> bool
 fn read_places(count: usize, bytes: &[u8]) -> Option<[Place; POSITIONS]>
     requires few { count ≤ POSITIONS }
     requires room { length bytes.now ≡ PLACE_BYTES * count }
-    ensures value { IfSome result (λ places. places ≡ padded (places_in count bytes.now)) }
+    ensures value { IfSome result (λ places. places ≡ padded_places (places_in count bytes.now)) }
     ensures places { IsSome result ↔ ArePositioned (places_in count bytes.now) }
 {
     let mut places = [NOTHING; POSITIONS];

@@ -1,9 +1,9 @@
 ghost use Rattle.std.specs.Prelude.{◌≡◌, ◌^◌, ◌<◌, ◌≤◌, ◌+◌, ◌*◌, ◌++◌, length, IfSome};
 ghost use Rattle.sd_packet.specs.Packing.{packed};
-ghost use Rattle.sd_ecm.specs.Versions.{positions_for, flags_at as flags_place, head_length};
-ghost use Rattle.sd_ecm.specs.Spelled.{place_bytes, numbers_bytes, since_bytes, word_bytes, head_bytes, ecm_body};
+ghost use Rattle.sd_ecm.specs.Versions.{positions_for, flags_at as flags_place, ecm_head_length};
+ghost use Rattle.sd_ecm.specs.Spelled.{place_bytes, numbers_bytes, since_bytes, word_bytes, ecm_head_bytes, ecm_body};
 ghost use Rattle.sd_ecm.specs.Spelled.{ecm_section, ecm_header};
-ghost use Rattle.sd_ecm.specs.Form.{FitsHead, Fits, IsEcm};
+ghost use Rattle.sd_ecm.specs.Form.{FitsHead, FitsFields, IsEcm};
 ghost use Rattle.sd_ecm.specs.declared.format.TheConstants.{POSITIONS, PLACE_BYTES, PLACES_AT};
 
 use crate::format::even_table_id;
@@ -19,7 +19,7 @@ pub fn write_ecm(part: &EcmPart, pid: u16, counter: u8) -> Packet
     requires pid { pid < 8192 }
     requires counter { counter < 16 }
     ensures value { result ≡ packed (ecm_section part.now) pid counter }
-    ensures fits { Fits part.now }
+    ensures fits { FitsFields part.now }
 {
     pack(&header_of(part), body_of(part).bytes(), pid, counter)
 }
@@ -43,7 +43,7 @@ fn header_of(part: &EcmPart) -> Header
 fn body_of(part: &EcmPart) -> Body
     requires { part.now.count ≤ positions_for part.now.version }
     ensures value { result ≡ ecm_body part.now }
-    ensures length { length result ≡ head_length part.now.version + PLACE_BYTES * part.now.count }
+    ensures length { length result ≡ ecm_head_length part.now.version + PLACE_BYTES * part.now.count }
     ensures few { length result ≤ 171 }
     ensures fits { FitsHead part.now }
     ensures positions { length part.now.positions ≡ POSITIONS }
@@ -56,10 +56,10 @@ fn body_of(part: &EcmPart) -> Body
 }
 
 // The body before its positions.
-#[tactic(auto, unfolding(crate::specs::Spelled::head_bytes))]
+#[tactic(auto, unfolding(crate::specs::Spelled::ecm_head_bytes))]
 fn head_of(part: &EcmPart) -> Body
-    ensures value { result ≡ head_bytes part.now }
-    ensures length { length result ≡ head_length part.now.version }
+    ensures value { result ≡ ecm_head_bytes part.now }
+    ensures length { length result ≡ ecm_head_length part.now.version }
     ensures fits { FitsHead part.now }
 {
     let mut body = numbers_of(part);

@@ -1,7 +1,8 @@
 -- The tests of what a packet is read as tell what the rules say.
 use Rattle.std.proofs.Common.{◌≡◌, inl, inr, ℕ, zero, suc, ◌+◌, ◌-◌, ◌*◌, ◌/◌, ◌^◌, ◌<◌, ◌≤◌, List, length, arith, refl}
 use Rattle.std.proofs.Common.{sym, ap, ◌∙◌, subst}
-use Rattle.std.specs.Prelude.{Bool, true, false, ◌==◌, ◌||◌, is_some, not, nat_le, nat_lt, if◌then◌else◌, min, Option, Some, None}
+use Rattle.std.specs.Prelude.{Bool, true, false, ◌==◌, ◌||◌, is_some, not, nat_le, nat_lt, if◌then◌else◌, min, Option}
+use Rattle.std.specs.Prelude.{Some, None}
 use Rattle.std.specs.Prelude.{Result, Ok, Err}
 use Rattle.std.specs.Bool.{Decides}
 use Rattle.std.specs.List.{list_all}
@@ -11,22 +12,25 @@ use Rattle.std.specs.declared.cmp.Ordering.TheVariants.{Less, Equal, Greater}
 use Rattle.std.proofs.Math.Nat.{div-eq_of_lt, div-one, pow-suc, mul-div-le, mul-le-mul_right}
 use Rattle.std.proofs.Math.Pow.{pow_mono}
 use Rattle.std.proofs.lemmas.Bool.{cases_lt, false≢true}
-use Rattle.std.proofs.lemmas.Bool.Decides.{Decides-and, Decides-or, Decides-eqb, Decides-ltb, Decides-like, Decides-by_and}
+use Rattle.std.proofs.lemmas.Bool.Decides.{Decides-and, Decides-or, Decides-eqb, Decides-ltb, Decides-like}
+use Rattle.std.proofs.lemmas.Bool.Decides.{Decides-by_and}
 use Rattle.std.proofs.lemmas.Bool.Decides.{Decides-below_or}
 use Rattle.sd_packet.specs.Packing.{packed}
 use Rattle.sd_tree.specs.SetNames.{IsPair, set_cmp, AreAscending}
 use Rattle.sd_tree.specs.Node.{IsProperlyAbove}
 use Rattle.sd_tree.specs.declared.set.SetName.{SetName}
 use Rattle.sd_tree.specs.declared.set.SetName.TheVariants.{Whole, Diff}
-use Rattle.sd_section.specs.Header.{least_length, extension_of, body_of, section_length_of, table_id_of, number_of, last_number_of}
+use Rattle.sd_section.specs.Header.{least_length, extension_of, body_of, section_length_of, table_id_of}
+use Rattle.sd_section.specs.Header.{section_number_of, last_number_of}
 use Rattle.sd_message.specs.Framed.{has_section, section_of}
 use Rattle.sd_message.proofs.Deciding.{tells_section, is_false, tells_le}
 use Rattle.sd_message.proofs.Ascending.{tells_pairs}
-use Rattle.sd_emm.specs.Spelled.{listed, names_in, emm_section, Spells}
-use Rattle.sd_emm.specs.Form.{IsSetBeside, AreSets, IsEmm, Fits, sections_for}
-use Rattle.sd_emm.specs.Fields.{is_named, head_length}
+use Rattle.sd_emm.specs.Spelled.{listed_entries, names_in, emm_section, SpellsEmm}
+use Rattle.sd_emm.specs.Form.{IsSetBeside, AreSets, IsEmm, FitsFields, sections_for}
+use Rattle.sd_emm.specs.Fields.{is_named, emm_head_length}
 use Rattle.sd_emm.specs.Fields.{HasCount, IsEmmSection, IsEmmPacket, IsGoodIn, BreaksIn, BreaksFirst, emm_in, emm_of}
-use Rattle.sd_emm.specs.Judged.{is_halved, is_pair, is_set_beside, are_sets, is_ascending, is_counted, emm_judged}
+use Rattle.sd_emm.specs.Judged.{is_halved, is_pair, is_set_beside, are_sets, is_ascending_by_set, is_counted}
+use Rattle.sd_emm.specs.Judged.{emm_judged}
 use Rattle.sd_emm.specs.Judged.{is_emm_section, has_emm, emm_read}
 use Rattle.sd_emm.specs.declared.emm.Entry.{Entry}
 use Rattle.sd_emm.specs.declared.emm.Emm.{Emm}
@@ -104,7 +108,7 @@ tells_less Less = (λ yes. refl, λ same. refl)
 tells_less Equal = (λ yes. absurd (false≢true yes), λ same. absurd (false≢true (ap is_lt same)))
 tells_less Greater = (λ yes. absurd (false≢true yes), λ same. absurd (false≢true (ap is_lt same)))
 
-tells_ascending : (names : List SetName) → Decides (is_ascending names) (AreAscending names)
+tells_ascending : (names : List SetName) → Decides (is_ascending_by_set names) (AreAscending names)
 tells_ascending names =
     tells_pairs (λ (a b : SetName). is_lt (set_cmp a b)) (λ a b. set_cmp a b ≡ Less) (λ a b. tells_less (set_cmp a b))
     names
@@ -115,8 +119,8 @@ tells_counted length emm =
     Decides-like _
     (λ all. (all.0, record { sections_are = all.1.0; index_is = all.1.1.0; count_is = all.1.1.1 }))
     (λ has. (has.0, (has.1.sections_are, (has.1.index_is, has.1.count_is))))
-    (Decides-and (length == head_length (is_some emm.run) + 40 * emm.count) _
-    (Decides-eqb length (head_length (is_some emm.run) + 40 * emm.count))
+    (Decides-and (length == emm_head_length (is_some emm.run) + 40 * emm.count) _
+    (Decides-eqb length (emm_head_length (is_some emm.run) + 40 * emm.count))
     (Decides-and (emm.sections == sections_for emm.sets) _ (Decides-eqb emm.sections (sections_for emm.sets))
     (Decides-and (nat_lt emm.index emm.sections) (emm.count == min 3 (emm.sets - 3 * emm.index))
     (Decides-ltb emm.index emm.sections)
@@ -126,13 +130,13 @@ tells_counted length emm =
 tells_emm_section : (section : List ℕ) → Decides (is_emm_section section) (IsEmmSection section)
 tells_emm_section section =
     let table : ℕ = table_id_of section in
-    let room : ℕ = head_length (is_named table) + least_length in
+    let room : ℕ = emm_head_length (is_named table) + least_length in
     Decides-like _
     (λ all. record { table_id = all.0; number = all.1.0; last_number = all.1.1.0; room = all.1.1.1 })
     (λ is. (is.table_id, (is.number, (is.last_number, is.room))))
     (Decides-and ((table == 0x82) || (table == 0x8A)) _
     (Decides-or (table == 0x82) (table == 0x8A) (Decides-eqb table 0x82) (Decides-eqb table 0x8A))
-    (Decides-and (number_of section == 0) _ (Decides-eqb (number_of section) 0)
+    (Decides-and (section_number_of section == 0) _ (Decides-eqb (section_number_of section) 0)
     (Decides-and (last_number_of section == 0) (nat_le room (section_length_of section))
     (Decides-eqb (last_number_of section) 0)
     (tells_le room (section_length_of section)))))
@@ -151,8 +155,8 @@ unfolding emm_judged
 judged_good h length emm good =
     rw (
       (tells_counted length emm).1 good.has_count,
-      (tells_sets h emm.sets (listed emm)).1 good.are_sets,
-      (tells_ascending (names_in (listed emm))).1 good.ascending,
+      (tells_sets h emm.sets (listed_entries emm)).1 good.are_sets,
+      (tells_ascending (names_in (listed_entries emm))).1 good.ascending,
     )
     refl
 
@@ -162,13 +166,13 @@ judged_bad : (h length : ℕ) (emm : Emm) (fault : EmmFault) → BreaksIn h leng
 unfolding emm_judged
 judged_bad h length emm Count breaks = rw (is_false _ (tells_counted length emm) breaks) refl
 judged_bad h length emm Node breaks =
-    rw ((tells_counted length emm).1 breaks.0, is_false _ (tells_sets h emm.sets (listed emm)) breaks.1) refl
+    rw ((tells_counted length emm).1 breaks.0, is_false _ (tells_sets h emm.sets (listed_entries emm)) breaks.1) refl
 judged_bad h length emm Order breaks =
     rw (
       (tells_counted length emm).1 breaks.0,
-      (tells_sets h emm.sets (listed emm)).1 breaks.1.0,
+      (tells_sets h emm.sets (listed_entries emm)).1 breaks.1.0,
       is_false _
-          (tells_ascending (names_in (listed emm))) breaks.1.1,
+          (tells_ascending (names_in (listed_entries emm))) breaks.1.1,
     )
     refl
 judged_bad h length emm Mixed breaks = absurd breaks
@@ -194,13 +198,13 @@ good_judged : (h length : ℕ) (emm read : Emm) → emm_judged h length emm ≡ 
     (emm ≡ read) × IsGoodIn h length emm
 unfolding emm_judged
 good_judged h length emm read is =
-    let all = all_passed (is_counted length emm) (are_sets h emm.sets (listed emm))
-    (is_ascending (names_in (listed emm))) emm read is in (
+    let all = all_passed (is_counted length emm) (are_sets h emm.sets (listed_entries emm))
+    (is_ascending_by_set (names_in (listed_entries emm))) emm read is in (
       all.1.1,
       record {
         has_count = (tells_counted length emm).0 all.0.0;
-        are_sets = (tells_sets h emm.sets (listed emm)).0 all.0.1;
-        ascending = (tells_ascending (names_in (listed emm))).0 all.1.0;
+        are_sets = (tells_sets h emm.sets (listed_entries emm)).0 all.0.1;
+        ascending = (tells_ascending (names_in (listed_entries emm))).0 all.1.0;
       },
     )
 
@@ -254,9 +258,9 @@ good_at h packet section body named index emm is is_section are is_emm good =
     are is_emm))
 
 -- a packet that spells entitlements is read as them
-pub spelled_reads : (h : ℕ) (emm : Emm) (packet : List ℕ) → h ≤ 20 → Fits emm → IsEmm emm →
-    AreSets h emm.sets (listed emm) →
-    Spells emm packet → emm_read h packet ≡ Ok (Some emm)
+pub spelled_reads : (h : ℕ) (emm : Emm) (packet : List ℕ) → h ≤ 20 → FitsFields emm → IsEmm emm →
+    AreSets h emm.sets (listed_entries emm) →
+    SpellsEmm emm packet → emm_read h packet ≡ Ok (Some emm)
 spelled_reads h emm packet high fits form sets spells =
     let section : List ℕ = section_of packet in
     let are : IsParted section (body_of section) (is_named (table_id_of section)) (extension_of section) = record {
@@ -270,19 +274,19 @@ spelled_reads h emm packet high fits form sets spells =
     ∙ ap (λ (e : Emm). Ok (Some e)) (spelled_is_read h emm packet section (body_of section) _ (extension_of section)
     high fits form sets spells refl are)
 
-pub packed_reads : (h : ℕ) (emm : Emm) (pid counter : ℕ) → h ≤ 20 → Fits emm → IsEmm emm →
-    AreSets h emm.sets (listed emm) →
+pub packed_reads : (h : ℕ) (emm : Emm) (pid counter : ℕ) → h ≤ 20 → FitsFields emm → IsEmm emm →
+    AreSets h emm.sets (listed_entries emm) →
     pid < 8192 → counter < 16 → emm_read h (packed (emm_section emm) pid counter) ≡ Ok (Some emm)
 packed_reads h emm pid counter high fits form sets p c =
     spelled_reads h emm (packed (emm_section emm) pid counter) high fits form sets (written_spells emm pid counter p c)
 
 -- what is read is in its form
 pub read_form : (h : ℕ) (packet : List ℕ) (emm : Emm) → emm_read h packet ≡ Ok (Some emm) →
-    IsEmm emm × AreSets h emm.sets (listed emm)
+    IsEmm emm × AreSets h emm.sets (listed_entries emm)
 unfolding emm_read
 read_form h packet emm is =
     let section : List ℕ = section_of packet in
     let judged = taken (has_emm packet) (emm_judged h (length (body_of section)) (emm_of section)) emm is in
     let good = good_judged h (length (body_of section)) (emm_of section) emm judged in
-    subst (λ (e : Emm). IsEmm e × AreSets h e.sets (listed e)) good.0
+    subst (λ (e : Emm). IsEmm e × AreSets h e.sets (listed_entries e)) good.0
     (good_is_emm h (is_named (table_id_of section)) (extension_of section) (body_of section) good.1, good.1.are_sets)

@@ -3,9 +3,10 @@ use Rattle.std.proofs.Common.{◌≡◌, ℕ, ◌-◌, List, length, take, drop,
 use Rattle.std.specs.Prelude.{Bool, replicate, ◌↔◌}
 use Rattle.std.proofs.lemmas.List.{take_at, drop_at}
 use Rattle.sd_tree.specs.SetNames.{AreAscending}
-use Rattle.sd_emm.specs.Spelled.{listed, names_in}
-use Rattle.sd_emm.specs.Form.{nothing, AreSets, IsEmm}
-use Rattle.sd_emm.specs.Fields.{entry_of, entries_in, padded, head_length, emm_in, with_entries, HasCount, IsGoodIn}
+use Rattle.sd_emm.specs.Spelled.{listed_entries, names_in}
+use Rattle.sd_emm.specs.Form.{no_entry, AreSets, IsEmm}
+use Rattle.sd_emm.specs.Fields.{entry_in, entries_in, padded_entries, emm_head_length, emm_in, with_entries, HasCount}
+use Rattle.sd_emm.specs.Fields.{IsGoodIn}
 use Rattle.sd_emm.specs.Fields.{BreaksIn}
 use Rattle.sd_emm.specs.declared.emm.Entry.{Entry}
 use Rattle.sd_emm.specs.declared.emm.Emm.{Emm}
@@ -15,27 +16,30 @@ use Rattle.sd_message.proofs.Items.{length_items}
 
 -- what stands before the entries was read
 abbrev pub IsPrefix : Bool → ℕ → List ℕ → Emm → Type 0
-IsPrefix named index body head = head ≡ with_entries (emm_in named index body) (replicate 3 nothing)
+IsPrefix named index body head = head ≡ with_entries (emm_in named index body) (replicate 3 no_entry)
 
 -- the entries that a section has are those in its body
-pub listed_in : (named : Bool) (index : ℕ) (body : List ℕ) → listed (emm_in named index body) ≡ entries_in (emm_in named index body).count
-    (drop (head_length named) body)
+pub listed_in : (named : Bool) (index : ℕ) (body : List ℕ) → listed_entries (emm_in named index body) ≡ entries_in
+    (emm_in named index body).count (drop (emm_head_length named) body)
 unfolding emm_in
 listed_in named index body =
     let count : ℕ = (emm_in named index body).count in
-    take_at (entries_in count (drop (head_length named) body)) (replicate (3 - length (entries_in count (drop (head_length named) body))) nothing) count
-    (length_items entry_of 40 count (drop (head_length named) body))
+    take_at (entries_in count (drop (emm_head_length named) body))
+    (replicate (3 - length (entries_in count (drop (emm_head_length named) body))) no_entry) count
+    (length_items entry_in 40 count (drop (emm_head_length named) body))
 
 entries_are : (named : Bool) (index : ℕ) (body : List ℕ) → (emm_in named index body).entries
-    ≡ padded (entries_in (emm_in named index body).count (drop (head_length named) body))
+    ≡ padded_entries (entries_in (emm_in named index body).count (drop (emm_head_length named) body))
 unfolding emm_in
 entries_are named index body = refl
 
 -- the same entries by the count that was read
-same_entries : (named : Bool) (index : ℕ) (body : List ℕ) (head : Emm) (count : ℕ) → IsPrefix named index body head → count ≡ head.count →
-    entries_in count (drop (head_length named) body) ≡ listed (emm_in named index body)
+same_entries : (named : Bool) (index : ℕ) (body : List ℕ) (head : Emm) (count : ℕ) → IsPrefix named index body head →
+    count ≡ head.count →
+    entries_in count (drop (emm_head_length named) body) ≡ listed_entries (emm_in named index body)
 same_entries named index body head count is counted =
-    ap (λ (n : ℕ). entries_in n (drop (head_length named) body)) (counted ∙ ap (λ (e : Emm). e.count) is) ∙ sym (listed_in named index body)
+    ap (λ (n : ℕ). entries_in n (drop (emm_head_length named) body)) (counted ∙ ap (λ (e : Emm). e.count) is) ∙ sym
+    (listed_in named index body)
 
 -- the numbers don't come to one another
 pub count_breaks : (h : ℕ) (named : Bool) (index : ℕ) (body : List ℕ) (head : Emm) → IsPrefix named index body head →
@@ -44,53 +48,64 @@ pub count_breaks : (h : ℕ) (named : Bool) (index : ℕ) (body : List ℕ) (hea
 count_breaks h named index body head is unless has = unless (subst (HasCount (length body)) (sym is) has)
 
 -- they do
-has_count : (named : Bool) (index : ℕ) (body : List ℕ) (head : Emm) → IsPrefix named index body head → HasCount (length body) head →
+has_count : (named : Bool) (index : ℕ) (body : List ℕ) (head : Emm) → IsPrefix named index body head →
+    HasCount (length body) head →
     HasCount (length body) (emm_in named index body)
 has_count named index body head is has = subst (HasCount (length body)) is has
 
 -- the entries are sets by the number that was read where they are
-same_sets : (h : ℕ) (named : Bool) (index : ℕ) (body : List ℕ) (head : Emm) (count : ℕ) → IsPrefix named index body head → count ≡ head.count →
-    AreSets h head.sets (entries_in count (drop (head_length named) body)) ↔ AreSets h (emm_in named index body).sets
-    (listed (emm_in named index body))
+same_sets : (h : ℕ) (named : Bool) (index : ℕ) (body : List ℕ) (head : Emm) (count : ℕ) →
+    IsPrefix named index body head → count ≡ head.count →
+    AreSets h head.sets (entries_in count (drop (emm_head_length named) body)) ↔ AreSets h (emm_in
+    named index body).sets (listed_entries (emm_in named index body))
 same_sets h named index body head count is counted =
     let entries = same_entries named index body head count is counted in
     let sets : head.sets ≡ (emm_in named index body).sets = ap (λ (e : Emm). e.sets) is in (
-      λ all. subst (λ (n : ℕ). AreSets h n (listed (emm_in named index body))) sets
+      λ all. subst (λ (n : ℕ). AreSets h n (listed_entries (emm_in named index body))) sets
           (subst (λ (es : List Entry). AreSets h head.sets es) entries all),
       λ all. subst (λ (es : List Entry). AreSets h head.sets es) (sym entries)
-          (subst (λ (n : ℕ). AreSets h n (listed (emm_in named index body))) (sym sets) all),
+          (subst (λ (n : ℕ). AreSets h n (listed_entries (emm_in named index body))) (sym sets) all),
     )
 
 -- an entry is no set that may stand there
-pub node_breaks : (h : ℕ) (named : Bool) (index : ℕ) (body : List ℕ) (head : Emm) (count : ℕ) → IsPrefix named index body head →
+pub node_breaks : (h : ℕ) (named : Bool) (index : ℕ) (body : List ℕ) (head : Emm) (count : ℕ) →
+    IsPrefix named index body head →
     HasCount (length body) head →
-    count ≡ head.count → ¬ AreSets h head.sets (entries_in count (drop (head_length named) body)) → BreaksIn h (length body)
-    (emm_in named index body) Node
+    count ≡ head.count → ¬ AreSets h head.sets (entries_in count (drop (emm_head_length named) body)) →
+    BreaksIn h (length body) (emm_in named index body) Node
 node_breaks h named index body head count is has counted unless =
     (has_count named index body head is has, λ all. unless ((same_sets h named index body head count is counted).1 all))
 
 -- what was read is what the section says
-pub is_whole : (named : Bool) (index : ℕ) (body : List ℕ) (head : Emm) (count : ℕ) (entries : List Entry) → IsPrefix named index body head →
-    count ≡ head.count → entries ≡ padded (entries_in count (drop (head_length named) body)) → with_entries head entries
+pub is_whole : (named : Bool) (index : ℕ) (body : List ℕ) (head : Emm) (count : ℕ) (entries : List Entry) →
+    IsPrefix named index body head →
+    count ≡ head.count → entries ≡ padded_entries (entries_in count (drop (emm_head_length named) body)) →
+    with_entries head entries
     ≡ emm_in named index body
 is_whole named index body head count entries is counted read =
     let same : entries ≡ (emm_in named index body).entries =
-    read ∙ (ap (λ (n : ℕ). padded (entries_in n (drop (head_length named) body))) (counted ∙ ap (λ (e : Emm). e.count) is)
+    read ∙ (ap (λ (n : ℕ). padded_entries (entries_in n (drop (emm_head_length named) body)))
+    (counted ∙ ap (λ (e : Emm). e.count) is)
     ∙ sym (entries_are named index body)) in
     ap (λ (f : Emm). with_entries f entries) is ∙ ap (with_entries (emm_in named index body)) same
 
 -- the entries that were read are those that the section has
-same_listed : (named : Bool) (index : ℕ) (body : List ℕ) (head : Emm) (count : ℕ) (entries : List Entry) → IsPrefix named index body head →
-    count ≡ head.count → entries ≡ padded (entries_in count (drop (head_length named) body)) → take count entries
-    ≡ listed (emm_in named index body)
+same_listed : (named : Bool) (index : ℕ) (body : List ℕ) (head : Emm) (count : ℕ) (entries : List Entry) →
+    IsPrefix named index body head →
+    count ≡ head.count → entries ≡ padded_entries (entries_in count (drop (emm_head_length named) body)) →
+    take count entries
+    ≡ listed_entries (emm_in named index body)
 same_listed named index body head count entries is counted read =
-    ap (λ (n : ℕ). take n entries) counted ∙ ap listed (is_whole named index body head count entries is counted read)
+    ap (λ (n : ℕ). take n entries) counted ∙ ap listed_entries
+    (is_whole named index body head count entries is counted read)
 
 -- the entries don't ascend
 pub order_breaks : (h : ℕ) (named : Bool) (index : ℕ) (body : List ℕ) (head : Emm) (count : ℕ) (entries : List Entry) →
     IsPrefix named index body head →
-    HasCount (length body) head → count ≡ head.count → AreSets h head.sets (entries_in count (drop (head_length named) body)) →
-    entries ≡ padded (entries_in count (drop (head_length named) body)) → ¬ AreAscending (names_in (take count entries)) →
+    HasCount (length body) head → count ≡ head.count →
+    AreSets h head.sets (entries_in count (drop (emm_head_length named) body)) →
+    entries ≡ padded_entries (entries_in count (drop (emm_head_length named) body)) →
+    ¬ AreAscending (names_in (take count entries)) →
     BreaksIn h (length body) (emm_in named index body) Order
 order_breaks h named index body head count entries is has counted sets read unless = (
   has_count named index body head is has,
@@ -102,9 +117,12 @@ order_breaks h named index body head count entries is has counted sets read unle
 )
 
 -- nothing is wrong
-pub is_good : (h : ℕ) (named : Bool) (index : ℕ) (body : List ℕ) (head : Emm) (count : ℕ) (entries : List Entry) → IsPrefix named index body head →
-    HasCount (length body) head → count ≡ head.count → AreSets h head.sets (entries_in count (drop (head_length named) body)) →
-    entries ≡ padded (entries_in count (drop (head_length named) body)) → AreAscending (names_in (take count entries)) →
+pub is_good : (h : ℕ) (named : Bool) (index : ℕ) (body : List ℕ) (head : Emm) (count : ℕ) (entries : List Entry) →
+    IsPrefix named index body head →
+    HasCount (length body) head → count ≡ head.count →
+    AreSets h head.sets (entries_in count (drop (emm_head_length named) body)) →
+    entries ≡ padded_entries (entries_in count (drop (emm_head_length named) body)) →
+    AreAscending (names_in (take count entries)) →
     IsGoodIn h (length body) (emm_in named index body)
 is_good h named index body head count entries is has counted sets read up = record {
   has_count = has_count named index body head is has;
@@ -115,16 +133,19 @@ is_good h named index body head count entries is has counted sets read up = reco
 
 -- what follows the entries is as it is to be
 past_entries : (named : Bool) (index : ℕ) (body : List ℕ) →
-    drop (emm_in named index body).count (emm_in named index body).entries ≡ replicate (3 - (emm_in named index body).count) nothing
+    drop (emm_in named index body).count (emm_in
+    named index body).entries ≡ replicate (3 - (emm_in named index body).count) no_entry
 past_entries named index body =
     let count : ℕ = (emm_in named index body).count in
-    let entries : List Entry = entries_in count (drop (head_length named) body) in
+    let entries : List Entry = entries_in count (drop (emm_head_length named) body) in
     ap (drop count) (entries_are named index body)
-    ∙ (drop_at entries (replicate (3 - length entries) nothing) count (length_items entry_of 40 count (drop (head_length named) body))
-    ∙ ap (λ (n : ℕ). replicate (3 - n) nothing) (length_items entry_of 40 count (drop (head_length named) body)))
+    ∙ (drop_at entries (replicate (3 - length entries) no_entry) count (length_items entry_in
+    40 count (drop (emm_head_length named) body))
+    ∙ ap (λ (n : ℕ). replicate (3 - n) no_entry) (length_items entry_in 40 count (drop (emm_head_length named) body)))
 
 -- what breaks no rule is in its form
-pub good_is_emm : (h : ℕ) (named : Bool) (index : ℕ) (body : List ℕ) → IsGoodIn h (length body) (emm_in named index body) →
+pub good_is_emm : (h : ℕ) (named : Bool) (index : ℕ) (body : List ℕ) →
+    IsGoodIn h (length body) (emm_in named index body) →
     IsEmm (emm_in named index body)
 good_is_emm h named index body good = record {
   counted = good.has_count.1;

@@ -11,11 +11,11 @@ use Rattle.sd_bits.specs.Bits.{field}
 use Rattle.sd_message.proofs.Numbers.{word_again}
 use Rattle.sd_emm.specs.Spelled.{name_bytes}
 use Rattle.sd_emm.specs.Form.{IsSetBeside}
-use Rattle.sd_emm.specs.Fields.{name_of}
+use Rattle.sd_emm.specs.Fields.{set_name_of}
 
 -- the pair (0,0) is the whole set, and each other its own
-pub name_cases : (i j : ℕ) → (((i ≡ 0) × (j ≡ 0)) × (name_of i j ≡ Whole))
-    ⊎ ((¬ ((i ≡ 0) × (j ≡ 0))) × (name_of i j ≡ Diff i j))
+pub name_cases : (i j : ℕ) → (((i ≡ 0) × (j ≡ 0)) × (set_name_of i j ≡ Whole))
+    ⊎ ((¬ ((i ≡ 0) × (j ≡ 0))) × (set_name_of i j ≡ Diff i j))
 name_cases i j = elim (cases_eq i 0) [
   | inl e ↦ elim (cases_eq j 0) [
     | inl f ↦ inl ((e, f), rw (e, f) refl)
@@ -25,7 +25,7 @@ name_cases i j = elim (cases_eq i 0) [
 ]
 
 -- what is no pair of the height is no set
-pub not_named : (h sets i j : ℕ) → ¬ ((i ≡ 0) × (j ≡ 0)) → ¬ IsPair h i j → ¬ IsSetBeside h sets (name_of i j)
+pub not_named : (h sets i j : ℕ) → ¬ ((i ≡ 0) × (j ≡ 0)) → ¬ IsPair h i j → ¬ IsSetBeside h sets (set_name_of i j)
 not_named h sets i j other no_pair set = elim (name_cases i j) [
   | inl whole ↦ other whole.0
   | inr diff ↦ no_pair (subst (IsOfHeight h) diff.1 set.of_height)
@@ -37,7 +37,7 @@ when i j zero e = ap (λ (b : Bool). if b then Whole else Diff i j) e
 
 -- what is given for a pair is its name
 pub named : (h i j : ℕ) (name : SetName) → name ≡ (if i == 0 then Whole else Diff i j) → IsOfHeight h name →
-    ((¬ ((i ≡ 0) × (j ≡ 0))) × (¬ IsPair h i j) → ⊥) → name ≡ name_of i j
+    ((¬ ((i ≡ 0) × (j ≡ 0))) × (¬ IsPair h i j) → ⊥) → name ≡ set_name_of i j
 named h i j name is of_height some = elim (name_cases i j) [
   | inl whole ↦ is ∙ (when i j true (eq-eqb i 0 whole.0.0) ∙ sym whole.1)
   | inr diff ↦ elim (cases_eq i 0) [
@@ -48,7 +48,7 @@ named h i j name is of_height some = elim (name_cases i j) [
 
 -- a name is read as what it was
 pub name_again : (h sets : ℕ) (name : SetName) (rest : List ℕ) → h ≤ 20 → IsSetBeside h sets name →
-    name_of (field (name_bytes name ++ rest) 0 32) (field (name_bytes name ++ rest) 32 32) ≡ name
+    set_name_of (field (name_bytes name ++ rest) 0 32) (field (name_bytes name ++ rest) 32 32) ≡ name
 name_again h sets Whole rest high set =
     let xs : List ℕ = name_bytes Whole ++ rest in
     rw (word_again xs 0 0 (omega arith) refl refl refl refl, word_again xs 4 0 (omega arith) refl refl refl refl) refl

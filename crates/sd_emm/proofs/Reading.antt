@@ -3,15 +3,16 @@ use Rattle.std.proofs.Common.{◌≡◌, inl, inr, ℕ, ◌+◌, ◌*◌, ◌<�
 use Rattle.std.specs.Prelude.{Bool, Option, Some, None, is_some}
 use Rattle.sd_packet.specs.Packing.{packed}
 use Rattle.sd_section.specs.Header.{table_id_of, extension_of, body_of}
-use Rattle.sd_section.specs.Written.{section_bytes, Fits as FitsHeader}
+use Rattle.sd_section.specs.Written.{section_bytes, FitsFields as FitsHeader}
 use Rattle.sd_section.specs.declared.write.Header.{Header}
 use Rattle.sd_section.proofs.Spelling.{fields_are_read}
-use Rattle.sd_message.specs.Framed.{section_of, Begins}
+use Rattle.sd_message.specs.Framed.{section_of, BeginsWithSection}
 use Rattle.sd_message.proofs.Numbers.{IsBytes}
 use Rattle.sd_message.proofs.Framing.{packed_begins, begun_is_there, begun_is_read}
-use Rattle.sd_emm.specs.Spelled.{listed, table_id_for, emm_header, emm_body, emm_section, Spells}
-use Rattle.sd_emm.specs.Form.{AreSets, IsEmm, Fits}
-use Rattle.sd_emm.specs.Fields.{is_named, IsTable, head_length, run_in, emm_in, IsEmmSection, IsEmmPacket, IsGoodIn}
+use Rattle.sd_emm.specs.Spelled.{listed_entries, table_id_for, emm_header, emm_body, emm_section, SpellsEmm}
+use Rattle.sd_emm.specs.Form.{AreSets, IsEmm, FitsFields}
+use Rattle.sd_emm.specs.Fields.{is_named, IsTable, emm_head_length, emm_run_in, emm_in, IsEmmSection, IsEmmPacket}
+use Rattle.sd_emm.specs.Fields.{IsGoodIn}
 use Rattle.sd_emm.specs.declared.emm.Emm.{Emm}
 use Rattle.sd_emm.proofs.Again.{body_again, long_whole, few_entries, few_head}
 use Rattle.sd_emm.proofs.Judging.{good_is_emm}
@@ -35,7 +36,7 @@ names_again None = refl
 names_again (Some run) = refl
 
 -- the header's numbers fit
-header_fits : (emm : Emm) → Fits emm → FitsHeader (headed emm)
+header_fits : (emm : Emm) → FitsFields emm → FitsHeader (headed emm)
 header_fits emm fits = record {
   table_id = table_fits emm.run;
   extension = fits.index;
@@ -44,21 +45,23 @@ header_fits emm fits = record {
 }
 
 -- a body is short
-short_body : (h : ℕ) (emm : Emm) → h ≤ 20 → Fits emm → IsEmm emm → AreSets h emm.sets (listed emm) →
+short_body : (h : ℕ) (emm : Emm) → h ≤ 20 → FitsFields emm → IsEmm emm → AreSets h emm.sets (listed_entries emm) →
     length (emm_body emm) ≤ 4084
 short_body h emm high fits form sets =
     omega (arith, few_entries emm form, few_head emm.run, long_whole h emm high fits form sets)
 
 -- the section of a packet that spells entitlements
-spelled_section : (h : ℕ) (emm : Emm) (packet : List ℕ) → h ≤ 20 → Fits emm → IsEmm emm →
-    AreSets h emm.sets (listed emm) → Spells emm packet → section_of packet ≡ section_bytes (headed emm) (emm_body emm)
+spelled_section : (h : ℕ) (emm : Emm) (packet : List ℕ) → h ≤ 20 → FitsFields emm → IsEmm emm →
+    AreSets h emm.sets (listed_entries emm) → SpellsEmm emm packet →
+    section_of packet ≡ section_bytes (headed emm) (emm_body emm)
 unfolding emm_section
 spelled_section h emm packet high fits form sets spells =
-    begun_is_read (headed emm) (emm_body emm) packet (header_fits emm fits) (short_body h emm high fits form sets) spells
+    begun_is_read (headed emm) (emm_body emm) packet (header_fits emm fits) (short_body h emm high fits form sets)
+    spells
 
 -- such a packet is one of entitlements
-pub spelled_is_packet : (h : ℕ) (emm : Emm) (packet : List ℕ) → h ≤ 20 → Fits emm → IsEmm emm →
-    AreSets h emm.sets (listed emm) → Spells emm packet → IsEmmPacket packet
+pub spelled_is_packet : (h : ℕ) (emm : Emm) (packet : List ℕ) → h ≤ 20 → FitsFields emm → IsEmm emm →
+    AreSets h emm.sets (listed_entries emm) → SpellsEmm emm packet → IsEmmPacket packet
 unfolding emm_section
 spelled_is_packet h emm packet high fits form sets spells =
     let section : List ℕ = section_bytes (headed emm) (emm_body emm) in
@@ -89,8 +92,8 @@ record IsSpelled (emm : Emm) (body : List ℕ) (named : Bool) (index : ℕ) : Ty
   index_is : index ≡ emm.index
   body_is : body ≡ emm_body emm
 
-is_spelled : (h : ℕ) (emm : Emm) (packet section body : List ℕ) (named : Bool) (index : ℕ) → h ≤ 20 → Fits emm →
-    IsEmm emm → AreSets h emm.sets (listed emm) → Spells emm packet → section ≡ section_of packet →
+is_spelled : (h : ℕ) (emm : Emm) (packet section body : List ℕ) (named : Bool) (index : ℕ) → h ≤ 20 → FitsFields emm →
+    IsEmm emm → AreSets h emm.sets (listed_entries emm) → SpellsEmm emm packet → section ≡ section_of packet →
     IsParted section body named index → IsSpelled emm body named index
 is_spelled h emm packet section body named index high fits form sets spells is_section are =
     let short = short_body h emm high fits form sets in
@@ -105,7 +108,8 @@ is_spelled h emm packet section body named index high fits form sets spells is_s
 
 -- what is read of it is what it spells
 pub spelled_is_read : (h : ℕ) (emm : Emm) (packet section body : List ℕ) (named : Bool) (index : ℕ) → h ≤ 20 →
-    Fits emm → IsEmm emm → AreSets h emm.sets (listed emm) → Spells emm packet → section ≡ section_of packet →
+    FitsFields emm → IsEmm emm → AreSets h emm.sets (listed_entries emm) → SpellsEmm emm packet →
+    section ≡ section_of packet →
     IsParted section body named index → emm_in named index body ≡ emm
 spelled_is_read h emm packet section body named index high fits form sets spells is_section are =
     let is = is_spelled h emm packet section body named index high fits form sets spells is_section are in
@@ -115,7 +119,8 @@ spelled_is_read h emm packet section body named index high fits form sets spells
 
 -- and nothing is wrong with it
 pub spelled_is_good : (h : ℕ) (emm : Emm) (packet section body : List ℕ) (named : Bool) (index : ℕ) → h ≤ 20 →
-    Fits emm → IsEmm emm → AreSets h emm.sets (listed emm) → Spells emm packet → section ≡ section_of packet →
+    FitsFields emm → IsEmm emm → AreSets h emm.sets (listed_entries emm) → SpellsEmm emm packet →
+    section ≡ section_of packet →
     IsParted section body named index → IsGoodIn h (length body) (emm_in named index body)
 spelled_is_good h emm packet section body named index high fits form sets spells is_section are =
     let is = is_spelled h emm packet section body named index high fits form sets spells is_section are in
@@ -129,40 +134,41 @@ index_in : (named : Bool) (index : ℕ) (body : List ℕ) → (emm_in named inde
 unfolding emm_in
 index_in named index body = refl
 
-run_of : (named : Bool) (index : ℕ) (body : List ℕ) → (emm_in named index body).run ≡ run_in named body
+run_of : (named : Bool) (index : ℕ) (body : List ℕ) → (emm_in named index body).run ≡ emm_run_in named body
 unfolding emm_in
 run_of named index body = refl
 
 -- the packet spells what was read of it
 read_spells : (h : ℕ) (packet section body : List ℕ) (named : Bool) (index : ℕ) → IsBytes body →
     IsGoodIn h (length body) (emm_in named index body) → IsParted section body named index →
-    IsTable (table_id_of section) → Begins section packet →
+    IsTable (table_id_of section) → BeginsWithSection section packet →
     section ≡ section_bytes (emm_header (table_id_of section) (extension_of section)) (body_of section) →
-    Spells (emm_in named index body) packet
+    SpellsEmm (emm_in named index body) packet
 unfolding emm_section
 read_spells h packet section body named index each good are table begins spelled =
     let emm : Emm = emm_in named index body in
     let name : is_some emm.run ≡ named = ap is_some (run_of named index body) ∙ named_again named body in
-    let long : length body ≡ head_length named + 40 * emm.count =
-    subst (λ (b : Bool). length body ≡ head_length b + 40 * emm.count) name good.has_count.0 in
+    let long : length body ≡ emm_head_length named + 40 * emm.count =
+    subst (λ (b : Bool). length body ≡ emm_head_length b + 40 * emm.count) name good.has_count.0 in
     let same_body : emm_body emm ≡ body_of section = body_spelled named index body each long ∙ are.is_body in
     let same_table : table_id_of section ≡ table_id_for emm.run =
     sym (ap table_id_for (run_of named index body)
-    ∙ (ap (λ (b : Bool). table_id_for (run_in b body)) are.is_name ∙ table_again (table_id_of section) body table)) in
+    ∙ (ap (λ (b : Bool). table_id_for (emm_run_in b body)) are.is_name ∙ table_again (table_id_of section) body table))
+    in
     let same_index : extension_of section ≡ emm.index = sym are.is_index ∙ sym (index_in named index body) in
     let same : section ≡ section_bytes (headed emm) (emm_body emm) =
     spelled ∙ (ap (λ (n : ℕ). section_bytes (emm_header n (extension_of section)) (body_of section)) same_table
     ∙ (ap (λ (n : ℕ). section_bytes (emm_header (table_id_for emm.run) n) (body_of section)) same_index
     ∙ ap (section_bytes (headed emm)) (sym same_body))) in
-    subst (λ (s : List ℕ). Begins s packet) same begins
+    subst (λ (s : List ℕ). BeginsWithSection s packet) same begins
 
 -- which is in its form
 abbrev pub IsRead : ℕ → List ℕ → Emm → Type 0
-IsRead h packet emm = Spells emm packet × (IsEmm emm × AreSets h emm.sets (listed emm))
+IsRead h packet emm = SpellsEmm emm packet × (IsEmm emm × AreSets h emm.sets (listed_entries emm))
 
 pub read_is_right : (h : ℕ) (packet section body : List ℕ) (named : Bool) (index : ℕ) (emm : Emm) →
     emm ≡ emm_in named index body → IsBytes body → IsGoodIn h (length body) (emm_in named index body) →
-    IsParted section body named index → IsTable (table_id_of section) → Begins section packet →
+    IsParted section body named index → IsTable (table_id_of section) → BeginsWithSection section packet →
     section ≡ section_bytes (emm_header (table_id_of section) (extension_of section)) (body_of section) →
     IsRead h packet emm
 read_is_right h packet section body named index emm is each good are table begins spelled =
@@ -173,5 +179,5 @@ read_is_right h packet section body named index emm is each good are table begin
 
 -- the packet of entitlements begins with their section
 pub written_spells : (emm : Emm) (pid counter : ℕ) → pid < 8192 → counter < 16 →
-    Spells emm (packed (emm_section emm) pid counter)
+    SpellsEmm emm (packed (emm_section emm) pid counter)
 written_spells emm pid counter h k = packed_begins (emm_section emm) pid counter h k

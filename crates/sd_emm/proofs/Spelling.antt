@@ -15,10 +15,11 @@ use Rattle.sd_emm.proofs.Judging.{IsPrefix, listed_in}
 use Rattle.sd_section.specs.Header.{table_id_of, extension_of, body_of}
 use Rattle.sd_section.specs.Written.{section_bytes}
 use Rattle.sd_message.specs.Framed.{header_of}
-use Rattle.sd_emm.specs.Spelled.{listed, emm_body, name_bytes, run_bytes, head_bytes, entry_bytes, emm_header}
+use Rattle.sd_emm.specs.Spelled.{listed_entries, emm_body, name_bytes, run_bytes, emm_head_bytes, entry_bytes}
+use Rattle.sd_emm.specs.Spelled.{emm_header}
 use Rattle.sd_emm.specs.Spelled.{table_id_for}
 use Rattle.sd_emm.specs.Form.{AreWrapped}
-use Rattle.sd_emm.specs.Fields.{name_of, entry_of, is_named, IsTable, count_at, head_length, run_in, emm_in}
+use Rattle.sd_emm.specs.Fields.{set_name_of, entry_in, is_named, IsTable, count_at, emm_head_length, emm_run_in, emm_in}
 use Rattle.sd_emm.specs.Fields.{IsEmmSection}
 use Rattle.sd_emm.specs.declared.emm.Entry.{Entry}
 use Rattle.sd_emm.specs.declared.emm.Emm.{Emm}
@@ -58,13 +59,13 @@ emm_headed section emm is = rw (emm.number, emm.last_number) at is
 
 -- its table_id tells whether the broadcast is named
 pub table_again : (table_id : ℕ) (body : List ℕ) → IsTable table_id →
-    table_id_for (run_in (is_named table_id) body) ≡ table_id
-unfolding run_in
+    table_id_for (emm_run_in (is_named table_id) body) ≡ table_id
+unfolding emm_run_in
 table_again table_id body (inl e) = rw e refl
 table_again table_id body (inr e) = rw e refl
 
-pub named_again : (named : Bool) (body : List ℕ) → is_some (run_in named body) ≡ named
-unfolding run_in
+pub named_again : (named : Bool) (body : List ℕ) → is_some (emm_run_in named body) ≡ named
+unfolding emm_run_in
 named_again false body = refl
 named_again true body = refl
 
@@ -74,7 +75,7 @@ unfolding emm_in
 named_read named index body head is = ap (λ (e : Emm). is_some e.run) is ∙ named_again named body
 
 -- a name is spelled as the pair that it was read from
-name_spelled : (i j : ℕ) → name_bytes (name_of i j) ≡ to_be_bytes w32 i ++ to_be_bytes w32 j
+name_spelled : (i j : ℕ) → name_bytes (set_name_of i j) ≡ to_be_bytes w32 i ++ to_be_bytes w32 j
 name_spelled i j = elim (name_cases i j) [
   | inl whole ↦ ap name_bytes whole.1 ∙ sym (ap (λ (n : ℕ). to_be_bytes w32 n ++ to_be_bytes w32 j) whole.0.0
       ∙ ap (λ (n : ℕ). to_be_bytes w32 0 ++ to_be_bytes w32 n) whole.0.1)
@@ -82,13 +83,13 @@ name_spelled i j = elim (name_cases i j) [
 ]
 
 -- an entry is spelled as it was read
-entry_spelled : (bytes : List ℕ) → IsBytes bytes → length bytes ≡ 40 → entry_bytes (entry_of bytes) ≡ bytes
-unfolding entry_bytes entry_of
+entry_spelled : (bytes : List ℕ) → IsBytes bytes → length bytes ≡ 40 → entry_bytes (entry_in bytes) ≡ bytes
+unfolding entry_bytes entry_in
 entry_spelled bytes each long =
     let first : to_be_bytes w32 (field bytes 0 32) ≡ take 4 bytes = word_spelled bytes 0 each (omega arith) in
     let second : to_be_bytes w32 (field bytes 32 32) ≡ take 4 (drop 4 bytes) = word_spelled bytes 4 each (omega arith)
     in
-    let name : name_bytes (name_of (field bytes 0 32) (field bytes 32 32)) ≡ take 8 bytes =
+    let name : name_bytes (set_name_of (field bytes 0 32) (field bytes 32 32)) ≡ take 8 bytes =
     name_spelled (field bytes 0 32) (field bytes 32 32)
     ∙ (ap (λ (l : List ℕ). l ++ to_be_bytes w32 (field bytes 32 32)) first
     ∙ (ap (λ (l : List ℕ). take 4 bytes ++ l) second ∙ sym (take-add 4 4 bytes))) in
@@ -127,45 +128,46 @@ count_spelled body p within = sym (ap (take 1) (drop_more body p 0 within))
 same_two : (a a' b b' : List ℕ) → a ≡ a' → b ≡ b' → a ++ b ≡ a' ++ b'
 same_two a a' b b' p q = rw (p, q) refl
 
-name_and_count : (named : Bool) (body : List ℕ) → IsBytes body → head_length named ≤ length body →
-    run_bytes (run_in named body) ++ slice_index body (count_at named) ∷ [] ≡ take (head_length named - 26)
+name_and_count : (named : Bool) (body : List ℕ) → IsBytes body → emm_head_length named ≤ length body →
+    run_bytes (emm_run_in named body) ++ slice_index body (count_at named) ∷ [] ≡ take (emm_head_length named - 26)
     (drop 26 body)
-unfolding run_in count_at
+unfolding emm_run_in count_at
 name_and_count false body each long = count_spelled body 26 (omega arith)
 name_and_count true body each long =
     same_two _ _ _ _ (word_spelled body 26 each (omega arith)) (count_spelled body 30 (omega arith))
     ∙ sym (piece 4 1 5 body 26 30 refl refl)
 
 -- the head is longer than what stands before the name
-head_long : (named : Bool) → 27 ≤ head_length named
+head_long : (named : Bool) → 27 ≤ emm_head_length named
 unfolding count_at
 head_long false = omega arith
 head_long true = omega arith
 
 -- so is the body before its entries
-head_spelled : (named : Bool) (index : ℕ) (body : List ℕ) → IsBytes body → head_length named ≤ length body →
-    head_bytes (emm_in named index body) ≡ take (head_length named) body
-unfolding head_bytes emm_in
+head_spelled : (named : Bool) (index : ℕ) (body : List ℕ) → IsBytes body → emm_head_length named ≤ length body →
+    emm_head_bytes (emm_in named index body) ≡ take (emm_head_length named) body
+unfolding emm_head_bytes emm_in
 head_spelled named index body each long =
     let low = head_long named in
     let period : to_be_bytes w32 (field body 0 32) ≡ take 4 body = word_spelled body 0 each (omega arith) in
     let sets : to_be_bytes w32 (field body 32 32) ≡ take 4 (drop 4 body) = word_spelled body 4 each (omega arith) in
     let sections : to_be_bytes w16 (field body 64 16) ≡ take 2 (drop 8 body) = half_spelled body 8 each (omega arith) in
-    let all : 26 + (head_length named - 26) ≡ head_length named = omega arith in
+    let all : 26 + (emm_head_length named - 26) ≡ emm_head_length named = omega arith in
     same_five _ _ _ _ _ _ (slice_range body 10 26) _ _ period sets sections (name_and_count named body each long)
-    ∙ (five_pieces (head_length named - 26) body ∙ ap (λ (n : ℕ). take n body) all)
+    ∙ (five_pieces (emm_head_length named - 26) body ∙ ap (λ (n : ℕ). take n body) all)
 
 -- so is the whole body
 pub body_spelled : (named : Bool) (index : ℕ) (body : List ℕ) → IsBytes body →
-    length body ≡ head_length named + 40 * (emm_in named index body).count → emm_body (emm_in named index body) ≡ body
+    length body ≡ emm_head_length named + 40 * (emm_in named index body).count →
+    emm_body (emm_in named index body) ≡ body
 unfolding emm_body
 body_spelled named index body each long =
     let count : ℕ = (emm_in named index body).count in
-    let n : ℕ = head_length named in
-    let entries : flat_map entry_bytes (listed (emm_in named index body)) ≡ drop n body =
+    let n : ℕ = emm_head_length named in
+    let entries : flat_map entry_bytes (listed_entries (emm_in named index body)) ≡ drop n body =
     ap (flat_map entry_bytes) (listed_in named index body)
-    ∙ items_spelled entry_of entry_bytes 40 count (drop n body) entry_spelled (bytes_drop n body each)
+    ∙ items_spelled entry_in entry_bytes 40 count (drop n body) entry_spelled (bytes_drop n body each)
     (omega (arith, length-drop n body)) in
-    ap (λ (l : List ℕ). l ++ flat_map entry_bytes (listed (emm_in named index body)))
+    ap (λ (l : List ℕ). l ++ flat_map entry_bytes (listed_entries (emm_in named index body)))
     (head_spelled named index body each (omega arith))
     ∙ (ap (λ (l : List ℕ). take n body ++ l) entries ∙ take-append-drop n body)

@@ -5,11 +5,11 @@ use Rattle.sd_bits.specs.Bits.{field}
 use Rattle.sd_tree.specs.SetNames.{AreAscending}
 use Rattle.sd_tree.specs.declared.set.SetName.{SetName}
 use Rattle.sd_tree.specs.declared.set.SetName.TheVariants.{Whole, Diff}
-use Rattle.sd_section.specs.Header.{least_length, table_id_of, section_length_of, extension_of, number_of}
+use Rattle.sd_section.specs.Header.{least_length, table_id_of, section_length_of, extension_of, section_number_of}
 use Rattle.sd_section.specs.Header.{last_number_of, body_of}
 use Rattle.sd_message.specs.Framed.{HasSection, section_of}
-use Rattle.sd_emm.specs.Spelled.{listed, names_in}
-use Rattle.sd_emm.specs.Form.{IsCounted, nothing, AreSets, most_entries}
+use Rattle.sd_emm.specs.Spelled.{listed_entries, names_in}
+use Rattle.sd_emm.specs.Form.{IsCounted, no_entry, AreSets, most_entries}
 use Rattle.sd_emm.specs.declared.emm.Entry.{Entry}
 use Rattle.sd_emm.specs.declared.emm.Emm.{Emm}
 use Rattle.sd_emm.specs.declared.fault.EmmFault.{EmmFault}
@@ -31,16 +31,16 @@ unfoldable pub count_at : Bool → ℕ
 count_at named = if named then 30 else 26
 
 -- how many bytes of the body stand before its entries [this project, docs/FORMATS.md, Messages]
-abbrev pub head_length : Bool → ℕ
-head_length named = count_at named + 1
+abbrev pub emm_head_length : Bool → ℕ
+emm_head_length named = count_at named + 1
 
 -- the section is one of entitlements, and has room for all that stands before the entries [this project,
 -- docs/FORMATS.md, Messages]
 pub record IsEmmSection (section : List ℕ) : Type 0 where
   pub table_id : IsTable (table_id_of section)
-  pub number : number_of section ≡ 0
+  pub number : section_number_of section ≡ 0
   pub last_number : last_number_of section ≡ 0
-  pub room : head_length (is_named (table_id_of section)) + least_length ≤ section_length_of section
+  pub room : emm_head_length (is_named (table_id_of section)) + least_length ≤ section_length_of section
 
 -- the packet begins with such a section
 pub record IsEmmPacket (packet : List ℕ) : Type 0 where
@@ -48,27 +48,27 @@ pub record IsEmmPacket (packet : List ℕ) : Type 0 where
   pub emm : IsEmmSection (section_of packet)
 
 -- the name of a pair [this project, docs/FORMATS.md, Messages]
-abbrev pub name_of : ℕ → ℕ → SetName
-name_of i j = if (i == 0) && (j == 0) then Whole else Diff i j
+abbrev pub set_name_of : ℕ → ℕ → SetName
+set_name_of i j = if (i == 0) && (j == 0) then Whole else Diff i j
 
 -- an entry of 40 bytes [this project, docs/FORMATS.md, Messages]
-unfoldable pub entry_of : List ℕ → Entry
-entry_of bytes = record {
-  name = name_of (field bytes 0 32) (field bytes 32 32);
+unfoldable pub entry_in : List ℕ → Entry
+entry_in bytes = record {
+  name = set_name_of (field bytes 0 32) (field bytes 32 32);
   wrapped = slice_range bytes 8 40;
 }
 
 -- so many entries, one after the other
 abbrev pub entries_in : ℕ → List ℕ → List Entry
-entries_in n bytes = items_in entry_of 40 n bytes
+entries_in n bytes = items_in entry_in 40 n bytes
 
 -- filled up to three
-abbrev pub padded : List Entry → List Entry
-padded entries = filled most_entries nothing entries
+abbrev pub padded_entries : List Entry → List Entry
+padded_entries entries = filled most_entries no_entry entries
 
 -- the broadcast's name in a body, where it is there [this project, docs/FORMATS.md, Messages]
-unfoldable pub run_in : Bool → List ℕ → Option ℕ
-run_in named body = if named then Some (field body 208 32) else None
+unfoldable pub emm_run_in : Bool → List ℕ → Option ℕ
+emm_run_in named body = if named then Some (field body 208 32) else None
 
 -- what the section of this index and body says, which names its broadcast or doesn't [this project, docs/FORMATS.md,
 -- Messages]
@@ -79,9 +79,9 @@ emm_in named index body = record {
   sections = field body 64 16;
   index = index;
   check = slice_range body 10 26;
-  run = run_in named body;
+  run = emm_run_in named body;
   count = slice_index body (count_at named);
-  entries = padded (entries_in (slice_index body (count_at named)) (drop (head_length named) body));
+  entries = padded_entries (entries_in (slice_index body (count_at named)) (drop (emm_head_length named) body));
 }
 
 -- what a section says
@@ -105,21 +105,21 @@ with_entries emm entries = record {
 -- named, and 40 for each entry [this project, docs/FORMATS.md, Messages]
 abbrev pub HasCount : ℕ → Emm → Type 0
 HasCount length emm =
-    (length ≡ head_length (is_some emm.run) + 40 * emm.count)
+    (length ≡ emm_head_length (is_some emm.run) + 40 * emm.count)
     × IsCounted emm.sets emm.sections emm.index emm.count
 
 -- no rule is broken
 pub record IsGoodIn (h length : ℕ) (emm : Emm) : Type 0 where
   pub has_count : HasCount length emm
-  pub are_sets : AreSets h emm.sets (listed emm)
-  pub ascending : AreAscending (names_in (listed emm))
+  pub are_sets : AreSets h emm.sets (listed_entries emm)
+  pub ascending : AreAscending (names_in (listed_entries emm))
 
 -- the rule that a body of this length and its entitlements break first [this project, docs/FORMATS.md, Messages]
 abbrev pub BreaksIn : ℕ → ℕ → Emm → EmmFault → Type 0
 BreaksIn h length emm Count = ¬ HasCount length emm
-BreaksIn h length emm Node = HasCount length emm × (¬ AreSets h emm.sets (listed emm))
+BreaksIn h length emm Node = HasCount length emm × (¬ AreSets h emm.sets (listed_entries emm))
 BreaksIn h length emm Order = HasCount length emm
-    × (AreSets h emm.sets (listed emm) × (¬ AreAscending (names_in (listed emm))))
+    × (AreSets h emm.sets (listed_entries emm) × (¬ AreAscending (names_in (listed_entries emm))))
 BreaksIn h length emm Mixed = ⊥
 
 -- and that a section breaks first

@@ -3,7 +3,7 @@ use Rattle.std.specs.Prelude.{◌≡◌, ℕ, ◌-◌, ◌*◌, ◌^◌, ◌<◌
 use Rattle.sd_tree.specs.SetNames.{IsOfHeight, AreAscending}
 use Rattle.sd_tree.specs.declared.set.SetName.{SetName}
 use Rattle.sd_tree.specs.declared.set.SetName.TheVariants.{Whole}
-use Rattle.sd_emm.specs.Spelled.{listed, names_in}
+use Rattle.sd_emm.specs.Spelled.{listed_entries, names_in}
 use Rattle.sd_emm.specs.declared.emm.Entry.{Entry}
 use Rattle.sd_emm.specs.declared.emm.Emm.{Emm}
 use Rattle.sd_message.specs.Pieces.{pieces_for}
@@ -25,14 +25,14 @@ pub record IsCounted (sets sections index count : ℕ) : Type 0 where
   pub count_is : count ≡ min most_entries (sets - most_entries * index)
 
 -- what stands past the entries: the whole set with zeros
-abbrev pub nothing : Entry
-nothing = record { name = Whole; wrapped = replicate 32 0 }
+abbrev pub no_entry : Entry
+no_entry = record { name = Whole; wrapped = replicate 32 0 }
 
 -- a section's entitlements, for whatever tree [this project, docs/FORMATS.md, Messages]
 pub record IsEmm (emm : Emm) : Type 0 where
   pub counted : IsCounted emm.sets emm.sections emm.index emm.count
-  pub ascending : AreAscending (names_in (listed emm))
-  pub rest : drop emm.count emm.entries ≡ replicate (most_entries - emm.count) nothing
+  pub ascending : AreAscending (names_in (listed_entries emm))
+  pub rest : drop emm.count emm.entries ≡ replicate (most_entries - emm.count) no_entry
 
 -- a set of the height, and the whole set only alone [this project, docs/FORMATS.md, Messages]
 pub record IsSetBeside (h sets : ℕ) (name : SetName) : Type 0 where
@@ -56,8 +56,8 @@ pub record FitsHead (emm : Emm) : Type 0 where
   pub check : length emm.check ≡ 16
 
 -- the numbers and the bytes fit their fields, as those of each value of the type do
-pub record Fits (emm : Emm) : Type 0 where
+pub record FitsFields (emm : Emm) : Type 0 where
   pub head : FitsHead emm
   pub index : emm.index < 2 ^ 16
   pub entries : length emm.entries ≡ most_entries
-  pub wrapped : AreWrapped (listed emm)
+  pub wrapped : AreWrapped (listed_entries emm)

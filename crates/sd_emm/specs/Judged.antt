@@ -6,12 +6,13 @@ use Rattle.std.specs.Ordering.{is_lt}
 use Rattle.sd_tree.specs.SetNames.{set_cmp}
 use Rattle.sd_tree.specs.declared.set.SetName.{SetName}
 use Rattle.sd_tree.specs.declared.set.SetName.TheVariants.{Whole, Diff}
-use Rattle.sd_section.specs.Header.{least_length, table_id_of, section_length_of, number_of, last_number_of, body_of}
+use Rattle.sd_section.specs.Header.{least_length, table_id_of, section_length_of, section_number_of, last_number_of}
+use Rattle.sd_section.specs.Header.{body_of}
 use Rattle.sd_message.specs.Framed.{has_section, section_of}
 use Rattle.sd_message.specs.Items.{all_pairs}
-use Rattle.sd_emm.specs.Spelled.{listed, names_in}
+use Rattle.sd_emm.specs.Spelled.{listed_entries, names_in}
 use Rattle.sd_emm.specs.Form.{sections_for, most_entries}
-use Rattle.sd_emm.specs.Fields.{emm_of, is_named, head_length}
+use Rattle.sd_emm.specs.Fields.{emm_of, is_named, emm_head_length}
 use Rattle.sd_emm.specs.declared.emm.Entry.{Entry}
 use Rattle.sd_emm.specs.declared.emm.Emm.{Emm}
 use Rattle.sd_emm.specs.declared.fault.EmmFault.{EmmFault}
@@ -36,13 +37,13 @@ abbrev pub are_sets : ℕ → ℕ → List Entry → Bool
 are_sets h sets entries = list_all (λ entry. is_set_beside h sets entry.name) entries
 
 -- whether the sets are strictly ascending
-abbrev pub is_ascending : List SetName → Bool
-is_ascending names = all_pairs (λ a b. is_lt (set_cmp a b)) names
+abbrev pub is_ascending_by_set : List SetName → Bool
+is_ascending_by_set names = all_pairs (λ a b. is_lt (set_cmp a b)) names
 
 -- whether the numbers come to one another and to the length of the body [this project, docs/FORMATS.md, Messages]
 abbrev pub is_counted : ℕ → Emm → Bool
 is_counted length emm =
-    (length == head_length (is_some emm.run) + 40 * emm.count)
+    (length == emm_head_length (is_some emm.run) + 40 * emm.count)
     && ((emm.sections == sections_for emm.sets)
     && (nat_lt emm.index emm.sections && (emm.count == min most_entries (emm.sets - most_entries * emm.index))))
 
@@ -50,17 +51,17 @@ is_counted length emm =
 unfoldable pub emm_judged : ℕ → ℕ → Emm → Result (Option Emm) EmmFault
 emm_judged h length emm =
     if not (is_counted length emm) then Err Count
-    else if not (are_sets h emm.sets (listed emm)) then Err Node
-    else if not (is_ascending (names_in (listed emm))) then Err Order
+    else if not (are_sets h emm.sets (listed_entries emm)) then Err Node
+    else if not (is_ascending_by_set (names_in (listed_entries emm))) then Err Order
     else Ok (Some emm)
 
 -- whether a section is one of entitlements
 abbrev pub is_emm_section : List ℕ → Bool
 is_emm_section section =
     ((table_id_of section == 0x82) || (table_id_of section == 0x8A))
-    && ((number_of section == 0)
+    && ((section_number_of section == 0)
     && ((last_number_of section == 0)
-    && nat_le (head_length (is_named (table_id_of section)) + least_length) (section_length_of section)))
+    && nat_le (emm_head_length (is_named (table_id_of section)) + least_length) (section_length_of section)))
 
 -- whether a packet begins with such a section
 unfoldable pub has_emm : List ℕ → Bool

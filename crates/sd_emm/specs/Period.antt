@@ -3,7 +3,7 @@ use Rattle.std.specs.Prelude.{◌≡◌, ℕ, ◌^◌, ◌<◌, ◌≤◌, List,
 use Rattle.sd_tree.specs.SetNames.{AreAscending}
 use Rattle.sd_emm.specs.Spelled.{names_in}
 use Rattle.sd_emm.specs.Form.{sections_for, AreWrapped, most_entries}
-use Rattle.sd_emm.specs.Fields.{padded}
+use Rattle.sd_emm.specs.Fields.{padded_entries}
 use Rattle.sd_emm.specs.declared.emm.Entry.{Entry}
 use Rattle.sd_emm.specs.declared.emm.Emm.{Emm}
 use Rattle.sd_message.specs.Pieces.{piece_at, each_below}
@@ -31,7 +31,7 @@ emm_at period x = record {
   check = period.check;
   run = period.run;
   count = length (entries_at period.entries x);
-  entries = padded (entries_at period.entries x);
+  entries = padded_entries (entries_at period.entries x);
 }
 
 -- all sections of the period, section 0 first [this project, docs/FORMATS.md, Messages]

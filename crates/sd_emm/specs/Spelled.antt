@@ -5,7 +5,7 @@ use Rattle.sd_tree.specs.declared.set.SetName.{SetName}
 use Rattle.sd_tree.specs.declared.set.SetName.TheVariants.{Whole, Diff}
 use Rattle.sd_section.specs.Written.{section_bytes}
 use Rattle.sd_section.specs.declared.write.Header.{Header}
-use Rattle.sd_message.specs.Framed.{Begins}
+use Rattle.sd_message.specs.Framed.{BeginsWithSection}
 use Rattle.sd_emm.specs.declared.emm.Entry.{Entry}
 use Rattle.sd_emm.specs.declared.emm.Emm.{Emm}
 
@@ -16,8 +16,8 @@ table_id_for None = 0x82
 table_id_for (Some run) = 0x8A
 
 -- the entries that a section has
-abbrev pub listed : Emm → List Entry
-listed emm = take emm.count emm.entries
+abbrev pub listed_entries : Emm → List Entry
+listed_entries emm = take emm.count emm.entries
 
 -- the sets that entries name
 abbrev pub names_in : List Entry → List SetName
@@ -39,15 +39,15 @@ run_bytes (Some run) = to_be_bytes w32 run
 
 -- the period, the number of its sets, that of its sections, the check value of its key, the broadcast's name, the count
 -- of entries [this project, docs/FORMATS.md, Messages]
-unfoldable pub head_bytes : Emm → List ℕ
-head_bytes emm =
+unfoldable pub emm_head_bytes : Emm → List ℕ
+emm_head_bytes emm =
     to_be_bytes w32 emm.period
     ++ (to_be_bytes w32 emm.sets
     ++ (to_be_bytes w16 emm.sections ++ (emm.check ++ (run_bytes emm.run ++ emm.count ∷ []))))
 
 -- the section's body: its head, and one entry after the other [this project, docs/FORMATS.md, Messages]
 unfoldable pub emm_body : Emm → List ℕ
-emm_body emm = head_bytes emm ++ flat_map entry_bytes (listed emm)
+emm_body emm = emm_head_bytes emm ++ flat_map entry_bytes (listed_entries emm)
 
 -- its extension is the index, and both section numbers are 0 [this project, docs/FORMATS.md, Messages]
 abbrev pub emm_header : ℕ → ℕ → Header
@@ -58,5 +58,5 @@ unfoldable pub emm_section : Emm → List ℕ
 emm_section emm = section_bytes (emm_header (table_id_for emm.run) emm.index) (emm_body emm)
 
 -- the packet begins with that section
-abbrev pub Spells : Emm → List ℕ → Type 0
-Spells emm packet = Begins (emm_section emm) packet
+abbrev pub SpellsEmm : Emm → List ℕ → Type 0
+SpellsEmm emm packet = BeginsWithSection (emm_section emm) packet

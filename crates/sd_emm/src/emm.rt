@@ -1,5 +1,5 @@
 ghost use Rattle.std.specs.Prelude.{◌≡◌, ◌≤◌};
-ghost use Rattle.sd_emm.specs.Spelled.{listed};
+ghost use Rattle.sd_emm.specs.Spelled.{listed_entries};
 ghost use Rattle.sd_emm.specs.declared.format.TheConstants.{MOST_ENTRIES};
 
 use crate::format::MOST_ENTRIES;
@@ -45,7 +45,7 @@ impl Emm {
     /// The entries that the section has.
     pub fn listed(&self) -> &[Entry]
         requires { self.now.count ≤ MOST_ENTRIES }
-        ensures { result.now ≡ listed self.now }
+        ensures { result.now ≡ listed_entries self.now }
     {
         &self.entries[..usize::from(self.count)]
     }

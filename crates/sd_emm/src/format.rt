@@ -1,7 +1,7 @@
 //! The numbers of a section of entitlements (docs/FORMATS.md, Messages). Places are those of the body.
 
 ghost use Rattle.std.specs.Prelude.{◌≡◌, ◌≤◌, ◌+◌};
-ghost use Rattle.sd_emm.specs.Fields.{count_at as count_place, head_length as length_of_head};
+ghost use Rattle.sd_emm.specs.Fields.{count_at as count_place, emm_head_length as length_of_head};
 
 /// The table_id of a section that doesn't name its broadcast.
 pub const TABLE_ID: u8 = 0x82;

@@ -2,8 +2,8 @@
 
 ghost use Rattle.std.specs.Prelude.{◌≡◌, ◌<◌, ◌≤◌, ◌/◌, ◌%◌, ℕ, List, Ok, Some, All, length, flat_map, slice_get};
 ghost use Rattle.sd_packet.specs.Packing.{packed};
-ghost use Rattle.sd_emm.specs.Spelled.{listed, emm_section, Spells};
-ghost use Rattle.sd_emm.specs.Form.{AreSets, IsEmm, Fits, sections_for};
+ghost use Rattle.sd_emm.specs.Spelled.{listed_entries, emm_section, SpellsEmm};
+ghost use Rattle.sd_emm.specs.Form.{AreSets, IsEmm, FitsFields, sections_for};
 ghost use Rattle.sd_emm.specs.Judged.{emm_read};
 ghost use Rattle.sd_emm.specs.Period.{Period, emm_at, emms_of, IsPeriod, IsOfPeriod, SaysSame};
 ghost use Rattle.sd_emm.specs.declared.emm.Emm.{Emm};
@@ -17,7 +17,7 @@ use sd_tree::Height;
 /// What is written is read as what was written, at each height at which the entries are sets that may stand there.
 pub fn written_is_read(h: Height, emm: &Emm, pid: u16, counter: u8) -> Result<Option<Emm>, EmmFault>
     requires form { IsEmm emm.now }
-    requires sets { AreSets h emm.now.sets (listed emm.now) }
+    requires sets { AreSets h emm.now.sets (listed_entries emm.now) }
     requires pid { pid < 8192 }
     requires counter { counter < 16 }
     ensures { result ≡ Ok (Some emm.now) }
@@ -29,7 +29,7 @@ pub fn written_is_read(h: Height, emm: &Emm, pid: u16, counter: u8) -> Result<Op
 #[tactic(auto, using(crate::proofs::Reading::written_spells))]
 pub fn written_packets_spell()
     ensures { (emm : Emm) (pid counter : ℕ) → pid < 8192 → counter < 16 →
-        Spells emm (packed (emm_section emm) pid counter) }
+        SpellsEmm emm (packed (emm_section emm) pid counter) }
 {}
 
 /// A period's sections share out its sets: there are as many as have room for them, each stands at its index and says
@@ -42,26 +42,26 @@ pub fn periods_are_shared_out()
         slice_get (emms_of period) x ≡ Some (emm_at period x) }
     ensures index { (period : Period) (x : ℕ) (emm : Emm) → slice_get (emms_of period) x ≡ Some emm → emm.index ≡ x }
     ensures set { (period : Period) (k : ℕ) → k < length period.entries →
-        slice_get (listed (emm_at period (k / 3))) (k % 3) ≡ slice_get period.entries k }
-    ensures entries { (period : Period) → flat_map listed (emms_of period) ≡ period.entries }
+        slice_get (listed_entries (emm_at period (k / 3))) (k % 3) ≡ slice_get period.entries k }
+    ensures entries { (period : Period) → flat_map listed_entries (emms_of period) ≡ period.entries }
     ensures says { (period : Period) → All (IsOfPeriod period) (emms_of period) }
     ensures same { (period : Period) (x y : ℕ) (a b : Emm) → slice_get (emms_of period) x ≡ Some a →
         slice_get (emms_of period) y ≡ Some b → SaysSame a b }
-    ensures form { (period : Period) → IsPeriod period → All (λ emm. IsEmm emm × Fits emm) (emms_of period) }
+    ensures form { (period : Period) → IsPeriod period → All (λ emm. IsEmm emm × FitsFields emm) (emms_of period) }
     ensures sets { (h : ℕ) (period : Period) → AreSets h (length period.entries) period.entries →
-        All (λ emm. AreSets h emm.sets (listed emm)) (emms_of period) }
+        All (λ emm. AreSets h emm.sets (listed_entries emm)) (emms_of period) }
 {}
 
 /// The reader as a function: each packet that begins with the section of entitlements in their form is read as them, at
 /// each height at which their sets may stand, and what is read is in its form.
 #[tactic(auto, using(crate::proofs::Deciding::spelled_reads, crate::proofs::Deciding::packed_reads))]
 pub fn spelled_entitlements_are_read()
-    ensures spelled { (h : ℕ) (emm : Emm) (packet : List ℕ) → h ≤ 20 → Fits emm → IsEmm emm →
-        AreSets h emm.sets (listed emm) →
-        Spells emm packet → emm_read h packet ≡ Ok (Some emm) }
-    ensures packed { (h : ℕ) (emm : Emm) (pid counter : ℕ) → h ≤ 20 → Fits emm → IsEmm emm →
-        AreSets h emm.sets (listed emm) →
+    ensures spelled { (h : ℕ) (emm : Emm) (packet : List ℕ) → h ≤ 20 → FitsFields emm → IsEmm emm →
+        AreSets h emm.sets (listed_entries emm) →
+        SpellsEmm emm packet → emm_read h packet ≡ Ok (Some emm) }
+    ensures packed { (h : ℕ) (emm : Emm) (pid counter : ℕ) → h ≤ 20 → FitsFields emm → IsEmm emm →
+        AreSets h emm.sets (listed_entries emm) →
         pid < 8192 → counter < 16 → emm_read h (packed (emm_section emm) pid counter) ≡ Ok (Some emm) }
     ensures form { (h : ℕ) (packet : List ℕ) (emm : Emm) → emm_read h packet ≡ Ok (Some emm) →
-        IsEmm emm × AreSets h emm.sets (listed emm) }
+        IsEmm emm × AreSets h emm.sets (listed_entries emm) }
 {}

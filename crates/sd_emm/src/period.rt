@@ -1,7 +1,7 @@
 ghost use Rattle.std.specs.Prelude.{◌≡◌, ◌<◌, ◌≤◌, Some, length, slice_get};
 ghost use Rattle.sd_emm.specs.Spelled.{names_in};
 ghost use Rattle.sd_emm.specs.Form.{IsEmm, sections_for};
-ghost use Rattle.sd_emm.specs.Fields.{padded};
+ghost use Rattle.sd_emm.specs.Fields.{padded_entries};
 ghost use Rattle.sd_emm.specs.Period.{entries_at, emms_of};
 ghost use Rattle.sd_tree.specs.SetNames.{AreAscending};
 ghost use Rattle.sd_emm.specs.declared.format.TheConstants.{MOST_ENTRIES, MOST_SETS};
@@ -63,7 +63,7 @@ fn entries_of(entries: &[Entry], index: u16) -> &[Entry]
 // Filled up to three.
 fn filled_up(own: &[Entry]) -> [Entry; MOST_ENTRIES]
     requires { length own.now ≤ MOST_ENTRIES }
-    ensures { result ≡ padded own.now }
+    ensures { result ≡ padded_entries own.now }
 {
     let mut entries = [NOTHING; MOST_ENTRIES];
     entries[..own.len()].copy_from_slice(own);

@@ -2,11 +2,13 @@ ghost use Rattle.std.specs.Prelude.{◌≡◌, ◌+◌, ◌*◌, ◌≤◌, ◌�
 ghost use Rattle.std.specs.Prelude.{IfOk, IfErr, IfSome, is_some, slice_index, ◌<◌, length, replicate};
 ghost use Rattle.sd_section.specs.Header.{table_id_of, extension_of, body_of};
 ghost use Rattle.sd_section.specs.Written.{section_bytes};
-ghost use Rattle.sd_message.specs.Framed.{section_of, Begins};
-ghost use Rattle.sd_emm.specs.Spelled.{listed, emm_header, emm_body, Spells};
-ghost use Rattle.sd_emm.specs.Form.{Fits, IsCounted, IsSetBeside, AreSets, IsEmm, nothing};
-ghost use Rattle.sd_emm.specs.Fields.{IsTable, IsEmmSection, IsEmmPacket, name_of, entry_of, entries_in, padded};
-ghost use Rattle.sd_emm.specs.Fields.{is_named as is_named_table, head_length as length_of_head, run_in as run_of};
+ghost use Rattle.sd_message.specs.Framed.{section_of, BeginsWithSection};
+ghost use Rattle.sd_emm.specs.Spelled.{listed_entries, emm_header, emm_body, SpellsEmm};
+ghost use Rattle.sd_emm.specs.Form.{FitsFields, IsCounted, IsSetBeside, AreSets, IsEmm, no_entry};
+ghost use Rattle.sd_emm.specs.Fields.{IsTable, IsEmmSection, IsEmmPacket, set_name_of, entry_in, entries_in};
+ghost use Rattle.sd_emm.specs.Fields.{padded_entries};
+ghost use Rattle.sd_emm.specs.Fields.{is_named as is_named_table, emm_head_length as length_of_head};
+ghost use Rattle.sd_emm.specs.Fields.{emm_run_in as run_of};
 ghost use Rattle.sd_emm.specs.Fields.{emm_in};
 ghost use Rattle.sd_emm.specs.Fields.{with_entries, IsGoodIn, BreaksIn, BreaksFirst};
 ghost use Rattle.sd_emm.specs.Judged.{emm_read};
@@ -35,8 +37,9 @@ pub fn read_emm(h: Height, packet: &Packet) -> Result<Option<Emm>, EmmFault>
         (result ≡ Err fault) ↔ (IsEmmPacket packet.now × BreaksFirst h (section_of packet.now) fault) }
     ensures value { result ≡ emm_read h packet.now }
     ensures sound { IfOk result (λ read. IfSome read (λ emm.
-        Spells emm packet.now × (IsEmm emm × AreSets h emm.sets (listed emm)))) }
-    ensures complete { (emm : Emm) → Fits emm → IsEmm emm → AreSets h emm.sets (listed emm) → Spells emm packet.now →
+        SpellsEmm emm packet.now × (IsEmm emm × AreSets h emm.sets (listed_entries emm)))) }
+    ensures complete { (emm : Emm) → FitsFields emm → IsEmm emm → AreSets h emm.sets (listed_entries emm) →
+        SpellsEmm emm packet.now →
         result ≡ Ok (Some emm) }
 {
     let Some(section) = emm_section_in(packet) else {
@@ -52,7 +55,7 @@ pub fn read_emm(h: Height, packet: &Packet) -> Result<Option<Emm>, EmmFault>
 fn emm_section_in(packet: &Packet) -> Option<Section<'_>>
     ensures some { IsSome result ↔ IsEmmPacket packet.now }
     ensures value { IfSome result (λ section. section.bytes.now ≡ section_of packet.now) }
-    ensures begins { IfSome result (λ section. Begins section.bytes.now packet.now) }
+    ensures begins { IfSome result (λ section. BeginsWithSection section.bytes.now packet.now) }
     ensures spelled { IfSome result (λ section.
         section.bytes.now ≡ section_bytes
         (emm_header (table_id_of section.bytes.now) (extension_of section.bytes.now)) (body_of section.bytes.now)) }
@@ -116,7 +119,7 @@ fn read_body(h: Height, named: bool, index: u16, body: &[u8]) -> Result<Emm, Emm
 #[tactic(auto, unfolding(crate::specs::Fields::emm_in))]
 fn read_head(named: bool, index: u16, body: &[u8]) -> Emm
     requires { length_of_head named ≤ length body.now }
-    ensures { result ≡ with_entries (emm_in named index body.now) (replicate MOST_ENTRIES nothing) }
+    ensures { result ≡ with_entries (emm_in named index body.now) (replicate MOST_ENTRIES no_entry) }
 {
     let count_at = count_at(named);
     fields! { body; period: 0, 32; sets: 32, 32; sections: 64, 16; }
@@ -135,7 +138,7 @@ fn read_head(named: bool, index: u16, body: &[u8]) -> Emm
 }
 
 // The broadcast's name, where it is there.
-#[tactic(auto, unfolding(crate::specs::Fields::run_in, crate::specs::Fields::count_at))]
+#[tactic(auto, unfolding(crate::specs::Fields::emm_run_in, crate::specs::Fields::count_at))]
 fn run_in(named: bool, body: &[u8]) -> Option<u32>
     requires { length_of_head named ≤ length body.now }
     ensures { result ≡ run_of named body.now }
@@ -171,7 +174,7 @@ fn is_counted(emm: &Emm, length: usize) -> bool
 fn read_entries(h: Height, sets: u32, count: usize, bytes: &[u8]) -> Option<[Entry; MOST_ENTRIES]>
     requires few { count ≤ MOST_ENTRIES }
     requires room { length bytes.now ≡ ENTRY_BYTES * count }
-    ensures value { IfSome result (λ entries. entries ≡ padded (entries_in count bytes.now)) }
+    ensures value { IfSome result (λ entries. entries ≡ padded_entries (entries_in count bytes.now)) }
     ensures sets { IsSome result ↔ AreSets h sets (entries_in count bytes.now) }
 {
     let mut entries = [NOTHING; MOST_ENTRIES];
@@ -186,11 +189,11 @@ fn read_entries(h: Height, sets: u32, count: usize, bytes: &[u8]) -> Option<[Ent
 }
 
 // An entry, where it is a set that may stand there.
-#[tactic(auto, unfolding(crate::specs::Fields::entry_of))]
+#[tactic(auto, unfolding(crate::specs::Fields::entry_in))]
 fn read_entry(h: Height, sets: u32, bytes: &[u8]) -> Option<Entry>
     requires { length bytes.now ≡ ENTRY_BYTES }
-    ensures value { IfSome result (λ entry. entry ≡ entry_of bytes.now) }
-    ensures set { IsSome result ↔ IsSetBeside h sets (entry_of bytes.now).name }
+    ensures value { IfSome result (λ entry. entry ≡ entry_in bytes.now) }
+    ensures set { IsSome result ↔ IsSetBeside h sets (entry_in bytes.now).name }
 {
     fields! { bytes; i: 0, 32; j: 32, 32; }
     let name = name_in(h, sets, i as u32, j as u32)?;
@@ -202,8 +205,8 @@ fn read_entry(h: Height, sets: u32, bytes: &[u8]) -> Option<Entry>
 // The set of this pair, where it may stand there.
 #[tactic(auto, using(crate::proofs::Names::named, crate::proofs::Names::not_named))]
 fn name_in(h: Height, sets: u32, i: u32, j: u32) -> Option<SetName>
-    ensures value { IfSome result (λ name. name ≡ name_of i j) }
-    ensures set { IsSome result ↔ IsSetBeside h sets (name_of i j) }
+    ensures value { IfSome result (λ name. name ≡ set_name_of i j) }
+    ensures set { IsSome result ↔ IsSetBeside h sets (set_name_of i j) }
 {
     let name = SetName::new(h, i, j)?;
     if matches!(name, SetName::Whole) && sets > 1 {

@@ -1,11 +1,11 @@
 ghost use Rattle.std.specs.Prelude.{◌≡◌, ◌^◌, ◌<◌, ◌≤◌, ◌+◌, ◌*◌, ◌++◌, length, take, is_some, IfSome};
 ghost use Rattle.std.specs.Int.{w32, to_be_bytes};
 ghost use Rattle.sd_packet.specs.Packing.{packed};
-ghost use Rattle.sd_emm.specs.Spelled.{listed, entry_bytes, name_bytes, run_bytes, head_bytes};
+ghost use Rattle.sd_emm.specs.Spelled.{listed_entries, entry_bytes, name_bytes, run_bytes, emm_head_bytes};
 ghost use Rattle.sd_emm.specs.Spelled.{emm_body, emm_section, table_id_for};
-ghost use Rattle.sd_emm.specs.Fields.{head_length, count_at as count_place};
+ghost use Rattle.sd_emm.specs.Fields.{emm_head_length, count_at as count_place};
 ghost use Rattle.sd_emm.specs.declared.format.TheConstants.{MOST_ENTRIES, ENTRY_BYTES};
-ghost use Rattle.sd_emm.specs.Form.{AreWrapped, FitsHead, Fits, IsEmm};
+ghost use Rattle.sd_emm.specs.Form.{AreWrapped, FitsHead, FitsFields, IsEmm};
 
 use crate::emm::{Emm, Entry};
 use crate::format::{NAMED_TABLE_ID, TABLE_ID};
@@ -21,7 +21,7 @@ pub fn write_emm(emm: &Emm, pid: u16, counter: u8) -> Packet
     requires pid { pid < 8192 }
     requires counter { counter < 16 }
     ensures value { result ≡ packed (emm_section emm.now) pid counter }
-    ensures fits { Fits emm.now }
+    ensures fits { FitsFields emm.now }
 {
     let header = Header {
         table_id: table_id_of(emm.run),
@@ -47,10 +47,10 @@ fn table_id_of(run: Option<u32>) -> u8
 fn body_of(emm: &Emm) -> Body
     requires { emm.now.count ≤ MOST_ENTRIES }
     ensures value { result ≡ emm_body emm.now }
-    ensures length { length result ≡ head_length (is_some emm.now.run) + ENTRY_BYTES * emm.now.count }
+    ensures length { length result ≡ emm_head_length (is_some emm.now.run) + ENTRY_BYTES * emm.now.count }
     ensures few { length result ≤ 151 }
     ensures head { FitsHead emm.now }
-    ensures wrapped { AreWrapped (listed emm.now) }
+    ensures wrapped { AreWrapped (listed_entries emm.now) }
 {
     let mut body = head_of(emm);
     for k in 0..usize::from(emm.count) {
@@ -60,10 +60,10 @@ fn body_of(emm: &Emm) -> Body
 }
 
 // The body before its entries.
-#[tactic(auto, unfolding(crate::specs::Spelled::head_bytes))]
+#[tactic(auto, unfolding(crate::specs::Spelled::emm_head_bytes))]
 fn head_of(emm: &Emm) -> Body
-    ensures value { result ≡ head_bytes emm.now }
-    ensures length { length result ≡ head_length (is_some emm.now.run) }
+    ensures value { result ≡ emm_head_bytes emm.now }
+    ensures length { length result ≡ emm_head_length (is_some emm.now.run) }
     ensures few { length result ≤ 31 }
     ensures fits { FitsHead emm.now }
 {

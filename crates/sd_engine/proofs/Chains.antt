@@ -4,7 +4,7 @@ use Rattle.std.proofs.Common.{append_assoc, append-nil, length-append}
 use Rattle.std.specs.Prelude.{Option, None, Some}
 use Rattle.std.proofs.KnownBytes.{Appends-trans, Appends-nil}
 use Rattle.sd_ports.specs.Rooms.{HasTaken}
-use Rattle.sd_engine.specs.Stage.{Vessel, Grew, Chain, all_from, all_steps}
+use Rattle.sd_engine.specs.Stage.{SinkState, HasGrown, Chain, all_from, all_steps}
 
 -- one packet more at the end of a chain
 pub chain_on : {S : Type 0} (does : S → List ℕ → S → List ℕ → ℕ → Type 0) (s : S) (ps : List (List ℕ)) (mid : S)
@@ -42,9 +42,9 @@ taken_on (Some room) b c n m p q =
     (omega (arith, p.0, then.0), then.1 ∙ ap (λ (k : ℕ). Some k) same)
 
 -- a sink that grew and grew again grew by both
-pub grew_on : (P Q R : List ℕ → ℕ → Type 0) (u v w : Vessel) (i j k : ℕ)
+pub grew_on : (P Q R : List ℕ → ℕ → Type 0) (u v w : SinkState) (i j k : ℕ)
     → ((a b : List ℕ) (n m : ℕ) → P a n → Q b m → R (a ++ b) (n + m))
-    → Grew u v i j P → Grew v w j k Q → Grew u w i k R
+    → HasGrown u v i j P → HasGrown v w j k Q → HasGrown u w i k R
 grew_on P Q R u v w i j k both first then = record {
   bytes = first.bytes ++ then.bytes;
   steps = first.steps + then.steps;
@@ -56,7 +56,7 @@ grew_on P Q R u v w i j k both first then = record {
 }
 
 -- where nothing is written and no step is taken
-pub grew_none : (P : List ℕ → ℕ → Type 0) (u : Vessel) (i : ℕ) → P [] 0 → Grew u u i i P
+pub grew_none : (P : List ℕ → ℕ → Type 0) (u : SinkState) (i : ℕ) → P [] 0 → HasGrown u u i i P
 grew_none P u i says = record {
   bytes = [];
   steps = 0;

@@ -12,23 +12,25 @@ use Rattle.sd_ports.specs.Bytes.{LosesPrefix}
 use Rattle.sd_engine.specs.declared.fault.BreakCause.{BreakCause}
 use Rattle.sd_engine.specs.declared.fault.BreakCause.TheVariants.{Torn, NoSync}
 use Rattle.sd_engine.specs.Stream.{ArePackets, pieces, packets_of, break_after}
-use Rattle.sd_engine.specs.Stage.{Vessel, Grew, CutShort, IsAllowed, Chain}
-use Rattle.sd_engine.specs.Feeding.{Reads, GivesPacket, GivesNone, Takes, IsBroken, Stops}
+use Rattle.sd_engine.specs.Stage.{SinkState, HasGrown, IsCutShort, IsAllowed, Chain}
+use Rattle.sd_engine.specs.Feeding.{ReadsMore, GivesPacket, GivesNone, TakesPacket, IsBroken, FeedStop}
 use Rattle.sd_engine.specs.declared.feed.FeedFault.{FeedFault}
 use Rattle.sd_engine.specs.declared.feed.FeedFault.TheVariants.{Read, Break}
-use Rattle.sd_engine.specs.Driving.{Moment, moment, IsUnderWay, IsWhole, Closes, Passes, IsStopped, IsStreamBroken}
+use Rattle.sd_engine.specs.Driving.{DriveState, moment, IsUnderWay, IsWhole, ChainToEnd, PassesPackets, IsStopped}
+use Rattle.sd_engine.specs.Driving.{IsStreamBroken}
 use Rattle.sd_engine.specs.declared.stage.StageFault.{StageFault}
 use Rattle.sd_engine.specs.declared.stage.StageFault.TheVariants.{Write, Refused as StageRefused}
 use Rattle.sd_engine.specs.declared.driver.DriveFault.{DriveFault}
 use Rattle.sd_engine.specs.declared.driver.DriveFault.TheVariants.{Broken, TooLong, ReadFault, WriteFault, Refused}
-use Rattle.sd_engine.specs.Driving.{Drives, IsClosed, stopped_by, broken_by, overrun_by, IsRefused, Refuses, IsCutOff}
+use Rattle.sd_engine.specs.Driving.{DriveOutcome, IsClosed, stopped_by, broken_by, overrun_by, IsRefused}
+use Rattle.sd_engine.specs.Driving.{ChainToRefusal, IsCutOff}
 use Rattle.sd_engine.specs.Driving.{IsAllowedAt, IsTooLong, most_packets}
 use Rattle.sd_engine.proofs.Walking.{all_counted, all_taken, none_broken, torn_here, no_sync_here}
 use Rattle.sd_engine.proofs.Starts.{packets_first, break_first, packets_on, pieces_on}
 use Rattle.sd_engine.proofs.Chains.{chain_on, grew_on, grew_none}
 
 -- no packet was taken, and nothing waits
-pub not_begun : {S : Type 0} (does : S → List ℕ → S → List ℕ → ℕ → Type 0) (a : Moment S) (waiting : List ℕ) →
+pub not_begun : {S : Type 0} (does : S → List ℕ → S → List ℕ → ℕ → Type 0) (a : DriveState S) (waiting : List ℕ) →
     waiting ≡ [] → IsUnderWay does a a 0 waiting
 unfolding pieces
 not_begun does a waiting nothing = record {
@@ -39,7 +41,7 @@ not_begun does a waiting nothing = record {
 }
 
 -- the bytes that were read before, and those that were read after
-reads_on : (a b c : Option (List ℕ)) (taken old new : List ℕ) → Consumes a b (taken ++ old) → Reads b c old new →
+reads_on : (a b c : Option (List ℕ)) (taken old new : List ℕ) → Consumes a b (taken ++ old) → ReadsMore b c old new →
     Consumes a c (taken ++ new)
 reads_on a b c taken old new before reads =
     subst (Consumes a c)
@@ -47,11 +49,11 @@ reads_on a b c taken old new before reads =
     (Consumes-trans a b c (taken ++ old) reads.bytes before reads.consumed)
 
 -- one packet more
-pub one_more : {S : Type 0} (does : S → List ℕ → S → List ℕ → ℕ → Type 0) (a : Moment S)
-    (left left' : Option (List ℕ)) (sink sink' : Vessel) (stage stage' : S) (steps steps' count : ℕ)
+pub one_more : {S : Type 0} (does : S → List ℕ → S → List ℕ → ℕ → Type 0) (a : DriveState S)
+    (left left' : Option (List ℕ)) (sink sink' : SinkState) (stage stage' : S) (steps steps' count : ℕ)
     (old new packet : List ℕ)
     → IsUnderWay does a (moment left sink stage steps) count old → GivesPacket left left' old new packet
-    → Grew sink sink' steps steps' (does stage packet stage')
+    → HasGrown sink sink' steps steps' (does stage packet stage')
     → IsUnderWay does a (moment left' sink' stage' steps') (count + 1) new
 one_more does a left left' sink sink' stage stage' steps steps' count old new packet way gives grew =
     let more : count + 1 ≡ suc count = omega arith in
@@ -60,7 +62,7 @@ one_more does a left left' sink sink' stage stage' steps steps' count old new pa
       packets = packets_on count way.taken packet way.packets gives.long gives.sync;
       read = subst (Consumes a.left left') (sym (append_assoc way.taken packet new))
           (reads_on a.left left left' way.taken old (packet ++ new) way.read gives.read);
-      passed = subst (λ (ps : List (List ℕ)). Grew a.sink sink' a.steps steps' (Chain does a.stage ps stage'))
+      passed = subst (λ (ps : List (List ℕ)). HasGrown a.sink sink' a.steps steps' (Chain does a.stage ps stage'))
           (sym (ap (λ (n : ℕ). pieces n (way.taken ++ packet)) more ∙ pieces_on count way.taken packet way.packets
           gives.long))
           (grew_on (Chain does a.stage (pieces count way.taken) stage) (does stage packet stage')
@@ -71,10 +73,11 @@ one_more does a left left' sink sink' stage stage' steps steps' count old new pa
 
 -- the end of a whole stream
 pub all_driven : {S : Type 0} (does : S → List ℕ → S → List ℕ → ℕ → Type 0) (ends : S → S → List ℕ → ℕ → Type 0)
-    (a : Moment S)
-    (left left' : Option (List ℕ)) (sink sink' : Vessel) (stage stage' : S) (steps steps' count : ℕ) (old new : List ℕ)
+    (a : DriveState S)
+    (left left' : Option (List ℕ)) (sink sink' : SinkState) (stage stage' : S) (steps steps' count : ℕ)
+    (old new : List ℕ)
     → IsUnderWay does a (moment left sink stage steps) count old → GivesNone left left' old new
-    → Grew sink sink' steps steps' (ends stage stage') → count ≤ most_packets
+    → HasGrown sink sink' steps steps' (ends stage stage') → count ≤ most_packets
     → IsWhole does ends a (moment left' sink' stage' steps') count
 all_driven does ends a left left' sink sink' stage stage' steps steps' count old new way gives grew few =
     let whole = all_taken count way.taken way.packets in
@@ -87,10 +90,10 @@ all_driven does ends a left left' sink sink' stage stage' steps steps' count old
       counted = sym (ap (λ (ps : List (List ℕ)). length ps) whole ∙ all_counted count way.taken);
       few = few;
       long = way.packets.long;
-      passed = subst (λ (ps : List (List ℕ)). Grew a.sink sink' a.steps steps' (Closes does ends a.stage ps stage'))
-          (sym whole)
+      passed = subst (λ (ps : List (List ℕ)).
+          HasGrown a.sink sink' a.steps steps' (ChainToEnd does ends a.stage ps stage')) (sym whole)
           (grew_on (Chain does a.stage (pieces count way.taken) stage) (ends stage stage')
-          (Closes does ends a.stage (pieces count way.taken) stage') a.sink sink sink' a.steps steps steps'
+          (ChainToEnd does ends a.stage (pieces count way.taken) stage') a.sink sink sink' a.steps steps steps'
           (λ x y n m first last. (stage, x, y, n, m, first, last, refl, refl))
           way.passed grew);
     }
@@ -111,8 +114,8 @@ prefix_of count taken rest are =
     )
 
 -- a read failed
-pub read_failed : {S : Type 0} (does : S → List ℕ → S → List ℕ → ℕ → Type 0) (a : Moment S)
-    (left left' : Option (List ℕ)) (sink : Vessel) (stage : S) (steps count : ℕ) (old : List ℕ)
+pub read_failed : {S : Type 0} (does : S → List ℕ → S → List ℕ → ℕ → Type 0) (a : DriveState S)
+    (left left' : Option (List ℕ)) (sink : SinkState) (stage : S) (steps count : ℕ) (old : List ℕ)
     → IsUnderWay does a (moment left sink stage steps) count old → LosesPrefix left left' → count ≤ most_packets
     → (n : ℕ) × IsStopped does a (moment left' sink stage steps) n
 read_failed does a left left' sink stage steps count old way lost few =
@@ -124,19 +127,19 @@ read_failed does a left left' sink stage steps count old way lost few =
             (record { bytes = lost.0; consumed = lost.1; joined = refl });
         enough = prefix.1;
         few = few;
-        passed = subst (λ (ps : List (List ℕ)). Passes does a ps (moment left' sink stage steps)) (sym prefix.0)
+        passed = subst (λ (ps : List (List ℕ)). PassesPackets does a ps (moment left' sink stage steps)) (sym prefix.0)
             way.passed;
       },
     )
 
 -- what is left is no packet
-break_here : (count : ℕ) (rest : List ℕ) (cause : BreakCause) → Takes rest (Err cause) →
+break_here : (count : ℕ) (rest : List ℕ) (cause : BreakCause) → TakesPacket rest (Err cause) →
     (packets_of rest ≡ []) × (break_after count rest ≡ Some (record { packet = count; cause = cause }))
 break_here count rest Torn takes = torn_here rest count takes.0 takes.1
 break_here count rest NoSync takes = no_sync_here rest count takes.0 takes.1
 
-pub stream_broken : {S : Type 0} (does : S → List ℕ → S → List ℕ → ℕ → Type 0) (a : Moment S)
-    (left left' : Option (List ℕ)) (sink : Vessel) (stage : S) (steps count : ℕ) (old : List ℕ) (cause : BreakCause)
+pub stream_broken : {S : Type 0} (does : S → List ℕ → S → List ℕ → ℕ → Type 0) (a : DriveState S)
+    (left left' : Option (List ℕ)) (sink : SinkState) (stage : S) (steps count : ℕ) (old : List ℕ) (cause : BreakCause)
     → IsUnderWay does a (moment left sink stage steps) count old → IsBroken left left' old cause → count < most_packets
     → IsStreamBroken does a (moment left' sink stage steps) (record { packet = count; cause = cause })
 stream_broken does a left left' sink stage steps count old cause way found few =
@@ -152,7 +155,8 @@ stream_broken does a left left' sink stage steps count old cause way found few =
           ∙ (ap (λ (n : ℕ). break_after n found.left) (let none : 0 + count ≡ count = omega arith in none) ∙ here.1);
       counted = sym (ap (λ (ps : List (List ℕ)). length ps) all ∙ all_counted count way.taken);
       few = few;
-      passed = subst (λ (ps : List (List ℕ)). Passes does a ps (moment left' sink stage steps)) (sym all) way.passed;
+      passed = subst (λ (ps : List (List ℕ)).
+          PassesPackets does a ps (moment left' sink stage steps)) (sym all) way.passed;
     }
 
 -- a packet by itself
@@ -197,11 +201,11 @@ read_to_packet a left left' taken old new packet before gives = reads_on a left 
 
 -- the stage refused a packet
 pub packet_refused : {S F : Type 0} (does : S → List ℕ → S → List ℕ → ℕ → Type 0)
-    (refuses : S → Option (List ℕ) → F → S → List ℕ → ℕ → Type 0) (a : Moment S)
-    (left left' : Option (List ℕ)) (sink sink' : Vessel) (stage stage' : S) (steps steps' count : ℕ)
+    (refuses : S → Option (List ℕ) → F → S → List ℕ → ℕ → Type 0) (a : DriveState S)
+    (left left' : Option (List ℕ)) (sink sink' : SinkState) (stage stage' : S) (steps steps' count : ℕ)
     (old new packet : List ℕ) (fault : F)
     → IsUnderWay does a (moment left sink stage steps) count old → GivesPacket left left' old new packet
-    → Grew sink sink' steps steps' (refuses stage (Some packet) fault stage') → count < most_packets
+    → HasGrown sink sink' steps steps' (refuses stage (Some packet) fault stage') → count < most_packets
     → IsRefused does refuses a (moment left' sink' stage' steps') fault
 packet_refused does refuses a left left' sink sink' stage stage' steps steps' count old new packet fault way gives grew
     few =
@@ -219,15 +223,15 @@ packet_refused does refuses a left left' sink sink' stage stage' steps steps' co
             (omega (arith, e, here.1));
       };
       passed =
-          subst (λ (p : Option (List ℕ)). Grew a.sink sink' a.steps steps'
-          (Refuses does refuses a.stage (take count (packets_of (way.taken ++ (packet ++ new)))) p fault stage'))
+          subst (λ (p : Option (List ℕ)). HasGrown a.sink sink' a.steps steps'
+          (ChainToRefusal does refuses a.stage (take count (packets_of (way.taken ++ (packet ++ new)))) p fault stage'))
           (sym here.0)
-          (subst (λ (ps : List (List ℕ)). Grew a.sink sink' a.steps steps'
-          (Refuses does refuses a.stage ps (Some packet) fault stage'))
+          (subst (λ (ps : List (List ℕ)). HasGrown a.sink sink' a.steps steps'
+          (ChainToRefusal does refuses a.stage ps (Some packet) fault stage'))
           (sym prefix.0)
           (grew_on (Chain does a.stage (pieces count way.taken) stage) (refuses stage (Some packet) fault stage')
-          (Refuses does refuses a.stage (pieces count way.taken) (Some packet) fault stage') a.sink sink sink' a.steps
-          steps steps'
+          (ChainToRefusal does refuses a.stage (pieces count way.taken) (Some packet) fault stage') a.sink sink sink'
+          a.steps steps steps'
           (λ x y n m first last. (stage, x, y, n, m, first, last, refl, refl))
           way.passed grew));
     }
@@ -247,11 +251,11 @@ all_of count taken are =
 
 -- the stage refused the end
 pub end_refused : {S F : Type 0} (does : S → List ℕ → S → List ℕ → ℕ → Type 0)
-    (refuses : S → Option (List ℕ) → F → S → List ℕ → ℕ → Type 0) (a : Moment S)
-    (left left' : Option (List ℕ)) (sink sink' : Vessel) (stage stage' : S) (steps steps' count : ℕ) (old new : List ℕ)
-    (fault : F)
+    (refuses : S → Option (List ℕ) → F → S → List ℕ → ℕ → Type 0) (a : DriveState S)
+    (left left' : Option (List ℕ)) (sink sink' : SinkState) (stage stage' : S) (steps steps' count : ℕ)
+    (old new : List ℕ) (fault : F)
     → IsUnderWay does a (moment left sink stage steps) count old → GivesNone left left' old new
-    → Grew sink sink' steps steps' (refuses stage None fault stage') → count ≤ most_packets
+    → HasGrown sink sink' steps steps' (refuses stage None fault stage') → count ≤ most_packets
     → IsRefused does refuses a (moment left' sink' stage' steps') fault
 end_refused does refuses a left left' sink sink' stage stage' steps steps' count old new fault way gives grew few =
     let all = all_of count way.taken way.packets in
@@ -267,25 +271,25 @@ end_refused does refuses a left left' sink sink' stage stage' steps steps' count
         end = λ e. (gives.end, none_broken count way.taken way.packets, way.packets.long);
       };
       passed =
-          subst (λ (p : Option (List ℕ)). Grew a.sink sink' a.steps steps'
-          (Refuses does refuses a.stage (take count (packets_of way.taken)) p fault stage')) (sym all.1)
-          (subst (λ (ps : List (List ℕ)). Grew a.sink sink' a.steps steps'
-          (Refuses does refuses a.stage ps None fault stage'))
+          subst (λ (p : Option (List ℕ)). HasGrown a.sink sink' a.steps steps'
+          (ChainToRefusal does refuses a.stage (take count (packets_of way.taken)) p fault stage')) (sym all.1)
+          (subst (λ (ps : List (List ℕ)). HasGrown a.sink sink' a.steps steps'
+          (ChainToRefusal does refuses a.stage ps None fault stage'))
           (sym all.0)
           (grew_on (Chain does a.stage (pieces count way.taken) stage) (refuses stage None fault stage')
-          (Refuses does refuses a.stage (pieces count way.taken) None fault stage') a.sink sink sink' a.steps steps
-          steps'
+          (ChainToRefusal does refuses a.stage (pieces count way.taken) None fault stage') a.sink sink sink' a.steps
+          steps steps'
           (λ x y n m first last. (stage, x, y, n, m, first, last, refl, refl))
           way.passed grew));
     }
 
 -- a write failed at a packet
 pub packet_cut : {S F : Type 0} (does : S → List ℕ → S → List ℕ → ℕ → Type 0) (ends : S → S → List ℕ → ℕ → Type 0)
-    (refuses : S → Option (List ℕ) → F → S → List ℕ → ℕ → Type 0) (a : Moment S)
-    (left left' : Option (List ℕ)) (sink sink' : Vessel) (stage stage' : S) (steps steps' count : ℕ)
+    (refuses : S → Option (List ℕ) → F → S → List ℕ → ℕ → Type 0) (a : DriveState S)
+    (left left' : Option (List ℕ)) (sink sink' : SinkState) (stage stage' : S) (steps steps' count : ℕ)
     (old new packet : List ℕ)
     → IsUnderWay does a (moment left sink stage steps) count old → GivesPacket left left' old new packet
-    → CutShort sink sink' (IsAllowed (does stage packet) (refuses stage (Some packet)) steps steps') →
+    → IsCutShort sink sink' (IsAllowed (does stage packet) (refuses stage (Some packet)) steps steps') →
     count < most_packets
     → IsCutOff does ends refuses a (moment left' sink' stage' steps')
 packet_cut does ends refuses a left left' sink sink' stage stage' steps steps' count old new packet way gives cut few =
@@ -303,18 +307,19 @@ packet_cut does ends refuses a left left' sink sink' stage stage' steps steps' c
             (omega (arith, e, here.1));
       };
       mid = moment left sink stage steps;
-      passed = subst (λ (ps : List (List ℕ)). Passes does a ps (moment left sink stage steps)) (sym prefix.0)
+      passed = subst (λ (ps : List (List ℕ)). PassesPackets does a ps (moment left sink stage steps)) (sym prefix.0)
           way.passed;
-      cut = subst (λ (p : Option (List ℕ)). CutShort sink sink' (IsAllowedAt does ends refuses stage p steps steps'))
+      cut = subst (λ (p : Option (List ℕ)). IsCutShort sink sink' (IsAllowedAt does ends refuses stage p steps steps'))
           (sym here.0) cut;
     }
 
 -- a write failed at the end
 pub end_cut : {S F : Type 0} (does : S → List ℕ → S → List ℕ → ℕ → Type 0) (ends : S → S → List ℕ → ℕ → Type 0)
-    (refuses : S → Option (List ℕ) → F → S → List ℕ → ℕ → Type 0) (a : Moment S)
-    (left left' : Option (List ℕ)) (sink sink' : Vessel) (stage stage' : S) (steps steps' count : ℕ) (old new : List ℕ)
+    (refuses : S → Option (List ℕ) → F → S → List ℕ → ℕ → Type 0) (a : DriveState S)
+    (left left' : Option (List ℕ)) (sink sink' : SinkState) (stage stage' : S) (steps steps' count : ℕ)
+    (old new : List ℕ)
     → IsUnderWay does a (moment left sink stage steps) count old → GivesNone left left' old new
-    → CutShort sink sink' (IsAllowed (ends stage) (refuses stage None) steps steps') → count ≤ most_packets
+    → IsCutShort sink sink' (IsAllowed (ends stage) (refuses stage None) steps steps') → count ≤ most_packets
     → IsCutOff does ends refuses a (moment left' sink' stage' steps')
 end_cut does ends refuses a left left' sink sink' stage stage' steps steps' count old new way gives cut few =
     let all = all_of count way.taken way.packets in
@@ -330,15 +335,17 @@ end_cut does ends refuses a left left' sink sink' stage stage' steps steps' coun
         end = λ e. (gives.end, none_broken count way.taken way.packets, way.packets.long);
       };
       mid = moment left sink stage steps;
-      passed = subst (λ (ps : List (List ℕ)). Passes does a ps (moment left sink stage steps)) (sym all.0) way.passed;
-      cut = subst (λ (p : Option (List ℕ)). CutShort sink sink' (IsAllowedAt does ends refuses stage p steps steps'))
+      passed = subst (λ (ps : List (List ℕ)).
+          PassesPackets does a ps (moment left sink stage steps)) (sym all.0) way.passed;
+      cut = subst (λ (p : Option (List ℕ)). IsCutShort sink sink' (IsAllowedAt does ends refuses stage p steps steps'))
           (sym all.1) cut;
     }
 
 -- more bytes stand after the most packets
-too_many : {S : Type 0} (does : S → List ℕ → S → List ℕ → ℕ → Type 0) (a : Moment S)
-    (left left' : Option (List ℕ)) (sink : Vessel) (stage : S) (steps : ℕ) (old more : List ℕ)
-    → IsUnderWay does a (moment left sink stage steps) most_packets old → Reads left left' old more → 0 < length more
+too_many : {S : Type 0} (does : S → List ℕ → S → List ℕ → ℕ → Type 0) (a : DriveState S)
+    (left left' : Option (List ℕ)) (sink : SinkState) (stage : S) (steps : ℕ) (old more : List ℕ)
+    → IsUnderWay does a (moment left sink stage steps) most_packets old → ReadsMore left left' old more →
+    0 < length more
     → IsTooLong does a (moment left' sink stage steps)
 too_many does a left left' sink stage steps old more way reads some =
     let prefix = prefix_of most_packets way.taken more way.packets in
@@ -347,24 +354,24 @@ too_many does a left left' sink stage steps old more way reads some =
       read = reads_on a.left left left' way.taken old more way.read reads;
       enough = prefix.1;
       longer = omega (arith, way.packets.long, length-append way.taken more, some);
-      passed = subst (λ (ps : List (List ℕ)). Passes does a ps (moment left' sink stage steps)) (sym prefix.0)
+      passed = subst (λ (ps : List (List ℕ)). PassesPackets does a ps (moment left' sink stage steps)) (sym prefix.0)
           way.passed;
     }
 
-pub packet_too_many : {S : Type 0} (does : S → List ℕ → S → List ℕ → ℕ → Type 0) (a : Moment S)
-    (left left' : Option (List ℕ)) (sink : Vessel) (stage : S) (steps : ℕ) (old new packet : List ℕ)
+pub packet_too_many : {S : Type 0} (does : S → List ℕ → S → List ℕ → ℕ → Type 0) (a : DriveState S)
+    (left left' : Option (List ℕ)) (sink : SinkState) (stage : S) (steps : ℕ) (old new packet : List ℕ)
     → IsUnderWay does a (moment left sink stage steps) most_packets old → GivesPacket left left' old new packet
     → IsTooLong does a (moment left' sink stage steps)
 packet_too_many does a left left' sink stage steps old new packet way gives =
     too_many does a left left' sink stage steps old (packet ++ new) way gives.read
     (omega (arith, length-append packet new, gives.long))
 
-some_left : (rest : List ℕ) (cause : BreakCause) → Takes rest (Err cause) → 0 < length rest
+some_left : (rest : List ℕ) (cause : BreakCause) → TakesPacket rest (Err cause) → 0 < length rest
 some_left rest Torn takes = takes.0
 some_left rest NoSync takes = omega (arith, takes.0)
 
-pub break_too_many : {S : Type 0} (does : S → List ℕ → S → List ℕ → ℕ → Type 0) (a : Moment S)
-    (left left' : Option (List ℕ)) (sink : Vessel) (stage : S) (steps : ℕ) (old : List ℕ) (cause : BreakCause)
+pub break_too_many : {S : Type 0} (does : S → List ℕ → S → List ℕ → ℕ → Type 0) (a : DriveState S)
+    (left left' : Option (List ℕ)) (sink : SinkState) (stage : S) (steps : ℕ) (old : List ℕ) (cause : BreakCause)
     → IsUnderWay does a (moment left sink stage steps) most_packets old → IsBroken left left' old cause
     → IsTooLong does a (moment left' sink stage steps)
 break_too_many does a left left' sink stage steps old cause way found =
@@ -372,17 +379,18 @@ break_too_many does a left left' sink stage steps old cause way found =
 
 -- the stage stopped at a packet
 pub packet_stopped : {S F : Type 0} (does : S → List ℕ → S → List ℕ → ℕ → Type 0) (ends : S → S → List ℕ → ℕ → Type 0)
-    (refuses : S → Option (List ℕ) → F → S → List ℕ → ℕ → Type 0) (a : Moment S)
-    (left left' : Option (List ℕ)) (sink sink' : Vessel) (stage stage' : S) (steps steps' count : ℕ)
+    (refuses : S → Option (List ℕ) → F → S → List ℕ → ℕ → Type 0) (a : DriveState S)
+    (left left' : Option (List ℕ)) (sink sink' : SinkState) (stage stage' : S) (steps steps' count : ℕ)
     (old new packet : List ℕ)
     (result : Result (Unit {0}) (StageFault F)) (fault : StageFault F)
     → IsUnderWay does a (moment left sink stage steps) count old → GivesPacket left left' old new packet →
     result ≡ Err fault
-    → ((f : F) → result ≡ Err (StageRefused f) → Grew sink sink' steps steps' (refuses stage (Some packet) f stage'))
+    → ((f : F) → result ≡ Err (StageRefused f) →
+    HasGrown sink sink' steps steps' (refuses stage (Some packet) f stage'))
     → (result ≡ Err Write →
-    CutShort sink sink' (IsAllowed (does stage packet) (refuses stage (Some packet)) steps steps')) →
+    IsCutShort sink sink' (IsAllowed (does stage packet) (refuses stage (Some packet)) steps steps')) →
     count < most_packets
-    → Drives does ends refuses a (moment left' sink' stage' steps') (Err (stopped_by fault))
+    → DriveOutcome does ends refuses a (moment left' sink' stage' steps') (Err (stopped_by fault))
 packet_stopped does ends refuses a left left' sink sink' stage stage' steps steps' count old new packet result Write way
     gives is
     refused cut few =
@@ -396,12 +404,12 @@ packet_stopped does ends refuses a left left' sink sink' stage stage' steps step
 
 -- the stage took the end, or stopped there
 pub all_closed : {S F : Type 0} (does : S → List ℕ → S → List ℕ → ℕ → Type 0) (ends : S → S → List ℕ → ℕ → Type 0)
-    (refuses : S → Option (List ℕ) → F → S → List ℕ → ℕ → Type 0) (a : Moment S)
-    (left left' : Option (List ℕ)) (sink sink' : Vessel) (stage stage' : S) (steps steps' count : ℕ) (old new : List ℕ)
-    (result : Result ℕ (DriveFault F))
+    (refuses : S → Option (List ℕ) → F → S → List ℕ → ℕ → Type 0) (a : DriveState S)
+    (left left' : Option (List ℕ)) (sink sink' : SinkState) (stage stage' : S) (steps steps' count : ℕ)
+    (old new : List ℕ) (result : Result ℕ (DriveFault F))
     → IsUnderWay does a (moment left sink stage steps) count old → GivesNone left left' old new
     → IsClosed ends refuses sink sink' stage stage' steps steps' count result → count ≤ most_packets
-    → Drives does ends refuses a (moment left' sink' stage' steps') result
+    → DriveOutcome does ends refuses a (moment left' sink' stage' steps') result
 all_closed does ends refuses a left left' sink sink' stage stage' steps steps' count old new (Ok n) way gives closed
     few =
     subst (λ (k : ℕ). IsWhole does ends a (moment left' sink' stage' steps') k) (sym closed.0)
@@ -424,10 +432,10 @@ all_closed does ends refuses a left left' sink sink' stage stage' steps steps' c
 
 -- no packet came
 pub not_fed : {S F : Type 0} (does : S → List ℕ → S → List ℕ → ℕ → Type 0) (ends : S → S → List ℕ → ℕ → Type 0)
-    (refuses : S → Option (List ℕ) → F → S → List ℕ → ℕ → Type 0) (a : Moment S)
-    (left left' : Option (List ℕ)) (sink : Vessel) (stage : S) (steps count : ℕ) (old : List ℕ) (fault : FeedFault)
-    → IsUnderWay does a (moment left sink stage steps) count old → Stops left left' old fault → count < most_packets
-    → Drives does ends refuses a (moment left' sink stage steps) (Err (broken_by count fault))
+    (refuses : S → Option (List ℕ) → F → S → List ℕ → ℕ → Type 0) (a : DriveState S)
+    (left left' : Option (List ℕ)) (sink : SinkState) (stage : S) (steps count : ℕ) (old : List ℕ) (fault : FeedFault)
+    → IsUnderWay does a (moment left sink stage steps) count old → FeedStop left left' old fault → count < most_packets
+    → DriveOutcome does ends refuses a (moment left' sink stage steps) (Err (broken_by count fault))
 not_fed does ends refuses a left left' sink stage steps count old Read way stops few =
     read_failed does a left left' sink stage steps count old way stops (omega (arith, few))
 not_fed does ends refuses a left left' sink stage steps count old (Break cause) way stops few =
@@ -435,17 +443,17 @@ not_fed does ends refuses a left left' sink stage steps count old (Break cause) 
 
 -- nor the end, after the most packets
 pub not_ended : {S F : Type 0} (does : S → List ℕ → S → List ℕ → ℕ → Type 0) (ends : S → S → List ℕ → ℕ → Type 0)
-    (refuses : S → Option (List ℕ) → F → S → List ℕ → ℕ → Type 0) (a : Moment S)
-    (left left' : Option (List ℕ)) (sink : Vessel) (stage : S) (steps : ℕ) (old : List ℕ) (fault : FeedFault)
-    → IsUnderWay does a (moment left sink stage steps) most_packets old → Stops left left' old fault
-    → Drives does ends refuses a (moment left' sink stage steps) (Err (overrun_by fault))
+    (refuses : S → Option (List ℕ) → F → S → List ℕ → ℕ → Type 0) (a : DriveState S)
+    (left left' : Option (List ℕ)) (sink : SinkState) (stage : S) (steps : ℕ) (old : List ℕ) (fault : FeedFault)
+    → IsUnderWay does a (moment left sink stage steps) most_packets old → FeedStop left left' old fault
+    → DriveOutcome does ends refuses a (moment left' sink stage steps) (Err (overrun_by fault))
 not_ended does ends refuses a left left' sink stage steps old Read way stops =
     read_failed does a left left' sink stage steps most_packets old way stops (omega arith)
 not_ended does ends refuses a left left' sink stage steps old (Break cause) way stops =
     break_too_many does a left left' sink stage steps old cause way stops
 
 -- the same under another name of the count
-pub recounted : {S : Type 0} (does : S → List ℕ → S → List ℕ → ℕ → Type 0) (a b : Moment S) (count other : ℕ)
+pub recounted : {S : Type 0} (does : S → List ℕ → S → List ℕ → ℕ → Type 0) (a b : DriveState S) (count other : ℕ)
     (waiting : List ℕ)
     → IsUnderWay does a b count waiting → count ≡ other → IsUnderWay does a b other waiting
 recounted does a b count other waiting way same = subst (λ (n : ℕ). IsUnderWay does a b n waiting) same way

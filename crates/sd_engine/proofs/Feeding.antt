@@ -11,16 +11,16 @@ use borrow.Rule.Slice.PartMut.{put_mid, post_of}
 use Rattle.std.specs.Io.KnownBytes.{Consumes}
 use Rattle.std.proofs.KnownBytes.{Consumes-trans, Consumes-nil}
 use Rattle.std.specs.Prelude.{Ok}
-use Rattle.sd_engine.specs.Feeding.{waiting, Reads, Fills, Takes, GivesPacket}
+use Rattle.sd_engine.specs.Feeding.{waiting, ReadsMore, HasFilled, TakesPacket, GivesPacket}
 
 -- nothing more was read
-pub none_read : (a : Option (List ℕ)) (old new : List ℕ) → new ≡ old → Reads a a old new
+pub none_read : (a : Option (List ℕ)) (old new : List ℕ) → new ≡ old → ReadsMore a a old new
 none_read a old new same = record { bytes = []; consumed = Consumes-nil a; joined = same ∙ sym (append-nil old) }
 
 -- some bytes were read, and then more
-pub more_read : (a b c : Option (List ℕ)) (old mid new bytes : List ℕ) → Reads a b old mid → Consumes b c bytes →
+pub more_read : (a b c : Option (List ℕ)) (old mid new bytes : List ℕ) → ReadsMore a b old mid → Consumes b c bytes →
     new ≡ mid ++ bytes →
-    Reads a c old new
+    ReadsMore a c old new
 more_read a b c old mid new bytes first then joined = record {
   bytes = first.bytes ++ bytes;
   consumed = Consumes-trans a b c first.bytes bytes first.consumed then;
@@ -45,8 +45,8 @@ read_into piece buf filled more k within few =
 
 -- more bytes were read into the rest of the piece
 pub more_waits : (a b c : Option (List ℕ)) (old piece buf : List ℕ) (filled more k : ℕ) → filled ≤ length piece →
-    more ≤ length buf → Reads a b old (waiting piece 0 filled) → Consumes b c (take more buf) →
-    Reads a c old (waiting (put_mid filled k piece buf) 0 (filled + more))
+    more ≤ length buf → ReadsMore a b old (waiting piece 0 filled) → Consumes b c (take more buf) →
+    ReadsMore a c old (waiting (put_mid filled k piece buf) 0 (filled + more))
 more_waits a b c old piece buf filled more k within few before then =
     more_read a b c old (waiting piece 0 filled) (waiting (put_mid filled k piece buf) 0 (filled + more))
     (take more buf)
@@ -54,7 +54,7 @@ more_waits a b c old piece buf filled more k within few before then =
 
 -- the first packet of what waits, and what waits after it
 pub packet_given : (a b : Option (List ℕ)) (old piece packet : List ℕ) (at filled : ℕ) →
-    Fills a b old (waiting piece at filled) → filled ≤ length piece → Takes (waiting piece at filled)
+    HasFilled a b old (waiting piece at filled) → filled ≤ length piece → TakesPacket (waiting piece at filled)
     (Ok (Some packet)) →
     GivesPacket a b old (waiting piece (at + 188) filled) packet
 packet_given a b old piece packet at filled fills within takes =

@@ -8,8 +8,9 @@ use Rattle.std.proofs.lemmas.Bool.{cases_lt}
 use Rattle.std.proofs.lemmas.List.{take_all, take-take, length-take, get_or-take}
 use Rattle.std.proofs.lemmas.Option.{slice_get-get_or}
 use Rattle.sd_engine.specs.Stream.{packets_of, break_of}
-use Rattle.sd_engine.specs.Stage.{Grew, CutShort}
-use Rattle.sd_engine.specs.Driving.{Moment, most_packets, Passes, Closes, IsPlace, Refuses, IsAllowedAt, Drives}
+use Rattle.sd_engine.specs.Stage.{HasGrown, IsCutShort}
+use Rattle.sd_engine.specs.Driving.{DriveState, most_packets, PassesPackets, ChainToEnd, IsPlace, ChainToRefusal}
+use Rattle.sd_engine.specs.Driving.{IsAllowedAt, DriveOutcome}
 use Rattle.sd_engine.specs.Taken.{StreamEnd, Whole, Breaks, RunsOn, taken_of, ended_by, end_of, IsLeft, IsAt, IsOver}
 use Rattle.sd_engine.specs.declared.fault.StreamBreak.{StreamBreak}
 use Rattle.sd_engine.specs.declared.fault.BreakCause.{BreakCause}
@@ -202,24 +203,25 @@ least_of bytes =
     )
 
 -- the most packets went through, and more bytes stand after them
-too_long : {S : Type 0} (does : S → List ℕ → S → List ℕ → ℕ → Type 0) (a b : Moment S) (bytes more : List ℕ) →
+too_long : {S : Type 0} (does : S → List ℕ → S → List ℕ → ℕ → Type 0) (a b : DriveState S) (bytes more : List ℕ) →
     take most_packets (taken_of (bytes ++ more)) ≡ take most_packets (packets_of bytes) →
     most_packets ≤ length (taken_of (bytes ++ more)) → 188 * most_packets < length bytes →
-    Passes does a (take most_packets (packets_of bytes)) b →
-    (end_of (bytes ++ more) ≡ RunsOn) × Passes does a (taken_of (bytes ++ more)) b
+    PassesPackets does a (take most_packets (packets_of bytes)) b →
+    (end_of (bytes ++ more) ≡ RunsOn) × PassesPackets does a (taken_of (bytes ++ more)) b
 too_long does a b bytes more first many longer passed =
     let all = bytes ++ more in
     let least = least_of all in
     let same : taken_of all ≡ take most_packets (packets_of bytes) = sym (take_all most_packets (taken_of all) least.1)
     ∙ first in (
       runs_on all (le_trans many least.0) (lt_of_lt_of_le longer (longer_by bytes more)),
-      subst (λ (ps : List (List ℕ)). Passes does a ps b) (sym same) passed,
+      subst (λ (ps : List (List ℕ)). PassesPackets does a ps b) (sym same) passed,
     )
 
 -- A drive is one of a stream whose bytes are all that was left of the source.
 pub is_over : {S F : Type 0} (does : S → List ℕ → S → List ℕ → ℕ → Type 0) (ends : S → S → List ℕ → ℕ → Type 0)
-    (refuses : S → Option (List ℕ) → F → S → List ℕ → ℕ → Type 0) (a b : Moment S) (result : Result ℕ (DriveFault F))
-    → Drives does ends refuses a b result → IsOver does ends refuses a b result
+    (refuses : S → Option (List ℕ) → F → S → List ℕ → ℕ →
+    Type 0) (a b : DriveState S) (result : Result ℕ (DriveFault F))
+    → DriveOutcome does ends refuses a b result → IsOver does ends refuses a b result
 is_over does ends refuses a b (Ok count) h =
     let taken = all_taken h.bytes (omega (arith, h.counted, h.few)) in
     record {
@@ -228,7 +230,7 @@ is_over does ends refuses a b (Ok count) h =
       drives = (
         is_whole h.bytes h.unbroken (omega (arith, h.long, h.few)),
         h.counted ∙ sym (ap (λ (ps : List (List ℕ)). length ps) taken),
-        subst (λ (ps : List (List ℕ)). Grew a.sink b.sink a.steps b.steps (Closes does ends a.stage ps b.stage))
+        subst (λ (ps : List (List ℕ)). HasGrown a.sink b.sink a.steps b.steps (ChainToEnd does ends a.stage ps b.stage))
             (sym taken) h.passed,
       );
     }
@@ -238,7 +240,7 @@ is_over does ends refuses a b (Err (Broken found)) h =
     record {
       bytes = o.all;
       left = o.left;
-      drives = (o.end, subst (λ (ps : List (List ℕ)). Passes does a ps b) (sym o.taken) h.passed);
+      drives = (o.end, subst (λ (ps : List (List ℕ)). PassesPackets does a ps b) (sym o.taken) h.passed);
     }
 is_over does ends refuses a b (Err TooLong) h =
     let r = rest_of a.left b.left h.bytes h.read in
@@ -257,7 +259,8 @@ is_over does ends refuses a b (Err ReadFault) (count, h) =
       drives = (
         count,
         as_many count h.bytes r.rest h.enough h.few,
-        subst (λ (ps : List (List ℕ)). Passes does a ps b) (sym (first_taken count h.bytes r.rest h.enough h.few))
+        subst (λ (ps : List (List ℕ)). PassesPackets does a ps b)
+            (sym (first_taken count h.bytes r.rest h.enough h.few))
             h.passed,
       );
     }
@@ -270,8 +273,8 @@ is_over does ends refuses a b (Err WriteFault) h =
         count = h.count;
         place = o.same.at;
         mid = h.mid;
-        passed = subst (λ (ps : List (List ℕ)). Passes does a ps h.mid) (sym o.same.first) h.passed;
-        cut = subst (λ (p : Option (List ℕ)). CutShort h.mid.sink b.sink
+        passed = subst (λ (ps : List (List ℕ)). PassesPackets does a ps h.mid) (sym o.same.first) h.passed;
+        cut = subst (λ (p : Option (List ℕ)). IsCutShort h.mid.sink b.sink
             (IsAllowedAt does ends refuses h.mid.stage p h.mid.steps b.steps)) (sym o.same.here) h.cut;
       };
     }
@@ -284,10 +287,10 @@ is_over does ends refuses a b (Err (Refused fault)) h =
         count = h.count;
         place = o.same.at;
         passed =
-            subst (λ (p : Option (List ℕ)). Grew a.sink b.sink a.steps b.steps
-            (Refuses does refuses a.stage (take h.count (taken_of o.all)) p fault b.stage)) (sym o.same.here)
-            (subst (λ (ps : List (List ℕ)). Grew a.sink b.sink a.steps b.steps
-            (Refuses does refuses a.stage ps (slice_get (packets_of h.bytes) h.count) fault b.stage)) (sym o.same.first)
-            h.passed);
+            subst (λ (p : Option (List ℕ)). HasGrown a.sink b.sink a.steps b.steps
+            (ChainToRefusal does refuses a.stage (take h.count (taken_of o.all)) p fault b.stage)) (sym o.same.here)
+            (subst (λ (ps : List (List ℕ)). HasGrown a.sink b.sink a.steps b.steps
+            (ChainToRefusal does refuses a.stage ps (slice_get (packets_of h.bytes) h.count) fault b.stage))
+            (sym o.same.first) h.passed);
       };
     }

@@ -3,7 +3,7 @@ use Rattle.std.proofs.Common.{ℕ, List, length}
 use Rattle.std.specs.Prelude.{Option, Some, None, Err}
 use Rattle.sd_ports.specs.Bytes.{AppendsPrefix}
 use Rattle.sd_ports.specs.Rooms.{FillsRoom}
-use Rattle.sd_engine.specs.Stage.{Vessel, CutShort, IsTooShort}
+use Rattle.sd_engine.specs.Stage.{SinkState, IsCutShort, IsTooShort}
 
 -- where not all bytes were written there was less room
 pub too_short : {E : Type 0} (a b : Option ℕ) (size : ℕ) (fault : E) → FillsRoom a b size (Err fault) →
@@ -12,8 +12,8 @@ too_short None b size fault h = tt
 too_short (Some room) b size fault h = h
 
 -- a write that failed within bytes of which something is said
-pub cut_short : (Says : List ℕ → Type 0) (u v : Vessel) (bytes : List ℕ) → Says bytes →
-    AppendsPrefix u.held v.held bytes → IsTooShort u.room (length bytes) → CutShort u v Says
+pub cut_short : (Says : List ℕ → Type 0) (u v : SinkState) (bytes : List ℕ) → Says bytes →
+    AppendsPrefix u.held v.held bytes → IsTooShort u.room (length bytes) → IsCutShort u v Says
 cut_short Says u v bytes says cut room = record {
   bytes = bytes;
   says = says;

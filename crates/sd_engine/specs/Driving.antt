@@ -2,7 +2,7 @@
 use Rattle.std.specs.Prelude.{◌≡◌, ℕ, ◌+◌, ◌*◌, ◌^◌, ◌<◌, ◌≤◌, List, ◌++◌, length, take, slice_get, Option, Some, None}
 use Rattle.std.specs.Prelude.{Result, Ok, Err}
 use Rattle.std.specs.Io.KnownBytes.{Consumes, IsAtEnd}
-use Rattle.sd_engine.specs.Stage.{Vessel, Grew, CutShort, IsAllowed, Chain}
+use Rattle.sd_engine.specs.Stage.{SinkState, HasGrown, IsCutShort, IsAllowed, Chain}
 use Rattle.sd_engine.specs.Stream.{ArePackets, pieces, packets_of, break_of}
 use Rattle.sd_engine.specs.declared.fault.BreakCause.TheVariants.{Torn}
 use Rattle.sd_engine.specs.declared.fault.StreamBreak.{StreamBreak}
@@ -18,37 +18,38 @@ abbrev pub most_packets : ℕ
 most_packets = 2 ^ 48
 
 -- one moment of a drive: what is left of the source, the sink, the stage, and the steps that were counted
-pub record Moment (S : Type 0) : Type 0 where
+pub record DriveState (S : Type 0) : Type 0 where
   pub left : Option (List ℕ)
-  pub sink : Vessel
+  pub sink : SinkState
   pub stage : S
   pub steps : ℕ
 
-abbrev pub moment : {S : Type 0} → Option (List ℕ) → Vessel → S → ℕ → Moment S
+abbrev pub moment : {S : Type 0} → Option (List ℕ) → SinkState → S → ℕ → DriveState S
 moment left sink stage steps = record { left = left; sink = sink; stage = stage; steps = steps }
 
 -- the sink grew by what these packets came to, one after the other
-abbrev pub Passes : {S : Type 0} → (S → List ℕ → S → List ℕ → ℕ → Type 0) → Moment S → List (List ℕ) → Moment S → Type 0
-Passes does a packets b = Grew a.sink b.sink a.steps b.steps (Chain does a.stage packets b.stage)
+abbrev pub PassesPackets : {S : Type 0} → (S → List ℕ → S → List ℕ → ℕ → Type 0) → DriveState S → List (List ℕ) →
+    DriveState S → Type 0
+PassesPackets does a packets b = HasGrown a.sink b.sink a.steps b.steps (Chain does a.stage packets b.stage)
 
 -- So far: these bytes were read, of which so many packets went through, and these bytes wait.
-pub record IsUnderWay {S : Type 0} (does : S → List ℕ → S → List ℕ → ℕ → Type 0) (a b : Moment S) (count : ℕ)
+pub record IsUnderWay {S : Type 0} (does : S → List ℕ → S → List ℕ → ℕ → Type 0) (a b : DriveState S) (count : ℕ)
     (waiting : List ℕ) : Type 0 where
   pub taken : List ℕ
   pub packets : ArePackets count taken
   pub read : Consumes a.left b.left (taken ++ waiting)
-  pub passed : Passes does a (pieces count taken) b
+  pub passed : PassesPackets does a (pieces count taken) b
 
 -- packets, and then the end
-abbrev pub Closes : {S : Type 0} → (S → List ℕ → S → List ℕ → ℕ → Type 0) → (S → S → List ℕ → ℕ → Type 0)
+abbrev pub ChainToEnd : {S : Type 0} → (S → List ℕ → S → List ℕ → ℕ → Type 0) → (S → S → List ℕ → ℕ → Type 0)
     → S → List (List ℕ) → S → List ℕ → ℕ → Type 0
-Closes {S} does ends s packets t bytes n =
+ChainToEnd {S} does ends s packets t bytes n =
     (mid : S) × (first : List ℕ) × (last : List ℕ) × (m : ℕ) × (k : ℕ)
     × Chain does s packets mid first m × ends mid t last k × (bytes ≡ first ++ last) × (n ≡ m + k)
 
 -- all was read to the end, its packets went through, and then the stage took the end
 pub record IsWhole {S : Type 0} (does : S → List ℕ → S → List ℕ → ℕ → Type 0) (ends : S → S → List ℕ → ℕ → Type 0)
-    (a b : Moment S) (count : ℕ) : Type 0 where
+    (a b : DriveState S) (count : ℕ) : Type 0 where
   pub bytes : List ℕ
   pub read : Consumes a.left b.left bytes
   pub end : IsAtEnd b.left
@@ -56,10 +57,10 @@ pub record IsWhole {S : Type 0} (does : S → List ℕ → S → List ℕ → �
   pub counted : count ≡ length (packets_of bytes)
   pub few : count ≤ most_packets
   pub long : length bytes ≡ 188 * count
-  pub passed : Grew a.sink b.sink a.steps b.steps (Closes does ends a.stage (packets_of bytes) b.stage)
+  pub passed : HasGrown a.sink b.sink a.steps b.steps (ChainToEnd does ends a.stage (packets_of bytes) b.stage)
 
 -- the bytes that were read break, and the packets before the break went through
-pub record IsStreamBroken {S : Type 0} (does : S → List ℕ → S → List ℕ → ℕ → Type 0) (a b : Moment S)
+pub record IsStreamBroken {S : Type 0} (does : S → List ℕ → S → List ℕ → ℕ → Type 0) (a b : DriveState S)
     (found : StreamBreak) :
     Type 0 where
   pub bytes : List ℕ
@@ -68,24 +69,24 @@ pub record IsStreamBroken {S : Type 0} (does : S → List ℕ → S → List ℕ
   pub broken : break_of bytes ≡ Some found
   pub counted : found.packet ≡ length (packets_of bytes)
   pub few : found.packet < most_packets
-  pub passed : Passes does a (packets_of bytes) b
+  pub passed : PassesPackets does a (packets_of bytes) b
 
 -- some first packets of the bytes that were read went through
-pub record IsStopped {S : Type 0} (does : S → List ℕ → S → List ℕ → ℕ → Type 0) (a b : Moment S) (count : ℕ) :
+pub record IsStopped {S : Type 0} (does : S → List ℕ → S → List ℕ → ℕ → Type 0) (a b : DriveState S) (count : ℕ) :
     Type 0 where
   pub bytes : List ℕ
   pub read : Consumes a.left b.left bytes
   pub enough : count ≤ length (packets_of bytes)
   pub few : count ≤ most_packets
-  pub passed : Passes does a (take count (packets_of bytes)) b
+  pub passed : PassesPackets does a (take count (packets_of bytes)) b
 
 -- the most packets of a stream went through, and a byte more was read
-pub record IsTooLong {S : Type 0} (does : S → List ℕ → S → List ℕ → ℕ → Type 0) (a b : Moment S) : Type 0 where
+pub record IsTooLong {S : Type 0} (does : S → List ℕ → S → List ℕ → ℕ → Type 0) (a b : DriveState S) : Type 0 where
   pub bytes : List ℕ
   pub read : Consumes a.left b.left bytes
   pub enough : most_packets ≤ length (packets_of bytes)
   pub longer : 188 * most_packets < length bytes
-  pub passed : Passes does a (take most_packets (packets_of bytes)) b
+  pub passed : PassesPackets does a (take most_packets (packets_of bytes)) b
 
 -- the place of a packet in the bytes that were read, or their end where they have no more packets
 pub record IsPlace (left : Option (List ℕ)) (bytes : List ℕ) (count : ℕ) : Type 0 where
@@ -96,22 +97,23 @@ pub record IsPlace (left : Option (List ℕ)) (bytes : List ℕ) (count : ℕ) :
   pub end : count ≡ length (packets_of bytes) → IsAtEnd left × (break_of bytes ≡ None) × (length bytes ≡ 188 * count)
 
 -- packets, and then a refusal, of a packet or of the end
-abbrev pub Refuses : {S F : Type 0} → (S → List ℕ → S → List ℕ → ℕ → Type 0)
+abbrev pub ChainToRefusal : {S F : Type 0} → (S → List ℕ → S → List ℕ → ℕ → Type 0)
     → (S → Option (List ℕ) → F → S → List ℕ → ℕ → Type 0) → S → List (List ℕ) → Option (List ℕ) → F → S
     → List ℕ → ℕ → Type 0
-Refuses {S} does refuses s packets packet fault t bytes n =
+ChainToRefusal {S} does refuses s packets packet fault t bytes n =
     (mid : S) × (first : List ℕ) × (last : List ℕ) × (m : ℕ) × (k : ℕ)
     × Chain does s packets mid first m × refuses mid packet fault t last k × (bytes ≡ first ++ last) × (n ≡ m + k)
 
 -- the stage refused a packet, or the end, after the packets before it went through
 pub record IsRefused {S F : Type 0} (does : S → List ℕ → S → List ℕ → ℕ → Type 0)
-    (refuses : S → Option (List ℕ) → F → S → List ℕ → ℕ → Type 0) (a b : Moment S) (fault : F) : Type 0 where
+    (refuses : S → Option (List ℕ) → F → S → List ℕ → ℕ → Type 0) (a b : DriveState S) (fault : F) : Type 0 where
   pub bytes : List ℕ
   pub count : ℕ
   pub read : Consumes a.left b.left bytes
   pub place : IsPlace b.left bytes count
-  pub passed : Grew a.sink b.sink a.steps b.steps
-      (Refuses does refuses a.stage (take count (packets_of bytes)) (slice_get (packets_of bytes) count) fault b.stage)
+  pub passed : HasGrown a.sink b.sink a.steps b.steps
+      (ChainToRefusal does refuses a.stage (take count (packets_of bytes)) (slice_get (packets_of bytes) count) fault
+      b.stage)
 
 -- the bytes that the stage may write at a packet, or at the end, and the steps that were counted
 abbrev pub IsAllowedAt : {S F : Type 0} → (S → List ℕ → S → List ℕ → ℕ → Type 0) → (S → S → List ℕ → ℕ → Type 0)
@@ -122,26 +124,27 @@ IsAllowedAt does ends refuses s (Some packet) from to bytes =
 
 -- a write failed at a packet, or at the end, after the packets before it went through
 pub record IsCutOff {S F : Type 0} (does : S → List ℕ → S → List ℕ → ℕ → Type 0) (ends : S → S → List ℕ → ℕ → Type 0)
-    (refuses : S → Option (List ℕ) → F → S → List ℕ → ℕ → Type 0) (a b : Moment S) : Type 0 where
+    (refuses : S → Option (List ℕ) → F → S → List ℕ → ℕ → Type 0) (a b : DriveState S) : Type 0 where
   pub bytes : List ℕ
   pub count : ℕ
   pub read : Consumes a.left b.left bytes
   pub place : IsPlace b.left bytes count
   -- the moment before it
-  pub mid : Moment S
-  pub passed : Passes does a (take count (packets_of bytes)) mid
-  pub cut : CutShort mid.sink b.sink
+  pub mid : DriveState S
+  pub passed : PassesPackets does a (take count (packets_of bytes)) mid
+  pub cut : IsCutShort mid.sink b.sink
       (IsAllowedAt does ends refuses mid.stage (slice_get (packets_of bytes) count) mid.steps b.steps)
 
 -- what a drive from one moment to another answers
-abbrev pub Drives : {S F : Type 0} → (S → List ℕ → S → List ℕ → ℕ → Type 0) → (S → S → List ℕ → ℕ → Type 0)
-    → (S → Option (List ℕ) → F → S → List ℕ → ℕ → Type 0) → Moment S → Moment S → Result ℕ (DriveFault F) → Type 0
-Drives does ends refuses a b (Ok count) = IsWhole does ends a b count
-Drives does ends refuses a b (Err (Broken found)) = IsStreamBroken does a b found
-Drives does ends refuses a b (Err TooLong) = IsTooLong does a b
-Drives does ends refuses a b (Err ReadFault) = (count : ℕ) × IsStopped does a b count
-Drives does ends refuses a b (Err WriteFault) = IsCutOff does ends refuses a b
-Drives does ends refuses a b (Err (Refused fault)) = IsRefused does refuses a b fault
+abbrev pub DriveOutcome : {S F : Type 0} → (S → List ℕ → S → List ℕ → ℕ → Type 0) → (S → S → List ℕ → ℕ → Type 0)
+    → (S → Option (List ℕ) → F → S → List ℕ → ℕ → Type 0) → DriveState S → DriveState S → Result ℕ (DriveFault F) →
+    Type 0
+DriveOutcome does ends refuses a b (Ok count) = IsWhole does ends a b count
+DriveOutcome does ends refuses a b (Err (Broken found)) = IsStreamBroken does a b found
+DriveOutcome does ends refuses a b (Err TooLong) = IsTooLong does a b
+DriveOutcome does ends refuses a b (Err ReadFault) = (count : ℕ) × IsStopped does a b count
+DriveOutcome does ends refuses a b (Err WriteFault) = IsCutOff does ends refuses a b
+DriveOutcome does ends refuses a b (Err (Refused fault)) = IsRefused does refuses a b fault
 
 -- why a stage stops a drive
 abbrev pub stopped_by : {F : Type 0} → StageFault F → DriveFault F
@@ -151,14 +154,14 @@ stopped_by (StageRefused fault) = Refused fault
 -- what a stage answers at the end, after so many packets
 abbrev pub IsClosed : {S F : Type 0} → (S → S → List ℕ → ℕ → Type 0) →
     (S → Option (List ℕ) → F → S → List ℕ → ℕ → Type 0)
-    → Vessel → Vessel → S → S → ℕ → ℕ → ℕ → Result ℕ (DriveFault F) → Type 0
-IsClosed ends refuses u v s t from to count (Ok n) = (n ≡ count) × Grew u v from to (ends s t)
+    → SinkState → SinkState → S → S → ℕ → ℕ → ℕ → Result ℕ (DriveFault F) → Type 0
+IsClosed ends refuses u v s t from to count (Ok n) = (n ≡ count) × HasGrown u v from to (ends s t)
 IsClosed ends refuses u v s t from to count (Err (Broken found)) = ⊥
 IsClosed ends refuses u v s t from to count (Err TooLong) = ⊥
 IsClosed ends refuses u v s t from to count (Err ReadFault) = ⊥
 IsClosed ends refuses u v s t from to count (Err WriteFault) =
-    CutShort u v (IsAllowed (ends s) (refuses s None) from to)
-IsClosed ends refuses u v s t from to count (Err (Refused fault)) = Grew u v from to (refuses s None fault t)
+    IsCutShort u v (IsAllowed (ends s) (refuses s None) from to)
+IsClosed ends refuses u v s t from to count (Err (Refused fault)) = HasGrown u v from to (refuses s None fault t)
 
 -- why no packet comes after so many
 abbrev pub broken_by : {F : Type 0} → ℕ → FeedFault → DriveFault F

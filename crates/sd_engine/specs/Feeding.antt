@@ -14,49 +14,49 @@ abbrev pub waiting : List ℕ → ℕ → ℕ → List ℕ
 waiting piece at filled = take (filled - at) (drop at piece)
 
 -- what is left of a source lost some bytes, and they stand after those that wait
-pub record Reads (before now : Option (List ℕ)) (old new : List ℕ) : Type 0 where
+pub record ReadsMore (before now : Option (List ℕ)) (old new : List ℕ) : Type 0 where
   pub bytes : List ℕ
   pub consumed : Consumes before now bytes
   pub joined : new ≡ old ++ bytes
 
 -- the bytes of a packet wait, or all that is left
-pub record Fills (before now : Option (List ℕ)) (old new : List ℕ) : Type 0 where
-  pub read : Reads before now old new
+pub record HasFilled (before now : Option (List ℕ)) (old new : List ℕ) : Type 0 where
+  pub read : ReadsMore before now old new
   pub enough : (188 ≤ length new) ⊎ IsAtEnd now
 
 -- what waits: a packet first, nothing, or bytes that are no packet [ISO/IEC 13818-1, 2.4.3.2]
-abbrev pub Takes : List ℕ → Result (Option (List ℕ)) BreakCause → Type 0
-Takes waiting (Ok (Some packet)) =
+abbrev pub TakesPacket : List ℕ → Result (Option (List ℕ)) BreakCause → Type 0
+TakesPacket waiting (Ok (Some packet)) =
     (take 188 waiting ≡ packet) × (188 ≤ length waiting) × (slice_index waiting 0 ≡ 0x47)
-Takes waiting (Ok None) = waiting ≡ []
-Takes waiting (Err Torn) = (0 < length waiting) × (length waiting < 188)
-Takes waiting (Err NoSync) = (188 ≤ length waiting) × (slice_index waiting 0 ≢ 0x47)
+TakesPacket waiting (Ok None) = waiting ≡ []
+TakesPacket waiting (Err Torn) = (0 < length waiting) × (length waiting < 188)
+TakesPacket waiting (Err NoSync) = (188 ≤ length waiting) × (slice_index waiting 0 ≢ 0x47)
 
 -- a packet came [ISO/IEC 13818-1, 2.4.3.2]
 pub record GivesPacket (before now : Option (List ℕ)) (old new packet : List ℕ) : Type 0 where
-  pub read : Reads before now old (packet ++ new)
+  pub read : ReadsMore before now old (packet ++ new)
   pub long : length packet ≡ 188
   pub sync : slice_index packet 0 ≡ 0x47
 
 -- no byte is left
 pub record GivesNone (before now : Option (List ℕ)) (old new : List ℕ) : Type 0 where
-  pub read : Reads before now old []
+  pub read : ReadsMore before now old []
   pub none : new ≡ []
   pub end : IsAtEnd now
 
 -- what comes of a source, of which some bytes wait
-abbrev pub Gives : Option (List ℕ) → Option (List ℕ) → List ℕ → List ℕ → Option (List ℕ) → Type 0
-Gives before now old new (Some packet) = GivesPacket before now old new packet
-Gives before now old new None = GivesNone before now old new
+abbrev pub FeedOutcome : Option (List ℕ) → Option (List ℕ) → List ℕ → List ℕ → Option (List ℕ) → Type 0
+FeedOutcome before now old new (Some packet) = GivesPacket before now old new packet
+FeedOutcome before now old new None = GivesNone before now old new
 
 -- the bytes that wait once some were read are no packet, for this cause
 pub record IsBroken (before now : Option (List ℕ)) (old : List ℕ) (cause : BreakCause) : Type 0 where
   pub left : List ℕ
-  pub read : Reads before now old left
-  pub broken : Takes left (Err cause)
+  pub read : ReadsMore before now old left
+  pub broken : TakesPacket left (Err cause)
   pub end : cause ≡ Torn → IsAtEnd now
 
 -- why nothing comes
-abbrev pub Stops : Option (List ℕ) → Option (List ℕ) → List ℕ → FeedFault → Type 0
-Stops before now old Read = LosesPrefix before now
-Stops before now old (Break cause) = IsBroken before now old cause
+abbrev pub FeedStop : Option (List ℕ) → Option (List ℕ) → List ℕ → FeedFault → Type 0
+FeedStop before now old Read = LosesPrefix before now
+FeedStop before now old (Break cause) = IsBroken before now old cause

@@ -6,16 +6,16 @@ use Rattle.sd_ports.specs.Rooms.{HasTaken}
 use Rattle.sd_ports.specs.declared.sink.Sink.{Ghosts as SinkMeanings}
 
 -- a sink at one moment: the bytes taken so far and the room that is left, where it tells them
-pub record Vessel : Type 0 where
+pub record SinkState : Type 0 where
   pub held : Option (List ℕ)
   pub room : Option ℕ
 
-abbrev pub vessel : {K : Type 0} → SinkMeanings K → K → Vessel
+abbrev pub vessel : {K : Type 0} → SinkMeanings K → K → SinkState
 vessel meanings sink = record { held = meanings.held sink; room = meanings.room sink }
 
 -- The sink grew by some bytes, in at most so many steps of the generator, of both of which something is said; and the
 -- room is less by them.
-pub record Grew (old new : Vessel) (from to : ℕ) (Says : List ℕ → ℕ → Type 0) : Type 0 where
+pub record HasGrown (old new : SinkState) (from to : ℕ) (Says : List ℕ → ℕ → Type 0) : Type 0 where
   pub bytes : List ℕ
   pub steps : ℕ
   pub says : Says bytes steps
@@ -30,7 +30,7 @@ IsTooShort (Some room) size = room < size
 
 -- A write failed: the sink grew by a prefix of some bytes, of which something is said; and they pass the room that
 -- there was.
-pub record CutShort (old new : Vessel) (Says : List ℕ → Type 0) : Type 0 where
+pub record IsCutShort (old new : SinkState) (Says : List ℕ → Type 0) : Type 0 where
   pub bytes : List ℕ
   pub says : Says bytes
   pub prefix : List ℕ

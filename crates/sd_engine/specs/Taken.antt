@@ -3,8 +3,8 @@ use Rattle.std.specs.Prelude.{◌≡◌, ℕ, ◌*◌, ◌≤◌, nat_lt, List, 
 use Rattle.std.specs.Prelude.{None}
 use Rattle.std.specs.Prelude.{Result, Ok, Err}
 use Rattle.sd_engine.specs.Stream.{packets_of, break_of}
-use Rattle.sd_engine.specs.Stage.{Grew, CutShort}
-use Rattle.sd_engine.specs.Driving.{Moment, most_packets, Passes, Closes, Refuses, IsAllowedAt}
+use Rattle.sd_engine.specs.Stage.{HasGrown, IsCutShort}
+use Rattle.sd_engine.specs.Driving.{DriveState, most_packets, PassesPackets, ChainToEnd, ChainToRefusal, IsAllowedAt}
 use Rattle.sd_engine.specs.declared.fault.StreamBreak.{StreamBreak}
 use Rattle.sd_engine.specs.declared.driver.DriveFault.{DriveFault}
 use Rattle.sd_engine.specs.declared.driver.DriveFault.TheVariants.{Broken, TooLong, ReadFault, WriteFault, Refused}
@@ -43,42 +43,46 @@ pub record IsAt (bytes : List ℕ) (count : ℕ) : Type 0 where
 
 -- the stage refused there
 pub record RefusesAt {S F : Type 0} (does : S → List ℕ → S → List ℕ → ℕ → Type 0)
-    (refuses : S → Option (List ℕ) → F → S → List ℕ → ℕ → Type 0) (bytes : List ℕ) (a b : Moment S) (fault : F) : Type 0
+    (refuses : S → Option (List ℕ) → F → S → List ℕ → ℕ →
+    Type 0) (bytes : List ℕ) (a b : DriveState S) (fault : F) : Type 0
   where
     pub count : ℕ
     pub place : IsAt bytes count
-    pub passed : Grew a.sink b.sink a.steps b.steps
-        (Refuses does refuses a.stage (take count (taken_of bytes)) (slice_get (taken_of bytes) count) fault b.stage)
+    pub passed : HasGrown a.sink b.sink a.steps b.steps
+        (ChainToRefusal does refuses a.stage (take count (taken_of bytes)) (slice_get (taken_of bytes) count) fault
+        b.stage)
 
 -- a write failed there
 pub record CutAt {S F : Type 0} (does : S → List ℕ → S → List ℕ → ℕ → Type 0) (ends : S → S → List ℕ → ℕ → Type 0)
-    (refuses : S → Option (List ℕ) → F → S → List ℕ → ℕ → Type 0) (bytes : List ℕ) (a b : Moment S) : Type 0 where
+    (refuses : S → Option (List ℕ) → F → S → List ℕ → ℕ → Type 0) (bytes : List ℕ) (a b : DriveState S) : Type 0 where
   pub count : ℕ
   pub place : IsAt bytes count
-  pub mid : Moment S
-  pub passed : Passes does a (take count (taken_of bytes)) mid
-  pub cut : CutShort mid.sink b.sink
+  pub mid : DriveState S
+  pub passed : PassesPackets does a (take count (taken_of bytes)) mid
+  pub cut : IsCutShort mid.sink b.sink
       (IsAllowedAt does ends refuses mid.stage (slice_get (taken_of bytes) count) mid.steps b.steps)
 
 -- what the drive of a stream of these bytes answers
-abbrev pub DrivesOver : {S F : Type 0} → (S → List ℕ → S → List ℕ → ℕ → Type 0) → (S → S → List ℕ → ℕ → Type 0)
-    → (S → Option (List ℕ) → F → S → List ℕ → ℕ → Type 0) → List ℕ → Moment S → Moment S → Result ℕ (DriveFault F) →
+abbrev pub DriveOutcomeOver : {S F : Type 0} → (S → List ℕ → S → List ℕ → ℕ → Type 0) → (S → S → List ℕ → ℕ → Type 0)
+    → (S → Option (List ℕ) → F → S → List ℕ → ℕ → Type 0) → List ℕ → DriveState S → DriveState S →
+    Result ℕ (DriveFault F) →
     Type 0
-DrivesOver does ends refuses bytes a b (Ok count) =
+DriveOutcomeOver does ends refuses bytes a b (Ok count) =
     (end_of bytes ≡ Whole) × (count ≡ length (taken_of bytes))
-    × Grew a.sink b.sink a.steps b.steps (Closes does ends a.stage (taken_of bytes) b.stage)
-DrivesOver does ends refuses bytes a b (Err (Broken found)) =
-    (end_of bytes ≡ Breaks found) × Passes does a (taken_of bytes) b
-DrivesOver does ends refuses bytes a b (Err TooLong) = (end_of bytes ≡ RunsOn) × Passes does a (taken_of bytes) b
-DrivesOver does ends refuses bytes a b (Err ReadFault) =
-    (count : ℕ) × (count ≤ length (taken_of bytes)) × Passes does a (take count (taken_of bytes)) b
-DrivesOver does ends refuses bytes a b (Err WriteFault) = CutAt does ends refuses bytes a b
-DrivesOver does ends refuses bytes a b (Err (Refused fault)) = RefusesAt does refuses bytes a b fault
+    × HasGrown a.sink b.sink a.steps b.steps (ChainToEnd does ends a.stage (taken_of bytes) b.stage)
+DriveOutcomeOver does ends refuses bytes a b (Err (Broken found)) =
+    (end_of bytes ≡ Breaks found) × PassesPackets does a (taken_of bytes) b
+DriveOutcomeOver does ends refuses bytes a b (Err TooLong) = (end_of bytes ≡ RunsOn) ×
+    PassesPackets does a (taken_of bytes) b
+DriveOutcomeOver does ends refuses bytes a b (Err ReadFault) =
+    (count : ℕ) × (count ≤ length (taken_of bytes)) × PassesPackets does a (take count (taken_of bytes)) b
+DriveOutcomeOver does ends refuses bytes a b (Err WriteFault) = CutAt does ends refuses bytes a b
+DriveOutcomeOver does ends refuses bytes a b (Err (Refused fault)) = RefusesAt does refuses bytes a b fault
 
 -- the drive is one of a stream whose bytes are all that was left of the source
 pub record IsOver {S F : Type 0} (does : S → List ℕ → S → List ℕ → ℕ → Type 0) (ends : S → S → List ℕ → ℕ → Type 0)
-    (refuses : S → Option (List ℕ) → F → S → List ℕ → ℕ → Type 0) (a b : Moment S) (result : Result ℕ (DriveFault F)) :
-    Type 0 where
+    (refuses : S → Option (List ℕ) → F → S → List ℕ → ℕ →
+    Type 0) (a b : DriveState S) (result : Result ℕ (DriveFault F)) : Type 0 where
   pub bytes : List ℕ
   pub left : IsLeft a.left bytes
-  pub drives : DrivesOver does ends refuses bytes a b result
+  pub drives : DriveOutcomeOver does ends refuses bytes a b result

@@ -1,7 +1,7 @@
 ghost use Rattle.std.specs.Prelude.{◌≡◌, ℕ, Err, IsErrOf};
 ghost use Rattle.sd_cause.specs.Count.{IsCaused};
 ghost use Rattle.sd_engine.specs.Stage.{vessel};
-ghost use Rattle.sd_engine.specs.Driving.{moment, Drives, IsClosed, broken_by, overrun_by, stopped_by};
+ghost use Rattle.sd_engine.specs.Driving.{moment, DriveOutcome, IsClosed, broken_by, overrun_by, stopped_by};
 
 use crate::fault::StreamBreak;
 use crate::feed::{FeedFault, Span, next};
@@ -42,7 +42,7 @@ pub fn drive<S: Source, K: Sink, L: Ledger, G: Stage<K, L>>(
     steps: &mut Steps<L>,
 ) -> Result<u64, DriveFault<G::Fault>>
     requires live { G.live stage.old }
-    ensures value { Drives G.does G.ends G.refuses
+    ensures value { DriveOutcome G.does G.ends G.refuses
         (moment (S.left source.old) (vessel K.Sink sink.old) stage.old steps.old)
         (moment (S.left source.new) (vessel K.Sink sink.new) stage.new steps.new) result }
     ensures read { IsCaused (S.faults source.old) (S.faults source.new) (IsErrOf result DriveFault.ReadFault) }

@@ -1,6 +1,6 @@
 ghost use Rattle.std.specs.Prelude.{◌≡◌, ◌-◌, ◌<◌, ◌≤◌, IfOk, IfErr, IsErrOf, OnErr, length};
 ghost use Rattle.sd_cause.specs.Count.{HasCause, IsCaused};
-ghost use Rattle.sd_engine.specs.Feeding.{waiting, Fills, Gives, Stops, Takes};
+ghost use Rattle.sd_engine.specs.Feeding.{waiting, HasFilled, FeedOutcome, FeedStop, TakesPacket};
 ghost use Rattle.sd_ports.specs.Bytes.{LosesPrefix};
 
 use crate::fault::BreakCause;
@@ -29,7 +29,7 @@ pub enum FeedFault {
 pub fn take(piece: &[u8], span: Span) -> Result<Option<Packet>, BreakCause>
     requires begun { span.at ≤ span.filled }
     requires within { span.filled ≤ length piece.now }
-    ensures { Takes (waiting piece.now span.at span.filled) result }
+    ensures { TakesPacket (waiting piece.now span.at span.filled) result }
 {
     let rest = &piece[span.at..span.filled];
     if rest.is_empty() {
@@ -53,7 +53,7 @@ pub fn fill<S: Source>(source: &mut S, piece: &mut [u8], span: Span) -> Result<S
     ensures begun { IfOk result (λ now. now.at ≤ now.filled) }
     ensures within { IfOk result (λ now. now.filled ≤ length piece.new) }
     ensures length { length piece.new ≡ length piece.old }
-    ensures value { IfOk result (λ now. Fills (S.left source.old) (S.left source.new)
+    ensures value { IfOk result (λ now. HasFilled (S.left source.old) (S.left source.new)
         (waiting piece.old span.at span.filled) (waiting piece.new now.at now.filled)) }
     ensures fault { OnErr result (LosesPrefix (S.left source.old) (S.left source.new)) }
     ensures cause { HasCause (S.faults source.old) (S.faults source.new) result }
@@ -101,10 +101,10 @@ pub fn next<S: Source>(
     ensures begun { IfOk result (λ given. given.1.at ≤ given.1.filled) }
     ensures within { IfOk result (λ given. given.1.filled ≤ length piece.new) }
     ensures length { length piece.new ≡ length piece.old }
-    ensures value { IfOk result (λ given. Gives (S.left source.old) (S.left source.new)
+    ensures value { IfOk result (λ given. FeedOutcome (S.left source.old) (S.left source.new)
         (waiting piece.old span.at span.filled) (waiting piece.new given.1.at given.1.filled) given.0) }
     ensures fault { IfErr result
-        (Stops (S.left source.old) (S.left source.new) (waiting piece.old span.at span.filled)) }
+        (FeedStop (S.left source.old) (S.left source.new) (waiting piece.old span.at span.filled)) }
     ensures cause { IsCaused (S.faults source.old) (S.faults source.new) (IsErrOf result FeedFault.Read) }
 {
     let span = match fill(source, piece, span) {

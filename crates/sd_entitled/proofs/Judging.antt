@@ -26,7 +26,7 @@ use Rattle.sd_entitled.specs.declared.says.Says.{Says}
 use Rattle.sd_entitled.specs.declared.entitled.Entitled.{Entitled}
 use Rattle.sd_entitled.specs.Entitled.{says_in, said, SayAlike, is_said_otherwise, key_kept, has_index, all_marked}
 use Rattle.sd_reception.specs.Taken.{takes_key}
-use Rattle.sd_entitled.specs.Entitled.{cleared, is_revoked, told_below, IsEntitled}
+use Rattle.sd_entitled.specs.Entitled.{cleared, is_told_revoked, told_below, IsEntitled}
 use Rattle.sd_entitled.proofs.Periods.{closes, ahead_none}
 
 -- all marks up to a place are set where all tests up to it hold
@@ -127,12 +127,12 @@ module _ (card : CardFields) (tr : List Heard) (state : Entitled) (is : IsEntitl
   pub revoked_of_all : length state.marks.items ≡ 65536 →
       option_or state.revoked
       (if (state.told && is_none state.key) && all_marked state.says state.marks.items then Some state.period else None)
-      ≡ find (is_revoked card tr) (periods_told tr)
+      ≡ find (is_told_revoked card tr) (periods_told tr)
   revoked_of_all long =
       ap (λ (b : Bool). option_or state.revoked (if b then Some state.period else None))
       (and_assoc state.told (is_none state.key) (all_marked state.says state.marks.items))
-      ∙ first_of_all (is_revoked card tr) (is_none state.key && all_marked state.says state.marks.items) state.revoked
-      (rw (is.key, all_seen long) refl) is.revoked
+      ∙ first_of_all (is_told_revoked card tr) (is_none state.key && all_marked state.says state.marks.items)
+      state.revoked (rw (is.key, all_seen long) refl) is.revoked
 
   none_ahead : (q : ℕ) → current tr < q → key_at card tr q ≡ None
   unfolding key_in

@@ -22,8 +22,8 @@ use Rattle.sd_reception.specs.Offered.{says_same, is_mixed}
 use Rattle.sd_reception.specs.Ending.{periods_told, is_unkeyed, are_all}
 use Rattle.sd_entitled.specs.declared.says.Says.{Says}
 use Rattle.sd_entitled.specs.declared.entitled.Entitled.{Entitled}
-use Rattle.sd_entitled.specs.Entitled.{says_in, said, SayAlike, has_index, is_revoked, told_below, is_in_turn}
-use Rattle.sd_entitled.specs.Entitled.{StandsAt, IsEntitled, tells_nothing}
+use Rattle.sd_entitled.specs.Entitled.{says_in, said, SayAlike, has_index, is_told_revoked, told_below, is_in_turn}
+use Rattle.sd_entitled.specs.Entitled.{IsStateAt, IsEntitled, tells_nothing}
 use Rattle.sd_entitled.proofs.Periods.{past_stands, other_period, ahead_none, one_told, none_told, same_below}
 use Rattle.sd_entitled.proofs.Periods.{told_before, not_told}
 
@@ -90,12 +90,12 @@ marked marks sections emm x small before =
 module _ (card : CardFields) (q : ℕ) (heard : Heard) (tr : List Heard) (told : told_below q (heard ∷ tr)
     ≡ told_below q tr)
     (sections : (p : ℕ) → p < q → seen p (heard ∷ tr) ≡ seen p tr) where
-  first_revoked : find (is_revoked card (heard ∷ tr)) (told_below q (heard ∷ tr))
-      ≡ find (is_revoked card tr) (told_below q tr)
+  first_revoked : find (is_told_revoked card (heard ∷ tr)) (told_below q (heard ∷ tr))
+      ≡ find (is_told_revoked card tr) (told_below q tr)
   unfolding told_below
   first_revoked =
-      ap (find (is_revoked card (heard ∷ tr))) told
-      ∙ same_below (is_revoked card (heard ∷ tr)) (is_revoked card tr) q (periods_told tr)
+      ap (find (is_told_revoked card (heard ∷ tr))) told
+      ∙ same_below (is_told_revoked card (heard ∷ tr)) (is_told_revoked card tr) q (periods_told tr)
       (λ p h. ap (λ (s : List Emm). is_none (key_in card s) && are_all s) (sections p h))
 
   first_unkeyed : find (is_unkeyed card (heard ∷ tr)) (told_below q (heard ∷ tr))
@@ -125,7 +125,7 @@ stays card heard tr state none same sections is =
     let here : seen q (heard ∷ tr) ≡ seen q tr = sections q (omega arith) in
     let below : told_below q (heard ∷ tr) ≡ told_below q tr = told_same q heard tr none in
     let past : (p : ℕ) → p < q → seen p (heard ∷ tr) ≡ seen p tr = λ p h. sections p (omega (arith, h)) in
-    subst (λ (n : ℕ). StandsAt card (heard ∷ tr) n state) (sym same) (record {
+    subst (λ (n : ℕ). IsStateAt card (heard ∷ tr) n state) (sym same) (record {
       period = is.period;
       says = is.says ∙ ap said (sym here);
       alike = subst (SayAlike state.says) (sym here) is.alike;
@@ -178,7 +178,7 @@ past_section card emm tr state h is =
     stays card (Entitles emm) tr state refl (past_at emm tr h) (λ p g. past_seen emm tr p h) is
 
 -- a section that counts is kept
-pub counted : (card : CardFields) (emm : Emm) (tr : List Heard) (s t : Entitled) → StandsAt card tr emm.period s →
+pub counted : (card : CardFields) (emm : Emm) (tr : List Heard) (s t : Entitled) → IsStateAt card tr emm.period s →
     current tr ≤ emm.period → is_mixed (seen emm.period tr) emm ≡ false → emm.index < emm.sections →
     emm.sections < 2 ^ 16 → length s.marks.items ≡ 65536 →
     t.period ≡ s.period → t.says ≡ Some (says_in emm) → t.marks.items ≡ slice_set s.marks.items emm.index true →
@@ -192,7 +192,7 @@ counted card emm tr s t is h same inside short long period says marks told key r
     let below : told_below q (one ∷ tr) ≡ told_below q tr = told_same q one tr refl in
     let past : (p : ℕ) → p < q → seen p (one ∷ tr) ≡ seen p tr =
     λ p g. other_period p emm tr (ne_eqb q p (λ (e : q ≡ p). absurd (omega (arith, e, g)))) in
-    subst (λ (n : ℕ). StandsAt card (one ∷ tr) n t) (sym (now_at emm tr h)) (record {
+    subst (λ (n : ℕ). IsStateAt card (one ∷ tr) n t) (sym (now_at emm tr h)) (record {
       period = period ∙ is.period;
       says = says ∙ ap said (sym here);
       alike = subst (SayAlike t.says) (sym here) (subst (λ (w : Option Says). SayAlike w (emm ∷ seen q tr)) (sym says)
@@ -238,7 +238,7 @@ turn_told heard tr message done h turn = rw (done, le-leb (current tr) message.p
 
 -- a complete message of the period is kept
 pub message_told : (card : CardFields) (part : EcmPart) (message : Message) (tr : List Heard) (s t : Entitled) →
-    completes tr (Controls part) ≡ Some message → StandsAt card tr message.period s → current tr ≤ message.period →
+    completes tr (Controls part) ≡ Some message → IsStateAt card tr message.period s → current tr ≤ message.period →
     t.period ≡ s.period → t.says ≡ s.says → t.marks.items ≡ s.marks.items → t.told ≡ true → t.key ≡ s.key →
     t.revoked ≡ s.revoked → t.unkeyed ≡ s.unkeyed → IsEntitled card (Controls part ∷ tr) t
 unfolding seen
@@ -246,7 +246,7 @@ message_told card part message tr s t done is h period says marks told key revok
     let q : ℕ = message.period in
     let one : Heard = Controls part in
     let below : told_below q (one ∷ tr) ≡ told_below q tr = told_at one tr message done in
-    subst (λ (n : ℕ). StandsAt card (one ∷ tr) n t) (sym (now_told part tr message done h)) (record {
+    subst (λ (n : ℕ). IsStateAt card (one ∷ tr) n t) (sym (now_told part tr message done h)) (record {
       period = period ∙ is.period;
       says = says ∙ is.says;
       alike = subst (λ (w : Option Says). SayAlike w (seen q tr)) (sym says) is.alike;
@@ -263,8 +263,9 @@ message_told card part message tr s t done is h period says marks told key revok
 pub moved : (card : CardFields) (q : ℕ) (tr : List Heard) (s t : Entitled) → IsEntitled card tr s → current tr < q →
     t.period ≡ q → t.says ≡ None → ((x : ℕ) → x < 2 ^ 16 → get_or t.marks.items x false ≡ false) → t.told ≡ false →
     t.key ≡ None →
-    t.revoked ≡ find (is_revoked card tr) (periods_told tr) → t.unkeyed ≡ find (is_unkeyed card tr) (periods_told tr) →
-    StandsAt card tr q t
+    t.revoked ≡ find (is_told_revoked card tr) (periods_told tr) →
+    t.unkeyed ≡ find (is_unkeyed card tr) (periods_told tr) →
+    IsStateAt card tr q t
 unfolding key_in
 moved card q tr s t is h period says marks told key revoked unkeyed =
     let here : seen q tr ≡ [] = ahead_none q tr h in
@@ -275,7 +276,7 @@ moved card q tr s t is h period says marks told key revoked unkeyed =
       marks = λ x g. marks x g ∙ ap (has_index x) (sym here);
       told = told ∙ sym (not_told q tr h);
       key = key ∙ ap (key_in card) (sym here);
-      revoked = revoked ∙ ap (find (is_revoked card tr)) (sym (told_before q tr h));
+      revoked = revoked ∙ ap (find (is_told_revoked card tr)) (sym (told_before q tr h));
       unkeyed = unkeyed ∙ ap (find (is_unkeyed card tr)) (sym (told_before q tr h));
       in_turn = is.in_turn;
     }

@@ -51,8 +51,8 @@ cleared None marks = marks
 cleared (Some says) marks = replicate says.sections false ++ drop says.sections marks
 
 -- all sections of the period were seen, and its key isn't known
-abbrev pub is_revoked : CardFields → List Heard → ℕ → Bool
-is_revoked card tr q = is_unkeyed card tr q && is_all_seen tr q
+abbrev pub is_told_revoked : CardFields → List Heard → ℕ → Bool
+is_told_revoked card tr q = is_unkeyed card tr q && is_all_seen tr q
 
 -- the periods below q of the complete messages, the oldest first
 unfoldable pub told_below : ℕ → List Heard → List ℕ
@@ -66,20 +66,20 @@ is_in_turn (heard ∷ tr) = option_map_or (λ message. nat_le (current tr) messa
 
 -- what is kept of what was heard, if q is the current period or a later one that begins [this project, docs/FORMATS.md,
 -- Receiver]
-pub record StandsAt (card : CardFields) (tr : List Heard) (q : ℕ) (state : Entitled) : Type 0 where
+pub record IsStateAt (card : CardFields) (tr : List Heard) (q : ℕ) (state : Entitled) : Type 0 where
   pub period : state.period ≡ q
   pub says : state.says ≡ said (seen q tr)
   pub alike : SayAlike state.says (seen q tr)
   pub marks : (x : ℕ) → x < 2 ^ 16 → get_or state.marks.items x false ≡ has_index x (seen q tr)
   pub told : state.told ≡ list_any (λ p. p == q) (periods_told tr)
   pub key : state.key ≡ key_at card tr q
-  pub revoked : state.revoked ≡ find (is_revoked card tr) (told_below q tr)
+  pub revoked : state.revoked ≡ find (is_told_revoked card tr) (told_below q tr)
   pub unkeyed : state.unkeyed ≡ find (is_unkeyed card tr) (told_below q tr)
   pub in_turn : is_in_turn tr ≡ true
 
 -- what is kept of what was heard, the newest first [this project, docs/FORMATS.md, Receiver]
 abbrev pub IsEntitled : CardFields → List Heard → Entitled → Type 0
-IsEntitled card tr state = StandsAt card tr (current tr) state
+IsEntitled card tr state = IsStateAt card tr (current tr) state
 
 -- the key of period q, if q is the current period and its key is known
 abbrev pub key_kept : Entitled → ℕ → Option (List ℕ)

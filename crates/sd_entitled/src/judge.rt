@@ -6,7 +6,7 @@ ghost use Rattle.sd_ecm.specs.declared.part.EcmPart.{EcmPart};
 ghost use Rattle.sd_reception.specs.Heard.{Heard, Controls};
 ghost use Rattle.sd_reception.specs.Stretches.{completes, current};
 ghost use Rattle.sd_reception.specs.Ending.{periods_told, is_unkeyed};
-ghost use Rattle.sd_entitled.specs.Entitled.{IsEntitled, StandsAt, is_revoked, all_marked};
+ghost use Rattle.sd_entitled.specs.Entitled.{IsEntitled, IsStateAt, is_told_revoked, all_marked};
 
 use crate::entitled::Entitled;
 use crate::marks::{SECTIONS, are_all_marked, clear};
@@ -60,7 +60,7 @@ impl Entitled {
     /// The first period of a complete control message of which all sections were seen and no key is known.
     pub fn revoked(&self) -> Option<u32>
         ensures { (card : CardFields) (tr : List Heard) → IsEntitled card tr self.now →
-            result ≡ find (is_revoked card tr) (periods_told tr) }
+            result ≡ find (is_told_revoked card tr) (periods_told tr) }
     {
         self.or_this(self.revoked, self.shuts_out())
     }
@@ -99,7 +99,7 @@ impl Entitled {
     pub(crate) fn move_to(&mut self, period: u32)
         requires { self.old.period ≤ period }
         ensures { (card : CardFields) (tr : List Heard) → IsEntitled card tr self.old →
-            StandsAt card tr period self.new }
+            IsStateAt card tr period self.new }
     {
         if period == self.period {
             return;

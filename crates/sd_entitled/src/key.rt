@@ -1,6 +1,6 @@
 ghost use Rattle.std.specs.Prelude.{◌≡◌, ◌+◌, ◌≤◌, None, IsNone, IfOk};
 ghost use Rattle.sd_emm.specs.Form.{AreSets};
-ghost use Rattle.sd_emm.specs.Spelled.{listed};
+ghost use Rattle.sd_emm.specs.Spelled.{listed_entries};
 ghost use Rattle.sd_emm.specs.declared.format.TheConstants.{MOST_ENTRIES};
 ghost use Rattle.sd_card.specs.Fields.{fields_of};
 ghost use Rattle.sd_reception.specs.Keys.{key_from};
@@ -19,7 +19,7 @@ use std::sync::ledger::Ledger;
 /// the tree is high, and none if there is no such entry.
 pub fn key_in<L: Ledger>(card: &Card, emm: &Emm, steps: &mut Steps<L>) -> Option<[u8; 32]>
     requires count { emm.now.count ≤ MOST_ENTRIES }
-    requires sets { AreSets card.now.height emm.now.sets (listed emm.now) }
+    requires sets { AreSets card.now.height emm.now.sets (listed_entries emm.now) }
     ensures value { result ≡ key_from (fields_of card.now) emm.now }
     ensures steps { (steps.old ≤ steps.new) × (steps.new ≤ steps.old + card.now.height) }
     ensures unchanged { IsNone result → steps.new ≡ steps.old }
@@ -41,7 +41,7 @@ pub fn good_key_in<L: Ledger>(
     steps: &mut Steps<L>,
 ) -> Result<Option<[u8; 32]>, StreamFault>
     requires count { emm.now.count ≤ MOST_ENTRIES }
-    requires sets { AreSets card.now.height emm.now.sets (listed emm.now) }
+    requires sets { AreSets card.now.height emm.now.sets (listed_entries emm.now) }
     ensures value { IfOk result (λ key. key ≡ key_from (fields_of card.now) emm.now) }
     ensures fault { HasFault result (key_offering number emm.now (key_from (fields_of card.now) emm.now)).fault }
     ensures steps { (steps.old ≤ steps.new) × (steps.new ≤ steps.old + card.now.height) }

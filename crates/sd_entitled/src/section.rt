@@ -1,14 +1,14 @@
 ghost use Rattle.std.specs.Prelude.{◌≡◌, ◌+◌, ◌≤◌, ◌<◌, ◌==◌, ◌∷◌, false, List, None, Some, OnOk, IfOk, IfErr};
 ghost use Rattle.std.specs.Prelude.{is_none, not, ◌&&◌, if◌then◌else◌};
 ghost use Rattle.sd_emm.specs.Form.{IsEmm, AreSets};
-ghost use Rattle.sd_emm.specs.Spelled.{listed};
+ghost use Rattle.sd_emm.specs.Spelled.{listed_entries};
 ghost use Rattle.sd_emm.specs.declared.format.TheConstants.{MOST_ENTRIES};
 ghost use Rattle.sd_card.specs.Fields.{CardFields, fields_of};
 ghost use Rattle.sd_reception.specs.Heard.{Heard, Entitles};
 ghost use Rattle.sd_reception.specs.Stretches.{current, seen};
 ghost use Rattle.sd_reception.specs.Keys.{first_key, key_from, key_at};
 ghost use Rattle.sd_reception.specs.Offered.{emm_offering, is_mixed, key_if_none};
-ghost use Rattle.sd_entitled.specs.Entitled.{IsEntitled, StandsAt, HasFault, is_said_otherwise, key_kept};
+ghost use Rattle.sd_entitled.specs.Entitled.{IsEntitled, IsStateAt, HasFault, is_said_otherwise, key_kept};
 ghost use Rattle.sd_reception.specs.Taken.{takes_key};
 
 use crate::entitled::Entitled;
@@ -34,7 +34,7 @@ impl Entitled {
         steps: &mut Steps<L>,
     ) -> Result<(), StreamFault>
         requires form { IsEmm emm.now }
-        requires sets { AreSets card.now.height emm.now.sets (listed emm.now) }
+        requires sets { AreSets card.now.height emm.now.sets (listed_entries emm.now) }
         ensures ok { OnOk result ((tr : List Heard) → IsEntitled (fields_of card.now) tr self.old →
             IsEntitled (fields_of card.now) (Entitles emm.now ∷ tr) self.new) }
         ensures fault { (tr : List Heard) → IsEntitled (fields_of card.now) tr self.old →
@@ -76,7 +76,7 @@ impl Entitled {
         steps: &mut Steps<L>,
     ) -> Result<Option<[u8; 32]>, StreamFault>
         requires count { emm.now.count ≤ MOST_ENTRIES }
-        requires sets { AreSets card.now.height emm.now.sets (listed emm.now) }
+        requires sets { AreSets card.now.height emm.now.sets (listed_entries emm.now) }
         ensures value { IfOk result (λ key.
             key ≡ first_key (key_kept self.now emm.now.period) (key_from (fields_of card.now) emm.now)) }
         ensures fault { HasFault result
@@ -96,7 +96,7 @@ impl Entitled {
 
     // Keeps a section of the current period, and the period's key.
     fn mark(&mut self, emm: &Emm, key: Option<[u8; 32]>)
-        ensures { (card : CardFields) (tr : List Heard) → StandsAt card tr emm.now.period self.old →
+        ensures { (card : CardFields) (tr : List Heard) → IsStateAt card tr emm.now.period self.old →
             current tr ≤ emm.now.period → is_mixed (seen emm.now.period tr) emm.now ≡ false →
             emm.now.index < emm.now.sections →
             key ≡ first_key (key_at card tr emm.now.period) (key_from card emm.now) →

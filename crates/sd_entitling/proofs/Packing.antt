@@ -11,9 +11,9 @@ use Rattle.sd_emm.specs.declared.emm.Entry.{Entry}
 use Rattle.sd_emm.proofs.Sharing.{as_many}
 use Rattle.sd_tree.specs.declared.set.SetName.{SetName}
 use Rattle.sd_label.specs.Keys.{period_key_of, check_value_of}
-use Rattle.sd_site.specs.Fields.{SiteFields, name_of}
+use Rattle.sd_site.specs.Fields.{SiteFields, run_name_of}
 use Rattle.sd_broadcast.specs.Messages.{entry_of}
-use Rattle.sd_entitling.specs.Packets.{packets_of, period_of_sets, period_of_entries}
+use Rattle.sd_entitling.specs.Packets.{period_packets, period_of_sets, period_of_entries}
 
 -- the packets of these sections
 abbrev pub of_sections : ℕ → List Emm → List (List ℕ)
@@ -38,8 +38,9 @@ section_more pid k period packets emm so_far next =
     ∙ sym (map-append (λ emm. packed (emm_section emm) pid 0) (take k (emms_of period)) (emm ∷ [])))
 
 -- what a period is of, by its sets
-pub period_is : (site : SiteFields) (run : Option ℕ) (q : ℕ) (sets cover : List SetName) (entries : List Entry) (check key : List ℕ) →
-    run ≡ name_of site → sets ≡ cover → entries ≡ map (entry_of site q) sets → check ≡ check_value_of key →
+pub period_is : (site : SiteFields) (run : Option ℕ) (q : ℕ) (sets cover : List SetName) (entries : List Entry)
+    (check key : List ℕ) →
+    run ≡ run_name_of site → sets ≡ cover → entries ≡ map (entry_of site q) sets → check ≡ check_value_of key →
     key ≡ period_key_of site.master q → period_of_entries run q check entries ≡ period_of_sets site q cover
 unfolding period_of_sets
 period_is site run q sets cover entries check key named is made checked keyed =
@@ -47,7 +48,7 @@ period_is site run q sets cover entries check key named is made checked keyed =
 
 -- all of them
 pub all_sections : (pid k : ℕ) (period : Period) (packets : List (List ℕ)) → sections_for (length period.entries) ≤ k →
-    packets ≡ of_sections pid (take k (emms_of period)) → packets ≡ packets_of pid period
-unfolding packets_of
+    packets ≡ of_sections pid (take k (emms_of period)) → packets ≡ period_packets pid period
+unfolding period_packets
 all_sections pid k period packets all is =
     is ∙ ap (of_sections pid) (take_all k (emms_of period) (omega (arith, all, as_many period)))

@@ -14,7 +14,7 @@ use Rattle.sd_steiner.specs.Cover.{cover_of}
 use Rattle.sd_cover.specs.Index.{IndexValue}
 use Rattle.sd_broadcast.specs.Messages.{period_at}
 use Rattle.sd_entitling.specs.Crypto.{crypto_in}
-use Rattle.sd_entitling.specs.Packets.{packets_of, period_of_sets}
+use Rattle.sd_entitling.specs.Packets.{period_packets, period_of_sets}
 use Rattle.sd_broadcast.specs.Plan.{Plan, IsPlan, sets_at, word_in, period_in}
 use Rattle.sd_broadcast.proofs.Schedule.{periods_in_rise, period_in_first, period_in_within}
 use Rattle.sd_entitling.specs.Kept.{begins_period, HasBegun, IsInPeriod, IsOf, IsBefore}
@@ -101,7 +101,7 @@ pub in_period : (plan : Plan) (begun p q : ℕ) (old new : Entitling) → HasBeg
     IsPlaceIn plan.commands new.place → new.place.next ≡ p + 1 →
     new.index.height ≡ old.index.height →
     new.index.revoked ≡ revoked plan.site.height plan.commands p →
-    new.emms.items ≡ packets_of plan.site.emm
+    new.emms.items ≡ period_packets plan.site.emm
     (period_of_sets plan.site q (cover_of new.index.height new.index.revoked)) →
     IsInPeriod plan q new
 unfolding period_at period_of_sets sets_at
@@ -119,7 +119,7 @@ in_period plan begun p q old new was decides same place next height decided emms
         height = height ∙ was.height;
         revoked_are = revoked_are;
       });
-      emms = emms ∙ ap (λ (sets : List SetName). packets_of plan.site.emm (period_of_sets plan.site q sets))
+      emms = emms ∙ ap (λ (sets : List SetName). period_packets plan.site.emm (period_of_sets plan.site q sets))
           (rw (height ∙ was.height, revoked_are) refl);
     }
 

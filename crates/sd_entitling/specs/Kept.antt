@@ -9,7 +9,7 @@ use Rattle.sd_book.specs.Place.{IsPlaceIn}
 use Rattle.sd_broadcast.specs.Plan.{Plan, IsPlan, word_in, period_in}
 use Rattle.sd_broadcast.specs.Messages.{period_at}
 use Rattle.sd_entitling.specs.Crypto.{crypto_in}
-use Rattle.sd_entitling.specs.Packets.{packets_of}
+use Rattle.sd_entitling.specs.Packets.{period_packets}
 use Rattle.sd_entitling.specs.declared.entitling.Entitling.{Entitling}
 
 -- the plan of a site and a book
@@ -42,7 +42,7 @@ IsNew plan state = HasBegun plan 0 state
 -- period q is at work
 pub record IsInPeriod (plan : Plan) (q : ℕ) (state : Entitling) : Type 0 where
   pub begun : HasBegun plan (q + 1) state
-  pub emms : state.emms.items ≡ packets_of plan.site.emm (period_at plan q)
+  pub emms : state.emms.items ≡ period_packets plan.site.emm (period_at plan q)
 
 -- crypto period n is at work
 pub record IsOf (plan : Plan) (n : ℕ) (state : Entitling) : Type 0 where

@@ -6,7 +6,7 @@ ghost use Rattle.sd_book.specs.Commands.{last_period, revoked};
 ghost use Rattle.sd_book.specs.declared.limits.TheConstants.{MOST_PERIODS};
 ghost use Rattle.sd_book.specs.Place.{IsPlaceIn};
 ghost use Rattle.sd_steiner.specs.Cover.{cover_of};
-ghost use Rattle.sd_entitling.specs.Packets.{packets_of, period_of_sets};
+ghost use Rattle.sd_entitling.specs.Packets.{period_packets, period_of_sets};
 ghost use Rattle.sd_broadcast.specs.Plan.{period_in};
 ghost use Rattle.sd_entitling.specs.Kept.{plan_of, begins_period, revoked_before, HasBegun, IsNew};
 ghost use Rattle.sd_entitling.specs.Kept.{IsInPeriod, IsOf, IsBefore};
@@ -199,7 +199,7 @@ fn pack_period<L: Ledger>(
     requires height { index.now.height ≤ HIGHEST }
     requires few { length index.now.revoked ≤ MOST_REVOKED }
     ensures { OnOk result (packets.new.items ≡
-        packets_of site.now.emm (period_of_sets (fields_of site.now) q (cover_of index.now.height index.now.revoked))) }
+        period_packets site.now.emm (period_of_sets (fields_of site.now) q (cover_of index.now.height index.now.revoked))) }
 {
     let alloc = *packets.allocator();
     let sets = index.sets(alloc, steps)?;

@@ -2,7 +2,7 @@ ghost use Rattle.std.specs.Prelude.{◌≡◌, ◌<◌, ◌≤◌, OnOk, length}
 ghost use Rattle.sd_tree.specs.SetNames.{AreAscending};
 ghost use Rattle.sd_emm.specs.Spelled.{names_in};
 ghost use Rattle.sd_emm.specs.declared.format.TheConstants.{MOST_SETS};
-ghost use Rattle.sd_entitling.specs.Packets.{packets_of, period_of_entries};
+ghost use Rattle.sd_entitling.specs.Packets.{period_packets, period_of_entries};
 
 use sd_cause::NoMemory;
 use sd_emm::{Emm, Entry, section_count, write_emm};
@@ -22,7 +22,7 @@ pub fn pack_sections(
     requires pid { pid < 8192 }
     requires few { length entries.now ≤ MOST_SETS }
     requires ascending { AreAscending (names_in entries.now) }
-    ensures { OnOk result (packets.new.items ≡ packets_of pid (period_of_entries run q check.now entries.now)) }
+    ensures { OnOk result (packets.new.items ≡ period_packets pid (period_of_entries run q check.now entries.now)) }
 {
     packets.clear();
     for index in 0..section_count(entries.len()) {

@@ -13,7 +13,8 @@ use Rattle.sd_broadcast.specs.Plan.{crypto_of, period_in, period_of}
 use Rattle.sd_events.specs.declared.event.Event.{Event}
 use Rattle.sd_events.specs.declared.event.Event.TheVariants.{Subscribe, Revoke, Send, Offer, Lose, Off, On}
 use Rattle.sd_events.specs.Events.{is_of, sends_with}
-use Rattle.sd_events.specs.Book.{sends, open_period, period_after, reached, filled, commanded, booked, event_book}
+use Rattle.sd_events.specs.Book.{sends, open_period, period_after, reached, with_periods_to, commanded, booked}
+use Rattle.sd_events.specs.Book.{event_book}
 use Rattle.sd_events.specs.Book.{plan_after, taken_in, accepted_at}
 use Rattle.sd_events.proofs.Filled.{filled_ends, filled_keeps}
 use Rattle.sd_events.proofs.Sends.{sends_up, sends_rise, open_rises, after_rises, reached_rises, after_is_above}
@@ -21,11 +22,11 @@ use Rattle.sd_events.proofs.Sends.{reached_within, reached_short}
 
 -- what one event does to the book: a send fills it, an accepted command is added, and all others leave it
 pub data Turn (site : SiteFields) (m k : ℕ) (event : Event) (book : List Command) : Type 0 where
-  fills : booked site m k event book ≡ filled (reached site (sends_with m event k)) book
+  fills : booked site m k event book ≡ with_periods_to (reached site (sends_with m event k)) book
       → accepted_at site k event ≡ [] → Turn site m k event book
   adds : (command : Command) → last_period (command ∷ []) ≡ 0 → ((d : ℕ) → is_within d command ≡ is_of d event)
       → period_after site k ≤ most_periods
-      → booked site m k event book ≡ filled (period_after site k) book ++ command ∷ []
+      → booked site m k event book ≡ with_periods_to (period_after site k) book ++ command ∷ []
       → sends_with m event k ≡ k → accepted_at site k event ≡ (period_after site k, command) ∷ []
       → Turn site m k event book
   leaves : booked site m k event book ≡ book → sends_with m event k ≡ k → accepted_at site k event ≡ []
@@ -57,9 +58,9 @@ turn_of site m k (On u) book = leaves refl refl refl
 
 -- the last period with a command more in a filled book
 pub added_ends : (q : ℕ) (command : Command) (book : List Command) → last_period (command ∷ []) ≡ 0 →
-    last_period (filled q book ++ command ∷ []) ≡ max q (last_period book)
+    last_period (with_periods_to q book ++ command ∷ []) ≡ max q (last_period book)
 added_ends q command book none =
-    omega (arith, period_append (filled q book) (command ∷ []), filled_ends q book, none)
+    omega (arith, period_append (with_periods_to q book) (command ∷ []), filled_ends q book, none)
 
 -- the book has no period that no book can have
 pub book_short : (site : SiteFields) (m : ℕ) (past : List Event) → last_period (event_book site m past) ≤ most_periods
@@ -153,7 +154,7 @@ one_event_more site m event past q some within =
           ap (commands_until q) is
           ∙ filled_keeps (reached site (sends_with m event (sends m past))) q (event_book site m past) inside
       | adds command none tree most is same taken ↦
-          let above : q < last_period (filled (period_after site (sends m past)) (event_book site m past)) =
+          let above : q < last_period (with_periods_to (period_after site (sends m past)) (event_book site m past)) =
           omega (
             arith,
             within,
@@ -161,7 +162,8 @@ one_event_more site m event past q some within =
             filled_ends (period_after site (sends m past)) (event_book site m past),
           ) in
           ap (commands_until q) is
-          ∙ (until_after q (filled (period_after site (sends m past)) (event_book site m past)) (command ∷ []) above
+          ∙ (until_after q (with_periods_to (period_after site (sends m past)) (event_book site m past)) (command ∷ [])
+          above
           ∙ filled_keeps (period_after site (sends m past)) q (event_book site m past) inside)
       | leaves is same none ↦ ap (commands_until q) is
     ]

@@ -8,7 +8,7 @@ use Rattle.sd_book.specs.declared.command.Command.{Command}
 use Rattle.sd_book.specs.declared.command.Command.TheVariants.{Period}
 use Rattle.sd_book.specs.Commands.{commands_until, last_period}
 use Rattle.sd_book.proofs.Cuts.{period_none, period_period, period_append, until_after, until_period, until_end}
-use Rattle.sd_events.specs.Book.{filled}
+use Rattle.sd_events.specs.Book.{with_periods_to}
 
 -- n Periods begin n periods
 pub periods_counted : (n : ℕ) → last_period (replicate n Period) ≡ n
@@ -16,8 +16,8 @@ periods_counted zero = period_none
 periods_counted (suc n) = omega (arith, period_period (replicate n Period), periods_counted n)
 
 -- a filled book ends with that period, or with a later one that it had
-pub filled_ends : (q : ℕ) (book : List Command) → last_period (filled q book) ≡ max q (last_period book)
-unfolding filled
+pub filled_ends : (q : ℕ) (book : List Command) → last_period (with_periods_to q book) ≡ max q (last_period book)
+unfolding with_periods_to
 filled_ends q book = omega (
   arith,
   period_append book (replicate (q - last_period book) Period),
@@ -25,15 +25,17 @@ filled_ends q book = omega (
 )
 
 -- a book that is filled twice is filled once
-pub filled_again : (p q : ℕ) (book : List Command) → p ≤ q → filled q (filled p book) ≡ filled q book
-unfolding filled
+pub filled_again : (p q : ℕ) (book : List Command) → p ≤ q →
+    with_periods_to q (with_periods_to p book) ≡ with_periods_to q book
+unfolding with_periods_to
 filled_again p q book below =
     let ends = filled_ends p book in
-    let count : (p - last_period book) + (q - last_period (filled p book)) ≡ q - last_period book =
+    let count : (p - last_period book) + (q - last_period (with_periods_to p book)) ≡ q - last_period book =
     omega (arith, ends, below) in
-    append_assoc book (replicate (p - last_period book) Period) (replicate (q - last_period (filled p book)) Period)
+    append_assoc book (replicate (p - last_period book) Period)
+    (replicate (q - last_period (with_periods_to p book)) Period)
     ∙ ap (λ (more : List Command). book ++ more)
-    (replicate-append-replicate (p - last_period book) (q - last_period (filled p book)) Period
+    (replicate-append-replicate (p - last_period book) (q - last_period (with_periods_to p book)) Period
     ∙ ap (λ (n : ℕ). replicate n Period) count)
 
 -- a Period after a book, and what comes after it, decides none of its periods
@@ -51,6 +53,6 @@ until_replicated zero q book within = ap (commands_until q) (append-nil book)
 until_replicated (suc n) q book within = until_cut q book (replicate n Period) within
 
 pub filled_keeps : (p q : ℕ) (book : List Command) → q ≤ last_period book →
-    commands_until q (filled p book) ≡ commands_until q book
-unfolding filled
+    commands_until q (with_periods_to p book) ≡ commands_until q book
+unfolding with_periods_to
 filled_keeps p q book within = until_replicated (p - last_period book) q book within

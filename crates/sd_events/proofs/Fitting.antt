@@ -18,7 +18,7 @@ use Rattle.sd_book.proofs.Cuts.{period_none, period_append}
 use Rattle.sd_broadcast.specs.Plan.{IsPlan}
 use Rattle.sd_events.specs.declared.event.Event.{Event}
 use Rattle.sd_events.specs.Events.{is_of, sends_with}
-use Rattle.sd_events.specs.Book.{sends, period_after, reached, filled, event_book, plan_after}
+use Rattle.sd_events.specs.Book.{sends, period_after, reached, with_periods_to, event_book, plan_after}
 use Rattle.sd_events.proofs.Filled.{filled_ends}
 use Rattle.sd_events.proofs.Books.{fills, adds, leaves as stays, turn_of, book_short}
 
@@ -37,8 +37,8 @@ periods_of_tree d (suc n) =
 
 -- so a filled book is of the tree of the book
 filled_of_tree : (d q : ℕ) (book : List Command) → All (λ command. is_within d command ≡ true) book →
-    All (λ command. is_within d command ≡ true) (filled q book)
-unfolding filled
+    All (λ command. is_within d command ≡ true) (with_periods_to q book)
+unfolding with_periods_to
 filled_of_tree d q book all =
     All-append (λ command. is_within d command ≡ true) book (replicate (q - last_period book) Period) all
     (periods_of_tree d (q - last_period book))
@@ -58,7 +58,7 @@ book_of_tree site m d (event ∷ past) all =
       | adds command none tree most is same taken ↦
           subst (All (λ command. is_within d command ≡ true)) (sym is)
           (All-append (λ command. is_within d command ≡ true)
-          (filled (period_after site (sends m past)) (event_book site m past)) (command ∷ [])
+          (with_periods_to (period_after site (sends m past)) (event_book site m past)) (command ∷ [])
           (filled_of_tree d (period_after site (sends m past)) (event_book site m past) before)
           (All-cons (λ command. is_within d command ≡ true) command [] (tree d ∙ here)
           (All-nil (λ command. is_within d command ≡ true))))
@@ -67,8 +67,8 @@ book_of_tree site m d (event ∷ past) all =
 
 -- a filled book is longer by the Periods that it has more
 filled_long : (q : ℕ) (book : List Command) →
-    length (filled q book) + last_period book ≡ length book + last_period (filled q book)
-unfolding filled
+    length (with_periods_to q book) + last_period book ≡ length book + last_period (with_periods_to q book)
+unfolding with_periods_to
 filled_long q book = omega (
   arith,
   length-append book (replicate (q - last_period book) Period),
@@ -100,8 +100,8 @@ book_long site m (event ∷ past) =
             ap last_period is,
             before,
             filled_long (period_after site (sends m past)) book,
-            length-append (filled (period_after site (sends m past)) book) (command ∷ []),
-            period_append (filled (period_after site (sends m past)) book) (command ∷ []),
+            length-append (with_periods_to (period_after site (sends m past)) book) (command ∷ []),
+            period_append (with_periods_to (period_after site (sends m past)) book) (command ∷ []),
             none,
           )
       | stays is same none ↦ omega (arith, ap length is, ap last_period is, before)

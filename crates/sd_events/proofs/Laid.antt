@@ -13,7 +13,7 @@ use Rattle.sd_book.specs.Commands.{last_period, commands_in}
 use Rattle.sd_book.proofs.Cuts.{period_none, period_subscribe, period_revoke, period_period}
 use Rattle.sd_events.specs.declared.event.Event.{Event}
 use Rattle.sd_events.specs.Events.{sends_with}
-use Rattle.sd_events.specs.Book.{sends, period_after, reached, filled, event_book}
+use Rattle.sd_events.specs.Book.{sends, period_after, reached, with_periods_to, event_book}
 use Rattle.sd_events.specs.Book.{accepted_at, accepted, greatest_period, commands_of}
 use Rattle.sd_events.proofs.Filled.{filled_ends}
 use Rattle.sd_events.proofs.Sends.{sends_up, reached_rises, reached_within}
@@ -52,8 +52,8 @@ none_in_periods (suc n) zero = refl
 none_in_periods (suc n) (suc r) = none_in_periods n r
 
 -- Periods after a book add no command to a period
-pub in_filled : (p q : ℕ) (book : List Command) → commands_in (filled p book) q ≡ commands_in book q
-unfolding filled
+pub in_filled : (p q : ℕ) (book : List Command) → commands_in (with_periods_to p book) q ≡ commands_in book q
+unfolding with_periods_to
 in_filled p q book = elim (cases_lt q (last_period book)) [
   | inl before ↦ in_before q book (replicate (p - last_period book) Period) before
   | inr last ↦
@@ -144,7 +144,8 @@ one_accepted site m event past one taken = ap (λ (rest : List (ℕ × Command))
 
 -- the last period of a book that a command fills
 filled_within : (site : SiteFields) (m : ℕ) (past : List Event) → AreInRange site →
-    last_period (filled (period_after site (sends m past)) (event_book site m past)) ≡ period_after site (sends m past)
+    last_period (with_periods_to (period_after site (sends m past)) (event_book site m past)) ≡ period_after site
+    (sends m past)
 filled_within site m past r =
     omega (arith, filled_ends (period_after site (sends m past)) (event_book site m past), book_within site m past r)
 
@@ -163,7 +164,7 @@ commands_are_accepted site m (event ∷ past) q r =
           ∙ (before ∙ ap (commands_of q) (sym (none_accepted site m event past none))))
       | adds command none tree most is same taken ↦
           ap (λ (book : List Command). commands_in book q) is
-          ∙ (in_added p q command (filled p (event_book site m past)) (filled_within site m past r) none
+          ∙ (in_added p q command (with_periods_to p (event_book site m past)) (filled_within site m past r) none
           ∙ (ap (λ (first : List Command). first ++ commands_of q ((p, command) ∷ []))
           (in_filled p q (event_book site m past) ∙ before)
           ∙ (sym (of_joined q (accepted site m past) ((p, command) ∷ []))

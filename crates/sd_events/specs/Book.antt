@@ -31,18 +31,18 @@ reached site zero = 0
 reached site (suc k) = min (open_period site k) most_periods
 
 -- the book with Period commands after it until period q is its last, if it isn't yet
-unfoldable pub filled : ℕ → List Command → List Command
-filled q book = book ++ replicate (q - last_period book) Command.Period
+unfoldable pub with_periods_to : ℕ → List Command → List Command
+with_periods_to q book = book ++ replicate (q - last_period book) Command.Period
 
 -- the book with a command of period q; a command of a period that no book can have isn't accepted
 unfoldable pub commanded : ℕ → Command → List Command → List Command
-commanded q command book = if nat_le q most_periods then filled q book ++ command ∷ [] else book
+commanded q command book = if nat_le q most_periods then with_periods_to q book ++ command ∷ [] else book
 
 -- the book after one event more, which comes after k packets of m were sent
 abbrev pub booked : SiteFields → ℕ → ℕ → Event → List Command → List Command
 booked site m k (Subscribe u) book = commanded (period_after site k) (Command.Subscribe u) book
 booked site m k (Revoke u) book = commanded (period_after site k) (Command.Revoke u) book
-booked site m k Send book = filled (reached site (sends_with m Send k)) book
+booked site m k Send book = with_periods_to (reached site (sends_with m Send k)) book
 booked site m k (Offer u) book = book
 booked site m k (Lose u) book = book
 booked site m k (Off u) book = book

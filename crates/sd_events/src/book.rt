@@ -10,7 +10,8 @@ ghost use Rattle.sd_broadcast.specs.Plan.{Plan, IsPlan, period_of, sets_at};
 ghost use Rattle.sd_broadcast.specs.Sent.{body};
 ghost use Rattle.sd_events.specs.declared.event.Event.{Event};
 ghost use Rattle.sd_events.specs.Events.{is_of, is_send};
-ghost use Rattle.sd_events.specs.Book.{sends, open_period, period_after, reached, filled, event_book, plan_after};
+ghost use Rattle.sd_events.specs.Book.{sends, open_period, period_after, reached, with_periods_to, event_book};
+ghost use Rattle.sd_events.specs.Book.{plan_after};
 ghost use Rattle.sd_events.specs.Book.{accepted, greatest_period, commands_of};
 
 /// The number of clear packets that were sent is the number of sends, or that of all clear packets if it is smaller. It
@@ -36,10 +37,11 @@ pub fn commands_are_of_later_periods()
 /// A filled book ends with the period that it is filled to, or with a later one that it had. To fill it twice is to
 /// fill it once. The commands that decide its periods stay.
 pub fn periods_fill_books()
-    ensures last { (q : ℕ) (book : List Command) → last_period (filled q book) ≡ max q (last_period book) }
-    ensures again { (p q : ℕ) (book : List Command) → p ≤ q → filled q (filled p book) ≡ filled q book }
+    ensures last { (q : ℕ) (book : List Command) → last_period (with_periods_to q book) ≡ max q (last_period book) }
+    ensures again { (p q : ℕ) (book : List Command) → p ≤ q →
+        with_periods_to q (with_periods_to p book) ≡ with_periods_to q book }
     ensures keeps { (p q : ℕ) (book : List Command) → q ≤ last_period book →
-        commands_until q (filled p book) ≡ commands_until q book }
+        commands_until q (with_periods_to p book) ≡ commands_until q book }
 {}
 
 /// The book of a field has the period on air, if a book can have it. It has no period that no book can have, and none

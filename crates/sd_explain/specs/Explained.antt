@@ -3,8 +3,8 @@ use Rattle.std.specs.Prelude.{ℕ, List, [], ◌∷◌, ◌++◌, codes, length,
 use Rattle.std.specs.Prelude.{if◌then◌else◌, ◌==◌, Bool, false, bytes_eq}
 use Rattle.sd_commands.specs.declared.command.Command.{Command}
 use Rattle.sd_commands.specs.declared.operand.Operand.{Operand}
-use Rattle.sd_commands.specs.Commands.{command_of, operands_of}
-use Rattle.sd_commands.specs.Operands.{name_of}
+use Rattle.sd_commands.specs.Commands.{command_named, operands_of}
+use Rattle.sd_commands.specs.Operands.{operand_name}
 use Rattle.sd_status.specs.declared.status.Status.{Status}
 use Rattle.sd_status.specs.declared.status.Status.TheVariants.{Usage, Missing, BadSite, BadBook, BadCard, BadWord}
 use Rattle.sd_explain.specs.declared.found.Argument.{Argument}
@@ -29,12 +29,12 @@ argument_at (Some command) texts place = both (slice_get (operands_of command) p
 abbrev pub argument_of : List (List ℕ) → ℕ → Option (Operand × List ℕ)
 argument_of words zero = None
 argument_of [] (suc place) = None
-argument_of (command ∷ texts) (suc place) = argument_at (command_of command) texts place
+argument_of (command ∷ texts) (suc place) = argument_at (command_named command) texts place
 
 -- the line of an argument: its name, its text and why it is refused
 unfoldable pub argument_line : List ℕ → Operand × List ℕ → List ℕ
 argument_line reason (operand, text) =
-    codes "sdca: " ++ (name_of operand ++ (codes " " ++ (text ++ (codes ": " ++ (reason ++ codes "\n")))))
+    codes "sdca: " ++ (operand_name operand ++ (codes " " ++ (text ++ (codes ": " ++ (reason ++ codes "\n")))))
 
 -- the line of the argument that was found, or none
 abbrev pub found_line : Option (Operand × List ℕ) → (Operand → List ℕ) → List ℕ
@@ -78,7 +78,7 @@ command_line name count (Some command) =
 -- the line of words that are no command
 unfoldable pub usage_line : List (List ℕ) → List ℕ
 usage_line [] = codes "sdca: no command is given; see sdca help\n"
-usage_line (name ∷ texts) = command_line name (length texts) (command_of name)
+usage_line (name ∷ texts) = command_line name (length texts) (command_named name)
 
 -- The line that explains a status to a user, or no text if the status is about no argument. The site and the card are
 -- the first arguments of their commands.

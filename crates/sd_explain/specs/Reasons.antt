@@ -7,7 +7,7 @@ use Rattle.sd_card.specs.declared.fault.CardFault.{CardFault}
 use Rattle.sd_card.specs.declared.fault.CardFault.TheVariants as card
 use Rattle.sd_commands.specs.declared.operand.Operand.{Operand}
 use Rattle.sd_commands.specs.declared.operand.Operand.TheVariants.{Out}
-use Rattle.sd_commands.specs.Operands.{meaning_of, name_of}
+use Rattle.sd_commands.specs.Operands.{meaning_of, operand_name}
 
 -- why a file isn't there
 unfoldable pub missing_reason : Operand → List ℕ
@@ -34,7 +34,7 @@ card_reason card.NoMemory = codes "memory ran out"
 
 -- what the argument is to be
 unfoldable pub rule_of : Operand → List ℕ
-rule_of operand = name_of operand ++ (codes " is " ++ meaning_of operand)
+rule_of operand = operand_name operand ++ (codes " is " ++ meaning_of operand)
 
 -- which line of a file is refused
 unfoldable pub line_of : ℕ → List ℕ

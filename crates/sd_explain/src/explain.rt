@@ -2,7 +2,7 @@ ghost use Rattle.std.specs.Prelude.{◌≡◌, map, string_bytes, IfOk, length};
 ghost use Rattle.sd_explain.specs.Explained.{argument_line, argument_of, command_line, explained};
 ghost use Rattle.sd_explain.specs.Explained.{has_two_sites as two_sites, of_argument, of_sites, shown};
 ghost use Rattle.sd_explain.specs.Explained.{site_line, sites_line, usage_line};
-ghost use Rattle.sd_commands.specs.Commands.{command_of};
+ghost use Rattle.sd_commands.specs.Commands.{command_named};
 ghost use Rattle.sd_explain.specs.Reasons.{card_reason, missing_reason, range_reason, line_reason, site_reason};
 
 use crate::found::{Argument, find_argument};
@@ -58,7 +58,7 @@ fn usage(alloc: Global, words: &[String]) -> Result<String, AllocError>
 
 /// The line of a first word with this number of arguments, which are refused.
 fn command(alloc: Global, name: &str, count: usize) -> Result<String, AllocError>
-    ensures { IfOk result (λ text. string_bytes text ≡ command_line name.now count (command_of name.now)) }
+    ensures { IfOk result (λ text. string_bytes text ≡ command_line name.now count (command_named name.now)) }
 {
     match Command::of(name) {
         Some(command) if count == command.operands().len() => {

@@ -27,7 +27,7 @@ use Rattle.sd_field.specs.Heard.{IsHeard}
 use Rattle.sd_field.specs.Seats.{IsNew, IsSeated, wrote_before}
 use Rattle.sd_field.proofs.Seats.{written_in}
 use Rattle.sd_field.proofs.Stations.{head_after}
-use Rattle.sd_field.specs.Stations.{HeadStands, IsStation}
+use Rattle.sd_field.specs.Stations.{IsHeadAfter, IsStation}
 use Rattle.sd_field.specs.Fields.{AreSeated, FieldValue, IsField, IsKept, IsSendRefused, IsSentCut, IsWrittenCut}
 use Rattle.sd_field.specs.Fields.{IsCommand, IsSentOver, TakesMemory, next_event, next_refusal, refusal_at, sends_of}
 use Rattle.sd_field.specs.Fields.{IsWrittenOver, after_fault, after_next, card_at, past_of, plan_in, taken, watch_of}
@@ -245,7 +245,7 @@ field_next v event book station seats u to is at calm low field goes_on =
       height = field.height;
       commands = field.commands;
       count = field.count ∙ sym (quiet_past v event is at.quiet);
-      head = λ _. subst (λ (xs : List (List ℕ)). HeadStands (plan_in v) xs station.head) (sym same)
+      head = λ _. subst (λ (xs : List (List ℕ)). IsHeadAfter (plan_in v) xs station.head) (sym same)
           (field.head (unrefused v calm));
       sent = λ _. field.sent (unsent v calm)
           ∙ ap (λ (xs : List (List ℕ)). concat (body (plan_in v) xs)) (sym same);
@@ -290,7 +290,7 @@ field_on v event book station seats is quiet still calm field =
       height = field.height;
       commands = field.commands;
       count = field.count ∙ sym quiet;
-      head = λ _. subst (λ (xs : List (List ℕ)). HeadStands (plan_in v) xs station.head) (sym same)
+      head = λ _. subst (λ (xs : List (List ℕ)). IsHeadAfter (plan_in v) xs station.head) (sym same)
           (field.head (unrefused v calm));
       sent = λ _. field.sent (unsent v calm)
           ∙ ap (λ (xs : List (List ℕ)). concat (body (plan_in v) xs)) (sym same);
@@ -409,7 +409,7 @@ field_sent v book station to seats is left calm field stands =
       height = field.height;
       commands = field.commands;
       count = omega (arith, stands.count, one, long, length-append (taken v) (get_or v.clear (sends_of v) [] ∷ []));
-      head = λ _. subst (λ (xs : List (List ℕ)). HeadStands (plan_in v) xs to.head) (sym same) stands.head;
+      head = λ _. subst (λ (xs : List (List ℕ)). IsHeadAfter (plan_in v) xs to.head) (sym same) stands.head;
       sent = λ _. stands.held ∙ ap (λ (xs : List (List ℕ)). concat (body (plan_in v) xs)) (sym same);
       room = λ _. stands.room;
       many = field.many;
@@ -632,7 +632,7 @@ first_field v book station seats none packets few leaves height commands stands 
       height = height;
       commands = commands;
       count = stands.count ∙ sym (ap (sends (length v.clear)) past);
-      head = λ _. subst (λ (xs : List (List ℕ)). HeadStands (plan_in v) xs station.head) (sym nothing) stands.head;
+      head = λ _. subst (λ (xs : List (List ℕ)). IsHeadAfter (plan_in v) xs station.head) (sym nothing) stands.head;
       sent = λ _. stands.held ∙ ap (λ (xs : List (List ℕ)). concat (body (plan_in v) xs)) (sym nothing);
       room = λ _. stands.room;
       many = many;

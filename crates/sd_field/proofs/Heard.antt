@@ -17,10 +17,10 @@ use Rattle.sd_receive.specs.declared.receiver.Receiver.{Receiver}
 use Rattle.sd_receive.proofs.Chained.{came_to_all}
 use Rattle.sd_receive.proofs.Turns.{out_more, break_more}
 use Rattle.sd_events.proofs.Offers.{out_of_one_more}
-use Rattle.sd_field.specs.Heard.{StandsAfter, IsHeard, HasRoom}
+use Rattle.sd_field.specs.Heard.{IsReceiverAfter, IsHeard, HasRoom}
 
 -- what a receiver keeps that stands after packets
-after_of : (card : CardFields) (xs : List (List ℕ)) (s : Receiver) → IsCountable xs → StandsAfter card xs s →
+after_of : (card : CardFields) (xs : List (List ℕ)) (s : Receiver) → IsCountable xs → IsReceiverAfter card xs s →
     IsAfter (reverse xs) s × (card_in s ≡ card)
 after_of card xs s few stands =
     let came = came_to_all xs stands.start s stands.bytes stands.steps stands.new (omega (arith, few)) stands.chain in

@@ -1,5 +1,6 @@
 -- The book of a field, event by event.
-use Rattle.std.proofs.Common.{arith, ◌≡◌, ◌∙◌, ℕ, zero, suc, ◌+◌, ◌-◌, ◌^◌, ◌<◌, ◌≤◌, List, [], ◌∷◌, ◌++◌, refl, ap, sym}
+use Rattle.std.proofs.Common.{arith, ◌≡◌, ◌∙◌, ℕ, zero, suc, ◌+◌, ◌-◌, ◌^◌, ◌<◌, ◌≤◌, List, [], ◌∷◌, ◌++◌, refl, ap}
+use Rattle.std.proofs.Common.{sym}
 use Rattle.std.proofs.Common.{subst}
 use Rattle.std.proofs.Common.{append_assoc, length, take, true}
 use Rattle.std.proofs.Math.Pow.{pow_mono}
@@ -15,7 +16,7 @@ use Rattle.sd_book.specs.Commands.{last_period}
 use Rattle.sd_book.proofs.Cuts.{period_append}
 use Rattle.sd_events.specs.declared.event.Event.{Event}
 use Rattle.sd_events.specs.Events.{is_of, sends_with}
-use Rattle.sd_events.specs.Book.{booked, commanded, event_book, filled, sends}
+use Rattle.sd_events.specs.Book.{booked, commanded, event_book, with_periods_to, sends}
 use Rattle.sd_events.proofs.Filled.{filled_ends}
 use Rattle.sd_events.proofs.Fitting.{event_books_fit, fronts_fit, revoked_few}
 use Rattle.sd_events.proofs.Sends.{sends_are_counted}
@@ -36,14 +37,14 @@ periods_more n book =
 
 -- as many Periods as were missing fill the book
 pub filled_by : (q last old : ℕ) (book now : List Command) → old ≡ last_period book → old ≤ last →
-    last - old ≤ q - old → q ≤ last → now ≡ book ++ replicate (last - old) Period → now ≡ filled q book
-unfolding filled
+    last - old ≤ q - old → q ≤ last → now ≡ book ++ replicate (last - old) Period → now ≡ with_periods_to q book
+unfolding with_periods_to
 filled_by q last old book now begins least most all is =
     let same : last - old ≡ q - last_period book = omega (arith, begins, least, most, all) in
     is ∙ ap (λ (n : ℕ). book ++ replicate n Period) same
 
 pub last_by : (q last old : ℕ) (book now : List Command) → old ≡ last_period book → old ≤ last →
-    last - old ≤ q - old → q ≤ last → now ≡ filled q book → last ≡ last_period now
+    last - old ≤ q - old → q ≤ last → now ≡ with_periods_to q book → last ≡ last_period now
 last_by q last old book now begins least most all is =
     let ends : last_period now ≡ max q (last_period book) = ap last_period is ∙ filled_ends q book in
     omega (arith, begins, least, most, all, ends)
@@ -73,7 +74,7 @@ laid_on site m event past s t laid height commands last sent = record {
 
 -- a command of a period that a book can have is taken, and another isn't
 pub command_within : (q : ℕ) (command : Command) (book : List Command) → q ≤ 1023 →
-    filled q book ++ command ∷ [] ≡ commanded q command book
+    with_periods_to q book ++ command ∷ [] ≡ commanded q command book
 unfolding commanded
 command_within q command book low =
     let test : nat_le q 1023 ≡ true = grind (arith, nat_tests, low) in
@@ -115,10 +116,10 @@ front_within d front rest low fits =
     }
 
 -- one of the Periods that fill a book
-pub period_fits : (d q last old : ℕ) (book now : List Command) → d ≤ 6 → IsWithinLimits d (filled q book) →
+pub period_fits : (d q last old : ℕ) (book now : List Command) → d ≤ 6 → IsWithinLimits d (with_periods_to q book) →
     old ≡ last_period book → old ≤ last → last < q → now ≡ book ++ replicate (last - old) Period →
     IsDraft d (now ++ Period ∷ [])
-unfolding filled
+unfolding with_periods_to
 period_fits d q last old book now low fits begins least before is =
     let n : ℕ = last - old + 1 in
     let rest : ℕ = q - old - n in

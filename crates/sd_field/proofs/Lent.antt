@@ -6,7 +6,7 @@ use Rattle.sd_reception.specs.Offered.{break_from}
 use Rattle.sd_receive.specs.declared.receiver.Receiver.{Receiver}
 use Rattle.sd_events.specs.Watch.{present}
 use Rattle.sd_field.specs.Fields.{FieldValue, IsField, IsWrittenCut, card_at, plan_in, taken, watch_of, written_of}
-use Rattle.sd_field.specs.Receivers.{ReceiverStands}
+use Rattle.sd_field.specs.Receivers.{IsReceiverFor}
 use Rattle.sd_field.specs.Seats.{wrote_before}
 use Rattle.sd_field.specs.declared.seat.Seat.{Seat}
 use Rattle.sd_field.specs.declared.station.Station.{Station}
@@ -22,7 +22,7 @@ written_here v book station seats u seat field there whole = ((field.seated u se
 abbrev pub Lends : ℕ → FieldValue → Option (Bor Receiver) → Type 0
 Lends u v lent = ¬ IsWrittenCut u v →
     break_from (card_at v u) [] (present (plan_in v) (taken v) (watch_of u v)) ≡ None →
-    IfSome lent (λ receiver. ReceiverStands (card_at v u) (present (plan_in v) (taken v) (watch_of u v))
+    IfSome lent (λ receiver. IsReceiverFor (card_at v u) (present (plan_in v) (taken v) (watch_of u v))
     (written_of u v) receiver.now)
 
 pub receiver_lent : (v : FieldValue) (book : BookValue) (station : Station) (seats : List Seat) (u : ℕ) (seat : Seat)

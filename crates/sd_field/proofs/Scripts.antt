@@ -7,7 +7,7 @@ use Rattle.std.specs.Prelude.{◌&&◌, if◌then◌else◌, option_map, option_
 use Rattle.std.proofs.lemmas.List.Elements.{All-nil, All-cons, All-append}
 use Rattle.sd_text.specs.declared.number.NumberFault.{NumberFault}
 use Rattle.sd_text.specs.declared.number.NumberFault.TheVariants.{TooLarge}
-use Rattle.sd_text.specs.Number.{after, fitting, number_of}
+use Rattle.sd_text.specs.Number.{rest_after, fitting, decimal_value}
 use Rattle.sd_events.specs.declared.event.Event.{Event}
 use Rattle.sd_events.specs.declared.event.Event.TheVariants.{Subscribe, Revoke, Send, Offer, Lose, Off, On}
 use Rattle.sd_events.specs.Events.{is_of}
@@ -15,7 +15,7 @@ use Rattle.sd_field.specs.declared.fault.ScriptFault.{ScriptFault}
 use Rattle.sd_field.specs.declared.fault.ScriptFault.TheVariants.{Leaf, Events}
 use Rattle.sd_field.specs.declared.line.LineFault.TheVariants.{Form}
 use Rattle.sd_field.specs.declared.line.LineFault.TheVariants as fault
-use Rattle.sd_field.specs.Line.{run_in, times_in}
+use Rattle.sd_field.specs.Line.{events_in_run, times_in}
 use Rattle.sd_field.specs.Script.{alone, both_of, by_word, count_of, counted, cut_at_space, judged}
 use Rattle.sd_field.specs.Script.{leaf_and_count, put_before, repeated, script_from, sends_said, spoken}
 
@@ -28,10 +28,10 @@ fit_said (Some m) n e = by (nat_lt m (2 ^ 32)) e
     by true e = let same : m ≡ n = cc in ap Some same
     by false e = absurd cc
 
-pub times_said : (text : List ℕ) (n : ℕ) → fitting (number_of text) ≡ Ok n →
+pub times_said : (text : List ℕ) (n : ℕ) → fitting (decimal_value text) ≡ Ok n →
     times_in (count_of text) ≡ times_in (counted n)
 times_said text n e =
-    ap (λ (number : Option ℕ). times_in (option_and_then counted number)) (fit_said (number_of text) n e)
+    ap (λ (number : Option ℕ). times_in (option_and_then counted number)) (fit_said (decimal_value text) n e)
 
 -- a text that says none says no number of events
 none_counted : (number : Option ℕ) (fault : NumberFault) → fitting number ≡ Err fault →
@@ -51,9 +51,9 @@ none_counted (Some m) fault e = by (nat_lt m (2 ^ 32)) refl e
         by_first true over = rw over refl
         by_first false over = refl
 
-pub times_unsaid : (text : List ℕ) (fault : NumberFault) → fitting (number_of text) ≡ Err fault →
+pub times_unsaid : (text : List ℕ) (fault : NumberFault) → fitting (decimal_value text) ≡ Err fault →
     times_in (count_of text) ≡ Err Form
-times_unsaid text fault e = ap times_in (none_counted (number_of text) fault e)
+times_unsaid text fault e = ap times_in (none_counted (decimal_value text) fault e)
 
 -- a run has an event
 counted_some : (m n : ℕ) → counted m ≡ Some n → 1 ≤ n
@@ -65,7 +65,7 @@ counted_some m n e = by (nat_le 1 m) (nat_le m 65536) refl e
     by false b t e = absurd cc
 
 count_some : (text : List ℕ) (n : ℕ) → count_of text ≡ Some n → 1 ≤ n
-count_some text n e = by (number_of text) e
+count_some text n e = by (decimal_value text) e
   where
     by : (number : Option ℕ) → option_and_then counted number ≡ Some n → 1 ≤ n
     by None e = absurd cc
@@ -78,7 +78,7 @@ HasSome (Some run) = 1 ≤ run.1
 
 alone_some : (make : ℕ → Event) (text : List ℕ) → HasSome (alone make text)
 unfolding alone
-alone_some make text = by (number_of text)
+alone_some make text = by (decimal_value text)
   where
     by : (number : Option ℕ) → HasSome (option_map (λ u. (make u, 1)) number)
     by None = tt
@@ -109,9 +109,9 @@ unfolding leaf_and_count
 pair_some text u n e = by (cut_at_space text) e
   where
     by : (parts : Option (List ℕ × List ℕ)) →
-        option_and_then (λ parts. both_of (number_of parts.0) (count_of parts.1)) parts ≡ Some (u, n) → 1 ≤ n
+        option_and_then (λ parts. both_of (decimal_value parts.0) (count_of parts.1)) parts ≡ Some (u, n) → 1 ≤ n
     by None e = absurd cc
-    by (Some parts) e = both_some (number_of parts.0) parts.1 u n e
+    by (Some parts) e = both_some (decimal_value parts.0) parts.1 u n e
 
 repeated_some : (make : ℕ → Event) (text : List ℕ) → HasSome (repeated make text)
 unfolding repeated
@@ -130,16 +130,17 @@ word_some (Some text) says other some rest = some text
 spoken_some : (line : List ℕ) → HasSome (spoken line)
 unfolding spoken
 spoken_some line =
-    word_some (after (codes "subscribe ") line) (alone Subscribe) _ (alone_some Subscribe)
-    (word_some (after (codes "revoke ") line) (alone Revoke) _ (alone_some Revoke)
-    (word_some (after (codes "send ") line) sends_said _ sends_some
-    (word_some (after (codes "offer ") line) (repeated Offer) _ (repeated_some Offer)
-    (word_some (after (codes "lose ") line) (repeated Lose) _ (repeated_some Lose)
-    (word_some (after (codes "off ") line) (alone Off) _ (alone_some Off)
-    (word_some (after (codes "on ") line) (alone On) None (alone_some On) tt))))))
+    word_some (rest_after (codes "subscribe ") line) (alone Subscribe) _ (alone_some Subscribe)
+    (word_some (rest_after (codes "revoke ") line) (alone Revoke) _ (alone_some Revoke)
+    (word_some (rest_after (codes "send ") line) sends_said _ sends_some
+    (word_some (rest_after (codes "offer ") line) (repeated Offer) _ (repeated_some Offer)
+    (word_some (rest_after (codes "lose ") line) (repeated Lose) _ (repeated_some Lose)
+    (word_some (rest_after (codes "off ") line) (alone Off) _ (alone_some Off)
+    (word_some (rest_after (codes "on ") line) (alone On) None (alone_some On) tt))))))
 
 -- a run of the tree is the one that is said
-run_said : (d : ℕ) (said : Option (Event × ℕ)) (run : Event × ℕ) → HasSome said → run_in d said ≡ Ok run → 1 ≤ run.1
+run_said : (d : ℕ) (said : Option (Event × ℕ)) (run : Event × ℕ) → HasSome said → events_in_run d said ≡ Ok run →
+    1 ≤ run.1
 run_said d None run some e = absurd cc
 run_said d (Some other) run some e = by (is_of d other.0) e
   where
@@ -147,7 +148,7 @@ run_said d (Some other) run some e = by (is_of d other.0) e
     by true e = let same : other ≡ run = cc in rw (sym same) some
     by false e = absurd cc
 
-pub run_some : (d : ℕ) (line : List ℕ) (run : Event × ℕ) → run_in d (spoken line) ≡ Ok run → 1 ≤ run.1
+pub run_some : (d : ℕ) (line : List ℕ) (run : Event × ℕ) → events_in_run d (spoken line) ≡ Ok run → 1 ≤ run.1
 run_some d line run e = run_said d (spoken line) run (spoken_some line) e
 
 -- what a good line says: a run of the tree, with which the events aren't too many

@@ -14,11 +14,11 @@ use Rattle.sd_broadcast.specs.Sent.{Item, added, body, bytes_added, bytes_from, 
 use Rattle.sd_broadcast.proofs.Bodies.{body_bytes}
 use Rattle.sd_broadcast.proofs.Sending.{packets_in_turn, sent_more}
 use Rattle.sd_head.specs.Schedule.{IsDue}
-use Rattle.sd_head.specs.Staged.{IsAfter, IsReady, Refuses, head_does}
+use Rattle.sd_head.specs.Staged.{IsAfter, IsReady, RefusesPacket, head_does}
 use Rattle.sd_head.specs.declared.fault.HeadFault.{HeadFault}
 use Rattle.sd_head.specs.declared.head.Head.{Head}
 use Rattle.sd_field.specs.Heard.{HasRoom}
-use Rattle.sd_field.specs.Stations.{HeadStands, IsStation}
+use Rattle.sd_field.specs.Stations.{IsHeadAfter, IsStation}
 use Rattle.sd_field.specs.declared.station.Station.{Station}
 
 -- the bytes of packets, each after those before it
@@ -39,21 +39,21 @@ chained plan packets s t bytes steps after chain =
     (there.0 ∙ (all_bytes plan [] packets ∙ sym (body_bytes plan packets)), there.1)
 
 -- the head end has sent what is sent for its packets
-pub head_after : (plan : Plan) (packets : List (List ℕ)) (head : Head) → HeadStands plan packets head →
+pub head_after : (plan : Plan) (packets : List (List ℕ)) (head : Head) → IsHeadAfter plan packets head →
     IsAfter plan packets head
 head_after plan packets head stands =
     (chained plan packets stands.start head (concat (body plan packets)) stands.steps stands.new.0 stands.chain).1
 
 -- so it may be offered one more
-pub head_ready : (plan : Plan) (packets : List (List ℕ)) (head : Head) → HeadStands plan packets head → IsReady head
+pub head_ready : (plan : Plan) (packets : List (List ℕ)) (head : Head) → IsHeadAfter plan packets head → IsReady head
 head_ready plan packets head stands calm =
     let after = head_after plan packets head stands in
     (packets, subst (λ (p : Plan). IsAfter p packets head) (sym after.keeps_to) after)
 
 -- it stands with one packet more
 pub head_goes_on : (plan : Plan) (packets : List (List ℕ)) (s : Head) (packet : List ℕ) (t : Head) (bytes : List ℕ)
-    (steps : ℕ) → HeadStands plan packets s → head_does s packet t bytes steps →
-    HeadStands plan (packets ++ packet ∷ []) t
+    (steps : ℕ) → IsHeadAfter plan packets s → head_does s packet t bytes steps →
+    IsHeadAfter plan (packets ++ packet ∷ []) t
 head_goes_on plan packets s packet t bytes steps stands does =
     let before : List ℕ = concat (body plan packets) in
     let more : List (List ℕ) = packets ++ packet ∷ [] in
@@ -114,7 +114,7 @@ station_allowed plan packets total s packet t bytes steps stands does =
 -- a refusal is due
 pub station_due : (plan : Plan) (packets : List (List ℕ)) (total : ℕ) (s : Station) (packet : List ℕ)
     (fault : HeadFault) (bytes : List ℕ) → IsStation plan packets total s →
-    Refuses s.head (Some packet) fault bytes → IsDue plan packets (Some packet) fault
+    RefusesPacket s.head (Some packet) fault bytes → IsDue plan packets (Some packet) fault
 station_due plan packets total s packet fault bytes stands refuses =
     let after = head_after plan packets s.head stands.head in
     elim refuses.cause [

@@ -21,7 +21,7 @@ use Rattle.sd_field.specs.declared.fault.FieldFault.{FieldFault}
 use Rattle.sd_field.specs.declared.fault.FieldFault.TheVariants.{NoMemory}
 use Rattle.sd_field.specs.Heard.{HasRoom}
 use Rattle.sd_field.specs.Seats.{IsSeated}
-use Rattle.sd_field.specs.Stations.{HeadStands}
+use Rattle.sd_field.specs.Stations.{IsHeadAfter}
 use Rattle.sd_field.specs.declared.seat.Seat.{Seat}
 use Rattle.sd_field.specs.declared.station.Station.{Station}
 
@@ -148,7 +148,7 @@ pub record IsField (v : FieldValue) (book : BookValue) (station : Station) (seat
   pub height : book.height ≡ v.site.height
   pub commands : book.commands ≡ (plan_in v).commands
   pub count : station.count ≡ sends_of v
-  pub head : ¬ IsSendRefused v → HeadStands (plan_in v) (taken v) station.head
+  pub head : ¬ IsSendRefused v → IsHeadAfter (plan_in v) (taken v) station.head
   pub sent : ¬ IsSentCut v → station.sent.held ≡ concat (body (plan_in v) (taken v))
   pub room : v.failed ≡ None → HasRoom (188 * 72 * length v.clear) station.sent
   pub many : length seats ≡ 2 ^ v.site.height

@@ -10,7 +10,7 @@ use Rattle.sd_receive.specs.Receiving.{IsAfter, IsLive, card_in, receiver_does}
 use Rattle.sd_receive.specs.declared.receiver.Receiver.{Receiver}
 
 -- the receiver is a new one with this card that was offered these packets
-pub record StandsAfter (card : CardFields) (xs : List (List ℕ)) (receiver : Receiver) : Type 0 where
+pub record IsReceiverAfter (card : CardFields) (xs : List (List ℕ)) (receiver : Receiver) : Type 0 where
   pub start : Receiver
   pub bytes : List ℕ
   pub steps : ℕ
@@ -25,7 +25,7 @@ pub record StandsAfter (card : CardFields) (xs : List (List ℕ)) (receiver : Re
 pub record IsHeard (card : CardFields) (earlier : List ℕ) (xs : List (List ℕ)) (receiver : Receiver)
     (held : List ℕ) : Type 0 where
   pub bytes : held ≡ earlier ++ concat (out_from card [] xs)
-  pub stands : break_from card [] xs ≡ None → StandsAfter card xs receiver
+  pub stands : break_from card [] xs ≡ None → IsReceiverAfter card xs receiver
   pub broken : (why : StreamFault) → break_from card [] xs ≡ Some why → receiver.refusal ≡ Some why
   pub live : IsLive receiver
 

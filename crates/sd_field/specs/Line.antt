@@ -21,6 +21,6 @@ times_in None = Err Form
 times_in (Some n) = Ok n
 
 -- an event and how often it happens, whose leaf must be of a tree of height d
-abbrev pub run_in : ℕ → Option (Event × ℕ) → Result (Event × ℕ) LineFault
-run_in d None = Err Form
-run_in d (Some run) = if is_of d run.0 then Ok run else Err Leaf
+abbrev pub events_in_run : ℕ → Option (Event × ℕ) → Result (Event × ℕ) LineFault
+events_in_run d None = Err Form
+events_in_run d (Some run) = if is_of d run.0 then Ok run else Err Leaf

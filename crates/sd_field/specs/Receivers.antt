@@ -7,7 +7,7 @@ use Rattle.sd_receive.specs.declared.receiver.Receiver.{Receiver}
 
 -- the receiver is a new one with this card that was offered these packets; all that was written for its leaf is what
 -- earlier receivers wrote, and then what it wrote
-pub record ReceiverStands (card : CardFields) (packets : List (List ℕ)) (all : List ℕ) (receiver : Receiver) : Type 0
+pub record IsReceiverFor (card : CardFields) (packets : List (List ℕ)) (all : List ℕ) (receiver : Receiver) : Type 0
   where
     pub start : Receiver
     pub earlier : List ℕ

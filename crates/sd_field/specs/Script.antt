@@ -3,7 +3,7 @@
 use Rattle.std.specs.Prelude.{ℕ, ◌+◌, ◌==◌, ◌&&◌, nat_le, nat_lt, List, [], ◌∷◌, ◌++◌, replicate, codes}
 use Rattle.std.specs.Prelude.{if◌then◌else◌, Option, Some, None, option_map, option_and_then, Result, Ok, Err}
 use Rattle.sd_text.specs.Lines.{lines_of}
-use Rattle.sd_text.specs.Number.{after, number_of}
+use Rattle.sd_text.specs.Number.{rest_after, decimal_value}
 use Rattle.sd_events.specs.declared.event.Event.{Event}
 use Rattle.sd_events.specs.declared.event.Event.TheVariants.{Subscribe, Revoke, Send, Offer, Lose, Off, On}
 use Rattle.sd_events.specs.Events.{is_of}
@@ -25,11 +25,11 @@ counted n = if nat_le 1 n && nat_le n 65536 then Some n else None
 
 -- the number of events that a text says
 abbrev pub count_of : List ℕ → Option ℕ
-count_of text = option_and_then counted (number_of text)
+count_of text = option_and_then counted (decimal_value text)
 
 -- one event of the leaf that a text says, which is any number
 unfoldable pub alone : (ℕ → Event) → List ℕ → Option (Event × ℕ)
-alone make text = option_map (λ u. (make u, 1)) (number_of text)
+alone make text = option_map (λ u. (make u, 1)) (decimal_value text)
 
 -- the number of sends that a text says
 unfoldable pub sends_said : List ℕ → Option (Event × ℕ)
@@ -41,7 +41,7 @@ both_of leaf count = option_and_then (λ u. option_map (λ n. (u, n)) count) lea
 
 -- the leaf and the number of events that a text says, with a space between them
 unfoldable pub leaf_and_count : List ℕ → Option (ℕ × ℕ)
-leaf_and_count text = option_and_then (λ parts. both_of (number_of parts.0) (count_of parts.1)) (cut_at_space text)
+leaf_and_count text = option_and_then (λ parts. both_of (decimal_value parts.0) (count_of parts.1)) (cut_at_space text)
 
 -- the leaf and the number of events of a text, as events of that leaf
 unfoldable pub repeated : (ℕ → Event) → List ℕ → Option (Event × ℕ)
@@ -55,13 +55,13 @@ by_word (Some text) says other = says text
 -- the event that a line says, whose leaf is any number, and how often [this project, docs/FORMATS.md, Field]
 unfoldable pub spoken : List ℕ → Option (Event × ℕ)
 spoken line =
-    by_word (after (codes "subscribe ") line) (alone Subscribe)
-    (by_word (after (codes "revoke ") line) (alone Revoke)
-    (by_word (after (codes "send ") line) sends_said
-    (by_word (after (codes "offer ") line) (repeated Offer)
-    (by_word (after (codes "lose ") line) (repeated Lose)
-    (by_word (after (codes "off ") line) (alone Off)
-    (by_word (after (codes "on ") line) (alone On) None))))))
+    by_word (rest_after (codes "subscribe ") line) (alone Subscribe)
+    (by_word (rest_after (codes "revoke ") line) (alone Revoke)
+    (by_word (rest_after (codes "send ") line) sends_said
+    (by_word (rest_after (codes "offer ") line) (repeated Offer)
+    (by_word (rest_after (codes "lose ") line) (repeated Lose)
+    (by_word (rest_after (codes "off ") line) (alone Off)
+    (by_word (rest_after (codes "on ") line) (alone On) None))))))
 
 -- the event of line k and how often, after n events, or what is wrong with the line. The grammar is judged first, then
 -- the leaf, which must be of a tree of height d, then the number of events of the script [this project,

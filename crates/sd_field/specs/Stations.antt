@@ -10,7 +10,7 @@ use Rattle.sd_field.specs.Heard.{HasRoom}
 use Rattle.sd_field.specs.declared.station.Station.{Station}
 
 -- the head end is a new one of this plan that was offered these clear packets, and wrote what is sent for them
-pub record HeadStands (plan : Plan) (packets : List (List ℕ)) (head : Head) : Type 0 where
+pub record IsHeadAfter (plan : Plan) (packets : List (List ℕ)) (head : Head) : Type 0 where
   pub start : Head
   pub steps : ℕ
   pub new : IsAfter plan [] start × IsReady start
@@ -19,6 +19,6 @@ pub record HeadStands (plan : Plan) (packets : List (List ℕ)) (head : Head) : 
 -- a head end that was offered these clear packets, with room for `total` bytes in all
 pub record IsStation (plan : Plan) (packets : List (List ℕ)) (total : ℕ) (station : Station) : Type 0 where
   pub count : station.count ≡ length packets
-  pub head : HeadStands plan packets station.head
+  pub head : IsHeadAfter plan packets station.head
   pub held : station.sent.held ≡ concat (body plan packets)
   pub room : HasRoom total station.sent

@@ -15,8 +15,8 @@ ghost use Rattle.sd_field.specs.declared.fault.FieldFault.{FieldFault as Faults}
 ghost use Rattle.sd_field.specs.Fields.{IsCommand, IsSendRefused, IsSentCut, IsWrittenCut, IsWrittenOver, TakesMemory};
 ghost use Rattle.sd_field.specs.Fields.{after_fault, after_next, card_at, next_event, next_refusal, plan_in, sends_of};
 ghost use Rattle.sd_field.specs.Fields.{taken, watch_of, written_of};
-ghost use Rattle.sd_field.specs.Receivers.{ReceiverStands};
-ghost use Rattle.sd_field.specs.Stations.{HeadStands};
+ghost use Rattle.sd_field.specs.Receivers.{IsReceiverFor};
+ghost use Rattle.sd_field.specs.Stations.{IsHeadAfter};
 
 use crate::fault::FieldFault;
 use crate::laid::event_book;
@@ -324,7 +324,7 @@ impl Field {
         ensures stands { ¬ IsWrittenCut u self.now →
             break_from (card_at self.now u) []
             (present (plan_in self.now) (taken self.now) (watch_of u self.now)) ≡ None →
-            IfSome result (λ receiver. ReceiverStands (card_at self.now u)
+            IfSome result (λ receiver. IsReceiverFor (card_at self.now u)
             (present (plan_in self.now) (taken self.now) (watch_of u self.now)) (written_of u self.now) receiver.now) }
     {
         self.seats[u.get() as usize].receiver.as_ref()
@@ -332,7 +332,7 @@ impl Field {
 
     /// The head end of the field.
     pub fn head(&self) -> &Head
-        ensures stands { ¬ IsSendRefused self.now → HeadStands (plan_in self.now) (taken self.now) result.now }
+        ensures stands { ¬ IsSendRefused self.now → IsHeadAfter (plan_in self.now) (taken self.now) result.now }
     {
         &self.station.head
     }

@@ -4,7 +4,8 @@ ghost use Rattle.sd_book.specs.Commands.{is_within, last_period};
 ghost use Rattle.sd_book.specs.Limits.{IsDraft, IsWithinLimits};
 ghost use Rattle.sd_events.specs.declared.event.Event.TheVariants.{Send};
 ghost use Rattle.sd_events.specs.Events.{is_of, sends_with};
-ghost use Rattle.sd_events.specs.Book.{booked, commanded, event_book, filled, open_period, period_after, reached};
+ghost use Rattle.sd_events.specs.Book.{booked, commanded, event_book, with_periods_to, open_period, period_after};
+ghost use Rattle.sd_events.specs.Book.{reached};
 ghost use Rattle.sd_field.specs.Laid.{IsLaid};
 
 use sd_book::{Book, BookFault, Command, Draft, MOST_PERIODS};
@@ -89,9 +90,9 @@ impl Laid {
     fn fill(&mut self, period: u32) -> Result<(), NoMemory>
         requires last { self.old.last ≡ last_period self.old.draft.commands }
         requires low { self.old.draft.height ≤ 6 }
-        requires fits { IsWithinLimits self.old.draft.height (filled period self.old.draft.commands) }
+        requires fits { IsWithinLimits self.old.draft.height (with_periods_to period self.old.draft.commands) }
         ensures height { self.new.draft.height ≡ self.old.draft.height }
-        ensures value { OnOk result (self.new.draft.commands ≡ filled period self.old.draft.commands) }
+        ensures value { OnOk result (self.new.draft.commands ≡ with_periods_to period self.old.draft.commands) }
         ensures last { OnOk result (self.new.last ≡ last_period self.new.draft.commands) }
         ensures sends { self.new.sends ≡ self.old.sends }
     {

@@ -1,6 +1,6 @@
 ghost use Rattle.std.specs.Prelude.{◌≡◌, option_map};
-ghost use Rattle.sd_text.specs.Number.{fitting, number_of};
-ghost use Rattle.sd_field.specs.Line.{leaf_in, pair_in, run_in, times_in};
+ghost use Rattle.sd_text.specs.Number.{fitting, decimal_value};
+ghost use Rattle.sd_field.specs.Line.{leaf_in, pair_in, events_in_run, times_in};
 ghost use Rattle.sd_field.specs.Script.{count_of, counted, cut_at_space, leaf_and_count, spoken};
 
 use memchr::memchr;
@@ -21,9 +21,9 @@ pub(crate) enum LineFault {
 }
 
 /// The event that a line says, and how often.
-#[tactic(auto, unfolding(crate::specs::Script::spoken, crate::specs::Script::alone, crate::specs::Script::sends_said, crate::specs::Script::repeated, sd_text::specs::Number::after))]
+#[tactic(auto, unfolding(crate::specs::Script::spoken, crate::specs::Script::alone, crate::specs::Script::sends_said, crate::specs::Script::repeated, sd_text::specs::Number::rest_after))]
 pub(crate) fn run_on(line: &[u8], h: Height) -> Result<(Event, u32), LineFault>
-    ensures { result ≡ run_in h (spoken line.now) }
+    ensures { result ≡ events_in_run h (spoken line.now) }
 {
     if let Some(text) = line.strip_prefix(b"subscribe ".as_slice()) {
         return Ok((Event::Subscribe(leaf_in(text, h)?), 1));
@@ -53,7 +53,7 @@ pub(crate) fn run_on(line: &[u8], h: Height) -> Result<(Event, u32), LineFault>
 
 /// The leaf that a text says.
 fn leaf_in(text: &[u8], h: Height) -> Result<Leaf, LineFault>
-    ensures { result ≡ leaf_in h (number_of text.now) }
+    ensures { result ≡ leaf_in h (decimal_value text.now) }
 {
     match number_in(text) {
         Ok(u) => Leaf::new(h, u).ok_or(LineFault::Leaf),
@@ -85,9 +85,9 @@ fn counted(times: u32) -> Result<u32, LineFault>
 }
 
 /// The number that a text says.
-#[tactic(auto, unfolding(sd_text::specs::Number::after))]
+#[tactic(auto, unfolding(sd_text::specs::Number::rest_after))]
 fn number_in(text: &[u8]) -> Result<u32, NumberFault>
-    ensures { result ≡ fitting (number_of text.now) }
+    ensures { result ≡ fitting (decimal_value text.now) }
 {
     number_after(b"", text)
 }

@@ -3,19 +3,19 @@ use Rattle.std.proofs.Common.{◌≡◌, ◌⊎◌, ℕ, zero, suc, ◌+◌, ◌
 use Rattle.std.proofs.Common.{Ok, Err, refl, sym, ap, ◌∙◌, inl, inr, arith, le-ltb, lt-ltb}
 use Rattle.std.specs.Prelude.{IsSome, IfSome, IsErrOf}
 use Rattle.std.specs.FinMap.{get}
-use Rattle.sd_cause.specs.Count.{IsCaused, Rose, with_added}
+use Rattle.sd_cause.specs.Count.{IsCaused, HasRisen, with_added}
 use Rattle.sd_ports.specs.Causes.{HasDepotCause}
 use Rattle.sd_ports.specs.declared.fault.DepotFault.{DepotFault as PortRefusal}
 use Rattle.sd_ports.specs.declared.fault.DepotFault.TheVariants as port
-use Rattle.sd_ports.specs.Files.{Files, Opens, IsFile, IsLongFile, IsNotThere, IsThere}
+use Rattle.sd_ports.specs.Files.{Files, OpensFile, IsFile, IsLongFile, IsNotThere, IsThere}
 use Rattle.sd_status.specs.declared.status.Status.{Status}
 use Rattle.sd_status.specs.declared.status.Status.TheVariants.{Missing, Limit, DepotFault, NoMemory}
 use Rattle.sd_status.specs.declared.status.LimitKind.{LimitKind}
-use Rattle.sd_status.specs.Outside.{Place, called}
-use Rattle.sd_status.specs.Meant.{within, all_of, IsGot}
+use Rattle.sd_status.specs.Outside.{DepotState, called}
+use Rattle.sd_status.specs.Spec.{within, all_of, IsGot}
 use Rattle.sd_status.proofs.Givens.{some_got as any_got}
 use Rattle.sd_engine.specs.Taken.{IsLeft}
-use Rattle.sd_status.specs.Reads.{IsAsked, StopCause, Looks}
+use Rattle.sd_status.specs.Reads.{IsAsked, StopCause, FileOutcome}
 use Rattle.sd_files.specs.Turned.{opening_status}
 
 file_got : (files : Option Files) (name bytes : List ℕ) → IsFile files name bytes → IsGot files name (Some bytes)
@@ -28,9 +28,9 @@ none_got (Some m) name h = sym h
 
 -- the file was read
 pub looks_read : {X : Type 0} (view : X → List ℕ) (x : X) (word most : ℕ) (kind : LimitKind) (name : List ℕ)
-    (a b : Place) →
-    IsFile a.files name (view x) → length (view x) ≤ most → b ≡ called 2 a → Looks view (within word most kind) name a b
-    (Ok x)
+    (a b : DepotState) →
+    IsFile a.files name (view x) → length (view x) ≤ most → b ≡ called 2 a →
+    FileOutcome view (within word most kind) name a b (Ok x)
 looks_read view x word most kind name a b there short same = record {
   got = Some (view x);
   is_got = file_got a.files name (view x) there;
@@ -38,9 +38,10 @@ looks_read view x word most kind name a b there short same = record {
 }
 
 -- there is no such file
-pub looks_missing : {X : Type 0} (view : X → List ℕ) (word most : ℕ) (kind : LimitKind) (name : List ℕ) (a b : Place) →
-    IsNotThere a.files name → IsAsked 1 a b → b.faults ≡ a.faults → Rose a.misses b.misses →
-    Looks view (within word most kind) name a b (Err (Missing word))
+pub looks_missing : {X : Type 0} (view : X →
+    List ℕ) (word most : ℕ) (kind : LimitKind) (name : List ℕ) (a b : DepotState) →
+    IsNotThere a.files name → IsAsked 1 a b → b.faults ≡ a.faults → HasRisen a.misses b.misses →
+    FileOutcome view (within word most kind) name a b (Err (Missing word))
 looks_missing view word most kind name a b none asked calm rose = record {
   got = None;
   is_got = none_got a.files name none;
@@ -78,9 +79,10 @@ long_got (Some m) name most h = let l = long_of (get m name) most h.0 h.1 in rec
     { bytes = l.0; got = l.1; long = l.2 }
 
 -- the file is too long
-pub looks_long : {X : Type 0} (view : X → List ℕ) (word most : ℕ) (kind : LimitKind) (name : List ℕ) (a b : Place) →
+pub looks_long : {X : Type 0} (view : X →
+    List ℕ) (word most : ℕ) (kind : LimitKind) (name : List ℕ) (a b : DepotState) →
     IsLongFile a.files name most → IsAsked 2 a b → b.faults ≡ a.faults → b.misses ≡ a.misses →
-    Looks view (within word most kind) name a b (Err (Limit kind))
+    FileOutcome view (within word most kind) name a b (Err (Limit kind))
 looks_long view word most kind name a b long asked calm misses = let l = long_got a.files name most long in record {
   got = Some l.bytes;
   is_got = l.got;
@@ -115,11 +117,11 @@ some_got (Some m) name word most kind before now once two = record {
 }
 
 -- the outside stopped it
-pub looks_stopped : {X : Type 0} (view : X → List ℕ) (word most : ℕ) (kind : LimitKind) (name : List ℕ) (a b : Place)
-    (status : Status) →
+pub looks_stopped : {X : Type 0} (view : X →
+    List ℕ) (word most : ℕ) (kind : LimitKind) (name : List ℕ) (a b : DepotState) (status : Status) →
     StopCause a b status →
     (b.calls ≤ with_added a.calls 1) ⊎ IsThere a.files name → IsAsked 2 a b → b.misses ≡ a.misses →
-    Looks view (within word most kind) name a b (Err status)
+    FileOutcome view (within word most kind) name a b (Err status)
 looks_stopped view word most kind name a b status cause once asked misses =
     let g = some_got a.files name word most kind a.calls b.calls once asked.calls in record {
       got = g.got;
@@ -137,16 +139,16 @@ bytes_seen bytes = bytes
 
 -- the bytes to come from the port of a file are the file's
 pub opened_got : (files : Option Files) (name : List ℕ) (left : Option (List ℕ)) (bytes : List ℕ) →
-    Opens files name left →
+    OpensFile files name left →
     IsLeft left bytes → IsGot files name (Some bytes)
 opened_got None name left bytes opens is = tt
 opened_got (Some m) name None bytes opens is = absurd (let h = opens.0 in cc)
 opened_got (Some m) name (Some xs) bytes opens is = sym (opens.1 ∙ ap Some is)
 
 -- there is no such file to be opened
-opens_missing : (word : ℕ) (name : List ℕ) (a b : Place) → IsNotThere a.files name → IsAsked 1 a b →
+opens_missing : (word : ℕ) (name : List ℕ) (a b : DepotState) → IsNotThere a.files name → IsAsked 1 a b →
     b.faults ≡ a.faults →
-    Rose a.misses b.misses → Looks bytes_seen (all_of word) name a b (Err (Missing word))
+    HasRisen a.misses b.misses → FileOutcome bytes_seen (all_of word) name a b (Err (Missing word))
 opens_missing word name a b none asked calm rose = record {
   got = None;
   is_got = none_got a.files name none;
@@ -164,8 +166,9 @@ all_calls word None = omega arith
 all_calls word (Some bytes) = omega arith
 
 -- the outside stopped it before it was opened
-opens_stopped : (word : ℕ) (name : List ℕ) (a b : Place) (status : Status) →
-    StopCause a b status → IsAsked 1 a b → b.misses ≡ a.misses → Looks bytes_seen (all_of word) name a b (Err status)
+opens_stopped : (word : ℕ) (name : List ℕ) (a b : DepotState) (status : Status) →
+    StopCause a b status → IsAsked 1 a b → b.misses ≡ a.misses →
+    FileOutcome bytes_seen (all_of word) name a b (Err status)
 opens_stopped word name a b status cause asked misses =
     let g = any_got a.files name in record {
       got = g.0;
@@ -183,11 +186,11 @@ opens_stopped word name a b status cause asked misses =
     }
 
 -- the file gave no port
-pub opens_refused : {T : Type 0} (word : ℕ) (name : List ℕ) (a b : Place) (fault : PortRefusal) →
+pub opens_refused : {T : Type 0} (word : ℕ) (name : List ℕ) (a b : DepotState) (fault : PortRefusal) →
     (IsErrOf {T = T} (Err fault) port.Missing → IsNotThere a.files name) →
     HasDepotCause {T = T} a.faults b.faults a.misses b.misses (Err fault) →
     IsCaused a.stops b.stops (IsErrOf {T = T} (Err fault) port.Failed) → IsAsked 1 a b →
-    Looks bytes_seen (all_of word) name a b (Err (opening_status word fault))
+    FileOutcome bytes_seen (all_of word) name a b (Err (opening_status word fault))
 opens_refused word name a b port.Missing none cause stops asked =
     opens_missing word name a b (none refl) asked (cause.no_fault (λ e. cc)) (cause.missing refl)
 opens_refused word name a b port.Failed none cause stops asked =

@@ -12,7 +12,7 @@ use Rattle.sd_status.specs.declared.status.Status.{Status}
 use Rattle.sd_status.specs.declared.status.Status.TheVariants.{Usage, Limit}
 use Rattle.sd_status.specs.declared.status.LimitKind.{LimitKind}
 use Rattle.sd_status.specs.declared.status.LimitKind.TheVariants.{SiteBytes, BookBytes}
-use Rattle.sd_status.specs.Meant.{Meant, after, all_of, judged, value, within, ◌>>=◌}
+use Rattle.sd_status.specs.Spec.{Spec, and_then, all_of, judged, value, within, ◌>>=◌}
 use Rattle.sd_files.specs.Both.{both_by}
 use Rattle.sd_files.specs.Files.{told_site, told_book, site_of_file, book_of_file, most_site_bytes, most_book_bytes}
 use Rattle.sd_files.specs.Leaves.{told_leaves, leaves_of_file}
@@ -22,9 +22,9 @@ use Rattle.sd_leaves.specs.Text.{leaves_of_text}
 abbrev pub IsOther : {A : Type 0} → Result A Status → Type 0
 IsOther r = IfErr r (λ status. status ≢ Usage)
 
-pub other_after : {A B : Type 0} (n : ℕ) (r : Result A Status) (next : A → Meant B) → IsOther r →
+pub other_after : {A B : Type 0} (n : ℕ) (r : Result A Status) (next : A → Spec B) → IsOther r →
     ((x : A) → IsOther (next x).result) →
-    IsOther (after n r next).result
+    IsOther (and_then n r next).result
 other_after n (Ok x) next h step = step x
 other_after n (Err status) next h step = h
 

@@ -2,9 +2,9 @@
 use Rattle.std.proofs.Common.{◌≡◌, ℕ, Option, ap, ◌∙◌}
 use Rattle.sd_cause.specs.Count.{with_added}
 use Rattle.sd_ports.specs.Files.{Files}
-use Rattle.sd_status.specs.Outside.{Place, called}
+use Rattle.sd_status.specs.Outside.{DepotState, called}
 
-abbrev moment : Option Files → ℕ → ℕ → ℕ → ℕ → ℕ → ℕ → Place
+abbrev moment : Option Files → ℕ → ℕ → ℕ → ℕ → ℕ → ℕ → DepotState
 moment files faults stops misses made opened calls = record {
   files = files;
   faults = faults;
@@ -15,7 +15,7 @@ moment files faults stops misses made opened calls = record {
   calls = calls;
 }
 
-pub only_called : (n : ℕ) (a b : Place) → b.files ≡ a.files → b.faults ≡ a.faults → b.stops ≡ a.stops →
+pub only_called : (n : ℕ) (a b : DepotState) → b.files ≡ a.files → b.faults ≡ a.faults → b.stops ≡ a.stops →
     b.misses ≡ a.misses → b.made ≡ a.made →
     b.opened ≡ a.opened → b.calls ≡ with_added a.calls n → b ≡ called n a
 only_called n a b files faults stops misses made opened calls =

@@ -4,16 +4,16 @@ use Rattle.std.specs.Io.KnownBytes.{Appends}
 use Rattle.std.proofs.KnownBytes.{Appends-nil}
 use Rattle.sd_ports.specs.Bytes.{AppendsPrefix}
 use Rattle.sd_status.specs.declared.status.Status.{Status}
-use Rattle.sd_status.specs.Outside.{Place, Page, outside}
-use Rattle.sd_status.specs.Meant.{value}
-use Rattle.sd_status.specs.Comes.{IsEnding, untouched, ended, exhausted, cut_off, Obeys}
+use Rattle.sd_status.specs.Outside.{DepotState, PageState, outside}
+use Rattle.sd_status.specs.Spec.{value}
+use Rattle.sd_status.specs.Outcome.{IsEnding, untouched, ended, exhausted, cut_off, OutcomeWithin}
 use Rattle.sd_status.specs.Prints.{PrintsText}
-use Rattle.sd_files.specs.Printed.{Comes, printing}
+use Rattle.sd_files.specs.Printed.{MemoryOutcome, printing}
 
 -- a text, and then its printing
-pub text_printed : (text : List ℕ) (q : Place) (page now : Page) (steps more : ℕ) (status : Status) →
+pub text_printed : (text : List ℕ) (q : DepotState) (page now : PageState) (steps more : ℕ) (status : Status) →
     PrintsText text page now status →
-    Obeys (value (printing (Ok text))) (outside q page steps) (outside q now more) status
+    OutcomeWithin (value (printing (Ok text))) (outside q page steps) (outside q now more) status
 text_printed text q page now steps more status (inl all) = record {
   comes = ended (printing (Ok text)) refl all.0 (subst IsEnding (sym all.0) tt) (record { files = refl; made = refl })
       (subst (λ (xs : List ℕ). Appends page.printed now.printed xs) (sym (append-nil text)) all.1)
@@ -32,12 +32,13 @@ text_printed text q page now steps more status (inr cut) = record {
 }
 
 -- no text
-pub nothing_printed : {X : Type 0} (view : X → List ℕ) (meant : Result (List ℕ) Status) (q : Place) (page : Page)
-    (steps more : ℕ) (status : Status) → Comes view meant (Err status) →
-    Obeys (value (printing meant)) (outside q page steps) (outside q page more) status
+pub nothing_printed : {X : Type 0} (view : X →
+    List ℕ) (meant : Result (List ℕ) Status) (q : DepotState) (page : PageState)
+    (steps more : ℕ) (status : Status) → MemoryOutcome view meant (Err status) →
+    OutcomeWithin (value (printing meant)) (outside q page steps) (outside q page more) status
 nothing_printed view meant q page steps more status (inl told) =
-    subst (λ (r : Result (List ℕ) Status). Obeys (value (printing r)) (outside q page steps) (outside q page more)
-    status)
+    subst (λ (r : Result (List ℕ) Status). OutcomeWithin
+    (value (printing r)) (outside q page steps) (outside q page more) status)
     (sym told.0)
     (record {
       comes = ended (printing (Err status)) refl refl told.1 (record { files = refl; made = refl })

@@ -1,24 +1,25 @@
 -- What comes of a file that goes through a stage into OUT.
-use Rattle.std.proofs.Common.{◌≡◌, ◌≢◌, ◌⊎◌, ℕ, ◌^◌, ◌<◌, true, false, List, [], Option, Some, None, Result, Ok, Err, refl}
+use Rattle.std.proofs.Common.{◌≡◌, ◌≢◌, ◌⊎◌, ℕ, ◌^◌, ◌<◌, true, false, List, [], Option, Some, None, Result, Ok, Err}
+use Rattle.std.proofs.Common.{refl}
 use Rattle.std.proofs.Common.{sym, ap, subst, ◌∙◌, inl, inr, arith, append-nil}
 use Rattle.std.specs.Prelude.{IsSome}
 use Rattle.std.specs.FinMap.{get}
 use Rattle.std.specs.Io.KnownBytes.{Appends}
 use Rattle.std.proofs.KnownBytes.{Appends-nil}
-use Rattle.sd_cause.specs.Count.{with_added, Rose}
+use Rattle.sd_cause.specs.Count.{with_added, HasRisen}
 use Rattle.sd_ports.specs.Bytes.{AppendsPrefix}
 use Rattle.sd_ports.specs.Causes.{one_more}
-use Rattle.sd_ports.specs.Files.{Files, IsThere, Closes}
+use Rattle.sd_ports.specs.Files.{Files, IsThere, ClosesFile}
 use Rattle.sd_ports.proofs.Outlets.{closed_whole, cut_short}
 use Rattle.sd_status.specs.declared.status.Status.{Status}
 use Rattle.sd_status.specs.declared.status.Status.TheVariants.{Done, Usage, Missing, Revoked, DepotFault, PrintFault}
 use Rattle.sd_status.specs.declared.status.Status.TheVariants.{BadSite, BadBook, BadCard, BadClear, BadStream, Limit}
 use Rattle.sd_status.specs.declared.status.Status.TheVariants.{NoMemory, Unheard, Unclosed, Gaps, NoCat, BadWord, Clash}
-use Rattle.sd_status.specs.Outside.{Place, Page, Outside, outside}
-use Rattle.sd_status.specs.Meant.{Meant, Word, IsGot, all_of, value, ◌>>=◌}
+use Rattle.sd_status.specs.Outside.{DepotState, PageState, Outside, outside}
+use Rattle.sd_status.specs.Spec.{Spec, FileArgument, IsGot, all_of, value, ◌>>=◌}
 use Rattle.sd_status.specs.Work.{StepBound, Work, TakesSteps}
-use Rattle.sd_status.specs.Comes.{IsRefusal, IsEnding, IsUnmade, IsMadeShort, writing, Comes, ended, unclosed}
-use Rattle.sd_status.specs.Comes.{StopsFirst, exhausted, failed, nowhere, Obeys, status_of}
+use Rattle.sd_status.specs.Outcome.{IsRefusal, IsEnding, IsUnmade, IsMadeShort, writing, Outcome, ended, unclosed}
+use Rattle.sd_status.specs.Outcome.{StopsFirst, exhausted, failed, nowhere, OutcomeWithin, status_of}
 use Rattle.sd_status.specs.Reads.{IsAsked}
 use Rattle.sd_status.proofs.Firsts.{takes_none, stopped_comes, first_obeys}
 use Rattle.sd_status.proofs.Givens.{some_got as any_got}
@@ -31,11 +32,11 @@ use Rattle.sd_files.proofs.Looked.{none_got, all_calls as opening_calls}
 added_none : (f i o : ℕ) → f < 2 ^ 64 → i ≡ 0 → o ≡ 0 → with_added (with_added f i) o ≡ f
 added_none f i o within none nothing = omega (arith, within, none, nothing)
 
-added_some : (f i o : ℕ) → Rose 0 i ⊎ Rose 0 o → Rose f (with_added (with_added f i) o)
+added_some : (f i o : ℕ) → HasRisen 0 i ⊎ HasRisen 0 o → HasRisen f (with_added (with_added f i) o)
 added_some f i o (inl rose) = omega (arith, rose)
 added_some f i o (inr rose) = omega (arith, rose)
 
-added_later : (f i o g : ℕ) → Rose (with_added (with_added f i) o) g → Rose f g
+added_later : (f i o g : ℕ) → HasRisen (with_added (with_added f i) o) g → HasRisen f g
 added_later f i o g rose = omega (arith, rose)
 
 -- two ports that were opened are closed
@@ -54,8 +55,8 @@ wrote_prefix bytes ends before now status (all_written e i h) = all_prefix befor
 wrote_prefix bytes ends before now status (some_written c h) = h
 
 -- what is known of a stream whose ports were opened and closed
-record IsThrough (out : Word) (bytes : List ℕ) (ends : Status) (p q r : Place) (left held held' : Option (List ℕ))
-    (from : List ℕ)
+record IsThrough (out : FileArgument) (bytes : List ℕ) (ends : Status) (p q r : DepotState)
+    (left held held' : Option (List ℕ)) (from : List ℕ)
     (f f' o o' : ℕ) (over result : Result (Unit {0}) Status) : Type 0 where
   opened : IsOpened p q from out.text left held f o
   cause : HasPortCause f f' o o' (status_of over)
@@ -63,8 +64,8 @@ record IsThrough (out : Word) (bytes : List ℕ) (ends : Status) (p q r : Place)
   closed : IsClosed q r out.text held' f' o' over result
 
 -- OUT has a prefix of its bytes
-made_short : (out : Word) (bytes : List ℕ) (ends : Status) (p q r : Place) (left held held' : Option (List ℕ))
-    (from : List ℕ)
+made_short : (out : FileArgument) (bytes : List ℕ) (ends : Status) (p q r : DepotState)
+    (left held held' : Option (List ℕ)) (from : List ℕ)
     (f f' o o' : ℕ) (over result : Result (Unit {0}) Status) →
     IsThrough out bytes ends p q r left held held' from f f' o o' over result →
     IsMadeShort (record { word = out.number; name = out.text; bytes = bytes }) p r
@@ -73,7 +74,7 @@ made_short out bytes ends p q r left held held' from f f' o o' over result h =
     (wrote_prefix bytes ends held held' (status_of over) h.wrote) h.closed.prefix in
     record { prefix = cut.0; short = cut.1; files = cut.2; made = h.closed.made ∙ h.opened.made }
 
-missed : (out : Word) (bytes : List ℕ) (ends : Status) (p q r : Place) (left held held' : Option (List ℕ))
+missed : (out : FileArgument) (bytes : List ℕ) (ends : Status) (p q r : DepotState) (left held held' : Option (List ℕ))
     (from : List ℕ)
     (f f' o o' : ℕ) (over result : Result (Unit {0}) Status) →
     IsThrough out bytes ends p q r left held held' from f f' o o' over result → r.misses ≡ p.misses
@@ -87,18 +88,18 @@ still a b c f f' o o' status same within fresh empty cause other added =
 
 -- and it rises where the status does
 rises : (a b c f f' o o' : ℕ) (status : Status) → b ≡ a → f ≡ 0 → o ≡ 0 → HasPortCause f f' o o' status →
-    status ≡ DepotFault → c ≡ with_added (with_added b f') o' → Rose a c
+    status ≡ DepotFault → c ≡ with_added (with_added b f') o' → HasRisen a c
 rises a b c f f' o o' status same fresh empty cause is added =
-    subst (λ (n : ℕ). Rose n c) same
-    (subst (λ (n : ℕ). Rose b n) (sym added) (added_some b f' o' (from_none (cause.failed is))))
+    subst (λ (n : ℕ). HasRisen n c) same
+    (subst (λ (n : ℕ). HasRisen b n) (sym added) (added_some b f' o' (from_none (cause.failed is))))
   where
-    from_none : Rose f f' ⊎ Rose o o' → Rose 0 f' ⊎ Rose 0 o'
-    from_none (inl rose) = inl (subst (λ (n : ℕ). Rose n f') fresh rose)
-    from_none (inr rose) = inr (subst (λ (n : ℕ). Rose n o') empty rose)
+    from_none : HasRisen f f' ⊎ HasRisen o o' → HasRisen 0 f' ⊎ HasRisen 0 o'
+    from_none (inl rose) = inl (subst (λ (n : ℕ). HasRisen n f') fresh rose)
+    from_none (inr rose) = inr (subst (λ (n : ℕ). HasRisen n o') empty rose)
 
 -- no device failed but at closing OUT
-stops_stand : (out : Word) (bytes : List ℕ) (ends : Status) (p q r : Place) (left held held' : Option (List ℕ))
-    (from : List ℕ) (f f' o o' : ℕ) (over result : Result (Unit {0}) Status) →
+stops_stand : (out : FileArgument) (bytes : List ℕ) (ends : Status) (p q r : DepotState)
+    (left held held' : Option (List ℕ)) (from : List ℕ) (f f' o o' : ℕ) (over result : Result (Unit {0}) Status) →
     IsThrough out bytes ends p q r left held held' from f f' o o' over result → status_of over ≢ DepotFault →
     r.stops ≡ p.stops
 stops_stand out bytes ends p q r left held held' from f f' o o' over result h other =
@@ -106,10 +107,10 @@ stops_stand out bytes ends p q r left held held' from f f' o o' over result h ot
     h.opened.out_fresh h.cause other h.closed.stops
 
 -- a device failed before OUT was to be closed
-stops_rose : (out : Word) (bytes : List ℕ) (ends : Status) (p q r : Place) (left held held' : Option (List ℕ))
-    (from : List ℕ) (f f' o o' : ℕ) (over result : Result (Unit {0}) Status) →
+stops_rose : (out : FileArgument) (bytes : List ℕ) (ends : Status) (p q r : DepotState)
+    (left held held' : Option (List ℕ)) (from : List ℕ) (f f' o o' : ℕ) (over result : Result (Unit {0}) Status) →
     IsThrough out bytes ends p q r left held held' from f f' o o' over result → status_of over ≡ DepotFault →
-    Rose p.stops r.stops
+    HasRisen p.stops r.stops
 stops_rose out bytes ends p q r left held held' from f f' o o' over result h is =
     rises p.stops q.stops r.stops f f' o o' (status_of over) h.opened.stops h.opened.from_fresh h.opened.out_fresh
     h.cause is h.closed.stops
@@ -149,13 +150,14 @@ unclosed_told (Ok done) = refl
 unclosed_told (Err status) = refl
 
 -- what was written, and OUT closed with it
-closed_comes : (steps : StepBound) (out : Word) (bytes : List ℕ) (ends : Status) (p q r : Place) (page : Page) (i j : ℕ)
+closed_comes : (steps : StepBound) (out : FileArgument) (bytes : List ℕ) (ends : Status) (p q r : DepotState)
+    (page : PageState) (i j : ℕ)
     (left held held' : Option (List ℕ)) (from : List ℕ) (f f' o o' : ℕ) (over result : Result (Unit {0}) Status)
     (status : Status) →
     (h : IsThrough out bytes ends p q r left held held' from f f' o o' over result) → status ≡ status_of over →
-    Wrote bytes ends held held' status → Closes q.files r.files out.text held' →
+    Wrote bytes ends held held' status → ClosesFile q.files r.files out.text held' →
     r.faults ≡ with_added (with_added q.faults f') o' →
-    Comes (Ok (turning steps out bytes ends)) (outside p page i) (outside r page j) status
+    Outcome (Ok (turning steps out bytes ends)) (outside p page i) (outside r page j) status
 closed_comes steps out bytes ends p q r page i j left held held' from f f' o o' over result status h is
     (all_written e ending w) closes added =
     ended (turning steps out bytes ends) refl e ending
@@ -189,13 +191,14 @@ closed_comes steps out bytes ends p q r page i j left held held' from f f' o o' 
     (missed out bytes ends p q r left held held' from f f' o o' over result h)
 
 -- and where OUT was not closed a refusal stands
-break_comes : (steps : StepBound) (out : Word) (bytes : List ℕ) (ends : Status) (p q r : Place) (page : Page) (i j : ℕ)
+break_comes : (steps : StepBound) (out : FileArgument) (bytes : List ℕ) (ends : Status) (p q r : DepotState)
+    (page : PageState) (i j : ℕ)
     (left held held' : Option (List ℕ)) (from : List ℕ) (f f' o o' : ℕ) (over result : Result (Unit {0}) Status)
     (status : Status) →
     (h : IsThrough out bytes ends p q r left held held' from f f' o o' over result) →
     Wrote bytes ends held held' status →
-    is_break status ≡ true → IsRefusal status → Rose p.faults r.faults → r.stops ≡ p.stops →
-    Comes (Ok (turning steps out bytes ends)) (outside p page i) (outside r page j) status
+    is_break status ≡ true → IsRefusal status → HasRisen p.faults r.faults → r.stops ≡ p.stops →
+    Outcome (Ok (turning steps out bytes ends)) (outside p page i) (outside r page j) status
 break_comes steps out bytes ends p q r page i j left held held' from f f' o o' over result status h
     (all_written e ending w) breaks refuses rose calm =
     unclosed (turning steps out bytes ends) refl e ending refuses (ap is_break (sym e) ∙ breaks)
@@ -207,7 +210,7 @@ break_comes steps out bytes ends p q r page i j left held held' from f f' o o' o
     absurd (no_break status c breaks)
 
 -- work that is a stream that is refused, and whose refusal wasn't known, was stopped before OUT was to be closed
-first_stopped : (steps : StepBound) (out : Word) (bytes : List ℕ) (ends : Status) (p q r : Place)
+first_stopped : (steps : StepBound) (out : FileArgument) (bytes : List ℕ) (ends : Status) (p q r : DepotState)
     (left held held' : Option (List ℕ)) (from : List ℕ) (f f' o o' : ℕ) (over result : Result (Unit {0}) Status)
     (status : Status) →
     IsThrough out bytes ends p q r left held held' from f f' o o' over result → status ≡ status_of over →
@@ -223,15 +226,15 @@ first_stopped steps out bytes ends p q r left held held' from f f' o o' over res
     (some_written (inr e) w) calm other =
     λ breaks. stops_rose out bytes ends p q r left held held' from f f' o o' over result h (sym is ∙ e)
 
-unclosed_comes : (steps : StepBound) (out : Word) (bytes : List ℕ) (ends : Status) (p q r : Place) (page : Page)
-    (i j : ℕ)
+unclosed_comes : (steps : StepBound) (out : FileArgument) (bytes : List ℕ) (ends : Status) (p q r : DepotState)
+    (page : PageState) (i j : ℕ)
     (left held held' : Option (List ℕ)) (from : List ℕ) (f f' o o' : ℕ) (over result : Result (Unit {0}) Status) →
-    (h : IsThrough out bytes ends p q r left held held' from f f' o o' over result) → Rose p.faults r.faults →
-    Comes (Ok (turning steps out bytes ends)) (outside p page i) (outside r page j) (unclosed_status (status_of over))
+    (h : IsThrough out bytes ends p q r left held held' from f f' o o' over result) → HasRisen p.faults r.faults →
+    Outcome (Ok (turning steps out bytes ends)) (outside p page i) (outside r page j) (unclosed_status (status_of over))
 unclosed_comes steps out bytes ends p q r page i j left held held' from f f' o o' over result h rose =
     elim (by_break (status_of over)) [
       | inl stands ↦
-          subst (λ (s : Status). Comes (Ok (turning steps out bytes ends)) (outside p page i) (outside r page j) s)
+          subst (λ (s : Status). Outcome (Ok (turning steps out bytes ends)) (outside p page i) (outside r page j) s)
           (sym stands.0)
           (break_comes steps out bytes ends p q r page i j left held held' from f f' o o' over result (status_of over) h
           h.wrote stands.1 stands.2 rose
@@ -256,36 +259,37 @@ unclosed_comes steps out bytes ends p q r page i j left held held' from f f' o o
           refl (missed out bytes ends p q r left held held' from f f' o o' over result h)
     ]
 
-through_comes : (steps : StepBound) (out : Word) (bytes : List ℕ) (ends : Status) (p q r : Place) (page : Page)
-    (i j : ℕ)
+through_comes : (steps : StepBound) (out : FileArgument) (bytes : List ℕ) (ends : Status) (p q r : DepotState)
+    (page : PageState) (i j : ℕ)
     (left held held' : Option (List ℕ)) (from : List ℕ) (f f' o o' : ℕ) (over result : Result (Unit {0}) Status) →
     IsThrough out bytes ends p q r left held held' from f f' o o' over result →
-    Comes (Ok (turning steps out bytes ends)) (outside p page i) (outside r page j) (status_of result)
+    Outcome (Ok (turning steps out bytes ends)) (outside p page i) (outside r page j) (status_of result)
 through_comes steps out bytes ends p q r page i j left held held' from f f' o o' over result h =
     elim h.closed.ends [
       | inl whole ↦
-          subst (λ (e : Result (Unit {0}) Status). Comes (Ok (turning steps out bytes ends)) (outside p page i)
+          subst (λ (e : Result (Unit {0}) Status). Outcome (Ok (turning steps out bytes ends)) (outside p page i)
           (outside r page j) (status_of e))
           (sym whole.0)
           (closed_comes steps out bytes ends p q r page i j left held held' from f f' o o' over result (status_of over)
           h refl h.wrote
           whole.1 whole.2)
       | inr cut ↦
-          subst (λ (s : Status). Comes (Ok (turning steps out bytes ends)) (outside p page i) (outside r page j) s)
+          subst (λ (s : Status). Outcome (Ok (turning steps out bytes ends)) (outside p page i) (outside r page j) s)
           (sym (ap status_of cut.0 ∙ unclosed_told over))
           (unclosed_comes steps out bytes ends p q r page i j left held held' from f f' o o' over result h
-          (subst (λ (n : ℕ). Rose n r.faults) h.opened.faults (added_later q.faults f' o' r.faults cut.1)))
+          (subst (λ (n : ℕ). HasRisen n r.faults) h.opened.faults (added_later q.faults f' o' r.faults cut.1)))
     ]
 
 -- a stream that went through a stage into OUT is what is meant by its bytes
-pub turned_obeys : (steps : List ℕ → StepBound) (written : List ℕ → List ℕ) (ends : List ℕ → Status) (word out : Word)
-    (bytes : List ℕ)
-    (p q r : Place) (page : Page) (i j : ℕ) (left held held' : Option (List ℕ)) (f f' o o' : ℕ)
+pub turned_obeys : (steps : List ℕ → StepBound) (written : List ℕ → List ℕ) (ends : List ℕ →
+    Status) (word out : FileArgument) (bytes : List ℕ)
+    (p q r : DepotState) (page : PageState) (i j : ℕ) (left held held' : Option (List ℕ)) (f f' o o' : ℕ)
     (over result : Result (Unit {0}) Status) →
     IsOpened p q word.text out.text left held f o → HasPortCause f f' o o' (status_of over) →
     Wrote (written bytes) (ends bytes) held held' (status_of over) → IsClosed q r out.text held' f' o' over result →
     TakesSteps (Ok (turning (steps bytes) out (written bytes) (ends bytes))) i j →
-    Obeys (all_of word.number (Some bytes) >>= λ bytes. value (turning (steps bytes) out (written bytes) (ends bytes)))
+    OutcomeWithin (all_of word.number (Some bytes) >>= λ bytes.
+    value (turning (steps bytes) out (written bytes) (ends bytes)))
     (outside p page i) (outside r page j) (status_of result)
 turned_obeys steps written ends word out bytes p q r page i j left held held' f f' o o' over result opened cause wrote
     closed takes = record {
@@ -298,12 +302,12 @@ turned_obeys steps written ends word out bytes p q r page i j left held held' f 
     }
 
 -- what the file gave where a port was not opened, and what is obeyed by it
-pub record NotTurned (files : Option Files) (name : List ℕ) (meant : Option (List ℕ) → Meant Work) (a b : Outside)
+pub record NotTurned (files : Option Files) (name : List ℕ) (meant : Option (List ℕ) → Spec Work) (a b : Outside)
     (status : Status) :
     Type 0 where
   pub got : Option (List ℕ)
   pub is_got : IsGot files name got
-  pub obeys : Obeys (meant got) a b status
+  pub obeys : OutcomeWithin (meant got) a b status
 
 there_got : (files : Option Files) (name : List ℕ) → IsThere files name → (bytes : List ℕ) × IsGot files name
     (Some bytes)
@@ -317,11 +321,12 @@ there_got (Some m) name there = some_of (get m name) there
 untold_got : (files : Option Files) (name bytes : List ℕ) → files ≡ None → IsGot files name (Some bytes)
 untold_got files name bytes none = subst (λ (o : Option Files). IsGot o name (Some bytes)) (sym none) tt
 
-unasked : (most : ℕ) (p q : Place) → IsAsked most p q → IsUnmade p q
+unasked : (most : ℕ) (p q : DepotState) → IsAsked most p q → IsUnmade p q
 unasked most p q h = record { files = h.files; made = h.made }
 
-pub not_turned : (steps : List ℕ → StepBound) (written : List ℕ → List ℕ) (ends : List ℕ → Status) (word out : Word)
-    (p q : Place) (page : Page) (i : ℕ) (status : Status) → NotOpened word out p q status →
+pub not_turned : (steps : List ℕ → StepBound) (written : List ℕ → List ℕ) (ends : List ℕ →
+    Status) (word out : FileArgument)
+    (p q : DepotState) (page : PageState) (i : ℕ) (status : Status) → NotOpened word out p q status →
     NotTurned p.files word.text (λ got. all_of word.number got >>= λ bytes. value
     (turning (steps bytes) out (written bytes) (ends bytes)))
     (outside p page i) (outside q page i) status

@@ -10,7 +10,7 @@ use Rattle.sd_book.specs.Text.{book_of}
 use Rattle.sd_status.specs.declared.status.Status.{Status}
 use Rattle.sd_status.specs.declared.status.Status.TheVariants.{BadSite, BadBook, Limit, NoMemory}
 use Rattle.sd_status.specs.declared.status.LimitKind.TheVariants.{SiteBytes, BookBytes, Book}
-use Rattle.sd_status.specs.Meant.{Meant, Word, Given, within, judged, ◌>>=◌}
+use Rattle.sd_status.specs.Spec.{Spec, FileArgument, Readings, within, judged, ◌>>=◌}
 
 -- the bytes of the longest site file
 abbrev pub most_site_bytes : ℕ
@@ -26,10 +26,10 @@ told_site (Ok site) = Ok site
 told_site (Err fault) = Err (BadSite fault)
 
 -- the site of what the file of this word gave
-unfoldable pub site_of_file : ℕ → Option (List ℕ) → Meant SiteFields
+unfoldable pub site_of_file : ℕ → Option (List ℕ) → Spec SiteFields
 site_of_file word got = within word most_site_bytes SiteBytes got >>= λ bytes. judged (told_site (site_of bytes))
 
-abbrev pub site_in : Given → Word → Meant SiteFields
+abbrev pub site_in : Readings → FileArgument → Spec SiteFields
 site_in given word = site_of_file word.number (given word)
 
 abbrev pub refused_book : ℕ → BookFault → Status
@@ -44,9 +44,9 @@ told_book word (Ok commands) = Ok commands
 told_book word (Err fault) = Err (refused_book word fault)
 
 -- the book, for a tree of height d, of what the file of this word gave
-unfoldable pub book_of_file : ℕ → ℕ → Option (List ℕ) → Meant (List Command)
+unfoldable pub book_of_file : ℕ → ℕ → Option (List ℕ) → Spec (List Command)
 book_of_file word d got =
     within word most_book_bytes BookBytes got >>= λ bytes. judged (told_book word (book_of d bytes))
 
-abbrev pub book_in : Given → ℕ → Word → Meant (List Command)
+abbrev pub book_in : Readings → ℕ → FileArgument → Spec (List Command)
 book_in given d word = book_of_file word.number d (given word)

@@ -4,7 +4,7 @@ use Rattle.sd_leaves.specs.Text.{leaves_of_text}
 use Rattle.sd_status.specs.declared.status.Status.{Status}
 use Rattle.sd_status.specs.declared.status.Status.TheVariants.{BadBook}
 use Rattle.sd_status.specs.declared.status.LimitKind.TheVariants.{BookBytes}
-use Rattle.sd_status.specs.Meant.{Meant, Word, Given, within, judged, ◌>>=◌}
+use Rattle.sd_status.specs.Spec.{Spec, FileArgument, Readings, within, judged, ◌>>=◌}
 use Rattle.sd_files.specs.Files.{most_book_bytes}
 
 -- the leaves that a file's bytes say, or its first bad line
@@ -13,9 +13,9 @@ told_leaves word (Ok leaves) = Ok leaves
 told_leaves word (Err k) = Err (BadBook word k)
 
 -- the leaves, of a tree of height d, of what the file of this word gave
-unfoldable pub leaves_of_file : ℕ → ℕ → Option (List ℕ) → Meant (List ℕ)
+unfoldable pub leaves_of_file : ℕ → ℕ → Option (List ℕ) → Spec (List ℕ)
 leaves_of_file word d got =
     within word most_book_bytes BookBytes got >>= λ bytes. judged (told_leaves word (leaves_of_text d bytes))
 
-abbrev pub leaves_in : Given → ℕ → Word → Meant (List ℕ)
+abbrev pub leaves_in : Readings → ℕ → FileArgument → Spec (List ℕ)
 leaves_in given d word = leaves_of_file word.number d (given word)

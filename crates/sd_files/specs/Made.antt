@@ -2,13 +2,13 @@
 use Rattle.std.specs.Prelude.{ℕ, List, [], false, Some, Result, Ok, Err}
 use Rattle.sd_status.specs.declared.status.Status.{Status}
 use Rattle.sd_status.specs.declared.status.Status.TheVariants.{Done, Missing, DepotFault, NoMemory}
-use Rattle.sd_status.specs.Meant.{Word}
+use Rattle.sd_status.specs.Spec.{FileArgument}
 use Rattle.sd_status.specs.Work.{StepBound, Work}
 use Rattle.sd_ports.specs.declared.file.FileFault.{FileFault}
 use Rattle.sd_ports.specs.declared.file.FileFault.TheVariants as file
 
 -- makes a file of these bytes, by so many steps at most
-abbrev pub making : StepBound → Word → List ℕ → Work
+abbrev pub making : StepBound → FileArgument → List ℕ → Work
 making steps out bytes = record {
   out = Some (record { word = out.number; name = out.text; bytes = bytes });
   pieces = [];

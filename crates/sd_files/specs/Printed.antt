@@ -3,7 +3,7 @@ use Rattle.std.specs.Prelude.{◌≡◌, ◌⊎◌, ℕ, false, List, [], ◌∷
 use Rattle.sd_status.specs.declared.status.Status.{Status}
 use Rattle.sd_status.specs.declared.status.Status.TheVariants.{Done, NoMemory}
 use Rattle.sd_status.specs.Work.{Uncounted, Work}
-use Rattle.sd_status.specs.Comes.{IsEnding}
+use Rattle.sd_status.specs.Outcome.{IsEnding}
 
 -- prints a text, or nothing and ends otherwise
 abbrev pub printing : Result (List ℕ) Status → Work
@@ -11,6 +11,6 @@ printing (Ok text) = record { out = None; pieces = text ∷ []; ends = Done; bre
 printing (Err status) = record { out = None; pieces = []; ends = status; breaks = false; steps = Uncounted }
 
 -- a step in memory gives what is meant, or the status that it ends with, or memory was out
-abbrev pub Comes : {X : Type 0} → (X → List ℕ) → Result (List ℕ) Status → Result X Status → Type 0
-Comes view meant (Ok x) = meant ≡ Ok (view x)
-Comes view meant (Err status) = ((meant ≡ Err status) × IsEnding status) ⊎ (status ≡ NoMemory)
+abbrev pub MemoryOutcome : {X : Type 0} → (X → List ℕ) → Result (List ℕ) Status → Result X Status → Type 0
+MemoryOutcome view meant (Ok x) = meant ≡ Ok (view x)
+MemoryOutcome view meant (Err status) = ((meant ≡ Err status) × IsEnding status) ⊎ (status ≡ NoMemory)

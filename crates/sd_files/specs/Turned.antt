@@ -2,24 +2,24 @@
 use Rattle.std.specs.Prelude.{◌≡◌, ◌≢◌, ◌⊎◌, ℕ, ◌^◌, ◌<◌, Bool, true, false, List, [], Option, Some, None, Result, Ok}
 use Rattle.std.specs.Prelude.{Err}
 use Rattle.std.specs.Io.KnownBytes.{Appends}
-use Rattle.sd_cause.specs.Count.{with_added, Rose}
+use Rattle.sd_cause.specs.Count.{with_added, HasRisen}
 use Rattle.sd_ports.specs.Bytes.{AppendsPrefix}
 use Rattle.sd_ports.specs.Causes.{one_more}
-use Rattle.sd_ports.specs.Files.{Opens, IsFresh, IsNotThere, IsThere, Closes, LeavesPrefix, with_bytes}
+use Rattle.sd_ports.specs.Files.{OpensFile, IsFresh, IsNotThere, IsThere, ClosesFile, LeavesPrefix, with_bytes}
 use Rattle.sd_ports.specs.declared.fault.DepotFault.{DepotFault as PortRefusal}
 use Rattle.sd_ports.specs.declared.fault.DepotFault.TheVariants as port
 use Rattle.sd_status.specs.declared.status.Status.{Status}
 use Rattle.sd_status.specs.declared.status.Status.TheVariants.{Missing, DepotFault, BadClear, BadStream, NoMemory}
-use Rattle.sd_status.specs.Outside.{Place}
-use Rattle.sd_status.specs.Meant.{Word}
+use Rattle.sd_status.specs.Outside.{DepotState}
+use Rattle.sd_status.specs.Spec.{FileArgument}
 use Rattle.sd_status.specs.Work.{StepBound, Work}
-use Rattle.sd_status.specs.Comes.{IsEnding}
+use Rattle.sd_status.specs.Outcome.{IsEnding}
 use Rattle.sd_status.specs.Reads.{IsAsked, IsStopped}
 
 -- both were opened: what is left of the one, and what the other holds, with the counts of their faults
-pub record IsOpened (a b : Place) (from out : List ℕ) (left held : Option (List ℕ)) (from_faults out_faults : ℕ) :
+pub record IsOpened (a b : DepotState) (from out : List ℕ) (left held : Option (List ℕ)) (from_faults out_faults : ℕ) :
     Type 0 where
-  pub opens : Opens a.files from left
+  pub opens : OpensFile a.files from left
   pub empty : IsFresh a.files held
   pub from_fresh : from_faults ≡ 0
   pub out_fresh : out_faults ≡ 0
@@ -33,13 +33,13 @@ pub record IsOpened (a b : Place) (from out : List ℕ) (left held : Option (Lis
   pub calls : b.calls ≡ with_added a.calls 2
 
 -- why they were not, and nothing was made
-pub data NotOpened (from out : Word) (a b : Place) (status : Status) : Type 0 where
+pub data NotOpened (from out : FileArgument) (a b : DepotState) (status : Status) : Type 0 where
   -- there is no file to be read
   no_input : status ≡ Missing from.number → IsNotThere a.files from.text → IsAsked 1 a b → b.faults ≡ a.faults →
-      Rose a.misses b.misses → NotOpened from out a b status
+      HasRisen a.misses b.misses → NotOpened from out a b status
   -- there is no folder for OUT, in a depot that doesn't tell its files
   no_folder : status ≡ Missing out.number → a.files ≡ None → IsAsked 3 a b → b.faults ≡ a.faults →
-      Rose a.misses b.misses → NotOpened from out a b status
+      HasRisen a.misses b.misses → NotOpened from out a b status
   -- the outside stopped the one or the other
   stopped_first : IsStopped 1 a b status → NotOpened from out a b status
   stopped_then : IsThere a.files from.text → IsStopped 3 a b status → NotOpened from out a b status
@@ -63,15 +63,15 @@ unclosed_by (Err status) = Err (unclosed_status status)
 
 -- OUT was closed with all that its port holds, and what was known is answered; or it has a prefix of it, and the device
 -- failed
-abbrev pub EndsClosed : Place → Place → List ℕ → Option (List ℕ) → ℕ → Result (Unit {0}) Status →
+abbrev pub EndsClosed : DepotState → DepotState → List ℕ → Option (List ℕ) → ℕ → Result (Unit {0}) Status →
     Result (Unit {0}) Status
     → Type 0
 EndsClosed a b out held faults ended result =
-    ((result ≡ ended) × Closes a.files b.files out held × (b.faults ≡ faults))
-    ⊎ ((result ≡ unclosed_by ended) × Rose faults b.faults)
+    ((result ≡ ended) × ClosesFile a.files b.files out held × (b.faults ≡ faults))
+    ⊎ ((result ≡ unclosed_by ended) × HasRisen faults b.faults)
 
 -- both were closed: the counts of their faults were added, and OUT has what its port held, or a prefix of it
-pub record IsClosed (a b : Place) (out : List ℕ) (held : Option (List ℕ)) (from_faults out_faults : ℕ)
+pub record IsClosed (a b : DepotState) (out : List ℕ) (held : Option (List ℕ)) (from_faults out_faults : ℕ)
     (ended result : Result (Unit {0}) Status) : Type 0 where
   pub within : a.faults < 2 ^ 64
   pub below : a.stops < 2 ^ 64
@@ -91,7 +91,7 @@ is_break (BadStream packet cause) = true
 is_break _ = false
 
 -- makes OUT of these bytes, which may be those of a stream as far as it goes, and ends so
-abbrev pub turning : StepBound → Word → List ℕ → Status → Work
+abbrev pub turning : StepBound → FileArgument → List ℕ → Status → Work
 turning steps out bytes ends = record {
   out = Some (record { word = out.number; name = out.text; bytes = bytes });
   pieces = [];
@@ -110,4 +110,4 @@ pub data Wrote (bytes : List ℕ) (ends : Status) (before now : Option (List ℕ
 -- the device failed just where the count of one port or the other rose
 pub record HasPortCause (from_before from_now out_before out_now : ℕ) (status : Status) : Type 0 where
   pub calm : status ≢ DepotFault → (from_now ≡ from_before) × (out_now ≡ out_before)
-  pub failed : status ≡ DepotFault → Rose from_before from_now ⊎ Rose out_before out_now
+  pub failed : status ≡ DepotFault → HasRisen from_before from_now ⊎ HasRisen out_before out_now

@@ -1,7 +1,7 @@
 ghost use Rattle.std.specs.Prelude.{◌≡◌, ◌≢◌, IfOk};
 ghost use Rattle.sd_site.specs.Fields.{fields_of};
-ghost use Rattle.sd_status.specs.Outside.{place};
-ghost use Rattle.sd_status.specs.Reads.{Reads};
+ghost use Rattle.sd_status.specs.Outside.{depot_state};
+ghost use Rattle.sd_status.specs.Reads.{FilesOutcome};
 ghost use Rattle.sd_files.specs.Both.{both_meaning};
 ghost use Rattle.sd_files.specs.Shown.{shown_word};
 
@@ -21,9 +21,9 @@ pub fn read_both<D: Depot>(
     book: Word<'_>,
 ) -> Result<(Site, Book), Status>
     requires { site.number ≢ book.number }
-    ensures value { Reads (λ both. record { site = fields_of both.0; commands = both.1.commands })
+    ensures value { FilesOutcome (λ both. record { site = fields_of both.0; commands = both.1.commands })
         (both_meaning (shown_word site.entry) (shown_word book.entry))
-        (place D.Depot depot.old) (place D.Depot depot.new) result }
+        (depot_state D.Depot depot.old) (depot_state D.Depot depot.new) result }
     ensures height { IfOk result (λ both. both.1.height ≡ both.0.height) }
 {
     let site = read_site(alloc, depot, site)?;

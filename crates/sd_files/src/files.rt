@@ -2,9 +2,9 @@ ghost use Rattle.std.specs.Prelude.{◌≡◌, IfOk};
 ghost use Rattle.sd_book.specs.Text.{book_of};
 ghost use Rattle.sd_site.specs.Fields.{fields_of};
 ghost use Rattle.sd_site.specs.Text.{site_of};
-ghost use Rattle.sd_status.specs.Meant.{within};
-ghost use Rattle.sd_status.specs.Outside.{place};
-ghost use Rattle.sd_status.specs.Reads.{Judges, JudgesAlone, Looks};
+ghost use Rattle.sd_status.specs.Spec.{within};
+ghost use Rattle.sd_status.specs.Outside.{depot_state};
+ghost use Rattle.sd_status.specs.Reads.{JudgedOutcome, SureOutcome, FileOutcome};
 ghost use Rattle.sd_files.specs.Files.{site_of_file, book_of_file, refused_book, told_book, told_site};
 ghost use Rattle.sd_files.specs.Shown.{shown_word};
 
@@ -24,8 +24,8 @@ pub const MOST_BOOK_BYTES: usize = 33_554_432;
 
 /// The site of the word's file.
 pub fn read_site<D: Depot>(alloc: Global, depot: &mut D, word: Word<'_>) -> Result<Site, Status>
-    ensures { Looks fields_of (site_of_file word.entry.number) word.entry.text.now
-        (place D.Depot depot.old) (place D.Depot depot.new) result }
+    ensures { FileOutcome fields_of (site_of_file word.entry.number) word.entry.text.now
+        (depot_state D.Depot depot.old) (depot_state D.Depot depot.new) result }
 {
     let bytes = read_bytes(alloc, depot, word, MOST_SITE_BYTES, LimitKind::SiteBytes)?;
     judge_site(&bytes)
@@ -33,7 +33,7 @@ pub fn read_site<D: Depot>(alloc: Global, depot: &mut D, word: Word<'_>) -> Resu
 
 /// The site that a file's bytes say.
 fn judge_site(bytes: &[u8]) -> Result<Site, Status>
-    ensures { JudgesAlone fields_of (told_site (site_of bytes.now)) result }
+    ensures { SureOutcome fields_of (told_site (site_of bytes.now)) result }
 {
     match sd_site::read(bytes) {
         Ok(site) => Ok(site),
@@ -48,8 +48,8 @@ pub fn read_book<D: Depot>(
     word: Word<'_>,
     h: Height,
 ) -> Result<Book, Status>
-    ensures value { Looks (λ book. book.commands) (book_of_file word.entry.number h) word.entry.text.now
-        (place D.Depot depot.old) (place D.Depot depot.new) result }
+    ensures value { FileOutcome (λ book. book.commands) (book_of_file word.entry.number h) word.entry.text.now
+        (depot_state D.Depot depot.old) (depot_state D.Depot depot.new) result }
     ensures height { IfOk result (λ book. book.height ≡ h) }
 {
     let bytes = read_bytes(alloc, depot, word, MOST_BOOK_BYTES, LimitKind::BookBytes)?;
@@ -58,7 +58,7 @@ pub fn read_book<D: Depot>(
 
 /// The book that the bytes of this word's file say.
 fn judge_book(alloc: Global, word: u8, bytes: &[u8], h: Height) -> Result<Book, Status>
-    ensures value { Judges (λ book. book.commands) (told_book word (book_of h bytes.now)) result }
+    ensures value { JudgedOutcome (λ book. book.commands) (told_book word (book_of h bytes.now)) result }
     ensures height { IfOk result (λ book. book.height ≡ h) }
 {
     match Book::read(alloc, bytes, h) {
@@ -86,8 +86,8 @@ pub fn read_bytes<D: Depot>(
     most: usize,
     kind: LimitKind,
 ) -> Result<Vec<u8>, Status>
-    ensures { Looks (λ bytes. bytes.items) (within word.entry.number most kind) word.entry.text.now
-        (place D.Depot depot.old) (place D.Depot depot.new) result }
+    ensures { FileOutcome (λ bytes. bytes.items) (within word.entry.number most kind) word.entry.text.now
+        (depot_state D.Depot depot.old) (depot_state D.Depot depot.new) result }
 {
     match read_file(alloc, depot, word.text, most) {
         Ok(bytes) => Ok(bytes),

@@ -1,7 +1,7 @@
 ghost use Rattle.std.specs.Prelude.{◌^◌, ◌<◌, All, IfOk};
 ghost use Rattle.sd_leaves.specs.Text.{leaves_of_text};
-ghost use Rattle.sd_status.specs.Outside.{place};
-ghost use Rattle.sd_status.specs.Reads.{Judges, Looks};
+ghost use Rattle.sd_status.specs.Outside.{depot_state};
+ghost use Rattle.sd_status.specs.Reads.{JudgedOutcome, FileOutcome};
 ghost use Rattle.sd_files.specs.Leaves.{leaves_of_file, told_leaves};
 ghost use Rattle.sd_files.specs.Shown.{shown_word};
 
@@ -20,8 +20,8 @@ pub fn read_leaves<D: Depot>(
     word: Word<'_>,
     h: Height,
 ) -> Result<Vec<Leaf>, Status>
-    ensures value { Looks (λ leaves. leaves.items) (leaves_of_file word.entry.number h) word.entry.text.now
-        (place D.Depot depot.old) (place D.Depot depot.new) result }
+    ensures value { FileOutcome (λ leaves. leaves.items) (leaves_of_file word.entry.number h) word.entry.text.now
+        (depot_state D.Depot depot.old) (depot_state D.Depot depot.new) result }
     ensures fits { IfOk result (λ leaves. All (λ u. u < 2 ^ h) leaves.items) }
 {
     let bytes = read_bytes(alloc, depot, word, MOST_BOOK_BYTES, LimitKind::BookBytes)?;
@@ -30,7 +30,7 @@ pub fn read_leaves<D: Depot>(
 
 /// The leaves that the bytes of this word's file say.
 fn judge_leaves(alloc: Global, word: u8, bytes: &[u8], h: Height) -> Result<Vec<Leaf>, Status>
-    ensures value { Judges (λ leaves. leaves.items) (told_leaves word (leaves_of_text h bytes.now)) result }
+    ensures value { JudgedOutcome (λ leaves. leaves.items) (told_leaves word (leaves_of_text h bytes.now)) result }
     ensures fits { IfOk result (λ leaves. All (λ u. u < 2 ^ h) leaves.items) }
 {
     match sd_leaves::read(alloc, bytes, h) {

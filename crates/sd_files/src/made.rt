@@ -1,8 +1,8 @@
 ghost use Rattle.std.specs.Prelude.{◌≡◌, ℕ, IsErrOf, Option};
-ghost use Rattle.sd_status.specs.Outside.{Page, place, outside};
-ghost use Rattle.sd_status.specs.Meant.{value};
+ghost use Rattle.sd_status.specs.Outside.{PageState, depot_state, outside};
+ghost use Rattle.sd_status.specs.Spec.{value};
 ghost use Rattle.sd_status.specs.Work.{StepBound};
-ghost use Rattle.sd_status.specs.Comes.{Obeys, status_of};
+ghost use Rattle.sd_status.specs.Outcome.{OutcomeWithin, status_of};
 ghost use Rattle.sd_files.specs.Made.{making, making_told};
 ghost use Rattle.sd_files.specs.Shown.{shown_word};
 
@@ -18,9 +18,9 @@ pub fn make_file<D: Depot>(
     word: Word<'_>,
     bytes: &[u8],
 ) -> Result<(), Status>
-    ensures { (page : Page) (steps : ℕ) (most : StepBound) →
-        Obeys (value (making most (shown_word word.entry) bytes.now))
-        (outside (place D.Depot depot.old) page steps) (outside (place D.Depot depot.new) page steps)
+    ensures { (page : PageState) (steps : ℕ) (most : StepBound) →
+        OutcomeWithin (value (making most (shown_word word.entry) bytes.now))
+        (outside (depot_state D.Depot depot.old) page steps) (outside (depot_state D.Depot depot.new) page steps)
         (status_of result) }
 {
     told(word.number, write_file(alloc, depot, word.text, bytes))

@@ -21,10 +21,10 @@ use Rattle.sd_broadcast.proofs.Sending.{sent_more}
 use Rattle.sd_entitling.specs.declared.crypto.CryptoPeriod.{CryptoPeriod}
 use Rattle.sd_entitling.specs.declared.entitling.Entitling.{Entitling}
 use Rattle.sd_entitling.specs.Crypto.{crypto_in}
-use Rattle.sd_entitling.specs.Packets.{packets_of}
+use Rattle.sd_entitling.specs.Packets.{period_packets}
 use Rattle.sd_entitling.specs.Kept.{IsOf}
 use Rattle.sd_head.specs.Messages.{head_of, message_due}
-use Rattle.sd_head.specs.Items.{HasSent, Follows, tables_bytes, message_bytes}
+use Rattle.sd_head.specs.Items.{HasSent, HasCountersAfter, tables_bytes, message_bytes}
 use Rattle.sd_head.specs.declared.sender.Sender.{Sender}
 use Rattle.sd_head.proofs.Counting.{bytes_on, inserted_bytes, inserted_next, carried_next, items_due, items_of}
 use Rattle.sd_head.proofs.Counting.{of_sections}
@@ -36,7 +36,7 @@ sections_at plan k = emms_of (period_at plan (period_of plan k))
 -- the packets of the period at work are those of the period of packet k
 pub emms_are : (plan : Plan) (k : ℕ) (entitling : Entitling) → IsOf plan (crypto_of plan.site k) entitling →
     entitling.emms.items ≡ of_sections plan.site (sections_at plan k)
-unfolding packets_of period_of
+unfolding period_packets period_of
 emms_are plan k entitling of = of.period.emms
 
 -- the tables stand where a crypto period begins
@@ -111,7 +111,7 @@ pub added_next : (plan : Plan) (before : List (List ℕ)) (packet : List ℕ) (d
     (message : Option EcmHead) (old new : Sender) → HasSent plan.site (sent plan before) old →
     due ≡ (length before % crypto_length plan.site == 0) →
     emms ≡ of_sections plan.site (sections_at plan (length before)) →
-    items_of message old.places.items ≡ message_before plan before → Follows old due emms message new →
+    items_of message old.places.items ≡ message_before plan before → HasCountersAfter old due emms message new →
     HasSent plan.site (sent plan (before ++ packet ∷ [])) new
 unfolding added
 added_next plan before packet due emms message old new has is are told follows =

@@ -6,7 +6,7 @@ use Rattle.std.specs.List.{concat}
 use Rattle.std.specs.Option.{option_map_or}
 use Rattle.std.proofs.lemmas.List.Folds.{concat-append}
 use Rattle.sd_engine.specs.Stage.{Chain, all_from}
-use Rattle.sd_engine.specs.Driving.{Closes, Refuses as Refused}
+use Rattle.sd_engine.specs.Driving.{ChainToEnd, ChainToRefusal as Refused}
 use Rattle.sd_engine.proofs.Chains.{chain_writes}
 use Rattle.sd_site.specs.Fields.{SiteFields}
 use Rattle.sd_broadcast.specs.declared.fault.ClearFault.{ClearFault}
@@ -61,7 +61,7 @@ closed plan packets =
 
 pub whole_written : (plan : Plan) (packets : List (List ℕ)) (s t : Head) (bytes : List ℕ) (steps : ℕ) →
     IsAfter plan [] s →
-    Closes head_does head_ends s packets t bytes steps → bytes ≡ concat (broadcast plan packets)
+    ChainToEnd head_does head_ends s packets t bytes steps → bytes ≡ concat (broadcast plan packets)
 whole_written plan packets s t bytes steps after (mid, first, last, m, k, chain, end, joined, counted) =
     let there = chained plan packets s mid first m after chain in
     joined ∙ (ap (λ (xs : List ℕ). xs ++ last) there.0
@@ -69,7 +69,7 @@ whole_written plan packets s t bytes steps after (mid, first, last, m, k, chain,
 
 pub whole_clear : (plan : Plan) (packets : List (List ℕ)) (s t : Head) (bytes : List ℕ) (steps : ℕ) →
     IsAfter plan [] s →
-    Closes head_does head_ends s packets t bytes steps → IsClear plan.site packets
+    ChainToEnd head_does head_ends s packets t bytes steps → IsClear plan.site packets
 whole_clear plan packets s t bytes steps after (mid, first, last, m, k, chain, end, joined, counted) =
     all_clear plan packets s mid first m after chain
 

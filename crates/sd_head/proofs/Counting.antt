@@ -20,8 +20,8 @@ use Rattle.sd_ecm.specs.declared.message.EcmHead.{EcmHead}
 use Rattle.sd_ecm.specs.declared.part.Place.{Place}
 use Rattle.sd_broadcast.proofs.Sending.{packets_in_turn}
 use Rattle.sd_head.specs.Sending.{counter_after, numbered, recounted, packed_part}
-use Rattle.sd_head.specs.Items.{is_cat, is_entitlement, is_control, tables_bytes, message_bytes, parts_in, HasSent}
-use Rattle.sd_head.specs.Items.{Follows}
+use Rattle.sd_head.specs.Items.{is_cat_item, is_entitlement, is_control, tables_bytes, message_bytes, parts_in, HasSent}
+use Rattle.sd_head.specs.Items.{HasCountersAfter}
 use Rattle.sd_head.specs.declared.sender.Sender.{Sender}
 use Rattle.sd_head.proofs.Sends.{counter_is}
 
@@ -33,7 +33,7 @@ same_counts p q h (x ∷ xs) =
     ∙ (ap (λ (b : Bool). cond b 1 0 + count_by p xs) (h x)
     ∙ (ap (λ (n : ℕ). cond (q x) 1 0 + n) (same_counts p q h xs) ∙ sym (sum_by-cons (λ y. cond (q y) 1 0) x xs)))
 
-cat_alike : (x : Item) → is_alike Cat x ≡ is_cat x
+cat_alike : (x : Item) → is_alike Cat x ≡ is_cat_item x
 cat_alike Cat = refl
 cat_alike (Entitles emm) = refl
 cat_alike (Controls part) = refl
@@ -156,9 +156,9 @@ tables_told site earlier false sections sender sent = refl
 tables_told site earlier true sections sender sent =
     let cat : packet_of site earlier Cat ≡ recounted sender.cat sender.cats =
     ap (λ (n : ℕ). packed (cat_section site.ca site.emm site.ecm) 1 (n % 16))
-    (same_counts (is_alike Cat) is_cat cat_alike earlier)
-    ∙ (packet_counted (cat_section site.ca site.emm site.ecm) 1 (count_by is_cat earlier % 16)
-    ∙ (ap (λ (p : List ℕ). recounted p (count_by is_cat earlier % 16)) (sym sent.cat_is)
+    (same_counts (is_alike Cat) is_cat_item cat_alike earlier)
+    ∙ (packet_counted (cat_section site.ca site.emm site.ecm) 1 (count_by is_cat_item earlier % 16)
+    ∙ (ap (λ (p : List ℕ). recounted p (count_by is_cat_item earlier % 16)) (sym sent.cat_is)
     ∙ ap (recounted sender.cat) (sym sent.cats_are))) in
     let next : sender.emms ≡ count_by is_entitlement (earlier ++ Cat ∷ []) % 16 =
     sent.emms_are ∙ ap (λ (n : ℕ). n % 16) (sym (none_counted is_entitlement earlier Cat refl)) in
@@ -177,11 +177,11 @@ message_told site earlier (Some head) sender sent =
 
 -- how many of each kind the tables are
 cats_due : (due : Bool) (sections : List Emm) →
-    ◌≡◌ {A = ℕ} (count_by is_cat (items_due due sections)) (if due then 1 else 0)
+    ◌≡◌ {A = ℕ} (count_by is_cat_item (items_due due sections)) (if due then 1 else 0)
 cats_due false sections = refl
 cats_due true sections =
-    let first = sum_by-cons (λ y. cond (is_cat y) 1 0) Cat (map Entitles sections) in
-    let none = none_counts is_cat Entitles (λ a. refl) sections in
+    let first = sum_by-cons (λ y. cond (is_cat_item y) 1 0) Cat (map Entitles sections) in
+    let none = none_counts is_cat_item Entitles (λ a. refl) sections in
     omega (arith, first, none)
 
 emms_due : (due : Bool) (sections : List Emm) →
@@ -200,9 +200,9 @@ ecms_due true sections =
     omega (arith, first, none)
 
 -- and a message
-cats_of : (message : Option EcmHead) (places : List Place) → count_by is_cat (items_of message places) ≡ 0
+cats_of : (message : Option EcmHead) (places : List Place) → count_by is_cat_item (items_of message places) ≡ 0
 cats_of None places = refl
-cats_of (Some head) places = none_counts is_cat Controls (λ a. refl) (parts_of (message_of head places))
+cats_of (Some head) places = none_counts is_cat_item Controls (λ a. refl) (parts_of (message_of head places))
 
 emms_of_message : (message : Option EcmHead) (places : List Place) →
     count_by is_entitlement (items_of message places) ≡ 0
@@ -235,7 +235,7 @@ inserted_bytes site earlier due sections emms message sender sent are =
 -- and then come these counters
 pub inserted_next : (site : SiteFields) (earlier : List Item) (due : Bool) (sections : List Emm) (emms : List (List ℕ))
     (message : Option EcmHead) (old new : Sender) → HasSent site earlier old → emms ≡ of_sections site sections →
-    Follows old due emms message new →
+    HasCountersAfter old due emms message new →
     HasSent site (earlier ++ (items_due due sections ++ items_of message old.places.items)) new
 inserted_next site earlier due sections emms message old new sent are follows =
     let many : length emms ≡ length sections =
@@ -243,8 +243,8 @@ inserted_next site earlier due sections emms message old new sent are follows =
     ∙ length-map sections (λ (emm : Emm). packed (emm_section emm) site.emm 0) in
     record {
       cat_is = follows.cat ∙ sent.cat_is;
-      cats_are = cats due sections follows.cats (counts_on is_cat earlier _)
-          (counts_on is_cat (items_due due sections) _);
+      cats_are = cats due sections follows.cats (counts_on is_cat_item earlier _)
+          (counts_on is_cat_item (items_due due sections) _);
       emms_are = emms_next due sections many follows.emms_next (counts_on is_entitlement earlier _)
           (counts_on is_entitlement (items_due due sections) _);
       ecms_are =
@@ -262,10 +262,11 @@ inserted_next site earlier due sections emms message old new sent are follows =
     M = items_of message old.places.items
 
     cats : (due : Bool) (sections : List Emm) → new.cats ≡ (if due then (old.cats + 1) % 16 else old.cats) →
-        count_by is_cat (earlier ++ (items_due due sections ++ M))
-        ≡ count_by is_cat earlier + count_by is_cat (items_due due sections ++ M) →
-        count_by is_cat (items_due due sections ++ M) ≡ count_by is_cat (items_due due sections) + count_by is_cat M →
-        new.cats ≡ count_by is_cat (earlier ++ (items_due due sections ++ M)) % 16
+        count_by is_cat_item (earlier ++ (items_due due sections ++ M))
+        ≡ count_by is_cat_item earlier + count_by is_cat_item (items_due due sections ++ M) →
+        count_by is_cat_item (items_due due sections ++
+        M) ≡ count_by is_cat_item (items_due due sections) + count_by is_cat_item M →
+        new.cats ≡ count_by is_cat_item (earlier ++ (items_due due sections ++ M)) % 16
     cats true sections next on both =
         let due' = cats_due true sections in
         let none = cats_of message old.places.items in
@@ -300,7 +301,7 @@ pub carried_next : (site : SiteFields) (earlier : List Item) (k : ℕ) (packet :
     HasSent site (earlier ++ Carries k packet ∷ []) sender
 carried_next site earlier k packet sender sent = record {
   cat_is = sent.cat_is;
-  cats_are = sent.cats_are ∙ ap (λ (n : ℕ). n % 16) (sym (none_counted is_cat earlier (Carries k packet) refl));
+  cats_are = sent.cats_are ∙ ap (λ (n : ℕ). n % 16) (sym (none_counted is_cat_item earlier (Carries k packet) refl));
   emms_are = sent.emms_are ∙ ap (λ (n : ℕ). n % 16) (sym (none_counted is_entitlement earlier (Carries k packet) refl));
   ecms_are = sent.ecms_are ∙ ap (λ (n : ℕ). n % 16) (sym (none_counted is_control earlier (Carries k packet) refl));
 }

@@ -21,7 +21,7 @@ use Rattle.sd_clear.specs.After.{IsAfter as IsKept}
 use Rattle.sd_entitling.specs.Kept.{plan_of, IsOf}
 use Rattle.sd_entitling.specs.declared.entitling.Entitling.{Entitling}
 use Rattle.sd_head.specs.Messages.{head_of, message_due}
-use Rattle.sd_head.specs.Items.{HasSent, HasPlaced, Follows, tables_bytes, message_bytes}
+use Rattle.sd_head.specs.Items.{HasSent, HasPlaced, HasCountersAfter, tables_bytes, message_bytes}
 use Rattle.sd_head.specs.Schedule.{IsAt}
 use Rattle.sd_head.specs.Staged.{plan_in, head_does, head_ends, IsAfter, IsReady}
 use Rattle.sd_head.specs.declared.fault.HeadFault.{HeadFault}
@@ -99,7 +99,7 @@ pub record Leads (s t : Head) (packet : List ℕ) (m : Sender) (due : Bool) (emm
   pub book_is : t.entitling.book ≡ s.entitling.book
   pub refusal_is : t.refusal ≡ s.refusal
   pub taken : (before : List (List ℕ)) → IsKept before s.clear → IsKept (before ++ packet ∷ []) t.clear
-  pub follows : Follows m due emms message t.sender
+  pub follows : HasCountersAfter m due emms message t.sender
 
 module _ (s t : Head) (packet : List ℕ) (m : Sender) (due : Bool) (emms : List (List ℕ)) (message : Option EcmHead)
     (veiled : List ℕ)

@@ -15,11 +15,11 @@ use Rattle.sd_head.specs.Sending.{counter_after, numbered, recounted, packed_par
 use Rattle.sd_head.specs.declared.sender.Sender.{Sender}
 
 -- the thing is the CAT
-abbrev pub is_cat : Item → Bool
-is_cat Cat = true
-is_cat (Entitles emm) = false
-is_cat (Controls part) = false
-is_cat (Carries k packet) = false
+abbrev pub is_cat_item : Item → Bool
+is_cat_item Cat = true
+is_cat_item (Entitles emm) = false
+is_cat_item (Controls part) = false
+is_cat_item (Carries k packet) = false
 
 -- it is a section of entitlements
 abbrev pub is_entitlement : Item → Bool
@@ -38,7 +38,7 @@ is_control (Carries k packet) = false
 -- the counters that come next after these things [this project, docs/FORMATS.md, Sections]
 pub record HasSent (site : SiteFields) (earlier : List Item) (sender : Sender) : Type 0 where
   pub cat_is : sender.cat ≡ packed (cat_section site.ca site.emm site.ecm) 1 0
-  pub cats_are : sender.cats ≡ count_by is_cat earlier % 16
+  pub cats_are : sender.cats ≡ count_by is_cat_item earlier % 16
   pub emms_are : sender.emms ≡ count_by is_entitlement earlier % 16
   pub ecms_are : sender.ecms ≡ count_by is_control earlier % 16
 
@@ -74,7 +74,7 @@ parts_in sender None = 0
 parts_in sender (Some head) = length (parts_of (message_of head sender.places.items))
 
 -- the counters after tables and a message
-pub record Follows (old : Sender) (due : Bool) (emms : List (List ℕ)) (message : Option EcmHead)
+pub record HasCountersAfter (old : Sender) (due : Bool) (emms : List (List ℕ)) (message : Option EcmHead)
     (new : Sender) : Type 0 where
   pub cat : new.cat ≡ old.cat
   pub cats : new.cats ≡ (if due then (old.cats + 1) % 16 else old.cats)

@@ -1,6 +1,6 @@
 -- Inner: what a control message says beside its positions.
 use Rattle.std.specs.Prelude.{ℕ, ◌/◌, ◌%◌, ◌==◌, Bool, false, if◌then◌else◌, Option, Some, None}
-use Rattle.sd_site.specs.Fields.{SiteFields, name_of}
+use Rattle.sd_site.specs.Fields.{SiteFields, run_name_of}
 use Rattle.sd_ecm.specs.declared.message.EcmHead.{EcmHead}
 use Rattle.sd_broadcast.specs.Plan.{since_of}
 use Rattle.sd_entitling.specs.declared.crypto.CryptoPeriod.{CryptoPeriod}
@@ -14,7 +14,7 @@ head_of site crypto clear number closing = record {
   word = crypto.number;
   clear = clear;
   since = since_of site.messages site.cryptos number;
-  run = name_of site;
+  run = run_name_of site;
   closing = closing;
   wrapped = crypto.wrapped;
   check = crypto.check;

@@ -39,13 +39,13 @@ head_ends s t bytes steps =
     × (t.entitling.index.revoked ≡ revoked plan.site.height plan.commands (period_of plan (length before - 1)))
 
 -- A refusal writes nothing. It is the one that is kept, or it is due.
-pub record Refuses (s : Head) (packet : Option (List ℕ)) (fault : HeadFault) (bytes : List ℕ) : Type 0 where
+pub record RefusesPacket (s : Head) (packet : Option (List ℕ)) (fault : HeadFault) (bytes : List ℕ) : Type 0 where
   pub nothing : bytes ≡ []
   pub cause : (s.refusal ≡ Some fault) ⊎ ((plan : Plan) (before : List (List ℕ)) → IsAfter plan before s →
       IsDue plan before packet fault)
 
 abbrev pub head_refuses : Head → Option (List ℕ) → HeadFault → Head → List ℕ → ℕ → Type 0
-head_refuses s packet fault t bytes steps = Refuses s packet fault bytes
+head_refuses s packet fault t bytes steps = RefusesPacket s packet fault bytes
 
 -- it may be offered a packet: it stands after some, or keeps a refusal
 abbrev pub IsReady : Head → Type 0

@@ -5,9 +5,9 @@ ghost use Rattle.sd_site.specs.Fields.{fields_of};
 ghost use Rattle.sd_broadcast.specs.Plan.{closing_number};
 ghost use Rattle.sd_broadcast.specs.Messages.{places_after};
 ghost use Rattle.sd_clear.specs.After.{IsAfter as IsKept};
-ghost use Rattle.sd_head.specs.Sending.{Sends};
+ghost use Rattle.sd_head.specs.Sending.{SendsBytes};
 ghost use Rattle.sd_head.specs.Messages.{head_of, message_due};
-ghost use Rattle.sd_head.specs.Items.{message_bytes, tables_bytes, AllMayBeSent, Follows, HasPlaced, HasSent};
+ghost use Rattle.sd_head.specs.Items.{message_bytes, tables_bytes, AllMayBeSent, HasCountersAfter, HasPlaced, HasSent};
 ghost use Rattle.sd_head.specs.Items.{MayBeSent};
 
 use crate::cat::cat_packet;
@@ -100,9 +100,9 @@ impl Sender {
     ) -> Result<(), PortFault>
         requires pid { pid < 8192 }
         requires fits { AllMayBeSent message self.old.places.items }
-        ensures value { Sends (vessel K.Sink out.old) (vessel K.Sink out.new)
+        ensures value { SendsBytes (vessel K.Sink out.old) (vessel K.Sink out.new)
             (tables_bytes self.old due emms.now ++ message_bytes pid self.old message) result }
-        ensures next { OnOk result (Follows self.old due emms.now message self.new) }
+        ensures next { OnOk result (HasCountersAfter self.old due emms.now message self.new) }
         ensures cause { HasCause (K.faults out.old) (K.faults out.new) result }
     {
         self.send_tables(due, emms, out)?;
@@ -116,9 +116,9 @@ impl Sender {
         emms: &[Packet],
         out: &mut K,
     ) -> Result<(), PortFault>
-        ensures value { Sends (vessel K.Sink out.old) (vessel K.Sink out.new)
+        ensures value { SendsBytes (vessel K.Sink out.old) (vessel K.Sink out.new)
             (tables_bytes self.old due emms.now) result }
-        ensures next { OnOk result (Follows self.old due emms.now None self.new) }
+        ensures next { OnOk result (HasCountersAfter self.old due emms.now None self.new) }
         ensures places { self.new.places ≡ self.old.places }
         ensures cause { HasCause (K.faults out.old) (K.faults out.new) result }
     {
@@ -138,9 +138,9 @@ impl Sender {
     ) -> Result<(), PortFault>
         requires pid { pid < 8192 }
         requires fits { AllMayBeSent message self.old.places.items }
-        ensures value { Sends (vessel K.Sink out.old) (vessel K.Sink out.new)
+        ensures value { SendsBytes (vessel K.Sink out.old) (vessel K.Sink out.new)
             (message_bytes pid self.old message) result }
-        ensures next { OnOk result (Follows self.old false [] message self.new) }
+        ensures next { OnOk result (HasCountersAfter self.old false [] message self.new) }
         ensures cause { HasCause (K.faults out.old) (K.faults out.new) result }
     {
         match message {
@@ -161,9 +161,9 @@ impl Sender {
     ) -> Result<(), PortFault>
         requires pid { pid < 8192 }
         requires fits { AllMayBeSent message self.old.places.items }
-        ensures value { Sends (vessel K.Sink out.old) (vessel K.Sink out.new)
+        ensures value { SendsBytes (vessel K.Sink out.old) (vessel K.Sink out.new)
             ((tables_bytes self.old due emms.now ++ message_bytes pid self.old message) ++ packet.now) result }
-        ensures next { OnOk result (Follows self.old due emms.now message self.new) }
+        ensures next { OnOk result (HasCountersAfter self.old due emms.now message self.new) }
         ensures cause { HasCause (K.faults out.old) (K.faults out.new) result }
     {
         self.send_inserted(due, emms, message, pid, out)?;

@@ -3,7 +3,7 @@
 ghost use Rattle.std.specs.Prelude.{◌≡◌, ◌++◌, ◌∷◌, [], ℕ, List, Option, Some};
 ghost use Rattle.std.specs.List.{concat};
 ghost use Rattle.sd_engine.specs.Stage.{Chain};
-ghost use Rattle.sd_engine.specs.Driving.{Closes, Refuses};
+ghost use Rattle.sd_engine.specs.Driving.{ChainToEnd, ChainToRefusal};
 ghost use Rattle.sd_broadcast.specs.declared.fault.ClearFault.{ClearFault as ClearFaults};
 ghost use Rattle.sd_broadcast.specs.Plan.{Plan};
 ghost use Rattle.sd_broadcast.specs.Refused.{refusal_from, IsClear};
@@ -31,10 +31,10 @@ pub fn chains_write_bodies()
 pub fn whole_streams_are_broadcast()
     ensures value { (plan : Plan) (packets : List (List ℕ)) (s t : Heads) (bytes : List ℕ) (steps : ℕ) →
         IsAfter plan [] s →
-        Closes head_does head_ends s packets t bytes steps → bytes ≡ concat (broadcast plan packets) }
+        ChainToEnd head_does head_ends s packets t bytes steps → bytes ≡ concat (broadcast plan packets) }
     ensures clear { (plan : Plan) (packets : List (List ℕ)) (s t : Heads) (bytes : List ℕ) (steps : ℕ) →
         IsAfter plan [] s →
-        Closes head_does head_ends s packets t bytes steps → IsClear plan.site packets }
+        ChainToEnd head_does head_ends s packets t bytes steps → IsClear plan.site packets }
 {}
 
 /// A refusal, of a packet or of the end, leaves the broadcast of the packets before it but for the closing message. A
@@ -42,12 +42,13 @@ pub fn whole_streams_are_broadcast()
 pub fn refusals_leave_bodies()
     ensures body { (plan : Plan) (packets : List (List ℕ)) (refused : Option (List ℕ)) (fault : Faults) (s t : Heads)
         (bytes : List ℕ) (steps : ℕ) → IsAfter plan [] s →
-        Refuses head_does head_refuses s packets refused fault t bytes steps → bytes ≡ concat (body plan packets) }
+        ChainToRefusal head_does head_refuses s packets refused fault t bytes steps →
+        bytes ≡ concat (body plan packets) }
     ensures clear { (plan : Plan) (packets : List (List ℕ)) (refused : Option (List ℕ)) (fault : Faults) (s t : Heads)
         (bytes : List ℕ) (steps : ℕ) → IsAfter plan [] s →
-        Refuses head_does head_refuses s packets refused fault t bytes steps → IsClear plan.site packets }
+        ChainToRefusal head_does head_refuses s packets refused fault t bytes steps → IsClear plan.site packets }
     ensures fault { (plan : Plan) (packets rest : List (List ℕ)) (packet : List ℕ) (fault : ClearFaults) (s t : Heads)
         (bytes : List ℕ) (steps : ℕ) → IsAfter plan [] s →
-        Refuses head_does head_refuses s packets (Some packet) (ClearOf fault) t bytes steps →
+        ChainToRefusal head_does head_refuses s packets (Some packet) (ClearOf fault) t bytes steps →
         refusal_from plan.site [] (packets ++ packet ∷ rest) ≡ Some fault }
 {}

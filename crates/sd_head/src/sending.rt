@@ -6,7 +6,7 @@ ghost use Rattle.sd_ecm.specs.declared.format.TheConstants.{MOST_PLACES};
 ghost use Rattle.sd_ecm.specs.Versions.{IsVersion, IsNamed, IsSince};
 ghost use Rattle.sd_ecm.specs.Form.{ArePositioned, AreAscending, AreShort};
 ghost use Rattle.sd_ecm.specs.Parts.{message_of, parts_of};
-ghost use Rattle.sd_head.specs.Sending.{Sends, counter_after, numbered, packed_part, recounted};
+ghost use Rattle.sd_head.specs.Sending.{SendsBytes, counter_after, numbered, packed_part, recounted};
 
 use crate::counter::Counter;
 use sd_ecm::{EcmHead, EcmPart, Place, part_count, write_ecm};
@@ -19,7 +19,7 @@ pub fn send_counted<K: Sink>(
     packet: &Packet,
     counter: &mut Counter,
 ) -> Result<(), PortFault>
-    ensures value { Sends (vessel K.Sink out.old) (vessel K.Sink out.new) (recounted packet.now counter.old) result }
+    ensures value { SendsBytes (vessel K.Sink out.old) (vessel K.Sink out.new) (recounted packet.now counter.old) result }
     ensures next { counter.new ≡ (counter.old + 1) % 16 }
     ensures cause { HasCause (K.faults out.old) (K.faults out.new) result }
 {
@@ -34,7 +34,7 @@ pub fn send_all<K: Sink>(
     packets: &[Packet],
     counter: &mut Counter,
 ) -> Result<(), PortFault>
-    ensures value { Sends (vessel K.Sink out.old) (vessel K.Sink out.new)
+    ensures value { SendsBytes (vessel K.Sink out.old) (vessel K.Sink out.new)
         (concat (numbered recounted counter.old packets.now)) result }
     ensures next { OnOk result (counter.new ≡ counter_after counter.old (length packets.now)) }
     ensures cause { HasCause (K.faults out.old) (K.faults out.new) result }
@@ -61,7 +61,7 @@ pub fn send_message<K: Sink>(
     requires positioned { ArePositioned places.now }
     requires ascending { AreAscending places.now }
     requires short { AreShort places.now }
-    ensures value { Sends (vessel K.Sink out.old) (vessel K.Sink out.new)
+    ensures value { SendsBytes (vessel K.Sink out.old) (vessel K.Sink out.new)
         (concat (numbered (packed_part pid) counter.old (parts_of (message_of head.now places.now)))) result }
     ensures next { OnOk result
         (counter.new ≡ counter_after counter.old (length (parts_of (message_of head.now places.now)))) }
@@ -76,7 +76,7 @@ pub fn send_message<K: Sink>(
 
 /// Sends the packet.
 pub fn send<K: Sink>(out: &mut K, packet: &Packet) -> Result<(), PortFault>
-    ensures value { Sends (vessel K.Sink out.old) (vessel K.Sink out.new) packet.now result }
+    ensures value { SendsBytes (vessel K.Sink out.old) (vessel K.Sink out.new) packet.now result }
     ensures cause { HasCause (K.faults out.old) (K.faults out.new) result }
 {
     write_all(out, packet.bytes())

@@ -1,6 +1,6 @@
 -- Public meaning: what a receiver hears, as the program keeps it.
 use Rattle.std.specs.Prelude.{ℕ, List}
-use Rattle.sd_emm.specs.Spelled.{listed}
+use Rattle.sd_emm.specs.Spelled.{listed_entries}
 use Rattle.sd_emm.specs.Form.{IsEmm, AreSets}
 use Rattle.sd_ecm.specs.Form.{IsEcm}
 use Rattle.sd_reception.specs.Tuned.{Tuning}
@@ -24,7 +24,7 @@ heard_as number packet Other = Reception.Other number packet
 
 -- a section and a part are in their forms, in a tree of height h
 abbrev pub IsFormed : ℕ → Heard → Type 0
-IsFormed h (Entitles emm) = IsEmm emm × AreSets h emm.sets (listed emm)
+IsFormed h (Entitles emm) = IsEmm emm × AreSets h emm.sets (listed_entries emm)
 IsFormed h (Controls part) = IsEcm part
 IsFormed h Dropped = Unit {0}
 IsFormed h (BadEmm fault) = Unit {0}

@@ -10,10 +10,10 @@ use Rattle.std.specs.List.Sorted.{IsStrictlyIncreasing}
 use Rattle.std.proofs.lemmas.List.{append_assoc, append-nil, map-append, length-append, length_push, get_or_append_left}
 use Rattle.std.specs.Option.{option_map_or}
 use Rattle.sd_text.specs.Lines.{lines_of}
-use Rattle.sd_text.specs.Number.{number_of, after, decimal_after, fitting}
+use Rattle.sd_text.specs.Number.{decimal_value, rest_after, decimal_after, fitting}
 use Rattle.sd_text.specs.declared.number.NumberFault.{NumberFault}
 use Rattle.sd_text.specs.declared.number.NumberFault.TheVariants.{TooLarge}
-use Rattle.sd_leaves.specs.Text.{is_leaf_line, first_fault, leaves_of_text, leaf_after, number_on, stands_above}
+use Rattle.sd_leaves.specs.Text.{is_leaf_line, first_fault, leaves_of_text, leaf_after, leaf_number_on, stands_above}
 
 -- the first number of a range that passes a test
 found_at : (p : ℕ → Bool) (lo n k : ℕ) → k < n → ((i : ℕ) → i < k → p (lo + i) ≡ false) → p (lo + k) ≡ true →
@@ -41,9 +41,9 @@ none_found p lo (suc n) none =
 
 -- a line that is a decimal of 32 bits says it
 pub said : (h u : ℕ) (line before : List ℕ) → fitting (decimal_after [] line) ≡ Ok u →
-    leaf_after h before (Some u) ≡ leaf_after h before (number_of line)
-unfolding after
-said h u line before e = ap (leaf_after h before) (sym (said_by (number_of line) u e))
+    leaf_after h before (Some u) ≡ leaf_after h before (decimal_value line)
+unfolding rest_after
+said h u line before e = ap (leaf_after h before) (sym (said_by (decimal_value line) u e))
   where
     said_by : (n : Option ℕ) (u : ℕ) → fitting n ≡ Ok u → n ≡ Some u
     said_by None u e = absurd (cc)
@@ -56,9 +56,9 @@ said h u line before e = ap (leaf_after h before) (sym (said_by (number_of line)
 -- another is no leaf
 pub unsaid : (h : ℕ) (line before : List ℕ) (fault : NumberFault) → h ≤ 20 → fitting (decimal_after [] line)
     ≡ Err fault →
-    leaf_after h before (number_of line) ≡ None
-unfolding after
-unsaid h line before fault low e = unsaid_by (number_of line) e
+    leaf_after h before (decimal_value line) ≡ None
+unfolding rest_after
+unsaid h line before fault low e = unsaid_by (decimal_value line) e
   where
     unsaid_by : (n : Option ℕ) → fitting n ≡ Err fault → leaf_after h before n ≡ None
     unsaid_by None e = refl
@@ -99,7 +99,7 @@ not_there h u before none = rw (by (nat_lt u (2 ^ h)) refl) refl
 pub record AreRead (h : ℕ) (text rest : List ℕ) (leaves : List ℕ) : Type 0 where
   pub lines : List (List ℕ)
   pub split : lines_of text ≡ lines ++ lines_of rest
-  pub numbers : map number_of lines ≡ map Some leaves
+  pub numbers : map decimal_value lines ≡ map Some leaves
   pub good : (k : ℕ) → k < length lines → is_leaf_line h (lines_of text) k ≡ true
 
 pub read_none : (h : ℕ) (text : List ℕ) → AreRead h text text []
@@ -111,7 +111,7 @@ read_none h text = record {
 }
 
 -- as many lines as leaves
-as_many : (lines : List (List ℕ)) (leaves : List ℕ) → map number_of lines ≡ map Some leaves → length lines
+as_many : (lines : List (List ℕ)) (leaves : List ℕ) → map decimal_value lines ≡ map Some leaves → length lines
     ≡ length leaves
 as_many [] [] e = refl
 as_many [] (u ∷ us) e = absurd (cc)
@@ -119,9 +119,9 @@ as_many (l ∷ ls) [] e = absurd (cc)
 as_many (l ∷ ls) (u ∷ us) e = omega (arith, as_many ls us (ap (drop 1) e))
 
 -- the number on each of these lines
-number_read : (lines : List (List ℕ)) (leaves : List ℕ) (k : ℕ) → map number_of lines ≡ map Some leaves →
+number_read : (lines : List (List ℕ)) (leaves : List ℕ) (k : ℕ) → map decimal_value lines ≡ map Some leaves →
     k < length leaves →
-    number_of (get_or lines k []) ≡ slice_get leaves k
+    decimal_value (get_or lines k []) ≡ slice_get leaves k
 number_read [] [] k e within = absurd (omega (arith, within))
 number_read [] (u ∷ us) k e within = absurd (cc)
 number_read (l ∷ ls) [] k e within = absurd (omega (arith, within))
@@ -141,7 +141,8 @@ no_last u [] none = refl
 no_last u (w ∷ ws) none = absurd (omega (arith, none))
 
 -- the line before is that of the last leaf
-above_same : (u : ℕ) (lines later : List (List ℕ)) (leaves : List ℕ) (n : ℕ) → map number_of lines ≡ map Some leaves →
+above_same : (u : ℕ) (lines later : List (List ℕ)) (leaves : List ℕ) (n : ℕ) →
+    map decimal_value lines ≡ map Some leaves →
     n ≡ length leaves → stands_above (lines ++ later) n u ≡
     option_map_or (λ w. nat_lt w u) (slice_get leaves (length leaves - 1)) true
 above_same u lines later leaves zero e is = no_last u leaves (sym is)
@@ -150,7 +151,7 @@ above_same u lines later leaves (suc n) e is =
     let before : get_or (lines ++ later) n [] ≡ get_or lines n [] = get_or_append_left lines later [] n
     (omega (arith, count, is)) in
     let last : length leaves - 1 ≡ n = omega (arith, is) in
-    let number = ap number_of before ∙ number_read lines leaves n e (omega (arith, is)) in
+    let number = ap decimal_value before ∙ number_read lines leaves n e (omega (arith, is)) in
     rw (last, number) (last_is u leaves n (omega (arith, is)))
 
 -- the line at the end of others
@@ -162,7 +163,7 @@ taken_is : (b : Bool) (u : ℕ) → b ≡ is_some (if b then Some u else None)
 taken_is true u = refl
 taken_is false u = refl
 
-line_by : (h : ℕ) (lines later : List (List ℕ)) (leaves : List ℕ) (n : Option ℕ) → map number_of lines
+line_by : (h : ℕ) (lines later : List (List ℕ)) (leaves : List ℕ) (n : Option ℕ) → map decimal_value lines
     ≡ map Some leaves →
     option_map_or (λ u. nat_lt u (2 ^ h) && stands_above (lines ++ later) (length lines) u) n false
     ≡ is_some (leaf_after h leaves n)
@@ -172,12 +173,12 @@ line_by h lines later leaves (Some u) e =
     (taken_is (nat_lt u (2 ^ h) && option_map_or (λ w. nat_lt w u) (slice_get leaves (length leaves - 1)) true) u)
 
 -- whether the next line is one of a leaf
-line_is : (h : ℕ) (lines later : List (List ℕ)) (line : List ℕ) (leaves : List ℕ) → map number_of lines
+line_is : (h : ℕ) (lines later : List (List ℕ)) (line : List ℕ) (leaves : List ℕ) → map decimal_value lines
     ≡ map Some leaves →
-    is_leaf_line h (lines ++ line ∷ later) (length lines) ≡ is_some (leaf_after h leaves (number_of line))
+    is_leaf_line h (lines ++ line ∷ later) (length lines) ≡ is_some (leaf_after h leaves (decimal_value line))
 unfolding is_leaf_line
 line_is h lines later line leaves e = rw (line_at lines later line)
-    (line_by h lines (line ∷ later) leaves (number_of line) e)
+    (line_by h lines (line ∷ later) leaves (decimal_value line) e)
 
 said_leaf : (h leaf : ℕ) (leaves : List ℕ) (n : Option ℕ) → leaf_after h leaves n ≡ Some leaf → n ≡ Some leaf
 said_leaf h leaf leaves None e = absurd (cc)
@@ -189,8 +190,8 @@ said_leaf h leaf leaves (Some u) e =
     by false e = absurd (cc)
 
 good_more : (h : ℕ) (text : List ℕ) (lines later : List (List ℕ)) (line leaves : List ℕ) (leaf k : ℕ) →
-    lines_of text ≡ lines ++ line ∷ later → map number_of lines ≡ map Some leaves →
-    leaf_after h leaves (number_of line) ≡ Some leaf →
+    lines_of text ≡ lines ++ line ∷ later → map decimal_value lines ≡ map Some leaves →
+    leaf_after h leaves (decimal_value line) ≡ Some leaf →
     ((k : ℕ) → k < length lines → is_leaf_line h (lines_of text) k ≡ true) → k < length (lines ++ line ∷ []) →
     (k < length lines) ⊎ (length lines ≤ k) → is_leaf_line h (lines_of text) k ≡ true
 good_more h text lines later line leaves leaf k whole e is good within (inl before) = good k before
@@ -203,7 +204,7 @@ good_more h text lines later line leaves leaf k whole e is good within (inr here
 
 -- one line more
 pub read_more : (h : ℕ) (text rest more line leaves : List ℕ) (leaf : ℕ) → AreRead h text rest leaves →
-    lines_of rest ≡ line ∷ lines_of more → leaf_after h leaves (number_of line) ≡ Some leaf →
+    lines_of rest ≡ line ∷ lines_of more → leaf_after h leaves (decimal_value line) ≡ Some leaf →
     AreRead h text more (leaves ++ leaf ∷ [])
 read_more h text rest more line leaves leaf read first is =
     let whole : lines_of text ≡ read.lines ++ line ∷ lines_of more = read.split ∙ ap (λ (ls : List (List ℕ)). read.lines
@@ -211,9 +212,9 @@ read_more h text rest more line leaves leaf read first is =
     record {
       lines = read.lines ++ line ∷ [];
       split = whole ∙ sym (append_assoc read.lines (line ∷ []) (lines_of more));
-      numbers = map-append number_of read.lines (line ∷ [])
-          ∙ (ap (λ (ns : List (Option ℕ)). ns ++ number_of line ∷ []) read.numbers
-          ∙ (ap (λ (n : Option ℕ). map Some leaves ++ n ∷ []) (said_leaf h leaf leaves (number_of line) is)
+      numbers = map-append decimal_value read.lines (line ∷ [])
+          ∙ (ap (λ (ns : List (Option ℕ)). ns ++ decimal_value line ∷ []) read.numbers
+          ∙ (ap (λ (n : Option ℕ). map Some leaves ++ n ∷ []) (said_leaf h leaf leaves (decimal_value line) is)
           ∙ sym (map-append Some leaves (leaf ∷ []))));
       good = λ k within. good_more h text read.lines (lines_of more) line leaves leaf k whole read.numbers is read.good
           within
@@ -222,7 +223,7 @@ read_more h text rest more line leaves leaf read first is =
 
 -- the first line that is no leaf's
 pub read_fault : (h : ℕ) (text rest more line leaves : List ℕ) → AreRead h text rest leaves →
-    lines_of rest ≡ line ∷ lines_of more → leaf_after h leaves (number_of line) ≡ None →
+    lines_of rest ≡ line ∷ lines_of more → leaf_after h leaves (decimal_value line) ≡ None →
     leaves_of_text h text ≡ Err (length leaves + 1)
 unfolding leaves_of_text first_fault
 read_fault h text rest more line leaves read first none =
@@ -242,13 +243,13 @@ read_fault h text rest more line leaves read first none =
     rw (found, at) refl
 
 -- the leaves that lines say
-map_back : (ls : List (List ℕ)) (us : List ℕ) → map number_of ls ≡ map Some us →
-    map (λ line. option_map_or (λ u. u) (number_of line) 0) ls ≡ us
+map_back : (ls : List (List ℕ)) (us : List ℕ) → map decimal_value ls ≡ map Some us →
+    map (λ line. option_map_or (λ u. u) (decimal_value line) 0) ls ≡ us
 map_back [] [] e = refl
 map_back [] (u ∷ us) e = absurd (cc)
 map_back (l ∷ ls) [] e = absurd (cc)
 map_back (l ∷ ls) (u ∷ us) e =
-    let first : number_of l ≡ Some u = ap (λ (xs : List (Option ℕ)). get_or xs 0 None) e in
+    let first : decimal_value l ≡ Some u = ap (λ (xs : List (Option ℕ)). get_or xs 0 None) e in
     rw first (ap (λ (vs : List ℕ). u ∷ vs) (map_back ls us (ap (drop 1) e)))
 
 -- at the end they are all that the text says
@@ -261,7 +262,7 @@ read_all h text rest leaves read ended =
     let none = none_found (λ k. not (is_leaf_line h (lines_of text) k)) 0 (length (lines_of text))
     (λ i below. let e : 0 + i ≡ i = omega arith in
     let good = read.good i (subst (λ (ls : List (List ℕ)). i < length ls) whole below) in rw (e, good) refl) in
-    rw none (ap Ok (ap (map (λ line. option_map_or (λ u. u) (number_of line) 0)) whole ∙ map_back read.lines leaves
+    rw none (ap Ok (ap (map (λ line. option_map_or (λ u. u) (decimal_value line) 0)) whole ∙ map_back read.lines leaves
     read.numbers))
 
 -- there are no more ascending leaves than the tree has

@@ -2,7 +2,7 @@ ghost use Rattle.std.specs.Prelude.{◌≡◌, ℕ, ◌-◌, ◌^◌, ◌<◌, A
 ghost use Rattle.std.specs.Prelude.{◌+◌, length, nat_lt, slice_get};
 ghost use Rattle.std.specs.Option.{option_map_or};
 ghost use Rattle.std.specs.List.Sorted.{IsStrictlyIncreasing};
-ghost use Rattle.sd_text.specs.Number.{number_of};
+ghost use Rattle.sd_text.specs.Number.{decimal_value};
 ghost use Rattle.sd_leaves.specs.Text.{leaves_of_text, leaf_after};
 
 use sd_text::{next_line, number_after};
@@ -60,7 +60,7 @@ fn add(leaves: &mut Vec<Leaf>, leaf: Leaf) -> Result<(), LeavesFault>
 // The leaf on a line after those with these leaves.
 #[tactic(auto, using(crate::proofs::Lines::said, crate::proofs::Lines::unsaid))]
 fn next_leaf(h: Height, line: &[u8], before: &[Leaf]) -> Option<Leaf>
-    ensures { result ≡ leaf_after h before.now (number_of line.now) }
+    ensures { result ≡ leaf_after h before.now (decimal_value line.now) }
 {
     match number_after(b"", line) {
         Ok(number) => leaf_numbered(h, number, before),

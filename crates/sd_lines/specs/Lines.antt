@@ -20,8 +20,8 @@ abbrev pub word : List ℕ → Data
 word text = string text
 
 -- a list
-abbrev pub listed : List Data → Data
-listed items = array (items_of items)
+abbrev pub list_data : List Data → Data
+list_data items = array (items_of items)
 
 -- a CA_descriptor: its CA_PID and CA_system_ID [ISO/IEC 13818-1, 2.6.16]
 unfoldable pub ca_data : List ℕ → Data
@@ -35,7 +35,7 @@ unfoldable pub cas_of : List (List ℕ) → List Data
 cas_of descriptors = map ca_data (filter is_ca descriptors)
 
 unfoldable pub cas_data : List ℕ → Data
-cas_data bytes = listed (cas_of (descriptors_of bytes))
+cas_data bytes = list_data (cas_of (descriptors_of bytes))
 
 -- a program of a PAT [ISO/IEC 13818-1, 2.4.4.3]
 unfoldable pub program_data : ℕ × ℕ → Data
@@ -58,7 +58,7 @@ unfoldable pub pat_data : ℕ → ℕ → List ℕ → Data
 pat_data packet pid section = object
     (member (codes "packet") (num packet)
     (member (codes "pid") (num pid)
-    (member (codes "programs") (listed (map program_data (programs_of section)))
+    (member (codes "programs") (list_data (map program_data (programs_of section)))
     (member (codes "stream") (num (extension_of section))
     (member (codes "table") (word (codes "pat"))
     (member (codes "version") (num (version_of section))
@@ -80,7 +80,7 @@ pmt_data packet pid section = object
     (member (codes "pcr") (num (pcr_of section))
     (member (codes "pid") (num pid)
     (member (codes "program") (num (extension_of section))
-    (member (codes "streams") (listed (map stream_data (streams_of section)))
+    (member (codes "streams") (list_data (map stream_data (streams_of section)))
     (member (codes "table") (word (codes "pmt"))
     (member (codes "version") (num (version_of section))
     no_members))))))))

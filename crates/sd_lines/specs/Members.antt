@@ -11,9 +11,9 @@ put_all [] members = members
 put_all (m ∷ ms) members = put_all ms (put m.0 m.1 members)
 
 -- the names and the data of some values
-abbrev pub named : List (Bor (List ℕ) × Value) → List (List ℕ × Data)
-named values = map (λ v. (v.0.now, view v.1)) values
+abbrev pub named_data : List (Bor (List ℕ) × Value) → List (List ℕ × Data)
+named_data values = map (λ v. (v.0.now, view v.1)) values
 
 -- the object of these members
 abbrev pub object_by : List (Bor (List ℕ) × Value) → Data
-object_by values = object (put_all (named values) no_members)
+object_by values = object (put_all (named_data values) no_members)

@@ -1,7 +1,7 @@
 ghost use Rattle.std.specs.Prelude.{◌≡◌, IfOk, map};
 ghost use Rattle.serde_json.specs.View.{view};
 ghost use Rattle.sd_psi.specs.Tables.{programs_of};
-ghost use Rattle.sd_lines.specs.Lines.{listed, program_data, pat_data};
+ghost use Rattle.sd_lines.specs.Lines.{list_data, program_data, pat_data};
 
 use crate::object::object_of;
 use sd_psi::Pat;
@@ -34,7 +34,7 @@ pub(crate) fn pat_value(
 // Its programs.
 #[tactic(auto, using(crate::proofs::Growing::program_first, crate::proofs::Growing::programs_shown, std::proofs::lemmas::List::map_push))]
 fn programs_value(alloc: Global, pat: &Pat) -> Result<Value, AllocError>
-    ensures { IfOk result (λ value. view value ≡ listed (map program_data (programs_of pat.now.section.bytes.now))) }
+    ensures { IfOk result (λ value. view value ≡ list_data (map program_data (programs_of pat.now.section.bytes.now))) }
 {
     let mut rest = pat.programs();
     let mut programs = Vec::new(alloc);

@@ -1,7 +1,7 @@
 ghost use Rattle.std.specs.Prelude.{◌≡◌, IfOk, map};
 ghost use Rattle.serde_json.specs.View.{view};
 ghost use Rattle.sd_psi.specs.Tables.{stream_of, streams_of};
-ghost use Rattle.sd_lines.specs.Lines.{listed, stream_data, pmt_data};
+ghost use Rattle.sd_lines.specs.Lines.{list_data, stream_data, pmt_data};
 
 use crate::ca::cas_value;
 use crate::object::object_of;
@@ -38,7 +38,7 @@ pub(crate) fn pmt_value(
 // Its streams.
 #[tactic(auto, using(crate::proofs::Growing::stream_first, crate::proofs::Growing::streams_shown, std::proofs::lemmas::List::map_push))]
 fn streams_value(alloc: Global, pmt: &Pmt) -> Result<Value, AllocError>
-    ensures { IfOk result (λ value. view value ≡ listed (map stream_data (streams_of pmt.now.section.bytes.now))) }
+    ensures { IfOk result (λ value. view value ≡ list_data (map stream_data (streams_of pmt.now.section.bytes.now))) }
 {
     let mut rest = pmt.streams();
     let mut streams = Vec::new(alloc);

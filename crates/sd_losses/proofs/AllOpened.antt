@@ -30,7 +30,8 @@ use Rattle.sd_sent.specs.Packets.{AreWholePackets}
 use Rattle.sd_told.proofs.Keyed.{period_due}
 use Rattle.sd_losses.specs.Chosen.{chosen}
 use Rattle.sd_losses.specs.Kept.{is_kept, kept_in, has_arrived, entitles, is_last_part, is_entitled_before, after_cat}
-use Rattle.sd_losses.specs.Confirmed.{packet_at, packets_at, is_open, traced, is_traced, is_scrambled, confirmed}
+use Rattle.sd_losses.specs.Confirmed.{packet_at, packets_at, is_open, tracked_position, is_traced, is_scrambled}
+use Rattle.sd_losses.specs.Confirmed.{confirmed}
 use Rattle.sd_losses.specs.Confirmed.{is_revoked_in, opened_by}
 use Rattle.sd_losses.proofs.Tests.{filter_range}
 use Rattle.sd_losses.proofs.Arriving.{is_of, entitled_before, last_there}
@@ -266,7 +267,7 @@ module _ (plan : Plan) (clear : List (List ℕ)) (u : ℕ) (is : IsPlan plan) (a
 
     -- and each packet is confirmed exactly where it isn't
     all_confirmed : (j : ℕ) → j < length clear → confirms s kept j ≡ not (is_revoked_in plan u (period_of plan j))
-    unfolding is_traced traced
+    unfolding is_traced tracked_position
     all_confirmed j within =
         sym (neighbours s kept a (a + 1) j is.site (record { below = omega arith; within = omega (arith, below) })
         (arrived_all a (omega (arith, below))) (arrived_all (a + 1) (omega (arith, below)))

@@ -7,7 +7,7 @@ use Rattle.std.specs.Prelude.{All}
 use Rattle.std.specs.List.{list_any, range_with_len}
 use Rattle.std.specs.Option.{option_map_or}
 use Rattle.std.proofs.lemmas.List.Elements.{All-nil, All-tail, All-contains_itself}
-use Rattle.sd_site.specs.Fields.{name_of as site_name}
+use Rattle.sd_site.specs.Fields.{run_name_of as site_name}
 use Rattle.std.proofs.lemmas.List.Folds.{list_any-append}
 use Rattle.std.proofs.lemmas.Bool.{cases_Bool}
 use Rattle.std.proofs.lemmas.Bool.Decides.{nat_tests}
@@ -21,7 +21,7 @@ use Rattle.sd_broadcast.specs.Items.{IsOfBroadcast}
 use Rattle.sd_broadcast.proofs.Items.{all_are_of_broadcast}
 use Rattle.sd_reception.specs.Tuned.{Tuning, tuning_of, tuned_by, cat_tuning}
 use Rattle.sd_reception.specs.Heard.{Heard}
-use Rattle.sd_reception.specs.Offered.{Offering, heard, heard_with, offered, out_from, break_from, nothing}
+use Rattle.sd_reception.specs.Offered.{Offering, heard, heard_with, offered, out_from, break_from, no_offering}
 use Rattle.sd_losses.specs.Chosen.{chosen}
 use Rattle.sd_losses.specs.Kept.{is_carried, has_arrived, after_cat}
 use Rattle.sd_losses.specs.Confirmed.{confirmed, packets_at}
@@ -31,7 +31,7 @@ use Rattle.sd_losses.proofs.Writing.{onto, Writes, writes_append, IsOpenUpto, op
 use Rattle.sd_losses.proofs.Arriving.{is_of}
 use Rattle.sd_losses.proofs.Setting.{Setting, AreLaws, tuning_at, final, told_by}
 use Rattle.sd_losses.proofs.Facts.{AreHeard, Passes}
-use Rattle.sd_losses.proofs.Hearing.{AreHearable, heard_from, heard_append, is_cat, IsTuned}
+use Rattle.sd_losses.proofs.Hearing.{AreHearable, heard_from, heard_append, is_cat_item, IsTuned}
 use Rattle.sd_losses.proofs.Remaining.{rest_at, rest_none, closing_items}
 use Rattle.sd_losses.proofs.Later.{chosen_append, chosen_fails, numbers_later, packets_later}
 use Rattle.sd_losses.proofs.Confirming.{confirms, confirmed_in}
@@ -60,7 +60,7 @@ nothing_confirmed s laws = rest_unconfirmed s [] 0 None laws.range (λ b. refl)
 -- where no CAT is kept
 without_cat : (s : Setting) (laws : AreLaws s) (able : AreHearable s) (items earlier : List Item) (fs : List Bool)
     (past : List (List ℕ)) → All (IsOfBroadcast s.plan s.clear) items → tuning_of s.card.ca past ≡ None →
-    list_any is_cat (chosen fs items) ≡ false → IsWrittenBefore s earlier items fs past
+    list_any is_cat_item (chosen fs items) ≡ false → IsWrittenBefore s earlier items fs past
 without_cat s laws able items earlier fs past all none no_cat =
     subst (AreWritten s past packets)
     (sym (ap (λ (kept : List Item). confirmed_in s kept 0 (length s.clear)) (after_no_cat (chosen fs items) no_cat)
@@ -80,7 +80,7 @@ without_cat s laws able items earlier fs past all none no_cat =
 skipped_first : (s : Setting) (able : AreHearable s) (group rest earlier : List Item) (fs : List Bool) (past : List
     (List ℕ)) →
     All (IsOfBroadcast s.plan s.clear) (group ++ rest) → tuning_of s.card.ca past ≡ None →
-    list_any is_cat (chosen (take (length group) fs) group) ≡ false →
+    list_any is_cat_item (chosen (take (length group) fs) group) ≡ false →
     (tuning_of s.card.ca (onto (chosen (take (length group) fs) (packets_from s.plan.site earlier group)) past) ≡ None →
     IsWrittenBefore s (earlier ++ group) rest (drop (length group) fs)
     (onto (chosen (take (length group) fs) (packets_from s.plan.site earlier group)) past)) →
@@ -141,7 +141,7 @@ taken_tuning s able earlier past none = record {
     named = IsOfRun (site_name s.plan.site)
 
 one_skipped : (s : Setting) (past packets wrote : List (List ℕ)) (packet : List ℕ) →
-    offered s.card past packet ≡ nothing →
+    offered s.card past packet ≡ no_offering →
     AreWritten s (packet ∷ past) packets wrote → AreWritten s past (packet ∷ packets) wrote
 unfolding out_from break_from
 one_skipped s past packets wrote packet is rest = record {
@@ -326,7 +326,7 @@ end_untuned : (s : Setting) (laws : AreLaws s) (able : AreHearable s) (fs : List
 unfolding tables_at chosen
 end_untuned s laws able fs earlier past false is none all =
     without_cat s laws able (map Controls (parts_of (told_by s (final s)))) earlier fs past all none
-    (chosen_fails is_cat fs (map Controls (parts_of (told_by s (final s)))) (no_part_cat (parts_of (told_by s
+    (chosen_fails is_cat_item fs (map Controls (parts_of (told_by s (final s)))) (no_part_cat (parts_of (told_by s
     (final s)))))
 end_untuned s laws able [] earlier past true is none all =
     without_cat s laws able (tables_at s.plan 0 ++ map Controls (parts_of (told_by s
@@ -334,12 +334,13 @@ end_untuned s laws able [] earlier past true is none all =
 end_untuned s laws able (false ∷ fs) earlier past true is none all =
     without_cat s laws able (tables_at s.plan 0 ++ map Controls (parts_of (told_by s (final s)))) earlier
     (false ∷ fs) past all none
-    (chosen_fails is_cat fs (sections_at s (period_of s.plan 0) ++ map Controls (parts_of (told_by s
+    (chosen_fails is_cat_item fs (sections_at s (period_of s.plan 0) ++ map Controls (parts_of (told_by s
     (final s)))) no_cat)
   where
-    no_cat : list_any is_cat (sections_at s (period_of s.plan 0) ++ map Controls (parts_of (told_by s
+    no_cat : list_any is_cat_item (sections_at s (period_of s.plan 0) ++ map Controls (parts_of (told_by s
         (final s)))) ≡ false
-    no_cat = list_any-append is_cat (sections_at s (period_of s.plan 0)) (map Controls (parts_of (told_by s (final s))))
+    no_cat = list_any-append is_cat_item (sections_at s (period_of s.plan 0))
+        (map Controls (parts_of (told_by s (final s))))
         ∙ rw (no_section_cat (emms_of (period_at s.plan (period_of s.plan 0)))) (no_part_cat (parts_of (told_by s
         (final s))))
 end_untuned s laws able (true ∷ fs) earlier past true is none all =
@@ -378,15 +379,15 @@ due_untuned s laws able n k [] earlier past count due all none more =
 due_untuned s laws able n k (false ∷ fs) earlier past count due all none more =
     skipped_first s able (Cat ∷ (sections_at s (period_of s.plan k) ++ tail_at s k)) (rest_at s (k + 1)) earlier
     (false ∷ fs) past all none
-    (chosen_fails is_cat (take (length (sections_at s (period_of s.plan k) ++ tail_at s k)) fs)
+    (chosen_fails is_cat_item (take (length (sections_at s (period_of s.plan k) ++ tail_at s k)) fs)
     (sections_at s (period_of s.plan k) ++ tail_at s k) no_cat)
     (λ still. more (drop (length (Cat ∷ (sections_at s (period_of s.plan k) ++ tail_at s k))) (false ∷ fs))
     (earlier ++ (Cat ∷ (sections_at s (period_of s.plan k) ++ tail_at s k)))
     (onto (chosen (take (length (Cat ∷ (sections_at s (period_of s.plan k) ++ tail_at s k))) (false ∷ fs))
     (packets_from s.plan.site earlier (Cat ∷ (sections_at s (period_of s.plan k) ++ tail_at s k)))) past) still)
   where
-    no_cat : list_any is_cat (sections_at s (period_of s.plan k) ++ tail_at s k) ≡ false
-    no_cat = list_any-append is_cat (sections_at s (period_of s.plan k)) (tail_at s k)
+    no_cat : list_any is_cat_item (sections_at s (period_of s.plan k) ++ tail_at s k) ≡ false
+    no_cat = list_any-append is_cat_item (sections_at s (period_of s.plan k)) (tail_at s k)
         ∙ rw (no_section_cat (emms_of (period_at s.plan (period_of s.plan k)))) (no_tail_cat s k)
 
 -- from packet k on, where no CAT was taken
@@ -429,7 +430,7 @@ untuned_written s laws able (suc n) k fs earlier past count all none =
         let all_parts = subst (All (IsOfBroadcast s.plan s.clear)) parts all in
         subst (λ (items : List Item). IsWrittenBefore s earlier items fs past) (sym parts)
         (skipped_first s able (tail_at s k) (rest_at s (k + 1)) earlier fs past all_parts none
-        (chosen_fails is_cat (take (length (tail_at s k)) fs) (tail_at s k) (no_tail_cat s k))
+        (chosen_fails is_cat_item (take (length (tail_at s k)) fs) (tail_at s k) (no_tail_cat s k))
         (λ still. more (all_second (IsOfBroadcast s.plan s.clear) (tail_at s k) (rest_at s (k + 1)) all_parts)
         (drop (length (tail_at s k)) fs) (earlier ++ tail_at s k)
         (onto (chosen (take (length (tail_at s k)) fs) (packets_from s.plan.site earlier (tail_at s k))) past) still))

@@ -8,7 +8,7 @@ use Rattle.std.proofs.lemmas.Bool.Decides.{nat_tests}
 use Rattle.sd_broadcast.specs.Sent.{Item, Carries}
 use Rattle.sd_reception.specs.Heard.{Heard, Other}
 use Rattle.sd_reception.specs.Stretches.{messages, newest, counted, current, seen, is_closed, others, held_in}
-use Rattle.sd_losses.specs.Kept.{is_kept, is_carried, kept_in, entitles, is_section}
+use Rattle.sd_losses.specs.Kept.{is_kept, is_carried, kept_in, entitles, is_section_item}
 use Rattle.sd_losses.proofs.Tests.{filter_range}
 use Rattle.sd_losses.proofs.Tracking.{kept_more, kept_none}
 use Rattle.sd_losses.proofs.Arriving.{is_of}
@@ -87,7 +87,7 @@ carried_heard s k p n i last kept past are = record {
       ∙ (sym (map-append (carried_at s) (kept_in kept (from_last s last) k) (k ∷ []))
       ∙ ap (map (carried_at s)) (sym (kept_with s kept (from_last s last) k are.begun)))));
   begun = omega (arith, are.begun);
-  indexes = λ q x. are.indexes q x ∙ sym (any_more (is_section q x) kept (carrying s k) refl);
+  indexes = λ q x. are.indexes q x ∙ sym (any_more (is_section_item q x) kept (carrying s k) refl);
   told = are.told ∙ told_same s n kept (carrying s k ∷ []) (λ a. refl);
   taken = λ bound above. keys_same s kept (carrying s k ∷ []) past (Other i (carried_at s k)) p bound refl
       (λ q. any_more (entitles s.plan.site.height s.card.leaf q) kept (carrying s k) refl) (are.taken bound above);

@@ -13,7 +13,7 @@ use Rattle.sd_reception.specs.Stretches.{Stretch, newest, counted, exceeds, run_
 use Rattle.sd_reception.specs.Stretches.{completed}
 use Rattle.sd_reception.specs.Stretches.{completes}
 use Rattle.sd_reception.specs.Stretches.{current, seen, is_closed, others, messages}
-use Rattle.sd_reception.specs.Offered.{heard_offering, part_fault, message_offering, part_offering, nothing}
+use Rattle.sd_reception.specs.Offered.{heard_offering, part_fault, message_offering, part_offering, no_offering}
 use Rattle.sd_losses.specs.Chosen.{chosen}
 use Rattle.sd_losses.proofs.Parts.{Stands, follows, stands_from, whole_next, broken_next, kept_next, lost_next}
 use Rattle.sd_losses.proofs.Taking.{keys_of}
@@ -103,7 +103,7 @@ run_is stretch part above = rw above refl
 -- a part of which nothing comes
 pub calm_part : (card : CardFields) (tuning : Tuning) (past : List Heard) (part : EcmPart) →
     part_fault (run_to (newest past) part) ≡ None → completed (newest past) (Controls part) ≡ None →
-    (n : ℕ) → heard_offering card tuning n past (Controls part) ≡ nothing
+    (n : ℕ) → heard_offering card tuning n past (Controls part) ≡ no_offering
 calm_part card tuning past part good none n =
     ap (λ fault. part_offering n fault (message_offering card tuning n past (completes past (Controls part)))) good
     ∙ ap (message_offering card tuning n past) none

@@ -22,7 +22,7 @@ use Rattle.sd_reception.specs.Keys.{key_at, key_in}
 use Rattle.sd_reception.specs.Confirmed.{Wrote}
 use Rattle.sd_reception.specs.Offered.{message_offering, is_back, is_before, stretch_wrote, word_fault, wrote_or}
 use Rattle.sd_losses.specs.Chosen.{chosen}
-use Rattle.sd_losses.specs.Kept.{is_carried, kept_in, has_arrived, entitles, is_entitled_before, is_section}
+use Rattle.sd_losses.specs.Kept.{is_carried, kept_in, has_arrived, entitles, is_entitled_before, is_section_item}
 use Rattle.sd_losses.proofs.Coming.{counting, Same, AreParts, all_kept}
 use Rattle.sd_losses.proofs.Taking.{how_many_agree}
 use Rattle.sd_losses.proofs.Arriving.{is_of, arrived_stays, none_arrived, arrived_by_parts, none_entitles}
@@ -137,12 +137,12 @@ same_told s q kept parts = list_any-append (entitles s.plan.site.height s.card.l
 
 -- nor are they sections
 pub same_seen : (q x : ℕ) (kept : List Item) (parts : List EcmPart) →
-    list_any (is_section q x) (kept ++ map Controls parts) ≡ list_any (is_section q x) kept
-same_seen q x kept parts = list_any-append (is_section q x) kept (map Controls parts)
-    ∙ (ap (λ (b : Bool). list_any (is_section q x) kept || b) (none_of parts) ∙ or_none (list_any
-    (is_section q x) kept))
+    list_any (is_section_item q x) (kept ++ map Controls parts) ≡ list_any (is_section_item q x) kept
+same_seen q x kept parts = list_any-append (is_section_item q x) kept (map Controls parts)
+    ∙ (ap (λ (b : Bool). list_any (is_section_item q x) kept || b) (none_of parts) ∙ or_none (list_any
+    (is_section_item q x) kept))
   where
-    none_of : (parts : List EcmPart) → list_any (is_section q x) (map Controls parts) ≡ false
+    none_of : (parts : List EcmPart) → list_any (is_section_item q x) (map Controls parts) ≡ false
     none_of [] = refl
     none_of (part ∷ parts) = none_of parts
 

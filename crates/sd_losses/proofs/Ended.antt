@@ -21,7 +21,7 @@ use Rattle.sd_reception.specs.Stretches.{messages, newest, current, seen, is_clo
 use Rattle.sd_reception.specs.Keys.{key_at, key_in}
 use Rattle.sd_reception.specs.Offered.{heard}
 use Rattle.sd_losses.specs.Chosen.{chosen}
-use Rattle.sd_losses.specs.Kept.{is_section, has_arrived}
+use Rattle.sd_losses.specs.Kept.{is_section_item, has_arrived}
 use Rattle.sd_losses.specs.Taken.{how_many}
 use Rattle.sd_losses.proofs.Taking.{keys_of, how_many_agree}
 use Rattle.sd_losses.proofs.Writing.{onto, onto_append, Writes, IsOpenUpto}
@@ -51,7 +51,7 @@ pub record HasEnded (s : Setting) (kept : List Item) (past : List Heard) : Type 
   pub message : (newest past).message ≡ option_map (told_by s) last
   pub keys : (q : ℕ) → key_at s.card past q ≡ key_where s q (is_told s q kept)
   pub sections : (q : ℕ) → All (Contains (emms_of (period_at s.plan q))) (seen q past)
-  pub indexes : (q x : ℕ) → list_any (λ emm. emm.index == x) (seen q past) ≡ list_any (is_section q x) kept
+  pub indexes : (q x : ℕ) → list_any (λ emm. emm.index == x) (seen q past) ≡ list_any (is_section_item q x) kept
   pub told : messages past ≡ map (told_by s) (reverse (filter (has_arrived kept) (range_with_len 0 (final s + 1))))
   pub taken : keys_of s.card past ≡ how_many (λ q. is_told s q kept) (reach s + 1)
 

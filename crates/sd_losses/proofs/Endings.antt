@@ -31,7 +31,7 @@ use Rattle.sd_reception.specs.Ending.{joined, run_wrote, run_ending, ended_befor
 use Rattle.sd_reception.specs.declared.ending.Ending.{Ending}
 use Rattle.sd_reception.specs.declared.ending.Ending.TheVariants.{NoCat, Unclosed}
 use Rattle.sd_losses.specs.Chosen.{chosen}
-use Rattle.sd_losses.specs.Kept.{is_cat, after_cat, has_arrived, arrived, is_section}
+use Rattle.sd_losses.specs.Kept.{is_cat_item, after_cat, has_arrived, arrived, is_section_item}
 use Rattle.sd_losses.specs.Confirmed.{confirmed}
 use Rattle.sd_losses.specs.Endings.{period_told, periods_arrived, is_untold, has_all, closed_told, next_number}
 use Rattle.sd_losses.specs.Endings.{ending_told}
@@ -136,11 +136,11 @@ unfolding has_all
 all_seen_is s kept past q ends = by_seen (seen q past) (ends.sections q) (ends.indexes q)
   where
     by_seen : (sections : List Emm) → All (Contains (emms_of (period_at s.plan q))) sections →
-        ((x : ℕ) → list_any (λ emm. emm.index == x) sections ≡ list_any (is_section q x) kept) →
-        are_all sections ≡ list_all (λ x. list_any (is_section q x) kept) (range_with_len 0 (sections_for (length
+        ((x : ℕ) → list_any (λ emm. emm.index == x) sections ≡ list_any (is_section_item q x) kept) →
+        are_all sections ≡ list_all (λ x. list_any (is_section_item q x) kept) (range_with_len 0 (sections_for (length
         (sets_at s.plan q))))
     by_seen [] all indexes =
-        sym (not_all_range (λ x. list_any (is_section q x) kept) 0 (sections_for (length (sets_at s.plan q))) 0
+        sym (not_all_range (λ x. list_any (is_section_item q x) kept) 0 (sections_for (length (sets_at s.plan q))) 0
         (omega arith)
         (omega (arith, some_section (length (sets_at s.plan q)))) (sym (indexes 0)))
     by_seen (emm ∷ rest) all indexes =
@@ -150,7 +150,7 @@ all_seen_is s kept past q ends = by_seen (seen q past) (ends.sections q) (ends.i
         let count : emm.sections ≡ sections_for (length (sets_at s.plan q)) =
         of_it.sections ∙ ap sections_for (period_count s.plan q) in
         ap (λ (n : ℕ). list_all (λ x. list_any (λ other. other.index == x) (emm ∷ rest)) (range_with_len 0 n)) count
-        ∙ all_agree (λ x. list_any (λ other. other.index == x) (emm ∷ rest)) (λ x. list_any (is_section q x) kept)
+        ∙ all_agree (λ x. list_any (λ other. other.index == x) (emm ∷ rest)) (λ x. list_any (is_section_item q x) kept)
         (range_with_len 0 (sections_for (length (sets_at s.plan q)))) indexes
 
 -- what the last message tells where the closing one has arrived
@@ -254,7 +254,7 @@ pub losses_end : (s : Setting) → AreLaws s → AreHearable s → (fs : List Bo
 unfolding ending_told
 losses_end s laws able fs =
     ap (ending_of s.card) (sym (append-nil (reverse packets)) ∙ sym (onto_reverse packets []))
-    ∙ by_cat (list_any is_cat kept) (losses_stand s laws able fs)
+    ∙ by_cat (list_any is_cat_item kept) (losses_stand s laws able fs)
   where
     kept : List Item
     kept = chosen fs (sent s.plan s.clear ++ closing_of s.plan s.clear)
@@ -288,8 +288,8 @@ pub losses_take : (s : Setting) → AreLaws s → AreHearable s → (fs : List B
     (period_of s.plan (length s.clear - 1) + 1)
 unfolding heard
 losses_take s laws able fs =
-    omega (arith, taken_heard s.card packets [] (one (list_any is_cat kept) (losses_stand s laws able fs)))
-    ∙ by_cat (list_any is_cat kept) refl (losses_stand s laws able fs)
+    omega (arith, taken_heard s.card packets [] (one (list_any is_cat_item kept) (losses_stand s laws able fs)))
+    ∙ by_cat (list_any is_cat_item kept) refl (losses_stand s laws able fs)
   where
     kept : List Item
     kept = chosen fs (sent s.plan s.clear ++ closing_of s.plan s.clear)
@@ -301,7 +301,7 @@ losses_take s laws able fs =
     one true stands = stands.tuned.one
     one false none = untuned_one_run s.card (onto packets []) none
 
-    by_cat : (b : Bool) → list_any is_cat kept ≡ b → EndsBefore s b kept (onto packets []) →
+    by_cat : (b : Bool) → list_any is_cat_item kept ≡ b → EndsBefore s b kept (onto packets []) →
         keys_of s.card (heard s.card (onto packets []))
         ≡ how_many (λ q. is_told s q (after_cat kept)) (period_of s.plan (length s.clear - 1) + 1)
     by_cat true is stands = stands.ended.taken

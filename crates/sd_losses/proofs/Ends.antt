@@ -25,7 +25,7 @@ use Rattle.sd_losses.specs.Kept.{is_carried, after_cat}
 use Rattle.sd_losses.proofs.Writing.{onto, onto_append, open_upto, Writes, IsOpenUpto}
 use Rattle.sd_losses.proofs.Setting.{Setting, AreLaws, tuning_at, final, told_by}
 use Rattle.sd_losses.proofs.Facts.{AreKept, AreHeard}
-use Rattle.sd_losses.proofs.Hearing.{AreHearable, is_cat, heard_from, ComesTo, packets_come, IsTuned}
+use Rattle.sd_losses.proofs.Hearing.{AreHearable, is_cat_item, heard_from, ComesTo, packets_come, IsTuned}
 use Rattle.sd_losses.proofs.Remaining.{group_at, rest_at, rest_more, rest_none, closing_items}
 use Rattle.sd_losses.proofs.Later.{chosen_append, chosen_fails, packets_later}
 use Rattle.sd_losses.proofs.Groups.{Goes, group_goes}
@@ -149,33 +149,33 @@ EndsBefore s false kept past = tuning_of s.card.ca past ≡ None
 
 abbrev pub EndsUntuned : Setting → List Item → List Item → List Bool → List (List ℕ) → Type 0
 EndsUntuned s earlier items fs past =
-    EndsBefore s (list_any is_cat (chosen fs items)) (chosen fs items) (onto (chosen fs
+    EndsBefore s (list_any is_cat_item (chosen fs items)) (chosen fs items) (onto (chosen fs
     (packets_from s.plan.site earlier items)) past)
 
 without_cat : (s : Setting) (able : AreHearable s) (items earlier : List Item) (fs : List Bool) (past : List (List ℕ)) →
     All (IsOfBroadcast s.plan s.clear) items → tuning_of s.card.ca past ≡ None →
-    list_any is_cat (chosen fs items) ≡ false → EndsUntuned s earlier items fs past
+    list_any is_cat_item (chosen fs items) ≡ false → EndsUntuned s earlier items fs past
 without_cat s able items earlier fs past all none no_cat =
     rw no_cat ((packets_skipped s able items earlier fs past [] all none no_cat).untuned)
 
 skipped_first : (s : Setting) (able : AreHearable s) (group rest earlier : List Item) (fs : List Bool) (past : List
     (List ℕ)) →
     All (IsOfBroadcast s.plan s.clear) (group ++ rest) → tuning_of s.card.ca past ≡ None →
-    list_any is_cat (chosen (take (length group) fs) group) ≡ false →
+    list_any is_cat_item (chosen (take (length group) fs) group) ≡ false →
     (tuning_of s.card.ca (onto (chosen (take (length group) fs) (packets_from s.plan.site earlier group)) past) ≡ None →
     EndsUntuned s (earlier ++ group) rest (drop (length group) fs)
     (onto (chosen (take (length group) fs) (packets_from s.plan.site earlier group)) past)) →
     EndsUntuned s earlier (group ++ rest) fs past
 skipped_first s able group rest earlier fs past all none no_cat more =
-    subst (λ (items : List Item). EndsBefore s (list_any is_cat items) items (onto (chosen fs
+    subst (λ (items : List Item). EndsBefore s (list_any is_cat_item items) items (onto (chosen fs
     (packets_from s.plan.site earlier (group ++ rest))) past))
     (sym (chosen_append fs group rest))
-    (subst (λ (ps : List (List ℕ)). EndsBefore s (list_any is_cat (xs ++ ys)) (xs ++ ys) ps)
+    (subst (λ (ps : List (List ℕ)). EndsBefore s (list_any is_cat_item (xs ++ ys)) (xs ++ ys) ps)
     (sym (ap (λ (ps : List (List ℕ)). onto ps past) (packets_chosen s.plan.site earlier group rest fs)
     ∙ onto_append first others past))
     (subst (λ (b : Bool). EndsBefore s b (xs ++ ys) (onto others (onto first past)))
-    (sym (list_any-append is_cat xs ys ∙ ap (λ (b : Bool). b || list_any is_cat ys) no_cat))
-    (by_cat (list_any is_cat ys) (more skipped.untuned))))
+    (sym (list_any-append is_cat_item xs ys ∙ ap (λ (b : Bool). b || list_any is_cat_item ys) no_cat))
+    (by_cat (list_any is_cat_item ys) (more skipped.untuned))))
   where
     xs : List Item
     xs = chosen (take (length group) fs) group
@@ -279,7 +279,7 @@ end_untuned : (s : Setting) (laws : AreLaws s) (able : AreHearable s) (fs : List
 unfolding tables_at chosen
 end_untuned s laws able fs earlier past false is none all =
     without_cat s able (map Controls (parts_of (told_by s (final s)))) earlier fs past all none
-    (chosen_fails is_cat fs (map Controls (parts_of (told_by s (final s)))) (no_part_cat (parts_of (told_by s
+    (chosen_fails is_cat_item fs (map Controls (parts_of (told_by s (final s)))) (no_part_cat (parts_of (told_by s
     (final s)))))
 end_untuned s laws able [] earlier past true is none all =
     without_cat s able (tables_at s.plan 0 ++ map Controls (parts_of (told_by s
@@ -287,10 +287,11 @@ end_untuned s laws able [] earlier past true is none all =
 end_untuned s laws able (false ∷ fs) earlier past true is none all =
     without_cat s able (tables_at s.plan 0 ++ map Controls (parts_of (told_by s (final s)))) earlier
     (false ∷ fs) past all none
-    (chosen_fails is_cat fs (items_of_none s) no_cat)
+    (chosen_fails is_cat_item fs (items_of_none s) no_cat)
   where
-    no_cat : list_any is_cat (items_of_none s) ≡ false
-    no_cat = list_any-append is_cat (sections_at s (period_of s.plan 0)) (map Controls (parts_of (told_by s (final s))))
+    no_cat : list_any is_cat_item (items_of_none s) ≡ false
+    no_cat = list_any-append is_cat_item (sections_at s (period_of s.plan 0))
+        (map Controls (parts_of (told_by s (final s))))
         ∙ rw (no_section_cat (emms_of (period_at s.plan (period_of s.plan 0)))) (no_part_cat (parts_of (told_by s
         (final s))))
 end_untuned s laws able (true ∷ fs) earlier past true is none all =
@@ -325,15 +326,15 @@ due_untuned s laws able n k [] earlier past count all none more =
 due_untuned s laws able n k (false ∷ fs) earlier past count all none more =
     skipped_first s able (Cat ∷ (sections_at s (period_of s.plan k) ++ tail_at s k)) (rest_at s (k + 1)) earlier
     (false ∷ fs) past all none
-    (chosen_fails is_cat (take (length (sections_at s (period_of s.plan k) ++ tail_at s k)) fs)
+    (chosen_fails is_cat_item (take (length (sections_at s (period_of s.plan k) ++ tail_at s k)) fs)
     (sections_at s (period_of s.plan k) ++ tail_at s k) no_cat)
     (λ still. more (drop (length (Cat ∷ (sections_at s (period_of s.plan k) ++ tail_at s k))) (false ∷ fs))
     (earlier ++ (Cat ∷ (sections_at s (period_of s.plan k) ++ tail_at s k)))
     (onto (chosen (take (length (Cat ∷ (sections_at s (period_of s.plan k) ++ tail_at s k))) (false ∷ fs))
     (packets_from s.plan.site earlier (Cat ∷ (sections_at s (period_of s.plan k) ++ tail_at s k)))) past) still)
   where
-    no_cat : list_any is_cat (sections_at s (period_of s.plan k) ++ tail_at s k) ≡ false
-    no_cat = list_any-append is_cat (sections_at s (period_of s.plan k)) (tail_at s k)
+    no_cat : list_any is_cat_item (sections_at s (period_of s.plan k) ++ tail_at s k) ≡ false
+    no_cat = list_any-append is_cat_item (sections_at s (period_of s.plan k)) (tail_at s k)
         ∙ rw (no_section_cat (emms_of (period_at s.plan (period_of s.plan k)))) (no_tail_cat s k)
 
 -- from packet k on, where no CAT was taken
@@ -375,14 +376,14 @@ untuned_ends s laws able (suc n) k fs earlier past count all none =
         let all_parts = subst (All (IsOfBroadcast s.plan s.clear)) parts all in
         subst (λ (items : List Item). EndsUntuned s earlier items fs past) (sym parts)
         (skipped_first s able (tail_at s k) (rest_at s (k + 1)) earlier fs past all_parts none
-        (chosen_fails is_cat (take (length (tail_at s k)) fs) (tail_at s k) (no_tail_cat s k))
+        (chosen_fails is_cat_item (take (length (tail_at s k)) fs) (tail_at s k) (no_tail_cat s k))
         (λ still. more (all_second (IsOfBroadcast s.plan s.clear) (tail_at s k) (rest_at s (k + 1)) all_parts)
         (drop (length (tail_at s k)) fs) (earlier ++ tail_at s k)
         (onto (chosen (take (length (tail_at s k)) fs) (packets_from s.plan.site earlier (tail_at s k))) past) still))
 
 -- Where a receiver stands after a broadcast, whatever is lost of it.
 pub losses_stand : (s : Setting) → AreLaws s → AreHearable s → (fs : List Bool) →
-    EndsBefore s (list_any is_cat (chosen fs (sent s.plan s.clear ++ closing_of s.plan s.clear)))
+    EndsBefore s (list_any is_cat_item (chosen fs (sent s.plan s.clear ++ closing_of s.plan s.clear)))
     (chosen fs (sent s.plan s.clear ++ closing_of s.plan s.clear)) (onto (chosen fs (broadcast s.plan s.clear)) [])
 unfolding broadcast tuning_of
 losses_stand s laws able fs =

@@ -12,7 +12,7 @@ use Rattle.sd_tree.specs.Leaves.{is_member}
 use Rattle.sd_book.specs.Commands.{revoked}
 use Rattle.sd_steiner.proofs.Partitions.{among_unrevoked}
 use Rattle.sd_steiner.proofs.Lists.{counted_some}
-use Rattle.sd_emm.specs.Spelled.{listed}
+use Rattle.sd_emm.specs.Spelled.{listed_entries}
 use Rattle.sd_emm.specs.Period.{emms_of}
 use Rattle.sd_emm.specs.declared.emm.Emm.{Emm}
 use Rattle.sd_emm.proofs.Sharing.{joined_are_all}
@@ -49,7 +49,7 @@ any_of_map p f (x ∷ xs) = ap (λ (b : Bool). p (f x) || b) (any_of_map p f xs)
 
 -- the section has a set with leaf u
 abbrev pub has_set : Plan → ℕ → Emm → Bool
-has_set plan u emm = list_any (λ entry. is_member plan.site.height entry.name u) (listed emm)
+has_set plan u emm = list_any (λ entry. is_member plan.site.height entry.name u) (listed_entries emm)
 
 -- the sets of a period have the leaves that are not revoked in it
 sets_have : (plan : Plan) (q u : ℕ) → IsPlan plan → u < 2 ^ plan.site.height →
@@ -70,7 +70,7 @@ pub sections_have : (plan : Plan) (q u : ℕ) → IsPlan plan → u < 2 ^ plan.s
     list_any (has_set plan u) (emms_of (period_at plan q)) ≡ not (is_revoked_in plan u q)
 unfolding period_at entry_of
 sections_have plan q u is leaf =
-    any_of_lists (λ entry. is_member plan.site.height entry.name u) listed (emms_of (period_at plan q))
+    any_of_lists (λ entry. is_member plan.site.height entry.name u) listed_entries (emms_of (period_at plan q))
     ∙ (ap (list_any (λ entry. is_member plan.site.height entry.name u)) (joined_are_all (period_at plan q))
     ∙ (any_of_map (λ entry. is_member plan.site.height entry.name u) (entry_of plan.site q) (sets_at plan q)
     ∙ sets_have plan q u is leaf))

@@ -15,7 +15,8 @@ use Rattle.sd_broadcast.specs.Sent.{Item, Cat, Entitles}
 use Rattle.sd_reception.specs.Heard.{Heard, Dropped}
 use Rattle.sd_reception.specs.Stretches.{messages, newest, counted, current, seen, is_closed, others, held_in}
 use Rattle.sd_reception.specs.Keys.{key_at}
-use Rattle.sd_losses.specs.Kept.{is_section, is_kept, is_carried, kept_in, has_arrived, entitles, is_entitled_before}
+use Rattle.sd_losses.specs.Kept.{is_section_item, is_kept, is_carried, kept_in, has_arrived, entitles}
+use Rattle.sd_losses.specs.Kept.{is_entitled_before}
 use Rattle.sd_losses.proofs.Writing.{onto, Writes}
 use Rattle.sd_losses.proofs.Coming.{counting}
 use Rattle.sd_losses.specs.Taken.{takes_key_of, how_many}
@@ -66,7 +67,7 @@ pub record AreHeard (s : Setting) (k p n : ℕ) (last : Option ℕ) (kept : List
   pub parts : All (λ part. part.number < n) (counting past)
   pub held : packets_held (held_in (newest past)) ≡ map (carried_at s) (kept_in kept (from_last s last) k)
   pub begun : from_last s last ≤ k
-  pub indexes : (q x : ℕ) → list_any (λ emm. emm.index == x) (seen q past) ≡ list_any (is_section q x) kept
+  pub indexes : (q x : ℕ) → list_any (λ emm. emm.index == x) (seen q past) ≡ list_any (is_section_item q x) kept
   pub told : messages past ≡ map (told_by s) (reverse (filter (has_arrived kept) (range_with_len 0 n)))
   pub taken : (bound : ℕ) → p < bound → keys_of s.card past ≡ how_many (λ q. is_told s q kept) bound
 
@@ -167,7 +168,7 @@ cat_heard s k p n last kept past are = record {
   parts = are.parts;
   held = are.held ∙ ap (map (carried_at s)) (sym (bare_in kept Cat (from_last s last) k cat_is_bare));
   begun = are.begun;
-  indexes = λ q x. are.indexes q x ∙ sym (any_more (is_section q x) kept Cat refl);
+  indexes = λ q x. are.indexes q x ∙ sym (any_more (is_section_item q x) kept Cat refl);
   told = are.told ∙ told_same s n kept (Cat ∷ []) (λ a. refl);
   taken = λ bound above. keys_same s kept (Cat ∷ []) past Dropped p bound refl (λ q. any_more
       (entitles s.plan.site.height s.card.leaf q) kept Cat refl)

@@ -16,7 +16,7 @@ use Rattle.sd_broadcast.specs.Kinds.{kind_of}
 use Rattle.sd_broadcast.specs.Sent.{Item}
 use Rattle.sd_losses.specs.Chosen.{chosen}
 use Rattle.sd_losses.specs.Kept.{is_kept, kept_in, has_arrived}
-use Rattle.sd_losses.specs.Confirmed.{packet_at, packets_at, upto, traced, is_traced, is_open, is_scrambled}
+use Rattle.sd_losses.specs.Confirmed.{packet_at, packets_at, upto, tracked_position, is_traced, is_open, is_scrambled}
 use Rattle.sd_losses.specs.Confirmed.{is_confirmed_at}
 use Rattle.sd_losses.specs.Gaps.{kept_positions, are_near, positions_between, has_no_gap}
 use Rattle.sd_losses.proofs.Gaps.{near_by_gaps}
@@ -65,7 +65,7 @@ numbered_positions clear kept pid low (suc n) within =
 -- a PID is traced exactly where its kept packets have no gap
 pub traced_by_gaps : (s : Setting) (kept : List Item) (a b pid : ℕ) → AreInRange s.plan.site → IsPair s a b →
     is_traced s.plan s.clear kept a b pid ≡ has_no_gap s.plan s.clear kept a b pid
-unfolding is_traced traced has_no_gap positions_between kept_in moved_by
+unfolding is_traced tracked_position has_no_gap positions_between kept_in moved_by
 traced_by_gaps s kept a b pid range pair =
     ap (λ (t : Bool). t && nat_le (true_at s.clear pid high) (near_at s.clear kept low pid high + 15)) below
     ∙ sym (ap (λ (ps : List ℕ). are_near (true_at s.clear pid low) ps (true_at s.clear pid high)) (sym numbered)

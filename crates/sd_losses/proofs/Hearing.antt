@@ -4,7 +4,7 @@ use Rattle.std.proofs.Common.{Option, Some, None, is_none, arith, sym, ap, ◌�
 use Rattle.std.specs.Prelude.{if◌then◌else◌, All}
 use Rattle.std.specs.Option.{option_map_or}
 use Rattle.std.proofs.lemmas.List.Elements.{All-head, All-tail, All-cons}
-use Rattle.sd_site.specs.Fields.{name_of as site_name}
+use Rattle.sd_site.specs.Fields.{run_name_of as site_name}
 use Rattle.sd_card.specs.Fields.{CardFields}
 use Rattle.sd_emm.specs.declared.emm.Emm.{Emm}
 use Rattle.sd_ecm.specs.declared.part.EcmPart.{EcmPart}
@@ -17,7 +17,7 @@ use Rattle.sd_reception.specs.Runs.{is_turn}
 use Rattle.sd_reception.specs.Offered.{Offering, heard, heard_with, heard_more, heard_offering, run_offering, offered}
 use Rattle.sd_reception.specs.Offered.{tuned_offering, out_from, break_from}
 use Rattle.sd_losses.specs.Chosen.{chosen}
-pub use Rattle.sd_losses.specs.Kept.{is_cat}
+pub use Rattle.sd_losses.specs.Kept.{is_cat_item}
 use Rattle.sd_losses.proofs.Writing.{onto, Writes, IsOpenUpto}
 use Rattle.sd_losses.proofs.OneRun.{IsOfRun, AreOneRun, no_turn, no_turn_at, one_heard, one_offered}
 use Rattle.sd_losses.proofs.Setting.{Setting, tuning_at}
@@ -41,7 +41,7 @@ pub record AreHearable (s : Setting) : Type 0 where
   pub named : (n : ℕ) (item : Item) → IsOfBroadcast s.plan s.clear item →
       IsOfRun (site_name s.plan.site) (heard_as n item)
   pub tuning : (earlier : List Item) → cat_tuning s.card.ca (packet_of s.plan.site earlier Cat) ≡ Some (tuning_at s)
-  pub untuned : (earlier : List Item) (item : Item) → IsOfBroadcast s.plan s.clear item → is_cat item ≡ false →
+  pub untuned : (earlier : List Item) (item : Item) → IsOfBroadcast s.plan s.clear item → is_cat_item item ≡ false →
       cat_tuning s.card.ca (packet_of s.plan.site earlier item) ≡ None
 
 pub heard_append : (n : ℕ) (xs ys : List Item) →

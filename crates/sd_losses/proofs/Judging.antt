@@ -21,7 +21,7 @@ use Rattle.sd_broadcast.specs.Sent.{Item}
 use Rattle.sd_broadcast.proofs.Schedule.{same_word}
 use Rattle.sd_reception.specs.Confirmed.{Segment, tracked, is_confirmed, judged, is_odd, position_in}
 use Rattle.sd_losses.specs.Kept.{is_kept, kept_in}
-use Rattle.sd_losses.specs.Confirmed.{packet_at, traced, is_traced, is_scrambled}
+use Rattle.sd_losses.specs.Confirmed.{packet_at, tracked_position, is_traced, is_scrambled}
 use Rattle.sd_losses.proofs.Places.{told_position}
 use Rattle.sd_losses.proofs.Tracking.{true_at, near_at, kept_more, near_exact}
 use Rattle.sd_losses.proofs.Setting.{Setting, AreLaws, IsOpen, IsVeiled, told_by, carried_at}
@@ -54,7 +54,7 @@ pub confirmed_is : (s : Setting) (laws : AreLaws s) (kept : List Item) (a b j : 
     j < end_of s b → is_placed (packet_at s.clear j) ≡ true →
     is_confirmed (segment_of s kept a b word) (pid_of (packet_at s.clear j))
     ≡ is_traced s.plan s.clear kept a b (pid_of (packet_at s.clear j))
-unfolding is_confirmed is_traced traced
+unfolding is_confirmed is_traced tracked_position
 confirmed_is s laws kept a b j word pair below placed =
     ap (λ (told : Option ℕ). option_map_or (λ position. nat_le (tracked (told_by s a) pid held) position
     && nat_le position (tracked (told_by s a) pid held + 15)) told false)
@@ -103,7 +103,7 @@ exact_place : (s : Setting) (laws : AreLaws s) (kept : List Item) (a b j : ℕ) 
     tracked (told_by s a) (pid_of (carried_at s j))
     (map (carried_at s) (kept_in kept (start_of s a) j) ++ carried_at s j ∷ []) ≡ place_after (take j s.clear)
     (packet_at s.clear j)
-unfolding is_traced traced
+unfolding is_traced tracked_position
 exact_place s laws kept a b j pair from below is veiled near =
     ap (λ (x : ℕ). tracked (told_by s a) x (map (carried_at s) (kept_in kept
     (start_of s a) j) ++ carried_at s j ∷ [])) veiled.pid

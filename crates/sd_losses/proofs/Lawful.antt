@@ -11,7 +11,7 @@ use Rattle.sd_tree.specs.Leaves.{is_member}
 use Rattle.sd_packet.specs.Header.{scrambling_of}
 use Rattle.sd_label.specs.Keys.{period_key_of, control_word_of, check_value_of}
 use Rattle.sd_card.specs.Fields.{card_of}
-use Rattle.sd_emm.specs.Spelled.{listed}
+use Rattle.sd_emm.specs.Spelled.{listed_entries}
 use Rattle.sd_emm.specs.Period.{emms_of}
 use Rattle.sd_emm.specs.declared.emm.Emm.{Emm}
 use Rattle.sd_ecm.specs.Parts.{Message, IsMessage, parts_of}
@@ -43,10 +43,10 @@ use Rattle.sd_losses.specs.Confirmed.{packet_at, is_scrambled}
 use Rattle.sd_losses.proofs.Coming.{AreParts, is_nil}
 use Rattle.sd_losses.proofs.Setting.{Setting, IsDue, IsOpen, IsVeiled, AreLaws, told_by, carried_at, key_where}
 use Rattle.sd_broadcast.specs.Items.{IsOfBroadcast}
-use Rattle.sd_site.specs.Fields.{name_of as site_name}
+use Rattle.sd_site.specs.Fields.{run_name_of as site_name}
 use Rattle.sd_sent.proofs.Runs.{section_names, part_names}
 use Rattle.sd_losses.proofs.OneRun.{IsOfRun, of_named}
-use Rattle.sd_losses.proofs.Hearing.{AreHearable, heard_as, is_cat}
+use Rattle.sd_losses.proofs.Hearing.{AreHearable, heard_as, is_cat_item}
 
 -- the card of leaf u
 abbrev pub setting : Plan → List (List ℕ) → ℕ → Setting
@@ -123,11 +123,11 @@ scrambled_control Scrambled t e = refl
 section_key : (plan : Plan) (clear : List (List ℕ)) (u q : ℕ) (emm : Emm) → IsPlan plan → u < 2 ^ plan.site.height →
     Contains (emms_of (period_at plan q)) emm →
     key_from (setting plan clear u).card emm ≡ key_where (setting plan clear u) q
-    (list_any (λ entry. is_member plan.site.height entry.name (setting plan clear u).card.leaf) (listed emm))
+    (list_any (λ entry. is_member plan.site.height entry.name (setting plan clear u).card.leaf) (listed_entries emm))
 unfolding card_of
 section_key plan clear u q emm is leaf m =
     key_due plan q u emm is leaf m
-    ∙ key_by (setting plan clear u) q (list_any (λ entry. is_member plan.site.height entry.name u) (listed emm))
+    ∙ key_by (setting plan clear u) q (list_any (λ entry. is_member plan.site.height entry.name u) (listed_entries emm))
 
 module _ (plan : Plan) (clear : List (List ℕ)) (u : ℕ) (is : IsPlan plan) (all : IsClear plan.site clear)
     (whole : AreWholePackets clear) (leaf : u < 2 ^ plan.site.height) where
@@ -218,7 +218,7 @@ heard_same n (Entitles emm) = refl
 heard_same n (Controls part) = refl
 heard_same n (Carries k packet) = refl
 
-no_cat : (item : Item) → is_cat item ≡ false → is_alike Cat item ≡ false
+no_cat : (item : Item) → is_cat_item item ≡ false → is_alike Cat item ≡ false
 no_cat Cat e = absurd (cc)
 no_cat (Entitles emm) e = refl
 no_cat (Controls part) e = refl

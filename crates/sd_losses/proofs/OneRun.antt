@@ -12,14 +12,14 @@ use Rattle.sd_reception.specs.declared.fault.StreamFault.{StreamFault}
 use Rattle.sd_reception.specs.Tuned.{Tuning, tuning_of}
 use Rattle.sd_reception.specs.Heard.{Heard, hears}
 use Rattle.sd_reception.specs.Stretches.{is_closed}
-use Rattle.sd_reception.specs.Runs.{name_of, name_or, name_in, is_same, are_two, is_turn, of_run}
+use Rattle.sd_reception.specs.Runs.{run_name_heard, name_or, name_in, is_same, are_two, is_turn, of_run}
 use Rattle.sd_reception.specs.Offered.{heard, heard_more, heard_offering, run_offering, offered, out_from, break_from}
 use Rattle.sd_reception.specs.Ending.{joined, turns_at, run_wrote, run_ending, ended_before}
 use Rattle.sd_losses.proofs.Writing.{onto}
 
 -- what is heard is no message of another run than the one with this name
 abbrev pub IsOfRun : Option ℕ → Heard → Type 0
-IsOfRun name thing = are_two (Some name) (name_of thing) ≡ false
+IsOfRun name thing = are_two (Some name) (run_name_heard thing) ≡ false
 
 -- none of these packets, the newest first, is the first message of another run
 abbrev pub AreOneRun : CardFields → List (List ℕ) → Type 0
@@ -37,7 +37,7 @@ name_is : (name : Option ℕ) (past : List Heard) → All (IsOfRun name) past �
 unfolding name_in
 name_is name [] all = refl
 name_is name (thing ∷ past) all =
-    by_name (name_of thing) (All-head (IsOfRun name) thing past all)
+    by_name (run_name_heard thing) (All-head (IsOfRun name) thing past all)
     (name_is name past (All-tail (IsOfRun name) thing past all))
   where
     by_name : (first : Option (Option ℕ)) → are_two (Some name) first ≡ false →
@@ -66,7 +66,7 @@ both_named name (Some a) (Some b) first second = by_names name a b first second
 pub no_turn : (name : Option ℕ) (past : List Heard) (thing : Heard) → All (IsOfRun name) past → IsOfRun name thing →
     is_turn past thing ≡ false
 unfolding is_turn
-no_turn name past thing all is = both_named name (name_in past) (name_of thing) (name_is name past all) is
+no_turn name past thing all is = both_named name (name_in past) (run_name_heard thing) (name_is name past all) is
 
 pub no_turn_at : (card : CardFields) (tuning : Tuning) (past : List (List ℕ)) (packet : List ℕ) (thing : Heard) →
     tuning_of card.ca past ≡ Some tuning → hears card.height tuning (length past) packet ≡ thing →

@@ -23,7 +23,7 @@ use Rattle.sd_told.proofs.Keyed.{period_due}
 use Rattle.sd_reception.specs.Ending.{ending_with}
 use Rattle.sd_reception.specs.declared.ending.Ending.TheVariants.{Opened, Gaps, Revoked, NoCat, Unclosed}
 use Rattle.sd_losses.specs.Chosen.{chosen}
-use Rattle.sd_losses.specs.Kept.{is_cat, after_cat, has_arrived, entitles, is_section}
+use Rattle.sd_losses.specs.Kept.{is_cat_item, after_cat, has_arrived, entitles, is_section_item}
 use Rattle.sd_losses.specs.Confirmed.{confirmed, is_revoked_in}
 use Rattle.sd_losses.specs.Endings.{periods_arrived, is_untold, has_all, closed_told, next_number, ending_told}
 use Rattle.sd_losses.proofs.Later.{chosen_all_of}
@@ -77,7 +77,7 @@ same_section plan q emm (k, within, is) =
 
 -- a section that is kept entitles where the period's one of its index does
 section_entitles : (plan : Plan) (clear : List (List ℕ)) (u q x : ℕ) (item : Item) → IsOfBroadcast plan clear item →
-    has_set plan u (emm_at (period_at plan q) x) ≡ true → is_section q x item ≡ true →
+    has_set plan u (emm_at (period_at plan q) x) ≡ true → is_section_item q x item ≡ true →
     entitles plan.site.height u q item ≡ true
 section_entitles plan clear u q x (Entitles emm) (entitlement k within there) has is =
     let parts = and_parts (emm.period == q) (emm.index == x) is in
@@ -97,19 +97,19 @@ section_entitles plan clear u q x (Carries k packet) of has is = absurd (cc is)
 
 kept_entitles : (plan : Plan) (clear : List (List ℕ)) (u q x : ℕ) (items : List Item) → All
     (IsOfBroadcast plan clear) items →
-    has_set plan u (emm_at (period_at plan q) x) ≡ true → list_any (is_section q x) items ≡ true →
+    has_set plan u (emm_at (period_at plan q) x) ≡ true → list_any (is_section_item q x) items ≡ true →
     list_any (entitles plan.site.height u q) items ≡ true
 kept_entitles plan clear u q x [] all has is = absurd (cc is)
 kept_entitles plan clear u q x (item ∷ items) all has is =
-    by_place (or_cases (is_section q x item) (list_any (is_section q x) items) is)
+    by_place (or_cases (is_section_item q x item) (list_any (is_section_item q x) items) is)
     (λ later. kept_entitles plan clear u q x items (All-tail (IsOfBroadcast plan clear) item items all) has later)
   where
     or_true : (b : Bool) → (b || true) ≡ true
     or_true true = refl
     or_true false = refl
 
-    by_place : (is_section q x item ≡ true) ⊎ (list_any (is_section q x) items ≡ true) →
-        (list_any (is_section q x) items ≡ true → list_any (entitles plan.site.height u q) items ≡ true) →
+    by_place : (is_section_item q x item ≡ true) ⊎ (list_any (is_section_item q x) items ≡ true) →
+        (list_any (is_section_item q x) items ≡ true → list_any (entitles plan.site.height u q) items ≡ true) →
         list_any (entitles plan.site.height u q) (item ∷ items) ≡ true
     by_place (inl here) rest =
         rw (section_entitles plan clear u q x item (All-head (IsOfBroadcast plan clear) item items all) has here) refl
@@ -132,7 +132,7 @@ all_and_none plan clear u q kept is leaf all untold whole = by_revoked (cases_Bo
         let (x, low, high, has) = some_of_range (λ x. has_set plan u (emm_at (period_at plan q) x)) 0 n
         (sym (any_of_map (has_set plan u) (emm_at (period_at plan q)) (range_with_len 0 n))
         ∙ (sections_have plan q u is leaf ∙ ap not free)) in
-        let there = one_of_range (λ x. list_any (is_section q x) kept) 0 (sections_for (length
+        let there = one_of_range (λ x. list_any (is_section_item q x) kept) 0 (sections_for (length
         (sets_at plan q))) x whole low
         (omega (arith, high, ap sections_for (period_count plan q))) in
         absurd (both_ways (is_untold plan u kept q) (ap not (kept_entitles plan clear u q x kept all has there)) untold)
@@ -144,7 +144,7 @@ pub revoked_truly : (plan : Plan) (clear : List (List ℕ)) (u q : ℕ) (flags :
     is_revoked_in plan u q ≡ true
 unfolding ending_told closed_told
 revoked_truly plan clear u q flags is leaf ends =
-    by_cat (list_any is_cat items) (has_arrived kept (closing_number plan.site (length clear))) ends
+    by_cat (list_any is_cat_item items) (has_arrived kept (closing_number plan.site (length clear))) ends
   where
     items : List Item
     items = chosen flags (sent plan clear ++ closing_of plan clear)

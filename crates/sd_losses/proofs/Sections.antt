@@ -10,7 +10,7 @@ use Rattle.std.proofs.lemmas.List.Folds.{list_any-append, list_any_none}
 use Rattle.std.proofs.lemmas.Bool.{cases_Bool}
 use Rattle.std.proofs.lemmas.Bool.Decides.{nat_tests}
 use Rattle.sd_tree.specs.Leaves.{is_member}
-use Rattle.sd_emm.specs.Spelled.{listed}
+use Rattle.sd_emm.specs.Spelled.{listed_entries}
 use Rattle.sd_emm.specs.Period.{emms_of}
 use Rattle.sd_emm.specs.declared.emm.Emm.{Emm}
 use Rattle.sd_broadcast.specs.Messages.{period_at}
@@ -18,10 +18,10 @@ use Rattle.sd_broadcast.specs.Sent.{Item, Entitles}
 use Rattle.sd_reception.specs.Heard.{Heard, Entitles as HeardEntitles}
 use Rattle.sd_reception.specs.Stretches.{messages, newest, counted, current, seen, is_closed, others}
 use Rattle.sd_reception.specs.Keys.{key_at, key_in, key_from, first_key}
-use Rattle.sd_reception.specs.Offered.{emm_offering, key_if_none, is_mixed, says_same, nothing, Offering, refuses}
+use Rattle.sd_reception.specs.Offered.{emm_offering, key_if_none, is_mixed, says_same, no_offering, Offering, refuses}
 use Rattle.sd_emm.specs.declared.fault.EmmFault.TheVariants as Emms
 use Rattle.sd_reception.specs.declared.fault.StreamFault.TheVariants as Fault
-use Rattle.sd_losses.specs.Kept.{entitles, is_section}
+use Rattle.sd_losses.specs.Kept.{entitles, is_section_item}
 use Rattle.sd_losses.specs.Chosen.{chosen}
 use Rattle.sd_losses.specs.Taken.{takes_key, how_many}
 use Rattle.sd_losses.proofs.Taking.{keys_of, with_one, how_many_more, how_many_agree}
@@ -33,7 +33,7 @@ use Rattle.sd_losses.proofs.Facts.{told_same, section_is_bare}
 
 -- the section has a set with the leaf
 abbrev pub has_leaf : Setting → Emm → Bool
-has_leaf s emm = list_any (λ entry. is_member s.plan.site.height entry.name s.card.leaf) (listed emm)
+has_leaf s emm = list_any (λ entry. is_member s.plan.site.height entry.name s.card.leaf) (listed_entries emm)
 
 -- one section more is told
 told_more : (s : Setting) (q : ℕ) (kept : List Item) (emm : Emm) →
@@ -78,12 +78,12 @@ key_more s q emm past kept due now key at other = by_test (cases_Bool (emm.perio
 
 -- the indexes that are seen with one more
 index_more : (q : ℕ) (emm : Emm) (past : List Heard) (kept : List Item) → emm.period ≡ q → current past ≤ q →
-    (at x : ℕ) → list_any (λ e. e.index == x) (seen at past) ≡ list_any (is_section at x) kept →
-    list_any (λ e. e.index == x) (seen at (HeardEntitles emm ∷ past)) ≡ list_any (is_section at x)
+    (at x : ℕ) → list_any (λ e. e.index == x) (seen at past) ≡ list_any (is_section_item at x) kept →
+    list_any (λ e. e.index == x) (seen at (HeardEntitles emm ∷ past)) ≡ list_any (is_section_item at x)
     (kept ++ Entitles emm ∷ [])
 unfolding seen
 index_more q emm past kept period now at x other =
-    by_test (cases_Bool (emm.period == at)) ∙ sym (list_any-append (is_section at x) kept (Entitles emm ∷ []))
+    by_test (cases_Bool (emm.period == at)) ∙ sym (list_any-append (is_section_item at x) kept (Entitles emm ∷ []))
   where
     turned : (a b c : Bool) → a ≡ c → (b || a) ≡ (c || (b || false))
     turned a true true same = refl
@@ -97,13 +97,13 @@ index_more q emm past kept period now at x other =
 
     by_test : ((emm.period == at) ≡ true) ⊎ ((emm.period == at) ≡ false) →
         list_any (λ e. e.index == x) (seen at (HeardEntitles emm ∷ past))
-        ≡ (list_any (is_section at x) kept || (((emm.period == at) && (emm.index == x)) || false))
+        ≡ (list_any (is_section_item at x) kept || (((emm.period == at) && (emm.index == x)) || false))
     by_test (inl is) =
         let within : nat_le (current past) at ≡ true = grind (arith, nat_tests, is, period, now) in
         rw is (rw within (turned (list_any (λ e. e.index == x) (seen at past)) (emm.index == x) (list_any
-        (is_section at x) kept) other))
+        (is_section_item at x) kept) other))
     by_test (inr is) = rw is (none (list_any (λ e. e.index == x) (seen at past)) (list_any
-        (is_section at x) kept) other)
+        (is_section_item at x) kept) other)
 
 -- the sections seen with one more
 seen_more : (s : Setting) (q : ℕ) (emm : Emm) (past : List Heard) → emm.period ≡ q →
@@ -127,12 +127,12 @@ seen_more s q emm past period inside at all = by_test (cases_Bool (emm.period ==
 -- a section of the current period is none that is refused
 good_section : (s : Setting) (laws : AreLaws s) (q n : ℕ) (emm : Emm) (past : List Heard) (told : Bool) →
     Contains (emms_of (period_at s.plan q)) emm → All (Contains (emms_of (period_at s.plan q))) (seen q past) →
-    key_at s.card past q ≡ key_where s q told → current past ≤ q → emm_offering s.card n past emm ≡ nothing
+    key_at s.card past q ≡ key_where s q told → current past ≤ q → emm_offering s.card n past emm ≡ no_offering
 unfolding emm_offering
 good_section s laws q n emm past told inside all key now =
-    subst (λ (p : ℕ). (if nat_lt p (current past) then nothing
+    subst (λ (p : ℕ). (if nat_lt p (current past) then no_offering
     else if is_mixed (seen p past) emm then refusal else key_if_none n emm (key_at s.card past p)
-    (key_from s.card emm)) ≡ nothing)
+    (key_from s.card emm)) ≡ no_offering)
     (sym due.period)
     (rw passed_by (rw alike (ap (λ (k : Option (List ℕ)). key_if_none n emm k (key_from s.card emm)) key
     ∙ (ap (key_if_none n emm (key_where s q told)) due.key ∙ by_keys told (has_leaf s emm)))))
@@ -151,7 +151,7 @@ good_section s laws q n emm past told inside all key now =
         (All-weaker (Contains (emms_of (period_at s.plan q))) (λ other. not (says_same other emm) ≡ false)
         (λ other there. ap not (laws.same q other emm there inside)) (seen q past) all)
 
-    by_keys : (a b : Bool) → key_if_none n emm (key_where s q a) (key_where s q b) ≡ nothing
+    by_keys : (a b : Bool) → key_if_none n emm (key_where s q a) (key_where s q b) ≡ no_offering
     by_keys true b = refl
     by_keys false true = rw due.check refl
     by_keys false false = refl

@@ -11,7 +11,7 @@ use Rattle.sd_scramble.specs.Scrambling.{descrambled}
 use Rattle.sd_site.specs.Fields.{AreInRange}
 use Rattle.sd_card.specs.Fields.{CardFields}
 use Rattle.sd_wrap.specs.Wrapping.{wrapped as under}
-use Rattle.sd_emm.specs.Spelled.{listed}
+use Rattle.sd_emm.specs.Spelled.{listed_entries}
 use Rattle.sd_emm.specs.Period.{emms_of}
 use Rattle.sd_emm.specs.declared.emm.Emm.{Emm}
 use Rattle.sd_ecm.specs.Parts.{Message, parts_of}
@@ -60,7 +60,7 @@ key_where s q false = None
 pub record IsDue (s : Setting) (q : ℕ) (emm : Emm) : Type 0 where
   pub period : emm.period ≡ q
   pub key : key_from s.card emm
-      ≡ key_where s q (list_any (λ entry. is_member s.plan.site.height entry.name s.card.leaf) (listed emm))
+      ≡ key_where s q (list_any (λ entry. is_member s.plan.site.height entry.name s.card.leaf) (listed_entries emm))
   pub check : bytes_eq (check_value_of (period_key_of s.plan.site.master q)) emm.check ≡ true
 
 -- a carried packet that is not scrambled is the clear one again

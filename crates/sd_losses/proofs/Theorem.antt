@@ -1,6 +1,7 @@
 -- Whatever is lost of a broadcast of a site, the receiver of a leaf of it writes exactly what is confirmed.
 use Rattle.std.proofs.Common.{◌+◌, ◌-◌, not}
-use Rattle.std.proofs.Common.{◌≡◌, refl, ℕ, ◌<◌, ◌^◌, ◌&&◌, ◌++◌, Bool, true, List, [], map, reverse, length, None, arith}
+use Rattle.std.proofs.Common.{◌≡◌, refl, ℕ, ◌<◌, ◌^◌, ◌&&◌, ◌++◌, Bool, true, List, [], map, reverse, length, None}
+use Rattle.std.proofs.Common.{arith}
 use Rattle.std.proofs.Common.{sym, ap, ◌∙◌}
 use Rattle.std.specs.List.{range_with_len}
 use Rattle.sd_card.specs.Fields.{card_of}

@@ -23,7 +23,7 @@ use Rattle.sd_reception.specs.Tuned.{Tuning, tuning_of, tuned_by, cat_tuning}
 use Rattle.sd_reception.specs.Stretches.{messages, newest, counted, current, seen, is_closed, others}
 use Rattle.sd_reception.specs.Keys.{key_in}
 use Rattle.sd_reception.specs.Offered.{Offering, heard, heard_with, offered, tuned_offering, out_from, break_from}
-use Rattle.sd_reception.specs.Offered.{nothing}
+use Rattle.sd_reception.specs.Offered.{no_offering}
 use Rattle.sd_losses.specs.Chosen.{chosen}
 use Rattle.sd_losses.specs.Kept.{is_kept, kept_in, has_arrived, after_cat}
 use Rattle.sd_losses.proofs.Taking.{how_many_none}
@@ -33,7 +33,7 @@ use Rattle.sd_losses.proofs.OneRun.{AreOneRun, untuned_turn}
 use Rattle.sd_losses.proofs.Setting.{Setting, told_by, carried_at}
 use Rattle.sd_losses.proofs.Facts.{AreKept, AreHeard}
 use Rattle.sd_losses.proofs.Carrying.{carrying}
-use Rattle.sd_losses.proofs.Hearing.{AreHearable, is_cat}
+use Rattle.sd_losses.proofs.Hearing.{AreHearable, is_cat_item}
 use Rattle.sd_losses.proofs.Remaining.{parts_before, rest_at, rest_more}
 
 -- with a CAT a receiver stays tuned
@@ -71,7 +71,7 @@ pub record IsSkipped (s : Setting) (past packets more : List (List ℕ)) : Type 
   pub untuned : tuning_of s.card.ca (onto packets past) ≡ None
 
 pub offered_none : (card : CardFields) (past : List (List ℕ)) (packet : List ℕ) → tuning_of card.ca past ≡ None →
-    offered card past packet ≡ nothing
+    offered card past packet ≡ no_offering
 unfolding offered
 offered_none card past packet none =
     ap (λ (t : Option Tuning). tuned_offering card t (length past) (heard card past) packet) none
@@ -83,7 +83,7 @@ untuned_more card past packet none other = ap (λ (t : Option Tuning). tuned_by 
     ∙ other
 
 skip_first : (s : Setting) (past packets more : List (List ℕ)) (packet : List ℕ) →
-    offered s.card past packet ≡ nothing →
+    offered s.card past packet ≡ no_offering →
     IsSkipped s (packet ∷ past) packets more → IsSkipped s past (packet ∷ packets) more
 unfolding out_from break_from
 skip_first s past packets more packet is rest = record {
@@ -96,7 +96,7 @@ skip_first s past packets more packet is rest = record {
 
 pub packets_skipped : (s : Setting) (able : AreHearable s) (items earlier : List Item) (fs : List Bool)
     (past more : List (List ℕ)) → All (IsOfBroadcast s.plan s.clear) items → tuning_of s.card.ca past ≡ None →
-    list_any is_cat (chosen fs items) ≡ false → IsSkipped s past (chosen fs
+    list_any is_cat_item (chosen fs items) ≡ false → IsSkipped s past (chosen fs
     (packets_from s.plan.site earlier items)) more
 unfolding chosen packets_from
 packets_skipped s able [] earlier [] past more all none no_cat = record { out = refl; breaks = refl; untuned = none }
@@ -116,7 +116,7 @@ packets_skipped s able (item ∷ items) earlier (false ∷ fs) past more all non
     (IsOfBroadcast s.plan s.clear) item items all) none no_cat
 packets_skipped s able (item ∷ items) earlier (true ∷ fs) past more all none no_cat =
     let packet = packet_of s.plan.site earlier item in
-    let parts = or_parts (is_cat item) (list_any is_cat (chosen fs items)) no_cat in
+    let parts = or_parts (is_cat_item item) (list_any is_cat_item (chosen fs items)) no_cat in
     skip_first s past (chosen fs (packets_from s.plan.site (earlier ++ item ∷ []) items)) more packet
     (offered_none s.card past packet none)
     (packets_skipped s able items (earlier ++ item ∷ []) fs (packet ∷ past) more
@@ -125,7 +125,7 @@ packets_skipped s able (item ∷ items) earlier (true ∷ fs) past more all none
     (able.untuned earlier item (All-head (IsOfBroadcast s.plan s.clear) item items all) parts.0)) parts.1)
 
 -- what stands after the first CAT of two lists, the first of which has none
-pub after_none : (xs ys : List Item) → list_any is_cat xs ≡ false → after_cat (xs ++ ys) ≡ after_cat ys
+pub after_none : (xs ys : List Item) → list_any is_cat_item xs ≡ false → after_cat (xs ++ ys) ≡ after_cat ys
 unfolding after_cat
 after_none [] ys none = refl
 after_none (Cat ∷ xs) ys none = absurd (cc none)
@@ -133,7 +133,7 @@ after_none (Entitles emm ∷ xs) ys none = after_none xs ys none
 after_none (Controls part ∷ xs) ys none = after_none xs ys none
 after_none (Carries k packet ∷ xs) ys none = after_none xs ys none
 
-pub after_no_cat : (xs : List Item) → list_any is_cat xs ≡ false → after_cat xs ≡ []
+pub after_no_cat : (xs : List Item) → list_any is_cat_item xs ≡ false → after_cat xs ≡ []
 unfolding after_cat
 after_no_cat [] none = refl
 after_no_cat (Cat ∷ xs) none = absurd (cc none)
@@ -141,11 +141,11 @@ after_no_cat (Entitles emm ∷ xs) none = after_no_cat xs none
 after_no_cat (Controls part ∷ xs) none = after_no_cat xs none
 after_no_cat (Carries k packet ∷ xs) none = after_no_cat xs none
 
-pub no_section_cat : (emms : List Emm) → list_any is_cat (map Entitles emms) ≡ false
+pub no_section_cat : (emms : List Emm) → list_any is_cat_item (map Entitles emms) ≡ false
 no_section_cat [] = refl
 no_section_cat (emm ∷ emms) = no_section_cat emms
 
-pub no_part_cat : (parts : List EcmPart) → list_any is_cat (map Controls parts) ≡ false
+pub no_part_cat : (parts : List EcmPart) → list_any is_cat_item (map Controls parts) ≡ false
 no_part_cat [] = refl
 no_part_cat (part ∷ parts) = no_part_cat parts
 
@@ -156,11 +156,11 @@ sections_at s q = map Entitles (emms_of (period_at s.plan q))
 abbrev pub tail_at : Setting → ℕ → List Item
 tail_at s k = parts_before s k ++ carrying s k ∷ []
 
-pub no_tail_cat : (s : Setting) (k : ℕ) → list_any is_cat (tail_at s k) ≡ false
-no_tail_cat s k = list_any-append is_cat (parts_before s k) (carrying s k ∷ [])
+pub no_tail_cat : (s : Setting) (k : ℕ) → list_any is_cat_item (tail_at s k) ≡ false
+no_tail_cat s k = list_any-append is_cat_item (parts_before s k) (carrying s k ∷ [])
     ∙ ap (λ (b : Bool). b || false) (by_test (k % s.plan.site.every == 0))
   where
-    by_test : (b : Bool) → list_any is_cat (if b then map Controls (parts_of (told_by s
+    by_test : (b : Bool) → list_any is_cat_item (if b then map Controls (parts_of (told_by s
         (k / s.plan.site.every))) else []) ≡ false
     by_test true = no_part_cat (parts_of (told_by s (k / s.plan.site.every)))
     by_test false = refl

@@ -29,7 +29,7 @@ use Rattle.sd_sent.proofs.Fitting.{period_count}
 use Rattle.sd_told.proofs.Keyed.{period_due}
 use Rattle.sd_reception.specs.Ending.{ending_with}
 use Rattle.sd_reception.specs.declared.ending.Ending.TheVariants.{NoCat, Unclosed}
-use Rattle.sd_losses.specs.Kept.{is_cat, after_cat, has_arrived, arrived, entitles, is_section}
+use Rattle.sd_losses.specs.Kept.{is_cat_item, after_cat, has_arrived, arrived, entitles, is_section_item}
 use Rattle.sd_losses.specs.Confirmed.{packet_at, is_revoked_in, opened_by}
 use Rattle.sd_losses.specs.Endings.{period_told, periods_arrived, is_untold, has_all, closed_told, next_number}
 use Rattle.sd_losses.specs.Endings.{ending_told, first_revoked, is_on_air, whole_ending}
@@ -68,9 +68,9 @@ range_long s (suc n) = ap suc (range_long (s + 1) n)
 
 -- a period's own sections have all its indexes
 section_there : (plan : Plan) (q x : ℕ) → x < sections_for (length (sets_at plan q)) →
-    list_any (is_section q x) (map Entitles (emms_of (period_at plan q))) ≡ true
+    list_any (is_section_item q x) (map Entitles (emms_of (period_at plan q))) ≡ true
 section_there plan q x within =
-    any_of_map (is_section q x) Entitles emms ∙ any_there (λ e. is_section q x (Entitles e)) emms emm there
+    any_of_map (is_section_item q x) Entitles emms ∙ any_there (λ e. is_section_item q x (Entitles e)) emms emm there
     (rw number (rw index refl))
   where
     emms : List Emm
@@ -200,10 +200,10 @@ module _ (plan : Plan) (clear : List (List ℕ)) (u : ℕ) (is : IsPlan plan) (a
 
     all_is : (k : ℕ) → k ≤ length clear - 1 → has_all plan kept (period_of plan k) ≡ true
     unfolding has_all
-    all_is k within = all_range (λ x. list_any (is_section (period_of plan k) x) kept) 0 (sections_for (length
+    all_is k within = all_range (λ x. list_any (is_section_item (period_of plan k) x) kept) 0 (sections_for (length
         (sets_at plan (period_of plan k))))
-        (λ x low high. ap (list_any (is_section (period_of plan k) x)) (sym stands)
-        ∙ stand (is_section (period_of plan k) x) k within (section_there plan (period_of plan k) x (omega
+        (λ x low high. ap (list_any (is_section_item (period_of plan k) x)) (sym stands)
+        ∙ stand (is_section_item (period_of plan k) x) k within (section_there plan (period_of plan k) x (omega
         (arith, high))))
 
     arrived_is : (a : ℕ) → a ≤ final s → has_arrived kept a ≡ true
@@ -269,12 +269,12 @@ module _ (plan : Plan) (clear : List (List ℕ)) (u : ℕ) (is : IsPlan plan) (a
       (first_revoked plan u clear)
   unfolding ending_told after_cat card_of
   whole_ends =
-      ap (λ (written : ℕ). if list_any is_cat (rest_at s 0)
+      ap (λ (written : ℕ). if list_any is_cat_item (rest_at s 0)
       then (if has_arrived (after_cat (rest_at s 0)) (final s) then closed_told plan u clear (after_cat
       (rest_at s 0)) written
       else Unclosed (next_number plan clear (after_cat (rest_at s 0)))) else NoCat)
       (ap length (all_are_opened plan clear u is all whole leaf))
-      ∙ (ap (λ (items : List Item). if list_any is_cat items
+      ∙ (ap (λ (items : List Item). if list_any is_cat_item items
       then (if has_arrived (after_cat items) (final s) then closed_told plan u clear (after_cat items) (length
       (opened_by plan u clear))
       else Unclosed (next_number plan clear (after_cat items))) else NoCat) begins.1

@@ -40,16 +40,16 @@ is_open plan u clear kept a b =
 
 -- the tracked position of a PID at message b: that at message a, moved by the kept packets between them [this project,
 -- docs/FORMATS.md, Receiver]
-unfoldable pub traced : Plan → List (List ℕ) → List Item → ℕ → ℕ → ℕ → ℕ
-traced plan clear kept a b pid =
+unfoldable pub tracked_position : Plan → List (List ℕ) → List Item → ℕ → ℕ → ℕ → ℕ
+tracked_position plan clear kept a b pid =
     moved_by pid (position_of pid (take (a * plan.site.every) clear))
     (packets_at clear (kept_between plan clear kept a b))
 
 -- the position of a PID at message b is 0 to 15 above the tracked one
 unfoldable pub is_traced : Plan → List (List ℕ) → List Item → ℕ → ℕ → ℕ → Bool
 is_traced plan clear kept a b pid =
-    nat_le (traced plan clear kept a b pid) (position_of pid (take (upto plan clear b) clear))
-    && nat_le (position_of pid (take (upto plan clear b) clear)) (traced plan clear kept a b pid + 15)
+    nat_le (tracked_position plan clear kept a b pid) (position_of pid (take (upto plan clear b) clear))
+    && nat_le (position_of pid (take (upto plan clear b) clear)) (tracked_position plan clear kept a b pid + 15)
 
 -- a packet of this kind is scrambled
 abbrev pub is_scrambled : Kind → Bool

@@ -9,7 +9,8 @@ use Rattle.sd_broadcast.specs.Sent.{Item}
 use Rattle.sd_reception.specs.Ending.{ending_with}
 use Rattle.sd_reception.specs.declared.ending.Ending.{Ending}
 use Rattle.sd_reception.specs.declared.ending.Ending.TheVariants.{Opened, Revoked, NoCat, Unclosed}
-use Rattle.sd_losses.specs.Kept.{is_cat, after_cat, has_arrived, arrived, greatest_at_most, entitles, is_section}
+use Rattle.sd_losses.specs.Kept.{is_cat_item, after_cat, has_arrived, arrived, greatest_at_most, entitles}
+use Rattle.sd_losses.specs.Kept.{is_section_item}
 use Rattle.sd_losses.specs.Confirmed.{confirmed, is_revoked_in}
 
 -- the period of control message a: that of the clear packet after it, or of the last one
@@ -28,7 +29,7 @@ is_untold plan u kept q = not (list_any (entitles plan.site.height u q) kept)
 -- all sections of the period are kept
 unfoldable pub has_all : Plan → List Item → ℕ → Bool
 has_all plan kept q =
-    list_all (λ x. list_any (is_section q x) kept) (range_with_len 0 (sections_for (length (sets_at plan q))))
+    list_all (λ x. list_any (is_section_item q x) kept) (range_with_len 0 (sections_for (length (sets_at plan q))))
 
 -- how a broadcast ends for leaf u's receiver if its closing message arrives and this number of clear packets is
 -- confirmed [this project, docs/FORMATS.md, Receiver]
@@ -46,7 +47,7 @@ next_number plan clear kept = option_map_or (λ a. a + 1)
 -- how a broadcast ends for leaf u's receiver if these things are kept [this project, docs/FORMATS.md, Receiver]
 unfoldable pub ending_told : Plan → ℕ → List (List ℕ) → List Item → Ending
 ending_told plan u clear kept =
-    if list_any is_cat kept
+    if list_any is_cat_item kept
     then (if has_arrived (after_cat kept) (closing_number plan.site (length clear))
     then closed_told plan u clear (after_cat kept) (length (confirmed plan u clear kept))
     else Unclosed (next_number plan clear (after_cat kept)))

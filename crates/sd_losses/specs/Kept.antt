@@ -3,15 +3,15 @@ use Rattle.std.specs.Prelude.{ℕ, ◌+◌, ◌-◌, ◌==◌, ◌&&◌, ◌||�
 use Rattle.std.specs.Prelude.{filter, if◌then◌else◌, Option, Some, None}
 use Rattle.std.specs.List.{list_any, list_all, range_with_len}
 use Rattle.sd_tree.specs.Leaves.{is_member}
-use Rattle.sd_emm.specs.Spelled.{listed}
+use Rattle.sd_emm.specs.Spelled.{listed_entries}
 use Rattle.sd_broadcast.specs.Sent.{Item, Cat, Entitles, Controls, Carries}
 
 -- the thing is the CAT
-abbrev pub is_cat : Item → Bool
-is_cat Cat = true
-is_cat (Entitles emm) = false
-is_cat (Controls part) = false
-is_cat (Carries j packet) = false
+abbrev pub is_cat_item : Item → Bool
+is_cat_item Cat = true
+is_cat_item (Entitles emm) = false
+is_cat_item (Controls part) = false
+is_cat_item (Carries j packet) = false
 
 -- the things after the first CAT [this project, docs/FORMATS.md, Receiver]
 unfoldable pub after_cat : List Item → List Item
@@ -73,7 +73,7 @@ least_above n (a ∷ numbers) = if nat_lt n a then Some a else least_above n num
 
 -- a section of period q that has a set with leaf u
 abbrev pub entitles : ℕ → ℕ → ℕ → Item → Bool
-entitles h u q (Entitles emm) = (emm.period == q) && list_any (λ entry. is_member h entry.name u) (listed emm)
+entitles h u q (Entitles emm) = (emm.period == q) && list_any (λ entry. is_member h entry.name u) (listed_entries emm)
 entitles h u q Cat = false
 entitles h u q (Controls part) = false
 entitles h u q (Carries j packet) = false
@@ -93,8 +93,8 @@ is_entitled_before h u q a (item ∷ kept) =
     else (entitles h u q item && list_any (is_last_part a) kept) || is_entitled_before h u q a kept
 
 -- a section of period q with index x
-abbrev pub is_section : ℕ → ℕ → Item → Bool
-is_section q x (Entitles emm) = (emm.period == q) && (emm.index == x)
-is_section q x Cat = false
-is_section q x (Controls part) = false
-is_section q x (Carries j packet) = false
+abbrev pub is_section_item : ℕ → ℕ → Item → Bool
+is_section_item q x (Entitles emm) = (emm.period == q) && (emm.index == x)
+is_section_item q x Cat = false
+is_section_item q x (Controls part) = false
+is_section_item q x (Carries j packet) = false

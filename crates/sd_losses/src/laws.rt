@@ -1,6 +1,7 @@
 //! Laws on what a receiver tracks and confirms if packets are lost.
 
-ghost use Rattle.std.specs.Prelude.{◌≡◌, ◌+◌, ◌*◌, ◌%◌, ◌^◌, ◌<◌, ◌≤◌, ◌++◌, ◌&&◌, ◌||◌, [], ℕ, List, Bool, true, false, not};
+ghost use Rattle.std.specs.Prelude.{◌≡◌, ◌+◌, ◌*◌, ◌%◌, ◌^◌, ◌<◌, ◌≤◌, ◌++◌, ◌&&◌, ◌||◌, [], ℕ, List, Bool, true};
+ghost use Rattle.std.specs.Prelude.{false, not};
 ghost use Rattle.std.specs.Prelude.{nat_le, None, length, reverse, take};
 ghost use Rattle.sd_packet.specs.Positions.{is_moving, moved, moved_by};
 ghost use Rattle.sd_packet.specs.Header.{pid_of};

@@ -15,7 +15,7 @@ use Rattle.sd_label.specs.Names.{given}
 use Rattle.sd_label.specs.declared.name.Name.TheVariants.{Pair}
 use Rattle.sd_label.proofs.Pairs.{given_is_hanging}
 use Rattle.sd_secrets.specs.Hanging.{IsHanging}
-use Rattle.sd_secrets.specs.Secrets.{secret_of, Holds, DerivesPair, key_held}
+use Rattle.sd_secrets.specs.Secrets.{secret_of, HoldsSecret, DerivesPair, key_held}
 use Rattle.sd_secrets.proofs.Held.{AreOfLeaf, derived_is_among, own_among}
 use Rattle.sd_secrets.proofs.Once.{given_once}
 use Rattle.sd_secrets.proofs.Paths.{node_within, ancestor_on_path}
@@ -47,7 +47,7 @@ place_of d w a b = pairs_above d w a + (b - a)
 pub held_at : (d w u i j x k : ℕ) (secrets : List (List ℕ)) (label : List ℕ) → d ≤ 20 → u < 2 ^ d → IsPair d i j
     → is_useful w (Diff i j) ≡ true → is_member d (Diff i j) u ≡ true → IsHanging d u j x
     → k ≡ place_of d w (depth i) (depth x) → slice_get secrets k ≡ Some label
-    → Holds (layer_given d w u) secrets (Pair i x) label
+    → HoldsSecret (layer_given d w u) secrets (Pair i x) label
 held_at d w u i j x k secrets label low leaf pair useful member hanging place held =
     let beside = (member_of_pair d i j u low pair leaf).0 member in
     let within = hangs_within d w u i j x low leaf pair useful member hanging in

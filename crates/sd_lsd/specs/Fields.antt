@@ -4,7 +4,7 @@ use Rattle.byteorder.specs.Endian.{big_bytes}
 use Rattle.sd_tree.specs.Limits.{highest}
 use Rattle.sd_tree.specs.declared.set.SetName.{SetName}
 use Rattle.sd_secrets.specs.Files.{AreSecrets, file_bytes}
-use Rattle.sd_secrets.specs.Secrets.{secret_of, Derives, key_held}
+use Rattle.sd_secrets.specs.Secrets.{secret_of, DerivesKey, key_held}
 use Rattle.sd_lsd.specs.LayerNames.{layer_given, layer_count}
 use Rattle.sd_lsd.specs.declared.card.LayerCard.{LayerCard}
 
@@ -62,4 +62,4 @@ layer_key card name = key_held (layer_given card.height card.width card.leaf) ca
 -- the key is derived from what the layer card holds, by so many steps
 abbrev pub LayerDerives : LayerFields → SetName → List ℕ → ℕ → Type 0
 LayerDerives card name key taken =
-    Derives (layer_given card.height card.width card.leaf) card.secrets name key taken
+    DerivesKey (layer_given card.height card.width card.leaf) card.secrets name key taken

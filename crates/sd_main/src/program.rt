@@ -1,8 +1,8 @@
 ghost use Rattle.std.specs.Prelude.{◌≡◌, ◌<◌, ℕ, None, Err, map, string_bytes};
 ghost use Rattle.std.specs.Process.{exit_status};
 ghost use Rattle.sd_status.specs.Exits.{code_of};
-ghost use Rattle.sd_status.specs.Outside.{outside, page, place, Outside};
-ghost use Rattle.sd_status.specs.Answers.{Answers, IsToldAs};
+ghost use Rattle.sd_status.specs.Outside.{outside, page_state, depot_state, Outside};
+ghost use Rattle.sd_status.specs.Results.{RunResult, IsToldAs};
 ghost use Rattle.sd_words.specs.Words.{order_of};
 ghost use Rattle.sd_run.specs.Meaning.{meaning};
 
@@ -63,7 +63,7 @@ fn answer<R: Files + Print + AllocGlobal, O: Write + Drop, E: Write + Copy + Dro
 ) -> Status
     // The answer is one of `run` to these words, over files of which nothing is known.
     ensures value { (a b : Outside) × (a.place.files ≡ None) ×
-        Answers (meaning (map string_bytes words.now)) a b result }
+        RunResult (meaning (map string_bytes words.now)) a b result }
     ensures words { (status : Status) → order_of (map string_bytes words.now) ≡ Err status → IsToldAs status result }
 {
     let alloc = rt.alloc();
@@ -90,9 +90,9 @@ fn counted<L: Ledger, D: Depot, P: Sink>(
     requires name { blank.name ≡ L.name }
     requires parts { blank.parts ≡ L.parts }
     requires some { 0 < blank.parts }
-    ensures value { (steps : ℕ) × Answers (meaning (map string_bytes words.now))
-        (outside (place D.Depot depot.old) (page P.Sink print.old) 0)
-        (outside (place D.Depot depot.new) (page P.Sink print.new) steps) result }
+    ensures value { (steps : ℕ) × RunResult (meaning (map string_bytes words.now))
+        (outside (depot_state D.Depot depot.old) (page_state P.Sink print.old) 0)
+        (outside (depot_state D.Depot depot.new) (page_state P.Sink print.new) steps) result }
     ensures words { (status : Status) → order_of (map string_bytes words.now) ≡ Err status → IsToldAs status result }
 {
     let mut steps = Steps::<L>::new(blank);

@@ -12,8 +12,8 @@ use Rattle.sd_steiner.proofs.Partitions.{among_unrevoked}
 use Rattle.sd_pooled.specs.Know.{PeriodKey, ControlWord}
 use Rattle.sd_pooled.proofs.Known.{entitled_free}
 use Rattle.sd_broadcast.specs.Plan.{period_in}
-use Rattle.sd_many.specs.Runs.{Run, IsRun, OwnWords, HasWords, Uses, UsesPeriod, revoked_in, AllAgree}
-use Rattle.sd_many.specs.Known.{IsKnown, AreOneTree}
+use Rattle.sd_many.specs.Runs.{Run, IsRun, HaveOwnWords, HasWords, UsesWord, UsesPeriod, revoked_in, AllAgree}
+use Rattle.sd_many.specs.Known.{IsKnownInRuns, AreOneTree}
 use Rattle.sd_many.proofs.Words.{at_place, used_words, one_run, one_at}
 use Rattle.sd_many.proofs.Knowing.{height_is, key_is_known, key_comes, words_known}
 
@@ -24,15 +24,16 @@ stands xs x (k, within, is) = (k, slice_get-get_or xs k x within ∙ ap Some is)
 -- the key of a period is known to nobody whose leaves are all revoked by each run that uses it
 pub key_unknown : (runs : List Run) (h : ℕ) (coalition : List ℕ) (q : ℕ) → h ≤ 20 → AreOneTree h runs
     → All (λ u. u < 2 ^ h) coalition → All (λ run. UsesPeriod run q → All (Contains (revoked_in run q)) coalition) runs
-    → ¬ IsKnown runs h coalition (PeriodKey q)
+    → ¬ IsKnownInRuns runs h coalition (PeriodKey q)
 key_unknown runs h coalition q low tree leaves gone known =
     let (run, there, uses, (k, u, within, is, free)) = key_comes runs h coalition q low tree leaves known in
     let all = All-contains (λ r. UsesPeriod r q → All (Contains (revoked_in r q)) coalition) runs run gone there uses in
     free (All-contains (Contains (revoked_in run q)) coalition u all (k, within, is))
 
 -- a control word is used in one period alone where no two sites have a word in common
-pub one_period : (master : List ℕ) (runs : List Run) (a b : Run) (t p q : ℕ) → All (IsRun master) runs → OwnWords runs
-    → Contains runs a → Contains runs b → Uses a t p → Uses b t q → p ≡ q
+pub one_period : (master : List ℕ) (runs : List Run) (a b : Run) (t p q : ℕ) → All (IsRun master) runs →
+    HaveOwnWords runs
+    → Contains runs a → Contains runs b → UsesWord a t p → UsesWord b t q → p ≡ q
 one_period master runs a b t p q all own first second uses other =
     let (i, at) = stands runs a first in
     let (j, beside) = stands runs b second in
@@ -41,31 +42,31 @@ one_period master runs a b t p q all own first second uses other =
     let same = used_words master b t q (at_place (IsRun master) runs j b beside all)
     (at_place (λ r. HasWords r.plan.site) runs j b beside own.some) other in
     let run = one_at runs i j a b at beside (one_run runs i j a b t own at beside word same) in
-    in_one b t p q (subst (λ (r : Run). Uses r t p) run uses) other
+    in_one b t p q (subst (λ (r : Run). UsesWord r t p) run uses) other
   where
-    in_one : (run : Run) (word first second : ℕ) → Uses run word first → Uses run word second → first ≡ second
+    in_one : (run : Run) (word first second : ℕ) → UsesWord run word first → UsesWord run word second → first ≡ second
     in_one run word first second (n, below, is, period) (m, within, its, later) =
         let same : n ≡ m = omega (arith, is, its) in
         period ∙ (ap (period_in run.plan) same ∙ sym later)
 
 -- a control word of a run is known just where the key of its period is
 word_by_key : (master : List ℕ) (runs : List Run) (h : ℕ) (coalition : List ℕ) (run : Run) (t q : ℕ)
-    → All (IsRun master) runs → OwnWords runs → Contains runs run → Uses run t q
-    → IsKnown runs h coalition (ControlWord t) → IsKnown runs h coalition (PeriodKey q)
+    → All (IsRun master) runs → HaveOwnWords runs → Contains runs run → UsesWord run t q
+    → IsKnownInRuns runs h coalition (ControlWord t) → IsKnownInRuns runs h coalition (PeriodKey q)
 word_by_key master runs h coalition run t q all own there uses known =
     let (k, other, within, is, (p, its, key)) = (words_known runs h coalition t).0 known in
-    subst (λ (n : ℕ). IsKnown runs h coalition (PeriodKey n))
+    subst (λ (n : ℕ). IsKnownInRuns runs h coalition (PeriodKey n))
     (one_period master runs other run t p q all own (k, within, is) there its uses) key
 
-key_gives : (runs : List Run) (h : ℕ) (coalition : List ℕ) (run : Run) (t q : ℕ) → Contains runs run → Uses run t q
-    → IsKnown runs h coalition (PeriodKey q) → IsKnown runs h coalition (ControlWord t)
+key_gives : (runs : List Run) (h : ℕ) (coalition : List ℕ) (run : Run) (t q : ℕ) → Contains runs run → UsesWord run t q
+    → IsKnownInRuns runs h coalition (PeriodKey q) → IsKnownInRuns runs h coalition (ControlWord t)
 key_gives runs h coalition run t q (k, within, is) uses key =
     (words_known runs h coalition t).1 (k, run, within, is, (q, uses, key))
 
 pub word_unknown : (master : List ℕ) (runs : List Run) (h : ℕ) (coalition : List ℕ) (run : Run) (t q : ℕ) → h ≤ 20
-    → AreOneTree h runs → All (λ u. u < 2 ^ h) coalition → All (IsRun master) runs → OwnWords runs
+    → AreOneTree h runs → All (λ u. u < 2 ^ h) coalition → All (IsRun master) runs → HaveOwnWords runs
     → All (λ other. UsesPeriod other q → All (Contains (revoked_in other q)) coalition) runs
-    → Contains runs run → Uses run t q → ¬ IsKnown runs h coalition (ControlWord t)
+    → Contains runs run → UsesWord run t q → ¬ IsKnownInRuns runs h coalition (ControlWord t)
 word_unknown master runs h coalition run t q low tree leaves all own gone there uses known =
     key_unknown runs h coalition q low tree leaves gone
     (word_by_key master runs h coalition run t q all own there uses known)
@@ -105,7 +106,7 @@ entitled_unrevoked h run q u same there =
 -- who knows the key of a period of a run is entitled in it
 key_entitles : (runs : List Run) (h : ℕ) (coalition : List ℕ) (run : Run) (q : ℕ) → h ≤ 20 → AreOneTree h runs
     → All (λ u. u < 2 ^ h) coalition → AllAgree runs → Contains runs run → UsesPeriod run q
-    → IsKnown runs h coalition (PeriodKey q) → Any (Contains (entitled h run.plan.commands q)) coalition
+    → IsKnownInRuns runs h coalition (PeriodKey q) → Any (Contains (entitled h run.plan.commands q)) coalition
 key_entitles runs h coalition run q low tree leaves agree there uses known =
     let (other, beside, its, (k, u, within, is, free)) = key_comes runs h coalition q low tree leaves known in
     let leaf = All-contains (λ w. w < 2 ^ h) coalition u leaves (k, within, is) in
@@ -116,7 +117,7 @@ key_entitles runs h coalition run q low tree leaves agree there uses known =
 -- who is entitled in a period of a run, and nobody else, knows its key
 pub entitled_know_key : (runs : List Run) (h : ℕ) (coalition : List ℕ) (run : Run) (q : ℕ) → h ≤ 20
     → AreOneTree h runs → All (λ u. u < 2 ^ h) coalition → AllAgree runs → Contains runs run → UsesPeriod run q
-    → IsKnown runs h coalition (PeriodKey q) ↔ Any (Contains (entitled h run.plan.commands q)) coalition
+    → IsKnownInRuns runs h coalition (PeriodKey q) ↔ Any (Contains (entitled h run.plan.commands q)) coalition
 entitled_know_key runs h coalition run q low tree leaves agree there uses = (
   key_entitles runs h coalition run q low tree leaves agree there uses,
   λ (k, u, within, is, own).
@@ -127,8 +128,8 @@ entitled_know_key runs h coalition run q low tree leaves agree there uses = (
 -- and each control word of it
 pub entitled_know_word : (master : List ℕ) (runs : List Run) (h : ℕ) (coalition : List ℕ) (run : Run) (t q : ℕ)
     → h ≤ 20 → AreOneTree h runs → All (λ u. u < 2 ^ h) coalition → AllAgree runs → All (IsRun master) runs
-    → OwnWords runs → Contains runs run → Uses run t q
-    → IsKnown runs h coalition (ControlWord t) ↔ Any (Contains (entitled h run.plan.commands q)) coalition
+    → HaveOwnWords runs → Contains runs run → UsesWord run t q
+    → IsKnownInRuns runs h coalition (ControlWord t) ↔ Any (Contains (entitled h run.plan.commands q)) coalition
 entitled_know_word master runs h coalition run t q low tree leaves agree all own there uses =
     let key = entitled_know_key runs h coalition run q low tree leaves agree there (t, uses) in (
       λ known. key.0 (word_by_key master runs h coalition run t q all own there uses known),

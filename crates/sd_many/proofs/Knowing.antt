@@ -7,60 +7,61 @@ use Rattle.std.proofs.lemmas.List.Elements.{All-contains}
 use Rattle.sd_tree.specs.declared.set.SetName.{SetName}
 use Rattle.sd_label.specs.Names.{given}
 use Rattle.sd_steiner.proofs.Lists.{member_cases, member_first, no_member}
-use Rattle.sd_reach.specs.Reach.{Secret, Named, Key, Follows, IsHeld, IsReached}
+use Rattle.sd_reach.specs.Reach.{Secret, Named, Key, IsGeneratorStep, IsHeld, IsReached}
 use Rattle.sd_reach.proofs.Derivation.{Reach, at_first, by_rule, from_derived, to_derived, passes}
 use Rattle.sd_reach.proofs.Reached.{from_one, to_all, held_is_reached, next_is_reached, reached_by_one}
-use Rattle.sd_pooled.specs.Know.{Service, Item, OfTree, PeriodKey, ControlWord, IsPooled, sets_at as service_sets}
+use Rattle.sd_pooled.specs.Know.{Service, Knowable, OfTree, PeriodKey, ControlWord, IsPooled, service_sets}
 use Rattle.sd_pooled.proofs.Known.{unrevoked_reaches, reached_at}
 use Rattle.sd_broadcast.specs.Plan.{sets_at}
-use Rattle.sd_many.specs.Runs.{Run, Uses, UsesPeriod, revoked_in}
-use Rattle.sd_many.specs.Known.{Yields, generated, entitled as of_set, controlled, IsKnown, AreOneTree}
+use Rattle.sd_many.specs.Runs.{Run, UsesWord, UsesPeriod, revoked_in}
+use Rattle.sd_many.specs.Known.{IsStepInRuns, generated, entitled as of_set, controlled, IsKnownInRuns, AreOneTree}
 
 -- what is known, by how it came in
-abbrev Had : List Run → ℕ → List ℕ → Item → Type 0
-Had runs h coalition item = Reach (IsPooled h coalition) (Yields runs) item
+abbrev Had : List Run → ℕ → List ℕ → Knowable → Type 0
+Had runs h coalition item = Reach (IsPooled h coalition) (IsStepInRuns runs) item
 
 -- what is known has come in by the rules
-from_known : (runs : List Run) (h : ℕ) (coalition : List ℕ) (item : Item) → IsKnown runs h coalition item
+from_known : (runs : List Run) (h : ℕ) (coalition : List ℕ) (item : Knowable) → IsKnownInRuns runs h coalition item
     → Had runs h coalition item
-unfolding IsKnown
-from_known runs h coalition item k = from_derived (IsPooled h coalition) (Yields runs) item k
+unfolding IsKnownInRuns
+from_known runs h coalition item k = from_derived (IsPooled h coalition) (IsStepInRuns runs) item k
 
 -- what has come in by the rules is known
-to_known : (runs : List Run) (h : ℕ) (coalition : List ℕ) (item : Item) → Had runs h coalition item
-    → IsKnown runs h coalition item
-unfolding IsKnown
-to_known runs h coalition item r = to_derived (IsPooled h coalition) (Yields runs) item r
+to_known : (runs : List Run) (h : ℕ) (coalition : List ℕ) (item : Knowable) → Had runs h coalition item
+    → IsKnownInRuns runs h coalition item
+unfolding IsKnownInRuns
+to_known runs h coalition item r = to_derived (IsPooled h coalition) (IsStepInRuns runs) item r
 
 -- what the cards hold is known
-pub held_is_known : (runs : List Run) (h : ℕ) (coalition : List ℕ) (item : Item) → IsPooled h coalition item
-    → IsKnown runs h coalition item
+pub held_is_known : (runs : List Run) (h : ℕ) (coalition : List ℕ) (item : Knowable) → IsPooled h coalition item
+    → IsKnownInRuns runs h coalition item
 held_is_known runs h coalition item is = to_known runs h coalition item (at_first is)
 
 -- what follows from what is known is known
-pub next_is_known : (runs : List Run) (h : ℕ) (coalition : List ℕ) (from to : Item) → IsKnown runs h coalition from
-    → Yields runs from to → IsKnown runs h coalition to
+pub next_is_known : (runs : List Run) (h : ℕ) (coalition : List ℕ) (from to : Knowable) →
+    IsKnownInRuns runs h coalition from
+    → IsStepInRuns runs from to → IsKnownInRuns runs h coalition to
 next_is_known runs h coalition from to k y =
     to_known runs h coalition to (by_rule (from_known runs h coalition from k) y)
 
 -- a test that what the cards hold passes, and what follows from what passes, is passed by all that is known
-pub known_passes : (runs : List Run) (h : ℕ) (coalition : List ℕ) (test : Item → Bool)
-    → ((item : Item) → IsPooled h coalition item → test item ≡ true)
-    → ((from to : Item) → Yields runs from to → test from ≡ true → test to ≡ true) → (item : Item)
-    → IsKnown runs h coalition item → test item ≡ true
+pub known_passes : (runs : List Run) (h : ℕ) (coalition : List ℕ) (test : Knowable → Bool)
+    → ((item : Knowable) → IsPooled h coalition item → test item ≡ true)
+    → ((from to : Knowable) → IsStepInRuns runs from to → test from ≡ true → test to ≡ true) → (item : Knowable)
+    → IsKnownInRuns runs h coalition item → test item ≡ true
 known_passes runs h coalition test is closed item k =
-    passes (IsPooled h coalition) (Yields runs) test is closed (from_known runs h coalition item k)
+    passes (IsPooled h coalition) (IsStepInRuns runs) test is closed (from_known runs h coalition item k)
 
 -- the last step of what is known: a secret is reached, a period's key was sent under the key of a set, and a control
 -- word under the key of its period
-abbrev Comes : List Run → ℕ → List ℕ → Item → Type 0
+abbrev Comes : List Run → ℕ → List ℕ → Knowable → Type 0
 Comes runs h coalition (OfTree secret) = IsReached (flat_map (given h) coalition) secret
 Comes runs h coalition (PeriodKey q) = (run : Run) × Contains runs run × UsesPeriod run q
     × ((name : SetName) × Contains (sets_at run.plan q) name × IsReached (flat_map (given h) coalition) (Key name))
 Comes runs h coalition (ControlWord t) = (run : Run) × Contains runs run
-    × ((q : ℕ) × Uses run t q × IsKnown runs h coalition (PeriodKey q))
+    × ((q : ℕ) × UsesWord run t q × IsKnownInRuns runs h coalition (PeriodKey q))
 
-comes : (runs : List Run) (h : ℕ) (coalition : List ℕ) {item : Item} → Had runs h coalition item
+comes : (runs : List Run) (h : ℕ) (coalition : List ℕ) {item : Knowable} → Had runs h coalition item
     → Comes runs h coalition item
 comes runs h coalition (at_first {x = OfTree (Named name)} m) = held_is_reached (flat_map (given h) coalition) name m
 comes runs h coalition (at_first {x = OfTree (Key name)} m) = absurd m
@@ -75,28 +76,29 @@ comes runs h coalition (by_rule r (controlled {run = run} {t = t} {q = q} there 
 
 -- a secret that has come in by the generator is known
 lifted : (runs : List Run) (h : ℕ) (coalition : List ℕ) {secret : Secret}
-    → Reach (IsHeld (flat_map (given h) coalition)) Follows secret → Had runs h coalition (OfTree secret)
+    → Reach (IsHeld (flat_map (given h) coalition)) IsGeneratorStep secret → Had runs h coalition (OfTree secret)
 lifted runs h coalition (at_first m) = at_first m
 lifted runs h coalition (by_rule r f) = by_rule (lifted runs h coalition r) (generated f)
 
 reached_is_known : (runs : List Run) (h : ℕ) (coalition : List ℕ) (secret : Secret)
-    → IsReached (flat_map (given h) coalition) secret → IsKnown runs h coalition (OfTree secret)
+    → IsReached (flat_map (given h) coalition) secret → IsKnownInRuns runs h coalition (OfTree secret)
 unfolding IsReached
 reached_is_known runs h coalition secret r =
     to_known runs h coalition (OfTree secret)
-    (lifted runs h coalition (from_derived (IsHeld (flat_map (given h) coalition)) Follows secret r))
+    (lifted runs h coalition (from_derived (IsHeld (flat_map (given h) coalition)) IsGeneratorStep secret r))
 
 -- just the secrets that are reached are known
 pub secrets_known : (runs : List Run) (h : ℕ) (coalition : List ℕ) (secret : Secret)
-    → IsKnown runs h coalition (OfTree secret) ↔ IsReached (flat_map (given h) coalition) secret
+    → IsKnownInRuns runs h coalition (OfTree secret) ↔ IsReached (flat_map (given h) coalition) secret
 secrets_known runs h coalition secret = (
   λ k. comes runs h coalition (from_known runs h coalition (OfTree secret) k),
   reached_is_known runs h coalition secret,
 )
 
 -- just the control words that a run uses in a period whose key is known are known
-pub words_known : (runs : List Run) (h : ℕ) (coalition : List ℕ) (t : ℕ) → IsKnown runs h coalition (ControlWord t)
-    ↔ Any (λ run. (q : ℕ) × Uses run t q × IsKnown runs h coalition (PeriodKey q)) runs
+pub words_known : (runs : List Run) (h : ℕ) (coalition : List ℕ) (t : ℕ) →
+    IsKnownInRuns runs h coalition (ControlWord t)
+    ↔ Any (λ run. (q : ℕ) × UsesWord run t q × IsKnownInRuns runs h coalition (PeriodKey q)) runs
 words_known runs h coalition t = (
   λ k. let (run, (place, within, is), (q, uses, key)) =
       comes runs h coalition (from_known runs h coalition (ControlWord t) k) in
@@ -147,7 +149,7 @@ height_is h runs run tree there = All-contains (λ r. r.plan.site.height ≡ h) 
 -- the key of a period is known where some run uses it and some leaf isn't revoked in it
 pub key_is_known : (runs : List Run) (h : ℕ) (coalition : List ℕ) (run : Run) (q : ℕ) → h ≤ 20 → AreOneTree h runs
     → All (λ u. u < 2 ^ h) coalition → Contains runs run → UsesPeriod run q → HasUnrevoked run coalition q
-    → IsKnown runs h coalition (PeriodKey q)
+    → IsKnownInRuns runs h coalition (PeriodKey q)
 key_is_known runs h coalition run q low tree leaves there uses (place, u, inside, at, free) =
     let leaf = All-contains (λ w. w < 2 ^ h) coalition u leaves (place, inside, at) in
     let (name, sets, own) = leaf_reaches h run q u (height_is h runs run tree there) low leaf free in
@@ -157,7 +159,7 @@ key_is_known runs h coalition run q low tree leaves there uses (place, u, inside
 
 -- and just there
 pub key_comes : (runs : List Run) (h : ℕ) (coalition : List ℕ) (q : ℕ) → h ≤ 20 → AreOneTree h runs
-    → All (λ u. u < 2 ^ h) coalition → IsKnown runs h coalition (PeriodKey q)
+    → All (λ u. u < 2 ^ h) coalition → IsKnownInRuns runs h coalition (PeriodKey q)
     → (run : Run) × Contains runs run × UsesPeriod run q × HasUnrevoked run coalition q
 key_comes runs h coalition q low tree leaves known =
     let (run, there, uses, (name, sets, reached)) =
@@ -169,7 +171,7 @@ key_comes runs h coalition q low tree leaves known =
     )
 
 pub periods_known : (runs : List Run) (h : ℕ) (coalition : List ℕ) (q : ℕ) → h ≤ 20 → AreOneTree h runs
-    → All (λ u. u < 2 ^ h) coalition → IsKnown runs h coalition (PeriodKey q)
+    → All (λ u. u < 2 ^ h) coalition → IsKnownInRuns runs h coalition (PeriodKey q)
     ↔ Any (λ run. UsesPeriod run q × Any (λ u. ¬ Contains (revoked_in run q) u) coalition) runs
 periods_known runs h coalition q low tree leaves = (
   λ known. let (run, (place, within, is), uses, free) = key_comes runs h coalition q low tree leaves known in
@@ -179,7 +181,7 @@ periods_known runs h coalition q low tree leaves = (
 )
 
 -- what the coalition holds one of its leaves holds
-held_by_one : (h : ℕ) (coalition : List ℕ) (item : Item) → IsPooled h coalition item
+held_by_one : (h : ℕ) (coalition : List ℕ) (item : Knowable) → IsPooled h coalition item
     → Any (λ u. IsPooled h (u ∷ []) item) coalition
 held_by_one h coalition (OfTree (Named name)) m =
     let (u, (k, within, is), own) = from_one (given h) coalition name m in
@@ -189,8 +191,8 @@ held_by_one h coalition (PeriodKey q) m = absurd m
 held_by_one h coalition (ControlWord t) m = absurd m
 
 -- what is known by all of a coalition together is known by one of its leaves
-to_one : (runs : List Run) (h : ℕ) (coalition : List ℕ) {item : Item} → Had runs h coalition item
-    → Any (λ u. IsKnown runs h (u ∷ []) item) coalition
+to_one : (runs : List Run) (h : ℕ) (coalition : List ℕ) {item : Knowable} → Had runs h coalition item
+    → Any (λ u. IsKnownInRuns runs h (u ∷ []) item) coalition
 to_one runs h coalition (at_first {x = item} m) =
     let (k, u, within, is, own) = held_by_one h coalition item m in
     (k, u, within, is, held_is_known runs h (u ∷ []) item own)
@@ -199,7 +201,7 @@ to_one runs h coalition (by_rule {from = from} {to = to} r y) =
     (k, u, within, is, next_is_known runs h (u ∷ []) from to known y)
 
 -- what a leaf of the coalition holds the coalition holds
-held_by_all : (h : ℕ) (coalition : List ℕ) (u : ℕ) (item : Item) → Contains coalition u → IsPooled h (u ∷ []) item
+held_by_all : (h : ℕ) (coalition : List ℕ) (u : ℕ) (item : Knowable) → Contains coalition u → IsPooled h (u ∷ []) item
     → IsPooled h coalition item
 held_by_all h coalition u (OfTree (Named name)) there m =
     let (w, only, own) = from_one (given h) (u ∷ []) name m in
@@ -212,14 +214,15 @@ held_by_all h coalition u (PeriodKey q) there m = absurd m
 held_by_all h coalition u (ControlWord t) there m = absurd m
 
 -- what one leaf of a coalition knows alone is known by all together
-to_all_known : (runs : List Run) (h : ℕ) (coalition : List ℕ) (u : ℕ) {item : Item} → Contains coalition u
+to_all_known : (runs : List Run) (h : ℕ) (coalition : List ℕ) (u : ℕ) {item : Knowable} → Contains coalition u
     → Had runs h (u ∷ []) item → Had runs h coalition item
 to_all_known runs h coalition u there (at_first {x = item} m) = at_first (held_by_all h coalition u item there m)
 to_all_known runs h coalition u there (by_rule r y) = by_rule (to_all_known runs h coalition u there r) y
 
 -- a coalition knows together just what one of its leaves knows alone
-pub known_by_one : (runs : List Run) (h : ℕ) (coalition : List ℕ) (item : Item) → IsKnown runs h coalition item
-    ↔ Any (λ u. IsKnown runs h (u ∷ []) item) coalition
+pub known_by_one : (runs : List Run) (h : ℕ) (coalition : List ℕ) (item : Knowable) →
+    IsKnownInRuns runs h coalition item
+    ↔ Any (λ u. IsKnownInRuns runs h (u ∷ []) item) coalition
 known_by_one runs h coalition item = (
   λ known. to_one runs h coalition (from_known runs h coalition item known),
   λ (k, u, within, is, known). to_known runs h coalition item

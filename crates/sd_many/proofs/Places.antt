@@ -11,18 +11,18 @@ use Rattle.sd_broadcast.specs.Carried.{place_after}
 use Rattle.sd_broadcast.specs.Refused.{IsClear}
 use Rattle.sd_sent.proofs.Clear.{clear_short}
 use Rattle.sd_sent.proofs.Carrying.{kind_placed}
-use Rattle.sd_many.specs.Runs.{Run, packet_at, is_scrambled, is_veiled}
+use Rattle.sd_many.specs.Runs.{Run, run_packet, is_scrambled, is_veiled}
 use Rattle.sd_many.specs.Pads.{number_at}
 
 -- the position of clear packet k
 abbrev pub place_at : Run → ℕ → ℕ
-place_at run k = place_after (take k run.clear) (packet_at run k)
+place_at run k = place_after (take k run.clear) (run_packet run k)
 
 -- a packet that is scrambled has a position
-veiled_placed : (run : Run) (k : ℕ) → is_veiled run k ≡ true → is_placed (packet_at run k) ≡ true
+veiled_placed : (run : Run) (k : ℕ) → is_veiled run k ≡ true → is_placed (run_packet run k) ≡ true
 unfolding is_veiled
 veiled_placed run k veiled =
-    kind_placed (take k run.clear) (packet_at run k) (λ passed. false≢true (sym (ap is_scrambled passed) ∙ veiled))
+    kind_placed (take k run.clear) (run_packet run k) (λ passed. false≢true (sym (ap is_scrambled passed) ∙ veiled))
 
 -- a packet with a position moves that of its PID
 own_moves : (packet : List ℕ) → is_placed packet ≡ true → is_moving (pid_of packet) packet ≡ true
@@ -36,13 +36,13 @@ own_moves packet placed =
 
 -- the position of a packet is that of its PID after it
 place_is : (run : Run) (k : ℕ) → k < length run.clear
-    → place_at run k ≡ position_of (pid_of (packet_at run k)) (take (k + 1) run.clear)
-place_is run k within = sym (next_position (pid_of (packet_at run k)) k run.clear within)
+    → place_at run k ≡ position_of (pid_of (run_packet run k)) (take (k + 1) run.clear)
+place_is run k within = sym (next_position (pid_of (run_packet run k)) k run.clear within)
 
 -- a position of a clear stream has 48 bits
 place_short : (run : Run) (k : ℕ) → IsClear run.plan.site run.clear → k < length run.clear → place_at run k < 2 ^ 48
 place_short run k is within =
-    let near = (moved_by_near (pid_of (packet_at run k)) 15 (take (k + 1) run.clear)).1 in
+    let near = (moved_by_near (pid_of (run_packet run k)) 15 (take (k + 1) run.clear)).1 in
     let long : length (take (k + 1) run.clear) ≡ k + 1 = length-take-le (k + 1) run.clear (omega (arith, within)) in
     omega (arith, place_is run k within, near, long, within, clear_short run.plan.site run.clear is)
 
@@ -61,15 +61,15 @@ positions_rise pid m n packets below =
 
 -- of two packets of one PID the later one, if it is scrambled, has the higher position
 places_rise : (run : Run) (j k : ℕ) → j < k → k < length run.clear → is_veiled run k ≡ true
-    → pid_of (packet_at run j) ≡ pid_of (packet_at run k) → place_at run j < place_at run k
+    → pid_of (run_packet run j) ≡ pid_of (run_packet run k) → place_at run j < place_at run k
 places_rise run j k before within veiled same =
-    let pid : ℕ = pid_of (packet_at run k) in
+    let pid : ℕ = pid_of (run_packet run k) in
     let first : place_at run j ≡ position_of pid (take (j + 1) run.clear) =
     subst (λ (p : ℕ). place_at run j ≡ position_of p (take (j + 1) run.clear)) same
     (place_is run j (omega (arith, before, within))) in
     let rises = positions_rise pid (j + 1) k run.clear (omega (arith, before)) in
-    let above = (moving_rises pid (position_of pid (take k run.clear)) (packet_at run k)
-    (own_moves (packet_at run k) (veiled_placed run k veiled))).above in
+    let above = (moving_rises pid (position_of pid (take k run.clear)) (run_packet run k)
+    (own_moves (run_packet run k) (veiled_placed run k veiled))).above in
     omega (arith, first, rises, above)
 
 -- a stream number tells PID and position
@@ -83,7 +83,7 @@ pub one_packet : (run : Run) (j k : ℕ) → IsClear run.plan.site run.clear →
     → j ≡ k
 unfolding number_at
 one_packet run j k is inside within first second same =
-    let parts = numbers_tell (pid_of (packet_at run j)) (place_at run j) (pid_of (packet_at run k)) (place_at run k)
+    let parts = numbers_tell (pid_of (run_packet run j)) (place_at run j) (pid_of (run_packet run k)) (place_at run k)
     (place_short run j is inside) (place_short run k is within) same in
     elim (cases_lt j k) [
       | inl before ↦ absurd (omega (arith, places_rise run j k before within second parts.0, parts.1))

@@ -5,13 +5,13 @@ use Rattle.std.proofs.lemmas.Bool.{false≢true}
 use Rattle.std.proofs.lemmas.List.Elements.{All-nil, All-cons, All-map, All-contains}
 use Rattle.sd_packet.specs.Header.{payload_of}
 use Rattle.sd_label.specs.Keys.{period_key_of, control_word_of}
-use Rattle.sd_emm.specs.Spelled.{listed}
+use Rattle.sd_emm.specs.Spelled.{listed_entries}
 use Rattle.sd_broadcast.specs.Plan.{word_of}
 use Rattle.sd_broadcast.specs.Refused.{IsClear}
 use Rattle.sd_broadcast.specs.Sent.{Item}
 use Rattle.sd_broadcast.specs.Items.{IsOfBroadcast, cat, entitlement, part, closing, carried_on}
 use Rattle.sd_broadcast.proofs.Items.{all_are_of_broadcast}
-use Rattle.sd_many.specs.Runs.{Run, IsRun, OwnWords, items_of, packet_at, is_veiled}
+use Rattle.sd_many.specs.Runs.{Run, IsRun, HaveOwnWords, sent_by, run_packet, is_veiled}
 use Rattle.sd_many.specs.Pads.{KeyName, SetKey, PeriodKey, Word, is_for_keys, Pad, number_at, entry_pad, part_pad}
 use Rattle.sd_many.specs.Pads.{payload_pad, pads_in, pads_of}
 use Rattle.sd_many.proofs.Places.{one_packet}
@@ -25,7 +25,7 @@ record IsPayload (run : Run) (t number : ℕ) (text : List ℕ) : Type 0 where
   veiled : is_veiled run k ≡ true
   word : t ≡ word_of run.plan.site k
   at : number ≡ number_at run k
-  payload : text ≡ payload_of (packet_at run k)
+  payload : text ≡ payload_of (run_packet run k)
 
 -- the text that a run has under a key and a stream number
 abbrev IsText : Run → KeyName → ℕ → List ℕ → Type 0
@@ -40,7 +40,7 @@ IsPadOf run pad = IsText run pad.key pad.number pad.text
 pads_told : (run : Run) (item : Item) → IsOfBroadcast run.plan run.clear item → All (IsPadOf run) (pads_in run item)
 pads_told run _ cat = All-nil (IsPadOf run)
 pads_told run _ (entitlement {emm = emm} k within m) =
-    All-map (IsPadOf run) (entry_pad run emm) (listed emm) (λ k d within. refl)
+    All-map (IsPadOf run) (entry_pad run emm) (listed_entries emm) (λ k d within. refl)
 pads_told run _ (part {part = one} k within due m) =
     All-cons (IsPadOf run) (part_pad run one) [] refl (All-nil (IsPadOf run))
 pads_told run _ (closing {part = one} m) =
@@ -55,10 +55,10 @@ pads_told run _ (carried_on k within) = by_test (is_veiled run k) refl
     by_test false plain = All-nil (IsPadOf run)
 
 -- what is sent is of the broadcast
-sent_is_of : (run : Run) (item : Item) → Contains (items_of run) item → IsOfBroadcast run.plan run.clear item
-unfolding items_of
+sent_is_of : (run : Run) (item : Item) → Contains (sent_by run) item → IsOfBroadcast run.plan run.clear item
+unfolding sent_by
 sent_is_of run item there =
-    All-contains (IsOfBroadcast run.plan run.clear) (items_of run) item (all_are_of_broadcast run.plan run.clear) there
+    All-contains (IsOfBroadcast run.plan run.clear) (sent_by run) item (all_are_of_broadcast run.plan run.clear) there
 
 pad_told : (run : Run) (pad : Pad) → Contains (pads_of run) pad → IsPadOf run pad
 pad_told run pad m =
@@ -91,7 +91,7 @@ one_payload : (run : Run) (t u number : ℕ) (x y : List ℕ) → IsClear run.pl
     → IsPayload run t number x → IsPayload run u number y → x ≡ y
 one_payload run t u number x y is p q =
     let same = one_packet run p.k q.k is p.within q.within p.veiled q.veiled (sym p.at ∙ q.at) in
-    p.payload ∙ (ap (λ (k : ℕ). payload_of (packet_at run k)) same ∙ sym q.payload)
+    p.payload ∙ (ap (λ (k : ℕ). payload_of (run_packet run k)) same ∙ sym q.payload)
 
 -- texts of one run under one key and number are one
 one_text : (run : Run) (name : KeyName) (number : ℕ) (s t : List ℕ) → IsClear run.plan.site run.clear
@@ -107,7 +107,8 @@ texts_repeat run x y is m n keys numbers =
 
 -- packets of several runs under one control word and stream number are one packet
 pub packets_repeat : (master : List ℕ) (runs : List Run) (i j k l : ℕ) (a b : Run) → All (IsRun master) runs
-    → OwnWords runs → slice_get runs i ≡ Some a → slice_get runs j ≡ Some b → k < length a.clear → l < length b.clear
+    → HaveOwnWords runs → slice_get runs i ≡ Some a → slice_get runs j ≡ Some b → k < length a.clear →
+    l < length b.clear
     → is_veiled a k ≡ true → is_veiled b l ≡ true → word_of a.plan.site k ≡ word_of b.plan.site l
     → number_at a k ≡ number_at b l → (i ≡ j) × (k ≡ l)
 packets_repeat master runs i j k l a b all own first second inside within veiled other words numbers =
@@ -133,7 +134,7 @@ masters_are master runs i j a b all first second =
 
 -- texts of several runs under one key and number are one
 two_texts : (master : List ℕ) (runs : List Run) (i j : ℕ) (a b : Run) (name : KeyName) (number : ℕ) (s t : List ℕ)
-    → All (IsRun master) runs → OwnWords runs → slice_get runs i ≡ Some a → slice_get runs j ≡ Some b
+    → All (IsRun master) runs → HaveOwnWords runs → slice_get runs i ≡ Some a → slice_get runs j ≡ Some b
     → IsText a name number s → IsText b name number t → s ≡ t
 two_texts master runs i j a b (SetKey name) number s t all own first second p q =
     same_keys a b (SetKey name) number s t (masters_are master runs i j a b all first second) refl p q
@@ -143,11 +144,11 @@ two_texts master runs i j a b (Word w) number s t all own first second p q =
     let parts = packets_repeat master runs i j p.k q.k a b all own first second p.within q.within p.veiled q.veiled
     (sym p.word ∙ q.word) (sym p.at ∙ q.at) in
     let run = one_at runs i j a b first second parts.0 in
-    p.payload ∙ (ap (λ (r : Run). payload_of (packet_at r p.k)) run
-    ∙ (ap (λ (k : ℕ). payload_of (packet_at b k)) parts.1 ∙ sym q.payload))
+    p.payload ∙ (ap (λ (r : Run). payload_of (run_packet r p.k)) run
+    ∙ (ap (λ (k : ℕ). payload_of (run_packet b k)) parts.1 ∙ sym q.payload))
 
 pub texts_of_several : (master : List ℕ) (runs : List Run) (i j : ℕ) (a b : Run) (x y : Pad) → All (IsRun master) runs
-    → OwnWords runs → slice_get runs i ≡ Some a → slice_get runs j ≡ Some b → Contains (pads_of a) x
+    → HaveOwnWords runs → slice_get runs i ≡ Some a → slice_get runs j ≡ Some b → Contains (pads_of a) x
     → Contains (pads_of b) y → x.key ≡ y.key → x.number ≡ y.number → x.text ≡ y.text
 texts_of_several master runs i j a b x y all own first second m n keys numbers =
     two_texts master runs i j a b x.key x.number x.text y.text all own first second (pad_told a x m)

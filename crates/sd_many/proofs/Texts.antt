@@ -13,7 +13,7 @@ use Rattle.sd_label.specs.Keys.{key_of, period_key_of, control_word_of}
 use Rattle.sd_site.specs.Fields.{SiteFields}
 use Rattle.sd_scramble.specs.Scrambling.{control_of, payload_under}
 use Rattle.sd_scramble.proofs.Scramblings.{laid_reads, control_fits}
-use Rattle.sd_emm.specs.Spelled.{listed}
+use Rattle.sd_emm.specs.Spelled.{listed_entries}
 use Rattle.sd_emm.specs.Period.{emms_of, IsOfPeriod}
 use Rattle.sd_emm.specs.declared.emm.Emm.{Emm}
 use Rattle.sd_emm.specs.declared.emm.Entry.{Entry}
@@ -31,7 +31,7 @@ use Rattle.sd_broadcast.specs.Items.{IsOfBroadcast, cat, entitlement, part, clos
 use Rattle.sd_broadcast.specs.declared.kind.Kind.{Kind}
 use Rattle.sd_broadcast.specs.declared.kind.Kind.TheVariants.{Passed, Pmt, Scrambled}
 use Rattle.sd_sent.specs.Packets.{IsWholePacket, AreWholePackets}
-use Rattle.sd_many.specs.Runs.{Run, items_of, packet_at, is_scrambled, is_veiled}
+use Rattle.sd_many.specs.Runs.{Run, sent_by, run_packet, is_scrambled, is_veiled}
 use Rattle.sd_many.specs.Pads.{Pad, under_keystream, number_at, entry_pad, part_pad, payload_pad, pads_in, pads_of}
 
 -- an entry of period q: the period's key under the key of its set
@@ -62,10 +62,10 @@ section_number plan q emm m =
 
 -- each entry of a section is one of its period's
 pub entry_of_period : (plan : Plan) (q : ℕ) (emm : Emm) (entry : Entry) → Contains (emms_of (period_at plan q)) emm
-    → Contains (listed emm) entry → Contains (period_at plan q).entries entry
+    → Contains (listed_entries emm) entry → Contains (period_at plan q).entries entry
 entry_of_period plan q emm entry there m =
     subst (λ (entries : List Entry). Contains entries entry) (joined_are_all (period_at plan q))
-    (to_all listed (emms_of (period_at plan q)) emm entry there m)
+    (to_all listed_entries (emms_of (period_at plan q)) emm entry there m)
 
 -- a part of a message has its number, its period and its wrapped word
 pub part_of_message : (message : Message) (one : EcmPart) → Contains (parts_of message) one → IsOfMessage message one
@@ -110,31 +110,31 @@ unfolding carried
 carried_veiled site before packet kind = ap (λ (kind : Kind). carried_as kind site before packet) kind
 
 payload_is : (run : Run) (k : ℕ) → AreWholePackets run.clear → k < length run.clear → is_veiled run k ≡ true
-    → payload_of (carried run.plan.site (take k run.clear) (packet_at run k))
+    → payload_of (carried run.plan.site (take k run.clear) (run_packet run k))
     ≡ under_keystream run.plan.site.master (payload_pad run k) 184
 unfolding is_veiled number_at
 payload_is run k whole within so =
     let before : List (List ℕ) = take k run.clear in
     let long : length before ≡ k = length-take-le k run.clear (omega (arith, within)) in
-    let kind = kind_is (kind_of before (packet_at run k)) so in
-    let one : IsWholePacket (packet_at run k) = All-get_or IsWholePacket run.clear k [] within whole in
-    ap payload_of (carried_veiled run.plan.site before (packet_at run k) kind)
-    ∙ (veiled_payload run.plan.site (word_of run.plan.site (length before)) (place_after before (packet_at run k))
-    (packet_at run k) one
-    ∙ ap (λ (n : ℕ). payload_under (packet_at run k) (control_word_of run.plan.site.master (word_of run.plan.site n))
-    (place_after before (packet_at run k))) long)
+    let kind = kind_is (kind_of before (run_packet run k)) so in
+    let one : IsWholePacket (run_packet run k) = All-get_or IsWholePacket run.clear k [] within whole in
+    ap payload_of (carried_veiled run.plan.site before (run_packet run k) kind)
+    ∙ (veiled_payload run.plan.site (word_of run.plan.site (length before)) (place_after before (run_packet run k))
+    (run_packet run k) one
+    ∙ ap (λ (n : ℕ). payload_under (run_packet run k) (control_word_of run.plan.site.master (word_of run.plan.site n))
+    (place_after before (run_packet run k))) long)
 
 -- any other packet is carried as it was, or with the project's descriptor
 other_is : (run : Run) (k : ℕ) → is_veiled run k ≡ false
-    → (carried run.plan.site (take k run.clear) (packet_at run k) ≡ packet_at run k)
-    ⊎ (carried run.plan.site (take k run.clear) (packet_at run k) ≡ pmt_carried run.plan.site (packet_at run k))
+    → (carried run.plan.site (take k run.clear) (run_packet run k) ≡ run_packet run k)
+    ⊎ (carried run.plan.site (take k run.clear) (run_packet run k) ≡ pmt_carried run.plan.site (run_packet run k))
 unfolding is_veiled carried
-other_is run k plain = by_kind (kind_of (take k run.clear) (packet_at run k)) plain
+other_is run k plain = by_kind (kind_of (take k run.clear) (run_packet run k)) plain
   where
     by_kind : (kind : Kind) → is_scrambled kind ≡ false
-        → (carried_as kind run.plan.site (take k run.clear) (packet_at run k) ≡ packet_at run k)
-        ⊎ (carried_as kind run.plan.site (take k run.clear) (packet_at run k)
-        ≡ pmt_carried run.plan.site (packet_at run k))
+        → (carried_as kind run.plan.site (take k run.clear) (run_packet run k) ≡ run_packet run k)
+        ⊎ (carried_as kind run.plan.site (take k run.clear) (run_packet run k)
+        ≡ pmt_carried run.plan.site (run_packet run k))
     by_kind Passed is = inl refl
     by_kind Pmt is = inr refl
     by_kind Scrambled is = absurd (false≢true (sym is))
@@ -142,13 +142,13 @@ other_is run k plain = by_kind (kind_of (take k run.clear) (packet_at run k)) pl
 -- what lies in each thing that is sent
 abbrev Lies : Run → Item → Type 0
 Lies run Cat = Unit {0}
-Lies run (Entitles emm) = (entry : Entry) → Contains (listed emm) entry
+Lies run (Entitles emm) = (entry : Entry) → Contains (listed_entries emm) entry
     → entry.wrapped ≡ under_keystream run.plan.site.master (entry_pad run emm entry) 32
 Lies run (Controls one) = one.wrapped ≡ under_keystream run.plan.site.master (part_pad run one) 32
 Lies run (Carries k packet) = (AreWholePackets run.clear → is_veiled run k ≡ true
     → payload_of packet ≡ under_keystream run.plan.site.master (payload_pad run k) 184)
     × (is_veiled run k ≡ false
-    → (packet ≡ packet_at run k) ⊎ (packet ≡ pmt_carried run.plan.site (packet_at run k)))
+    → (packet ≡ run_packet run k) ⊎ (packet ≡ pmt_carried run.plan.site (run_packet run k)))
 
 lies : (run : Run) (item : Item) → IsOfBroadcast run.plan run.clear item → Lies run item
 lies run _ cat = tt
@@ -164,7 +164,8 @@ lies run _ (closing {part = one} m) =
 lies run _ (carried_on k within) = (λ whole so. payload_is run k whole within so, other_is run k)
 
 pub entries_lie : (run : Run) (emm : Emm) (entry : Entry) → IsOfBroadcast run.plan run.clear (Entitles emm)
-    → Contains (listed emm) entry → entry.wrapped ≡ under_keystream run.plan.site.master (entry_pad run emm entry) 32
+    → Contains (listed_entries emm) entry →
+    entry.wrapped ≡ under_keystream run.plan.site.master (entry_pad run emm entry) 32
 entries_lie run emm entry is here = lies run (Entitles emm) is entry here
 
 pub parts_lie : (run : Run) (one : EcmPart) → IsOfBroadcast run.plan run.clear (Controls one)
@@ -177,14 +178,14 @@ pub payloads_lie : (run : Run) (k : ℕ) (packet : List ℕ) → AreWholePackets
 payloads_lie run k packet whole is so = (lies run (Carries k packet) is).0 whole so
 
 pub others_stay : (run : Run) (k : ℕ) (packet : List ℕ) → IsOfBroadcast run.plan run.clear (Carries k packet)
-    → is_veiled run k ≡ false → (packet ≡ packet_at run k) ⊎ (packet ≡ pmt_carried run.plan.site (packet_at run k))
+    → is_veiled run k ≡ false → (packet ≡ run_packet run k) ⊎ (packet ≡ pmt_carried run.plan.site (run_packet run k))
 others_stay run k packet is plain = (lies run (Carries k packet) is).1 plain
 
 -- the pads of a broadcast are those of the things that it sends
 pub pads_are : (run : Run) (pad : Pad) → Contains (pads_of run) pad
-    ↔ ((item : Item) × Contains (items_of run) item × Contains (pads_in run item) pad)
+    ↔ ((item : Item) × Contains (sent_by run) item × Contains (pads_in run item) pad)
 unfolding pads_of
 pads_are run pad = (
-  λ m. from_one (pads_in run) (items_of run) pad m,
-  λ (item, there, m). to_all (pads_in run) (items_of run) item pad there m,
+  λ m. from_one (pads_in run) (sent_by run) pad m,
+  λ (item, there, m). to_all (pads_in run) (sent_by run) item pad there m,
 )

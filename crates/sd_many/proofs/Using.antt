@@ -10,7 +10,7 @@ use Rattle.sd_site.specs.Fields.{SiteFields, AreInRange}
 use Rattle.sd_book.specs.declared.command.Command.{Command}
 use Rattle.sd_book.specs.Commands.{commands_until, last_period, revoked, revoked_after}
 use Rattle.sd_book.proofs.Cuts.{until_after}
-use Rattle.sd_emm.specs.Spelled.{listed}
+use Rattle.sd_emm.specs.Spelled.{listed_entries}
 use Rattle.sd_emm.specs.declared.emm.Emm.{Emm}
 use Rattle.sd_emm.specs.declared.emm.Entry.{Entry}
 use Rattle.sd_ecm.specs.Parts.{parts_of}
@@ -22,7 +22,7 @@ use Rattle.sd_broadcast.specs.Refused.{is_too_long}
 use Rattle.sd_broadcast.specs.Sent.{Item, Cat, Entitles, Controls, Carries}
 use Rattle.sd_broadcast.specs.Items.{IsOfBroadcast, cat, entitlement, part, closing, carried_on}
 use Rattle.sd_broadcast.proofs.Schedule.{quotients_rise, crypto_length_some}
-use Rattle.sd_many.specs.Runs.{Run, HasWords, last_crypto, Uses, UsesPeriod, Agree}
+use Rattle.sd_many.specs.Runs.{Run, HasWords, last_crypto, UsesWord, UsesPeriod, AgreeOnPeriods}
 use Rattle.sd_many.proofs.Texts.{section_number, entry_of_period, part_of_message}
 
 -- a packet is not too long where its number and its control word are left
@@ -80,20 +80,21 @@ pub later_periods_are_new : (a b : Run) (q : ℕ) → period_of a.plan (length a
 later_periods_are_new a b q later uses other = omega (arith, later, used_below a q uses, used_above b q other)
 
 pub one_book_agrees : (a b : Run) → a.plan.commands ≡ b.plan.commands → a.plan.site.height ≡ b.plan.site.height
-    → Agree a b
+    → AgreeOnPeriods a b
 one_book_agrees a b book high q uses other = rw (book, high) refl
 
 -- what is appended changes no period before the last one
 pub grown_books_agree : (a b : Run) (more : List Command) → b.plan.commands ≡ a.plan.commands ++ more
     → a.plan.site.height ≡ b.plan.site.height → period_of a.plan (length a.clear - 1) < last_period a.plan.commands
-    → Agree a b
+    → AgreeOnPeriods a b
 grown_books_agree a b more grown high before q uses other =
     let same = until_after q a.plan.commands more (omega (arith, before, used_below a q uses)) in
     ap (λ (d : ℕ). revoked d a.plan.commands q) high
     ∙ ap (revoked_after b.plan.site.height) (sym same ∙ ap (commands_until q) (sym grown))
 
 -- a run uses the control word and the period of each of its packets together
-packet_uses : (run : Run) (k : ℕ) → k ≤ length run.clear - 1 → Uses run (word_of run.plan.site k) (period_of run.plan k)
+packet_uses : (run : Run) (k : ℕ) → k ≤ length run.clear - 1 →
+    UsesWord run (word_of run.plan.site k) (period_of run.plan k)
 unfolding word_of period_of last_crypto crypto_of
 packet_uses run k within = (
   k / crypto_length run.plan.site,
@@ -111,7 +112,7 @@ entry_names plan q =
 
 -- a part's word and period are those of its packet
 part_uses : (run : Run) (before : List (List ℕ)) (a k : ℕ) (last : Bool) (one : EcmPart) → k ≤ length run.clear - 1
-    → Contains (parts_of (message_at run.plan before a k last)) one → Uses run one.word one.period
+    → Contains (parts_of (message_at run.plan before a k last)) one → UsesWord run one.word one.period
 unfolding message_at
 part_uses run before a k last one within m =
     let is = part_of_message (message_at run.plan before a k last) one m in
@@ -120,9 +121,9 @@ part_uses run before a k last one within m =
 -- what is told of what is used by each thing that is sent
 abbrev IsUsed : Run → Item → Type 0
 IsUsed run Cat = Unit {0}
-IsUsed run (Entitles emm) = (entry : Entry) → Contains (listed emm) entry
+IsUsed run (Entitles emm) = (entry : Entry) → Contains (listed_entries emm) entry
     → UsesPeriod run emm.period × Contains (sets_at run.plan emm.period) entry.name
-IsUsed run (Controls one) = Uses run one.word one.period
+IsUsed run (Controls one) = UsesWord run one.word one.period
 IsUsed run (Carries k packet) = Unit {0}
 
 is_used : (run : Run) (item : Item) → IsOfBroadcast run.plan run.clear item → IsUsed run item
@@ -143,9 +144,10 @@ is_used run _ (closing {part = one} m) =
 is_used run _ (carried_on k within) = tt
 
 pub entries_are_used : (run : Run) (emm : Emm) (entry : Entry) → IsOfBroadcast run.plan run.clear (Entitles emm)
-    → Contains (listed emm) entry → UsesPeriod run emm.period × Contains (sets_at run.plan emm.period) entry.name
+    → Contains (listed_entries emm) entry → UsesPeriod run emm.period ×
+    Contains (sets_at run.plan emm.period) entry.name
 entries_are_used run emm entry is here = is_used run (Entitles emm) is entry here
 
 pub parts_are_used : (run : Run) (one : EcmPart) → IsOfBroadcast run.plan run.clear (Controls one)
-    → Uses run one.word one.period
+    → UsesWord run one.word one.period
 parts_are_used run one is = is_used run (Controls one) is

@@ -10,7 +10,7 @@ use Rattle.sd_site.specs.Fields.{SiteFields}
 use Rattle.sd_broadcast.specs.Plan.{crypto_length, crypto_of, word_in, word_of}
 use Rattle.sd_broadcast.specs.Refused.{IsClear}
 use Rattle.sd_sent.proofs.Clear.{clear_words}
-use Rattle.sd_many.specs.Runs.{Run, IsRun, HasWords, ShareNoWord, OwnWords, last_crypto, Uses}
+use Rattle.sd_many.specs.Runs.{Run, IsRun, HasWords, ShareNoWord, HaveOwnWords, last_crypto, UsesWord}
 
 -- the number is of the site's range
 abbrev pub IsWordOf : SiteFields → ℕ → Type 0
@@ -39,7 +39,7 @@ unfolding word_of
 last_within site clear is some = clear_words site clear (length clear - 1) is (omega (arith, some))
 
 -- what a run uses is of its site's range
-pub used_words : (master : List ℕ) (run : Run) (t q : ℕ) → IsRun master run → HasWords run.plan.site → Uses run t q
+pub used_words : (master : List ℕ) (run : Run) (t q : ℕ) → IsRun master run → HasWords run.plan.site → UsesWord run t q
     → IsWordOf run.plan.site t
 unfolding last_crypto
 used_words master run t q is some (n, within, word, period) =
@@ -62,7 +62,7 @@ not_of_both a b t apart first second = elim apart [
 ]
 
 -- runs whose sites have a word in common are one run
-pub one_run : (runs : List Run) (i j : ℕ) (a b : Run) (t : ℕ) → OwnWords runs → slice_get runs i ≡ Some a
+pub one_run : (runs : List Run) (i j : ℕ) (a b : Run) (t : ℕ) → HaveOwnWords runs → slice_get runs i ≡ Some a
     → slice_get runs j ≡ Some b → IsWordOf a.plan.site t → IsWordOf b.plan.site t → i ≡ j
 one_run runs i j a b t own first second inside within = elim (cases_lt i j) [
   | inl before ↦

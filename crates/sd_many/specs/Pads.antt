@@ -6,14 +6,14 @@ use Rattle.sd_packet.specs.Header.{pid_of, payload_of}
 use Rattle.sd_label.specs.Keys.{key_of, period_key_of, control_word_of}
 use Rattle.sd_keystream.specs.Keystream.{keystream, xored}
 use Rattle.sd_scramble.specs.Scrambling.{stream_number}
-use Rattle.sd_emm.specs.Spelled.{listed}
+use Rattle.sd_emm.specs.Spelled.{listed_entries}
 use Rattle.sd_emm.specs.declared.emm.Emm.{Emm}
 use Rattle.sd_emm.specs.declared.emm.Entry.{Entry}
 use Rattle.sd_ecm.specs.declared.part.EcmPart.{EcmPart}
 use Rattle.sd_broadcast.specs.Plan.{word_of}
 use Rattle.sd_broadcast.specs.Carried.{place_after}
 use Rattle.sd_broadcast.specs.Sent.{Item, Cat, Entitles, Controls, Carries}
-use Rattle.sd_many.specs.Runs.{Run, items_of, packet_at, is_veiled}
+use Rattle.sd_many.specs.Runs.{Run, sent_by, run_packet, is_veiled}
 
 -- the name of a key: that of a set, of a period, or a control word by its number
 pub data KeyName : Type 0 where
@@ -45,7 +45,7 @@ under_keystream master pad n = xored pad.text (keystream (key_bytes master pad.k
 
 -- the stream number of clear packet k: its PID, and its position [this project, docs/FORMATS.md, Keystream]
 unfoldable pub number_at : Run → ℕ → ℕ
-number_at run k = stream_number (pid_of (packet_at run k)) (place_after (take k run.clear) (packet_at run k))
+number_at run k = stream_number (pid_of (run_packet run k)) (place_after (take k run.clear) (run_packet run k))
 
 -- a set's entry: the period's key under the key of the set [this project, docs/FORMATS.md, Messages]
 abbrev pub entry_pad : Run → Emm → Entry → Pad
@@ -65,16 +65,16 @@ abbrev pub payload_pad : Run → ℕ → Pad
 payload_pad run k = record {
   key = Word (word_of run.plan.site k);
   number = number_at run k;
-  text = payload_of (packet_at run k);
+  text = payload_of (run_packet run k);
 }
 
 -- what lies under keystreams in one thing that is sent
 abbrev pub pads_in : Run → Item → List Pad
 pads_in run Cat = []
-pads_in run (Entitles emm) = map (entry_pad run emm) (listed emm)
+pads_in run (Entitles emm) = map (entry_pad run emm) (listed_entries emm)
 pads_in run (Controls part) = part_pad run part ∷ []
 pads_in run (Carries k packet) = if is_veiled run k then payload_pad run k ∷ [] else []
 
 -- what lies under keystreams in the broadcast of the run, in order
 unfoldable pub pads_of : Run → List Pad
-pads_of run = flat_map (pads_in run) (items_of run)
+pads_of run = flat_map (pads_in run) (sent_by run)

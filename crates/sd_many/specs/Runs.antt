@@ -23,12 +23,12 @@ pub record IsRun (master : List ℕ) (run : Run) : Type 0 where
   pub is_clear : IsClear run.plan.site run.clear
 
 -- all that the run sends, in order [this project, docs/FORMATS.md, Broadcast]
-unfoldable pub items_of : Run → List Item
-items_of run = sent run.plan run.clear ++ closing_of run.plan run.clear
+unfoldable pub sent_by : Run → List Item
+sent_by run = sent run.plan run.clear ++ closing_of run.plan run.clear
 
 -- clear packet k of the run
-abbrev pub packet_at : Run → ℕ → List ℕ
-packet_at run k = get_or run.clear k []
+abbrev pub run_packet : Run → ℕ → List ℕ
+run_packet run k = get_or run.clear k []
 
 abbrev pub is_scrambled : Kind → Bool
 is_scrambled Passed = false
@@ -37,7 +37,7 @@ is_scrambled Scrambled = true
 
 -- the run scrambles its clear packet k [this project, docs/FORMATS.md, Broadcast]
 unfoldable pub is_veiled : Run → ℕ → Bool
-is_veiled run k = is_scrambled (kind_of (take k run.clear) (packet_at run k))
+is_veiled run k = is_scrambled (kind_of (take k run.clear) (run_packet run k))
 
 -- the site may use a control word [this project, docs/FORMATS.md, Site]
 abbrev pub HasWords : SiteFields → Type 0
@@ -49,7 +49,7 @@ abbrev pub ShareNoWord : SiteFields → SiteFields → Type 0
 ShareNoWord a b = (a.last_word < b.first_word) ⊎ (b.last_word < a.first_word)
 
 -- The site of each run may use a control word, and those of any two runs have none in common. It speaks of sites alone.
-pub record OwnWords (runs : List Run) : Type 0 where
+pub record HaveOwnWords (runs : List Run) : Type 0 where
   pub some : All (λ run. HasWords run.plan.site) runs
   pub apart : (i j : ℕ) (a b : Run) → slice_get runs i ≡ Some a → slice_get runs j ≡ Some b → i < j
       → ShareNoWord a.plan.site b.plan.site
@@ -59,21 +59,22 @@ unfoldable pub last_crypto : Run → ℕ
 last_crypto run = crypto_of run.plan.site (length run.clear - 1)
 
 -- the run sends control word t under the key of period q: both are of one of its crypto periods
-abbrev pub Uses : Run → ℕ → ℕ → Type 0
-Uses run t q = (n : ℕ) × (n ≤ last_crypto run) × (t ≡ word_in run.plan.site n) × (q ≡ period_in run.plan n)
+abbrev pub UsesWord : Run → ℕ → ℕ → Type 0
+UsesWord run t q = (n : ℕ) × (n ≤ last_crypto run) × (t ≡ word_in run.plan.site n) × (q ≡ period_in run.plan n)
 
 -- some crypto period of the run is of period q
 abbrev pub UsesPeriod : Run → ℕ → Type 0
-UsesPeriod run q = (t : ℕ) × Uses run t q
+UsesPeriod run q = (t : ℕ) × UsesWord run t q
 
 -- the leaves that the run's book revokes in period q, ascending [this project, docs/FORMATS.md, Book]
 abbrev pub revoked_in : Run → ℕ → List ℕ
 revoked_in run q = revoked run.plan.site.height run.plan.commands q
 
 -- the books of two runs revoke the same leaves in each period that both use
-abbrev pub Agree : Run → Run → Type 0
-Agree a b = (q : ℕ) → UsesPeriod a q → UsesPeriod b q → revoked_in a q ≡ revoked_in b q
+abbrev pub AgreeOnPeriods : Run → Run → Type 0
+AgreeOnPeriods a b = (q : ℕ) → UsesPeriod a q → UsesPeriod b q → revoked_in a q ≡ revoked_in b q
 
 -- those of any two of the runs do
 abbrev pub AllAgree : List Run → Type 0
-AllAgree runs = (i j : ℕ) (a b : Run) → slice_get runs i ≡ Some a → slice_get runs j ≡ Some b → i < j → Agree a b
+AllAgree runs = (i j : ℕ) (a b : Run) → slice_get runs i ≡ Some a → slice_get runs j ≡ Some b → i < j →
+    AgreeOnPeriods a b

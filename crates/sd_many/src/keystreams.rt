@@ -2,7 +2,7 @@
 
 ghost use Rattle.std.specs.Prelude.{◌≡◌, ◌⊎◌, ◌<◌, ◌↔◌, ℕ, true, false, List, Some, All, Contains, length, slice_get};
 ghost use Rattle.sd_packet.specs.Header.{payload_of};
-ghost use Rattle.sd_emm.specs.Spelled.{listed};
+ghost use Rattle.sd_emm.specs.Spelled.{listed_entries};
 ghost use Rattle.sd_emm.specs.declared.emm.Emm.{Emm};
 ghost use Rattle.sd_emm.specs.declared.emm.Entry.{Entry};
 ghost use Rattle.sd_ecm.specs.declared.part.EcmPart.{EcmPart};
@@ -12,7 +12,7 @@ ghost use Rattle.sd_broadcast.specs.Refused.{IsClear};
 ghost use Rattle.sd_broadcast.specs.Sent.{Item, Entitles, Controls, Carries};
 ghost use Rattle.sd_broadcast.specs.Items.{IsOfBroadcast};
 ghost use Rattle.sd_sent.specs.Packets.{AreWholePackets};
-ghost use Rattle.sd_many.specs.Runs.{Run, IsRun, items_of, packet_at, is_veiled, OwnWords};
+ghost use Rattle.sd_many.specs.Runs.{Run, IsRun, sent_by, run_packet, is_veiled, HaveOwnWords};
 ghost use Rattle.sd_many.specs.Pads.{Pad, is_for_keys, under_keystream, number_at, entry_pad, part_pad, payload_pad};
 ghost use Rattle.sd_many.specs.Pads.{pads_in, pads_of};
 
@@ -21,7 +21,7 @@ ghost use Rattle.sd_many.specs.Pads.{pads_in, pads_of};
 /// pads of a broadcast are those of the things that it sends.
 pub fn texts_lie_under_their_keystreams()
     ensures entries { (run : Run) (emm : Emm) (entry : Entry) → IsOfBroadcast run.plan run.clear (Entitles emm) →
-        Contains (listed emm) entry →
+        Contains (listed_entries emm) entry →
         entry.wrapped ≡ under_keystream run.plan.site.master (entry_pad run emm entry) 32 }
     ensures parts { (run : Run) (part : EcmPart) → IsOfBroadcast run.plan run.clear (Controls part) →
         part.wrapped ≡ under_keystream run.plan.site.master (part_pad run part) 32 }
@@ -30,9 +30,9 @@ pub fn texts_lie_under_their_keystreams()
         payload_of packet ≡ under_keystream run.plan.site.master (payload_pad run k) 184 }
     ensures others { (run : Run) (k : ℕ) (packet : List ℕ) → IsOfBroadcast run.plan run.clear (Carries k packet) →
         is_veiled run k ≡ false →
-        (packet ≡ packet_at run k) ⊎ (packet ≡ pmt_carried run.plan.site (packet_at run k)) }
+        (packet ≡ run_packet run k) ⊎ (packet ≡ pmt_carried run.plan.site (run_packet run k)) }
     ensures pads { (run : Run) (pad : Pad) → Contains (pads_of run) pad ↔
-        ((item : Item) × Contains (items_of run) item × Contains (pads_in run item) pad) }
+        ((item : Item) × Contains (sent_by run) item × Contains (pads_in run item) pad) }
 {}
 
 /// In one broadcast, texts under one key and one stream number are equal, and two scrambled packets never have the same
@@ -52,10 +52,10 @@ pub fn broadcasts_repeat_no_keystream()
     ensures keys { (a b : Run) (x y : Pad) → a.plan.site.master ≡ b.plan.site.master → Contains (pads_of a) x →
         Contains (pads_of b) y → x.key ≡ y.key → x.number ≡ y.number → is_for_keys x.key ≡ true → x.text ≡ y.text }
     ensures texts { (master : List ℕ) (runs : List Run) (i j : ℕ) (a b : Run) (x y : Pad) → All (IsRun master) runs →
-        OwnWords runs → slice_get runs i ≡ Some a → slice_get runs j ≡ Some b → Contains (pads_of a) x →
+        HaveOwnWords runs → slice_get runs i ≡ Some a → slice_get runs j ≡ Some b → Contains (pads_of a) x →
         Contains (pads_of b) y → x.key ≡ y.key → x.number ≡ y.number → x.text ≡ y.text }
     ensures packets { (master : List ℕ) (runs : List Run) (i j k l : ℕ) (a b : Run) → All (IsRun master) runs →
-        OwnWords runs → slice_get runs i ≡ Some a → slice_get runs j ≡ Some b → k < length a.clear →
+        HaveOwnWords runs → slice_get runs i ≡ Some a → slice_get runs j ≡ Some b → k < length a.clear →
         l < length b.clear → is_veiled a k ≡ true → is_veiled b l ≡ true →
         word_of a.plan.site k ≡ word_of b.plan.site l → number_at a k ≡ number_at b l → (i ≡ j) × (k ≡ l) }
 {}

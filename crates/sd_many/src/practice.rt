@@ -5,7 +5,7 @@ ghost use Rattle.std.specs.Prelude.{length};
 ghost use Rattle.sd_site.specs.Fields.{SiteFields, AreInRange};
 ghost use Rattle.sd_book.specs.declared.command.Command.{Command};
 ghost use Rattle.sd_book.specs.Commands.{last_period};
-ghost use Rattle.sd_emm.specs.Spelled.{listed};
+ghost use Rattle.sd_emm.specs.Spelled.{listed_entries};
 ghost use Rattle.sd_emm.specs.declared.emm.Emm.{Emm};
 ghost use Rattle.sd_emm.specs.declared.emm.Entry.{Entry};
 ghost use Rattle.sd_ecm.specs.declared.part.EcmPart.{EcmPart};
@@ -13,11 +13,11 @@ ghost use Rattle.sd_broadcast.specs.Plan.{crypto_length, period_of, sets_at};
 ghost use Rattle.sd_broadcast.specs.Refused.{is_too_long};
 ghost use Rattle.sd_broadcast.specs.Sent.{Entitles, Controls};
 ghost use Rattle.sd_broadcast.specs.Items.{IsOfBroadcast};
-ghost use Rattle.sd_many.specs.Runs.{Run, IsRun, HasWords, Uses, UsesPeriod, Agree};
+ghost use Rattle.sd_many.specs.Runs.{Run, IsRun, HasWords, UsesWord, UsesPeriod, AgreeOnPeriods};
 
 /// A broadcast of which no packet is refused uses control words of its site's range alone.
 pub fn words_are_own()
-    ensures { (master : List ℕ) (run : Run) (t q : ℕ) → IsRun master run → HasWords run.plan.site → Uses run t q →
+    ensures { (master : List ℕ) (run : Run) (t q : ℕ) → IsRun master run → HasWords run.plan.site → UsesWord run t q →
         (run.plan.site.first_word ≤ t) × (t ≤ run.plan.site.last_word) }
 {}
 
@@ -37,7 +37,8 @@ pub fn later_periods_are_new()
 /// Broadcasts with one book for one tree agree.
 #[tactic(auto, using(crate::proofs::Using::one_book_agrees))]
 pub fn one_book_agrees()
-    ensures { (a b : Run) → a.plan.commands ≡ b.plan.commands → a.plan.site.height ≡ b.plan.site.height → Agree a b }
+    ensures { (a b : Run) → a.plan.commands ≡ b.plan.commands → a.plan.site.height ≡ b.plan.site.height →
+        AgreeOnPeriods a b }
 {}
 
 /// A broadcast whose book is that of another one with commands appended agrees with it, if the other one uses no period
@@ -46,15 +47,15 @@ pub fn one_book_agrees()
 pub fn grown_books_agree()
     ensures { (a b : Run) (more : List Command) → b.plan.commands ≡ a.plan.commands ++ more →
         a.plan.site.height ≡ b.plan.site.height →
-        period_of a.plan (length a.clear - 1) < last_period a.plan.commands → Agree a b }
+        period_of a.plan (length a.clear - 1) < last_period a.plan.commands → AgreeOnPeriods a b }
 {}
 
 /// What a broadcast sends is what it uses: an entry is of a period that it uses, and names one of the period's sets; a
 /// part of a control message has a control word that it uses, and is of a period of that word.
 pub fn what_is_sent_is_used()
     ensures entries { (run : Run) (emm : Emm) (entry : Entry) → IsOfBroadcast run.plan run.clear (Entitles emm) →
-        Contains (listed emm) entry →
+        Contains (listed_entries emm) entry →
         UsesPeriod run emm.period × Contains (sets_at run.plan emm.period) entry.name }
     ensures parts { (run : Run) (part : EcmPart) → IsOfBroadcast run.plan run.clear (Controls part) →
-        Uses run part.word part.period }
+        UsesWord run part.word part.period }
 {}

@@ -2,7 +2,7 @@
 use Rattle.std.specs.Prelude.{◌≡◌, ℕ, ◌+◌, ◌-◌, Bool, false, ◌==◌, ◌&&◌, bytes_eq, List, ◌∷◌, length, take, drop}
 use Rattle.std.specs.Prelude.{Option, Some, None, is_none, slice_get}
 use Rattle.sd_packet.specs.Header.{unit_start_of, payload_of}
-use Rattle.sd_section.specs.Header.{table_id_of, extension_of, number_of, last_number_of, whole_of}
+use Rattle.sd_section.specs.Header.{table_id_of, extension_of, section_number_of, last_number_of, whole_of}
 use Rattle.sd_section.specs.Judged.{section_fault}
 use Rattle.sd_section.specs.Written.{header_bytes}
 use Rattle.sd_section.specs.declared.write.Header.{Header}
@@ -21,7 +21,7 @@ unfoldable pub header_of : List ℕ → Header
 header_of section = record {
   table_id = table_id_of section;
   extension = extension_of section;
-  number = number_of section;
+  number = section_number_of section;
   last_number = last_number_of section;
 }
 
@@ -54,6 +54,6 @@ has_section packet =
     && (is_none (section_fault (drop 1 (payload_of packet))) && is_plain (section_of packet)))
 
 -- the packet begins with this section, after pointer 0, whatever stands after it [ISO/IEC 13818-1, 2.4.4]
-pub record Begins (section packet : List ℕ) : Type 0 where
+pub record BeginsWithSection (section packet : List ℕ) : Type 0 where
   pub unit_start : unit_start_of packet ≡ 1
   pub payload : take (length section + 1) (payload_of packet) ≡ 0 ∷ section

@@ -4,7 +4,7 @@ ghost use Rattle.sd_packet.specs.Header.{payload_of};
 ghost use Rattle.sd_packet.specs.Packing.{packed};
 ghost use Rattle.sd_section.specs.Header.{body_of};
 ghost use Rattle.sd_section.specs.Written.{section_bytes};
-ghost use Rattle.sd_message.specs.Framed.{HasPointer, IsPlain, HasSection, Begins, section_of};
+ghost use Rattle.sd_message.specs.Framed.{HasPointer, IsPlain, HasSection, BeginsWithSection, section_of};
 ghost use Rattle.sd_message.specs.Framed.{header_of as header_of_bytes};
 
 use sd_packet::{Packet, pack_section};
@@ -16,7 +16,7 @@ pub fn section_in(packet: &Packet) -> Option<Section<'_>>
     ensures none { IsNone result ↔ ¬ HasSection packet.now }
     ensures some { IsSome result ↔ HasSection packet.now }
     ensures value { IfSome result (λ section. section.bytes.now ≡ section_of packet.now) }
-    ensures begins { IfSome result (λ section. Begins section.bytes.now packet.now) }
+    ensures begins { IfSome result (λ section. BeginsWithSection section.bytes.now packet.now) }
     ensures spelled { IfSome result (λ section.
         section.bytes.now ≡ section_bytes (header_of_bytes section.bytes.now) (body_of section.bytes.now)) }
 {

@@ -7,16 +7,17 @@ use Rattle.serde_json.specs.Written.{has_float, items_have_float, members_have_f
 use Rattle.sd_tree.specs.declared.set.SetName.{SetName}
 use Rattle.sd_packet.specs.Header.{pid_of}
 use Rattle.sd_site.specs.Fields.{SiteFields}
-use Rattle.sd_emm.specs.Spelled.{listed as entries_of, names_in}
+use Rattle.sd_emm.specs.Spelled.{listed_entries as entries_of, names_in}
 use Rattle.sd_emm.specs.Judged.{emm_read}
 use Rattle.sd_emm.specs.declared.emm.Emm.{Emm}
 use Rattle.sd_emm.specs.declared.fault.EmmFault.{EmmFault}
-use Rattle.sd_ecm.specs.Spelled.{listed as places_of}
+use Rattle.sd_ecm.specs.Spelled.{listed_places as places_of}
 use Rattle.sd_ecm.specs.Judged.{ecm_read}
 use Rattle.sd_ecm.specs.declared.part.Place.{Place}
 use Rattle.sd_ecm.specs.declared.part.EcmPart.{EcmPart}
 use Rattle.sd_ecm.specs.declared.fault.EcmFault.{EcmFault}
-use Rattle.sd_monitor.specs.Lines.{run_member, name_data, emm_data, place_data, ecm_data, fault_data, emm_told, ecm_told}
+use Rattle.sd_monitor.specs.Lines.{run_member, name_data, emm_data, place_data, ecm_data, fault_data, emm_told}
+use Rattle.sd_monitor.specs.Lines.{ecm_told}
 use Rattle.sd_monitor.specs.Lines.{emm_fault_word, ecm_fault_word, message_data}
 
 plain_names : (names : List SetName) → items_have_float (items_of (map name_data names)) ≡ false

@@ -9,18 +9,18 @@ use Rattle.sd_tree.specs.declared.set.SetName.{SetName}
 use Rattle.sd_tree.specs.declared.set.SetName.TheVariants.{Whole, Diff}
 use Rattle.sd_packet.specs.Header.{pid_of}
 use Rattle.sd_site.specs.Fields.{SiteFields}
-use Rattle.sd_emm.specs.Spelled.{listed as entries_of, names_in}
+use Rattle.sd_emm.specs.Spelled.{listed_entries as entries_of, names_in}
 use Rattle.sd_emm.specs.Judged.{emm_read}
 use Rattle.sd_emm.specs.declared.emm.Emm.{Emm}
 use Rattle.sd_emm.specs.declared.fault.EmmFault.{EmmFault}
 use Rattle.sd_emm.specs.declared.fault.EmmFault.TheVariants as emm
-use Rattle.sd_ecm.specs.Spelled.{listed as places_of}
+use Rattle.sd_ecm.specs.Spelled.{listed_places as places_of}
 use Rattle.sd_ecm.specs.Judged.{ecm_read}
 use Rattle.sd_ecm.specs.declared.part.Place.{Place}
 use Rattle.sd_ecm.specs.declared.part.EcmPart.{EcmPart}
 use Rattle.sd_ecm.specs.declared.fault.EcmFault.{EcmFault}
 use Rattle.sd_ecm.specs.declared.fault.EcmFault.TheVariants as ecm
-use Rattle.sd_lines.specs.Lines.{num, listed}
+use Rattle.sd_lines.specs.Lines.{num, list_data}
 
 -- the name of a set, as `cover` prints it [this project, docs/FORMATS.md, Cover]
 unfoldable pub set_word : SetName → List ℕ
@@ -41,7 +41,7 @@ unfoldable pub emm_data : ℕ → ℕ → Emm → Data
 emm_data packet pid emm = object
     (member (codes "check") (string (encode_lower emm.check))
     (member (codes "index") (num emm.index)
-    (member (codes "names") (listed (map name_data (names_in (entries_of emm))))
+    (member (codes "names") (list_data (map name_data (names_in (entries_of emm))))
     (member (codes "packet") (num packet)
     (member (codes "period") (num emm.period)
     (member (codes "pid") (num pid)
@@ -71,7 +71,7 @@ ecm_data packet pid part = object
     (member (codes "part") (num part.part)
     (member (codes "period") (num part.period)
     (member (codes "pid") (num pid)
-    (member (codes "positions") (listed (map place_data (places_of part)))
+    (member (codes "positions") (list_data (map place_data (places_of part)))
     (run_member part.run
     (member (codes "since") (num part.since)
     (member (codes "table") (string (codes "ecm"))

@@ -2,9 +2,9 @@
 use Rattle.std.specs.Prelude.{ℕ, List, [], ◌∷◌, map, codes, Option, Some, None}
 use Rattle.hex.specs.Hex.{encode_lower}
 use Rattle.serde_json.specs.Data.{Data, boolean, string}
-use Rattle.sd_ecm.specs.Spelled.{listed as places_of}
+use Rattle.sd_ecm.specs.Spelled.{listed_places as places_of}
 use Rattle.sd_ecm.specs.declared.part.EcmPart.{EcmPart}
-use Rattle.sd_lines.specs.Lines.{num, listed}
+use Rattle.sd_lines.specs.Lines.{num, list_data}
 use Rattle.sd_monitor.specs.Lines.{place_data}
 
 -- those of each part [this project, docs/FORMATS.md, Messages printed]
@@ -19,7 +19,7 @@ ecm_members packet pid part =
     ∷ (codes "part", num part.part)
     ∷ (codes "period", num part.period)
     ∷ (codes "pid", num pid)
-    ∷ (codes "positions", listed (map place_data (places_of part)))
+    ∷ (codes "positions", list_data (map place_data (places_of part)))
     ∷ (codes "since", num part.since)
     ∷ (codes "table", string (codes "ecm"))
     ∷ (codes "version", num part.version)

@@ -1,8 +1,8 @@
 ghost use Rattle.std.specs.Prelude.{◌≡◌, ◌≤◌, ◌++◌, IfOk, OnOk, map};
 ghost use Rattle.serde_json.specs.View.{view};
-ghost use Rattle.sd_lines.specs.Lines.{listed as list_of};
+ghost use Rattle.sd_lines.specs.Lines.{list_data as list_of};
 ghost use Rattle.sd_ecm.specs.declared.format.TheConstants.{POSITIONS};
-ghost use Rattle.sd_lines.specs.Members.{named};
+ghost use Rattle.sd_lines.specs.Members.{named_data};
 ghost use Rattle.sd_monitor.specs.Lines.{ecm_data, place_data};
 ghost use Rattle.sd_monitor.specs.Members.{ecm_members, run_members};
 
@@ -36,7 +36,7 @@ fn members_of(
     part: &EcmPart,
 ) -> Result<Vec<(&'static str, Value)>, AllocError>
     requires { part.now.count ≤ POSITIONS }
-    ensures { IfOk result (λ members. named members.items ≡ ecm_members packet pid part.now) }
+    ensures { IfOk result (λ members. named_data members.items ≡ ecm_members packet pid part.now) }
 {
     let check = hex::encode(alloc, &part.check)?;
     let positions = places_value(alloc, part.listed())?;
@@ -62,7 +62,7 @@ fn members_of(
 
 // Puts the name of the run after them, where the message tells it.
 fn push_run(members: &mut Vec<(&'static str, Value)>, run: Option<u32>) -> Result<(), AllocError>
-    ensures { OnOk result (named members.new.items ≡ named members.old.items ++ run_members run) }
+    ensures { OnOk result (named_data members.new.items ≡ named_data members.old.items ++ run_members run) }
 {
     if let Some(run) = run {
         members.push(("run", run.into()))?;

@@ -9,12 +9,12 @@ use Rattle.std.proofs.KnownBytes.{Appends-trans}
 use Rattle.std.proofs.lemmas.Bool.{cases_lt}
 use Rattle.std.proofs.lemmas.List.{take-append-le}
 use Rattle.std.proofs.lemmas.List.Folds.{concat-append}
-use Rattle.sd_cause.specs.Count.{Rose}
+use Rattle.sd_cause.specs.Count.{HasRisen}
 use Rattle.sd_ports.specs.Bytes.{AppendsPrefix}
 use Rattle.sd_status.specs.declared.status.Status.{Status}
 use Rattle.sd_status.specs.declared.status.Status.TheVariants.{Done, NoMemory}
-use Rattle.sd_status.specs.Outside.{Page}
-use Rattle.sd_status.specs.Prints.{Prints, PrintsPiece}
+use Rattle.sd_status.specs.Outside.{PageState}
+use Rattle.sd_status.specs.Prints.{PrintsWork, PrintsPiece}
 use Rattle.sd_periods.specs.Periods.{first_texts, printing}
 
 -- a period that is found is none after the last
@@ -44,7 +44,7 @@ prefix_longer a b first more cut = (
 )
 
 -- the first n texts were printed
-pub record ArePrinted (text : ℕ → List ℕ) (n : ℕ) (a b : Page) : Type 0 where
+pub record ArePrinted (text : ℕ → List ℕ) (n : ℕ) (a b : PageState) : Type 0 where
   pub printed : Appends a.printed b.printed (concat (first_texts text n))
   pub calm : b.faults ≡ a.faults
 
@@ -56,7 +56,7 @@ next_text text n =
     ∙ ap (λ (k : ℕ). concat (first_texts text k)) more
 
 -- one text more
-pub one_more : (text : ℕ → List ℕ) (n : ℕ) (a b c : Page) → ArePrinted text n a b → PrintsPiece (text n) b c Done →
+pub one_more : (text : ℕ → List ℕ) (n : ℕ) (a b c : PageState) → ArePrinted text n a b → PrintsPiece (text n) b c Done →
     ArePrinted text (n + 1) a c
 one_more text n a b c before (inl (inl all)) = record {
   printed = subst (λ (xs : List ℕ). Appends a.printed c.printed xs) (next_text text n)
@@ -94,8 +94,8 @@ take_first texts rest =
     take-append-le (length texts) texts rest (omega arith) ∙ take_all (length texts) texts (omega arith)
 
 -- some first texts were printed, and then memory was out
-pub some_printed : (text : ℕ → List ℕ) (last n : ℕ) (a b : Page) → n ≤ last + 1 → ArePrinted text n a b →
-    Prints (printing text last) a b NoMemory
+pub some_printed : (text : ℕ → List ℕ) (last n : ℕ) (a b : PageState) → n ≤ last + 1 → ArePrinted text n a b →
+    PrintsWork (printing text last) a b NoMemory
 some_printed text last n a b within before =
     let texts = first_texts text n in
     let all = all_texts text last n within in
@@ -110,8 +110,8 @@ some_printed text last n a b within before =
     ))
 
 -- a text that was not printed whole
-pub one_failed : (text : ℕ → List ℕ) (last n : ℕ) (a b c : Page) (status : Status) → n ≤ last →
-    ArePrinted text n a b → status ≢ Done → PrintsPiece (text n) b c status → Prints (printing text last) a c status
+pub one_failed : (text : ℕ → List ℕ) (last n : ℕ) (a b c : PageState) (status : Status) → n ≤ last →
+    ArePrinted text n a b → status ≢ Done → PrintsPiece (text n) b c status → PrintsWork (printing text last) a c status
 one_failed text last n a b c status within before other (inl (inl all)) = absurd (other all.0)
 one_failed text last n a b c status within before other (inl (inr cut)) =
     let texts = first_texts text (n + 1) in
@@ -123,9 +123,9 @@ one_failed text last n a b c status within before other (inl (inr cut)) =
           (prefix_longer a.printed c.printed (concat texts) (concat all.0)
           (subst (λ (xs : List ℕ). AppendsPrefix a.printed c.printed xs) (next_text text n)
           (prefix_after a.printed b.printed c.printed (concat (first_texts text n)) (text n) before.printed cut.1))),
-      subst (λ (k : ℕ). Rose k c.faults) before.calm cut.2,
+      subst (λ (k : ℕ). HasRisen k c.faults) before.calm cut.2,
     ))
 one_failed text last n a b c status within before other (inr none) =
-    subst (λ (s : Status). Prints (printing text last) a c s) (sym none.0)
-    (subst (λ (z : Page). Prints (printing text last) a z NoMemory) (sym none.1)
+    subst (λ (s : Status). PrintsWork (printing text last) a c s) (sym none.0)
+    (subst (λ (z : PageState). PrintsWork (printing text last) a z NoMemory) (sym none.1)
     (some_printed text last n a b (omega (arith, within)) before))

@@ -1,9 +1,9 @@
 ghost use Rattle.std.specs.Prelude.{◌≡◌, ◌≢◌, ◌^◌, ◌<◌, ◌≤◌, All, length, IfErr, IfOk, string_bytes};
 ghost use Rattle.std.specs.List.Sorted.{IsStrictlyIncreasing};
 ghost use Rattle.sd_tree.specs.declared.leaf.TheConstants.{MOST_REVOKED};
-ghost use Rattle.sd_status.specs.Outside.{page};
-ghost use Rattle.sd_status.specs.Comes.{status_of};
-ghost use Rattle.sd_status.specs.Prints.{Prints, PrintsPiece, PrintsText};
+ghost use Rattle.sd_status.specs.Outside.{page_state};
+ghost use Rattle.sd_status.specs.Outcome.{status_of};
+ghost use Rattle.sd_status.specs.Prints.{PrintsWork, PrintsPiece, PrintsText};
 ghost use Rattle.sd_periods.specs.Periods.{listing as listing_of, period_text as text_of};
 
 use crate::listing::Listing;
@@ -23,9 +23,9 @@ pub fn print_periods<P: Sink, L: Listing>(
     listing: &L,
 ) -> Result<(), Status>
     requires { L.fits listing.now book.now.height }
-    ensures { Prints (listing_of (L.sets listing.now book.now.height) (L.ends listing.now book.now.height)
+    ensures { PrintsWork (listing_of (L.sets listing.now book.now.height) (L.ends listing.now book.now.height)
         book.now.height book.now.commands)
-        (page P.Sink print.old) (page P.Sink print.new) (status_of result) }
+        (page_state P.Sink print.old) (page_state P.Sink print.new) (status_of result) }
 {
     let h = book.height();
     let mut periods = book.periods(alloc);
@@ -52,7 +52,7 @@ fn print_period<P: Sink, L: Listing>(
     requires few { length revoked.now ≤ MOST_REVOKED }
     ensures value { PrintsPiece
         (text_of (L.ends listing.now h) q (length revoked.now) (L.sets listing.now h revoked.now))
-        (page P.Sink print.old) (page P.Sink print.new) (status_of result) }
+        (page_state P.Sink print.old) (page_state P.Sink print.new) (status_of result) }
     ensures fault { IfErr result (λ status. status ≢ Status.Done) }
 {
     let text = text_of_period(alloc, h, q, revoked, listing)?;

@@ -8,7 +8,7 @@ use Rattle.sd_site.specs.Fields.{AreInRange}
 use Rattle.sd_book.specs.Commands.{commands_until, is_revoked}
 use Rattle.sd_broadcast.specs.Plan.{Plan}
 use Rattle.sd_broadcast.proofs.Schedule.{period_in_first, periods_in_rise}
-use Rattle.sd_many.specs.Runs.{Run, IsRun, HasWords, ShareNoWord, OwnWords, UsesPeriod, Agree, AllAgree}
+use Rattle.sd_many.specs.Runs.{Run, IsRun, HasWords, ShareNoWord, HaveOwnWords, UsesPeriod, AgreeOnPeriods, AllAgree}
 use Rattle.sd_many.specs.Known.{AreOneTree}
 use Rattle.sd_many.proofs.Words.{used_words}
 use Rattle.sd_status.specs.declared.status.Clash.{Clash as ClashKind}
@@ -38,7 +38,8 @@ used_is_due master run q is some (t, (n, below, word, period)) =
     record { low = omega (arith, first, rise, period); high = omega (arith, up, period) }
 
 books_agree : (master : List ℕ) (a b : Run) → IsRun master a → IsRun master b → HasWords a.plan.site →
-    HasWords b.plan.site → a.plan.site.height ≡ b.plan.site.height → books_clash a.plan b.plan ≡ None → Agree a b
+    HasWords b.plan.site → a.plan.site.height ≡ b.plan.site.height → books_clash a.plan b.plan ≡ None →
+    AgreeOnPeriods a b
 unfolding books_clash
 books_agree master a b is more some some_more heights h q used used_more =
     let one = used_is_due master a q is some used in
@@ -48,7 +49,7 @@ books_agree master a b is more some some_more heights h q used used_more =
     books_alike a.plan b.plan q heights (no_leaf q (differing_in a.plan b.plan q) none)
 
 pub two_apart : (master : List ℕ) (a b : Run) → IsRun master a → IsRun master b → clash_of a.plan b.plan ≡ None →
-    (HasWords a.plan.site × HasWords b.plan.site) × (ShareNoWord a.plan.site b.plan.site × Agree a b)
+    (HasWords a.plan.site × HasWords b.plan.site) × (ShareNoWord a.plan.site b.plan.site × AgreeOnPeriods a b)
 two_apart master a b is more h =
     let both = either_none (sites_clash a.plan.site b.plan.site) (books_clash a.plan b.plan) h in
     let sites = sites_apart a.plan.site b.plan.site both.0 in (
@@ -104,7 +105,7 @@ one_has master runs each many two (suc i) d h =
     (two_apart master a b (each 0 a at_a) (each (suc i) b at_b) (two 0 (suc i) a b at_a at_b (omega arith))).0.1
 
 pub all_words : (master : List ℕ) (runs : List Run) → EachIs master runs → 1 < length runs → EachTwo runs →
-    OwnWords runs
+    HaveOwnWords runs
 all_words master runs each many two = record {
   some = λ i d h. one_has master runs each many two i d h;
   apart = λ i j a b at_i at_j low.

@@ -12,7 +12,7 @@ use Rattle.sd_site.specs.Fields.{SiteFields}
 use Rattle.sd_emm.specs.Judged.{emm_read}
 use Rattle.sd_emm.specs.Spelled.{emm_section}
 use Rattle.sd_emm.specs.declared.emm.Emm.{Emm}
-use Rattle.sd_ecm.specs.Form.{Fits, IsEcm}
+use Rattle.sd_ecm.specs.Form.{FitsFields, IsEcm}
 use Rattle.sd_ecm.specs.Judged.{ecm_read}
 use Rattle.sd_ecm.specs.Parts.{parts_of}
 use Rattle.sd_ecm.specs.Spelled.{ecm_section}
@@ -78,7 +78,7 @@ module _ (plan : Plan) (clear : List (List ℕ)) (is : IsPlan plan) (all : IsCle
       let count = count_by (is_alike (Controls one)) earlier in
       let high = is.site.ecm.1 in
       let apart = is.site.apart in
-      let form = All-contains (λ part. IsEcm part × Fits part) (parts_of message) one (all_are_ecms message fits)
+      let form = All-contains (λ part. IsEcm part × FitsFields part) (parts_of message) one (all_are_ecms message fits)
       here in
       ecm_line plan.site k (packed (ecm_section one) plan.site.ecm (count % 16)) one
       (packed_pid (ecm_section one) plan.site.ecm count (omega (arith, high))) (grind (arith, nat_tests, apart))

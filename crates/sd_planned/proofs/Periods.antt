@@ -34,7 +34,7 @@ use Rattle.sd_many.specs.Runs.{last_crypto}
 use Rattle.sd_many.proofs.Texts.{section_number}
 use Rattle.sd_many.proofs.Using.{parts_are_used}
 use Rattle.sd_run_plan.specs.Air.{cryptos_for, cryptos_in, entitlements_at, last_word_for, period_count}
-use Rattle.sd_planned.specs.Within.{entitles, told_periods}
+use Rattle.sd_planned.specs.Within.{is_entitlement_of, told_periods}
 use Rattle.sd_planned.proofs.Airs.{last_period_is, last_word_is}
 use Rattle.sd_planned.proofs.Counts.{quotient_is, shared, sum_grows, sum_none}
 use Rattle.sd_planned.proofs.Found.{in_range, range_has}
@@ -104,11 +104,11 @@ words_left site clear is some =
     omega (arith, at, low)
 
 -- how many sections of a period stand among things
-no_sections : (q : ℕ) (parts : List EcmPart) → count_by (entitles q) (map Controls parts) ≡ 0
+no_sections : (q : ℕ) (parts : List EcmPart) → count_by (is_entitlement_of q) (map Controls parts) ≡ 0
 no_sections q [] = refl
 no_sections q (part ∷ parts) = omega (
   arith,
-  sum_by-cons (λ item. cond (entitles q item) 1 0) (Controls part) (map Controls parts),
+  sum_by-cons (λ item. cond (is_entitlement_of q item) 1 0) (Controls part) (map Controls parts),
   no_sections q parts,
 )
 
@@ -120,11 +120,12 @@ either_none true = refl
 either_none false = refl
 
 all_sections : (p q : ℕ) (emms : List Emm) → ((emm : Emm) → Contains emms emm → emm.period ≡ p) →
-    count_by (entitles q) (map Entitles emms) ≡ cond (p == q) (length emms) 0
+    count_by (is_entitlement_of q) (map Entitles emms) ≡ cond (p == q) (length emms) 0
 all_sections p q [] is = sym (either_none (p == q))
 all_sections p q (emm ∷ emms) is =
-    sum_by-cons (λ item. cond (entitles q item) 1 0) (Entitles emm) (map Entitles emms)
-    ∙ ap (λ (n : ℕ). cond (n == q) 1 0 + count_by (entitles q) (map Entitles emms)) (is emm (0, omega arith, refl))
+    sum_by-cons (λ item. cond (is_entitlement_of q item) 1 0) (Entitles emm) (map Entitles emms)
+    ∙ ap (λ (n : ℕ). cond (n == q) 1 0 + count_by (is_entitlement_of q) (map Entitles emms))
+    (is emm (0, omega arith, refl))
     ∙ ap (λ (n : ℕ). cond (p == q) 1 0 + n)
     (all_sections p q emms (λ one here. is one (Contains-append_right (emm ∷ []) emms one here)))
     ∙ by_test (p == q)
@@ -137,41 +138,44 @@ all_sections p q (emm ∷ emms) is =
 unfoldable pub hits : Plan → ℕ → ℕ → ℕ
 hits plan q p = cond (p == q) (entitlements_at plan p) 0
 
-tables_hit : (plan : Plan) (q k : ℕ) → count_by (entitles q) (tables_at plan k) ≡ hits plan q (period_of plan k)
+tables_hit : (plan : Plan) (q k : ℕ) →
+    count_by (is_entitlement_of q) (tables_at plan k) ≡ hits plan q (period_of plan k)
 unfolding tables_at hits
 tables_hit plan q k =
     let p = period_of plan k in
     let emms = emms_of (period_at plan p) in
-    sum_by-cons (λ item. cond (entitles q item) 1 0) Cat (map Entitles emms)
-    ∙ nothing_more (count_by (entitles q) (map Entitles emms))
+    sum_by-cons (λ item. cond (is_entitlement_of q item) 1 0) Cat (map Entitles emms)
+    ∙ nothing_more (count_by (is_entitlement_of q) (map Entitles emms))
     ∙ all_sections p q emms (λ emm here. section_number plan p emm here)
     ∙ ap (λ (n : ℕ). cond (p == q) n 0) (sections_many (period_at plan p) ∙ ap sections_for (sets_many plan p))
 
-before_hits : (plan : Plan) (q k : ℕ) → count_by (entitles q) (tables_before plan k) ≡ tables_by plan (hits plan q) k
+before_hits : (plan : Plan) (q k : ℕ) →
+    count_by (is_entitlement_of q) (tables_before plan k) ≡ tables_by plan (hits plan q) k
 unfolding tables_by
 before_hits plan q k = by_test (k % crypto_length plan.site == 0)
   where
-    by_test : (t : Bool) → count_by (entitles q) (cond t (tables_at plan k) [])
+    by_test : (t : Bool) → count_by (is_entitlement_of q) (cond t (tables_at plan k) [])
         ≡ cond t (hits plan q (period_of plan k)) 0
     by_test true = tables_hit plan q k
     by_test false = refl
 
-message_hits : (plan : Plan) (q : ℕ) (before : List (List ℕ)) → count_by (entitles q) (message_before plan before) ≡ 0
+message_hits : (plan : Plan) (q : ℕ) (before : List (List ℕ)) →
+    count_by (is_entitlement_of q) (message_before plan before) ≡ 0
 message_hits plan q before = by_test (length before % plan.site.every == 0)
   where
-    by_test : (t : Bool) → count_by (entitles q) (cond t (map Controls (parts_of (message_at plan before
+    by_test : (t : Bool) → count_by (is_entitlement_of q) (cond t (map Controls (parts_of (message_at plan before
         (length before / plan.site.every) (length before) false))) []) ≡ 0
     by_test true = no_sections q (parts_of (message_at plan before (length before / plan.site.every) (length before)
         false))
     by_test false = refl
 
 added_hits : (plan : Plan) (q : ℕ) (before : List (List ℕ)) (packet : List ℕ) →
-    count_by (entitles q) (added plan before packet) ≡ tables_by plan (hits plan q) (length before)
+    count_by (is_entitlement_of q) (added plan before packet) ≡ tables_by plan (hits plan q) (length before)
 unfolding added
 added_hits plan q before packet =
     let last : List Item = Carries (length before) (carried plan.site before packet) ∷ [] in
-    let test : Item → ℕ = λ item. cond (entitles q item) 1 0 in
-    let none : count_by (entitles q) last ≡ 0 = refl in
+    let test : Item → ℕ = λ item. cond (is_entitlement_of q item) 1 0 in
+    let none : count_by (is_entitlement_of q) last ≡ 0 = refl in
     omega (
       arith,
       sum_by-append test (tables_before plan (length before)) (message_before plan before ++ last),
@@ -182,7 +186,7 @@ added_hits plan q before packet =
     )
 
 sent_hits : (plan : Plan) (q : ℕ) (before packets : List (List ℕ)) →
-    count_by (entitles q) (sent_from plan before packets)
+    count_by (is_entitlement_of q) (sent_from plan before packets)
     ≡ sum_by (tables_by plan (hits plan q)) (range_with_len (length before) (length packets))
 unfolding sent_from
 sent_hits plan q before [] = refl
@@ -190,12 +194,12 @@ sent_hits plan q before (packet ∷ packets) =
     let k = length before in
     let count = length packets in
     let long : length (before ++ packet ∷ []) ≡ k + 1 = omega (arith, length-append before (packet ∷ [])) in
-    let rest = subst (λ (j : ℕ). count_by (entitles q) (sent_from plan (before ++ packet ∷ []) packets)
+    let rest = subst (λ (j : ℕ). count_by (is_entitlement_of q) (sent_from plan (before ++ packet ∷ []) packets)
     ≡ sum_by (tables_by plan (hits plan q)) (range_with_len j count)) long
     (sent_hits plan q (before ++ packet ∷ []) packets) in
     omega (
       arith,
-      sum_by-append (λ item. cond (entitles q item) 1 0) (added plan before packet)
+      sum_by-append (λ item. cond (is_entitlement_of q item) 1 0) (added plan before packet)
           (sent_from plan (before ++ packet ∷ []) packets),
       added_hits plan q before packet,
       rest,
@@ -203,7 +207,7 @@ sent_hits plan q before (packet ∷ packets) =
     )
 
 closing_hits : (plan : Plan) (q : ℕ) (clear : List (List ℕ)) → 0 < length clear →
-    count_by (entitles q) (closing_of plan clear) ≡ 0
+    count_by (is_entitlement_of q) (closing_of plan clear) ≡ 0
 unfolding closing_of
 closing_hits plan q clear some =
     let any : (length clear == 0) ≡ false = grind (arith, nat_tests, some) in
@@ -239,7 +243,7 @@ hits_of_one plan n q low high =
 
 pub sections_told : (plan : Plan) (clear : List (List ℕ)) (q : ℕ) → AreInRange plan.site → 0 < length clear →
     Contains (told_periods plan (length clear)) q →
-    count_by (entitles q) (sent plan clear ++ closing_of plan clear)
+    count_by (is_entitlement_of q) (sent plan clear ++ closing_of plan clear)
     ≡ cryptos_in plan (cryptos_for plan.site (length clear)) q * entitlements_at plan q
 unfolding period_in
 sections_told plan clear q r some here =
@@ -251,7 +255,7 @@ sections_told plan clear q r some here =
     ∙ hits_of_one plan (cryptos_for plan.site m) q is.0 (omega (arith, is.0, is.1)) in
     omega (
       arith,
-      sum_by-append (λ item. cond (entitles q item) 1 0) (sent plan clear) (closing_of plan clear),
+      sum_by-append (λ item. cond (is_entitlement_of q item) 1 0) (sent plan clear) (closing_of plan clear),
       tables,
       closing_hits plan q clear some,
     )

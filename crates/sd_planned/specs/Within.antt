@@ -5,15 +5,15 @@ use Rattle.sd_ecm.specs.Versions.{positions_for}
 use Rattle.sd_ecm.specs.declared.part.EcmPart.{EcmPart}
 use Rattle.sd_broadcast.specs.Plan.{Plan, period_of, word_of}
 use Rattle.sd_broadcast.specs.Sent.{Item, Cat, Entitles, Controls, Carries, broadcast, closing_of, sent}
-use Rattle.sd_sent.specs.Named.{NamesPeriod, named}
+use Rattle.sd_sent.specs.Named.{NamesPeriod, sets_named}
 use Rattle.sd_run_plan.specs.Air.{added_most, cryptos_for, cryptos_in, entitlements_at, last_word_for, periods_for}
 
 -- the thing is a section of the entitlements of period q
-abbrev pub entitles : ℕ → Item → Bool
-entitles q Cat = false
-entitles q (Entitles emm) = emm.period == q
-entitles q (Controls part) = false
-entitles q (Carries k packet) = false
+abbrev pub is_entitlement_of : ℕ → Item → Bool
+is_entitlement_of q Cat = false
+is_entitlement_of q (Entitles emm) = emm.period == q
+is_entitlement_of q (Controls part) = false
+is_entitlement_of q (Carries k packet) = false
 
 -- the periods that are printed for this number of packets
 abbrev pub told_periods : Plan → ℕ → List ℕ
@@ -31,10 +31,10 @@ pub record IsWithinPlan (plan : Plan) (n : ℕ) (clear : List (List ℕ)) : Type
       (k : ℕ) × (k < length clear) × (period_of plan k ≡ q)
   -- each names its sets in what is sent
   pub names : (q : ℕ) → Contains (told_periods plan (length clear)) q →
-      NamesPeriod plan q (named plan.site.height plan.site.emm q (broadcast plan clear))
+      NamesPeriod plan q (sets_named plan.site.height plan.site.emm q (broadcast plan clear))
   -- the sections of any period are sent as often as is told
   pub sections : (q : ℕ) → Contains (told_periods plan (length clear)) q →
-      count_by (entitles q) (sent plan clear ++ closing_of plan clear)
+      count_by (is_entitlement_of q) (sent plan clear ++ closing_of plan clear)
       ≡ cryptos_in plan (cryptos_for plan.site (length clear)) q * entitlements_at plan q
   -- the control words are those from the first to the last that are printed, each of them, and of the site's range
   pub words : (part : EcmPart) → Contains (sent plan clear ++ closing_of plan clear) (Controls part) →

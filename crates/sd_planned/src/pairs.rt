@@ -3,7 +3,7 @@
 ghost use Rattle.std.specs.Prelude.{◌≡◌, ◌<◌, ◌≤◌, ◌∷◌, ℕ, List, None, Some, length, slice_get};
 ghost use Rattle.sd_site.specs.Fields.{AreInRange};
 ghost use Rattle.sd_broadcast.specs.Plan.{Plan};
-ghost use Rattle.sd_many.specs.Runs.{Run, IsRun, HasWords, ShareNoWord, OwnWords, Agree, AllAgree};
+ghost use Rattle.sd_many.specs.Runs.{Run, IsRun, HasWords, ShareNoWord, HaveOwnWords, AgreeOnPeriods, AllAgree};
 ghost use Rattle.sd_many.specs.Known.{AreOneTree};
 ghost use Rattle.sd_status.specs.declared.status.Clash.{Clash};
 ghost use Rattle.sd_run_apart.specs.Apart.{clash_of};
@@ -15,11 +15,11 @@ ghost use Rattle.sd_planned.specs.Told.{IsSo};
 #[tactic(auto, using(crate::proofs::Clashes::two_apart, crate::proofs::Clashes::one_set, crate::proofs::Clashes::next_have_none, crate::proofs::Clashes::swapped_have_none, crate::proofs::Told::told_is_so))]
 pub fn checked_broadcasts_are_apart()
     ensures two { (master : List ℕ) (a b : Run) → IsRun master a → IsRun master b → clash_of a.plan b.plan ≡ None →
-        (HasWords a.plan.site × HasWords b.plan.site) × (ShareNoWord a.plan.site b.plan.site × Agree a b) }
+        (HasWords a.plan.site × HasWords b.plan.site) × (ShareNoWord a.plan.site b.plan.site × AgreeOnPeriods a b) }
     ensures words { (master : List ℕ) (runs : List Run) →
         ((i : ℕ) (a : Run) → slice_get runs i ≡ Some a → IsRun master a) → 1 < length runs →
         ((i j : ℕ) (a b : Run) → slice_get runs i ≡ Some a → slice_get runs j ≡ Some b → i < j →
-        clash_of a.plan b.plan ≡ None) → OwnWords runs }
+        clash_of a.plan b.plan ≡ None) → HaveOwnWords runs }
     ensures agree { (master : List ℕ) (runs : List Run) →
         ((i : ℕ) (a : Run) → slice_get runs i ≡ Some a → IsRun master a) →
         ((i j : ℕ) (a b : Run) → slice_get runs i ≡ Some a → slice_get runs j ≡ Some b → i < j →

@@ -20,74 +20,77 @@ use Rattle.sd_steiner.specs.Chains.{IsChainCover}
 use Rattle.sd_steiner.proofs.Heights.{of_height}
 use Rattle.sd_steiner.proofs.Lists.{member_cases, no_member}
 use Rattle.sd_steiner.proofs.There.{the_cover}
-use Rattle.sd_reach.specs.Reach.{Secret, Named, Key, Follows, IsHeld, IsReached}
+use Rattle.sd_reach.specs.Reach.{Secret, Named, Key, IsGeneratorStep, IsHeld, IsReached}
 use Rattle.sd_reach.proofs.Derivation.{Reach, at_first, by_rule, from_derived, to_derived, passes}
 use Rattle.sd_reach.proofs.Reached.{held_is_reached, next_is_reached, reached_by_one}
 use Rattle.sd_reach.proofs.Own.{member_reaches_together}
 use Rattle.sd_reach.proofs.Covers.{cover_reached}
-use Rattle.sd_pooled.specs.Know.{Service, Item, OfTree, PeriodKey, ControlWord, Yields, generated, entitled as of_set}
-use Rattle.sd_pooled.specs.Know.{controlled, IsPooled, IsKnown, HasUnrevoked, KnowsNothingOf, KnowsPeriod, period_of}
-use Rattle.sd_pooled.specs.Know.{revoked_at, sets_at}
+use Rattle.sd_pooled.specs.Know.{Service, Knowable, OfTree, PeriodKey, ControlWord, IsKnowledgeStep, generated}
+use Rattle.sd_pooled.specs.Know.{entitled as of_set}
+use Rattle.sd_pooled.specs.Know.{controlled, IsPooled, IsKnown, HasUnrevoked, KnowsNothingOf, KnowsPeriod}
+use Rattle.sd_pooled.specs.Know.{period_of_word}
+use Rattle.sd_pooled.specs.Know.{revoked_at, service_sets}
 
 -- what is known, by how it came in
-abbrev Had : Service → List ℕ → Item → Type 0
-Had service coalition item = Reach (IsPooled service.height coalition) (Yields service) item
+abbrev Had : Service → List ℕ → Knowable → Type 0
+Had service coalition item = Reach (IsPooled service.height coalition) (IsKnowledgeStep service) item
 
 -- what is known has come in by the rules
-pub from_known : (service : Service) (coalition : List ℕ) (item : Item) → IsKnown service coalition item
+pub from_known : (service : Service) (coalition : List ℕ) (item : Knowable) → IsKnown service coalition item
     → Had service coalition item
 unfolding IsKnown
-from_known service coalition item k = from_derived (IsPooled service.height coalition) (Yields service) item k
+from_known service coalition item k = from_derived (IsPooled service.height coalition) (IsKnowledgeStep service) item k
 
 -- what has come in by the rules is known
-pub to_known : (service : Service) (coalition : List ℕ) (item : Item) → Had service coalition item
+pub to_known : (service : Service) (coalition : List ℕ) (item : Knowable) → Had service coalition item
     → IsKnown service coalition item
 unfolding IsKnown
-to_known service coalition item r = to_derived (IsPooled service.height coalition) (Yields service) item r
+to_known service coalition item r = to_derived (IsPooled service.height coalition) (IsKnowledgeStep service) item r
 
 -- what the cards hold is known
-pub held_is_known : (service : Service) (coalition : List ℕ) (item : Item) → IsPooled service.height coalition item
+pub held_is_known : (service : Service) (coalition : List ℕ) (item : Knowable) → IsPooled service.height coalition item
     → IsKnown service coalition item
 held_is_known service coalition item is = to_known service coalition item (at_first is)
 
 -- what follows from what is known is known
-pub next_is_known : (service : Service) (coalition : List ℕ) (from to : Item) → IsKnown service coalition from
-    → Yields service from to → IsKnown service coalition to
+pub next_is_known : (service : Service) (coalition : List ℕ) (from to : Knowable) → IsKnown service coalition from
+    → IsKnowledgeStep service from to → IsKnown service coalition to
 next_is_known service coalition from to k y =
     to_known service coalition to (by_rule (from_known service coalition from k) y)
 
 -- a test that what the cards hold passes, and what follows from what passes, is passed by all that is known
-pub known_passes : (service : Service) (coalition : List ℕ) (test : Item → Bool)
-    → ((item : Item) → IsPooled service.height coalition item → test item ≡ true)
-    → ((from to : Item) → Yields service from to → test from ≡ true → test to ≡ true) → (item : Item)
+pub known_passes : (service : Service) (coalition : List ℕ) (test : Knowable → Bool)
+    → ((item : Knowable) → IsPooled service.height coalition item → test item ≡ true)
+    → ((from to : Knowable) → IsKnowledgeStep service from to → test from ≡ true → test to ≡ true) → (item : Knowable)
     → IsKnown service coalition item → test item ≡ true
 known_passes service coalition test is closed item k =
-    passes (IsPooled service.height coalition) (Yields service) test is closed (from_known service coalition item k)
+    passes (IsPooled service.height coalition) (IsKnowledgeStep service) test is closed
+    (from_known service coalition item k)
 
 -- the sets of a period are the chain cover of its revoked leaves
 cover_at : (service : Service) (q : ℕ) → service.height ≤ 20
-    → IsChainCover service.height (revoked_at service q) (sets_at service q)
-unfolding sets_at
+    → IsChainCover service.height (revoked_at service q) (service_sets service q)
+unfolding service_sets
 cover_at service q low =
-    (the_cover service.height (revoked_at service q) (sets_at service q) (omega arith)
+    (the_cover service.height (revoked_at service q) (service_sets service q) (omega arith)
     (λ u m. All-contains (λ w. w < 2 ^ service.height) (revoked_at service q) u
     (below service.height service.commands q) m)).1 refl
 
 -- they are of the tree's height
-height_at : (service : Service) (q : ℕ) (name : SetName) → service.height ≤ 20 → Contains (sets_at service q) name
+height_at : (service : Service) (q : ℕ) (name : SetName) → service.height ≤ 20 → Contains (service_sets service q) name
     → IsOfHeight service.height name
 height_at service q name low there =
-    of_height service.height (revoked_at service q) (sets_at service q)
+    of_height service.height (revoked_at service q) (service_sets service q)
     (λ u m. All-contains (λ w. w < 2 ^ service.height) (revoked_at service q) u
     (below service.height service.commands q) m)
     (cover_at service q low) name there
 
 -- a leaf's names reach the key of some set of a period exactly where it isn't revoked in it
 pub reached_at : (service : Service) (q u : ℕ) → service.height ≤ 20 → u < 2 ^ service.height
-    → Any (λ name. IsReached (given service.height u) (Key name)) (sets_at service q)
+    → Any (λ name. IsReached (given service.height u) (Key name)) (service_sets service q)
     ↔ ¬ Contains (revoked_at service q) u
 reached_at service q u low leaf =
-    cover_reached service.height (revoked_at service q) (sets_at service q) u low
+    cover_reached service.height (revoked_at service q) (service_sets service q) u low
     (below service.height service.commands q) (cover_at service q low) leaf
 
 -- what holds of each member holds of all
@@ -95,14 +98,14 @@ All-from_contains : {X : Type 0} (P : X → Type 0) (xs : List X) → ((x : X) �
 All-from_contains P xs each k d within = each (slice_index_or xs k d) (Contains-get_or xs k d within)
 
 -- what is known comes to: a secret is reached, and a period has an unrevoked leaf
-abbrev Comes : Service → List ℕ → Item → Type 0
+abbrev Comes : Service → List ℕ → Knowable → Type 0
 Comes service coalition (OfTree secret) = IsReached (flat_map (given service.height) coalition) secret
 Comes service coalition (PeriodKey q) = (q ≤ last_period service.commands) × HasUnrevoked service coalition q
-Comes service coalition (ControlWord t) = HasUnrevoked service coalition (period_of service t)
+Comes service coalition (ControlWord t) = HasUnrevoked service coalition (period_of_word service t)
 
 -- where a secret of a set is reached, an unrevoked leaf reaches it
 pub unrevoked_reaches : (service : Service) (coalition : List ℕ) (q : ℕ) (name : SetName) → service.height ≤ 20
-    → All (λ u. u < 2 ^ service.height) coalition → Contains (sets_at service q) name
+    → All (λ u. u < 2 ^ service.height) coalition → Contains (service_sets service q) name
     → IsReached (flat_map (given service.height) coalition) (Key name) → HasUnrevoked service coalition q
 unrevoked_reaches service coalition q name low leaves (k, within, is) r =
     let (place, u, inside, at, own) = (reached_by_one service.height coalition (Key name)).0 r in
@@ -111,7 +114,7 @@ unrevoked_reaches service coalition q name low leaves (k, within, is) r =
 
 -- what has come in by the rules comes to that
 comes : (service : Service) (coalition : List ℕ) → service.height ≤ 20 → All (λ u. u < 2 ^ service.height) coalition
-    → {item : Item} → Had service coalition item → Comes service coalition item
+    → {item : Knowable} → Had service coalition item → Comes service coalition item
 comes service coalition low leaves (at_first {x = OfTree (Named name)} m) =
     held_is_reached (flat_map (given service.height) coalition) name m
 comes service coalition low leaves (at_first {x = OfTree (Key name)} m) = absurd m
@@ -127,7 +130,7 @@ comes service coalition low leaves (by_rule r (controlled {q = q} {t = t} is)) =
 
 -- a secret that has come in by the generator is known
 lifted : (service : Service) (coalition : List ℕ) {secret : Secret}
-    → Reach (IsHeld (flat_map (given service.height) coalition)) Follows secret
+    → Reach (IsHeld (flat_map (given service.height) coalition)) IsGeneratorStep secret
     → Had service coalition (OfTree secret)
 lifted service coalition (at_first m) = at_first m
 lifted service coalition (by_rule r f) = by_rule (lifted service coalition r) (generated f)
@@ -139,7 +142,7 @@ unfolding IsReached
 reached_is_known service coalition secret r =
     to_known service coalition (OfTree secret)
     (lifted service coalition
-    (from_derived (IsHeld (flat_map (given service.height) coalition)) Follows secret r))
+    (from_derived (IsHeld (flat_map (given service.height) coalition)) IsGeneratorStep secret r))
 
 -- the key of a period is known where a leaf isn't revoked in it
 key_is_known : (service : Service) (coalition : List ℕ) (q : ℕ) → service.height ≤ 20
@@ -154,11 +157,11 @@ key_is_known service coalition q low leaves due (place, u, inside, at, free) =
 
 -- and so is each control word of it
 word_is_known : (service : Service) (coalition : List ℕ) (t : ℕ) → service.height ≤ 20
-    → All (λ u. u < 2 ^ service.height) coalition → HasUnrevoked service coalition (period_of service t)
+    → All (λ u. u < 2 ^ service.height) coalition → HasUnrevoked service coalition (period_of_word service t)
     → IsKnown service coalition (ControlWord t)
 word_is_known service coalition t low leaves free =
-    next_is_known service coalition (PeriodKey (period_of service t)) (ControlWord t)
-    (key_is_known service coalition (period_of service t) low leaves
+    next_is_known service coalition (PeriodKey (period_of_word service t)) (ControlWord t)
+    (key_is_known service coalition (period_of_word service t) low leaves
     (min-le_right (t / service.span) (last_period service.commands)) free)
     (controlled refl)
 
@@ -183,7 +186,7 @@ periods_known service coalition q low leaves due = (
 -- and so is a control word of it
 pub words_known : (service : Service) (coalition : List ℕ) (t : ℕ) → service.height ≤ 20
     → All (λ u. u < 2 ^ service.height) coalition → IsKnown service coalition (ControlWord t)
-    ↔ HasUnrevoked service coalition (period_of service t)
+    ↔ HasUnrevoked service coalition (period_of_word service t)
 words_known service coalition t low leaves = (
   λ k. comes service coalition low leaves (from_known service coalition (ControlWord t) k),
   word_is_known service coalition t low leaves,
@@ -207,7 +210,7 @@ of_only : (P : ℕ → Type 0) (u : ℕ) → Any P (u ∷ []) → P u
 of_only P u (k, w, within, is, p) = subst P (the_one u w (k, within, is)) p
 
 -- what is known by all of a coalition together is known by one of its leaves
-to_one : (service : Service) (coalition : List ℕ) (item : Item) → service.height ≤ 20
+to_one : (service : Service) (coalition : List ℕ) (item : Knowable) → service.height ≤ 20
     → All (λ u. u < 2 ^ service.height) coalition → IsKnown service coalition item
     → Any (λ u. IsKnown service (u ∷ []) item) coalition
 to_one service coalition (OfTree secret) low leaves known =
@@ -225,7 +228,7 @@ to_one service coalition (ControlWord t) low leaves known =
     (k, u, within, is, word_is_known service (u ∷ []) t low single (0, u, omega arith, refl, free))
 
 -- what one leaf of a coalition knows alone is known by all together
-from_one : (service : Service) (coalition : List ℕ) (item : Item) (u : ℕ) → service.height ≤ 20
+from_one : (service : Service) (coalition : List ℕ) (item : Knowable) (u : ℕ) → service.height ≤ 20
     → All (λ w. w < 2 ^ service.height) coalition → Contains coalition u → IsKnown service (u ∷ []) item
     → IsKnown service coalition item
 from_one service coalition (OfTree secret) u low leaves (k, within, is) known =
@@ -243,11 +246,11 @@ from_one service coalition (PeriodKey q) u low leaves (k, within, is) known =
 from_one service coalition (ControlWord t) u low leaves (k, within, is) known =
     let single = alone service.height coalition u leaves (k, within, is) in
     let free = comes service (u ∷ []) low single (from_known service (u ∷ []) _ known) in
-    let own = of_only (λ w. ¬ Contains (revoked_at service (period_of service t)) w) u free in
+    let own = of_only (λ w. ¬ Contains (revoked_at service (period_of_word service t)) w) u free in
     word_is_known service coalition t low leaves (k, u, within, is, own)
 
 -- a coalition knows together just what one of its leaves knows alone
-pub known_by_one : (service : Service) (coalition : List ℕ) (item : Item) → service.height ≤ 20
+pub known_by_one : (service : Service) (coalition : List ℕ) (item : Knowable) → service.height ≤ 20
     → All (λ u. u < 2 ^ service.height) coalition → IsKnown service coalition item
     ↔ Any (λ u. IsKnown service (u ∷ []) item) coalition
 known_by_one service coalition item low leaves = (
@@ -352,7 +355,7 @@ one_period_alone service p q u low due m gone = (
 
 -- a set of a period that has a leaf of the coalition tells of an unrevoked one
 opened_unrevoked : (service : Service) (coalition : List ℕ) (q : ℕ) (name : SetName) → service.height ≤ 20
-    → All (λ u. u < 2 ^ service.height) coalition → Contains (sets_at service q) name
+    → All (λ u. u < 2 ^ service.height) coalition → Contains (service_sets service q) name
     → list_any (is_member service.height name) coalition ≡ true → HasUnrevoked service coalition q
 opened_unrevoked service coalition q name low leaves there found =
     unrevoked_reaches service coalition q name low leaves there
@@ -361,7 +364,7 @@ opened_unrevoked service coalition q name low leaves there found =
 -- some set of a period has a leaf of the coalition exactly where one of its leaves isn't revoked in it
 pub sets_opened : (service : Service) (coalition : List ℕ) (q : ℕ) → service.height ≤ 20
     → All (λ u. u < 2 ^ service.height) coalition
-    → Any (λ name. list_any (is_member service.height name) coalition ≡ true) (sets_at service q)
+    → Any (λ name. list_any (is_member service.height name) coalition ≡ true) (service_sets service q)
     ↔ HasUnrevoked service coalition q
 sets_opened service coalition q low leaves = (
   λ (k, name, within, is, found). opened_unrevoked service coalition q name low leaves (k, within, is) found,
@@ -381,9 +384,9 @@ sets_opened service coalition q low leaves = (
 -- where all leaves of a coalition are revoked, no set of the period has one
 pub sets_shut : (service : Service) (coalition : List ℕ) (q : ℕ) → service.height ≤ 20
     → All (Contains (revoked_at service q)) coalition
-    → All (λ name. list_any (is_member service.height name) coalition ≡ false) (sets_at service q)
+    → All (λ name. list_any (is_member service.height name) coalition ≡ false) (service_sets service q)
 sets_shut service coalition q low members =
-    All-from_contains (λ name. list_any (is_member service.height name) coalition ≡ false) (sets_at service q)
+    All-from_contains (λ name. list_any (is_member service.height name) coalition ≡ false) (service_sets service q)
     (λ name there. false_from_ne_true _ (λ found.
     none_unrevoked service coalition q members
     (opened_unrevoked service coalition q name low (revoked_leaves service coalition q members) there found)))

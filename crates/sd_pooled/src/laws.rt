@@ -7,19 +7,21 @@ ghost use Rattle.sd_label.specs.declared.name.Name.{Name};
 ghost use Rattle.sd_label.specs.Names.{given};
 ghost use Rattle.sd_book.specs.Commands.{entitled, last_period};
 ghost use Rattle.sd_reach.specs.Reach.{Secret, Named, IsReached};
-ghost use Rattle.sd_pooled.specs.Know.{Service, Item, OfTree, PeriodKey, ControlWord, Yields, IsPooled, IsKnown};
-ghost use Rattle.sd_pooled.specs.Know.{HasUnrevoked, KnowsNothingOf, KnowsPeriod, period_of, revoked_at, sets_at};
+ghost use Rattle.sd_pooled.specs.Know.{Service, Knowable, OfTree, PeriodKey, ControlWord, IsKnowledgeStep, IsPooled};
+ghost use Rattle.sd_pooled.specs.Know.{IsKnown};
+ghost use Rattle.sd_pooled.specs.Know.{HasUnrevoked, KnowsNothingOf, KnowsPeriod, period_of_word, revoked_at};
+ghost use Rattle.sd_pooled.specs.Know.{service_sets};
 
 /// What is known is the least that has what the cards hold and is closed under the rules.
 pub fn least_known()
-    ensures held { (service : Service) (coalition : List ℕ) (item : Item) →
+    ensures held { (service : Service) (coalition : List ℕ) (item : Knowable) →
         IsPooled service.height coalition item → IsKnown service coalition item }
-    ensures closed { (service : Service) (coalition : List ℕ) (from to : Item) →
-        IsKnown service coalition from → Yields service from to → IsKnown service coalition to }
-    ensures least { (service : Service) (coalition : List ℕ) (test : Item → Bool) →
-        ((item : Item) → IsPooled service.height coalition item → test item ≡ true) →
-        ((from to : Item) → Yields service from to → test from ≡ true → test to ≡ true) →
-        (item : Item) → IsKnown service coalition item → test item ≡ true }
+    ensures closed { (service : Service) (coalition : List ℕ) (from to : Knowable) →
+        IsKnown service coalition from → IsKnowledgeStep service from to → IsKnown service coalition to }
+    ensures least { (service : Service) (coalition : List ℕ) (test : Knowable → Bool) →
+        ((item : Knowable) → IsPooled service.height coalition item → test item ≡ true) →
+        ((from to : Knowable) → IsKnowledgeStep service from to → test from ≡ true → test to ≡ true) →
+        (item : Knowable) → IsKnown service coalition item → test item ≡ true }
 {}
 
 /// Of the tree's secrets just those are known that the coalition's names reach together: no message adds to them.
@@ -44,13 +46,13 @@ pub fn periods_known()
 pub fn words_known()
     ensures { (service : Service) (coalition : List ℕ) (t : ℕ) → service.height ≤ 20 →
         All (λ u. u < 2 ^ service.height) coalition →
-        IsKnown service coalition (ControlWord t) ↔ HasUnrevoked service coalition (period_of service t) }
+        IsKnown service coalition (ControlWord t) ↔ HasUnrevoked service coalition (period_of_word service t) }
 {}
 
 /// What a coalition knows together is what one of its leaves knows alone.
 #[tactic(auto, using(crate::proofs::Known::known_by_one))]
 pub fn known_by_one()
-    ensures { (service : Service) (coalition : List ℕ) (item : Item) → service.height ≤ 20 →
+    ensures { (service : Service) (coalition : List ℕ) (item : Knowable) → service.height ≤ 20 →
         All (λ u. u < 2 ^ service.height) coalition →
         IsKnown service coalition item ↔ Any (λ u. IsKnown service (u ∷ []) item) coalition }
 {}
@@ -81,9 +83,9 @@ pub fn one_period_alone()
 pub fn sets_opened()
     ensures some { (service : Service) (coalition : List ℕ) (q : ℕ) → service.height ≤ 20 →
         All (λ u. u < 2 ^ service.height) coalition →
-        Any (λ name. list_any (is_member service.height name) coalition ≡ true) (sets_at service q)
+        Any (λ name. list_any (is_member service.height name) coalition ≡ true) (service_sets service q)
         ↔ HasUnrevoked service coalition q }
     ensures shut { (service : Service) (coalition : List ℕ) (q : ℕ) → service.height ≤ 20 →
         All (Contains (revoked_at service q)) coalition →
-        All (λ name. list_any (is_member service.height name) coalition ≡ false) (sets_at service q) }
+        All (λ name. list_any (is_member service.height name) coalition ≡ false) (service_sets service q) }
 {}

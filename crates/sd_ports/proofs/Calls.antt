@@ -2,7 +2,7 @@
 use Rattle.std.proofs.Common.{rules, ◌≡◌, ℕ, ◌^◌, ◌<◌, arith, refl}
 use Rattle.std.proofs.Common.{sym, subst}
 use Rattle.std.specs.Prelude.{Option, None, Some, IsSome, List, Err}
-use Rattle.sd_ports.specs.Files.{Files, Opens, IsThere}
+use Rattle.sd_ports.specs.Files.{Files, OpensFile, IsThere}
 use Rattle.sd_cause.specs.Count.{with_added}
 use Rattle.sd_ports.specs.Causes.{one_more, CountsClosed, HasDepotCause}
 use Rattle.sd_ports.specs.declared.fault.DepotFault.TheVariants.{Failed}
@@ -14,7 +14,7 @@ pub open_as_before : (a b c : ℕ) → (a < 2 ^ 64) × (b ≡ one_more a) → Co
 open_as_before a b c o h = let w = o.0 in let e = o.1 in let x = h.within in let y = h.fallen in omega arith
 
 -- a file that was opened is there
-pub opened_there : (files : Option Files) (name : List ℕ) (left : Option (List ℕ)) → Opens files name left →
+pub opened_there : (files : Option Files) (name : List ℕ) (left : Option (List ℕ)) → OpensFile files name left →
     IsThere files name
 opened_there None name left h = tt
 opened_there (Some m) name left h = subst (λ (o : Option (List ℕ)). IsSome o) (sym h.1) h.0

@@ -9,7 +9,7 @@ use Rattle.std.specs.FinMap.{get, insert, get-insert, same_map, nat_cmp-IsAntisy
 use Rattle.std.specs.Io.KnownBytes.{Appends}
 use Rattle.std.proofs.lemmas.Cmp.{nat_list_cmp_total, eq_by_cmp_equiv}
 use Rattle.sd_ports.specs.Bytes.{IsPrefix, AppendsPrefix}
-use Rattle.sd_ports.specs.Files.{Files, Closes, LeavesPrefix, IsFresh, IsThere, WritesFile, with_bytes}
+use Rattle.sd_ports.specs.Files.{Files, ClosesFile, LeavesPrefix, IsFresh, IsThere, WritesFile, with_bytes}
 use Rattle.sd_ports.specs.declared.file.FileFault.TheVariants.{Failed}
 use Rattle.sd_cause.specs.Count.{with_added}
 
@@ -36,21 +36,21 @@ there_after (Some m) b name bytes e =
 
 -- what a port of told files took is what its file has
 told_whole : (m : Files) (c : Option Files) (name bytes : List ℕ) (k : Option (List ℕ)) → Appends (Some []) k bytes
-    → Closes (Some (insert m name [])) c name k → c ≡ Some (insert m name bytes)
+    → ClosesFile (Some (insert m name [])) c name k → c ≡ Some (insert m name bytes)
 told_whole m c name bytes None w p = absurd w
 told_whole m c name bytes (Some y) w p = p ∙ ap (λ (r : List ℕ). Some (insert (insert m name []) name r)) w
     ∙ ap (λ (r : Files). Some r) (insert_twice m name [] bytes)
 
 -- a port that took these bytes and was closed leaves them
 pub closed_whole : (a b c : Option Files) (name bytes : List ℕ) (h k : Option (List ℕ)) → b ≡ with_bytes a name []
-    → IsFresh a h → Appends h k bytes → Closes b c name k → c ≡ with_bytes a name bytes
-closed_whole None b c name bytes h k e f w p = subst (λ (b : Option Files). Closes b c name k) e p
+    → IsFresh a h → Appends h k bytes → ClosesFile b c name k → c ≡ with_bytes a name bytes
+closed_whole None b c name bytes h k e f w p = subst (λ (b : Option Files). ClosesFile b c name k) e p
 closed_whole (Some m) b c name bytes h k e f w p =
     told_whole m c name bytes k (subst (λ (h : Option (List ℕ)). Appends h k bytes) f w)
-    (subst (λ (b : Option Files). Closes b c name k) e p)
+    (subst (λ (b : Option Files). ClosesFile b c name k) e p)
 
 -- all is a prefix, too
-pub closes_prefix : (b c : Option Files) (name : List ℕ) (k : Option (List ℕ)) → Closes b c name k
+pub closes_prefix : (b c : Option Files) (name : List ℕ) (k : Option (List ℕ)) → ClosesFile b c name k
     → LeavesPrefix b c name k
 closes_prefix None c name k p = p
 closes_prefix (Some m) c name None p = p
@@ -84,7 +84,8 @@ cut_short (Some m) b c name bytes h k e f w p =
 
 -- a port that took all of these bytes and was closed has written the file
 pub written_whole : (a b c : Option Files) (i j k : ℕ) (name bytes : List ℕ) (h held : Option (List ℕ))
-    → b ≡ with_bytes a name [] → IsFresh a h → Appends h held bytes → Closes b c name held → j ≡ with_added i 1 → i ≤ j
+    → b ≡ with_bytes a name [] → IsFresh a h → Appends h held bytes → ClosesFile b c name held → j ≡ with_added i 1 →
+    i ≤ j
     → k ≡ j → WritesFile {T = Unit {0}} a c i k name bytes (Ok tt)
 written_whole a b c i j k name bytes h held e f w p m l n = record {
   later = subst (λ (x : ℕ). i ≤ x) (sym n) l;

@@ -7,7 +7,7 @@ use Rattle.std.proofs.Math.Seq.{take-append-add}
 use Rattle.std.specs.Prelude.{Option, None, Some, Ok, Err, min, nat_lt}
 use Rattle.std.specs.Io.KnownBytes.{Consumes, IsAtEnd, Keeps}
 use Rattle.std.proofs.KnownBytes.{Consumes-trans, Consumes-kept}
-use Rattle.sd_cause.specs.Count.{Rose}
+use Rattle.sd_cause.specs.Count.{HasRisen}
 use Rattle.sd_ports.specs.Bytes.{Prefix, IsTakenFrom}
 use Rattle.sd_ports.specs.Causes.{ReadsFirst}
 use Rattle.sd_ports.specs.declared.prefix.ReadMostFault.TheVariants.{Failed, NoMemory}
@@ -95,7 +95,7 @@ none_kept most a b c bs cs kept i j p q e = record {
 
 -- where a read fails what was read before it is lost
 pub read_failed : (most : ℕ) (a b c : Option (List ℕ)) (bs kept : List ℕ) (i j k : ℕ) → Consumes a b bs → Keeps b c
-    → j ≡ i → j ≤ k → Rose j k → ReadsFirst most a c i k kept (Err Failed)
+    → j ≡ i → j ≤ k → HasRisen j k → ReadsFirst most a c i k kept (Err Failed)
 read_failed most a b c bs kept i j k p q e later rose = record {
   value = tt;
   all = tt;

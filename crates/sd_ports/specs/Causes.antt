@@ -1,7 +1,7 @@
 -- Public meaning: why a file system refuses, and what it counts: misses, faults, ports made and ports open.
 use Rattle.std.specs.Prelude.{◌≡◌, ℕ, ◌+◌, ◌%◌, ◌^◌, ◌<◌, ◌≤◌, List, length, Bool, true, false, Option, Result, IfOk}
 use Rattle.std.specs.Prelude.{OnOk, OnErr, IsErrOf}
-use Rattle.sd_cause.specs.Count.{Rose, with_added}
+use Rattle.sd_cause.specs.Count.{HasRisen, with_added}
 use Rattle.sd_ports.specs.Bytes.{GivesAll, IsTakenFrom, LosesPrefix}
 use Rattle.sd_ports.specs.declared.fault.DepotFault.{DepotFault}
 use Rattle.sd_ports.specs.declared.fault.DepotFault.TheVariants.{Missing, Failed}
@@ -15,8 +15,8 @@ pub record HasDepotCause {T : Type 0} (faults_before faults_now misses_before mi
     (result : Result T DepotFault) : Type 0 where
   pub faults_later : faults_before ≤ faults_now
   pub misses_later : misses_before ≤ misses_now
-  pub missing : IsErrOf result Missing → Rose misses_before misses_now
-  pub failed : IsErrOf result Failed → Rose faults_before faults_now
+  pub missing : IsErrOf result Missing → HasRisen misses_before misses_now
+  pub failed : IsErrOf result Failed → HasRisen faults_before faults_now
   pub no_miss : ¬ IsErrOf result Missing → misses_now ≡ misses_before
   pub no_fault : ¬ IsErrOf result Failed → faults_now ≡ faults_before
 
@@ -26,8 +26,8 @@ pub record HasFileCause {T : Type 0} (faults_before faults_now misses_before mis
     (result : Result T FileFault) : Type 0 where
   pub faults_later : faults_before ≤ faults_now
   pub misses_later : misses_before ≤ misses_now
-  pub missing : IsErrOf result file.Missing → Rose misses_before misses_now
-  pub failed : IsErrOf result file.Failed → Rose faults_before faults_now
+  pub missing : IsErrOf result file.Missing → HasRisen misses_before misses_now
+  pub failed : IsErrOf result file.Failed → HasRisen faults_before faults_now
   pub no_miss : ¬ IsErrOf result file.Missing → misses_now ≡ misses_before
   pub no_fault : ¬ IsErrOf result file.Failed → faults_now ≡ faults_before
 
@@ -66,7 +66,7 @@ pub record ReadsFirst (most : ℕ) (left_before left_now : Option (List ℕ)) (f
   pub all : IfOk result (λ more. more ≡ false → GivesAll left_before left_now bytes)
   pub within : IfOk result (λ more. length bytes ≤ most)
   pub full : IfOk result (λ more. more ≡ true → length bytes ≡ most)
-  pub failed : IsErrOf result prefix.Failed → Rose faults_before faults_now
+  pub failed : IsErrOf result prefix.Failed → HasRisen faults_before faults_now
   pub later : faults_before ≤ faults_now
   pub calm : ¬ IsErrOf result prefix.Failed → faults_now ≡ faults_before
   pub lost : LosesPrefix left_before left_now

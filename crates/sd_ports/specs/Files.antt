@@ -19,9 +19,9 @@ HoldsBytes None name = Unit {0}
 HoldsBytes (Some files) name = IfSome (get files name) (All (λ byte. byte < 256))
 
 -- an opened file's bytes are to come from its port, if the model knows the files
-abbrev pub Opens : Option Files → List ℕ → Option (List ℕ) → Type 0
-Opens None name left = Unit {0}
-Opens (Some files) name left = IsSome left × (get files name ≡ left)
+abbrev pub OpensFile : Option Files → List ℕ → Option (List ℕ) → Type 0
+OpensFile None name left = Unit {0}
+OpensFile (Some files) name left = IsSome left × (get files name ≡ left)
 
 -- no file has the name, if the model knows the files
 abbrev pub IsNotThere : Option Files → List ℕ → Type 0
@@ -55,10 +55,10 @@ IsFresh None (Some held) = held ≡ []
 IsFresh (Some files) held = held ≡ Some []
 
 -- the file of that name has what its port held, if the model knows the files, and the other files stay
-abbrev pub Closes : Option Files → Option Files → List ℕ → Option (List ℕ) → Type 0
-Closes None now name held = now ≡ None
-Closes (Some files) now name None = (bytes : List ℕ) × (now ≡ Some (insert files name bytes))
-Closes (Some files) now name (Some held) = now ≡ Some (insert files name held)
+abbrev pub ClosesFile : Option Files → Option Files → List ℕ → Option (List ℕ) → Type 0
+ClosesFile None now name held = now ≡ None
+ClosesFile (Some files) now name None = (bytes : List ℕ) × (now ≡ Some (insert files name bytes))
+ClosesFile (Some files) now name (Some held) = now ≡ Some (insert files name held)
 
 -- the file of that name has a prefix of what its port held, if the model knows the files, and the other files stay
 abbrev pub LeavesPrefix : Option Files → Option Files → List ℕ → Option (List ℕ) → Type 0

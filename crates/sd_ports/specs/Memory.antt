@@ -149,8 +149,8 @@ without_port s faults opened = record s {
 
 -- what a numbered call that closes a file's port leaves of the bytes that the port held: all, or where it fails the
 -- first half
-abbrev pub kept_of : Shelf → List ℕ → List ℕ
-kept_of s held = if call_fails s then take (length held / 2) held else held
+abbrev pub left_at_close : Shelf → List ℕ → List ℕ
+left_at_close s held = if call_fails s then take (length held / 2) held else held
 
 -- so many faults a numbered call adds: none, or one where it fails
 abbrev pub fault_of : Shelf → ℕ
@@ -159,7 +159,7 @@ fault_of s = if call_fails s then 1 else 0
 -- the depot after a numbered call that closed a file's port
 abbrev pub with_closed : Shelf → List ℕ → Store → ℕ → Shelf
 with_closed s name port opened = record s {
-  files = insert s.files name (kept_of s port.held);
+  files = insert s.files name (left_at_close s port.held);
   failing = after_call s.failing;
   faults = with_added (with_added s.faults port.faults) (fault_of s);
   stops = with_added s.stops port.faults;
@@ -172,8 +172,8 @@ abbrev pub read_fails : Supply → Bool
 read_fails s = is_listed s.fails s.reads
 
 -- how many bytes a read gives into so much space
-abbrev pub given : Supply → ℕ → ℕ
-given s space = min s.most (min space (length s.left))
+abbrev pub given_bytes : Supply → ℕ → ℕ
+given_bytes s space = min s.most (min space (length s.left))
 
 -- a source after a read into so much space
 abbrev pub after_read : Supply → ℕ → Supply
@@ -187,7 +187,7 @@ after_read s space =
           with_added s.faults 1;
     }
     else record {
-      left = drop (given s space) s.left;
+      left = drop (given_bytes s space) s.left;
       most = s.most;
       fails = s.fails;
       reads =

@@ -1,6 +1,7 @@
 ghost use Rattle.std.specs.Prelude.{◌≡◌, ◌<◌, ◌^◌, ℕ, Option, None, IfOk, OnOk, OnErr, IsErrOf, []};
 ghost use Rattle.sd_cause.specs.Count.{HasCause, IsCaused, with_added};
-ghost use Rattle.sd_ports.specs.Files.{Closes, Files, HoldsBytes, IsFresh, IsNotThere, IsThere, LeavesPrefix, Opens, with_bytes};
+ghost use Rattle.sd_ports.specs.Files.{ClosesFile, Files, HoldsBytes, IsFresh, IsNotThere, IsThere, LeavesPrefix};
+ghost use Rattle.sd_ports.specs.Files.{OpensFile, with_bytes};
 ghost use Rattle.sd_ports.specs.Causes.{CountsClosed, CountsMade, CountsOpen, HasDepotCause};
 
 use crate::fault::DepotFault;
@@ -42,7 +43,7 @@ pub trait Depot {
     /// Opens a file for reading.
     fn open_in(&mut self, alloc: Global, name: &str) -> Result<Self::Inlet, DepotFault>
         ensures files { files self.new ≡ files self.old }
-        ensures opened { IfOk result (λ port. Opens (files self.old) name.now (Self.Inlet.left port)) }
+        ensures opened { IfOk result (λ port. OpensFile (files self.old) name.now (Self.Inlet.left port)) }
         ensures fresh { IfOk result (λ port. Self.Inlet.faults port ≡ 0) }
         ensures not_there { IsErrOf result DepotFault.Missing → IsNotThere (files self.old) name.now }
         ensures cause { HasDepotCause (faults self.old) (faults self.new) (misses self.old) (misses self.new) result }
@@ -81,7 +82,7 @@ pub trait Depot {
     /// `Failed`, for which the depot counts a fault of its own.
     fn close_out(&mut self, name: &str, port: Self::Outlet) -> Result<(), DepotFault>
         requires { IsThere (files self.old) name.now }
-        ensures closed { OnOk result (Closes (files self.old) (files self.new) name.now (Self.Outlet.held port)) }
+        ensures closed { OnOk result (ClosesFile (files self.old) (files self.new) name.now (Self.Outlet.held port)) }
         ensures prefix { LeavesPrefix (files self.old) (files self.new) name.now (Self.Outlet.held port) }
         ensures failed { OnErr result (IsErrOf result DepotFault.Failed) }
         ensures cause { HasCause (with_added (faults self.old) (Self.Outlet.faults port)) (faults self.new) result }

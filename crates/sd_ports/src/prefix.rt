@@ -1,5 +1,5 @@
 ghost use Rattle.std.specs.Prelude.{◌≡◌, ◌≤◌, ◌++◌, nat_lt, true, false, IfOk, IsErrOf, [], length, take};
-ghost use Rattle.sd_cause.specs.Count.{Rose};
+ghost use Rattle.sd_cause.specs.Count.{HasRisen};
 ghost use Rattle.sd_ports.specs.Bytes.{GivesAll, IsTakenFrom, LosesPrefix};
 ghost use Rattle.sd_ports.specs.Causes.{ReadsFirst};
 
@@ -70,7 +70,7 @@ pub fn read_most<S: Source>(
         → GivesAll (S.left source.old) (S.left source.new) taken.bytes) }
     ensures within { IfOk result (λ taken. length taken.bytes ≤ most) }
     ensures full { IfOk result (λ taken. taken.more ≡ true → length taken.bytes ≡ most) }
-    ensures failed { IsErrOf result ReadMostFault.Failed → Rose (S.faults source.old) (S.faults source.new) }
+    ensures failed { IsErrOf result ReadMostFault.Failed → HasRisen (S.faults source.old) (S.faults source.new) }
     ensures later { S.faults source.old ≤ S.faults source.new }
     ensures calm { ¬ IsErrOf result ReadMostFault.Failed → S.faults source.new ≡ S.faults source.old }
     ensures lost { LosesPrefix (S.left source.old) (S.left source.new) }

@@ -4,7 +4,8 @@ ghost use Rattle.std.specs.Option.{option_map};
 ghost use Rattle.std.specs.FinMap as map;
 ghost use Rattle.sd_cause.specs.Count.{HasCause, IsCaused, with_added};
 ghost use Rattle.sd_ports.specs.Causes.{CountsClosed, CountsMade, CountsOpen, HasDepotCause};
-ghost use Rattle.sd_ports.specs.Files.{Closes, HoldsBytes, IsFresh, IsNotThere, IsThere, LeavesPrefix, Opens, with_bytes};
+ghost use Rattle.sd_ports.specs.Files.{ClosesFile, HoldsBytes, IsFresh, IsNotThere, IsThere, LeavesPrefix, OpensFile};
+ghost use Rattle.sd_ports.specs.Files.{with_bytes};
 ghost use Rattle.sd_ports.specs.Memory.{call_fails, empty_shelf, fails_of, told_files, with_call, with_closed};
 ghost use Rattle.sd_ports.specs.Memory.{with_fault, with_file, with_inlet, with_outlet, with_port_fault, without_port};
 
@@ -196,7 +197,7 @@ impl Depot for MemDepot {
     /// Opens a copy of the file's bytes.
     fn open_in(&mut self, alloc: Global, name: &str) -> Result<MemSource, DepotFault>
         ensures files { Some self.new.files ≡ Some self.old.files }
-        ensures opened { IfOk result (λ port. Opens (Some self.old.files) name.now (Some port.left)) }
+        ensures opened { IfOk result (λ port. OpensFile (Some self.old.files) name.now (Some port.left)) }
         ensures fresh { IfOk result (λ port. port.faults ≡ 0) }
         ensures not_there { IsErrOf result DepotFault.Missing → IsNotThere (Some self.old.files) name.now }
         ensures cause { HasDepotCause self.old.faults self.new.faults self.old.misses self.new.misses result }
@@ -306,7 +307,7 @@ impl Depot for MemDepot {
     #[tactic(auto, using(crate::proofs::Outlets::closes_prefix, crate::proofs::Outlets::half_stays))]
     fn close_out(&mut self, name: &str, port: MemSink) -> Result<(), DepotFault>
         requires { IsThere (Some self.old.files) name.now }
-        ensures closed { OnOk result (Closes (Some self.old.files) (Some self.new.files) name.now (Some port.held)) }
+        ensures closed { OnOk result (ClosesFile (Some self.old.files) (Some self.new.files) name.now (Some port.held)) }
         ensures prefix { LeavesPrefix (Some self.old.files) (Some self.new.files) name.now (Some port.held) }
         ensures failed { OnErr result (IsErrOf result DepotFault.Failed) }
         ensures cause { HasCause (with_added self.old.faults port.faults) self.new.faults result }

@@ -3,7 +3,7 @@ ghost use Rattle.std.specs.Io.{ReadsAtMost};
 ghost use Rattle.std.specs.Io.KnownBytes.{ReadConsumes};
 ghost use Rattle.sd_cause.specs.Count.{HasCause};
 ghost use Rattle.sd_ports.specs.Failing.{is_listed};
-ghost use Rattle.sd_ports.specs.Memory.{after_read, given, read_fails};
+ghost use Rattle.sd_ports.specs.Memory.{after_read, given_bytes, read_fails};
 
 use crate::fault::PortFault;
 use crate::source::Source;
@@ -73,7 +73,7 @@ impl Source for MemSource {
         ensures bytes { ReadConsumes (Some self.old.left) (Some self.new.left) result buf.new }
         ensures cause { HasCause self.old.faults self.new.faults result }
         ensures fails { IsErr result ↔ (read_fails self.old ≡ true) }
-        ensures count { IfOk result (λ k. k ≡ given self.old (length buf.old)) }
+        ensures count { IfOk result (λ k. k ≡ given_bytes self.old (length buf.old)) }
         ensures after { self.new ≡ after_read self.old (length buf.old) }
     {
         let number = self.reads;

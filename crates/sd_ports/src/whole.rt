@@ -1,6 +1,6 @@
 ghost use Rattle.std.specs.Prelude.{◌≡◌, ◌≤◌, IfOk, OnOk, OnErr, IsErrOf, length};
 ghost use Rattle.std.specs.Io.KnownBytes.{Appends};
-ghost use Rattle.sd_cause.specs.Count.{HasCause, Rose};
+ghost use Rattle.sd_cause.specs.Count.{HasCause, HasRisen};
 ghost use Rattle.sd_ports.specs.Rooms.{FillsRoom};
 ghost use Rattle.sd_ports.specs.Bytes.{AppendsPrefix, LosesPrefix, GivesAll, IsLonger};
 
@@ -31,7 +31,7 @@ pub fn read_all<S: Source>(
     ensures all { IfOk result (λ bytes. GivesAll (S.left source.old) (S.left source.new) bytes.items) }
     ensures within { IfOk result (λ bytes. length bytes.items ≤ most) }
     ensures too_big { IsErrOf result ReadAllFault.TooBig → IsLonger (S.left source.old) most }
-    ensures failed { IsErrOf result ReadAllFault.Failed → Rose (S.faults source.old) (S.faults source.new) }
+    ensures failed { IsErrOf result ReadAllFault.Failed → HasRisen (S.faults source.old) (S.faults source.new) }
     ensures later { S.faults source.old ≤ S.faults source.new }
     ensures calm { ¬ IsErrOf result ReadAllFault.Failed → S.faults source.new ≡ S.faults source.old }
     ensures lost { OnErr result (LosesPrefix (S.left source.old) (S.left source.new)) }

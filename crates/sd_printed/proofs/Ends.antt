@@ -12,7 +12,7 @@ use Rattle.sd_book.specs.Commands.{last_period}
 use Rattle.sd_steiner.specs.Cover.{cover_of}
 use Rattle.sd_reach.specs.Reach.{Key, IsReached}
 use Rattle.sd_reach.proofs.Own.{member_reaches_together}
-use Rattle.sd_pooled.specs.Know.{Service, OfTree, PeriodKey, IsKnown, revoked_at, sets_at}
+use Rattle.sd_pooled.specs.Know.{Service, OfTree, PeriodKey, IsKnown, revoked_at, service_sets}
 use Rattle.sd_pooled.proofs.Known.{secrets_known, periods_known, sets_opened, sets_shut}
 use Rattle.sd_periods.specs.Periods.{set_line, period_line}
 use Rattle.sd_run_opens.specs.Opens.{open_end, shut_end, pool_end, opened_text, shut_text}
@@ -45,7 +45,7 @@ open_is_known service leaves name low fits height =
 -- some line says so exactly where the leaves' cards together give the key of the period
 pub open_gives_period : (service : Service) (leaves : List ℕ) (q : ℕ) → service.height ≤ highest →
     All (λ u. u < 2 ^ service.height) leaves → q ≤ last_period service.commands →
-    Any (λ name. pool_end service.height leaves name ≡ open_end) (sets_at service q)
+    Any (λ name. pool_end service.height leaves name ≡ open_end) (service_sets service q)
     ↔ IsKnown service leaves (PeriodKey q)
 open_gives_period service leaves q low fits due =
     let some = sets_opened service leaves q low fits in
@@ -69,7 +69,7 @@ same_ends end last (name ∷ sets) all =
 pub all_shut : (service : Service) (leaves : List ℕ) (q : ℕ) → service.height ≤ highest →
     All (Contains (revoked_at service q)) leaves →
     opened_text service.height leaves service.commands q ≡ shut_text service.height service.commands q
-unfolding sets_at
+unfolding service_sets
 all_shut service leaves q low members =
     let d = service.height in
     let sets = cover_of d (revoked_at service q) in

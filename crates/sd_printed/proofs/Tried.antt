@@ -26,13 +26,13 @@ use Rattle.sd_losses.specs.Endings.{first_revoked, whole_ending}
 use Rattle.sd_losses.proofs.Theorem.{whole_refused, whole_opened, whole_ended}
 use Rattle.sd_status.specs.declared.status.Status.{Status}
 use Rattle.sd_status.specs.declared.status.Status.TheVariants.{Done}
-use Rattle.sd_status.specs.Meant.{Word, Given, after, value, ◌>>=◌}
+use Rattle.sd_status.specs.Spec.{FileArgument, Readings, and_then, value, ◌>>=◌}
 use Rattle.sd_ports.specs.Bytes.{Prefix}
 use Rattle.sd_run_head.specs.Head.{sent_of, sent_status, status_where}
 use Rattle.sd_run_head.proofs.Sending.{sent_unrefused}
 use Rattle.sd_run_receive.specs.Receive.{ending_status, ended_status, received_of, received_status}
 use Rattle.sd_run_receive.proofs.Received.{none_refused, bytes_are}
-use Rattle.sd_run_trial.specs.Trial.{clear_line, lines_of, lines_to, receiver_line, sent_or, then_line, told_line}
+use Rattle.sd_run_trial.specs.Trial.{clear_line, trial_lines, lines_to, receiver_line, sent_or, then_line, told_line}
 use Rattle.sd_files.specs.Printed.{printing}
 use Rattle.sd_run_trial.specs.Trial.{plan_meaning, told_sent, trial_meaning, trial_text, trying}
 use Rattle.sd_run_trial.specs.Prefixes.{prefix_of_file}
@@ -144,20 +144,20 @@ trial_opened plan bytes is all are end =
     ap (λ (xs : List ℕ). length xs / 188) (sym (taken_joined bytes end)) ∙ long_packets clear synced in
     let long : length stream / 188 ≡ length (broadcast plan clear) =
     long_packets (broadcast plan clear) (broadcast_synced plan clear is all whole synced) in
-    ap (lines_of plan (length bytes)) (all_told (sent_status plan bytes) (sent_of plan bytes) stream sent.1 sent.0)
+    ap (trial_lines plan (length bytes)) (all_told (sent_status plan bytes) (sent_of plan bytes) stream sent.1 sent.0)
     ∙ ap (λ (n : ℕ). lines_to plan.site stream (clear_line n (length stream / 188)) (2 ^ plan.site.height)) size
     ∙ ap (λ (n : ℕ). lines_to plan.site stream (clear_line (length clear) n) (2 ^ plan.site.height)) long
     ∙ all_lines plan clear is all whole synced (2 ^ plan.site.height) (omega arith)
 
 -- a trial of good files, by its steps
-pub trial_good : (site book clear : Word) (given : Given) (plan : Plan) (bytes : List ℕ) → IsPlan plan →
+pub trial_good : (site book clear : FileArgument) (given : Readings) (plan : Plan) (bytes : List ℕ) → IsPlan plan →
     (plan_meaning site book given).result ≡ Ok plan → given clear ≡ Some bytes → length bytes ≤ most_clear_bytes →
     AreBytes bytes → end_of bytes ≡ Whole → IsClear plan.site (taken_of bytes) →
     (trial_meaning site book clear given).result
     ≡ Ok (printing (Ok (opened_lines plan (taken_of bytes) (2 ^ plan.site.height))))
 unfolding trial_meaning prefix_of_file
 trial_good site book clear given plan bytes is said there few are end all =
-    ap (λ (r : Result Plan Status). (after (plan_meaning site book given).calls r (λ plan.
+    ap (λ (r : Result Plan Status). (and_then (plan_meaning site book given).calls r (λ plan.
     prefix_of_file clear.number most_clear_bytes (given clear) >>= λ prefix. value (trying plan prefix))).result) said
     ∙ ap (λ (got : Option (List ℕ)). (prefix_of_file clear.number most_clear_bytes got
     >>= λ prefix. value (trying plan prefix)).result) there
@@ -173,7 +173,7 @@ done_sent (Breaks found) None more sent got e = absurd (cc)
 done_sent RunsOn None more sent got e = absurd (cc)
 done_sent end (Some fault) more sent got e = absurd (cc)
 
-lines_sent : (plan : Plan) (n : ℕ) (told : Result (List ℕ) Status) (text : List ℕ) → lines_of plan n told ≡ Ok text →
+lines_sent : (plan : Plan) (n : ℕ) (told : Result (List ℕ) Status) (text : List ℕ) → trial_lines plan n told ≡ Ok text →
     (sent : List ℕ) × (told ≡ Ok sent)
 lines_sent plan n (Ok sent) text e = (sent, refl)
 lines_sent plan n (Err status) text e = absurd (cc)

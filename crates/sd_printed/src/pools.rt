@@ -9,7 +9,7 @@ ghost use Rattle.sd_tree.specs.SetNames.{IsOfHeight};
 ghost use Rattle.sd_label.specs.Names.{given};
 ghost use Rattle.sd_book.specs.Commands.{last_period};
 ghost use Rattle.sd_reach.specs.Reach.{Key, IsReached};
-ghost use Rattle.sd_pooled.specs.Know.{Service, OfTree, PeriodKey, IsKnown, KnowsNothingOf, revoked_at, sets_at};
+ghost use Rattle.sd_pooled.specs.Know.{Service, OfTree, PeriodKey, IsKnown, KnowsNothingOf, revoked_at, service_sets};
 ghost use Rattle.sd_run_opens.specs.Opens.{open_end, shut_end, pool_end, opened_text, shut_text};
 
 /// The line of a set says `open` if and only if its key is derivable from the names of the listed leaves together
@@ -30,7 +30,7 @@ pub fn open_sets_are_reached()
 pub fn open_lines_give_the_period()
     ensures { (service : Service) (leaves : List ℕ) (q : ℕ) → service.height ≤ highest →
         All (λ u. u < 2 ^ service.height) leaves → q ≤ last_period service.commands →
-        Any (λ name. pool_end service.height leaves name ≡ open_end) (sets_at service q)
+        Any (λ name. pool_end service.height leaves name ≡ open_end) (service_sets service q)
         ↔ IsKnown service leaves (PeriodKey q) }
 {}
 

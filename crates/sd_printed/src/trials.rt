@@ -6,7 +6,7 @@ ghost use Rattle.sd_engine.specs.Taken.{Whole, taken_of, end_of};
 ghost use Rattle.sd_broadcast.specs.Plan.{Plan, IsPlan};
 ghost use Rattle.sd_broadcast.specs.Refused.{IsClear};
 ghost use Rattle.sd_whole.specs.Synced.{AreBytes};
-ghost use Rattle.sd_status.specs.Meant.{Word, Given};
+ghost use Rattle.sd_status.specs.Spec.{FileArgument, Readings};
 ghost use Rattle.sd_files.specs.Printed.{printing};
 ghost use Rattle.sd_run_trial.specs.Trial.{most_clear_bytes, plan_meaning, trial_meaning, trial_text};
 ghost use Rattle.sd_printed.specs.Trials.{opened_lines};
@@ -17,7 +17,7 @@ ghost use Rattle.sd_printed.specs.Trials.{opened_lines};
 /// the first period of the broadcast in which it is.
 #[tactic(auto, using(crate::proofs::Tried::trial_good))]
 pub fn good_trials_print_what_is_opened()
-    ensures { (site book clear : Word) (given : Given) (plan : Plan) (bytes : List ℕ) → IsPlan plan →
+    ensures { (site book clear : FileArgument) (given : Readings) (plan : Plan) (bytes : List ℕ) → IsPlan plan →
         (plan_meaning site book given).result ≡ Ok plan → given clear ≡ Some bytes → length bytes ≤ most_clear_bytes →
         AreBytes bytes → end_of bytes ≡ Whole → IsClear plan.site (taken_of bytes) →
         (trial_meaning site book clear given).result

@@ -9,7 +9,7 @@ use Rattle.sd_bits.specs.Bits.{field}
 use Rattle.sd_section.proofs.Judging.{field_take}
 use Rattle.sd_psi.specs.declared.items.Kind.{Kind}
 use Rattle.sd_psi.specs.declared.items.Kind.TheVariants.{Program, Descriptor, Stream}
-use Rattle.sd_psi.specs.Items.{size_of, cut, items_of, is_whole, are_whole}
+use Rattle.sd_psi.specs.Items.{size_of, cut, items_of, is_whole_item, are_whole}
 
 -- an item has a byte
 pub some_size : (kind : Kind) (bytes : List ℕ) → 0 < size_of kind bytes
@@ -63,13 +63,13 @@ first_cut kind (b ∷ bs) h =
 -- nothing is cut off of no bytes
 pub none_off : (kind : Kind) (bytes : List ℕ) → length bytes ≡ 0 → are_whole kind bytes ≡ true
 unfolding are_whole
-none_off kind bytes h = ap (list_all (is_whole kind)) (none_cut kind bytes h)
+none_off kind bytes h = ap (list_all (is_whole_item kind)) (none_cut kind bytes h)
 
 first_test : (kind : Kind) (bytes : List ℕ) → 0 < length bytes →
     are_whole kind bytes
-    ≡ (is_whole kind (take (size_of kind bytes) bytes) && are_whole kind (drop (size_of kind bytes) bytes))
+    ≡ (is_whole_item kind (take (size_of kind bytes) bytes) && are_whole kind (drop (size_of kind bytes) bytes))
 unfolding are_whole
-first_test kind bytes h = ap (list_all (is_whole kind)) (first_cut kind bytes h)
+first_test kind bytes h = ap (list_all (is_whole_item kind)) (first_cut kind bytes h)
 
 -- where the first item is there, it is as with those after it
 pub first_whole : (kind : Kind) (bytes : List ℕ) → 0 < length bytes → size_of kind bytes ≤ length bytes →
@@ -89,7 +89,7 @@ pub first_off : (kind : Kind) (bytes : List ℕ) → 0 < length bytes → length
     are_whole kind bytes ≡ false
 first_off kind bytes some off =
     let every : take (size_of kind bytes) bytes ≡ bytes = take_all (size_of kind bytes) bytes (omega arith) in
-    let wrong : is_whole kind (take (size_of kind bytes) bytes) ≡ false = rw every
+    let wrong : is_whole_item kind (take (size_of kind bytes) bytes) ≡ false = rw every
     (not_equal (length bytes) (size_of kind bytes) _ refl off) in
     first_test kind bytes some ∙ ap (λ (b : Bool). b && are_whole kind (drop (size_of kind bytes) bytes)) wrong
 

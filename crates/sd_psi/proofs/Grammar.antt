@@ -9,7 +9,7 @@ use Rattle.sd_bits.specs.Bits.{field}
 use Rattle.sd_section.proofs.Judging.{field_take}
 use Rattle.sd_psi.specs.declared.items.Kind.{Kind}
 use Rattle.sd_psi.specs.declared.items.Kind.TheVariants.{Program, Descriptor, Stream}
-use Rattle.sd_psi.specs.Items.{size_of, cut, items_of, is_whole, are_whole, joined}
+use Rattle.sd_psi.specs.Items.{size_of, cut, items_of, is_whole_item, are_whole, joined}
 use Rattle.sd_psi.proofs.Cutting.{some_size, left_less, first_cut, none_cut, none_off, first_whole, first_off}
 
 -- bytes are the items into which they are cut
@@ -43,11 +43,11 @@ size_before Descriptor item rest h = ap (λ (n : ℕ). 2 + n) (head_field item r
 size_before Stream item rest h = ap (λ (n : ℕ). 5 + n) (head_field item rest 28 12 (omega arith)) ∙ sym h
 
 -- so whole items are those of their bytes
-pub spelled_items : (kind : Kind) (items : List (List ℕ)) → list_all (is_whole kind) items ≡ true →
+pub spelled_items : (kind : Kind) (items : List (List ℕ)) → list_all (is_whole_item kind) items ≡ true →
     items_of kind (joined items) ≡ items
 spelled_items kind [] h = none_cut kind [] refl
 spelled_items kind (x ∷ xs) h =
-    let tests = and_parts (is_whole kind x) (list_all (is_whole kind) xs) h in
+    let tests = and_parts (is_whole_item kind x) (list_all (is_whole_item kind) xs) h in
     let long : length x ≡ size_of kind x = eqb-true (length x) (size_of kind x) tests.0 in
     let size = size_before kind x (joined xs) long in
     first_cut kind (x ++ joined xs) (omega (arith, long, some_size kind x, length-append x (joined xs)))
@@ -56,10 +56,10 @@ spelled_items kind (x ∷ xs) h =
     ∙ (ap (λ (l : List ℕ). x ∷ items_of kind l) (drop_at x (joined xs) (length x) refl) ∙
     ap (λ (l : List (List ℕ)). x ∷ l) (spelled_items kind xs tests.1))))
 
-pub spelled_whole : (kind : Kind) (items : List (List ℕ)) → list_all (is_whole kind) items ≡ true →
+pub spelled_whole : (kind : Kind) (items : List (List ℕ)) → list_all (is_whole_item kind) items ≡ true →
     are_whole kind (joined items) ≡ true
 unfolding are_whole
-spelled_whole kind items h = ap (list_all (is_whole kind)) (spelled_items kind items h) ∙ h
+spelled_whole kind items h = ap (list_all (is_whole_item kind)) (spelled_items kind items h) ∙ h
 
 -- programs have four bytes each
 fours : (n : ℕ) (bytes : List ℕ) → length bytes ≤ n → (are_whole Program bytes ≡ true → length bytes % 4 ≡ 0)

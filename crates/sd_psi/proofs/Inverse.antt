@@ -10,14 +10,15 @@ use Rattle.sd_bits.specs.Bits.{field}
 use Rattle.sd_packet.specs.Header.{adaptation_of, payload_start_of, payload_of}
 use Rattle.sd_packet.proofs.Packets.{start_within}
 use Rattle.sd_section.proofs.Judging.{field_take}
-use Rattle.sd_section.specs.Header.{table_id_of, syntax_of, section_length_of, number_of, last_number_of, whole_of}
+use Rattle.sd_section.specs.Header.{table_id_of, syntax_of, section_length_of, section_number_of, last_number_of}
+use Rattle.sd_section.specs.Header.{whole_of}
 use Rattle.sd_section.specs.Header.{body_of, crc_in, crc_due}
 use Rattle.sd_psi.specs.declared.fault.FormFault.{FormFault}
 use Rattle.sd_psi.specs.declared.fault.FormFault.TheVariants as Fault
 use Rattle.sd_psi.specs.declared.form.Table.TheVariants.{Pmt}
 use Rattle.sd_psi.specs.Tables.{info_length_of, has_info, is_pmt}
 use Rattle.sd_psi.specs.Forms.{fault_unless, or_next, after_pointer, section_in, after_section, has_pointer, has_table}
-use Rattle.sd_psi.specs.Forms.{has_body, has_length, crc_fault, is_stuffing, bytes_fault, outer_fault}
+use Rattle.sd_psi.specs.Forms.{has_body, has_length, table_crc_fault, is_stuffing, bytes_fault, outer_fault}
 use Rattle.sd_psi.specs.Rewriting.{ca_descriptor, inserted, removed, before_section, rewritten, restored, loops_fault}
 use Rattle.sd_psi.specs.Rewriting.{has_room, is_first, rewrite_fault, removal_fault}
 use Rattle.sd_psi.specs.Undone.{IsPacket}
@@ -108,12 +109,12 @@ outer_good packet h =
     h in
     let tables = none_parts (fault_unless (has_table Pmt (after_pointer packet)) Fault.Table)
     (or_next (fault_unless (has_length Pmt (after_pointer packet)) Fault.Length)
-    (or_next (crc_fault (section_in packet)) (fault_unless (is_stuffing (after_section packet)) Fault.Trailing)))
+    (or_next (table_crc_fault (section_in packet)) (fault_unless (is_stuffing (after_section packet)) Fault.Trailing)))
     pointers.1 in
     let lengths = none_parts (fault_unless (has_length Pmt (after_pointer packet)) Fault.Length)
-    (or_next (crc_fault (section_in packet)) (fault_unless (is_stuffing (after_section packet)) Fault.Trailing))
+    (or_next (table_crc_fault (section_in packet)) (fault_unless (is_stuffing (after_section packet)) Fault.Trailing))
     tables.1 in
-    let crcs = none_parts (crc_fault (section_in packet))
+    let crcs = none_parts (table_crc_fault (section_in packet))
     (fault_unless (is_stuffing (after_section packet)) Fault.Trailing) lengths.1 in
     record {
       pointer = none_true (has_pointer packet) Fault.Pointer pointers.0;
@@ -224,14 +225,14 @@ bytes_good : (bytes : List ℕ) → has_table Pmt bytes ≡ true → has_length 
     ≡ crc_due (whole_of bytes) →
     is_stuffing (drop (3 + section_length_of bytes) bytes) ≡ true → bytes_fault Pmt bytes ≡ None
 bytes_good bytes table lengths right stuffing =
-    let crc : crc_fault (whole_of bytes) ≡ None =
+    let crc : table_crc_fault (whole_of bytes) ≡ None =
     ap (λ (t : Bool). fault_unless t (Fault.Crc (crc_in (whole_of bytes)) (crc_due (whole_of bytes))))
     (eq-eqb (crc_in (whole_of bytes)) (crc_due (whole_of bytes)) right) in
     ap (λ (t : Bool). or_next (fault_unless t Fault.Table) (or_next (fault_unless (has_length Pmt bytes) Fault.Length)
-    (or_next (crc_fault (whole_of bytes)) (fault_unless (is_stuffing (drop (3 + section_length_of bytes) bytes))
+    (or_next (table_crc_fault (whole_of bytes)) (fault_unless (is_stuffing (drop (3 + section_length_of bytes) bytes))
     Fault.Trailing)))) table
     ∙ (ap (λ (t : Bool). or_next (fault_unless t Fault.Length)
-    (or_next (crc_fault (whole_of bytes)) (fault_unless (is_stuffing (drop (3 + section_length_of bytes) bytes))
+    (or_next (table_crc_fault (whole_of bytes)) (fault_unless (is_stuffing (drop (3 + section_length_of bytes) bytes))
     Fault.Trailing))) lengths
     ∙ (ap (λ (f : Option FormFault). or_next f (fault_unless (is_stuffing (drop (3 + section_length_of bytes) bytes))
     Fault.Trailing)) crc
@@ -251,17 +252,18 @@ table_kept packet section rest good is_right shape =
     λ at width h. head_field section rest at width (omega (arith, shape.low)) in
     let ids = and_parts (nat_le 2 (length after))
     ((table_id_of after == 2) &&
-    ((syntax_of after == 1) && ((number_of after == 0) && (last_number_of after == 0)))) good.table in
+    ((syntax_of after == 1) && ((section_number_of after == 0) && (last_number_of after == 0)))) good.table in
     let forms = and_parts (table_id_of after == 2)
-    ((syntax_of after == 1) && ((number_of after == 0) && (last_number_of after == 0))) ids.1 in
-    let syntax = and_parts (syntax_of after == 1) ((number_of after == 0) && (last_number_of after == 0)) forms.1 in
-    let numbers = and_parts (number_of after == 0) (last_number_of after == 0) syntax.1 in
+    ((syntax_of after == 1) && ((section_number_of after == 0) && (last_number_of after == 0))) ids.1 in
+    let syntax = and_parts (syntax_of after ==
+    1) ((section_number_of after == 0) && (last_number_of after == 0)) forms.1 in
+    let numbers = and_parts (section_number_of after == 0) (last_number_of after == 0) syntax.1 in
     let e0 : table_id_of (section ++ rest) ≡ 2 = before 0 8 (omega arith) ∙
     (shape.id ∙ (kept 0 8 (omega arith) ∙ eqb-true (table_id_of after) 2 forms.0)) in
     let e1 : syntax_of (section ++ rest) ≡ 1 = before 8 1 (omega arith) ∙
     (shape.syntax ∙ (kept 8 1 (omega arith) ∙ eqb-true (syntax_of after) 1 syntax.0)) in
-    let e2 : number_of (section ++ rest) ≡ 0 = before 48 8 (omega arith) ∙
-    (shape.number ∙ (kept 48 8 (omega arith) ∙ eqb-true (number_of after) 0 numbers.0)) in
+    let e2 : section_number_of (section ++ rest) ≡ 0 = before 48 8 (omega arith) ∙
+    (shape.number ∙ (kept 48 8 (omega arith) ∙ eqb-true (section_number_of after) 0 numbers.0)) in
     let e3 : last_number_of (section ++ rest) ≡ 0 = before 56 8 (omega arith) ∙
     (shape.last_number ∙ (kept 56 8 (omega arith) ∙ eqb-true (last_number_of after) 0 numbers.1)) in
     let two : nat_le 2 (length (section ++ rest)) ≡ true = le-leb 2 (length (section ++ rest))

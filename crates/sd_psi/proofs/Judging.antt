@@ -8,7 +8,8 @@ use Rattle.sd_bits.specs.Bits.{bit, field}
 use Rattle.sd_packet.specs.Header.{payload_start_of}
 use Rattle.sd_packet.proofs.Packets.{start_within}
 use Rattle.sd_section.specs.declared.fault.SectionFault.TheVariants as SectionFault
-use Rattle.sd_section.specs.Header.{table_id_of, syntax_of, section_length_of, number_of, last_number_of, whole_of}
+use Rattle.sd_section.specs.Header.{table_id_of, syntax_of, section_length_of, section_number_of, last_number_of}
+use Rattle.sd_section.specs.Header.{whole_of}
 use Rattle.sd_section.specs.Header.{body_of}
 use Rattle.sd_section.specs.Judged.{section_fault, unless}
 use Rattle.sd_section.specs.Judged.{crc_fault as section_crc_fault}
@@ -17,7 +18,7 @@ use Rattle.sd_psi.specs.declared.fault.FormFault.TheVariants as Fault
 use Rattle.sd_psi.specs.declared.form.Table.{Table}
 use Rattle.sd_psi.specs.declared.form.Table.TheVariants.{Pat, Cat, Pmt}
 use Rattle.sd_psi.specs.Forms.{fault_unless, or_next, id_of, least_of, section_in, has_table, has_body, has_length}
-use Rattle.sd_psi.specs.Forms.{crc_fault, outer_fault, has_form, form_fault}
+use Rattle.sd_psi.specs.Forms.{table_crc_fault, outer_fault, has_form, form_fault}
 
 -- a payload has at most 184 bytes
 pub payload_short : (packet : List ℕ) (n : ℕ) → n ≡ 188 - payload_start_of packet → n ≤ 184
@@ -53,10 +54,11 @@ fitting : (table : Table) (bytes : List ℕ) → has_table table bytes ≡ true 
 fitting table bytes t l =
     let ids = and_parts (nat_le 2 (length bytes))
     ((table_id_of bytes == id_of table) &&
-    ((syntax_of bytes == 1) && ((number_of bytes == 0) && (last_number_of bytes == 0)))) t in
+    ((syntax_of bytes == 1) && ((section_number_of bytes == 0) && (last_number_of bytes == 0)))) t in
     let forms = and_parts (table_id_of bytes == id_of table)
-    ((syntax_of bytes == 1) && ((number_of bytes == 0) && (last_number_of bytes == 0))) ids.1 in
-    let syntax = and_parts (syntax_of bytes == 1) ((number_of bytes == 0) && (last_number_of bytes == 0)) forms.1 in
+    ((syntax_of bytes == 1) && ((section_number_of bytes == 0) && (last_number_of bytes == 0))) ids.1 in
+    let syntax = and_parts (syntax_of bytes ==
+    1) ((section_number_of bytes == 0) && (last_number_of bytes == 0)) forms.1 in
     let threes = and_parts (nat_le 3 (length bytes))
     (nat_le (3 + section_length_of bytes) (length bytes) &&
     (nat_le (least_of table) (section_length_of bytes) && has_body table (whole_of bytes))) l in
@@ -111,22 +113,23 @@ length_test false a b next h = absurd (cc)
 
 pub crc_right : (table : Table) (bytes : List ℕ) → length bytes ≤ 183 → has_table table bytes ≡ true →
     has_length table bytes ≡ true →
-    section_fault bytes ≡ None → crc_fault (whole_of bytes) ≡ None
+    section_fault bytes ≡ None → table_crc_fault (whole_of bytes) ≡ None
 crc_right table bytes short t l h = right_test _ _ _ (sym (judged table bytes short t l) ∙ h)
 
 pub crc_wrong : (table : Table) (bytes : List ℕ) (found due : ℕ) → length bytes ≤ 183 → has_table table bytes ≡ true →
     has_length table bytes ≡ true →
-    section_fault bytes ≡ Some (SectionFault.Crc found due) → crc_fault (whole_of bytes) ≡ Some (Fault.Crc found due)
+    section_fault bytes ≡ Some (SectionFault.Crc found due) →
+    table_crc_fault (whole_of bytes) ≡ Some (Fault.Crc found due)
 crc_wrong table bytes found due short t l h = wrong_test _ _ _ found due (sym (judged table bytes short t l) ∙ h)
 
 pub never_short : (table : Table) (bytes : List ℕ) → length bytes ≤ 183 → has_table table bytes ≡ true →
     has_length table bytes ≡ true →
-    section_fault bytes ≡ Some SectionFault.Short → crc_fault (whole_of bytes) ≡ Some Fault.Length
+    section_fault bytes ≡ Some SectionFault.Short → table_crc_fault (whole_of bytes) ≡ Some Fault.Length
 never_short table bytes short t l h = short_test _ _ _ _ (sym (judged table bytes short t l) ∙ h)
 
 pub never_length : (table : Table) (bytes : List ℕ) → length bytes ≤ 183 → has_table table bytes ≡ true →
     has_length table bytes ≡ true →
-    section_fault bytes ≡ Some SectionFault.Length → crc_fault (whole_of bytes) ≡ Some Fault.Length
+    section_fault bytes ≡ Some SectionFault.Length → table_crc_fault (whole_of bytes) ≡ Some Fault.Length
 never_length table bytes short t l h = length_test _ _ _ _ (sym (judged table bytes short t l) ∙ h)
 
 -- what is wrong before the loops is wrong first, and else the loops may be wrong

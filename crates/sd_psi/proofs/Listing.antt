@@ -8,7 +8,7 @@ use Rattle.std.proofs.lemmas.Bool.{and_parts, eqb-true, ne_eqb}
 use Rattle.sd_bits.specs.Bits.{field}
 use Rattle.sd_section.specs.Header.{table_id_of, body_of}
 use Rattle.sd_psi.specs.declared.items.Kind.TheVariants.{Program, Descriptor, Stream}
-use Rattle.sd_psi.specs.Items.{size_of, items_of, is_whole, are_whole}
+use Rattle.sd_psi.specs.Items.{size_of, items_of, is_whole_item, are_whole}
 use Rattle.sd_psi.specs.Tables.{are_descriptors, program_of, programs_in, pmt_pids_in, is_pat, is_cat, has_info}
 use Rattle.sd_psi.specs.Tables.{info_of, loop_of, stream_of, streams_in, is_stream, are_streams, is_pmt}
 use Rattle.sd_psi.proofs.Cutting.{items_after, size_itself, off_after, none_cut}
@@ -90,11 +90,11 @@ unfolding size_of
 stream_head bytes = omega arith
 
 -- streams that are filled are as long as they say
-all_whole : (items : List (List ℕ)) → list_all is_stream items ≡ true → list_all (is_whole Stream) items ≡ true
+all_whole : (items : List (List ℕ)) → list_all is_stream items ≡ true → list_all (is_whole_item Stream) items ≡ true
 all_whole [] h = refl
 all_whole (x ∷ xs) h =
     let parts = and_parts (is_stream x) (list_all is_stream xs) h in
-    let first = and_parts (is_whole Stream x) (are_descriptors (drop 5 x)) parts.0 in
+    let first = and_parts (is_whole_item Stream x) (are_descriptors (drop 5 x)) parts.0 in
     rw first.0 (all_whole xs parts.1)
 
 pub streams_whole : (bytes : List ℕ) → are_streams bytes ≡ true → are_whole Stream bytes ≡ true
@@ -121,7 +121,7 @@ pub info_first : (bytes rest item : List ℕ) → are_streams bytes ≡ true →
     rest →
     are_descriptors (drop 5 item) ≡ true
 info_first bytes rest item whole cut =
-    (and_parts (is_whole Stream item) (are_descriptors (drop 5 item)) (first_parts bytes rest item whole cut).0).1
+    (and_parts (is_whole_item Stream item) (are_descriptors (drop 5 item)) (first_parts bytes rest item whole cut).0).1
 
 pub streams_left : (bytes rest item : List ℕ) → are_streams bytes ≡ true → items_of Stream bytes ≡ item
     ∷ items_of Stream rest →

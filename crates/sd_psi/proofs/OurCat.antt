@@ -10,13 +10,13 @@ use Rattle.sd_bits.proofs.Words.{byte_field}
 use Rattle.sd_packet.specs.Packing.{packed}
 use Rattle.sd_packet.proofs.Packets.{packet_reads}
 use Rattle.sd_section.specs.Header.{whole_of, body_of, crc_in, crc_due}
-use Rattle.sd_section.specs.Written.{header_bytes, section_bytes, Fits}
+use Rattle.sd_section.specs.Written.{header_bytes, section_bytes, FitsFields}
 use Rattle.sd_section.specs.declared.write.Header.{Header}
 use Rattle.sd_section.proofs.Spelling.{all_headed, section_long, whole_is_read, fields_are_read}
 use Rattle.sd_psi.specs.declared.form.Table.{Table}
 use Rattle.sd_psi.specs.declared.form.Table.TheVariants.{Cat}
 use Rattle.sd_psi.specs.declared.items.Kind.TheVariants.{Descriptor}
-use Rattle.sd_psi.specs.Items.{size_of, is_whole, are_whole}
+use Rattle.sd_psi.specs.Items.{size_of, is_whole_item, are_whole}
 use Rattle.sd_psi.specs.Tables.{descriptors_of, tag_of, content_of, is_cat}
 use Rattle.sd_psi.specs.Access.{is_ca, cat_descriptor, cat_header, cat_section, IsCatDescriptor}
 use Rattle.sd_psi.specs.Forms.{after_pointer, section_in, has_body, is_stuffing, bytes_fault, outer_fault, cat_fault}
@@ -43,7 +43,7 @@ packed_good table section pid counter h k good =
     let read = packet_reads section pid counter h k in
     rw (read.unit_start, read.payload) good
 
-cat_fits : Fits cat_header
+cat_fits : FitsFields cat_header
 cat_fits = record { table_id = omega arith; extension = omega arith; number = omega arith; last_number = omega arith }
 
 section_right : (header : Header) (body : List ℕ) → crc_in (section_bytes header body)
@@ -88,7 +88,7 @@ module _ (body : List ℕ) (few : length body ≤ 171) where
       ) refl
 
 -- the descriptor of the project's CAT fills its body
-descriptor_whole : (ca emm ecm : ℕ) → is_whole Descriptor (cat_descriptor ca emm ecm) ≡ true
+descriptor_whole : (ca emm ecm : ℕ) → is_whole_item Descriptor (cat_descriptor ca emm ecm) ≡ true
 unfolding size_of field
 descriptor_whole ca emm ecm = refl
 

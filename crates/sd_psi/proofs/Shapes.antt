@@ -8,7 +8,8 @@ use Rattle.std.proofs.lemmas.List.{take_at, drop_at, drop-drop, drop-take, take-
 use Rattle.std.proofs.lemmas.Slice.Eq.{bytes_eq-Decides}
 use Rattle.sd_bits.specs.Bits.{field}
 use Rattle.sd_bits.proofs.Words.{byte_field}
-use Rattle.sd_section.specs.Header.{table_id_of, syntax_of, section_length_of, number_of, last_number_of, body_of}
+use Rattle.sd_section.specs.Header.{table_id_of, syntax_of, section_length_of, section_number_of, last_number_of}
+use Rattle.sd_section.specs.Header.{body_of}
 use Rattle.sd_section.specs.Header.{crc_in, crc_due}
 use Rattle.sd_section.specs.Written.{sealed}
 use Rattle.sd_section.proofs.Judging.{field_take}
@@ -62,7 +63,7 @@ pub record IsShaped (old new : List ℕ) : Type 0 where
   pub low : 16 + info_length_of new ≤ length new
   pub id : table_id_of new ≡ table_id_of old
   pub syntax : syntax_of new ≡ syntax_of old
-  pub number : number_of new ≡ number_of old
+  pub number : section_number_of new ≡ section_number_of old
   pub last_number : last_number_of new ≡ last_number_of old
   pub right : crc_in new ≡ crc_due new
   pub info : info_of new ≡ take (info_length_of new) (loops_of new)

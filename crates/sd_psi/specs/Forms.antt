@@ -3,7 +3,8 @@ use Rattle.std.specs.Prelude.{ℕ, ◌+◌, ◌%◌, Bool, true, false, ◌==◌
 use Rattle.std.specs.Prelude.{Option, Some, None}
 use Rattle.std.specs.List.{list_all}
 use Rattle.sd_packet.specs.Header.{unit_start_of, payload_of}
-use Rattle.sd_section.specs.Header.{table_id_of, syntax_of, section_length_of, number_of, last_number_of, whole_of}
+use Rattle.sd_section.specs.Header.{table_id_of, syntax_of, section_length_of, section_number_of, last_number_of}
+use Rattle.sd_section.specs.Header.{whole_of}
 use Rattle.sd_section.specs.Header.{body_of, crc_in, crc_due}
 use Rattle.sd_psi.specs.declared.fault.FormFault.{FormFault}
 use Rattle.sd_psi.specs.declared.fault.FormFault.TheVariants as Fault
@@ -56,7 +57,7 @@ abbrev pub has_table : Table → List ℕ → Bool
 has_table table bytes =
     nat_le 2 (length bytes) &&
     ((table_id_of bytes == id_of table) &&
-    ((syntax_of bytes == 1) && ((number_of bytes == 0) && (last_number_of bytes == 0))))
+    ((syntax_of bytes == 1) && ((section_number_of bytes == 0) && (last_number_of bytes == 0))))
 
 -- the body has the length that its table asks for: whole programs in a PAT, program_info in a PMT
 -- [ISO/IEC 13818-1, 2.4.4.3 and 2.4.4.8]
@@ -73,8 +74,9 @@ has_length table bytes =
     && (nat_le (least_of table) (section_length_of bytes) && has_body table (whole_of bytes)))
 
 -- the section ends with the CRC that is due [ISO/IEC 13818-1, 2.4.4 and annex A]
-abbrev pub crc_fault : List ℕ → Option FormFault
-crc_fault section = fault_unless (crc_in section == crc_due section) (Fault.Crc (crc_in section) (crc_due section))
+abbrev pub table_crc_fault : List ℕ → Option FormFault
+table_crc_fault section = fault_unless (crc_in section ==
+    crc_due section) (Fault.Crc (crc_in section) (crc_due section))
 
 -- stuffing alone [ISO/IEC 13818-1, 2.4.4]
 abbrev pub is_stuffing : List ℕ → Bool
@@ -86,7 +88,7 @@ abbrev pub bytes_fault : Table → List ℕ → Option FormFault
 bytes_fault table bytes =
     or_next (fault_unless (has_table table bytes) Fault.Table)
     (or_next (fault_unless (has_length table bytes) Fault.Length)
-    (or_next (crc_fault (whole_of bytes))
+    (or_next (table_crc_fault (whole_of bytes))
     (fault_unless (is_stuffing (drop (3 + section_length_of bytes) bytes)) Fault.Trailing)))
 
 -- the first thing that is wrong with the packet but its loops [this project, docs/FORMATS.md, Tables]

@@ -24,12 +24,12 @@ unfoldable pub items_of : Kind → List ℕ → List (List ℕ)
 items_of kind bytes = cut kind (length bytes) bytes
 
 -- the item is as long as it says
-abbrev pub is_whole : Kind → List ℕ → Bool
-is_whole kind item = length item == size_of kind item
+abbrev pub is_whole_item : Kind → List ℕ → Bool
+is_whole_item kind item = length item == size_of kind item
 
 -- the items fill the bytes exactly: none is cut off
 unfoldable pub are_whole : Kind → List ℕ → Bool
-are_whole kind bytes = list_all (is_whole kind) (items_of kind bytes)
+are_whole kind bytes = list_all (is_whole_item kind) (items_of kind bytes)
 
 -- the bytes of items that stand one after the other
 abbrev pub joined : List (List ℕ) → List ℕ

@@ -5,7 +5,7 @@ use Rattle.sd_bits.specs.Bits.{field}
 use Rattle.sd_section.specs.Header.{table_id_of, body_of}
 use Rattle.sd_psi.specs.declared.items.Kind.TheVariants.{Program, Descriptor}
 use Rattle.sd_psi.specs.declared.items.Kind.TheVariants as Item
-use Rattle.sd_psi.specs.Items.{size_of, items_of, is_whole, are_whole}
+use Rattle.sd_psi.specs.Items.{size_of, items_of, is_whole_item, are_whole}
 
 -- the descriptors that stand in some bytes, each by its own bytes [ISO/IEC 13818-1, 2.6]
 abbrev pub descriptors_of : List ℕ → List (List ℕ)
@@ -92,7 +92,7 @@ streams_of section = streams_in (loop_of section)
 
 -- the stream is as long as it says, and descriptors fill the part that ES_info_length counts [ISO/IEC 13818-1, 2.4.4.8]
 abbrev pub is_stream : List ℕ → Bool
-is_stream stream = is_whole Item.Stream stream && are_descriptors (drop 5 stream)
+is_stream stream = is_whole_item Item.Stream stream && are_descriptors (drop 5 stream)
 
 -- streams fill the bytes exactly
 unfoldable pub are_streams : List ℕ → Bool

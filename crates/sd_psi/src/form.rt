@@ -1,8 +1,8 @@
 ghost use Rattle.std.specs.Prelude.{◌≡◌, ◌+◌, ◌<◌, ◌≤◌, ◌==◌, ◌&&◌, true, Some, None, IfOk, MatchResult, length, drop};
 ghost use Rattle.sd_packet.specs.Header.{payload_start_of};
-ghost use Rattle.sd_section.specs.Header.{number_of, last_number_of, whole_of};
+ghost use Rattle.sd_section.specs.Header.{section_number_of, last_number_of, whole_of};
 ghost use Rattle.sd_psi.specs.Forms.{id_of, least_of, section_in, has_table as has_table_of, has_body as has_body_of};
-ghost use Rattle.sd_psi.specs.Forms.{has_length as has_length_of, crc_fault, is_stuffing as is_stuffing_of};
+ghost use Rattle.sd_psi.specs.Forms.{has_length as has_length_of, table_crc_fault, is_stuffing as is_stuffing_of};
 ghost use Rattle.sd_psi.specs.Forms.{bytes_fault, outer_fault};
 
 use crate::fault::FormFault;
@@ -88,8 +88,8 @@ fn read_whole<'a>(table: Table, bytes: &'a [u8]) -> Result<Section<'a>, FormFaul
     requires table { has_table_of table bytes.now ≡ true }
     requires length { has_length_of table bytes.now ≡ true }
     ensures value { IfOk result (λ section. section.bytes.now ≡ whole_of bytes.now) }
-    ensures fault { MatchResult result (λ _. crc_fault (whole_of bytes.now) ≡ None)
-        (λ fault. crc_fault (whole_of bytes.now) ≡ Some fault) }
+    ensures fault { MatchResult result (λ _. table_crc_fault (whole_of bytes.now) ≡ None)
+        (λ fault. table_crc_fault (whole_of bytes.now) ≡ Some fault) }
 {
     match read_one(bytes) {
         Ok(section) => Ok(section),
@@ -111,7 +111,7 @@ fn has_table(table: Table, bytes: &[u8]) -> bool
 
 // Whether section_number and last_section_number are 0, if the bytes go so far.
 fn is_only(bytes: &[u8]) -> bool
-    ensures { result ≡ ((number_of bytes.now == 0) && (last_number_of bytes.now == 0)) }
+    ensures { result ≡ ((section_number_of bytes.now == 0) && (last_number_of bytes.now == 0)) }
 {
     is_first(bytes) && is_last(bytes)
 }
@@ -119,7 +119,7 @@ fn is_only(bytes: &[u8]) -> bool
 // Whether section_number is 0, if the bytes go so far.
 #[tactic(auto, using(crate::proofs::Judging::past_is_zero))]
 fn is_first(bytes: &[u8]) -> bool
-    ensures { result ≡ (number_of bytes.now == 0) }
+    ensures { result ≡ (section_number_of bytes.now == 0) }
 {
     if bytes.len() < 7 {
         return true;

@@ -5,7 +5,7 @@ ghost use Rattle.std.specs.List.{list_all};
 ghost use Rattle.sd_psi.specs.declared.items.Kind.{Kind};
 ghost use Rattle.sd_psi.specs.declared.items.Kind.TheVariants.{Program};
 ghost use Rattle.sd_psi.specs.declared.fault.FormFault.TheVariants.{NoRoom};
-ghost use Rattle.sd_psi.specs.Items.{items_of, is_whole, are_whole, joined};
+ghost use Rattle.sd_psi.specs.Items.{items_of, is_whole_item, are_whole, joined};
 ghost use Rattle.sd_packet.specs.Packing.{packed};
 ghost use Rattle.sd_section.specs.Header.{body_of};
 ghost use Rattle.sd_psi.specs.Tables.{descriptors_of};
@@ -19,9 +19,9 @@ ghost use Rattle.sd_psi.specs.Undone.{IsPacket, KeepsHeader};
 #[tactic(auto, using(crate::proofs::Grammar::items_spell, crate::proofs::Grammar::spelled_items, crate::proofs::Grammar::spelled_whole))]
 pub fn items_are_spelled()
     ensures bytes { (kind : Kind) (bytes : List ℕ) → joined (items_of kind bytes) ≡ bytes }
-    ensures items { (kind : Kind) (items : List (List ℕ)) → list_all (is_whole kind) items ≡ true →
+    ensures items { (kind : Kind) (items : List (List ℕ)) → list_all (is_whole_item kind) items ≡ true →
         items_of kind (joined items) ≡ items }
-    ensures whole { (kind : Kind) (items : List (List ℕ)) → list_all (is_whole kind) items ≡ true →
+    ensures whole { (kind : Kind) (items : List (List ℕ)) → list_all (is_whole_item kind) items ≡ true →
         are_whole kind (joined items) ≡ true }
 {}
 

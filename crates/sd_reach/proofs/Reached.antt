@@ -17,29 +17,30 @@ use Rattle.sd_label.specs.declared.name.Name.TheVariants.{Whole, Pair}
 use Rattle.sd_label.specs.Names.{given}
 use Rattle.sd_steiner.proofs.Lists.{member_cases, member_first, member_later, no_member}
 use Rattle.sd_reach.proofs.Derivation.{Reach, at_first, by_rule, from_derived, to_derived, passes}
-use Rattle.sd_reach.specs.Reach.{Secret, Named, Key, Follows, left, right, middle, whole, IsHeld}
+use Rattle.sd_reach.specs.Reach.{Secret, Named, Key, IsGeneratorStep, left, right, middle, whole, IsHeld}
 use Rattle.sd_reach.specs.Reach.{IsReached, LeadsTo}
 
 -- what is reached, by how it came in
 abbrev Had : List Name → Secret → Type 0
-Had held secret = Reach (IsHeld held) Follows secret
+Had held secret = Reach (IsHeld held) IsGeneratorStep secret
 
 -- what is reached has come in by the rules
 from_reached : (held : List Name) (secret : Secret) → IsReached held secret → Had held secret
 unfolding IsReached
-from_reached held secret r = from_derived (IsHeld held) Follows secret r
+from_reached held secret r = from_derived (IsHeld held) IsGeneratorStep secret r
 
 -- what has come in by the rules is reached
 to_reached : (held : List Name) (secret : Secret) → Had held secret → IsReached held secret
 unfolding IsReached
-to_reached held secret r = to_derived (IsHeld held) Follows secret r
+to_reached held secret r = to_derived (IsHeld held) IsGeneratorStep secret r
 
 -- what is held is reached
 pub held_is_reached : (held : List Name) (name : Name) → Contains held name → IsReached held (Named name)
 held_is_reached held name m = to_reached held (Named name) (at_first m)
 
 -- what follows from what is reached is reached
-pub next_is_reached : (held : List Name) (from to : Secret) → IsReached held from → Follows from to → IsReached held to
+pub next_is_reached : (held : List Name) (from to : Secret) → IsReached held from → IsGeneratorStep from to →
+    IsReached held to
 next_is_reached held from to r f = to_reached held to (by_rule (from_reached held from r) f)
 
 -- a held secret is that of a held name
@@ -51,10 +52,10 @@ held_named held test is (Key name) m = absurd m
 -- a test that what is held passes, and what follows from what passes, is passed by all that is reached
 pub reached_passes : (held : List Name) (test : Secret → Bool)
     → ((name : Name) → Contains held name → test (Named name) ≡ true)
-    → ((from to : Secret) → Follows from to → test from ≡ true → test to ≡ true) → (secret : Secret)
+    → ((from to : Secret) → IsGeneratorStep from to → test from ≡ true → test to ≡ true) → (secret : Secret)
     → IsReached held secret → test secret ≡ true
 reached_passes held test is closed secret r =
-    passes (IsHeld held) Follows test (held_named held test is) closed (from_reached held secret r)
+    passes (IsHeld held) IsGeneratorStep test (held_named held test is) closed (from_reached held secret r)
 
 -- a name leads to itself
 leads_to_itself : (name : Name) → LeadsTo name (Named name)
@@ -72,7 +73,7 @@ at_or_above w v (inl same) = subst (IsAbove w) same (above_self w)
 at_or_above w v (inr above) = above.1
 
 -- a name leads to what follows from what it leads to
-leads_further : (name : Name) {from to : Secret} → LeadsTo name from → Follows from to → LeadsTo name to
+leads_further : (name : Name) {from to : Secret} → LeadsTo name from → IsGeneratorStep from to → LeadsTo name to
 leads_further Whole l (left h) = l
 leads_further Whole l (right h) = l
 leads_further Whole l (middle h) = l

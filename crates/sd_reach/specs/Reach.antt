@@ -16,11 +16,11 @@ pub data Secret : Type 0 where
 
 -- the second is made from the first: the labels of w's children and the key of S(i,w) from the label of (i,w) [Naor,
 -- Naor, Lotspiech 2001, 3.2]
-pub data Follows : Secret → Secret → Type 0 where
-  left : {i w : ℕ} → 1 ≤ w → Follows (Named (Pair i w)) (Named (Pair i (2 * w)))
-  right : {i w : ℕ} → 1 ≤ w → Follows (Named (Pair i w)) (Named (Pair i (2 * w + 1)))
-  middle : {i w : ℕ} → 1 ≤ w → Follows (Named (Pair i w)) (Key (Diff i w))
-  whole : Follows (Named Whole) (Key WholeSet)
+pub data IsGeneratorStep : Secret → Secret → Type 0 where
+  left : {i w : ℕ} → 1 ≤ w → IsGeneratorStep (Named (Pair i w)) (Named (Pair i (2 * w)))
+  right : {i w : ℕ} → 1 ≤ w → IsGeneratorStep (Named (Pair i w)) (Named (Pair i (2 * w + 1)))
+  middle : {i w : ℕ} → 1 ≤ w → IsGeneratorStep (Named (Pair i w)) (Key (Diff i w))
+  whole : IsGeneratorStep (Named Whole) (Key WholeSet)
 
 -- the secret is that of a held name
 abbrev pub IsHeld : List Name → Secret → Type 0
@@ -29,7 +29,7 @@ IsHeld held (Key name) = ⊥
 
 -- the secret is derivable from the held names, by the steps of the generator [Naor, Naor, Lotspiech 2001, 3.2]
 unfoldable pub IsReached : List Name → Secret → Type 0
-IsReached held secret = IsDerived (IsHeld held) Follows secret
+IsReached held secret = IsDerived (IsHeld held) IsGeneratorStep secret
 
 -- the name of the secret that a set's key is made from
 abbrev pub source_of : SetName → Name

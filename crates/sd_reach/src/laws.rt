@@ -8,15 +8,17 @@ ghost use Rattle.sd_label.specs.Names.{given};
 ghost use Rattle.sd_book.specs.declared.command.Command.{Command};
 ghost use Rattle.sd_book.specs.Commands.{revoked as revoked_in};
 ghost use Rattle.sd_steiner.specs.Chains.{IsChainCover};
-ghost use Rattle.sd_reach.specs.Reach.{Secret, Named, Key, Follows, IsReached, LeadsTo, ReachesItsSets, ReachesNoneOf};
+ghost use Rattle.sd_reach.specs.Reach.{Secret, Named, Key, IsGeneratorStep, IsReached, LeadsTo, ReachesItsSets};
+ghost use Rattle.sd_reach.specs.Reach.{ReachesNoneOf};
 
 /// What is reached is the least that has what is held and is closed under the rules.
 pub fn least_closed()
     ensures held { (held : List Name) (name : Name) → Contains held name → IsReached held (Named name) }
-    ensures closed { (held : List Name) (from to : Secret) → IsReached held from → Follows from to → IsReached held to }
+    ensures closed { (held : List Name) (from to : Secret) → IsReached held from → IsGeneratorStep from to →
+        IsReached held to }
     ensures least { (held : List Name) (test : Secret → Bool) →
         ((name : Name) → Contains held name → test (Named name) ≡ true) →
-        ((from to : Secret) → Follows from to → test from ≡ true → test to ≡ true) →
+        ((from to : Secret) → IsGeneratorStep from to → test from ≡ true → test to ≡ true) →
         (secret : Secret) → IsReached held secret → test secret ≡ true }
 {}
 

@@ -11,8 +11,8 @@ use Rattle.sd_card.specs.declared.card.Card.{Card}
 use Rattle.sd_engine.specs.Stage.{Chain}
 use Rattle.sd_reception.specs.declared.fault.StreamFault.{StreamFault}
 use Rattle.sd_reception.specs.Offered.{offered, out_from, break_from}
-use Rattle.sd_receive.specs.Receiving.{card_in, IsAfter, takes_key_at, steps_at, taken_keys, DoesRefuse}
-use Rattle.sd_receive.specs.Receiving.{receiver_does, Refusing, CameToAfter, CameTo, BrokeAt}
+use Rattle.sd_receive.specs.Receiving.{card_in, IsAfter, takes_key_at, steps_at, taken_keys, RefusesPacket}
+use Rattle.sd_receive.specs.Receiving.{receiver_does, Refusing, OutcomeAfter, OutcomeOf, BreakAt}
 use Rattle.sd_receive.specs.declared.receiver.Receiver.{Receiver}
 use Rattle.sd_receive.proofs.Turns.{reversed, first_none, rest_none}
 
@@ -64,7 +64,7 @@ joined_out first rest wrote more p q = ap (λ (x : List ℕ). x ++ rest) p ∙
 
 pub came_to : (past packets : List (List ℕ)) (s t : Receiver) (bytes : List ℕ) (n : ℕ) → IsAfter past s →
     length past + length packets ≤ 2 ^ 64 - 1 → Chain receiver_does s packets t bytes n →
-    CameToAfter (card_in s) past packets t bytes n
+    OutcomeAfter (card_in s) past packets t bytes n
 unfolding out_from break_from taken_keys
 came_to past [] s t bytes n after few (same, none, none_taken) = record {
   written = none;
@@ -77,7 +77,7 @@ came_to past (packet ∷ packets) s t bytes n after few (mid, first, rest, m, k,
     let here = one past after (omega (arith, few)) in
     let card = card_in s in
     let kept : card_in mid ≡ card = ap (λ (c : Card). fields_of c) here.same in
-    let there = subst (λ (c : CardFields). CameToAfter c (packet ∷ past) packets t rest k) kept
+    let there = subst (λ (c : CardFields). OutcomeAfter c (packet ∷ past) packets t rest k) kept
     (came_to (packet ∷ past) packets mid t rest k here.after (omega (arith, few)) more) in
     record {
       written = joined ∙ (joined_out first rest (offered card past packet).wrote (out_from card (packet ∷ past) packets)
@@ -112,7 +112,7 @@ out_joined card past (packet ∷ packets) more none =
     )
 
 pub came_to_all : (packets : List (List ℕ)) (s t : Receiver) (bytes : List ℕ) (n : ℕ) → IsAfter [] s →
-    length packets ≤ 2 ^ 64 - 1 → Chain receiver_does s packets t bytes n → CameTo (card_in s) packets t bytes n
+    length packets ≤ 2 ^ 64 - 1 → Chain receiver_does s packets t bytes n → OutcomeOf (card_in s) packets t bytes n
 came_to_all packets s t bytes n after few chain =
     let came = came_to [] packets s t bytes n after (omega (arith, few)) chain in
     record {
@@ -131,7 +131,7 @@ record RefusedBy (card : CardFields) (past : List (List ℕ)) (packet : List ℕ
   few : steps ≤ steps_at card past packet
 
 refused_by : (past : List (List ℕ)) (s : Receiver) (packet : List ℕ) (why : StreamFault) (bytes : List ℕ) (steps : ℕ) →
-    DoesRefuse past s packet why bytes steps → RefusedBy (card_in s) past packet why bytes steps
+    RefusesPacket past s packet why bytes steps → RefusedBy (card_in s) past packet why bytes steps
 refused_by past s packet why bytes steps is = record { fault = is.fault; bytes_are = is.bytes_are; few = is.few }
 
 -- one packet more takes one key more or none
@@ -166,7 +166,7 @@ pub broke_at : (packets : List (List ℕ)) (s mid : Receiver) (packet : List ℕ
     (first last : List ℕ) (m k : ℕ) → IsAfter [] s → length packets < 2 ^ 64 - 1 →
     Chain receiver_does s packets mid first m →
     Refusing mid packet why last k →
-    BrokeAt (card_in s) packets packet more why (first ++ last) (m + k)
+    BreakAt (card_in s) packets packet more why (first ++ last) (m + k)
 broke_at packets s mid packet more why first last m k after few chain refuses =
     let card = card_in s in
     let came = came_to [] packets s mid first m after (omega (arith, few)) chain in

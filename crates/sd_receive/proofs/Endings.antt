@@ -17,9 +17,9 @@ use Rattle.sd_reception.specs.Ending.{periods_told, is_unkeyed, ending_with, run
 use Rattle.sd_reception.specs.Ending.{ended_before, ending_of}
 use Rattle.sd_hearing.specs.Ears.{tuned}
 use Rattle.sd_hearing.specs.declared.tune.Tuning.{Tuning as Kept}
-use Rattle.sd_collect.specs.Collected.{Keeps}
-use Rattle.sd_entitled.specs.Entitled.{is_revoked}
-use Rattle.sd_receive.specs.Listening.{Follows}
+use Rattle.sd_collect.specs.Collected.{IsMessageKept}
+use Rattle.sd_entitled.specs.Entitled.{is_told_revoked}
+use Rattle.sd_receive.specs.Listening.{IsListenerAfter}
 use Rattle.sd_receive.specs.Receiving.{card_in, IsAfter}
 use Rattle.sd_receive.specs.declared.listener.Listener.{Listener}
 use Rattle.sd_receive.specs.declared.receiver.Receiver.{Receiver}
@@ -47,21 +47,23 @@ all_runs r past last after some is =
     ∙ ap (joined (ended_before (card_in r) past)) is)
 
 -- what is told of the newest message is told by what is kept of it
-number_kept : (message : Option Message) (last : Option EcmHead) (places : List Place) → Keeps message last places →
+number_kept : (message : Option Message) (last : Option EcmHead) (places : List Place) →
+    IsMessageKept message last places →
     option_map_or (λ (m : Message). m.number + 1) message 0 ≡ option_map_or (λ (h : EcmHead). h.number + 1) last 0
 number_kept message None places kept = ap (λ (o : Option Message). option_map_or (λ (m : Message). m.number + 1) o 0)
     kept.says
 number_kept message (Some head) places kept = ap (λ (o : Option Message). option_map_or
     (λ (m : Message). m.number + 1) o 0) kept.says
 
-clear_kept : (message : Option Message) (last : Option EcmHead) (places : List Place) → Keeps message last places →
+clear_kept : (message : Option Message) (last : Option EcmHead) (places : List Place) →
+    IsMessageKept message last places →
     option_map_or (λ (m : Message). m.clear) message 0 ≡ option_map_or (λ (h : EcmHead). h.clear) last 0
 clear_kept message None places kept = ap (λ (o : Option Message). option_map_or (λ (m : Message). m.clear) o 0)
     kept.says
 clear_kept message (Some head) places kept = ap (λ (o : Option Message). option_map_or (λ (m : Message). m.clear) o 0)
     kept.says
 
-pub unclosed : (card : CardFields) (past : List Heard) (total : ℕ) (l : Listener) → Follows card past l →
+pub unclosed : (card : CardFields) (past : List Heard) (total : ℕ) (l : Listener) → IsListenerAfter card past l →
     l.closed ≡ false →
     Unclosed (option_map_or (λ head. head.number + 1) l.collect.last 0) ≡ run_ending card past total
 unfolding run_ending
@@ -71,15 +73,15 @@ unclosed card past total l follows open_yet =
     follows.collect.last)))
 
 -- the ending of a run that was closed
-pub closed : (card : CardFields) (past : List Heard) (total : ℕ) (l : Listener) → Follows card past l →
+pub closed : (card : CardFields) (past : List Heard) (total : ℕ) (l : Listener) → IsListenerAfter card past l →
     l.closed ≡ true →
-    ending_with (find (is_revoked card past) (periods_told past)) (find (is_unkeyed card past) (periods_told past))
+    ending_with (find (is_told_revoked card past) (periods_told past)) (find (is_unkeyed card past) (periods_told past))
     (option_map_or (λ head. head.clear) l.collect.last 0 - total)
     ≡ run_ending card past total
 unfolding run_ending
 closed card past total l follows yes_closed =
     let there : is_closed past ≡ true = sym follows.closed ∙ yes_closed in
-    rw there (ap (λ (n : ℕ). ending_with (find (is_revoked card past) (periods_told past))
+    rw there (ap (λ (n : ℕ). ending_with (find (is_told_revoked card past) (periods_told past))
     (find (is_unkeyed card past) (periods_told past)) (n - total))
     (sym (clear_kept (newest past).message l.collect.last l.collect.places.items follows.collect.last)))
 

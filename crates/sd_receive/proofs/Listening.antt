@@ -11,7 +11,7 @@ use Rattle.sd_emm.specs.declared.fault.EmmFault.TheVariants as Emms
 use Rattle.sd_ecm.specs.declared.part.EcmPart.{EcmPart}
 use Rattle.sd_ecm.specs.declared.message.EcmHead.{EcmHead}
 use Rattle.sd_ecm.specs.declared.fault.EcmFault.{EcmFault}
-use Rattle.sd_engine.specs.Stage.{Vessel}
+use Rattle.sd_engine.specs.Stage.{SinkState}
 use Rattle.sd_engine.specs.declared.stage.StageFault.{StageFault}
 use Rattle.sd_engine.specs.declared.stage.StageFault.TheVariants.{Write, Refused}
 use Rattle.sd_reception.specs.declared.fault.StreamFault.{StreamFault}
@@ -20,41 +20,44 @@ use Rattle.sd_reception.specs.Tuned.{Tuning}
 use Rattle.sd_reception.specs.Heard.{Heard, Dropped, Entitles, Controls, BadEmm, BadEcm, Other}
 use Rattle.sd_reception.specs.Stretches.{completes, current, seen, is_closed}
 use Rattle.sd_reception.specs.Keys.{key_from, key_at}
-use Rattle.sd_reception.specs.Offered.{Offering, nothing, refuses, key_offering, key_if_none, is_mixed, emm_offering}
+use Rattle.sd_reception.specs.Offered.{Offering, no_offering, refuses, key_offering, key_if_none, is_mixed}
+use Rattle.sd_reception.specs.Offered.{emm_offering}
 use Rattle.sd_reception.specs.Offered.{heard_offering}
 use Rattle.sd_entitled.specs.Entitled.{IsEntitled}
 use Rattle.sd_entitled.specs.declared.entitled.Entitled.{Entitled}
 use Rattle.sd_entitled.proofs.Keeping.{nothing_told}
-use Rattle.sd_collect.specs.Collected.{Collects, IsWaiting, IsComplete, fault_of}
+use Rattle.sd_collect.specs.Collected.{IsCollected, IsWaiting, IsComplete, fault_of}
 use Rattle.sd_collect.specs.declared.collect.Collect.{Collect}
 use Rattle.sd_collect.proofs.Collecting as Collecting
 use Rattle.sd_segment.specs.Holding.{Holding, held_more}
 use Rattle.sd_segment.proofs.Sinks.{took_none}
-use Rattle.sd_receive.specs.Listening.{Follows, Completes, Counts, Passes, Stops, TakesHeard, RefusesHeard, TookSome}
-use Rattle.sd_receive.specs.Listening.{Comes}
+use Rattle.sd_receive.specs.Listening.{IsListenerAfter, IsListenerAtMessage, CountsMore, PassesOffering}
+use Rattle.sd_receive.specs.Listening.{StopsAtOffering, TakesHeard, RefusesHeard, TookSome}
+use Rattle.sd_receive.specs.Listening.{PacketOutcome}
 use Rattle.sd_receive.specs.declared.listener.Listener.{Listener}
 use Rattle.sd_receive.proofs.Stretching.{stays_open}
 use Rattle.sd_receive.proofs.Holding.{nothing_held, held_same, held_other}
 use Rattle.sd_receive.proofs.Offering.{part_waits, part_refused}
 
 -- nothing more is counted
-none_more : (n : ℕ) → Counts n n 0
+none_more : (n : ℕ) → CountsMore n n 0
 none_more n total h = omega (arith, h)
 
 -- a thing of which nothing is written and nothing refused
-pub passes_none : (offering : Offering) (n : ℕ) → offering.fault ≡ None → offering.wrote ≡ [] → Passes offering n n []
+pub passes_none : (offering : Offering) (n : ℕ) → offering.fault ≡ None → offering.wrote ≡ [] →
+    PassesOffering offering n n []
 passes_none offering n fault wrote = record {
   fault = fault;
   bytes_are = ap concat (sym wrote);
-  counted = subst (λ (ps : List (List ℕ)). Counts n n (length ps)) (sym wrote) (none_more n);
+  counted = subst (λ (ps : List (List ℕ)). CountsMore n n (length ps)) (sym wrote) (none_more n);
 }
 
 pub stops_none : (offering : Offering) (why : StreamFault) → offering.fault ≡ Some why → offering.wrote ≡ [] →
-    Stops offering why []
+    StopsAtOffering offering why []
 stops_none offering why fault wrote = record { fault = fault; bytes_are = ap concat (sym wrote) }
 
 -- no byte is taken
-pub took_nothing : (u : Vessel) (Says : List ℕ → Type 0) → Says [] → TookSome u u Says
+pub took_nothing : (u : SinkState) (Says : List ℕ → Type 0) → Says [] → TookSome u u Says
 took_nothing u Says says = record { bytes = []; says = says; took = took_none u }
 
 -- a packet that is dropped
@@ -86,13 +89,13 @@ pub other_heard : (card : CardFields) (tuning : Tuning) (n : ℕ) (packet : List
     t.entitled ≡ s.entitled → t.collect ≡ s.collect → t.written ≡ s.written → t.segment ≡ held_more s.segment n packet →
     TakesHeard card tuning n (Other n packet) s t []
 other_heard card tuning n packet s t closed entitled collect written segment = λ past follows unclosed. (
-  subst (λ (k : ℕ). Passes (heard_offering card tuning n past (Other n packet)) s.written k []) (sym written)
+  subst (λ (k : ℕ). PassesOffering (heard_offering card tuning n past (Other n packet)) s.written k []) (sym written)
       (passes_none (heard_offering card tuning n past (Other n packet)) s.written refl refl),
   record {
     closed = closed ∙ (follows.closed ∙ (unclosed ∙ sym (stays_open past (Other n packet) unclosed refl)));
     entitled = subst (λ (e : Entitled). IsEntitled card (Other n packet ∷ past) e) (sym entitled)
         (nothing_told card (Other n packet) past s.entitled refl follows.entitled);
-    collect = subst (λ (c : Collect). Collects (Other n packet ∷ past) c) (sym collect)
+    collect = subst (λ (c : Collect). IsCollected (Other n packet ∷ past) c) (sym collect)
         (Collecting.other past n packet s.collect follows.collect);
     segment = segment ∙ (ap (λ (h : Option Holding). held_more h n packet) follows.segment ∙
         sym (held_other card past n packet));
@@ -107,7 +110,7 @@ wrote_none false a b p q = q
 key_writes_none : (n : ℕ) (emm : Emm) (key : Option (List ℕ)) → (key_offering n emm key).wrote ≡ []
 key_writes_none n emm None = refl
 key_writes_none n emm (Some key) =
-    wrote_none (bytes_eq (check_value_of key) emm.check) nothing
+    wrote_none (bytes_eq (check_value_of key) emm.check) no_offering
     (refuses (Fault.WrongKey n emm.period (check_value_of key) emm.check)) refl refl
 
 keys_write_none : (n : ℕ) (emm : Emm) (key found : Option (List ℕ)) → (key_if_none n emm key found).wrote ≡ []
@@ -118,7 +121,7 @@ pub section_writes_none : (card : CardFields) (n : ℕ) (past : List Heard) (emm
     (emm_offering card n past emm).wrote ≡ []
 unfolding emm_offering
 section_writes_none card n past emm =
-    wrote_none (nat_lt emm.period (current past)) nothing
+    wrote_none (nat_lt emm.period (current past)) no_offering
     (if is_mixed (seen emm.period past) emm then refuses (Fault.BadEmm n Emms.Mixed)
     else key_if_none n emm (key_at card past emm.period) (key_from card emm)) refl
     (wrote_none (is_mixed (seen emm.period past) emm) (refuses (Fault.BadEmm n Emms.Mixed))
@@ -132,13 +135,13 @@ pub section_taken : (card : CardFields) (tuning : Tuning) (n : ℕ) (emm : Emm) 
     ((past : List Heard) → IsEntitled card past s.entitled → (emm_offering card n past emm).fault ≡ None) →
     TakesHeard card tuning n (Entitles emm) s t []
 section_taken card tuning n emm s t closed segment collect written entitled good = λ past follows unclosed. (
-  subst (λ (k : ℕ). Passes (heard_offering card tuning n past (Entitles emm)) s.written k []) (sym written)
+  subst (λ (k : ℕ). PassesOffering (heard_offering card tuning n past (Entitles emm)) s.written k []) (sym written)
       (passes_none (emm_offering card n past emm) s.written (good past follows.entitled)
       (section_writes_none card n past emm)),
   record {
     closed = closed ∙ (follows.closed ∙ (unclosed ∙ sym (stays_open past (Entitles emm) unclosed refl)));
     entitled = entitled past follows.entitled;
-    collect = subst (λ (c : Collect). Collects (Entitles emm ∷ past) c) (sym collect)
+    collect = subst (λ (c : Collect). IsCollected (Entitles emm ∷ past) c) (sym collect)
         (Collecting.entitles past emm s.collect follows.collect);
     segment = segment ∙ (follows.segment ∙ sym (held_same card past (Entitles emm) refl refl));
   },
@@ -157,12 +160,13 @@ none_is o none = ap is_none none
 pub part_waiting : (card : CardFields) (tuning : Tuning) (n : ℕ) (part : EcmPart) (s t : Listener) →
     t.closed ≡ s.closed →
     t.entitled ≡ s.entitled → t.segment ≡ s.segment → t.written ≡ s.written →
-    ((past : List Heard) → Collects past s.collect → current past ≡ s.entitled.period → IsWaiting past part t.collect) →
+    ((past : List Heard) → IsCollected past s.collect → current past ≡ s.entitled.period →
+    IsWaiting past part t.collect) →
     TakesHeard card tuning n (Controls part) s t []
 part_waiting card tuning n part s t closed entitled segment written waits = λ past follows unclosed.
     let waiting = waits past follows.collect (sym follows.entitled.period) in
     let offers = part_waits card tuning n past part waiting.fault waiting.incomplete in (
-      subst (λ (k : ℕ). Passes (heard_offering card tuning n past (Controls part)) s.written k []) (sym written)
+      subst (λ (k : ℕ). PassesOffering (heard_offering card tuning n past (Controls part)) s.written k []) (sym written)
           (passes_none (heard_offering card tuning n past (Controls part)) s.written
           (ap (λ (o : Offering). o.fault) offers)
           (ap (λ (o : Offering). o.wrote) offers)),
@@ -178,7 +182,7 @@ part_waiting card tuning n part s t closed entitled segment written waits = λ p
     )
 
 pub part_bad : (card : CardFields) (tuning : Tuning) (n : ℕ) (part : EcmPart) (s : Listener) (fault : EcmFault) →
-    ((past : List Heard) → Collects past s.collect → current past ≡ s.entitled.period →
+    ((past : List Heard) → IsCollected past s.collect → current past ≡ s.entitled.period →
     fault_of past part ≡ Some fault) →
     RefusesHeard card tuning n (Controls part) s (Fault.BadEcm n fault) []
 part_bad card tuning n part s fault bad = λ past follows unclosed.
@@ -197,11 +201,11 @@ pub bad_part : (card : CardFields) (tuning : Tuning) (n : ℕ) (fault : EcmFault
 bad_part card tuning n fault s = λ past follows unclosed. record { fault = refl; bytes_are = refl }
 
 -- what more is said of what comes
-pub comes_weaker : (T S : Listener → List ℕ → Type 0) (R Q : StreamFault → List ℕ → Type 0) (u v : Vessel)
+pub comes_weaker : (T S : Listener → List ℕ → Type 0) (R Q : StreamFault → List ℕ → Type 0) (u v : SinkState)
     (t : Listener)
     (result : Result (Unit {0}) (StageFault StreamFault)) → ((x : Listener) (bytes : List ℕ) → T x bytes → S x bytes) →
-    ((fault : StreamFault) (bytes : List ℕ) → R fault bytes → Q fault bytes) → Comes T R u v t result →
-    Comes S Q u v t result
+    ((fault : StreamFault) (bytes : List ℕ) → R fault bytes → Q fault bytes) → PacketOutcome T R u v t result →
+    PacketOutcome S Q u v t result
 comes_weaker T S R Q u v t (Ok done) takes refuses comes =
     record { bytes = comes.bytes; says = takes t comes.bytes comes.says; took = comes.took }
 comes_weaker T S R Q u v t (Err (Refused fault)) takes refuses comes =
@@ -221,9 +225,10 @@ comes_weaker T S R Q u v t (Err Write) takes refuses comes = record {
 -- a part that completes a message is taken as the message is
 pub message_heard : (card : CardFields) (tuning : Tuning) (n : ℕ) (part : EcmPart) (head : EcmHead) (s t : Listener) →
     t.entitled ≡ s.entitled → t.segment ≡ s.segment → t.written ≡ s.written →
-    ((past : List Heard) → Collects past s.collect → current past ≡ s.entitled.period →
+    ((past : List Heard) → IsCollected past s.collect → current past ≡ s.entitled.period →
     IsComplete past part head t.collect) →
-    (past : List Heard) → Follows card past s → is_closed past ≡ false → Completes card past part head t
+    (past : List Heard) → IsListenerAfter card past s → is_closed past ≡ false →
+    IsListenerAtMessage card past part head t
 message_heard card tuning n part head s t entitled segment written complete = λ past follows unclosed. record {
   unclosed = unclosed;
   entitled = subst (λ (e : Entitled). IsEntitled card past e) (sym entitled) follows.entitled;
@@ -233,8 +238,8 @@ message_heard card tuning n part head s t entitled segment written complete = λ
 
 -- nothing was heard
 pub follows_none : (card : CardFields) (t : Listener) → t.closed ≡ false → IsEntitled card [] t.entitled →
-    Collects [] t.collect →
-    t.segment ≡ None → Follows card [] t
+    IsCollected [] t.collect →
+    t.segment ≡ None → IsListenerAfter card [] t
 unfolding is_closed
 follows_none card t closed entitled collect segment = record {
   closed = closed;

@@ -10,7 +10,7 @@ use Rattle.sd_ecm.specs.Parts.{Message, message_of}
 use Rattle.sd_ecm.specs.declared.part.Place.{Place}
 use Rattle.sd_ecm.specs.declared.part.EcmPart.{EcmPart}
 use Rattle.sd_ecm.specs.declared.message.EcmHead.{EcmHead}
-use Rattle.sd_engine.specs.Stage.{Vessel, CutShort}
+use Rattle.sd_engine.specs.Stage.{SinkState, IsCutShort}
 use Rattle.sd_reception.specs.declared.fault.StreamFault.{StreamFault}
 use Rattle.sd_reception.specs.declared.fault.StreamFault.TheVariants as Fault
 use Rattle.sd_reception.specs.Tuned.{Tuning}
@@ -22,13 +22,14 @@ use Rattle.sd_reception.specs.Offered.{Offering, word_fault, wrote_or, heard_off
 use Rattle.sd_entitled.specs.Entitled.{IsEntitled}
 use Rattle.sd_entitled.specs.declared.entitled.Entitled.{Entitled}
 use Rattle.sd_collect.specs.Gathered.{ArePlaces}
-use Rattle.sd_collect.specs.Collected.{Collects}
+use Rattle.sd_collect.specs.Collected.{IsCollected}
 use Rattle.sd_collect.specs.declared.collect.Collect.{Collect}
-use Rattle.sd_segment.specs.Writing.{Took}
+use Rattle.sd_segment.specs.Writing.{TookBytes}
 use Rattle.sd_segment.specs.Holding as Segments
 use Rattle.sd_segment.specs.Holding.{Holding, after_message}
 use Rattle.sd_receive.specs.Held.{word_under, holding_in, pair_wrote}
-use Rattle.sd_receive.specs.Listening.{Follows, Completes, capped, Counts, Passes, TookSome, Stops, TakesMessage}
+use Rattle.sd_receive.specs.Listening.{IsListenerAfter, IsListenerAtMessage, capped, CountsMore, PassesOffering}
+use Rattle.sd_receive.specs.Listening.{TookSome, StopsAtOffering, TakesMessage}
 use Rattle.sd_receive.specs.Listening.{RefusesMessage}
 use Rattle.sd_receive.specs.declared.listener.Listener.{Listener}
 use Rattle.sd_receive.proofs.Stretching.{closes}
@@ -45,12 +46,12 @@ same_places all are = record {
       are.short;
 }
 
-pub kept_places : (past : List Heard) (state : Collect) → Collects past state → Segments.ArePlaces state.places.items
+pub kept_places : (past : List Heard) (state : Collect) → IsCollected past state → Segments.ArePlaces state.places.items
 kept_places past state collects = same_places state.places.items collects.last.good
 
 -- the message is of no past period
 pub in_turn : (card : CardFields) (past : List Heard) (part : EcmPart) (head : EcmHead) (state : Listener) →
-    Completes card past part head state → state.entitled.period ≤ head.period
+    IsListenerAtMessage card past part head state → state.entitled.period ≤ head.period
 in_turn card past part head state done =
     let now = not_past past part (message_of head state.collect.run.places.items) done.collect.fault
     done.collect.complete in
@@ -78,7 +79,7 @@ key_now card past part message state done high entitled =
 -- what the part offers, by what is kept
 pub offering_is : (card : CardFields) (tuning : Tuning) (n : ℕ) (past : List Heard) (part : EcmPart) (head : EcmHead)
     (state : Listener) →
-    Completes card past part head state → heard_offering card tuning n past (Controls part)
+    IsListenerAtMessage card past part head state → heard_offering card tuning n past (Controls part)
     ≡ wrote_or (pair_wrote state.collect.last state.segment head.since card.ca tuning.ecm
     state.collect.run.places.items)
     (word_fault n (message_of head state.collect.run.places.items) (key_at card past head.period))
@@ -96,7 +97,7 @@ offering_is card tuning n past part head state done =
 -- what the message offers where a held packet is refused, where its word is, and where nothing is
 pub refuses_parity : (offering : Offering) (wrote : Wrote) (fault : Option StreamFault) (k : ℕ) (bytes : List ℕ) →
     offering ≡ wrote_or wrote fault → wrote.refused ≡ Some k → bytes ≡ concat wrote.packets →
-    Stops offering (Fault.Parity k) bytes
+    StopsAtOffering offering (Fault.Parity k) bytes
 refuses_parity offering wrote fault k bytes is refused written = record {
   fault = ap (λ (o : Offering). o.fault) is ∙ ap (λ (r : Option ℕ). option_map_or (λ m. Some (Fault.Parity m)) r
       fault) refused;
@@ -106,7 +107,7 @@ refuses_parity offering wrote fault k bytes is refused written = record {
 pub refuses_word : (offering : Offering) (wrote : Wrote) (fault : Option StreamFault) (why : StreamFault)
     (bytes : List ℕ) →
     offering ≡ wrote_or wrote fault → wrote.refused ≡ None → fault ≡ Some why → bytes ≡ concat wrote.packets →
-    Stops offering why bytes
+    StopsAtOffering offering why bytes
 refuses_word offering wrote fault why bytes is refused bad written = record {
   fault = ap (λ (o : Offering). o.fault) is ∙ (ap (λ (r : Option ℕ). option_map_or (λ m. Some (Fault.Parity m)) r
       fault) refused ∙ bad);
@@ -116,12 +117,12 @@ refuses_word offering wrote fault why bytes is refused bad written = record {
 pub passes_all : (offering : Offering) (wrote : Wrote) (fault : Option StreamFault) (before after : ℕ)
     (bytes : List ℕ) →
     offering ≡ wrote_or wrote fault → wrote.refused ≡ None → fault ≡ None → bytes ≡ concat wrote.packets →
-    Counts before after (length wrote.packets) → Passes offering before after bytes
+    CountsMore before after (length wrote.packets) → PassesOffering offering before after bytes
 passes_all offering wrote fault before after bytes is refused good written counted = record {
   fault = ap (λ (o : Offering). o.fault) is ∙ (ap (λ (r : Option ℕ). option_map_or (λ m. Some (Fault.Parity m)) r
       fault) refused ∙ good);
   bytes_are = written ∙ ap (λ (o : Offering). concat o.wrote) (sym is);
-  counted = subst (λ (o : Offering). Counts before after (length o.wrote)) (sym is) counted;
+  counted = subst (λ (o : Offering). CountsMore before after (length o.wrote)) (sym is) counted;
 }
 
 -- a count that is added to counts
@@ -131,12 +132,12 @@ added_counts before more total h = omega (arith, h)
 -- what is kept after the message
 pub renewed : (card : CardFields) (past : List Heard) (part : EcmPart) (head : EcmHead) (s t : Listener)
     (key : Option (List ℕ)) →
-    Completes card past part head s → IsEntitled card (Controls part ∷ past) t.entitled →
-    Collects (Controls part ∷ past) t.collect →
+    IsListenerAtMessage card past part head s → IsEntitled card (Controls part ∷ past) t.entitled →
+    IsCollected (Controls part ∷ past) t.collect →
     key ≡ key_at card past head.period →
     t.segment ≡ option_map (λ w. after_message (message_of head s.collect.run.places.items) w [])
     (word_under (message_of head s.collect.run.places.items) key) →
-    t.closed ≡ head.closing → Follows card (Controls part ∷ past) t
+    t.closed ≡ head.closing → IsListenerAfter card (Controls part ∷ past) t
 renewed card past part head s t key done entitled collects is segment closed =
     let message = message_of head s.collect.run.places.items in
     record {
@@ -164,8 +165,8 @@ counting_is : (t : Listener) (n : ℕ) → (counting t n).written ≡ n
 unfolding counting
 counting_is t n = refl
 
-counted_follows : (card : CardFields) (past : List Heard) (t : Listener) (n : ℕ) → Follows card past t →
-    Follows card past (counting t n)
+counted_follows : (card : CardFields) (past : List Heard) (t : Listener) (n : ℕ) → IsListenerAfter card past t →
+    IsListenerAfter card past (counting t n)
 unfolding counting
 counted_follows card past t n follows = record {
   closed = follows.closed;
@@ -176,10 +177,10 @@ counted_follows card past t n follows = record {
 
 -- what the word's test told of the message, and what is kept then
 abbrev pub Begins : CardFields → ℕ → EcmHead → Listener → Listener → Result (Unit {0}) StreamFault → Type 0
-Begins card n head s t result = (past : List Heard) (part : EcmPart) → Completes card past part head s →
+Begins card n head s t result = (past : List Heard) (part : EcmPart) → IsListenerAtMessage card past part head s →
     MatchResult result
     (λ _. (word_fault n (message_of head s.collect.run.places.items) (key_at card past head.period) ≡ None)
-    × Follows card (Controls part ∷ past) t)
+    × IsListenerAfter card (Controls part ∷ past) t)
     (λ fault. word_fault n (message_of head s.collect.run.places.items) (key_at card past head.period) ≡ Some fault)
 
 -- all bytes that the message may write are of what it comes to
@@ -233,10 +234,10 @@ allowed card tuning n head s t wrote None (Ok done) bytes is told begins written
 
 -- a write that failed amid them
 pub cut_message : (card : CardFields) (tuning : Tuning) (n : ℕ) (head : EcmHead) (s t : Listener) (wrote : Wrote)
-    (result : Result (Unit {0}) StreamFault) (u v : Vessel) →
+    (result : Result (Unit {0}) StreamFault) (u v : SinkState) →
     wrote ≡ pair_wrote s.collect.last s.segment head.since card.ca tuning.ecm s.collect.run.places.items →
-    Begins card n head s t result → CutShort u v (λ bytes. bytes ≡ concat wrote.packets) →
-    CutShort u v (λ bytes. ((x : Listener) × TakesMessage card tuning n head s x bytes)
+    Begins card n head s t result → IsCutShort u v (λ bytes. bytes ≡ concat wrote.packets) →
+    IsCutShort u v (λ bytes. ((x : Listener) × TakesMessage card tuning n head s x bytes)
     ⊎ ((fault : StreamFault) × RefusesMessage card tuning n head s fault bytes))
 cut_message card tuning n head s t wrote result u v is begins cut = record {
   bytes = cut.bytes;
@@ -249,9 +250,9 @@ cut_message card tuning n head s t wrote result u v is begins cut = record {
 
 -- what the message comes to where a held packet is refused, where its word is, and where nothing is
 pub parity_message : (card : CardFields) (tuning : Tuning) (n : ℕ) (head : EcmHead) (s : Listener) (wrote : Wrote)
-    (k : ℕ) (u v : Vessel) →
+    (k : ℕ) (u v : SinkState) →
     wrote ≡ pair_wrote s.collect.last s.segment head.since card.ca tuning.ecm s.collect.run.places.items →
-    (wrote.refused ≡ Some k) × Took u v (concat wrote.packets) →
+    (wrote.refused ≡ Some k) × TookBytes u v (concat wrote.packets) →
     TookSome u v (RefusesMessage card tuning n head s (Fault.Parity k))
 parity_message card tuning n head s wrote k u v is told = record {
   bytes = concat wrote.packets;
@@ -268,9 +269,9 @@ parity_message card tuning n head s wrote k u v is told = record {
 
 pub word_message : (card : CardFields) (tuning : Tuning) (n : ℕ) (head : EcmHead) (s t : Listener) (wrote : Wrote)
     (fault : StreamFault)
-    (count : ℕ) (u v : Vessel) →
+    (count : ℕ) (u v : SinkState) →
     wrote ≡ pair_wrote s.collect.last s.segment head.since card.ca tuning.ecm s.collect.run.places.items →
-    (wrote.refused ≡ None) × (count ≡ length wrote.packets) × Took u v (concat wrote.packets) →
+    (wrote.refused ≡ None) × (count ≡ length wrote.packets) × TookBytes u v (concat wrote.packets) →
     Begins card n head s t (Err fault) → TookSome u v (RefusesMessage card tuning n head s fault)
 word_message card tuning n head s t wrote fault count u v is told begins = record {
   bytes = concat wrote.packets;
@@ -286,9 +287,9 @@ word_message card tuning n head s t wrote fault count u v is told begins = recor
 }
 
 pub taken_message : (card : CardFields) (tuning : Tuning) (n : ℕ) (head : EcmHead) (s t x : Listener) (wrote : Wrote)
-    (count : ℕ) (u v : Vessel) →
+    (count : ℕ) (u v : SinkState) →
     wrote ≡ pair_wrote s.collect.last s.segment head.since card.ca tuning.ecm s.collect.run.places.items →
-    (wrote.refused ≡ None) × (count ≡ length wrote.packets) × Took u v (concat wrote.packets) →
+    (wrote.refused ≡ None) × (count ≡ length wrote.packets) × TookBytes u v (concat wrote.packets) →
     Begins card n head s t (Ok tt) → x ≡ counting t (with_added s.written count) →
     TookSome u v (TakesMessage card tuning n head s x)
 taken_message card tuning n head s t x wrote count u v is told begins same = record {
@@ -303,7 +304,7 @@ taken_message card tuning n head s t x wrote count u v is told begins same = rec
         told.0 (begins past part done).0 refl
         (λ total h. ap (λ (l : Listener). l.written) same ∙ (counting_is t (with_added s.written count)
         ∙ (ap (λ (k : ℕ). with_added s.written k) told.1 ∙ added_counts s.written (length wrote.packets) total h))),
-    subst (λ (l : Listener). Follows card (Controls part ∷ past) l) (sym same)
+    subst (λ (l : Listener). IsListenerAfter card (Controls part ∷ past) l) (sym same)
         (counted_follows card (Controls part ∷ past) t (with_added s.written count) (begins past part done).1),
   );
   took = told.2;

@@ -13,7 +13,7 @@ use Rattle.sd_reception.specs.Tuned.{Tuning}
 use Rattle.sd_reception.specs.Heard.{Heard, Controls}
 use Rattle.sd_reception.specs.Stretches.{newest, run_to, completes, current}
 use Rattle.sd_reception.specs.Keys.{key_at}
-use Rattle.sd_reception.specs.Offered.{Offering, nothing, refuses, part_fault, is_before, is_back, part_offering}
+use Rattle.sd_reception.specs.Offered.{Offering, no_offering, refuses, part_fault, is_before, is_back, part_offering}
 use Rattle.sd_reception.specs.Offered.{message_offering, stretch_wrote, word_fault, wrote_or, heard_offering}
 use Rattle.sd_collect.specs.Collected.{back_fault, fault_of}
 
@@ -54,7 +54,7 @@ good_of card tuning n past None message is =
     (word_fault n message (key_at card past message.period))) (refuses (Fault.BadEcm n Back)) is
 
 waits_of : (card : CardFields) (tuning : Tuning) (n : ℕ) (past : List Heard) (alone : Option EcmFault) →
-    option_map_or Some alone None ≡ None → part_offering n alone nothing ≡ nothing
+    option_map_or Some alone None ≡ None → part_offering n alone no_offering ≡ no_offering
 waits_of card tuning n past (Some bad) is = absurd cc
 waits_of card tuning n past None is = refl
 
@@ -67,7 +67,7 @@ part_refused card tuning n past part fault is =
 
 pub part_waits : (card : CardFields) (tuning : Tuning) (n : ℕ) (past : List Heard) (part : EcmPart) →
     fault_of past part ≡ None →
-    completes past (Controls part) ≡ None → heard_offering card tuning n past (Controls part) ≡ nothing
+    completes past (Controls part) ≡ None → heard_offering card tuning n past (Controls part) ≡ no_offering
 unfolding fault_of
 part_waits card tuning n past part good none =
     ap (λ (m : Option Message). part_offering n (part_fault (run_to (newest past) part))

@@ -9,7 +9,7 @@ use Rattle.std.proofs.lemmas.Bool.{true≢false}
 use Rattle.std.proofs.lemmas.List.{reverse-append, reverse-reverse}
 use Rattle.sd_card.specs.declared.card.Card.{Card}
 use Rattle.sd_card.specs.Fields.{CardFields, fields_of}
-use Rattle.sd_engine.specs.Stage.{Vessel, Grew, CutShort, IsAllowed}
+use Rattle.sd_engine.specs.Stage.{SinkState, HasGrown, IsCutShort, IsAllowed}
 use Rattle.sd_engine.specs.declared.stage.StageFault.{StageFault}
 use Rattle.sd_engine.specs.declared.stage.StageFault.TheVariants.{Write, Refused}
 use Rattle.sd_reception.specs.declared.fault.StreamFault.{StreamFault}
@@ -24,14 +24,14 @@ use Rattle.sd_reception.specs.Heard.{Heard, hears}
 use Rattle.sd_reception.specs.declared.ending.Ending.{Ending}
 use Rattle.sd_reception.specs.declared.ending.Ending.TheVariants.{Opened}
 use Rattle.sd_reception.specs.Stretches.{is_closed}
-use Rattle.sd_reception.specs.Runs.{name_of, name_in, are_two, is_turn, of_run}
-use Rattle.sd_reception.specs.Offered.{Offering, nothing, heard, offered, heard_offering, break_from}
+use Rattle.sd_reception.specs.Runs.{run_name_heard, name_in, are_two, is_turn, of_run}
+use Rattle.sd_reception.specs.Offered.{Offering, no_offering, heard, offered, heard_offering, break_from}
 use Rattle.sd_reception.specs.Ending.{run_ending, joined, turns_at, run_wrote, ended_before}
 use Rattle.sd_hearing.specs.Ears.{tuned}
 use Rattle.sd_hearing.specs.declared.tune.Tuning.{Tuning as Kept}
-use Rattle.sd_receive.specs.Listening.{Follows, capped, Counts, TakesHeard, RefusesHeard, Comes}
+use Rattle.sd_receive.specs.Listening.{IsListenerAfter, capped, CountsMore, TakesHeard, RefusesHeard, PacketOutcome}
 use Rattle.sd_receive.specs.Receiving.{card_in, with_run, IsAfter, TurnsBy, takes_key_of, takes_key_at, steps_at}
-use Rattle.sd_receive.specs.Receiving.{DoesTake, receiver_does, Refusing, IsFit}
+use Rattle.sd_receive.specs.Receiving.{TakesPacket, receiver_does, Refusing, IsFit}
 use Rattle.sd_receive.specs.declared.listener.Listener.{Listener}
 use Rattle.sd_receive.specs.declared.receiver.Receiver.{Receiver}
 use Rattle.sd_receive.proofs.Turns.{break_more, not_tuned, was_closed, was_heard, turns_is, never_turns, same_run}
@@ -82,11 +82,11 @@ unbroken_more card past packet none good =
 -- a packet that offers nothing, of which nothing is heard, and which ends no run
 pub idle : (past : List (List ℕ)) (s : Receiver) (packet : List ℕ) (tuning : Option Kept) (count : ℕ) →
     IsAfter past s →
-    offered (card_in s) past packet ≡ nothing → heard (card_in s) (packet ∷ past) ≡ heard (card_in s) past →
+    offered (card_in s) past packet ≡ no_offering → heard (card_in s) (packet ∷ past) ≡ heard (card_in s) past →
     turns_at (card_in s) past packet ≡ false →
     count ≡ length past + 1 →
     option_map tuned tuning ≡ tuning_of s.card.ca (packet ∷ past) →
-    DoesTake past s packet (counted s count tuning) [] 0
+    TakesPacket past s packet (counted s count tuning) [] 0
 idle past s packet tuning count after offers same stays is tuned_is =
     let card = card_in s in
     let good = ap (λ (o : Offering). o.fault) offers in
@@ -104,7 +104,7 @@ idle past s packet tuning count after offers same stays is tuned_is =
         tuning = tuned_is;
         name = after.name ∙ ap name_in (sym same);
         so_far = after.so_far ∙ sym (ended_on card past packet stays);
-        follows = subst (λ (h : List Heard). Follows card h s.listener) (sym same) after.follows;
+        follows = subst (λ (h : List Heard). IsListenerAfter card h s.listener) (sym same) after.follows;
         written = after.written ∙ ap capped (sym wrote);
         unbroken = unbroken_more card past packet after.unbroken good;
         unrefused = after.unrefused;
@@ -141,42 +141,42 @@ thing_of s kept packet = hears s.card.height (tuned kept) s.count packet
 record Stands (past : List (List ℕ)) (s : Receiver) (packet : List ℕ) (thing : Heard) (count : ℕ) (u : Receiver) :
     Type 0 where
   same : u ≡ with_run (counted s count s.tuning) u.so_far u.listener
-  follows : Follows (card_in s) (of_run (heard (card_in s) past) thing) u.listener
+  follows : IsListenerAfter (card_in s) (of_run (heard (card_in s) past) thing) u.listener
   written : u.listener.written ≡ capped (wrote_before (card_in s) past packet)
   so_far : u.so_far ≡ ended_before (card_in s) (packet ∷ past)
 
 -- whether the packet ends the run at hand
 ends_run : (past : List (List ℕ)) (s : Receiver) (packet : List ℕ) (kept : Kept) → IsAfter past s →
     s.tuning ≡ Some kept →
-    turns_at (card_in s) past packet ≡ are_two s.name (name_of (thing_of s kept packet))
+    turns_at (card_in s) past packet ≡ are_two s.name (run_name_heard (thing_of s kept packet))
 unfolding is_turn
 ends_run past s packet kept after some =
     let told : tuning_of s.card.ca past ≡ Some (tuned kept) = sym after.tuning ∙ ap (option_map tuned) some in
     turns_is (card_in s) past packet (tuned kept) told
     ∙ (ap (λ (n : ℕ). is_turn (heard (card_in s) past) (hears s.card.height (tuned kept) n packet)) (sym after.count)
-    ∙ ap (λ (name : Option (Option ℕ)). are_two name (name_of (thing_of s kept packet))) (sym after.name))
+    ∙ ap (λ (name : Option (Option ℕ)). are_two name (run_name_heard (thing_of s kept packet))) (sym after.name))
 
 is_ended : (past : List (List ℕ)) (s : Receiver) (thing : Heard) → IsAfter past s →
-    is_turn (heard (card_in s) past) thing ≡ are_two s.name (name_of thing)
+    is_turn (heard (card_in s) past) thing ≡ are_two s.name (run_name_heard thing)
 unfolding is_turn
-is_ended past s thing after = ap (λ (name : Option (Option ℕ)). are_two name (name_of thing)) (sym after.name)
+is_ended past s thing after = ap (λ (name : Option (Option ℕ)). are_two name (run_name_heard thing)) (sym after.name)
 
 stands : (past : List (List ℕ)) (s : Receiver) (packet : List ℕ) (kept : Kept) (count : ℕ) (u : Receiver) →
     IsAfter past s →
-    s.tuning ≡ Some kept → TurnsBy (name_of (thing_of s kept packet)) (counted s count s.tuning) u →
+    s.tuning ≡ Some kept → TurnsBy (run_name_heard (thing_of s kept packet)) (counted s count s.tuning) u →
     Stands past s packet (thing_of s kept packet) count u
 stands past s packet kept count u after some turned =
     let card = card_in s in
     let thing = thing_of s kept packet in
     let ends = ends_run past s packet kept after some in
     let ends_too = is_ended past s thing after in
-    tested (are_two s.name (name_of thing))
+    tested (are_two s.name (run_name_heard thing))
     (λ two.
     let now = turned.1 two in
     let turns = ends ∙ two in
     record {
       same = now.same;
-      follows = subst (λ (h : List Heard). Follows card h u.listener)
+      follows = subst (λ (h : List Heard). IsListenerAfter card h u.listener)
           (sym (new_run (heard card past) thing (ends_too ∙ two)))
           (now.follows (heard card past) after.follows);
       written = now.written ∙ sym (rw turns refl);
@@ -189,9 +189,10 @@ stands past s packet kept count u after some turned =
     let stays = ends ∙ one in
     let listener : u.listener ≡ s.listener = ap (λ (r : Receiver). r.listener) is in
     record {
-      same = is ∙ (subst (λ (r : Receiver). counted s count s.tuning ≡ with_run (counted s count s.tuning) r.so_far r.listener) (sym is) refl);
-      follows = subst (λ (l : Listener). Follows card (of_run (heard card past) thing) l) (sym listener)
-          (subst (λ (h : List Heard). Follows card h s.listener)
+      same = is ∙ (subst (λ (r : Receiver).
+          counted s count s.tuning ≡ with_run (counted s count s.tuning) r.so_far r.listener) (sym is) refl);
+      follows = subst (λ (l : Listener). IsListenerAfter card (of_run (heard card past) thing) l) (sym listener)
+          (subst (λ (h : List Heard). IsListenerAfter card h s.listener)
           (sym (same_run (heard card past) thing (ends_too ∙ one))) after.follows);
       written = ap (λ (l : Listener). l.written) listener ∙ (after.written ∙ sym (rw stays refl));
       so_far = ap (λ (r : Receiver). r.so_far) is ∙ (after.so_far ∙ sym (ended_on card past packet stays));
@@ -204,7 +205,7 @@ none_closed = refl
 
 -- a packet after the closing message of its run
 pub idle_closed : (s : Receiver) (packet : List ℕ) (kept : Kept) (count : ℕ) (u : Receiver) → s.tuning ≡ Some kept →
-    TurnsBy (name_of (thing_of s kept packet)) (counted s count s.tuning) u → u.listener.closed ≡ true →
+    TurnsBy (run_name_heard (thing_of s kept packet)) (counted s count s.tuning) u → u.listener.closed ≡ true →
     count ≡ capped (s.count + 1) → receiver_does s packet u [] 0
 idle_closed s packet kept count u some turned closed added = λ past after countable.
     let card = card_in s in
@@ -212,12 +213,13 @@ idle_closed s packet kept count u some turned closed added = λ past after count
     let stood = stands past s packet kept count u after some turned in
     let told : tuning_of s.card.ca past ≡ Some (tuned kept) = sym after.tuning ∙ ap (option_map tuned) some in
     let shut : is_closed (of_run (heard card past) thing) ≡ true = sym stood.follows.closed ∙ closed in
-    let shut_too = subst (λ (n : ℕ). is_closed (of_run (heard card past) (hears s.card.height (tuned kept) n packet)) ≡ true) after.count shut in
+    let shut_too = subst (λ (n : ℕ).
+    is_closed (of_run (heard card past) (hears s.card.height (tuned kept) n packet)) ≡ true) after.count shut in
     let rests = was_closed card past packet (tuned kept) told shut_too in
-    tested (are_two s.name (name_of thing))
+    tested (are_two s.name (run_name_heard thing))
     (λ two. absurd (true≢false (sym shut ∙ (ap is_closed (new_run (heard card past) thing
     (is_ended past s thing after ∙ two)) ∙ none_closed))))
-    (λ one. subst (λ (r : Receiver). DoesTake past s packet r [] 0) (sym (turned.0 one))
+    (λ one. subst (λ (r : Receiver). TakesPacket past s packet r [] 0) (sym (turned.0 one))
     (idle past s packet s.tuning count after rests.0 rests.1 (ends_run past s packet kept after some ∙ one)
     (omega (arith, added, after.count, countable))
     (kept_tuning s.card.ca past packet s.tuning kept some after.tuning)))
@@ -234,7 +236,7 @@ heard_steps card past packet tuning is unclosed = rw (is, unclosed) refl
 
 -- the steps that a packet took at most
 abbrev pub TakesFew : CardFields → Listener → Heard → ℕ → ℕ → Type 0
-TakesFew card listener thing from to = (past : List Heard) → Follows card past listener →
+TakesFew card listener thing from to = (past : List Heard) → IsListenerAfter card past listener →
     to ≤ from + (if takes_key_of card past thing then card.height else 0)
 
 -- what is known of a packet that is heard before the closing message of its run
@@ -267,9 +269,9 @@ was_known past s packet kept after some unclosed =
 -- a packet that is heard and taken
 pub heard_does : (s : Receiver) (packet : List ℕ) (kept : Kept) (count : ℕ) (u : Receiver)
     (name : Option (Option ℕ)) (t : Listener) (bytes : List ℕ) (from to : ℕ) →
-    s.tuning ≡ Some kept → TurnsBy (name_of (thing_of s kept packet)) (counted s count s.tuning) u →
+    s.tuning ≡ Some kept → TurnsBy (run_name_heard (thing_of s kept packet)) (counted s count s.tuning) u →
     u.listener.closed ≡ false → count ≡ capped (s.count + 1) →
-    name ≡ option_or (name_of (thing_of s kept packet)) s.name →
+    name ≡ option_or (run_name_heard (thing_of s kept packet)) s.name →
     TakesFew (card_in s) u.listener (thing_of s kept packet) from to →
     TakesHeard (card_in s) (tuned kept) s.count (thing_of s kept packet) u.listener t bytes →
     receiver_does s packet (listening u name t) bytes (to - from)
@@ -288,17 +290,18 @@ heard_does s packet kept count u name t bytes from to some turned unclosed added
     taken.0.counted (wrote_before card past packet) stood.written
     ∙ ap capped (ap (λ (o : Offering). wrote_before card past packet + length o.wrote) (sym known.offers)
     ∙ sym (wrote_now card past packet)) in
-    subst (λ (r : Receiver). DoesTake past s packet (listening r name t) bytes (to - from)) (sym stood.same) (record {
+    subst (λ (r : Receiver). TakesPacket past s packet (listening r name t) bytes (to - from)) (sym stood.same)
+    (record {
       fault = good;
       bytes_are = taken.0.bytes_are ∙ ap (λ (o : Offering). concat o.wrote) (sym known.offers);
       few = omega (arith, steps, known.few);
       after = record {
         count = omega (arith, added, after.count, countable, plus_one (length past));
         tuning = kept_tuning s.card.ca past packet s.tuning kept some after.tuning;
-        name = named ∙ (ap (option_or (name_of thing)) after.name
-            ∙ (name_now (heard card past) thing (name_of thing) refl ∙ ap name_in (sym known.hearing)));
+        name = named ∙ (ap (option_or (run_name_heard thing)) after.name
+            ∙ (name_now (heard card past) thing (run_name_heard thing) refl ∙ ap name_in (sym known.hearing)));
         so_far = stood.so_far;
-        follows = subst (λ (h : List Heard). Follows card h t) (sym known.hearing) taken.1;
+        follows = subst (λ (h : List Heard). IsListenerAfter card h t) (sym known.hearing) taken.1;
         written = wrote;
         unbroken = unbroken_more card past packet after.unbroken good;
         unrefused = after.unrefused;
@@ -309,7 +312,7 @@ heard_does s packet kept count u name t bytes from to some turned unclosed added
 -- and one that is refused
 pub heard_refuses : (s : Receiver) (packet : List ℕ) (kept : Kept) (count : ℕ) (u : Receiver) (why : StreamFault)
     (bytes : List ℕ) (from to : ℕ) →
-    s.tuning ≡ Some kept → TurnsBy (name_of (thing_of s kept packet)) (counted s count s.tuning) u →
+    s.tuning ≡ Some kept → TurnsBy (run_name_heard (thing_of s kept packet)) (counted s count s.tuning) u →
     u.listener.closed ≡ false →
     TakesFew (card_in s) u.listener (thing_of s kept packet) from to →
     RefusesHeard (card_in s) (tuned kept) s.count (thing_of s kept packet) u.listener why bytes →
@@ -331,17 +334,17 @@ heard_refuses s packet kept count u why bytes from to some turned unclosed few r
 
 -- it may be offered a packet still: what is kept is of what was heard of the run at hand
 pub fit_turned : (s : Receiver) (name : Option (Option ℕ)) (u : Receiver) → TurnsBy name s u →
-    (past : List Heard) × Follows (card_in s) past s.listener →
-    (past : List Heard) × Follows (card_in u) past u.listener
+    (past : List Heard) × IsListenerAfter (card_in s) past s.listener →
+    (past : List Heard) × IsListenerAfter (card_in u) past u.listener
 fit_turned s name u turned (past, follows) =
     tested (are_two s.name name)
     (λ two. (
       [],
-      subst (λ (c : CardFields). Follows c [] u.listener)
+      subst (λ (c : CardFields). IsListenerAfter c [] u.listener)
           (ap (λ (r : Receiver). card_in r) (sym (turned.1 two).same)) ((turned.1 two).follows past follows),
     ))
-    (λ one. subst (λ (r : Receiver). (more : List Heard) × Follows (card_in r) more r.listener) (sym (turned.0 one))
-    (past, follows))
+    (λ one. subst (λ (r : Receiver). (more : List Heard) ×
+    IsListenerAfter (card_in r) more r.listener) (sym (turned.0 one)) (past, follows))
 
 -- what a turn leaves as it was
 pub turned_same : (s : Receiver) (name : Option (Option ℕ)) (u : Receiver) → TurnsBy name s u →
@@ -351,10 +354,10 @@ turned_same s name u turned =
     (λ one. turned.0 one ∙ subst (λ (r : Receiver). s ≡ with_run s r.so_far r.listener) (sym (turned.0 one)) refl)
 
 -- what is said of all that a packet comes to, by its answer
-pub grew_of : (T : Listener → List ℕ → Type 0) (R : StreamFault → List ℕ → Type 0) (u v : Vessel) (t : Listener)
+pub grew_of : (T : Listener → List ℕ → Type 0) (R : StreamFault → List ℕ → Type 0) (u v : SinkState) (t : Listener)
     (result : Result (Unit {0}) (StageFault StreamFault)) (from to : ℕ) (Says : List ℕ → ℕ → Type 0) →
-    Comes T R u v t result →
-    ((bytes : List ℕ) → T t bytes → Says bytes (to - from)) → OnOk result (Grew u v from to Says)
+    PacketOutcome T R u v t result →
+    ((bytes : List ℕ) → T t bytes → Says bytes (to - from)) → OnOk result (HasGrown u v from to Says)
 grew_of T R u v t (Ok done) from to Says comes says = record {
   bytes = comes.bytes;
   steps = to - from;
@@ -365,13 +368,13 @@ grew_of T R u v t (Ok done) from to Says comes says = record {
 }
 grew_of T R u v t (Err fault) from to Says comes says = tt
 
-pub refused_of : (T : Listener → List ℕ → Type 0) (R : StreamFault → List ℕ → Type 0) (u v : Vessel) (t : Listener)
+pub refused_of : (T : Listener → List ℕ → Type 0) (R : StreamFault → List ℕ → Type 0) (u v : SinkState) (t : Listener)
     (result : Result (Unit {0}) (StageFault StreamFault)) (from to : ℕ) (fault : StreamFault)
     (Says : List ℕ → ℕ → Type 0) →
-    result ≡ Err (Refused fault) → Comes T R u v t result →
-    ((bytes : List ℕ) → R fault bytes → Says bytes (to - from)) → Grew u v from to Says
+    result ≡ Err (Refused fault) → PacketOutcome T R u v t result →
+    ((bytes : List ℕ) → R fault bytes → Says bytes (to - from)) → HasGrown u v from to Says
 refused_of T R u v t result from to fault Says is comes says =
-    let some = subst (λ (r : Result (Unit {0}) (StageFault StreamFault)). Comes T R u v t r) is comes in
+    let some = subst (λ (r : Result (Unit {0}) (StageFault StreamFault)). PacketOutcome T R u v t r) is comes in
     record {
       bytes = some.bytes;
       steps = to - from;
@@ -381,13 +384,13 @@ refused_of T R u v t result from to fault Says is comes says =
       counted = omega arith;
     }
 
-pub cut_of : (T : Listener → List ℕ → Type 0) (R : StreamFault → List ℕ → Type 0) (u v : Vessel) (t : Listener)
+pub cut_of : (T : Listener → List ℕ → Type 0) (R : StreamFault → List ℕ → Type 0) (u v : SinkState) (t : Listener)
     (result : Result (Unit {0}) (StageFault StreamFault)) (from to : ℕ) (Does : Receiver → List ℕ → ℕ → Type 0)
     (Refuses : StreamFault → Receiver → List ℕ → ℕ → Type 0) (s : Receiver) → IsErrOf result Write →
-    Comes T R u v t result →
+    PacketOutcome T R u v t result →
     ((x : Listener) (bytes : List ℕ) → T x bytes → (y : Receiver) × Does y bytes (to - from)) →
     ((fault : StreamFault) (bytes : List ℕ) → R fault bytes → Refuses fault s bytes (to - from)) →
-    CutShort u v (IsAllowed Does Refuses from to)
+    IsCutShort u v (IsAllowed Does Refuses from to)
 cut_of T R u v t (Ok done) from to Does Refuses s is comes does refuses = absurd (grind (arith, is))
 cut_of T R u v t (Err (Refused fault)) from to Does Refuses s is comes does refuses = absurd (grind (arith, is))
 cut_of T R u v t (Err Write) from to Does Refuses s is comes does refuses = record {
@@ -408,10 +411,10 @@ cut_of T R u v t (Err Write) from to Does Refuses s is comes does refuses = reco
 
 -- it may be offered a packet still, where this one isn't refused
 pub fit_after : (u : Receiver) (name : Option (Option ℕ)) (t : Listener) (tuning : Tuning) (n : ℕ) (thing : Heard)
-    (R : StreamFault → List ℕ → Type 0) (v w : Vessel) (result : Result (Unit {0}) (StageFault StreamFault)) →
-    (past : List Heard) × Follows (card_in u) past u.listener → u.listener.closed ≡ false →
+    (R : StreamFault → List ℕ → Type 0) (v w : SinkState) (result : Result (Unit {0}) (StageFault StreamFault)) →
+    (past : List Heard) × IsListenerAfter (card_in u) past u.listener → u.listener.closed ≡ false →
     IfSome u.tuning (λ kept. kept.ecm < 8192) →
-    Comes (TakesHeard (card_in u) tuning n thing u.listener) R v w t result →
+    PacketOutcome (TakesHeard (card_in u) tuning n thing u.listener) R v w t result →
     OnOk result (IsFit (listening u name t))
 fit_after u name t tuning n thing R v w (Ok done) (past, follows) unclosed ecm comes =
     record { ecm = ecm; follows = (thing ∷ past, (comes.says past follows (sym follows.closed ∙ unclosed)).1) }
@@ -438,21 +441,22 @@ few_same c d a b l from to card thing few =
 -- what is known of the receiver once the run at hand was ended, or not
 pub record Ready (s : Receiver) (packet : List ℕ) (kept : Kept) (count : ℕ) (thing : Heard) (u : Receiver) : Type 0
   where
-    pub turned : TurnsBy (name_of (thing_of s kept packet)) (counted s count s.tuning) u
+    pub turned : TurnsBy (run_name_heard (thing_of s kept packet)) (counted s count s.tuning) u
     pub thing_is : thing ≡ thing_of s kept packet
     pub card_is : card_in u ≡ card_in s
     pub name_is : u.name ≡ s.name
     pub tuning_is : u.tuning ≡ s.tuning
-    pub live : (past : List Heard) × Follows (card_in u) past u.listener
+    pub live : (past : List Heard) × IsListenerAfter (card_in u) past u.listener
 
 pub ready : (s : Receiver) (packet : List ℕ) (kept : Kept) (count : ℕ) (thing : Heard) (u : Receiver)
-    (name : Option (Option ℕ)) → thing ≡ thing_of s kept packet → name ≡ name_of thing →
-    TurnsBy name (counted s count s.tuning) u → (past : List Heard) × Follows (card_in s) past s.listener →
+    (name : Option (Option ℕ)) → thing ≡ thing_of s kept packet → name ≡ run_name_heard thing →
+    TurnsBy name (counted s count s.tuning) u → (past : List Heard) × IsListenerAfter (card_in s) past s.listener →
     Ready s packet kept count thing u
 ready s packet kept count thing u name is named turned live =
     let same = turned_same (counted s count s.tuning) name u turned in
     record {
-      turned = subst (λ (n : Option (Option ℕ)). TurnsBy n (counted s count s.tuning) u) (named ∙ ap name_of is) turned;
+      turned = subst (λ (n : Option (Option ℕ)).
+          TurnsBy n (counted s count s.tuning) u) (named ∙ ap run_name_heard is) turned;
       thing_is = is;
       card_is = ap (λ (r : Receiver). card_in r) same;
       name_is = ap (λ (r : Receiver). r.name) same;
@@ -461,7 +465,7 @@ ready s packet kept count thing u name is named turned live =
     }
 
 -- nothing was written
-pub grew_none : (u : Vessel) (from : ℕ) (Says : List ℕ → ℕ → Type 0) → Says [] 0 → Grew u u from from Says
+pub grew_none : (u : SinkState) (from : ℕ) (Says : List ℕ → ℕ → Type 0) → Says [] 0 → HasGrown u u from from Says
 grew_none u from Says says =
     let took = took_none u in
     record { bytes = []; steps = 0; says = says; taken = took.taken; room = took.room; counted = omega arith }
@@ -493,7 +497,7 @@ ecm_fits ca packet (Some kept) is =
 
 -- before the first packet
 pub first_after : (card : Card) (listener : Listener) → listener.written ≡ 0 →
-    ((fields : CardFields) → Follows fields [] listener) →
+    ((fields : CardFields) → IsListenerAfter fields [] listener) →
     IsAfter [] (record {
       card = card;
       count = 0;

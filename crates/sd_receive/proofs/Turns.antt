@@ -10,8 +10,8 @@ use Rattle.sd_reception.specs.declared.fault.StreamFault.{StreamFault}
 use Rattle.sd_reception.specs.Tuned.{Tuning, tuning_of}
 use Rattle.sd_reception.specs.Heard.{Heard, hears}
 use Rattle.sd_reception.specs.Stretches.{is_closed}
-use Rattle.sd_reception.specs.Runs.{name_of, name_or, name_in, are_two, is_turn, of_run}
-use Rattle.sd_reception.specs.Offered.{nothing, heard, offered, heard_offering, out_from, break_from}
+use Rattle.sd_reception.specs.Runs.{run_name_heard, name_or, name_in, are_two, is_turn, of_run}
+use Rattle.sd_reception.specs.Offered.{no_offering, heard, offered, heard_offering, out_from, break_from}
 use Rattle.sd_reception.specs.Ending.{run_ending, joined, turns_at, run_wrote, ended_before}
 
 -- packets before others stand before them
@@ -70,7 +70,7 @@ break_more card past (first ∷ packets) packet none =
 
 -- a packet before the CAT
 pub not_tuned : (card : CardFields) (past : List (List ℕ)) (packet : List ℕ) → tuning_of card.ca past ≡ None →
-    (offered card past packet ≡ nothing) × (heard card (packet ∷ past) ≡ heard card past)
+    (offered card past packet ≡ no_offering) × (heard card (packet ∷ past) ≡ heard card past)
 unfolding offered heard
 not_tuned card past packet none = (rw none refl, rw none refl)
 
@@ -78,7 +78,7 @@ not_tuned card past packet none = (rw none refl, rw none refl)
 pub was_closed : (card : CardFields) (past : List (List ℕ)) (packet : List ℕ) (tuning : Tuning) →
     tuning_of card.ca past ≡ Some tuning →
     is_closed (of_run (heard card past) (hears card.height tuning (length past) packet)) ≡ true →
-    (offered card past packet ≡ nothing) × (heard card (packet ∷ past) ≡ heard card past)
+    (offered card past packet ≡ no_offering) × (heard card (packet ∷ past) ≡ heard card past)
 unfolding offered heard
 was_closed card past packet tuning is closed = (rw (is, closed) refl, rw (is, closed) refl)
 
@@ -130,14 +130,14 @@ or_any None None b c two = absurd (false≢true two)
 or_any (Some n) None b c two = absurd (false≢true two)
 
 -- the name of the run at hand, once a thing is heard
-pub name_now : (past : List Heard) (thing : Heard) (name : Option (Option ℕ)) → name ≡ name_of thing →
+pub name_now : (past : List Heard) (thing : Heard) (name : Option (Option ℕ)) → name ≡ run_name_heard thing →
     option_or name (name_in past) ≡ name_in (thing ∷ of_run past thing)
 unfolding name_in is_turn
 name_now past thing name is =
     or_same name (name_in past) ∙ (ap (λ (n : Option (Option ℕ)). name_or n (name_in past)) is
     ∙ tested (is_turn past thing)
-    (λ turns. or_any (name_in past) (name_of thing) (name_in past) (name_in (of_run past thing)) turns)
-    (λ stays. ap (λ (p : List Heard). name_or (name_of thing) (name_in p)) (sym (same_run past thing stays))))
+    (λ turns. or_any (name_in past) (run_name_heard thing) (name_in past) (name_in (of_run past thing)) turns)
+    (λ stays. ap (λ (p : List Heard). name_or (run_name_heard thing) (name_in p)) (sym (same_run past thing stays))))
 
 -- the endings of the runs before the one at hand, and how many packets of that are written
 pub ended_on : (card : CardFields) (past : List (List ℕ)) (packet : List ℕ) → turns_at card past packet ≡ false →

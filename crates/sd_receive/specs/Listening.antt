@@ -4,7 +4,7 @@ use Rattle.std.specs.List.{concat}
 use Rattle.sd_card.specs.Fields.{CardFields}
 use Rattle.sd_ecm.specs.declared.part.EcmPart.{EcmPart}
 use Rattle.sd_ecm.specs.declared.message.EcmHead.{EcmHead}
-use Rattle.sd_engine.specs.Stage.{Vessel, CutShort}
+use Rattle.sd_engine.specs.Stage.{SinkState, IsCutShort}
 use Rattle.sd_engine.specs.declared.stage.StageFault.{StageFault}
 use Rattle.sd_engine.specs.declared.stage.StageFault.TheVariants.{Write, Refused}
 use Rattle.sd_reception.specs.declared.fault.StreamFault.{StreamFault}
@@ -13,21 +13,21 @@ use Rattle.sd_reception.specs.Heard.{Heard, Controls}
 use Rattle.sd_reception.specs.Stretches.{is_closed}
 use Rattle.sd_reception.specs.Offered.{Offering, heard_offering}
 use Rattle.sd_entitled.specs.Entitled.{IsEntitled}
-use Rattle.sd_collect.specs.Collected.{Collects, IsComplete}
-use Rattle.sd_segment.specs.Writing.{Took}
+use Rattle.sd_collect.specs.Collected.{IsCollected, IsComplete}
+use Rattle.sd_segment.specs.Writing.{TookBytes}
 use Rattle.sd_receive.specs.Held.{holding_in}
 use Rattle.sd_receive.specs.declared.listener.Listener.{Listener}
 
 -- what is kept of what was heard of the current run [this project, docs/FORMATS.md, Receiver]
-pub record Follows (card : CardFields) (past : List Heard) (state : Listener) : Type 0 where
+pub record IsListenerAfter (card : CardFields) (past : List Heard) (state : Listener) : Type 0 where
   pub closed : state.closed ≡ is_closed past
   pub entitled : IsEntitled card past state.entitled
-  pub collect : Collects past state.collect
+  pub collect : IsCollected past state.collect
   pub segment : state.segment ≡ holding_in card past
 
 -- what is kept of what was heard before a part that completes the message that says this, and of the part
-pub record Completes (card : CardFields) (past : List Heard) (part : EcmPart) (head : EcmHead) (state : Listener) :
-    Type 0 where
+pub record IsListenerAtMessage (card : CardFields) (past : List Heard) (part : EcmPart) (head : EcmHead)
+    (state : Listener) : Type 0 where
   pub unclosed : is_closed past ≡ false
   pub entitled : IsEntitled card past state.entitled
   pub collect : IsComplete past part head state.collect
@@ -38,52 +38,56 @@ abbrev pub capped : ℕ → ℕ
 capped n = min n (2 ^ 64 - 1)
 
 -- a capped count rises by this number
-abbrev pub Counts : ℕ → ℕ → ℕ → Type 0
-Counts before after more = (total : ℕ) → before ≡ capped total → after ≡ capped (total + more)
+abbrev pub CountsMore : ℕ → ℕ → ℕ → Type 0
+CountsMore before after more = (total : ℕ) → before ≡ capped total → after ≡ capped (total + more)
 
 -- these bytes are what an offering writes, its packets are counted, and it refuses nothing
-pub record Passes (offering : Offering) (before after : ℕ) (bytes : List ℕ) : Type 0 where
+pub record PassesOffering (offering : Offering) (before after : ℕ) (bytes : List ℕ) : Type 0 where
   pub fault : offering.fault ≡ None
   pub bytes_are : bytes ≡ concat offering.wrote
-  pub counted : Counts before after (length offering.wrote)
+  pub counted : CountsMore before after (length offering.wrote)
 
 -- these bytes are what an offering writes, and it refuses the packet
-pub record Stops (offering : Offering) (why : StreamFault) (bytes : List ℕ) : Type 0 where
+pub record StopsAtOffering (offering : Offering) (why : StreamFault) (bytes : List ℕ) : Type 0 where
   pub fault : offering.fault ≡ Some why
   pub bytes_are : bytes ≡ concat offering.wrote
 
 -- a thing that is heard as packet n is taken, with these bytes written
 abbrev pub TakesHeard : CardFields → Tuning → ℕ → Heard → Listener → Listener → List ℕ → Type 0
-TakesHeard card tuning n heard s t bytes = (past : List Heard) → Follows card past s → is_closed past ≡ false →
-    Passes (heard_offering card tuning n past heard) s.written t.written bytes × Follows card (heard ∷ past) t
+TakesHeard card tuning n heard s t bytes = (past : List Heard) → IsListenerAfter card past s → is_closed past ≡ false →
+    PassesOffering (heard_offering card tuning n past heard) s.written t.written bytes ×
+    IsListenerAfter card (heard ∷ past) t
 
 -- a thing that is heard as packet n is refused, with these bytes written
 abbrev pub RefusesHeard : CardFields → Tuning → ℕ → Heard → Listener → StreamFault → List ℕ → Type 0
-RefusesHeard card tuning n heard s fault bytes = (past : List Heard) → Follows card past s → is_closed past ≡ false →
-    Stops (heard_offering card tuning n past heard) fault bytes
+RefusesHeard card tuning n heard s fault bytes = (past : List Heard) → IsListenerAfter card past s →
+    is_closed past ≡ false →
+    StopsAtOffering (heard_offering card tuning n past heard) fault bytes
 
 -- the message that the part in packet n completes is taken, with these bytes written
 abbrev pub TakesMessage : CardFields → Tuning → ℕ → EcmHead → Listener → Listener → List ℕ → Type 0
-TakesMessage card tuning n head s t bytes = (past : List Heard) (part : EcmPart) → Completes card past part head s →
-    Passes (heard_offering card tuning n past (Controls part)) s.written t.written bytes ×
-    Follows card (Controls part ∷ past) t
+TakesMessage card tuning n head s t bytes = (past : List Heard) (part : EcmPart) →
+    IsListenerAtMessage card past part head s →
+    PassesOffering (heard_offering card tuning n past (Controls part)) s.written t.written bytes ×
+    IsListenerAfter card (Controls part ∷ past) t
 
 -- the message that the part in packet n completes is refused, with these bytes written
 abbrev pub RefusesMessage : CardFields → Tuning → ℕ → EcmHead → Listener → StreamFault → List ℕ → Type 0
 RefusesMessage card tuning n head s fault bytes = (past : List Heard) (part : EcmPart) →
-    Completes card past part head s →
-    Stops (heard_offering card tuning n past (Controls part)) fault bytes
+    IsListenerAtMessage card past part head s →
+    StopsAtOffering (heard_offering card tuning n past (Controls part)) fault bytes
 
 -- a sink took some bytes that have a property
-pub record TookSome (old new : Vessel) (Says : List ℕ → Type 0) : Type 0 where
+pub record TookSome (old new : SinkState) (Says : List ℕ → Type 0) : Type 0 where
   pub bytes : List ℕ
   pub says : Says bytes
-  pub took : Took old new bytes
+  pub took : TookBytes old new bytes
 
 -- the result of a packet: it is taken or refused and all that it writes went into the sink, or a write failed
-abbrev pub Comes : (Listener → List ℕ → Type 0) → (StreamFault → List ℕ → Type 0) → Vessel → Vessel → Listener
+abbrev pub PacketOutcome : (Listener → List ℕ → Type 0) → (StreamFault → List ℕ → Type 0) → SinkState → SinkState →
+    Listener
     → Result Unit (StageFault StreamFault) → Type 0
-Comes Takes Refuses old new t (Ok done) = TookSome old new (Takes t)
-Comes Takes Refuses old new t (Err (Refused fault)) = TookSome old new (Refuses fault)
-Comes Takes Refuses old new t (Err Write) =
-    CutShort old new (λ bytes. ((u : Listener) × Takes u bytes) ⊎ ((fault : StreamFault) × Refuses fault bytes))
+PacketOutcome Takes Refuses old new t (Ok done) = TookSome old new (Takes t)
+PacketOutcome Takes Refuses old new t (Err (Refused fault)) = TookSome old new (Refuses fault)
+PacketOutcome Takes Refuses old new t (Err Write) =
+    IsCutShort old new (λ bytes. ((u : Listener) × Takes u bytes) ⊎ ((fault : StreamFault) × Refuses fault bytes))

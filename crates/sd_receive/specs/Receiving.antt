@@ -13,7 +13,7 @@ use Rattle.sd_reception.specs.Offered.{heard, offered, out_from, break_from}
 pub use Rattle.sd_reception.specs.Taken.{takes_key_of}
 unfoldable pub use Rattle.sd_reception.specs.Taken.{takes_key_at, taken_keys}
 use Rattle.sd_hearing.specs.Ears.{tuned}
-use Rattle.sd_receive.specs.Listening.{Follows, capped}
+use Rattle.sd_receive.specs.Listening.{IsListenerAfter, capped}
 use Rattle.sd_receive.specs.declared.listener.Listener.{Listener}
 use Rattle.sd_receive.specs.declared.receiver.Receiver.{Receiver}
 
@@ -40,7 +40,7 @@ pub record IsAfter (past : List (List ℕ)) (receiver : Receiver) : Type 0 where
   pub tuning : option_map tuned receiver.tuning ≡ tuning_of receiver.card.ca past
   pub name : receiver.name ≡ name_in (heard (card_in receiver) past)
   pub so_far : receiver.so_far ≡ ended_before (card_in receiver) past
-  pub follows : Follows (card_in receiver) (heard (card_in receiver) past) receiver.listener
+  pub follows : IsListenerAfter (card_in receiver) (heard (card_in receiver) past) receiver.listener
   pub written : receiver.listener.written ≡ capped (run_wrote (card_in receiver) past)
   pub unbroken : break_from (card_in receiver) [] (reverse past) ≡ None
   pub unrefused : receiver.refusal ≡ None
@@ -48,9 +48,10 @@ pub record IsAfter (past : List (List ℕ)) (receiver : Receiver) : Type 0 where
 -- the current run was ended: all that was heard of it was forgotten but how it ended
 pub record HasTurned (s t : Receiver) : Type 0 where
   pub same : t ≡ with_run s t.so_far t.listener
-  pub follows : (past : List Heard) → Follows (card_in s) past s.listener → Follows (card_in s) [] t.listener
+  pub follows : (past : List Heard) → IsListenerAfter (card_in s) past s.listener →
+      IsListenerAfter (card_in s) [] t.listener
   pub written : t.listener.written ≡ 0
-  pub so_far : (past : List Heard) (total : ℕ) → Follows (card_in s) past s.listener →
+  pub so_far : (past : List Heard) (total : ℕ) → IsListenerAfter (card_in s) past s.listener →
       s.listener.written ≡ capped total → t.so_far ≡ joined s.so_far (run_ending (card_in s) past total)
 
 -- a message of the run of this name ends the current run, if that has another name
@@ -62,7 +63,7 @@ abbrev pub steps_at : CardFields → List (List ℕ) → List ℕ → ℕ
 steps_at card past packet = if takes_key_at card past packet then card.height else 0
 
 -- the result of a packet that is taken: what is written, the receiver after it, and a bound on the steps
-pub record DoesTake (past : List (List ℕ)) (s : Receiver) (packet : List ℕ) (t : Receiver) (bytes : List ℕ)
+pub record TakesPacket (past : List (List ℕ)) (s : Receiver) (packet : List ℕ) (t : Receiver) (bytes : List ℕ)
     (steps : ℕ) :
     Type 0 where
   pub fault : (offered (card_in s) past packet).fault ≡ None
@@ -72,7 +73,7 @@ pub record DoesTake (past : List (List ℕ)) (s : Receiver) (packet : List ℕ) 
   pub same : t.card ≡ s.card
 
 -- the result of a packet that is refused
-pub record DoesRefuse (past : List (List ℕ)) (s : Receiver) (packet : List ℕ) (why : StreamFault) (bytes : List ℕ)
+pub record RefusesPacket (past : List (List ℕ)) (s : Receiver) (packet : List ℕ) (why : StreamFault) (bytes : List ℕ)
     (steps : ℕ) :
     Type 0 where
   pub fault : (offered (card_in s) past packet).fault ≡ Some why
@@ -92,12 +93,12 @@ IsCountable past = length past < 2 ^ 64 - 1
 -- a packet is taken, whatever packets led to the receiver's state
 abbrev pub receiver_does : Receiver → List ℕ → Receiver → List ℕ → ℕ → Type 0
 receiver_does s packet t bytes steps = (past : List (List ℕ)) → IsAfter past s → IsCountable past →
-    DoesTake past s packet t bytes steps
+    TakesPacket past s packet t bytes steps
 
 -- a packet is refused, whatever packets led to the receiver's state
 abbrev pub Refusing : Receiver → List ℕ → StreamFault → List ℕ → ℕ → Type 0
 Refusing s packet fault bytes steps =
-    (past : List (List ℕ)) → IsAfter past s → IsCountable past → DoesRefuse past s packet fault bytes steps
+    (past : List (List ℕ)) → IsAfter past s → IsCountable past → RefusesPacket past s packet fault bytes steps
 
 -- at the end of the stream nothing is changed, written or counted
 abbrev pub receiver_ends : Receiver → Receiver → List ℕ → ℕ → Type 0
@@ -111,7 +112,7 @@ receiver_refuses s (Some packet) fault t bytes steps = Refusing s packet fault b
 -- the PID of control messages has 13 bits, and what is kept is of something that was heard
 pub record IsFit (receiver : Receiver) : Type 0 where
   pub ecm : IfSome receiver.tuning (λ tuning. tuning.ecm < 8192)
-  pub follows : (past : List Heard) × Follows (card_in receiver) past receiver.listener
+  pub follows : (past : List Heard) × IsListenerAfter (card_in receiver) past receiver.listener
 
 -- a receiver may be offered a packet
 abbrev pub IsLive : Receiver → Type 0
@@ -119,7 +120,7 @@ IsLive receiver = receiver.refusal ≡ None → IsFit receiver
 
 -- the result of packets after others, none of which is refused: what is written, the receiver after them, and a bound
 -- on the steps [this project, docs/FORMATS.md, Receiver]
-pub record CameToAfter (card : CardFields) (past packets : List (List ℕ)) (t : Receiver) (bytes : List ℕ) (steps : ℕ)
+pub record OutcomeAfter (card : CardFields) (past packets : List (List ℕ)) (t : Receiver) (bytes : List ℕ) (steps : ℕ)
     : Type 0 where
   pub written : bytes ≡ concat (out_from card past packets)
   pub unbroken : break_from card past packets ≡ None
@@ -128,7 +129,7 @@ pub record CameToAfter (card : CardFields) (past packets : List (List ℕ)) (t :
   pub same : card_in t ≡ card
 
 -- the result of the first packets of a stream, none of which is refused
-pub record CameTo (card : CardFields) (packets : List (List ℕ)) (t : Receiver) (bytes : List ℕ) (steps : ℕ) : Type 0
+pub record OutcomeOf (card : CardFields) (packets : List (List ℕ)) (t : Receiver) (bytes : List ℕ) (steps : ℕ) : Type 0
   where
     pub written : bytes ≡ concat (out_from card [] packets)
     pub unbroken : break_from card [] packets ≡ None
@@ -137,7 +138,7 @@ pub record CameTo (card : CardFields) (packets : List (List ℕ)) (t : Receiver)
     pub same : card_in t ≡ card
 
 -- the result of the first packets of a stream of which one is refused, whatever comes after it
-pub record BrokeAt (card : CardFields) (packets : List (List ℕ)) (packet : List ℕ) (more : List (List ℕ))
+pub record BreakAt (card : CardFields) (packets : List (List ℕ)) (packet : List ℕ) (more : List (List ℕ))
     (why : StreamFault)
     (bytes : List ℕ) (steps : ℕ) : Type 0 where
   pub written : bytes ≡ concat (out_from card [] (packets ++ packet ∷ more))

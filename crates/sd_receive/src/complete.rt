@@ -9,11 +9,12 @@ ghost use Rattle.sd_reception.specs.Heard.{Heard, Controls};
 ghost use Rattle.sd_reception.specs.Keys.{key_at};
 ghost use Rattle.sd_reception.specs.Offered.{word_fault};
 ghost use Rattle.sd_hearing.specs.Ears.{tuned};
-ghost use Rattle.sd_collect.specs.Collected.{Collects, IsComplete};
+ghost use Rattle.sd_collect.specs.Collected.{IsCollected, IsComplete};
 ghost use Rattle.sd_segment.specs.Holding.{after_message};
-ghost use Rattle.sd_segment.specs.Writing.{Writes};
+ghost use Rattle.sd_segment.specs.Writing.{WriteOutcome};
 ghost use Rattle.sd_receive.specs.Held.{pair_wrote};
-ghost use Rattle.sd_receive.specs.Listening.{Follows, Completes, TakesMessage, RefusesMessage, Comes};
+ghost use Rattle.sd_receive.specs.Listening.{IsListenerAfter, IsListenerAtMessage, TakesMessage, RefusesMessage};
+ghost use Rattle.sd_receive.specs.Listening.{PacketOutcome};
 
 use crate::listener::Listener;
 use crate::word::word_of;
@@ -37,8 +38,8 @@ impl Listener {
     ) -> Result<(), StageFault<StreamFault>>
         requires ecm { tuning.ecm < 8192 }
         requires live { (past : List Heard) × (part : EcmPart) ×
-            Completes (fields_of card.now) past part head.now self.old }
-        ensures value { Comes (TakesMessage (fields_of card.now) (tuned tuning) number head.now self.old)
+            IsListenerAtMessage (fields_of card.now) past part head.now self.old }
+        ensures value { PacketOutcome (TakesMessage (fields_of card.now) (tuned tuning) number head.now self.old)
             (RefusesMessage (fields_of card.now) (tuned tuning) number head.now self.old)
             (vessel K.Sink out.old) (vessel K.Sink out.new) self.new result }
         ensures cause { IsCaused (K.faults out.old) (K.faults out.new) (IsErrOf result StageFault.Write) }
@@ -71,8 +72,8 @@ impl Listener {
     ) -> Result<u64, SegmentFault>
         requires ecm { tuning.ecm < 8192 }
         requires short { AreShort self.now.collect.run.places.items }
-        ensures value { Writes (pair_wrote self.now.collect.last self.now.segment head.now.since card.now.ca tuning.ecm
-            self.now.collect.run.places.items) (vessel K.Sink out.old) (vessel K.Sink out.new) result }
+        ensures value { WriteOutcome (pair_wrote self.now.collect.last self.now.segment head.now.since card.now.ca
+            tuning.ecm self.now.collect.run.places.items) (vessel K.Sink out.old) (vessel K.Sink out.new) result }
         ensures cause { IsCaused (K.faults out.old) (K.faults out.new) (IsErrOf result SegmentFault.Write) }
     {
         match self.collect.last() {
@@ -87,13 +88,13 @@ impl Listener {
     // Begins to buffer packets after the message, if its control word is known.
     fn begin(&mut self, number: u64, head: &EcmHead) -> Result<(), StreamFault>
         requires live { (card : CardFields) × (past : List Heard) × (part : EcmPart) ×
-            Completes card past part head.now self.old }
+            IsListenerAtMessage card past part head.now self.old }
         ensures value { (card : CardFields) (past : List Heard) (part : EcmPart) →
-            Completes card past part head.now self.old →
+            IsListenerAtMessage card past part head.now self.old →
             MatchResult result
             (λ _. (word_fault number (message_of head.now self.old.collect.run.places.items)
             (key_at card past head.now.period) ≡ None)
-            × Follows card (Controls part ∷ past) self.new)
+            × IsListenerAfter card (Controls part ∷ past) self.new)
             (λ fault. word_fault number (message_of head.now self.old.collect.run.places.items)
             (key_at card past head.now.period)
             ≡ Some fault) }
@@ -113,7 +114,7 @@ impl Listener {
     fn renew(&mut self, head: &EcmHead, word: Option<[u8; 32]>)
         requires live { (past : List Heard) × (part : EcmPart) × IsComplete past part head.now self.old.collect }
         ensures collect { (past : List Heard) (part : EcmPart) → IsComplete past part head.now self.old.collect →
-            Collects (Controls part ∷ past) self.new.collect }
+            IsCollected (Controls part ∷ past) self.new.collect }
         ensures segment { self.new.segment ≡
             option_map (λ w. after_message (message_of head.now self.old.collect.run.places.items) w []) word }
         ensures closed { self.new.closed ≡ head.now.closing }

@@ -3,7 +3,7 @@ ghost use Rattle.std.specs.Option.{option_map_or};
 ghost use Rattle.sd_card.specs.Fields.{CardFields};
 ghost use Rattle.sd_reception.specs.Heard.{Heard};
 ghost use Rattle.sd_reception.specs.Ending.{run_ending, ending_of};
-ghost use Rattle.sd_receive.specs.Listening.{Follows, capped};
+ghost use Rattle.sd_receive.specs.Listening.{IsListenerAfter, capped};
 ghost use Rattle.sd_receive.specs.Receiving.{card_in, IsAfter};
 
 use crate::listener::Listener;
@@ -26,7 +26,7 @@ impl Receiver {
 impl Listener {
     // How the current run ends, if it ends here.
     pub fn ending(&self) -> Ending
-        ensures { (card : CardFields) (past : List Heard) (total : ℕ) → Follows card past self.now →
+        ensures { (card : CardFields) (past : List Heard) (total : ℕ) → IsListenerAfter card past self.now →
             self.now.written ≡ capped total → result ≡ run_ending card past total }
     {
         if !self.closed {

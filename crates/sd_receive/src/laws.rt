@@ -3,7 +3,7 @@
 ghost use Rattle.std.specs.Prelude.{◌≡◌, ℕ, ◌+◌, ◌-◌, ◌*◌, ◌^◌, ◌<◌, ◌≤◌, ◌++◌, ◌∷◌, [], List, length};
 ghost use Rattle.sd_engine.specs.Stage.{Chain};
 ghost use Rattle.sd_reception.specs.declared.fault.StreamFault.{StreamFault};
-ghost use Rattle.sd_receive.specs.Receiving.{card_in, IsAfter, taken_keys, receiver_does, Refusing, CameTo, BrokeAt};
+ghost use Rattle.sd_receive.specs.Receiving.{card_in, IsAfter, taken_keys, receiver_does, Refusing, OutcomeOf, BreakAt};
 ghost use Rattle.sd_receive.specs.declared.receiver.Receiver.{Receiver};
 
 /// If none of the packets is refused, a receiver writes what the specification says of them, and its state is the one
@@ -12,7 +12,8 @@ ghost use Rattle.sd_receive.specs.declared.receiver.Receiver.{Receiver};
 #[tactic(auto, using(crate::proofs::Chained::came_to_all))]
 pub fn packets_are_opened()
     ensures { (packets : List (List ℕ)) (s t : Receiver) (bytes : List ℕ) (n : ℕ) → IsAfter [] s →
-        length packets ≤ 2 ^ 64 - 1 → Chain receiver_does s packets t bytes n → CameTo (card_in s) packets t bytes n }
+        length packets ≤ 2 ^ 64 - 1 → Chain receiver_does s packets t bytes n →
+        OutcomeOf (card_in s) packets t bytes n }
 {}
 
 /// If a receiver refuses a packet, it is the first that the specification refuses, and for the same reason. What was
@@ -21,5 +22,5 @@ pub fn refusals_come_first()
     ensures { (packets : List (List ℕ)) (s mid : Receiver) (packet : List ℕ) (more : List (List ℕ)) (why : StreamFault)
         (first last : List ℕ) (m k : ℕ) → IsAfter [] s → length packets < 2 ^ 64 - 1 →
         Chain receiver_does s packets mid first m → Refusing mid packet why last k →
-        BrokeAt (card_in s) packets packet more why (first ++ last) (m + k) }
+        BreakAt (card_in s) packets packet more why (first ++ last) (m + k) }
 {}

@@ -4,12 +4,12 @@ ghost use Rattle.sd_cause.specs.Count.{IsCaused};
 ghost use Rattle.sd_card.specs.Fields.{CardFields, fields_of};
 ghost use Rattle.sd_ecm.specs.Form.{IsEcm};
 ghost use Rattle.sd_emm.specs.Form.{IsEmm, AreSets};
-ghost use Rattle.sd_emm.specs.Spelled.{listed};
+ghost use Rattle.sd_emm.specs.Spelled.{listed_entries};
 ghost use Rattle.sd_engine.specs.Stage.{vessel};
 ghost use Rattle.sd_reception.specs.Heard.{Heard as Thing, Controls};
 ghost use Rattle.sd_reception.specs.Stretches.{is_closed};
 ghost use Rattle.sd_hearing.specs.Ears.{tuned, heard_as, IsFormed};
-ghost use Rattle.sd_receive.specs.Listening.{Follows, TakesHeard, RefusesHeard, Comes};
+ghost use Rattle.sd_receive.specs.Listening.{IsListenerAfter, TakesHeard, RefusesHeard, PacketOutcome};
 ghost use Rattle.sd_receive.specs.Receiving.{takes_key_of};
 
 use crate::listener::Listener;
@@ -31,7 +31,8 @@ use std::sync::ledger::Ledger;
 impl Listener {
     // Before anything was heard. All memory is allocated here.
     pub fn new(alloc: Global) -> Result<Listener, NoMemory>
-        ensures { IfOk result (λ listener. (listener.written ≡ 0) × ((card : CardFields) → Follows card [] listener)) }
+        ensures { IfOk result (λ listener. (listener.written ≡ 0) ×
+            ((card : CardFields) → IsListenerAfter card [] listener)) }
     {
         let entitled = Entitled::new(alloc)?;
         let collect = Collect::new(alloc)?;
@@ -47,8 +48,8 @@ impl Listener {
 
     // Forgets all that was heard of the run.
     pub fn forget(&mut self)
-        ensures follows { (card : CardFields) (past : List Thing) → Follows card past self.old →
-            Follows card [] self.new }
+        ensures follows { (card : CardFields) (past : List Thing) → IsListenerAfter card past self.old →
+            IsListenerAfter card [] self.new }
         ensures written { self.new.written ≡ 0 }
     {
         self.closed = false;
@@ -70,14 +71,14 @@ impl Listener {
         steps: &mut Steps<L>,
     ) -> Result<(), StageFault<StreamFault>>
         requires ecm { tuning.ecm < 8192 }
-        requires live { (past : List Thing) × Follows (fields_of card.now) past self.old }
+        requires live { (past : List Thing) × IsListenerAfter (fields_of card.now) past self.old }
         requires open { self.old.closed ≡ false }
         requires form { IsFormed card.now.height heard.now }
-        ensures value { Comes
+        ensures value { PacketOutcome
             (TakesHeard (fields_of card.now) (tuned tuning) number (heard_as number packet.now heard.now) self.old)
             (RefusesHeard (fields_of card.now) (tuned tuning) number (heard_as number packet.now heard.now) self.old)
             (vessel K.Sink out.old) (vessel K.Sink out.new) self.new result }
-        ensures steps { (past : List Thing) → Follows (fields_of card.now) past self.old → steps.new ≤ steps.old
+        ensures steps { (past : List Thing) → IsListenerAfter (fields_of card.now) past self.old → steps.new ≤ steps.old
             + (if takes_key_of (fields_of card.now) past (heard_as number packet.now heard.now)
             then card.now.height else 0) }
         ensures cause { IsCaused (K.faults out.old) (K.faults out.new) (IsErrOf result StageFault.Write) }
@@ -108,11 +109,11 @@ impl Listener {
         out: &mut K,
     ) -> Result<(), StageFault<StreamFault>>
         requires ecm { tuning.ecm < 8192 }
-        requires live { (past : List Thing) × Follows (fields_of card.now) past self.old }
+        requires live { (past : List Thing) × IsListenerAfter (fields_of card.now) past self.old }
         requires open { self.old.closed ≡ false }
         requires form { IsEcm part.now }
-        ensures value { Comes (TakesHeard (fields_of card.now) (tuned tuning) number (Controls part.now) self.old)
-            (RefusesHeard (fields_of card.now) (tuned tuning) number (Controls part.now) self.old)
+        ensures value { PacketOutcome (TakesHeard (fields_of card.now) (tuned tuning) number (Controls part.now)
+            self.old) (RefusesHeard (fields_of card.now) (tuned tuning) number (Controls part.now) self.old)
             (vessel K.Sink out.old) (vessel K.Sink out.new) self.new result }
         ensures cause { IsCaused (K.faults out.old) (K.faults out.new) (IsErrOf result StageFault.Write) }
     {

@@ -1,6 +1,6 @@
 ghost use Rattle.std.specs.Prelude.{◌≡◌, [], Some, None, Err, IfOk, OnOk, IsErrOf};
 ghost use Rattle.sd_cause.specs.Count.{IsCaused};
-ghost use Rattle.sd_engine.specs.Stage.{vessel, Grew, CutShort, IsAllowed};
+ghost use Rattle.sd_engine.specs.Stage.{vessel, HasGrown, IsCutShort, IsAllowed};
 ghost use Rattle.sd_receive.specs.Receiving.{IsAfter, IsFit, IsLive, Refusing, receiver_does, receiver_ends};
 ghost use Rattle.sd_receive.specs.Receiving.{receiver_refuses};
 
@@ -47,14 +47,14 @@ impl Receiver {
     ) -> Result<(), StageFault<StreamFault>>
         requires fit { IsFit self.old }
         requires unrefused { self.old.refusal ≡ None }
-        ensures value { OnOk result (Grew (vessel K.Sink out.old) (vessel K.Sink out.new) steps.old steps.new
+        ensures value { OnOk result (HasGrown (vessel K.Sink out.old) (vessel K.Sink out.new) steps.old steps.new
             (receiver_does self.old packet.now self.new)) }
         ensures ok { OnOk result (IsFit self.new) }
         ensures unrefused { self.new.refusal ≡ None }
         ensures fault { (fault : StreamFault) → result ≡ Err (StageFault.Refused fault) →
-            Grew (vessel K.Sink out.old) (vessel K.Sink out.new) steps.old steps.new
+            HasGrown (vessel K.Sink out.old) (vessel K.Sink out.new) steps.old steps.new
             (Refusing self.old packet.now fault) }
-        ensures prefix { IsErrOf result StageFault.Write → CutShort (vessel K.Sink out.old) (vessel K.Sink out.new)
+        ensures prefix { IsErrOf result StageFault.Write → IsCutShort (vessel K.Sink out.old) (vessel K.Sink out.new)
             (IsAllowed (receiver_does self.old packet.now) (receiver_refuses self.old (Some packet.now))
             steps.old steps.new) }
         ensures cause { IsCaused (K.faults out.old) (K.faults out.new) (IsErrOf result StageFault.Write) }

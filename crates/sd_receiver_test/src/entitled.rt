@@ -1,6 +1,6 @@
 ghost use Rattle.std.specs.Prelude.{◌≡◌, ◌<◌, IfSome};
 ghost use Rattle.sd_emm.specs.Form.{IsEmm, AreSets};
-ghost use Rattle.sd_emm.specs.Spelled.{listed};
+ghost use Rattle.sd_emm.specs.Spelled.{listed_entries};
 
 use crate::packets::{ALL, beginning};
 use hex::{FromHex, decode_to_slice};

@@ -3,7 +3,7 @@ use Rattle.std.specs.Prelude.{ℕ, List, [], ◌∷◌, find, Option, Some, None
 use Rattle.sd_tree.specs.Leaves.{is_member}
 use Rattle.sd_card.specs.Fields.{CardFields, card_key}
 use Rattle.sd_wrap.specs.Wrapping.{wrapped as under}
-use Rattle.sd_emm.specs.Spelled.{listed}
+use Rattle.sd_emm.specs.Spelled.{listed_entries}
 use Rattle.sd_emm.specs.declared.emm.Emm.{Emm}
 use Rattle.sd_reception.specs.Heard.{Heard}
 use Rattle.sd_reception.specs.Stretches.{seen}
@@ -12,7 +12,7 @@ use Rattle.sd_reception.specs.Stretches.{seen}
 unfoldable pub key_from : CardFields → Emm → Option (List ℕ)
 key_from card emm =
     option_map (λ entry. under (card_key card entry.name) emm.period entry.wrapped)
-    (find (λ entry. is_member card.height entry.name card.leaf) (listed emm))
+    (find (λ entry. is_member card.height entry.name card.leaf) (listed_entries emm))
 
 -- the first of two keys that is there
 abbrev pub first_key : Option (List ℕ) → Option (List ℕ) → Option (List ℕ)

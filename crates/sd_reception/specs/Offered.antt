@@ -10,7 +10,7 @@ use Rattle.sd_wrap.specs.Wrapping.{wrapped as under}
 use Rattle.sd_emm.specs.declared.emm.Emm.{Emm}
 use Rattle.sd_emm.specs.declared.fault.EmmFault.TheVariants as Emms
 use Rattle.sd_ecm.specs.Versions.{most_places}
-use Rattle.sd_ecm.specs.Spelled.{listed}
+use Rattle.sd_ecm.specs.Spelled.{listed_places}
 use Rattle.sd_ecm.specs.Parts.{Message}
 use Rattle.sd_ecm.specs.declared.part.EcmPart.{EcmPart}
 use Rattle.sd_ecm.specs.declared.fault.EcmFault.{EcmFault}
@@ -50,8 +50,8 @@ pub record Offering : Type 0 where
   pub fault : Option StreamFault
 
 -- nothing is written, and the packet isn't refused
-abbrev pub nothing : Offering
-nothing = record { wrote = []; fault = None }
+abbrev pub no_offering : Offering
+no_offering = record { wrote = []; fault = None }
 
 -- nothing is written, and the packet is refused
 abbrev pub refuses : StreamFault → Offering
@@ -67,20 +67,20 @@ is_mixed sections emm = list_any (λ other. not (says_same other emm)) sections
 
 -- the result of a section in packet n that gives this key, or none
 abbrev pub key_offering : ℕ → Emm → Option (List ℕ) → Offering
-key_offering n emm None = nothing
+key_offering n emm None = no_offering
 key_offering n emm (Some key) =
-    if bytes_eq (check_value_of key) emm.check then nothing
+    if bytes_eq (check_value_of key) emm.check then no_offering
     else refuses (Fault.WrongKey n emm.period (check_value_of key) emm.check)
 
 -- the result of a section in packet n, if its period's key is known, and if not
 abbrev pub key_if_none : ℕ → Emm → Option (List ℕ) → Option (List ℕ) → Offering
-key_if_none n emm (Some key) found = nothing
+key_if_none n emm (Some key) found = no_offering
 key_if_none n emm None found = key_offering n emm found
 
 -- the result of a section of entitlements in packet n, after what was heard before
 unfoldable pub emm_offering : CardFields → ℕ → List Heard → Emm → Offering
 emm_offering card n past emm =
-    if nat_lt emm.period (current past) then nothing
+    if nat_lt emm.period (current past) then no_offering
     else if is_mixed (seen emm.period past) emm then refuses (Fault.BadEmm n Emms.Mixed)
     else key_if_none n emm (key_at card past emm.period) (key_from card emm)
 
@@ -97,7 +97,7 @@ same_header a b =
 abbrev pub is_after : EcmPart → List EcmPart → Bool
 is_after part [] = true
 is_after part (before ∷ run) =
-    not (list_any (λ place. list_any (λ old. nat_le place.pid old.pid) (listed before)) (listed part))
+    not (list_any (λ place. list_any (λ old. nat_le place.pid old.pid) (listed_places before)) (listed_places part))
 
 -- what is wrong with a part after those of its message
 unfoldable pub part_fault : List EcmPart → Option EcmFault
@@ -105,7 +105,7 @@ part_fault [] = None
 part_fault (part ∷ run) =
     if list_any (λ other. not (same_header other part)) run then Some Mixed
     else if not (is_after part run) then Some Order
-    else if nat_lt most_places (length (flat_map listed (part ∷ run))) then Some Count
+    else if nat_lt most_places (length (flat_map listed_places (part ∷ run))) then Some Count
     else None
 
 -- message b goes back behind message a: its period, control word, clear packets or some position is lower, or it lacks
@@ -157,7 +157,7 @@ wrote_or wrote fault =
 
 -- the result of packet n, which completes a message, or none
 abbrev pub message_offering : CardFields → Tuning → ℕ → List Heard → Option Message → Offering
-message_offering card tuning n past None = nothing
+message_offering card tuning n past None = no_offering
 message_offering card tuning n past (Some b) =
     if is_back past b then refuses (Fault.BadEcm n Back)
     else wrote_or (stretch_wrote card tuning (newest past) (newest past).message b)
@@ -171,23 +171,23 @@ part_offering n (Some fault) next = refuses (Fault.BadEcm n fault)
 -- the result of packet n, which is heard as this, after what was heard of its run [this project, docs/FORMATS.md,
 -- Receiver]
 abbrev pub heard_offering : CardFields → Tuning → ℕ → List Heard → Heard → Offering
-heard_offering card tuning n past Dropped = nothing
+heard_offering card tuning n past Dropped = no_offering
 heard_offering card tuning n past (Entitles emm) = emm_offering card n past emm
 heard_offering card tuning n past (Controls part) =
     part_offering n (part_fault (run_to (newest past) part))
     (message_offering card tuning n past (completes past (Controls part)))
 heard_offering card tuning n past (BadEmm fault) = refuses (Fault.BadEmm n fault)
 heard_offering card tuning n past (BadEcm fault) = refuses (Fault.BadEcm n fault)
-heard_offering card tuning n past (Other k packet) = nothing
+heard_offering card tuning n past (Other k packet) = no_offering
 
 -- the result of packet n, which is heard as this and may begin another run, after what was heard of the current one
 abbrev pub run_offering : CardFields → Tuning → ℕ → List Heard → Heard → Offering
 run_offering card tuning n past thing =
-    if is_closed (of_run past thing) then nothing else heard_offering card tuning n (of_run past thing) thing
+    if is_closed (of_run past thing) then no_offering else heard_offering card tuning n (of_run past thing) thing
 
 -- the result of packet n: nothing if no CAT was taken
 abbrev pub tuned_offering : CardFields → Option Tuning → ℕ → List Heard → List ℕ → Offering
-tuned_offering card None n past packet = nothing
+tuned_offering card None n past packet = no_offering
 tuned_offering card (Some tuning) n past packet =
     run_offering card tuning n past (hears card.height tuning n packet)
 

@@ -4,13 +4,13 @@ use Rattle.sd_reception.specs.Heard.{Heard, Dropped, Entitles, Controls, BadEmm,
 
 -- the name of the run to which a message without a fault belongs: a control word's number in version 3, and none in
 -- versions 1 and 2. All else belongs to no run [this project, docs/FORMATS.md, Receiver]
-abbrev pub name_of : Heard → Option (Option ℕ)
-name_of (Entitles emm) = Some emm.run
-name_of (Controls part) = Some part.run
-name_of Dropped = None
-name_of (BadEmm fault) = None
-name_of (BadEcm fault) = None
-name_of (Other n packet) = None
+abbrev pub run_name_heard : Heard → Option (Option ℕ)
+run_name_heard (Entitles emm) = Some emm.run
+run_name_heard (Controls part) = Some part.run
+run_name_heard Dropped = None
+run_name_heard (BadEmm fault) = None
+run_name_heard (BadEcm fault) = None
+run_name_heard (Other n packet) = None
 
 -- the first of two names that is there
 abbrev pub name_or : Option (Option ℕ) → Option (Option ℕ) → Option (Option ℕ)
@@ -20,7 +20,7 @@ name_or None other = other
 -- the name of the current run, which is that of the newest message. If there is no message there is no run
 unfoldable pub name_in : List Heard → Option (Option ℕ)
 name_in [] = None
-name_in (heard ∷ past) = name_or (name_of heard) (name_in past)
+name_in (heard ∷ past) = name_or (run_name_heard heard) (name_in past)
 
 -- two names are the same
 abbrev pub is_same : Option ℕ → Option ℕ → Bool
@@ -37,7 +37,7 @@ are_two (Some a) (Some b) = not (is_same a b)
 
 -- what comes is a message of another run than the current one [this project, docs/FORMATS.md, Receiver]
 unfoldable pub is_turn : List Heard → Heard → Bool
-is_turn past heard = are_two (name_in past) (name_of heard)
+is_turn past heard = are_two (name_in past) (run_name_heard heard)
 
 -- what was heard before of the run that is current with what comes: nothing, if that begins a run
 unfoldable pub of_run : List Heard → Heard → List Heard

@@ -4,7 +4,7 @@ use Rattle.std.specs.Prelude.{ℕ, ◌+◌, ◌==◌, ◌&&◌, Bool, true, fals
 use Rattle.std.specs.Prelude.{reverse, if◌then◌else◌, Option, Some, None}
 use Rattle.std.specs.Option.{option_map_or}
 use Rattle.sd_emm.specs.declared.emm.Emm.{Emm}
-use Rattle.sd_ecm.specs.Spelled.{listed}
+use Rattle.sd_ecm.specs.Spelled.{listed_places}
 use Rattle.sd_ecm.specs.Parts.{Message}
 use Rattle.sd_ecm.specs.declared.part.EcmPart.{EcmPart}
 use Rattle.sd_reception.specs.Heard.{Heard, Dropped, Entitles, Controls, BadEmm, BadEcm, Other}
@@ -63,7 +63,7 @@ message_told (part ∷ run) = Some (record {
   closing = part.closing;
   wrapped = part.wrapped;
   check = part.check;
-  places = flat_map listed (reverse (part ∷ run));
+  places = flat_map listed_places (reverse (part ∷ run));
 })
 
 -- the parts of the message that a part of it ends
@@ -112,19 +112,19 @@ is_closed (heard ∷ past) = if is_closed past then true
     else option_map_or (λ message. message.closing) (completes past heard) false
 
 -- the period of what comes: of a section, or of the message that it completes; else 0
-abbrev pub period_in : List Heard → Heard → ℕ
-period_in past (Entitles emm) = emm.period
-period_in past (Controls part) = option_map_or (λ message. message.period) (completes past (Controls part)) 0
-period_in past Dropped = 0
-period_in past (BadEmm fault) = 0
-period_in past (BadEcm fault) = 0
-period_in past (Other n packet) = 0
+abbrev pub period_heard : List Heard → Heard → ℕ
+period_heard past (Entitles emm) = emm.period
+period_heard past (Controls part) = option_map_or (λ message. message.period) (completes past (Controls part)) 0
+period_heard past Dropped = 0
+period_heard past (BadEmm fault) = 0
+period_heard past (BadEcm fault) = 0
+period_heard past (Other n packet) = 0
 
 -- the current period: the greatest of a section of entitlements or a complete message [this project, docs/FORMATS.md,
 -- Receiver]
 unfoldable pub current : List Heard → ℕ
 current [] = 0
-current (heard ∷ past) = max (period_in past heard) (current past)
+current (heard ∷ past) = max (period_heard past heard) (current past)
 
 -- the sections of period q with what comes: a section of q is seen if q isn't before the current period
 abbrev pub seen_with : ℕ → List Heard → Heard → List Emm → List Emm

@@ -3,9 +3,9 @@ use Rattle.std.proofs.Common.{◌≡◌, ◌≤◌, ℕ, List, [], ◌∷◌, Re
 use Rattle.sd_status.specs.declared.status.Status.{Status}
 use Rattle.sd_status.specs.declared.status.Status.TheVariants.{Usage, Missing}
 use Rattle.sd_status.specs.Outside.{Outside}
-use Rattle.sd_status.specs.Meant.{Meant, Given, judged, ◌>>=◌}
+use Rattle.sd_status.specs.Spec.{Spec, Readings, judged, ◌>>=◌}
 use Rattle.sd_status.specs.Work.{Work}
-use Rattle.sd_status.specs.Comes.{IsRefusal, refused, Obeys, Follows}
+use Rattle.sd_status.specs.Outcome.{IsRefusal, refused, OutcomeWithin, Implements}
 use Rattle.sd_status.proofs.Givens.{any_given}
 use Rattle.sd_files.proofs.Others.{IsOther}
 use Rattle.sd_run_help.proofs.Others.{other_help, other_version}
@@ -21,21 +21,21 @@ err_is : {A : Type 0} (a b : Status) (r : Result A Status) → r ≡ Err a → r
 err_is a b r e f = cc
 
 -- the meaning of words that were read so
-abbrev read_meaning : Result Order Status → Given → Meant Work
+abbrev read_meaning : Result Order Status → Readings → Spec Work
 read_meaning read given = judged read >>= λ order. order_meaning order given
 
-same_order : (order : Order) (given : Given) (a b : Outside) (status : Status) → Obeys (order_meaning order given) a b
-    status →
-    Obeys (read_meaning (Ok order) given) a b status
+same_order : (order : Order) (given : Readings) (a b : Outside) (status : Status) → OutcomeWithin
+    (order_meaning order given) a b status →
+    OutcomeWithin (read_meaning (Ok order) given) a b status
 same_order order given a b status h =
     record { comes = h.comes; ports = h.ports; calls = let c = h.calls in omega arith; steps = h.steps }
 
 -- an order that is followed is the words'
 pub order_follows : (words : List (List ℕ)) (order : Order) (a b : Outside) (status : Status) →
     Ok order ≡ order_of words →
-    Follows (order_meaning order) a b status → Follows (meaning words) a b status
+    Implements (order_meaning order) a b status → Implements (meaning words) a b status
 order_follows words order a b status read h =
-    subst (λ (r : Result Order Status). Follows (read_meaning r) a b status) read
+    subst (λ (r : Result Order Status). Implements (read_meaning r) a b status) read
     (record { given = h.given; is_given = h.is_given; obeyed = same_order order h.given a b status h.obeyed })
 
 refuses : (status : Status) → RefusesWords status → IsRefusal status
@@ -49,10 +49,10 @@ none_missing status word (inr e) is = absurd (let x = sym e.1 ∙ is in cc)
 -- words that are refused are followed by the refusal
 pub words_follow : (words : List (List ℕ)) (status : Status) (a : Outside) → Err status ≡ order_of words →
     RefusesWords status →
-    Follows (meaning words) a a status
+    Implements (meaning words) a a status
 words_follow words status a read h =
     let g = any_given a.place.files in
-    subst (λ (r : Result Order Status). Follows (read_meaning r) a a status) read
+    subst (λ (r : Result Order Status). Implements (read_meaning r) a a status) read
     (record {
       given = g.given;
       is_given = g.is_given;
@@ -90,7 +90,7 @@ plan_fits (site ∷ book ∷ NumberOf packets ∷ OutOf word ∷ rest) h = absur
 plan_fits (site ∷ book ∷ NumberOf packets ∷ NumberOf pids ∷ rest) h = (h.1.1.0.1.0, h.1.1.1.0.1)
 
 -- no order answers `Usage`
-other_order : (order : Order) (given : Given) → IsOther (order_meaning order given).result
+other_order : (order : Order) (given : Readings) → IsOther (order_meaning order given).result
 other_order (CommandOf command arguments) given = other_command command arguments given
 other_order (HelpOf topic) given = other_help topic given
 other_order VersionOf given = other_version given
@@ -100,7 +100,7 @@ other_is (Ok x) h e = absurd (cc)
 other_is {A} (Err status) h e = h (err_is {A = A} status Usage (Err status) refl e)
 
 -- words of which `Usage` is meant are no order
-pub only_words : (read : Result Order Status) (given : Given) → (read_meaning read given).result ≡ Err Usage →
+pub only_words : (read : Result Order Status) (given : Readings) → (read_meaning read given).result ≡ Err Usage →
     read ≡ Err Usage
 only_words (Ok order) given e = absurd (other_is (order_meaning order given).result (other_order order given) e)
 only_words (Err status) given e = ap Err (err_is {A = Work} status Usage (Err status) refl e)

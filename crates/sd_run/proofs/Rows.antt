@@ -1,9 +1,9 @@
 -- What is said of each command of the table: here, and nowhere else above its own crate, has a command its row.
 use Rattle.std.proofs.Common.{ℕ, ◌+◌, List, [], ◌∷◌, Option, Some, None, refl}
 use Rattle.sd_engine.specs.Taken.{end_of}
-use Rattle.sd_status.specs.Meant.{Word, Given, all_of, judged, value, ◌>>=◌}
+use Rattle.sd_status.specs.Spec.{FileArgument, Readings, all_of, judged, value, ◌>>=◌}
 use Rattle.sd_status.specs.Work.{Uncounted, NoSteps, UpTo}
-use Rattle.sd_files.specs.Shown.{Number}
+use Rattle.sd_files.specs.Shown.{NumberArgument}
 use Rattle.sd_files.specs.Both.{both_meaning}
 use Rattle.sd_files.specs.Files.{site_in, book_in}
 use Rattle.sd_files.specs.Leaves.{leaves_in}
@@ -37,12 +37,14 @@ use Rattle.sd_site.specs.Fields.{SiteFields}
 use Rattle.sd_book.specs.Text.{text_of}
 use Rattle.sd_lsd.specs.Fields.{layer_card_of, layer_bytes}
 use Rattle.sd_commands.specs.declared.command.Command.{Command}
-use Rattle.sd_commands.specs.declared.command.Command.TheVariants.{Accounts, Book, Card, Cover, Field, Head, Layered, Lcard}
-use Rattle.sd_commands.specs.declared.command.Command.TheVariants.{Apart, Messages, Opens, Plan as Air, Receive, Sample, Show}
+use Rattle.sd_commands.specs.declared.command.Command.TheVariants.{Accounts, Book, Card, Cover, Field, Head, Layered}
+use Rattle.sd_commands.specs.declared.command.Command.TheVariants.{Lcard}
+use Rattle.sd_commands.specs.declared.command.Command.TheVariants.{Apart, Messages, Opens, Plan as Air, Receive, Sample}
+use Rattle.sd_commands.specs.declared.command.Command.TheVariants.{Show}
 use Rattle.sd_commands.specs.declared.command.Command.TheVariants.{Tables, Trace, Trial}
 use Rattle.sd_commands.specs.declared.operand.Operand.{Operand}
-use Rattle.sd_commands.specs.Commands.{command_of, example_of, name_of, operands_of}
-use Rattle.sd_commands.specs.Operands.{kind_of}
+use Rattle.sd_commands.specs.Commands.{command_named, example_of, command_name, operands_of}
+use Rattle.sd_commands.specs.Operands.{operand_kind}
 use Rattle.sd_words.specs.Words.{Argument, file, number, named_words, or_output}
 use Rattle.sd_run.specs.Meaning.{command_meaning}
 use Rattle.sd_files.proofs.Others.{IsOther}
@@ -66,10 +68,10 @@ use Rattle.sd_run_trial.proofs.Others.{other_trial}
 use Rattle.sd_run.proofs.Works.{AreOrderly, orderly_after, same_name, made_whole, turned, none_made, sent_apart}
 use Rattle.sd_run.proofs.Works.{stream_apart, stream_received, text_quiet}
 use Rattle.sd_run.proofs.Examples.{IsExample, words_in, onto_first, arguments_in}
-use Rattle.sd_text.specs.Number.{number_of}
+use Rattle.sd_text.specs.Number.{decimal_value}
 
 -- the commands that make a file
-accounts_orderly : (site accounts out : Word) (given : Given) →
+accounts_orderly : (site accounts out : FileArgument) (given : Readings) →
     AreOrderly (Some out.text) (accounts_meaning site accounts out given).result
 accounts_orderly site accounts out given =
     orderly_after (Some out.text) (accounts_in site accounts given)
@@ -83,7 +85,7 @@ accounts_orderly site accounts out given =
       keeps = λ refusal. absurd refusal;
     })
 
-book_orderly : (site book commands out : Word) (given : Given) →
+book_orderly : (site book commands out : FileArgument) (given : Readings) →
     AreOrderly (Some out.text) (book_meaning site book commands out given).result
 unfolding book_meaning
 book_orderly site book commands out given =
@@ -99,7 +101,7 @@ book_orderly site book commands out given =
     (λ longer. value (making NoSteps out (text_of longer)))
     (λ longer. made_whole NoSteps out (text_of longer))))
 
-card_orderly : (site : Word) (leaf : Number) (out : Word) (given : Given) →
+card_orderly : (site : FileArgument) (leaf : NumberArgument) (out : FileArgument) (given : Readings) →
     AreOrderly (Some out.text) (card_meaning site leaf out given).result
 card_orderly site leaf out given =
     orderly_after (Some out.text) (site_in given site)
@@ -107,11 +109,11 @@ card_orderly site leaf out given =
     (λ fields. orderly_after (Some out.text) (judged (told_card fields leaf))
     (λ bytes. value (making Uncounted out bytes)) (λ bytes. made_whole Uncounted out bytes))
 
-sample_orderly : (number packets : ℕ) (out : Word) (given : Given) →
+sample_orderly : (number packets : ℕ) (out : FileArgument) (given : Readings) →
     AreOrderly (Some out.text) (sample_meaning number packets out given).result
 sample_orderly number packets out given = made_whole NoSteps out (sample_of number packets)
 
-lcard_orderly : (site : Word) (leaf width : Number) (out : Word) (given : Given) →
+lcard_orderly : (site : FileArgument) (leaf width : NumberArgument) (out : FileArgument) (given : Readings) →
     AreOrderly (Some out.text) (lcard_meaning site leaf width out given).result
 lcard_orderly site leaf width out given =
     let bytes : SiteFields → ℕ → ℕ → List ℕ =
@@ -122,7 +124,7 @@ lcard_orderly site leaf width out given =
     (λ u. orderly_after (Some out.text) (judged (told_width fields.height width))
     (λ w. value (making Uncounted out (bytes fields u w))) (λ w. made_whole Uncounted out (bytes fields u w))))
 
-head_orderly : (site book clear out : Word) (given : Given) →
+head_orderly : (site book clear out : FileArgument) (given : Readings) →
     AreOrderly (Some out.text) (head_meaning site book clear out given).result
 unfolding head_meaning
 head_orderly site book clear out given =
@@ -131,7 +133,7 @@ head_orderly site book clear out given =
     (λ bytes. value (sending plan out bytes))
     (λ bytes. turned Uncounted out (sent_of plan bytes) (sent_status plan bytes) (sent_apart plan bytes)))
 
-receive_orderly : (card stream out : Word) (given : Given) →
+receive_orderly : (card stream out : FileArgument) (given : Readings) →
     AreOrderly (Some out.text) (receive_meaning card stream out given).result
 unfolding receive_meaning
 receive_orderly card stream out given =
@@ -142,7 +144,7 @@ receive_orderly card stream out given =
     (received_status fields bytes) (stream_received fields bytes)))
 
 -- and those that make none
-cover_orderly : (site book : Word) (given : Given) → AreOrderly None (cover_meaning site book given).result
+cover_orderly : (site book : FileArgument) (given : Readings) → AreOrderly None (cover_meaning site book given).result
 unfolding cover_meaning
 cover_orderly site book given =
     orderly_after None (site_in given site)
@@ -151,13 +153,13 @@ cover_orderly site book given =
     (λ commands. value (covering fields.height commands))
     (λ commands. none_made (covering fields.height commands) refl (λ refusal. absurd refusal)))
 
-tables_orderly : (stream : Word) (given : Given) → AreOrderly None (tables_meaning stream given).result
+tables_orderly : (stream : FileArgument) (given : Readings) → AreOrderly None (tables_meaning stream given).result
 unfolding tables_meaning
 tables_orderly stream given =
     orderly_after None (all_of stream.number (given stream)) (λ bytes. value (inspecting bytes))
     (λ bytes. none_made (inspecting bytes) refl (λ refusal. absurd (stream_apart (end_of bytes) refusal)))
 
-messages_orderly : (site stream : Word) (given : Given) →
+messages_orderly : (site stream : FileArgument) (given : Readings) →
     AreOrderly None (messages_meaning site stream given).result
 unfolding messages_meaning
 messages_orderly site stream given =
@@ -167,12 +169,12 @@ messages_orderly site stream given =
     (λ bytes. none_made (monitoring fields bytes) refl
     (λ refusal. absurd (stream_apart (end_of bytes) refusal))))
 
-show_orderly : (card : Word) (given : Given) → AreOrderly None (show_meaning card given).result
+show_orderly : (card : FileArgument) (given : Readings) → AreOrderly None (show_meaning card given).result
 show_orderly card given =
     orderly_after None (line_of_file card.number (given card)) (λ line. value (showing line))
     (λ line. none_made (showing line) refl (λ refusal. absurd refusal))
 
-layered_orderly : (site book : Word) (width : Number) (given : Given) →
+layered_orderly : (site book : FileArgument) (width : NumberArgument) (given : Readings) →
     AreOrderly None (layered_meaning site book width given).result
 layered_orderly site book width given =
     orderly_after None (layers_of_file site.number width (given site))
@@ -182,7 +184,7 @@ layered_orderly site book width given =
     (λ commands. value (layering layers.height layers.width commands))
     (λ commands. none_made (layering layers.height layers.width commands) refl (λ refusal. absurd refusal)))
 
-apart_orderly : (site book other more : Word) (given : Given) →
+apart_orderly : (site book other more : FileArgument) (given : Readings) →
     AreOrderly None (apart_meaning site book other more given).result
 apart_orderly site book other more given =
     orderly_after None (both_meaning site book given)
@@ -193,7 +195,7 @@ apart_orderly site book other more given =
     (λ second. orderly_after None (judged (told_apart (plan_of_both first) (plan_of_both second)))
     (λ text. value (saying text)) (λ text. none_made (saying text) refl (λ refusal. absurd refusal))))
 
-air_orderly : (site book : Word) (packets : Number) (pids : ℕ) (given : Given) →
+air_orderly : (site book : FileArgument) (packets : NumberArgument) (pids : ℕ) (given : Readings) →
     AreOrderly None (air_meaning site book packets pids given).result
 air_orderly site book packets pids given =
     orderly_after None (roomy_site_of_file site.number packets (given site))
@@ -204,7 +206,7 @@ air_orderly site book packets pids given =
     (λ commands. none_made (planning (record { site = fields; commands = commands }) packets.value pids) refl
     (λ refusal. absurd refusal)))
 
-opens_orderly : (site book leaves : Word) (given : Given) →
+opens_orderly : (site book leaves : FileArgument) (given : Readings) →
     AreOrderly None (opens_meaning site book leaves given).result
 unfolding opens_meaning
 opens_orderly site book leaves given =
@@ -215,7 +217,7 @@ opens_orderly site book leaves given =
     (λ found. value (opening both.site.height found both.commands))
     (λ found. none_made (opening both.site.height found both.commands) refl (λ refusal. absurd refusal)))
 
-trace_orderly : (site book leaves : Word) (given : Given) →
+trace_orderly : (site book leaves : FileArgument) (given : Readings) →
     AreOrderly None (trace_meaning site book leaves given).result
 unfolding trace_meaning
 trace_orderly site book leaves given =
@@ -227,7 +229,8 @@ trace_orderly site book leaves given =
     (λ coalition. orderly_after None (judged (traced both.site.height coalition both.commands))
     (λ text. value (telling text)) (λ text. none_made (telling text) refl (λ refusal. absurd refusal))))
 
-trial_orderly : (site book clear : Word) (given : Given) → AreOrderly None (trial_meaning site book clear given).result
+trial_orderly : (site book clear : FileArgument) (given : Readings) →
+    AreOrderly None (trial_meaning site book clear given).result
 unfolding trial_meaning
 trial_orderly site book clear given =
     orderly_after None (trial_plan site book given)
@@ -235,7 +238,7 @@ trial_orderly site book clear given =
     (λ plan. orderly_after None (prefix_of_file clear.number most_clear_bytes (given clear))
     (λ prefix. value (trying plan prefix)) (λ prefix. text_quiet (trial_text plan prefix)))
 
-field_orderly : (site clear script : Word) (given : Given) →
+field_orderly : (site clear script : FileArgument) (given : Readings) →
     AreOrderly None (field_meaning site clear script given).result
 unfolding field_meaning
 field_orderly site clear script given =
@@ -250,13 +253,13 @@ field_orderly site clear script given =
 abbrev pub out_at : ℕ → List Operand → List Argument → Option (List ℕ)
 out_at at [] arguments = None
 out_at at (operand ∷ operands) arguments =
-    or_output (kind_of operand) (file at arguments).text (out_at (at + 1) operands arguments)
+    or_output (operand_kind operand) (file at arguments).text (out_at (at + 1) operands arguments)
 
 -- the file that an order makes
 abbrev pub out_by : Command → List Argument → Option (List ℕ)
 out_by command arguments = out_at 1 (operands_of command) arguments
 
-pub command_orderly : (command : Command) (words : List Argument) (given : Given) →
+pub command_orderly : (command : Command) (words : List Argument) (given : Readings) →
     AreOrderly (out_by command words) (command_meaning command words given).result
 unfolding operands_of
 command_orderly Accounts words given = accounts_orderly (file 1 words) (file 2 words) (file 3 words) given
@@ -280,7 +283,7 @@ command_orderly Trace words given = trace_orderly (file 1 words) (file 2 words) 
 command_orderly Trial words given = trial_orderly (file 1 words) (file 2 words) (file 3 words) given
 
 -- no command answers `Usage`
-pub other_command : (command : Command) (words : List Argument) (given : Given) →
+pub other_command : (command : Command) (words : List Argument) (given : Readings) →
     IsOther (command_meaning command words given).result
 other_command Accounts words given = other_accounts (file 1 words) (file 2 words) (file 3 words) given
 other_command Apart words given = other_apart (file 1 words) (file 2 words) (file 3 words) (file 4 words) given
@@ -304,7 +307,7 @@ other_command Trial words given = other_trial (file 1 words) (file 2 words) (fil
 
 -- the example of each command is words that order it
 pub example : (command : Command) → IsExample command
-unfolding example_of named_words command_of name_of operands_of number_of words_in onto_first arguments_in
+unfolding example_of named_words command_named command_name operands_of decimal_value words_in onto_first arguments_in
 example Accounts = (refl, refl)
 example Apart = (refl, refl)
 example Book = (refl, refl)

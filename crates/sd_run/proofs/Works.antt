@@ -13,7 +13,7 @@ use Rattle.sd_reception.specs.declared.ending.Ending.TheVariants as end
 use Rattle.sd_reception.specs.declared.fault.StreamFault.{StreamFault}
 use Rattle.sd_reception.specs.declared.fault.StreamFault.TheVariants as fault
 use Rattle.sd_status.specs.declared.status.Status.{Status}
-use Rattle.sd_status.specs.Meant.{Meant, Word, after, ◌>>=◌}
+use Rattle.sd_status.specs.Spec.{Spec, FileArgument, and_then, ◌>>=◌}
 use Rattle.sd_status.specs.Work.{StepBound, Out, Work}
 use Rattle.sd_files.specs.Made.{making}
 use Rattle.sd_files.specs.Turned.{turning}
@@ -34,11 +34,11 @@ AreOrderly out (Ok work) = IsOrderly out work
 AreOrderly out (Err status) = Unit {0}
 
 -- so is what comes after a step
-pub orderly_after : {A : Type 0} (out : Option (List ℕ)) (first : Meant A) (next : A → Meant Work) →
+pub orderly_after : {A : Type 0} (out : Option (List ℕ)) (first : Spec A) (next : A → Spec Work) →
     ((x : A) → AreOrderly out (next x).result) → AreOrderly out (first >>= next).result
 orderly_after {A} out first next h = by_result first.result
   where
-    by_result : (r : Result A Status) → AreOrderly out (after first.calls r next).result
+    by_result : (r : Result A Status) → AreOrderly out (and_then first.calls r next).result
     by_result (Ok x) = h x
     by_result (Err status) = tt
 
@@ -46,13 +46,14 @@ orderly_after {A} out first next h = by_result first.result
 pub same_name : (a b : Out) → Some a ≡ Some b → Some a.name ≡ Some b.name
 same_name a b e = ap (option_map (λ (o : Out). o.name)) e
 
-pub made_whole : (steps : StepBound) (out : Word) (bytes : List ℕ) → IsOrderly (Some out.text) (making steps out bytes)
+pub made_whole : (steps : StepBound) (out : FileArgument) (bytes : List ℕ) →
+    IsOrderly (Some out.text) (making steps out bytes)
 made_whole steps out bytes = record {
   makes = λ made e. same_name (record { word = out.number; name = out.text; bytes = bytes }) made e;
   keeps = λ refusal. absurd refusal;
 }
 
-pub turned : (steps : StepBound) (out : Word) (bytes : List ℕ) (ends : Status) → (RefusesFirst ends → ⊥) →
+pub turned : (steps : StepBound) (out : FileArgument) (bytes : List ℕ) (ends : Status) → (RefusesFirst ends → ⊥) →
     IsOrderly (Some out.text) (turning steps out bytes ends)
 turned steps out bytes ends apart = record {
   makes = λ made e. same_name (record { word = out.number; name = out.text; bytes = bytes }) made e;

@@ -1,10 +1,12 @@
 -- Public meaning: the work that the program's arguments and files ask for.
 use Rattle.std.specs.Prelude.{List, ℕ}
-use Rattle.sd_status.specs.Meant.{Meant, Given, judged, ◌>>=◌}
+use Rattle.sd_status.specs.Spec.{Spec, Readings, judged, ◌>>=◌}
 use Rattle.sd_status.specs.Work.{Work}
 use Rattle.sd_commands.specs.declared.command.Command.{Command}
-use Rattle.sd_commands.specs.declared.command.Command.TheVariants.{Accounts, Book, Card, Cover, Field, Head, Layered, Lcard}
-use Rattle.sd_commands.specs.declared.command.Command.TheVariants.{Apart, Messages, Opens, Plan, Receive, Sample, Show, Tables}
+use Rattle.sd_commands.specs.declared.command.Command.TheVariants.{Accounts, Book, Card, Cover, Field, Head, Layered}
+use Rattle.sd_commands.specs.declared.command.Command.TheVariants.{Lcard}
+use Rattle.sd_commands.specs.declared.command.Command.TheVariants.{Apart, Messages, Opens, Plan, Receive, Sample, Show}
+use Rattle.sd_commands.specs.declared.command.Command.TheVariants.{Tables}
 use Rattle.sd_commands.specs.declared.command.Command.TheVariants.{Trace, Trial}
 use Rattle.sd_words.specs.Words.{Argument, Order, CommandOf, HelpOf, VersionOf, file, number, order_of}
 use Rattle.sd_run_cover.specs.Cover.{cover_meaning}
@@ -28,7 +30,7 @@ use Rattle.sd_run_trial.specs.Trial.{trial_meaning}
 use Rattle.sd_run_help.specs.Help.{help_meaning, version_meaning}
 
 -- the work of a command with its arguments
-abbrev pub command_meaning : Command → List Argument → Given → Meant Work
+abbrev pub command_meaning : Command → List Argument → Readings → Spec Work
 command_meaning Accounts words given = accounts_meaning (file 1 words) (file 2 words) (file 3 words) given
 command_meaning Apart words given = apart_meaning (file 1 words) (file 2 words) (file 3 words) (file 4 words) given
 command_meaning Book words given = book_meaning (file 1 words) (file 2 words) (file 3 words) (file 4 words) given
@@ -50,11 +52,11 @@ command_meaning Trace words given = trace_meaning (file 1 words) (file 2 words) 
 command_meaning Trial words given = trial_meaning (file 1 words) (file 2 words) (file 3 words) given
 
 -- the work of an order
-abbrev pub order_meaning : Order → Given → Meant Work
+abbrev pub order_meaning : Order → Readings → Spec Work
 order_meaning (CommandOf command arguments) given = command_meaning command arguments given
 order_meaning (HelpOf topic) given = help_meaning topic given
 order_meaning VersionOf given = version_meaning given
 
 -- the work that the arguments ask for, or the status of their refusal
-abbrev pub meaning : List (List ℕ) → Given → Meant Work
+abbrev pub meaning : List (List ℕ) → Readings → Spec Work
 meaning words given = judged (order_of words) >>= λ order. order_meaning order given

@@ -1,10 +1,10 @@
 ghost use Rattle.std.specs.Prelude.{◌≡◌, Some, Err, IsErrOf, map, string_bytes};
-ghost use Rattle.sd_cause.specs.Count.{IsCalm};
+ghost use Rattle.sd_cause.specs.Count.{HasNotRisen};
 ghost use Rattle.sd_ports.specs.Files.{Files};
-ghost use Rattle.sd_status.specs.Outside.{outside, page, place};
-ghost use Rattle.sd_status.specs.Meant.{told_by};
-ghost use Rattle.sd_status.specs.Comes.{Follows, status_of};
-ghost use Rattle.sd_status.specs.Answers.{Answers, HasCause, IsMeant, IsToldAs};
+ghost use Rattle.sd_status.specs.Outside.{outside, page_state, depot_state};
+ghost use Rattle.sd_status.specs.Spec.{contents_of};
+ghost use Rattle.sd_status.specs.Outcome.{Implements, status_of};
+ghost use Rattle.sd_status.specs.Results.{RunResult, HasAnswerCause, IsMeant, IsToldAs};
 ghost use Rattle.sd_commands.specs.Commands.{operands_of};
 ghost use Rattle.sd_words.specs.Words.{order_of};
 ghost use Rattle.sd_run.specs.Meaning.{command_meaning, meaning, order_meaning};
@@ -45,23 +45,23 @@ pub fn run<D: Depot, P: Sink, L: Ledger>(
     steps: &mut Steps<L>,
 ) -> Status
     // The work that the arguments and files ask for is done: text is printed, a file made, and the status returned.
-    ensures value { Answers (meaning (map string_bytes words.now))
-        (outside (place D.Depot depot.old) (page P.Sink print.old) steps.old)
-        (outside (place D.Depot depot.new) (page P.Sink print.new) steps.new) result }
+    ensures value { RunResult (meaning (map string_bytes words.now))
+        (outside (depot_state D.Depot depot.old) (page_state P.Sink print.old) steps.old)
+        (outside (depot_state D.Depot depot.new) (page_state P.Sink print.new) steps.new) result }
     // Each port that was opened is closed.
-    ensures ports { (place D.Depot depot.new).opened ≡ (place D.Depot depot.old).opened }
+    ensures ports { (depot_state D.Depot depot.new).opened ≡ (depot_state D.Depot depot.old).opened }
     // Each answer on the outside has its cause.
-    ensures cause { HasCause
-        (outside (place D.Depot depot.old) (page P.Sink print.old) steps.old)
-        (outside (place D.Depot depot.new) (page P.Sink print.new) steps.new) result }
+    ensures cause { HasAnswerCause
+        (outside (depot_state D.Depot depot.old) (page_state P.Sink print.old) steps.old)
+        (outside (depot_state D.Depot depot.new) (page_state P.Sink print.new) steps.new) result }
     // Refused arguments are answered at once, and `Usage` is returned for them alone.
     ensures words { (status : Status) → order_of (map string_bytes words.now) ≡ Err status → IsToldAs status result }
     ensures usage { result ≡ Status.Usage → order_of (map string_bytes words.now) ≡ Err Status.Usage }
     // If the model knows the file system's contents and no I/O error occurred, the answer is that of the work, or out
     // of memory.
     ensures complete { (files : Files) → D.files depot.old ≡ Some files →
-        IsCalm (D.faults depot.old) (D.faults depot.new) → IsCalm (P.faults print.old) (P.faults print.new) →
-        IsMeant (meaning (map string_bytes words.now) (told_by files)).result result }
+        HasNotRisen (D.faults depot.old) (D.faults depot.new) → HasNotRisen (P.faults print.old) (P.faults print.new) →
+        IsMeant (meaning (map string_bytes words.now) (contents_of files)).result result }
 {
     match obey(alloc, words, depot, print, steps) {
         Ok(()) => Status::Done,
@@ -78,9 +78,9 @@ fn obey<D: Depot, P: Sink, L: Ledger>(
     print: &mut P,
     steps: &mut Steps<L>,
 ) -> Result<(), Status>
-    ensures value { Follows (meaning (map string_bytes words.now))
-        (outside (place D.Depot depot.old) (page P.Sink print.old) steps.old)
-        (outside (place D.Depot depot.new) (page P.Sink print.new) steps.new) (status_of result) }
+    ensures value { Implements (meaning (map string_bytes words.now))
+        (outside (depot_state D.Depot depot.old) (page_state P.Sink print.old) steps.old)
+        (outside (depot_state D.Depot depot.new) (page_state P.Sink print.new) steps.new) (status_of result) }
     ensures words { (status : Status) → order_of (map string_bytes words.now) ≡ Err status → IsErrOf result status }
 {
     match read_words(words) {
@@ -98,9 +98,9 @@ fn follow<D: Depot, P: Sink, L: Ledger>(
     steps: &mut Steps<L>,
 ) -> Result<(), Status>
     requires { IsSound (order_said order.now) }
-    ensures { Follows (order_meaning (order_said order.now))
-        (outside (place D.Depot depot.old) (page P.Sink print.old) steps.old)
-        (outside (place D.Depot depot.new) (page P.Sink print.new) steps.new) (status_of result) }
+    ensures { Implements (order_meaning (order_said order.now))
+        (outside (depot_state D.Depot depot.old) (page_state P.Sink print.old) steps.old)
+        (outside (depot_state D.Depot depot.new) (page_state P.Sink print.new) steps.new) (status_of result) }
 {
     match order {
         Order::Command { command, arguments } => {
@@ -121,9 +121,9 @@ fn work<D: Depot, P: Sink, L: Ledger>(
     steps: &mut Steps<L>,
 ) -> Result<(), Status>
     requires { AreOf 1 (operands_of command) (arguments_said 1 row.now.list.items) }
-    ensures { Follows (command_meaning command (arguments_said 1 row.now.list.items))
-        (outside (place D.Depot depot.old) (page P.Sink print.old) steps.old)
-        (outside (place D.Depot depot.new) (page P.Sink print.new) steps.new) (status_of result) }
+    ensures { Implements (command_meaning command (arguments_said 1 row.now.list.items))
+        (outside (depot_state D.Depot depot.old) (page_state P.Sink print.old) steps.old)
+        (outside (depot_state D.Depot depot.new) (page_state P.Sink print.new) steps.new) (status_of result) }
 {
     match command {
         Command::Accounts => sd_run_accounts::accounts(

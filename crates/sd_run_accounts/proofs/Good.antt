@@ -8,14 +8,14 @@ use Rattle.sd_accounts.specs.Judged.{book_of}
 use Rattle.sd_status.specs.declared.status.Status.{Status}
 use Rattle.sd_status.specs.declared.status.Status.TheVariants.{Limit}
 use Rattle.sd_status.specs.declared.status.LimitKind.TheVariants.{BookBytes}
-use Rattle.sd_status.specs.Meant.{Meant, Word, Given, after, judged, value, within, ◌>>=◌}
+use Rattle.sd_status.specs.Spec.{Spec, FileArgument, Readings, and_then, judged, value, within, ◌>>=◌}
 use Rattle.sd_files.specs.Files.{site_in, most_book_bytes}
 use Rattle.sd_run_accounts.specs.Accounts.{accounts_in, accounts_meaning, accounts_of_file, accounts_value}
 use Rattle.sd_run_accounts.specs.Accounts.{making_then, report_line, told_accounts}
 
-then_is : {A B : Type 0} (first : Meant A) (x : A) (next : A → Meant B) → first.result ≡ Ok x →
+then_is : {A B : Type 0} (first : Spec A) (x : A) (next : A → Spec B) → first.result ≡ Ok x →
     (first >>= next).result ≡ (next x).result
-then_is {A} first x next e = ap (λ (r : Result A Status). (after first.calls r next).result) e
+then_is {A} first x next e = ap (λ (r : Result A Status). (and_then first.calls r next).result) e
 
 -- an accounts file within the limit, whose lines make these commands
 file_good : (word d : ℕ) (bytes : List ℕ) (commands : List Command) → length bytes ≤ most_book_bytes →
@@ -29,7 +29,7 @@ file_good word d bytes commands short book =
     ∙ ap (told_accounts word (accounts_value d bytes)) book
 
 -- the site and the accounts
-both_good : (site accounts : Word) (given : Given) (fields : SiteFields) (found : AccountsValue) →
+both_good : (site accounts : FileArgument) (given : Readings) (fields : SiteFields) (found : AccountsValue) →
     (site_in given site).result ≡ Ok fields →
     (accounts_of_file accounts.number fields.height (given accounts)).result ≡ Ok found →
     (accounts_in site accounts given).result ≡ Ok found
@@ -40,7 +40,7 @@ both_good site accounts given fields found good_site good_file =
     ∙ then_is (accounts_of_file accounts.number fields.height (given accounts)) found (λ found. value found) good_file
 
 -- the book is made and the report printed
-pub accounts_good : (site accounts out : Word) (given : Given) (fields : SiteFields) (bytes : List ℕ)
+pub accounts_good : (site accounts out : FileArgument) (given : Readings) (fields : SiteFields) (bytes : List ℕ)
     (commands : List Command) → (site_in given site).result ≡ Ok fields → given accounts ≡ Some bytes →
     length bytes ≤ most_book_bytes → book_of fields.height bytes ≡ Ok commands →
     (accounts_meaning site accounts out given).result ≡

@@ -20,7 +20,7 @@ use Rattle.sd_accounts.specs.Judged.{book_of}
 use Rattle.sd_accounts.specs.Line.{Entry, Assigns, Drops, Restores, Ends, said_by}
 use Rattle.sd_accounts.specs.declared.fault.AccountFault.{AccountFault}
 use Rattle.sd_accounts.specs.declared.fault.AccountFault.TheVariants.{Line, Unknown, Taken, Limit, NoMemory}
-use Rattle.sd_status.specs.Reads.{Judges}
+use Rattle.sd_status.specs.Reads.{JudgedOutcome}
 use Rattle.sd_run_accounts.specs.Accounts.{account_on, bound_by, accounts_value, refused_accounts, told_accounts}
 
 -- a name below those of some accounts
@@ -91,7 +91,7 @@ are_told word d bytes found height book listed =
 -- the accounts were refused, or memory was out
 pub are_refused : (word d : ℕ) (bytes : List ℕ) (fault : AccountFault) →
     (fault ≡ NoMemory) ⊎ (book_of d bytes ≡ Err fault) →
-    Judges {X = AccountsValue} (λ accounts. accounts)
+    JudgedOutcome {X = AccountsValue} (λ accounts. accounts)
     (told_accounts word (accounts_value d bytes) (book_of d bytes)) (Err (refused_accounts word fault))
 are_refused word d bytes fault (inl e) = inr (ap (refused_accounts word) e)
 are_refused word d bytes (Line k) (inr e) = inl (ap (told_accounts word (accounts_value d bytes)) e, tt, tt)

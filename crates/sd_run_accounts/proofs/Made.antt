@@ -11,13 +11,13 @@ use Rattle.sd_ports.specs.Causes.{HasFileCause}
 use Rattle.sd_ports.specs.declared.file.FileFault.{FileFault}
 use Rattle.sd_ports.specs.declared.file.FileFault.TheVariants as file
 use Rattle.sd_status.specs.declared.status.Status.{Status}
-use Rattle.sd_status.specs.Outside.{Place, Page, Outside, outside}
-use Rattle.sd_status.specs.Meant.{Meant, Word, Given, value, ◌>>=◌}
+use Rattle.sd_status.specs.Outside.{DepotState, PageState, Outside, outside}
+use Rattle.sd_status.specs.Spec.{Spec, FileArgument, Readings, value, ◌>>=◌}
 use Rattle.sd_status.specs.Work.{Out, Work}
-use Rattle.sd_status.specs.Comes.{IsEnding, IsMade, Stands, untouched, writing, Comes, ended, exhausted, failed}
-use Rattle.sd_status.specs.Comes.{nowhere, cut_off, Obeys, Follows, status_of}
+use Rattle.sd_status.specs.Outcome.{IsEnding, IsMade, Progress, untouched, writing, Outcome, ended, exhausted, failed}
+use Rattle.sd_status.specs.Outcome.{nowhere, cut_off, OutcomeWithin, Implements, status_of}
 use Rattle.sd_status.specs.Prints.{PrintsText}
-use Rattle.sd_status.specs.Reads.{Reads}
+use Rattle.sd_status.specs.Reads.{FilesOutcome}
 use Rattle.sd_status.proofs.Moves.{then_obeys}
 use Rattle.sd_status.proofs.Firsts.{first_obeys}
 use Rattle.sd_files.specs.Made.{making_told}
@@ -28,13 +28,13 @@ same_where_ok (Ok x) f = refl
 same_where_ok (Err e) f = tt
 
 -- the file of a word, with these bytes
-abbrev out_of : Word → List ℕ → Out
+abbrev out_of : FileArgument → List ℕ → Out
 out_of word bytes = record { word = word.number; name = word.text; bytes = bytes }
 
-module _ (word : Word) (bytes text : List ℕ) (a b : Place) (page : Page) (steps : ℕ) where
+module _ (word : FileArgument) (bytes text : List ℕ) (a b : DepotState) (page : PageState) (steps : ℕ) where
   -- the device failed at the file
   stands_short : IsNoFile a.files b.files a.made b.made ⊎ IsShortFile a.files b.files a.made b.made word.text bytes →
-      Stands (Ok (making_then word bytes text)) (outside a page steps) (outside b page steps)
+      Progress (Ok (making_then word bytes text)) (outside a page steps) (outside b page steps)
   stands_short (inl none) = untouched (record { files = none.0; made = none.1 }) refl
   stands_short (inr cut) =
       writing (making_then word bytes text) refl (out_of word bytes) refl
@@ -45,7 +45,7 @@ module _ (word : Word) (bytes text : List ℕ) (a b : Place) (page : Page) (step
       WritesFile {T = Unit {0}} a.files b.files a.made b.made word.text bytes (Err fault) →
       HasFileCause {T = Unit {0}} a.faults b.faults a.misses b.misses (Err fault) →
       (¬ IsErrOf {T = Unit {0}} (Err fault) file.Failed → b.stops ≡ a.stops) →
-      Comes (Ok (making_then word bytes text)) (outside a page steps) (outside b page steps)
+      Outcome (Ok (making_then word bytes text)) (outside a page steps) (outside b page steps)
       (status_of (making_told word.number (Err fault)))
   not_whole file.Missing file cause stops =
       nowhere (making_then word bytes text) refl (out_of word bytes) refl refl (file.missing refl).1
@@ -65,10 +65,10 @@ module _ (word : Word) (bytes text : List ℕ) (a b : Place) (page : Page) (step
       HasFileCause a.faults b.faults a.misses b.misses written →
       (¬ IsErrOf written file.Failed → b.stops ≡ a.stops) → b.opened ≡ a.opened →
       b.calls ≤ with_added a.calls 2 →
-      Obeys (value (making_then word bytes text)) (outside a page steps) (outside b page steps) status
+      OutcomeWithin (value (making_then word bytes text)) (outside a page steps) (outside b page steps) status
   not_made (Ok done) status told file cause stops ports calls = absurd (let h = told in cc)
   not_made (Err fault) status told file cause stops ports calls = record {
-    comes = subst (λ (s : Status). Comes (Ok (making_then word bytes text)) (outside a page steps)
+    comes = subst (λ (s : Status). Outcome (Ok (making_then word bytes text)) (outside a page steps)
         (outside b page steps) s) (sym (ap status_of told)) (not_whole fault file cause stops);
     ports = ports;
     calls = omega arith;
@@ -76,12 +76,12 @@ module _ (word : Word) (bytes text : List ℕ) (a b : Place) (page : Page) (step
   }
 
   -- the file was made, and then the text was printed, or a prefix of it
-  pub made_then : (written : Result (Unit {0}) FileFault) (now : Page) (status : Status) →
+  pub made_then : (written : Result (Unit {0}) FileFault) (now : PageState) (status : Status) →
       Ok tt ≡ making_told word.number written →
       WritesFile a.files b.files a.made b.made word.text bytes written →
       HasFileCause a.faults b.faults a.misses b.misses written → b.opened ≡ a.opened →
       b.calls ≤ with_added a.calls 2 → PrintsText text page now status →
-      Obeys (value (making_then word bytes text)) (outside a page steps) (outside b now steps) status
+      OutcomeWithin (value (making_then word bytes text)) (outside a page steps) (outside b now steps) status
   made_then (Ok done) now status told file cause ports calls printed = record {
     comes = elim printed [
       | inl all ↦ ended (making_then word bytes text) refl all.0 (subst IsEnding (sym all.0) tt) made
@@ -103,11 +103,11 @@ module _ (word : Word) (bytes text : List ℕ) (a b : Place) (page : Page) (step
   made_then (Err file.Failed) now status told file cause ports calls printed = absurd (let h = told in cc)
   made_then (Err file.NoMemory) now status told file cause ports calls printed = absurd (let h = told in cc)
 
-module _ {X Y : Type 0} (view : X → Y) (meant : Given → Meant Y) (next : Y → Work) (p q : Place) (page : Page)
-    (steps : ℕ) where
+module _ {X Y : Type 0} (view : X → Y) (meant : Readings → Spec Y) (next : Y →
+    Work) (p q : DepotState) (page : PageState) (steps : ℕ) where
   -- files that were refused, or not read
-  pub not_read : (status : Status) → Reads view meant p q (Err status) →
-      Follows (λ given. meant given >>= λ y. value (next y)) (outside p page steps) (outside q page steps) status
+  pub not_read : (status : Status) → FilesOutcome view meant p q (Err status) →
+      Implements (λ given. meant given >>= λ y. value (next y)) (outside p page steps) (outside q page steps) status
   not_read status h = record {
     given = h.given;
     is_given = h.is_given;
@@ -115,9 +115,9 @@ module _ {X Y : Type 0} (view : X → Y) (meant : Given → Meant Y) (next : Y �
   }
 
   -- files that were read, and then the work that they mean
-  pub read_then : (b : Outside) (x : X) (status : Status) → Reads view meant p q (Ok x) →
-      Obeys (value (next (view x))) (outside q page steps) b status →
-      Follows (λ given. meant given >>= λ y. value (next y)) (outside p page steps) b status
+  pub read_then : (b : Outside) (x : X) (status : Status) → FilesOutcome view meant p q (Ok x) →
+      OutcomeWithin (value (next (view x))) (outside q page steps) b status →
+      Implements (λ given. meant given >>= λ y. value (next y)) (outside p page steps) b status
   read_then b x status h obeys = record {
     given = h.given;
     is_given = h.is_given;

@@ -7,7 +7,7 @@ use Rattle.sd_accounts.specs.Judged.{book_of}
 use Rattle.sd_accounts.specs.declared.fault.AccountFault.{AccountFault}
 use Rattle.sd_accounts.specs.declared.fault.AccountFault.TheVariants.{Line, Unknown, Taken, Limit, NoMemory}
 use Rattle.sd_status.specs.declared.status.LimitKind.TheVariants.{BookBytes}
-use Rattle.sd_status.specs.Meant.{Word, Given, judged, value, within, ◌>>=◌}
+use Rattle.sd_status.specs.Spec.{FileArgument, Readings, judged, value, within, ◌>>=◌}
 use Rattle.sd_files.specs.Files.{site_of_file, most_book_bytes}
 use Rattle.sd_files.proofs.Others.{IsOther, other_after, other_file, other_site_file}
 use Rattle.sd_run_accounts.specs.Accounts.{accounts_in, accounts_meaning, accounts_of_file, accounts_value}
@@ -30,7 +30,7 @@ other_accounts_file word d got =
     (other_file word most_book_bytes BookBytes got)
     (λ bytes. other_told word (accounts_value d bytes) (book_of d bytes))
 
-other_in : (site accounts : Word) (given : Given) → IsOther (accounts_in site accounts given).result
+other_in : (site accounts : FileArgument) (given : Readings) → IsOther (accounts_in site accounts given).result
 unfolding accounts_in
 other_in site accounts given =
     other_after (site_of_file site.number (given site)).calls (site_of_file site.number (given site)).result
@@ -40,7 +40,7 @@ other_in site accounts given =
     (accounts_of_file accounts.number fields.height (given accounts)).result (λ found. value found)
     (other_accounts_file accounts.number fields.height (given accounts)) (λ found. tt))
 
-pub other_accounts : (site accounts out : Word) (given : Given) →
+pub other_accounts : (site accounts out : FileArgument) (given : Readings) →
     IsOther (accounts_meaning site accounts out given).result
 other_accounts site accounts out given =
     other_after (accounts_in site accounts given).calls (accounts_in site accounts given).result

@@ -16,7 +16,7 @@ use Rattle.sd_accounts.specs.declared.fault.AccountFault.TheVariants as account
 use Rattle.sd_status.specs.declared.status.Status.{Status}
 use Rattle.sd_status.specs.declared.status.Status.TheVariants.{Done, BadBook, Limit, NoMemory}
 use Rattle.sd_status.specs.declared.status.LimitKind.TheVariants.{BookBytes, Book}
-use Rattle.sd_status.specs.Meant.{Meant, Word, Given, value, judged, within, ◌>>=◌}
+use Rattle.sd_status.specs.Spec.{Spec, FileArgument, Readings, value, judged, within, ◌>>=◌}
 use Rattle.sd_status.specs.Work.{NoSteps, Work}
 use Rattle.sd_files.specs.Files.{site_in, most_book_bytes}
 
@@ -52,13 +52,13 @@ told_accounts word accounts (Ok commands) = Ok (accounts commands)
 told_accounts word accounts (Err fault) = Err (refused_accounts word fault)
 
 -- the accounts, for a tree of height d, of what the file of this word gave
-unfoldable pub accounts_of_file : ℕ → ℕ → Option (List ℕ) → Meant AccountsValue
+unfoldable pub accounts_of_file : ℕ → ℕ → Option (List ℕ) → Spec AccountsValue
 accounts_of_file word d got =
     within word most_book_bytes BookBytes got
     >>= λ bytes. judged (told_accounts word (accounts_value d bytes) (book_of d bytes))
 
 -- the accounts that the two files say
-unfoldable pub accounts_in : Word → Word → Given → Meant AccountsValue
+unfoldable pub accounts_in : FileArgument → FileArgument → Readings → Spec AccountsValue
 accounts_in site accounts given = do
   fields ← site_in given site
   found ← accounts_of_file accounts.number fields.height (given accounts)
@@ -69,7 +69,7 @@ unfoldable pub report_line : AccountsValue → List ℕ
 report_line accounts = compact_text (report_data accounts) ++ 10 ∷ []
 
 -- makes a file of these bytes, and then prints a text
-abbrev pub making_then : Word → List ℕ → List ℕ → Work
+abbrev pub making_then : FileArgument → List ℕ → List ℕ → Work
 making_then out bytes text = record {
   out = Some (record { word = out.number; name = out.text; bytes = bytes });
   pieces = text ∷ [];
@@ -79,7 +79,7 @@ making_then out bytes text = record {
 }
 
 -- makes OUT the book that the lines make, and then prints the report
-abbrev pub accounts_meaning : Word → Word → Word → Given → Meant Work
+abbrev pub accounts_meaning : FileArgument → FileArgument → FileArgument → Readings → Spec Work
 accounts_meaning site accounts out given = do
   found ← accounts_in site accounts given
   value (making_then out (text_of found.book.commands) (report_line found))

@@ -1,10 +1,10 @@
 ghost use Rattle.std.specs.Prelude.{◌≡◌, ◌≢◌, ℕ, IfOk, IfErr};
 ghost use Rattle.sd_site.specs.Fields.{fields_of};
 ghost use Rattle.sd_accounts.specs.Judged.{book_of};
-ghost use Rattle.sd_status.specs.Meant.{value};
-ghost use Rattle.sd_status.specs.Outside.{outside, page, place};
-ghost use Rattle.sd_status.specs.Reads.{Judges, Looks, Reads};
-ghost use Rattle.sd_status.specs.Comes.{Follows, Obeys, status_of};
+ghost use Rattle.sd_status.specs.Spec.{value};
+ghost use Rattle.sd_status.specs.Outside.{outside, page_state, depot_state};
+ghost use Rattle.sd_status.specs.Reads.{JudgedOutcome, FileOutcome, FilesOutcome};
+ghost use Rattle.sd_status.specs.Outcome.{Implements, OutcomeWithin, status_of};
 ghost use Rattle.sd_files.specs.Shown.{shown_word};
 ghost use Rattle.sd_run_accounts.specs.Accounts.{accounts_in, accounts_meaning, accounts_of_file, accounts_value};
 ghost use Rattle.sd_run_accounts.specs.Accounts.{making_then, refused_accounts, report_line, told_accounts};
@@ -28,9 +28,9 @@ pub fn accounts<D: Depot, P: Sink>(
 ) -> Result<(), Status>
     requires { site.number ≢ accounts.number }
     ensures { (steps : ℕ) →
-        Follows (accounts_meaning (shown_word site.entry) (shown_word accounts.entry) (shown_word out.entry))
-        (outside (place D.Depot depot.old) (page P.Sink print.old) steps)
-        (outside (place D.Depot depot.new) (page P.Sink print.new) steps) (status_of result) }
+        Implements (accounts_meaning (shown_word site.entry) (shown_word accounts.entry) (shown_word out.entry))
+        (outside (depot_state D.Depot depot.old) (page_state P.Sink print.old) steps)
+        (outside (depot_state D.Depot depot.new) (page_state P.Sink print.new) steps) (status_of result) }
 {
     let accounts = accounts_of_site(alloc, depot, site, accounts)?;
     let book = accounts.book().write(alloc)?;
@@ -46,8 +46,8 @@ fn accounts_of_site<D: Depot>(
     accounts: Word<'_>,
 ) -> Result<Accounts, Status>
     requires { site.number ≢ accounts.number }
-    ensures { Reads (λ accounts. accounts) (accounts_in (shown_word site.entry) (shown_word accounts.entry))
-        (place D.Depot depot.old) (place D.Depot depot.new) result }
+    ensures { FilesOutcome (λ accounts. accounts) (accounts_in (shown_word site.entry) (shown_word accounts.entry))
+        (depot_state D.Depot depot.old) (depot_state D.Depot depot.new) result }
 {
     let site = read_site(alloc, depot, site)?;
     read_accounts(alloc, depot, accounts, site.height)
@@ -60,8 +60,8 @@ fn read_accounts<D: Depot>(
     word: Word<'_>,
     h: Height,
 ) -> Result<Accounts, Status>
-    ensures { Looks (λ accounts. accounts) (accounts_of_file word.entry.number h) word.entry.text.now
-        (place D.Depot depot.old) (place D.Depot depot.new) result }
+    ensures { FileOutcome (λ accounts. accounts) (accounts_of_file word.entry.number h) word.entry.text.now
+        (depot_state D.Depot depot.old) (depot_state D.Depot depot.new) result }
 {
     let bytes = read_bytes(alloc, depot, word, MOST_BOOK_BYTES, LimitKind::BookBytes)?;
     judge_accounts(alloc, word.number, &bytes, h)
@@ -70,7 +70,7 @@ fn read_accounts<D: Depot>(
 /// The accounts that the bytes of this word's file say.
 #[tactic(auto, using(crate::proofs::Listed::are_told, crate::proofs::Listed::are_refused))]
 fn judge_accounts(alloc: Global, word: u8, bytes: &[u8], h: Height) -> Result<Accounts, Status>
-    ensures { Judges (λ accounts. accounts)
+    ensures { JudgedOutcome (λ accounts. accounts)
         (told_accounts word (accounts_value h bytes.now) (book_of h bytes.now)) result }
 {
     match Accounts::read(alloc, bytes, h) {
@@ -112,9 +112,9 @@ fn make_and_print<D: Depot, P: Sink>(
     bytes: &[u8],
     text: &[u8],
 ) -> Result<(), Status>
-    ensures { (steps : ℕ) → Obeys (value (making_then (shown_word out.entry) bytes.now text.now))
-        (outside (place D.Depot depot.old) (page P.Sink print.old) steps)
-        (outside (place D.Depot depot.new) (page P.Sink print.new) steps) (status_of result) }
+    ensures { (steps : ℕ) → OutcomeWithin (value (making_then (shown_word out.entry) bytes.now text.now))
+        (outside (depot_state D.Depot depot.old) (page_state P.Sink print.old) steps)
+        (outside (depot_state D.Depot depot.new) (page_state P.Sink print.new) steps) (status_of result) }
 {
     told(out.number, write_file(alloc, depot, out.text, bytes))?;
     print_text(print, text)

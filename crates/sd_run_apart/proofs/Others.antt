@@ -1,7 +1,7 @@
 -- `apart` never means `Usage`.
 use Rattle.std.proofs.Common.{ℕ, List, Option, Some, None}
 use Rattle.sd_status.specs.declared.status.Clash.{Clash as ClashKind}
-use Rattle.sd_status.specs.Meant.{Word, Given, judged, value, ◌>>=◌}
+use Rattle.sd_status.specs.Spec.{FileArgument, Readings, judged, value, ◌>>=◌}
 use Rattle.sd_files.specs.Both.{SiteBook, both_by}
 use Rattle.sd_files.specs.Files.{site_of_file, book_of_file}
 use Rattle.sd_files.proofs.Others.{IsOther, other_after, other_site_file, other_book_file}
@@ -28,7 +28,7 @@ unfolding told_apart
 other_told a b =
     other_clash (clash_of (plan_of_both a) (plan_of_both b)) (apart_text (plan_of_both a) (plan_of_both b))
 
-pub other_apart : (site book other more : Word) (given : Given) →
+pub other_apart : (site book other more : FileArgument) (given : Readings) →
     IsOther (apart_meaning site book other more given).result
 other_apart site book other more given =
     let one = both_by site.number book.number (given site) (given book) in

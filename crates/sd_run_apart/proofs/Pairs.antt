@@ -7,12 +7,12 @@ use Rattle.std.proofs.lemmas.Bool.Decides.{nat_tests}
 use Rattle.sd_ports.specs.Bytes.{AppendsPrefix}
 use Rattle.sd_ports.specs.Files.{Files}
 use Rattle.sd_status.specs.declared.status.Status.{Status}
-use Rattle.sd_status.specs.Outside.{Place, Page, Outside, outside}
-use Rattle.sd_status.specs.Meant.{Meant, Word, Given, IsGiven, value, ◌>>=◌}
+use Rattle.sd_status.specs.Outside.{DepotState, PageState, Outside, outside}
+use Rattle.sd_status.specs.Spec.{Spec, FileArgument, Readings, IsGiven, value, ◌>>=◌}
 use Rattle.sd_status.specs.Work.{Work}
-use Rattle.sd_status.specs.Comes.{IsEnding, ended, cut_off, Obeys, Follows}
+use Rattle.sd_status.specs.Outcome.{IsEnding, ended, cut_off, OutcomeWithin, Implements}
 use Rattle.sd_status.specs.Prints.{PrintsText}
-use Rattle.sd_status.specs.Reads.{Reads}
+use Rattle.sd_status.specs.Reads.{FilesOutcome}
 use Rattle.sd_status.proofs.Moves.{then_obeys}
 use Rattle.sd_run_apart.specs.Apart.{saying}
 
@@ -27,15 +27,15 @@ either_same true got = refl
 either_same false got = refl
 
 -- what two files gave at first, and two others then
-pub record FourGiven (files : Option Files) (g h : Given) (a b c d : Word) : Type 0 where
-  pub given : Given
+pub record FourGiven (files : Option Files) (g h : Readings) (a b c d : FileArgument) : Type 0 where
+  pub given : Readings
   pub is_given : IsGiven files given
   pub first : given a ≡ g a
   pub second : given b ≡ g b
   pub third : given c ≡ h c
   pub fourth : given d ≡ h d
 
-pub four_given : (files : Option Files) (g h : Given) (a b c d : Word) → IsGiven files g → IsGiven files h →
+pub four_given : (files : Option Files) (g h : Readings) (a b c d : FileArgument) → IsGiven files g → IsGiven files h →
     a.number ≢ c.number → a.number ≢ d.number → b.number ≢ c.number → b.number ≢ d.number →
     FourGiven files g h a b c d
 four_given None g h a b c d is more ac ad bc bd = record {
@@ -56,20 +56,21 @@ four_given (Some files) g h a b c d is more ac ad bc bd = record {
   is_given = is;
   first = refl;
   second = refl;
-  third = ap (λ (given : Given). given c) (is ∙ sym more);
-  fourth = ap (λ (given : Given). given d) (is ∙ sym more);
+  third = ap (λ (given : Readings). given c) (is ∙ sym more);
+  fourth = ap (λ (given : Readings). given d) (is ∙ sym more);
 }
 
 -- two files that were read, and then what is meant by what they said and by what two others gave
-pub pair_follows : {X Y : Type 0} (view : X → Y) (by : Option (List ℕ) → Option (List ℕ) → Meant Y)
-    (next : Y → Option (List ℕ) → Option (List ℕ) → Meant Work) (a b c d : Word) (h : Given) (p q : Place)
-    (page : Page) (steps : ℕ) (out : Outside) (x : X) (status : Status) → a.number ≢ c.number →
+pub pair_follows : {X Y : Type 0} (view : X → Y) (by : Option (List ℕ) → Option (List ℕ) → Spec Y)
+    (next : Y → Option (List ℕ) → Option (List ℕ) →
+    Spec Work) (a b c d : FileArgument) (h : Readings) (p q : DepotState)
+    (page : PageState) (steps : ℕ) (out : Outside) (x : X) (status : Status) → a.number ≢ c.number →
     a.number ≢ d.number → b.number ≢ c.number → b.number ≢ d.number →
-    Reads view (λ given. by (given a) (given b)) p q (Ok x) → IsGiven q.files h →
-    Obeys (next (view x) (h c) (h d)) (outside q page steps) out status →
-    Follows (λ given. by (given a) (given b) >>= λ y. next y (given c) (given d)) (outside p page steps) out status
+    FilesOutcome view (λ given. by (given a) (given b)) p q (Ok x) → IsGiven q.files h →
+    OutcomeWithin (next (view x) (h c) (h d)) (outside q page steps) out status →
+    Implements (λ given. by (given a) (given b) >>= λ y. next y (given c) (given d)) (outside p page steps) out status
 pair_follows {Y = Y} view by next a b c d h p q page steps out x status ac ad bc bd read is_given obeys =
-    let same : q.files ≡ p.files = ap (λ (z : Place). z.files) read.gives.1 in
+    let same : q.files ≡ p.files = ap (λ (z : DepotState). z.files) read.gives.1 in
     let g = four_given p.files read.given h a b c d read.is_given
     (subst (λ (f : Option Files). IsGiven f h) same is_given) ac ad bc bd in
     let one : by (read.given a) (read.given b) ≡ by (g.given a) (g.given b) =
@@ -79,19 +80,19 @@ pair_follows {Y = Y} view by next a b c d h p q page steps out x status ac ad bc
       given = g.given;
       is_given = g.is_given;
       obeyed =
-          subst (λ (o : Option (List ℕ)). Obeys (by (g.given a) (g.given b) >>= λ y. next y o (g.given d))
+          subst (λ (o : Option (List ℕ)). OutcomeWithin (by (g.given a) (g.given b) >>= λ y. next y o (g.given d))
           (outside p page steps) out status) (sym g.third)
-          (subst (λ (o : Option (List ℕ)). Obeys (by (g.given a) (g.given b) >>= λ y. next y (h c) o)
+          (subst (λ (o : Option (List ℕ)). OutcomeWithin (by (g.given a) (g.given b) >>= λ y. next y (h c) o)
           (outside p page steps) out status) (sym g.fourth)
-          (subst (λ (m : Meant Y). Obeys (m >>= λ y. next y (h c) (h d)) (outside p page steps) out status) one
+          (subst (λ (m : Spec Y). OutcomeWithin (m >>= λ y. next y (h c) (h d)) (outside p page steps) out status) one
           (then_obeys (by (read.given a) (read.given b)) (view x) (λ y. next y (h c) (h d)) p q page steps out status
           read.gives.0 read.gives.1 obeys)));
     }
 
 -- a text was printed, or a prefix of it
-pub text_said : (text : List ℕ) (q : Place) (page now : Page) (steps : ℕ) (status : Status) →
+pub text_said : (text : List ℕ) (q : DepotState) (page now : PageState) (steps : ℕ) (status : Status) →
     PrintsText text page now status →
-    Obeys (value (saying text)) (outside q page steps) (outside q now steps) status
+    OutcomeWithin (value (saying text)) (outside q page steps) (outside q now steps) status
 text_said text q page now steps status (inl all) = record {
   comes = ended (saying text) refl all.0 (subst IsEnding (sym all.0) tt) (record { files = refl; made = refl })
       (subst (λ (xs : List ℕ). Appends page.printed now.printed xs) (sym (append-nil text)) all.1)

@@ -11,7 +11,7 @@ use Rattle.sd_status.specs.declared.status.Status.{Status}
 use Rattle.sd_status.specs.declared.status.Status.TheVariants.{Clash, Done}
 use Rattle.sd_status.specs.declared.status.Clash.{Clash as ClashKind}
 use Rattle.sd_status.specs.declared.status.Clash.TheVariants.{Heights, Masters, NoWords, SharedWord, Books}
-use Rattle.sd_status.specs.Meant.{Meant, Word, Given, judged, value, ◌>>=◌}
+use Rattle.sd_status.specs.Spec.{Spec, FileArgument, Readings, judged, value, ◌>>=◌}
 use Rattle.sd_status.specs.Work.{NoSteps, Work}
 use Rattle.sd_files.specs.Both.{SiteBook, both_meaning}
 
@@ -115,7 +115,7 @@ abbrev pub plan_of_both : SiteBook → Plan
 plan_of_both both = record { site = both.site; commands = both.commands }
 
 -- the work that the words and the four files say
-abbrev pub apart_meaning : Word → Word → Word → Word → Given → Meant Work
+abbrev pub apart_meaning : FileArgument → FileArgument → FileArgument → FileArgument → Readings → Spec Work
 apart_meaning site book other more given = do
   first ← both_meaning site book given
   second ← both_meaning other more given

@@ -1,8 +1,8 @@
 ghost use Rattle.std.specs.Prelude.{◌≡◌, ◌≢◌, ℕ, string_bytes};
 ghost use Rattle.sd_site.specs.Fields.{fields_of};
-ghost use Rattle.sd_status.specs.Outside.{outside, page, place};
-ghost use Rattle.sd_status.specs.Reads.{Judges};
-ghost use Rattle.sd_status.specs.Comes.{Follows, status_of};
+ghost use Rattle.sd_status.specs.Outside.{outside, page_state, depot_state};
+ghost use Rattle.sd_status.specs.Reads.{JudgedOutcome};
+ghost use Rattle.sd_status.specs.Outcome.{Implements, status_of};
 ghost use Rattle.sd_files.specs.Shown.{shown_word};
 ghost use Rattle.sd_run_apart.specs.Apart.{apart_meaning, told_apart};
 
@@ -31,11 +31,11 @@ pub fn apart<D: Depot, P: Sink>(
     requires second { other.number ≢ more.number }
     requires sites { (site.number ≢ other.number) × (site.number ≢ more.number) }
     requires books { (book.number ≢ other.number) × (book.number ≢ more.number) }
-    ensures { (steps : ℕ) → Follows
+    ensures { (steps : ℕ) → Implements
         (apart_meaning (shown_word site.entry) (shown_word book.entry) (shown_word other.entry)
         (shown_word more.entry))
-        (outside (place D.Depot depot.old) (page P.Sink print.old) steps)
-        (outside (place D.Depot depot.new) (page P.Sink print.new) steps) (status_of result) }
+        (outside (depot_state D.Depot depot.old) (page_state P.Sink print.old) steps)
+        (outside (depot_state D.Depot depot.new) (page_state P.Sink print.new) steps) (status_of result) }
 {
     let (site, book) = read_both(alloc, depot, site, book)?;
     let (other, more) = read_both(alloc, depot, other, more)?;
@@ -54,7 +54,7 @@ fn judge(
 ) -> Result<String, Status>
     requires first { book.now.height ≡ site.now.height }
     requires second { more.now.height ≡ other.now.height }
-    ensures { Judges (λ text. string_bytes text)
+    ensures { JudgedOutcome (λ text. string_bytes text)
         (told_apart (record { site = fields_of site.now; commands = book.now.commands })
         (record { site = fields_of other.now; commands = more.now.commands })) result }
 {

@@ -12,9 +12,9 @@ use Rattle.sd_status.specs.declared.status.Status.{Status}
 use Rattle.sd_status.specs.declared.status.Status.TheVariants.{NoMemory}
 use Rattle.sd_book.specs.Text.{text_of}
 use Rattle.sd_status.specs.Outside.{Outside}
-use Rattle.sd_status.specs.Meant.{Meant, Word, Given, after, judged, value, ◌>>=◌}
+use Rattle.sd_status.specs.Spec.{Spec, FileArgument, Readings, and_then, judged, value, ◌>>=◌}
 use Rattle.sd_status.specs.Work.{NoSteps, Work}
-use Rattle.sd_status.specs.Comes.{IsRefusal, IsEnding, Obeys}
+use Rattle.sd_status.specs.Outcome.{IsRefusal, IsEnding, OutcomeWithin}
 use Rattle.sd_files.specs.Both.{SiteBook, both_meaning}
 use Rattle.sd_files.specs.Files.{book_in, book_of_file, refused_book, told_book}
 use Rattle.sd_files.specs.Made.{making}
@@ -44,31 +44,31 @@ longer_refused word d commands added fault (inr first) = inl (
 )
 
 -- what is meant by what the third file gave, once the first two were read
-abbrev pub added_by : ℕ → SiteBook → Option (List ℕ) → Meant (List Command)
+abbrev pub added_by : ℕ → SiteBook → Option (List ℕ) → Spec (List Command)
 added_by word both got = book_of_file word both.site.height got
 
 -- and by what all three said
-abbrev pub made_of : Word → Word → SiteBook → List Command → Meant Work
+abbrev pub made_of : FileArgument → FileArgument → SiteBook → List Command → Spec Work
 made_of commands out both added =
     judged (longer_book commands.number both.site.height both.commands added)
     >>= λ longer. value (making NoSteps out (text_of longer))
 
 -- a longer book whose file was made
-pub longer_made : (word d : ℕ) (commands added whole : List Command) (out : Word) (bytes : List ℕ) (a b : Outside)
-    (status : Status) → longer_book word d commands added ≡ Ok whole → bytes ≡ text_of whole →
-    Obeys (value (making NoSteps out bytes)) a b status →
-    Obeys (judged (longer_book word d commands added) >>= λ longer. value (making NoSteps out (text_of longer))) a b
-    status
+pub longer_made : (word d : ℕ) (commands added whole : List Command) (out : FileArgument) (bytes : List ℕ)
+    (a b : Outside) (status : Status) → longer_book word d commands added ≡ Ok whole → bytes ≡ text_of whole →
+    OutcomeWithin (value (making NoSteps out bytes)) a b status →
+    OutcomeWithin (judged (longer_book word d commands added) >>= λ longer.
+    value (making NoSteps out (text_of longer))) a b status
 longer_made word d commands added whole out bytes a b status is same made =
     judged_obeys (longer_book word d commands added) whole (λ longer. value (making NoSteps out (text_of longer))) a b
-    status is (subst (λ (text : List ℕ). Obeys (value (making NoSteps out text)) a b status) same made)
+    status is (subst (λ (text : List ℕ). OutcomeWithin (value (making NoSteps out text)) a b status) same made)
 
-then_is : {A B : Type 0} (first : Meant A) (x : A) (next : A → Meant B) → first.result ≡ Ok x →
+then_is : {A B : Type 0} (first : Spec A) (x : A) (next : A → Spec B) → first.result ≡ Ok x →
     (first >>= next).result ≡ (next x).result
-then_is {A} first x next e = ap (λ (r : Result A Status). (after first.calls r next).result) e
+then_is {A} first x next e = ap (λ (r : Result A Status). (and_then first.calls r next).result) e
 
 -- good files mean that OUT becomes the file of the longer book
-pub good_files : (site book commands out : Word) (given : Given) (both : SiteBook) (added : List Command) →
+pub good_files : (site book commands out : FileArgument) (given : Readings) (both : SiteBook) (added : List Command) →
     (both_meaning site book given).result ≡ Ok both → (book_in given both.site.height commands).result ≡ Ok added →
     IsWithinLimits both.site.height (both.commands ++ added) →
     (book_meaning site book commands out given).result ≡ Ok (making NoSteps out (text_of (both.commands ++ added)))

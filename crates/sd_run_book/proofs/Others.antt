@@ -2,7 +2,7 @@
 use Rattle.std.proofs.Common.{ℕ, List, [], ◌++◌, map, Some}
 use Rattle.sd_book.specs.declared.command.Command.{Command}
 use Rattle.sd_book.specs.Text.{judged as said, text_of}
-use Rattle.sd_status.specs.Meant.{Word, Given, judged, value, ◌>>=◌}
+use Rattle.sd_status.specs.Spec.{FileArgument, Readings, judged, value, ◌>>=◌}
 use Rattle.sd_status.specs.Work.{NoSteps}
 use Rattle.sd_files.specs.Both.{both_by}
 use Rattle.sd_files.specs.Files.{book_of_file}
@@ -14,7 +14,7 @@ other_longer : (word d : ℕ) (commands added : List Command) → IsOther (longe
 unfolding longer_book
 other_longer word d commands added = other_book word (said d [] (map Some (commands ++ added)))
 
-pub other_book_order : (site book commands out : Word) (given : Given) →
+pub other_book_order : (site book commands out : FileArgument) (given : Readings) →
     IsOther (book_meaning site book commands out given).result
 unfolding book_meaning
 other_book_order site book commands out given =

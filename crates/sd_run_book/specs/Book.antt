@@ -3,7 +3,7 @@ use Rattle.std.specs.Prelude.{ℕ, List, [], ◌++◌, map, Some, Result}
 use Rattle.sd_book.specs.declared.command.Command.{Command}
 use Rattle.sd_book.specs.Text.{judged as said, text_of}
 use Rattle.sd_status.specs.declared.status.Status.{Status}
-use Rattle.sd_status.specs.Meant.{Meant, Word, Given, judged, value, ◌>>=◌}
+use Rattle.sd_status.specs.Spec.{Spec, FileArgument, Readings, judged, value, ◌>>=◌}
 use Rattle.sd_status.specs.Work.{NoSteps, Work}
 use Rattle.sd_files.specs.Files.{book_in, told_book}
 use Rattle.sd_files.specs.Both.{both_meaning}
@@ -15,7 +15,7 @@ unfoldable pub longer_book : ℕ → ℕ → List Command → List Command → R
 longer_book word d commands added = told_book word (said d [] (map Some (commands ++ added)))
 
 -- makes OUT the file of the book with the commands of COMMANDS, which is a book by itself, after its own
-unfoldable pub book_meaning : Word → Word → Word → Word → Given → Meant Work
+unfoldable pub book_meaning : FileArgument → FileArgument → FileArgument → FileArgument → Readings → Spec Work
 book_meaning site book commands out given = do
   both ← both_meaning site book given
   added ← book_in given both.site.height commands

@@ -1,7 +1,7 @@
 ghost use Rattle.std.specs.Prelude.{◌≡◌, ◌≢◌, ℕ};
-ghost use Rattle.sd_status.specs.Outside.{Page, outside, place};
-ghost use Rattle.sd_status.specs.Reads.{Judges};
-ghost use Rattle.sd_status.specs.Comes.{Follows, status_of};
+ghost use Rattle.sd_status.specs.Outside.{PageState, outside, depot_state};
+ghost use Rattle.sd_status.specs.Reads.{JudgedOutcome};
+ghost use Rattle.sd_status.specs.Outcome.{Implements, status_of};
 ghost use Rattle.sd_files.specs.Shown.{shown_word};
 ghost use Rattle.sd_run_book.specs.Book.{book_meaning, longer_book};
 
@@ -22,10 +22,10 @@ pub fn book<D: Depot>(
     out: Word<'_>,
 ) -> Result<(), Status>
     requires { (site.number ≢ book.number) × (site.number ≢ commands.number) × (book.number ≢ commands.number) }
-    ensures { (page : Page) (steps : ℕ) →
-        Follows (book_meaning (shown_word site.entry) (shown_word book.entry) (shown_word commands.entry)
+    ensures { (page : PageState) (steps : ℕ) →
+        Implements (book_meaning (shown_word site.entry) (shown_word book.entry) (shown_word commands.entry)
         (shown_word out.entry))
-        (outside (place D.Depot depot.old) page steps) (outside (place D.Depot depot.new) page steps)
+        (outside (depot_state D.Depot depot.old) page steps) (outside (depot_state D.Depot depot.new) page steps)
         (status_of result) }
 {
     let (site, book) = read_both(alloc, depot, site, book)?;
@@ -39,7 +39,7 @@ pub fn book<D: Depot>(
 #[tactic(auto, using(crate::proofs::Longer::longer_refused))]
 fn longer(word: u8, mut book: Book, added: &Book) -> Result<Book, Status>
     requires { added.now.height ≡ book.height }
-    ensures { Judges (λ whole. whole.commands)
+    ensures { JudgedOutcome (λ whole. whole.commands)
         (longer_book word book.height book.commands added.now.commands) result }
 {
     let more = added.commands();

@@ -2,21 +2,22 @@
 use Rattle.std.proofs.Common.{◌≡◌, ◌⊎◌, ℕ, List, Result, Ok, Err, refl, ap, subst, inl, inr, arith}
 use Rattle.sd_status.specs.declared.status.Status.{Status}
 use Rattle.sd_status.specs.declared.status.Status.TheVariants.{NoMemory}
-use Rattle.sd_status.specs.Outside.{Place, Page, outside, called}
-use Rattle.sd_status.specs.Meant.{Word, judged, value, ◌>>=◌}
+use Rattle.sd_status.specs.Outside.{DepotState, PageState, outside, called}
+use Rattle.sd_status.specs.Spec.{FileArgument, judged, value, ◌>>=◌}
 use Rattle.sd_status.specs.Work.{Uncounted, TakesSteps}
-use Rattle.sd_status.specs.Comes.{IsRefusal, IsEnding, Comes, refused, exhausted, untouched, Obeys}
+use Rattle.sd_status.specs.Outcome.{IsRefusal, IsEnding, Outcome, refused, exhausted, untouched, OutcomeWithin}
 use Rattle.sd_status.specs.Reads.{TakesFor}
 use Rattle.sd_files.specs.Made.{making}
 
-taken : (meant : Result (List ℕ) Status) (out : Word) (before now : ℕ) → TakesFor meant before now →
+taken : (meant : Result (List ℕ) Status) (out : FileArgument) (before now : ℕ) → TakesFor meant before now →
     TakesSteps (judged meant >>= λ bytes. value (making Uncounted out bytes)).result before now
 taken (Ok bytes) out before now h = tt
 taken (Err refusal) out before now h = h
 
-comes : (meant : Result (List ℕ) Status) (out : Word) (p : Place) (page : Page) (steps now : ℕ) (status : Status) →
+comes : (meant : Result (List ℕ) Status) (out : FileArgument) (p : DepotState) (page : PageState) (steps now : ℕ)
+    (status : Status) →
     ((meant ≡ Err status) × IsRefusal status × IsEnding status) ⊎ (status ≡ NoMemory) →
-    Comes (judged meant >>= λ bytes. value (making Uncounted out bytes)).result (outside p page steps)
+    Outcome (judged meant >>= λ bytes. value (making Uncounted out bytes)).result (outside p page steps)
     (outside p page now) status
 comes meant out p page steps now status (inl h) =
     refused (ap (λ (r : Result (List ℕ) Status). (judged r >>= λ bytes. value (making Uncounted out bytes)).result) h.0)
@@ -27,11 +28,11 @@ comes meant out p page steps now status (inr h) =
     exhausted h (untouched (record { files = refl; made = refl }) refl) refl refl refl
 
 -- the leaf was refused, or memory was out
-pub card_obeys : (view_meant : Result (List ℕ) Status) (out : Word) (p q : Place) (n : ℕ) (page : Page) (steps now : ℕ)
-    (status : Status) →
+pub card_obeys : (view_meant : Result (List ℕ) Status) (out : FileArgument) (p q : DepotState) (n : ℕ)
+    (page : PageState) (steps now : ℕ) (status : Status) →
     q ≡ called n p → ((view_meant ≡ Err status) × IsRefusal status × IsEnding status) ⊎ (status ≡ NoMemory) →
     TakesFor view_meant steps now →
-    Obeys (judged view_meant >>= λ bytes. value (making Uncounted out bytes)) (outside q page steps)
+    OutcomeWithin (judged view_meant >>= λ bytes. value (making Uncounted out bytes)) (outside q page steps)
     (outside q page now) status
 card_obeys meant out p q n page steps now status e h takes = record {
   comes = comes meant out q page steps now status h;

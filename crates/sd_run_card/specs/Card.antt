@@ -4,20 +4,20 @@ use Rattle.sd_site.specs.Fields.{SiteFields}
 use Rattle.sd_card.specs.Fields.{card_of, card_bytes}
 use Rattle.sd_status.specs.declared.status.Status.{Status}
 use Rattle.sd_status.specs.declared.status.Status.TheVariants.{BadWord}
-use Rattle.sd_status.specs.Meant.{Meant, Word, Given, value, judged, ◌>>=◌}
+use Rattle.sd_status.specs.Spec.{Spec, FileArgument, Readings, value, judged, ◌>>=◌}
 use Rattle.sd_status.specs.Work.{Uncounted, Work}
-use Rattle.sd_files.specs.Shown.{Number}
+use Rattle.sd_files.specs.Shown.{NumberArgument}
 use Rattle.sd_files.specs.Files.{site_in}
 use Rattle.sd_files.specs.Made.{making}
 
 -- the bytes of the card of a site's leaf, which is to be one of its tree
-abbrev pub told_card : SiteFields → Number → Result (List ℕ) Status
+abbrev pub told_card : SiteFields → NumberArgument → Result (List ℕ) Status
 told_card site leaf =
     if nat_lt leaf.value (2 ^ site.height)
     then Ok (card_bytes (card_of site.master site.ca site.height leaf.value))
     else Err (BadWord leaf.word)
 
-abbrev pub card_meaning : Word → Number → Word → Given → Meant Work
+abbrev pub card_meaning : FileArgument → NumberArgument → FileArgument → Readings → Spec Work
 card_meaning site leaf out given = do
   fields ← site_in given site
   bytes ← judged (told_card fields leaf)

@@ -1,8 +1,8 @@
 ghost use Rattle.std.specs.Prelude.{◌≡◌};
 ghost use Rattle.sd_site.specs.Fields.{fields_of};
-ghost use Rattle.sd_status.specs.Outside.{Page, place, outside};
-ghost use Rattle.sd_status.specs.Reads.{Judges, TakesFor};
-ghost use Rattle.sd_status.specs.Comes.{Follows, status_of};
+ghost use Rattle.sd_status.specs.Outside.{PageState, depot_state, outside};
+ghost use Rattle.sd_status.specs.Reads.{JudgedOutcome, TakesFor};
+ghost use Rattle.sd_status.specs.Outcome.{Implements, status_of};
 ghost use Rattle.sd_run_card.specs.Card.{card_meaning, told_card};
 ghost use Rattle.sd_files.specs.Shown.{shown_word, shown_number};
 
@@ -26,9 +26,9 @@ pub fn card<D: Depot, L: Ledger>(
     out: Word<'_>,
     steps: &mut Steps<L>,
 ) -> Result<(), Status>
-    ensures { (page : Page) →
-        Follows (card_meaning (shown_word site.entry) (shown_number leaf) (shown_word out.entry))
-        (outside (place D.Depot depot.old) page steps.old) (outside (place D.Depot depot.new) page steps.new)
+    ensures { (page : PageState) →
+        Implements (card_meaning (shown_word site.entry) (shown_number leaf) (shown_word out.entry))
+        (outside (depot_state D.Depot depot.old) page steps.old) (outside (depot_state D.Depot depot.new) page steps.new)
         (status_of result) }
 {
     let site = read_site(alloc, depot, site)?;
@@ -43,7 +43,7 @@ fn card_of<L: Ledger>(
     leaf: Number,
     steps: &mut Steps<L>,
 ) -> Result<Vec<u8>, Status>
-    ensures value { Judges (λ bytes. bytes.items) (told_card (fields_of site.now) (shown_number leaf)) result }
+    ensures value { JudgedOutcome (λ bytes. bytes.items) (told_card (fields_of site.now) (shown_number leaf)) result }
     ensures steps { TakesFor (told_card (fields_of site.now) (shown_number leaf)) steps.old steps.new }
 {
     let Some(of_tree) = Leaf::new(site.height, leaf.value) else {

@@ -2,7 +2,7 @@
 use Rattle.std.specs.Prelude.{ℕ, List}
 use Rattle.sd_book.specs.declared.command.Command.{Command}
 use Rattle.sd_steiner.specs.Cover.{cover_of}
-use Rattle.sd_status.specs.Meant.{Meant, Word, Given, value, ◌>>=◌}
+use Rattle.sd_status.specs.Spec.{Spec, FileArgument, Readings, value, ◌>>=◌}
 use Rattle.sd_status.specs.Work.{Work}
 use Rattle.sd_periods.specs.Periods.{bare_end, listing}
 use Rattle.sd_files.specs.Files.{site_in, book_in}
@@ -12,7 +12,7 @@ abbrev pub covering : ℕ → List Command → Work
 covering d commands = listing (cover_of d) bare_end d commands
 
 -- the work that the two files say
-unfoldable pub cover_meaning : Word → Word → Given → Meant Work
+unfoldable pub cover_meaning : FileArgument → FileArgument → Readings → Spec Work
 cover_meaning site book given = do
   fields ← site_in given site
   commands ← book_in given fields.height book

@@ -1,7 +1,7 @@
 ghost use Rattle.std.specs.Prelude.{◌≡◌, ◌≢◌, ℕ};
-ghost use Rattle.sd_status.specs.Outside.{outside, page, place};
-ghost use Rattle.sd_status.specs.Reads.{Reads};
-ghost use Rattle.sd_status.specs.Comes.{Follows, status_of};
+ghost use Rattle.sd_status.specs.Outside.{outside, page_state, depot_state};
+ghost use Rattle.sd_status.specs.Reads.{FilesOutcome};
+ghost use Rattle.sd_status.specs.Outcome.{Implements, status_of};
 ghost use Rattle.sd_run_cover.specs.Cover.{cover_meaning, covering};
 ghost use Rattle.sd_files.specs.Shown.{shown_word};
 
@@ -23,9 +23,9 @@ pub fn cover<D: Depot, P: Sink>(
     book: Word<'_>,
 ) -> Result<(), Status>
     requires { site.number ≢ book.number }
-    ensures { (steps : ℕ) → Follows (cover_meaning (shown_word site.entry) (shown_word book.entry))
-        (outside (place D.Depot depot.old) (page P.Sink print.old) steps)
-        (outside (place D.Depot depot.new) (page P.Sink print.new) steps) (status_of result) }
+    ensures { (steps : ℕ) → Implements (cover_meaning (shown_word site.entry) (shown_word book.entry))
+        (outside (depot_state D.Depot depot.old) (page_state P.Sink print.old) steps)
+        (outside (depot_state D.Depot depot.new) (page_state P.Sink print.new) steps) (status_of result) }
 {
     let book = book_of_site(alloc, depot, site, book)?;
     print_periods(alloc, print, &book, &Bare)
@@ -40,9 +40,9 @@ fn book_of_site<D: Depot>(
     book: Word<'_>,
 ) -> Result<Book, Status>
     requires { site.number ≢ book.number }
-    ensures { Reads (λ book. covering book.height book.commands)
+    ensures { FilesOutcome (λ book. covering book.height book.commands)
         (cover_meaning (shown_word site.entry) (shown_word book.entry))
-        (place D.Depot depot.old) (place D.Depot depot.new) result }
+        (depot_state D.Depot depot.old) (depot_state D.Depot depot.new) result }
 {
     let site = read_site(alloc, depot, site)?;
     read_book(alloc, depot, book, site.height)

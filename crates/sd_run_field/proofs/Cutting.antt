@@ -11,8 +11,8 @@ use Rattle.sd_engine.specs.declared.fault.BreakCause.TheVariants.{Torn, NoSync}
 use Rattle.sd_engine.proofs.Walking.{none_at_end, no_piece, torn_here, no_sync_here, packets_more, break_after_more}
 use Rattle.sd_status.specs.declared.status.Status.TheVariants.{Limit}
 use Rattle.sd_status.specs.declared.status.LimitKind.{LimitKind}
-use Rattle.sd_status.specs.Meant.{within}
-use Rattle.sd_run_field.specs.Clear.{Begins, broken_status}
+use Rattle.sd_status.specs.Spec.{within}
+use Rattle.sd_run_field.specs.Clear.{BeginsWithPacket, broken_status}
 use Rattle.sd_run_field.specs.Field.{most_clear_bytes, told_clear, unbroken}
 
 -- these packets stand before the rest of some bytes, which break where it does
@@ -26,7 +26,8 @@ nothing_cut bytes = record { packets = refl; breaks = refl; few = omega arith }
 
 -- the packet with which the rest begins stands before what is behind it
 pub one_more_cut : (bytes rest after packet : List ℕ) (packets more : List (List ℕ)) → IsCut bytes packets rest →
-    Begins rest (Ok packet) → more ≡ packets ++ packet ∷ [] → after ≡ take (length rest - 188) (drop 188 rest) →
+    BeginsWithPacket rest (Ok packet) → more ≡ packets ++ packet ∷ [] →
+    after ≡ take (length rest - 188) (drop 188 rest) →
     IsCut bytes more after
 one_more_cut bytes rest after packet packets more cut begins is behind =
     let left : after ≡ drop 188 rest =
@@ -56,7 +57,7 @@ none_left n test = grind (arith, nat_tests)
 
 -- the bytes break where the rest begins with no packet
 pub cut_breaks : (bytes rest : List ℕ) (packets : List (List ℕ)) (cause : BreakCause) → IsCut bytes packets rest →
-    0 < length rest → Begins rest (Err cause) → told_clear bytes ≡ Err (broken_status (length packets) cause)
+    0 < length rest → BeginsWithPacket rest (Err cause) → told_clear bytes ≡ Err (broken_status (length packets) cause)
 cut_breaks bytes rest packets Torn cut some begins =
     ap (λ (b : Option StreamBreak). unbroken b (packets_of bytes))
     (cut.breaks ∙ (torn_here rest (length packets) some begins).1)

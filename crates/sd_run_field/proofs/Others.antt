@@ -10,7 +10,7 @@ use Rattle.sd_field.specs.declared.fault.ScriptFault.{ScriptFault}
 use Rattle.sd_field.specs.declared.fault.ScriptFault.TheVariants as script
 use Rattle.sd_status.specs.declared.status.Status.TheVariants.{Limit}
 use Rattle.sd_status.specs.declared.status.LimitKind.TheVariants.{BookBytes, FieldHeight, FieldPackets}
-use Rattle.sd_status.specs.Meant.{Word, Given, judged, value, within, ◌>>=◌}
+use Rattle.sd_status.specs.Spec.{FileArgument, Readings, judged, value, within, ◌>>=◌}
 use Rattle.sd_files.specs.Files.{site_of_file, most_book_bytes}
 use Rattle.sd_files.specs.Printed.{printing}
 use Rattle.sd_files.proofs.Others.{IsOther, other_after, other_file, other_site_file}
@@ -63,7 +63,8 @@ other_inputs site clear site_got clear_got =
     (λ fields. other_after (clear_of_file clear clear_got).calls (clear_of_file clear clear_got).result
     (λ packets. value (record { site = fields; clear = packets })) (other_clear clear clear_got) (λ packets. tt))
 
-pub other_field : (site clear script : Word) (given : Given) → IsOther (field_meaning site clear script given).result
+pub other_field : (site clear script : FileArgument) (given : Readings) →
+    IsOther (field_meaning site clear script given).result
 unfolding field_meaning
 other_field site clear script given =
     other_after (inputs_by site.number clear.number (given site) (given clear)).calls

@@ -12,7 +12,7 @@ use Rattle.sd_field.specs.declared.fault.FieldFault.TheVariants.{Clear}
 use Rattle.sd_field.specs.Fields.{FieldValue, after_next, next_refusal, refusal_at, taken}
 use Rattle.sd_field.proofs.Refused.{goes_on_clear, stops_at_first}
 use Rattle.sd_status.specs.declared.status.Status.{Status}
-use Rattle.sd_run_field.specs.Played.{Moves, Plays, all_done}
+use Rattle.sd_run_field.specs.Played.{EventOutcome, PlayOutcome, all_done}
 
 -- The loop over the events.
 
@@ -42,7 +42,8 @@ none_done v new calm = record {
 }
 
 -- one event more is done
-pub one_more_done : (start now next : FieldValue) → IsAlong start now → Moves now next (Ok true) → IsAlong start next
+pub one_more_done : (start now next : FieldValue) → IsAlong start now → EventOutcome now next (Ok true) →
+    IsAlong start next
 one_more_done start now next along moves =
     let v : FieldValue = moved_to start now.done in
     let v_is : now ≡ v = along.same in
@@ -57,8 +58,8 @@ one_more_done start now next along moves =
     })
 
 -- none is left
-pub played_out : (start now next : FieldValue) → IsAlong start now → Moves now next (Ok false) →
-    Plays start next (Ok tt)
+pub played_out : (start now next : FieldValue) → IsAlong start now → EventOutcome now next (Ok false) →
+    PlayOutcome start next (Ok tt)
 played_out start now next along moves =
     let v : FieldValue = moved_to start now.done in
     let v_is : now ≡ v = along.same in
@@ -69,7 +70,7 @@ played_out start now next along moves =
 
 -- the next one stops the field
 pub played_short : (start now next : FieldValue) (status : Status) → IsAlong start now →
-    Moves now next (Err status) → Plays start next (Err status)
+    EventOutcome now next (Err status) → PlayOutcome start next (Err status)
 played_short start now next status along (inr out) = inr out
 played_short start now next status along (inl (fault, refused, is)) =
     let v : FieldValue = moved_to start now.done in
@@ -105,7 +106,7 @@ pub moved_on : (before now : FieldValue) (more : Bool) (result : Result Bool Fie
     (result ≡ Ok false ↔ ((before.failed ≡ None) × (before.done ≡ length before.events))) →
     (result ≡ Ok false → now ≡ before) →
     ((fault : ClearFault) → before.failed ≡ None →
-    (result ≡ Err (Clear fault)) ↔ (next_refusal before ≡ Some fault)) → Moves before now (Ok more)
+    (result ≡ Err (Clear fault)) ↔ (next_refusal before ≡ Some fault)) → EventOutcome before now (Ok more)
 moved_on before now true result is calm done ends idle clear =
     let d = done is in
     (d.2, d.0, none_where (next_refusal before) true result is (λ fault found. (clear fault calm).1 found))

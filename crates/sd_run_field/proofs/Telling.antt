@@ -12,11 +12,11 @@ use Rattle.sd_events.specs.declared.event.Event.{Event}
 use Rattle.sd_field.specs.Fields.{FieldValue, IsSentCut, plan_in, sends_of, taken, written_of}
 use Rattle.sd_field.proofs.Fields.{unsent}
 use Rattle.sd_status.specs.declared.status.Status.{Status}
-use Rattle.sd_status.specs.Comes.{IsEnding}
-use Rattle.sd_files.specs.Printed.{Comes}
+use Rattle.sd_status.specs.Outcome.{IsEnding}
+use Rattle.sd_files.specs.Printed.{MemoryOutcome}
 use Rattle.sd_run_field.specs.Field.{digest_of, done_field, field_text, first_line, lines_to, receiver_line, text_in}
 use Rattle.sd_run_field.specs.Field.{unrefused, wrote_line}
-use Rattle.sd_run_field.specs.Played.{Plays}
+use Rattle.sd_run_field.specs.Played.{PlayOutcome}
 
 -- the first line
 pub first_told : (v : FieldValue) (sends packets period : ℕ) (sent text : List ℕ) (commands : List Command) →
@@ -49,16 +49,16 @@ new_field site clear events = record { site = site; clear = clear; events = even
 -- a field that stopped has no text
 pub text_stopped : {X : Type 0} (view : X → List ℕ) (before now : FieldValue) (site : SiteFields)
     (clear : List (List ℕ)) (events : List Event) (status : Status) → before ≡ new_field site clear events →
-    Plays before now (Err status) → Comes view (field_text site clear events) (Err status)
+    PlayOutcome before now (Err status) → MemoryOutcome view (field_text site clear events) (Err status)
 unfolding text_in
 text_stopped view before now site clear events status is plays =
-    by_cause (subst (λ (v : FieldValue). Plays v now (Err status)) is plays)
+    by_cause (subst (λ (v : FieldValue). PlayOutcome v now (Err status)) is plays)
   where
     v : FieldValue
     v = done_field site clear events
 
-    by_cause : Plays (new_field site clear events) now (Err status) →
-        Comes view (field_text site clear events) (Err status)
+    by_cause : PlayOutcome (new_field site clear events) now (Err status) →
+        MemoryOutcome view (field_text site clear events) (Err status)
     by_cause (inl (fault, refused, told)) = inl (
       ap (λ (r : Option ClearFault). unrefused r (lines_to v (2 ^ site.height))) refused
           ∙ ap (λ (s : Status). Err s) (sym told),
@@ -68,11 +68,11 @@ text_stopped view before now site clear events status is plays =
 
 -- one whose events are all done has the text of its lines
 pub text_told : (before now : FieldValue) (site : SiteFields) (clear : List (List ℕ)) (events : List Event)
-    (text : List ℕ) → before ≡ new_field site clear events → Plays before now (Ok tt) →
+    (text : List ℕ) → before ≡ new_field site clear events → PlayOutcome before now (Ok tt) →
     text ≡ lines_to now (2 ^ site.height) → field_text site clear events ≡ Ok text
 unfolding text_in
 text_told before now site clear events text is plays told =
-    let p = subst (λ (v : FieldValue). Plays v now (Ok tt)) is plays in
+    let p = subst (λ (v : FieldValue). PlayOutcome v now (Ok tt)) is plays in
     let v : FieldValue = done_field site clear events in
     ap (λ (r : Option ClearFault). unrefused r (lines_to v (2 ^ site.height))) p.1
     ∙ ap (λ (xs : List ℕ). Ok xs) (sym (told ∙ ap (λ (w : FieldValue). lines_to w (2 ^ site.height)) p.0))

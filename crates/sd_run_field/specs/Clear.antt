@@ -7,10 +7,10 @@ use Rattle.sd_status.specs.declared.status.Status.TheVariants.{BadClear}
 use Rattle.sd_status.specs.declared.status.ClearCause.TheVariants.{Broken}
 
 -- bytes begin with a packet, or don't for this cause [ISO/IEC 13818-1, 2.4.3.2]
-abbrev pub Begins : List ℕ → Result (List ℕ) BreakCause → Type 0
-Begins bytes (Ok packet) = (packet ≡ take 188 bytes) × (188 ≤ length bytes) × (slice_index bytes 0 ≡ 0x47)
-Begins bytes (Err Torn) = length bytes < 188
-Begins bytes (Err NoSync) = (188 ≤ length bytes) × (slice_index bytes 0 ≢ 0x47)
+abbrev pub BeginsWithPacket : List ℕ → Result (List ℕ) BreakCause → Type 0
+BeginsWithPacket bytes (Ok packet) = (packet ≡ take 188 bytes) × (188 ≤ length bytes) × (slice_index bytes 0 ≡ 0x47)
+BeginsWithPacket bytes (Err Torn) = length bytes < 188
+BeginsWithPacket bytes (Err NoSync) = (188 ≤ length bytes) × (slice_index bytes 0 ≢ 0x47)
 
 -- the status of a stream that breaks at this packet
 abbrev pub broken_status : ℕ → BreakCause → Status

@@ -21,7 +21,7 @@ use Rattle.sd_status.specs.declared.status.Status.{Status}
 use Rattle.sd_status.specs.declared.status.Status.TheVariants.{BadBook, BadClear, Limit, NoMemory}
 use Rattle.sd_status.specs.declared.status.ClearCause.TheVariants.{Broken}
 use Rattle.sd_status.specs.declared.status.LimitKind.TheVariants.{BookBytes, FieldHeight, FieldPackets, FieldEvents}
-use Rattle.sd_status.specs.Meant.{Meant, Word, Given, judged, value, within, ◌>>=◌}
+use Rattle.sd_status.specs.Spec.{Spec, FileArgument, Readings, judged, value, within, ◌>>=◌}
 use Rattle.sd_status.specs.Work.{Work}
 use Rattle.sd_files.specs.Files.{site_of_file, most_book_bytes}
 use Rattle.sd_files.specs.Printed.{printing}
@@ -40,7 +40,7 @@ abbrev pub told_low : SiteFields → Result SiteFields Status
 told_low site = if nat_lt most_height site.height then Err (Limit FieldHeight) else Ok site
 
 -- the site in the file of argument `word`, if its tree is low enough
-unfoldable pub low_site_of_file : ℕ → Option (List ℕ) → Meant SiteFields
+unfoldable pub low_site_of_file : ℕ → Option (List ℕ) → Spec SiteFields
 low_site_of_file word got = site_of_file word got >>= λ site. judged (told_low site)
 
 -- the packets of a clear stream, or where it breaks
@@ -53,7 +53,7 @@ abbrev pub told_clear : List ℕ → Result (List (List ℕ)) Status
 told_clear bytes = unbroken (break_of bytes) (packets_of bytes)
 
 -- the packets of the clear stream in the file of argument `word`
-unfoldable pub clear_of_file : ℕ → Option (List ℕ) → Meant (List (List ℕ))
+unfoldable pub clear_of_file : ℕ → Option (List ℕ) → Spec (List (List ℕ))
 clear_of_file word got = within word most_clear_bytes FieldPackets got >>= λ bytes. judged (told_clear bytes)
 
 -- the status of a script that is refused, in the file of argument `word`
@@ -69,7 +69,7 @@ told_script word (Ok events) = Ok events
 told_script word (Err fault) = Err (refused_script word fault)
 
 -- the events of the script in the file of argument `word`, for a tree of height d
-unfoldable pub script_of_file : ℕ → ℕ → Option (List ℕ) → Meant (List Event)
+unfoldable pub script_of_file : ℕ → ℕ → Option (List ℕ) → Spec (List Event)
 script_of_file word d got =
     within word most_book_bytes BookBytes got >>= λ bytes. judged (told_script word (script_of d bytes))
 
@@ -79,14 +79,14 @@ pub record Inputs : Type 0 where
   pub clear : List (List ℕ)
 
 -- the site and the clear stream in the files of two arguments
-unfoldable pub inputs_by : ℕ → ℕ → Option (List ℕ) → Option (List ℕ) → Meant Inputs
+unfoldable pub inputs_by : ℕ → ℕ → Option (List ℕ) → Option (List ℕ) → Spec Inputs
 inputs_by site clear site_got clear_got = do
   fields ← low_site_of_file site site_got
   packets ← clear_of_file clear clear_got
   value (record { site = fields; clear = packets })
 
 -- the site and the clear stream that the two files say
-abbrev pub inputs_meaning : Word → Word → Given → Meant Inputs
+abbrev pub inputs_meaning : FileArgument → FileArgument → Readings → Spec Inputs
 inputs_meaning site clear given = inputs_by site.number clear.number (given site) (given clear)
 
 -- a field whose events are all done
@@ -137,7 +137,7 @@ field_text site clear events = text_in (done_field site clear events)
 
 -- the work of `field SITE CLEAR SCRIPT`: all events are done in memory, and then the lines are printed [this project,
 -- docs/FORMATS.md, Field]
-unfoldable pub field_meaning : Word → Word → Word → Given → Meant Work
+unfoldable pub field_meaning : FileArgument → FileArgument → FileArgument → Readings → Spec Work
 field_meaning site clear script given =
     inputs_meaning site clear given
     >>= λ inputs. script_of_file script.number inputs.site.height (given script)

@@ -9,11 +9,11 @@ use Rattle.sd_run_head.specs.Head.{refused_status}
 use Rattle.sd_run_field.specs.Field.{done_field}
 
 -- one event was done, or none was left, or the clear packet that it sends is refused, or memory didn't suffice
-abbrev pub Moves : FieldValue → FieldValue → Result Bool Status → Type 0
-Moves before now (Ok true) =
+abbrev pub EventOutcome : FieldValue → FieldValue → Result Bool Status → Type 0
+EventOutcome before now (Ok true) =
     (now ≡ after_next before) × (before.done < length before.events) × (next_refusal before ≡ None)
-Moves before now (Ok false) = (now ≡ before) × (before.done ≡ length before.events)
-Moves before now (Err status) =
+EventOutcome before now (Ok false) = (now ≡ before) × (before.done ≡ length before.events)
+EventOutcome before now (Err status) =
     ((fault : ClearFault) × (next_refusal before ≡ Some fault) × (status ≡ refused_status fault))
     ⊎ (status ≡ NoMemory)
 
@@ -22,10 +22,10 @@ abbrev pub all_done : FieldValue → FieldValue
 all_done v = done_field v.site v.clear v.events
 
 -- all events were done, or one sends the first clear packet that is refused, or memory didn't suffice
-abbrev pub Plays : FieldValue → FieldValue → Result (Unit {0}) Status → Type 0
-Plays before now (Ok done) =
+abbrev pub PlayOutcome : FieldValue → FieldValue → Result (Unit {0}) Status → Type 0
+PlayOutcome before now (Ok done) =
     (now ≡ all_done before) × (refusal_from before.site [] (taken (all_done before)) ≡ None)
-Plays before now (Err status) =
+PlayOutcome before now (Err status) =
     ((fault : ClearFault) × (refusal_from before.site [] (taken (all_done before)) ≡ Some fault)
     × (status ≡ refused_status fault))
     ⊎ (status ≡ NoMemory)

@@ -1,7 +1,7 @@
 ghost use Rattle.std.specs.Prelude.{◌≡◌, ◌*◌, ◌≤◌, ◌++◌, ◌∷◌, [], IfOk, OnOk, length};
-ghost use Rattle.sd_status.specs.Outside.{place};
-ghost use Rattle.sd_status.specs.Reads.{Judges, Looks};
-ghost use Rattle.sd_run_field.specs.Clear.{Begins, broken_status};
+ghost use Rattle.sd_status.specs.Outside.{depot_state};
+ghost use Rattle.sd_status.specs.Reads.{JudgedOutcome, FileOutcome};
+ghost use Rattle.sd_run_field.specs.Clear.{BeginsWithPacket, broken_status};
 ghost use Rattle.sd_run_field.specs.Field.{clear_of_file, told_clear};
 
 use sd_cause::NoMemory;
@@ -21,8 +21,8 @@ pub fn read_clear<D: Depot>(
     depot: &mut D,
     word: Word<'_>,
 ) -> Result<Vec<Packet>, Status>
-    ensures value { Looks (λ packets. packets.items) (clear_of_file word.entry.number) word.entry.text.now
-        (place D.Depot depot.old) (place D.Depot depot.new) result }
+    ensures value { FileOutcome (λ packets. packets.items) (clear_of_file word.entry.number) word.entry.text.now
+        (depot_state D.Depot depot.old) (depot_state D.Depot depot.new) result }
     ensures few { IfOk result (λ packets. length packets.items ≤ 16384) }
 {
     let bytes = read_bytes(
@@ -37,7 +37,7 @@ pub fn read_clear<D: Depot>(
 
 /// The packets of a clear stream of these bytes, or the status of the first that is torn or has no sync byte.
 fn cut(alloc: Global, bytes: &[u8]) -> Result<Vec<Packet>, Status>
-    ensures value { Judges (λ packets. packets.items) (told_clear bytes.now) result }
+    ensures value { JudgedOutcome (λ packets. packets.items) (told_clear bytes.now) result }
     ensures few { IfOk result (λ packets. 188 * length packets.items ≤ length bytes.now) }
 {
     let mut packets = Vec::new(alloc);
@@ -65,7 +65,7 @@ fn put(packets: &mut Vec<Packet>, packet: Packet) -> Result<(), NoMemory>
 
 /// The packet with which these bytes begin.
 fn first_packet(bytes: &[u8]) -> Result<Packet, BreakCause>
-    ensures { Begins bytes.now result }
+    ensures { BeginsWithPacket bytes.now result }
 {
     let Some(piece) = bytes.first_chunk::<SIZE>() else {
         return Err(BreakCause::Torn);

@@ -1,9 +1,9 @@
 ghost use Rattle.std.specs.Prelude.{◌≡◌, ◌≢◌, ◌≤◌, All, length, string_bytes, true};
 ghost use Rattle.sd_site.specs.Fields.{fields_of};
 ghost use Rattle.sd_events.specs.Events.{is_of};
-ghost use Rattle.sd_status.specs.Outside.{outside, page, place};
-ghost use Rattle.sd_status.specs.Comes.{Follows, status_of};
-ghost use Rattle.sd_files.specs.Printed.{Comes};
+ghost use Rattle.sd_status.specs.Outside.{outside, page_state, depot_state};
+ghost use Rattle.sd_status.specs.Outcome.{Implements, status_of};
+ghost use Rattle.sd_files.specs.Printed.{MemoryOutcome};
 ghost use Rattle.sd_files.specs.Shown.{shown_word};
 ghost use Rattle.sd_run_field.specs.Field.{field_meaning, field_text};
 
@@ -37,9 +37,9 @@ pub fn field<D: Depot, P: Sink, L: Ledger>(
     steps: &mut Steps<L>,
 ) -> Result<(), Status>
     requires { (site.number ≢ clear.number) × (site.number ≢ script.number) × (clear.number ≢ script.number) }
-    ensures { Follows (field_meaning (shown_word site.entry) (shown_word clear.entry) (shown_word script.entry))
-        (outside (place D.Depot depot.old) (page P.Sink print.old) steps.old)
-        (outside (place D.Depot depot.new) (page P.Sink print.new) steps.new) (status_of result) }
+    ensures { Implements (field_meaning (shown_word site.entry) (shown_word clear.entry) (shown_word script.entry))
+        (outside (depot_state D.Depot depot.old) (page_state P.Sink print.old) steps.old)
+        (outside (depot_state D.Depot depot.new) (page_state P.Sink print.new) steps.new) (status_of result) }
 {
     let (site, clear) = read_inputs(alloc, depot, site, clear)?;
     let events = read_events(alloc, depot, script, site.height)?;
@@ -59,7 +59,7 @@ fn text_of<L: Ledger>(
     requires packets { length clear.items ≤ 16384 }
     requires events { length events.items ≤ 524288 }
     requires leaves { All (λ event. is_of site.height event ≡ true) events.items }
-    ensures { Comes (λ text. string_bytes text) (field_text (fields_of site) clear.items events.items) result }
+    ensures { MemoryOutcome (λ text. string_bytes text) (field_text (fields_of site) clear.items events.items) result }
 {
     let mut field = Field::new(alloc, site, clear, events, steps)?;
     play(&mut field, steps)?;

@@ -1,7 +1,7 @@
 ghost use Rattle.std.specs.Prelude.{◌≡◌, ◌≢◌, ◌≤◌, IfOk, length};
 ghost use Rattle.sd_site.specs.Fields.{fields_of};
-ghost use Rattle.sd_status.specs.Outside.{place};
-ghost use Rattle.sd_status.specs.Reads.{JudgesAlone, Looks, Reads};
+ghost use Rattle.sd_status.specs.Outside.{depot_state};
+ghost use Rattle.sd_status.specs.Reads.{SureOutcome, FileOutcome, FilesOutcome};
 ghost use Rattle.sd_files.specs.Shown.{shown_word};
 ghost use Rattle.sd_run_field.specs.Field.{inputs_meaning, low_site_of_file, told_low};
 
@@ -24,9 +24,9 @@ pub fn read_inputs<D: Depot>(
     clear: Word<'_>,
 ) -> Result<(Site, Vec<Packet>), Status>
     requires { site.number ≢ clear.number }
-    ensures value { Reads (λ inputs. record { site = fields_of inputs.0; clear = inputs.1.items })
+    ensures value { FilesOutcome (λ inputs. record { site = fields_of inputs.0; clear = inputs.1.items })
         (inputs_meaning (shown_word site.entry) (shown_word clear.entry))
-        (place D.Depot depot.old) (place D.Depot depot.new) result }
+        (depot_state D.Depot depot.old) (depot_state D.Depot depot.new) result }
     ensures low { IfOk result (λ inputs. inputs.0.height ≤ 6) }
     ensures few { IfOk result (λ inputs. length inputs.1.items ≤ 16384) }
 {
@@ -37,8 +37,8 @@ pub fn read_inputs<D: Depot>(
 
 /// The site in the file of this argument, whose tree must be of height at most 6.
 fn read_low_site<D: Depot>(alloc: Global, depot: &mut D, word: Word<'_>) -> Result<Site, Status>
-    ensures value { Looks fields_of (low_site_of_file word.entry.number) word.entry.text.now
-        (place D.Depot depot.old) (place D.Depot depot.new) result }
+    ensures value { FileOutcome fields_of (low_site_of_file word.entry.number) word.entry.text.now
+        (depot_state D.Depot depot.old) (depot_state D.Depot depot.new) result }
     ensures low { IfOk result (λ site. site.height ≤ 6) }
 {
     let site = read_site(alloc, depot, word)?;
@@ -47,7 +47,7 @@ fn read_low_site<D: Depot>(alloc: Global, depot: &mut D, word: Word<'_>) -> Resu
 
 /// The site, if its tree is of height at most 6.
 fn judge_height(site: Site) -> Result<Site, Status>
-    ensures value { JudgesAlone fields_of (told_low (fields_of site)) result }
+    ensures value { SureOutcome fields_of (told_low (fields_of site)) result }
     ensures low { IfOk result (λ site. site.height ≤ 6) }
 {
     if site.height.get() > MOST_HEIGHT {

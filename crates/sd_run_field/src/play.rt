@@ -1,5 +1,5 @@
 ghost use Rattle.std.specs.Prelude.{◌≡◌, None};
-ghost use Rattle.sd_run_field.specs.Played.{Moves, Plays};
+ghost use Rattle.sd_run_field.specs.Played.{EventOutcome, PlayOutcome};
 
 use sd_field::{Field, FieldFault};
 use sd_run_head::refused;
@@ -11,7 +11,7 @@ use std::sync::ledger::Ledger;
 pub fn play<L: Ledger>(field: &mut Field, steps: &mut Steps<L>) -> Result<(), Status>
     requires new { field.old.done ≡ 0 }
     requires calm { field.old.failed ≡ None }
-    ensures { Plays field.old field.new result }
+    ensures { PlayOutcome field.old field.new result }
 {
     while advance(field, steps)? {}
     Ok(())
@@ -20,7 +20,7 @@ pub fn play<L: Ledger>(field: &mut Field, steps: &mut Steps<L>) -> Result<(), St
 /// Runs the next event of a field, and returns whether one was left.
 fn advance<L: Ledger>(field: &mut Field, steps: &mut Steps<L>) -> Result<bool, Status>
     requires calm { field.old.failed ≡ None }
-    ensures { Moves field.old field.new result }
+    ensures { EventOutcome field.old field.new result }
 {
     match field.step(steps) {
         Ok(more) => Ok(more),

@@ -1,8 +1,8 @@
 ghost use Rattle.std.specs.Prelude.{◌≡◌, ◌≤◌, All, IfOk, length, true};
 ghost use Rattle.sd_events.specs.Events.{is_of};
 ghost use Rattle.sd_field.specs.Script.{script_of};
-ghost use Rattle.sd_status.specs.Outside.{place};
-ghost use Rattle.sd_status.specs.Reads.{Judges, Looks};
+ghost use Rattle.sd_status.specs.Outside.{depot_state};
+ghost use Rattle.sd_status.specs.Reads.{JudgedOutcome, FileOutcome};
 ghost use Rattle.sd_run_field.specs.Field.{refused_script, script_of_file, told_script};
 
 use sd_events::Event;
@@ -20,8 +20,8 @@ pub fn read_events<D: Depot>(
     word: Word<'_>,
     h: Height,
 ) -> Result<Vec<Event>, Status>
-    ensures value { Looks (λ events. events.items) (script_of_file word.entry.number h) word.entry.text.now
-        (place D.Depot depot.old) (place D.Depot depot.new) result }
+    ensures value { FileOutcome (λ events. events.items) (script_of_file word.entry.number h) word.entry.text.now
+        (depot_state D.Depot depot.old) (depot_state D.Depot depot.new) result }
     ensures few { IfOk result (λ events. length events.items ≤ 524288) }
     ensures leaves { IfOk result (λ events. All (λ event. is_of h event ≡ true) events.items) }
 {
@@ -31,7 +31,7 @@ pub fn read_events<D: Depot>(
 
 /// The events of the script of these bytes, which are those of the file of argument `word`.
 fn judge_script(alloc: Global, word: u8, bytes: &[u8], h: Height) -> Result<Vec<Event>, Status>
-    ensures value { Judges (λ events. events.items) (told_script word (script_of h bytes.now)) result }
+    ensures value { JudgedOutcome (λ events. events.items) (told_script word (script_of h bytes.now)) result }
     ensures few { IfOk result (λ events. length events.items ≤ 524288) }
     ensures leaves { IfOk result (λ events. All (λ event. is_of h event ≡ true) events.items) }
 {

@@ -5,7 +5,7 @@ use Rattle.std.specs.Prelude.{nat_eq, IsErrOf}
 use Rattle.std.proofs.lemmas.Bool.Decides.{nat_tests}
 use Rattle.sd_cause.specs.Count.{IsCaused}
 use Rattle.sd_ports.specs.Files.{Files}
-use Rattle.sd_engine.specs.Driving.{Moment, Drives}
+use Rattle.sd_engine.specs.Driving.{DriveState, DriveOutcome}
 use Rattle.sd_engine.proofs.Taken.{is_over}
 use Rattle.sd_engine.specs.declared.driver.DriveFault.{DriveFault}
 use Rattle.sd_engine.specs.declared.driver.DriveFault.TheVariants as drive
@@ -15,14 +15,14 @@ use Rattle.sd_head.specs.declared.fault.HeadFault.{HeadFault}
 use Rattle.sd_head.specs.declared.fault.HeadFault.TheVariants as head
 use Rattle.sd_head.specs.declared.head.Head.{Head}
 use Rattle.sd_head.specs.Schedule.{IsDue}
-use Rattle.sd_head.specs.Staged.{IsAfter, head_does, head_ends, head_refuses, Refuses}
+use Rattle.sd_head.specs.Staged.{IsAfter, head_does, head_ends, head_refuses, RefusesPacket}
 use Rattle.sd_status.specs.declared.status.Status.{Status}
 use Rattle.sd_status.specs.declared.status.Status.TheVariants.{DepotFault, NoMemory}
-use Rattle.sd_status.specs.Outside.{Place, Page, Outside, outside}
-use Rattle.sd_status.specs.Meant.{Meant, Word, Given, IsGiven, IsGot, ◌>>=◌}
+use Rattle.sd_status.specs.Outside.{DepotState, PageState, Outside, outside}
+use Rattle.sd_status.specs.Spec.{Spec, FileArgument, Readings, IsGiven, IsGot, ◌>>=◌}
 use Rattle.sd_status.specs.Work.{Work}
-use Rattle.sd_status.specs.Comes.{untouched, exhausted, Obeys, Follows}
-use Rattle.sd_status.specs.Reads.{Reads}
+use Rattle.sd_status.specs.Outcome.{untouched, exhausted, OutcomeWithin, Implements}
+use Rattle.sd_status.specs.Reads.{FilesOutcome}
 use Rattle.sd_status.proofs.Firsts.{takes_none, first_obeys}
 use Rattle.sd_status.proofs.Moves.{then_obeys}
 use Rattle.sd_files.specs.Turned.{HasPortCause, Wrote}
@@ -41,7 +41,7 @@ due_at plan before (Some packet) head.NoMemory h = tt
 
 kept_or_due : (plan : Plan) (before : List (List ℕ)) (s : Head) (packet : Option (List ℕ)) (fault : HeadFault)
     (bytes : List ℕ) →
-    IsAfter plan before s → Refuses s packet fault bytes → IsDueAt plan before packet (refusal_in fault)
+    IsAfter plan before s → RefusesPacket s packet fault bytes → IsDueAt plan before packet (refusal_in fault)
 kept_or_due plan before s packet fault bytes a h = elim h.cause [
   | inl kept ↦ let none : None ≡ Some fault = sym a.unrefused ∙ kept in absurd (cc)
   | inr due ↦ due_at plan before packet fault (due plan before a)
@@ -60,9 +60,9 @@ is_head_end plan = record {
 }
 
 -- what was sent for the stream that was left
-pub sends_left : (plan : Plan) (a b : Moment Head) (result : Result ℕ (DriveFault HeadFault)) (status : Status) →
+pub sends_left : (plan : Plan) (a b : DriveState Head) (result : Result ℕ (DriveFault HeadFault)) (status : Status) →
     IsAfter plan [] a.stage →
-    Drives head_does head_ends head_refuses a b result → status ≡ sent_told refusal_in result →
+    DriveOutcome head_does head_ends head_refuses a b result → status ≡ sent_told refusal_in result →
     SendsLeft plan a.left a.sink.held b.sink.held status
 sends_left plan a b result status stands drives is =
     let over = is_over head_does head_ends head_refuses a b result drives in record {
@@ -121,14 +121,15 @@ same_number : (n : ℕ) → nat_eq n n ≡ true
 same_number n = grind (arith, nat_tests)
 
 -- what two files gave, and then a third
-record MoreGiven (files : Option Files) (given : Given) (a b c : Word) (got : Option (List ℕ)) : Type 0 where
-  more : Given
+record MoreGiven (files : Option Files) (given : Readings) (a b c : FileArgument) (got : Option (List ℕ)) : Type 0 where
+  more : Readings
   is_more : IsGiven files more
   first : more a ≡ given a
   second : more b ≡ given b
   gave : more c ≡ got
 
-more_given : (files : Option Files) (given : Given) (a b c : Word) (got : Option (List ℕ)) → IsGiven files given →
+more_given : (files : Option Files) (given : Readings) (a b c : FileArgument) (got : Option (List ℕ)) →
+    IsGiven files given →
     IsGot files c.text got →
     a.number ≢ c.number → b.number ≢ c.number → MoreGiven files given a b c got
 more_given None given a b c got is is_got ac bc = record {
@@ -143,19 +144,19 @@ more_given (Some files) given a b c got is is_got ac bc = record {
   is_more = is;
   first = refl;
   second = refl;
-  gave = ap (λ (g : Given). g c) is ∙ sym is_got;
+  gave = ap (λ (g : Readings). g c) is ∙ sym is_got;
 }
 
 -- a plan that was read, and then what is meant by it and the third file
-pub plan_follows : {X : Type 0} (view : X → Plan) (site book clear out : Word) (got : Option (List ℕ)) (p q : Place)
-    (page : Page) (steps : ℕ)
+pub plan_follows : {X : Type 0} (view : X →
+    Plan) (site book clear out : FileArgument) (got : Option (List ℕ)) (p q : DepotState) (page : PageState) (steps : ℕ)
     (b : Outside) (x : X) (status : Status) → site.number ≢ clear.number → book.number ≢ clear.number →
-    Reads view (plan_meaning site book) p q (Ok x) → IsGot q.files clear.text got →
-    Obeys (sending_of clear out got (view x)) (outside q page steps) b status →
-    Follows (head_meaning site book clear out) (outside p page steps) b status
+    FilesOutcome view (plan_meaning site book) p q (Ok x) → IsGot q.files clear.text got →
+    OutcomeWithin (sending_of clear out got (view x)) (outside q page steps) b status →
+    Implements (head_meaning site book clear out) (outside p page steps) b status
 unfolding head_meaning
 plan_follows {X} view site book clear out got p q page steps b x status sc bc read is_got obeys =
-    let same : q.files ≡ p.files = ap (λ (z : Place). z.files) read.gives.1 in
+    let same : q.files ≡ p.files = ap (λ (z : DepotState). z.files) read.gives.1 in
     let g = more_given p.files read.given site book clear got read.is_given
     (subst (λ (f : Option Files). IsGot f clear.text got) same is_got) sc bc in
     let one : plan_by site.number book.number (read.given site) (read.given book) ≡ plan_meaning site book g.more =
@@ -165,20 +166,20 @@ plan_follows {X} view site book clear out got p q page steps b x status sc bc re
       given = g.more;
       is_given = g.is_more;
       obeyed =
-          subst (λ (o : Option (List ℕ)). Obeys (plan_meaning site book g.more >>= sending_of clear out o)
+          subst (λ (o : Option (List ℕ)). OutcomeWithin (plan_meaning site book g.more >>= sending_of clear out o)
           (outside p page steps) b status)
           (sym g.gave)
-          (subst (λ (m : Meant Plan). Obeys (m >>= sending_of clear out got) (outside p page steps) b status) one
+          (subst (λ (m : Spec Plan). OutcomeWithin (m >>= sending_of clear out got) (outside p page steps) b status) one
           (then_obeys (plan_meaning site book read.given) (view x) (sending_of clear out got) p q page steps b status
           read.gives.0 read.gives.1
           obeys));
     }
 
 -- a plan that was not read
-pub no_plan : {X : Type 0} (view : X → Plan) (site book clear out : Word) (p q : Place) (page : Page) (steps : ℕ)
-    (status : Status) →
-    Reads view (plan_meaning site book) p q (Err status) →
-    Follows (head_meaning site book clear out) (outside p page steps) (outside q page steps) status
+pub no_plan : {X : Type 0} (view : X →
+    Plan) (site book clear out : FileArgument) (p q : DepotState) (page : PageState) (steps : ℕ) (status : Status) →
+    FilesOutcome view (plan_meaning site book) p q (Err status) →
+    Implements (head_meaning site book clear out) (outside p page steps) (outside q page steps) status
 unfolding head_meaning
 no_plan view site book clear out p q page steps status read = record {
   given = read.given;
@@ -188,8 +189,9 @@ no_plan view site book clear out p q page steps status read = record {
 }
 
 -- memory was out before anything more was done
-pub wanting_obeys : (meant : Meant Work) (q : Place) (page : Page) (steps : ℕ) (status : Status) → status ≡ NoMemory →
-    Obeys meant (outside q page steps) (outside q page steps) status
+pub wanting_obeys : (meant : Spec Work) (q : DepotState) (page : PageState) (steps : ℕ) (status : Status) →
+    status ≡ NoMemory →
+    OutcomeWithin meant (outside q page steps) (outside q page steps) status
 wanting_obeys meant q page steps status is = record {
   comes = exhausted is (untouched (record { files = refl; made = refl }) refl) refl refl refl;
   ports = refl;

@@ -1,6 +1,6 @@
 -- `head` never means `Usage`.
 use Rattle.std.proofs.Common.{ℕ, List, Option}
-use Rattle.sd_status.specs.Meant.{Word, Given, all_of, value, ◌>>=◌}
+use Rattle.sd_status.specs.Spec.{FileArgument, Readings, all_of, value, ◌>>=◌}
 use Rattle.sd_files.specs.Files.{site_of_file, book_of_file}
 use Rattle.sd_files.proofs.Others.{IsOther, other_after, other_stream, other_site_file, other_book_file}
 use Rattle.sd_run_head.specs.Head.{plan_by, sending, sending_of, head_meaning}
@@ -18,7 +18,8 @@ other_plan site book site_got book_got =
     (λ commands. value (record { site = fields; commands = commands })) (other_book_file book fields.height book_got)
     (λ commands. tt))
 
-pub other_head : (site book clear out : Word) (given : Given) → IsOther (head_meaning site book clear out given).result
+pub other_head : (site book clear out : FileArgument) (given : Readings) →
+    IsOther (head_meaning site book clear out given).result
 unfolding head_meaning
 other_head site book clear out given =
     other_after (plan_by site.number book.number (given site) (given book)).calls

@@ -17,13 +17,14 @@ use Rattle.sd_site.specs.Fields.{SiteFields}
 use Rattle.sd_psi.specs.declared.fault.FormFault.{FormFault}
 use Rattle.sd_psi.specs.declared.fault.FormFault.TheVariants as Form
 use Rattle.sd_engine.specs.Stage.{Chain}
-use Rattle.sd_engine.specs.Driving.{Moment, Closes, Refuses, IsAllowedAt}
-use Rattle.sd_engine.specs.Taken.{StreamEnd, Whole, Breaks, RunsOn, taken_of, end_of, IsAt, DrivesOver}
+use Rattle.sd_engine.specs.Driving.{DriveState, ChainToEnd, ChainToRefusal, IsAllowedAt}
+use Rattle.sd_engine.specs.Taken.{StreamEnd, Whole, Breaks, RunsOn, taken_of, end_of, IsAt, DriveOutcomeOver}
 use Rattle.sd_engine.specs.declared.driver.DriveFault.{DriveFault}
 use Rattle.sd_engine.specs.declared.driver.DriveFault.TheVariants as drive
 use Rattle.sd_broadcast.specs.Plan.{Plan}
 use Rattle.sd_broadcast.specs.Kinds.{kind_of}
-use Rattle.sd_broadcast.specs.Refused.{fault_where, form_where, is_taken, pat_wrong, is_full_own, is_one_too_many}
+use Rattle.sd_broadcast.specs.Refused.{fault_where, form_where, is_reserved_pid, pat_wrong, is_full_own}
+use Rattle.sd_broadcast.specs.Refused.{is_one_too_many}
 use Rattle.sd_broadcast.specs.Refused.{is_too_long, refusal_of, refusal_from}
 use Rattle.sd_broadcast.specs.Sent.{sent, closing_of, packets_from, body, broadcast, bytes_added, bytes_from}
 use Rattle.sd_broadcast.proofs.Bodies.{body_bytes}
@@ -65,9 +66,9 @@ names_own site before packet =
     let many : Option ClearFault = fault_where (is_one_too_many before packet) (TooManyPids k) long in
     let full : Option ClearFault = fault_where own (PmtForm k Form.NoRoom) many in
     let form : Option ClearFault = form_where (pat_wrong packet) (PatForm k) full in
-    let taken : Option ClearFault = fault_where (is_taken site pid) (PidTaken k pid) form in
+    let taken : Option ClearFault = fault_where (is_reserved_pid site pid) (PidTaken k pid) form in
     names_where (not (scrambling_of packet == 0)) k (AlreadyScrambled k) taken refl
-    (names_where (is_taken site pid) k (PidTaken k pid) form refl
+    (names_where (is_reserved_pid site pid) k (PidTaken k pid) form refl
     (names_form (pat_wrong packet) k (PatForm k) full (λ wrong. refl)
     (names_where own k (PmtForm k Form.NoRoom) many refl
     (names_where (is_one_too_many before packet) k (TooManyPids k) long refl
@@ -422,14 +423,14 @@ pub wrote_sent : {S F : Type 0} (plan : Plan) (does : S → List ℕ → S → L
     Type 0)
     (refuses : S → Option (List ℕ) → F → S → List ℕ → ℕ → Type 0) (told : F → Option ClearFault)
     (After : List (List ℕ) → S → Type 0)
-    (head : IsHeadEnd plan does ends refuses told After) (bytes : List ℕ) (a b : Moment S)
+    (head : IsHeadEnd plan does ends refuses told After) (bytes : List ℕ) (a b : DriveState S)
     (result : Result ℕ (DriveFault F)) →
-    After [] a.stage → DrivesOver does ends refuses bytes a b result →
+    After [] a.stage → DriveOutcomeOver does ends refuses bytes a b result →
     Wrote (sent_of plan bytes) (sent_status plan bytes) a.sink.held b.sink.held (sent_told told result)
 wrote_sent plan does ends refuses told After head bytes a b (Ok count) stands (whole, counted, grew) =
     wrote_all grew.bytes grew.says grew.taken
   where
-    wrote_all : (xs : List ℕ) → Closes does ends a.stage (taken_of bytes) b.stage xs grew.steps →
+    wrote_all : (xs : List ℕ) → ChainToEnd does ends a.stage (taken_of bytes) b.stage xs grew.steps →
         Appends a.sink.held b.sink.held xs →
         Wrote (sent_of plan bytes) (sent_status plan bytes) a.sink.held b.sink.held Done
     wrote_all xs (mid, first, last, m, k, chain, end, joined, number) taken =
@@ -482,7 +483,7 @@ wrote_sent plan does ends refuses told After head bytes a b (Err drive.WriteFaul
 wrote_sent plan does ends refuses told After head bytes a b (Err (drive.Refused fault)) stands h =
     refused_so h.passed.bytes h.passed.says h.passed.taken
   where
-    refused_so : (xs : List ℕ) → Refuses does refuses a.stage (take h.count (taken_of bytes))
+    refused_so : (xs : List ℕ) → ChainToRefusal does refuses a.stage (take h.count (taken_of bytes))
         (slice_get (taken_of bytes) h.count) fault b.stage
         xs h.passed.steps → Appends a.sink.held b.sink.held xs →
         Wrote (sent_of plan bytes) (sent_status plan bytes) a.sink.held b.sink.held (stop_status (told fault))

@@ -17,7 +17,7 @@ use Rattle.sd_status.specs.declared.status.Status.TheVariants.{Done, BadClear, D
 use Rattle.sd_status.specs.declared.status.ClearCause.{ClearCause}
 use Rattle.sd_status.specs.declared.status.ClearCause.TheVariants.{Broken, AlreadyScrambled, PidTaken, PatForm}
 use Rattle.sd_status.specs.declared.status.ClearCause.TheVariants.{PmtForm, TooManyPids, TooLong}
-use Rattle.sd_status.specs.Meant.{Meant, Word, Given, all_of, value, ◌>>=◌}
+use Rattle.sd_status.specs.Spec.{Spec, FileArgument, Readings, all_of, value, ◌>>=◌}
 use Rattle.sd_status.specs.Work.{Uncounted, Work}
 use Rattle.sd_files.specs.Files.{site_of_file, book_of_file}
 use Rattle.sd_files.specs.Turned.{turning, Wrote}
@@ -72,24 +72,24 @@ unfoldable pub sent_status : Plan → List ℕ → Status
 sent_status plan bytes = status_where (end_of bytes) (refusal_from plan.site [] (taken_of bytes))
 
 -- makes OUT of what is sent for a clear stream of these bytes
-abbrev pub sending : Plan → Word → List ℕ → Work
+abbrev pub sending : Plan → FileArgument → List ℕ → Work
 sending plan out bytes = turning Uncounted out (sent_of plan bytes) (sent_status plan bytes)
 
 -- the site and the book of what their files gave
-unfoldable pub plan_by : ℕ → ℕ → Option (List ℕ) → Option (List ℕ) → Meant Plan
+unfoldable pub plan_by : ℕ → ℕ → Option (List ℕ) → Option (List ℕ) → Spec Plan
 plan_by site book site_got book_got = do
   fields ← site_of_file site site_got
   commands ← book_of_file book fields.height book_got
   value (record { site = fields; commands = commands })
 
-abbrev pub plan_meaning : Word → Word → Given → Meant Plan
+abbrev pub plan_meaning : FileArgument → FileArgument → Readings → Spec Plan
 plan_meaning site book given = plan_by site.number book.number (given site) (given book)
 
 -- what is sent of what the file of this word gave
-abbrev pub sending_of : Word → Word → Option (List ℕ) → Plan → Meant Work
+abbrev pub sending_of : FileArgument → FileArgument → Option (List ℕ) → Plan → Spec Work
 sending_of clear out got plan = all_of clear.number got >>= λ bytes. value (sending plan out bytes)
 
-unfoldable pub head_meaning : Word → Word → Word → Word → Given → Meant Work
+unfoldable pub head_meaning : FileArgument → FileArgument → FileArgument → FileArgument → Readings → Spec Work
 head_meaning site book clear out given = plan_meaning site book given >>= sending_of clear out (given clear)
 
 -- the status of a clear stream that was driven

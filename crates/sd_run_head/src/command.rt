@@ -1,7 +1,7 @@
 ghost use Rattle.std.specs.Prelude.{◌≡◌, ◌≢◌, []};
 ghost use Rattle.sd_head.specs.Staged.{plan_in, IsAfter};
-ghost use Rattle.sd_status.specs.Outside.{Page, outside, place};
-ghost use Rattle.sd_status.specs.Comes.{Follows, status_of};
+ghost use Rattle.sd_status.specs.Outside.{PageState, outside, depot_state};
+ghost use Rattle.sd_status.specs.Outcome.{Implements, status_of};
 ghost use Rattle.sd_run_head.specs.Head.{head_meaning, refusal_in, refused_status};
 ghost use Rattle.sd_run_head.specs.Head.{sent_told, SendsLeft};
 ghost use Rattle.sd_files.specs.Turned.{HasPortCause};
@@ -28,10 +28,10 @@ pub fn head<D: Depot, L: Ledger>(
     steps: &mut Steps<L>,
 ) -> Result<(), Status>
     requires { (site.number ≢ book.number) × (site.number ≢ clear.number) × (book.number ≢ clear.number) }
-    ensures { (page : Page) →
-        Follows (head_meaning (shown_word site.entry) (shown_word book.entry) (shown_word clear.entry)
+    ensures { (page : PageState) →
+        Implements (head_meaning (shown_word site.entry) (shown_word book.entry) (shown_word clear.entry)
         (shown_word out.entry))
-        (outside (place D.Depot depot.old) page steps.old) (outside (place D.Depot depot.new) page steps.new)
+        (outside (depot_state D.Depot depot.old) page steps.old) (outside (depot_state D.Depot depot.new) page steps.new)
         (status_of result) }
 {
     let (site, book) = read_both(alloc, depot, site, book)?;

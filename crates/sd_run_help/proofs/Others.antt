@@ -1,12 +1,12 @@
 -- Neither `help` nor `version` means `Usage`.
 use Rattle.std.proofs.Common.{Option}
-use Rattle.sd_status.specs.Meant.{Given}
+use Rattle.sd_status.specs.Spec.{Readings}
 use Rattle.sd_files.proofs.Others.{IsOther}
 use Rattle.sd_commands.specs.declared.command.Command.{Command}
 use Rattle.sd_run_help.specs.Help.{help_meaning, version_meaning}
 
-pub other_help : (topic : Option Command) (given : Given) → IsOther (help_meaning topic given).result
+pub other_help : (topic : Option Command) (given : Readings) → IsOther (help_meaning topic given).result
 other_help topic given = tt
 
-pub other_version : (given : Given) → IsOther (version_meaning given).result
+pub other_version : (given : Readings) → IsOther (version_meaning given).result
 other_version given = tt

@@ -4,9 +4,9 @@ use Rattle.std.specs.List.{flat_map}
 use Rattle.std.specs.Fmt.{padded, format_spec}
 use Rattle.sd_commands.specs.declared.command.Command.{Command}
 use Rattle.sd_commands.specs.declared.operand.Operand.{Operand}
-use Rattle.sd_commands.specs.Operands.{meaning_of, name_of as word_of}
+use Rattle.sd_commands.specs.Operands.{meaning_of, operand_name as word_of}
 use Rattle.sd_commands.specs.Exits.{exit_line}
-use Rattle.sd_commands.specs.Commands.{commands, example_of, exits_of, name_of, operands_of, work_of}
+use Rattle.sd_commands.specs.Commands.{commands, example_of, exits_of, command_name, operands_of, work_of}
 
 -- a text at the left of a column of that width in characters, filled up with spaces
 abbrev pub at_left : ℕ → List ℕ → List ℕ
@@ -18,7 +18,7 @@ spaced operand = codes " " ++ word_of operand
 
 -- a command's name and its arguments
 abbrev pub usage_of : Command → List ℕ
-usage_of topic = name_of topic ++ flat_map spaced (operands_of topic)
+usage_of topic = command_name topic ++ flat_map spaced (operands_of topic)
 
 -- the line of a command in the list of all
 unfoldable pub topic_line : Command → List ℕ

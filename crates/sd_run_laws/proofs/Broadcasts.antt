@@ -20,7 +20,7 @@ use Rattle.sd_losses.proofs.Theorem.{whole_refused, whole_opened, whole_ended}
 use Rattle.sd_status.specs.declared.status.Status.{Status}
 use Rattle.sd_status.specs.declared.status.Status.TheVariants.{Limit}
 use Rattle.sd_status.specs.declared.status.LimitKind.TheVariants.{CardBytes}
-use Rattle.sd_status.specs.Meant.{Meant, Word, Given, after, all_of, judged, value, within, ◌>>=◌}
+use Rattle.sd_status.specs.Spec.{Spec, FileArgument, Readings, and_then, all_of, judged, value, within, ◌>>=◌}
 use Rattle.sd_status.specs.Work.{Work}
 use Rattle.sd_run_receive.specs.Receive.{most_card_bytes}
 use Rattle.sd_words.specs.Words.{Order, order_of, ReceiveOf}
@@ -34,9 +34,9 @@ use Rattle.sd_run_receive.proofs.Cards.{card_read}
 use Rattle.sd_run_receive.proofs.Received.{none_refused, bytes_are, unrefused_steps, scaled}
 use Rattle.sd_run_laws.proofs.Keyed.{keys_taken}
 
-then_is : {A B : Type 0} (first : Meant A) (x : A) (next : A → Meant B) → first.result ≡ Ok x →
+then_is : {A B : Type 0} (first : Spec A) (x : A) (next : A → Spec B) → first.result ≡ Ok x →
     (first >>= next).result ≡ (next x).result
-then_is {A} first x next e = ap (λ (r : Result A Status). (after first.calls r next).result) e
+then_is {A} first x next e = ap (λ (r : Result A Status). (and_then first.calls r next).result) e
 
 -- a card's file is within the limit
 pub card_length : (card : CardFields) → IsCard card → length (card_bytes card) ≤ most_card_bytes
@@ -58,7 +58,8 @@ card_good word card is =
     (le-ltb most_card_bytes (length (card_bytes card)) (card_length card is)))
     ∙ card_read (card_bytes card) card is refl
 
-pub received : (given : Given) (card stream out : Word) (fields : CardFields) (bytes : List ℕ) → IsCard fields →
+pub received : (given : Readings) (card stream out : FileArgument) (fields : CardFields) (bytes : List ℕ) →
+    IsCard fields →
     given card ≡ Some (card_bytes fields) → given stream ≡ Some bytes →
     (receive_meaning card stream out given).result ≡ Ok (receiving fields out bytes)
 unfolding receive_meaning
@@ -70,13 +71,13 @@ received given card stream out fields bytes is there stream_there =
     ∙ ap (λ (got : Option (List ℕ)). (all_of stream.number got >>= λ b. value (receiving fields out b)).result)
     stream_there
 
-ordered : (words : List (List ℕ)) (given : Given) (order : Order) → order_of words ≡ Ok order →
+ordered : (words : List (List ℕ)) (given : Readings) (order : Order) → order_of words ≡ Ok order →
     (meaning words given).result ≡ (order_meaning order given).result
 ordered words given order e =
     ap (λ (r : Result Order Status). (judged r >>= λ o. order_meaning o given).result) e
 
 -- `receive` over a card and any stream
-pub receive_good : (words : List (List ℕ)) (given : Given) (good : IsGoodReceive words given) →
+pub receive_good : (words : List (List ℕ)) (given : Readings) (good : IsGoodReceive words given) →
     (meaning words given).result ≡ Ok (receiving good.fields good.out good.bytes)
 receive_good words given good =
     ordered words given (ReceiveOf good.card good.stream good.out) good.order
@@ -126,7 +127,7 @@ module _ (plan : Plan) (u : ℕ) (clear : List (List ℕ)) (is : IsPlan plan) (a
       omega (arith, most, keys)
 
 -- and over a card of a site and a broadcast of it
-pub broadcast_opened : (plan : Plan) (u : ℕ) (clear : List (List ℕ)) (words : List (List ℕ)) (given : Given) →
+pub broadcast_opened : (plan : Plan) (u : ℕ) (clear : List (List ℕ)) (words : List (List ℕ)) (given : Readings) →
     IsPlan plan →
     IsClear plan.site clear → AreWholePackets clear → u < 2 ^ plan.site.height →
     (sent : IsBroadcastTo plan u clear words given) →

@@ -25,11 +25,12 @@ use Rattle.sd_whole.proofs.Cut.{taken_synced, taken_whole}
 use Rattle.sd_status.specs.declared.status.Status.{Status}
 use Rattle.sd_status.specs.declared.status.Status.TheVariants.{Limit}
 use Rattle.sd_status.specs.declared.status.LimitKind.TheVariants.{BookBytes, FieldHeight, FieldPackets}
-use Rattle.sd_status.specs.Meant.{Word, Given, judged, value, within, ◌>>=◌}
+use Rattle.sd_status.specs.Spec.{FileArgument, Readings, judged, value, within, ◌>>=◌}
 use Rattle.sd_files.specs.Files.{site_in, most_book_bytes}
 use Rattle.sd_files.specs.Printed.{printing}
 use Rattle.sd_run_field.specs.Field.{Inputs, clear_of_file, field_meaning, field_text, inputs_by, inputs_meaning}
-use Rattle.sd_run_field.specs.Field.{low_site_of_file, most_clear_bytes, most_height, script_of_file, told_clear, told_low}
+use Rattle.sd_run_field.specs.Field.{low_site_of_file, most_clear_bytes, most_height, script_of_file, told_clear}
+use Rattle.sd_run_field.specs.Field.{told_low}
 use Rattle.sd_run_field.specs.Field.{told_script, unbroken}
 use Rattle.sd_fielded.specs.Fielded.{confirmed_lines}
 use Rattle.sd_fielded.specs.Fielded as fielded
@@ -98,7 +99,7 @@ all_taken bytes short =
     let few = packets_few bytes in take_all most_packets (packets_of bytes) (omega (arith, few, short))
 
 -- words and files of a good field are within its limits
-limits : {words : List (List ℕ)} {given : Given} (good : IsGoodField words given) →
+limits : {words : List (List ℕ)} {given : Readings} (good : IsGoodField words given) →
     fielded.IsGoodField good.fields (packets_of good.bytes) good.events
 limits good =
     let clear = packets_of good.bytes in
@@ -118,7 +119,7 @@ limits good =
     }
 
 -- a site whose tree is low enough is taken
-low_good : (given : Given) (word : Word) (fields : SiteFields) → IsGoodSite (given word) fields →
+low_good : (given : Readings) (word : FileArgument) (fields : SiteFields) → IsGoodSite (given word) fields →
     fields.height ≤ 6 → (low_site_of_file word.number (given word)).result ≡ Ok fields
 unfolding low_site_of_file
 low_good given word fields good low =
@@ -126,7 +127,8 @@ low_good given word fields good low =
     ∙ ap (λ b. cond b (Err (Limit FieldHeight)) (Ok fields)) (le-ltb most_height fields.height low)
 
 -- and so is a stream that is whole and short enough
-clear_good : (given : Given) (word : Word) (bytes : List ℕ) → given word ≡ Some bytes → length bytes ≤ 3080192 →
+clear_good : (given : Readings) (word : FileArgument) (bytes : List ℕ) → given word ≡ Some bytes →
+    length bytes ≤ 3080192 →
     break_of bytes ≡ None → (clear_of_file word.number (given word)).result ≡ Ok (packets_of bytes)
 unfolding clear_of_file
 clear_good given word bytes there short whole =
@@ -136,7 +138,8 @@ clear_good given word bytes there short whole =
     ∙ ap (λ (found : Option StreamBreak). unbroken found (packets_of bytes)) whole
 
 -- and a script for the tree
-script_good : (given : Given) (word : Word) (d : ℕ) (text : List ℕ) (events : List Event) → given word ≡ Some text →
+script_good : (given : Readings) (word : FileArgument) (d : ℕ) (text : List ℕ) (events : List Event) →
+    given word ≡ Some text →
     length text ≤ 33554432 → script_of d text ≡ Ok events →
     (script_of_file word.number d (given word)).result ≡ Ok events
 unfolding script_of_file
@@ -147,7 +150,7 @@ script_good given word d text events there short says =
     (file_read word.number most_book_bytes BookBytes text short)
     ∙ ap (told_script word.number) says
 
-inputs_good : (given : Given) (site clear : Word) (fields : SiteFields) (packets : List (List ℕ)) →
+inputs_good : (given : Readings) (site clear : FileArgument) (fields : SiteFields) (packets : List (List ℕ)) →
     (low_site_of_file site.number (given site)).result ≡ Ok fields →
     (clear_of_file clear.number (given clear)).result ≡ Ok packets →
     (inputs_meaning site clear given).result ≡ Ok (record { site = fields; clear = packets })
@@ -159,7 +162,7 @@ inputs_good given site clear fields packets is_site is_clear =
     ∙ then_is (clear_of_file clear.number (given clear)) packets
     (λ all. value {A = Inputs} (record { site = fields; clear = all })) is_clear
 
-pub field_good : (words : List (List ℕ)) (given : Given) (good : IsGoodField words given) →
+pub field_good : (words : List (List ℕ)) (given : Readings) (good : IsGoodField words given) →
     (meaning words given).result
     ≡ Ok (printing (Ok (confirmed_lines good.fields (packets_of good.bytes) good.events (2 ^ good.fields.height))))
 unfolding field_meaning

@@ -14,7 +14,7 @@ use Rattle.sd_status.specs.declared.status.Status.{Status}
 use Rattle.sd_status.specs.declared.status.Status.TheVariants.{Done, Limit, BadWord}
 use Rattle.sd_status.specs.declared.status.LimitKind.{LimitKind}
 use Rattle.sd_status.specs.declared.status.LimitKind.TheVariants.{SiteBytes, BookBytes}
-use Rattle.sd_status.specs.Meant.{Meant, Word, Given, after, all_of, judged, value, within, ◌>>=◌}
+use Rattle.sd_status.specs.Spec.{Spec, FileArgument, Readings, and_then, all_of, judged, value, within, ◌>>=◌}
 use Rattle.sd_status.specs.Work.{Uncounted, NoSteps}
 use Rattle.sd_words.specs.Words.{Order, order_of, CoverOf, CardOf, SampleOf, TablesOf, HeadOf}
 use Rattle.sd_files.specs.Files.{most_site_bytes, most_book_bytes, told_site, told_book, site_of_file, book_of_file}
@@ -41,9 +41,9 @@ use Rattle.sd_run_laws.specs.Good.{plan_told, IsGoodHead}
 use Rattle.sd_run_head.proofs.Sending.{sent_unrefused}
 use Rattle.sd_run.specs.Meaning.{order_meaning, meaning}
 
-pub then_is : {A B : Type 0} (first : Meant A) (x : A) (next : A → Meant B) → first.result ≡ Ok x →
+pub then_is : {A B : Type 0} (first : Spec A) (x : A) (next : A → Spec B) → first.result ≡ Ok x →
     (first >>= next).result ≡ (next x).result
-then_is {A} first x next e = ap (λ (r : Result A Status). (after first.calls r next).result) e
+then_is {A} first x next e = ap (λ (r : Result A Status). (and_then first.calls r next).result) e
 
 pub file_read : (word most : ℕ) (kind : LimitKind) (bytes : List ℕ) → length bytes ≤ most →
     (within word most kind (Some bytes)).result ≡ Ok bytes
@@ -61,7 +61,7 @@ book_fits d bytes commands low spells within = omega (arith, book_short d bytes 
 pub site_low : (got : Option (List ℕ)) (fields : SiteFields) → IsGoodSite got fields → fields.height ≤ 20
 site_low got fields good = good.is_site.ranges.height.1
 
-pub site_good : (given : Given) (word : Word) (fields : SiteFields) → IsGoodSite (given word) fields →
+pub site_good : (given : Readings) (word : FileArgument) (fields : SiteFields) → IsGoodSite (given word) fields →
     (site_in given word).result ≡ Ok fields
 unfolding site_of_file
 site_good given word fields good =
@@ -71,7 +71,7 @@ site_good given word fields good =
     (file_read word.number most_site_bytes SiteBytes good.bytes (site_fits good.bytes fields good.is_site))
     ∙ ap told_site (answered (lines_of good.bytes) (Ok fields) (good.is_site.text, good.is_site.ranges))
 
-pub book_good : (given : Given) (d : ℕ) (word : Word) (commands : List Command) → d ≤ 20 →
+pub book_good : (given : Readings) (d : ℕ) (word : FileArgument) (commands : List Command) → d ≤ 20 →
     IsGoodBook (given word) d commands → (book_in given d word).result ≡ Ok commands
 unfolding book_of_file
 book_good given d word commands low good =
@@ -83,11 +83,12 @@ book_good given d word commands low good =
     ∙ ap (told_book word.number) (book_again d good.bytes commands good.is_book good.within)
 
 -- the work of an order is the words'
-pub ordered : (words : List (List ℕ)) (given : Given) (order : Order) → order_of words ≡ Ok order →
+pub ordered : (words : List (List ℕ)) (given : Readings) (order : Order) → order_of words ≡ Ok order →
     (meaning words given).result ≡ (order_meaning order given).result
 ordered words given order read = ap (λ (r : Result Order Status). (judged r >>= λ o. order_meaning o given).result) read
 
-pub cover_good : (words : List (List ℕ)) (given : Given) (good : IsGoodCover words given) → (meaning words given).result
+pub cover_good : (words : List (List ℕ)) (given : Readings) (good : IsGoodCover words given) →
+    (meaning words given).result
     ≡ Ok (covering good.fields.height good.commands)
 unfolding cover_meaning
 cover_good words given good =
@@ -99,7 +100,7 @@ cover_good words given good =
     ∙ then_is (book_in given d good.book) good.commands (λ commands. value (covering d commands))
     (book_good given d good.book good.commands (site_low (given good.site) good.fields good.good_site) good.good_book)
 
-pub card_good : (words : List (List ℕ)) (given : Given) (good : IsGoodCard words given) →
+pub card_good : (words : List (List ℕ)) (given : Readings) (good : IsGoodCard words given) →
     (meaning words given).result
     ≡ Ok
     (making Uncounted good.out
@@ -115,11 +116,11 @@ card_good words given good =
     (ap (λ b. cond b (Ok bytes) (Err (BadWord good.leaf.word)))
     (lt-ltb good.leaf.value (2 ^ fields.height) good.of_tree))
 
-pub sample_good : (words : List (List ℕ)) (given : Given) (good : IsGoodSample words) →
+pub sample_good : (words : List (List ℕ)) (given : Readings) (good : IsGoodSample words) →
     (meaning words given).result ≡ Ok (making NoSteps good.out (sample_of good.number good.packets))
 sample_good words given good = ordered words given (SampleOf good.number good.packets good.out) good.order
 
-pub tables_good : (words : List (List ℕ)) (given : Given) (good : IsGoodTables words given) →
+pub tables_good : (words : List (List ℕ)) (given : Readings) (good : IsGoodTables words given) →
     ((meaning words given).result ≡ Ok (inspecting good.bytes)) × ((inspecting good.bytes).ends ≡ Done)
 unfolding tables_meaning
 tables_good words given good = (
@@ -129,7 +130,7 @@ tables_good words given good = (
   ap stream_status good.whole,
 )
 
-pub plan_good : (given : Given) (site book : Word) (fields : SiteFields) (commands : List Command) →
+pub plan_good : (given : Readings) (site book : FileArgument) (fields : SiteFields) (commands : List Command) →
     IsGoodSite (given site) fields →
     IsGoodBook (given book) fields.height commands →
     (plan_meaning site book given).result ≡ Ok (record { site = fields; commands = commands })
@@ -142,7 +143,7 @@ plan_good given site book fields commands good_site good_book =
     (λ commands. value (record { site = fields; commands = commands }))
     (book_good given fields.height book commands (site_low (given site) fields good_site) good_book)
 
-pub head_good : (words : List (List ℕ)) (given : Given) (good : IsGoodHead words given) →
+pub head_good : (words : List (List ℕ)) (given : Readings) (good : IsGoodHead words given) →
     ((meaning words given).result ≡ Ok (sending (plan_told good) good.out good.bytes))
     × (concat (broadcast (plan_told good) (taken_of good.bytes)) ≡ sent_of (plan_told good) good.bytes)
     × (Done ≡ sent_status (plan_told good) good.bytes)

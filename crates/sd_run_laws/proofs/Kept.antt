@@ -3,7 +3,7 @@ use Rattle.std.proofs.Common.{◌≡◌, ℕ, List, ◌++◌, Ok, ◌∙◌}
 use Rattle.sd_book.specs.Text.{text_of}
 use Rattle.sd_book.specs.declared.command.Command.{Command}
 use Rattle.sd_site.specs.Fields.{SiteFields}
-use Rattle.sd_status.specs.Meant.{Word, Given, value, ◌>>=◌}
+use Rattle.sd_status.specs.Spec.{FileArgument, Readings, value, ◌>>=◌}
 use Rattle.sd_status.specs.Work.{NoSteps}
 use Rattle.sd_files.specs.Files.{site_in, book_in}
 use Rattle.sd_files.specs.Both.{SiteBook, both_meaning, both_by}
@@ -17,7 +17,7 @@ use Rattle.sd_run.specs.Meaning.{meaning}
 use Rattle.sd_run_laws.proofs.Goodness.{then_is, site_good, site_low, book_good, ordered}
 
 -- accounts make their book, and are reported
-pub accounts_kept : (words : List (List ℕ)) (given : Given) (good : IsGoodAccounts words given) →
+pub accounts_kept : (words : List (List ℕ)) (given : Readings) (good : IsGoodAccounts words given) →
     (meaning words given).result ≡ Ok (making_then good.out (text_of good.commands)
     (report_line (accounts_value good.fields.height good.bytes good.commands)))
 accounts_kept words given good =
@@ -25,7 +25,7 @@ accounts_kept words given good =
     ∙ accounts_good good.site good.accounts good.out given good.fields good.bytes good.commands
     (site_good given good.site good.fields good.good_site) good.there good.short good.is_book
 
-pub both_good : (given : Given) (site book : Word) (fields : SiteFields) (commands : List Command) →
+pub both_good : (given : Readings) (site book : FileArgument) (fields : SiteFields) (commands : List Command) →
     IsGoodSite (given site) fields → IsGoodBook (given book) fields.height commands →
     (both_meaning site book given).result ≡ Ok (record { site = fields; commands = commands })
 unfolding both_by
@@ -39,7 +39,7 @@ both_good given site book fields commands good_site good_book =
     (book_good given fields.height book commands (site_low (given site) fields good_site) good_book)
 
 -- two books make a longer one
-pub books_joined : (words : List (List ℕ)) (given : Given) (good : IsGoodBooks words given) →
+pub books_joined : (words : List (List ℕ)) (given : Readings) (good : IsGoodBooks words given) →
     (meaning words given).result ≡ Ok (making NoSteps good.out (text_of (good.before ++ good.added)))
 books_joined words given good =
     ordered words given (BookOf good.site good.book good.commands good.out) good.order

@@ -3,7 +3,7 @@ use Rattle.std.proofs.Common.{◌≡◌, ℕ, ◌≤◌, ◌^◌, ◌&&◌, nat_
 use Rattle.std.proofs.lemmas.Bool.{le-leb}
 use Rattle.sd_lsd.specs.Fields.{layer_card_of, layer_bytes}
 use Rattle.sd_status.specs.declared.status.Status.TheVariants.{BadWord}
-use Rattle.sd_status.specs.Meant.{Given, judged, value, ◌>>=◌}
+use Rattle.sd_status.specs.Spec.{Readings, judged, value, ◌>>=◌}
 use Rattle.sd_status.specs.Work.{Uncounted}
 use Rattle.sd_files.specs.Files.{site_in, book_in}
 use Rattle.sd_files.specs.Made.{making}
@@ -19,7 +19,7 @@ width_good : (d n : ℕ) → 1 ≤ n → n ≤ d → (nat_le 1 n && nat_le n d) 
 width_good d n some within = ap (λ b. b && nat_le n d) (le-leb 1 n some) ∙ le-leb n d within
 
 -- the useful sets of each period are printed
-pub layered_good : (words : List (List ℕ)) (given : Given) (good : IsGoodLayered words given) →
+pub layered_good : (words : List (List ℕ)) (given : Readings) (good : IsGoodLayered words given) →
     (meaning words given).result ≡ Ok (layering good.fields.height good.width.value good.commands)
 layered_good words given good =
     let d = good.fields.height in
@@ -36,7 +36,7 @@ layered_good words given good =
     (book_good given d good.book good.commands (site_low (given good.site) good.fields good.good_site) good.good_book)
 
 -- the layer card of the leaf is made
-pub lcard_good : (words : List (List ℕ)) (given : Given) (good : IsGoodLcard words given) →
+pub lcard_good : (words : List (List ℕ)) (given : Readings) (good : IsGoodLcard words given) →
     (meaning words given).result ≡ Ok (making Uncounted good.out (layer_bytes
     (layer_card_of good.fields.master good.fields.ca good.fields.height good.width.value good.leaf.value)))
 lcard_good words given good =

@@ -5,18 +5,18 @@ use Rattle.sd_cause.specs.Count.{with_added}
 use Rattle.sd_ports.specs.Files.{Files, with_bytes}
 use Rattle.sd_ports.specs.Bytes.{IsPrefix}
 use Rattle.sd_status.specs.declared.status.Status.{Status}
-use Rattle.sd_status.specs.Outside.{Place, Outside}
-use Rattle.sd_status.specs.Meant.{Given, told_by}
+use Rattle.sd_status.specs.Outside.{DepotState, Outside}
+use Rattle.sd_status.specs.Spec.{Readings, contents_of}
 use Rattle.sd_status.specs.Work.{Out, Work, files_with, made_with}
-use Rattle.sd_status.specs.Comes.{IsUnmade, IsMade, IsMadeShort, Stands, untouched, writing, printing}
-use Rattle.sd_status.specs.Comes.{Comes, refused, ended, unclosed, exhausted, failed, nowhere, cut_off}
-use Rattle.sd_status.specs.Answers.{Answers, with_page}
+use Rattle.sd_status.specs.Outcome.{IsUnmade, IsMade, IsMadeShort, Progress, untouched, writing, printing}
+use Rattle.sd_status.specs.Outcome.{Outcome, refused, ended, unclosed, exhausted, failed, nowhere, cut_off}
+use Rattle.sd_status.specs.Results.{RunResult, with_page}
 use Rattle.sd_run_laws.specs.Left.{IsAsBefore, HasOut}
 use Rattle.sd_run.specs.Meaning.{meaning}
 use Rattle.sd_run_laws.proofs.Runs.{told_given}
 
 -- OUT of the work that is meant was made, with a prefix of what it must hold
-pub record MadeOut (meant : Result Work Status) (a b : Place) : Type 0 where
+pub record MadeOut (meant : Result Work Status) (a b : DepotState) : Type 0 where
   pub work : Work
   pub is_meant : meant ≡ Ok work
   pub out : Out
@@ -26,11 +26,11 @@ pub record MadeOut (meant : Result Work Status) (a b : Place) : Type 0 where
   pub left : b.files ≡ with_bytes a.files out.name prefix
   pub made : b.made ≡ with_added a.made 1
 
-abbrev pub IsLeft : Result Work Status → Place → Place → Type 0
+abbrev pub IsLeft : Result Work Status → DepotState → DepotState → Type 0
 IsLeft meant a b = IsUnmade a b ⊎ MadeOut meant a b
 
 -- OUT has a prefix
-short_made : (meant : Result Work Status) (work : Work) (out : Out) (a b : Place) → meant ≡ Ok work →
+short_made : (meant : Result Work Status) (work : Work) (out : Out) (a b : DepotState) → meant ≡ Ok work →
     work.out ≡ Some out → IsMadeShort out a b → IsLeft meant a b
 short_made meant work out a b is makes short = inr (record {
   work = work;
@@ -44,7 +44,7 @@ short_made meant work out a b is makes short = inr (record {
 })
 
 -- OUT is whole, if there is one
-all_made : (meant : Result Work Status) (work : Work) (made : Option Out) (a b : Place) → meant ≡ Ok work →
+all_made : (meant : Result Work Status) (work : Work) (made : Option Out) (a b : DepotState) → meant ≡ Ok work →
     work.out ≡ made → b.files ≡ files_with made a.files → b.made ≡ made_with made a.made → IsLeft meant a b
 all_made meant work None a b is makes left count = inl (record { files = left; made = count })
 all_made meant work (Some out) a b is makes left count = inr (record {
@@ -58,17 +58,17 @@ all_made meant work (Some out) a b is makes left count = inr (record {
   made = count;
 })
 
-whole_made : (meant : Result Work Status) (work : Work) (a b : Place) → meant ≡ Ok work → IsMade work.out a b →
+whole_made : (meant : Result Work Status) (work : Work) (a b : DepotState) → meant ≡ Ok work → IsMade work.out a b →
     IsLeft meant a b
 whole_made meant work a b is made = all_made meant work work.out a b is refl made.files made.made
 
 -- however far it came
-stood : (meant : Result Work Status) (a b : Outside) → Stands meant a b → IsLeft meant a.place b.place
+stood : (meant : Result Work Status) (a b : Outside) → Progress meant a b → IsLeft meant a.place b.place
 stood meant a b (untouched un k) = inl un
 stood meant a b (writing work is out makes short k) = short_made meant work out a.place b.place is makes short
 stood meant a b (printing work is made k) = whole_made meant work a.place b.place is made
 
-came : (meant : Result Work Status) (a b : Outside) (status : Status) → Comes meant a b status →
+came : (meant : Result Work Status) (a b : Outside) (status : Status) → Outcome meant a b status →
     IsLeft meant a.place b.place
 came meant a b status (refused e r un k c m) = inl un
 came meant a b status (ended work is s i made k c m) = whole_made meant work a.place b.place is made
@@ -81,7 +81,7 @@ came meant a b status (cut_off work is s made k r c m) = whole_made meant work a
 
 -- by what the files gave
 pub answers_leave : (words : List (List ℕ)) (a b : Outside) (answer : Status) →
-    (answers : Answers (meaning words) a b answer) →
+    (answers : RunResult (meaning words) a b answer) →
     IsLeft (meaning words answers.obeyed.given).result a.place b.place
 answers_leave words a b answer answers =
     came (meaning words answers.obeyed.given).result a (with_page b answers.page) answers.status
@@ -89,13 +89,13 @@ answers_leave words a b answer answers =
 
 -- a run leaves all files as they were, or OUT with a prefix beside them
 pub run_leaves : (words : List (List ℕ)) (files : Files) (a b : Outside) (answer : Status) →
-    a.place.files ≡ Some files → Answers (meaning words) a b answer →
-    IsAsBefore files a.place b.place ⊎ HasOut files (meaning words (told_by files)).result a.place b.place
+    a.place.files ≡ Some files → RunResult (meaning words) a b answer →
+    IsAsBefore files a.place b.place ⊎ HasOut files (meaning words (contents_of files)).result a.place b.place
 run_leaves words files a b answer told answers =
-    let given : answers.obeyed.given ≡ told_by files =
+    let given : answers.obeyed.given ≡ contents_of files =
     told_given a.place.files files answers.obeyed.given told answers.obeyed.is_given in
-    let left : IsLeft (meaning words (told_by files)).result a.place b.place =
-    subst (λ (g : Given). IsLeft (meaning words g).result a.place b.place) given
+    let left : IsLeft (meaning words (contents_of files)).result a.place b.place =
+    subst (λ (g : Readings). IsLeft (meaning words g).result a.place b.place) given
     (answers_leave words a b answer answers) in
     elim left [
       | inl un ↦ inl (record { left = un.files ∙ told; made = un.made })

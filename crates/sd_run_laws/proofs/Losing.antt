@@ -9,13 +9,13 @@ use Rattle.sd_broadcast.specs.Sent.{broadcast}
 use Rattle.sd_losses.specs.Chosen.{chosen}
 use Rattle.sd_losses.specs.Confirmed.{confirmed}
 use Rattle.sd_status.specs.declared.status.Status.{Status}
-use Rattle.sd_status.specs.Meant.{told_by}
+use Rattle.sd_status.specs.Spec.{contents_of}
 use Rattle.sd_status.specs.Outside.{Outside}
-use Rattle.sd_status.specs.Answers.{Answers}
+use Rattle.sd_status.specs.Results.{RunResult}
 use Rattle.sd_files.specs.Shown.{word_at}
 use Rattle.sd_run_receive.specs.Receive.{receiving, received_steps, receive_meaning}
-use Rattle.sd_run_laws.specs.Headline.{Names, file_in, AreGiven, WentWell, card_for}
-use Rattle.sd_run_laws.specs.Lost.{kept_of, LossResult}
+use Rattle.sd_run_laws.specs.Headline.{Names, file_in, AreGiven, IsUndisturbed, card_for}
+use Rattle.sd_run_laws.specs.Lost.{kept_items, LossResult}
 use Rattle.sd_run_laws.proofs.Broadcasts.{received}
 use Rattle.sd_run_laws.proofs.Lost.{rest_bytes, rest_status, rest_steps, rest_revoked, rest_part}
 use Rattle.sd_run_laws.proofs.Runs.{runs_work}
@@ -25,8 +25,8 @@ pub lost_part : (names : Names) (plan : Plan) (clear : List (List ℕ)) (z : Out
     (given : AreGiven z names plan clear) (u : ℕ) (flags : List Bool) (a b : Outside) (answer : Status) →
     u < 2 ^ plan.site.height → file_in a names.card ≡ Some (card_for plan.site u) →
     file_in a names.stream ≡ Some (concat (chosen flags (broadcast plan clear))) →
-    Answers (receive_meaning (word_at 1 names.card) (word_at 2 names.stream) (word_at 3 names.out)) a b answer →
-    WentWell a b answer → LossResult names plan u clear (kept_of plan clear flags) a b answer
+    RunResult (receive_meaning (word_at 1 names.card) (word_at 2 names.stream) (word_at 3 names.out)) a b answer →
+    IsUndisturbed a b answer → LossResult names plan u clear (kept_items plan clear flags) a b answer
 lost_part names plan clear z given u flags a b answer leaf card_there stream_there answers well =
     let is = is_plan names plan clear z given in
     let all = given.clear.is_clear in
@@ -38,7 +38,7 @@ lost_part names plan clear z given u flags a b answer leaf card_there stream_the
     let stream = concat (chosen flags (broadcast plan clear)) in
     let out = word_at 3 names.out in
     let made = made_is_card plan.site.master plan.site.ca plan.site.height u is.ca site.height.0 site.height.1 leaf in
-    let work = received (told_by t.files) (word_at 1 names.card) (word_at 2 names.stream) out fields stream made
+    let work = received (contents_of t.files) (word_at 1 names.card) (word_at 2 names.stream) out fields stream made
     (t.there ∙ ap (λ (bs : List ℕ). Some bs) (sym (card_same plan.site u)))
     (sym (of_told a t.files names.stream t.told) ∙ stream_there) in
     let done = runs_work (receive_meaning (word_at 1 names.card) (word_at 2 names.stream) out)
@@ -49,11 +49,12 @@ lost_part names plan clear z given u flags a b answer leaf card_there stream_the
     let part = rest_part plan u clear flags is all whole synced leaf in
     let left = done.left ∙ ap (λ (bs : List ℕ). Some (insert t.files names.out bs)) bytes in
     record {
-      written = made_in b t.files names.out (concat (confirmed plan u clear (kept_of plan clear flags))) left;
+      written = made_in b t.files names.out (concat (confirmed plan u clear (kept_items plan clear flags))) left;
       parts = part.0;
       part = part.1;
       ends = done.ends ∙ rest_status plan u clear flags is all whole synced leaf;
       revoked = λ q e. rest_revoked plan u clear flags is all whole synced leaf q (sym done.ends ∙ e);
       steps = omega (arith, few, most);
-      others = others_in a b t.files names.out (concat (confirmed plan u clear (kept_of plan clear flags))) t.told left;
+      others = others_in a b t.files names.out (concat (confirmed plan u clear (kept_items plan clear flags))) t.told
+          left;
     }

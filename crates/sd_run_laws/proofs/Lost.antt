@@ -28,13 +28,13 @@ use Rattle.sd_losses.proofs.Theorem as lost
 use Rattle.sd_losses.proofs.Revoking.{revoked_truly}
 use Rattle.sd_losses.proofs.Opened.{confirmed_are_opened}
 use Rattle.sd_status.specs.declared.status.Status.TheVariants.{Revoked}
-use Rattle.sd_status.specs.Meant.{Given}
+use Rattle.sd_status.specs.Spec.{Readings}
 use Rattle.sd_status.specs.Work.{Work}
 use Rattle.sd_run_receive.specs.Receive.{ending_status, ended_status, received_of, received_status, received_steps}
 use Rattle.sd_run_receive.specs.Receive.{receiving}
 use Rattle.sd_run_laws.specs.Good.{IsGoodReceive}
 use Rattle.sd_files.specs.Turned.{is_break}
-use Rattle.sd_run_laws.specs.Lost.{kept_of, kept_periods, IsRestTo, IsConfirmed}
+use Rattle.sd_run_laws.specs.Lost.{kept_items, kept_periods, IsRestTo, IsConfirmed}
 use Rattle.sd_run.specs.Meaning.{meaning}
 use Rattle.sd_run_receive.proofs.Received.{none_refused, bytes_are, unrefused_steps}
 use Rattle.sd_run_laws.proofs.Broadcasts.{receive_good}
@@ -106,15 +106,16 @@ module _ (plan : Plan) (u : ℕ) (clear : List (List ℕ)) (flags : List Bool) (
   rest_whole : end_of bytes ≡ Whole
   rest_whole = joined_whole packets rest_synced rest_short
 
-  pub rest_bytes : received_of card bytes ≡ concat (confirmed plan u clear (kept_of plan clear flags))
-  unfolding kept_of
+  pub rest_bytes : received_of card bytes ≡ concat (confirmed plan u clear (kept_items plan clear flags))
+  unfolding kept_items
   rest_bytes =
       bytes_are card bytes
       ∙ (ap (λ (ps : List (List ℕ)). concat (out_from card [] ps)) rest_taken
       ∙ ap concat (lost.confirmed_alone plan clear u flags is all whole leaf))
 
-  pub rest_status : received_status card bytes ≡ ending_status u (ending_told plan u clear (kept_of plan clear flags))
-  unfolding ended_status kept_of
+  pub rest_status : received_status card bytes ≡ ending_status u
+      (ending_told plan u clear (kept_items plan clear flags))
+  unfolding ended_status kept_items
   rest_status =
       none_refused card bytes Whole
       (ap (break_from card []) rest_taken ∙ lost.none_refused plan clear u flags is all whole leaf) rest_whole
@@ -123,11 +124,12 @@ module _ (plan : Plan) (u : ℕ) (clear : List (List ℕ)) (flags : List Bool) (
       ∙ ap (λ (v : ℕ). ending_status v (ending_told plan u clear (chosen flags
       (sent plan clear ++ closing_of plan clear)))) leaf_is))
 
-  rest_keys : taken_keys card [] packets ≡ kept_periods plan u clear (kept_of plan clear flags)
-  unfolding kept_periods kept_of
+  rest_keys : taken_keys card [] packets ≡ kept_periods plan u clear (kept_items plan clear flags)
+  unfolding kept_periods kept_items
   rest_keys = lost.keys_taken plan clear u flags is all whole leaf
 
-  pub rest_steps : received_steps card bytes ≤ plan.site.height * kept_periods plan u clear (kept_of plan clear flags)
+  pub rest_steps : received_steps card bytes ≤ plan.site.height * kept_periods plan u clear
+      (kept_items plan clear flags)
   rest_steps =
       let most = unrefused_steps card bytes
       (ap (break_from card []) rest_taken ∙ lost.none_refused plan clear u flags is all whole leaf)
@@ -137,7 +139,7 @@ module _ (plan : Plan) (u : ℕ) (clear : List (List ℕ)) (flags : List Bool) (
       omega (arith, most)
 
   pub rest_revoked : (q : ℕ) → received_status card bytes ≡ Revoked u q → is_revoked_in plan u q ≡ true
-  unfolding kept_of
+  unfolding kept_items
   rest_revoked q ends =
       revoked_truly plan clear u q flags is leaf
       (told_revoked u q (ending_told plan u clear (chosen flags (sent plan clear ++ closing_of plan clear)))
@@ -145,19 +147,19 @@ module _ (plan : Plan) (u : ℕ) (clear : List (List ℕ)) (flags : List Bool) (
 
   rest_unrefused : is_break (received_status card bytes) ≡ false
   rest_unrefused =
-      ap is_break rest_status ∙ never_broken u (ending_told plan u clear (kept_of plan clear flags))
+      ap is_break rest_status ∙ never_broken u (ending_told plan u clear (kept_items plan clear flags))
 
   pub rest_part : (parts : List Bool)
-      × (confirmed plan u clear (kept_of plan clear flags) ≡ chosen parts (opened_by plan u clear))
-  unfolding kept_of
+      × (confirmed plan u clear (kept_items plan clear flags) ≡ chosen parts (opened_by plan u clear))
+  unfolding kept_items
   rest_part = confirmed_are_opened plan clear u flags is leaf
 
 -- over a card of a site and any choice of the packets of a broadcast of it
 pub rest_confirmed : (plan : Plan) (u : ℕ) (clear : List (List ℕ)) (flags : List Bool) (words : List (List ℕ))
-    (given : Given) → IsPlan plan → IsClear plan.site clear → AreWholePackets clear → AreSynced clear →
+    (given : Readings) → IsPlan plan → IsClear plan.site clear → AreWholePackets clear → AreSynced clear →
     u < 2 ^ plan.site.height → (rest : IsRestTo plan u clear flags words given) →
     (work : Work) × ((meaning words given).result ≡ Ok work)
-    × IsConfirmed plan u clear (kept_of plan clear flags) rest.out work
+    × IsConfirmed plan u clear (kept_items plan clear flags) rest.out work
 rest_confirmed plan u clear flags words given is all whole synced leaf rest =
     let fields = card_of plan.site.master plan.site.ca plan.site.height u in
     let bytes = concat (chosen flags (broadcast plan clear)) in

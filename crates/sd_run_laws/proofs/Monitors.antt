@@ -6,7 +6,7 @@ use Rattle.sd_card.proofs.Spellings.{written_is_good}
 use Rattle.sd_secrets.specs.Files.{check_in}
 use Rattle.sd_status.specs.declared.status.Status.TheVariants.{Done}
 use Rattle.sd_status.specs.declared.status.LimitKind.TheVariants.{CardBytes}
-use Rattle.sd_status.specs.Meant.{Given, all_of, judged, value, within, ◌>>=◌}
+use Rattle.sd_status.specs.Spec.{Readings, all_of, judged, value, within, ◌>>=◌}
 use Rattle.sd_words.specs.Words.{MessagesOf, ShowOf}
 use Rattle.sd_files.specs.Files.{site_in}
 use Rattle.sd_files.specs.Streams.{stream_status}
@@ -18,7 +18,7 @@ use Rattle.sd_run_laws.specs.Good.{IsGoodMessages, IsGoodShow}
 use Rattle.sd_run_laws.proofs.Goodness.{file_read, ordered, site_good, then_is}
 use Rattle.sd_run_laws.proofs.Broadcasts.{card_length}
 
-pub messages_good : (words : List (List ℕ)) (given : Given) (good : IsGoodMessages words given) →
+pub messages_good : (words : List (List ℕ)) (given : Readings) (good : IsGoodMessages words given) →
     ((meaning words given).result ≡ Ok (monitoring good.fields good.bytes))
     × ((monitoring good.fields good.bytes).ends ≡ Done)
 unfolding messages_meaning
@@ -44,7 +44,7 @@ card_told word card is =
     ∙ line_read bytes (shown_line card.height card.leaf card.ca (check_in bytes)) card is refl (written_is_good card is)
     refl
 
-pub show_good : (words : List (List ℕ)) (given : Given) (good : IsGoodShow words given) →
+pub show_good : (words : List (List ℕ)) (given : Readings) (good : IsGoodShow words given) →
     (meaning words given).result
     ≡ Ok (printing (shown_line good.fields.height good.fields.leaf good.fields.ca (check_in (card_bytes good.fields))))
 show_good words given good =

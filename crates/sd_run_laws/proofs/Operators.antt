@@ -4,7 +4,7 @@ use Rattle.std.proofs.lemmas.Bool.{le-leb}
 use Rattle.sd_broadcast.specs.Plan.{Plan}
 use Rattle.sd_status.specs.declared.status.Status.TheVariants.{BadWord, Clash}
 use Rattle.sd_status.specs.declared.status.Clash.{Clash as ClashKind}
-use Rattle.sd_status.specs.Meant.{Given, judged, value, ◌>>=◌}
+use Rattle.sd_status.specs.Spec.{Readings, judged, value, ◌>>=◌}
 use Rattle.sd_files.specs.Both.{SiteBook, both_meaning}
 use Rattle.sd_files.specs.Files.{site_in, book_in}
 use Rattle.sd_words.specs.Words.{ApartOf, PlanOf}
@@ -16,7 +16,7 @@ use Rattle.sd_run_laws.proofs.Goodness.{then_is, site_good, site_low, book_good,
 use Rattle.sd_run_laws.proofs.Kept.{both_good}
 
 -- what a broadcast takes is printed
-pub air_good : (words : List (List ℕ)) (given : Given) (good : IsGoodPlan words given) →
+pub air_good : (words : List (List ℕ)) (given : Readings) (good : IsGoodPlan words given) →
     (meaning words given).result ≡ Ok (planning (record { site = good.fields; commands = good.commands })
     good.packets.value good.pids.value)
 air_good words given good =
@@ -35,14 +35,14 @@ air_good words given good =
     (book_good given f.height good.book good.commands (site_low (given good.site) f good.good_site) good.good_book)
 
 -- the sites and books of good words
-abbrev pub first_plan : (words : List (List ℕ)) (given : Given) → IsGoodApart words given → SiteBook
+abbrev pub first_plan : (words : List (List ℕ)) (given : Readings) → IsGoodApart words given → SiteBook
 first_plan words given good = record { site = good.fields; commands = good.commands }
 
-abbrev pub second_plan : (words : List (List ℕ)) (given : Given) → IsGoodApart words given → SiteBook
+abbrev pub second_plan : (words : List (List ℕ)) (given : Readings) → IsGoodApart words given → SiteBook
 second_plan words given good = record { site = good.other_fields; commands = good.more_commands }
 
 -- the four files are read, and the two are judged
-judged_so : (words : List (List ℕ)) (given : Given) (good : IsGoodApart words given) →
+judged_so : (words : List (List ℕ)) (given : Readings) (good : IsGoodApart words given) →
     (meaning words given).result ≡ (judged (told_clash
     (clash_of (plan_of_both (first_plan words given good)) (plan_of_both (second_plan words given good)))
     (apart_text (plan_of_both (first_plan words given good)) (plan_of_both (second_plan words given good))))
@@ -61,7 +61,7 @@ judged_so words given good =
     (both_good given good.other good.more good.other_fields good.more_commands good.good_other good.good_more)
 
 -- both lines are printed where there is no clash
-pub apart_good : (words : List (List ℕ)) (given : Given) (good : IsGoodApart words given) →
+pub apart_good : (words : List (List ℕ)) (given : Readings) (good : IsGoodApart words given) →
     clash_of (plan_of_both (first_plan words given good)) (plan_of_both (second_plan words given good)) ≡ None →
     (meaning words given).result ≡ Ok (saying (apart_text (plan_of_both (first_plan words given good))
     (plan_of_both (second_plan words given good))))
@@ -71,7 +71,7 @@ apart_good words given good none =
     (plan_of_both (second_plan words given good)))) >>= λ text. value (saying text)).result) none
 
 -- and where there is one it is the refusal
-pub apart_clashes : (words : List (List ℕ)) (given : Given) (good : IsGoodApart words given) (clash : ClashKind) →
+pub apart_clashes : (words : List (List ℕ)) (given : Readings) (good : IsGoodApart words given) (clash : ClashKind) →
     clash_of (plan_of_both (first_plan words given good)) (plan_of_both (second_plan words given good)) ≡ Some clash →
     (meaning words given).result ≡ Err (Clash clash)
 apart_clashes words given good clash some =

@@ -3,17 +3,17 @@ use Rattle.std.proofs.Common.{◌≡◌, ◌≢◌, ℕ, ◌-◌, ◌^◌, ◌<�
 use Rattle.std.proofs.Common.{Option, Some, Result, Ok, Err, refl, sym, ap, subst, ◌∙◌, arith, le-ltb}
 use Rattle.std.specs.Prelude.{◌||◌, if◌then◌else◌}
 use Rattle.std.specs.Str.{bytes_eq}
-use Rattle.sd_text.specs.Number.{number_of}
+use Rattle.sd_text.specs.Number.{decimal_value}
 use Rattle.sd_tree.proofs.Powers.{leaves_bounds}
 use Rattle.sd_site.specs.Fields.{SiteFields}
 use Rattle.sd_status.specs.declared.status.Status.{Status}
 use Rattle.sd_status.specs.declared.status.Status.TheVariants.{Usage, BadWord}
-use Rattle.sd_status.specs.Meant.{Given, judged, ◌>>=◌}
+use Rattle.sd_status.specs.Spec.{Readings, judged, ◌>>=◌}
 use Rattle.sd_status.specs.Outside.{Outside}
-use Rattle.sd_status.specs.Comes.{Obeys, Follows}
-use Rattle.sd_status.specs.Answers.{Answers, with_page}
+use Rattle.sd_status.specs.Outcome.{OutcomeWithin, Implements}
+use Rattle.sd_status.specs.Results.{RunResult, with_page}
 use Rattle.sd_commands.specs.declared.command.Command.TheVariants.{Card}
-use Rattle.sd_commands.specs.Commands.{command_of, name_of, operands_of}
+use Rattle.sd_commands.specs.Commands.{command_named, command_name, operands_of}
 use Rattle.sd_words.specs.Words.{InputOf, OutOf, Order, HeadOf, CardOf, ReceiveOf, at_most, before, number_in}
 use Rattle.sd_words.specs.Words.{named_words, numbered, order_of, ordered}
 use Rattle.sd_files.specs.Shown.{word_at}
@@ -54,7 +54,7 @@ leaf_low got site u good leaf =
 head_order : (names : Names) → names.stream ≢ names.site → names.stream ≢ names.book → names.stream ≢ names.clear →
     order_of (head_run names)
     ≡ Ok (HeadOf (word_at 1 names.site) (word_at 2 names.book) (word_at 3 names.clear) (word_at 4 names.stream))
-unfolding named_words command_of name_of operands_of
+unfolding named_words command_named command_name operands_of
 head_order names site book clear =
     three_apart (bytes_eq names.site names.stream) (bytes_eq names.book names.stream)
     (bytes_eq names.clear names.stream)
@@ -69,38 +69,39 @@ leaf_order names found =
     (before (Ok (InputOf (word_at 1 names.site)))
     (before (numbered 2 found) (Ok (OutOf (word_at 3 names.card) ∷ []))))
 
-card_order : (names : Names) (leaf : List ℕ) (u : ℕ) → names.card ≢ names.site → number_of leaf ≡ Some u →
+card_order : (names : Names) (leaf : List ℕ) (u : ℕ) → names.card ≢ names.site → decimal_value leaf ≡ Some u →
     u < 2 ^ 32 → order_of (card_run names leaf)
     ≡ Ok (CardOf (word_at 1 names.site) (record { word = 2; value = u }) (word_at 3 names.card))
-unfolding named_words command_of name_of operands_of
+unfolding named_words command_named command_name operands_of
 card_order names leaf u apart says low =
     one_apart (bytes_eq names.site names.card) (leaf_order names (number_in 2 (2 ^ 32 - 1) leaf))
     (apart_texts names.site names.card (λ e. apart (sym e)))
-    ∙ ap (leaf_order names) (number_fits 2 (2 ^ 32 - 1) u (number_of leaf) says (omega (arith, low)))
+    ∙ ap (leaf_order names) (number_fits 2 (2 ^ 32 - 1) u (decimal_value leaf) says (omega (arith, low)))
 
 receive_order : (names : Names) → names.out ≢ names.card → names.out ≢ names.stream →
     order_of (receive_run names)
     ≡ Ok (ReceiveOf (word_at 1 names.card) (word_at 2 names.stream) (word_at 3 names.out))
-unfolding named_words command_of name_of operands_of
+unfolding named_words command_named command_name operands_of
 receive_order names card stream =
     two_apart (bytes_eq names.card names.out) (bytes_eq names.stream names.out)
     (Ok (ReceiveOf (word_at 1 names.card) (word_at 2 names.stream) (word_at 3 names.out)))
     (apart_texts names.card names.out (λ e. card (sym e)))
     (apart_texts names.stream names.out (λ e. stream (sym e)))
 
-own_order : (order : Order) (given : Given) (a b : Outside) (status : Status) →
-    Obeys (judged (Ok order) >>= λ o. order_meaning o given) a b status → Obeys (order_meaning order given) a b status
+own_order : (order : Order) (given : Readings) (a b : Outside) (status : Status) →
+    OutcomeWithin (judged (Ok order) >>= λ o. order_meaning o given) a b status → OutcomeWithin
+    (order_meaning order given) a b status
 own_order order given a b status h =
     record { comes = h.comes; ports = h.ports; calls = let c = h.calls in omega arith; steps = h.steps }
 
 -- a run of words is a run of their order
 order_answers : (words : List (List ℕ)) (order : Order) (a b : Outside) (answer : Status) →
-    order_of words ≡ Ok order → Answers (meaning words) a b answer → Answers (order_meaning order) a b answer
+    order_of words ≡ Ok order → RunResult (meaning words) a b answer → RunResult (order_meaning order) a b answer
 order_answers words order a b answer read h =
     let at : Outside = with_page b h.page in
     let f =
-    subst (λ (r : Result Order Status). Follows (λ given. judged r >>= λ o. order_meaning o given) a at h.status) read
-    h.obeyed in
+    subst (λ (r : Result Order Status).
+    Implements (λ given. judged r >>= λ o. order_meaning o given) a at h.status) read h.obeyed in
     record {
       status = h.status;
       page = h.page;
@@ -114,8 +115,8 @@ order_answers words order a b answer read h =
 
 -- and so it is one of its command
 pub head_answers : (names : Names) (a b : Outside) (answer : Status) → names.stream ≢ names.site →
-    names.stream ≢ names.book → names.stream ≢ names.clear → Answers (meaning (head_run names)) a b answer →
-    Answers (head_meaning (word_at 1 names.site) (word_at 2 names.book) (word_at 3 names.clear)
+    names.stream ≢ names.book → names.stream ≢ names.clear → RunResult (meaning (head_run names)) a b answer →
+    RunResult (head_meaning (word_at 1 names.site) (word_at 2 names.book) (word_at 3 names.clear)
     (word_at 4 names.stream)) a b answer
 head_answers names a b answer site book clear answers =
     order_answers (head_run names)
@@ -123,17 +124,17 @@ head_answers names a b answer site book clear answers =
     (head_order names site book clear) answers
 
 pub card_answers : (names : Names) (leaf : List ℕ) (u : ℕ) (a b : Outside) (answer : Status) →
-    names.card ≢ names.site → number_of leaf ≡ Some u → u < 2 ^ 32 →
-    Answers (meaning (card_run names leaf)) a b answer →
-    Answers (card_meaning (word_at 1 names.site) (record { word = 2; value = u }) (word_at 3 names.card)) a b answer
+    names.card ≢ names.site → decimal_value leaf ≡ Some u → u < 2 ^ 32 →
+    RunResult (meaning (card_run names leaf)) a b answer →
+    RunResult (card_meaning (word_at 1 names.site) (record { word = 2; value = u }) (word_at 3 names.card)) a b answer
 card_answers names leaf u a b answer apart says low answers =
     order_answers (card_run names leaf)
     (CardOf (word_at 1 names.site) (record { word = 2; value = u }) (word_at 3 names.card)) a b answer
     (card_order names leaf u apart says low) answers
 
 pub receive_answers : (names : Names) (a b : Outside) (answer : Status) → names.out ≢ names.card →
-    names.out ≢ names.stream → Answers (meaning (receive_run names)) a b answer →
-    Answers (receive_meaning (word_at 1 names.card) (word_at 2 names.stream) (word_at 3 names.out)) a b answer
+    names.out ≢ names.stream → RunResult (meaning (receive_run names)) a b answer →
+    RunResult (receive_meaning (word_at 1 names.card) (word_at 2 names.stream) (word_at 3 names.out)) a b answer
 receive_answers names a b answer card stream answers =
     order_answers (receive_run names)
     (ReceiveOf (word_at 1 names.card) (word_at 2 names.stream) (word_at 3 names.out)) a b answer

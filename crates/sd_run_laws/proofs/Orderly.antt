@@ -4,7 +4,7 @@ use Rattle.std.proofs.Common.{refl, sym, ap, ◌∙◌}
 use Rattle.std.specs.Prelude.{if◌then◌else◌, ◌||◌}
 use Rattle.sd_status.specs.declared.status.Status.{Status}
 use Rattle.sd_status.specs.declared.status.Status.TheVariants.{Usage}
-use Rattle.sd_status.specs.Meant.{Given, judged, ◌>>=◌}
+use Rattle.sd_status.specs.Spec.{Readings, judged, ◌>>=◌}
 use Rattle.sd_status.specs.Work.{Work}
 use Rattle.sd_files.specs.Shown.{word_at}
 use Rattle.sd_run_help.specs.Help as help
@@ -13,8 +13,8 @@ use Rattle.sd_commands.specs.declared.command.Command.{Command}
 use Rattle.sd_commands.specs.declared.operand.Operand.{Operand}
 use Rattle.sd_commands.specs.declared.operand.Kind.{Kind}
 use Rattle.sd_commands.specs.declared.operand.Kind.TheVariants as kind
-use Rattle.sd_commands.specs.Commands.{command_of, operands_of}
-use Rattle.sd_commands.specs.Operands.{kind_of}
+use Rattle.sd_commands.specs.Commands.{command_named, operands_of}
+use Rattle.sd_commands.specs.Operands.{operand_kind}
 use Rattle.sd_words.specs.Words.{Argument, OutOf, Order, CommandOf, HelpOf, VersionOf, file, file_of, before}
 use Rattle.sd_words.specs.Words.{out_text, or_output}
 use Rattle.sd_words.specs.Words.{argument_of, arguments_from, out_is_read, ordered, command_words, words_of, is_help}
@@ -31,7 +31,7 @@ out_of (CommandOf command arguments) = out_by command arguments
 out_of (HelpOf topic) = None
 out_of VersionOf = None
 
-order_orderly : (order : Order) (given : Given) → AreOrderly (out_of order) (order_meaning order given).result
+order_orderly : (order : Order) (given : Readings) → AreOrderly (out_of order) (order_meaning order given).result
 order_orderly (CommandOf command arguments) given = command_orderly command arguments given
 order_orderly (HelpOf topic) given = none_made (help.telling (help_text topic)) refl (λ refusal. absurd refusal)
 order_orderly VersionOf given = none_made (help.telling version_text) refl (λ refusal. absurd refusal)
@@ -86,17 +86,18 @@ out_same : (operands : List Operand) (texts : List (List ℕ)) (at : ℕ) (argum
 out_same [] texts at arguments all low same e there = refl
 out_same (operand ∷ operands) [] at arguments all low same e there = absurd (omega (arith, same))
 out_same (operand ∷ operands) (text ∷ texts) at arguments all low same e there =
-    let both = both_ok (argument_of at (kind_of operand) text) (arguments_from (at + 1) operands texts) arguments e in
+    let both = both_ok (argument_of at (operand_kind operand) text) (arguments_from (at + 1) operands texts) arguments e
+    in
     let here : at - 1 ≡ at - 1 + 0 = omega arith in
     let first : slice_get all (at - 1) ≡ Some both.argument =
     ap (slice_get all) here ∙ (there 0 ∙ ap (λ (xs : List Argument). slice_get xs 0) both.same) in
-    or_same (kind_of operand) at text both.argument all (out_text operands texts) (out_at (at + 1) operands all)
+    or_same (operand_kind operand) at text both.argument all (out_text operands texts) (out_at (at + 1) operands all)
     both.first_is first
     (out_same operands texts (at + 1) both.later all (omega arith) (omega (arith, same)) both.rest_is
     (λ i. let next : at + 1 - 1 + i ≡ at - 1 + suc i = omega (arith, low) in
     ap (slice_get all) next ∙ (there (suc i) ∙ ap (λ (xs : List Argument). slice_get xs (suc i)) both.same)))
 
-row_names : (command : Command) (name : List ℕ) (texts : List (List ℕ)) → command_of name ≡ Some command →
+row_names : (command : Command) (name : List ℕ) (texts : List (List ℕ)) → command_named name ≡ Some command →
     NamesOut (name ∷ texts) (command_words command (operands_of command) texts)
 row_names command name texts found =
     by_count (length texts == length (operands_of command)) (out_is_read (operands_of command) texts) refl
@@ -121,7 +122,7 @@ row_names command name texts found =
 help_names : (name : List ℕ) (texts : List (List ℕ)) → NamesOut (name ∷ texts) (help_words texts)
 help_names name [] = λ text e. absurd (cc)
 help_names name (word ∷ next ∷ words) = tt
-help_names name (word ∷ []) = by_topic (command_of word)
+help_names name (word ∷ []) = by_topic (command_named word)
   where
     by_topic : (topic : Option Command) → NamesOut (name ∷ word ∷ []) (help_on topic)
     by_topic None = tt
@@ -137,9 +138,9 @@ order_names [] = tt
 order_names (name ∷ texts) =
     names_if (is_help name) (name ∷ texts) (help_words texts) _ (help_names name texts)
     (names_if (is_version name) (name ∷ texts) (version_words texts) _ (version_names name texts)
-    (by_command (command_of name) refl))
+    (by_command (command_named name) refl))
   where
-    by_command : (found : Option Command) → command_of name ≡ found → NamesOut (name ∷ texts) (words_of found texts)
+    by_command : (found : Option Command) → command_named name ≡ found → NamesOut (name ∷ texts) (words_of found texts)
     by_command None e = tt
     by_command (Some command) e = row_names command name texts e
 
@@ -150,7 +151,8 @@ widened out name (Ok work) wider h =
     record { makes = λ made e. wider made.name (h.makes made e); keeps = h.keeps }
 widened out name (Err status) wider h = tt
 
-pub words_orderly : (words : List (List ℕ)) (given : Given) → AreOrderly (out_name words) (meaning words given).result
+pub words_orderly : (words : List (List ℕ)) (given : Readings) →
+    AreOrderly (out_name words) (meaning words given).result
 words_orderly words given = by_order (order_of words) (order_names words)
   where
     by_order : (r : Result Order Status) → NamesOut words r →

@@ -11,12 +11,12 @@ use Rattle.sd_ports.specs.Files.{Files}
 use Rattle.sd_status.specs.declared.status.Status.{Status}
 use Rattle.sd_status.specs.declared.status.Status.TheVariants.{Done}
 use Rattle.sd_status.specs.Texts.{line_of}
-use Rattle.sd_status.specs.Outside.{Page, Outside}
-use Rattle.sd_status.specs.Meant.{Meant, Given, told_by}
+use Rattle.sd_status.specs.Outside.{PageState, Outside}
+use Rattle.sd_status.specs.Spec.{Spec, Readings, contents_of}
 use Rattle.sd_status.specs.Work.{Out, Work, files_with, made_with}
-use Rattle.sd_status.specs.Comes.{Comes, IsRefusal, IsMade, IsUnmade}
-use Rattle.sd_status.specs.Comes.{refused, ended, unclosed, exhausted, failed, nowhere, cut_off}
-use Rattle.sd_status.specs.Answers.{Answers, Tells, with_page}
+use Rattle.sd_status.specs.Outcome.{Outcome, IsRefusal, IsMade, IsUnmade}
+use Rattle.sd_status.specs.Outcome.{refused, ended, unclosed, exhausted, failed, nowhere, cut_off}
+use Rattle.sd_status.specs.Results.{RunResult, PrintsStatusLine, with_page}
 use Rattle.sd_status.proofs.Told.{own_line, done_line}
 use Rattle.sd_run.specs.Meaning.{meaning}
 use Rattle.sd_run_laws.specs.Headline.{file_in}
@@ -30,11 +30,11 @@ use Rattle.sd_run.proofs.Works.{IsOrderly, AreOrderly}
 use Rattle.sd_run_laws.proofs.Orderly.{words_orderly}
 
 -- nothing is printed, and nothing fails, where `Done` is told
-record IsSilent (a b : Page) : Type 0 where
+record IsSilent (a b : PageState) : Type 0 where
   printed : Appends a.printed b.printed []
   faults : b.faults ≡ a.faults
 
-silent : (a b : Page) (status : Status) → Tells a b status Done → IsSilent a b
+silent : (a b : PageState) (status : Status) → PrintsStatusLine a b status Done → IsSilent a b
 silent a b status tells =
     elim tells.says [
       | inl said ↦ record {
@@ -44,7 +44,7 @@ silent a b status tells =
       | inr cut ↦ absurd (let x = cut.0 in cc)
     ]
 
-came_done : (meant : Result Work Status) (a b : Outside) (status : Status) → Comes meant a b status → status ≡ Done →
+came_done : (meant : Result Work Status) (a b : Outside) (status : Status) → Outcome meant a b status → status ≡ Done →
     IsDone meant a b
 came_done meant a b status (refused e r h k c m) is = absurd (subst IsRefusal is r)
 came_done meant a b status (ended work e s i h k c m) is =
@@ -56,22 +56,22 @@ came_done meant a b status (nowhere work e out f s n h k c m) is = absurd (let x
 came_done meant a b status (cut_off work e s h k r c m) is = absurd (let x = sym s ∙ is in cc)
 
 -- a run that answers `Done` has done the work that is meant
-pub done_leaves : (meant : Given → Meant Work) (files : Files) (a b : Outside) (answer : Status) →
-    a.place.files ≡ Some files → answer ≡ Done → Answers meant a b answer →
-    IsDone (meant (told_by files)).result a b
+pub done_leaves : (meant : Readings → Spec Work) (files : Files) (a b : Outside) (answer : Status) →
+    a.place.files ≡ Some files → answer ≡ Done → RunResult meant a b answer →
+    IsDone (meant (contents_of files)).result a b
 done_leaves meant files a b answer told is answers =
-    let line : Tells answers.page b.page answers.status Done =
-    subst (λ (s : Status). Tells answers.page b.page answers.status s) is answers.told in
+    let line : PrintsStatusLine answers.page b.page answers.status Done =
+    subst (λ (s : Status). PrintsStatusLine answers.page b.page answers.status s) is answers.told in
     let own : answers.status ≡ Done =
     own_line answers.page b.page answers.status Done line (λ e. cc) (λ e. cc) in
     let quiet = silent answers.page b.page answers.status line in
-    let given : answers.obeyed.given ≡ told_by files =
+    let given : answers.obeyed.given ≡ contents_of files =
     told_given a.place.files files answers.obeyed.given told answers.obeyed.is_given in
     let done = came_done (meant answers.obeyed.given).result a (with_page b answers.page) answers.status
     answers.obeyed.obeyed.comes own in
     record {
       work = done.work;
-      is_meant = sym (ap (λ (g : Given). (meant g).result) given) ∙ done.is_meant;
+      is_meant = sym (ap (λ (g : Readings). (meant g).result) given) ∙ done.is_meant;
       ends = done.ends;
       made = done.made;
       printed = subst (λ (l : List ℕ). Appends a.page.printed b.page.printed l) (append-nil (concat done.work.pieces))
@@ -81,7 +81,7 @@ done_leaves meant files a b answer told is answers =
     }
 
 -- the file that a run makes is the one that its words name
-out_is : (words : List (List ℕ)) (given : Given) (work : Work) (out : Out) →
+out_is : (words : List (List ℕ)) (given : Readings) (work : Work) (out : Out) →
     (meaning words given).result ≡ Ok work → work.out ≡ Some out → out_name words ≡ Some out.name
 out_is words given work out is makes =
     let orderly : IsOrderly (out_name words) work =
@@ -90,7 +90,7 @@ out_is words given work out is makes =
 
 -- so no other file changes
 pub file_stays : (words : List (List ℕ)) (files : Files) (a b : Outside) (answer : Status) →
-    a.place.files ≡ Some files → Answers (meaning words) a b answer → (name : List ℕ) →
+    a.place.files ≡ Some files → RunResult (meaning words) a b answer → (name : List ℕ) →
     out_name words ≢ Some name → file_in b name ≡ get files name
 file_stays words files a b answer told answers name other =
     elim (run_leaves words files a b answer told answers) [
@@ -98,12 +98,12 @@ file_stays words files a b answer told answers name other =
       | inr has ↦
           of_told b (insert files has.out.name has.prefix) name has.left
           ∙ others_stay files has.out.name has.prefix name
-          (λ e. other (out_is words (told_by files) has.work has.out has.is_meant has.makes
+          (λ e. other (out_is words (contents_of files) has.work has.out has.is_meant has.makes
           ∙ ap (λ (n : List ℕ). Some n) (sym e)))
     ]
 
 -- and at most one file is made
-pub one_made : (words : List (List ℕ)) (a b : Outside) (answer : Status) → Answers (meaning words) a b answer →
+pub one_made : (words : List (List ℕ)) (a b : Outside) (answer : Status) → RunResult (meaning words) a b answer →
     (b.place.made ≡ a.place.made)
     ⊎ ((b.place.made ≡ with_added a.place.made 1) × IsSome (out_name words))
 one_made words a b answer answers =
@@ -132,7 +132,7 @@ nothing_made out a b none made = record {
 }
 
 came_quiet : (out : Option (List ℕ)) (meant : Result Work Status) (a b : Outside) (status : Status) →
-    AreOrderly out meant → RefusesFirst status → Comes meant a b status → IsQuiet a b
+    AreOrderly out meant → RefusesFirst status → Outcome meant a b status → IsQuiet a b
 came_quiet out meant a b status orderly refuses (refused e r un k c m) =
     record { unmade = un; printed = none_printed a.page.printed b.page.printed k }
 came_quiet out meant a b status orderly refuses (ended work is s i made prints c m) =
@@ -154,7 +154,7 @@ came_quiet out meant a b status orderly refuses (cut_off work is s made k r c m)
     absurd (subst RefusesFirst s refuses)
 
 -- the line of a refusal is its own, and was printed
-line_told : (a b : Page) (status answer : Status) → RefusesFirst answer → Tells a b status answer →
+line_told : (a b : PageState) (status answer : Status) → RefusesFirst answer → PrintsStatusLine a b status answer →
     (answer ≡ status) × Appends a.printed b.printed (line_of answer)
 line_told a b status answer refuses tells =
     elim tells.says [
@@ -170,7 +170,7 @@ line_told a b status answer refuses tells =
 
 -- refused words or files leave nothing but the line of the refusal
 pub refusal_leaves : (words : List (List ℕ)) (a b : Outside) (answer : Status) → RefusesFirst answer →
-    Answers (meaning words) a b answer →
+    RunResult (meaning words) a b answer →
     IsUnmade a.place b.place × Appends a.page.printed b.page.printed (line_of answer)
 refusal_leaves words a b answer refuses answers =
     let told = line_told answers.page b.page answers.status answer refuses answers.told in

@@ -13,7 +13,7 @@ use Rattle.sd_engine.specs.Taken.{Whole, taken_of, end_of}
 use Rattle.sd_broadcast.specs.Plan.{Plan, IsPlan, period_of}
 use Rattle.sd_broadcast.specs.Refused.{IsClear}
 use Rattle.sd_broadcast.specs.Sent.{broadcast}
-use Rattle.sd_sent.specs.Named.{named, NamesPeriod}
+use Rattle.sd_sent.specs.Named.{sets_named, NamesPeriod}
 use Rattle.sd_sent.specs.Packets.{IsWholePacket, AreWholePackets, AreLong}
 use Rattle.sd_sent.proofs.Covering.{period_named}
 use Rattle.sd_whole.specs.Synced.{AreSynced}
@@ -22,11 +22,11 @@ use Rattle.sd_whole.proofs.Taken.{broadcast_taken}
 use Rattle.sd_losses.specs.Confirmed.{opened_by}
 use Rattle.sd_status.specs.declared.status.Status.{Status}
 use Rattle.sd_status.specs.declared.status.Status.TheVariants.{Done, BadWord}
-use Rattle.sd_status.specs.Meant.{told_by, judged, value, ◌>>=◌}
+use Rattle.sd_status.specs.Spec.{contents_of, judged, value, ◌>>=◌}
 use Rattle.sd_status.specs.Outside.{Outside}
 use Rattle.sd_status.specs.Work.{Uncounted}
-use Rattle.sd_status.specs.Answers.{Answers}
-use Rattle.sd_files.specs.Shown.{Number, word_at}
+use Rattle.sd_status.specs.Results.{RunResult}
+use Rattle.sd_files.specs.Shown.{NumberArgument, word_at}
 use Rattle.sd_files.specs.Files.{site_in}
 use Rattle.sd_files.specs.Made.{making}
 use Rattle.sd_files.specs.Turned.{turning}
@@ -35,7 +35,7 @@ use Rattle.sd_run_head.specs.Head.{plan_meaning, sending_of, sent_status, head_m
 use Rattle.sd_run_head.proofs.Sending.{sent_unrefused}
 use Rattle.sd_run_receive.specs.Receive.{receiving, received_steps, receive_meaning}
 use Rattle.sd_run_laws.specs.Good.{IsGoodSite, IsGoodBook}
-use Rattle.sd_run_laws.specs.Headline.{Names, file_in, AreGiven, WentWell, card_for}
+use Rattle.sd_run_laws.specs.Headline.{Names, file_in, AreGiven, IsUndisturbed, card_for}
 use Rattle.sd_run_laws.specs.Headline.{HeadResult, CardResult, ReceiveResult}
 use Rattle.sd_run_laws.proofs.Goodness.{then_is, site_good, plan_good}
 use Rattle.sd_run_laws.proofs.Broadcasts.{received, opened_bytes, opened_status, opened_steps}
@@ -104,14 +104,14 @@ module _ (names : Names) (plan : Plan) (clear : List (List ℕ)) (at : Outside) 
     taken = broadcast_taken plan clear is_plan given.clear.is_clear are_whole are_synced
 
     covers_named : (q : ℕ) → plan.site.first_period ≤ q → q ≤ period_of plan (length clear - 1) →
-        NamesPeriod plan q (named plan.site.height plan.site.emm q (taken_of (stream_of plan clear)))
+        NamesPeriod plan q (sets_named plan.site.height plan.site.emm q (taken_of (stream_of plan clear)))
     covers_named q from within =
-        subst (λ (ps : List (List ℕ)). NamesPeriod plan q (named plan.site.height plan.site.emm q ps)) (sym taken.0)
-        (period_named plan clear q is_plan given.clear.is_clear are_long from within)
+        subst (λ (ps : List (List ℕ)). NamesPeriod plan q (sets_named plan.site.height plan.site.emm q ps))
+        (sym taken.0) (period_named plan clear q is_plan given.clear.is_clear are_long from within)
 
     head_work : (files : Files) → at.place.files ≡ Some files →
         (head_meaning (word_at 1 names.site) (word_at 2 names.book) (word_at 3 names.clear) (word_at 4 names.stream)
-        (told_by files)).result ≡ Ok (turning Uncounted (word_at 4 names.stream) (stream_of plan clear) Done)
+        (contents_of files)).result ≡ Ok (turning Uncounted (word_at 4 names.stream) (stream_of plan clear) Done)
     unfolding head_meaning
     head_work files told =
         let out = word_at 4 names.stream in
@@ -123,16 +123,17 @@ module _ (names : Names) (plan : Plan) (clear : List (List ℕ)) (at : Outside) 
         let there = sym (of_told at files names.clear told) ∙ given.clear.there in
         let is_clear = subst (IsClear plan.site) (sym given.clear.packets) given.clear.is_clear in
         let sent = sent_unrefused plan bytes Whole is_clear given.clear.whole in
-        then_is (plan_meaning (word_at 1 names.site) (word_at 2 names.book) (told_by files)) plan
+        then_is (plan_meaning (word_at 1 names.site) (word_at 2 names.book) (contents_of files)) plan
         (sending_of (word_at 3 names.clear) out (get files names.clear))
-        (plan_good (told_by files) (word_at 1 names.site) (word_at 2 names.book) plan.site plan.commands site book)
+        (plan_good (contents_of files) (word_at 1 names.site) (word_at 2 names.book) plan.site plan.commands site book)
         ∙ (ap (λ (got : Option (List ℕ)). (sending_of (word_at 3 names.clear) out got plan).result) there
         ∙ (ap (λ (bs : List ℕ). Ok (turning Uncounted out bs (sent_status plan bytes)))
         (sym sent.0 ∙ ap (λ (ps : List (List ℕ)). concat (broadcast plan ps)) given.clear.packets)
         ∙ ap (λ (s : Status). Ok (turning Uncounted out (stream_of plan clear) s)) (sym sent.1)))
 
-    pub head_part : (b : Outside) (answer : Status) → Answers (head_meaning (word_at 1 names.site)
-        (word_at 2 names.book) (word_at 3 names.clear) (word_at 4 names.stream)) at b answer → WentWell at b answer →
+    pub head_part : (b : Outside) (answer : Status) → RunResult (head_meaning (word_at 1 names.site)
+        (word_at 2 names.book) (word_at 3 names.clear) (word_at 4 names.stream)) at b answer →
+        IsUndisturbed at b answer →
         HeadResult names plan clear at b answer
     head_part b answer answers well =
         let t = is_told at.place.files names.site given.site.bytes given.site.there in
@@ -148,8 +149,8 @@ module _ (names : Names) (plan : Plan) (clear : List (List ℕ)) (at : Outside) 
 
     pub receive_part : (u : ℕ) (a b : Outside) (answer : Status) → u < 2 ^ plan.site.height →
         file_in a names.card ≡ Some (card_for plan.site u) → file_in a names.stream ≡ Some (stream_of plan clear) →
-        Answers (receive_meaning (word_at 1 names.card) (word_at 2 names.stream) (word_at 3 names.out)) a b answer →
-        WentWell a b answer → ReceiveResult names plan u clear a b answer
+        RunResult (receive_meaning (word_at 1 names.card) (word_at 2 names.stream) (word_at 3 names.out)) a b answer →
+        IsUndisturbed a b answer → ReceiveResult names plan u clear a b answer
     receive_part u a b answer leaf card_there stream_there answers well =
         let t = is_told a.place.files names.card (card_for plan.site u) card_there in
         let site = is_plan.site in
@@ -158,7 +159,7 @@ module _ (names : Names) (plan : Plan) (clear : List (List ℕ)) (at : Outside) 
         let out = word_at 3 names.out in
         let made = made_is_card plan.site.master plan.site.ca plan.site.height u is_plan.ca site.height.0 site.height.1
         leaf in
-        let work = received (told_by t.files) (word_at 1 names.card) (word_at 2 names.stream) out fields stream made
+        let work = received (contents_of t.files) (word_at 1 names.card) (word_at 2 names.stream) out fields stream made
         (t.there ∙ ap (λ (bs : List ℕ). Some bs) (sym (card_same plan.site u)))
         (sym (of_told a t.files names.stream t.told) ∙ stream_there) in
         let done = runs_work (receive_meaning (word_at 1 names.card) (word_at 2 names.stream) out)
@@ -177,17 +178,17 @@ module _ (names : Names) (plan : Plan) (clear : List (List ℕ)) (at : Outside) 
 
 pub card_part : (names : Names) (site : SiteFields) (u : ℕ) (a b : Outside) (answer : Status) →
     IsGoodSite (file_in a names.site) site → u < 2 ^ site.height →
-    Answers (card_meaning (word_at 1 names.site) (record { word = 2; value = u }) (word_at 3 names.card)) a b answer →
-    WentWell a b answer → CardResult names site u a b answer
+    RunResult (card_meaning (word_at 1 names.site) (record { word = 2; value = u }) (word_at 3 names.card)) a b answer →
+    IsUndisturbed a b answer → CardResult names site u a b answer
 card_part names site u a b answer good leaf answers well =
     let t = is_told a.place.files names.site good.bytes good.there in
-    let number : Number = record { word = 2; value = u } in
+    let number : NumberArgument = record { word = 2; value = u } in
     let out = word_at 3 names.card in
     let bytes = card_bytes (card_of site.master site.ca site.height u) in
     let own = subst (λ (got : Option (List ℕ)). IsGoodSite got site) (of_told a t.files names.site t.told) good in
-    let work = then_is (site_in (told_by t.files) (word_at 1 names.site)) site
+    let work = then_is (site_in (contents_of t.files) (word_at 1 names.site)) site
     (λ fields. judged (told_card fields number) >>= λ bytes. value (making Uncounted out bytes))
-    (site_good (told_by t.files) (word_at 1 names.site) site own)
+    (site_good (contents_of t.files) (word_at 1 names.site) site own)
     ∙ then_is (judged (told_card site number)) bytes (λ bytes. value (making Uncounted out bytes))
     (ap (λ (b : Bool). cond b (Ok bytes) (Err (BadWord 2))) (lt-ltb u (2 ^ site.height) leaf)) in
     let done = runs_work (card_meaning (word_at 1 names.site) number out) (making Uncounted out bytes) t.files a b

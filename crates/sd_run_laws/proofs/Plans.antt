@@ -13,12 +13,12 @@ use Rattle.std.proofs.lemmas.List.Elements.{All-nil, All-cons}
 use Rattle.hex.specs.Hex.{hex_digit_value, digit_or_error, value_at, pair_value, decode_pairs, decode_of, ◌>>=◌}
 use Rattle.hex.specs.declared.error.FromHexError.{FromHexError}
 use Rattle.hex.specs.declared.error.FromHexError.TheVariants.{OddLength}
-use Rattle.sd_text.specs.Number.{after}
+use Rattle.sd_text.specs.Number.{rest_after}
 use Rattle.sd_site.specs.Fields.{SiteFields}
 use Rattle.sd_site.specs.Forms.{ca_line, bytes_after, bytes_on}
 use Rattle.sd_site.specs.Text.{IsSite}
 use Rattle.sd_broadcast.specs.Plan.{Plan, IsPlan}
-use Rattle.sd_status.specs.Meant.{Word, Given}
+use Rattle.sd_status.specs.Spec.{FileArgument, Readings}
 use Rattle.sd_run_laws.specs.Good.{IsGoodSite, IsGoodBook}
 
 -- a digit is worth less than 16
@@ -91,7 +91,7 @@ sized_bytes false digits bytes is = absurd (cc)
 after_bytes : (word : List ℕ) (count : ℕ) (line bytes : List ℕ) → bytes_after word count line ≡ Some bytes →
     All IsByte bytes
 unfolding bytes_after
-after_bytes word count line bytes is = by_digits (after word line) is
+after_bytes word count line bytes is = by_digits (rest_after word line) is
   where
     by_digits : (found : Option (List ℕ)) →
         option_and_then (λ digits. if length digits == 2 * count then result_ok (decode_of digits) else None) found
@@ -121,7 +121,7 @@ ca_fits bytes site is =
     let low = byte_at ca.0 1 each in
     omega (arith, ca.2, two_bytes ca.0, high, low)
 
-pub good_plan : (given : Given) (site book : Word) (plan : Plan) → IsGoodSite (given site) plan.site →
+pub good_plan : (given : Readings) (site book : FileArgument) (plan : Plan) → IsGoodSite (given site) plan.site →
     IsGoodBook (given book) plan.site.height plan.commands → IsPlan plan
 good_plan given site book plan good_site good_book =
     record {

@@ -1,11 +1,11 @@
 -- Good files of a site, a book and leaves mean work.
 use Rattle.std.proofs.Common.{◌≡◌, ℕ, ◌+◌, cond, List, length, Option, Some, Ok, Err, ap, ◌∙◌, le-ltb}
 use Rattle.sd_leaves.specs.Text.{leaves_of_text}
-use Rattle.sd_trace.specs.Trace.{outside, trace_of}
+use Rattle.sd_trace.specs.Trace.{not_among, trace_of}
 use Rattle.sd_tree.specs.Limits.{most_revoked}
 use Rattle.sd_status.specs.declared.status.Status.TheVariants.{Limit}
 use Rattle.sd_status.specs.declared.status.LimitKind.TheVariants.{BookBytes, Traced}
-use Rattle.sd_status.specs.Meant.{Word, Given, judged, value, within, ◌>>=◌}
+use Rattle.sd_status.specs.Spec.{FileArgument, Readings, judged, value, within, ◌>>=◌}
 use Rattle.sd_files.specs.Files.{most_book_bytes}
 use Rattle.sd_files.specs.Both.{SiteBook, both_meaning}
 use Rattle.sd_files.specs.Leaves.{told_leaves, leaves_of_file, leaves_in}
@@ -17,7 +17,7 @@ use Rattle.sd_run.specs.Meaning.{meaning}
 use Rattle.sd_run_laws.proofs.Goodness.{then_is, file_read, ordered}
 use Rattle.sd_run_laws.proofs.Kept.{both_good}
 
-leaves_good : (given : Given) (d : ℕ) (word : Word) (leaves : List ℕ) → IsGoodLeaves given d word leaves →
+leaves_good : (given : Readings) (d : ℕ) (word : FileArgument) (leaves : List ℕ) → IsGoodLeaves given d word leaves →
     (leaves_in given d word).result ≡ Ok leaves
 unfolding leaves_of_file
 leaves_good given d word leaves good =
@@ -28,7 +28,7 @@ leaves_good given d word leaves good =
     ∙ ap (told_leaves word.number) good.are_leaves
 
 -- the sets of each period are printed, with which of them are open
-pub opens_good : (words : List (List ℕ)) (given : Given) (good : IsGoodOpens words given) →
+pub opens_good : (words : List (List ℕ)) (given : Readings) (good : IsGoodOpens words given) →
     (meaning words given).result ≡ Ok (opening good.fields.height good.pooled good.commands)
 unfolding opens_meaning
 opens_good words given good =
@@ -43,7 +43,7 @@ opens_good words given good =
     (leaves_good given d good.leaves good.pooled good.good_leaves)
 
 -- the coalition's trace is printed
-pub trace_good : (words : List (List ℕ)) (given : Given) (good : IsGoodTrace words given) →
+pub trace_good : (words : List (List ℕ)) (given : Readings) (good : IsGoodTrace words given) →
     (meaning words given).result ≡ Ok (telling (trace_text
     (trace_of good.fields.height good.coalition (revoked_last good.fields.height good.commands))))
 unfolding trace_meaning traced
@@ -62,4 +62,4 @@ trace_good words given good =
     (leaves_good given d good.leaves good.coalition good.good_leaves)
     ∙ then_is (judged (traced d good.coalition good.commands)) text (λ text. value (telling text))
     (ap (λ b. cond b (Err (Limit Traced)) (Ok text))
-    (le-ltb most_revoked (length gone + length (outside d gone good.coalition)) good.few))
+    (le-ltb most_revoked (length gone + length (not_among d gone good.coalition)) good.few))

@@ -20,7 +20,7 @@ use Rattle.sd_broadcast.specs.Plan.{Plan, IsPlan, period_of}
 use Rattle.sd_broadcast.specs.Refused.{IsClear, refusal_from}
 use Rattle.sd_broadcast.specs.Sent.{broadcast}
 use Rattle.sd_broadcast.specs.declared.fault.ClearFault.{ClearFault}
-use Rattle.sd_sent.specs.Named.{named, NamesPeriod}
+use Rattle.sd_sent.specs.Named.{sets_named, NamesPeriod}
 use Rattle.sd_sent.specs.Packets.{IsWholePacket}
 use Rattle.sd_sent.proofs.Covering.{period_named}
 use Rattle.sd_whole.specs.Synced.{AreBytes}
@@ -28,10 +28,11 @@ use Rattle.sd_whole.proofs.Cut.{taken_synced, taken_whole}
 use Rattle.sd_whole.proofs.Taken.{broadcast_taken}
 use Rattle.sd_status.specs.declared.status.Status.{Status}
 use Rattle.sd_status.specs.declared.status.Status.TheVariants.{Done}
-use Rattle.sd_status.specs.Meant.{Meant, Word, Given, told_by, after, all_of, judged, value, within, ◌>>=◌}
+use Rattle.sd_status.specs.Spec.{Spec, FileArgument, Readings, contents_of, and_then, all_of, judged, value, within}
+use Rattle.sd_status.specs.Spec.{◌>>=◌}
 use Rattle.sd_status.specs.Outside.{Outside}
 use Rattle.sd_status.specs.Work.{Work, files_with}
-use Rattle.sd_status.specs.Answers.{Answers}
+use Rattle.sd_status.specs.Results.{RunResult}
 use Rattle.sd_status.specs.declared.status.LimitKind.TheVariants.{SiteBytes, BookBytes}
 use Rattle.sd_words.specs.Words.{Order, HeadOf, order_of}
 use Rattle.sd_files.specs.Files.{most_site_bytes, most_book_bytes, told_site, told_book, site_of_file, book_of_file}
@@ -43,16 +44,16 @@ use Rattle.sd_run_laws.proofs.Outs.{done_leaves}
 use Rattle.sd_run_head.proofs.Sending.{sent_unrefused}
 
 -- what came before a step that came to a value
-pub record ThenOk {A B : Type 0} (first : Meant A) (next : A → Meant B) (y : B) : Type 0 where
+pub record ThenOk {A B : Type 0} (first : Spec A) (next : A → Spec B) (y : B) : Type 0 where
   pub from : A
   pub first_is : first.result ≡ Ok from
   pub next_is : (next from).result ≡ Ok y
 
-pub then_ok : {A B : Type 0} (first : Meant A) (next : A → Meant B) (y : B) → (first >>= next).result ≡ Ok y →
+pub then_ok : {A B : Type 0} (first : Spec A) (next : A → Spec B) (y : B) → (first >>= next).result ≡ Ok y →
     ThenOk first next y
 then_ok {A} {B} first next y e = by_result first.result refl e
   where
-    by_result : (r : Result A Status) → first.result ≡ r → (after first.calls r next).result ≡ Ok y →
+    by_result : (r : Result A Status) → first.result ≡ r → (and_then first.calls r next).result ≡ Ok y →
         ThenOk first next y
     by_result (Ok x) f e = record { from = x; first_is = f; next_is = e }
     by_result (Err s) f e = absurd (cc)
@@ -96,7 +97,8 @@ book_right word d bytes commands e = by_answer (judged_lines d [] (said_by bytes
     by_answer (Err fault) f e = absurd (cc)
 
 -- so the two are a plan
-plan_right : (site book : Word) (given : Given) (plan : Plan) → (plan_meaning site book given).result ≡ Ok plan →
+plan_right : (site book : FileArgument) (given : Readings) (plan : Plan) →
+    (plan_meaning site book given).result ≡ Ok plan →
     IsPlan plan
 unfolding plan_by site_of_file book_of_file
 plan_right site book given plan e =
@@ -140,23 +142,25 @@ status_is plan bytes e = e
 -- each period of a broadcast names its cover in the file that the broadcast is
 pub file_names : (plan : Plan) (bytes : List ℕ) (q : ℕ) → IsPlan plan → IsClear plan.site (taken_of bytes) →
     AreBytes bytes → plan.site.first_period ≤ q → q ≤ period_of plan (length (taken_of bytes) - 1) →
-    NamesPeriod plan q (named plan.site.height plan.site.emm q (taken_of (concat (broadcast plan (taken_of bytes)))))
+    NamesPeriod plan q (sets_named plan.site.height plan.site.emm q
+    (taken_of (concat (broadcast plan (taken_of bytes)))))
 file_names plan bytes q is all bytes_are from within =
     let clear : List (List ℕ) = taken_of bytes in
     let whole = taken_whole bytes bytes_are in
     let taken = broadcast_taken plan clear is all whole (taken_synced bytes) in
     let long = All-weaker IsWholePacket (λ (packet : List ℕ). length packet ≡ 188) (λ packet w. w.long) clear whole in
-    subst (λ (ps : List (List ℕ)). NamesPeriod plan q (named plan.site.height plan.site.emm q ps)) (sym taken.0)
+    subst (λ (ps : List (List ℕ)). NamesPeriod plan q (sets_named plan.site.height plan.site.emm q ps)) (sym taken.0)
     (period_named plan clear q is all long from within)
 
-module _ (words : List (List ℕ)) (site book clear out : Word) (files : Files) (a b : Outside)
+module _ (words : List (List ℕ)) (site book clear out : FileArgument) (files : Files) (a b : Outside)
     (order : order_of words ≡ Ok (HeadOf site book clear out)) (known : a.place.files ≡ Some files) where
   -- by the work that was done
-  sent_work : (work : Work) → (head_meaning site book clear out (told_by files)).result ≡ Ok work → work.ends ≡ Done →
+  sent_work : (work : Work) → (head_meaning site book clear out (contents_of files)).result ≡ Ok work →
+      work.ends ≡ Done →
       b.place.files ≡ files_with work.out (Some files) → IsSent site book clear out files b
   unfolding head_meaning
   sent_work work meant ends left =
-      let given = told_by files in
+      let given = contents_of files in
       let plan = then_ok (plan_meaning site book given) (sending_of clear out (given clear)) work meant in
       let bytes = then_ok (all_of clear.number (given clear)) (λ bytes. value (sending plan.from out bytes)) work
       plan.next_is in
@@ -181,10 +185,10 @@ module _ (words : List (List ℕ)) (site book clear out : Word) (files : Files) 
       }
 
   -- by the answer
-  pub head_done : Answers (meaning words) a b Done → IsSent site book clear out files b
+  pub head_done : RunResult (meaning words) a b Done → IsSent site book clear out files b
   head_done answers =
       let done = done_leaves (meaning words) files a b Done known refl answers in
       sent_work done.work
-      (sym (ap (λ (r : Result Order Status). (judged r >>= λ o. order_meaning o (told_by files)).result) order)
+      (sym (ap (λ (r : Result Order Status). (judged r >>= λ o. order_meaning o (contents_of files)).result) order)
       ∙ done.is_meant)
       done.ends (done.made.files ∙ ap (files_with done.work.out) known)

@@ -19,11 +19,11 @@ use Rattle.sd_status.specs.declared.status.Status.TheVariants.{Done, Usage, Miss
 use Rattle.sd_status.specs.declared.status.Status.TheVariants.{BadSite, BadBook, BadCard, BadClear, BadStream, Limit}
 use Rattle.sd_status.specs.declared.status.Status.TheVariants.{NoMemory, Unheard, Unclosed, Gaps, NoCat, BadWord, Clash}
 use Rattle.sd_status.specs.declared.status.LimitKind.TheVariants.{SiteBytes, BookBytes, TrialHeight}
-use Rattle.sd_status.specs.Meant.{Word, Given, told_by, all_of, judged, value, within, ◌>>=◌}
+use Rattle.sd_status.specs.Spec.{FileArgument, Readings, contents_of, all_of, judged, value, within, ◌>>=◌}
 use Rattle.sd_status.specs.Outside.{Outside}
 use Rattle.sd_status.specs.Work.{Work}
-use Rattle.sd_status.specs.Comes.{PrintsAll}
-use Rattle.sd_status.specs.Answers.{Answers}
+use Rattle.sd_status.specs.Outcome.{PrintsAll}
+use Rattle.sd_status.specs.Results.{RunResult}
 use Rattle.sd_files.specs.Files.{most_site_bytes, most_book_bytes, told_site, told_book, site_of_file, book_of_file}
 use Rattle.sd_run_head.specs.Head.{sent_of, sent_status, status_where}
 use Rattle.sd_run_trial.specs.Trial.{most_height}
@@ -32,7 +32,7 @@ use Rattle.sd_run_trial.specs.Prefixes.{prefix_of_file}
 use Rattle.sd_run_trial.proofs.Prefixes.{whole_prefix}
 use Rattle.sd_run_trial.specs.Trial.{told_low, low_site_of_file, plan_by, plan_meaning, sent_or, told_sent, told_line}
 use Rattle.sd_files.specs.Printed.{printing}
-use Rattle.sd_run_trial.specs.Trial.{receiver_line, then_line, lines_to, lines_of, clear_line, trial_text}
+use Rattle.sd_run_trial.specs.Trial.{receiver_line, then_line, lines_to, trial_lines, clear_line, trial_text}
 use Rattle.sd_run_trial.specs.Trial.{trying, trial_meaning}
 use Rattle.sd_printed.specs.Trials.{opened_lines}
 use Rattle.sd_printed.proofs.Tried.{trial_right, trial_done}
@@ -95,7 +95,7 @@ lines_refused site bytes first (suc n) e =
     (receiver_refused site bytes n) e
 
 all_refused : (plan : Plan) (clear : ℕ) (sent : Result (List ℕ) Status) → (sent ≡ Err Done → ⊥) →
-    lines_of plan clear sent ≡ Err Done → ⊥
+    trial_lines plan clear sent ≡ Err Done → ⊥
 all_refused plan clear (Ok sent) a e =
     lines_refused plan.site sent (clear_line _ _) (2 ^ plan.site.height) e
 all_refused plan clear (Err status) a e = a e
@@ -131,7 +131,8 @@ low_right site found e = by_test (nat_lt most_height site.height) refl e
     by_test true f e = absurd (cc)
     by_test false f e = (let same : site ≡ found = cc in same, ltb-false most_height site.height f)
 
-low_plan : (site book : Word) (given : Given) (plan : Plan) → (plan_meaning site book given).result ≡ Ok plan →
+low_plan : (site book : FileArgument) (given : Readings) (plan : Plan) →
+    (plan_meaning site book given).result ≡ Ok plan →
     IsPlan plan × (plan.site.height ≤ most_height)
 unfolding plan_by low_site_of_file site_of_file book_of_file
 low_plan site book given plan e =
@@ -167,11 +168,11 @@ lines_printed plan bytes text work a b is told pieces printed are =
     subst (λ (l : List ℕ). Appends a.page.printed b.page.printed l) printed_is printed
 
 -- a trial that is done had good files and printed their lines
-pub trial_tried : (site book clear : Word) (files : Files) (a b : Outside) → a.place.files ≡ Some files →
-    Answers (trial_meaning site book clear) a b Done → IsTried site book clear files a b
+pub trial_tried : (site book clear : FileArgument) (files : Files) (a b : Outside) → a.place.files ≡ Some files →
+    RunResult (trial_meaning site book clear) a b Done → IsTried site book clear files a b
 unfolding trial_meaning prefix_of_file
 trial_tried site book clear files a b known answers =
-    let given = told_by files in
+    let given = contents_of files in
     let most = most_clear_bytes in
     let done = done_leaves (trial_meaning site book clear) files a b Done known refl answers in
     let plan = then_ok (plan_meaning site book given)

@@ -5,7 +5,7 @@ use Rattle.sd_site.specs.Fields.{SiteFields}
 use Rattle.sd_broadcast.specs.Plan.{Plan}
 use Rattle.sd_status.specs.declared.status.Status.TheVariants.{Limit}
 use Rattle.sd_status.specs.declared.status.LimitKind.TheVariants.{TrialHeight}
-use Rattle.sd_status.specs.Meant.{Word, Given, judged, value, ◌>>=◌}
+use Rattle.sd_status.specs.Spec.{FileArgument, Readings, judged, value, ◌>>=◌}
 use Rattle.sd_files.specs.Files.{site_in, book_in}
 use Rattle.sd_words.specs.Words.{TrialOf}
 use Rattle.sd_run_trial.specs.Trial.{most_height}
@@ -20,7 +20,7 @@ use Rattle.sd_run_laws.proofs.Goodness.{then_is, site_good, site_low, book_good,
 use Rattle.sd_run_laws.proofs.Plans.{good_plan}
 
 -- a site whose tree is low enough is taken
-low_good : (given : Given) (word : Word) (fields : SiteFields) → IsGoodSite (given word) fields →
+low_good : (given : Readings) (word : FileArgument) (fields : SiteFields) → IsGoodSite (given word) fields →
     fields.height ≤ most_height → (low_site_of_file word.number (given word)).result ≡ Ok fields
 unfolding low_site_of_file
 low_good given word fields good low =
@@ -28,7 +28,7 @@ low_good given word fields good low =
     ∙ ap (λ b. cond b (Err (Limit TrialHeight)) (Ok fields)) (le-ltb most_height fields.height low)
 
 -- it and a book of its tree are the plan
-plan_said : (given : Given) (site book : Word) (plan : Plan) → IsGoodSite (given site) plan.site →
+plan_said : (given : Readings) (site book : FileArgument) (plan : Plan) → IsGoodSite (given site) plan.site →
     plan.site.height ≤ most_height → IsGoodBook (given book) plan.site.height plan.commands →
     (plan_meaning site book given).result ≡ Ok plan
 unfolding plan_by
@@ -41,7 +41,7 @@ plan_said given site book plan good_site low good_book =
     (λ commands. value {A = Plan} (record { site = plan.site; commands = commands }))
     (book_good given plan.site.height book plan.commands (site_low (given site) plan.site good_site) good_book)
 
-pub trial_good : (words : List (List ℕ)) (given : Given) (good : IsGoodTrial words given) →
+pub trial_good : (words : List (List ℕ)) (given : Readings) (good : IsGoodTrial words given) →
     (meaning words given).result
     ≡ Ok (printing (Ok (opened_lines (plan_tried good) (taken_of good.bytes) (2 ^ good.fields.height))))
 trial_good words given good =

@@ -6,7 +6,7 @@ use Rattle.sd_broadcast.specs.Refused.{IsClear}
 use Rattle.sd_whole.specs.Synced.{AreBytes}
 use Rattle.sd_events.specs.declared.event.Event.{Event}
 use Rattle.sd_field.specs.Script.{script_of}
-use Rattle.sd_status.specs.Meant.{Word, Given}
+use Rattle.sd_status.specs.Spec.{FileArgument, Readings}
 use Rattle.sd_fielded.specs.Fielded.{sent_for}
 use Rattle.sd_words.specs.Words.{FieldOf, order_of}
 use Rattle.sd_run_laws.specs.Good.{IsGoodSite}
@@ -14,10 +14,10 @@ use Rattle.sd_run_laws.specs.Good.{IsGoodSite}
 -- The arguments are `field SITE CLEAR SCRIPT`, and the files are there: a site whose tree is at most 6 high, at most
 -- 16,384 packets and nothing else, and a script for the tree. No packet that the script sends is refused [this project,
 -- docs/FORMATS.md, Field].
-pub record IsGoodField (words : List (List ℕ)) (given : Given) : Type 0 where
-  pub site : Word
-  pub clear : Word
-  pub script : Word
+pub record IsGoodField (words : List (List ℕ)) (given : Readings) : Type 0 where
+  pub site : FileArgument
+  pub clear : FileArgument
+  pub script : FileArgument
   pub order : order_of words ≡ Ok (FieldOf site clear script)
   pub fields : SiteFields
   pub good_site : IsGoodSite (given site) fields

@@ -3,7 +3,7 @@ use Rattle.std.specs.Prelude.{◌≡◌, ◌≢◌, ℕ, ◌+◌, ◌-◌, ◌*�
 use Rattle.std.specs.FinMap.{get}
 use Rattle.std.specs.List.{concat}
 use Rattle.std.specs.Option.{option_and_then}
-use Rattle.sd_cause.specs.Count.{IsCalm}
+use Rattle.sd_cause.specs.Count.{HasNotRisen}
 use Rattle.sd_label.specs.Names.{given}
 use Rattle.sd_site.specs.Fields.{SiteFields}
 use Rattle.sd_secrets.specs.Secrets.{secret_of}
@@ -12,7 +12,7 @@ use Rattle.sd_card.specs.Fields.{card_head}
 use Rattle.sd_engine.specs.Taken.{taken_of}
 use Rattle.sd_broadcast.specs.Plan.{Plan, period_of}
 use Rattle.sd_broadcast.specs.Sent.{broadcast}
-use Rattle.sd_sent.specs.Named.{named, NamesPeriod}
+use Rattle.sd_sent.specs.Named.{sets_named, NamesPeriod}
 use Rattle.sd_losses.specs.Confirmed.{opened_by}
 use Rattle.sd_losses.specs.Endings.{first_revoked}
 use Rattle.sd_status.specs.declared.status.Status.{Status}
@@ -53,9 +53,9 @@ pub record AreGiven (at : Outside) (names : Names) (plan : Plan) (packets : List
   pub clear : IsGoodClear (file_in at names.clear) plan.site packets
 
 -- no I/O error occurred, and memory sufficed
-pub record WentWell (a b : Outside) (answer : Status) : Type 0 where
-  pub depot : IsCalm a.place.faults b.place.faults
-  pub print : IsCalm a.page.faults b.page.faults
+pub record IsUndisturbed (a b : Outside) (answer : Status) : Type 0 where
+  pub depot : HasNotRisen a.place.faults b.place.faults
+  pub print : HasNotRisen a.page.faults b.page.faults
   pub memory : answer ≢ NoMemory
 
 -- the card of leaf u as a file: its head, the secrets of the names that the leaf is given, and the check value of both
@@ -73,7 +73,7 @@ pub record HeadResult (names : Names) (plan : Plan) (clear : List (List ℕ)) (a
     -- revoked. It is one set if none is, and at most 2r - 1 sets if r > 0 are. No label or key of a named set is
     -- derivable from what a revoked leaf is given
     pub periods : (q : ℕ) → plan.site.first_period ≤ q → q ≤ period_of plan (length clear - 1) →
-        NamesPeriod plan q (named plan.site.height plan.site.emm q (taken_of (concat (broadcast plan clear))))
+        NamesPeriod plan q (sets_named plan.site.height plan.site.emm q (taken_of (concat (broadcast plan clear))))
     -- all other files are as they were
     pub others : (name : List ℕ) → name ≢ names.stream → file_in b name ≡ file_in a name
 

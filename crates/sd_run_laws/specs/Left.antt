@@ -5,16 +5,16 @@ use Rattle.sd_cause.specs.Count.{with_added}
 use Rattle.sd_ports.specs.Files.{Files}
 use Rattle.sd_ports.specs.Bytes.{IsPrefix}
 use Rattle.sd_status.specs.declared.status.Status.{Status}
-use Rattle.sd_status.specs.Outside.{Place}
+use Rattle.sd_status.specs.Outside.{DepotState}
 use Rattle.sd_status.specs.Work.{Out, Work}
 
 -- all files are as they were, and none was made
-pub record IsAsBefore (files : Files) (a b : Place) : Type 0 where
+pub record IsAsBefore (files : Files) (a b : DepotState) : Type 0 where
   pub left : b.files ≡ Some files
   pub made : b.made ≡ a.made
 
 -- OUT of the work was made, with a prefix of its due contents, and all other files are as they were
-pub record HasOut (files : Files) (meant : Result Work Status) (a b : Place) : Type 0 where
+pub record HasOut (files : Files) (meant : Result Work Status) (a b : DepotState) : Type 0 where
   pub work : Work
   pub is_meant : meant ≡ Ok work
   pub out : Out

@@ -13,15 +13,15 @@ use Rattle.sd_losses.specs.Taken.{how_many}
 use Rattle.sd_status.specs.declared.status.Status.{Status}
 use Rattle.sd_status.specs.declared.status.Status.TheVariants.{Revoked}
 use Rattle.sd_status.specs.Outside.{Outside}
-use Rattle.sd_status.specs.Meant.{Word, Given}
+use Rattle.sd_status.specs.Spec.{FileArgument, Readings}
 use Rattle.sd_status.specs.Work.{UpTo, Work}
 use Rattle.sd_words.specs.Words.{ReceiveOf, order_of}
 use Rattle.sd_run_receive.specs.Receive.{ending_status}
 use Rattle.sd_run_laws.specs.Headline.{Names, file_in}
 
 -- the things of a broadcast that are kept
-unfoldable pub kept_of : Plan → List (List ℕ) → List Bool → List Item
-kept_of plan clear flags = chosen flags (sent plan clear ++ closing_of plan clear)
+unfoldable pub kept_items : Plan → List (List ℕ) → List Bool → List Item
+kept_items plan clear flags = chosen flags (sent plan clear ++ closing_of plan clear)
 
 -- the number of periods of which a section that has a set with leaf u is kept after the CAT
 unfoldable pub kept_periods : Plan → ℕ → List (List ℕ) → List Item → ℕ
@@ -31,10 +31,10 @@ kept_periods plan u clear kept =
 -- the arguments are `receive CARD STREAM OUT`. CARD is the card of leaf u of the site, and STREAM is the packets that
 -- are kept of the broadcast of the clear stream, one after the other
 pub record IsRestTo (plan : Plan) (u : ℕ) (clear : List (List ℕ)) (flags : List Bool) (words : List (List ℕ))
-    (given : Given) : Type 0 where
-  pub card : Word
-  pub stream : Word
-  pub out : Word
+    (given : Readings) : Type 0 where
+  pub card : FileArgument
+  pub stream : FileArgument
+  pub out : FileArgument
   pub order : order_of words ≡ Ok (ReceiveOf card stream out)
   pub card_there : given card ≡ Some (card_bytes (card_of plan.site.master plan.site.ca plan.site.height u))
   pub there : given stream ≡ Some (concat (chosen flags (broadcast plan clear)))
@@ -43,8 +43,8 @@ pub record IsRestTo (plan : Plan) (u : ℕ) (clear : List (List ℕ)) (flags : L
 -- its order. No packet is refused. The status is how the broadcast ends for the leaf; if it is `Revoked` the leaf is.
 -- For each period of which a section with a set of the leaf is kept, at most as many steps are taken as the tree is
 -- high
-pub record IsConfirmed (plan : Plan) (u : ℕ) (clear : List (List ℕ)) (kept : List Item) (out : Word) (work : Work) :
-    Type 0 where
+pub record IsConfirmed (plan : Plan) (u : ℕ) (clear : List (List ℕ)) (kept : List Item) (out : FileArgument)
+    (work : Work) : Type 0 where
   pub file : work.out
       ≡ Some (record { word = out.number; name = out.text; bytes = concat (confirmed plan u clear kept) })
   pub parts : List Bool

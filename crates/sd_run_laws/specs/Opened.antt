@@ -10,7 +10,7 @@ use Rattle.sd_losses.specs.Endings.{first_revoked}
 use Rattle.sd_losses.specs.Taken.{how_many}
 use Rattle.sd_status.specs.declared.status.Status.{Status}
 use Rattle.sd_status.specs.declared.status.Status.TheVariants.{Done, Revoked}
-use Rattle.sd_status.specs.Meant.{Word, Given}
+use Rattle.sd_status.specs.Spec.{FileArgument, Readings}
 use Rattle.sd_status.specs.Work.{UpTo, Work}
 use Rattle.sd_words.specs.Words.{ReceiveOf, order_of}
 
@@ -27,11 +27,12 @@ revoked_status u (Some q) = Revoked u q
 
 -- the arguments are `receive CARD STREAM OUT`. CARD is the card of leaf u of the site, and the packets of STREAM are
 -- the broadcast of the clear stream
-pub record IsBroadcastTo (plan : Plan) (u : ℕ) (clear : List (List ℕ)) (words : List (List ℕ)) (given : Given) : Type 0
+pub record IsBroadcastTo (plan : Plan) (u : ℕ) (clear : List (List ℕ)) (words : List (List ℕ)) (given : Readings) : Type
+    0
   where
-    pub card : Word
-    pub stream : Word
-    pub out : Word
+    pub card : FileArgument
+    pub stream : FileArgument
+    pub out : FileArgument
     pub order : order_of words ≡ Ok (ReceiveOf card stream out)
     pub card_there : given card ≡ Some (card_bytes (card_of plan.site.master plan.site.ca plan.site.height u))
     pub bytes : List ℕ
@@ -42,7 +43,7 @@ pub record IsBroadcastTo (plan : Plan) (u : ℕ) (clear : List (List ℕ)) (word
 -- OUT is the clear packets of the periods in which leaf u isn't revoked. The status is `Done`, or names the leaf as
 -- revoked and the first of the broadcast's periods in which it is. For each period in which it isn't, at most as many
 -- steps are taken as the tree is high
-pub record IsOpened (plan : Plan) (u : ℕ) (clear : List (List ℕ)) (out : Word) (work : Work) : Type 0 where
+pub record IsOpened (plan : Plan) (u : ℕ) (clear : List (List ℕ)) (out : FileArgument) (work : Work) : Type 0 where
   pub file : work.out ≡ Some (record { word = out.number; name = out.text; bytes = concat (opened_by plan u clear) })
   pub printed : work.pieces ≡ []
   pub ends : work.ends ≡ revoked_status u (first_revoked plan u clear)

@@ -7,17 +7,17 @@ use Rattle.sd_engine.specs.Taken.{Whole, taken_of, end_of}
 use Rattle.sd_broadcast.specs.Plan.{Plan, IsPlan, period_of}
 use Rattle.sd_broadcast.specs.Refused.{IsClear}
 use Rattle.sd_broadcast.specs.Sent.{broadcast}
-use Rattle.sd_sent.specs.Named.{named, NamesPeriod}
+use Rattle.sd_sent.specs.Named.{sets_named, NamesPeriod}
 use Rattle.sd_whole.specs.Synced.{AreBytes}
-use Rattle.sd_status.specs.Meant.{Word, told_by}
+use Rattle.sd_status.specs.Spec.{FileArgument, contents_of}
 use Rattle.sd_status.specs.Outside.{Outside}
 use Rattle.sd_run_head.specs.Head.{plan_meaning}
 
 -- OUT has the broadcast of what these files say, of which each period names its cover.
-pub record IsSent (site book clear out : Word) (files : Files) (b : Outside) : Type 0 where
+pub record IsSent (site book clear out : FileArgument) (files : Files) (b : Outside) : Type 0 where
   -- the site and the book that their files say, within their limits
   pub plan : Plan
-  pub said : (plan_meaning site book (told_by files)).result ≡ Ok plan
+  pub said : (plan_meaning site book (contents_of files)).result ≡ Ok plan
   pub is_plan : IsPlan plan
   -- the clear stream, of which no packet is refused
   pub bytes : List ℕ
@@ -32,4 +32,4 @@ pub record IsSent (site book clear out : Word) (files : Files) (b : Outside) : T
   pub periods : AreBytes bytes → (q : ℕ) → plan.site.first_period ≤ q →
       q ≤ period_of plan (length (taken_of bytes) - 1) →
       NamesPeriod plan q
-      (named plan.site.height plan.site.emm q (taken_of (concat (broadcast plan (taken_of bytes)))))
+      (sets_named plan.site.height plan.site.emm q (taken_of (concat (broadcast plan (taken_of bytes)))))

@@ -9,7 +9,7 @@ use Rattle.sd_book.specs.declared.command.Command.{Command}
 use Rattle.sd_broadcast.specs.Plan.{Plan, IsPlan}
 use Rattle.sd_broadcast.specs.Refused.{IsClear}
 use Rattle.sd_whole.specs.Synced.{AreBytes}
-use Rattle.sd_status.specs.Meant.{Word, Given, told_by}
+use Rattle.sd_status.specs.Spec.{FileArgument, Readings, contents_of}
 use Rattle.sd_status.specs.Outside.{Outside}
 use Rattle.sd_words.specs.Words.{TrialOf, order_of}
 use Rattle.sd_run_trial.specs.Trial.{most_clear_bytes}
@@ -20,10 +20,10 @@ use Rattle.sd_run_laws.specs.Good.{IsGoodSite, IsGoodBook}
 
 -- the arguments are `trial SITE BOOK CLEAR`, and the files are there: a site whose tree is low enough, a book of its
 -- tree, and a stream within the limit of which no packet is refused
-pub record IsGoodTrial (words : List (List ℕ)) (given : Given) : Type 0 where
-  pub site : Word
-  pub book : Word
-  pub clear : Word
+pub record IsGoodTrial (words : List (List ℕ)) (given : Readings) : Type 0 where
+  pub site : FileArgument
+  pub book : FileArgument
+  pub clear : FileArgument
   pub order : order_of words ≡ Ok (TrialOf site book clear)
   pub fields : SiteFields
   pub good_site : IsGoodSite (given site) fields
@@ -38,14 +38,14 @@ pub record IsGoodTrial (words : List (List ℕ)) (given : Given) : Type 0 where
   pub is_clear : IsClear fields (taken_of bytes)
 
 -- the plan that they say
-abbrev pub plan_tried : {words : List (List ℕ)} {given : Given} → IsGoodTrial words given → Plan
+abbrev pub plan_tried : {words : List (List ℕ)} {given : Readings} → IsGoodTrial words given → Plan
 plan_tried good = record { site = good.fields; commands = good.commands }
 
 -- What a trial that is done leaves: its files were good, and exactly their lines were printed.
-pub record IsTried (site book clear : Word) (files : Files) (a b : Outside) : Type 0 where
+pub record IsTried (site book clear : FileArgument) (files : Files) (a b : Outside) : Type 0 where
   -- the site and the book that their files say, within their limits
   pub plan : Plan
-  pub said : (plan_meaning site book (told_by files)).result ≡ Ok plan
+  pub said : (plan_meaning site book (contents_of files)).result ≡ Ok plan
   pub is_plan : IsPlan plan
   pub low : plan.site.height ≤ most_height
   -- the clear stream, of which no packet is refused

@@ -4,30 +4,30 @@ ghost use Rattle.std.specs.Prelude.{Ok, map, string_bytes};
 ghost use Rattle.std.specs.FinMap.{get};
 ghost use Rattle.std.specs.Io.KnownBytes.{Appends};
 ghost use Rattle.sd_cause.specs.Count.{with_added};
-ghost use Rattle.sd_status.specs.Comes.{IsUnmade};
+ghost use Rattle.sd_status.specs.Outcome.{IsUnmade};
 ghost use Rattle.sd_status.specs.Texts.{line_of};
 ghost use Rattle.sd_ports.specs.Files.{Files};
-ghost use Rattle.sd_status.specs.Meant.{Word, told_by};
+ghost use Rattle.sd_status.specs.Spec.{FileArgument, contents_of};
 ghost use Rattle.sd_words.specs.Words.{HeadOf, order_of};
 ghost use Rattle.sd_run_laws.specs.Sent.{IsSent};
-ghost use Rattle.sd_text.specs.Number.{number_of};
+ghost use Rattle.sd_text.specs.Number.{decimal_value};
 ghost use Rattle.sd_site.specs.Fields.{SiteFields};
 ghost use Rattle.sd_broadcast.specs.Plan.{Plan};
 ghost use Rattle.sd_broadcast.specs.Sent.{broadcast};
 ghost use Rattle.sd_losses.specs.Chosen.{chosen};
 ghost use Rattle.std.specs.List.{concat};
-ghost use Rattle.sd_status.specs.Outside.{Outside, outside, page, place};
-ghost use Rattle.sd_status.specs.Answers.{Answers};
+ghost use Rattle.sd_status.specs.Outside.{Outside, outside, page_state, depot_state};
+ghost use Rattle.sd_status.specs.Results.{RunResult};
 ghost use Rattle.sd_files.specs.Shown.{word_at};
 ghost use Rattle.sd_run_card.specs.Card.{card_meaning};
 ghost use Rattle.sd_run_head.specs.Head.{head_meaning};
 ghost use Rattle.sd_run_receive.specs.Receive.{receive_meaning};
 ghost use Rattle.sd_run.specs.Meaning.{meaning};
 ghost use Rattle.sd_run_laws.specs.Good.{IsGoodSite};
-ghost use Rattle.sd_run_laws.specs.Lost.{kept_of, LossResult};
+ghost use Rattle.sd_run_laws.specs.Lost.{kept_items, LossResult};
 ghost use Rattle.sd_run.specs.Refusals.{RefusesFirst};
 ghost use Rattle.sd_run_laws.specs.Outcome.{IsDone, out_name};
-ghost use Rattle.sd_run_laws.specs.Headline.{Names, head_run, card_run, receive_run, file_in, AreGiven, WentWell};
+ghost use Rattle.sd_run_laws.specs.Headline.{Names, head_run, card_run, receive_run, file_in, AreGiven, IsUndisturbed};
 ghost use Rattle.sd_run_laws.specs.Headline.{card_for, HeadResult, CardResult, ReceiveResult};
 
 use sd_ports::{Depot, Sink};
@@ -58,64 +58,65 @@ pub fn run<D: Depot, P: Sink, L: Ledger>(
         map string_bytes words.now
         ≡ codes "head" ∷ names.site ∷ names.book ∷ names.clear ∷ names.stream ∷ [] →
         names.stream ≢ names.site → names.stream ≢ names.book → names.stream ≢ names.clear →
-        AreGiven (outside (place D.Depot depot.old) (page P.Sink print.old) steps.old) names plan clear →
-        WentWell (outside (place D.Depot depot.old) (page P.Sink print.old) steps.old)
-        (outside (place D.Depot depot.new) (page P.Sink print.new) steps.new) result →
-        HeadResult names plan clear (outside (place D.Depot depot.old) (page P.Sink print.old) steps.old)
-        (outside (place D.Depot depot.new) (page P.Sink print.new) steps.new) result }
+        AreGiven (outside (depot_state D.Depot depot.old) (page_state P.Sink print.old) steps.old) names plan clear →
+        IsUndisturbed (outside (depot_state D.Depot depot.old) (page_state P.Sink print.old) steps.old)
+        (outside (depot_state D.Depot depot.new) (page_state P.Sink print.new) steps.new) result →
+        HeadResult names plan clear (outside (depot_state D.Depot depot.old) (page_state P.Sink print.old) steps.old)
+        (outside (depot_state D.Depot depot.new) (page_state P.Sink print.new) steps.new) result }
     // Over a good site `card` makes the leaf's card.
     ensures card { (names : Names) (leaf : List ℕ) (site : SiteFields) (u : ℕ) →
         map string_bytes words.now ≡ codes "card" ∷ names.site ∷ leaf ∷ names.card ∷ [] →
-        number_of leaf ≡ Some u → names.card ≢ names.site →
-        IsGoodSite (file_in (outside (place D.Depot depot.old) (page P.Sink print.old) steps.old) names.site) site →
+        decimal_value leaf ≡ Some u → names.card ≢ names.site →
+        IsGoodSite (file_in (outside (depot_state D.Depot depot.old) (page_state P.Sink print.old) steps.old)
+        names.site) site →
         u < 2 ^ site.height →
-        WentWell (outside (place D.Depot depot.old) (page P.Sink print.old) steps.old)
-        (outside (place D.Depot depot.new) (page P.Sink print.new) steps.new) result →
-        CardResult names site u (outside (place D.Depot depot.old) (page P.Sink print.old) steps.old)
-        (outside (place D.Depot depot.new) (page P.Sink print.new) steps.new) result }
+        IsUndisturbed (outside (depot_state D.Depot depot.old) (page_state P.Sink print.old) steps.old)
+        (outside (depot_state D.Depot depot.new) (page_state P.Sink print.new) steps.new) result →
+        CardResult names site u (outside (depot_state D.Depot depot.old) (page_state P.Sink print.old) steps.old)
+        (outside (depot_state D.Depot depot.new) (page_state P.Sink print.new) steps.new) result }
     // Over the card of a leaf and a broadcast, wherever they were made, `receive` makes what the leaf is entitled to.
     ensures receive { (names : Names) (plan : Plan) (u : ℕ) (clear : List (List ℕ)) (z : Outside) →
         map string_bytes words.now ≡ codes "receive" ∷ names.card ∷ names.stream ∷ names.out ∷ [] →
         names.out ≢ names.card → names.out ≢ names.stream →
         AreGiven z names plan clear → u < 2 ^ plan.site.height →
-        file_in (outside (place D.Depot depot.old) (page P.Sink print.old) steps.old) names.card
+        file_in (outside (depot_state D.Depot depot.old) (page_state P.Sink print.old) steps.old) names.card
         ≡ Some (card_for plan.site u) →
-        file_in (outside (place D.Depot depot.old) (page P.Sink print.old) steps.old) names.stream
+        file_in (outside (depot_state D.Depot depot.old) (page_state P.Sink print.old) steps.old) names.stream
         ≡ Some (concat (broadcast plan clear)) →
-        WentWell (outside (place D.Depot depot.old) (page P.Sink print.old) steps.old)
-        (outside (place D.Depot depot.new) (page P.Sink print.new) steps.new) result →
-        ReceiveResult names plan u clear (outside (place D.Depot depot.old) (page P.Sink print.old) steps.old)
-        (outside (place D.Depot depot.new) (page P.Sink print.new) steps.new) result }
+        IsUndisturbed (outside (depot_state D.Depot depot.old) (page_state P.Sink print.old) steps.old)
+        (outside (depot_state D.Depot depot.new) (page_state P.Sink print.new) steps.new) result →
+        ReceiveResult names plan u clear (outside (depot_state D.Depot depot.old) (page_state P.Sink print.old) steps.old)
+        (outside (depot_state D.Depot depot.new) (page_state P.Sink print.new) steps.new) result }
     // Over the card of a leaf and any choice of a broadcast's packets it makes what the messages that arrived confirm.
     ensures lost { (names : Names) (plan : Plan) (u : ℕ) (clear : List (List ℕ)) (z : Outside) (flags : List Bool) →
         map string_bytes words.now ≡ codes "receive" ∷ names.card ∷ names.stream ∷ names.out ∷ [] →
         names.out ≢ names.card → names.out ≢ names.stream →
         AreGiven z names plan clear → u < 2 ^ plan.site.height →
-        file_in (outside (place D.Depot depot.old) (page P.Sink print.old) steps.old) names.card
+        file_in (outside (depot_state D.Depot depot.old) (page_state P.Sink print.old) steps.old) names.card
         ≡ Some (card_for plan.site u) →
-        file_in (outside (place D.Depot depot.old) (page P.Sink print.old) steps.old) names.stream
+        file_in (outside (depot_state D.Depot depot.old) (page_state P.Sink print.old) steps.old) names.stream
         ≡ Some (concat (chosen flags (broadcast plan clear))) →
-        WentWell (outside (place D.Depot depot.old) (page P.Sink print.old) steps.old)
-        (outside (place D.Depot depot.new) (page P.Sink print.new) steps.new) result →
-        LossResult names plan u clear (kept_of plan clear flags)
-        (outside (place D.Depot depot.old) (page P.Sink print.old) steps.old)
-        (outside (place D.Depot depot.new) (page P.Sink print.new) steps.new) result }
+        IsUndisturbed (outside (depot_state D.Depot depot.old) (page_state P.Sink print.old) steps.old)
+        (outside (depot_state D.Depot depot.new) (page_state P.Sink print.new) steps.new) result →
+        LossResult names plan u clear (kept_items plan clear flags)
+        (outside (depot_state D.Depot depot.old) (page_state P.Sink print.old) steps.old)
+        (outside (depot_state D.Depot depot.new) (page_state P.Sink print.new) steps.new) result }
     // No file changes but OUT, which is the word at its place in the row of a command that makes a file.
     ensures files { (files : Files) (name : List ℕ) → D.files depot.old ≡ Some files →
         out_name (map string_bytes words.now) ≢ Some name →
-        file_in (outside (place D.Depot depot.new) (page P.Sink print.new) steps.new) name ≡ get files name }
+        file_in (outside (depot_state D.Depot depot.new) (page_state P.Sink print.new) steps.new) name ≡ get files name }
     // At most one file is made, and none by other commands.
-    ensures made { ((place D.Depot depot.new).made ≡ (place D.Depot depot.old).made)
-        ⊎ (((place D.Depot depot.new).made ≡ with_added (place D.Depot depot.old).made 1)
+    ensures made { ((depot_state D.Depot depot.new).made ≡ (depot_state D.Depot depot.old).made)
+        ⊎ (((depot_state D.Depot depot.new).made ≡ with_added (depot_state D.Depot depot.old).made 1)
         × IsSome (out_name (map string_bytes words.now))) }
     // `Done` is answered only if the work that is meant was done.
     ensures done { (files : Files) → D.files depot.old ≡ Some files → result ≡ Status.Done →
-        IsDone (meaning (map string_bytes words.now) (told_by files)).result
-        (outside (place D.Depot depot.old) (page P.Sink print.old) steps.old)
-        (outside (place D.Depot depot.new) (page P.Sink print.new) steps.new) }
+        IsDone (meaning (map string_bytes words.now) (contents_of files)).result
+        (outside (depot_state D.Depot depot.old) (page_state P.Sink print.old) steps.old)
+        (outside (depot_state D.Depot depot.new) (page_state P.Sink print.new) steps.new) }
     // A refusal of arguments or files has made no file and printed its line alone.
-    ensures refused { RefusesFirst result → IsUnmade (place D.Depot depot.old) (place D.Depot depot.new)
-        × Appends (page P.Sink print.old).printed (page P.Sink print.new).printed (line_of result) }
+    ensures refused { RefusesFirst result → IsUnmade (depot_state D.Depot depot.old) (depot_state D.Depot depot.new)
+        × Appends (page_state P.Sink print.old).printed (page_state P.Sink print.new).printed (line_of result) }
 {
     sd_run::run(alloc, words, depot, print, steps)
 }
@@ -124,35 +125,35 @@ pub fn run<D: Depot, P: Sink, L: Ledger>(
 /// clause of `run` meets this too.
 pub fn exactly_the_unrevoked_receive()
     ensures head { (names : Names) (plan : Plan) (clear : List (List ℕ)) (a b : Outside) (answer : Status) →
-        AreGiven a names plan clear → Answers (head_meaning (word_at 1 names.site) (word_at 2 names.book)
-        (word_at 3 names.clear) (word_at 4 names.stream)) a b answer → WentWell a b answer →
+        AreGiven a names plan clear → RunResult (head_meaning (word_at 1 names.site) (word_at 2 names.book)
+        (word_at 3 names.clear) (word_at 4 names.stream)) a b answer → IsUndisturbed a b answer →
         HeadResult names plan clear a b answer }
     ensures card { (names : Names) (site : SiteFields) (u : ℕ) (a b : Outside) (answer : Status) →
-        IsGoodSite (file_in a names.site) site → u < 2 ^ site.height → Answers (card_meaning (word_at 1 names.site)
-        (record { word = 2; value = u }) (word_at 3 names.card)) a b answer → WentWell a b answer →
+        IsGoodSite (file_in a names.site) site → u < 2 ^ site.height → RunResult (card_meaning (word_at 1 names.site)
+        (record { word = 2; value = u }) (word_at 3 names.card)) a b answer → IsUndisturbed a b answer →
         CardResult names site u a b answer }
     ensures receive { (names : Names) (plan : Plan) (u : ℕ) (clear : List (List ℕ)) (z a b : Outside)
         (answer : Status) → AreGiven z names plan clear → u < 2 ^ plan.site.height →
         file_in a names.card ≡ Some (card_for plan.site u) →
         file_in a names.stream ≡ Some (concat (broadcast plan clear)) →
-        Answers (receive_meaning (word_at 1 names.card) (word_at 2 names.stream) (word_at 3 names.out)) a b answer →
-        WentWell a b answer → ReceiveResult names plan u clear a b answer }
+        RunResult (receive_meaning (word_at 1 names.card) (word_at 2 names.stream) (word_at 3 names.out)) a b answer →
+        IsUndisturbed a b answer → ReceiveResult names plan u clear a b answer }
 {}
 
 /// A run with the arguments of `head`, `card` or `receive` is a run of the command, if the file that it makes is none
 /// that it reads.
 pub fn words_are_their_commands()
     ensures head { (names : Names) (a b : Outside) (answer : Status) → names.stream ≢ names.site →
-        names.stream ≢ names.book → names.stream ≢ names.clear → Answers (meaning (head_run names)) a b answer →
-        Answers (head_meaning (word_at 1 names.site) (word_at 2 names.book) (word_at 3 names.clear)
+        names.stream ≢ names.book → names.stream ≢ names.clear → RunResult (meaning (head_run names)) a b answer →
+        RunResult (head_meaning (word_at 1 names.site) (word_at 2 names.book) (word_at 3 names.clear)
         (word_at 4 names.stream)) a b answer }
     ensures card { (names : Names) (leaf : List ℕ) (u : ℕ) (a b : Outside) (answer : Status) →
-        names.card ≢ names.site → number_of leaf ≡ Some u → u < 2 ^ 32 →
-        Answers (meaning (card_run names leaf)) a b answer → Answers (card_meaning (word_at 1 names.site)
+        names.card ≢ names.site → decimal_value leaf ≡ Some u → u < 2 ^ 32 →
+        RunResult (meaning (card_run names leaf)) a b answer → RunResult (card_meaning (word_at 1 names.site)
         (record { word = 2; value = u }) (word_at 3 names.card)) a b answer }
     ensures receive { (names : Names) (a b : Outside) (answer : Status) → names.out ≢ names.card →
-        names.out ≢ names.stream → Answers (meaning (receive_run names)) a b answer →
-        Answers (receive_meaning (word_at 1 names.card) (word_at 2 names.stream) (word_at 3 names.out)) a b answer }
+        names.out ≢ names.stream → RunResult (meaning (receive_run names)) a b answer →
+        RunResult (receive_meaning (word_at 1 names.card) (word_at 2 names.stream) (word_at 3 names.out)) a b answer }
 {}
 
 /// If `head` succeeds in a file system whose contents the model knows, OUT has the broadcast of the site, book and
@@ -160,7 +161,7 @@ pub fn words_are_their_commands()
 /// unrevoked receivers, one if none is revoked and at most 2r - 1 if r > 0 are.
 #[tactic(auto, using(crate::proofs::Sent::head_done))]
 pub fn done_heads_name_their_covers()
-    ensures { (words : List (List ℕ)) (site book clear out : Word) (files : Files) (a b : Outside) →
+    ensures { (words : List (List ℕ)) (site book clear out : FileArgument) (files : Files) (a b : Outside) →
         order_of words ≡ Ok (HeadOf site book clear out) → a.place.files ≡ Some files →
-        Answers (meaning words) a b Status.Done → IsSent site book clear out files b }
+        RunResult (meaning words) a b Status.Done → IsSent site book clear out files b }
 {}

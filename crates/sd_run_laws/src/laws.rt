@@ -31,8 +31,8 @@ ghost use Rattle.sd_ports.specs.Files.{Files};
 ghost use Rattle.sd_sample.specs.Sample.{sample_of};
 ghost use Rattle.sd_status.specs.declared.status.Clash.{Clash as ClashKind};
 ghost use Rattle.sd_status.specs.declared.status.Status.TheVariants.{Clash};
-ghost use Rattle.sd_status.specs.Answers.{Answers};
-ghost use Rattle.sd_status.specs.Meant.{Word, told_by};
+ghost use Rattle.sd_status.specs.Results.{RunResult};
+ghost use Rattle.sd_status.specs.Spec.{FileArgument, contents_of};
 ghost use Rattle.sd_status.specs.Outside.{Outside};
 ghost use Rattle.sd_status.specs.Work.{NoSteps, Uncounted};
 ghost use Rattle.sd_run_cover.specs.Cover.{covering};
@@ -60,15 +60,15 @@ use sd_status::Status;
 
 /// `cover SITE BOOK` over a site and a book prints the sets of each period.
 pub fn good_covers_are_printed()
-    ensures { (words : List (List ℕ)) (files : Files) (good : IsGoodCover words (told_by files)) →
-        (meaning words (told_by files)).result ≡ Ok (covering good.fields.height good.commands) }
+    ensures { (words : List (List ℕ)) (files : Files) (good : IsGoodCover words (contents_of files)) →
+        (meaning words (contents_of files)).result ≡ Ok (covering good.fields.height good.commands) }
 {}
 
 /// `card SITE LEAF OUT` over a site with the leaf makes its card.
 #[tactic(auto, using(crate::proofs::Goodness::card_good))]
 pub fn good_cards_are_made()
-    ensures { (words : List (List ℕ)) (files : Files) (good : IsGoodCard words (told_by files)) →
-        (meaning words (told_by files)).result ≡ Ok (making Uncounted good.out
+    ensures { (words : List (List ℕ)) (files : Files) (good : IsGoodCard words (contents_of files)) →
+        (meaning words (contents_of files)).result ≡ Ok (making Uncounted good.out
         (card_bytes (card_of good.fields.master good.fields.ca good.fields.height good.leaf.value))) }
 {}
 
@@ -76,30 +76,30 @@ pub fn good_cards_are_made()
 #[tactic(auto, using(crate::proofs::Goodness::sample_good))]
 pub fn samples_are_made()
     ensures { (words : List (List ℕ)) (files : Files) (good : IsGoodSample words) →
-        (meaning words (told_by files)).result ≡ Ok (making NoSteps good.out (sample_of good.number good.packets)) }
+        (meaning words (contents_of files)).result ≡ Ok (making NoSteps good.out (sample_of good.number good.packets)) }
 {}
 
 /// `tables STREAM` over a stream of packets prints the lines of its tables, and is done.
 #[tactic(auto, using(crate::proofs::Goodness::tables_good))]
 pub fn good_tables_are_printed()
-    ensures { (words : List (List ℕ)) (files : Files) (good : IsGoodTables words (told_by files)) →
-        ((meaning words (told_by files)).result ≡ Ok (inspecting good.bytes))
+    ensures { (words : List (List ℕ)) (files : Files) (good : IsGoodTables words (contents_of files)) →
+        ((meaning words (contents_of files)).result ≡ Ok (inspecting good.bytes))
         × ((inspecting good.bytes).ends ≡ Status.Done) }
 {}
 
 /// `messages SITE STREAM` over a site and a stream of packets prints the lines of its messages, and is done.
 #[tactic(auto, using(crate::proofs::Monitors::messages_good))]
 pub fn good_messages_are_printed()
-    ensures { (words : List (List ℕ)) (files : Files) (good : IsGoodMessages words (told_by files)) →
-        ((meaning words (told_by files)).result ≡ Ok (monitoring good.fields good.bytes))
+    ensures { (words : List (List ℕ)) (files : Files) (good : IsGoodMessages words (contents_of files)) →
+        ((meaning words (contents_of files)).result ≡ Ok (monitoring good.fields good.bytes))
         × ((monitoring good.fields good.bytes).ends ≡ Status.Done) }
 {}
 
 /// `show CARD` over a card prints its line: its height, leaf and system, and the check at the end of its file.
 #[tactic(auto, using(crate::proofs::Monitors::show_good))]
 pub fn good_cards_are_shown()
-    ensures { (words : List (List ℕ)) (files : Files) (good : IsGoodShow words (told_by files)) →
-        (meaning words (told_by files)).result ≡ Ok (printing (shown_line good.fields.height good.fields.leaf
+    ensures { (words : List (List ℕ)) (files : Files) (good : IsGoodShow words (contents_of files)) →
+        (meaning words (contents_of files)).result ≡ Ok (printing (shown_line good.fields.height good.fields.leaf
         good.fields.ca (check_in (card_bytes good.fields)))) }
 {}
 
@@ -113,8 +113,8 @@ pub fn made_cards_are_shown()
 
 /// `head SITE BOOK CLEAR OUT` over a site, a book and a clear stream makes its broadcast, and is done.
 pub fn good_streams_are_broadcast()
-    ensures { (words : List (List ℕ)) (files : Files) (good : IsGoodHead words (told_by files)) →
-        ((meaning words (told_by files)).result ≡ Ok (sending (plan_told good) good.out good.bytes))
+    ensures { (words : List (List ℕ)) (files : Files) (good : IsGoodHead words (contents_of files)) →
+        ((meaning words (contents_of files)).result ≡ Ok (sending (plan_told good) good.out good.bytes))
         × (concat (broadcast (plan_told good) (taken_of good.bytes)) ≡ sent_of (plan_told good) good.bytes)
         × (Status.Done ≡ sent_status (plan_told good) good.bytes) }
 {}
@@ -122,8 +122,8 @@ pub fn good_streams_are_broadcast()
 /// `accounts SITE ACCOUNTS OUT` over a site and accounts makes the book that their lines make, and reports them.
 #[tactic(auto, using(crate::proofs::Kept::accounts_kept))]
 pub fn good_accounts_are_kept()
-    ensures { (words : List (List ℕ)) (files : Files) (good : IsGoodAccounts words (told_by files)) →
-        (meaning words (told_by files)).result ≡ Ok (making_then good.out (text_of good.commands)
+    ensures { (words : List (List ℕ)) (files : Files) (good : IsGoodAccounts words (contents_of files)) →
+        (meaning words (contents_of files)).result ≡ Ok (making_then good.out (text_of good.commands)
         (report_line (accounts_value good.fields.height good.bytes good.commands))) }
 {}
 
@@ -131,8 +131,8 @@ pub fn good_accounts_are_kept()
 /// second's.
 #[tactic(auto, using(crate::proofs::Kept::books_joined))]
 pub fn good_books_are_joined()
-    ensures { (words : List (List ℕ)) (files : Files) (good : IsGoodBooks words (told_by files)) →
-        (meaning words (told_by files)).result ≡ Ok (making NoSteps good.out (text_of (good.before ++ good.added))) }
+    ensures { (words : List (List ℕ)) (files : Files) (good : IsGoodBooks words (contents_of files)) →
+        (meaning words (contents_of files)).result ≡ Ok (making NoSteps good.out (text_of (good.before ++ good.added))) }
 {}
 
 /// The book that `accounts` or `book` makes is one that each other command reads, as the same commands.
@@ -145,16 +145,16 @@ pub fn made_books_are_read()
 /// `layered SITE BOOK WIDTH` over a site and a book prints the useful sets of each period.
 #[tactic(auto, using(crate::proofs::Layers::layered_good))]
 pub fn good_layers_are_printed()
-    ensures { (words : List (List ℕ)) (files : Files) (good : IsGoodLayered words (told_by files)) →
-        (meaning words (told_by files)).result ≡ Ok (layering good.fields.height good.width.value good.commands) }
+    ensures { (words : List (List ℕ)) (files : Files) (good : IsGoodLayered words (contents_of files)) →
+        (meaning words (contents_of files)).result ≡ Ok (layering good.fields.height good.width.value good.commands) }
 {}
 
 /// `plan SITE BOOK PACKETS PIDS` over a site that has a control word for each packet, and a book, prints what the
 /// broadcast takes.
 #[tactic(auto, using(crate::proofs::Operators::air_good))]
 pub fn good_plans_are_printed()
-    ensures { (words : List (List ℕ)) (files : Files) (good : IsGoodPlan words (told_by files)) →
-        (meaning words (told_by files)).result ≡ Ok (planning
+    ensures { (words : List (List ℕ)) (files : Files) (good : IsGoodPlan words (contents_of files)) →
+        (meaning words (contents_of files)).result ≡ Ok (planning
         (record { site = good.fields; commands = good.commands }) good.packets.value good.pids.value) }
 {}
 
@@ -162,46 +162,47 @@ pub fn good_plans_are_printed()
 /// with their clash if they do.
 #[tactic(auto, using(crate::proofs::Operators::apart_good, crate::proofs::Operators::apart_clashes))]
 pub fn good_sites_are_judged()
-    ensures apart { (words : List (List ℕ)) (files : Files) (good : IsGoodApart words (told_by files)) →
+    ensures apart { (words : List (List ℕ)) (files : Files) (good : IsGoodApart words (contents_of files)) →
         clash_of (record { site = good.fields; commands = good.commands })
         (record { site = good.other_fields; commands = good.more_commands }) ≡ None →
-        (meaning words (told_by files)).result ≡ Ok (saying (apart_text
+        (meaning words (contents_of files)).result ≡ Ok (saying (apart_text
         (record { site = good.fields; commands = good.commands })
         (record { site = good.other_fields; commands = good.more_commands }))) }
-    ensures clash { (words : List (List ℕ)) (files : Files) (good : IsGoodApart words (told_by files)) (clash : ClashKind) →
+    ensures clash { (words : List (List ℕ)) (files : Files) (good : IsGoodApart words (contents_of files))
+        (clash : ClashKind) →
         clash_of (record { site = good.fields; commands = good.commands })
         (record { site = good.other_fields; commands = good.more_commands }) ≡ Some clash →
-        (meaning words (told_by files)).result ≡ Err (Clash clash) }
+        (meaning words (contents_of files)).result ≡ Err (Clash clash) }
 {}
 
 /// `lcard SITE LEAF WIDTH OUT` over a site with the leaf makes its layer card.
 #[tactic(auto, using(crate::proofs::Layers::lcard_good))]
 pub fn good_layer_cards_are_made()
-    ensures { (words : List (List ℕ)) (files : Files) (good : IsGoodLcard words (told_by files)) →
-        (meaning words (told_by files)).result ≡ Ok (making Uncounted good.out (layer_bytes
+    ensures { (words : List (List ℕ)) (files : Files) (good : IsGoodLcard words (contents_of files)) →
+        (meaning words (contents_of files)).result ≡ Ok (making Uncounted good.out (layer_bytes
         (layer_card_of good.fields.master good.fields.ca good.fields.height good.width.value good.leaf.value))) }
 {}
 
 /// `opens SITE BOOK LEAVES` over good files prints the sets of each period, and which of them the leaves' cards open.
 #[tactic(auto, using(crate::proofs::Pooled::opens_good))]
 pub fn good_pools_are_printed()
-    ensures { (words : List (List ℕ)) (files : Files) (good : IsGoodOpens words (told_by files)) →
-        (meaning words (told_by files)).result ≡ Ok (opening good.fields.height good.pooled good.commands) }
+    ensures { (words : List (List ℕ)) (files : Files) (good : IsGoodOpens words (contents_of files)) →
+        (meaning words (contents_of files)).result ≡ Ok (opening good.fields.height good.pooled good.commands) }
 {}
 
 /// `trace SITE BOOK LEAVES` over good files prints the trace of a box with the leaves' cards in the last period.
 #[tactic(auto, using(crate::proofs::Pooled::trace_good))]
 pub fn good_traces_are_printed()
-    ensures { (words : List (List ℕ)) (files : Files) (good : IsGoodTrace words (told_by files)) →
-        (meaning words (told_by files)).result ≡ Ok (telling (trace_text
+    ensures { (words : List (List ℕ)) (files : Files) (good : IsGoodTrace words (contents_of files)) →
+        (meaning words (contents_of files)).result ≡ Ok (telling (trace_text
         (trace_of good.fields.height good.coalition (revoked_last good.fields.height good.commands)))) }
 {}
 
 /// `trial SITE BOOK CLEAR` over a good site, a good book and a clear stream prints the lines of what is opened.
 #[tactic(auto, using(crate::proofs::Tried::trial_good))]
 pub fn good_trials_are_printed()
-    ensures { (words : List (List ℕ)) (files : Files) (good : IsGoodTrial words (told_by files)) →
-        (meaning words (told_by files)).result ≡ Ok (tried (Ok
+    ensures { (words : List (List ℕ)) (files : Files) (good : IsGoodTrial words (contents_of files)) →
+        (meaning words (contents_of files)).result ≡ Ok (tried (Ok
         (opened_lines (plan_tried good) (taken_of good.bytes) (2 ^ good.fields.height)))) }
 {}
 
@@ -209,8 +210,8 @@ pub fn good_trials_are_printed()
 /// receivers.
 #[tactic(auto, using(crate::proofs::Fielded::field_good))]
 pub fn good_fields_are_printed()
-    ensures { (words : List (List ℕ)) (files : Files) (good : IsGoodField words (told_by files)) →
-        (meaning words (told_by files)).result ≡ Ok (tried (Ok (confirmed_lines good.fields (packets_of good.bytes)
+    ensures { (words : List (List ℕ)) (files : Files) (good : IsGoodField words (contents_of files)) →
+        (meaning words (contents_of files)).result ≡ Ok (tried (Ok (confirmed_lines good.fields (packets_of good.bytes)
         good.events (2 ^ good.fields.height)))) }
 {}
 
@@ -218,8 +219,8 @@ pub fn good_fields_are_printed()
 /// clear stream. It printed exactly the lines of what is opened.
 #[tactic(auto, using(crate::proofs::Trials::trial_tried))]
 pub fn done_trials_had_good_files()
-    ensures { (site book clear : Word) (files : Files) (a b : Outside) → a.place.files ≡ Some files →
-        Answers (trial_meaning site book clear) a b Status.Done → IsTried site book clear files a b }
+    ensures { (site book clear : FileArgument) (files : Files) (a b : Outside) → a.place.files ≡ Some files →
+        RunResult (trial_meaning site book clear) a b Status.Done → IsTried site book clear files a b }
 {}
 
 /// After a run in a file system whose contents the model knows, whatever its answer, one of two things holds. All
@@ -228,8 +229,8 @@ pub fn done_trials_had_good_files()
 #[tactic(auto, using(crate::proofs::Left::run_leaves))]
 pub fn no_file_changes_but_out()
     ensures { (words : List (List ℕ)) (files : Files) (a b : Outside) (answer : Status) →
-        a.place.files ≡ Some files → Answers (meaning words) a b answer →
-        IsAsBefore files a.place b.place ⊎ HasOut files (meaning words (told_by files)).result a.place b.place }
+        a.place.files ≡ Some files → RunResult (meaning words) a b answer →
+        IsAsBefore files a.place b.place ⊎ HasOut files (meaning words (contents_of files)).result a.place b.place }
 {}
 
 /// The sets of a period are disjoint and unite to exactly the leaves that aren't revoked in it. It is one set if none
@@ -243,8 +244,8 @@ pub fn printed_sets_unite()
 /// `receive CARD STREAM OUT` over a card and any stream makes what the card opens of it, and ends as the stream does.
 #[tactic(auto, using(crate::proofs::Broadcasts::receive_good))]
 pub fn streams_are_received()
-    ensures { (words : List (List ℕ)) (files : Files) (good : IsGoodReceive words (told_by files)) →
-        (meaning words (told_by files)).result ≡ Ok (receiving good.fields good.out good.bytes) }
+    ensures { (words : List (List ℕ)) (files : Files) (good : IsGoodReceive words (contents_of files)) →
+        (meaning words (contents_of files)).result ≡ Ok (receiving good.fields good.out good.bytes) }
 {}
 
 /// Take any broadcast, of any site, book within the limits and clear stream. `receive` with the card of a leaf writes
@@ -255,6 +256,6 @@ pub fn streams_are_received()
 pub fn broadcasts_are_opened_by_the_entitled()
     ensures { (plan : Plan) (u : ℕ) (clear : List (List ℕ)) (words : List (List ℕ)) (files : Files) → IsPlan plan →
         IsClear plan.site clear → AreWholePackets clear → u < 2 ^ plan.site.height →
-        (sent : IsBroadcastTo plan u clear words (told_by files)) →
-        (work : Work) × ((meaning words (told_by files)).result ≡ Ok work) × IsOpened plan u clear sent.out work }
+        (sent : IsBroadcastTo plan u clear words (contents_of files)) →
+        (work : Work) × ((meaning words (contents_of files)).result ≡ Ok work) × IsOpened plan u clear sent.out work }
 {}

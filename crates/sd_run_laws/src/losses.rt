@@ -9,15 +9,15 @@ ghost use Rattle.sd_sent.specs.Packets.{AreWholePackets};
 ghost use Rattle.sd_whole.specs.Synced.{AreSynced};
 ghost use Rattle.sd_losses.specs.Chosen.{chosen};
 ghost use Rattle.sd_ports.specs.Files.{Files};
-ghost use Rattle.sd_status.specs.Meant.{told_by};
+ghost use Rattle.sd_status.specs.Spec.{contents_of};
 ghost use Rattle.sd_status.specs.Outside.{Outside};
 ghost use Rattle.sd_status.specs.Work.{Work};
-ghost use Rattle.sd_status.specs.Answers.{Answers};
+ghost use Rattle.sd_status.specs.Results.{RunResult};
 ghost use Rattle.sd_files.specs.Shown.{word_at};
 ghost use Rattle.sd_run_receive.specs.Receive.{receive_meaning};
 ghost use Rattle.sd_run.specs.Meaning.{meaning};
-ghost use Rattle.sd_run_laws.specs.Headline.{Names, file_in, AreGiven, WentWell, card_for};
-ghost use Rattle.sd_run_laws.specs.Lost.{kept_of, IsRestTo, IsConfirmed, LossResult};
+ghost use Rattle.sd_run_laws.specs.Headline.{Names, file_in, AreGiven, IsUndisturbed, card_for};
+ghost use Rattle.sd_run_laws.specs.Lost.{kept_items, IsRestTo, IsConfirmed, LossResult};
 
 use sd_status::Status;
 
@@ -30,14 +30,14 @@ pub fn losses_are_received()
     // By what is meant, whatever happens to the run.
     ensures meant { (plan : Plan) (u : ℕ) (clear : List (List ℕ)) (flags : List Bool) (words : List (List ℕ))
         (files : Files) → IsPlan plan → IsClear plan.site clear → AreWholePackets clear → AreSynced clear →
-        u < 2 ^ plan.site.height → (rest : IsRestTo plan u clear flags words (told_by files)) →
-        (work : Work) × ((meaning words (told_by files)).result ≡ Ok work)
-        × IsConfirmed plan u clear (kept_of plan clear flags) rest.out work }
+        u < 2 ^ plan.site.height → (rest : IsRestTo plan u clear flags words (contents_of files)) →
+        (work : Work) × ((meaning words (contents_of files)).result ≡ Ok work)
+        × IsConfirmed plan u clear (kept_items plan clear flags) rest.out work }
     // By what a run leaves, if no I/O error occurs and memory suffices.
     ensures receive { (names : Names) (plan : Plan) (u : ℕ) (clear : List (List ℕ)) (z a b : Outside)
         (flags : List Bool) (answer : Status) → AreGiven z names plan clear → u < 2 ^ plan.site.height →
         file_in a names.card ≡ Some (card_for plan.site u) →
         file_in a names.stream ≡ Some (concat (chosen flags (broadcast plan clear))) →
-        Answers (receive_meaning (word_at 1 names.card) (word_at 2 names.stream) (word_at 3 names.out)) a b answer →
-        WentWell a b answer → LossResult names plan u clear (kept_of plan clear flags) a b answer }
+        RunResult (receive_meaning (word_at 1 names.card) (word_at 2 names.stream) (word_at 3 names.out)) a b answer →
+        IsUndisturbed a b answer → LossResult names plan u clear (kept_items plan clear flags) a b answer }
 {}

@@ -2,8 +2,8 @@
 use Rattle.std.proofs.Common.{ℕ, Bool, true, false, cond, List, Option, Ok, Err}
 use Rattle.std.specs.Prelude.{nat_le, ◌&&◌}
 use Rattle.sd_status.specs.declared.status.Status.TheVariants.{BadWord}
-use Rattle.sd_status.specs.Meant.{Word, Given, judged, value, ◌>>=◌}
-use Rattle.sd_files.specs.Shown.{Number}
+use Rattle.sd_status.specs.Spec.{FileArgument, Readings, judged, value, ◌>>=◌}
+use Rattle.sd_files.specs.Shown.{NumberArgument}
 use Rattle.sd_files.specs.Files.{site_of_file, book_of_file}
 use Rattle.sd_files.proofs.Others.{IsOther, other_after, other_site_file, other_book_file}
 use Rattle.sd_run_layered.specs.Layered.{Layers, told_layers, layers_of_file, layering, layered_meaning}
@@ -13,14 +13,15 @@ other_width : (b : Bool) (layers : Layers) (word : ℕ) → IsOther (cond b (Ok 
 other_width true layers word = tt
 other_width false layers word = λ e. cc
 
-other_layers : (word : ℕ) (width : Number) (got : Option (List ℕ)) → IsOther (layers_of_file word width got).result
+other_layers : (word : ℕ) (width : NumberArgument) (got : Option (List ℕ)) →
+    IsOther (layers_of_file word width got).result
 other_layers word width got =
     other_after (site_of_file word got).calls (site_of_file word got).result
     (λ fields. judged (told_layers fields.height width)) (other_site_file word got)
     (λ fields. other_width (nat_le 1 width.value && nat_le width.value fields.height)
     (record { height = fields.height; width = width.value }) width.word)
 
-pub other_layered : (site book : Word) (width : Number) (given : Given) →
+pub other_layered : (site book : FileArgument) (width : NumberArgument) (given : Readings) →
     IsOther (layered_meaning site book width given).result
 other_layered site book width given =
     other_after (layers_of_file site.number width (given site)).calls

@@ -1,7 +1,7 @@
 ghost use Rattle.std.specs.Prelude.{◌≡◌, ◌≢◌, ◌≤◌, ℕ, IfOk};
-ghost use Rattle.sd_status.specs.Outside.{outside, page, place};
-ghost use Rattle.sd_status.specs.Reads.{JudgesAlone, Looks};
-ghost use Rattle.sd_status.specs.Comes.{Follows, status_of};
+ghost use Rattle.sd_status.specs.Outside.{outside, page_state, depot_state};
+ghost use Rattle.sd_status.specs.Reads.{SureOutcome, FileOutcome};
+ghost use Rattle.sd_status.specs.Outcome.{Implements, status_of};
 ghost use Rattle.sd_files.specs.Shown.{shown_number, shown_word};
 ghost use Rattle.sd_run_layered.specs.Layered.{layered_meaning, layers_of_file, shown_layers, told_layers};
 
@@ -25,10 +25,10 @@ pub fn layered<D: Depot, P: Sink>(
     width: Number,
 ) -> Result<(), Status>
     requires { site.number ≢ book.number }
-    ensures { (steps : ℕ) → Follows
+    ensures { (steps : ℕ) → Implements
         (layered_meaning (shown_word site.entry) (shown_word book.entry) (shown_number width))
-        (outside (place D.Depot depot.old) (page P.Sink print.old) steps)
-        (outside (place D.Depot depot.new) (page P.Sink print.new) steps) (status_of result) }
+        (outside (depot_state D.Depot depot.old) (page_state P.Sink print.old) steps)
+        (outside (depot_state D.Depot depot.new) (page_state P.Sink print.new) steps) (status_of result) }
 {
     let layers = layers_of(alloc, depot, site, width)?;
     let book = read_book(alloc, depot, book, layers.0)?;
@@ -42,8 +42,8 @@ fn layers_of<D: Depot>(
     site: Word<'_>,
     width: Number,
 ) -> Result<(Height, Width), Status>
-    ensures value { Looks shown_layers (layers_of_file site.entry.number (shown_number width)) site.entry.text.now
-        (place D.Depot depot.old) (place D.Depot depot.new) result }
+    ensures value { FileOutcome shown_layers (layers_of_file site.entry.number (shown_number width)) site.entry.text.now
+        (depot_state D.Depot depot.old) (depot_state D.Depot depot.new) result }
     ensures bound { IfOk result (λ layers. layers.1 ≤ layers.0) }
 {
     let site = read_site(alloc, depot, site)?;
@@ -52,7 +52,7 @@ fn layers_of<D: Depot>(
 
 /// The height, and the width of this number, which is to be 1 to the height.
 fn judge_width(h: Height, width: Number) -> Result<(Height, Width), Status>
-    ensures value { JudgesAlone shown_layers (told_layers h (shown_number width)) result }
+    ensures value { SureOutcome shown_layers (told_layers h (shown_number width)) result }
     ensures bound { IfOk result (λ layers. layers.1 ≤ layers.0) }
 {
     prove!(h.get() <= HIGHEST);

@@ -3,9 +3,9 @@ use Rattle.std.proofs.Common.{ℕ, ◌^◌, Bool, true, false, cond, Ok, Err}
 use Rattle.std.specs.Prelude.{nat_lt, nat_le, ◌&&◌}
 use Rattle.sd_lsd.specs.Fields.{layer_card_of, layer_bytes}
 use Rattle.sd_status.specs.declared.status.Status.TheVariants.{BadWord}
-use Rattle.sd_status.specs.Meant.{Word, Given, judged, value, ◌>>=◌}
+use Rattle.sd_status.specs.Spec.{FileArgument, Readings, judged, value, ◌>>=◌}
 use Rattle.sd_status.specs.Work.{Uncounted}
-use Rattle.sd_files.specs.Shown.{Number}
+use Rattle.sd_files.specs.Shown.{NumberArgument}
 use Rattle.sd_files.specs.Files.{site_of_file}
 use Rattle.sd_files.specs.Made.{making}
 use Rattle.sd_files.proofs.Others.{IsOther, other_after, other_site_file}
@@ -16,7 +16,7 @@ other_number : (b : Bool) (n word : ℕ) → IsOther (cond b (Ok n) (Err (BadWor
 other_number true n word = tt
 other_number false n word = λ e. cc
 
-pub other_lcard : (site : Word) (leaf width : Number) (out : Word) (given : Given) →
+pub other_lcard : (site : FileArgument) (leaf width : NumberArgument) (out : FileArgument) (given : Readings) →
     IsOther (lcard_meaning site leaf width out given).result
 other_lcard site leaf width out given =
     other_after (site_of_file site.number (given site)).calls (site_of_file site.number (given site)).result

@@ -1,8 +1,8 @@
 ghost use Rattle.std.specs.Prelude.{◌≡◌, ◌^◌, ◌<◌, ◌≤◌, IfOk, IfErr};
 ghost use Rattle.sd_lsd.specs.Fields.{layer_card_of, layer_bytes};
-ghost use Rattle.sd_status.specs.Outside.{Page, place, outside};
-ghost use Rattle.sd_status.specs.Reads.{JudgesAlone};
-ghost use Rattle.sd_status.specs.Comes.{Follows, status_of};
+ghost use Rattle.sd_status.specs.Outside.{PageState, depot_state, outside};
+ghost use Rattle.sd_status.specs.Reads.{SureOutcome};
+ghost use Rattle.sd_status.specs.Outcome.{Implements, status_of};
 ghost use Rattle.sd_files.specs.Shown.{shown_word, shown_number};
 ghost use Rattle.sd_run_lcard.specs.Lcard.{lcard_meaning, told_leaf, told_width};
 
@@ -28,9 +28,9 @@ pub fn lcard<D: Depot, L: Ledger>(
     out: Word<'_>,
     steps: &mut Steps<L>,
 ) -> Result<(), Status>
-    ensures { (page : Page) → Follows
+    ensures { (page : PageState) → Implements
         (lcard_meaning (shown_word site.entry) (shown_number leaf) (shown_number width) (shown_word out.entry))
-        (outside (place D.Depot depot.old) page steps.old) (outside (place D.Depot depot.new) page steps.new)
+        (outside (depot_state D.Depot depot.old) page steps.old) (outside (depot_state D.Depot depot.new) page steps.new)
         (status_of result) }
 {
     let site = read_site(alloc, depot, site)?;
@@ -42,7 +42,7 @@ pub fn lcard<D: Depot, L: Ledger>(
 
 /// The leaf of this number, which is to be one of the tree.
 fn leaf_of(h: Height, leaf: Number) -> Result<Leaf, Status>
-    ensures value { JudgesAlone (λ u. u) (told_leaf h (shown_number leaf)) result }
+    ensures value { SureOutcome (λ u. u) (told_leaf h (shown_number leaf)) result }
     ensures bound { IfOk result (λ u. u < 2 ^ h) }
 {
     let Some(u) = Leaf::new(h, leaf.value) else {
@@ -53,7 +53,7 @@ fn leaf_of(h: Height, leaf: Number) -> Result<Leaf, Status>
 
 /// The width of this number, which is to be 1 to the tree's height.
 fn width_of(h: Height, width: Number) -> Result<Width, Status>
-    ensures value { JudgesAlone (λ w. w) (told_width h (shown_number width)) result }
+    ensures value { SureOutcome (λ w. w) (told_width h (shown_number width)) result }
     ensures bound { IfOk result (λ w. w ≤ h) }
 {
     prove!(h.get() <= HIGHEST);

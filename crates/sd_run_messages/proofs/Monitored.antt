@@ -1,6 +1,8 @@
 -- The lines of the messages in a stream, packet by packet.
-use Rattle.std.proofs.Common.{◌≡◌, ℕ, zero, suc, ◌+◌, ◌-◌, ◌^◌, ◌≤◌, List, [], ◌∷◌, ◌++◌, length, take, drop, append-nil}
-use Rattle.std.proofs.Common.{append_assoc, Option, Some, None, Result, Ok, Err, refl, sym, ap, subst, ◌∙◌, arith, inl, inr}
+use Rattle.std.proofs.Common.{◌≡◌, ℕ, zero, suc, ◌+◌, ◌-◌, ◌^◌, ◌≤◌, List, [], ◌∷◌, ◌++◌, length, take, drop}
+use Rattle.std.proofs.Common.{append-nil}
+use Rattle.std.proofs.Common.{append_assoc, Option, Some, None, Result, Ok, Err, refl, sym, ap, subst, ◌∙◌, arith, inl}
+use Rattle.std.proofs.Common.{inr}
 use Rattle.std.specs.Prelude.{slice_get, IsErrOf}
 use Rattle.std.proofs.lemmas.List.{take-append-drop, length-take}
 use Rattle.std.proofs.lemmas.List.Folds.{concat-append}
@@ -11,8 +13,8 @@ use Rattle.sd_cause.specs.Count.{IsCaused}
 use Rattle.sd_cause.specs.declared.memory.NoMemory.{NoMemory as OutOfMemory}
 use Rattle.sd_ports.specs.Bytes.{IsPrefix, AppendsPrefix}
 use Rattle.sd_engine.specs.Stage.{Chain}
-use Rattle.sd_engine.specs.Driving.{Moment, most_packets, Closes, Refuses, IsAllowedAt, Drives}
-use Rattle.sd_engine.specs.Taken.{taken_of, CutAt, DrivesOver}
+use Rattle.sd_engine.specs.Driving.{DriveState, most_packets, ChainToEnd, ChainToRefusal, IsAllowedAt, DriveOutcome}
+use Rattle.sd_engine.specs.Taken.{taken_of, CutAt, DriveOutcomeOver}
 use Rattle.sd_engine.proofs.Taken.{least_of, is_over}
 use Rattle.sd_engine.specs.declared.driver.DriveFault.{DriveFault}
 use Rattle.sd_engine.specs.declared.driver.DriveFault.TheVariants as drive
@@ -147,7 +149,7 @@ part_of_lines site k packets s mid first bytes n from to (Some packet) begun few
     (first_begin site k packets s mid first n begun few chain)
 
 -- a write failed
-cut_lines : (site : SiteFields) (bytes : List ℕ) (a b : Moment Monitor) → IsBegun site a.stage →
+cut_lines : (site : SiteFields) (bytes : List ℕ) (a b : DriveState Monitor) → IsBegun site a.stage →
     CutAt monitor_does monitor_ends monitor_refuses bytes a b →
     AppendsPrefix a.sink.held b.sink.held (concat (message_lines site 0 (taken_of bytes)))
 cut_lines site bytes a b begun h =
@@ -163,10 +165,10 @@ cut_lines site bytes a b begun h =
     )
 
 -- what was printed of a stream that was driven
-drives_print : (site : SiteFields) (bytes : List ℕ) (a b : Moment Monitor) (f g : ℕ)
+drives_print : (site : SiteFields) (bytes : List ℕ) (a b : DriveState Monitor) (f g : ℕ)
     (result : Result ℕ (DriveFault OutOfMemory)) →
     IsBegun site a.stage → IsCaused f g (IsErrOf result drive.WriteFault) →
-    DrivesOver monitor_does monitor_ends monitor_refuses bytes a b result →
+    DriveOutcomeOver monitor_does monitor_ends monitor_refuses bytes a b result →
     PrintsReading (monitoring site bytes) (record { printed = a.sink.held; faults = f })
     (record { printed = b.sink.held; faults = g }) (drive_status result)
 drives_print site bytes a b f g (Ok count) begun cause (whole, counted, grew) = inl (inl (
@@ -175,7 +177,7 @@ drives_print site bytes a b f g (Ok count) begun cause (whole, counted, grew) = 
   cause.calm (λ e. cc),
 ))
   where
-    all_and_end : (xs : List ℕ) (n : ℕ) → Closes monitor_does monitor_ends a.stage (taken_of bytes) b.stage xs n →
+    all_and_end : (xs : List ℕ) (n : ℕ) → ChainToEnd monitor_does monitor_ends a.stage (taken_of bytes) b.stage xs n →
         xs ≡ concat (message_lines site 0 (taken_of bytes))
     all_and_end xs n (mid, first, last, m, k, chain, ends, joined, counted) =
         nothing_more first last xs ends.nothing joined
@@ -218,17 +220,17 @@ drives_print site bytes a b f g (Err (drive.Refused fault)) begun cause h = inl 
 )))
   where
     some_and_none : (count : ℕ) (here : Option (List ℕ)) (xs : List ℕ) (n : ℕ) →
-        Refuses monitor_does monitor_refuses a.stage (take count (taken_of bytes)) here fault b.stage xs n →
+        ChainToRefusal monitor_does monitor_refuses a.stage (take count (taken_of bytes)) here fault b.stage xs n →
         xs ≡ concat (take count (message_lines site 0 (taken_of bytes)))
     some_and_none count here xs n (mid, first, last, m, k, chain, refuses, joined, counted) =
         nothing_more first last xs refuses.nothing joined
         ∙ some_through site count (taken_of bytes) a.stage mid first m begun (few_taken count bytes) chain
 
 -- the stream that was left was monitored
-pub is_monitored : (site : SiteFields) (a b : Moment Monitor) (f g : ℕ) (result : Result ℕ (DriveFault OutOfMemory))
+pub is_monitored : (site : SiteFields) (a b : DriveState Monitor) (f g : ℕ) (result : Result ℕ (DriveFault OutOfMemory))
     (status : Status) →
     IsBegun site a.stage → IsCaused f g (IsErrOf result drive.WriteFault) →
-    Drives monitor_does monitor_ends monitor_refuses a b result → status ≡ drive_status result →
+    DriveOutcome monitor_does monitor_ends monitor_refuses a b result → status ≡ drive_status result →
     MonitorsLeft site a.left (record { printed = a.sink.held; faults = f })
     (record { printed = b.sink.held; faults = g }) status
 is_monitored site a b f g result status begun cause drives is =

@@ -4,8 +4,8 @@ use Rattle.sd_engine.specs.Taken.{taken_of, end_of, IsLeft}
 use Rattle.sd_site.specs.Fields.{SiteFields}
 use Rattle.sd_monitor.specs.Lines.{message_lines}
 use Rattle.sd_status.specs.declared.status.Status.{Status}
-use Rattle.sd_status.specs.Outside.{Page}
-use Rattle.sd_status.specs.Meant.{Meant, Word, Given, all_of, value, ◌>>=◌}
+use Rattle.sd_status.specs.Outside.{PageState}
+use Rattle.sd_status.specs.Spec.{Spec, FileArgument, Readings, all_of, value, ◌>>=◌}
 use Rattle.sd_status.specs.Work.{NoSteps, Work}
 use Rattle.sd_status.specs.Prints.{PrintsReading}
 use Rattle.sd_files.specs.Files.{site_in}
@@ -22,15 +22,15 @@ monitoring site bytes = record {
 }
 
 -- the work that the stream's file says, once the site is known
-abbrev pub stream_meaning : SiteFields → Word → Given → Meant Work
+abbrev pub stream_meaning : SiteFields → FileArgument → Readings → Spec Work
 stream_meaning site stream given = all_of stream.number (given stream) >>= λ bytes. value (monitoring site bytes)
 
 -- the work that the two files say
-unfoldable pub messages_meaning : Word → Word → Given → Meant Work
+unfoldable pub messages_meaning : FileArgument → FileArgument → Readings → Spec Work
 messages_meaning site stream given = site_in given site >>= λ fields. stream_meaning fields stream given
 
 -- the lines of the stream that was left were printed, as far as its source and print went
-pub record MonitorsLeft (site : SiteFields) (left : Option (List ℕ)) (a b : Page) (status : Status) : Type 0 where
+pub record MonitorsLeft (site : SiteFields) (left : Option (List ℕ)) (a b : PageState) (status : Status) : Type 0 where
   pub bytes : List ℕ
   pub is_left : IsLeft left bytes
   pub prints : PrintsReading (monitoring site bytes) a b status

@@ -2,10 +2,10 @@ ghost use Rattle.std.specs.Prelude.{◌≡◌, ◌≢◌, ◌<◌, ℕ, IsErrOf}
 ghost use Rattle.sd_cause.specs.Count.{IsCaused};
 ghost use Rattle.sd_cause.specs.declared.memory.NoMemory.{NoMemory};
 ghost use Rattle.sd_engine.specs.Stage.{vessel};
-ghost use Rattle.sd_engine.specs.Driving.{moment, Drives};
+ghost use Rattle.sd_engine.specs.Driving.{moment, DriveOutcome};
 ghost use Rattle.sd_site.specs.Fields.{fields_of};
-ghost use Rattle.sd_status.specs.Outside.{outside, page, place};
-ghost use Rattle.sd_status.specs.Comes.{Follows, status_of};
+ghost use Rattle.sd_status.specs.Outside.{outside, page_state, depot_state};
+ghost use Rattle.sd_status.specs.Outcome.{Implements, status_of};
 ghost use Rattle.sd_files.specs.Shown.{shown_word};
 ghost use Rattle.sd_run_tables.specs.Tables.{drive_status};
 ghost use Rattle.sd_run_messages.specs.Messages.{MonitorsLeft, messages_meaning, stream_meaning};
@@ -32,9 +32,9 @@ pub fn messages<D: Depot, P: Sink>(
     stream: Word<'_>,
 ) -> Result<(), Status>
     requires { site.number ≢ stream.number }
-    ensures { (steps : ℕ) → Follows (messages_meaning (shown_word site.entry) (shown_word stream.entry))
-        (outside (place D.Depot depot.old) (page P.Sink print.old) steps)
-        (outside (place D.Depot depot.new) (page P.Sink print.new) steps) (status_of result) }
+    ensures { (steps : ℕ) → Implements (messages_meaning (shown_word site.entry) (shown_word stream.entry))
+        (outside (depot_state D.Depot depot.old) (page_state P.Sink print.old) steps)
+        (outside (depot_state D.Depot depot.new) (page_state P.Sink print.new) steps) (status_of result) }
 {
     let site = read_site(alloc, depot, site)?;
     print_file(alloc, depot, print, &site, stream)
@@ -48,9 +48,9 @@ fn print_file<D: Depot, P: Sink>(
     site: &Site,
     stream: Word<'_>,
 ) -> Result<(), Status>
-    ensures { (steps : ℕ) → Follows (stream_meaning (fields_of site.now) (shown_word stream.entry))
-        (outside (place D.Depot depot.old) (page P.Sink print.old) steps)
-        (outside (place D.Depot depot.new) (page P.Sink print.new) steps) (status_of result) }
+    ensures { (steps : ℕ) → Implements (stream_meaning (fields_of site.now) (shown_word stream.entry))
+        (outside (depot_state D.Depot depot.old) (page_state P.Sink print.old) steps)
+        (outside (depot_state D.Depot depot.new) (page_state P.Sink print.new) steps) (status_of result) }
 {
     let mut port = match depot.open_in(alloc, stream.text) {
         Ok(port) => port,
@@ -68,8 +68,8 @@ fn print_messages<S: Source, P: Sink>(
     print: &mut P,
     site: &Site,
 ) -> Result<(), Status>
-    ensures value { MonitorsLeft (fields_of site.now) (S.left source.old) (page P.Sink print.old)
-        (page P.Sink print.new) (status_of result) }
+    ensures value { MonitorsLeft (fields_of site.now) (S.left source.old) (page_state P.Sink print.old)
+        (page_state P.Sink print.new) (status_of result) }
     ensures cause { IsCaused (S.faults source.old) (S.faults source.new) (status_of result ≡ Status.DepotFault) }
 {
     monitor::<Brand, S, P>(alloc, source, print, site, Blank::new(1))
@@ -86,8 +86,8 @@ fn monitor<L: Ledger, S: Source, P: Sink>(
     requires name { blank.name ≡ L.name }
     requires parts { blank.parts ≡ L.parts }
     requires some { 0 < blank.parts }
-    ensures value { MonitorsLeft (fields_of site.now) (S.left source.old) (page P.Sink print.old)
-        (page P.Sink print.new) (status_of result) }
+    ensures value { MonitorsLeft (fields_of site.now) (S.left source.old) (page_state P.Sink print.old)
+        (page_state P.Sink print.new) (status_of result) }
     ensures cause { IsCaused (S.faults source.old) (S.faults source.new) (status_of result ≡ Status.DepotFault) }
 {
     let mut monitor = Monitor::new(alloc, site);

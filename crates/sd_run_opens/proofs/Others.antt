@@ -1,11 +1,12 @@
 -- `opens` never means `Usage`.
-use Rattle.sd_status.specs.Meant.{Word, Given, value, ◌>>=◌}
+use Rattle.sd_status.specs.Spec.{FileArgument, Readings, value, ◌>>=◌}
 use Rattle.sd_files.specs.Both.{both_by}
 use Rattle.sd_files.specs.Leaves.{leaves_of_file}
 use Rattle.sd_files.proofs.Others.{IsOther, other_after, other_both, other_leaves_file}
 use Rattle.sd_run_opens.specs.Opens.{opening, opens_meaning}
 
-pub other_opens : (site book leaves : Word) (given : Given) → IsOther (opens_meaning site book leaves given).result
+pub other_opens : (site book leaves : FileArgument) (given : Readings) →
+    IsOther (opens_meaning site book leaves given).result
 unfolding opens_meaning
 other_opens site book leaves given =
     other_after (both_by site.number book.number (given site) (given book)).calls

@@ -5,7 +5,7 @@ use Rattle.sd_tree.specs.declared.set.SetName.{SetName}
 use Rattle.sd_tree.specs.Leaves.{is_member}
 use Rattle.sd_book.specs.declared.command.Command.{Command}
 use Rattle.sd_steiner.specs.Cover.{cover_of}
-use Rattle.sd_status.specs.Meant.{Meant, Word, Given, value, ◌>>=◌}
+use Rattle.sd_status.specs.Spec.{Spec, FileArgument, Readings, value, ◌>>=◌}
 use Rattle.sd_status.specs.Work.{Work}
 use Rattle.sd_periods.specs.Periods.{listing, text_at}
 use Rattle.sd_files.specs.Both.{both_meaning}
@@ -36,7 +36,7 @@ abbrev pub shut_text : ℕ → List Command → ℕ → List ℕ
 shut_text d commands q = text_at (cover_of d) (λ name. shut_end) d commands q
 
 -- the work that the three files say
-unfoldable pub opens_meaning : Word → Word → Word → Given → Meant Work
+unfoldable pub opens_meaning : FileArgument → FileArgument → FileArgument → Readings → Spec Work
 opens_meaning site book leaves given = do
   both ← both_meaning site book given
   found ← leaves_in given both.site.height leaves

@@ -1,6 +1,6 @@
 ghost use Rattle.std.specs.Prelude.{◌≡◌, ◌≢◌, ℕ};
-ghost use Rattle.sd_status.specs.Outside.{outside, page, place};
-ghost use Rattle.sd_status.specs.Comes.{Follows, status_of};
+ghost use Rattle.sd_status.specs.Outside.{outside, page_state, depot_state};
+ghost use Rattle.sd_status.specs.Outcome.{Implements, status_of};
 ghost use Rattle.sd_files.specs.Shown.{shown_word};
 ghost use Rattle.sd_run_opens.specs.Opens.{opens_meaning};
 
@@ -23,9 +23,9 @@ pub fn opens<D: Depot, P: Sink>(
 ) -> Result<(), Status>
     requires { (site.number ≢ book.number) × (site.number ≢ leaves.number) × (book.number ≢ leaves.number) }
     ensures { (steps : ℕ) →
-        Follows (opens_meaning (shown_word site.entry) (shown_word book.entry) (shown_word leaves.entry))
-        (outside (place D.Depot depot.old) (page P.Sink print.old) steps)
-        (outside (place D.Depot depot.new) (page P.Sink print.new) steps) (status_of result) }
+        Implements (opens_meaning (shown_word site.entry) (shown_word book.entry) (shown_word leaves.entry))
+        (outside (depot_state D.Depot depot.old) (page_state P.Sink print.old) steps)
+        (outside (depot_state D.Depot depot.new) (page_state P.Sink print.new) steps) (status_of result) }
 {
     let (site, book) = read_both(alloc, depot, site, book)?;
     let leaves = read_leaves(alloc, depot, leaves, site.height)?;

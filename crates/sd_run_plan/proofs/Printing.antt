@@ -6,12 +6,12 @@ use Rattle.sd_ports.specs.Bytes.{AppendsPrefix}
 use Rattle.sd_broadcast.specs.Plan.{Plan}
 use Rattle.sd_status.specs.declared.status.Status.{Status}
 use Rattle.sd_status.specs.declared.status.Status.TheVariants.{NoMemory}
-use Rattle.sd_status.specs.Outside.{Page}
-use Rattle.sd_status.specs.Prints.{Prints, PrintsText}
+use Rattle.sd_status.specs.Outside.{PageState}
+use Rattle.sd_status.specs.Prints.{PrintsWork, PrintsText}
 use Rattle.sd_run_plan.specs.Air.{air_text, planning}
 
-pub one_text : (plan : Plan) (m pids : ℕ) (a b : Page) (status : Status) →
-    PrintsText (air_text plan m pids) a b status → Prints (planning plan m pids) a b status
+pub one_text : (plan : Plan) (m pids : ℕ) (a b : PageState) (status : Status) →
+    PrintsText (air_text plan m pids) a b status → PrintsWork (planning plan m pids) a b status
 one_text plan m pids a b status (inl all) =
     inl (
       all.0,
@@ -26,6 +26,6 @@ one_text plan m pids a b status (inr cut) =
     ))
 
 -- memory was out before anything was printed
-pub no_text : (plan : Plan) (m pids : ℕ) (a : Page) (status : Status) → status ≡ NoMemory →
-    Prints (planning plan m pids) a a status
+pub no_text : (plan : Plan) (m pids : ℕ) (a : PageState) (status : Status) → status ≡ NoMemory →
+    PrintsWork (planning plan m pids) a a status
 no_text plan m pids a status is = inr (inl (is, (0, Appends-nil a.printed), refl))

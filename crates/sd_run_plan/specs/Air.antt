@@ -11,9 +11,9 @@ use Rattle.sd_ecm.specs.Parts.{parts_for}
 use Rattle.sd_broadcast.specs.Plan.{Plan, closing_number, crypto_of, period_in, sets_at, word_in}
 use Rattle.sd_status.specs.declared.status.Status.{Status}
 use Rattle.sd_status.specs.declared.status.Status.TheVariants.{BadWord, Done}
-use Rattle.sd_status.specs.Meant.{Meant, Word, Given, judged, value, ◌>>=◌}
+use Rattle.sd_status.specs.Spec.{Spec, FileArgument, Readings, judged, value, ◌>>=◌}
 use Rattle.sd_status.specs.Work.{NoSteps, Work}
-use Rattle.sd_files.specs.Shown.{Number}
+use Rattle.sd_files.specs.Shown.{NumberArgument}
 use Rattle.sd_files.specs.Files.{site_of_file, book_in}
 
 -- how many crypto periods m packets begin, m above 0
@@ -85,15 +85,16 @@ line_at plan n q =
     (cryptos_in plan n q)
 
 -- the line of these messages, each of so many parts
-unfoldable pub messages_line : ℕ → ℕ → List ℕ
-messages_line messages parts =
+unfoldable pub message_count_line : ℕ → ℕ → List ℕ
+message_count_line messages parts =
     codes "messages " ++ (decimal messages ++ (codes " parts " ++ (decimal parts ++ codes "\n")))
 
 -- the line of so many packets added to m
 unfoldable pub clear_line : ℕ → ℕ → List ℕ
 clear_line m added =
     codes "clear "
-    ++ (decimal m ++ (codes " added " ++ (decimal added ++ (codes " broadcast " ++ (decimal (m + added) ++ codes "\n")))))
+    ++ (decimal m ++ (codes " added " ++
+    (decimal added ++ (codes " broadcast " ++ (decimal (m + added) ++ codes "\n")))))
 
 -- the line of so many packets added to a thousand
 unfoldable pub rate_line : ℕ → List ℕ
@@ -108,7 +109,7 @@ place_line which period word =
 -- the lines of these messages, each of so many parts, and of so many packets added to m
 abbrev pub total_lines : ℕ → ℕ → ℕ → ℕ → List ℕ
 total_lines messages parts m added =
-    (messages_line messages parts ++ clear_line m added) ++ rate_line (per_thousand added m)
+    (message_count_line messages parts ++ clear_line m added) ++ rate_line (per_thousand added m)
 
 -- the lines of the first period and word, of the last ones, and of the next ones
 abbrev pub end_lines : ℕ → ℕ → ℕ → ℕ → List ℕ
@@ -135,16 +136,16 @@ planning plan m pids = record {
 }
 
 -- the site, which is to have a control word for each of so many packets
-abbrev pub told_room : Number → SiteFields → Result SiteFields Status
+abbrev pub told_room : NumberArgument → SiteFields → Result SiteFields Status
 told_room packets fields =
     if nat_le (last_word_for fields packets.value) fields.last_word then Ok fields else Err (BadWord packets.word)
 
 -- so it is of the site that the file of this word gave
-abbrev pub roomy_site_of_file : ℕ → Number → Option (List ℕ) → Meant SiteFields
+abbrev pub roomy_site_of_file : ℕ → NumberArgument → Option (List ℕ) → Spec SiteFields
 roomy_site_of_file word packets got = site_of_file word got >>= λ fields. judged (told_room packets fields)
 
 -- the work that the words and the two files say
-abbrev pub plan_meaning : Word → Word → Number → ℕ → Given → Meant Work
+abbrev pub plan_meaning : FileArgument → FileArgument → NumberArgument → ℕ → Readings → Spec Work
 plan_meaning site book packets pids given = do
   fields ← roomy_site_of_file site.number packets (given site)
   commands ← book_in given fields.height book

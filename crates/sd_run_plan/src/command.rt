@@ -1,8 +1,8 @@
 ghost use Rattle.std.specs.Prelude.{◌≡◌, ◌≢◌, ◌≤◌, ℕ, IfOk, IfErr, string_bytes};
 ghost use Rattle.sd_site.specs.Fields.{fields_of};
-ghost use Rattle.sd_status.specs.Outside.{outside, page, place};
-ghost use Rattle.sd_status.specs.Reads.{JudgesAlone, Looks};
-ghost use Rattle.sd_status.specs.Comes.{Follows, status_of};
+ghost use Rattle.sd_status.specs.Outside.{outside, page_state, depot_state};
+ghost use Rattle.sd_status.specs.Reads.{SureOutcome, FileOutcome};
+ghost use Rattle.sd_status.specs.Outcome.{Implements, status_of};
 ghost use Rattle.sd_files.specs.Shown.{shown_number, shown_word};
 ghost use Rattle.sd_run_plan.specs.Air.{air_text as air_of, plan_meaning, roomy_site_of_file, told_room};
 
@@ -31,10 +31,10 @@ pub fn plan<D: Depot, P: Sink>(
     requires words { site.number ≢ book.number }
     requires packets { 1 ≤ packets.value }
     requires pids { pids ≤ 256 }
-    ensures { (steps : ℕ) → Follows
+    ensures { (steps : ℕ) → Implements
         (plan_meaning (shown_word site.entry) (shown_word book.entry) (shown_number packets) pids)
-        (outside (place D.Depot depot.old) (page P.Sink print.old) steps)
-        (outside (place D.Depot depot.new) (page P.Sink print.new) steps) (status_of result) }
+        (outside (depot_state D.Depot depot.old) (page_state P.Sink print.old) steps)
+        (outside (depot_state D.Depot depot.new) (page_state P.Sink print.new) steps) (status_of result) }
 {
     let site = read_roomy_site(alloc, depot, site, packets)?;
     let book = read_book(alloc, depot, book, site.height)?;
@@ -50,8 +50,8 @@ fn read_roomy_site<D: Depot>(
     packets: Number,
 ) -> Result<Site, Status>
     requires { 1 ≤ packets.value }
-    ensures { Looks fields_of (roomy_site_of_file word.entry.number (shown_number packets)) word.entry.text.now
-        (place D.Depot depot.old) (place D.Depot depot.new) result }
+    ensures { FileOutcome fields_of (roomy_site_of_file word.entry.number (shown_number packets)) word.entry.text.now
+        (depot_state D.Depot depot.old) (depot_state D.Depot depot.new) result }
 {
     let site = read_site(alloc, depot, word)?;
     judge_room(site, packets)
@@ -60,7 +60,7 @@ fn read_roomy_site<D: Depot>(
 /// The site, if its range of control words is long enough for this number of packets.
 fn judge_room(site: Site, packets: Number) -> Result<Site, Status>
     requires { 1 ≤ packets.value }
-    ensures { JudgesAlone fields_of (told_room (shown_number packets) (fields_of site)) result }
+    ensures { SureOutcome fields_of (told_room (shown_number packets) (fields_of site)) result }
 {
     let cryptos = cryptos_for(&site, packets.value);
     if last_word(&site, cryptos) > u64::from(site.last_word) {

@@ -1,7 +1,8 @@
 //! The lines that are printed.
 
 ghost use Rattle.std.specs.Prelude.{◌≡◌, ◌^◌, ◌<◌, ◌≤◌, ◌++◌, OnOk, string_bytes};
-ghost use Rattle.sd_run_plan.specs.Air.{clear_line, end_lines, messages_line, period_line, place_line, rate_line, total_lines};
+ghost use Rattle.sd_run_plan.specs.Air.{clear_line, end_lines, message_count_line, period_line, place_line, rate_line};
+ghost use Rattle.sd_run_plan.specs.Air.{total_lines};
 
 use std::alloc::AllocError;
 use std::fmt::Write;
@@ -54,9 +55,9 @@ pub(crate) fn push_totals(
 }
 
 /// Puts the line of messages after the text.
-#[tactic(auto, unfolding(crate::specs::Air::messages_line))]
+#[tactic(auto, unfolding(crate::specs::Air::message_count_line))]
 fn push_messages(text: &mut String, messages: u64, parts: u8) -> Result<(), AllocError>
-    ensures { OnOk result (string_bytes text.new ≡ string_bytes text.old ++ messages_line messages parts) }
+    ensures { OnOk result (string_bytes text.new ≡ string_bytes text.old ++ message_count_line messages parts) }
 {
     write!(text, "messages {messages} parts {parts}\n")
 }

@@ -6,7 +6,8 @@ ghost use Rattle.sd_book.specs.Commands.{last_period as last_of};
 ghost use Rattle.sd_broadcast.specs.Plan.{Plan};
 ghost use Rattle.sd_site.specs.Fields.{fields_of};
 ghost use Rattle.sd_run_plan.specs.Air.{cryptos_for as cryptos_of, cryptos_in as cryptos_of_period};
-ghost use Rattle.sd_run_plan.specs.Air.{last_period_for, last_word_for, messages_for as messages_of, period_count as count_of};
+ghost use Rattle.sd_run_plan.specs.Air.{last_period_for, last_word_for, messages_for as messages_of};
+ghost use Rattle.sd_run_plan.specs.Air.{period_count as count_of};
 
 use sd_site::Site;
 

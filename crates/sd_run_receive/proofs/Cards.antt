@@ -13,7 +13,7 @@ use Rattle.sd_card.specs.Fields.{CardFields, IsCard, card_head, card_bytes}
 use Rattle.sd_card.proofs.Spellings.{height_written, leaf_written, ca_written, written_is_good}
 use Rattle.sd_status.specs.declared.status.Status.{Status}
 use Rattle.sd_status.specs.declared.status.Status.TheVariants.{BadCard, NoMemory}
-use Rattle.sd_status.specs.Comes.{IsRefusal, IsEnding}
+use Rattle.sd_status.specs.Outcome.{IsRefusal, IsEnding}
 use Rattle.sd_run_receive.specs.Receive.{secrets_of, card_said, card_unless, refused_card, told_card}
 
 -- secrets that were joined are found again

@@ -4,7 +4,7 @@ use Rattle.sd_card.specs.declared.fault.CardFault.{CardFault}
 use Rattle.sd_card.specs.Fields.{CardFields}
 use Rattle.sd_card.specs.Faults.{fault_in}
 use Rattle.sd_status.specs.declared.status.LimitKind.TheVariants.{CardBytes}
-use Rattle.sd_status.specs.Meant.{Word, Given, all_of, judged, value, within}
+use Rattle.sd_status.specs.Spec.{FileArgument, Readings, all_of, judged, value, within}
 use Rattle.sd_files.proofs.Others.{IsOther, other_after, other_file, other_stream}
 use Rattle.sd_run_receive.specs.Receive.{card_said, card_unless, told_card, card_of_file, receiving, stream_meaning}
 use Rattle.sd_run_receive.specs.Receive.{receive_meaning, most_card_bytes}
@@ -23,7 +23,8 @@ other_card_file word got =
     other_after (within word most_card_bytes CardBytes got).calls (within word most_card_bytes CardBytes got).result
     (λ bytes. judged (told_card bytes)) (other_file word most_card_bytes CardBytes got) other_receiver
 
-pub other_receive : (card stream out : Word) (given : Given) → IsOther (receive_meaning card stream out given).result
+pub other_receive : (card stream out : FileArgument) (given : Readings) →
+    IsOther (receive_meaning card stream out given).result
 unfolding receive_meaning
 other_receive card stream out given =
     other_after (card_of_file card.number (given card)).calls (card_of_file card.number (given card)).result

@@ -11,9 +11,9 @@ use Rattle.std.proofs.KnownBytes.{Appends-trans}
 use Rattle.sd_card.specs.Fields.{CardFields}
 use Rattle.sd_ports.specs.Bytes.{IsPrefix}
 use Rattle.sd_engine.specs.Stage.{Chain}
-use Rattle.sd_engine.specs.Driving.{Moment, most_packets, Closes, Refuses, IsAllowedAt, Drives}
+use Rattle.sd_engine.specs.Driving.{DriveState, most_packets, ChainToEnd, ChainToRefusal, IsAllowedAt, DriveOutcome}
 use Rattle.sd_engine.specs.Taken.{StreamEnd, Whole, Breaks, RunsOn, taken_of, end_of, RefusesAt, CutAt}
-use Rattle.sd_engine.specs.Taken.{DrivesOver}
+use Rattle.sd_engine.specs.Taken.{DriveOutcomeOver}
 use Rattle.sd_engine.proofs.Taken.{least_of, is_over}
 use Rattle.sd_engine.specs.declared.driver.DriveFault.{DriveFault}
 use Rattle.sd_engine.specs.declared.driver.DriveFault.TheVariants as drive
@@ -28,12 +28,12 @@ use Rattle.sd_reception.specs.Ending.{ending_of}
 use Rattle.sd_receive.specs.declared.receiver.Receiver.{Receiver}
 use Rattle.sd_receive.specs.Receiving.{IsAfter, IsLive, card_in, steps_at, taken_keys, receiver_does}
 use Rattle.sd_receive.specs.Receiving.{receiver_ends, receiver_refuses}
-use Rattle.sd_receive.specs.Receiving.{CameTo, BrokeAt}
+use Rattle.sd_receive.specs.Receiving.{OutcomeOf, BreakAt}
 use Rattle.sd_receive.proofs.Chained.{came_to_all, broke_at, out_joined, steps_more}
 use Rattle.sd_receive.proofs.Turns.{first_none, rest_none, reversed}
 use Rattle.sd_status.specs.declared.status.Status.{Status}
 use Rattle.sd_status.specs.declared.status.Status.TheVariants.{DepotFault}
-use Rattle.sd_status.specs.Comes.{IsEnding}
+use Rattle.sd_status.specs.Outcome.{IsEnding}
 use Rattle.sd_files.specs.Turned.{Wrote, all_written, some_written}
 use Rattle.sd_run_receive.specs.Receive.{ended_status, ending_status, status_at, unless_refused, refused_status}
 use Rattle.sd_run_receive.specs.Receive.{stopped_status, received_of, received_status, received_steps, ReceivesLeft}
@@ -109,9 +109,9 @@ split_at (first ∷ packets) (suc k) packet at =
 -- all packets went through
 all_through : (card : CardFields) (packets : List (List ℕ)) (s t : Receiver) (bytes : List ℕ) (n : ℕ) →
     card_in s ≡ card → IsAfter [] s →
-    length packets ≤ 2 ^ 64 - 1 → Chain receiver_does s packets t bytes n → CameTo card packets t bytes n
+    length packets ≤ 2 ^ 64 - 1 → Chain receiver_does s packets t bytes n → OutcomeOf card packets t bytes n
 all_through card packets s t bytes n is after few chain =
-    subst (λ (c : CardFields). CameTo c packets t bytes n) is (came_to_all packets s t bytes n after few chain)
+    subst (λ (c : CardFields). OutcomeOf c packets t bytes n) is (came_to_all packets s t bytes n after few chain)
 
 -- what some first packets write is a prefix of what all do
 first_of_out : (card : CardFields) (packets more : List (List ℕ)) → break_from card [] packets ≡ None →
@@ -196,7 +196,7 @@ wrote_at card past mid packet bytes from to is after few (n, counted, inr (why, 
 -- what the receiver may write of a packet, or of the end, goes on with what all packets write
 part_of_out : (card : CardFields) (packets : List (List ℕ)) (k : ℕ) (mid : Receiver) (first bytes : List ℕ)
     (n from to : ℕ) (here : Option (List ℕ)) →
-    CameTo card (take k packets) mid first n → length (take k packets) < 2 ^ 64 - 1 → slice_get packets k ≡ here →
+    OutcomeOf card (take k packets) mid first n → length (take k packets) < 2 ^ 64 - 1 → slice_get packets k ≡ here →
     IsAllowedAt receiver_does receiver_ends receiver_refuses mid here from to bytes →
     IsPrefix (first ++ bytes) (concat (out_from card [] packets))
 part_of_out card packets k mid first bytes n from to None came few at (m, counted, inl (t, ends)) =
@@ -295,7 +295,7 @@ next_steps card packets k packet at none =
 -- the steps that were counted at a packet, or at the end, go on with those of the packets before it
 part_of_steps : (card : CardFields) (packets : List (List ℕ)) (k : ℕ) (mid : Receiver) (first bytes : List ℕ)
     (n from to : ℕ) (here : Option (List ℕ)) →
-    CameTo card (take k packets) mid first n → length (take k packets) < 2 ^ 64 - 1 → slice_get packets k ≡ here →
+    OutcomeOf card (take k packets) mid first n → length (take k packets) < 2 ^ 64 - 1 → slice_get packets k ≡ here →
     IsAllowedAt receiver_does receiver_ends receiver_refuses mid here from to bytes →
     n + (to - from) ≤ most_steps card packets
 part_of_steps card packets k mid first bytes n from to None came few at (m, counted, inl (t, ends)) =
@@ -334,12 +334,13 @@ unfolding received_of
 bytes_are card bytes = refl
 
 -- what was written of a stream, and how many steps it took
-record Receives (card : CardFields) (bytes : List ℕ) (a b : Moment Receiver) (status : Status) : Type 0 where
+record Receives (card : CardFields) (bytes : List ℕ) (a b : DriveState Receiver) (status : Status) : Type 0 where
   wrote : Wrote (received_of card bytes) (received_status card bytes) a.sink.held b.sink.held status
   steps : b.steps ≤ a.steps + received_steps card bytes
 
 -- all of it was written
-wrote_all : (card : CardFields) (bytes : List ℕ) (a b : Moment Receiver) (status : Status) (wrote : List ℕ) (n : ℕ) →
+wrote_all : (card : CardFields) (bytes : List ℕ) (a b : DriveState Receiver) (status : Status) (wrote : List ℕ)
+    (n : ℕ) →
     status ≡ received_status card bytes → wrote ≡ concat (out_from card [] (taken_of bytes)) →
     Appends a.sink.held b.sink.held wrote → b.steps ≤ a.steps + n →
     n ≤ most_steps card (taken_of bytes) →
@@ -351,7 +352,7 @@ wrote_all card bytes a b status wrote n is are taken counted few = record {
 }
 
 -- the device failed after a prefix of it
-wrote_some : (card : CardFields) (bytes : List ℕ) (a b : Moment Receiver) (prefix : List ℕ) (n : ℕ) →
+wrote_some : (card : CardFields) (bytes : List ℕ) (a b : DriveState Receiver) (prefix : List ℕ) (n : ℕ) →
     IsPrefix prefix (concat (out_from card [] (taken_of bytes))) → Appends a.sink.held b.sink.held prefix →
     b.steps ≤ a.steps + n → n ≤ most_steps card (taken_of bytes) →
     Receives card bytes a b DepotFault
@@ -365,7 +366,7 @@ wrote_some card bytes a b prefix n short taken counted few = record {
 }
 
 -- the stream was received up to a packet that is refused
-refused_wrote : (card : CardFields) (bytes : List ℕ) (a b : Moment Receiver) (why : StreamFault) →
+refused_wrote : (card : CardFields) (bytes : List ℕ) (a b : DriveState Receiver) (why : StreamFault) →
     card_in a.stage ≡ card → IsAfter [] a.stage →
     RefusesAt receiver_does receiver_refuses bytes a b why → Receives card bytes a b (refused_status why)
 refused_wrote card bytes a b why is after h =
@@ -374,7 +375,7 @@ refused_wrote card bytes a b why is after h =
   where
     go : (here : Option (List ℕ)) → slice_get (taken_of bytes) h.count ≡ here → (wrote : List ℕ) (n : ℕ) →
         Appends a.sink.held b.sink.held wrote → b.steps ≤ a.steps + n →
-        Refuses receiver_does receiver_refuses a.stage (take h.count (taken_of bytes)) here why b.stage wrote n →
+        ChainToRefusal receiver_does receiver_refuses a.stage (take h.count (taken_of bytes)) here why b.stage wrote n →
         Receives card bytes a b (refused_status why)
     go None at wrote n taken counted (mid, first, last, m, k, chain, kept, joined, all) =
         let came = came_to_all (take h.count (taken_of bytes)) a.stage mid first m after
@@ -384,7 +385,7 @@ refused_wrote card bytes a b why is after h =
         let packets = taken_of bytes in
         let early = take h.count packets in
         let split = split_at packets h.count packet at in
-        let broke = subst (λ (c : CardFields). BrokeAt c early packet split.0 why (first ++ last) (m + k)) is
+        let broke = subst (λ (c : CardFields). BreakAt c early packet split.0 why (first ++ last) (m + k)) is
         (broke_at early a.stage mid packet split.0 why first last m k after (some_few bytes h.count) chain refuses) in
         let came = all_through card early a.stage mid first m is after (let few = some_few bytes h.count in
         omega (arith, few)) chain in
@@ -395,7 +396,8 @@ refused_wrote card bytes a b why is after h =
         taken counted (let few = broke.few in omega (arith, all, few, most))
 
 -- a write failed
-cut_wrote : (card : CardFields) (bytes : List ℕ) (a b : Moment Receiver) → card_in a.stage ≡ card → IsAfter [] a.stage →
+cut_wrote : (card : CardFields) (bytes : List ℕ) (a b : DriveState Receiver) → card_in a.stage ≡ card →
+    IsAfter [] a.stage →
     CutAt receiver_does receiver_ends receiver_refuses bytes a b → Receives card bytes a b DepotFault
 cut_wrote card bytes a b is after h =
     let packets = taken_of bytes in
@@ -414,9 +416,9 @@ cut_wrote card bytes a b is after h =
     (omega (arith, before)) most
 
 -- what came of a drive that was stopped
-stopped_wrote : (card : CardFields) (bytes : List ℕ) (a b : Moment Receiver) (why : DriveFault StreamFault) →
+stopped_wrote : (card : CardFields) (bytes : List ℕ) (a b : DriveState Receiver) (why : DriveFault StreamFault) →
     card_in a.stage ≡ card →
-    IsAfter [] a.stage → DrivesOver receiver_does receiver_ends receiver_refuses bytes a b (Err why) →
+    IsAfter [] a.stage → DriveOutcomeOver receiver_does receiver_ends receiver_refuses bytes a b (Err why) →
     Receives card bytes a b (stopped_status why)
 stopped_wrote card bytes a b (drive.Broken found) is after (end, grew) =
     let came = all_through card (taken_of bytes) a.stage b.stage grew.bytes grew.steps is after (all_few bytes)
@@ -448,9 +450,9 @@ unfolding ended_status
 ended_as card packets t is = ap (λ (c : CardFields). ending_status c.leaf (ending_of c (reverse packets))) is
 
 -- what came of one that went to its end
-ended_wrote : (card : CardFields) (bytes : List ℕ) (a b : Moment Receiver) (count : ℕ) (status : Status) →
+ended_wrote : (card : CardFields) (bytes : List ℕ) (a b : DriveState Receiver) (count : ℕ) (status : Status) →
     card_in a.stage ≡ card →
-    IsAfter [] a.stage → DrivesOver receiver_does receiver_ends receiver_refuses bytes a b (Ok count) →
+    IsAfter [] a.stage → DriveOutcomeOver receiver_does receiver_ends receiver_refuses bytes a b (Ok count) →
     ((past : List (List ℕ)) → IsAfter past b.stage → status
     ≡ ending_status b.stage.card.leaf (ending_of (card_in b.stage) past)) →
     Receives card bytes a b status
@@ -458,7 +460,7 @@ ended_wrote card bytes a b count status is after (whole, counted, grew) told =
     go grew.bytes grew.steps grew.taken grew.counted grew.says
   where
     go : (wrote : List ℕ) (n : ℕ) → Appends a.sink.held b.sink.held wrote → b.steps ≤ a.steps + n →
-        Closes receiver_does receiver_ends a.stage (taken_of bytes) b.stage wrote n → Receives card bytes a b status
+        ChainToEnd receiver_does receiver_ends a.stage (taken_of bytes) b.stage wrote n → Receives card bytes a b status
     go wrote n taken most (mid, first, last, m, k, chain, ends, joined, all) =
         let came = all_through card (taken_of bytes) a.stage mid first m is after (all_few bytes) chain in
         let stands : IsAfter (reverse (taken_of bytes)) b.stage =
@@ -471,8 +473,8 @@ ended_wrote card bytes a b count status is after (whole, counted, grew) told =
         omega (arith, all, few, none, same))
 
 -- the receiver was driven over the stream that was left
-pub left_stopped : (a b : Moment Receiver) (why : DriveFault StreamFault) (status : Status) → IsAfter [] a.stage →
-    Drives receiver_does receiver_ends receiver_refuses a b (Err why) → status ≡ stopped_status why →
+pub left_stopped : (a b : DriveState Receiver) (why : DriveFault StreamFault) (status : Status) → IsAfter [] a.stage →
+    DriveOutcome receiver_does receiver_ends receiver_refuses a b (Err why) → status ≡ stopped_status why →
     ReceivesLeft (card_in a.stage) a.left a.sink.held b.sink.held a.steps b.steps status
 left_stopped a b why status after drives is =
     let over = is_over receiver_does receiver_ends receiver_refuses a b (Err why) drives in
@@ -480,8 +482,8 @@ left_stopped a b why status after drives is =
     subst (λ (s : Status). ReceivesLeft (card_in a.stage) a.left a.sink.held b.sink.held a.steps b.steps s) (sym is)
     (record { bytes = over.bytes; is_left = over.left; wrote = came.wrote; steps = came.steps })
 
-pub left_ended : (a b : Moment Receiver) (count : ℕ) (status : Status) → IsAfter [] a.stage →
-    Drives receiver_does receiver_ends receiver_refuses a b (Ok count) →
+pub left_ended : (a b : DriveState Receiver) (count : ℕ) (status : Status) → IsAfter [] a.stage →
+    DriveOutcome receiver_does receiver_ends receiver_refuses a b (Ok count) →
     ((past : List (List ℕ)) → IsAfter past b.stage → status
     ≡ ending_status b.stage.card.leaf (ending_of (card_in b.stage) past)) →
     ReceivesLeft (card_in a.stage) a.left a.sink.held b.sink.held a.steps b.steps status

@@ -8,10 +8,10 @@ use Rattle.sd_reception.specs.declared.fault.StreamFault.{StreamFault}
 use Rattle.sd_reception.specs.declared.fault.StreamFault.TheVariants as fault
 use Rattle.sd_status.specs.declared.status.Status.{Status}
 use Rattle.sd_status.specs.declared.status.Status.TheVariants.{NoMemory, BadClear, BadStream, DepotFault}
-use Rattle.sd_status.specs.Comes.{status_of}
-use Rattle.sd_status.specs.Meant.{Meant, Word}
-use Rattle.sd_status.specs.Outside.{Place}
-use Rattle.sd_status.specs.Reads.{Looks, Gives}
+use Rattle.sd_status.specs.Outcome.{status_of}
+use Rattle.sd_status.specs.Spec.{Spec, FileArgument}
+use Rattle.sd_status.specs.Outside.{DepotState}
+use Rattle.sd_status.specs.Reads.{FileOutcome, StepOutcome}
 use Rattle.sd_files.specs.Turned.{NotOpened, no_input, no_folder, stopped_first, stopped_then, unclosed_status}
 use Rattle.sd_files.specs.Turned.{unclosed_by}
 use Rattle.sd_run_receive.specs.Receive.{stopped_status}
@@ -29,7 +29,8 @@ never_memory (drive.Refused (fault.BadEcm packet ecm)) e = cc
 never_memory (drive.Refused (fault.Parity packet)) e = cc
 
 -- OUT isn't made if the files aren't opened
-pub not_opened : (from out : Word) (a b : Place) (status : Status) → NotOpened from out a b status → b.made ≡ a.made
+pub not_opened : (from out : FileArgument) (a b : DepotState) (status : Status) → NotOpened from out a b status →
+    b.made ≡ a.made
 not_opened from out a b status (no_input is there asked calm miss) = asked.made
 not_opened from out a b status (no_folder is told asked calm miss) = asked.made
 not_opened from out a b status (stopped_first stopped) = stopped.asked.made
@@ -50,12 +51,12 @@ closed_memory (Ok done) result (inr is) e = absurd (let same : DepotFault ≡ No
 closed_memory (Err status) result (inr is) e = unclosed_memory status (ap status_of (sym is) ∙ e)
 
 -- a step that looks at a file makes none
-looked : {X Y : Type 0} (view : X → Y) (meant : Meant Y) (a b : Place) (result : Result X Status) →
-    Gives view meant a b result → b.made ≡ a.made
-looked view meant a b (Ok x) (is, called) = ap (λ (p : Place). p.made) called
+looked : {X Y : Type 0} (view : X → Y) (meant : Spec Y) (a b : DepotState) (result : Result X Status) →
+    StepOutcome view meant a b result → b.made ≡ a.made
+looked view meant a b (Ok x) (is, called) = ap (λ (p : DepotState). p.made) called
 looked view meant a b (Err status) (inl refused) = refused.asked.made
 looked view meant a b (Err status) (inr stopped) = stopped.asked.made
 
-pub looked_made : {X Y : Type 0} (view : X → Y) (meant : Option (List ℕ) → Meant Y) (name : List ℕ) (a b : Place)
-    (result : Result X Status) → Looks view meant name a b result → b.made ≡ a.made
+pub looked_made : {X Y : Type 0} (view : X → Y) (meant : Option (List ℕ) → Spec Y) (name : List ℕ) (a b : DepotState)
+    (result : Result X Status) → FileOutcome view meant name a b result → b.made ≡ a.made
 looked_made view meant name a b result looks = looked view (meant looks.got) a b result looks.gives

@@ -25,7 +25,7 @@ use Rattle.sd_status.specs.declared.status.Status.TheVariants.{Unclosed, Gaps, N
 use Rattle.sd_status.specs.declared.status.StreamCause.TheVariants.{Broken, TooLong, WrongKey, WrongWord, BadEmm}
 use Rattle.sd_status.specs.declared.status.StreamCause.TheVariants.{BadEcm, Parity}
 use Rattle.sd_status.specs.declared.status.LimitKind.TheVariants.{CardBytes}
-use Rattle.sd_status.specs.Meant.{Meant, Word, Given, all_of, within, judged, value, ◌>>=◌}
+use Rattle.sd_status.specs.Spec.{Spec, FileArgument, Readings, all_of, within, judged, value, ◌>>=◌}
 use Rattle.sd_status.specs.Work.{UpTo, Work}
 use Rattle.sd_files.specs.Turned.{turning, Wrote}
 
@@ -59,11 +59,11 @@ unfoldable pub told_card : List ℕ → Result CardFields Status
 told_card bytes = card_unless (fault_in bytes) (card_said bytes)
 
 -- the card in the file of argument `word`
-unfoldable pub card_of_file : ℕ → Option (List ℕ) → Meant CardFields
+unfoldable pub card_of_file : ℕ → Option (List ℕ) → Spec CardFields
 card_of_file word got = within word most_card_bytes CardBytes got >>= λ bytes. judged (told_card bytes)
 
 -- the card in the file of this argument
-abbrev pub card_in : Given → Word → Meant CardFields
+abbrev pub card_in : Readings → FileArgument → Spec CardFields
 card_in given word = card_of_file word.number (given word)
 
 -- the status of a packet that is refused
@@ -118,16 +118,16 @@ unfoldable pub received_steps : CardFields → List ℕ → ℕ
 received_steps card bytes = card.height * taken_keys card [] (upto_break card [] (taken_of bytes))
 
 -- the work that makes OUT of what a card opens of a stream of these bytes
-abbrev pub receiving : CardFields → Word → List ℕ → Work
+abbrev pub receiving : CardFields → FileArgument → List ℕ → Work
 receiving card out bytes =
     turning (UpTo (received_steps card bytes)) out (received_of card bytes) (received_status card bytes)
 
 -- the work of `receive` once the card is known
-abbrev pub stream_meaning : CardFields → Word → Word → Given → Meant Work
+abbrev pub stream_meaning : CardFields → FileArgument → FileArgument → Readings → Spec Work
 stream_meaning card stream out given = all_of stream.number (given stream) >>= λ bytes. value (receiving card out bytes)
 
 -- the work of `receive CARD STREAM OUT` [this project, docs/FORMATS.md, Receiver]
-unfoldable pub receive_meaning : Word → Word → Word → Given → Meant Work
+unfoldable pub receive_meaning : FileArgument → FileArgument → FileArgument → Readings → Spec Work
 receive_meaning card stream out given = card_in given card >>= λ fields. stream_meaning fields stream out given
 
 -- the status of a drive that didn't reach the end of its stream

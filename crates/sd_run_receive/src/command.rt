@@ -1,12 +1,12 @@
 ghost use Rattle.std.specs.Prelude.{◌≡◌, ◌≢◌, [], List, ℕ, IfOk, length, reverse};
 ghost use Rattle.sd_engine.specs.Stage.{vessel};
-ghost use Rattle.sd_engine.specs.Driving.{moment, Drives};
+ghost use Rattle.sd_engine.specs.Driving.{moment, DriveOutcome};
 ghost use Rattle.sd_reception.specs.Offered.{out_from};
 ghost use Rattle.sd_reception.specs.Ending.{ending_of};
 ghost use Rattle.sd_receive.specs.Receiving.{IsAfter, card_in, receiver_does, receiver_ends, receiver_refuses};
-ghost use Rattle.sd_status.specs.Outside.{Page, outside, place};
-ghost use Rattle.sd_status.specs.Reads.{Judges, Looks};
-ghost use Rattle.sd_status.specs.Comes.{Follows, IsEnding, status_of};
+ghost use Rattle.sd_status.specs.Outside.{PageState, outside, depot_state};
+ghost use Rattle.sd_status.specs.Reads.{JudgedOutcome, FileOutcome};
+ghost use Rattle.sd_status.specs.Outcome.{Implements, IsEnding, status_of};
 ghost use Rattle.sd_files.specs.Turned.{HasPortCause};
 ghost use Rattle.sd_run_receive.specs.Receive.{ReceivesLeft, card_of_file, told_card, receive_meaning, stream_meaning};
 ghost use Rattle.sd_run_receive.specs.Receive.{ending_status, refused_card, refused_status, stopped_status};
@@ -37,13 +37,13 @@ pub fn receive<D: Depot, L: Ledger>(
     steps: &mut Steps<L>,
 ) -> Result<(), Status>
     requires { card.number ≢ stream.number }
-    ensures value { (page : Page) →
-        Follows (receive_meaning (shown_word card.entry) (shown_word stream.entry) (shown_word out.entry))
-        (outside (place D.Depot depot.old) page steps.old) (outside (place D.Depot depot.new) page steps.new)
+    ensures value { (page : PageState) →
+        Implements (receive_meaning (shown_word card.entry) (shown_word stream.entry) (shown_word out.entry))
+        (outside (depot_state D.Depot depot.old) page steps.old) (outside (depot_state D.Depot depot.new) page steps.new)
         (status_of result) }
     // Out of memory, OUT isn't made.
     ensures memory { status_of result ≡ Status.NoMemory →
-        (place D.Depot depot.new).made ≡ (place D.Depot depot.old).made }
+        (depot_state D.Depot depot.new).made ≡ (depot_state D.Depot depot.old).made }
 {
     let receiver = read_receiver(alloc, depot, card)?;
     receive_file(alloc, depot, receiver, stream, out, steps)
@@ -52,8 +52,8 @@ pub fn receive<D: Depot, L: Ledger>(
 /// The receiver of the card in the file of this argument, before the first packet. All memory that it needs is
 /// allocated here.
 fn read_receiver<D: Depot>(alloc: Global, depot: &mut D, word: Word<'_>) -> Result<Receiver, Status>
-    ensures value { Looks card_in (card_of_file word.entry.number) word.entry.text.now
-        (place D.Depot depot.old) (place D.Depot depot.new) result }
+    ensures value { FileOutcome card_in (card_of_file word.entry.number) word.entry.text.now
+        (depot_state D.Depot depot.old) (depot_state D.Depot depot.new) result }
     ensures new { IfOk result (IsAfter []) }
 {
     let bytes = read_bytes(alloc, depot, word, MOST_CARD_BYTES, LimitKind::CardBytes)?;
@@ -62,7 +62,7 @@ fn read_receiver<D: Depot>(alloc: Global, depot: &mut D, word: Word<'_>) -> Resu
 
 /// The receiver of the card that a file's bytes say.
 fn judge_card(alloc: Global, bytes: &[u8]) -> Result<Receiver, Status>
-    ensures value { Judges card_in (told_card bytes.now) result }
+    ensures value { JudgedOutcome card_in (told_card bytes.now) result }
     ensures new { IfOk result (IsAfter []) }
 {
     match Card::read(alloc, bytes) {
@@ -91,12 +91,12 @@ fn receive_file<D: Depot, L: Ledger>(
     steps: &mut Steps<L>,
 ) -> Result<(), Status>
     requires new { IsAfter [] receiver }
-    ensures value { (page : Page) →
-        Follows (stream_meaning (card_in receiver) (shown_word stream.entry) (shown_word out.entry))
-        (outside (place D.Depot depot.old) page steps.old) (outside (place D.Depot depot.new) page steps.new)
+    ensures value { (page : PageState) →
+        Implements (stream_meaning (card_in receiver) (shown_word stream.entry) (shown_word out.entry))
+        (outside (depot_state D.Depot depot.old) page steps.old) (outside (depot_state D.Depot depot.new) page steps.new)
         (status_of result) }
     ensures memory { status_of result ≡ Status.NoMemory →
-        (place D.Depot depot.new).made ≡ (place D.Depot depot.old).made }
+        (depot_state D.Depot depot.new).made ≡ (depot_state D.Depot depot.old).made }
 {
     let (mut inlet, mut outlet) = open_both(alloc, depot, stream, out)?;
     let ended = receive_all(&mut inlet, &mut outlet, receiver, steps);

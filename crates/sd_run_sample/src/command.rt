@@ -2,8 +2,8 @@ ghost use Rattle.std.specs.Prelude.{◌≡◌, ◌≤◌, ℕ, IsErrOf};
 ghost use Rattle.sd_ports.specs.Causes.{CountsCalls, HasFileCause};
 ghost use Rattle.sd_ports.specs.Files.{WritesFile};
 ghost use Rattle.sd_sample.specs.Sample.{sample_of};
-ghost use Rattle.sd_status.specs.Outside.{Page, outside, place};
-ghost use Rattle.sd_status.specs.Comes.{Follows, status_of};
+ghost use Rattle.sd_status.specs.Outside.{PageState, outside, depot_state};
+ghost use Rattle.sd_status.specs.Outcome.{Implements, status_of};
 ghost use Rattle.sd_run_sample.specs.Sample.{sample_meaning};
 ghost use Rattle.sd_files.specs.Shown.{shown_word};
 
@@ -23,8 +23,8 @@ pub fn sample<D: Depot>(
     out: Word<'_>,
 ) -> Result<(), Status>
     requires { packets ≤ MOST_PACKETS }
-    ensures { (page : Page) (steps : ℕ) → Follows (sample_meaning number packets (shown_word out.entry))
-        (outside (place D.Depot depot.old) page steps) (outside (place D.Depot depot.new) page steps)
+    ensures { (page : PageState) (steps : ℕ) → Implements (sample_meaning number packets (shown_word out.entry))
+        (outside (depot_state D.Depot depot.old) page steps) (outside (depot_state D.Depot depot.new) page steps)
         (status_of result) }
 {
     told(

@@ -8,7 +8,7 @@ use Rattle.sd_card.specs.Fields.{CardFields, IsCard, card_bytes}
 use Rattle.sd_card.proofs.Spellings.{height_written, leaf_written, ca_written}
 use Rattle.sd_status.specs.declared.status.Status.{Status}
 use Rattle.sd_status.specs.declared.status.Status.TheVariants.{BadCard, NoMemory}
-use Rattle.sd_status.specs.Comes.{IsRefusal, IsEnding}
+use Rattle.sd_status.specs.Outcome.{IsRefusal, IsEnding}
 use Rattle.sd_run_show.specs.Show.{card_line, line_unless, refused_card, shown_line, told_show}
 
 -- the line of a card is that of its file's bytes

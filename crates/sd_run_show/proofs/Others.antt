@@ -3,7 +3,7 @@ use Rattle.std.proofs.Common.{ℕ, List, Option, Some, None}
 use Rattle.sd_card.specs.declared.fault.CardFault.{CardFault}
 use Rattle.sd_card.specs.Faults.{fault_in}
 use Rattle.sd_status.specs.declared.status.LimitKind.TheVariants.{CardBytes}
-use Rattle.sd_status.specs.Meant.{Word, Given, judged, value, within}
+use Rattle.sd_status.specs.Spec.{FileArgument, Readings, judged, value, within}
 use Rattle.sd_files.proofs.Others.{IsOther, other_after, other_file}
 use Rattle.sd_run_show.specs.Show.{card_line, line_of_file, line_unless, most_card_bytes, printing, show_meaning}
 use Rattle.sd_run_show.specs.Show.{told_show}
@@ -22,7 +22,7 @@ other_line_file word got =
     other_after (within word most_card_bytes CardBytes got).calls (within word most_card_bytes CardBytes got).result
     (λ bytes. judged (told_show bytes)) (other_file word most_card_bytes CardBytes got) other_line
 
-pub other_show : (card : Word) (given : Given) → IsOther (show_meaning card given).result
+pub other_show : (card : FileArgument) (given : Readings) → IsOther (show_meaning card given).result
 other_show card given =
     other_after (line_of_file card.number (given card)).calls (line_of_file card.number (given card)).result
     (λ line. value (printing line)) (other_line_file card.number (given card)) (λ line. tt)

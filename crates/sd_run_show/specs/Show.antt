@@ -10,7 +10,7 @@ use Rattle.sd_secrets.specs.Files.{check_in}
 use Rattle.sd_status.specs.declared.status.Status.{Status}
 use Rattle.sd_status.specs.declared.status.Status.TheVariants.{Done, BadCard, NoMemory}
 use Rattle.sd_status.specs.declared.status.LimitKind.TheVariants.{CardBytes}
-use Rattle.sd_status.specs.Meant.{Meant, Word, Given, within, judged, value, ◌>>=◌}
+use Rattle.sd_status.specs.Spec.{Spec, FileArgument, Readings, within, judged, value, ◌>>=◌}
 use Rattle.sd_status.specs.Work.{NoSteps, Work}
 
 -- the bytes of the longest card file [this project, docs/FORMATS.md, Card]
@@ -60,7 +60,7 @@ unfoldable pub told_show : List ℕ → Result (List ℕ) Status
 told_show bytes = line_unless (fault_in bytes) (card_line bytes)
 
 -- the line of what the file of this word gave
-unfoldable pub line_of_file : ℕ → Option (List ℕ) → Meant (List ℕ)
+unfoldable pub line_of_file : ℕ → Option (List ℕ) → Spec (List ℕ)
 line_of_file word got = within word most_card_bytes CardBytes got >>= λ bytes. judged (told_show bytes)
 
 -- prints a line
@@ -68,5 +68,5 @@ abbrev pub printing : List ℕ → Work
 printing line = record { out = None; pieces = line ∷ []; ends = Done; breaks = false; steps = NoSteps }
 
 -- the work that the card's file says
-abbrev pub show_meaning : Word → Given → Meant Work
+abbrev pub show_meaning : FileArgument → Readings → Spec Work
 show_meaning card given = line_of_file card.number (given card) >>= λ line. value (printing line)

@@ -1,7 +1,7 @@
 ghost use Rattle.std.specs.Prelude.{◌≡◌, ℕ, string_bytes};
-ghost use Rattle.sd_status.specs.Outside.{outside, page, place};
-ghost use Rattle.sd_status.specs.Reads.{Judges, Looks};
-ghost use Rattle.sd_status.specs.Comes.{Follows, status_of};
+ghost use Rattle.sd_status.specs.Outside.{outside, page_state, depot_state};
+ghost use Rattle.sd_status.specs.Reads.{JudgedOutcome, FileOutcome};
+ghost use Rattle.sd_status.specs.Outcome.{Implements, status_of};
 ghost use Rattle.sd_files.specs.Shown.{shown_word};
 ghost use Rattle.sd_run_show.specs.Show.{line_of_file, refused_card, show_meaning, told_show};
 
@@ -23,9 +23,9 @@ pub fn show<D: Depot, P: Sink>(
     print: &mut P,
     card: Word<'_>,
 ) -> Result<(), Status>
-    ensures { (steps : ℕ) → Follows (show_meaning (shown_word card.entry))
-        (outside (place D.Depot depot.old) (page P.Sink print.old) steps)
-        (outside (place D.Depot depot.new) (page P.Sink print.new) steps) (status_of result) }
+    ensures { (steps : ℕ) → Implements (show_meaning (shown_word card.entry))
+        (outside (depot_state D.Depot depot.old) (page_state P.Sink print.old) steps)
+        (outside (depot_state D.Depot depot.new) (page_state P.Sink print.new) steps) (status_of result) }
 {
     let line = read_line(alloc, depot, card)?;
     print_text(print, line.as_bytes())
@@ -33,8 +33,8 @@ pub fn show<D: Depot, P: Sink>(
 
 /// The line of the card in the word's file.
 fn read_line<D: Depot>(alloc: Global, depot: &mut D, word: Word<'_>) -> Result<String, Status>
-    ensures { Looks (λ line. string_bytes line) (line_of_file word.entry.number) word.entry.text.now
-        (place D.Depot depot.old) (place D.Depot depot.new) result }
+    ensures { FileOutcome (λ line. string_bytes line) (line_of_file word.entry.number) word.entry.text.now
+        (depot_state D.Depot depot.old) (depot_state D.Depot depot.new) result }
 {
     let bytes = read_bytes(alloc, depot, word, MOST_CARD_BYTES, LimitKind::CardBytes)?;
     judge_card(alloc, &bytes)
@@ -42,7 +42,7 @@ fn read_line<D: Depot>(alloc: Global, depot: &mut D, word: Word<'_>) -> Result<S
 
 /// The line of the card that a file's bytes are.
 fn judge_card(alloc: Global, bytes: &[u8]) -> Result<String, Status>
-    ensures { Judges (λ line. string_bytes line) (told_show bytes.now) result }
+    ensures { JudgedOutcome (λ line. string_bytes line) (told_show bytes.now) result }
 {
     match Card::read(alloc, bytes) {
         Ok(card) => Ok(line_of(alloc, &card, bytes)?),

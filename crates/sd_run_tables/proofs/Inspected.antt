@@ -15,19 +15,19 @@ use Rattle.sd_packet.specs.Header.{pid_of}
 use Rattle.sd_lines.specs.Lines.{section_line}
 use Rattle.sd_ports.specs.Bytes.{IsPrefix, AppendsPrefix}
 use Rattle.sd_engine.specs.Stage.{Chain}
-use Rattle.sd_engine.specs.Driving.{Moment, most_packets, Closes, Refuses, IsAllowedAt, Drives}
-use Rattle.sd_engine.specs.Taken.{StreamEnd, Whole, Breaks, RunsOn, taken_of, IsLeft, CutAt, DrivesOver}
+use Rattle.sd_engine.specs.Driving.{DriveState, most_packets, ChainToEnd, ChainToRefusal, IsAllowedAt, DriveOutcome}
+use Rattle.sd_engine.specs.Taken.{StreamEnd, Whole, Breaks, RunsOn, taken_of, IsLeft, CutAt, DriveOutcomeOver}
 use Rattle.sd_engine.proofs.Taken.{least_of, is_over}
 use Rattle.sd_engine.specs.declared.driver.DriveFault.{DriveFault}
 use Rattle.sd_engine.specs.declared.driver.DriveFault.TheVariants as drive
 use Rattle.sd_tables.specs.Inspected.{lines_in, sections_at}
-use Rattle.sd_tables.specs.Staged.{seen, inspector_does, inspector_ends, inspector_refuses, StandsAfter}
+use Rattle.sd_tables.specs.Staged.{seen, inspector_does, inspector_ends, inspector_refuses, IsStateAfter}
 use Rattle.sd_tables.specs.declared.inspector.Inspector.{Inspector}
 use Rattle.sd_tables.proofs.Chained.{all_written, all_after}
 use Rattle.sd_status.specs.declared.status.Status.{Status}
 use Rattle.sd_status.specs.declared.status.Status.TheVariants.{DepotFault, NoMemory}
-use Rattle.sd_status.specs.Outside.{Page}
-use Rattle.sd_status.specs.Comes.{IsEnding}
+use Rattle.sd_status.specs.Outside.{PageState}
+use Rattle.sd_status.specs.Outcome.{IsEnding}
 use Rattle.sd_status.specs.Prints.{PrintsReading}
 use Rattle.sd_run_tables.specs.Tables.{packet_lines, inspecting, drive_status, InspectsLeft}
 use Rattle.sd_files.specs.Streams.{stream_status}
@@ -110,17 +110,17 @@ all_few : (bytes : List ℕ) → length (taken_of bytes) ≤ 2 ^ 64 - 1
 all_few bytes = let few = (least_of bytes).1 in omega (arith, few)
 
 -- the lines of packets that went through
-went_through : (s t : Inspector) (packets : List (List ℕ)) (bytes : List ℕ) (n : ℕ) → StandsAfter [] (seen s) →
+went_through : (s t : Inspector) (packets : List (List ℕ)) (bytes : List ℕ) (n : ℕ) → IsStateAfter [] (seen s) →
     length packets ≤ 2 ^ 64 - 1 → Chain inspector_does s packets t bytes n → bytes ≡ lines_in (reverse packets)
 went_through s t packets bytes n stands few chain = all_written packets s t bytes n stands few chain
 
-some_through : (k : ℕ) (packets : List (List ℕ)) (s t : Inspector) (bytes : List ℕ) (n : ℕ) → StandsAfter [] (seen s) →
+some_through : (k : ℕ) (packets : List (List ℕ)) (s t : Inspector) (bytes : List ℕ) (n : ℕ) → IsStateAfter [] (seen s) →
     length (take k packets) ≤ 2 ^ 64 - 1 → Chain inspector_does s (take k packets) t bytes n →
     bytes ≡ concat (take k (packet_lines [] packets))
 some_through k packets s t bytes n stands few chain =
     went_through s t (take k packets) bytes n stands few chain ∙ first_lines k packets
 
-all_through : (packets : List (List ℕ)) (s t : Inspector) (bytes : List ℕ) (n : ℕ) → StandsAfter [] (seen s) →
+all_through : (packets : List (List ℕ)) (s t : Inspector) (bytes : List ℕ) (n : ℕ) → IsStateAfter [] (seen s) →
     length packets ≤ 2 ^ 64 - 1 → Chain inspector_does s packets t bytes n → bytes ≡ concat (packet_lines [] packets)
 all_through packets s t bytes n stands few chain = went_through s t packets bytes n stands few chain ∙ all_lines packets
 
@@ -128,7 +128,7 @@ nothing_more : (first last bytes : List ℕ) → last ≡ [] → bytes ≡ first
 nothing_more first last bytes none joined = joined ∙ (ap (λ (xs : List ℕ). first ++ xs) none ∙ append-nil first)
 
 -- the lines of some first packets begin all
-first_begin : (k : ℕ) (packets : List (List ℕ)) (s t : Inspector) (bytes : List ℕ) (n : ℕ) → StandsAfter [] (seen s) →
+first_begin : (k : ℕ) (packets : List (List ℕ)) (s t : Inspector) (bytes : List ℕ) (n : ℕ) → IsStateAfter [] (seen s) →
     length (take k packets) ≤ 2 ^ 64 - 1 → Chain inspector_does s (take k packets) t bytes n →
     IsPrefix bytes (concat (packet_lines [] packets))
 first_begin k packets s t bytes n stands few chain =
@@ -142,14 +142,14 @@ none_after first bytes whole none p =
 
 -- and the lines of the packet after them go on with them
 next_begin : (k : ℕ) (packets : List (List ℕ)) (s mid t : Inspector) (first bytes packet : List ℕ) (n m : ℕ) →
-    StandsAfter [] (seen s) → length (take k packets) ≤ 2 ^ 64 - 1 → Chain inspector_does s (take k packets) mid first
+    IsStateAfter [] (seen s) → length (take k packets) ≤ 2 ^ 64 - 1 → Chain inspector_does s (take k packets) mid first
     n →
     slice_get packets k ≡ Some packet → inspector_does mid packet t bytes m →
     IsPrefix (first ++ bytes) (concat (packet_lines [] packets))
 next_begin k packets s mid t first bytes packet n m stands few chain at inspects =
     let pieces = packet_lines [] packets in
     let before = reverse (take k packets) in
-    let after : StandsAfter before (seen mid) = all_after (take k packets) s mid first n stands few chain in
+    let after : IsStateAfter before (seen mid) = all_after (take k packets) s mid first n stands few chain in
     let lines : bytes ≡ flat_map (section_line (length before) (pid_of packet)) (sections_at packet before) =
     inspects.lines before after
     ∙ ap (λ (number : ℕ). flat_map (section_line number (pid_of packet)) (sections_at packet before)) after.number in
@@ -164,7 +164,7 @@ next_begin k packets s mid t first bytes packet n m stands few chain at inspects
 -- what the inspector may write of a packet, or of the end, goes on with the lines of all packets
 part_of_lines : (k : ℕ) (packets : List (List ℕ)) (s mid : Inspector) (first bytes : List ℕ) (n from to : ℕ)
     (here : Option (List ℕ)) →
-    StandsAfter [] (seen s) → length (take k packets) ≤ 2 ^ 64 - 1 → Chain inspector_does s (take k packets) mid first
+    IsStateAfter [] (seen s) → length (take k packets) ≤ 2 ^ 64 - 1 → Chain inspector_does s (take k packets) mid first
     n →
     slice_get packets k ≡ here → IsAllowedAt inspector_does inspector_ends inspector_refuses mid here from to bytes →
     IsPrefix (first ++ bytes) (concat (packet_lines [] packets))
@@ -182,7 +182,7 @@ part_of_lines k packets s mid first bytes n from to (Some packet) stands few cha
     (first_begin k packets s mid first n stands few chain)
 
 -- a write failed
-cut_lines : (bytes : List ℕ) (a b : Moment Inspector) → StandsAfter [] (seen a.stage) →
+cut_lines : (bytes : List ℕ) (a b : DriveState Inspector) → IsStateAfter [] (seen a.stage) →
     CutAt inspector_does inspector_ends inspector_refuses bytes a b →
     AppendsPrefix a.sink.held b.sink.held (concat (packet_lines [] (taken_of bytes)))
 cut_lines bytes a b stands h =
@@ -197,9 +197,10 @@ cut_lines bytes a b stands h =
     )
 
 -- what was printed of a stream that was driven
-pub drives_print : (bytes : List ℕ) (a b : Moment Inspector) (f g : ℕ) (result : Result ℕ (DriveFault OutOfMemory)) →
-    StandsAfter [] (seen a.stage) → IsCaused f g (IsErrOf result drive.WriteFault) →
-    DrivesOver inspector_does inspector_ends inspector_refuses bytes a b result →
+pub drives_print : (bytes : List ℕ) (a b : DriveState Inspector) (f g : ℕ)
+    (result : Result ℕ (DriveFault OutOfMemory)) →
+    IsStateAfter [] (seen a.stage) → IsCaused f g (IsErrOf result drive.WriteFault) →
+    DriveOutcomeOver inspector_does inspector_ends inspector_refuses bytes a b result →
     PrintsReading (inspecting bytes) (record { printed = a.sink.held; faults = f })
     (record { printed = b.sink.held; faults = g })
     (drive_status result)
@@ -209,7 +210,8 @@ drives_print bytes a b f g (Ok count) stands cause (whole, counted, grew) = inl 
   cause.calm (λ e. cc),
 ))
   where
-    all_and_end : (xs : List ℕ) (n : ℕ) → Closes inspector_does inspector_ends a.stage (taken_of bytes) b.stage xs n →
+    all_and_end : (xs : List ℕ) (n : ℕ) →
+        ChainToEnd inspector_does inspector_ends a.stage (taken_of bytes) b.stage xs n →
         xs ≡ concat (packet_lines [] (taken_of bytes))
     all_and_end xs n (mid, first, last, m, k, chain, ends, joined, counted) =
         nothing_more first last xs ends.nothing joined
@@ -250,14 +252,14 @@ drives_print bytes a b f g (Err (drive.Refused fault)) stands cause h = inl (inr
 )))
   where
     some_and_none : (count : ℕ) (here : Option (List ℕ)) (xs : List ℕ) (n : ℕ) →
-        Refuses inspector_does inspector_refuses a.stage (take count (taken_of bytes)) here fault b.stage xs n →
+        ChainToRefusal inspector_does inspector_refuses a.stage (take count (taken_of bytes)) here fault b.stage xs n →
         xs ≡ concat (take count (packet_lines [] (taken_of bytes)))
     some_and_none count here xs n (mid, first, last, m, k, chain, refuses, joined, counted) =
         nothing_more first last xs refuses.nothing joined
         ∙ some_through count (taken_of bytes) a.stage mid first m stands (few_taken count bytes) chain
 
 -- before any of it was read memory was out
-pub none_inspected : (left : Option (List ℕ)) (bytes : List ℕ) (page : Page) → IsLeft left bytes →
+pub none_inspected : (left : Option (List ℕ)) (bytes : List ℕ) (page : PageState) → IsLeft left bytes →
     InspectsLeft left page page NoMemory
 none_inspected left bytes page is = record {
   bytes = bytes;
@@ -269,13 +271,14 @@ some_left : (left : Option (List ℕ)) → (bytes : List ℕ) × IsLeft left byt
 some_left None = ([], tt)
 some_left (Some bytes) = (bytes, refl)
 
-pub not_inspected : (left : Option (List ℕ)) (page : Page) → InspectsLeft left page page NoMemory
+pub not_inspected : (left : Option (List ℕ)) (page : PageState) → InspectsLeft left page page NoMemory
 not_inspected left page = let some = some_left left in none_inspected left some.0 page some.1
 
 -- the stream that was left was inspected
-pub is_inspected : (a b : Moment Inspector) (f g : ℕ) (result : Result ℕ (DriveFault OutOfMemory)) (status : Status) →
-    StandsAfter [] (seen a.stage) → IsCaused f g (IsErrOf result drive.WriteFault) →
-    Drives inspector_does inspector_ends inspector_refuses a b result → status ≡ drive_status result →
+pub is_inspected : (a b : DriveState Inspector) (f g : ℕ) (result : Result ℕ (DriveFault OutOfMemory))
+    (status : Status) →
+    IsStateAfter [] (seen a.stage) → IsCaused f g (IsErrOf result drive.WriteFault) →
+    DriveOutcome inspector_does inspector_ends inspector_refuses a b result → status ≡ drive_status result →
     InspectsLeft a.left (record { printed = a.sink.held; faults = f }) (record { printed = b.sink.held; faults = g })
     status
 is_inspected a b f g result status stands cause drives is =

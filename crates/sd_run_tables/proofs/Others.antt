@@ -1,9 +1,9 @@
 -- `tables` never means `Usage`.
-use Rattle.sd_status.specs.Meant.{Word, Given, all_of, value}
+use Rattle.sd_status.specs.Spec.{FileArgument, Readings, all_of, value}
 use Rattle.sd_files.proofs.Others.{IsOther, other_after, other_stream}
 use Rattle.sd_run_tables.specs.Tables.{inspecting, tables_meaning}
 
-pub other_tables : (stream : Word) (given : Given) → IsOther (tables_meaning stream given).result
+pub other_tables : (stream : FileArgument) (given : Readings) → IsOther (tables_meaning stream given).result
 unfolding tables_meaning
 other_tables stream given =
     other_after (all_of stream.number (given stream)).calls (all_of stream.number (given stream)).result

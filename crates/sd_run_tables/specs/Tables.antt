@@ -12,8 +12,8 @@ use Rattle.sd_tables.specs.Inspected.{sections_at}
 use Rattle.sd_status.specs.declared.status.Status.{Status}
 use Rattle.sd_status.specs.declared.status.Status.TheVariants.{Done, BadStream, DepotFault, PrintFault, NoMemory}
 use Rattle.sd_status.specs.declared.status.StreamCause.TheVariants.{Broken, TooLong}
-use Rattle.sd_status.specs.Outside.{Page}
-use Rattle.sd_status.specs.Meant.{Meant, Word, Given, all_of, value, ◌>>=◌}
+use Rattle.sd_status.specs.Outside.{PageState}
+use Rattle.sd_status.specs.Spec.{Spec, FileArgument, Readings, all_of, value, ◌>>=◌}
 use Rattle.sd_status.specs.Work.{NoSteps, Work}
 use Rattle.sd_status.specs.Prints.{PrintsReading}
 use Rattle.sd_files.specs.Streams.{stream_status}
@@ -35,7 +35,7 @@ inspecting bytes = record {
   steps = NoSteps;
 }
 
-unfoldable pub tables_meaning : Word → Given → Meant Work
+unfoldable pub tables_meaning : FileArgument → Readings → Spec Work
 tables_meaning stream given = all_of stream.number (given stream) >>= λ bytes. value (inspecting bytes)
 
 -- the status of a stream that was driven
@@ -48,7 +48,7 @@ drive_status (Err drive.WriteFault) = PrintFault
 drive_status (Err (drive.Refused fault)) = NoMemory
 
 -- the lines of the stream that was left were printed, as far as its source and print went
-pub record InspectsLeft (left : Option (List ℕ)) (a b : Page) (status : Status) : Type 0 where
+pub record InspectsLeft (left : Option (List ℕ)) (a b : PageState) (status : Status) : Type 0 where
   pub bytes : List ℕ
   pub is_left : IsLeft left bytes
   pub prints : PrintsReading (inspecting bytes) a b status

@@ -2,9 +2,9 @@ ghost use Rattle.std.specs.Prelude.{◌≡◌, ◌<◌, ℕ, IsErrOf};
 ghost use Rattle.sd_cause.specs.Count.{IsCaused};
 ghost use Rattle.sd_cause.specs.declared.memory.NoMemory.{NoMemory};
 ghost use Rattle.sd_engine.specs.Stage.{vessel};
-ghost use Rattle.sd_engine.specs.Driving.{moment, Drives};
-ghost use Rattle.sd_status.specs.Outside.{outside, page, place};
-ghost use Rattle.sd_status.specs.Comes.{Follows, status_of};
+ghost use Rattle.sd_engine.specs.Driving.{moment, DriveOutcome};
+ghost use Rattle.sd_status.specs.Outside.{outside, page_state, depot_state};
+ghost use Rattle.sd_status.specs.Outcome.{Implements, status_of};
 ghost use Rattle.sd_run_tables.specs.Tables.{InspectsLeft, drive_status, tables_meaning};
 ghost use Rattle.sd_files.specs.Shown.{shown_word};
 
@@ -27,9 +27,9 @@ pub fn tables<D: Depot, P: Sink>(
     print: &mut P,
     stream: Word<'_>,
 ) -> Result<(), Status>
-    ensures { (steps : ℕ) → Follows (tables_meaning (shown_word stream.entry))
-        (outside (place D.Depot depot.old) (page P.Sink print.old) steps)
-        (outside (place D.Depot depot.new) (page P.Sink print.new) steps) (status_of result) }
+    ensures { (steps : ℕ) → Implements (tables_meaning (shown_word stream.entry))
+        (outside (depot_state D.Depot depot.old) (page_state P.Sink print.old) steps)
+        (outside (depot_state D.Depot depot.new) (page_state P.Sink print.new) steps) (status_of result) }
 {
     let mut port = match depot.open_in(alloc, stream.text) {
         Ok(port) => port,
@@ -46,7 +46,7 @@ fn print_tables<S: Source, P: Sink>(
     source: &mut S,
     print: &mut P,
 ) -> Result<(), Status>
-    ensures value { InspectsLeft (S.left source.old) (page P.Sink print.old) (page P.Sink print.new)
+    ensures value { InspectsLeft (S.left source.old) (page_state P.Sink print.old) (page_state P.Sink print.new)
         (status_of result) }
     ensures cause { IsCaused (S.faults source.old) (S.faults source.new) (status_of result ≡ Status.DepotFault) }
 {
@@ -63,7 +63,7 @@ fn inspect<L: Ledger, S: Source, P: Sink>(
     requires name { blank.name ≡ L.name }
     requires parts { blank.parts ≡ L.parts }
     requires some { 0 < blank.parts }
-    ensures value { InspectsLeft (S.left source.old) (page P.Sink print.old) (page P.Sink print.new)
+    ensures value { InspectsLeft (S.left source.old) (page_state P.Sink print.old) (page_state P.Sink print.new)
         (status_of result) }
     ensures cause { IsCaused (S.faults source.old) (S.faults source.new) (status_of result ≡ Status.DepotFault) }
 {

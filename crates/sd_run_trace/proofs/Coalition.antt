@@ -6,7 +6,7 @@ use Rattle.sd_tree.specs.Limits.{highest, most_revoked}
 use Rattle.sd_book.specs.declared.command.Command.{Command}
 use Rattle.sd_book.specs.Commands.{last_period}
 use Rattle.sd_book.proofs.Revocations.{below}
-use Rattle.sd_trace.specs.Trace.{IsTrace, outside, trace_of}
+use Rattle.sd_trace.specs.Trace.{IsTrace, not_among, trace_of}
 use Rattle.sd_trace.specs.declared.found.Found.{Found}
 use Rattle.sd_trace.proofs.Inside.{trace_is_coalition}
 use Rattle.sd_trace.proofs.Listed.{there_is_a_trace, trace_new, trace_once}
@@ -25,7 +25,7 @@ pub text_is : (d : ℕ) (coalition : List ℕ) (commands : List Command) (text :
 unfolding traced
 text_is d coalition commands text e =
     let gone = revoked_last d commands in
-    told_text (nat_lt most_revoked (length gone + length (outside d gone coalition))) (Limit Traced)
+    told_text (nat_lt most_revoked (length gone + length (not_among d gone coalition))) (Limit Traced)
     (trace_text (trace_of d coalition gone)) text e
 
 -- there is the trace

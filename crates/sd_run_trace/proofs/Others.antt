@@ -3,10 +3,10 @@ use Rattle.std.proofs.Common.{ℕ, ◌+◌, Bool, true, false, List, length, Ok,
 use Rattle.std.specs.Prelude.{nat_lt, if◌then◌else◌}
 use Rattle.sd_tree.specs.Limits.{most_revoked}
 use Rattle.sd_book.specs.declared.command.Command.{Command}
-use Rattle.sd_trace.specs.Trace.{outside, trace_of}
+use Rattle.sd_trace.specs.Trace.{not_among, trace_of}
 use Rattle.sd_status.specs.declared.status.Status.TheVariants.{Limit}
 use Rattle.sd_status.specs.declared.status.LimitKind.TheVariants.{Traced}
-use Rattle.sd_status.specs.Meant.{Word, Given, judged, value, ◌>>=◌}
+use Rattle.sd_status.specs.Spec.{FileArgument, Readings, judged, value, ◌>>=◌}
 use Rattle.sd_files.specs.Both.{both_by}
 use Rattle.sd_files.specs.Leaves.{leaves_of_file}
 use Rattle.sd_files.proofs.Others.{IsOther, other_after, other_both, other_leaves_file}
@@ -20,10 +20,11 @@ other_traced : (d : ℕ) (coalition : List ℕ) (commands : List Command) → Is
 unfolding traced
 other_traced d coalition commands =
     let gone = revoked_last d commands in
-    other_limit (nat_lt most_revoked (length gone + length (outside d gone coalition)))
+    other_limit (nat_lt most_revoked (length gone + length (not_among d gone coalition)))
     (trace_text (trace_of d coalition gone))
 
-pub other_trace : (site book leaves : Word) (given : Given) → IsOther (trace_meaning site book leaves given).result
+pub other_trace : (site book leaves : FileArgument) (given : Readings) →
+    IsOther (trace_meaning site book leaves given).result
 unfolding trace_meaning
 other_trace site book leaves given =
     other_after (both_by site.number book.number (given site) (given book)).calls

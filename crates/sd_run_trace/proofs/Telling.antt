@@ -3,13 +3,13 @@ use Rattle.std.proofs.Common.{ℕ, List, append-nil, sym, subst, inl, inr}
 use Rattle.std.specs.Io.KnownBytes.{Appends}
 use Rattle.sd_ports.specs.Bytes.{AppendsPrefix}
 use Rattle.sd_status.specs.declared.status.Status.{Status}
-use Rattle.sd_status.specs.Outside.{Page}
-use Rattle.sd_status.specs.Prints.{Prints, PrintsText}
+use Rattle.sd_status.specs.Outside.{PageState}
+use Rattle.sd_status.specs.Prints.{PrintsWork, PrintsText}
 use Rattle.sd_run_trace.specs.Trace.{telling}
 
 -- a text that was printed, or a prefix of it, is work that prints it
-pub text_prints : (text : List ℕ) (a b : Page) (status : Status) → PrintsText text a b status →
-    Prints (telling text) a b status
+pub text_prints : (text : List ℕ) (a b : PageState) (status : Status) → PrintsText text a b status →
+    PrintsWork (telling text) a b status
 text_prints text a b status (inl all) = inl (
   all.0,
   subst (λ (xs : List ℕ). Appends a.printed b.printed xs) (sym (append-nil text)) all.1,

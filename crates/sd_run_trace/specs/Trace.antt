@@ -7,11 +7,11 @@ use Rattle.sd_tree.specs.Limits.{most_revoked}
 use Rattle.sd_book.specs.declared.command.Command.{Command}
 use Rattle.sd_book.specs.Commands.{last_period, revoked}
 use Rattle.sd_trace.specs.declared.found.Found.{Found}
-use Rattle.sd_trace.specs.Trace.{outside, trace_of}
+use Rattle.sd_trace.specs.Trace.{not_among, trace_of}
 use Rattle.sd_status.specs.declared.status.Status.{Status}
 use Rattle.sd_status.specs.declared.status.Status.TheVariants.{Done, Limit}
 use Rattle.sd_status.specs.declared.status.LimitKind.TheVariants.{Traced}
-use Rattle.sd_status.specs.Meant.{Meant, Word, Given, value, judged, ◌>>=◌}
+use Rattle.sd_status.specs.Spec.{Spec, FileArgument, Readings, value, judged, ◌>>=◌}
 use Rattle.sd_status.specs.Work.{NoSteps, Work}
 use Rattle.sd_files.specs.Both.{both_meaning}
 use Rattle.sd_files.specs.Leaves.{leaves_in}
@@ -39,7 +39,7 @@ trace_text found = flat_map found_line found ++ silent_line
 unfoldable pub traced : ℕ → List ℕ → List Command → Result (List ℕ) Status
 traced d coalition commands =
     let gone = revoked_last d commands in
-    if nat_lt most_revoked (length gone + length (outside d gone coalition)) then Err (Limit Traced)
+    if nat_lt most_revoked (length gone + length (not_among d gone coalition)) then Err (Limit Traced)
     else Ok (trace_text (trace_of d coalition gone))
 
 -- prints this text
@@ -47,7 +47,7 @@ abbrev pub telling : List ℕ → Work
 telling text = record { out = None; pieces = text ∷ []; ends = Done; breaks = false; steps = NoSteps }
 
 -- the work that the three files say
-unfoldable pub trace_meaning : Word → Word → Word → Given → Meant Work
+unfoldable pub trace_meaning : FileArgument → FileArgument → FileArgument → Readings → Spec Work
 trace_meaning site book leaves given = do
   both ← both_meaning site book given
   coalition ← leaves_in given both.site.height leaves

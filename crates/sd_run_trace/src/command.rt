@@ -1,7 +1,7 @@
 ghost use Rattle.std.specs.Prelude.{◌≡◌, ◌≢◌, ◌^◌, ◌<◌, ℕ, All, string_bytes};
-ghost use Rattle.sd_status.specs.Outside.{outside, page, place};
-ghost use Rattle.sd_status.specs.Comes.{Follows, status_of};
-ghost use Rattle.sd_status.specs.Reads.{Judges};
+ghost use Rattle.sd_status.specs.Outside.{outside, page_state, depot_state};
+ghost use Rattle.sd_status.specs.Outcome.{Implements, status_of};
+ghost use Rattle.sd_status.specs.Reads.{JudgedOutcome};
 ghost use Rattle.sd_files.specs.Shown.{shown_word};
 ghost use Rattle.sd_run_trace.specs.Trace.{trace_meaning, traced};
 
@@ -26,9 +26,9 @@ pub fn trace<D: Depot, P: Sink>(
 ) -> Result<(), Status>
     requires { (site.number ≢ book.number) × (site.number ≢ leaves.number) × (book.number ≢ leaves.number) }
     ensures { (steps : ℕ) →
-        Follows (trace_meaning (shown_word site.entry) (shown_word book.entry) (shown_word leaves.entry))
-        (outside (place D.Depot depot.old) (page P.Sink print.old) steps)
-        (outside (place D.Depot depot.new) (page P.Sink print.new) steps) (status_of result) }
+        Implements (trace_meaning (shown_word site.entry) (shown_word book.entry) (shown_word leaves.entry))
+        (outside (depot_state D.Depot depot.old) (page_state P.Sink print.old) steps)
+        (outside (depot_state D.Depot depot.new) (page_state P.Sink print.new) steps) (status_of result) }
 {
     let (site, book) = read_both(alloc, depot, site, book)?;
     let leaves = read_leaves(alloc, depot, leaves, site.height)?;
@@ -40,7 +40,7 @@ pub fn trace<D: Depot, P: Sink>(
 #[tactic(auto, using(crate::proofs::Tracing::is_traced, crate::proofs::Tracing::is_too_many))]
 fn found_text(alloc: Global, book: &Book, leaves: Vec<Leaf>) -> Result<String, Status>
     requires { All (λ u. u < 2 ^ book.now.height) leaves.items }
-    ensures { Judges string_bytes (traced book.now.height leaves.items book.now.commands) result }
+    ensures { JudgedOutcome string_bytes (traced book.now.height leaves.items book.now.commands) result }
 {
     let h = book.height();
     let revoked = book.revoked(alloc, book.last_period())?;

@@ -4,7 +4,7 @@ use Rattle.std.specs.Prelude.{nat_lt}
 use Rattle.sd_site.specs.Fields.{SiteFields}
 use Rattle.sd_status.specs.declared.status.Status.TheVariants.{Limit}
 use Rattle.sd_status.specs.declared.status.LimitKind.TheVariants.{TrialHeight}
-use Rattle.sd_status.specs.Meant.{Word, Given, all_of, judged, value, ◌>>=◌}
+use Rattle.sd_status.specs.Spec.{FileArgument, Readings, all_of, judged, value, ◌>>=◌}
 use Rattle.sd_ports.specs.Bytes.{prefix_of}
 use Rattle.sd_files.specs.Files.{site_of_file, book_of_file}
 use Rattle.sd_files.proofs.Others.{IsOther, other_after, other_stream, other_site_file, other_book_file}
@@ -41,7 +41,8 @@ other_prefix word most got =
     other_after (all_of word got).calls (all_of word got).result (λ bytes. value (prefix_of most bytes))
     (other_stream word got) (λ bytes. tt)
 
-pub other_trial : (site book clear : Word) (given : Given) → IsOther (trial_meaning site book clear given).result
+pub other_trial : (site book clear : FileArgument) (given : Readings) →
+    IsOther (trial_meaning site book clear given).result
 unfolding trial_meaning
 other_trial site book clear given =
     other_after (plan_by site.number book.number (given site) (given book)).calls

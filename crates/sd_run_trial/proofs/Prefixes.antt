@@ -5,16 +5,16 @@ use Rattle.std.proofs.Common.{le-ltb}
 use Rattle.std.proofs.Common.{lt-ltb}
 use Rattle.std.specs.Prelude.{nat_lt, IfOk, IsErrOf}
 use Rattle.std.proofs.lemmas.List.{take-append-le}
-use Rattle.sd_cause.specs.Count.{Rose, with_added}
-use Rattle.sd_ports.specs.Files.{Opens}
+use Rattle.sd_cause.specs.Count.{HasRisen, with_added}
+use Rattle.sd_ports.specs.Files.{OpensFile}
 use Rattle.sd_ports.specs.Bytes.{Prefix, prefix_of, IsTakenFrom}
 use Rattle.sd_ports.specs.declared.prefix.ReadMostFault.{ReadMostFault}
 use Rattle.sd_ports.specs.declared.prefix.ReadMostFault.TheVariants as fault
 use Rattle.sd_engine.specs.Taken.{IsLeft}
 use Rattle.sd_status.specs.declared.status.Status.{Status}
 use Rattle.sd_status.specs.declared.status.Status.TheVariants.{DepotFault, NoMemory}
-use Rattle.sd_status.specs.Outside.{Place, called}
-use Rattle.sd_status.specs.Reads.{IsAsked, StopCause, Looks}
+use Rattle.sd_status.specs.Outside.{DepotState, called}
+use Rattle.sd_status.specs.Reads.{IsAsked, StopCause, FileOutcome}
 use Rattle.sd_files.proofs.Looked.{opened_got}
 use Rattle.sd_files.proofs.Places.{only_called}
 use Rattle.sd_run_trial.specs.Prefixes.{prefix_of_file, told_prefix}
@@ -56,9 +56,9 @@ prefix_left None most prefix h within full =
 prefix_left (Some left) most prefix h within full = record { bytes = left; is_left = refl; is = h }
 
 -- the file was read as far as it is taken
-pub prefix_looks : (word most : ℕ) (name : List ℕ) (a b : Place) (left : Option (List ℕ)) (prefix : Prefix) →
-    Opens a.files name left → PrefixLeft left most prefix → b ≡ called 2 a →
-    Looks (λ (prefix : Prefix). prefix) (prefix_of_file word most) name a b (Ok prefix)
+pub prefix_looks : (word most : ℕ) (name : List ℕ) (a b : DepotState) (left : Option (List ℕ)) (prefix : Prefix) →
+    OpensFile a.files name left → PrefixLeft left most prefix → b ≡ called 2 a →
+    FileOutcome (λ (prefix : Prefix). prefix) (prefix_of_file word most) name a b (Ok prefix)
 unfolding prefix_of_file
 prefix_looks word most name a b left prefix opens h same = record {
   got = Some h.bytes;
@@ -71,10 +71,10 @@ some_left None = ([], tt)
 some_left (Some bytes) = (bytes, refl)
 
 -- reading was stopped
-pub prefix_stopped : (word most : ℕ) (name : List ℕ) (a b : Place) (left : Option (List ℕ)) (status : Status) →
-    Opens a.files name left →
+pub prefix_stopped : (word most : ℕ) (name : List ℕ) (a b : DepotState) (left : Option (List ℕ)) (status : Status) →
+    OpensFile a.files name left →
     StopCause a b status → IsAsked 2 a b → b.misses ≡ a.misses →
-    Looks (λ (prefix : Prefix). prefix) (prefix_of_file word most) name a b (Err status)
+    FileOutcome (λ (prefix : Prefix). prefix) (prefix_of_file word most) name a b (Err status)
 unfolding prefix_of_file
 prefix_stopped word most name a b left status opens cause asked misses =
     let some = some_left left in record {
@@ -88,7 +88,7 @@ pub record PrefixRead (left : Option (List ℕ)) (most fresh from : ℕ) (read :
   pub value : IfOk read (λ prefix. IsTakenFrom most left prefix)
   pub within : IfOk read (λ prefix. length prefix.bytes ≤ most)
   pub full : IfOk read (λ prefix. prefix.more ≡ true → length prefix.bytes ≡ most)
-  pub failed : IsErrOf read fault.Failed → Rose fresh from
+  pub failed : IsErrOf read fault.Failed → HasRisen fresh from
   pub calm : ¬ IsErrOf read fault.Failed → from ≡ fresh
 
 -- the counts of faults of a depot that took over those of a port
@@ -97,7 +97,7 @@ pub none_added : (before opened now from : ℕ) → opened ≡ before → opened
 none_added before opened now from same within is none = omega (arith, same, within, is, none)
 
 pub some_added : (before opened now fresh from : ℕ) → opened ≡ before → opened < 2 ^ 64 →
-    now ≡ with_added opened from → fresh ≡ 0 → Rose fresh from → Rose before now
+    now ≡ with_added opened from → fresh ≡ 0 → HasRisen fresh from → HasRisen before now
 some_added before opened now fresh from same within is none rose = omega (arith, same, within, is, none, rose)
 
 -- of no more bytes than are taken, all are
@@ -107,11 +107,13 @@ whole_prefix most bytes few =
     (le-ltb most (length bytes) few)
 
 -- once the file was closed
-pub prefix_answered : (word most : ℕ) (name : List ℕ) (p q : Place) (left : Option (List ℕ)) (opened stops fresh from : ℕ)
-    (read : Result Prefix ReadMostFault) → Opens p.files name left → opened ≡ p.faults → opened < 2 ^ 64 →
-    q.faults ≡ with_added opened from → stops ≡ p.stops → stops < 2 ^ 64 → q.stops ≡ with_added stops from → fresh ≡ 0 → PrefixRead left most fresh from read → q.files ≡ p.files →
+pub prefix_answered : (word most : ℕ) (name : List ℕ) (p q : DepotState) (left : Option (List ℕ))
+    (opened stops fresh from : ℕ)
+    (read : Result Prefix ReadMostFault) → OpensFile p.files name left → opened ≡ p.faults → opened < 2 ^ 64 →
+    q.faults ≡ with_added opened from → stops ≡ p.stops → stops < 2 ^ 64 → q.stops ≡ with_added stops from → fresh ≡ 0 →
+    PrefixRead left most fresh from read → q.files ≡ p.files →
     q.misses ≡ p.misses → q.made ≡ p.made → q.opened ≡ p.opened → q.calls ≡ with_added p.calls 2 →
-    Looks (λ (prefix : Prefix). prefix) (prefix_of_file word most) name p q (told_prefix read)
+    FileOutcome (λ (prefix : Prefix). prefix) (prefix_of_file word most) name p q (told_prefix read)
 prefix_answered word most name p q left opened stops fresh from (Ok prefix) is_open same within now stood below stopped
     none r files misses made ports calls =
     prefix_looks word most name p q left prefix is_open (prefix_left left most prefix r.value r.within r.full)

@@ -8,8 +8,8 @@ use Rattle.sd_run_head.specs.Head.{sent_of, sent_status}
 use Rattle.sd_run_receive.specs.Receive.{received_of}
 use Rattle.sd_ports.specs.Bytes.{Prefix}
 use Rattle.sd_status.specs.declared.status.Status.{Status}
-use Rattle.sd_files.specs.Printed.{Comes}
-use Rattle.sd_run_trial.specs.Trial.{Adds, HasHeard, HasSent, card_line, clear_line, lines_of, lines_to}
+use Rattle.sd_files.specs.Printed.{MemoryOutcome}
+use Rattle.sd_run_trial.specs.Trial.{AddsLine, HasHeard, HasSent, card_line, clear_line, trial_lines, lines_to}
 use Rattle.sd_run_trial.specs.Trial.{receiver_line, sent_or, then_line, told_line, told_sent, trial_text}
 
 -- The loop over the leaves.
@@ -21,7 +21,7 @@ first_text site bytes first text is = ap Ok (sym is)
 
 -- the lines so far, and the next
 pub next_line : (site : SiteFields) (bytes first text more : List ℕ) (u : ℕ) → lines_to site bytes first u ≡ Ok text →
-    Adds (receiver_line site bytes u) text more (Ok tt) → lines_to site bytes first (u + 1) ≡ Ok more
+    AddsLine (receiver_line site bytes u) text more (Ok tt) → lines_to site bytes first (u + 1) ≡ Ok more
 unfolding lines_to
 next_line site bytes first text more u so_far adds =
     let next : u + 1 ≡ suc u = omega arith in
@@ -53,8 +53,8 @@ unlined site bytes first text u status so_far is =
 -- the lines stop at a leaf that has none, or for want of memory
 pub line_stopped : {X : Type 0} (view : X → List ℕ) (site : SiteFields) (bytes first text more : List ℕ) (u leaves : ℕ)
     (status : Status) → lines_to site bytes first u ≡ Ok text → u < leaves →
-    Adds (receiver_line site bytes u) text more (Err status) →
-    Comes view (lines_to site bytes first leaves) (Err status)
+    AddsLine (receiver_line site bytes u) text more (Err status) →
+    MemoryOutcome view (lines_to site bytes first leaves) (Err status)
 line_stopped view site bytes first text more u leaves status so_far inside (inl told) =
     let all : leaves ≡ (u + 1) + (leaves - (u + 1)) = omega (arith, inside) in
     inl (
@@ -69,11 +69,12 @@ line_stopped view site bytes first text more u leaves status so_far inside (inr 
 pub heard_as : (site : SiteFields) (bytes : List ℕ) (u wrote : ℕ) (card : CardFields) (status : Status)
     (before now : List ℕ) (result : Result (Unit {0}) Status) →
     card ≡ card_of site.master site.ca site.height u → HasHeard card bytes wrote status →
-    Adds (told_line u (wrote / 188) status) before now result → Adds (receiver_line site bytes u) before now result
+    AddsLine (told_line u (wrote / 188) status) before now result →
+    AddsLine (receiver_line site bytes u) before now result
 unfolding receiver_line
 heard_as site bytes u wrote card status before now result is heard adds =
-    subst (λ (c : CardFields). Adds (card_line u c bytes) before now result) is
-    (subst (λ (line : Result (List ℕ) Status). Adds line before now result)
+    subst (λ (c : CardFields). AddsLine (card_line u c bytes) before now result) is
+    (subst (λ (line : Result (List ℕ) Status). AddsLine line before now result)
     (ap (λ (n : ℕ). told_line u (n / 188) status) heard.wrote_is
     ∙ ap (told_line u (length (received_of card bytes) / 188)) heard.status_is) adds)
 
@@ -82,10 +83,11 @@ heard_as site bytes u wrote card status before now result is heard adds =
 -- the broadcast by what was sent and how the head end ended
 pub told_as : {X : Type 0} (view : X → List ℕ) (plan : Plan) (prefix : Prefix) (bytes sent : List ℕ) (status : Status)
     (more : Bool) (result : Result X Status) → HasSent plan bytes sent status → bytes ≡ prefix.bytes →
-    more ≡ prefix.more → Comes view (sent_or status more sent) result → Comes view (told_sent plan prefix) result
+    more ≡ prefix.more → MemoryOutcome view (sent_or status more sent) result →
+    MemoryOutcome view (told_sent plan prefix) result
 unfolding told_sent
 told_as view plan prefix bytes sent status more result h same over comes =
-    subst (λ (r : Result (List ℕ) Status). Comes view r result)
+    subst (λ (r : Result (List ℕ) Status). MemoryOutcome view r result)
     (ap (λ (s : Status). sent_or s more sent) (h.status_is ∙ ap (sent_status plan) same)
     ∙ ap (λ (m : Bool). sent_or (sent_status plan prefix.bytes) m sent) over
     ∙ ap (sent_or (sent_status plan prefix.bytes) prefix.more) (h.sent_are ∙ ap (sent_of plan) same)) comes
@@ -93,17 +95,18 @@ told_as view plan prefix bytes sent status more result h same over comes =
 -- what ends before the receivers are run
 pub sent_stopped : {X Y : Type 0} (view : X → List ℕ) (other : Y → List ℕ) (plan : Plan) (prefix : Prefix)
     (status : Status) →
-    Comes view (told_sent plan prefix) (Err status) → Comes other (trial_text plan prefix) (Err status)
+    MemoryOutcome view (told_sent plan prefix) (Err status) → MemoryOutcome other (trial_text plan prefix) (Err status)
 unfolding trial_text
-sent_stopped view other plan prefix status (inl told) = inl (ap (lines_of plan _) told.0, told.1)
+sent_stopped view other plan prefix status (inl told) = inl (ap (trial_lines plan _) told.0, told.1)
 sent_stopped view other plan prefix status (inr out) = inr out
 
 -- and what the receivers come to
 pub receivers_run : {X : Type 0} (view : X → List ℕ) (plan : Plan) (prefix : Prefix) (sent : List ℕ)
     (result : Result X Status) → told_sent plan prefix ≡ Ok sent →
-    Comes view (lines_to plan.site sent (clear_line (length prefix.bytes / 188) (length sent / 188))
+    MemoryOutcome view (lines_to plan.site sent (clear_line (length prefix.bytes / 188) (length sent / 188))
     (2 ^ plan.site.height)) result →
-    Comes view (trial_text plan prefix) result
+    MemoryOutcome view (trial_text plan prefix) result
 unfolding trial_text
 receivers_run view plan prefix sent result is comes =
-    subst (λ (r : Result (List ℕ) Status). Comes view (lines_of plan (length prefix.bytes) r) result) (sym is) comes
+    subst (λ (r : Result (List ℕ) Status).
+    MemoryOutcome view (trial_lines plan (length prefix.bytes) r) result) (sym is) comes

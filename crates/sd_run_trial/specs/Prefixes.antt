@@ -5,10 +5,10 @@ use Rattle.sd_ports.specs.declared.prefix.ReadMostFault.{ReadMostFault}
 use Rattle.sd_ports.specs.declared.prefix.ReadMostFault.TheVariants as fault
 use Rattle.sd_status.specs.declared.status.Status.{Status}
 use Rattle.sd_status.specs.declared.status.Status.TheVariants.{DepotFault, NoMemory}
-use Rattle.sd_status.specs.Meant.{Meant, all_of, value, ◌>>=◌}
+use Rattle.sd_status.specs.Spec.{Spec, all_of, value, ◌>>=◌}
 
 -- the first bytes of the file of argument `word`, at most `most`
-unfoldable pub prefix_of_file : ℕ → ℕ → Option (List ℕ) → Meant Prefix
+unfoldable pub prefix_of_file : ℕ → ℕ → Option (List ℕ) → Spec Prefix
 prefix_of_file word most got = all_of word got >>= λ bytes. value (prefix_of most bytes)
 
 -- the result of reading the first bytes of a file

@@ -9,9 +9,9 @@ use Rattle.sd_broadcast.specs.Plan.{Plan}
 use Rattle.sd_status.specs.declared.status.Status.{Status}
 use Rattle.sd_status.specs.declared.status.Status.TheVariants.{Done, Revoked, DepotFault, Limit, NoMemory}
 use Rattle.sd_status.specs.declared.status.LimitKind.TheVariants.{TrialHeight, TrialPackets}
-use Rattle.sd_status.specs.Meant.{Meant, Word, Given, judged, value, ◌>>=◌}
+use Rattle.sd_status.specs.Spec.{Spec, FileArgument, Readings, judged, value, ◌>>=◌}
 use Rattle.sd_status.specs.Work.{Work}
-use Rattle.sd_status.specs.Comes.{IsEnding}
+use Rattle.sd_status.specs.Outcome.{IsEnding}
 use Rattle.sd_files.specs.Files.{site_of_file, book_of_file}
 use Rattle.sd_files.specs.Printed.{printing}
 use Rattle.sd_run_head.specs.Head.{sent_of, sent_status}
@@ -31,18 +31,18 @@ abbrev pub told_low : SiteFields → Result SiteFields Status
 told_low site = if nat_lt most_height site.height then Err (Limit TrialHeight) else Ok site
 
 -- the site in the file of argument `word`, if its tree is low enough
-unfoldable pub low_site_of_file : ℕ → Option (List ℕ) → Meant SiteFields
+unfoldable pub low_site_of_file : ℕ → Option (List ℕ) → Spec SiteFields
 low_site_of_file word got = site_of_file word got >>= λ site. judged (told_low site)
 
 -- a site whose tree is low enough, and then the book for its tree, in the files of two arguments
-unfoldable pub plan_by : ℕ → ℕ → Option (List ℕ) → Option (List ℕ) → Meant Plan
+unfoldable pub plan_by : ℕ → ℕ → Option (List ℕ) → Option (List ℕ) → Spec Plan
 plan_by site book site_got book_got = do
   fields ← low_site_of_file site site_got
   commands ← book_of_file book fields.height book_got
   value (record { site = fields; commands = commands })
 
 -- the plan that the files of SITE and BOOK say
-abbrev pub plan_meaning : Word → Word → Given → Meant Plan
+abbrev pub plan_meaning : FileArgument → FileArgument → Readings → Spec Plan
 plan_meaning site book given = plan_by site.number book.number (given site) (given book)
 
 -- the bytes of the broadcast of a clear stream that is no longer than it may be, or why there is none
@@ -115,26 +115,26 @@ lines_to site bytes first zero = Ok first
 lines_to site bytes first (suc n) = then_line (lines_to site bytes first n) (receiver_line site bytes n)
 
 -- all lines of a trial of a clear stream of `clear` bytes
-abbrev pub lines_of : Plan → ℕ → Result (List ℕ) Status → Result (List ℕ) Status
-lines_of plan clear (Ok sent) =
+abbrev pub trial_lines : Plan → ℕ → Result (List ℕ) Status → Result (List ℕ) Status
+trial_lines plan clear (Ok sent) =
     lines_to plan.site sent (clear_line (clear / 188) (length sent / 188)) (2 ^ plan.site.height)
-lines_of plan clear (Err status) = Err status
+trial_lines plan clear (Err status) = Err status
 
 -- the text that `trial` prints, or the status of a refusal
 unfoldable pub trial_text : Plan → Prefix → Result (List ℕ) Status
-trial_text plan prefix = lines_of plan (length prefix.bytes) (told_sent plan prefix)
+trial_text plan prefix = trial_lines plan (length prefix.bytes) (told_sent plan prefix)
 
 -- the work of a trial: the head end and the receivers are run in memory, and the lines are printed
 abbrev pub trying : Plan → Prefix → Work
 trying plan prefix = printing (trial_text plan prefix)
 
 -- the work of `trial SITE BOOK CLEAR` [this project, docs/FORMATS.md, Trial]
-unfoldable pub trial_meaning : Word → Word → Word → Given → Meant Work
+unfoldable pub trial_meaning : FileArgument → FileArgument → FileArgument → Readings → Spec Work
 trial_meaning site book clear given =
     plan_meaning site book given
     >>= λ plan. prefix_of_file clear.number most_clear_bytes (given clear) >>= λ prefix. value (trying plan prefix)
 
 -- a text grew by the line that is meant
-abbrev pub Adds : Result (List ℕ) Status → List ℕ → List ℕ → Result (Unit {0}) Status → Type 0
-Adds meant before now (Ok done) = then_line (Ok before) meant ≡ Ok now
-Adds meant before now (Err status) = ((meant ≡ Err status) × IsEnding status) ⊎ (status ≡ NoMemory)
+abbrev pub AddsLine : Result (List ℕ) Status → List ℕ → List ℕ → Result (Unit {0}) Status → Type 0
+AddsLine meant before now (Ok done) = then_line (Ok before) meant ≡ Ok now
+AddsLine meant before now (Err status) = ((meant ≡ Err status) × IsEnding status) ⊎ (status ≡ NoMemory)

@@ -1,9 +1,9 @@
 ghost use Rattle.std.specs.Prelude.{◌≡◌, ◌≢◌, string_bytes};
 ghost use Rattle.sd_entitling.specs.Kept.{plan_of};
-ghost use Rattle.sd_status.specs.Outside.{outside, page, place};
-ghost use Rattle.sd_status.specs.Comes.{Follows, status_of};
+ghost use Rattle.sd_status.specs.Outside.{outside, page_state, depot_state};
+ghost use Rattle.sd_status.specs.Outcome.{Implements, status_of};
 ghost use Rattle.sd_files.specs.Shown.{shown_word};
-ghost use Rattle.sd_files.specs.Printed.{Comes};
+ghost use Rattle.sd_files.specs.Printed.{MemoryOutcome};
 ghost use Rattle.sd_run_trial.specs.Trial.{trial_meaning, trial_text};
 
 use crate::lines::lines;
@@ -37,9 +37,9 @@ pub fn trial<D: Depot, P: Sink, L: Ledger>(
     steps: &mut Steps<L>,
 ) -> Result<(), Status>
     requires { (site.number ≢ book.number) × (site.number ≢ clear.number) × (book.number ≢ clear.number) }
-    ensures { Follows (trial_meaning (shown_word site.entry) (shown_word book.entry) (shown_word clear.entry))
-        (outside (place D.Depot depot.old) (page P.Sink print.old) steps.old)
-        (outside (place D.Depot depot.new) (page P.Sink print.new) steps.new) (status_of result) }
+    ensures { Implements (trial_meaning (shown_word site.entry) (shown_word book.entry) (shown_word clear.entry))
+        (outside (depot_state D.Depot depot.old) (page_state P.Sink print.old) steps.old)
+        (outside (depot_state D.Depot depot.new) (page_state P.Sink print.new) steps.new) (status_of result) }
 {
     let (site, book) = read_plan(alloc, depot, site, book)?;
     let prefix = read_prefix(alloc, depot, clear, MOST_CLEAR_BYTES)?;
@@ -56,7 +56,7 @@ fn text_of<L: Ledger>(
     steps: &mut Steps<L>,
 ) -> Result<String, Status>
     requires { book.height ≡ site.height }
-    ensures { Comes (λ text. string_bytes text) (trial_text (plan_of site book) prefix.now) result }
+    ensures { MemoryOutcome (λ text. string_bytes text) (trial_text (plan_of site book) prefix.now) result }
 {
     let clear = prefix.bytes().len();
     let sent = sent_for(alloc, site, book, prefix, steps)?;

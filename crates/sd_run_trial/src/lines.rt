@@ -1,8 +1,8 @@
 ghost use Rattle.std.specs.Prelude.{◌≡◌, ◌^◌, ◌<◌, ◌/◌, string_bytes, length, IfOk};
 ghost use Rattle.sd_site.specs.Fields.{fields_of};
-ghost use Rattle.sd_status.specs.Comes.{IsEnding};
-ghost use Rattle.sd_files.specs.Printed.{Comes};
-ghost use Rattle.sd_run_trial.specs.Trial.{Adds, clear_line, lines_to, receiver_line, told_line};
+ghost use Rattle.sd_status.specs.Outcome.{IsEnding};
+ghost use Rattle.sd_files.specs.Printed.{MemoryOutcome};
+ghost use Rattle.sd_run_trial.specs.Trial.{AddsLine, clear_line, lines_to, receiver_line, told_line};
 
 use crate::hear::hear;
 use sd_card::Card;
@@ -26,7 +26,7 @@ pub fn lines<L: Ledger>(
     sent: &[u8],
     steps: &mut Steps<L>,
 ) -> Result<String, Status>
-    ensures { Comes (λ text. string_bytes text)
+    ensures { MemoryOutcome (λ text. string_bytes text)
         (lines_to (fields_of site.now) sent.now (clear_line (clear / 188) (length sent.now / 188))
         (2 ^ site.now.height)) result }
 {
@@ -56,7 +56,7 @@ fn push_receiver<L: Ledger>(
     steps: &mut Steps<L>,
 ) -> Result<(), Status>
     requires { u < 2 ^ site.now.height }
-    ensures { Adds (receiver_line (fields_of site.now) sent.now u) (string_bytes text.old) (string_bytes text.new)
+    ensures { AddsLine (receiver_line (fields_of site.now) sent.now u) (string_bytes text.old) (string_bytes text.new)
         result }
 {
     let Some(leaf) = Leaf::new(site.height, u) else {
@@ -72,7 +72,7 @@ fn push_receiver<L: Ledger>(
 #[tactic(auto, unfolding(crate::specs::Trial::done_line, crate::specs::Trial::revoked_line))]
 fn push_line(text: &mut String, u: u32, wrote: usize, status: Status) -> Result<(), Status>
     requires { IsEnding status }
-    ensures { Adds (told_line u wrote status) (string_bytes text.old) (string_bytes text.new) result }
+    ensures { AddsLine (told_line u wrote status) (string_bytes text.old) (string_bytes text.new) result }
 {
     match status {
         Status::Done => Ok(write!(text, "receiver {u} wrote {wrote} done\n")?),

@@ -1,7 +1,7 @@
 ghost use Rattle.std.specs.Prelude.{◌≡◌, ◌≢◌, IfOk};
 ghost use Rattle.sd_site.specs.Fields.{fields_of};
-ghost use Rattle.sd_status.specs.Outside.{place};
-ghost use Rattle.sd_status.specs.Reads.{JudgesAlone, Looks, Reads};
+ghost use Rattle.sd_status.specs.Outside.{depot_state};
+ghost use Rattle.sd_status.specs.Reads.{SureOutcome, FileOutcome, FilesOutcome};
 ghost use Rattle.sd_files.specs.Shown.{shown_word};
 ghost use Rattle.sd_run_trial.specs.Trial.{told_low, low_site_of_file, plan_meaning};
 
@@ -23,9 +23,9 @@ pub fn read_plan<D: Depot>(
     book: Word<'_>,
 ) -> Result<(Site, Book), Status>
     requires { site.number ≢ book.number }
-    ensures value { Reads (λ plan. record { site = fields_of plan.0; commands = plan.1.commands })
+    ensures value { FilesOutcome (λ plan. record { site = fields_of plan.0; commands = plan.1.commands })
         (plan_meaning (shown_word site.entry) (shown_word book.entry))
-        (place D.Depot depot.old) (place D.Depot depot.new) result }
+        (depot_state D.Depot depot.old) (depot_state D.Depot depot.new) result }
     ensures height { IfOk result (λ plan. plan.1.height ≡ plan.0.height) }
 {
     let site = read_low_site(alloc, depot, site)?;
@@ -35,8 +35,8 @@ pub fn read_plan<D: Depot>(
 
 /// The site in the file of this argument, whose tree must be of height at most 6.
 fn read_low_site<D: Depot>(alloc: Global, depot: &mut D, word: Word<'_>) -> Result<Site, Status>
-    ensures { Looks fields_of (low_site_of_file word.entry.number) word.entry.text.now
-        (place D.Depot depot.old) (place D.Depot depot.new) result }
+    ensures { FileOutcome fields_of (low_site_of_file word.entry.number) word.entry.text.now
+        (depot_state D.Depot depot.old) (depot_state D.Depot depot.new) result }
 {
     let site = read_site(alloc, depot, word)?;
     judge_height(site)
@@ -44,7 +44,7 @@ fn read_low_site<D: Depot>(alloc: Global, depot: &mut D, word: Word<'_>) -> Resu
 
 /// The site, if its tree is of height at most 6.
 fn judge_height(site: Site) -> Result<Site, Status>
-    ensures { JudgesAlone fields_of (told_low (fields_of site)) result }
+    ensures { SureOutcome fields_of (told_low (fields_of site)) result }
 {
     if site.height.get() > MOST_HEIGHT {
         return Err(Status::Limit(LimitKind::TrialHeight));

@@ -1,6 +1,6 @@
 ghost use Rattle.std.specs.Prelude.{◌≡◌};
-ghost use Rattle.sd_status.specs.Outside.{place};
-ghost use Rattle.sd_status.specs.Reads.{Looks};
+ghost use Rattle.sd_status.specs.Outside.{depot_state};
+ghost use Rattle.sd_status.specs.Reads.{FileOutcome};
 ghost use Rattle.sd_run_trial.specs.Prefixes.{prefix_of_file, told_prefix};
 
 use sd_files::{Word, opening_fault};
@@ -15,8 +15,8 @@ pub fn read_prefix<D: Depot>(
     word: Word<'_>,
     most: usize,
 ) -> Result<Taken, Status>
-    ensures { Looks (λ prefix. prefix) (prefix_of_file word.entry.number most) word.entry.text.now
-        (place D.Depot depot.old) (place D.Depot depot.new) result }
+    ensures { FileOutcome (λ prefix. prefix) (prefix_of_file word.entry.number most) word.entry.text.now
+        (depot_state D.Depot depot.old) (depot_state D.Depot depot.new) result }
 {
     let mut port = match depot.open_in(alloc, word.text) {
         Ok(port) => port,

@@ -1,7 +1,7 @@
 ghost use Rattle.std.specs.Prelude.{◌≡◌, IfOk};
 ghost use Rattle.sd_entitling.specs.Kept.{plan_of};
-ghost use Rattle.sd_status.specs.Comes.{IsEnding, status_of};
-ghost use Rattle.sd_files.specs.Printed.{Comes};
+ghost use Rattle.sd_status.specs.Outcome.{IsEnding, status_of};
+ghost use Rattle.sd_files.specs.Printed.{MemoryOutcome};
 ghost use Rattle.sd_run_trial.specs.Trial.{HasSent, is_wanting, sent_or, told_sent};
 
 use sd_book::Book;
@@ -29,7 +29,7 @@ pub fn sent_for<L: Ledger>(
     steps: &mut Steps<L>,
 ) -> Result<Vec<u8>, Status>
     requires { book.height ≡ site.height }
-    ensures { Comes (λ sent. sent.items) (told_sent (plan_of site book) clear.now) result }
+    ensures { MemoryOutcome (λ sent. sent.items) (told_sent (plan_of site book) clear.now) result }
 {
     let (sent, status) = send_all(alloc, site, book, clear.bytes(), steps)?;
     judge(sent, status, clear.more())
@@ -78,7 +78,7 @@ pub fn wants_memory(status: Status) -> bool
 /// What was sent, if the head end sent the whole stream and no byte was left after it.
 fn judge(sent: Vec<u8>, status: Status, more: bool) -> Result<Vec<u8>, Status>
     requires { IsEnding status }
-    ensures { Comes (λ sent. sent.items) (sent_or status more sent.items) result }
+    ensures { MemoryOutcome (λ sent. sent.items) (sent_or status more sent.items) result }
 {
     match status {
         Status::Done if more => Err(Status::Limit(LimitKind::TrialPackets)),

@@ -10,7 +10,7 @@ use Rattle.sd_ecm.specs.Parts.{Message}
 use Rattle.sd_reception.specs.Tuned.{Tuning, tuning_of, cat_tuning, tuned_by}
 use Rattle.sd_reception.specs.Heard.{Heard, Dropped, Entitles, Controls, BadEmm, BadEcm, Other, hears}
 use Rattle.sd_reception.specs.Stretches.{is_closed, completes}
-use Rattle.sd_reception.specs.Runs.{name_of, name_or, name_in, is_same, are_two, is_turn, of_run}
+use Rattle.sd_reception.specs.Runs.{run_name_heard, name_or, name_in, is_same, are_two, is_turn, of_run}
 use Rattle.sd_reception.specs.Offered.{heard, heard_with, heard_more, offered, tuned_offering}
 use Rattle.sd_runs.specs.Pieces.{name_at}
 use Rattle.sd_runs.proofs.Later.{thing_later, things_later, hears_later, name_later, names_later, run_later}
@@ -148,11 +148,11 @@ turn_agrees card tuning k past cat packet tuned is count turns =
 
 -- the name of the run at hand
 pub name_any : (h n : ℕ) (tuning : Tuning) (packet : List ℕ) →
-    name_of (hears h tuning n packet) ≡ name_at h tuning packet
+    run_name_heard (hears h tuning n packet) ≡ name_at h tuning packet
 name_any h n tuning packet =
     let zero_more : n ≡ n + 0 = omega arith in
-    ap (λ (m : ℕ). name_of (hears h tuning m packet)) zero_more
-    ∙ (ap name_of (hears_later h n 0 tuning packet) ∙ name_later n (hears h tuning 0 packet))
+    ap (λ (m : ℕ). run_name_heard (hears h tuning m packet)) zero_more
+    ∙ (ap run_name_heard (hears_later h n 0 tuning packet) ∙ name_later n (hears h tuning 0 packet))
 
 pub same_is : (a b : Option ℕ) → is_same a b ≡ true → a ≡ b
 same_is None None is = refl
@@ -185,7 +185,7 @@ named_first name last a is = ap (λ (n : Option (Option ℕ)). name_or n last) i
 
 closing_named : (past : List Heard) (thing : Heard) →
     option_map_or (λ (m : Message). m.closing) (completes past thing) false ≡ true →
-    (a : Option ℕ) × (name_of thing ≡ Some a)
+    (a : Option ℕ) × (run_name_heard thing ≡ Some a)
 closing_named past Dropped closing = absurd (false≢true closing)
 closing_named past (Entitles emm) closing = absurd (false≢true closing)
 closing_named past (Controls part) closing = (part.run, refl)
@@ -198,24 +198,24 @@ unfolding is_closed name_in
 closed_named [] closed = absurd (false≢true closed)
 closed_named (thing ∷ past) closed =
     tested (is_closed past)
-    (λ before. let named = closed_named past before in named_or (name_of thing) (name_in past) named.0 named.1)
+    (λ before. let named = closed_named past before in named_or (run_name_heard thing) (name_in past) named.0 named.1)
     (λ yet.
     let named = closing_named past thing (ap {B = Bool} (λ (t : Bool). if t then true
     else option_map_or (λ (m : Message). m.closing) (completes past thing) false) (sym yet) ∙ closed) in
-    (named.0, named_first (name_of thing) (name_in past) named.0 named.1))
+    (named.0, named_first (run_name_heard thing) (name_in past) named.0 named.1))
 
 pub same_run : (past : List Heard) (thing : Heard) → is_turn past thing ≡ false → of_run past thing ≡ past
 unfolding of_run
 same_run past thing stays = ap (λ (t : Bool). if t then [] else past) stays
 
-pub name_next : (past : List Heard) (thing : Heard) → are_two (name_in past) (name_of thing) ≡ false →
-    name_in (heard_more past thing) ≡ name_or (name_of thing) (name_in past)
+pub name_next : (past : List Heard) (thing : Heard) → are_two (name_in past) (run_name_heard thing) ≡ false →
+    name_in (heard_more past thing) ≡ name_or (run_name_heard thing) (name_in past)
 unfolding is_turn name_in
 name_next past thing one =
     ap (λ (run : List Heard). name_in (if is_closed run then past else thing ∷ run)) (same_run past thing one)
     ∙ tested (is_closed past)
     (λ closed. ap (λ (t : Bool). name_in (if t then past else thing ∷ past)) closed
-    ∙ (let named = closed_named past closed in name_kept named.0 (name_in past) (name_of thing) named.1 one))
+    ∙ (let named = closed_named past closed in name_kept named.0 (name_in past) (run_name_heard thing) named.1 one))
     (λ yet. ap (λ (t : Bool). name_in (if t then past else thing ∷ past)) yet)
 
 -- after a packet of the same run
@@ -225,7 +225,8 @@ pub name_stays : (card : CardFields) (tuning : Tuning) (past : List (List ℕ)) 
     name_or (name_at card.height tuning packet) (name_in (heard card past)) ≡ name_in (heard card (packet ∷ past))
 name_stays card tuning past packet tuned one =
     let thing : Heard = hears card.height tuning (length past) packet in
-    let same : name_of thing ≡ name_at card.height tuning packet = name_any card.height (length past) tuning packet in
+    let same : run_name_heard thing ≡ name_at card.height tuning packet =
+    name_any card.height (length past) tuning packet in
     ap (λ (name : Option (Option ℕ)). name_or name (name_in (heard card past))) (sym same)
     ∙ (sym (name_next (heard card past) thing (ap (are_two (name_in (heard card past))) same ∙ one))
     ∙ ap name_in (sym (heard_by card tuning past packet tuned)))

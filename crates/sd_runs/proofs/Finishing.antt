@@ -5,7 +5,7 @@ use Rattle.std.specs.Prelude.{if◌then◌else◌, All}
 use Rattle.std.specs.List.{list_any}
 use Rattle.std.proofs.lemmas.Bool.{false≢true}
 use Rattle.std.proofs.lemmas.List.Elements.{All-nil, All-cons, All-head, All-tail}
-use Rattle.sd_site.specs.Fields.{name_of as site_name}
+use Rattle.sd_site.specs.Fields.{run_name_of as site_name}
 use Rattle.sd_card.specs.Fields.{CardFields, card_of}
 use Rattle.sd_broadcast.specs.Sent.{broadcast}
 use Rattle.sd_reception.specs.declared.ending.Ending.{Ending}
@@ -19,7 +19,7 @@ use Rattle.sd_losses.specs.Confirmed.{confirmed}
 use Rattle.sd_losses.specs.Endings.{ending_told}
 use Rattle.sd_runs.specs.Together.{joined_to}
 use Rattle.sd_runs.specs.Channel.{Arrival, Channel, IsRunOf, HaveTwoNames, AreRunsOf, arriving}
-use Rattle.sd_runs.specs.Many.{kept_of, has_cat, confirmed_from}
+use Rattle.sd_runs.specs.Many.{kept_of_arrival, has_cat, confirmed_from}
 use Rattle.sd_runs.specs.Ends.{is_told, endings_from, all_joined, ending_of_all}
 use Rattle.sd_runs.specs.Keys.{kept_periods, keys_from}
 use Rattle.sd_runs.specs.Switched.{names_from, IsOtherThanFirst, AreAlternating, ArePiecesOf}
@@ -88,19 +88,21 @@ none_told card tuning Fresh false told past stands is = stands.1
 none_told card tuning Fresh true told past stands is = absurd (false≢true (sym is))
 
 untold_in : (tuned : Bool) (run : Arrival) → tuned ≡ false → has_cat run ≡ false → is_told tuned run ≡ false
-untold_in false run is none = untold (kept_of false run) none
+untold_in false run is none = untold (kept_of_arrival false run) none
 untold_in true run is none = absurd (false≢true (sym is))
 
 ends_next : (tuned : Bool) (told : Option Ending) (u : ℕ) (run : Arrival) (runs : List Arrival) →
     (tuned ≡ false → told ≡ None) →
     ends_with (tuned || has_cat run)
-    (told_more told (is_told tuned run) (ending_told run.plan u run.clear (kept_of tuned run))) u runs
+    (told_more told (is_told tuned run) (ending_told run.plan u run.clear (kept_of_arrival tuned run))) u runs
     ≡ ends_with tuned told u (run ∷ runs)
 ends_next false told u run runs none =
-    ends_more false (has_cat run) (is_told false run) told (ending_told run.plan u run.clear (kept_of false run)) u runs
+    ends_more false (has_cat run) (is_told false run) told
+    (ending_told run.plan u run.clear (kept_of_arrival false run)) u runs
     none (untold_in false run)
 ends_next true told u run runs none =
-    ends_more true (has_cat run) (is_told true run) told (ending_told run.plan u run.clear (kept_of true run)) u runs
+    ends_more true (has_cat run) (is_told true run) told (ending_told run.plan u run.clear (kept_of_arrival true run)) u
+    runs
     none (untold_in true run)
 
 -- a run that a receiver is told of is of another name than those before and behind it
@@ -150,7 +152,7 @@ pieces_come channel (run ∷ runs) u past tuned told are alternate leaf stands =
     let card : CardFields = card_in channel u in
     let tuning : Tuning = tuning_in channel in
     let packets : List (List ℕ) = chosen run.flags (broadcast run.plan run.clear) in
-    let ending : Ending = ending_told run.plan u run.clear (kept_of tuned run) in
+    let ending : Ending = ending_told run.plan u run.clear (kept_of_arrival tuned run) in
     let names : List (Option ℕ) = names_from (tuned || has_cat run) runs in
     let passed = passes (is_told tuned run) (site_name run.plan.site) names alternate in
     let over = run_over card tuning u run past (arriving runs)
@@ -160,9 +162,9 @@ pieces_come channel (run ∷ runs) u past tuned told are alternate leaf stands =
     (told_more told (is_told tuned run) ending) (All-tail (IsRunOf channel) run runs are) passed.1 leaf over.stands in
     record {
       out = over.out
-          ∙ ap (λ (w : List (List ℕ)). confirmed run.plan u run.clear (kept_of tuned run) ++ w) rest.out;
+          ∙ ap (λ (w : List (List ℕ)). confirmed run.plan u run.clear (kept_of_arrival tuned run) ++ w) rest.out;
       none = over.breaks ∙ rest.none;
-      taken = over.taken ∙ ap (λ (n : ℕ). kept_periods run.plan u run.clear (kept_of tuned run) + n) rest.taken;
+      taken = over.taken ∙ ap (λ (n : ℕ). kept_periods run.plan u run.clear (kept_of_arrival tuned run) + n) rest.taken;
       ends = ap (ending_of card) (onto_more packets (arriving runs) past)
           ∙ (rest.ends
           ∙ ends_next tuned told u run runs (none_told card tuning

@@ -7,8 +7,8 @@ use Rattle.sd_card.specs.Fields.{CardFields}
 use Rattle.sd_reception.specs.Tuned.{Tuning, tuning_of}
 use Rattle.sd_reception.specs.Heard.{Heard, Dropped, Entitles, Controls, BadEmm, BadEcm, Other, hears}
 use Rattle.sd_reception.specs.Stretches.{is_closed}
-use Rattle.sd_reception.specs.Runs.{name_of, name_or, name_in, is_same, are_two, is_turn, of_run}
-use Rattle.sd_reception.specs.Offered.{heard, heard_more, Offering, nothing, offered, heard_offering}
+use Rattle.sd_reception.specs.Runs.{run_name_heard, name_or, name_in, is_same, are_two, is_turn, of_run}
+use Rattle.sd_reception.specs.Offered.{heard, heard_more, Offering, no_offering, offered, heard_offering}
 use Rattle.sd_runs.specs.Pieces.{name_at}
 use Rattle.sd_runs.proofs.Later.{thing_later, things_later, hears_later, names_later, closed_later}
 use Rattle.sd_runs.proofs.Offerings.{offering_later, open_offering, open_later}
@@ -36,7 +36,7 @@ quiet_any h n tuning packet quiet =
     ap (λ (m : ℕ). is_quiet (hears h tuning m packet)) zero_more
     ∙ (ap is_quiet (hears_later h n 0 tuning packet) ∙ (quiet_later n (hears h tuning 0 packet) ∙ quiet))
 
-pub quiet_unnamed : (thing : Heard) → is_quiet thing ≡ true → name_of thing ≡ None
+pub quiet_unnamed : (thing : Heard) → is_quiet thing ≡ true → run_name_heard thing ≡ None
 quiet_unnamed Dropped quiet = refl
 quiet_unnamed (Entitles emm) quiet = absurd (false≢true quiet)
 quiet_unnamed (Controls part) quiet = absurd (false≢true quiet)
@@ -45,7 +45,7 @@ quiet_unnamed (BadEcm fault) quiet = refl
 quiet_unnamed (Other n packet) quiet = refl
 
 quiet_offering : (card : CardFields) (tuning : Tuning) (n : ℕ) (past : List Heard) (thing : Heard) →
-    is_quiet thing ≡ true → heard_offering card tuning n past thing ≡ nothing
+    is_quiet thing ≡ true → heard_offering card tuning n past thing ≡ no_offering
 quiet_offering card tuning n past Dropped quiet = refl
 quiet_offering card tuning n past (Entitles emm) quiet = absurd (false≢true quiet)
 quiet_offering card tuning n past (Controls part) quiet = absurd (false≢true quiet)
@@ -53,14 +53,14 @@ quiet_offering card tuning n past (BadEmm fault) quiet = absurd (false≢true qu
 quiet_offering card tuning n past (BadEcm fault) quiet = absurd (false≢true quiet)
 quiet_offering card tuning n past (Other m packet) quiet = refl
 
-either_nothing : (closed : Bool) (offering : Offering) → offering ≡ nothing →
-    (if closed then nothing else offering) ≡ nothing
+either_nothing : (closed : Bool) (offering : Offering) → offering ≡ no_offering →
+    (if closed then no_offering else offering) ≡ no_offering
 either_nothing true offering is = refl
 either_nothing false offering is = is
 
 pub quiet_offered : (card : CardFields) (tuning : Tuning) (past : List (List ℕ)) (packet : List ℕ) →
     tuning_of card.ca past ≡ Some tuning → is_quiet (hears card.height tuning 0 packet) ≡ true →
-    offered card past packet ≡ nothing
+    offered card past packet ≡ no_offering
 quiet_offered card tuning past packet tuned quiet =
     let thing : Heard = hears card.height tuning (length past) packet in
     let run : List Heard = of_run (heard card past) thing in
@@ -163,9 +163,9 @@ pub record Follows (card : CardFields) (tuning : Tuning) (k : ℕ) (name : Optio
 open_led : (n : ℕ) (card : CardFields) (tuning : Tuning) (past lead : List Heard) (thing : Heard) → AreQuiet lead →
     open_offering card tuning n (past ++ lead) thing ≡ open_offering card tuning n past thing
 open_led n card tuning past lead thing quiet =
-    ap (λ (closed : Bool). if closed then nothing else heard_offering card tuning n (past ++ lead) thing)
+    ap (λ (closed : Bool). if closed then no_offering else heard_offering card tuning n (past ++ lead) thing)
     (closed_led past lead quiet)
-    ∙ ap (λ (offering : Offering). if is_closed past then nothing else offering)
+    ∙ ap (λ (offering : Offering). if is_closed past then no_offering else offering)
     (offering_led n card tuning past lead thing quiet)
 
 more_by : (past lead : List Heard) (thing : Heard) (closed : Bool) →
@@ -193,19 +193,19 @@ mores_later k past thing =
     ∙ later_by k past thing (is_closed past)
 
 named_by : (name : Option ℕ) (past : List Heard) (thing : Heard) (closed : Bool) → name_in past ≡ Some name →
-    are_two (Some name) (name_of thing) ≡ false →
+    are_two (Some name) (run_name_heard thing) ≡ false →
     name_in (if closed then past else thing ∷ past) ≡ Some name
 unfolding name_in
 named_by name past thing true named one = named
 named_by name past thing false named one =
-    ap (name_or (name_of thing)) named ∙ sym (some_kept name (name_of thing) one)
+    ap (name_or (run_name_heard thing)) named ∙ sym (some_kept name (run_name_heard thing) one)
 
 -- no thing of the run turns
 pub led_stays : (name : Option ℕ) (past lead : List Heard) (thing : Heard) → AreQuiet lead → name_in past ≡ Some name →
-    are_two (Some name) (name_of thing) ≡ false → is_turn (past ++ lead) thing ≡ false
+    are_two (Some name) (run_name_heard thing) ≡ false → is_turn (past ++ lead) thing ≡ false
 unfolding is_turn
 led_stays name past lead thing quiet named one =
-    ap (λ (n : Option (Option ℕ)). are_two n (name_of thing)) (names_led past lead quiet ∙ named) ∙ one
+    ap (λ (n : Option (Option ℕ)). are_two n (run_name_heard thing)) (names_led past lead quiet ∙ named) ∙ one
 
 offered_led : (card : CardFields) (tuning : Tuning) (name : Option ℕ) (past : List (List ℕ)) (packet : List ℕ)
     (things lead : List Heard) → tuning_of card.ca past ≡ Some tuning → heard card past ≡ things ++ lead →
@@ -248,7 +248,7 @@ both_offer card tuning k n m packet things count =
 
 pub one_name : (card : CardFields) (tuning : Tuning) (n : ℕ) (name : Option ℕ) (packet : List ℕ) →
     are_two (Some name) (name_at card.height tuning packet) ≡ false →
-    are_two (Some name) (name_of (hears card.height tuning n packet)) ≡ false
+    are_two (Some name) (run_name_heard (hears card.height tuning n packet)) ≡ false
 one_name card tuning n name packet one =
     ap (are_two (Some name)) (name_any card.height n tuning packet) ∙ one
 
@@ -295,7 +295,8 @@ follows_more card tuning k name past alone packet things old own one f =
 -- the first message of the run
 pub unnamed_stays : (past : List Heard) (thing : Heard) → AreQuiet past → is_turn past thing ≡ false
 unfolding is_turn
-unnamed_stays past thing quiet = ap (λ (n : Option (Option ℕ)). are_two n (name_of thing)) (name_quiet past quiet)
+unnamed_stays past thing quiet =
+    ap (λ (n : Option (Option ℕ)). are_two n (run_name_heard thing)) (name_quiet past quiet)
 
 two_names : (a b : Option ℕ) → a ≢ b → not (is_same a b) ≡ true
 two_names a b apart =
@@ -307,7 +308,7 @@ pub turn_there : (card : CardFields) (tuning : Tuning) (past : List (List ℕ)) 
     is_turn (heard card past) (hears card.height tuning (length past) packet) ≡ true
 unfolding is_turn
 turn_there card tuning past packet a name named apart is =
-    ap (λ (n : Option (Option ℕ)). are_two n (name_of (hears card.height tuning (length past) packet))) named
+    ap (λ (n : Option (Option ℕ)). are_two n (run_name_heard (hears card.height tuning (length past) packet))) named
     ∙ (ap (are_two (Some a)) (name_any card.height (length past) tuning packet ∙ is) ∙ two_names a name apart)
 
 -- what was heard of the run before it

@@ -17,9 +17,10 @@ use Rattle.sd_reception.specs.Tuned.{Tuning}
 use Rattle.sd_reception.specs.Heard.{Heard, Dropped, Entitles, Controls, BadEmm, BadEcm, Other, heard_emm, heard_ecm}
 use Rattle.sd_reception.specs.Heard.{hears}
 use Rattle.sd_reception.specs.Stretches.{Stretch, exceeds, counted, run_of, message_told, run_to, completed, stretched}
-use Rattle.sd_reception.specs.Stretches.{newest, completes, messages, with_message, is_closed, period_in, current, seen}
+use Rattle.sd_reception.specs.Stretches.{newest, completes, messages, with_message, is_closed, period_heard, current}
+use Rattle.sd_reception.specs.Stretches.{seen}
 use Rattle.sd_reception.specs.Stretches.{others, held_in}
-use Rattle.sd_reception.specs.Runs.{name_of, name_or, name_in, are_two, is_turn, of_run}
+use Rattle.sd_reception.specs.Runs.{run_name_heard, name_or, name_in, are_two, is_turn, of_run}
 use Rattle.sd_reception.specs.Keys.{key_in, key_at}
 
 -- a thing that is heard k packets later
@@ -71,7 +72,7 @@ hears_later h k n tuning packet =
     (emm_read h packet) (ecm_read packet)
 
 -- the names of runs
-pub name_later : (k : ℕ) (thing : Heard) → name_of (thing_later k thing) ≡ name_of thing
+pub name_later : (k : ℕ) (thing : Heard) → run_name_heard (thing_later k thing) ≡ run_name_heard thing
 name_later k Dropped = refl
 name_later k (Entitles emm) = refl
 name_later k (Controls part) = refl
@@ -84,13 +85,13 @@ unfolding name_in
 names_later k [] = refl
 names_later k (thing ∷ past) =
     ap (λ (name : Option (Option ℕ)). name_or name (name_in (things_later k past))) (name_later k thing)
-    ∙ ap (name_or (name_of thing)) (names_later k past)
+    ∙ ap (name_or (run_name_heard thing)) (names_later k past)
 
 pub turn_later : (k : ℕ) (past : List Heard) (thing : Heard) →
     is_turn (things_later k past) (thing_later k thing) ≡ is_turn past thing
 unfolding is_turn
 turn_later k past thing =
-    ap (λ (name : Option (Option ℕ)). are_two name (name_of (thing_later k thing))) (names_later k past)
+    ap (λ (name : Option (Option ℕ)). are_two name (run_name_heard (thing_later k thing))) (names_later k past)
     ∙ ap (are_two (name_in past)) (name_later k thing)
 
 run_by_test : (k : ℕ) (past : List Heard) (turn : Bool) →
@@ -177,7 +178,7 @@ closed_later k (thing ∷ past) =
 
 -- periods and their sections
 period_later : (k : ℕ) (past : List Heard) (thing : Heard) →
-    period_in (things_later k past) (thing_later k thing) ≡ period_in past thing
+    period_heard (things_later k past) (thing_later k thing) ≡ period_heard past thing
 period_later k past Dropped = refl
 period_later k past (Entitles emm) = refl
 period_later k past (Controls part) =
@@ -192,7 +193,7 @@ unfolding current
 current_later k [] = refl
 current_later k (thing ∷ past) =
     ap (λ (q : ℕ). max q (current (things_later k past))) (period_later k past thing)
-    ∙ ap (max (period_in past thing)) (current_later k past)
+    ∙ ap (max (period_heard past thing)) (current_later k past)
 
 pub seen_later : (k q : ℕ) (past : List Heard) → seen q (things_later k past) ≡ seen q past
 unfolding seen

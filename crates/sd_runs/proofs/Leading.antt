@@ -15,8 +15,9 @@ use Rattle.sd_reception.specs.declared.fault.StreamFault.TheVariants as Fault
 use Rattle.sd_reception.specs.Tuned.{Tuning}
 use Rattle.sd_reception.specs.Heard.{Heard, Dropped, Entitles, Controls, BadEmm, BadEcm, Other}
 use Rattle.sd_reception.specs.Stretches.{Stretch, exceeds, counted, run_of, message_told, run_to, completed, stretched}
-use Rattle.sd_reception.specs.Stretches.{newest, completes, messages, with_message, is_closed, period_in, current, seen}
-use Rattle.sd_reception.specs.Runs.{name_of, name_or, name_in}
+use Rattle.sd_reception.specs.Stretches.{newest, completes, messages, with_message, is_closed, period_heard, current}
+use Rattle.sd_reception.specs.Stretches.{seen}
+use Rattle.sd_reception.specs.Runs.{run_name_heard, name_or, name_in}
 use Rattle.sd_reception.specs.Keys.{key_in, key_at}
 use Rattle.sd_reception.specs.Confirmed.{Wrote}
 use Rattle.sd_reception.specs.Offered.{refuses, emm_offering, part_fault, is_before, is_back, segment_wrote}
@@ -190,10 +191,10 @@ closed_led (thing ∷ past) lead quiet =
 pub names_led : (past lead : List Heard) → AreQuiet lead → name_in (past ++ lead) ≡ name_in past
 unfolding name_in
 names_led [] lead quiet = name_quiet lead quiet
-names_led (thing ∷ past) lead quiet = ap (name_or (name_of thing)) (names_led past lead quiet)
+names_led (thing ∷ past) lead quiet = ap (name_or (run_name_heard thing)) (names_led past lead quiet)
 
 period_led : (past lead : List Heard) (thing : Heard) → AreQuiet lead →
-    period_in (past ++ lead) thing ≡ period_in past thing
+    period_heard (past ++ lead) thing ≡ period_heard past thing
 period_led past lead Dropped quiet = refl
 period_led past lead (Entitles emm) quiet = refl
 period_led past lead (Controls part) quiet =
@@ -208,7 +209,7 @@ unfolding current
 current_led [] lead quiet = current_quiet lead quiet
 current_led (thing ∷ past) lead quiet =
     ap (λ (q : ℕ). max q (current (past ++ lead))) (period_led past lead thing quiet)
-    ∙ ap (max (period_in past thing)) (current_led past lead quiet)
+    ∙ ap (max (period_heard past thing)) (current_led past lead quiet)
 
 seen_led : (q : ℕ) (past lead : List Heard) → AreQuiet lead → seen q (past ++ lead) ≡ seen q past
 unfolding seen

@@ -4,7 +4,7 @@ use Rattle.std.proofs.Common.{drop, is_none, reverse, Option, Some, None, sym, a
 use Rattle.std.specs.Prelude.{if◌then◌else◌}
 use Rattle.std.specs.List.{list_any}
 use Rattle.std.specs.Option.{option_map_or}
-use Rattle.sd_site.specs.Fields.{name_of as site_name}
+use Rattle.sd_site.specs.Fields.{run_name_of as site_name}
 use Rattle.sd_card.specs.Fields.{CardFields, card_of}
 use Rattle.sd_broadcast.specs.Sent.{Item, Cat, sent, closing_of, broadcast}
 use Rattle.sd_reception.specs.declared.ending.Ending.{Ending}
@@ -14,13 +14,13 @@ use Rattle.sd_reception.specs.Offered.{Offering, out_from, break_from}
 use Rattle.sd_reception.specs.Ending.{ending_of}
 use Rattle.sd_reception.specs.Taken.{taken_keys}
 use Rattle.sd_losses.specs.Chosen.{chosen}
-use Rattle.sd_losses.specs.Kept.{is_cat, after_cat}
+use Rattle.sd_losses.specs.Kept.{is_cat_item, after_cat}
 use Rattle.sd_losses.specs.Confirmed.{confirmed}
 use Rattle.sd_losses.specs.Endings.{ending_told}
 use Rattle.sd_losses.proofs.Setting.{tuning_at}
 use Rattle.sd_losses.proofs.Lawful.{setting}
 use Rattle.sd_runs.specs.Channel.{Arrival, Channel, IsRunOf}
-use Rattle.sd_runs.specs.Many.{kept_of, has_cat}
+use Rattle.sd_runs.specs.Many.{kept_of_arrival, has_cat}
 use Rattle.sd_runs.specs.Ends.{is_message, is_told}
 use Rattle.sd_runs.specs.Keys.{kept_periods}
 use Rattle.sd_runs.proofs.Agreeing.{tuned_more}
@@ -100,16 +100,17 @@ untuned_over : (card : CardFields) (tuning : Tuning) (u : ℕ) (run : Arrival) (
     IsPassed (is_told false run) (site_name run.plan.site) Fresh Next →
     StandsBetween card tuning Fresh false told past →
     IsOver card tuning Next (has_cat run)
-    (told_more told (is_told false run) (ending_told run.plan u run.clear (kept_of false run)))
-    (kept_periods run.plan u run.clear (kept_of false run))
-    (confirmed run.plan u run.clear (kept_of false run)) past (chosen run.flags (broadcast run.plan run.clear)) next
+    (told_more told (is_told false run) (ending_told run.plan u run.clear (kept_of_arrival false run)))
+    (kept_periods run.plan u run.clear (kept_of_arrival false run))
+    (confirmed run.plan u run.clear (kept_of_arrival false run)) past (chosen run.flags (broadcast run.plan run.clear))
+    next
 untuned_over card tuning u run cat tail past next Fresh Next told good passed stands =
     let name : Option ℕ = site_name run.plan.site in
-    let kept : List Item = kept_of false run in
+    let kept : List Item = kept_of_arrival false run in
     let packets : List (List ℕ) = chosen run.flags (broadcast run.plan run.clear) in
     let things : List Item = sent run.plan run.clear ++ closing_of run.plan run.clear in
     let begun = λ (b : after_items Untuned kept ≡ Begun).
-    begun_tuned (list_any is_cat kept) (is_told false run) (sym (after_untuned kept) ∙ b) in
+    begun_tuned (list_any is_cat_item kept) (is_told false run) (sym (after_untuned kept) ∙ b) in
     let gone = items_stand card tuning (length past) name Fresh told kept packets past [] next Untuned
     (λ b. passed.apart (begun b))
     (sent_chosen card tuning name run.flags things (broadcast run.plan run.clear) good.sent_as) (good.none run.flags)
@@ -124,7 +125,7 @@ untuned_over card tuning u run cat tail past next Fresh Next told good passed st
           (told_more told (is_told false run) e) (onto packets past))
           (alone_ends card packets (ending_told run.plan u run.clear kept) (good.ends run.flags))
           (over_untuned card tuning (length past) name Fresh Next told (onto packets past) (onto packets [])
-          (list_any is_cat kept) (is_told false run) passed (untold kept)
+          (list_any is_cat_item kept) (is_told false run) passed (untold kept)
           (subst (λ (at : Progress). StandsAt card tuning (length past) name Fresh told at (onto packets past)
           (onto packets [])) (after_untuned kept) gone.1));
     }
@@ -132,7 +133,7 @@ untuned_over card tuning u run cat tail past next Fresh Next told good passed st
 -- what is kept behind the CAT that a run begins with
 told_behind : (run : Arrival) (items : List Item) →
     sent run.plan run.clear ++ closing_of run.plan run.clear ≡ Cat ∷ items →
-    after_cat (kept_of true run) ≡ chosen (drop 1 run.flags) items
+    after_cat (kept_of_arrival true run) ≡ chosen (drop 1 run.flags) items
 unfolding after_cat chosen
 told_behind run items is = ap (λ (things : List Item). after_cat (chosen (true ∷ drop 1 run.flags) things)) is
 
@@ -151,10 +152,10 @@ tail_sent card tuning u run cat tail items good is =
 
 -- what comes by itself of what arrives of it behind that CAT
 pub record IsTail (card : CardFields) (u : ℕ) (run : Arrival) (cat : List ℕ) (packets : List (List ℕ)) : Type 0 where
-  pub out : out_from card (cat ∷ []) packets ≡ confirmed run.plan u run.clear (kept_of true run)
+  pub out : out_from card (cat ∷ []) packets ≡ confirmed run.plan u run.clear (kept_of_arrival true run)
   pub none : break_from card (cat ∷ []) packets ≡ None
-  pub ends : ending_of card (onto packets (cat ∷ [])) ≡ ending_told run.plan u run.clear (kept_of true run)
-  pub taken : taken_keys card (cat ∷ []) packets ≡ kept_periods run.plan u run.clear (kept_of true run)
+  pub ends : ending_of card (onto packets (cat ∷ [])) ≡ ending_told run.plan u run.clear (kept_of_arrival true run)
+  pub taken : taken_keys card (cat ∷ []) packets ≡ kept_periods run.plan u run.clear (kept_of_arrival true run)
 
 with_cat : (fs : List Bool) (cat : List ℕ) (tail : List (List ℕ)) →
     chosen (true ∷ fs) (cat ∷ tail) ≡ cat ∷ chosen fs tail
@@ -171,7 +172,7 @@ tail_is card tuning u run cat tail good =
     record {
       out = sym (cat_out card cat packets) ∙ (ap (out_from card []) same ∙ good.out (true ∷ fs));
       none = sym (cat_break card cat packets) ∙ (ap (break_from card []) same ∙ good.none (true ∷ fs));
-      ends = alone_ends card (cat ∷ packets) (ending_told run.plan u run.clear (kept_of true run))
+      ends = alone_ends card (cat ∷ packets) (ending_told run.plan u run.clear (kept_of_arrival true run))
           (ap (λ (ps : List (List ℕ)). ending_of card (reverse ps)) same ∙ good.ends (true ∷ fs));
       taken = sym (cat_taken card cat packets) ∙ (ap (taken_keys card []) same ∙ good.taken (true ∷ fs));
     }
@@ -182,9 +183,9 @@ tuned_tail_over : (card : CardFields) (tuning : Tuning) (u : ℕ) (run : Arrival
     IsGood card tuning u run cat tail → IsPassed (is_told true run) (site_name run.plan.site) Fresh Next →
     StandsBetween card tuning Fresh true told past →
     IsOver card tuning Next true
-    (told_more told (is_told true run) (ending_told run.plan u run.clear (kept_of true run)))
-    (kept_periods run.plan u run.clear (kept_of true run))
-    (confirmed run.plan u run.clear (kept_of true run)) past (chosen (drop 1 run.flags) tail) next
+    (told_more told (is_told true run) (ending_told run.plan u run.clear (kept_of_arrival true run)))
+    (kept_periods run.plan u run.clear (kept_of_arrival true run))
+    (confirmed run.plan u run.clear (kept_of_arrival true run)) past (chosen (drop 1 run.flags) tail) next
 tuned_tail_over card tuning u run cat tail past next Fresh Next told good passed stands =
     let name : Option ℕ = site_name run.plan.site in
     let fs : List Bool = drop 1 run.flags in
@@ -258,14 +259,15 @@ tuned_over : (card : CardFields) (tuning : Tuning) (u : ℕ) (run : Arrival) (ca
     IsGood card tuning u run cat tail → IsPassed (is_told true run) (site_name run.plan.site) Fresh Next →
     StandsBetween card tuning Fresh true told past →
     IsOver card tuning Next true
-    (told_more told (is_told true run) (ending_told run.plan u run.clear (kept_of true run)))
-    (kept_periods run.plan u run.clear (kept_of true run))
-    (confirmed run.plan u run.clear (kept_of true run)) past (chosen run.flags (broadcast run.plan run.clear)) next
+    (told_more told (is_told true run) (ending_told run.plan u run.clear (kept_of_arrival true run)))
+    (kept_periods run.plan u run.clear (kept_of_arrival true run))
+    (confirmed run.plan u run.clear (kept_of_arrival true run)) past (chosen run.flags (broadcast run.plan run.clear))
+    next
 tuned_over card tuning u run cat tail past next Fresh Next told good passed stands =
     let after : Option Ending =
-    told_more told (is_told true run) (ending_told run.plan u run.clear (kept_of true run)) in
-    let keys : ℕ = kept_periods run.plan u run.clear (kept_of true run) in
-    let wrote : List (List ℕ) = confirmed run.plan u run.clear (kept_of true run) in
+    told_more told (is_told true run) (ending_told run.plan u run.clear (kept_of_arrival true run)) in
+    let keys : ℕ = kept_periods run.plan u run.clear (kept_of_arrival true run) in
+    let wrote : List (List ℕ) = confirmed run.plan u run.clear (kept_of_arrival true run) in
     subst (λ (all : List (List ℕ)). IsOver card tuning Next true after keys wrote past (chosen run.flags all) next)
     (sym good.sent_is)
     (cat_or_not card tuning Fresh Next told after keys wrote tail past next cat run.flags good.quiet stands
@@ -278,9 +280,10 @@ pub run_over : (card : CardFields) (tuning : Tuning) (u : ℕ) (run : Arrival) (
     IsPassed (is_told tuned run) (site_name run.plan.site) Fresh Next →
     StandsBetween card tuning Fresh tuned told past →
     IsOver card tuning Next (tuned || has_cat run)
-    (told_more told (is_told tuned run) (ending_told run.plan u run.clear (kept_of tuned run)))
-    (kept_periods run.plan u run.clear (kept_of tuned run))
-    (confirmed run.plan u run.clear (kept_of tuned run)) past (chosen run.flags (broadcast run.plan run.clear)) next
+    (told_more told (is_told tuned run) (ending_told run.plan u run.clear (kept_of_arrival tuned run)))
+    (kept_periods run.plan u run.clear (kept_of_arrival tuned run))
+    (confirmed run.plan u run.clear (kept_of_arrival tuned run)) past (chosen run.flags (broadcast run.plan run.clear))
+    next
 run_over card tuning u run past next Fresh Next false told (cat, tail, good) passed stands =
     untuned_over card tuning u run cat tail past next Fresh Next told good passed stands
 run_over card tuning u run past next Fresh Next true told (cat, tail, good) passed stands =

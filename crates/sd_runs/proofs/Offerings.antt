@@ -26,7 +26,7 @@ use Rattle.sd_reception.specs.Runs.{of_run}
 use Rattle.sd_reception.specs.Keys.{key_from, key_in, key_at}
 use Rattle.sd_reception.specs.Confirmed.{Segment, Wrote, unmarked, is_odd, is_confirmed, tracked, judged, then_wrote}
 use Rattle.sd_reception.specs.Confirmed.{written_from}
-use Rattle.sd_reception.specs.Offered.{most_held, heard_more, Offering, nothing, refuses, is_mixed, key_offering}
+use Rattle.sd_reception.specs.Offered.{most_held, heard_more, Offering, no_offering, refuses, is_mixed, key_offering}
 use Rattle.sd_reception.specs.Offered.{key_if_none, emm_offering, part_fault, is_before, is_back, segment_wrote}
 use Rattle.sd_reception.specs.Offered.{stretch_wrote, word_fault, wrote_or, message_offering, part_offering}
 use Rattle.sd_reception.specs.Offered.{heard_offering}
@@ -185,7 +185,8 @@ word_later k n b (Some key) =
 
 -- sections of entitlements
 nothing_or : (k : ℕ) (test : Bool) (offering : Offering) →
-    (if test then nothing else offering_later k offering) ≡ offering_later k (if test then nothing else offering)
+    (if test then no_offering else offering_later k offering) ≡ offering_later k
+    (if test then no_offering else offering)
 nothing_or k true offering = refl
 nothing_or k false offering = refl
 
@@ -209,17 +210,17 @@ key_if_later k n emm (Some key) found = refl
 
 abbrev pub emm_of : CardFields → ℕ → ℕ → List Emm → Emm → Offering
 emm_of card n now sections emm =
-    if nat_lt emm.period now then nothing
+    if nat_lt emm.period now then no_offering
     else if is_mixed sections emm then refuses (Fault.BadEmm n Emms.Mixed)
     else key_if_none n emm (key_in card sections) (key_from card emm)
 
 emm_of_later : (k n now : ℕ) (card : CardFields) (sections : List Emm) (emm : Emm) →
     emm_of card (k + n) now sections emm ≡ offering_later k (emm_of card n now sections emm)
 emm_of_later k n now card sections emm =
-    ap (λ (offering : Offering). if nat_lt emm.period now then nothing
+    ap (λ (offering : Offering). if nat_lt emm.period now then no_offering
     else if is_mixed sections emm then refuses (Fault.BadEmm (k + n) Emms.Mixed) else offering)
     (key_if_later k n emm (key_in card sections) (key_from card emm))
-    ∙ (ap (λ (offering : Offering). if nat_lt emm.period now then nothing else offering)
+    ∙ (ap (λ (offering : Offering). if nat_lt emm.period now then no_offering else offering)
     (refuses_or k (is_mixed sections emm) (Fault.BadEmm n Emms.Mixed)
     (key_if_none n emm (key_in card sections) (key_from card emm)))
     ∙ nothing_or k (nat_lt emm.period now)
@@ -298,15 +299,15 @@ heard_later k n card tuning past (Other m packet) = refl
 -- what comes of a thing after what was heard of its run
 abbrev pub open_offering : CardFields → Tuning → ℕ → List Heard → Heard → Offering
 open_offering card tuning n run thing =
-    if is_closed run then nothing else heard_offering card tuning n run thing
+    if is_closed run then no_offering else heard_offering card tuning n run thing
 
 pub open_later : (k n : ℕ) (card : CardFields) (tuning : Tuning) (run : List Heard) (thing : Heard) →
     open_offering card tuning (k + n) (things_later k run) (thing_later k thing)
     ≡ offering_later k (open_offering card tuning n run thing)
 open_later k n card tuning run thing =
-    ap (λ (closed : Bool). if closed then nothing
+    ap (λ (closed : Bool). if closed then no_offering
     else heard_offering card tuning (k + n) (things_later k run) (thing_later k thing)) (closed_later k run)
-    ∙ (ap (λ (offering : Offering). if is_closed run then nothing else offering)
+    ∙ (ap (λ (offering : Offering). if is_closed run then no_offering else offering)
     (heard_later k n card tuning run thing)
     ∙ nothing_or k (is_closed run) (heard_offering card tuning n run thing))
 

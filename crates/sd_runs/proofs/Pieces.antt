@@ -6,7 +6,7 @@ use Rattle.std.specs.Option.{option_map_or}
 use Rattle.sd_card.specs.Fields.{CardFields}
 use Rattle.sd_reception.specs.Tuned.{Tuning, tuning_of}
 use Rattle.sd_reception.specs.Runs.{name_or, are_two}
-use Rattle.sd_reception.specs.Offered.{Offering, nothing, offered, out_from, break_from}
+use Rattle.sd_reception.specs.Offered.{Offering, no_offering, offered, out_from, break_from}
 use Rattle.sd_runs.specs.Pieces.{name_at, with_packet, pieces_after}
 
 -- how a list is cut at its first packet
@@ -54,7 +54,7 @@ some_piece h tuning last (packet ∷ packets) =
     (with_some packet (pieces_after h tuning (name_or (name_at h tuning packet) last) packets))
 
 -- nothing comes of the CAT
-pub cat_nothing : (card : CardFields) (cat : List ℕ) → offered card [] cat ≡ nothing
+pub cat_nothing : (card : CardFields) (cat : List ℕ) → offered card [] cat ≡ no_offering
 unfolding offered tuning_of
 cat_nothing card cat = refl
 

@@ -4,7 +4,7 @@ use Rattle.std.proofs.Common.{None, reverse, ap, ◌∙◌, arith, subst}
 use Rattle.std.specs.Prelude.{if◌then◌else◌, All}
 use Rattle.std.proofs.lemmas.List.Elements.{All-head, All-tail}
 use Rattle.std.proofs.lemmas.Bool.Decides.{nat_tests}
-use Rattle.sd_site.specs.Fields.{name_of as site_name}
+use Rattle.sd_site.specs.Fields.{run_name_of as site_name}
 use Rattle.sd_card.specs.Fields.{CardFields}
 use Rattle.sd_broadcast.specs.Plan.{Plan, IsPlan, crypto_length}
 use Rattle.sd_broadcast.specs.Sent.{Item, Cat, Entitles, Controls, Carries, tables_at, sent, sent_from, closing_of}
@@ -17,7 +17,7 @@ use Rattle.sd_sent.specs.Packets.{AreWholePackets}
 use Rattle.sd_sent.proofs.Runs.{section_names, part_names}
 use Rattle.sd_reception.specs.Tuned.{Tuning, cat_tuning}
 use Rattle.sd_reception.specs.Heard.{hears}
-use Rattle.sd_reception.specs.Runs.{name_of}
+use Rattle.sd_reception.specs.Runs.{run_name_heard}
 use Rattle.sd_reception.specs.Offered.{out_from, break_from}
 use Rattle.sd_reception.specs.Ending.{ending_of}
 use Rattle.sd_reception.specs.Taken.{taken_keys}
@@ -68,12 +68,12 @@ module _ (s : Setting) (able : AreHearable s) where
   item_sent earlier Cat of' = (able.tuning earlier, ap is_quiet (able.heard_is 0 earlier Cat of'))
   item_sent earlier (Entitles emm) of' = (
     able.untuned earlier (Entitles emm) of' refl,
-    ap name_of (able.heard_is 0 earlier (Entitles emm) of')
+    ap run_name_heard (able.heard_is 0 earlier (Entitles emm) of')
         ∙ ap {B = Option (Option ℕ)} (λ (run : Option ℕ). Some run) (section_names s.plan s.clear emm of'),
   )
   item_sent earlier (Controls part) of' = (
     able.untuned earlier (Controls part) of' refl,
-    ap name_of (able.heard_is 0 earlier (Controls part) of')
+    ap run_name_heard (able.heard_is 0 earlier (Controls part) of')
         ∙ ap {B = Option (Option ℕ)} (λ (run : Option ℕ). Some run) (part_names s.plan s.clear part of'),
   )
   item_sent earlier (Carries j packet) of' = (

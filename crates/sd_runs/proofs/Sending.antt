@@ -8,7 +8,7 @@ use Rattle.sd_broadcast.specs.Sent.{Item, Cat, Entitles, Controls, Carries}
 use Rattle.sd_reception.specs.Tuned.{Tuning, cat_tuning}
 use Rattle.sd_reception.specs.Heard.{hears}
 use Rattle.sd_losses.specs.Chosen.{chosen}
-use Rattle.sd_losses.specs.Kept.{is_cat, after_cat}
+use Rattle.sd_losses.specs.Kept.{is_cat_item, after_cat}
 use Rattle.sd_runs.specs.Pieces.{name_at}
 use Rattle.sd_runs.specs.Ends.{is_message}
 use Rattle.sd_runs.proofs.Leading.{is_quiet}
@@ -103,7 +103,8 @@ after_waiting (Controls part ∷ items) = begun_stays items
 after_waiting (Carries j packet ∷ items) = after_waiting items
 
 pub after_untuned : (items : List Item) → after_items Untuned items
-    ≡ (if list_any is_cat items then (if list_any is_message (after_cat items) then Begun else Waiting) else Untuned)
+    ≡ (if list_any is_cat_item items then (if list_any is_message (after_cat items) then Begun else Waiting) else
+    Untuned)
 unfolding after_cat
 after_untuned [] = refl
 after_untuned (Cat ∷ items) = after_waiting items
@@ -112,7 +113,7 @@ after_untuned (Controls part ∷ items) = after_untuned items
 after_untuned (Carries j packet ∷ items) = after_untuned items
 
 -- without a CAT nothing is told
-pub untold : (items : List Item) → list_any is_cat items ≡ false → list_any is_message (after_cat items) ≡ false
+pub untold : (items : List Item) → list_any is_cat_item items ≡ false → list_any is_message (after_cat items) ≡ false
 unfolding after_cat
 untold [] none = refl
 untold (Cat ∷ items) none = absurd (false≢true (sym none))

@@ -8,11 +8,11 @@ use Rattle.sd_reception.specs.declared.ending.Ending.{Ending}
 use Rattle.sd_reception.specs.declared.ending.Ending.TheVariants.{Opened, NoCat}
 use Rattle.sd_reception.specs.Tuned.{Tuning, cat_tuning, tuned_by, tuning_of}
 use Rattle.sd_reception.specs.Runs.{name_in}
-use Rattle.sd_reception.specs.Offered.{heard, heard_with, Offering, nothing, offered, tuned_offering, out_from}
+use Rattle.sd_reception.specs.Offered.{heard, heard_with, Offering, no_offering, offered, tuned_offering, out_from}
 use Rattle.sd_reception.specs.Offered.{break_from}
 use Rattle.sd_reception.specs.Ending.{turns_at, run_wrote, ended_before, ending_of}
 use Rattle.sd_runs.specs.Pieces.{Tuned, tuned_or, first_cat, pieces_after, pieces_of}
-use Rattle.sd_runs.specs.Together.{out_with, break_with, joined_to, piece_ending, out_of, break_of, end_of}
+use Rattle.sd_runs.specs.Together.{out_with, break_with, joined_to, piece_ending, out_of, run_break_of, run_end_of}
 use Rattle.sd_runs.proofs.Later.{things_later}
 use Rattle.sd_runs.proofs.Agreeing.{Agrees, cat_tuned, cat_unheard}
 use Rattle.sd_runs.proofs.Outs.{out_begun, out_goes}
@@ -27,7 +27,7 @@ pub record IsUntuned (card : CardFields) (past : List (List ℕ)) : Type 0 where
   pub wrote : run_wrote card past ≡ 0
 
 pub offered_none : (card : CardFields) (past : List (List ℕ)) (packet : List ℕ) → IsUntuned card past →
-    offered card past packet ≡ nothing
+    offered card past packet ≡ no_offering
 unfolding offered
 offered_none card past packet none =
     ap (λ (t : Option Tuning). tuned_offering card t (length past) (heard card past) packet) none.tuned
@@ -198,12 +198,12 @@ pub out_is : (card : CardFields) (packets : List (List ℕ)) → out_from card [
 unfolding out_of
 out_is card packets = out_upto card packets [] 0 (nothing_came card) refl
 
-pub break_is : (card : CardFields) (packets : List (List ℕ)) → break_from card [] packets ≡ break_of card packets
-unfolding break_of
+pub break_is : (card : CardFields) (packets : List (List ℕ)) → break_from card [] packets ≡ run_break_of card packets
+unfolding run_break_of
 break_is card packets = break_upto card packets [] 0 (nothing_came card) refl
 
-pub end_is : (card : CardFields) (packets : List (List ℕ)) → ending_of card (reverse packets) ≡ end_of card packets
-unfolding end_of
+pub end_is : (card : CardFields) (packets : List (List ℕ)) → ending_of card (reverse packets) ≡ run_end_of card packets
+unfolding run_end_of
 end_is card packets =
     ap (ending_of card) (sym (append-nil (reverse packets)) ∙ reversed packets [])
     ∙ end_upto card packets [] 0 (nothing_came card) refl

@@ -14,7 +14,7 @@ use Rattle.sd_losses.proofs.Opened.{confirmed_are_opened}
 use Rattle.sd_losses.proofs.AllOpened.{all_are_opened}
 use Rattle.sd_losses.proofs.WholeEnding.{keys_whole}
 use Rattle.sd_runs.specs.Channel.{Arrival, Channel, HaveTwoNames, AreRunsOf, arriving, all_sent}
-use Rattle.sd_runs.specs.Many.{kept_of, has_cat, confirmed_from, opened_of_all}
+use Rattle.sd_runs.specs.Many.{kept_of_arrival, has_cat, confirmed_from, opened_of_all}
 use Rattle.sd_runs.specs.Keys.{kept_periods, keys_from, entitled_periods, keys_of_all}
 use Rattle.sd_runs.proofs.Runs.{begins_by}
 use Rattle.sd_runs.proofs.Finishing.{runs_out, runs_break, runs_taken}
@@ -64,10 +64,12 @@ part_from channel (run ∷ runs) u tuned (is, others, rest) leaf =
         (parts : List Bool) × (confirmed_from (tuned || has_cat run) u runs ≡ chosen parts (opened_of_all u runs)) →
         (parts : List Bool) × (confirmed_from tuned u (run ∷ runs) ≡ chosen parts (opened_of_all u (run ∷ runs)))
     by_flags false more =
-        joined_parts (confirmed run.plan u run.clear (kept_of false run)) (confirmed_from (false || has_cat run) u runs)
+        joined_parts (confirmed run.plan u run.clear (kept_of_arrival false run))
+        (confirmed_from (false || has_cat run) u runs)
         (confirmed_are_opened run.plan run.clear u run.flags is.plan within) more
     by_flags true more =
-        joined_parts (confirmed run.plan u run.clear (kept_of true run)) (confirmed_from (true || has_cat run) u runs)
+        joined_parts (confirmed run.plan u run.clear (kept_of_arrival true run))
+        (confirmed_from (true || has_cat run) u runs)
         (confirmed_are_opened run.plan run.clear u (true ∷ drop 1 run.flags) is.plan within) more
 
 pub runs_part : (channel : Channel) (runs : List Arrival) (u : ℕ) → AreRunsOf channel runs → u < 2 ^ channel.height →
@@ -112,7 +114,7 @@ first_kept : (items rest : List Item) → items ≡ Cat ∷ rest → true ∷ dr
 first_kept items rest is =
     ap (λ (xs : List Item). true ∷ drop 1 (all_true xs)) is ∙ ap (λ (xs : List Item). all_true xs) (sym is)
 
-pub whole_kept : (tuned : Bool) (run : Arrival) → kept_of tuned (whole run) ≡ items_of run
+pub whole_kept : (tuned : Bool) (run : Arrival) → kept_of_arrival tuned (whole run) ≡ items_of run
 whole_kept false run = all_chosen (items_of run) (items_of run) refl
 whole_kept true run =
     let begins = begins_by run.plan run.clear in

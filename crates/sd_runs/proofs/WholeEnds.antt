@@ -10,14 +10,14 @@ use Rattle.sd_broadcast.specs.Sent.{Item, Cat, Entitles, Controls, Carries}
 use Rattle.sd_reception.specs.declared.ending.Ending.{Ending}
 use Rattle.sd_reception.specs.declared.ending.Ending.TheVariants.{Opened, Revoked, Unheard, NoCat, Unclosed, Gaps}
 use Rattle.sd_reception.specs.Ending.{ending_of}
-use Rattle.sd_losses.specs.Kept.{is_cat, after_cat, has_parts, has_arrived}
+use Rattle.sd_losses.specs.Kept.{is_cat_item, after_cat, has_parts, has_arrived}
 use Rattle.sd_losses.specs.Confirmed.{confirmed}
 use Rattle.sd_losses.specs.Endings.{closed_told, next_number, ending_told, first_revoked, whole_ending}
 use Rattle.sd_losses.proofs.Tests.{none_weaker}
 use Rattle.sd_losses.proofs.WholeEnding.{whole_ends}
 use Rattle.sd_runs.specs.Together.{joined_to}
 use Rattle.sd_runs.specs.Channel.{Arrival, Channel, AreRunsOf, IsRunOf, all_sent}
-use Rattle.sd_runs.specs.Many.{kept_of, has_cat}
+use Rattle.sd_runs.specs.Many.{kept_of_arrival, has_cat}
 use Rattle.sd_runs.specs.Ends.{is_message, is_told, endings_from, all_joined, whole_ending_of}
 use Rattle.sd_runs.proofs.Agreeing.{tested}
 use Rattle.sd_runs.proofs.Endings.{opened_joins}
@@ -49,11 +49,11 @@ untold_ends : (plan : Plan) (u : ℕ) (clear : List (List ℕ)) (kept : List Ite
     list_any is_message (after_cat kept) ≡ false → is_finished (ending_told plan u clear kept) ≡ false
 unfolding ending_told
 untold_ends plan u clear kept none =
-    ap (λ (closed : Bool). is_finished (if list_any is_cat kept
+    ap (λ (closed : Bool). is_finished (if list_any is_cat_item kept
     then (if closed then closed_told plan u clear (after_cat kept) (length (confirmed plan u clear kept))
     else Unclosed (next_number plan clear (after_cat kept))) else NoCat))
     (none_arrived (after_cat kept) (closing_number plan.site (length clear)) none)
-    ∙ either (list_any is_cat kept)
+    ∙ either (list_any is_cat_item kept)
   where
     either : (cat : Bool) →
         is_finished (if cat then Unclosed (next_number plan clear (after_cat kept)) else NoCat) ≡ false
@@ -71,7 +71,7 @@ within channel run u is leaf = subst (λ (h : ℕ). u < 2 ^ h) (sym is.height) l
 -- a whole run ends as by itself
 whole_told : (channel : Channel) (run : Arrival) (u : ℕ) (tuned : Bool) → IsRunOf channel run →
     u < 2 ^ channel.height →
-    ending_told run.plan u run.clear (kept_of tuned (whole run)) ≡ whole_ending_of u run
+    ending_told run.plan u run.clear (kept_of_arrival tuned (whole run)) ≡ whole_ending_of u run
 whole_told channel run u tuned is leaf =
     ap (ending_told run.plan u run.clear) (whole_kept tuned run)
     ∙ whole_ends run.plan run.clear u is.plan is.clear is.whole (within channel run u is leaf)
@@ -81,20 +81,20 @@ all_told : (channel : Channel) (run : Arrival) (u : ℕ) (tuned : Bool) → IsRu
     u < 2 ^ channel.height → is_told tuned (whole run) ≡ true
 all_told channel run u tuned is leaf =
     tested (is_told tuned (whole run)) (λ told. told)
-    (λ untold. absurd (false≢true (sym (untold_ends run.plan u run.clear (kept_of tuned (whole run)) untold)
+    (λ untold. absurd (false≢true (sym (untold_ends run.plan u run.clear (kept_of_arrival tuned (whole run)) untold)
     ∙ (ap is_finished (whole_told channel run u tuned is leaf) ∙ whole_finished (first_revoked run.plan u run.clear)))))
 
 -- and has its CAT
 whole_cat : (run : Arrival) → has_cat (whole run) ≡ true
 whole_cat run =
     let begins = begins_by run.plan run.clear in
-    ap (list_any is_cat) (whole_kept false run) ∙ ap (list_any is_cat) begins.1
+    ap (list_any is_cat_item) (whole_kept false run) ∙ ap (list_any is_cat_item) begins.1
 
 whole_endings : (channel : Channel) (runs : List Arrival) (u : ℕ) (tuned : Bool) → AreRunsOf channel runs →
     u < 2 ^ channel.height → endings_from tuned u (wholes runs) ≡ map (whole_ending_of u) runs
 whole_endings channel [] u tuned are leaf = refl
 whole_endings channel (run ∷ runs) u tuned (is, others, rest) leaf =
-    ap (λ (told : Bool). if told then ending_told run.plan u run.clear (kept_of tuned (whole run))
+    ap (λ (told : Bool). if told then ending_told run.plan u run.clear (kept_of_arrival tuned (whole run))
     ∷ endings_from (tuned || has_cat (whole run)) u (wholes runs)
     else endings_from (tuned || has_cat (whole run)) u (wholes runs)) (all_told channel run u tuned is leaf)
     ∙ (ap (λ (e : Ending). e ∷ endings_from (tuned || has_cat (whole run)) u (wholes runs))

@@ -1,6 +1,6 @@
 -- Public meaning: broadcasts of one channel that follow one another, and which of their packets arrive.
 use Rattle.std.specs.Prelude.{◌≡◌, ◌≢◌, ℕ, Bool, List, [], ◌∷◌, ◌++◌, All}
-use Rattle.sd_site.specs.Fields.{name_of}
+use Rattle.sd_site.specs.Fields.{run_name_of}
 use Rattle.sd_broadcast.specs.Plan.{Plan, IsPlan}
 use Rattle.sd_broadcast.specs.Refused.{IsClear}
 use Rattle.sd_broadcast.specs.Sent.{broadcast}
@@ -34,7 +34,7 @@ pub record IsRunOf (channel : Channel) (run : Arrival) : Type 0 where
 
 -- the messages of the two broadcasts have different names [this project, docs/FORMATS.md, Messages]
 abbrev pub HaveTwoNames : Arrival → Arrival → Type 0
-HaveTwoNames a b = name_of a.plan.site ≢ name_of b.plan.site
+HaveTwoNames a b = run_name_of a.plan.site ≢ run_name_of b.plan.site
 
 -- the broadcasts are of the channel, and no two have one name
 abbrev pub AreRunsOf : Channel → List Arrival → Type 0

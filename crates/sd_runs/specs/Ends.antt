@@ -8,7 +8,7 @@ use Rattle.sd_losses.specs.Kept.{after_cat}
 use Rattle.sd_losses.specs.Endings.{ending_told, first_revoked, whole_ending}
 use Rattle.sd_runs.specs.Together.{joined_to}
 use Rattle.sd_runs.specs.Channel.{Arrival}
-use Rattle.sd_runs.specs.Many.{kept_of, has_cat}
+use Rattle.sd_runs.specs.Many.{kept_of_arrival, has_cat}
 
 -- a section of entitlements or a part of a control message
 abbrev pub is_message : Item → Bool
@@ -19,14 +19,14 @@ is_message (Carries j packet) = false
 
 -- the receiver hears a message of the run: one is kept after the CAT
 abbrev pub is_told : Bool → Arrival → Bool
-is_told tuned run = list_any is_message (after_cat (kept_of tuned run))
+is_told tuned run = list_any is_message (after_cat (kept_of_arrival tuned run))
 
 -- how those broadcasts end of which leaf u's receiver hears a message, each by itself
 abbrev pub endings_from : Bool → ℕ → List Arrival → List Ending
 endings_from tuned u [] = []
 endings_from tuned u (run ∷ runs) =
     if is_told tuned run
-    then ending_told run.plan u run.clear (kept_of tuned run) ∷ endings_from (tuned || has_cat run) u runs
+    then ending_told run.plan u run.clear (kept_of_arrival tuned run) ∷ endings_from (tuned || has_cat run) u runs
     else endings_from (tuned || has_cat run) u runs
 
 -- the ending of several broadcasts together; of none no message was heard, and the first is awaited

@@ -12,7 +12,7 @@ use Rattle.sd_losses.specs.Endings.{is_on_air}
 use Rattle.sd_losses.specs.Taken.{how_many}
 use Rattle.sd_runs.specs.Pieces.{first_cat, pieces_of}
 use Rattle.sd_runs.specs.Channel.{Arrival}
-use Rattle.sd_runs.specs.Many.{kept_of, has_cat}
+use Rattle.sd_runs.specs.Many.{kept_of_arrival, has_cat}
 
 -- how many packets of pieces take a key if each piece is received by itself after the CAT
 abbrev pub taken_with : CardFields → List ℕ → List (List (List ℕ)) → ℕ
@@ -34,7 +34,7 @@ kept_periods plan u clear kept =
 abbrev pub keys_from : Bool → ℕ → List Arrival → ℕ
 keys_from tuned u [] = 0
 keys_from tuned u (run ∷ runs) =
-    kept_periods run.plan u run.clear (kept_of tuned run) + keys_from (tuned || has_cat run) u runs
+    kept_periods run.plan u run.clear (kept_of_arrival tuned run) + keys_from (tuned || has_cat run) u runs
 
 -- the number of the broadcast's periods in which leaf u isn't revoked
 abbrev pub entitled_periods : Plan → ℕ → List (List ℕ) → ℕ

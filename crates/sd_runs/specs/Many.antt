@@ -3,7 +3,7 @@ use Rattle.std.specs.Prelude.{ℕ, ◌||◌, Bool, true, false, List, [], ◌∷
 use Rattle.std.specs.List.{list_any}
 use Rattle.sd_broadcast.specs.Sent.{Item, sent, closing_of}
 use Rattle.sd_losses.specs.Chosen.{chosen}
-use Rattle.sd_losses.specs.Kept.{is_cat}
+use Rattle.sd_losses.specs.Kept.{is_cat_item}
 use Rattle.sd_losses.specs.Confirmed.{confirmed, opened_by}
 use Rattle.sd_runs.specs.Channel.{Arrival}
 
@@ -14,19 +14,20 @@ flags_after true flags = true ∷ drop 1 flags
 flags_after false flags = flags
 
 -- the things of a broadcast that count as kept
-abbrev pub kept_of : Bool → Arrival → List Item
-kept_of tuned run = chosen (flags_after tuned run.flags) (sent run.plan run.clear ++ closing_of run.plan run.clear)
+abbrev pub kept_of_arrival : Bool → Arrival → List Item
+kept_of_arrival tuned run = chosen (flags_after tuned run.flags) (sent run.plan run.clear ++
+    closing_of run.plan run.clear)
 
 -- some CAT of the broadcast arrives
 abbrev pub has_cat : Arrival → Bool
-has_cat run = list_any is_cat (kept_of false run)
+has_cat run = list_any is_cat_item (kept_of_arrival false run)
 
 -- the clear packets that are confirmed to leaf u's receiver, of each broadcast by itself [this project,
 -- docs/FORMATS.md, Receiver]
 abbrev pub confirmed_from : Bool → ℕ → List Arrival → List (List ℕ)
 confirmed_from tuned u [] = []
 confirmed_from tuned u (run ∷ runs) =
-    confirmed run.plan u run.clear (kept_of tuned run) ++ confirmed_from (tuned || has_cat run) u runs
+    confirmed run.plan u run.clear (kept_of_arrival tuned run) ++ confirmed_from (tuned || has_cat run) u runs
 
 -- the clear packets of all broadcasts, of the periods in which leaf u isn't revoked
 abbrev pub opened_of_all : ℕ → List Arrival → List (List ℕ)

@@ -2,7 +2,7 @@
 use Rattle.std.specs.Prelude.{ℕ, suc, List, [], ◌∷◌, if◌then◌else◌, Option, Some, None}
 use Rattle.sd_reception.specs.Tuned.{Tuning, cat_tuning}
 use Rattle.sd_reception.specs.Heard.{hears}
-use Rattle.sd_reception.specs.Runs.{name_of, name_or, are_two}
+use Rattle.sd_reception.specs.Runs.{run_name_heard, name_or, are_two}
 
 -- the CAT that a receiver takes, its number, what it says, and the packets after it
 pub record Tuned : Type 0 where
@@ -24,7 +24,7 @@ first_cat ca n (packet ∷ packets) = tuned_or (cat_tuning ca packet) n packet p
 
 -- the name of the run to which a packet belongs, if it is a message without a fault
 abbrev pub name_at : ℕ → Tuning → List ℕ → Option (Option ℕ)
-name_at h tuning packet = name_of (hears h tuning 0 packet)
+name_at h tuning packet = run_name_heard (hears h tuning 0 packet)
 
 -- a packet put before the first of these pieces
 abbrev pub with_packet : List ℕ → List (List (List ℕ)) → List (List (List ℕ))

@@ -1,6 +1,6 @@
 -- Public meaning: pieces of broadcasts that follow one another, as at a switch to a spare head end and back.
 use Rattle.std.specs.Prelude.{◌≢◌, ℕ, ◌||◌, Bool, false, List, [], ◌∷◌, if◌then◌else◌, Option, All}
-use Rattle.sd_site.specs.Fields.{name_of}
+use Rattle.sd_site.specs.Fields.{run_name_of}
 use Rattle.sd_runs.specs.Channel.{Arrival, Channel, IsRunOf}
 use Rattle.sd_runs.specs.Many.{has_cat}
 use Rattle.sd_runs.specs.Ends.{is_told}
@@ -9,7 +9,7 @@ use Rattle.sd_runs.specs.Ends.{is_told}
 abbrev pub names_from : Bool → List Arrival → List (Option ℕ)
 names_from tuned [] = []
 names_from tuned (piece ∷ pieces) =
-    if is_told tuned piece then name_of piece.plan.site ∷ names_from (tuned || has_cat piece) pieces
+    if is_told tuned piece then run_name_of piece.plan.site ∷ names_from (tuned || has_cat piece) pieces
     else names_from (tuned || has_cat piece) pieces
 
 -- the first of these names, if there is one, isn't this one

@@ -49,14 +49,14 @@ out_of card packets =
     option_map_or (λ tuned. out_with card tuned.cat (pieces_of card.height tuned)) (first_cat card.ca 0 packets) []
 
 -- why a stream is refused, if it is, by its pieces [this project, docs/FORMATS.md, Receiver]
-unfoldable pub break_of : CardFields → List (List ℕ) → Option StreamFault
-break_of card packets =
+unfoldable pub run_break_of : CardFields → List (List ℕ) → Option StreamFault
+run_break_of card packets =
     option_map_or (λ tuned. break_with card tuned.cat tuned.number (pieces_of card.height tuned))
     (first_cat card.ca 0 packets) None
 
 -- how a stream ends, by its pieces [this project, docs/FORMATS.md, Receiver]
-unfoldable pub end_of : CardFields → List (List ℕ) → Ending
-end_of card packets =
+unfoldable pub run_end_of : CardFields → List (List ℕ) → Ending
+run_end_of card packets =
     option_map_or
     (λ tuned. joined_to Opened (map (piece_ending card tuned.cat) (pieces_of card.height tuned)))
     (first_cat card.ca 0 packets) NoCat

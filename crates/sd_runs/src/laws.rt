@@ -7,7 +7,7 @@ ghost use Rattle.sd_reception.specs.Offered.{out_from, break_from};
 ghost use Rattle.sd_reception.specs.Ending.{ending_of};
 ghost use Rattle.sd_reception.specs.Taken.{taken_keys};
 ghost use Rattle.sd_losses.specs.Chosen.{chosen};
-ghost use Rattle.sd_runs.specs.Together.{out_of, break_of, end_of, joined_to};
+ghost use Rattle.sd_runs.specs.Together.{out_of, run_break_of, run_end_of, joined_to};
 ghost use Rattle.sd_runs.specs.Channel.{Arrival, Channel, AreRunsOf, arriving, all_sent};
 ghost use Rattle.sd_runs.specs.Many.{confirmed_from, opened_of_all};
 ghost use Rattle.sd_runs.specs.Ends.{ending_of_all, whole_ending_of};
@@ -20,9 +20,9 @@ ghost use Rattle.sd_runs.specs.Switched.{ArePiecesOf};
 pub fn streams_are_their_pieces()
     ensures out { (card : CardFields) (packets : List (List ℕ)) → out_from card [] packets ≡ out_of card packets }
     ensures refused { (card : CardFields) (packets : List (List ℕ)) →
-        break_from card [] packets ≡ break_of card packets }
+        break_from card [] packets ≡ run_break_of card packets }
     ensures ending { (card : CardFields) (packets : List (List ℕ)) →
-        ending_of card (reverse packets) ≡ end_of card packets }
+        ending_of card (reverse packets) ≡ run_end_of card packets }
     ensures keys { (card : CardFields) (packets : List (List ℕ)) →
         taken_keys card [] packets ≡ taken_of card packets }
 {}

@@ -4,28 +4,28 @@ use Rattle.std.specs.Prelude.{slice_set, replicate}
 use Rattle.std.proofs.lemmas.Bool.Decides.{nat_tests}
 use Rattle.sd_packet.specs.Packing.{packed}
 use Rattle.sd_sample.specs.Sample.{pat_section, pmt_section, state_at, generated, pid_at, counter_at, generated_in}
-use Rattle.sd_sample.specs.Sample.{header_at, adaptation_field, packet_at}
+use Rattle.sd_sample.specs.Sample.{header_at, adaptation_field, sample_packet_at}
 
 -- a packet, by its place in the round
-pub pat_packet : (k x : ℕ) → k % 100 ≡ 0 → packet_at k x ≡ packed pat_section (pid_at k) (counter_at k)
-unfolding packet_at
+pub pat_packet : (k x : ℕ) → k % 100 ≡ 0 → sample_packet_at k x ≡ packed pat_section (pid_at k) (counter_at k)
+unfolding sample_packet_at
 pat_packet k x h = rw h refl
 
-pub pmt_packet : (k x : ℕ) → k % 100 ≡ 1 → packet_at k x ≡ packed pmt_section (pid_at k) (counter_at k)
-unfolding packet_at
+pub pmt_packet : (k x : ℕ) → k % 100 ≡ 1 → sample_packet_at k x ≡ packed pmt_section (pid_at k) (counter_at k)
+unfolding sample_packet_at
 pmt_packet k x h = rw h refl
 
-pub null_packet : (k x : ℕ) → k % 100 ≡ 2 → packet_at k x ≡ header_at k 1 ++ replicate 184 0xFF
-unfolding packet_at
+pub null_packet : (k x : ℕ) → k % 100 ≡ 2 → sample_packet_at k x ≡ header_at k 1 ++ replicate 184 0xFF
+unfolding sample_packet_at
 null_packet k x h = rw h refl
 
-pub adapted_packet : (k x : ℕ) → 3 ≤ k % 100 → k % 10 ≡ 9 → packet_at k x ≡ header_at k 3
+pub adapted_packet : (k x : ℕ) → 3 ≤ k % 100 → k % 10 ≡ 9 → sample_packet_at k x ≡ header_at k 3
     ++ (adaptation_field ++ generated x 176)
-unfolding packet_at
+unfolding sample_packet_at
 adapted_packet k x h e = grind (arith, nat_tests)
 
-pub plain_packet : (k x : ℕ) → 3 ≤ k % 100 → k % 10 ≢ 9 → packet_at k x ≡ header_at k 1 ++ generated x 184
-unfolding packet_at
+pub plain_packet : (k x : ℕ) → 3 ≤ k % 100 → k % 10 ≢ 9 → sample_packet_at k x ≡ header_at k 1 ++ generated x 184
+unfolding sample_packet_at
 plain_packet k x h e = grind (arith, nat_tests)
 
 -- the state after a packet, by how many bytes are generated for it

@@ -11,7 +11,7 @@ use Rattle.std.proofs.lemmas.List.Concat.{flat_map-append}
 use Rattle.std.proofs.lemmas.List.Folds.{flat_map-map}
 use Rattle.std.proofs.lemmas.List.FromFn.{map-range_with_len_more}
 use Rattle.sd_ports.specs.Bytes.{AppendsPrefix}
-use Rattle.sd_sample.specs.Sample.{state_at, generated_in, generated_before, packet_at, packet_of, sample_of}
+use Rattle.sd_sample.specs.Sample.{state_at, generated_in, generated_before, sample_packet_at, sample_packet, sample_of}
 use Rattle.sd_sample.proofs.Rounds.{generated_more}
 use Rattle.sd_sample.proofs.Generator.{state_more}
 
@@ -30,12 +30,12 @@ range_append a (suc m) n =
 
 -- a stream and the packets after it
 pub sample_more : (number done count : ℕ) → sample_of number done
-    ++ flat_map (packet_of number) (range_with_len done count) ≡ sample_of number (done + count)
+    ++ flat_map (sample_packet number) (range_with_len done count) ≡ sample_of number (done + count)
 unfolding sample_of
 sample_more number done count =
     let e : done ≡ 0 + done = omega arith in
-    sym (flat_map-append (packet_of number) (range_with_len 0 done) (range_with_len done count))
-    ∙ ap (flat_map (packet_of number)) (ap (λ (a : ℕ). range_with_len 0 done ++ range_with_len a count) e
+    sym (flat_map-append (sample_packet number) (range_with_len 0 done) (range_with_len done count))
+    ∙ ap (flat_map (sample_packet number)) (ap (λ (a : ℕ). range_with_len 0 done ++ range_with_len a count) e
     ∙ range_append 0 done count)
 
 -- before the first packet
@@ -63,14 +63,15 @@ state_stays number first s e = let m : first ≡ first + 0 = omega arith in e
 
 -- a piece with a packet more
 pub piece_more : (number first i s : ℕ) (piece : List (List ℕ)) (packet : List ℕ) → i < length piece
-    → take i piece ≡ map (packet_of number) (range_with_len first i) →
-    s ≡ state_at number (generated_before (first + i)) → packet ≡ packet_at (first + i) s
-    → take (i + 1) (slice_set piece i packet) ≡ map (packet_of number) (range_with_len first (i + 1))
+    → take i piece ≡ map (sample_packet number) (range_with_len first i) →
+    s ≡ state_at number (generated_before (first + i)) → packet ≡ sample_packet_at (first + i) s
+    → take (i + 1) (slice_set piece i packet) ≡ map (sample_packet number) (range_with_len first (i + 1))
 piece_more number first i s piece packet h so_far e is =
     take_more_set piece i packet h
     ∙ ap (λ (r : List (List ℕ)). r ++ packet ∷ []) so_far
-    ∙ ap (λ (p : List ℕ). map (packet_of number) (range_with_len first i) ++ p ∷ []) (is ∙ ap (packet_at (first + i)) e)
-    ∙ sym (map-range_with_len_more (packet_of number) first i (first + i) refl)
+    ∙ ap (λ (p : List ℕ). map (sample_packet number) (range_with_len first i) ++
+    p ∷ []) (is ∙ ap (sample_packet_at (first + i)) e)
+    ∙ sym (map-range_with_len_more (sample_packet number) first i (first + i) refl)
 
 -- a piece whose first packets were filled is as long as before
 pub piece_stays_long : (count : ℕ) (new old : List (List ℕ)) → length new ≡ length (take count old) → count ≤ length old
@@ -81,20 +82,20 @@ piece_stays_long count new old e h =
 -- the bytes of those are those of their packets
 pub piece_bytes : (number done count : ℕ) (new old : List (List ℕ)) (bytes : List ℕ) → count ≤ length old
     → length new ≡ length (take count old) →
-    new ≡ map (packet_of number) (range_with_len done (length (take count old)))
+    new ≡ map (sample_packet number) (range_with_len done (length (take count old)))
     → bytes ≡ flat_map (λ (p : List ℕ). p) (take count (new ++ drop count old)) →
-    bytes ≡ flat_map (packet_of number) (range_with_len done count)
+    bytes ≡ flat_map (sample_packet number) (range_with_len done count)
 piece_bytes number done count new old bytes h same made flat =
     let long : length (take count old) ≡ count = length-take-le count old h in
     flat
     ∙ ap (flat_map (λ (p : List ℕ). p)) (take_at new (drop count old) count (same ∙ long) ∙ made)
-    ∙ flat_map-map (λ (p : List ℕ). p) (packet_of number) (range_with_len done (length (take count old)))
-    ∙ ap (λ (n : ℕ). flat_map (packet_of number) (range_with_len done n)) long
+    ∙ flat_map-map (λ (p : List ℕ). p) (sample_packet number) (range_with_len done (length (take count old)))
+    ∙ ap (λ (n : ℕ). flat_map (sample_packet number) (range_with_len done n)) long
 
 -- a stream whose next piece was written
 pub written_more : (a b c : Option (List ℕ)) (number done count : ℕ) (bytes : List ℕ)
     → Appends a b (sample_of number done) →
-    bytes ≡ flat_map (packet_of number) (range_with_len done count) → Appends b c bytes
+    bytes ≡ flat_map (sample_packet number) (range_with_len done count) → Appends b c bytes
     → Appends a c (sample_of number (done + count))
 written_more a b c number done count bytes p e q =
     subst (Appends a c) (ap (λ (r : List ℕ). sample_of number done ++ r) e
@@ -103,11 +104,11 @@ written_more a b c number done count bytes p e q =
 -- a stream of whose next piece a prefix was written
 pub written_prefix : (a b c : Option (List ℕ)) (number done count packets : ℕ) (bytes : List ℕ) → done + count ≤ packets
     → Appends a b (sample_of number done) →
-    bytes ≡ flat_map (packet_of number) (range_with_len done count) → AppendsPrefix b c bytes
+    bytes ≡ flat_map (sample_packet number) (range_with_len done count) → AppendsPrefix b c bytes
     → AppendsPrefix a c (sample_of number packets)
 written_prefix a b c number done count packets bytes within p e w =
-    let piece : List ℕ = flat_map (packet_of number) (range_with_len done count) in
-    let after : List ℕ = flat_map (packet_of number) (range_with_len (done + count) (packets - (done + count))) in
+    let piece : List ℕ = flat_map (sample_packet number) (range_with_len done count) in
+    let after : List ℕ = flat_map (sample_packet number) (range_with_len (done + count) (packets - (done + count))) in
     let all : done + count + (packets - (done + count)) ≡ packets = omega arith in
     let joined : (sample_of number done ++ w.0) ++ (w.1.0 ++ after) ≡ sample_of number packets =
     append_assoc (sample_of number done) w.0 (w.1.0 ++ after)

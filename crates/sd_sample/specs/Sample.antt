@@ -62,8 +62,8 @@ abbrev pub adaptation_field : List ℕ
 adaptation_field = 7 ∷ 0 ∷ replicate 6 0xFF
 
 -- packet k, by the generator's state before it [this project, docs/FORMATS.md, Sample]
-unfoldable pub packet_at : ℕ → ℕ → List ℕ
-packet_at k x =
+unfoldable pub sample_packet_at : ℕ → ℕ → List ℕ
+sample_packet_at k x =
     if k % 100 == 0 then packed pat_section (pid_at k) (counter_at k)
     else if k % 100 == 1 then packed pmt_section (pid_at k) (counter_at k)
     else if k % 100 == 2 then header_at k 1 ++ replicate 184 0xFF
@@ -71,9 +71,9 @@ packet_at k x =
     else header_at k 1 ++ generated x 184
 
 -- packet k of the stream of a number, at which the generator starts [this project, docs/FORMATS.md, Sample]
-abbrev pub packet_of : ℕ → ℕ → List ℕ
-packet_of number k = packet_at k (state_at number (generated_before k))
+abbrev pub sample_packet : ℕ → ℕ → List ℕ
+sample_packet number k = sample_packet_at k (state_at number (generated_before k))
 
 -- the stream of a number, of so many packets [this project, docs/FORMATS.md, Sample]
 unfoldable pub sample_of : ℕ → ℕ → List ℕ
-sample_of number packets = flat_map (packet_of number) (range_with_len 0 packets)
+sample_of number packets = flat_map (sample_packet number) (range_with_len 0 packets)

@@ -1,7 +1,7 @@
 ghost use Rattle.std.specs.Prelude.{◌≡◌, ◌-◌, ◌%◌, ◌<◌, ◌≤◌, ◌++◌, length, replicate, take};
 ghost use Rattle.sd_packet.specs.Packing.{packed};
 ghost use Rattle.sd_sample.specs.Sample.{next_state, state_at, generated, pid_at, counter_at, generated_in, header_at};
-ghost use Rattle.sd_sample.specs.Sample.{adaptation_field, packet_at};
+ghost use Rattle.sd_sample.specs.Sample.{adaptation_field, sample_packet_at};
 
 use crate::stream::MOST_PACKETS;
 use sd_packet::{SIZE, pack_section};
@@ -20,7 +20,7 @@ const PMT: [u8; 26] = [
 #[tactic(auto, using(crate::proofs::Packets::pat_packet, crate::proofs::Packets::pmt_packet, crate::proofs::Packets::null_packet, crate::proofs::Packets::adapted_packet, crate::proofs::Packets::plain_packet, crate::proofs::Packets::no_bytes, crate::proofs::Packets::adapted_bytes, crate::proofs::Packets::plain_bytes))]
 pub fn packet(k: u32, state: &mut u64) -> [u8; SIZE]
     requires { k < MOST_PACKETS }
-    ensures value { result ≡ packet_at k state.old }
+    ensures value { result ≡ sample_packet_at k state.old }
     ensures state { state.new ≡ state_at state.old (generated_in k) }
 {
     match k % 100 {

@@ -3,7 +3,7 @@ ghost use Rattle.std.specs.List.{range_with_len};
 ghost use Rattle.std.specs.Io.KnownBytes.{Appends};
 ghost use Rattle.sd_cause.specs.Count.{HasCause};
 ghost use Rattle.sd_ports.specs.Bytes.{AppendsPrefix};
-ghost use Rattle.sd_sample.specs.Sample.{state_at, generated_before, packet_of, sample_of};
+ghost use Rattle.sd_sample.specs.Sample.{state_at, generated_before, sample_packet, sample_of};
 
 use crate::packet::packet;
 use sd_packet::SIZE;
@@ -42,7 +42,7 @@ pub fn sample<K: Sink>(number: u32, packets: u32, out: &mut K) -> Result<(), Por
 fn fill(first: u32, state: &mut u64, piece: &mut [[u8; SIZE]])
     requires { first + length piece.old ≤ MOST_PACKETS }
     ensures packets { (number : ℕ) → state.old ≡ state_at number (generated_before first) →
-        piece.new ≡ map (packet_of number) (range_with_len first (length piece.old)) }
+        piece.new ≡ map (sample_packet number) (range_with_len first (length piece.old)) }
     ensures state { (number : ℕ) → state.old ≡ state_at number (generated_before first) →
         state.new ≡ state_at number (generated_before (first + length piece.old)) }
 {

@@ -15,23 +15,23 @@ secret_of master Whole = whole_key_of master
 secret_of master (Pair i w) = label_of master i w
 
 -- of these names and their secrets, in the same order, this secret is of the name
-abbrev pub Holds : List Name → List (List ℕ) → Name → List ℕ → Type 0
-Holds names secrets name secret = (k : ℕ) × (slice_get names k ≡ Some name) × (slice_get secrets k ≡ Some secret)
+abbrev pub HoldsSecret : List Name → List (List ℕ) → Name → List ℕ → Type 0
+HoldsSecret names secrets name secret = (k : ℕ) × (slice_get names k ≡ Some name) × (slice_get secrets k ≡ Some secret)
 
 -- The key of S(i,j), by some steps: from the label (i,w) that is held, where w is j or above it, down to the label of
 -- (i,j) and its middle third [Naor, Naor, Lotspiech 2001, 3.2]
 pub record DerivesPair (names : List Name) (secrets : List (List ℕ)) (i j : ℕ) (key : List ℕ) (taken : ℕ) : Type 0 where
   pub node : ℕ
   pub label : List ℕ
-  pub held : Holds names secrets (Pair i node) label
+  pub held : HoldsSecret names secrets (Pair i node) label
   pub above : IsAbove node j
   pub value : key ≡ middle_of (descended label node j)
   pub steps : taken ≡ depth j - depth node + 1
 
 -- the key of a set, by some steps: the whole set's is the first secret
-abbrev pub Derives : List Name → List (List ℕ) → SetName → List ℕ → ℕ → Type 0
-Derives names secrets WholeSet key taken = (slice_get secrets 0 ≡ Some key) × (taken ≡ 0)
-Derives names secrets (Diff i j) key taken = DerivesPair names secrets i j key taken
+abbrev pub DerivesKey : List Name → List (List ℕ) → SetName → List ℕ → ℕ → Type 0
+DerivesKey names secrets WholeSet key taken = (slice_get secrets 0 ≡ Some key) × (taken ≡ 0)
+DerivesKey names secrets (Diff i j) key taken = DerivesPair names secrets i j key taken
 
 -- whether node w is j or an ancestor of j: the halvings between their depths lead from j to w
 abbrev pub is_at_or_above : ℕ → ℕ → Bool

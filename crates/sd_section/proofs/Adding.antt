@@ -7,7 +7,7 @@ use Rattle.std.proofs.lemmas.Bool.{cases_lt}
 use Rattle.std.proofs.lemmas.List.{take-append-le, take_all, length-take}
 use Rattle.sd_section.specs.Header.{section_length_of, whole_of}
 use Rattle.sd_section.specs.Assembled.{starts, is_overlong, is_whole, Cut, no_cut, with_section, cut_from, cut_of}
-use Rattle.sd_section.specs.OneMore.{begun_of, added, held}
+use Rattle.sd_section.specs.OneMore.{begun_of, cut_more, held}
 use Rattle.sd_section.specs.declared.begun.Begun.TheVariants.{Overlong, Whole, Part}
 use Rattle.sd_section.proofs.Cutting.{over_stays, whole_stays, whole_has_all, all_is_whole, all_is_over, length_stays}
 use Rattle.sd_section.proofs.Cutting.{over_has_three, cut_none, cut_stuffed, cut_over, cut_whole, cut_part, added_over}
@@ -43,7 +43,7 @@ judged_part : (z : List ℕ) → begun_of z ≡ Part → (is_overlong z ≡ fals
 judged_part z h = by_part (is_overlong z) (is_whole z) (3 + section_length_of z) h
 
 -- nothing is added to nothing
-pub add_nothing : (making bytes : List ℕ) → length making ≡ 0 → held false making ≡ added making bytes
+pub add_nothing : (making bytes : List ℕ) → length making ≡ 0 → held false making ≡ cut_more making bytes
 add_nothing [] bytes h = sym (added_none bytes)
 add_nothing (b ∷ bs) bytes h = absurd (omega arith)
 
@@ -55,7 +55,7 @@ all_bytes making bytes k = append_assoc making (take k bytes) (drop k bytes) ∙
 -- a section that is too long
 pub add_overlong : (making bytes taken : List ℕ) (k : ℕ) → taken ≡ making ++ take k bytes → 0 < length making →
     begun_of taken ≡ Overlong →
-    held false [] ≡ added making bytes
+    held false [] ≡ cut_more making bytes
 add_overlong [] bytes taken k is some judged = absurd (omega arith)
 add_overlong (b ∷ bs) bytes taken k is some judged =
     let over : is_overlong (b ∷ bs ++ take k bytes) ≡ true = subst (λ (l : List ℕ). is_overlong l ≡ true) is
@@ -68,7 +68,7 @@ add_overlong (b ∷ bs) bytes taken k is some judged =
 -- a section that is whole
 pub add_whole : (making bytes taken : List ℕ) (k n : ℕ) → taken ≡ making ++ take k bytes → 0 < length making →
     begun_of taken ≡ Whole n →
-    held true (take n taken) ≡ added making bytes
+    held true (take n taken) ≡ cut_more making bytes
 add_whole [] bytes taken k n is some judged = absurd (omega arith)
 add_whole (b ∷ bs) bytes taken k n is some judged =
     let begun : List ℕ = b ∷ bs ++ take k bytes in
@@ -103,7 +103,7 @@ short_part begun over whole = elim (cases_lt (length begun) 4096) [
 -- a section that is still in the making
 pub add_part : (making bytes taken : List ℕ) (k : ℕ) → taken ≡ making ++ take k bytes → 0 < length making →
     k ≡ min (length bytes) (4096 - length making) →
-    length making ≤ 4096 → begun_of taken ≡ Part → held false taken ≡ added making bytes
+    length making ≤ 4096 → begun_of taken ≡ Part → held false taken ≡ cut_more making bytes
 add_part [] bytes taken k is some few short judged = absurd (omega arith)
 add_part (b ∷ bs) bytes taken k is some few short judged =
     let begun : List ℕ = b ∷ bs ++ take k bytes in

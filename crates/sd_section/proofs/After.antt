@@ -4,10 +4,11 @@ use Rattle.std.proofs.Common.{take, drop, append-nil, refl, sym, ap, ◌∙◌, 
 use Rattle.std.specs.Prelude.{if◌then◌else◌, Option, Some, None, slice_range, slice_get}
 use Rattle.std.proofs.lemmas.List.{drop_at, take-take, drop-drop, drop-take}
 use Rattle.std.proofs.lemmas.Bool.{eqb-true, and_parts}
-use Rattle.sd_section.specs.Assembled.{Fed, Run, Cut, cut_of, is_last, is_next, has_payload, is_taken, last_counter}
+use Rattle.sd_section.specs.Assembled.{Fed, Run, Cut, cut_of, is_last, is_next, is_fed, is_taken, last_counter}
 use Rattle.sd_section.specs.Assembled.{tail_of, fresh_of, kept_run, longer_run, run_after, newly, completed_in}
-use Rattle.sd_section.specs.Assembled.{completed_by, Assembling, after, all_lent, with_section, next_of, one_lent}
-use Rattle.sd_section.specs.OneMore.{added, held, kept, holds_of, is_section, tail_with, fresh_with, still_making}
+use Rattle.sd_section.specs.Assembled.{completed_by, Assembling, assembler_after, all_lent, with_section, next_of}
+use Rattle.sd_section.specs.Assembled.{one_lent}
+use Rattle.sd_section.specs.OneMore.{cut_more, held, kept, holds_of, has_section, tail_with, fresh_with, still_making}
 use Rattle.sd_section.specs.OneMore.{going_on, fed}
 use Rattle.sd_section.specs.declared.holds.Holds.{Holds}
 use Rattle.sd_section.specs.declared.holds.Holds.TheVariants.{Making, Section, Lent}
@@ -18,11 +19,11 @@ abbrev pub making_of : Run → List ℕ
 making_of run = (cut_of run.first run.more).making
 
 -- bytes after a run complete what they complete of the section in the making
-newly_is : (run : Run) (bytes : List ℕ) → newly run bytes ≡ (added (making_of run) bytes).sections
+newly_is : (run : Run) (bytes : List ℕ) → newly run bytes ≡ (cut_more (making_of run) bytes).sections
 newly_is run bytes =
     let sections : List (List ℕ) = (cut_of run.first run.more).sections in
     ap (λ (c : Cut). drop (length sections) c.sections) (longer (length run.first) run.first run.more bytes)
-    ∙ drop_at sections (added (making_of run) bytes).sections (length sections) refl
+    ∙ drop_at sections (cut_more (making_of run) bytes).sections (length sections) refl
 
 -- a payload with unit start or without, after a run
 completed_is : (unit_start : Bool) (counter : ℕ) (payload : List ℕ) (run : Run) →
@@ -32,8 +33,8 @@ completed_is true counter payload run =
     ap (λ (l : List (List ℕ)). l ++ (cut_of (fresh_of payload) []).sections) (newly_is run (tail_of payload))
 completed_is false counter payload run =
     let none : (cut_of [] []).sections ≡ [] = ap (λ (c : Cut). c.sections) (cut_none 0 []) in
-    newly_is run payload ∙ (sym (append-nil (added (making_of run) payload).sections) ∙
-    ap (λ (l : List (List ℕ)). (added (making_of run) payload).sections ++ l) (sym none))
+    newly_is run payload ∙ (sym (append-nil (cut_more (making_of run) payload).sections) ∙
+    ap (λ (l : List (List ℕ)). (cut_more (making_of run) payload).sections ++ l) (sym none))
 
 making_is : (unit_start : Bool) (counter : ℕ) (payload : List ℕ) (run : Run) →
     making_of (longer_run (record { unit_start = unit_start; counter = counter; payload = payload }) run)
@@ -42,8 +43,8 @@ making_is true counter payload run = refl
 making_is false counter payload run =
     let none : (cut_of [] []).making ≡ [] = ap (λ (c : Cut). c.making) (cut_none 0 []) in
     ap (λ (c : Cut). c.making) (longer (length run.first) run.first run.more payload)
-    ∙ (sym (append-nil (added (making_of run) payload).making) ∙
-    ap (λ (l : List ℕ). (added (making_of run) payload).making ++ l) (sym none))
+    ∙ (sym (append-nil (cut_more (making_of run) payload).making) ∙
+    ap (λ (l : List ℕ). (cut_more (making_of run) payload).making ++ l) (sym none))
 
 is_true : (v : Bool) → not v ≡ false → v ≡ true
 is_true true h = refl
@@ -70,7 +71,7 @@ counter_by true counter (Some last) h = ap (λ (n : ℕ). Some n)
 counter_passed : (packet : Fed) (before : List Fed) → is_taken packet (last_counter before) ≡ false →
     last_counter (packet ∷ before) ≡ last_counter before
 unfolding last_counter
-counter_passed packet before e = counter_by (has_payload packet) packet.counter (last_counter before) e
+counter_passed packet before e = counter_by (is_fed packet) packet.counter (last_counter before) e
 
 run_passed : (packet : Fed) (before : List Fed) → is_taken packet (last_counter before) ≡ false →
     run_after (packet ∷ before) ≡ run_after before
@@ -87,19 +88,19 @@ unfolding fed
 fed_passed state packet e = rw e refl
 
 passed_over : (packet : Fed) (before : List Fed) → is_taken packet (last_counter before) ≡ false →
-    after (packet ∷ before) ≡ fed (all_lent (after before)) packet
-unfolding after
+    assembler_after (packet ∷ before) ≡ fed (all_lent (assembler_after before)) packet
+unfolding assembler_after
 passed_over packet before e =
     state_is _ _ _ _ _ _ (counter_passed packet before e) (ap making_of (run_passed packet before e))
     (completed_passed packet before e)
-    ∙ sym (fed_passed (all_lent (after before)) packet e)
+    ∙ sym (fed_passed (all_lent (assembler_after before)) packet e)
 
 -- a packet that is taken
 counter_taken : (packet : Fed) (before : List Fed) → is_taken packet (last_counter before) ≡ true →
     last_counter (packet ∷ before) ≡ Some packet.counter
 unfolding last_counter
 counter_taken packet before e = let has =
-    (and_parts (has_payload packet) (not (is_last packet.counter (last_counter before))) e).0 in rw has refl
+    (and_parts (is_fed packet) (not (is_last packet.counter (last_counter before))) e).0 in rw has refl
 
 run_taken : (packet : Fed) (before : List Fed) → is_taken packet (last_counter before) ≡ true →
     run_after (packet ∷ before) ≡ longer_run packet (kept_run packet (last_counter before) (run_after before))
@@ -122,8 +123,8 @@ kept_making true run = refl
 kept_making false run = ap (λ (c : Cut). c.making) (cut_none 0 [])
 
 taken : (packet : Fed) (before : List Fed) → is_taken packet (last_counter before) ≡ true →
-    after (packet ∷ before) ≡ fed (all_lent (after before)) packet
-unfolding after
+    assembler_after (packet ∷ before) ≡ fed (all_lent (assembler_after before)) packet
+unfolding assembler_after
 taken packet before e =
     let run : Run = kept_run packet (last_counter before) (run_after before) in
     let making : making_of run ≡ (if is_next packet.counter (last_counter before) then making_of
@@ -132,20 +133,21 @@ taken packet before e =
     state_is _ _ _ _ _ _ (counter_taken packet before e)
     (ap making_of (run_taken packet before e) ∙ making_is packet.unit_start packet.counter packet.payload run)
     (completed_taken packet before e ∙ completed_is packet.unit_start packet.counter packet.payload run)
-    ∙ (ap (going_on packet) making ∙ sym (fed_taken (all_lent (after before)) packet e))
+    ∙ (ap (going_on packet) making ∙ sym (fed_taken (all_lent (assembler_after before)) packet e))
 
 -- what is kept after the packets and the next one is what the next one makes of what was kept before
-pub after_fed : (packet : Fed) (before : List Fed) → after (packet ∷ before) ≡ fed (all_lent (after before)) packet
+pub after_fed : (packet : Fed) (before : List Fed) →
+    assembler_after (packet ∷ before) ≡ fed (all_lent (assembler_after before)) packet
 after_fed packet before = by_test (is_taken packet (last_counter before)) refl where
   by_test : (test : Bool) → is_taken packet (last_counter before) ≡ test →
-      after (packet ∷ before) ≡ fed (all_lent (after before)) packet
+      assembler_after (packet ∷ before) ≡ fed (all_lent (assembler_after before)) packet
   by_test true e = taken packet before e
   by_test false e = passed_over packet before e
 
 -- so too from what equals it
 pub fed_after : (old new : Assembling) (packet : Fed) (before : List Fed) → new ≡ fed old packet →
-    old ≡ all_lent (after before) →
-    new ≡ after (packet ∷ before)
+    old ≡ all_lent (assembler_after before) →
+    new ≡ assembler_after (packet ∷ before)
 fed_after old new packet before e f = e ∙ (ap (λ (s : Assembling). fed s packet) f ∙ sym (after_fed packet before))
 
 -- what is kept, by its fields: the counter, and what the others come to whatever the counter is
@@ -182,7 +184,7 @@ pub all_taken : (holds : Holds) (bytes gathered before later stored : List ℕ) 
     is_taken (record { unit_start = unit_start; counter = counter; payload = payload }) last ≡ true →
     gathered ≡ (kept holds bytes cut None).making → next ≡ is_next counter last →
     before ≡ (if next then gathered else []) →
-    (held whole later).sections ≡ (added before (tail_with unit_start payload)).sections →
+    (held whole later).sections ≡ (cut_more before (tail_with unit_start payload)).sections →
     (held whole later).making ≡ still_making unit_start before payload → stored ≡ fresh_with unit_start payload →
     kept now later (cut_of stored []) (Some counter) ≡
     fed state (record { unit_start = unit_start; counter = counter; payload = payload })
@@ -203,12 +205,12 @@ all_taken holds bytes gathered before later stored cut last unit_start next whol
     (ap (λ (l : List ℕ). l ++ (cut_of stored []).making) making ∙
     ap (λ (l : List ℕ). still_making unit_start before payload ++ (cut_of l []).making) is_stored)
     (ap (λ (l : List (List ℕ)). l ++ (cut_of stored []).sections) sections
-    ∙ ap (λ (l : List ℕ). (added before (tail_with unit_start payload)).sections ++ (cut_of l []).sections)
+    ∙ ap (λ (l : List ℕ). (cut_more before (tail_with unit_start payload)).sections ++ (cut_of l []).sections)
     is_stored)) in
     result ∙ (ap (going_on packet) start ∙ sym (fed_taken state packet (ap (is_taken packet) same_counter ∙ e)))
 
 -- with a section more before what is cut, that one is lent next
-pub lent_next : (holds : Holds) (bytes section : List ℕ) (cut : Cut) (counter : Option ℕ) → is_section holds ≡ false →
+pub lent_next : (holds : Holds) (bytes section : List ℕ) (cut : Cut) (counter : Option ℕ) → has_section holds ≡ false →
     (next_of (kept holds bytes (with_section section cut) counter) ≡ Some section)
     × (kept holds bytes cut counter ≡ one_lent (kept holds bytes (with_section section cut) counter))
 lent_next Making bytes section cut counter h = (refl, refl)
@@ -231,7 +233,7 @@ part_back payload at n end h =
 
 -- what lending a section of the payload comes to
 pub part_lent : (holds : Holds) (bytes payload rest : List ℕ) (at n end : ℕ) (counter : Option ℕ) (state : Assembling) →
-    is_section holds ≡ false → at + n ≤ end →
+    has_section holds ≡ false → at + n ≤ end →
     kept holds bytes (cut_of (slice_range payload at end) []) counter ≡ state → rest ≡ slice_range payload at end →
     cut_of rest [] ≡ with_section (take n rest) (cut_of (drop n rest) []) →
     (kept holds bytes (cut_of (slice_range payload (at + n) end) []) counter ≡ one_lent state)

@@ -9,7 +9,7 @@ use Rattle.sd_bits.specs.Bits.{field}
 use Rattle.sd_bits.proofs.Fields.{same_by_bits}
 use Rattle.sd_section.specs.Header.{section_length_of, whole_of}
 use Rattle.sd_section.specs.Assembled.{is_overlong, is_whole, Cut, no_cut, with_section, cut_from}
-use Rattle.sd_section.specs.OneMore.{added}
+use Rattle.sd_section.specs.OneMore.{cut_more}
 
 -- a field within the first bytes stays with more bytes after
 pub field_append : (first back : List ℕ) (at width : ℕ) → at + width ≤ 8 * length first →
@@ -102,29 +102,29 @@ unfolding cut_from
 cut_part n b bs more e o w = rw (e, o, w) refl
 
 -- a section in the making with more after it: too long, whole, or still in the making
-pub added_over : (b : ℕ) (bs more : List ℕ) → is_overlong (b ∷ bs ++ more) ≡ true → added (b ∷ bs) more ≡ no_cut
-unfolding added
+pub added_over : (b : ℕ) (bs more : List ℕ) → is_overlong (b ∷ bs ++ more) ≡ true → cut_more (b ∷ bs) more ≡ no_cut
+unfolding cut_more
 added_over b bs more o = rw o refl
 
 pub added_whole : (b : ℕ) (bs more : List ℕ) → is_overlong (b ∷ bs ++ more) ≡ false → is_whole (b ∷ bs ++ more) ≡ true →
-    added (b ∷ bs) more ≡ record { sections = whole_of (b ∷ bs ++ more) ∷ []; making = [] }
-unfolding added
+    cut_more (b ∷ bs) more ≡ record { sections = whole_of (b ∷ bs ++ more) ∷ []; making = [] }
+unfolding cut_more
 added_whole b bs more o w = rw (o, w) refl
 
 pub added_part : (b : ℕ) (bs more : List ℕ) → is_overlong (b ∷ bs ++ more) ≡ false → is_whole (b ∷ bs ++ more) ≡ false →
-    added (b ∷ bs) more ≡ record { sections = []; making = b ∷ bs ++ more }
-unfolding added
+    cut_more (b ∷ bs) more ≡ record { sections = []; making = b ∷ bs ++ more }
+unfolding cut_more
 added_part b bs more o w = rw (o, w) refl
 
-pub added_none : (more : List ℕ) → added [] more ≡ no_cut
-unfolding added
+pub added_none : (more : List ℕ) → cut_more [] more ≡ no_cut
+unfolding cut_more
 added_none more = refl
 
 -- a cut, and what its section in the making comes to with more bytes
 abbrev pub gone_on : Cut → List ℕ → Cut
 gone_on cut bytes = record {
-  sections = cut.sections ++ (added cut.making bytes).sections;
-  making = (added cut.making bytes).making;
+  sections = cut.sections ++ (cut_more cut.making bytes).sections;
+  making = (cut_more cut.making bytes).making;
 }
 
 -- the run may be written with its parts in another order
@@ -138,7 +138,7 @@ longer_turn : (n b : ℕ) (bs more bytes : List ℕ) → ((first : List ℕ) →
     is_overlong (b ∷ bs ++ more) ≡ over → is_whole (b ∷ bs ++ more) ≡ whole →
     is_overlong ((b ∷ bs ++ more) ++ bytes) ≡ over' → is_whole ((b ∷ bs ++ more) ++ bytes) ≡ whole' →
     cut_from (suc n) (b ∷ bs) (more ++ bytes) ≡ gone_on (cut_from (suc n) (b ∷ bs) more) bytes
-unfolding added
+unfolding cut_more
 longer_turn n b bs more bytes after true over whole over' whole' s o w o' w' =
     cut_stuffed n b bs (more ++ bytes) s ∙ ap (λ (c : Cut). gone_on c bytes) (sym (cut_stuffed n b bs more s))
 longer_turn n b bs more bytes after false true whole over' whole' s o w o' w' =
@@ -191,7 +191,7 @@ longer_turn n b bs more bytes after false false false false false s o w o' w' =
 -- a cut of a longer run
 pub longer : (n : ℕ) (first more bytes : List ℕ) → cut_from n first (more ++ bytes) ≡ gone_on (cut_from n first more)
     bytes
-unfolding cut_from added
+unfolding cut_from cut_more
 longer zero first more bytes = refl
 longer (suc n) [] more bytes = refl
 longer (suc n) (b ∷ bs) more bytes =

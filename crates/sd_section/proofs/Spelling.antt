@@ -13,7 +13,7 @@ use Rattle.sd_crc.proofs.Words.{crc_below}
 use Rattle.sd_section.specs.Header.{syntax_of, private_of, section_length_of, extension_of, version_of, current_of}
 use Rattle.sd_section.specs.Header.{whole_of, body_of, crc_in, crc_due}
 use Rattle.sd_section.specs.Judged.{unless, crc_fault, section_fault}
-use Rattle.sd_section.specs.Written.{header_bytes, sealed, section_bytes, Fits, IsWritten}
+use Rattle.sd_section.specs.Written.{header_bytes, sealed, section_bytes, FitsFields, IsWritten}
 use Rattle.sd_section.specs.declared.fault.SectionFault.TheVariants.{Crc}
 use Rattle.sd_section.specs.declared.write.Header.{Header}
 
@@ -61,7 +61,7 @@ pub record HasHeader (header : Header) (body : ℕ) (section : List ℕ) : Type 
   pub number : field section 48 8 ≡ header.number
   pub last_number : field section 56 8 ≡ header.last_number
 
-header_is_read : (header : Header) (body : ℕ) (rest : List ℕ) → Fits header → body ≤ 4084 →
+header_is_read : (header : Header) (body : ℕ) (rest : List ℕ) → FitsFields header → body ≤ 4084 →
     HasHeader header body (header_bytes header body ++ rest)
 header_is_read header body rest fits few =
     let section : List ℕ = header_bytes header body ++ rest in
@@ -111,14 +111,14 @@ parts_are : (header : Header) (body rest : List ℕ) →
 unfolding section_bytes
 parts_are header body rest = refl
 
-pub all_headed : (header : Header) (body rest : List ℕ) → Fits header → length body ≤ 4084 →
+pub all_headed : (header : Header) (body rest : List ℕ) → FitsFields header → length body ≤ 4084 →
     HasHeader header (length body) (section_bytes header body ++ rest)
 all_headed header body rest fits few =
     subst (HasHeader header (length body)) (sym (parts_are header body rest))
     (header_is_read header (length body) ((body ++ to_be_bytes w32 (crc_of (header_bytes header (length body) ++ body)))
     ++ rest) fits few)
 
-section_headed : (header : Header) (body : List ℕ) → Fits header → length body ≤ 4084 →
+section_headed : (header : Header) (body : List ℕ) → FitsFields header → length body ≤ 4084 →
     HasHeader header (length body) (section_bytes header body)
 section_headed header body fits few = rw append-nil at (all_headed header body [] fits few)
 
@@ -129,7 +129,7 @@ section_long header body = omega
     (arith, length-append body (to_be_bytes w32 (crc_of (header_bytes header (length body) ++ body))))
 
 -- the whole section is read
-pub whole_is_read : (header : Header) (body rest : List ℕ) → Fits header → length body ≤ 4084 →
+pub whole_is_read : (header : Header) (body rest : List ℕ) → FitsFields header → length body ≤ 4084 →
     whole_of (section_bytes header body ++ rest) ≡ section_bytes header body
 whole_is_read header body rest fits few =
     let head = all_headed header body rest fits few in
@@ -156,7 +156,7 @@ all_good bytes section three long low high there is right =
     (rw long (rw (le-leb 9 (section_length_of bytes) low) (rw (le-leb (section_length_of bytes) 4093 high)
     (rw (le-leb (3 + section_length_of bytes) (length bytes) there) (ap crc_fault is ∙ right)))))
 
-pub none_is_wrong : (header : Header) (body rest : List ℕ) → Fits header → length body ≤ 4084 →
+pub none_is_wrong : (header : Header) (body rest : List ℕ) → FitsFields header → length body ≤ 4084 →
     section_fault (section_bytes header body ++ rest) ≡ None
 none_is_wrong header body rest fits few =
     let head = all_headed header body rest fits few in
@@ -187,7 +187,7 @@ body_is_read header body =
     let head : List ℕ = header_bytes header (length body) in
     between head body (to_be_bytes w32 (crc_of (head ++ body))) refl refl
 
-pub fields_are_read : (header : Header) (body : List ℕ) → Fits header → length body ≤ 4084 →
+pub fields_are_read : (header : Header) (body : List ℕ) → FitsFields header → length body ≤ 4084 →
     IsWritten header body (section_bytes header body)
 fields_are_read header body fits few =
     let head = section_headed header body fits few in

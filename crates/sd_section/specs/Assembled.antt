@@ -62,17 +62,17 @@ is_next counter None = false
 is_next counter (Some last) = (last + 1) % 16 == counter
 
 -- the packet has a payload
-abbrev pub has_payload : Fed → Bool
-has_payload packet = nat_lt 0 (length packet.payload)
+abbrev pub is_fed : Fed → Bool
+is_fed packet = nat_lt 0 (length packet.payload)
 
 -- the counter of the last packet that has a payload; of the packets the last comes first [ISO/IEC 13818-1, 2.4.3.3]
 unfoldable pub last_counter : List Fed → Option ℕ
 last_counter [] = None
-last_counter (packet ∷ before) = if has_payload packet then Some packet.counter else last_counter before
+last_counter (packet ∷ before) = if is_fed packet then Some packet.counter else last_counter before
 
 -- the packet has a payload, and isn't a duplicate [ISO/IEC 13818-1, 2.4.3.3]
 abbrev pub is_taken : Fed → Option ℕ → Bool
-is_taken packet last = has_payload packet && not (is_last packet.counter last)
+is_taken packet last = is_fed packet && not (is_last packet.counter last)
 
 -- the bytes of a payload with unit start that belong to what came before: as many as its first byte, the pointer, says,
 -- and none where that passes the payload [ISO/IEC 13818-1, 2.4.4]
@@ -141,8 +141,8 @@ assembling_code = code_by (Option ℕ × (List ℕ × List (List ℕ)))
     (λ _. refl)
 
 -- as it stands after these packets, of which the last comes first
-unfoldable pub after : List Fed → Assembling
-after packets = record {
+unfoldable pub assembler_after : List Fed → Assembling
+assembler_after packets = record {
   counter = last_counter packets;
   making = (cut_of (run_after packets).first (run_after packets).more).making;
   waiting = completed_by packets;

@@ -49,8 +49,8 @@ abbrev pub current_of : List ℕ → ℕ
 current_of section = field section 47 1
 
 -- section_number [ISO/IEC 13818-1, 2.4.4]
-abbrev pub number_of : List ℕ → ℕ
-number_of section = field section 48 8
+abbrev pub section_number_of : List ℕ → ℕ
+section_number_of section = field section 48 8
 
 -- last_section_number [ISO/IEC 13818-1, 2.4.4]
 abbrev pub last_number_of : List ℕ → ℕ

@@ -14,9 +14,9 @@ begun_of bytes = if is_overlong bytes then Overlong else if is_whole bytes then 
     (3 + section_length_of bytes) else Part
 
 -- what comes of a partial section with more bytes after it
-unfoldable pub added : List ℕ → List ℕ → Cut
-added [] bytes = no_cut
-added (byte ∷ making) bytes =
+unfoldable pub cut_more : List ℕ → List ℕ → Cut
+cut_more [] bytes = no_cut
+cut_more (byte ∷ making) bytes =
     if is_overlong (byte ∷ making ++ bytes) then no_cut else
     if is_whole (byte ∷ making ++ bytes) then record {
       sections = whole_of (byte ∷ making ++ bytes) ∷ [];
@@ -39,7 +39,7 @@ fresh_with unit_start payload = if unit_start then fresh_of payload else []
 
 -- what is still partial after these bytes of a payload: nothing where others start
 abbrev pub still_making : Bool → List ℕ → List ℕ → List ℕ
-still_making unit_start making payload = if unit_start then [] else (added making payload).making
+still_making unit_start making payload = if unit_start then [] else (cut_more making payload).making
 
 -- what a payload does to the partial section
 abbrev pub going_on : Fed → List ℕ → Assembling
@@ -47,7 +47,7 @@ going_on packet making = record {
   counter = Some packet.counter;
   making = still_making packet.unit_start making packet.payload ++ (cut_of (fresh_with packet.unit_start packet.payload)
       []).making;
-  waiting = (added making (tail_with packet.unit_start packet.payload)).sections
+  waiting = (cut_more making (tail_with packet.unit_start packet.payload)).sections
       ++ (cut_of (fresh_with packet.unit_start packet.payload) []).sections;
 }
 
@@ -77,7 +77,7 @@ holds_of true = Section
 holds_of false = Making
 
 -- a whole section is held, which is still to be lent
-abbrev pub is_section : Holds → Bool
-is_section Making = false
-is_section Section = true
-is_section Lent = false
+abbrev pub has_section : Holds → Bool
+has_section Making = false
+has_section Section = true
+has_section Lent = false

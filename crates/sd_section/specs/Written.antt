@@ -3,7 +3,7 @@ use Rattle.std.specs.Prelude.{◌≡◌, ℕ, ◌+◌, ◌/◌, ◌%◌, ◌^◌
 use Rattle.std.specs.Int.{w32, to_be_bytes}
 use Rattle.sd_crc.specs.Crc.{crc_of}
 use Rattle.sd_section.specs.Header.{least_length, table_id_of, syntax_of, private_of, section_length_of, extension_of}
-use Rattle.sd_section.specs.Header.{version_of, current_of, number_of, last_number_of, body_of}
+use Rattle.sd_section.specs.Header.{version_of, current_of, section_number_of, last_number_of, body_of}
 use Rattle.sd_section.specs.declared.write.Header.{Header}
 
 -- the header before a body of so many bytes: the syntax indicator is 1, the bit after it 0, reserved bits are 1,
@@ -23,7 +23,7 @@ unfoldable pub section_bytes : Header → List ℕ → List ℕ
 section_bytes header body = sealed (header_bytes header (length body) ++ body)
 
 -- the header's numbers fit their fields
-pub record Fits (header : Header) : Type 0 where
+pub record FitsFields (header : Header) : Type 0 where
   pub table_id : header.table_id < 2 ^ 8
   pub extension : header.extension < 2 ^ 16
   pub number : header.number < 2 ^ 8
@@ -38,6 +38,6 @@ pub record IsWritten (header : Header) (body section : List ℕ) : Type 0 where
   pub extension : extension_of section ≡ header.extension
   pub version : version_of section ≡ 0
   pub current : current_of section ≡ 1
-  pub number : number_of section ≡ header.number
+  pub number : section_number_of section ≡ header.number
   pub last_number : last_number_of section ≡ header.last_number
   pub inner : body_of section ≡ body

@@ -2,7 +2,7 @@ ghost use Rattle.std.specs.Prelude.{◌≡◌, ◌<◌, ◌≤◌, ◌↔◌, Li
 ghost use Rattle.std.specs.Option.{option_map};
 ghost use Rattle.std.specs.Borrow.{sem};
 ghost use Rattle.std.specs.Io.BufRead.{Rests};
-ghost use Rattle.sd_section.specs.Assembled.{Fed, after, all_lent, next_of, one_lent};
+ghost use Rattle.sd_section.specs.Assembled.{Fed, assembler_after, all_lent, next_of, one_lent};
 ghost use Rattle.sd_section.specs.OneMore.{fed};
 ghost use Rattle.sd_section.specs.contracts.assembler.Assembler.{the_row};
 
@@ -45,9 +45,9 @@ impl Model for Assembler {
 
 impl Assembler {
     /// An assembler that was fed nothing. It takes 4,096 bytes.
-    #[tactic(auto, unfolding(crate::specs::Assembled::after, crate::specs::Assembled::run_after, crate::specs::Assembled::completed_by, crate::specs::Assembled::last_counter, crate::specs::Assembled::cut_from))]
+    #[tactic(auto, unfolding(crate::specs::Assembled::assembler_after, crate::specs::Assembled::run_after, crate::specs::Assembled::completed_by, crate::specs::Assembled::last_counter, crate::specs::Assembled::cut_from))]
     pub fn new(alloc: Global) -> Result<Assembler, NoMemory>
-        ensures after { IfOk result (λ assembler. assembler ≡ after []) }
+        ensures after { IfOk result (λ assembler. assembler ≡ assembler_after []) }
         ensures lent { IfOk result (λ assembler. assembler.waiting ≡ []) }
     {
         Ok(Assembler {
@@ -66,8 +66,13 @@ impl Assembler {
         requires counter { counter < 16 }
         requires payload { length payload.now ≤ 184 }
         requires lent { self.old.waiting ≡ [] }
-        ensures { (packets : List Fed) → self.old ≡ all_lent (after packets) →
-            self.new ≡ after (record { unit_start = unit_start; counter = counter; payload = payload.now } ∷ packets) }
+        ensures { (packets : List Fed) → self.old ≡ all_lent (assembler_after packets) →
+            self.new ≡ assembler_after (record {
+              unit_start = unit_start;
+              counter = counter;
+              payload =
+                  payload.now;
+            } ∷ packets) }
     {
         self.take(unit_start, counter, payload);
     }

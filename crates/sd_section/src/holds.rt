@@ -1,5 +1,5 @@
 ghost use Rattle.std.specs.Prelude.{◌≡◌};
-ghost use Rattle.sd_section.specs.OneMore.{holds_of, is_section as is_section_of};
+ghost use Rattle.sd_section.specs.OneMore.{holds_of, has_section as is_section_of};
 
 /// What an assembler's buffer holds.
 #[derive(Clone, Copy)]

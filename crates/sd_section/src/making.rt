@@ -3,7 +3,7 @@ ghost use Rattle.std.specs.Prelude.{◌&&◌, [], length, take, drop, vec_capaci
 ghost use Rattle.sd_section.specs.Header.{longest};
 ghost use Rattle.sd_section.specs.Assembled.{cut_of, starts as starts_of, with_section, tail_of, is_last};
 ghost use Rattle.sd_section.specs.Assembled.{is_next as is_next_of};
-ghost use Rattle.sd_section.specs.OneMore.{added, held, kept, HasRoom, tail_with, fresh_with, still_making};
+ghost use Rattle.sd_section.specs.OneMore.{cut_more, held, kept, HasRoom, tail_with, fresh_with, still_making};
 
 use crate::begun::{Begun, judge};
 use crate::holds::Holds;
@@ -16,7 +16,7 @@ const STUFFING: u8 = 0xFF;
 pub fn add(making: &mut Vec<u8>, bytes: &[u8]) -> bool
     requires room { longest ≤ vec_capacity making.old }
     requires short { length making.old.items ≤ longest }
-    ensures value { held result making.new.items ≡ added making.old.items bytes.now }
+    ensures value { held result making.new.items ≡ cut_more making.old.items bytes.now }
     ensures room { longest ≤ vec_capacity making.new }
     ensures short { length making.new.items ≤ longest }
 {
@@ -121,7 +121,7 @@ pub fn go_on(buffer: &mut Vec<u8>, unit_start: bool, payload: &[u8]) -> bool
     requires short { length buffer.old.items ≤ longest }
     requires some { 0 < length payload.now }
     ensures sections { (held result buffer.new.items).sections
-        ≡ (added buffer.old.items (tail_with unit_start payload.now)).sections }
+        ≡ (cut_more buffer.old.items (tail_with unit_start payload.now)).sections }
     ensures making { (held result buffer.new.items).making ≡ still_making unit_start buffer.old.items payload.now }
     ensures room { longest ≤ vec_capacity buffer.new }
     ensures short { length buffer.new.items ≤ longest }

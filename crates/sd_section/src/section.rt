@@ -1,6 +1,7 @@
 ghost use Rattle.std.specs.Prelude.{◌≡◌, ◌+◌, ◌<◌, ◌≤◌, ◌↔◌, IsTrue, length};
 ghost use Rattle.sd_section.specs.Header.{least_length, most_length, table_id_of, syntax_of, section_length_of};
-ghost use Rattle.sd_section.specs.Header.{extension_of, version_of, current_of, number_of, last_number_of, body_of};
+ghost use Rattle.sd_section.specs.Header.{extension_of, version_of, current_of, section_number_of, last_number_of};
+ghost use Rattle.sd_section.specs.Header.{body_of};
 ghost use Rattle.sd_section.specs.Header.{crc_in, crc_due};
 
 use sd_bits::fields;
@@ -52,7 +53,7 @@ impl<'a> Section<'a> {
 
     /// section_number.
     pub fn number(&self) -> u8
-        ensures { result ≡ number_of self.now.bytes.now }
+        ensures { result ≡ section_number_of self.now.bytes.now }
     {
         fields! { self.bytes; section_number: 48, 8; }
         section_number as u8

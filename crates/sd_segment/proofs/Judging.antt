@@ -14,12 +14,12 @@ use Rattle.sd_reception.specs.Confirmed.{Segment, position_in, tracked, is_confi
 use Rattle.sd_segment.specs.declared.held.Held.{Held}
 use Rattle.sd_segment.specs.declared.confirm.Confirming.{Confirming}
 use Rattle.sd_segment.specs.Tracking.{led_to, start_of, packets_in}
-use Rattle.sd_segment.specs.Holding.{entry_of}
+use Rattle.sd_segment.specs.Holding.{held_pair}
 use Rattle.sd_segment.specs.Writing.{segment_in, segment_of, IsReady, IsOwn}
 use Rattle.sd_segment.proofs.Places.{found_short}
 
 -- the packets of held ones, without their numbers
-pub packets_are : (held : List Held) → map (λ (e : ℕ × List ℕ). e.1) (map entry_of held) ≡ packets_in held
+pub packets_are : (held : List Held) → map (λ (e : ℕ × List ℕ). e.1) (map held_pair held) ≡ packets_in held
 packets_are [] = refl
 packets_are (h ∷ hs) = ap (λ (ps : List (List ℕ)). h.packet ∷ ps) (packets_are hs)
 

@@ -18,13 +18,13 @@ use Rattle.sd_ecm.specs.Versions.{most_places}
 use Rattle.std.proofs.lemmas.Bool.{and_parts, leb-true}
 use Rattle.std.specs.Prelude.{nat_le}
 use Rattle.sd_segment.specs.Holding.{ArePlaces}
-use Rattle.sd_segment.specs.Tracking.{packets_in, led_to, start_of, IsClear, IsTracked, AreKnown, IsKept}
+use Rattle.sd_segment.specs.Tracking.{packets_in, led_to, start_of, HasFirstPositions, IsTracked, AreKnown, IsKept}
 use Rattle.sd_segment.specs.declared.tracks.Tracks.{Tracks}
 use Rattle.sd_segment.specs.declared.held.Held.{Held}
 use Rattle.sd_segment.proofs.Tables.{none_started, tracked_more, own_more, led_within}
 
 -- a table of first positions
-pub all_first : IsClear (replicate 8192 first_position)
+pub all_first : HasFirstPositions (replicate 8192 first_position)
 all_first = record {
   long = length-replicate 8192 first_position;
   clear = λ pid none small. get_or-replicate 8192 pid first_position 0 small;
@@ -32,7 +32,7 @@ all_first = record {
 
 -- nothing is held
 pub kept_none : (u : Tracks) → u.places.items ≡ [] → u.held.items ≡ [] → most_held ≤ vec_capacity u.held →
-    most_places ≤ vec_capacity u.places → IsClear u.table.items → IsKept u
+    most_places ≤ vec_capacity u.places → HasFirstPositions u.table.items → IsKept u
 kept_none u places held room space clear = record {
   few = omega (arith, ap (λ (hs : List Held). length hs) held);
   room = room;
@@ -44,7 +44,7 @@ kept_none u places held room space clear = record {
 }
 
 -- where nothing is held and no place is kept the table is one of first positions
-pub clear_again : (t : Tracks) → IsKept t → t.places.items ≡ [] → t.held.items ≡ [] → IsClear t.table.items
+pub clear_again : (t : Tracks) → IsKept t → t.places.items ≡ [] → t.held.items ≡ [] → HasFirstPositions t.table.items
 unfolding led_to start_of position_in moved_by
 clear_again t is places held =
     let tracked : IsTracked [] [] t.table.items = rw places at (rw held at is.tracked) in

@@ -5,11 +5,11 @@ use Rattle.std.specs.Prelude.{Option, Some, None}
 use Rattle.std.proofs.KnownBytes.{Appends-trans, Appends-nil}
 use Rattle.sd_ports.specs.Rooms.{HasTaken}
 use Rattle.sd_ports.proofs.Rooms.{none_taken}
-use Rattle.sd_engine.specs.Stage.{Vessel, CutShort, IsTooShort}
-use Rattle.sd_segment.specs.Writing.{Took, Stopped}
+use Rattle.sd_engine.specs.Stage.{SinkState, IsCutShort, IsTooShort}
+use Rattle.sd_segment.specs.Writing.{TookBytes, HasStopped}
 
 -- nothing was taken
-pub took_none : (u : Vessel) → Took u u []
+pub took_none : (u : SinkState) → TookBytes u u []
 took_none u = record { taken = Appends-nil u.held; room = none_taken u.room }
 
 taken_more : (a b c : Option ℕ) (m n : ℕ) → HasTaken a b m → HasTaken b c n → HasTaken a c (m + n)
@@ -20,7 +20,7 @@ taken_more (Some room) b c m n p q =
     (omega (arith, p.0, then.0), then.1 ∙ ap (λ (k : ℕ). Some k) same)
 
 -- and then more bytes
-pub took_more : (u v w : Vessel) (xs ys : List ℕ) → Took u v xs → Took v w ys → Took u w (xs ++ ys)
+pub took_more : (u v w : SinkState) (xs ys : List ℕ) → TookBytes u v xs → TookBytes v w ys → TookBytes u w (xs ++ ys)
 took_more u v w xs ys p q = record {
   taken = Appends-trans u.held v.held w.held xs ys p.taken q.taken;
   room = subst (λ (n : ℕ). HasTaken u.room w.room n) (sym (length-append xs ys))
@@ -34,8 +34,8 @@ still_short (Some room) b m n k p q h =
     omega (arith, then, h)
 
 -- and then not all of a piece, after which others were to come
-pub cut_after : (u v w : Vessel) (xs ys rest : List ℕ) → Took u v xs → Stopped v w ys →
-    CutShort u w (λ bytes. bytes ≡ xs ++ (ys ++ rest))
+pub cut_after : (u v w : SinkState) (xs ys rest : List ℕ) → TookBytes u v xs → HasStopped v w ys →
+    IsCutShort u w (λ bytes. bytes ≡ xs ++ (ys ++ rest))
 cut_after u v w xs ys rest p q = record {
   bytes = xs ++ (ys ++ rest);
   says = refl;

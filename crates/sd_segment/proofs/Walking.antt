@@ -6,16 +6,17 @@ use Rattle.std.specs.List.{concat}
 use Rattle.std.proofs.lemmas.List.{take_more, take_all, take-append-drop, drop_more, take-map, length-map, map-append}
 use Rattle.std.proofs.lemmas.List.Folds.{concat-append}
 use Rattle.sd_packet.specs.Header.{pid_of}
-use Rattle.sd_engine.specs.Stage.{Vessel}
+use Rattle.sd_engine.specs.Stage.{SinkState}
 use Rattle.sd_ecm.specs.Parts.{Message}
 use Rattle.sd_reception.specs.Confirmed.{Segment, Wrote, then_wrote, judged, written_from, tracked, is_confirmed}
 use Rattle.sd_reception.specs.Confirmed.{unmarked}
 use Rattle.sd_segment.specs.declared.fault.SegmentFault.TheVariants as Fault
 use Rattle.sd_segment.specs.declared.confirm.Confirming.{Confirming}
 use Rattle.sd_segment.specs.declared.held.Held.{Held}
-use Rattle.sd_segment.specs.Holding.{entry_of, after_message}
+use Rattle.sd_segment.specs.Holding.{held_pair, after_message}
 use Rattle.sd_segment.specs.Tracking.{packets_in, HaveOwn, IsKept}
-use Rattle.sd_segment.specs.Writing.{Took, Stopped, Writes, holding_in, segment_in, segment_of, bare, first_wrote}
+use Rattle.sd_segment.specs.Writing.{TookBytes, HasStopped, WriteOutcome, holding_in, segment_in, segment_of, bare}
+use Rattle.sd_segment.specs.Writing.{first_wrote}
 use Rattle.sd_segment.specs.Writing.{IsWritten, IsOwn}
 use Rattle.sd_segment.proofs.Sinks.{took_none, took_more, cut_after}
 use Rattle.sd_segment.proofs.Tables.{led_further}
@@ -59,22 +60,22 @@ pub before_in : Confirming → ℕ → List (List ℕ)
 before_in c k = map (λ (e : ℕ × List ℕ). e.1) (take k (holding_in c).held)
 
 entry_at : (c : Confirming) (k : ℕ) (d : Held) → k < length c.tracks.now.held.items →
-    take (k + 1) (holding_in c).held ≡ take k (holding_in c).held ++ entry_of (get_or c.tracks.now.held.items k d) ∷ []
+    take (k + 1) (holding_in c).held ≡ take k (holding_in c).held ++ held_pair (get_or c.tracks.now.held.items k d) ∷ []
 entry_at c k d within =
     let held = c.tracks.now.held.items in
-    take-map entry_of (k + 1) held
-    ∙ (ap (map entry_of) (take_more held k d within)
-    ∙ (map-append entry_of (take k held) (get_or held k d ∷ [])
-    ∙ ap (λ (es : List (ℕ × List ℕ)). es ++ entry_of (get_or held k d) ∷ []) (sym (take-map entry_of k held))))
+    take-map held_pair (k + 1) held
+    ∙ (ap (map held_pair) (take_more held k d within)
+    ∙ (map-append held_pair (take k held) (get_or held k d ∷ [])
+    ∙ ap (λ (es : List (ℕ × List ℕ)). es ++ held_pair (get_or held k d) ∷ []) (sym (take-map held_pair k held))))
 
 mapped_at : (held : List Held) (k : ℕ) (d : Held) → k < length held →
-    get_or (map entry_of held) k (entry_of (get_or held k d)) ≡ entry_of (get_or held k d)
+    get_or (map held_pair held) k (held_pair (get_or held k d)) ≡ held_pair (get_or held k d)
 mapped_at [] k d within = absurd (omega (arith, within))
 mapped_at (h ∷ hs) zero d within = refl
 mapped_at (h ∷ hs) (suc k) d within = mapped_at hs k d (omega (arith, within))
 
 entry_found : (c : Confirming) (k : ℕ) (d : Held) → k < length c.tracks.now.held.items →
-    get_or (holding_in c).held k (entry_of (get_or c.tracks.now.held.items k d)) ≡ entry_of
+    get_or (holding_in c).held k (held_pair (get_or c.tracks.now.held.items k d)) ≡ held_pair
     (get_or c.tracks.now.held.items k d)
 entry_found c k d within = mapped_at c.tracks.now.held.items k d within
 
@@ -82,12 +83,12 @@ entry_found c k d within = mapped_at c.tracks.now.held.items k d within
 first_more : (c : Confirming) (k : ℕ) (d : Held) → k < length c.tracks.now.held.items →
     (first_wrote c k).refused ≡ None →
     first_wrote c (k + 1) ≡ joined (first_wrote c k)
-    (then_wrote (judged (segment_in c) (before_in c k) (entry_of (get_or c.tracks.now.held.items k d)))
+    (then_wrote (judged (segment_in c) (before_in c k) (held_pair (get_or c.tracks.now.held.items k d)))
     (record { packets = []; refused = None }))
 unfolding first_wrote written_from before_in
 first_more c k d within calm =
     ap (λ (es : List (ℕ × List ℕ)). written_from (segment_in c) [] es) (entry_at c k d within)
-    ∙ in_turn (segment_in c) [] (take k (holding_in c).held) (entry_of (get_or c.tracks.now.held.items k d) ∷ []) calm
+    ∙ in_turn (segment_in c) [] (take k (holding_in c).held) (held_pair (get_or c.tracks.now.held.items k d) ∷ []) calm
 
 -- all of them
 all_first : (c : Confirming) (k : ℕ) → (first_wrote c k).refused ≡ None →
@@ -98,13 +99,13 @@ all_first c k calm =
     ap (λ (es : List (ℕ × List ℕ)). written_from (segment_in c) [] es) (sym (take-append-drop k (holding_in c).held))
     ∙ in_turn (segment_in c) [] (take k (holding_in c).held) (drop k (holding_in c).held) calm
 
-pub written_none : (c : Confirming) (u : Vessel) → IsWritten c 0 u u 0
+pub written_none : (c : Confirming) (u : SinkState) → IsWritten c 0 u u 0
 unfolding first_wrote written_from
 written_none c u = record { calm = refl; counted = refl; took = took_none u }
 
 step_by : (c : Confirming) (k : ℕ) (ps : List (List ℕ)) (d : Held) → k < length c.tracks.now.held.items →
     (first_wrote c k).refused ≡ None →
-    judged (segment_in c) (before_in c k) (entry_of (get_or c.tracks.now.held.items k d)) ≡ Ok ps →
+    judged (segment_in c) (before_in c k) (held_pair (get_or c.tracks.now.held.items k d)) ≡ Ok ps →
     first_wrote c (k + 1) ≡ record { packets = (first_wrote c k).packets ++ ps; refused = None }
 unfolding joined
 step_by c k ps d within calm is =
@@ -114,9 +115,9 @@ step_by c k ps d within calm is =
     ∙ ap (λ (xs : List (List ℕ)). record { packets = (first_wrote c k).packets ++ xs; refused = None }) (append-nil ps))
 
 -- a packet of which nothing is written
-pub written_still : (c : Confirming) (k : ℕ) (d : Held) (u v : Vessel) (n : ℕ) → k < length c.tracks.now.held.items →
+pub written_still : (c : Confirming) (k : ℕ) (d : Held) (u v : SinkState) (n : ℕ) → k < length c.tracks.now.held.items →
     IsWritten c k u v n →
-    judged (segment_in c) (before_in c k) (entry_of (get_or c.tracks.now.held.items k d)) ≡ Ok [] →
+    judged (segment_in c) (before_in c k) (held_pair (get_or c.tracks.now.held.items k d)) ≡ Ok [] →
     IsWritten c (k + 1) u v n
 written_still c k d u v n within is far =
     let next : first_wrote c (k + 1) ≡ record { packets = (first_wrote c k).packets; refused = None } =
@@ -132,9 +133,10 @@ concat_one : (xs : List (List ℕ)) (p : List ℕ) → concat (xs ++ p ∷ []) �
 concat_one xs p = concat-append xs (p ∷ []) ∙ ap (λ (bs : List ℕ). concat xs ++ bs) (append-nil p)
 
 -- a packet that is written
-pub written_more : (c : Confirming) (k : ℕ) (d : Held) (p : List ℕ) (u v w : Vessel) (n : ℕ) →
+pub written_more : (c : Confirming) (k : ℕ) (d : Held) (p : List ℕ) (u v w : SinkState) (n : ℕ) →
     k < length c.tracks.now.held.items → IsWritten c k u v n →
-    judged (segment_in c) (before_in c k) (entry_of (get_or c.tracks.now.held.items k d)) ≡ Ok (p ∷ []) → Took v w p →
+    judged (segment_in c) (before_in c k) (held_pair (get_or c.tracks.now.held.items k d)) ≡ Ok (p ∷ []) →
+    TookBytes v w p →
     IsWritten c (k + 1) u w (n + 1)
 written_more c k d p u v w n within is close took =
     let next = step_by c k (p ∷ []) d within is.calm close in
@@ -154,13 +156,13 @@ written_more c k d p u v w n within is close took =
 -- all, where the next comes to this
 all_by : (c : Confirming) (k : ℕ) (r : Result (List (List ℕ)) ℕ) (d : Held) → k < length c.tracks.now.held.items →
     (first_wrote c k).refused ≡ None →
-    judged (segment_in c) (before_in c k) (entry_of (get_or c.tracks.now.held.items k d)) ≡ r →
+    judged (segment_in c) (before_in c k) (held_pair (get_or c.tracks.now.held.items k d)) ≡ r →
     (rest : Wrote) × (written_from (segment_in c) [] (holding_in c).held ≡ joined (first_wrote c k) (then_wrote r rest))
 unfolding written_from
 all_by c k r d within calm is =
     let held = c.tracks.now.held.items in
-    let entry = entry_of (get_or held k d) in
-    let long : k < length (holding_in c).held = omega (arith, within, length-map held entry_of) in
+    let entry = held_pair (get_or held k d) in
+    let long : k < length (holding_in c).held = omega (arith, within, length-map held held_pair) in
     let left : drop k (holding_in c).held ≡ entry ∷ drop (k + 1) (holding_in c).held =
     drop_more (holding_in c).held k entry long
     ∙ ap (λ (e : ℕ × List ℕ). e ∷ drop (k + 1) (holding_in c).held) (entry_found c k d within) in
@@ -173,10 +175,10 @@ all_by c k r d within calm is =
     )
 
 -- a packet that is refused ends all
-pub written_refused : (c : Confirming) (k m : ℕ) (d : Held) (u v : Vessel) (n : ℕ) →
+pub written_refused : (c : Confirming) (k m : ℕ) (d : Held) (u v : SinkState) (n : ℕ) →
     k < length c.tracks.now.held.items → IsWritten c k u v n →
-    judged (segment_in c) (before_in c k) (entry_of (get_or c.tracks.now.held.items k d)) ≡ Err m →
-    Writes (written_from (segment_in c) [] (holding_in c).held) u v (Err (Fault.Parity m))
+    judged (segment_in c) (before_in c k) (held_pair (get_or c.tracks.now.held.items k d)) ≡ Err m →
+    WriteOutcome (written_from (segment_in c) [] (holding_in c).held) u v (Err (Fault.Parity m))
 unfolding joined
 written_refused c k m d u v n within is odd =
     let all = all_by c k (Err m) d within is.calm odd in
@@ -190,11 +192,11 @@ written_refused c k m d u v n within is odd =
     rw same (refl, is.took)
 
 -- and so does a write that fails
-pub written_short : (c : Confirming) (k : ℕ) (d : Held) (p : List ℕ) (u v w : Vessel) (n : ℕ) →
+pub written_short : (c : Confirming) (k : ℕ) (d : Held) (p : List ℕ) (u v w : SinkState) (n : ℕ) →
     k < length c.tracks.now.held.items → IsWritten c k u v n →
-    judged (segment_in c) (before_in c k) (entry_of (get_or c.tracks.now.held.items k d)) ≡ Ok (p ∷ []) →
-    Stopped v w p →
-    Writes (written_from (segment_in c) [] (holding_in c).held) u w (Err Fault.Write)
+    judged (segment_in c) (before_in c k) (held_pair (get_or c.tracks.now.held.items k d)) ≡ Ok (p ∷ []) →
+    HasStopped v w p →
+    WriteOutcome (written_from (segment_in c) [] (holding_in c).held) u w (Err Fault.Write)
 unfolding joined
 written_short c k d p u v w n within is close stopped =
     let all = all_by c k (Ok (p ∷ [])) d within is.calm close in
@@ -204,17 +206,18 @@ written_short c k d p u v w n within is close stopped =
     rw all.1 (rw bytes (cut_after u v w (concat (first_wrote c k).packets) p (concat all.0.packets) is.took stopped))
 
 -- at the end all is written
-pub written_all : (c : Confirming) (k : ℕ) (u v : Vessel) (n : ℕ) → length c.tracks.now.held.items ≤ k →
+pub written_all : (c : Confirming) (k : ℕ) (u v : SinkState) (n : ℕ) → length c.tracks.now.held.items ≤ k →
     IsWritten c k u v n →
-    Writes (written_from (segment_in c) [] (holding_in c).held) u v (Ok n)
+    WriteOutcome (written_from (segment_in c) [] (holding_in c).held) u v (Ok n)
 unfolding first_wrote
 written_all c k u v n end is =
     let all : take k (holding_in c).held ≡ (holding_in c).held =
-    take_all k (holding_in c).held (omega (arith, end, length-map c.tracks.now.held.items entry_of)) in
+    take_all k (holding_in c).held (omega (arith, end, length-map c.tracks.now.held.items held_pair)) in
     let s = segment_in c in
     let done : ((written_from s [] (take k (holding_in c).held)).refused ≡ None)
     × (n ≡ length (written_from s [] (take k (holding_in c).held)).packets)
-    × Took u v (concat (written_from s [] (take k (holding_in c).held)).packets) = (is.calm, is.counted, is.took) in
+    × TookBytes u v (concat (written_from s [] (take k (holding_in c).held)).packets) =
+    (is.calm, is.counted, is.took) in
     rw all at done
 
 -- a held packet has the position to which it led its PID after those before it
@@ -258,8 +261,8 @@ own_within c k h within kept is =
 pub at_place : (c : Confirming) (k : ℕ) (h : Held) (r : Result (List (List ℕ)) ℕ) →
     h ≡ get_or c.tracks.now.held.items k h →
     judged (segment_in c) (before_in c k) (h.number, h.packet) ≡ r →
-    judged (segment_in c) (before_in c k) (entry_of (get_or c.tracks.now.held.items k h)) ≡ r
-at_place c k h r is j = subst (λ (x : Held). judged (segment_in c) (before_in c k) (entry_of x) ≡ r) is j
+    judged (segment_in c) (before_in c k) (held_pair (get_or c.tracks.now.held.items k h)) ≡ r
+at_place c k h r is j = subst (λ (x : Held). judged (segment_in c) (before_in c k) (held_pair x) ≡ r) is j
 
 -- one packet comes to the same between two messages that say no more than is asked of them
 alike : (a b : Message) (word : List ℕ) (ca ecm : ℕ) (packets before : List (List ℕ)) (e : ℕ × List ℕ) →

@@ -18,8 +18,8 @@ pub record Holding : Type 0 where
   pub held : List (ℕ × List ℕ)
 
 -- a buffered packet, after its number
-abbrev pub entry_of : Held → ℕ × List ℕ
-entry_of held = (held.number, held.packet)
+abbrev pub held_pair : Held → ℕ × List ℕ
+held_pair held = (held.number, held.packet)
 
 -- what is buffered, if there is a control word; without one, nothing
 abbrev pub holding_of : Option Word → Tracks → Option Holding
@@ -28,7 +28,7 @@ holding_of (Some word) tracks = Some (record {
   number = word.number;
   word = word.bytes;
   places = tracks.places.items;
-  held = map entry_of tracks.held.items;
+  held = map held_pair tracks.held.items;
 })
 
 -- one packet more is buffered; or none any more, if 4,096 are buffered already [this project, docs/FORMATS.md,

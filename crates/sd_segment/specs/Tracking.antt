@@ -42,8 +42,8 @@ pub record IsClearBut (pids : List ℕ) (table : List ℕ) : Type 0 where
   pub clear : (pid : ℕ) → list_any (λ q. q == pid) pids ≡ false → pid < PIDS → get_or table pid 0 ≡ first_position
 
 -- a table by PID has the first position for each
-abbrev pub IsClear : List ℕ → Type 0
-IsClear table = IsClearBut [] table
+abbrev pub HasFirstPositions : List ℕ → Type 0
+HasFirstPositions table = IsClearBut [] table
 
 -- the PID of each place is one of 13 bits
 abbrev pub AreKnown : List Place → Type 0

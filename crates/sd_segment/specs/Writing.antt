@@ -6,12 +6,12 @@ use Rattle.std.specs.Io.KnownBytes.{Appends}
 use Rattle.sd_packet.specs.Header.{pid_of}
 use Rattle.sd_ports.specs.Bytes.{AppendsPrefix}
 use Rattle.sd_ports.specs.Rooms.{HasTaken}
-use Rattle.sd_engine.specs.Stage.{Vessel, CutShort, IsTooShort}
+use Rattle.sd_engine.specs.Stage.{SinkState, IsCutShort, IsTooShort}
 use Rattle.sd_ecm.specs.Form.{AreShort}
 use Rattle.sd_ecm.specs.Parts.{Message}
 use Rattle.sd_ecm.specs.declared.part.Place.{Place}
 use Rattle.sd_reception.specs.Confirmed.{Segment, Wrote, written_from}
-use Rattle.sd_segment.specs.Holding.{Holding, entry_of}
+use Rattle.sd_segment.specs.Holding.{Holding, held_pair}
 use Rattle.sd_segment.specs.Tracking.{led_to, IsKept}
 use Rattle.sd_segment.specs.declared.held.Held.{Held}
 use Rattle.sd_segment.specs.declared.confirm.Confirming.{Confirming}
@@ -51,20 +51,21 @@ wrote_of None ca ecm places = record { packets = []; refused = None }
 wrote_of (Some h) ca ecm places = written_from (segment_of h ca ecm places) [] h.held
 
 -- a sink took these bytes
-pub record Took (old new : Vessel) (bytes : List ℕ) : Type 0 where
+pub record TookBytes (old new : SinkState) (bytes : List ℕ) : Type 0 where
   pub taken : Appends old.held new.held bytes
   pub room : HasTaken old.room new.room (length bytes)
 
 -- a write of these bytes failed: the sink took a prefix of them, and if its room is known it is less than all of them
-pub record Stopped (old new : Vessel) (bytes : List ℕ) : Type 0 where
+pub record HasStopped (old new : SinkState) (bytes : List ℕ) : Type 0 where
   pub prefix : AppendsPrefix old.held new.held bytes
   pub room : IsTooShort old.room (length bytes)
 
 -- a sink took what is written, up to the packet that is refused or the write that failed, with this answer
-abbrev pub Writes : Wrote → Vessel → Vessel → Result ℕ SegmentFault → Type 0
-Writes wrote old new (Ok n) = (wrote.refused ≡ None) × (n ≡ length wrote.packets) × Took old new (concat wrote.packets)
-Writes wrote old new (Err (Fault.Parity k)) = (wrote.refused ≡ Some k) × Took old new (concat wrote.packets)
-Writes wrote old new (Err Fault.Write) = CutShort old new (λ bytes. bytes ≡ concat wrote.packets)
+abbrev pub WriteOutcome : Wrote → SinkState → SinkState → Result ℕ SegmentFault → Type 0
+WriteOutcome wrote old new (Ok n) = (wrote.refused ≡ None) × (n ≡ length wrote.packets) ×
+    TookBytes old new (concat wrote.packets)
+WriteOutcome wrote old new (Err (Fault.Parity k)) = (wrote.refused ≡ Some k) × TookBytes old new (concat wrote.packets)
+WriteOutcome wrote old new (Err Fault.Write) = IsCutShort old new (λ bytes. bytes ≡ concat wrote.packets)
 
 -- what is buffered, as contracts see it
 abbrev pub holding_in : Confirming → Holding
@@ -72,7 +73,7 @@ holding_in c = record {
   number = c.word.now.number;
   word = c.word.now.bytes;
   places = c.tracks.now.places.items;
-  held = map entry_of c.tracks.now.held.items;
+  held = map held_pair c.tracks.now.held.items;
 }
 
 -- the segment between the two messages
@@ -84,10 +85,10 @@ unfoldable pub first_wrote : Confirming → ℕ → Wrote
 first_wrote c k = written_from (segment_in c) [] (take k (holding_in c).held)
 
 -- a sink took what is written of the first k packets, which is this number of packets, and none is refused
-pub record IsWritten (c : Confirming) (k : ℕ) (old new : Vessel) (count : ℕ) : Type 0 where
+pub record IsWritten (c : Confirming) (k : ℕ) (old new : SinkState) (count : ℕ) : Type 0 where
   pub calm : (first_wrote c k).refused ≡ None
   pub counted : count ≡ length (first_wrote c k).packets
-  pub took : Took old new (concat (first_wrote c k).packets)
+  pub took : TookBytes old new (concat (first_wrote c k).packets)
 
 -- the PID of control messages has 13 bits, and the positions of the next one 48
 pub record IsReady (c : Confirming) : Type 0 where

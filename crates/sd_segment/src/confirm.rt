@@ -7,7 +7,7 @@ ghost use Rattle.sd_packet.specs.Header.{pid_of};
 ghost use Rattle.sd_reception.specs.Confirmed.{position_in, is_confirmed as is_confirmed_pid};
 ghost use Rattle.sd_reception.specs.Confirmed.{is_odd as is_odd_packet, judged};
 ghost use Rattle.sd_reception.specs.Confirmed.{unmarked, written_from};
-ghost use Rattle.sd_segment.specs.Writing.{Writes, Took, Stopped, IsReady, IsOwn, holding_in, segment_in};
+ghost use Rattle.sd_segment.specs.Writing.{WriteOutcome, TookBytes, HasStopped, IsReady, IsOwn, holding_in, segment_in};
 
 use crate::fault::SegmentFault;
 use crate::held::{Held, Word};
@@ -35,9 +35,9 @@ pub struct Confirming<'a> {
 // Writes a packet.
 #[tactic(auto, using(sd_engine::proofs::Vessels::too_short))]
 fn put<K: Sink>(packet: &Packet, out: &mut K) -> Result<(), SegmentFault>
-    ensures ok { OnOk result (Took (vessel K.Sink out.old) (vessel K.Sink out.new) packet.now) }
+    ensures ok { OnOk result (TookBytes (vessel K.Sink out.old) (vessel K.Sink out.new) packet.now) }
     ensures fault { IfErr result (λ fault. fault ≡ SegmentFault.Write) }
-    ensures prefix { OnErr result (Stopped (vessel K.Sink out.old) (vessel K.Sink out.new) packet.now) }
+    ensures prefix { OnErr result (HasStopped (vessel K.Sink out.old) (vessel K.Sink out.new) packet.now) }
     ensures cause { IsCaused (K.faults out.old) (K.faults out.new) (IsErrOf result SegmentFault.Write) }
 {
     match write_all(out, packet.bytes()) {
@@ -61,7 +61,7 @@ impl<'a> Confirming<'a> {
     // Writes what is confirmed, up to the first packet that is refused. It returns the number of packets written.
     pub fn write<K: Sink>(&self, out: &mut K) -> Result<u64, SegmentFault>
         requires ready { IsReady self.now }
-        ensures value { Writes (written_from (segment_in self.now) [] (holding_in self.now).held)
+        ensures value { WriteOutcome (written_from (segment_in self.now) [] (holding_in self.now).held)
             (vessel K.Sink out.old) (vessel K.Sink out.new) result }
         ensures cause { IsCaused (K.faults out.old) (K.faults out.new) (IsErrOf result SegmentFault.Write) }
     {

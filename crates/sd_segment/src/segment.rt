@@ -3,7 +3,7 @@ ghost use Rattle.sd_cause.specs.Count.{IsCaused};
 ghost use Rattle.sd_engine.specs.Stage.{vessel};
 ghost use Rattle.sd_ecm.specs.Form.{AreShort};
 ghost use Rattle.sd_segment.specs.Holding.{ArePlaces, held_more};
-ghost use Rattle.sd_segment.specs.Writing.{Writes, wrote_of};
+ghost use Rattle.sd_segment.specs.Writing.{WriteOutcome, wrote_of};
 
 use crate::confirm::Confirming;
 use crate::fault::SegmentFault;
@@ -95,7 +95,7 @@ impl Segment {
     ) -> Result<u64, SegmentFault>
         requires ecm { ecm < 8192 }
         requires short { AreShort places.now }
-        ensures value { Writes (wrote_of self.now ca ecm places.now)
+        ensures value { WriteOutcome (wrote_of self.now ca ecm places.now)
             (vessel K.Sink out.old) (vessel K.Sink out.new) result }
         ensures cause { IsCaused (K.faults out.old) (K.faults out.new) (IsErrOf result SegmentFault.Write) }
     {

@@ -2,8 +2,8 @@ ghost use Rattle.std.specs.Prelude.{◌≡◌, ◌+◌, ◌<◌, ◌^◌, ◌++�
 ghost use Rattle.sd_packet.specs.Header.{pid_of};
 ghost use Rattle.sd_packet.specs.Positions.{moved};
 ghost use Rattle.sd_ecm.specs.Form.{AreAscending};
-ghost use Rattle.sd_segment.specs.Holding.{ArePlaces, entry_of};
-ghost use Rattle.sd_segment.specs.Tracking.{IsClear, IsTracked, IsKept, AreKnown, packets_in};
+ghost use Rattle.sd_segment.specs.Holding.{ArePlaces, held_pair};
+ghost use Rattle.sd_segment.specs.Tracking.{HasFirstPositions, IsTracked, IsKept, AreKnown, packets_in};
 ghost use Rattle.sd_segment.specs.declared.tracks.TheConstants.{PIDS};
 
 use crate::held::{Held, MOST_HELD};
@@ -75,8 +75,8 @@ impl Tracks {
         requires room { length self.old.held.items < MOST_HELD }
         ensures kept { IsKept self.new }
         ensures places { self.new.places.items ≡ self.old.places.items }
-        ensures held { map entry_of self.new.held.items
-            ≡ map entry_of self.old.held.items ++ (number, packet.now) ∷ [] }
+        ensures held { map held_pair self.new.held.items
+            ≡ map held_pair self.old.held.items ++ (number, packet.now) ∷ [] }
     {
         let position = step(&mut self.table, packet);
         let held = Held {
@@ -91,7 +91,7 @@ impl Tracks {
 // Puts the positions of these places into a table of first positions.
 #[tactic(auto, using(crate::proofs::Tables::none_started, crate::proofs::Tables::next_started))]
 fn start(table: &mut [u64], places: &[Place])
-    requires clear { IsClear table.old }
+    requires clear { HasFirstPositions table.old }
     requires known { AreKnown places.now }
     requires ascending { AreAscending places.now }
     ensures { IsTracked places.now [] table.new }
@@ -120,7 +120,7 @@ fn step(table: &mut [u64], packet: &Packet) -> u64
 fn clear(table: &mut [u64], places: &[Place], held: &[Held])
     requires tracked { IsTracked places.now (packets_in held.now) table.old }
     requires known { AreKnown places.now }
-    ensures { IsClear table.new }
+    ensures { HasFirstPositions table.new }
 {
     for place in places {
         table[usize::from(place.pid)] = FIRST_POSITION;

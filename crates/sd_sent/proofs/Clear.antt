@@ -12,7 +12,8 @@ use Rattle.sd_site.specs.Fields.{SiteFields}
 use Rattle.sd_psi.specs.declared.fault.FormFault.{FormFault}
 use Rattle.sd_broadcast.specs.Plan.{word_of}
 use Rattle.sd_broadcast.specs.Kinds.{kind_of, has_moved, positional_pids, moved_pids, put_in}
-use Rattle.sd_broadcast.specs.Refused.{fault_where, form_where, is_taken, pat_wrong, is_full_own, is_one_too_many}
+use Rattle.sd_broadcast.specs.Refused.{fault_where, form_where, is_reserved_pid, pat_wrong, is_full_own}
+use Rattle.sd_broadcast.specs.Refused.{is_one_too_many}
 use Rattle.sd_broadcast.specs.Refused.{is_too_long}
 use Rattle.sd_broadcast.specs.Refused.{refusal_of, refusal_from, IsClear}
 use Rattle.sd_broadcast.specs.declared.fault.ClearFault.{ClearFault}
@@ -106,9 +107,9 @@ accepted site before packet h =
     let many = fault_where (is_one_too_many before packet) (TooManyPids n) last in
     let full = fault_where (is_full_own site (kind_of before packet) packet) (PmtForm n Form.NoRoom) many in
     let form = form_where (pat_wrong packet) (PatForm n) full in
-    let taken = fault_where (is_taken site (pid_of packet)) (PidTaken n (pid_of packet)) form in
+    let taken = fault_where (is_reserved_pid site (pid_of packet)) (PidTaken n (pid_of packet)) form in
     let one = untold (not (scrambling_of packet == 0)) (AlreadyScrambled n) taken h in
-    let two = untold (is_taken site (pid_of packet)) (PidTaken n (pid_of packet)) form one.1 in
+    let two = untold (is_reserved_pid site (pid_of packet)) (PidTaken n (pid_of packet)) form one.1 in
     let three = untold_form (pat_wrong packet) (PatForm n) full two.1 in
     let four = untold (is_full_own site (kind_of before packet) packet) (PmtForm n Form.NoRoom) many three.1 in
     let five = untold (is_one_too_many before packet) (TooManyPids n) last four.1 in

@@ -21,7 +21,7 @@ use Rattle.sd_broadcast.specs.Plan.{Plan, IsPlan, sets_at, period_of}
 use Rattle.sd_broadcast.specs.Refused.{IsClear}
 use Rattle.sd_broadcast.specs.Sent.{broadcast}
 use Rattle.sd_sent.specs.Packets.{AreLong}
-use Rattle.sd_sent.specs.Named.{named, NamesPeriod}
+use Rattle.sd_sent.specs.Named.{sets_named, NamesPeriod}
 use Rattle.sd_sent.proofs.Fitting.{are_leaves, sets_cover, sets_small}
 use Rattle.sd_sent.proofs.Naming.{named_are_sets}
 
@@ -63,7 +63,7 @@ none_reached plan q u is m =
 -- all of this is true of the sets that a broadcast names for a period that it reaches
 pub period_named : (plan : Plan) (clear : List (List ℕ)) (q : ℕ) → IsPlan plan → IsClear plan.site clear →
     AreLong clear → plan.site.first_period ≤ q → q ≤ period_of plan (length clear - 1) →
-    NamesPeriod plan q (named plan.site.height plan.site.emm q (broadcast plan clear))
+    NamesPeriod plan q (sets_named plan.site.height plan.site.emm q (broadcast plan clear))
 period_named plan clear q is all long from reached =
     let names = named_are_sets plan clear q is all long from reached in
     rw names (record {

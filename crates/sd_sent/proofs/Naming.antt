@@ -11,7 +11,7 @@ use Rattle.std.proofs.lemmas.List.Elements.{All-contains, Contains-append_left, 
 use Rattle.sd_tree.specs.declared.set.SetName.{SetName}
 use Rattle.sd_message.specs.Pieces.{pieces_for}
 use Rattle.sd_message.proofs.Pieces as Pieces
-use Rattle.sd_emm.specs.Spelled.{listed, names_in}
+use Rattle.sd_emm.specs.Spelled.{listed_entries, names_in}
 use Rattle.sd_emm.specs.Form.{sections_for}
 use Rattle.sd_emm.specs.Period.{Period, emm_at, emms_of, IsOfPeriod}
 use Rattle.sd_emm.specs.declared.emm.Entry.{Entry}
@@ -25,7 +25,7 @@ use Rattle.sd_broadcast.proofs.Items.{all_are_of_broadcast}
 use Rattle.sd_broadcast.proofs.Schedule.{period_short}
 use Rattle.sd_steiner.proofs.Lists.{member_cases, member_first, member_later, no_member}
 use Rattle.sd_sent.specs.Packets.{AreLong}
-use Rattle.sd_sent.specs.Named.{names_at, named}
+use Rattle.sd_sent.specs.Named.{names_at, sets_named}
 use Rattle.sd_sent.proofs.Fitting.{period_names, period_fits}
 use Rattle.sd_sent.proofs.Sections.{IsSectionOf, sections_in, each_section, sections_are}
 use Rattle.sd_sent.proofs.Reached.{StandAmong, reached_stand}
@@ -69,11 +69,11 @@ joined_range f g a (suc k) (suc n) within same none =
 
 -- the names of joined entries
 names_joined : (make : ℕ → Emm) (xs : List ℕ) →
-    flat_map (λ x. names_in (listed (make x))) xs ≡ names_in (flat_map listed (map make xs))
+    flat_map (λ x. names_in (listed_entries (make x))) xs ≡ names_in (flat_map listed_entries (map make xs))
 names_joined make [] = refl
 names_joined make (x ∷ xs) =
-    ap (λ (rest : List SetName). names_in (listed (make x)) ++ rest) (names_joined make xs)
-    ∙ sym (map-append (λ (e : Entry). e.name) (listed (make x)) (flat_map listed (map make xs)))
+    ap (λ (rest : List SetName). names_in (listed_entries (make x)) ++ rest) (names_joined make xs)
+    ∙ sym (map-append (λ (e : Entry). e.name) (listed_entries (make x)) (flat_map listed_entries (map make xs)))
 
 -- what a period's sections are
 record IsAt (period : Period) (emm : Emm) : Type 0 where
@@ -123,7 +123,8 @@ of_its_period plan clear emm q (k, within, m) says =
 
 -- its sections have all entries of a period
 all_entries : (period : Period) →
-    flat_map listed (map (emm_at period) (range_with_len 0 (sections_for (length period.entries)))) ≡ period.entries
+    flat_map listed_entries (map (emm_at period) (range_with_len 0 (sections_for (length period.entries)))) ≡
+    period.entries
 unfolding emms_of
 all_entries period = joined_are_all period
 
@@ -166,7 +167,7 @@ module _ (plan : Plan) (clear : List (List ℕ)) (q : ℕ) (sections : List Emm)
 
   -- the sets that are named by an index
   named_within : (x : ℕ) → x < sections_for (length (period_at plan q).entries) →
-      names_at q sections x ≡ names_in (listed (emm_at (period_at plan q) x))
+      names_at q sections x ≡ names_in (listed_entries (emm_at (period_at plan q) x))
   named_within x within =
       rw (found_one (is_at q x) sections (emm_at (period_at plan q) x) (stands x within) (passes x)
       (λ emm m test. (passes_is emm x m test).1)) refl
@@ -185,7 +186,7 @@ module _ (plan : Plan) (clear : List (List ℕ)) (q : ℕ) (sections : List Emm)
   named_all n few =
       let period : Period = period_at plan q in
       let count : ℕ = sections_for (length period.entries) in
-      joined_range (names_at q sections) (λ x. names_in (listed (emm_at period x))) 0 count n few
+      joined_range (names_at q sections) (λ x. names_in (listed_entries (emm_at period x))) 0 count n few
       (λ x low high. named_within x (omega (arith, high))) (λ x past. named_past x (omega (arith, past)))
       ∙ (names_joined (emm_at period) (range_with_len 0 count)
       ∙ (ap names_in (all_entries period) ∙ period_names plan q))
@@ -201,8 +202,8 @@ sections_few plan q is low =
 -- a broadcast names the sets of each period that it reaches
 pub named_are_sets : (plan : Plan) (clear : List (List ℕ)) (q : ℕ) → IsPlan plan → IsClear plan.site clear →
     AreLong clear → plan.site.first_period ≤ q → q ≤ period_of plan (length clear - 1) →
-    named plan.site.height plan.site.emm q (broadcast plan clear) ≡ sets_at plan q
-unfolding named broadcast
+    sets_named plan.site.height plan.site.emm q (broadcast plan clear) ≡ sets_at plan q
+unfolding sets_named broadcast
 named_are_sets plan clear q is all long from reached =
     let items : List Item = sent plan clear ++ closing_of plan clear in
     let each = all_are_of_broadcast plan clear in

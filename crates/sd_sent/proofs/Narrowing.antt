@@ -1,9 +1,10 @@
 -- What is sent doesn't depend on the last control word that may be used.
-use Rattle.std.proofs.Common.{◌≡◌, ℕ, ◌+◌, ◌-◌, ◌/◌, ◌<◌, ◌≤◌, ◌==◌, Bool, true, false, not, List, [], ◌∷◌, ◌++◌, length}
+use Rattle.std.proofs.Common.{◌≡◌, ℕ, ◌+◌, ◌-◌, ◌/◌, ◌<◌, ◌≤◌, ◌==◌, Bool, true, false, not, List, [], ◌∷◌, ◌++◌}
+use Rattle.std.proofs.Common.{length}
 use Rattle.std.proofs.Common.{Option, Some, None, refl, ap, arith, length-append}
 use Rattle.std.proofs.lemmas.Bool.Decides.{nat_tests}
 use Rattle.sd_packet.specs.Header.{scrambling_of}
-use Rattle.sd_site.specs.Fields.{SiteFields, name_of}
+use Rattle.sd_site.specs.Fields.{SiteFields, run_name_of}
 use Rattle.sd_psi.specs.declared.fault.FormFault.{FormFault}
 use Rattle.sd_broadcast.specs.Plan.{Plan, sets_at, crypto_of, word_of, period_in, period_of, closing_number}
 use Rattle.sd_broadcast.specs.Kinds.{kind_of}
@@ -11,7 +12,8 @@ use Rattle.sd_broadcast.specs.Carried.{pmt_carried, veiled, carried_as, carried}
 use Rattle.sd_broadcast.specs.Messages.{entry_of, period_at, message_at}
 use Rattle.sd_broadcast.specs.Refused.{fault_where, form_where, is_full_own, is_too_long}
 use Rattle.sd_broadcast.specs.Refused.{refusal_of, refusal_from, IsClear}
-use Rattle.sd_broadcast.specs.Sent.{Item, Cat, Entitles, Controls, Carries, tables_at, added, sent, sent_from, closing_of}
+use Rattle.sd_broadcast.specs.Sent.{Item, Cat, Entitles, Controls, Carries, tables_at, added, sent, sent_from}
+use Rattle.sd_broadcast.specs.Sent.{closing_of}
 use Rattle.sd_broadcast.specs.Sent.{packet_of, packets_from, broadcast}
 use Rattle.sd_broadcast.specs.declared.fault.ClearFault.{ClearFault}
 use Rattle.sd_broadcast.specs.declared.kind.Kind.{Kind}
@@ -38,12 +40,12 @@ carried_same x site before packet = by_kind (kind_of before packet)
 
 -- and so are the tables and the messages
 tables_same : (x : ℕ) (plan : Plan) (k : ℕ) → tables_at (plan_up_to x plan) k ≡ tables_at plan k
-unfolding tables_at period_at entry_of sets_at period_of period_in crypto_of name_of
+unfolding tables_at period_at entry_of sets_at period_of period_in crypto_of run_name_of
 tables_same x plan k = refl
 
 message_same : (x : ℕ) (plan : Plan) (before : List (List ℕ)) (a k : ℕ) (closing : Bool) →
     message_at (plan_up_to x plan) before a k closing ≡ message_at plan before a k closing
-unfolding message_at word_of period_of period_in crypto_of name_of
+unfolding message_at word_of period_of period_in crypto_of run_name_of
 message_same x plan before a k closing = refl
 
 -- so each packet adds what it did

@@ -10,8 +10,8 @@ use Rattle.sd_packet.specs.Header.{pid_of}
 use Rattle.sd_packet.specs.Packing.{packed}
 use Rattle.sd_packet.proofs.Packets.{packet_reads}
 use Rattle.sd_psi.specs.Access.{cat_section}
-use Rattle.sd_emm.specs.Spelled.{listed, emm_section}
-use Rattle.sd_emm.specs.Form.{AreSets, IsEmm, Fits}
+use Rattle.sd_emm.specs.Spelled.{listed_entries, emm_section}
+use Rattle.sd_emm.specs.Form.{AreSets, IsEmm, FitsFields}
 use Rattle.sd_emm.specs.Judged.{emm_read}
 use Rattle.sd_emm.specs.Period.{emms_of}
 use Rattle.sd_emm.specs.declared.emm.Emm.{Emm}
@@ -22,7 +22,7 @@ use Rattle.sd_ecm.specs.Parts.{Message, IsMessage, parts_of}
 use Rattle.sd_broadcast.specs.Plan.{Plan, IsPlan, word_of, period_of, closing_number}
 use Rattle.sd_broadcast.specs.Carried.{carried}
 use Rattle.sd_broadcast.specs.Messages.{period_at, message_at}
-use Rattle.sd_broadcast.specs.Refused.{is_taken, IsClear}
+use Rattle.sd_broadcast.specs.Refused.{is_reserved_pid, IsClear}
 use Rattle.sd_broadcast.specs.Sent.{Item, Cat, Entitles, Controls, Carries, is_alike, packet_of, packets_from}
 use Rattle.sd_broadcast.specs.Items.{IsOfBroadcast, cat, entitlement, part, closing, carried_on}
 use Rattle.sd_broadcast.proofs.Schedule.{period_short}
@@ -74,9 +74,10 @@ module _ (plan : Plan) (clear : List (List ℕ)) (is : IsPlan plan) (all : IsCle
       emm_read plan.site.height (packed (emm_section emm) plan.site.emm counter) ≡ Ok (Some emm)
   section_reads emm counter (k, within, m) few =
       let q : ℕ = period_of plan k in
-      let form = All-contains (λ (e : Emm). IsEmm e × Fits e) (emms_of (period_at plan q)) emm
+      let form = All-contains (λ (e : Emm). IsEmm e × FitsFields e) (emms_of (period_at plan q)) emm
       (all_are_emms (period_at plan q) (period_fits plan q is (period_short plan k is))) m in
-      let sets = All-contains (λ (e : Emm). AreSets plan.site.height e.sets (listed e)) (emms_of (period_at plan q)) emm
+      let sets = All-contains (λ (e : Emm).
+      AreSets plan.site.height e.sets (listed_entries e)) (emms_of (period_at plan q)) emm
       (all_sets_stand plan.site.height (period_at plan q) (period_sets plan q is)) m in
       let high = is.site.height.1 in
       let pid = is.site.emm.1 in
@@ -124,7 +125,7 @@ module _ (plan : Plan) (clear : List (List ℕ)) (is : IsPlan plan) (all : IsCle
     (long : AreLong clear) where
   -- a clear packet's PID is none of the broadcast's own
   pub carried_pid : (k : ℕ) (packet : List ℕ) → k < length clear →
-      packet ≡ carried plan.site (take k clear) (get_or clear k []) → is_taken plan.site (pid_of packet) ≡ false
+      packet ≡ carried plan.site (take k clear) (get_or clear k []) → is_reserved_pid plan.site (pid_of packet) ≡ false
   carried_pid k packet within same =
       let taken = accepted plan.site (take k clear) (get_or clear k []) (each_clear plan.site clear k all within) in
       let kept = pid_kept plan.site (take k clear) (get_or clear k [])

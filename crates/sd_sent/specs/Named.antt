@@ -10,7 +10,7 @@ use Rattle.sd_label.specs.Names.{given}
 use Rattle.sd_book.specs.Commands.{revoked, entitled}
 use Rattle.sd_steiner.specs.Partition.{IsPartition, IsSmall}
 use Rattle.sd_reach.specs.Reach.{ReachesNoneOf}
-use Rattle.sd_emm.specs.Spelled.{listed, names_in}
+use Rattle.sd_emm.specs.Spelled.{listed_entries, names_in}
 use Rattle.sd_emm.specs.Judged.{emm_read}
 use Rattle.sd_emm.specs.declared.emm.Emm.{Emm}
 use Rattle.sd_emm.specs.declared.fault.EmmFault.{EmmFault}
@@ -33,13 +33,13 @@ sections_on h pid (packet ∷ packets) =
 -- the sets of the first section of period q with this index
 abbrev pub names_at : ℕ → List Emm → ℕ → List SetName
 names_at q sections index =
-    option_map_or (λ emm. names_in (listed emm))
+    option_map_or (λ emm. names_in (listed_entries emm))
     (find (λ emm. (emm.period == q) && (emm.index == index)) sections) []
 
 -- the sets that packets name for period q, by the indexes of their sections, which have 16 bits
 -- [this project, docs/FORMATS.md, Messages]
-unfoldable pub named : ℕ → ℕ → ℕ → List (List ℕ) → List SetName
-named h pid q packets = flat_map (names_at q (sections_on h pid packets)) (range_with_len 0 65536)
+unfoldable pub sets_named : ℕ → ℕ → ℕ → List (List ℕ) → List SetName
+sets_named h pid q packets = flat_map (names_at q (sections_on h pid packets)) (range_with_len 0 65536)
 
 -- The names are the sets of period q: the cover of the leaves that are revoked in it [Naor, Naor, Lotspiech 2001, 3.2]
 pub record NamesPeriod (plan : Plan) (q : ℕ) (names : List SetName) : Type 0 where

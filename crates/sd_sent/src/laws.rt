@@ -6,7 +6,7 @@ ghost use Rattle.sd_tree.specs.Leaves.{is_member};
 ghost use Rattle.sd_packet.specs.Header.{pid_of, scrambling_of};
 ghost use Rattle.sd_packet.specs.Positions.{is_placed, moved};
 ghost use Rattle.sd_label.specs.Names.{given};
-ghost use Rattle.sd_site.specs.Fields.{SiteFields, AreInRange, name_of};
+ghost use Rattle.sd_site.specs.Fields.{SiteFields, AreInRange, run_name_of};
 ghost use Rattle.sd_book.specs.Commands.{revoked, entitled};
 ghost use Rattle.sd_steiner.specs.Partition.{IsPartition, IsSmall};
 ghost use Rattle.sd_reach.specs.Reach.{ReachesNoneOf};
@@ -27,7 +27,7 @@ ghost use Rattle.sd_broadcast.specs.declared.kind.Kind.TheVariants.{Passed};
 ghost use Rattle.sd_sent.specs.Accepted.{IsAccepted};
 ghost use Rattle.sd_sent.specs.Narrowed.{up_to, plan_up_to};
 ghost use Rattle.sd_sent.specs.Packets.{IsWholePacket, AreLong};
-ghost use Rattle.sd_sent.specs.Named.{named, NamesPeriod};
+ghost use Rattle.sd_sent.specs.Named.{sets_named, NamesPeriod};
 ghost use Rattle.sd_sent.specs.Numbered.{numbered};
 ghost use Rattle.sd_sent.specs.Rest.{IsOfRest};
 ghost use Rattle.sd_sent.specs.Headers.{control_in, IsCarriedWith};
@@ -52,7 +52,8 @@ pub fn clear_streams_go_on()
 /// above the site's last.
 pub fn clear_streams_are_bounded()
     ensures packets { (site : SiteFields) (clear : List (List ℕ)) → IsClear site clear → length clear < 2 ^ 32 }
-    ensures pids { (site : SiteFields) (clear : List (List ℕ)) → IsClear site clear → length (moved_pids clear) ≤ most_places }
+    ensures pids { (site : SiteFields) (clear : List (List ℕ)) → IsClear site clear →
+        length (moved_pids clear) ≤ most_places }
     ensures words { (site : SiteFields) (clear : List (List ℕ)) (k : ℕ) → IsClear site clear → k < length clear →
         word_of site k ≤ site.last_word }
 {}
@@ -85,7 +86,7 @@ pub fn messages_fit()
 pub fn covers_are_named()
     ensures { (plan : Plan) (clear : List (List ℕ)) (q : ℕ) → IsPlan plan → IsClear plan.site clear →
         AreLong clear → plan.site.first_period ≤ q → q ≤ period_of plan (length clear - 1) →
-        NamesPeriod plan q (named plan.site.height plan.site.emm q (broadcast plan clear)) }
+        NamesPeriod plan q (sets_named plan.site.height plan.site.emm q (broadcast plan clear)) }
 {}
 
 /// Each period from the site's first up to that of a packet is the one of a packet up to it.
@@ -151,7 +152,7 @@ pub fn headers_are_carried()
 #[tactic(auto, using(crate::proofs::Runs::section_names, crate::proofs::Runs::part_names))]
 pub fn messages_name_their_run()
     ensures sections { (plan : Plan) (clear : List (List ℕ)) (emm : Emm) → IsOfBroadcast plan clear (Entitles emm) →
-        emm.run ≡ name_of plan.site }
+        emm.run ≡ run_name_of plan.site }
     ensures parts { (plan : Plan) (clear : List (List ℕ)) (part : EcmPart) → IsOfBroadcast plan clear (Controls part) →
-        part.run ≡ name_of plan.site }
+        part.run ≡ run_name_of plan.site }
 {}

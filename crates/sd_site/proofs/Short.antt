@@ -6,10 +6,11 @@ use Rattle.std.specs.Result.{result_ok}
 use Rattle.std.proofs.lemmas.Bool.{eqb-true}
 use Rattle.hex.specs.Hex.{decode_of}
 use Rattle.sd_text.specs.Lines.{lines_of}
-use Rattle.sd_text.specs.Number.{after, decimal_after}
+use Rattle.sd_text.specs.Number.{rest_after, decimal_after}
 use Rattle.sd_text.proofs.Lengths.{long_lines, text_length, said_length, after_length}
 use Rattle.sd_site.specs.Fields.{SiteFields, AreInRange}
-use Rattle.sd_site.specs.Forms.{NumberLine, BytesLine, bytes_after, number_or, height_line, master_line, ca_line, emm_line}
+use Rattle.sd_site.specs.Forms.{NumberLine, BytesLine, bytes_after, number_or, height_line, master_line, ca_line}
+use Rattle.sd_site.specs.Forms.{emm_line}
 use Rattle.sd_site.specs.Forms.{ecm_line, every_line, cryptos_line, span_line, messages_line}
 use Rattle.sd_site.specs.Forms.{first_word_line, last_word_line, first_period_line}
 use Rattle.sd_site.specs.Text.{SpellsSite, IsSite}
@@ -18,14 +19,14 @@ use Rattle.sd_site.specs.Text.{SpellsSite, IsSite}
 bytes_length : (word : List ℕ) (count : ℕ) (line bytes : List ℕ) → bytes_after word count line ≡ Some bytes →
     length line ≤ length word + 2 * count
 unfolding bytes_after
-bytes_length word count line bytes e = by_after (after word line) refl e
+bytes_length word count line bytes e = by_after (rest_after word line) refl e
   where
     sized : (digits : List ℕ) (b : Bool) → (length digits == 2 * count) ≡ b →
         cond b (result_ok (decode_of digits)) None ≡ Some bytes → length digits ≡ 2 * count
     sized digits true is f = eqb-true (length digits) (2 * count) is
     sized digits false is f = absurd (cc)
 
-    by_after : (found : Option (List ℕ)) → after word line ≡ found →
+    by_after : (found : Option (List ℕ)) → rest_after word line ≡ found →
         option_and_then (λ digits. if length digits == 2 * count then result_ok (decode_of digits) else None) found
         ≡ Some bytes → length line ≤ length word + 2 * count
     by_after None is f = absurd (cc)
@@ -91,7 +92,8 @@ four : (rest : List (List ℕ)) (site : SiteFields) → AreInRange site → leng
     number_or last_word_line.high last_word_line (slice_get rest 2) ≡ Some site.last_word →
     number_or 0 first_period_line (slice_get rest 3) ≡ Some site.first_period → long_lines rest ≤ 78
 four rest site r few m f l p =
-    let one = left_out_length messages_line (slice_get rest 0) site.messages 1 1 (omega arith) r.messages.1 (omega arith)
+    let one = left_out_length messages_line (slice_get rest 0) site.messages 1 1 (omega arith) r.messages.1
+    (omega arith)
     (omega (arith, r.messages.1)) m in
     let two = left_out_length first_word_line (slice_get rest 1) site.first_word 10 0 (omega arith) r.first_word.1
     (omega arith) (omega (arith, r.first_word.1)) f in

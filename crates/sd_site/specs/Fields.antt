@@ -38,8 +38,8 @@ fields_of site = record {
 
 -- the name that a run's messages tell: its first control word in version 3, and none in versions 1 and 2 [this
 -- project, docs/FORMATS.md, Messages]
-unfoldable pub name_of : SiteFields → Option ℕ
-name_of site = if site.messages == 3 then Some site.first_word else None
+unfoldable pub run_name_of : SiteFields → Option ℕ
+run_name_of site = if site.messages == 3 then Some site.first_word else None
 
 -- the numbers are in their ranges, and the two PIDs differ [this project, docs/FORMATS.md, Site]
 pub record AreInRange (site : SiteFields) : Type 0 where

@@ -3,7 +3,7 @@ use Rattle.std.specs.Prelude.{ℕ, ◌*◌, ◌≤◌, ◌==◌, List, [], ◌�
 use Rattle.std.specs.Prelude.{if◌then◌else◌, Option, Some, None, option_and_then}
 use Rattle.std.specs.Result.{result_ok}
 use Rattle.hex.specs.Hex.{decode_of}
-use Rattle.sd_text.specs.Number.{after, decimal_after}
+use Rattle.sd_text.specs.Number.{rest_after, decimal_after}
 use Rattle.sd_tree.specs.Limits.{highest}
 
 -- what a line is: a word and a decimal of a range
@@ -81,7 +81,7 @@ IsWithin form n = (form.low ≤ n) × (n ≤ form.high)
 -- the bytes on a line that is the word and two hexadecimal digits for each of them, of either case
 unfoldable pub bytes_after : List ℕ → ℕ → List ℕ → Option (List ℕ)
 bytes_after word count line = option_and_then
-    (λ digits. if length digits == 2 * count then result_ok (decode_of digits) else None) (after word line)
+    (λ digits. if length digits == 2 * count then result_ok (decode_of digits) else None) (rest_after word line)
 
 -- the decimal on a line of this form, in its range or not
 abbrev pub number_on : NumberLine → Option (List ℕ) → Option ℕ

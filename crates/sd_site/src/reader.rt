@@ -100,7 +100,7 @@ fn optional_lines(bytes: &[u8]) -> Result<(Optional, &[u8]), SiteFault>
 }
 
 // The N bytes in hexadecimal digits on line k, and the bytes after the line.
-#[tactic(auto, using(crate::proofs::Digits::bytes_of_digits), unfolding(crate::specs::Forms::bytes_after, sd_text::specs::Number::after))]
+#[tactic(auto, using(crate::proofs::Digits::bytes_of_digits), unfolding(crate::specs::Forms::bytes_after, sd_text::specs::Number::rest_after))]
 fn bytes_line<'a, const N: usize>(
     bytes: &'a [u8],
     k: u32,

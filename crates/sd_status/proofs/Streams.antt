@@ -4,16 +4,17 @@ use Rattle.std.proofs.Common.{arith}
 use Rattle.sd_cause.specs.Count.{with_added, IsCaused}
 use Rattle.sd_status.specs.declared.status.Status.{Status}
 use Rattle.sd_status.specs.declared.status.Status.TheVariants.{DepotFault}
-use Rattle.sd_status.specs.Outside.{Place, Page, outside}
-use Rattle.sd_status.specs.Meant.{Word, IsGot, all_of, value, ◌>>=◌}
+use Rattle.sd_status.specs.Outside.{DepotState, PageState, outside}
+use Rattle.sd_status.specs.Spec.{FileArgument, IsGot, all_of, value, ◌>>=◌}
 use Rattle.sd_status.specs.Work.{Out, Work}
-use Rattle.sd_status.specs.Comes.{IsEnding, IsMade, printing, Comes, ended, exhausted, failed, cut_off, Obeys, Follows}
+use Rattle.sd_status.specs.Outcome.{IsEnding, IsMade, printing, Outcome, ended, exhausted, failed, cut_off}
+use Rattle.sd_status.specs.Outcome.{OutcomeWithin, Implements}
 use Rattle.sd_status.specs.Prints.{PrintsReading}
 use Rattle.sd_status.proofs.Firsts.{takes_none}
 use Rattle.sd_status.proofs.Givens.{one_given}
 
 -- A file was opened, read and closed, and nothing else was called: where reading didn't fail no fault was counted.
-pub record IsRead (a b : Place) (status : Status) : Type 0 where
+pub record IsRead (a b : DepotState) (status : Status) : Type 0 where
   pub files : b.files ≡ a.files
   pub made : b.made ≡ a.made
   pub misses : b.misses ≡ a.misses
@@ -32,7 +33,7 @@ faults_added before opened now from port status same within is fresh cause = rec
   calm = λ n. let still = cause.calm n in omega (arith, same, is, within, still, fresh);
 }
 
-none_made : (out : Option Out) (p q : Place) → out ≡ None → q.files ≡ p.files → q.made ≡ p.made → IsMade out p q
+none_made : (out : Option Out) (p q : DepotState) → out ≡ None → q.files ≡ p.files → q.made ≡ p.made → IsMade out p q
 none_made out p q none files made = subst (λ (o : Option Out). IsMade o p q) (sym none)
     (record { files = files; made = made })
 
@@ -40,10 +41,11 @@ is_other : (status : Status) → IsEnding status → status ≢ DepotFault
 is_other status ending is = absurd (subst IsEnding is ending)
 
 -- work that only prints and reads its file meanwhile
-printed_comes : (work : Work) (p q : Place) (page now : Page) (steps : ℕ) (status : Status) → work.out ≡ None →
+printed_comes : (work : Work) (p q : DepotState) (page now : PageState) (steps : ℕ) (status : Status) →
+    work.out ≡ None →
     IsEnding work.ends →
     IsRead p q status → PrintsReading work page now status →
-    Comes (Ok work) (outside p page steps) (outside q now steps) status
+    Outcome (Ok work) (outside p page steps) (outside q now steps) status
 printed_comes work p q page now steps status none ending read (inl (inl all)) =
     ended work refl all.0 (subst IsEnding (sym all.0) ending) (none_made work.out p q none read.files read.made) all.1
     (record { depot = read.faults.calm (is_other status (subst IsEnding (sym all.0) ending)); print = all.2 })
@@ -59,17 +61,18 @@ printed_comes work p q page now steps status none ending read (inr broken) =
     (read.faults.failed broken.0) (λ breaks. read.stops.failed broken.0) broken.2 read.misses
 
 -- so it follows what is meant by what the file gave
-pub reading_follows : (view : List ℕ → Work) (word : Word) (bytes : List ℕ) (p q : Place) (page now : Page) (steps : ℕ)
+pub reading_follows : (view : List ℕ →
+    Work) (word : FileArgument) (bytes : List ℕ) (p q : DepotState) (page now : PageState) (steps : ℕ)
     (status : Status) →
     (view bytes).out ≡ None → IsEnding (view bytes).ends → IsGot p.files word.text (Some bytes) → IsRead p q status →
     PrintsReading (view bytes) page now status →
-    Follows (λ given. all_of word.number (given word) >>= λ bytes. value (view bytes)) (outside p page steps)
+    Implements (λ given. all_of word.number (given word) >>= λ bytes. value (view bytes)) (outside p page steps)
     (outside q now steps) status
 reading_follows view word bytes p q page now steps status none ending got read prints =
     let g = one_given p.files word (Some bytes) got in record {
       given = g.given;
       is_given = g.is_given;
-      obeyed = subst (λ (got : Option (List ℕ)). Obeys (all_of word.number got >>= λ bytes. value (view bytes))
+      obeyed = subst (λ (got : Option (List ℕ)). OutcomeWithin (all_of word.number got >>= λ bytes. value (view bytes))
           (outside p page steps)
           (outside q now steps) status) (sym g.gave)
           (record {

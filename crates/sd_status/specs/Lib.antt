@@ -2,9 +2,9 @@ pub mod Exits
 pub mod Texts
 pub mod Lines
 pub mod Outside
-pub mod Meant
+pub mod Spec
 pub mod Work
-pub mod Comes
+pub mod Outcome
 pub mod Reads
 pub mod Prints
-pub mod Answers
+pub mod Results

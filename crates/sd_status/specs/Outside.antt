@@ -7,7 +7,7 @@ use Rattle.sd_ports.specs.declared.depot.Depot.{Ghosts as DepotMeanings}
 use Rattle.sd_ports.specs.declared.sink.Sink.{Ghosts as SinkMeanings}
 
 -- what a depot means
-pub record Place : Type 0 where
+pub record DepotState : Type 0 where
   -- the files, if the model knows them
   pub files : Option Files
   -- the number of I/O errors, and their number without those at the closing of a file that was made
@@ -21,18 +21,18 @@ pub record Place : Type 0 where
   pub calls : ℕ
 
 -- what was printed, where it is told, and how often printing failed
-pub record Page : Type 0 where
+pub record PageState : Type 0 where
   pub printed : Option (List ℕ)
   pub faults : ℕ
 
 pub record Outside : Type 0 where
-  pub place : Place
-  pub page : Page
+  pub depot_state : DepotState
+  pub page_state : PageState
   -- the steps of the generator
   pub steps : ℕ
 
-abbrev pub place : {D Inlet Outlet : Type 0} → DepotMeanings D Inlet Outlet → D → Place
-place meanings depot = record {
+abbrev pub depot_state : {D Inlet Outlet : Type 0} → DepotMeanings D Inlet Outlet → D → DepotState
+depot_state meanings depot = record {
   files = meanings.files depot;
   faults = meanings.faults depot;
   stops = meanings.stops depot;
@@ -42,14 +42,14 @@ place meanings depot = record {
   calls = meanings.calls depot;
 }
 
-abbrev pub page : {P : Type 0} → SinkMeanings P → P → Page
-page meanings print = record { printed = meanings.held print; faults = meanings.faults print }
+abbrev pub page_state : {P : Type 0} → SinkMeanings P → P → PageState
+page_state meanings print = record { printed = meanings.held print; faults = meanings.faults print }
 
-abbrev pub outside : Place → Page → ℕ → Outside
-outside place page steps = record { place = place; page = page; steps = steps }
+abbrev pub outside : DepotState → PageState → ℕ → Outside
+outside depot_state page_state steps = record { place = depot_state; page = page_state; steps = steps }
 
 -- the depot with another count of calls
-abbrev pub recalled : ℕ → Place → Place
+abbrev pub recalled : ℕ → DepotState → DepotState
 recalled calls at = record {
   files = at.files;
   faults = at.faults;
@@ -61,5 +61,5 @@ recalled calls at = record {
 }
 
 -- the depot after so many more calls that changed nothing else
-abbrev pub called : ℕ → Place → Place
+abbrev pub called : ℕ → DepotState → DepotState
 called n at = recalled (with_added at.calls n) at

@@ -20,10 +20,12 @@ use Rattle.sd_ecm.specs.declared.fault.EcmFault.TheVariants as ecm
 use Rattle.sd_status.specs.declared.status.Status.{Status}
 use Rattle.sd_status.specs.declared.status.Status.TheVariants.{Done, Usage, Missing, Revoked, DepotFault, PrintFault}
 use Rattle.sd_status.specs.declared.status.Status.TheVariants.{BadSite, BadBook, BadCard, BadClear, BadStream}
-use Rattle.sd_status.specs.declared.status.Status.TheVariants.{Limit, NoMemory, Unheard, Unclosed, Gaps, NoCat, BadWord, Clash}
+use Rattle.sd_status.specs.declared.status.Status.TheVariants.{Limit, NoMemory, Unheard, Unclosed, Gaps, NoCat, BadWord}
+use Rattle.sd_status.specs.declared.status.Status.TheVariants.{Clash}
 use Rattle.sd_status.specs.declared.status.LimitKind.{LimitKind}
 use Rattle.sd_status.specs.declared.status.LimitKind.TheVariants.{SiteBytes, BookBytes, CardBytes, Book, TrialHeight}
-use Rattle.sd_status.specs.declared.status.LimitKind.TheVariants.{TrialPackets, Traced, FieldHeight, FieldPackets, FieldEvents}
+use Rattle.sd_status.specs.declared.status.LimitKind.TheVariants.{TrialPackets, Traced, FieldHeight, FieldPackets}
+use Rattle.sd_status.specs.declared.status.LimitKind.TheVariants.{FieldEvents}
 use Rattle.sd_status.specs.declared.status.ClearCause.{ClearCause}
 use Rattle.sd_status.specs.declared.status.ClearCause.TheVariants as clear
 use Rattle.sd_status.specs.declared.status.Clash.{Clash as ClashKind}

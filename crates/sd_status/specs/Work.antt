@@ -3,7 +3,7 @@ use Rattle.std.specs.Prelude.{◌≡◌, ℕ, ◌+◌, ◌≤◌, Bool, List, Op
 use Rattle.sd_cause.specs.Count.{with_added}
 use Rattle.sd_ports.specs.Files.{Files, with_bytes}
 use Rattle.sd_status.specs.declared.status.Status.{Status}
-use Rattle.sd_status.specs.Meant.{Meant}
+use Rattle.sd_status.specs.Spec.{Spec}
 
 -- a file to be made: the number of its word, its name, and all its bytes
 pub record Out : Type 0 where
@@ -47,7 +47,7 @@ abbrev pub work_calls : Result Work Status → ℕ
 work_calls (Ok work) = out_calls work.out
 work_calls (Err status) = 0
 
-abbrev pub all_calls : Meant Work → ℕ
+abbrev pub all_calls : Spec Work → ℕ
 all_calls meant = meant.calls + work_calls meant.result
 
 -- the steps that were counted are within the bound

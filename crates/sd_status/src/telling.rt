@@ -11,8 +11,8 @@ ghost use Rattle.sd_status.specs.Texts.{unclosed_line as unclosed_line_of, gaps_
 ghost use Rattle.sd_status.specs.Texts.{missing_line as missing_line_of, book_line as book_line_of};
 ghost use Rattle.sd_status.specs.Texts.{word_line as word_line_of, clash_line as clash_line_of};
 ghost use Rattle.sd_status.specs.Lines.{bytes_of};
-ghost use Rattle.sd_status.specs.Outside.{page};
-ghost use Rattle.sd_status.specs.Answers.{Says, Tells, TakesMemory};
+ghost use Rattle.sd_status.specs.Outside.{page_state};
+ghost use Rattle.sd_status.specs.Results.{PrintsLine, PrintsStatusLine, TakesMemory};
 
 use crate::status::{Clash, ClearCause, LimitKind, Status, StreamCause};
 use sd_book::BookLimit;
@@ -49,7 +49,7 @@ impl Line {
 /// `PrintFault` where print failed. `Done` and `PrintFault` have no line.
 #[tactic(auto, unfolding(crate::specs::Texts::line_of))]
 pub fn tell<P: Sink>(alloc: Global, print: &mut P, status: Status) -> Status
-    ensures { Tells (page P.Sink print.old) (page P.Sink print.new) status result }
+    ensures { PrintsStatusLine (page_state P.Sink print.old) (page_state P.Sink print.new) status result }
 {
     match status_line(alloc, status) {
         Ok(line) => say(print, status, line.as_bytes()),
@@ -60,7 +60,7 @@ pub fn tell<P: Sink>(alloc: Global, print: &mut P, status: Status) -> Status
 /// Prints the line that belongs to a status.
 fn say<P: Sink>(print: &mut P, status: Status, line: &[u8]) -> Status
     requires { line.now ≡ line_of status }
-    ensures { Says (page P.Sink print.old) (page P.Sink print.new) status result }
+    ensures { PrintsLine (page_state P.Sink print.old) (page_state P.Sink print.new) status result }
 {
     match write_all(print, line) {
         Ok(()) => status,

@@ -22,7 +22,8 @@ use Rattle.sd_tree.specs.declared.set.SetName.TheVariants.{Whole, Diff}
 use Rattle.sd_tree.proofs.Levels.{depth_at, doubled}
 use Rattle.sd_tree.proofs.Ancestors.{node_level, above_from_below}
 use Rattle.sd_steiner.specs.Chains.{IsInTree, IsChainHead, IsOfChain, EndsChain, IsChainCover}
-use Rattle.sd_steiner.specs.Cover.{is_inside, chain_end, end_of, begins_chain, set_from, nodes, cover_by, cover_of}
+use Rattle.sd_steiner.specs.Cover.{is_inside, chain_end, chain_end_of, begins_chain, set_from, nodes, cover_by}
+use Rattle.sd_steiner.specs.Cover.{cover_of}
 use Rattle.sd_steiner.specs.Walk.{node_at, LeadsTo}
 use Rattle.sd_steiner.proofs.Lists.{member_cases, member_first, member_later, no_member}
 use Rattle.sd_steiner.proofs.Names.{one_cover}
@@ -219,8 +220,8 @@ module _ (d : ℕ) (revoked : List ℕ) (small : d < 32) (leaves : AreLeaves d r
 
   -- a chain of more than one node begins where the test says so, and ends at its end
   begun : (v : ℕ) → 1 ≤ v → v < 2 ^ (d + 1) → begins_chain d (is_inside d revoked) v ≡ true
-      → EndsChain d revoked v (end_of d (is_inside d revoked) v)
-  unfolding begins_chain end_of
+      → EndsChain d revoked v (chain_end_of d (is_inside d revoked) v)
+  unfolding begins_chain chain_end_of
   begun v low high e =
       let all = and_parts _ _ e in
       let rest = and_parts _ _ all.1 in
@@ -246,8 +247,8 @@ module _ (d : ℕ) (revoked : List ℕ) (small : d < 32) (leaves : AreLeaves d r
 
   -- each chain of more than one node begins where the test says so, and ends at its end
   found : (i j : ℕ) → EndsChain d revoked i j → Contains (nodes d) i × (begins_chain d (is_inside d revoked) i ≡ true)
-      × (j ≡ end_of d (is_inside d revoked) i)
-  unfolding begins_chain end_of
+      × (j ≡ chain_end_of d (is_inside d revoked) i)
+  unfolding begins_chain chain_end_of
   found i j c =
       let t = linked_start d revoked c.nodes i c.linked in
       let low : 1 ≤ i = t.0 in
@@ -311,7 +312,7 @@ list_is_cover d (u ∷ us) small leaves =
     (if b then map (set_from d (is_inside d (u ∷ us))) (filter (begins_chain d (is_inside d (u ∷ us))) (nodes d))
     else Whole ∷ [])) (sym root) (record {
       ascending =
-          ascending_by_first (end_of d (is_inside d (u ∷ us))) (begins_chain d (is_inside d (u ∷ us))) 1
+          ascending_by_first (chain_end_of d (is_inside d (u ∷ us))) (begins_chain d (is_inside d (u ∷ us))) 1
           (2 ^ (d + 1) - 1);
       none_revoked = λ e. absurd (some e);
       chains = λ some' name. names_chains d (u ∷ us) small leaves name;
@@ -362,7 +363,7 @@ module _ (d : ℕ) (f g : ℕ → Bool) (small : d < 32) (agree : (v : ℕ) → 
 
   -- and where they begin
   begin_alike : (v : ℕ) → 1 ≤ v → v < 2 ^ (d + 1) → begins_chain d f v ≡ begins_chain d g v
-  unfolding begins_chain end_of
+  unfolding begins_chain chain_end_of
   begin_alike v low high =
       rw (agree v low high, ends_agree (d - depth v) v (stands_by_number d v small low high), beside) refl
     where
@@ -380,7 +381,7 @@ module _ (d : ℕ) (f g : ℕ → Bool) (small : d < 32) (agree : (v : ℕ) → 
 
   lists_agree : (xs : List ℕ) → ((v : ℕ) → Contains xs v → (1 ≤ v) × (v < 2 ^ (d + 1)))
       → map (set_from d f) (filter (begins_chain d f) xs) ≡ map (set_from d g) (filter (begins_chain d g) xs)
-  unfolding end_of
+  unfolding chain_end_of
   lists_agree [] within = refl
   lists_agree (x ∷ xs) within =
       let here = within x (member_first x xs) in

@@ -23,16 +23,17 @@ chain_end inside (suc level) v =
     else chain_end inside level (2 * v + 1)
 
 -- the last node of a chain through a node of a tree of height d
-unfoldable pub end_of : ℕ → (ℕ → Bool) → ℕ → ℕ
-end_of d inside v = chain_end inside (d - depth v) v
+unfoldable pub chain_end_of : ℕ → (ℕ → Bool) → ℕ → ℕ
+chain_end_of d inside v = chain_end inside (d - depth v) v
 
 -- a chain of more than one node begins at v: v is in the tree, is the root or has a sibling there, and isn't the last
 unfoldable pub begins_chain : ℕ → (ℕ → Bool) → ℕ → Bool
-begins_chain d inside v = inside v && ((nat_eq v 1 || inside (sibling_of v)) && not (nat_eq (end_of d inside v) v))
+begins_chain d inside v = inside v &&
+    ((nat_eq v 1 || inside (sibling_of v)) && not (nat_eq (chain_end_of d inside v) v))
 
 -- the set of the chain that begins at v [Naor, Naor, Lotspiech 2001, 3.2]
 abbrev pub set_from : ℕ → (ℕ → Bool) → ℕ → SetName
-set_from d inside v = Diff v (end_of d inside v)
+set_from d inside v = Diff v (chain_end_of d inside v)
 
 -- the nodes of a tree of height d
 abbrev pub nodes : ℕ → List ℕ

@@ -8,11 +8,11 @@ use Rattle.std.proofs.lemmas.Bool.{false≢true, eqb-true, eq-eqb, ne_eqb, cases
 use Rattle.std.proofs.lemmas.List.{get_or-set_same, get_or-set_other, get_or-replicate}
 use Rattle.std.proofs.lemmas.List.Folds.{list_any-append}
 use Rattle.sd_packet.specs.Header.{pid_of, unit_start_of, counter_of, payload_of}
-use Rattle.sd_section.specs.Assembled.{Fed, Assembling, completed_by, after, all_lent}
+use Rattle.sd_section.specs.Assembled.{Fed, Assembling, completed_by, assembler_after, all_lent}
 use Rattle.sd_lines.specs.Lines.{section_line}
 use Rattle.sd_tables.specs.Inspected.{fed_of, on_pid, pat_sections_at, pids_named_by, named_in, is_watched, watched_on}
 use Rattle.sd_tables.specs.Inspected.{sections_at}
-use Rattle.sd_tables.specs.Watching.{is_named, naming, IsLearned, IsAssembledFrom, AreMarked, ArePlaced, IsAfter}
+use Rattle.sd_tables.specs.Watching.{is_named_pid, naming, IsLearned, IsAssembledFrom, AreMarked, ArePlaced, IsAfter}
 use Rattle.sd_tables.proofs.Learning.{or_stay}
 use Rattle.sd_tables.proofs.Showing.{none_named}
 
@@ -103,8 +103,8 @@ or_regrouped false true c d = refl
 or_regrouped false false c d = refl
 
 watched_more : (pid : ℕ) (packet : List ℕ) (before : List (List ℕ)) →
-    is_watched pid (packet ∷ before) ≡ (is_watched pid before || is_named pid (pat_sections_at packet before))
-unfolding is_watched named_in is_named
+    is_watched pid (packet ∷ before) ≡ (is_watched pid before || is_named_pid pid (pat_sections_at packet before))
+unfolding is_watched named_in is_named_pid
 watched_more pid packet before =
     ap (λ (a : Bool). (pid == 0) || ((pid == 1) || a))
     (list_any-append (λ (named : ℕ). named == pid) (named_in before)
@@ -117,8 +117,8 @@ pub marks_more : (packet : List ℕ) (before : List (List ℕ)) (marks new : Lis
 marks_more packet before marks new are learned = record {
   at = λ pid h.
       learned.at pid h
-      ∙ ap (λ (a : Bool). a || is_named pid (naming (pid_of packet) (sections_at packet before))) (are.at pid h)
-      ∙ ap (λ (s : List (List ℕ)). is_watched pid before || is_named pid s) (sym (naming_at packet before))
+      ∙ ap (λ (a : Bool). a || is_named_pid pid (naming (pid_of packet) (sections_at packet before))) (are.at pid h)
+      ∙ ap (λ (s : List (List ℕ)). is_watched pid before || is_named_pid pid s) (sym (naming_at packet before))
       ∙ sym (watched_more pid packet before);
 }
 
@@ -160,7 +160,7 @@ unwatched_after packet before marks places pid on h mark are =
       marked = marks_more packet before marks marks are.marked
           (subst (λ (s : List (List ℕ)). IsLearned (naming (pid_of packet) s) marks marks) (sym none)
           (record {
-            at = λ q k. or_stay (get_or marks q false) (is_named q (naming (pid_of packet) [])) _
+            at = λ q k. or_stay (get_or marks q false) (is_named_pid q (naming (pid_of packet) [])) _
                 (none_named (pid_of packet) q) refl;
           }));
       placed = places_more packet before places places are.placed (λ pid other. refl)
@@ -202,13 +202,13 @@ fed_is start counter payload packet s c p =
     }) p
 
 -- what waits after packets is what the last completes
-pub waiting_is : (packets : List Fed) → (after packets).waiting ≡ completed_by packets
-unfolding after
+pub waiting_is : (packets : List Fed) → (assembler_after packets).waiting ≡ completed_by packets
+unfolding assembler_after
 waiting_is packets = refl
 
 -- what its assembler lends, where the PID is watched, is what the packet completes
 shown_is : (packet : List ℕ) (before : List (List ℕ)) (fed : Assembling) → is_watched (pid_of packet) before ≡ true →
-    fed ≡ after (fed_of packet ∷ watched_on (pid_of packet) before) → fed.waiting ≡ sections_at packet before
+    fed ≡ assembler_after (fed_of packet ∷ watched_on (pid_of packet) before) → fed.waiting ≡ sections_at packet before
 shown_is packet before fed watched is =
     ap (λ (a : Assembling). a.waiting) is ∙ waiting_is (fed_of packet ∷ watched_on (pid_of packet) before)
     ∙ sym (sections_watched packet before watched)
@@ -217,7 +217,7 @@ shown_is packet before fed watched is =
 put_back : (packet : List ℕ) (before : List (List ℕ)) (places : List (Option Assembling)) (state : Assembling) →
     pid_of packet < 8192 →
     length places ≡ 8192 →
-    ArePlaced before places → state ≡ all_lent (after (watched_on (pid_of packet) (packet ∷ before))) →
+    ArePlaced before places → state ≡ all_lent (assembler_after (watched_on (pid_of packet) (packet ∷ before))) →
     ArePlaced (packet ∷ before) (set (set places (pid_of packet) None) (pid_of packet) (Some state))
 put_back packet before places state h long are is =
     let out : List (Option Assembling) = set places (pid_of packet) None in
@@ -236,14 +236,16 @@ pub watched_after : (packet : List ℕ) (before : List (List ℕ)) (marks new : 
     pid ≡ pid_of packet → place ≡ pid → pid < 8192 → length places ≡ 8192 → out ≡ set places pid None →
     put ≡ all_lent fed →
     get_or marks pid false ≡ true → IsAfter before marks places →
-    fed ≡ after (fed_of packet ∷ watched_on (pid_of packet) before) → IsLearned (naming pid fed.waiting) marks new →
+    fed ≡ assembler_after (fed_of packet ∷ watched_on (pid_of packet) before) →
+    IsLearned (naming pid fed.waiting) marks new →
     IsAfter (packet ∷ before) new (set out place (Some put))
 watched_after packet before marks new places out fed put pid place on at h long taken lent mark are is learned =
     let watched : is_watched (pid_of packet) before ≡ true = watched_is packet before marks places pid true on h mark
     are in
     let within : pid_of packet < 8192 = subst (λ (p : ℕ). p < 8192) on h in
-    let state : put ≡ all_lent (after (watched_on (pid_of packet) (packet ∷ before))) =
-    lent ∙ ap all_lent is ∙ ap (λ (w : List Fed). all_lent (after w)) (sym (one_more packet before watched)) in
+    let state : put ≡ all_lent (assembler_after (watched_on (pid_of packet) (packet ∷ before))) =
+    lent ∙ ap all_lent is ∙ ap (λ (w : List Fed).
+    all_lent (assembler_after w)) (sym (one_more packet before watched)) in
     let same : set (set places (pid_of packet) None) (pid_of packet) (Some put) ≡ set out place (Some put) =
     ap (λ (p : ℕ). set (set places p None) p (Some put)) (sym on)
     ∙ ap (λ (p : ℕ). set (set places pid None) p (Some put)) (sym at)
@@ -262,8 +264,8 @@ pub watched_lines : (packet text new : List ℕ) (before : List (List ℕ)) (mar
     (places : List (Option Assembling))
     (fed : Assembling) (number pid : ℕ) →
     pid ≡ pid_of packet → pid < 8192 → get_or marks pid false ≡ true → IsAfter before marks places →
-    fed ≡ after (fed_of packet ∷ watched_on (pid_of packet) before) → new ≡ text ++ flat_map (section_line number pid)
-    fed.waiting →
+    fed ≡ assembler_after (fed_of packet ∷ watched_on (pid_of packet) before) → new ≡ text ++
+    flat_map (section_line number pid) fed.waiting →
     new ≡ text ++ flat_map (section_line number (pid_of packet)) (sections_at packet before)
 watched_lines packet text new before marks places fed number pid on h mark are is pushed =
     let watched : is_watched (pid_of packet) before ≡ true = watched_is packet before marks places pid true on h mark
@@ -277,10 +279,11 @@ watched_lines packet text new before marks places fed number pid on h mark are i
 pub fed_after : (packet : List ℕ) (before : List (List ℕ)) (fed : Assembling) (taken : Fed) (pid : ℕ) →
     pid ≡ pid_of packet →
     taken ≡ fed_of packet →
-    fed ≡ after (taken ∷ watched_on pid before) → fed ≡ after (fed_of packet ∷ watched_on (pid_of packet) before)
+    fed ≡ assembler_after (taken ∷ watched_on pid before) →
+    fed ≡ assembler_after (fed_of packet ∷ watched_on (pid_of packet) before)
 fed_after packet before fed taken pid on was is =
-    is ∙ ap (λ (f : Fed). after (f ∷ watched_on pid before)) was
-    ∙ ap (λ (p : ℕ). after (fed_of packet ∷ watched_on p before)) on
+    is ∙ ap (λ (f : Fed). assembler_after (f ∷ watched_on pid before)) was
+    ∙ ap (λ (p : ℕ). assembler_after (fed_of packet ∷ watched_on p before)) on
 
 -- before the first packet there is no assembler
 pub first_placed : (places : List (Option Assembling)) → places ≡ replicate 8192 None → ArePlaced [] places

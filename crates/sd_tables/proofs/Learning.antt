@@ -20,7 +20,7 @@ use Rattle.sd_lines.specs.declared.table.Table.TheVariants as Tables
 use Rattle.sd_lines.specs.declared.table.TableFault.{TableFault}
 use Rattle.sd_lines.specs.declared.table.TableFault.TheVariants.{Length, Crc, Form}
 use Rattle.sd_tables.specs.Inspected.{is_sound, pids_named_by, is_watched, named_in}
-use Rattle.sd_tables.specs.Watching.{is_named, naming, AreAdded, IsLearned, AreMarked}
+use Rattle.sd_tables.specs.Watching.{is_named_pid, naming, AreAdded, IsLearned, AreMarked}
 
 -- with nothing more it stays
 pub or_false : (a : Bool) → (a || false) ≡ a
@@ -82,20 +82,20 @@ all_added all left old marks none adding = record {
 }
 
 -- a section that is no PAT names none
-none_named : (section : List ℕ) (pid : ℕ) → pids_named_by section ≡ [] → is_named pid (section ∷ []) ≡ false
-unfolding is_named
+none_named : (section : List ℕ) (pid : ℕ) → pids_named_by section ≡ [] → is_named_pid pid (section ∷ []) ≡ false
+unfolding is_named_pid
 none_named section pid none = ap (λ (maps : List ℕ). list_any (λ (named : ℕ). named == pid) (maps ++ [])) none
 
 none_learned : (section : List ℕ) (marks : List Bool) → pids_named_by section ≡ [] → IsLearned (section ∷ []) marks
     marks
 none_learned section marks none = record {
-  at = λ pid h. or_stay (get_or marks pid false) (is_named pid (section ∷ [])) _ (none_named section pid none) refl;
+  at = λ pid h. or_stay (get_or marks pid false) (is_named_pid pid (section ∷ [])) _ (none_named section pid none) refl;
 }
 
 -- on another PID than 0 no section names any
 other_learned : (pid : ℕ) (section : List ℕ) (marks : List Bool) → pid ≢ 0 →
     IsLearned (naming pid (section ∷ [])) marks marks
-unfolding is_named
+unfolding is_named_pid
 other_learned pid section marks other =
     subst (λ (b : Bool). IsLearned (cond b (section ∷ []) []) marks marks) (sym (ne_eqb pid 0 other))
     (record { at = λ q h. sym (or_false (get_or marks q false)) })
@@ -103,7 +103,7 @@ other_learned pid section marks other =
 -- on no PID does one that names none
 none_on : (zero : Bool) (section : List ℕ) (marks : List Bool) → pids_named_by section ≡ [] →
     IsLearned (cond zero (section ∷ []) []) marks marks
-unfolding is_named
+unfolding is_named_pid
 none_on true section marks none = none_learned section marks none
 none_on false section marks none = record { at = λ q h. sym (or_false (get_or marks q false)) }
 
@@ -146,14 +146,15 @@ unlike_learned pid section marks unlike = elim (cases_eq pid 0) [
 named_by_pat : (pid : ℕ) (section : List ℕ) (pat : Pat) (old new : List Bool) → section_fault section ≡ None →
     IsTableOf pid (whole_of section) (Tables.Pat pat) → AreAdded (pmt_pids_of pat.section.bytes.now) old new →
     IsLearned (naming pid (section ∷ [])) old new
-unfolding pids_named_by is_named
+unfolding pids_named_by is_named_pid
 named_by_pat pid section pat old new sound is added =
     let bytes = pat.section.bytes.now in
     let kept : pids_named_by section ≡ pmt_pids_of bytes =
     a_pat (section_fault section) (is_pat (whole_of section)) (pmt_pids_of (whole_of section)) sound
     (subst (λ (s : List ℕ). is_pat s ≡ true) is.1 pat.form)
     ∙ ap pmt_pids_of (sym is.1) in
-    let named : (q : ℕ) → list_any (λ (named : ℕ). named == q) (pmt_pids_of bytes) ≡ is_named q (section ∷ []) = λ q.
+    let named : (q : ℕ) → list_any (λ (named : ℕ). named == q) (pmt_pids_of bytes) ≡ is_named_pid q (section ∷ []) =
+    λ q.
     ap (list_any (λ (named : ℕ). named == q)) (sym kept ∙ sym (append-nil (pids_named_by section))) in
     subst (λ (b : Bool). IsLearned (cond b (section ∷ []) []) old new) (sym (eq-eqb pid 0 is.0))
     (record { at = λ q h. added.at q h ∙ ap (λ (a : Bool). get_or old q false || a) (named q) })

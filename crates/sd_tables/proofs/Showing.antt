@@ -7,7 +7,7 @@ use Rattle.std.proofs.lemmas.List.Folds.{list_any-append}
 use Rattle.sd_section.specs.Assembled.{Assembling, all_lent}
 use Rattle.sd_lines.specs.Lines.{section_line}
 use Rattle.sd_tables.specs.Inspected.{pids_named_by}
-use Rattle.sd_tables.specs.Watching.{is_named, naming, IsLearned, IsLearning}
+use Rattle.sd_tables.specs.Watching.{is_named_pid, naming, IsLearned, IsLearning}
 use Rattle.sd_tables.proofs.Learning.{or_false, or_assoc}
 
 -- the section that is lent is the first that waits
@@ -39,8 +39,9 @@ all_lines number pid all text waiting none so_far =
 
 -- what a section and those after it name
 named_by : (b : Bool) (q : ℕ) (section : List ℕ) (rest : List (List ℕ)) →
-    (is_named q (cond b (section ∷ []) []) || is_named q (cond b rest [])) ≡ is_named q (cond b (section ∷ rest) [])
-unfolding is_named
+    (is_named_pid q (cond b (section ∷ []) []) || is_named_pid q (cond b rest [])) ≡ is_named_pid q
+    (cond b (section ∷ rest) [])
+unfolding is_named_pid
 named_by true q section rest =
     ap (λ (maps : List ℕ). list_any (λ (named : ℕ). named == q) maps || list_any (λ (named : ℕ). named == q)
     (flat_map pids_named_by rest))
@@ -48,14 +49,14 @@ named_by true q section rest =
     ∙ sym (list_any-append (λ (named : ℕ). named == q) (pids_named_by section) (flat_map pids_named_by rest))
 named_by false q section rest = refl
 
-none_by : (b : Bool) (q : ℕ) → is_named q (cond b [] []) ≡ false
-unfolding is_named
+none_by : (b : Bool) (q : ℕ) → is_named_pid q (cond b [] []) ≡ false
+unfolding is_named_pid
 none_by true q = refl
 none_by false q = refl
 
 -- no section names none
-pub none_named : (pid q : ℕ) → is_named q (naming pid []) ≡ false
-unfolding is_named
+pub none_named : (pid q : ℕ) → is_named_pid q (naming pid []) ≡ false
+unfolding is_named_pid
 none_named pid q = none_by (pid == 0) q
 
 -- before the first section
@@ -69,10 +70,10 @@ pub learned_more : (pid : ℕ) (all waiting rest : List (List ℕ)) (section : L
     IsLearning pid all rest old new
 learned_more pid all waiting rest section old marks new is learned so_far = record {
   at = λ q h.
-      ap (λ (a : Bool). a || is_named q (naming pid rest)) (learned.at q h)
-      ∙ or_assoc (get_or marks q false) (is_named q (naming pid (section ∷ []))) (is_named q (naming pid rest))
+      ap (λ (a : Bool). a || is_named_pid q (naming pid rest)) (learned.at q h)
+      ∙ or_assoc (get_or marks q false) (is_named_pid q (naming pid (section ∷ []))) (is_named_pid q (naming pid rest))
       ∙ ap (λ (a : Bool). get_or marks q false || a) (named_by (pid == 0) q section rest)
-      ∙ ap (λ (w : List (List ℕ)). get_or marks q false || is_named q (naming pid w)) (sym is)
+      ∙ ap (λ (w : List (List ℕ)). get_or marks q false || is_named_pid q (naming pid w)) (sym is)
       ∙ so_far.at q h;
 }
 
@@ -82,7 +83,7 @@ pub all_learned : (pid : ℕ) (all waiting : List (List ℕ)) (old marks : List 
     IsLearned (naming pid all) old marks
 all_learned pid all waiting old marks none so_far = record {
   at = λ q h.
-      sym (ap (λ (w : List (List ℕ)). get_or marks q false || is_named q (naming pid w)) none
+      sym (ap (λ (w : List (List ℕ)). get_or marks q false || is_named_pid q (naming pid w)) none
       ∙ ap (λ (a : Bool). get_or marks q false || a) (none_named pid q)
       ∙ or_false (get_or marks q false))
       ∙ so_far.at q h;

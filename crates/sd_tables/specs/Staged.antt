@@ -26,25 +26,27 @@ seen stage = record {
 }
 
 -- it stands after these packets, of which the last comes first
-pub record StandsAfter (before : List (List ℕ)) (state : Inspecting) : Type 0 where
+pub record IsStateAfter (before : List (List ℕ)) (state : Inspecting) : Type 0 where
   pub after : IsAfter before state.marks state.places
   pub number : state.number ≡ length before
 
 -- a packet's lines are written, those of the sections that it completes, and no step is taken
-pub record Inspects (s : Inspecting) (packet : List ℕ) (t : Inspecting) (bytes : List ℕ) (steps : ℕ) : Type 0 where
-  pub lines : (before : List (List ℕ)) → StandsAfter before s →
-      bytes ≡ flat_map (section_line s.number (pid_of packet)) (sections_at packet before)
-  pub after : (before : List (List ℕ)) → StandsAfter before s → s.number < 2 ^ 64 - 1 → StandsAfter (packet ∷ before) t
-  pub no_steps : steps ≡ 0
+pub record InspectsPacket (s : Inspecting) (packet : List ℕ) (t : Inspecting) (bytes : List ℕ) (steps : ℕ) : Type 0
+  where
+    pub lines : (before : List (List ℕ)) → IsStateAfter before s →
+        bytes ≡ flat_map (section_line s.number (pid_of packet)) (sections_at packet before)
+    pub after : (before : List (List ℕ)) → IsStateAfter before s → s.number < 2 ^ 64 - 1 →
+        IsStateAfter (packet ∷ before) t
+    pub no_steps : steps ≡ 0
 
 -- at the end nothing is written
-pub record Ends (s t : Inspecting) (bytes : List ℕ) (steps : ℕ) : Type 0 where
+pub record EndsInspection (s t : Inspecting) (bytes : List ℕ) (steps : ℕ) : Type 0 where
   pub nothing : bytes ≡ []
   pub same : t ≡ s
   pub no_steps : steps ≡ 0
 
 -- where memory ran out nothing is written, and that is kept
-pub record Refuses (t : Inspecting) (bytes : List ℕ) (steps : ℕ) : Type 0 where
+pub record RefusesPacket (t : Inspecting) (bytes : List ℕ) (steps : ℕ) : Type 0 where
   pub nothing : bytes ≡ []
   pub kept : t.out_of_memory ≡ true
   pub no_steps : steps ≡ 0
@@ -55,12 +57,12 @@ IsReady s = s.out_of_memory ≡ false → (before : List (List ℕ)) × IsAfter 
 
 -- what a packet comes to
 abbrev pub inspector_does : Inspector → List ℕ → Inspector → List ℕ → ℕ → Type 0
-inspector_does s packet t bytes steps = Inspects (seen s) packet (seen t) bytes steps
+inspector_does s packet t bytes steps = InspectsPacket (seen s) packet (seen t) bytes steps
 
 -- what the end of the stream comes to
 abbrev pub inspector_ends : Inspector → Inspector → List ℕ → ℕ → Type 0
-inspector_ends s t bytes steps = Ends (seen s) (seen t) bytes steps
+inspector_ends s t bytes steps = EndsInspection (seen s) (seen t) bytes steps
 
 -- what a refusal comes to
 abbrev pub inspector_refuses : Inspector → Option (List ℕ) → NoMemory → Inspector → List ℕ → ℕ → Type 0
-inspector_refuses s packet fault t bytes steps = Refuses (seen t) bytes steps
+inspector_refuses s packet fault t bytes steps = RefusesPacket (seen t) bytes steps

@@ -2,12 +2,12 @@
 -- watched, and what their assemblers keep.
 use Rattle.std.specs.Prelude.{◌≡◌, ℕ, ◌<◌, ◌==◌, ◌||◌, Bool, false, List, [], if◌then◌else◌, get_or, Option, Some, None}
 use Rattle.std.specs.List.{flat_map, list_any}
-use Rattle.sd_section.specs.Assembled.{Fed, Assembling, after, all_lent}
+use Rattle.sd_section.specs.Assembled.{Fed, Assembling, assembler_after, all_lent}
 use Rattle.sd_tables.specs.Inspected.{pids_named_by, is_watched, watched_on}
 
 -- one of these sections names the PID
-unfoldable pub is_named : ℕ → List (List ℕ) → Bool
-is_named pid sections = list_any (λ named. named == pid) (flat_map pids_named_by sections)
+unfoldable pub is_named_pid : ℕ → List (List ℕ) → Bool
+is_named_pid pid sections = list_any (λ named. named == pid) (flat_map pids_named_by sections)
 
 -- the sections of a PID that may name others: those of PID 0 [ISO/IEC 13818-1, 2.4.4.3]
 abbrev pub naming : ℕ → List (List ℕ) → List (List ℕ)
@@ -20,17 +20,18 @@ pub record AreAdded (pids : List ℕ) (old new : List Bool) : Type 0 where
 
 -- the PIDs that these sections name are marked too
 pub record IsLearned (sections : List (List ℕ)) (old new : List Bool) : Type 0 where
-  pub at : (pid : ℕ) → pid < 8192 → get_or new pid false ≡ (get_or old pid false || is_named pid sections)
+  pub at : (pid : ℕ) → pid < 8192 → get_or new pid false ≡ (get_or old pid false || is_named_pid pid sections)
 
 -- the marks and what the waiting sections name come to the old marks and what all sections name
 pub record IsLearning (pid : ℕ) (all waiting : List (List ℕ)) (old marks : List Bool) : Type 0 where
   pub at : (q : ℕ) → q < 8192 →
-      (get_or marks q false || is_named q (naming pid waiting)) ≡ (get_or old q false || is_named q (naming pid all))
+      (get_or marks q false || is_named_pid q (naming pid waiting)) ≡
+      (get_or old q false || is_named_pid q (naming pid all))
 
 -- the assembler of a PID stands after these packets of it, all sections lent; there is none yet before the first
 abbrev pub IsAssembledFrom : List Fed → Option Assembling → Type 0
 IsAssembledFrom packets None = packets ≡ []
-IsAssembledFrom packets (Some state) = state ≡ all_lent (after packets)
+IsAssembledFrom packets (Some state) = state ≡ all_lent (assembler_after packets)
 
 -- the assembler of a PID has nothing left to lend
 abbrev pub IsIdle : Option Assembling → Type 0

@@ -2,7 +2,7 @@ ghost use Rattle.std.specs.Prelude.{◌≡◌, ◌<◌, ◌++◌, ◌∷◌, [],
 ghost use Rattle.std.specs.Prelude.{string_bytes, vec_len};
 ghost use Rattle.std.specs.List.{flat_map};
 ghost use Rattle.sd_packet.specs.Header.{pid_of};
-ghost use Rattle.sd_section.specs.Assembled.{Fed, after, all_lent};
+ghost use Rattle.sd_section.specs.Assembled.{Fed, assembler_after, all_lent};
 ghost use Rattle.sd_lines.specs.Lines.{section_line};
 ghost use Rattle.sd_tables.specs.Inspected.{sections_at};
 ghost use Rattle.sd_tables.specs.Watching.{naming, IsLearned, IsAssembledFrom, AreIdle, IsAfter};
@@ -68,7 +68,7 @@ impl Assemblies {
         requires idle { AreIdle self.old.assemblers.items }
         ensures lent { IfOk result (λ assembler. assembler.waiting ≡ []) }
         ensures place { (packets : List Fed) → IsAssembledFrom packets (get_or self.old.assemblers.items pid None) →
-            IfOk result (λ assembler. assembler ≡ all_lent (after packets)) }
+            IfOk result (λ assembler. assembler ≡ all_lent (assembler_after packets)) }
         ensures others { self.new.assemblers.items ≡ slice_set self.old.assemblers.items pid None }
         ensures watched { self.new.watched.marks.items ≡ self.old.watched.marks.items }
     {

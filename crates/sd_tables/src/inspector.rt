@@ -1,5 +1,6 @@
 ghost use Rattle.std.specs.Prelude.{[], None, Some, IfOk, if◌then◌else◌};
-ghost use Rattle.sd_tables.specs.Staged.{inspector_does, inspector_ends, inspector_refuses, seen, IsReady, StandsAfter};
+ghost use Rattle.sd_tables.specs.Staged.{inspector_does, inspector_ends, inspector_refuses, seen, IsReady};
+ghost use Rattle.sd_tables.specs.Staged.{IsStateAfter};
 
 use crate::assemblies::Assemblies;
 use sd_cause::NoMemory;
@@ -23,7 +24,7 @@ pub struct Inspector {
 impl Inspector {
     /// Before the first packet.
     pub fn new(alloc: Global) -> Result<Inspector, NoMemory>
-        ensures value { IfOk result (λ stage. StandsAfter [] (seen stage)) }
+        ensures value { IfOk result (λ stage. IsStateAfter [] (seen stage)) }
     {
         Ok(Inspector {
             alloc,

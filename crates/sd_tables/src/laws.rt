@@ -3,19 +3,22 @@
 ghost use Rattle.std.specs.Prelude.{◌≡◌, ◌-◌, ◌^◌, ◌≤◌, ℕ, List, [], length, reverse};
 ghost use Rattle.sd_engine.specs.Stage.{Chain};
 ghost use Rattle.sd_tables.specs.Inspected.{lines_in};
-ghost use Rattle.sd_tables.specs.Staged.{inspector_does, seen, StandsAfter};
+ghost use Rattle.sd_tables.specs.Staged.{inspector_does, seen, IsStateAfter};
 ghost use Rattle.sd_tables.specs.declared.inspector.Inspector.{Inspector};
 
 /// Of packets that it is offered one after the other from its beginning the inspector writes the lines, and takes no
 /// step.
 #[tactic(auto, using(crate::proofs::Chained::all_written, crate::proofs::Chained::all_after, crate::proofs::Chained::none_counted))]
 pub fn chains_write_lines()
-    ensures lines { (packets : List (List ℕ)) (s t : Inspector) (bytes : List ℕ) (steps : ℕ) → StandsAfter [] (seen s) →
+    ensures lines { (packets : List (List ℕ)) (s t : Inspector) (bytes : List ℕ) (steps : ℕ) →
+        IsStateAfter [] (seen s) →
         length packets ≤ 2 ^ 64 - 1 → Chain inspector_does s packets t bytes steps →
         bytes ≡ lines_in (reverse packets) }
-    ensures after { (packets : List (List ℕ)) (s t : Inspector) (bytes : List ℕ) (steps : ℕ) → StandsAfter [] (seen s) →
+    ensures after { (packets : List (List ℕ)) (s t : Inspector) (bytes : List ℕ) (steps : ℕ) →
+        IsStateAfter [] (seen s) →
         length packets ≤ 2 ^ 64 - 1 → Chain inspector_does s packets t bytes steps →
-        StandsAfter (reverse packets) (seen t) }
-    ensures steps { (packets : List (List ℕ)) (s t : Inspector) (bytes : List ℕ) (steps : ℕ) → StandsAfter [] (seen s) →
+        IsStateAfter (reverse packets) (seen t) }
+    ensures steps { (packets : List (List ℕ)) (s t : Inspector) (bytes : List ℕ) (steps : ℕ) →
+        IsStateAfter [] (seen s) →
         length packets ≤ 2 ^ 64 - 1 → Chain inspector_does s packets t bytes steps → steps ≡ 0 }
 {}

@@ -7,7 +7,7 @@ use Rattle.std.specs.Str.{bytes_eq}
 use Rattle.std.proofs.lemmas.Fmt.{length-decimal-le}
 use Rattle.std.proofs.lemmas.Option.{same_Some}
 use Rattle.sd_text.specs.Lines.{lines_of, onto_first_line}
-use Rattle.sd_text.specs.Number.{after, number_of, decimal_after}
+use Rattle.sd_text.specs.Number.{rest_after, decimal_value, decimal_after}
 use Rattle.sd_text.proofs.Numbers.{decimal_of_number}
 
 -- the length of these lines, each with a line feed
@@ -32,8 +32,9 @@ text_length (byte ∷ bytes) = by_feed (byte == 10) (text_length bytes)
     by_feed false h = omega (arith, h, onto_long byte (lines_of bytes))
 
 -- what stands after a word
-pub after_length : (word line rest : List ℕ) → after word line ≡ Some rest → length line ≤ length word + length rest
-unfolding after
+pub after_length : (word line rest : List ℕ) → rest_after word line ≡ Some rest →
+    length line ≤ length word + length rest
+unfolding rest_after
 after_length word line rest e = by_test (bytes_eq (take (length word) line) word) e
   where
     by_test : (b : Bool) → cond b (Some (drop (length word) line)) None ≡ Some rest →
@@ -46,9 +47,9 @@ after_length word line rest e = by_test (bytes_eq (take (length word) line) word
 -- a line that is a word and a number
 pub said_length : (word line : List ℕ) (n k : ℕ) → 0 < k → n < 10 ^ k → n < 2 ^ 64 →
     decimal_after word line ≡ Some n → length line ≤ length word + k
-said_length word line n k some small low e = by_after (after word line) refl e
+said_length word line n k some small low e = by_after (rest_after word line) refl e
   where
-    by_after : (found : Option (List ℕ)) → after word line ≡ found → option_and_then number_of found ≡ Some n →
+    by_after : (found : Option (List ℕ)) → rest_after word line ≡ found → option_and_then decimal_value found ≡ Some n →
         length line ≤ length word + k
     by_after None is f = absurd (cc)
     by_after (Some rest) is f =

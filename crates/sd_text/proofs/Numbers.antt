@@ -10,7 +10,7 @@ use Rattle.std.specs.Char.{is_ascii_digit}
 use Rattle.std.specs.Str.{all_ascii_digits, bytes_eq}
 use Rattle.std.specs.Str.Parse.{digits_value}
 use Rattle.sd_text.specs.Lines.{is_line}
-use Rattle.sd_text.specs.Number.{is_decimal, number_of, after, decimal_after}
+use Rattle.sd_text.specs.Number.{is_decimal, decimal_value, rest_after, decimal_after}
 use Rattle.sd_text.proofs.Digits.{own}
 
 -- what `{}` writes of a number is a decimal
@@ -26,13 +26,13 @@ decimal_is_decimal (suc n) h =
     )
 
 -- and says that number
-pub number_of_decimal : (n : ℕ) → n < 2 ^ 64 → number_of (decimal n) ≡ Some n
-unfolding number_of
+pub number_of_decimal : (n : ℕ) → n < 2 ^ 64 → decimal_value (decimal n) ≡ Some n
+unfolding decimal_value
 number_of_decimal n h = rw (decimal_is_decimal n h) (ap Some (digits_value-decimal own n h))
 
 -- a decimal of 64 bits is what `{}` writes of the number that it says
-pub decimal_of_number : (text : List ℕ) (n : ℕ) → n < 2 ^ 64 → number_of text ≡ Some n → text ≡ decimal n
-unfolding number_of
+pub decimal_of_number : (text : List ℕ) (n : ℕ) → n < 2 ^ 64 → decimal_value text ≡ Some n → text ≡ decimal n
+unfolding decimal_value
 decimal_of_number text n h e =
     let form : is_decimal text ≡ true = grind (arith, common_steps) in
     let digits : all_ascii_digits text ≡ true = grind (arith, common_steps) in
@@ -43,8 +43,8 @@ decimal_of_number text n h e =
     sym (decimal-digits_value own text digits some alone small) ∙ ap decimal says
 
 -- what stands after a word is read back
-pub after_word : (word text : List ℕ) → after word (word ++ text) ≡ Some text
-unfolding after
+pub after_word : (word text : List ℕ) → rest_after word (word ++ text) ≡ Some text
+unfolding rest_after
 after_word word text =
     let prefix = take_at word text (length word) refl in
     let rest = drop_at word text (length word) refl in

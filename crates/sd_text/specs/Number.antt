@@ -12,16 +12,16 @@ is_decimal text =
     nat_lt 0 (length text) && (all_ascii_digits text && (not (slice_index text 0 == 48) || length text == 1))
 
 -- the number that a decimal says, however large
-unfoldable pub number_of : List ℕ → Option ℕ
-number_of text = if is_decimal text then Some (digits_value 10 text) else None
+unfoldable pub decimal_value : List ℕ → Option ℕ
+decimal_value text = if is_decimal text then Some (digits_value 10 text) else None
 
 -- what stands after the word on a line that begins with it
-unfoldable pub after : List ℕ → List ℕ → Option (List ℕ)
-after word line = if bytes_eq (take (length word) line) word then Some (drop (length word) line) else None
+unfoldable pub rest_after : List ℕ → List ℕ → Option (List ℕ)
+rest_after word line = if bytes_eq (take (length word) line) word then Some (drop (length word) line) else None
 
 -- the number on a line that is the word and a decimal
 abbrev pub decimal_after : List ℕ → List ℕ → Option ℕ
-decimal_after word line = option_and_then number_of (after word line)
+decimal_after word line = option_and_then decimal_value (rest_after word line)
 
 -- that number as a reader of 32 bits gives it
 abbrev pub fitting : Option ℕ → Result ℕ NumberFault

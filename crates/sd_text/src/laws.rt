@@ -3,7 +3,7 @@
 ghost use Rattle.std.specs.Prelude.{◌≡◌, ◌<◌, ◌^◌, ◌++◌, ◌∷◌, ℕ, List, Some, true};
 ghost use Rattle.std.specs.Fmt.{decimal};
 ghost use Rattle.sd_text.specs.Lines.{lines_of, is_line};
-ghost use Rattle.sd_text.specs.Number.{number_of, decimal_after};
+ghost use Rattle.sd_text.specs.Number.{decimal_value, decimal_after};
 
 /// A line and its line feed before a text are the first of its lines.
 #[tactic(auto, using(crate::proofs::Cuts::line_cut))]
@@ -14,8 +14,8 @@ pub fn line_before()
 /// What `{}` writes of a number is read back, and nothing else is read as that number.
 #[tactic(auto, using(crate::proofs::Numbers::number_of_decimal, crate::proofs::Numbers::decimal_of_number))]
 pub fn decimals()
-    ensures read { (n : ℕ) → n < 2 ^ 64 → number_of (decimal n) ≡ Some n }
-    ensures alone { (text : List ℕ) (n : ℕ) → n < 2 ^ 64 → number_of text ≡ Some n → text ≡ decimal n }
+    ensures read { (n : ℕ) → n < 2 ^ 64 → decimal_value (decimal n) ≡ Some n }
+    ensures alone { (text : List ℕ) (n : ℕ) → n < 2 ^ 64 → decimal_value text ≡ Some n → text ≡ decimal n }
 {}
 
 /// A word and what `{}` writes of a number after it are read back.

@@ -3,7 +3,7 @@ ghost use Rattle.std.specs.Char.{is_ascii_digit};
 ghost use Rattle.std.specs.List.{list_all};
 ghost use Rattle.std.specs.Str.{all_ascii_digits};
 ghost use Rattle.std.specs.Str.Parse.{digits_value};
-ghost use Rattle.sd_text.specs.Number.{decimal_after, number_of, fitting, is_decimal};
+ghost use Rattle.sd_text.specs.Number.{decimal_after, decimal_value, fitting, is_decimal};
 
 /// Why a line has no number of 32 bits.
 #[derive(Clone, Copy, Debug, PartialEq, Eq)]
@@ -15,7 +15,7 @@ pub enum NumberFault {
 }
 
 /// The number on a line that is the word and a decimal, and nothing else.
-#[tactic(auto, unfolding(crate::specs::Number::after))]
+#[tactic(auto, unfolding(crate::specs::Number::rest_after))]
 pub fn number_after(word: &[u8], line: &[u8]) -> Result<u32, NumberFault>
     ensures { result ≡ fitting (decimal_after word.now line.now) }
 {
@@ -24,9 +24,9 @@ pub fn number_after(word: &[u8], line: &[u8]) -> Result<u32, NumberFault>
 }
 
 /// The number that a decimal says.
-#[tactic(auto, unfolding(crate::specs::Number::number_of))]
+#[tactic(auto, unfolding(crate::specs::Number::decimal_value))]
 fn decimal(text: &[u8]) -> Result<u32, NumberFault>
-    ensures { result ≡ fitting (number_of text.now) }
+    ensures { result ≡ fitting (decimal_value text.now) }
 {
     if is_decimal(text) {
         value(text)

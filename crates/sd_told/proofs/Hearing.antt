@@ -17,14 +17,14 @@ use Rattle.sd_emm.specs.Spelled.{emm_section}
 use Rattle.sd_emm.specs.Judged.{emm_read}
 use Rattle.sd_emm.specs.declared.emm.Emm.{Emm}
 use Rattle.sd_ecm.specs.Spelled.{ecm_section}
-use Rattle.sd_ecm.specs.Form.{IsEcm, Fits}
+use Rattle.sd_ecm.specs.Form.{IsEcm, FitsFields}
 use Rattle.sd_ecm.specs.Judged.{ecm_read}
 use Rattle.sd_ecm.specs.Parts.{parts_of}
 use Rattle.sd_ecm.specs.declared.part.EcmPart.{EcmPart}
 use Rattle.sd_ecm.proofs.Sharing.{all_are_ecms}
 use Rattle.sd_ecm.proofs.Deciding.{packed_reads}
 use Rattle.sd_broadcast.specs.Plan.{Plan, IsPlan}
-use Rattle.sd_broadcast.specs.Refused.{is_taken, IsClear}
+use Rattle.sd_broadcast.specs.Refused.{is_reserved_pid, IsClear}
 use Rattle.sd_broadcast.specs.Sent.{Item, Cat, Entitles as SendsEmm, Controls as SendsEcm, Carries, is_alike, packet_of}
 use Rattle.sd_broadcast.specs.Items.{IsOfBroadcast}
 use Rattle.sd_sent.specs.Packets.{IsWholePacket, AreWholePackets, AreLong}
@@ -150,7 +150,7 @@ module _ (plan : Plan) (clear : List (List ℕ)) (is : IsPlan plan) (all : IsCle
   unfolding hears
   heard_part n packet part one two three reads = rw (one, two, three, reads) refl
 
-  heard_other : (n : ℕ) (packet : List ℕ) → is_taken plan.site (pid_of packet) ≡ false →
+  heard_other : (n : ℕ) (packet : List ℕ) → is_reserved_pid plan.site (pid_of packet) ≡ false →
       hears plan.site.height (tuning_to plan.site) n packet ≡ Other n packet
   unfolding hears
   heard_other n packet taken =
@@ -179,7 +179,7 @@ module _ (plan : Plan) (clear : List (List ℕ)) (is : IsPlan plan) (all : IsCle
       let high = is.site.ecm.1 in
       let apart = is.site.apart in
       let pid = packed_pid (ecm_section one) plan.site.ecm count (omega (arith, high)) in
-      let form = All-contains (λ (p : EcmPart). IsEcm p × Fits p) (parts_of message) one
+      let form = All-contains (λ (p : EcmPart). IsEcm p × FitsFields p) (parts_of message) one
       (all_are_ecms message fits) m in
       heard_part n (packed (ecm_section one) plan.site.ecm (count % 16)) one
       (not_one earlier (SendsEcm one) (message, fits, m) refl) (grind (arith, nat_tests, pid, apart))

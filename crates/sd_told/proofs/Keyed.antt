@@ -16,7 +16,7 @@ use Rattle.sd_wrap.proofs.Wrappings.{twice}
 use Rattle.sd_card.specs.Fields.{CardFields, card_of, card_key}
 use Rattle.sd_card.proofs.Keys.{made_gives_key}
 use Rattle.sd_site.specs.Fields.{SiteFields}
-use Rattle.sd_emm.specs.Spelled.{listed}
+use Rattle.sd_emm.specs.Spelled.{listed_entries}
 use Rattle.sd_emm.specs.Period.{emms_of, IsOfPeriod}
 use Rattle.sd_emm.specs.declared.emm.Emm.{Emm}
 use Rattle.sd_emm.specs.declared.emm.Entry.{Entry}
@@ -112,19 +112,19 @@ check_due plan q emm m = (section_of_period plan q emm m).check ∙ check_is pla
 -- the key from a section
 key_of_card : (plan : Plan) (q : ℕ) (emm : Emm) (card : CardFields) → IsPlan plan → IsCardFor plan.site card →
     Contains (emms_of (period_at plan q)) emm →
-    key_from card emm ≡ (if list_any (λ entry. is_member card.height entry.name card.leaf) (listed emm)
+    key_from card emm ≡ (if list_any (λ entry. is_member card.height entry.name card.leaf) (listed_entries emm)
     then Some (period_key_of plan.site.master q) else None)
 unfolding key_from
 key_of_card plan q emm card is made m =
     let number : emm.period ≡ q = (section_of_period plan q emm m).number ∙ number_is plan q in
-    let entries = joined_parts (IsEntry plan.site q) listed (emms_of (period_at plan q)) emm
+    let entries = joined_parts (IsEntry plan.site q) listed_entries (emms_of (period_at plan q)) emm
     (subst (All (IsEntry plan.site q)) (sym (joined_are_all (period_at plan q))) (entries_are plan q is)) m in
-    rw number (key_among plan.site q card made (listed emm) entries)
+    rw number (key_among plan.site q card made (listed_entries emm) entries)
 
 pub key_due : (plan : Plan) (q u : ℕ) (emm : Emm) → IsPlan plan → u < 2 ^ plan.site.height →
     Contains (emms_of (period_at plan q)) emm →
     key_from (card_of plan.site.master plan.site.ca plan.site.height u) emm
-    ≡ (if list_any (λ entry. is_member plan.site.height entry.name u) (listed emm)
+    ≡ (if list_any (λ entry. is_member plan.site.height entry.name u) (listed_entries emm)
     then Some (period_key_of plan.site.master q) else None)
 unfolding card_of
 key_due plan q u emm is within m =

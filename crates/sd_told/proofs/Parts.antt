@@ -12,7 +12,7 @@ use Rattle.std.proofs.lemmas.List.Concat.{flat_map-append}
 use Rattle.std.proofs.lemmas.List.Elements.{All-head, Contains-get_or}
 use Rattle.std.proofs.lemmas.List.Folds.{list_any_none}
 use Rattle.sd_message.specs.Pieces.{pieces_for}
-use Rattle.sd_ecm.specs.Spelled.{listed}
+use Rattle.sd_ecm.specs.Spelled.{listed_places}
 use Rattle.sd_ecm.specs.Form.{AreAscending}
 use Rattle.sd_ecm.specs.Parts.{Message, IsMessage, IsOfMessage, parts_of}
 use Rattle.sd_ecm.specs.declared.part.Place.{Place}
@@ -20,7 +20,7 @@ use Rattle.sd_ecm.specs.declared.part.EcmPart.{EcmPart}
 use Rattle.sd_ecm.proofs.Sharing.{all_are_of, as_many, joined_are_all, number_is}
 use Rattle.sd_reception.specs.Stretches.{message_told}
 use Rattle.sd_reception.specs.Offered.{same_header, is_after, part_fault}
-use Rattle.sd_told.specs.Parts.{StandsBetween}
+use Rattle.sd_told.specs.Parts.{IsPartBetween}
 use Rattle.sd_told.proofs.Alike.{same_number, same_bytes}
 use Rattle.sd_told.proofs.Lists.{split_all, reverse_cons, all_reversed, pairs_across}
 
@@ -51,27 +51,29 @@ after_is : (message : Message) (run : List EcmPart) (part : EcmPart) (rest : Lis
     parts_of message ≡ reverse run ++ (part ∷ rest) → is_after part run ≡ true
 after_is message [] part rest is same = refl
 after_is message (before ∷ run) part rest is same =
-    rw (list_any_none (λ (place : Place). list_any (λ (old : Place). nat_le place.pid old.pid) (listed before))
-    (listed part)
-    (λ i d inside. list_any_none (λ (old : Place). nat_le (get_or (listed part) i d).pid old.pid) (listed before)
-    (λ j e within. above (get_or (listed before) j e) (get_or (listed part) i d)
-    (Contains-get_or (listed before) j e within) (Contains-get_or (listed part) i d inside)))) refl
+    rw (list_any_none (λ (place : Place). list_any (λ (old : Place). nat_le place.pid old.pid) (listed_places before))
+    (listed_places part)
+    (λ i d inside. list_any_none (λ (old : Place).
+    nat_le (get_or (listed_places part) i d).pid old.pid) (listed_places before)
+    (λ j e within. above (get_or (listed_places before) j e) (get_or (listed_places part) i d)
+    (Contains-get_or (listed_places before) j e within) (Contains-get_or (listed_places part) i d inside)))) refl
   where
     prefix : List Place
-    prefix = flat_map listed (reverse run)
+    prefix = flat_map listed_places (reverse run)
 
-    spread : message.places ≡ prefix ++ (listed before ++ (listed part ++ flat_map listed rest))
+    spread : message.places ≡ prefix ++ (listed_places before ++ (listed_places part ++ flat_map listed_places rest))
     spread = sym (joined_are_all message)
-        ∙ (ap (flat_map listed) (same ∙ (ap (λ (xs : List EcmPart). xs ++ (part ∷ rest)) (reverse_cons before run)
+        ∙ (ap (flat_map listed_places) (same ∙ (ap (λ (xs : List EcmPart). xs ++
+        (part ∷ rest)) (reverse_cons before run)
         ∙ append_assoc (reverse run) (before ∷ []) (part ∷ rest)))
-        ∙ flat_map-append listed (reverse run) (before ∷ part ∷ rest))
+        ∙ flat_map-append listed_places (reverse run) (before ∷ part ∷ rest))
 
-    above : (old place : Place) → Contains (listed before) old → Contains (listed part) place →
+    above : (old place : Place) → Contains (listed_places before) old → Contains (listed_places part) place →
         nat_le place.pid old.pid ≡ false
     above old place m n =
         let less : old.pid < place.pid =
-        pairs_across (λ (a b : Place). a.pid < b.pid) prefix (listed before) (listed part)
-        (flat_map listed rest) old place
+        pairs_across (λ (a b : Place). a.pid < b.pid) prefix (listed_places before) (listed_places part)
+        (flat_map listed_places rest) old place
         (subst AreAscending spread is.ascending) m n in
         grind (arith, nat_tests, less)
 
@@ -95,26 +97,27 @@ length_turned f (x ∷ xs) =
 
 -- the parts have no more places than the message
 few_places : (message : Message) (run : List EcmPart) (part : EcmPart) (rest : List EcmPart) → IsMessage message →
-    parts_of message ≡ reverse run ++ (part ∷ rest) → length (flat_map listed (part ∷ run)) ≤ 256
+    parts_of message ≡ reverse run ++ (part ∷ rest) → length (flat_map listed_places (part ∷ run)) ≤ 256
 few_places message run part rest is same =
     let count = is.count in
-    let all : length (flat_map listed (parts_of message)) ≡ length message.places = ap length
+    let all : length (flat_map listed_places (parts_of message)) ≡ length message.places = ap length
     (joined_are_all message) in
-    let cut : flat_map listed (parts_of message) ≡ flat_map listed (reverse run) ++
-    (listed part ++ flat_map listed rest) =
-    ap (flat_map listed) same ∙ flat_map-append listed (reverse run) (part ∷ rest) in
-    let turned = length_turned listed run in
-    let long : length (flat_map listed (parts_of message))
-    ≡ length (flat_map listed (reverse run) ++ (listed part ++ flat_map listed rest)) = ap length cut in
+    let cut : flat_map listed_places (parts_of message) ≡ flat_map listed_places (reverse run) ++
+    (listed_places part ++ flat_map listed_places rest) =
+    ap (flat_map listed_places) same ∙ flat_map-append listed_places (reverse run) (part ∷ rest) in
+    let turned = length_turned listed_places run in
+    let long : length (flat_map listed_places (parts_of message))
+    ≡ length (flat_map listed_places (reverse run) ++ (listed_places part ++ flat_map listed_places rest)) =
+    ap length cut in
     omega (
       arith,
       count,
       all,
       turned,
       long,
-      length-append (flat_map listed (reverse run)) (listed part ++ flat_map listed rest),
-      length-append (listed part) (flat_map listed rest),
-      length-append (listed part) (flat_map listed run),
+      length-append (flat_map listed_places (reverse run)) (listed_places part ++ flat_map listed_places rest),
+      length-append (listed_places part) (flat_map listed_places rest),
+      length-append (listed_places part) (flat_map listed_places run),
     )
 
 -- so one more part is without fault
@@ -130,7 +133,7 @@ next_right message run part rest is same =
     list_any_none (λ (other : EcmPart). not (same_header other part)) run
     (λ k d within. rw (headers_same message (get_or run k d) part (others k d within) its) refl) in
     let few = few_places message run part rest is same in
-    let count : nat_lt 256 (length (flat_map listed (part ∷ run))) ≡ false = grind (arith, nat_tests, few) in
+    let count : nat_lt 256 (length (flat_map listed_places (part ∷ run))) ≡ false = grind (arith, nat_tests, few) in
     rw (headers, after_is message run part rest is same, count) refl
 
 pub parts_right : (message : Message) (x : ℕ) → IsMessage message →
@@ -201,12 +204,12 @@ parts_tell message = by_run (reverse (parts_of message)) refl
         let all = subst (All (IsOfMessage message)) (sym back) (all_are_of message) in
         let its = All-head (IsOfMessage message) part run (all_reversed (IsOfMessage message) (part ∷ run) all) in
         ap (λ (m : Message). Some m)
-        (made message part (flat_map listed (reverse (part ∷ run))) its
-        (ap (flat_map listed) back ∙ joined_are_all message))
+        (made message part (flat_map listed_places (reverse (part ∷ run))) its
+        (ap (flat_map listed_places) back ∙ joined_are_all message))
 
 -- each stands at its place
 pub part_stands : (message : Message) (before : List EcmPart) (part : EcmPart) (after : List EcmPart) →
-    IsMessage message → parts_of message ≡ reverse before ++ (part ∷ after) → StandsBetween message before part after
+    IsMessage message → parts_of message ≡ reverse before ++ (part ∷ after) → IsPartBetween message before part after
 part_stands message before part after is same =
     let each = split_all (IsOfMessage message) (reverse before) (part ∷ after)
     (subst (All (IsOfMessage message)) same (all_are_of message)) in

@@ -6,7 +6,7 @@ use Rattle.sd_reception.specs.Offered.{part_fault}
 
 -- the part is one of the message after these, the newest first, and before those, and has no fault after them
 -- [this project, docs/FORMATS.md, Receiver]
-pub record StandsBetween (message : Message) (before : List EcmPart) (part : EcmPart)
+pub record IsPartBetween (message : Message) (before : List EcmPart) (part : EcmPart)
     (after : List EcmPart) : Type 0 where
   pub number : part.number ≡ message.number
   pub place : part.part ≡ length before

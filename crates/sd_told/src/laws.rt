@@ -9,7 +9,7 @@ ghost use Rattle.sd_card.specs.Fields.{card_of};
 ghost use Rattle.sd_scramble.specs.Scrambling.{descrambled};
 ghost use Rattle.sd_wrap.specs.Wrapping.{wrapped as under};
 ghost use Rattle.sd_site.specs.Fields.{SiteFields};
-ghost use Rattle.sd_emm.specs.Spelled.{listed};
+ghost use Rattle.sd_emm.specs.Spelled.{listed_entries};
 ghost use Rattle.sd_emm.specs.Period.{Period, emms_of};
 ghost use Rattle.sd_emm.specs.declared.emm.Emm.{Emm};
 ghost use Rattle.sd_ecm.specs.Parts.{Message, IsMessage, parts_of};
@@ -31,7 +31,7 @@ ghost use Rattle.sd_reception.specs.Keys.{key_from};
 ghost use Rattle.sd_reception.specs.Confirmed.{Segment, unmarked};
 ghost use Rattle.sd_reception.specs.Offered.{is_before, is_mixed, says_same, part_fault};
 ghost use Rattle.sd_told.specs.Told.{tuning_to, heard_of};
-ghost use Rattle.sd_told.specs.Parts.{StandsBetween};
+ghost use Rattle.sd_told.specs.Parts.{IsPartBetween};
 
 /// A later control message of a broadcast never goes back before an earlier one.
 pub fn messages_never_back()
@@ -46,7 +46,7 @@ pub fn parts_are_right()
     ensures some { (message : Message) → 1 ≤ length (parts_of message) }
     ensures order { (message : Message) (before : List EcmPart) (part : EcmPart) (after : List EcmPart) →
         IsMessage message → parts_of message ≡ reverse before ++ (part ∷ after) →
-        StandsBetween message before part after }
+        IsPartBetween message before part after }
     ensures fault { (message : Message) (x : ℕ) → IsMessage message →
         part_fault (reverse (take x (parts_of message))) ≡ None }
     ensures whole { (message : Message) → message_told (reverse (parts_of message)) ≡ Some message }
@@ -76,7 +76,7 @@ pub fn keys_are_due()
     ensures key { (plan : Plan) (q u : ℕ) (emm : Emm) → IsPlan plan → u < 2 ^ plan.site.height →
         Contains (emms_of (period_at plan q)) emm →
         key_from (card_of plan.site.master plan.site.ca plan.site.height u) emm ≡
-        (if list_any (λ entry. is_member plan.site.height entry.name u) (listed emm)
+        (if list_any (λ entry. is_member plan.site.height entry.name u) (listed_entries emm)
         then Some (period_key_of plan.site.master q) else None) }
     ensures check { (plan : Plan) (q : ℕ) (emm : Emm) → Contains (emms_of (period_at plan q)) emm →
         emm.check ≡ check_value_of (period_key_of plan.site.master q) }

@@ -10,7 +10,7 @@ use Rattle.sd_steiner.proofs.There.{same_leaves}
 use Rattle.sd_trace.specs.declared.found.Found.{Found}
 use Rattle.sd_trace.specs.Halves.{narrowed}
 use Rattle.sd_trace.specs.Search.{halvings, IsLastOpen}
-use Rattle.sd_trace.specs.Rounds.{Joined}
+use Rattle.sd_trace.specs.Rounds.{IsJoined}
 use Rattle.sd_trace.specs.Trace.{IsRound, IsAnyRound, IsTrace, AreAnyRounds}
 
 -- lists of the same leaves
@@ -75,7 +75,7 @@ trace_same d coalition a b (f ∷ fs) low same r = (
 )
 
 -- what is joined has the leaves of the list with the leaf before them
-joined_same : (v : ℕ) (old new : List ℕ) → Joined v old new → SameLeaves new (v ∷ old)
+joined_same : (v : ℕ) (old new : List ℕ) → IsJoined v old new → SameLeaves new (v ∷ old)
 joined_same v old new joined u = (
   λ m. elim ((joined.members u).0 m) [
     | inl is ↦ subst (Contains (v ∷ old)) (sym is) (member_first v old)
@@ -89,21 +89,21 @@ joined_same v old new joined u = (
 
 -- one round more of any box
 pub rounds_more : (d : ℕ) (gone new : List ℕ) (found : Found) (later : List Found) → d < 32 → IsAnyRound d gone found →
-    Joined found.leaf gone new → AreAnyRounds d new later → AreAnyRounds d gone (found ∷ later)
+    IsJoined found.leaf gone new → AreAnyRounds d new later → AreAnyRounds d gone (found ∷ later)
 unfolding AreAnyRounds
 rounds_more d gone new found later low one joined more =
     (one, any_rounds_same d new (found.leaf ∷ gone) later low (joined_same found.leaf gone new joined) more)
 
 -- and of one that tells its coalition
 pub trace_more : (d : ℕ) (coalition gone new : List ℕ) (found : Found) (later : List Found) → d < 32 →
-    IsRound d coalition gone found → Joined found.leaf gone new → IsTrace d coalition new later →
+    IsRound d coalition gone found → IsJoined found.leaf gone new → IsTrace d coalition new later →
     IsTrace d coalition gone (found ∷ later)
 unfolding IsTrace
 trace_more d coalition gone new found later low one joined more =
     (one, trace_same d coalition new (found.leaf ∷ gone) later low (joined_same found.leaf gone new joined) more)
 
 -- all leaves of the longer list are of the height
-pub joined_leaves : (d v : ℕ) (old new : List ℕ) → v < 2 ^ d → All (λ u. u < 2 ^ d) old → Joined v old new →
+pub joined_leaves : (d v : ℕ) (old new : List ℕ) → v < 2 ^ d → All (λ u. u < 2 ^ d) old → IsJoined v old new →
     All (λ u. u < 2 ^ d) new
 joined_leaves d v old new leaf all joined k other within =
     elim ((joined.members (get_or new k other)).0 (Contains-get_or new k other within)) [

@@ -6,7 +6,7 @@ use Rattle.std.specs.Prelude.{◌⊎◌, ◌↔◌, All, Contains, filter, if◌
 use Rattle.std.specs.List.{list_any, range_with_len}
 use Rattle.std.proofs.lemmas.Bool.{cases_eq, cases_lt}
 use Rattle.sd_steiner.proofs.Lists.{found_member}
-use Rattle.sd_trace.specs.Trace.{outside}
+use Rattle.sd_trace.specs.Trace.{not_among}
 use Rattle.sd_trace.specs.declared.found.Found.{Found}
 use Rattle.sd_trace.specs.Trace.{IsRound}
 use Rattle.sd_trace.proofs.Opening.{is_found}
@@ -83,7 +83,7 @@ not_found xs u none = by (list_any (nat_eq u) xs) refl
 -- a leaf of the coalition that is found is one less of those that are left
 pub one_less_left : (d v : ℕ) (coalition old new : List ℕ) → v < 2 ^ d → Contains coalition v → ¬ Contains old v →
     ((u : ℕ) → Contains new u ↔ ((u ≡ v) ⊎ Contains old u)) →
-    length (outside d old coalition) ≡ 1 + length (outside d new coalition)
+    length (not_among d old coalition) ≡ 1 + length (not_among d new coalition)
 one_less_left d v coalition old new leaf member fresh joined =
     filtered_less (λ u. list_any (nat_eq u) coalition && not (list_any (nat_eq u) old))
     (λ u. list_any (nat_eq u) coalition && not (list_any (nat_eq u) new)) v 0 (2 ^ d) (omega arith)
@@ -97,7 +97,7 @@ one_less_left d v coalition old new leaf member fresh joined =
 
 -- where all are gone, none is left
 pub none_left : (d : ℕ) (coalition gone : List ℕ) → ((u : ℕ) → u < 2 ^ d → Contains coalition u → Contains gone u) →
-    length (outside d gone coalition) ≡ 0
+    length (not_among d gone coalition) ≡ 0
 none_left d coalition gone all = none_from (λ u. list_any (nat_eq u) coalition && not (list_any (nat_eq u) gone)) 0
     (2 ^ d)
     (λ u within. by u within (list_any (nat_eq u) coalition) refl)
@@ -115,7 +115,7 @@ none_left d coalition gone all = none_from (λ u. list_any (nat_eq u) coalition 
 
 -- where one is found, one is left
 pub some_left : (d : ℕ) (coalition gone : List ℕ) (found : Found) → 1 ≤ d → d ≤ 20 → All (λ u. u < 2 ^ d) gone →
-    IsRound d coalition gone found → 0 < length (outside d gone coalition)
+    IsRound d coalition gone found → 0 < length (not_among d gone coalition)
 some_left d coalition gone found some small leaves round =
     let here = round_inside d coalition gone found some small leaves round in
     let test : ℕ → Bool = λ u. list_any (nat_eq u) coalition && not (list_any (nat_eq u) gone) in

@@ -15,7 +15,7 @@ use Rattle.sd_steiner.proofs.There.{the_cover}
 use Rattle.sd_trace.specs.declared.found.Found.{Found}
 use Rattle.sd_trace.specs.Halves.{has_some}
 use Rattle.sd_trace.specs.Search.{IsLastOpen}
-use Rattle.sd_trace.specs.Trace.{IsRound, IsTrace, outside, last_open, found_at, found_in, trace_of}
+use Rattle.sd_trace.specs.Trace.{IsRound, IsTrace, not_among, last_open, found_at, found_in, trace_of}
 use Rattle.sd_trace.proofs.Inside.{round_inside}
 use Rattle.sd_trace.proofs.Leaving.{one_less_left, some_left}
 use Rattle.sd_trace.proofs.Opening.{opened_here, opened_later, none_is_left}
@@ -82,10 +82,10 @@ all_gone d coalition gone low leaves e =
 -- with as many rounds as leaves are left, the rounds go on until none is
 abbrev TracesNext : ℕ → List ℕ → ℕ → Type 0
 TracesNext d coalition rounds = (gone : List ℕ) → All (λ u. u < 2 ^ d) gone →
-    length (outside d gone coalition) ≤ rounds → IsTrace d coalition gone (found_in d coalition gone rounds)
+    length (not_among d gone coalition) ≤ rounds → IsTrace d coalition gone (found_in d coalition gone rounds)
 
 no_more : (d : ℕ) (coalition gone : List ℕ) → 1 ≤ d → d ≤ 20 → All (λ u. u < 2 ^ d) gone →
-    length (outside d gone coalition) ≤ 0 → (o : Option ℕ) → last_open d coalition (cover_of d gone) ≡ o →
+    length (not_among d gone coalition) ≤ 0 → (o : Option ℕ) → last_open d coalition (cover_of d gone) ≡ o →
     IsTrace d coalition gone []
 unfolding IsTrace
 no_more d coalition gone some low leaves few None e = all_gone d coalition gone low leaves e
@@ -95,7 +95,7 @@ no_more d coalition gone some low leaves few (Some z) e =
     absurd (omega (arith, left, few))
 
 one_more : (d : ℕ) (coalition gone : List ℕ) (rounds : ℕ) → 1 ≤ d → d ≤ 20 → All (λ u. u < 2 ^ d) gone →
-    length (outside d gone coalition) ≤ suc rounds → TracesNext d coalition rounds → (o : Option ℕ) →
+    length (not_among d gone coalition) ≤ suc rounds → TracesNext d coalition rounds → (o : Option ℕ) →
     last_open d coalition (cover_of d gone) ≡ o →
     IsTrace d coalition gone (option_map_or (λ z. found_at d coalition (cover_of d gone) z
     ∷ found_in d coalition ((found_at d coalition (cover_of d gone) z).leaf ∷ gone) rounds) o [])
@@ -129,7 +129,7 @@ is_trace d coalition (suc rounds) some low gone leaves few =
 pub there_is_a_trace : (d : ℕ) (coalition revoked : List ℕ) → 1 ≤ d → d ≤ 20 → All (λ u. u < 2 ^ d) revoked →
     IsTrace d coalition revoked (trace_of d coalition revoked)
 there_is_a_trace d coalition revoked some low leaves =
-    is_trace d coalition (length (outside d revoked coalition)) some low revoked leaves (omega arith)
+    is_trace d coalition (length (not_among d revoked coalition)) some low revoked leaves (omega arith)
 
 -- the leaf is one of the tree, and isn't among these
 abbrev IsNew : ℕ → List ℕ → Found → Type 0

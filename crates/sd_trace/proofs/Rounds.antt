@@ -13,7 +13,7 @@ use Rattle.sd_steiner.proofs.Covers.{cover_small}
 use Rattle.sd_steiner.proofs.Heights.{of_height}
 use Rattle.sd_steiner.proofs.There.{the_cover}
 use Rattle.sd_trace.specs.declared.found.Found.{Found}
-use Rattle.sd_trace.specs.Rounds.{IsRoundCover, FindsIn, IsLastIn, FindsLast, RoundOf, TellsRound}
+use Rattle.sd_trace.specs.Rounds.{IsRoundCover, FindsIn, IsLastIn, FindsLast, RoundOf, RoundOfCoalition}
 use Rattle.sd_trace.specs.Trace.{IsAnyRound}
 use Rattle.sd_trace.proofs.Searches.{few_probes}
 use Rattle.sd_trace.proofs.Opening.{none_is_left, leaf_is_fresh}
@@ -41,7 +41,7 @@ round_of d gone sets before after (Some found) low leaves cover finds =
 -- what is found of a coalition is what a round of it finds
 pub tells_round : (d : ℕ) (coalition gone : List ℕ) (sets : List SetName) (found : Option Found) → d ≤ 20 →
     All (λ u. u < 2 ^ d) gone → IsRoundCover d gone sets → FindsLast d coalition sets found →
-    TellsRound d coalition gone found
+    RoundOfCoalition d coalition gone found
 tells_round d coalition gone sets None low leaves cover finds =
     none_is_left d coalition gone sets (omega (arith, low)) leaves cover.cover finds
 tells_round d coalition gone sets (Some found) low leaves cover finds =

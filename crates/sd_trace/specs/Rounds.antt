@@ -53,12 +53,12 @@ RoundOf d gone before after None = after ≡ before + 1
 RoundOf d gone before after (Some found) = IsAnyRound d gone found × (after ≡ before + found.trials)
 
 -- the round of a coalition, which ends where none of its leaves is left
-abbrev pub TellsRound : ℕ → List ℕ → List ℕ → Option Found → Type 0
-TellsRound d coalition gone None = (u : ℕ) → u < 2 ^ d → Contains coalition u → Contains gone u
-TellsRound d coalition gone (Some found) = IsRound d coalition gone found
+abbrev pub RoundOfCoalition : ℕ → List ℕ → List ℕ → Option Found → Type 0
+RoundOfCoalition d coalition gone None = (u : ℕ) → u < 2 ^ d → Contains coalition u → Contains gone u
+RoundOfCoalition d coalition gone (Some found) = IsRound d coalition gone found
 
 -- the list has one leaf more
-pub record Joined (leaf : ℕ) (old new : List ℕ) : Type 0 where
+pub record IsJoined (leaf : ℕ) (old new : List ℕ) : Type 0 where
   pub ascending : IsStrictlyIncreasing new
   pub members : (u : ℕ) → Contains new u ↔ ((u ≡ leaf) ⊎ Contains old u)
   pub more : length new ≡ length old + 1

@@ -40,8 +40,8 @@ AreAnyRounds d gone [] = Unit {0}
 AreAnyRounds d gone (found ∷ later) = IsAnyRound d gone found × AreAnyRounds d (found.leaf ∷ gone) later
 
 -- the leaves of the coalition that aren't among these, ascending
-abbrev pub outside : ℕ → List ℕ → List ℕ → List ℕ
-outside d gone coalition = filter (λ u. list_any (nat_eq u) coalition && not (list_any (nat_eq u) gone)) (leaves d)
+abbrev pub not_among : ℕ → List ℕ → List ℕ → List ℕ
+not_among d gone coalition = filter (λ u. list_any (nat_eq u) coalition && not (list_any (nat_eq u) gone)) (leaves d)
 
 -- the leaf was found by few probes where n leaves were revoked or found before: one, at most d cuts, and x halvings,
 -- where 2^x is below twice the greatest number of sets that a cover of n leaves has [Naor, Naor, Lotspiech 2001, 3.2
@@ -74,4 +74,4 @@ found_in d coalition gone (suc rounds) =
 
 -- the trace of a coalition: a round for each of its leaves that isn't revoked [this project, docs/FORMATS.md, Tracing]
 abbrev pub trace_of : ℕ → List ℕ → List ℕ → List Found
-trace_of d coalition revoked = found_in d coalition revoked (length (outside d revoked coalition))
+trace_of d coalition revoked = found_in d coalition revoked (length (not_among d revoked coalition))

@@ -5,9 +5,9 @@ ghost use Rattle.sd_tree.specs.declared.height.TheConstants.{HIGHEST};
 ghost use Rattle.sd_tree.specs.declared.leaf.TheConstants.{MOST_REVOKED};
 ghost use Rattle.sd_trace.specs.declared.found.Found.{Found};
 ghost use Rattle.sd_trace.specs.Search.{right_from};
-ghost use Rattle.sd_trace.specs.Trace.{IsTrace, AreAnyRounds, outside};
+ghost use Rattle.sd_trace.specs.Trace.{IsTrace, AreAnyRounds, not_among};
 ghost use Rattle.sd_tree.specs.SetNames.{IsOfHeight};
-ghost use Rattle.sd_trace.specs.Rounds.{RoundOf, TellsRound, IsRoundCover, FindsIn, FindsLast, Joined};
+ghost use Rattle.sd_trace.specs.Rounds.{RoundOf, RoundOfCoalition, IsRoundCover, FindsIn, FindsLast, IsJoined};
 
 use crate::found::{Found, TraceFault};
 use crate::narrow::narrow;
@@ -42,13 +42,14 @@ pub fn trace_all<B: TestBox>(
     ensures too_many { IsErrOf result TraceFault.TooMany → (found : List Found) × AreAnyRounds h revoked.now found
         × (length revoked.now + length found ≡ MOST_REVOKED + 1)
         × (B.asked target.new ≡ B.asked target.old + sum_by (λ f. f.trials) found) }
-    ensures unchanged { (B.height target.new ≡ B.height target.old) × (B.coalition target.new ≡ B.coalition target.old) }
+    ensures unchanged { (B.height target.new ≡ B.height target.old) ×
+        (B.coalition target.new ≡ B.coalition target.old) }
     ensures later { B.asked target.old ≤ B.asked target.new }
     ensures told { (coalition : List ℕ) → B.coalition target.old ≡ Some coalition →
-        IfOk result (λ _. length revoked.now + length (outside h revoked.now coalition) ≤ MOST_REVOKED) }
+        IfOk result (λ _. length revoked.now + length (not_among h revoked.now coalition) ≤ MOST_REVOKED) }
     ensures told_many { (coalition : List ℕ) → B.coalition target.old ≡ Some coalition →
         IsErrOf result TraceFault.TooMany →
-        MOST_REVOKED < length revoked.now + length (outside h revoked.now coalition) }
+        MOST_REVOKED < length revoked.now + length (not_among h revoked.now coalition) }
 {
     let mut gone = Vec::new(alloc);
     gone.extend_from_slice(revoked)?;
@@ -85,7 +86,7 @@ fn round<B: TestBox>(
     requires room { B.asked target.old < 2 ^ 63 + 2 ^ 32 }
     ensures value { IfOk result (RoundOf h gone.now (B.asked target.old) (B.asked target.new)) }
     ensures told { (coalition : List ℕ) → B.coalition target.old ≡ Some coalition →
-        IfOk result (TellsRound h coalition gone.now) }
+        IfOk result (RoundOfCoalition h coalition gone.now) }
     ensures height { B.height target.new ≡ B.height target.old }
     ensures tree { (1 ≤ h) × (h ≤ HIGHEST) }
     ensures coalition { B.coalition target.new ≡ B.coalition target.old }
@@ -154,7 +155,7 @@ fn marks(alloc: Global, count: usize) -> Result<Vec<bool>, AllocError>
 fn join(gone: &mut Vec<Leaf>, leaf: Leaf) -> Result<(), AllocError>
     requires ascending { IsStrictlyIncreasing gone.old.items }
     requires fresh { ¬ Contains gone.old.items leaf }
-    ensures { OnOk result (Joined leaf gone.old.items gone.new.items) }
+    ensures { OnOk result (IsJoined leaf gone.old.items gone.new.items) }
 {
     gone.push(leaf)?;
     gone.sort_unstable();

@@ -24,12 +24,12 @@ use Rattle.sd_psi.proofs.Inverse.{packet_parts, may_rewrite}
 use Rattle.sd_section.specs.Header.{section_length_of}
 use Rattle.sd_scramble.specs.Scrambling.{stream_number, control_of, payload_under, laid_under}
 use Rattle.sd_scramble.proofs.Scramblings.{prefix_is}
-use Rattle.sd_emm.specs.Spelled.{listed, table_id_for, emm_body, emm_header, emm_section}
-use Rattle.sd_emm.specs.Form.{AreSets, IsEmm, Fits}
+use Rattle.sd_emm.specs.Spelled.{listed_entries, table_id_for, emm_body, emm_header, emm_section}
+use Rattle.sd_emm.specs.Form.{AreSets, IsEmm, FitsFields}
 use Rattle.sd_emm.specs.declared.emm.Emm.{Emm}
 use Rattle.sd_emm.proofs.Again.{few_entries, few_head, long_whole}
 use Rattle.sd_ecm.specs.Spelled.{ecm_body, ecm_header, ecm_section}
-use Rattle.sd_ecm.specs.Form.{IsEcm, Fits as FitsPart}
+use Rattle.sd_ecm.specs.Form.{IsEcm, FitsFields as FitsPart}
 use Rattle.sd_ecm.specs.declared.part.EcmPart.{EcmPart}
 use Rattle.sd_ecm.proofs.Versions.{fits_packet}
 use Rattle.sd_ecm.proofs.Again.{long_body}
@@ -52,7 +52,7 @@ pub cat_short : (ca emm ecm : ℕ) → length (cat_section ca emm ecm) ≤ 183
 unfolding cat_section
 cat_short ca emm ecm = omega (arith, section_long cat_header (cat_descriptor ca emm ecm))
 
-pub emm_short : (h : ℕ) (emm : Emm) → h ≤ 20 → Fits emm → IsEmm emm → AreSets h emm.sets (listed emm) →
+pub emm_short : (h : ℕ) (emm : Emm) → h ≤ 20 → FitsFields emm → IsEmm emm → AreSets h emm.sets (listed_entries emm) →
     length (emm_section emm) ≤ 183
 unfolding emm_section
 emm_short h emm high fits form sets =

@@ -3,13 +3,13 @@ use Rattle.std.proofs.Common.{ℕ, ◌%◌, List, [], ◌∷◌, ◌++◌, take,
 use Rattle.std.specs.Prelude.{All, count_by}
 use Rattle.std.proofs.lemmas.List.Elements.{All-nil, All-cons, All-head, All-tail, All-contains, All-get_or}
 use Rattle.sd_psi.specs.Access.{cat_section}
-use Rattle.sd_emm.specs.Spelled.{listed, emm_section}
-use Rattle.sd_emm.specs.Form.{AreSets, IsEmm, Fits}
+use Rattle.sd_emm.specs.Spelled.{listed_entries, emm_section}
+use Rattle.sd_emm.specs.Form.{AreSets, IsEmm, FitsFields}
 use Rattle.sd_emm.specs.Period.{emms_of}
 use Rattle.sd_emm.specs.declared.emm.Emm.{Emm}
 use Rattle.sd_emm.proofs.Sharing.{all_are_emms, all_sets_stand}
 use Rattle.sd_ecm.specs.Spelled.{ecm_section}
-use Rattle.sd_ecm.specs.Form.{IsEcm, Fits as FitsPart}
+use Rattle.sd_ecm.specs.Form.{IsEcm, FitsFields as FitsPart}
 use Rattle.sd_ecm.specs.Parts.{parts_of}
 use Rattle.sd_ecm.specs.declared.part.EcmPart.{EcmPart}
 use Rattle.sd_ecm.proofs.Sharing.{all_are_ecms}
@@ -43,9 +43,10 @@ module _ (plan : Plan) (clear : List (List ℕ)) (is : IsPlan plan) (all : IsCle
       (cat_short plan.site.ca plan.site.emm plan.site.ecm)
   one_synced earlier (Entitles emm) (k, within, m) =
       let q : ℕ = period_of plan k in
-      let form = All-contains (λ (e : Emm). IsEmm e × Fits e) (emms_of (period_at plan q)) emm
+      let form = All-contains (λ (e : Emm). IsEmm e × FitsFields e) (emms_of (period_at plan q)) emm
       (all_are_emms (period_at plan q) (period_fits plan q is (period_short plan k is))) m in
-      let sets = All-contains (λ (e : Emm). AreSets plan.site.height e.sets (listed e)) (emms_of (period_at plan q)) emm
+      let sets = All-contains (λ (e : Emm).
+      AreSets plan.site.height e.sets (listed_entries e)) (emms_of (period_at plan q)) emm
       (all_sets_stand plan.site.height (period_at plan q) (period_sets plan q is)) m in
       let high = is.site.height.1 in
       packed_synced (emm_section emm) plan.site.emm (count_by (is_alike (Entitles emm)) earlier % 16)

@@ -7,7 +7,7 @@ use Rattle.std.specs.List.{list_any}
 use Rattle.sd_commands.specs.declared.operand.Operand.{Operand}
 use Rattle.sd_commands.specs.declared.operand.Kind.{Kind}
 use Rattle.sd_commands.specs.declared.operand.Kind.TheVariants as kind
-use Rattle.sd_commands.specs.Operands.{kind_of}
+use Rattle.sd_commands.specs.Operands.{operand_kind}
 use Rattle.sd_status.specs.declared.status.Status.{Status}
 use Rattle.sd_words.specs.declared.argument.Argument.{Argument}
 use Rattle.sd_words.specs.Words as words
@@ -90,7 +90,7 @@ first_left : (texts : List (String Global)) (i : ℕ) (e : String Global) → i 
 first_left texts i e h = ap (map string_bytes) (one_left texts i e h)
 
 pub out_later : (operands : List Operand) (texts : List (String Global)) (i : ℕ) (d : Operand) →
-    i < length operands → length operands ≡ length texts → kind_of (get_or operands i d) ≢ kind.Output →
+    i < length operands → length operands ≡ length texts → operand_kind (get_or operands i d) ≢ kind.Output →
     out_text (drop (i + 1) operands) (map string_bytes (drop (i + 1) texts))
     ≡ out_text (drop i operands) (map string_bytes (drop i texts))
 out_later operands [] i d h same other = absurd (omega (arith, h, same))
@@ -98,7 +98,7 @@ out_later operands (e ∷ rest) i d h same other =
     let texts : List (String Global) = e ∷ rest in
     sym
     (rw (one_left operands i d h, first_left texts i e (omega (arith, h, same)))
-    (other_kind (kind_of (get_or operands i d)) (string_bytes (get_or texts i e))
+    (other_kind (operand_kind (get_or operands i d)) (string_bytes (get_or texts i e))
     (out_text (drop (i + 1) operands) (map string_bytes (drop (i + 1) texts))) other))
 
 either : (p q : Bool) → p || q ≡ (p || false) || q
@@ -118,14 +118,14 @@ some_input (kind.Count most) text name texts = refl
 pub input_later : (operands : List Operand) (texts : List (String Global)) (text name : List ℕ) (i : ℕ) (d : Operand)
     (e : String Global) → i < length operands → length operands ≡ length texts →
     text ≡ string_bytes (get_or texts i e) →
-    false ≡ list_any (λ t. bytes_eq t name) (with_input (kind_of (get_or operands i d)) text []) →
+    false ≡ list_any (λ t. bytes_eq t name) (with_input (operand_kind (get_or operands i d)) text []) →
     list_any (λ t. bytes_eq t name) (input_texts (drop (i + 1) operands) (map string_bytes (drop (i + 1) texts)))
     ≡ list_any (λ t. bytes_eq t name) (input_texts (drop i operands) (map string_bytes (drop i texts)))
 input_later operands texts text name i d e h same is none =
     let later = input_texts (drop (i + 1) operands) (map string_bytes (drop (i + 1) texts)) in
     sym
     (rw (one_left operands i d h, first_left texts i e (omega (arith, h, same)), sym is)
-    (some_input (kind_of (get_or operands i d)) text name later
+    (some_input (operand_kind (get_or operands i d)) text name later
     ∙ ap (λ (b : Bool). b || list_any (λ t. bytes_eq t name) later) (sym none)))
 
 after_before : (arguments : List words.Argument) (argument : words.Argument)
@@ -138,7 +138,7 @@ after_before arguments argument (Err status) = refl
 pub read_more : (operands : List Operand) (texts : List (String Global)) (arguments : List Argument)
     (argument : Argument) (i : ℕ) (d : Operand) (e : String Global) → i < length operands →
     length operands ≡ length texts → length arguments ≡ i →
-    argument_of (i + 1) (kind_of (get_or operands i d)) (string_bytes (get_or texts i e))
+    argument_of (i + 1) (operand_kind (get_or operands i d)) (string_bytes (get_or texts i e))
     ≡ Ok (argument_said (i + 1) argument) →
     after_these (arguments_said 1 (arguments ++ argument ∷ []))
     (arguments_from (i + 1 + 1) (drop (i + 1) operands) (map string_bytes (drop (i + 1) texts)))

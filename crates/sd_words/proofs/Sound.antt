@@ -7,9 +7,9 @@ use Rattle.sd_commands.specs.declared.command.Command.{Command}
 use Rattle.sd_commands.specs.declared.operand.Operand.{Operand}
 use Rattle.sd_commands.specs.declared.operand.Kind.{Kind}
 use Rattle.sd_commands.specs.declared.operand.Kind.TheVariants as kind
-use Rattle.sd_commands.specs.Commands.{command_of, operands_of}
-use Rattle.sd_commands.specs.Operands.{kind_of}
-use Rattle.sd_text.specs.Number.{number_of}
+use Rattle.sd_commands.specs.Commands.{command_named, operands_of}
+use Rattle.sd_commands.specs.Operands.{operand_kind}
+use Rattle.sd_text.specs.Number.{decimal_value}
 use Rattle.sd_status.specs.declared.status.Status.{Status}
 use Rattle.sd_status.specs.declared.status.Status.TheVariants.{Usage, BadWord}
 use Rattle.sd_words.specs.declared.order.Order as declared
@@ -26,12 +26,12 @@ number_sound place most (Some n) =
     elim (cases_lt most n) [
       | inl lt ↦
           subst
-          (λ (b : Bool). IfOk (numbered place (if b then Err (BadWord place) else Ok n)) (IsOf place (kind.Number most)))
-          (sym (lt-ltb most n lt)) tt
+          (λ (b : Bool). IfOk (numbered place (if b then Err (BadWord place) else Ok n))
+          (IsOf place (kind.Number most))) (sym (lt-ltb most n lt)) tt
       | inr le ↦
           subst
-          (λ (b : Bool). IfOk (numbered place (if b then Err (BadWord place) else Ok n)) (IsOf place (kind.Number most)))
-          (sym (le-ltb most n le)) (refl, le)
+          (λ (b : Bool). IfOk (numbered place (if b then Err (BadWord place) else Ok n))
+          (IsOf place (kind.Number most))) (sym (le-ltb most n le)) (refl, le)
     ]
 
 -- a count is not 0 either
@@ -44,12 +44,12 @@ count_sound place most (Err status) h = tt
 argument_sound : (place : ℕ) (k : Kind) (text : List ℕ) → IfOk (argument_of place k text) (IsOf place k)
 argument_sound place kind.Input text = refl
 argument_sound place kind.Output text = refl
-argument_sound place (kind.Number most) text = number_sound place most (number_of text)
+argument_sound place (kind.Number most) text = number_sound place most (decimal_value text)
 argument_sound place (kind.Count most) text =
-    count_sound place most (number_in place most text) (number_sound place most (number_of text))
+    count_sound place most (number_in place most text) (number_sound place most (decimal_value text))
 
 before_sound : (place : ℕ) (operand : Operand) (operands : List Operand) (first : Result Argument Status)
-    (rest : Result (List Argument) Status) → IfOk first (IsOf place (kind_of operand)) →
+    (rest : Result (List Argument) Status) → IfOk first (IsOf place (operand_kind operand)) →
     IfOk rest (AreOf (place + 1) operands) → IfOk (before first rest) (AreOf place (operand ∷ operands))
 before_sound place operand operands (Err status) rest a b = tt
 before_sound place operand operands (Ok argument) (Err status) a b = tt
@@ -60,8 +60,8 @@ arguments_sound : (place : ℕ) (operands : List Operand) (texts : List (List �
 arguments_sound place [] texts h = tt
 arguments_sound place (operand ∷ operands) [] h = absurd (omega (arith, h))
 arguments_sound place (operand ∷ operands) (text ∷ texts) h =
-    before_sound place operand operands (argument_of place (kind_of operand) text)
-    (arguments_from (place + 1) operands texts) (argument_sound place (kind_of operand) text)
+    before_sound place operand operands (argument_of place (operand_kind operand) text)
+    (arguments_from (place + 1) operands texts) (argument_sound place (operand_kind operand) text)
     (arguments_sound (place + 1) operands texts (omega (arith, h)))
 
 ordered_sound : (command : Command) (read : Result (List Argument) Status) → IfOk read (AreOf 1 (operands_of command)) →
@@ -96,7 +96,7 @@ topic_sound (Some topic) = tt
 
 help_sound : (texts : List (List ℕ)) → IfOk (help_words texts) IsSound
 help_sound [] = tt
-help_sound (name ∷ []) = topic_sound (command_of name)
+help_sound (name ∷ []) = topic_sound (command_named name)
 help_sound (name ∷ word ∷ words) = tt
 
 version_sound : (texts : List (List ℕ)) → IfOk (version_words texts) IsSound
@@ -107,9 +107,9 @@ named_sound : (name : List ℕ) (texts : List (List ℕ)) → IfOk (named_words 
 unfolding named_words
 named_sound name texts =
     either (is_help name) (help_words texts)
-    (if is_version name then version_words texts else words_of (command_of name) texts) (help_sound texts)
-    (either (is_version name) (version_words texts) (words_of (command_of name) texts) (version_sound texts)
-    (named_command_sound (command_of name) texts))
+    (if is_version name then version_words texts else words_of (command_named name) texts) (help_sound texts)
+    (either (is_version name) (version_words texts) (words_of (command_named name) texts) (version_sound texts)
+    (named_command_sound (command_named name) texts))
 
 said_sound : (read : Result declared.Order Status) → IfOk (shown read) IsSound →
     IfOk read (λ order. IsSound (order_said order))

@@ -2,15 +2,15 @@
 use Rattle.std.proofs.Common.{◌≡◌, ℕ, ◌<◌, ◌≤◌, ◌^◌, Bool, true, false, cond, nat_lt, List, [], Option, Some, None}
 use Rattle.std.proofs.Common.{Result, Ok, Err, refl, sym, ap, ◌∙◌, arith, le-ltb, lt-ltb, inl, inr}
 use Rattle.std.proofs.lemmas.Bool.{cases_lt}
-use Rattle.sd_text.specs.Number.{number_of, decimal_after, after, fitting}
+use Rattle.sd_text.specs.Number.{decimal_value, decimal_after, rest_after, fitting}
 use Rattle.sd_text.specs.declared.number.NumberFault.{NumberFault}
 use Rattle.sd_text.specs.declared.number.NumberFault.TheVariants.{TooLarge}
 use Rattle.sd_status.specs.declared.status.Status.TheVariants.{BadWord}
 use Rattle.sd_words.specs.Words.{at_most, number_in}
 
 -- after no word stands the whole text
-after_nothing : (text : List ℕ) → decimal_after [] text ≡ number_of text
-unfolding after
+after_nothing : (text : List ℕ) → decimal_after [] text ≡ decimal_value text
+unfolding rest_after
 after_nothing text = refl
 
 -- a number, where it is one of 32 bits

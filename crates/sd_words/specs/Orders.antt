@@ -4,7 +4,7 @@ use Rattle.sd_commands.specs.declared.operand.Operand.{Operand}
 use Rattle.sd_commands.specs.declared.operand.Kind.{Kind}
 use Rattle.sd_commands.specs.declared.operand.Kind.TheVariants as kind
 use Rattle.sd_commands.specs.Commands.{operands_of}
-use Rattle.sd_commands.specs.Operands.{kind_of}
+use Rattle.sd_commands.specs.Operands.{operand_kind}
 use Rattle.sd_status.specs.declared.status.Status.{Status}
 use Rattle.sd_status.specs.declared.status.Status.TheVariants.{Usage, BadWord}
 use Rattle.sd_files.specs.Shown.{word_at}
@@ -66,7 +66,7 @@ AreOf place [] [] = Unit {0}
 AreOf place [] (argument ∷ arguments) = ⊥
 AreOf place (operand ∷ operands) [] = ⊥
 AreOf place (operand ∷ operands) (argument ∷ arguments) =
-    IsOf place (kind_of operand) argument × AreOf (place + 1) operands arguments
+    IsOf place (operand_kind operand) argument × AreOf (place + 1) operands arguments
 
 -- The arguments are those of the command's row: each file has a number of its own, each number is within its limit.
 abbrev pub IsSound : words.Order → Type 0

@@ -1,26 +1,27 @@
 -- Public meaning: what the words after the program's name say [this project, docs/FORMATS.md, Commands].
-use Rattle.std.specs.Prelude.{◌≡◌, ◌⊎◌, ℕ, zero, suc, ◌+◌, ◌-◌, ◌==◌, nat_lt, not, List, [], ◌∷◌, codes, length, slice_get}
+use Rattle.std.specs.Prelude.{◌≡◌, ◌⊎◌, ℕ, zero, suc, ◌+◌, ◌-◌, ◌==◌, nat_lt, not, List, [], ◌∷◌, codes, length}
+use Rattle.std.specs.Prelude.{slice_get}
 use Rattle.std.specs.Prelude.{bytes_eq, ◌||◌}
 use Rattle.std.specs.Prelude.{if◌then◌else◌, Option, Some, None, Bool, false, Result, Ok, Err}
 use Rattle.std.specs.List.{list_any}
-use Rattle.sd_text.specs.Number.{number_of}
+use Rattle.sd_text.specs.Number.{decimal_value}
 use Rattle.sd_commands.specs.declared.command.Command.{Command}
 use Rattle.sd_commands.specs.declared.command.Command.TheVariants as commands
 use Rattle.sd_commands.specs.declared.operand.Operand.{Operand}
 use Rattle.sd_commands.specs.declared.operand.Kind.{Kind}
 use Rattle.sd_commands.specs.declared.operand.Kind.TheVariants as kind
-use Rattle.sd_commands.specs.Commands.{command_of, operands_of}
-use Rattle.sd_commands.specs.Operands.{kind_of}
-use Rattle.sd_status.specs.Meant.{Word}
-use Rattle.sd_files.specs.Shown.{Number, word_at}
+use Rattle.sd_commands.specs.Commands.{command_named, operands_of}
+use Rattle.sd_commands.specs.Operands.{operand_kind}
+use Rattle.sd_status.specs.Spec.{FileArgument}
+use Rattle.sd_files.specs.Shown.{NumberArgument, word_at}
 use Rattle.sd_status.specs.declared.status.Status.{Status}
 use Rattle.sd_status.specs.declared.status.Status.TheVariants.{Usage, BadWord}
 
 -- what an argument says: a file that is read, the file that is made, or a number
 pub data Argument : Type 0 where
-  InputOf : (word : Word) → Argument
-  OutOf : (word : Word) → Argument
-  NumberOf : (number : Number) → Argument
+  InputOf : (word : FileArgument) → Argument
+  OutOf : (word : FileArgument) → Argument
+  NumberOf : (number : NumberArgument) → Argument
 
 -- a command of the table with its arguments, or one of the two that the table doesn't have
 pub data Order : Type 0 where
@@ -29,25 +30,25 @@ pub data Order : Type 0 where
   VersionOf : Order
 
 -- the file that an argument names
-abbrev pub file_of : ℕ → Option Argument → Word
+abbrev pub file_of : ℕ → Option Argument → FileArgument
 file_of place None = word_at place []
 file_of place (Some (InputOf word)) = word
 file_of place (Some (OutOf word)) = word
 file_of place (Some (NumberOf number)) = word_at place []
 
 -- the file of the argument at this place, counted from 1
-abbrev pub file : ℕ → List Argument → Word
+abbrev pub file : ℕ → List Argument → FileArgument
 file place arguments = file_of place (slice_get arguments (place - 1))
 
 -- the number that an argument says
-abbrev pub value_of : ℕ → Option Argument → Number
+abbrev pub value_of : ℕ → Option Argument → NumberArgument
 value_of place None = record { word = place; value = 0 }
 value_of place (Some (InputOf word)) = record { word = place; value = 0 }
 value_of place (Some (OutOf word)) = record { word = place; value = 0 }
 value_of place (Some (NumberOf number)) = number
 
 -- the number of the argument at this place, counted from 1
-abbrev pub number : ℕ → List Argument → Number
+abbrev pub number : ℕ → List Argument → NumberArgument
 number place arguments = value_of place (slice_get arguments (place - 1))
 
 abbrev pub at_most : ℕ → ℕ → Option ℕ → Result ℕ Status
@@ -56,7 +57,7 @@ at_most word most (Some n) = if nat_lt most n then Err (BadWord word) else Ok n
 
 -- the number of a word, which must be a decimal and at most the greatest
 abbrev pub number_in : ℕ → ℕ → List ℕ → Result ℕ Status
-number_in word most text = at_most word most (number_of text)
+number_in word most text = at_most word most (decimal_value text)
 
 -- 0 is no count
 abbrev pub counted : ℕ → Result ℕ Status → Result ℕ Status
@@ -87,7 +88,7 @@ abbrev pub arguments_from : ℕ → List Operand → List (List ℕ) → Result 
 arguments_from place [] texts = Ok []
 arguments_from place (operand ∷ operands) [] = Ok []
 arguments_from place (operand ∷ operands) (text ∷ texts) =
-    before (argument_of place (kind_of operand) text) (arguments_from (place + 1) operands texts)
+    before (argument_of place (operand_kind operand) text) (arguments_from (place + 1) operands texts)
 
 abbrev pub with_input : Kind → List ℕ → List (List ℕ) → List (List ℕ)
 with_input kind.Input text texts = text ∷ texts
@@ -99,7 +100,7 @@ with_input (kind.Count most) text texts = texts
 abbrev pub input_texts : List Operand → List (List ℕ) → List (List ℕ)
 input_texts [] texts = []
 input_texts (operand ∷ operands) [] = []
-input_texts (operand ∷ operands) (text ∷ texts) = with_input (kind_of operand) text (input_texts operands texts)
+input_texts (operand ∷ operands) (text ∷ texts) = with_input (operand_kind operand) text (input_texts operands texts)
 
 abbrev pub or_output : Kind → List ℕ → Option (List ℕ) → Option (List ℕ)
 or_output kind.Output text later = Some text
@@ -111,7 +112,7 @@ or_output (kind.Count most) text later = later
 abbrev pub out_text : List Operand → List (List ℕ) → Option (List ℕ)
 out_text [] texts = None
 out_text (operand ∷ operands) [] = None
-out_text (operand ∷ operands) (text ∷ texts) = or_output (kind_of operand) text (out_text operands texts)
+out_text (operand ∷ operands) (text ∷ texts) = or_output (operand_kind operand) text (out_text operands texts)
 
 abbrev pub is_among : List (List ℕ) → Option (List ℕ) → Bool
 is_among texts None = false
@@ -150,7 +151,7 @@ help_on (Some topic) = Ok (HelpOf (Some topic))
 
 abbrev pub help_words : List (List ℕ) → Result Order Status
 help_words [] = Ok (HelpOf None)
-help_words (name ∷ []) = help_on (command_of name)
+help_words (name ∷ []) = help_on (command_named name)
 help_words (name ∷ word ∷ words) = Err Usage
 
 abbrev pub version_words : List (List ℕ) → Result Order Status
@@ -161,7 +162,7 @@ unfoldable pub named_words : List ℕ → List (List ℕ) → Result Order Statu
 named_words name texts =
     if is_help name then help_words texts
     else if is_version name then version_words texts
-    else words_of (command_of name) texts
+    else words_of (command_named name) texts
 
 -- The first word is the name of a command, whose row says what the others are.
 abbrev pub order_of : List (List ℕ) → Result Order Status
@@ -199,60 +200,60 @@ MakesCard (HelpOf topic) = ⊥
 MakesCard VersionOf = ⊥
 
 -- the orders of the commands, by their names
-abbrev pub AccountsOf : Word → Word → Word → Order
+abbrev pub AccountsOf : FileArgument → FileArgument → FileArgument → Order
 AccountsOf site accounts out = CommandOf commands.Accounts (InputOf site ∷ InputOf accounts ∷ OutOf out ∷ [])
 
-abbrev pub ApartOf : Word → Word → Word → Word → Order
+abbrev pub ApartOf : FileArgument → FileArgument → FileArgument → FileArgument → Order
 ApartOf site book other more =
     CommandOf commands.Apart (InputOf site ∷ InputOf book ∷ InputOf other ∷ InputOf more ∷ [])
 
-abbrev pub BookOf : Word → Word → Word → Word → Order
+abbrev pub BookOf : FileArgument → FileArgument → FileArgument → FileArgument → Order
 BookOf site book more out = CommandOf commands.Book (InputOf site ∷ InputOf book ∷ InputOf more ∷ OutOf out ∷ [])
 
-abbrev pub CardOf : Word → Number → Word → Order
+abbrev pub CardOf : FileArgument → NumberArgument → FileArgument → Order
 CardOf site leaf out = CommandOf commands.Card (InputOf site ∷ NumberOf leaf ∷ OutOf out ∷ [])
 
-abbrev pub CoverOf : Word → Word → Order
+abbrev pub CoverOf : FileArgument → FileArgument → Order
 CoverOf site book = CommandOf commands.Cover (InputOf site ∷ InputOf book ∷ [])
 
-abbrev pub FieldOf : Word → Word → Word → Order
+abbrev pub FieldOf : FileArgument → FileArgument → FileArgument → Order
 FieldOf site clear script = CommandOf commands.Field (InputOf site ∷ InputOf clear ∷ InputOf script ∷ [])
 
-abbrev pub HeadOf : Word → Word → Word → Word → Order
+abbrev pub HeadOf : FileArgument → FileArgument → FileArgument → FileArgument → Order
 HeadOf site book clear out = CommandOf commands.Head (InputOf site ∷ InputOf book ∷ InputOf clear ∷ OutOf out ∷ [])
 
-abbrev pub LayeredOf : Word → Word → Number → Order
+abbrev pub LayeredOf : FileArgument → FileArgument → NumberArgument → Order
 LayeredOf site book width = CommandOf commands.Layered (InputOf site ∷ InputOf book ∷ NumberOf width ∷ [])
 
-abbrev pub LcardOf : Word → Number → Number → Word → Order
+abbrev pub LcardOf : FileArgument → NumberArgument → NumberArgument → FileArgument → Order
 LcardOf site leaf width out = CommandOf commands.Lcard (InputOf site ∷ NumberOf leaf ∷ NumberOf width ∷ OutOf out ∷ [])
 
-abbrev pub OpensOf : Word → Word → Word → Order
+abbrev pub OpensOf : FileArgument → FileArgument → FileArgument → Order
 OpensOf site book leaves = CommandOf commands.Opens (InputOf site ∷ InputOf book ∷ InputOf leaves ∷ [])
 
-abbrev pub PlanOf : Word → Word → Number → Number → Order
+abbrev pub PlanOf : FileArgument → FileArgument → NumberArgument → NumberArgument → Order
 PlanOf site book packets pids =
     CommandOf commands.Plan (InputOf site ∷ InputOf book ∷ NumberOf packets ∷ NumberOf pids ∷ [])
 
-abbrev pub ReceiveOf : Word → Word → Word → Order
+abbrev pub ReceiveOf : FileArgument → FileArgument → FileArgument → Order
 ReceiveOf card stream out = CommandOf commands.Receive (InputOf card ∷ InputOf stream ∷ OutOf out ∷ [])
 
-abbrev pub SampleOf : ℕ → ℕ → Word → Order
+abbrev pub SampleOf : ℕ → ℕ → FileArgument → Order
 SampleOf value packets out =
     CommandOf commands.Sample
     (NumberOf (record { word = 1; value = value }) ∷ NumberOf (record { word = 2; value = packets }) ∷ OutOf out ∷ [])
 
-abbrev pub MessagesOf : Word → Word → Order
+abbrev pub MessagesOf : FileArgument → FileArgument → Order
 MessagesOf site stream = CommandOf commands.Messages (InputOf site ∷ InputOf stream ∷ [])
 
-abbrev pub ShowOf : Word → Order
+abbrev pub ShowOf : FileArgument → Order
 ShowOf card = CommandOf commands.Show (InputOf card ∷ [])
 
-abbrev pub TablesOf : Word → Order
+abbrev pub TablesOf : FileArgument → Order
 TablesOf stream = CommandOf commands.Tables (InputOf stream ∷ [])
 
-abbrev pub TraceOf : Word → Word → Word → Order
+abbrev pub TraceOf : FileArgument → FileArgument → FileArgument → Order
 TraceOf site book leaves = CommandOf commands.Trace (InputOf site ∷ InputOf book ∷ InputOf leaves ∷ [])
 
-abbrev pub TrialOf : Word → Word → Word → Order
+abbrev pub TrialOf : FileArgument → FileArgument → FileArgument → Order
 TrialOf site book clear = CommandOf commands.Trial (InputOf site ∷ InputOf book ∷ InputOf clear ∷ [])

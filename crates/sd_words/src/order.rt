@@ -1,6 +1,6 @@
 ghost use Rattle.std.specs.Prelude.{[], ◌≡◌, ◌≤◌, bytes_eq, length, map, option_map, string_bytes, IfOk, IfErr};
 ghost use Rattle.std.specs.List.{list_any};
-ghost use Rattle.sd_commands.specs.Commands.{command_of, operands_of};
+ghost use Rattle.sd_commands.specs.Commands.{command_named, operands_of};
 ghost use Rattle.sd_words.specs.Words.{command_words, help_on, help_words, input_texts, named_words, order_of};
 ghost use Rattle.sd_words.specs.Words.{out_is_read, out_text, version_words, with_input};
 ghost use Rattle.sd_words.specs.Orders.{order_said, shown, IsSound, RefusesWords};

@@ -1,5 +1,5 @@
 use Rattle.std.proofs.Common.{sym, arith, subst, ◌+◌, ◌<◌, length, ℕ}
-use Rattle.sd_ecm.specs.Form.{nothing}
+use Rattle.sd_ecm.specs.Form.{no_place}
 use Rattle.sd_collect.proofs.Walking.{IsWalked, lower, met_more, passed_more, all_seen}
 use Rattle.sd_collect.proofs.order.places_go_back.Goals as goal
 use Rattle.sd_collect.proofs.order.places_go_back.Goals.{then-met-places+then-places-met+else-place-places}
@@ -9,7 +9,7 @@ use Rattle.sd_collect.proofs.order.places_go_back.Goals.{else-met-places-via-els
 
 pub returns-then-place-places : goal.returns-then-place-places
 returns-then-place-places c = λ up rises.
-    lower c.args.coming.now c.args.places.now c.loop-place.met c.loop-place.place-index nothing
+    lower c.args.coming.now c.args.places.now c.loop-place.met c.loop-place.place-index no_place
     (c.loop-place.invariant.walked up rises)
     c.if-met-places.true (omega arith) (sym c.if-places-met.true) c.if-place-places.true
 
@@ -25,7 +25,7 @@ loop-place-preserved c =
             few = omega (arith, w.met-is, some);
             walked = λ up rises. subst (λ (n : ℕ). IsWalked coming places n (c.loop-place.place-index + 1))
                 (sym w.met-is)
-                (met_more coming places c.loop-place.met c.loop-place.place-index nothing up rises
+                (met_more coming places c.loop-place.met c.loop-place.place-index no_place up rises
                 (c.loop-place.invariant.walked up rises) some at (sym w.if-places-met.true) w.if-place-places.false);
           }
       | else-met-places w ↦
@@ -33,7 +33,7 @@ loop-place-preserved c =
             few = omega (arith, w.met-is, c.loop-place.invariant.few);
             walked = λ up rises. subst (λ (n : ℕ). IsWalked coming places n (c.loop-place.place-index + 1))
                 (sym w.met-is)
-                (passed_more coming places c.loop-place.met c.loop-place.place-index nothing
+                (passed_more coming places c.loop-place.met c.loop-place.place-index no_place
                 (c.loop-place.invariant.walked up rises) at (λ some same. elim w.else-met-places.branch [
                   | else-met-places-via-then-met-places+else-places-met v ↦ v.if-places-met.false (sym same)
                   | else-met-places-via-else-met-places v ↦ absurd (omega (arith, v.if-met-places.false, some))

@@ -3,7 +3,7 @@ use Rattle.std.proofs.lemmas.Bool.{false≢true}
 use Rattle.std.proofs.lemmas.List.{take_rest}
 use Rattle.sd_ecm.specs.Versions.{flags_at}
 use Rattle.sd_ecm.specs.Form.{ArePositioned}
-use Rattle.sd_ecm.specs.Fields.{places_in, padded, ecm_in, IsMatched, IsGoodIn, BreaksIn}
+use Rattle.sd_ecm.specs.Fields.{places_in, padded_places, ecm_in, IsMatched, IsGoodIn, BreaksIn}
 use Rattle.sd_ecm.specs.declared.part.EcmPart.{EcmPart}
 use Rattle.sd_ecm.specs.declared.fault.EcmFault.TheVariants.{Count, Order, Pid, Mixed}
 use Rattle.sd_ecm.proofs.Judging.{IsJudged, AreRead, count_breaks, pid_breaks, order_breaks, mixed_breaks, is_good}
@@ -67,7 +67,7 @@ returns-then-not-are_ascending-clause-fault c =
     let are : AreRead v body c.from-count.result c.in-Some.positions = record {
       all = subst (λ (l : List ℕ). ArePositioned (places_in c.from-count.result l)) after
           (c.in-Some.ensures.places.0 refl);
-      read = c.in-Some.ensures.value ∙ ap (λ (l : List ℕ). padded (places_in c.from-count.result l)) after;
+      read = c.in-Some.ensures.value ∙ ap (λ (l : List ℕ). padded_places (places_in c.from-count.result l)) after;
     } in
     subst (λ (v : ℕ). BreaksIn c.args.table_id c.args.body.now
     (ecm_in v c.args.number c.args.last_number c.args.body.now) Order) c.version_in-version.ensures.value
@@ -88,7 +88,7 @@ returns-then-not-is_matched-clause-fault c =
     let are : AreRead v body c.from-count.result c.in-Some.positions = record {
       all = subst (λ (l : List ℕ). ArePositioned (places_in c.from-count.result l)) after
           (c.in-Some.ensures.places.0 refl);
-      read = c.in-Some.ensures.value ∙ ap (λ (l : List ℕ). padded (places_in c.from-count.result l)) after;
+      read = c.in-Some.ensures.value ∙ ap (λ (l : List ℕ). padded_places (places_in c.from-count.result l)) after;
     } in
     let flags = ap (λ (l : List ℕ). get_or l 0 0) c.tail_of-tail.ensures.value in
     subst (λ (v : ℕ). BreaksIn c.args.table_id c.args.body.now
@@ -112,7 +112,7 @@ returns-clause-value c =
     let are : AreRead v body c.from-count.result c.in-Some.positions = record {
       all = subst (λ (l : List ℕ). ArePositioned (places_in c.from-count.result l)) after
           (c.in-Some.ensures.places.0 refl);
-      read = c.in-Some.ensures.value ∙ ap (λ (l : List ℕ). padded (places_in c.from-count.result l)) after;
+      read = c.in-Some.ensures.value ∙ ap (λ (l : List ℕ). padded_places (places_in c.from-count.result l)) after;
     } in
     is_whole v c.args.number c.args.last_number body c.read_head-part.result c.from-count.result c.in-Some.positions
     judged.is judged.counted are.read
@@ -131,7 +131,7 @@ returns-clause-good c =
     let are : AreRead v body c.from-count.result c.in-Some.positions = record {
       all = subst (λ (l : List ℕ). ArePositioned (places_in c.from-count.result l)) after
           (c.in-Some.ensures.places.0 refl);
-      read = c.in-Some.ensures.value ∙ ap (λ (l : List ℕ). padded (places_in c.from-count.result l)) after;
+      read = c.in-Some.ensures.value ∙ ap (λ (l : List ℕ). padded_places (places_in c.from-count.result l)) after;
     } in
     let flags = ap (λ (l : List ℕ). get_or l 0 0) c.tail_of-tail.ensures.value in
     subst (λ (v : ℕ). IsGoodIn c.args.table_id c.args.body.now

@@ -1,6 +1,6 @@
 use Rattle.std.proofs.Common.{◌≡◌, ◌∙◌, length, arith, rules}
 use Rattle.sd_message.proofs.Items.{none_put}
-use Rattle.sd_ecm.specs.Spelled.{head_bytes, place_bytes}
+use Rattle.sd_ecm.specs.Spelled.{ecm_head_bytes, place_bytes}
 use Rattle.sd_ecm.proofs.Versions.{fits_packet, few_positions}
 use Rattle.sd_ecm.proofs.Spelling.{one_put}
 use Rattle.sd_ecm.proofs.write.body_of.Goals as goal
@@ -39,7 +39,7 @@ loop-k-preserved c =
     let within = few_positions c.args.part.now.version in
     record {
       value = c.put_place.ensures.value
-          ∙ one_put (head_bytes c.args.part.now) c.loop-k.body c.args.part.now.positions c.loop-k.k _
+          ∙ one_put (ecm_head_bytes c.args.part.now) c.loop-k.body c.args.part.now.positions c.loop-k.k _
           (omega (arith, c.requires, c.loop-k-test.true, c.from-k-end.ensures)) c.loop-k.invariant.value;
       length = omega (arith, c.put_place.ensures.length, c.loop-k.invariant.length);
     }

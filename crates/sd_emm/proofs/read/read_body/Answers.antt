@@ -2,7 +2,7 @@ use Rattle.std.proofs.Common.{List, ℕ, length, drop, length-drop, arith, refl,
 use Rattle.std.proofs.lemmas.Bool.{false≢true}
 use Rattle.std.proofs.lemmas.List.{take_rest}
 use Rattle.sd_emm.specs.Form.{AreSets}
-use Rattle.sd_emm.specs.Fields.{head_length, entries_in, padded}
+use Rattle.sd_emm.specs.Fields.{emm_head_length, entries_in, padded_entries}
 use Rattle.sd_emm.proofs.Judging.{node_breaks, order_breaks, is_good, is_whole}
 use Rattle.sd_emm.proofs.Spelling.{named_read}
 use Rattle.sd_emm.proofs.read.read_body.Goals as goal
@@ -15,7 +15,7 @@ read_entries-requires-clause-room c =
     omega (
       arith,
       has.0,
-      ap head_length named,
+      ap emm_head_length named,
       c.head_length.ensures.value,
       ap (λ (l : List ℕ). length l) (take_rest c.args.body.now c.head_length.result),
       length-drop c.head_length.result c.args.body.now,
@@ -26,8 +26,8 @@ pub returns-in_default-clause-fault : goal.returns-in_default-clause-fault
 returns-in_default-clause-fault c =
     let after = take_rest c.args.body.now c.head_length.result
     ∙ ap (λ (n : ℕ). drop n c.args.body.now) c.head_length.ensures.value in
-    node_breaks c.args.h c.args.named c.args.index c.args.body.now c.read_head-emm.result c.from-count.result c.read_head-emm.ensures
-    (c.is_counted.ensures.0 c.if-not-is_counted.false) c.from-count.ensures
+    node_breaks c.args.h c.args.named c.args.index c.args.body.now c.read_head-emm.result c.from-count.result
+    c.read_head-emm.ensures (c.is_counted.ensures.0 c.if-not-is_counted.false) c.from-count.ensures
     (λ all. false≢true (c.in_default.ensures.sets.1
     (subst (λ (l : List ℕ). AreSets c.args.h c.read_head-emm.result.sets (entries_in c.from-count.result l)) (sym after)
     all)))
@@ -36,12 +36,12 @@ pub returns-then-not-are_ascending-clause-fault : goal.returns-then-not-are_asce
 returns-then-not-are_ascending-clause-fault c =
     let after = take_rest c.args.body.now c.head_length.result
     ∙ ap (λ (n : ℕ). drop n c.args.body.now) c.head_length.ensures.value in
-    order_breaks c.args.h c.args.named c.args.index c.args.body.now c.read_head-emm.result c.from-count.result c.in-Some.entries
-    c.read_head-emm.ensures
+    order_breaks c.args.h c.args.named c.args.index c.args.body.now c.read_head-emm.result c.from-count.result
+    c.in-Some.entries c.read_head-emm.ensures
     (c.is_counted.ensures.0 c.if-not-is_counted.false) c.from-count.ensures
     (subst (λ (l : List ℕ). AreSets c.args.h c.read_head-emm.result.sets (entries_in c.from-count.result l)) after
     (c.in-Some.ensures.sets.0 refl))
-    (c.in-Some.ensures.value ∙ ap (λ (l : List ℕ). padded (entries_in c.from-count.result l)) after)
+    (c.in-Some.ensures.value ∙ ap (λ (l : List ℕ). padded_entries (entries_in c.from-count.result l)) after)
     (λ up. false≢true (c.if-not-are_ascending.ensures.1 up))
 
 pub returns-clause-value : goal.returns-clause-value
@@ -49,7 +49,7 @@ returns-clause-value c =
     is_whole c.args.named c.args.index c.args.body.now c.read_head-emm.result c.from-count.result c.in-Some.entries
     c.read_head-emm.ensures
     c.from-count.ensures
-    (c.in-Some.ensures.value ∙ ap (λ (l : List ℕ). padded (entries_in c.from-count.result l))
+    (c.in-Some.ensures.value ∙ ap (λ (l : List ℕ). padded_entries (entries_in c.from-count.result l))
     (take_rest c.args.body.now c.head_length.result
     ∙ ap (λ (n : ℕ). drop n c.args.body.now) c.head_length.ensures.value))
 
@@ -57,10 +57,10 @@ pub returns-clause-good : goal.returns-clause-good
 returns-clause-good c =
     let after = take_rest c.args.body.now c.head_length.result
     ∙ ap (λ (n : ℕ). drop n c.args.body.now) c.head_length.ensures.value in
-    is_good c.args.h c.args.named c.args.index c.args.body.now c.read_head-emm.result c.from-count.result c.in-Some.entries
-    c.read_head-emm.ensures
+    is_good c.args.h c.args.named c.args.index c.args.body.now c.read_head-emm.result c.from-count.result
+    c.in-Some.entries c.read_head-emm.ensures
     (c.is_counted.ensures.0 c.if-not-is_counted.false) c.from-count.ensures
     (subst (λ (l : List ℕ). AreSets c.args.h c.read_head-emm.result.sets (entries_in c.from-count.result l)) after
     (c.in-Some.ensures.sets.0 refl))
-    (c.in-Some.ensures.value ∙ ap (λ (l : List ℕ). padded (entries_in c.from-count.result l)) after)
+    (c.in-Some.ensures.value ∙ ap (λ (l : List ℕ). padded_entries (entries_in c.from-count.result l)) after)
     (c.are_ascending.ensures.0 c.if-not-are_ascending.false)

@@ -17,7 +17,8 @@ returns-in_default-clause-complete c = λ emm fits form sets spells.
 pub returns-in_err-emm-clause-complete : goal.returns-in_err-emm-clause-complete
 returns-in_err-emm-clause-complete c = λ emm fits form sets spells.
     let high : c.args.h ≤ 20 = search rules in
-    let are : IsParted c.in-Some.section.bytes.now c.body.result.now c.is_named-named.result c.extension.result = record {
+    let are : IsParted c.in-Some.section.bytes.now c.body.result.now c.is_named-named.result c.extension.result =
+    record {
       is_name = c.is_named-named.ensures;
       is_index = c.extension.ensures;
       is_body = c.body.ensures;
@@ -28,7 +29,8 @@ returns-in_err-emm-clause-complete c = λ emm fits form sets spells.
 
 pub returns-clause-sound : goal.returns-clause-sound
 returns-clause-sound c =
-    let are : IsParted c.in-Some.section.bytes.now c.body.result.now c.is_named-named.result c.extension.result = record {
+    let are : IsParted c.in-Some.section.bytes.now c.body.result.now c.is_named-named.result c.extension.result =
+    record {
       is_name = c.is_named-named.ensures;
       is_index = c.extension.ensures;
       is_body = c.body.ensures;
@@ -40,7 +42,8 @@ returns-clause-sound c =
 pub returns-clause-complete : goal.returns-clause-complete
 returns-clause-complete c = λ emm fits form sets spells.
     let high : c.args.h ≤ 20 = search rules in
-    let are : IsParted c.in-Some.section.bytes.now c.body.result.now c.is_named-named.result c.extension.result = record {
+    let are : IsParted c.in-Some.section.bytes.now c.body.result.now c.is_named-named.result c.extension.result =
+    record {
       is_name = c.is_named-named.ensures;
       is_index = c.extension.ensures;
       is_body = c.body.ensures;
@@ -56,7 +59,8 @@ returns-in_default-clause-value c =
 pub returns-in_err-emm-clause-value : goal.returns-in_err-emm-clause-value
 returns-in_err-emm-clause-value c =
     let fault : c.from_residual.result ≡ Err c.in_err-emm.field-0.0 = search rules in
-    let are : IsParted c.in-Some.section.bytes.now c.body.result.now c.is_named-named.result c.extension.result = record {
+    let are : IsParted c.in-Some.section.bytes.now c.body.result.now c.is_named-named.result c.extension.result =
+    record {
       is_name = c.is_named-named.ensures;
       is_index = c.extension.ensures;
       is_body = c.body.ensures;
@@ -67,7 +71,8 @@ returns-in_err-emm-clause-value c =
 
 pub returns-clause-value : goal.returns-clause-value
 returns-clause-value c =
-    let are : IsParted c.in-Some.section.bytes.now c.body.result.now c.is_named-named.result c.extension.result = record {
+    let are : IsParted c.in-Some.section.bytes.now c.body.result.now c.is_named-named.result c.extension.result =
+    record {
       is_name = c.is_named-named.ensures;
       is_index = c.extension.ensures;
       is_body = c.body.ensures;

@@ -1,16 +1,16 @@
 use Rattle.std.proofs.Common.{◌≡◌, ◌≤◌, ◌+◌, ◌*◌, ◌++◌, length, take}
-use Rattle.sd_emm.specs.Spelled.{head_bytes, entry_bytes}
+use Rattle.sd_emm.specs.Spelled.{emm_head_bytes, entry_bytes}
 use Rattle.std.specs.Prelude.{flat_map, is_some}
 use Rattle.sd_emm.specs.Form.{AreWrapped}
 use Rattle.sd_emm.specs.declared.format.TheConstants.{ENTRY_BYTES}
-use Rattle.sd_emm.specs.Fields.{head_length}
+use Rattle.sd_emm.specs.Fields.{emm_head_length}
 use Rattle.sd_emm.proofs.write.body_of.Given as goal
 
 -- the entries before k are put
 abbrev pub invariant-loop-k : goal.invariant-loop-k
 invariant-loop-k l = record {
-  value : l.body ≡ head_bytes l.emm ++ flat_map entry_bytes (take l.k l.emm.entries);
+  value : l.body ≡ emm_head_bytes l.emm ++ flat_map entry_bytes (take l.k l.emm.entries);
   wrapped : AreWrapped (take l.k l.emm.entries);
-  length : length l.body ≡ head_length (is_some l.emm.run) + ENTRY_BYTES * l.k;
-  few : head_length (is_some l.emm.run) ≤ 31;
+  length : length l.body ≡ emm_head_length (is_some l.emm.run) + ENTRY_BYTES * l.k;
+  few : emm_head_length (is_some l.emm.run) ≤ 31;
 }

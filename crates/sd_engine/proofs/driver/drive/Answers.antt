@@ -1,5 +1,5 @@
 use Rattle.std.proofs.Common.{◌≡◌, ◌∙◌, subst, arith}
-use Rattle.sd_engine.specs.Feeding.{Gives}
+use Rattle.sd_engine.specs.Feeding.{FeedOutcome}
 use Rattle.sd_engine.specs.Driving.{most_packets}
 use Rattle.sd_engine.proofs.Driving.{one_more, recounted, not_fed, not_ended, packet_stopped, all_closed}
 use Rattle.sd_engine.proofs.Driving.{packet_too_many}
@@ -17,7 +17,7 @@ loop-count-preserved g c = record {
   );
   long = c.in-Ok-Some-default.ensures.length ∙ c.loop-count.invariant.long;
   way = one_more _ _ _ _ _ _ _ _ _ _ _ _ _ _ c.loop-count.invariant.way
-      (subst (Gives _ _ _ _) c.in-Ok-Some-default.field-0-0-is c.in-Ok-Some-default.ensures.value)
+      (subst (FeedOutcome _ _ _ _) c.in-Ok-Some-default.field-0-0-is c.in-Ok-Some-default.ensures.value)
       c.in_default.ensures.value;
   read = c.in-Ok-Some-default.ensures.cause.calm (λ e. absurd (cc)) ∙ c.loop-count.invariant.read;
   written = c.offer.ensures.cause.calm (λ e. c.in_default.not-Err _ e) ∙ c.loop-count.invariant.written;
@@ -26,14 +26,14 @@ loop-count-preserved g c = record {
 pub returns-in-Ok-None-default-clause-value : goal.returns-in-Ok-None-default-clause-value
 returns-in-Ok-None-default-clause-value g c =
     all_closed _ _ _ _ _ _ _ _ _ _ _ _ _ _ _ _ c.loop-count.invariant.way
-    (subst (Gives _ _ _ _) c.in-Ok-None-default.field-0-0-is c.in-Ok-None-default.ensures.value) c.close.ensures.value
-    (omega (arith, c.loop-count-test.true))
+    (subst (FeedOutcome _ _ _ _) c.in-Ok-None-default.field-0-0-is c.in-Ok-None-default.ensures.value)
+    c.close.ensures.value (omega (arith, c.loop-count-test.true))
 
 pub returns-in-Err-offer-clause-value : goal.returns-in-Err-offer-clause-value
 returns-in-Err-offer-clause-value g c =
     rw c.stopped.ensures (
     packet_stopped _ _ _ _ _ _ _ _ _ _ _ _ _ _ _ _ c.offer.result _ c.loop-count.invariant.way
-    (subst (Gives _ _ _ _) c.in-Ok-Some-default.field-0-0-is c.in-Ok-Some-default.ensures.value) c.in-Err-offer.is
+    (subst (FeedOutcome _ _ _ _) c.in-Ok-Some-default.field-0-0-is c.in-Ok-Some-default.ensures.value) c.in-Err-offer.is
     c.offer.ensures.fault
     c.offer.ensures.prefix (omega (arith, c.loop-count-test.true)))
 
@@ -48,7 +48,7 @@ returns-in-Ok-None-default-next-clause-value g c =
     let most : c.loop-count.count ≡ most_packets = omega (arith, c.loop-count-test.false, c.loop-count.auto.count-end)
     in
     all_closed _ _ _ _ _ _ _ _ _ _ _ _ _ _ _ _ (recounted _ _ _ _ _ _ c.loop-count.invariant.way most)
-    (subst (Gives _ _ _ _) c.in-Ok-None-default-next.field-0-0-is c.in-Ok-None-default-next.ensures.value)
+    (subst (FeedOutcome _ _ _ _) c.in-Ok-None-default-next.field-0-0-is c.in-Ok-None-default-next.ensures.value)
     c.close-in-Ok-None-default-next.ensures.value (omega arith)
 
 pub returns-in-Ok-Some-default-next-clause-value :
@@ -57,7 +57,7 @@ returns-in-Ok-Some-default-next-clause-value g c =
     let most : c.loop-count.count ≡ most_packets = omega (arith, c.loop-count-test.false, c.loop-count.auto.count-end)
     in
     packet_too_many _ _ _ _ _ _ _ _ _ _ (recounted _ _ _ _ _ _ c.loop-count.invariant.way most)
-    (subst (Gives _ _ _ _) c.in-Ok-Some-default-next.field-0-0-is c.in-Ok-Some-default-next.ensures.value)
+    (subst (FeedOutcome _ _ _ _) c.in-Ok-Some-default-next.field-0-0-is c.in-Ok-Some-default-next.ensures.value)
 
 pub returns-in-Err-next-clause-value : goal.returns-in-Err-next-clause-value
 returns-in-Err-next-clause-value g c =

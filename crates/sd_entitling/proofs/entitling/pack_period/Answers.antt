@@ -5,7 +5,7 @@ use Rattle.sd_site.specs.Fields.{fields_of}
 use Rattle.sd_emm.specs.Period.{Period}
 use Rattle.sd_broadcast.specs.Messages.{entry_of}
 use Rattle.sd_entitling.specs.Crypto.{IsKeyed}
-use Rattle.sd_entitling.specs.Packets.{packets_of}
+use Rattle.sd_entitling.specs.Packets.{period_packets}
 use Rattle.sd_entitling.proofs.Packing.{period_is}
 use Rattle.sd_entitling.proofs.Sets.{all_keyed, sets_few, entries_few, entries_ascend}
 use Rattle.sd_entitling.proofs.entitling.pack_period.Goals as goal
@@ -33,7 +33,7 @@ pack_sections-requires-clause-ascending g c =
 pub returns : goal.returns
 returns g c =
     subst (λ (p : Period). OnOk c.pack_sections.result
-    (c.pack_sections.new.packets.items ≡ packets_of c.args.site.now.emm p))
+    (c.pack_sections.new.packets.items ≡ period_packets c.args.site.now.emm p))
     (period_is (fields_of c.args.site.now) c.name.result c.args.q c.in_ok-sets.sets.items _ c.deref-2.result.now _
     c.period_key.result c.name.ensures c.in_ok-sets.ensures.value.0 (c.deref-2.ensures.value ∙ (c.in_ok-entries.ensures
     ∙ ap (λ (sets : List SetName). map (entry_of (fields_of c.args.site.now) c.args.q) sets) c.deref.ensures.value))

@@ -7,4 +7,5 @@ use Rattle.sd_entitling.proofs.sections.pack_sections.Given as goal
 -- the sections so far have their packets
 abbrev pub invariant-loop-index : goal.invariant-loop-index
 invariant-loop-index l =
-    l.packets.items ≡ of_sections l.fn.pid (take l.index (emms_of (period_of_entries l.fn.run l.fn.q l.fn.check l.fn.entries)))
+    l.packets.items ≡ of_sections l.fn.pid
+    (take l.index (emms_of (period_of_entries l.fn.run l.fn.q l.fn.check l.fn.entries)))

@@ -1,6 +1,6 @@
 use Rattle.std.proofs.Common.{Err, ◌<◌, ◌++◌, ◌∷◌, [], length, sym, subst, ap, inl, inr}
 use Rattle.std.specs.List.{concat}
-use Rattle.sd_engine.specs.Stage.{Vessel}
+use Rattle.sd_engine.specs.Stage.{SinkState}
 use Rattle.sd_reception.specs.Offered.{out_from}
 use Rattle.sd_field.specs.Heard.{IsHeard}
 use Rattle.sd_field.proofs.Heard.{by_kept, full_more, heard_kept, heard_refused, heard_taken, same_held}
@@ -33,7 +33,7 @@ returns-in-Err-Refused-clause-heard g c card earlier xs few heard =
     grew.says (e.keeps fault is).1 (e.keeps fault is).0))
     (λ why kept. let again = e.again why kept in
     subst (IsHeard card earlier (xs ++ packet ∷ []) t)
-    (sym (same_held c.offer.new.out.held c.args.written.now.held (ap (λ (v : Vessel). v.held) again.1)))
+    (sym (same_held c.offer.new.out.held c.args.written.now.held (ap (λ (v : SinkState). v.held) again.1)))
     (heard_kept card earlier xs s packet t c.args.written.now.held why few heard kept (e.keeps why again.0).1
     (e.keeps why again.0).0))
 

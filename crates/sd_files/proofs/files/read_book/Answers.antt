@@ -1,8 +1,8 @@
 use Rattle.std.proofs.lemmas.Result.{err_from_is_err_and}
 use Rattle.sd_book.specs.Text.{book_of}
 use Rattle.sd_status.specs.declared.status.LimitKind.TheVariants.{BookBytes}
-use Rattle.sd_status.specs.Outside.{place}
-use Rattle.sd_status.specs.Meant.{within, judged}
+use Rattle.sd_status.specs.Outside.{depot_state}
+use Rattle.sd_status.specs.Spec.{within, judged}
 use Rattle.sd_status.proofs.Follow.{looks_first, looks_judged}
 use Rattle.sd_files.specs.Files.{told_book, book_of_file, most_book_bytes}
 use Rattle.sd_files.proofs.files.read_book.Goals as goal
@@ -14,7 +14,7 @@ returns-in_err-bytes-clause-value g c =
     let word = c.args.word.number in
     rw (p.1, p.2) (looks_first (λ bytes. bytes.items) (λ book. book.commands) (within word most_book_bytes BookBytes)
     (λ bytes. judged (told_book word (book_of c.args.h bytes))) c.args.word.text.now
-    (place g.D.Depot c.args.depot.now) (place g.D.Depot c.read_bytes.new.depot) c.in_err-bytes.field-0.0
+    (depot_state g.D.Depot c.args.depot.now) (depot_state g.D.Depot c.read_bytes.new.depot) c.in_err-bytes.field-0.0
     c.in_err-bytes.ensures)
 
 pub returns-clause-value : goal.returns-clause-value
@@ -24,5 +24,5 @@ returns-clause-value g c =
     let word = c.args.word.number in
     looks_judged (λ bytes. bytes.items) (λ book. book.commands) (within word most_book_bytes BookBytes)
     (λ bytes. told_book word (book_of c.args.h bytes)) c.args.word.text.now
-    (place g.D.Depot c.args.depot.now) (place g.D.Depot c.read_bytes.new.depot) c.in_ok-bytes.bytes c.judge_book.result
-    c.in_ok-bytes.ensures judges
+    (depot_state g.D.Depot c.args.depot.now) (depot_state g.D.Depot c.read_bytes.new.depot) c.in_ok-bytes.bytes
+    c.judge_book.result c.in_ok-bytes.ensures judges

@@ -1,5 +1,5 @@
 use Rattle.std.proofs.Common.{refl, inl, inr, arith}
-use Rattle.sd_status.specs.Outside.{place}
+use Rattle.sd_status.specs.Outside.{depot_state}
 use Rattle.sd_status.specs.declared.status.Status.TheVariants.{DepotFault, NoMemory}
 use Rattle.sd_files.proofs.Places.{only_called}
 use Rattle.sd_files.proofs.Looked.{looks_read, looks_long, looks_stopped}
@@ -7,8 +7,8 @@ use Rattle.sd_files.proofs.files.read_bytes.Goals as goal
 
 pub returns-in-Ok : goal.returns-in-Ok
 returns-in-Ok g c =
-    let a = place g.D.Depot c.args.depot.now in
-    let b = place g.D.Depot c.read_file.new.depot in
+    let a = depot_state g.D.Depot c.args.depot.now in
+    let b = depot_state g.D.Depot c.read_file.new.depot in
     let h = c.in-Ok.ensures in
     looks_read (λ bytes. bytes.items) c.in-Ok.bytes c.args.word.number c.args.most c.args.kind c.args.word.text.now a b
     h.read h.within
@@ -17,8 +17,8 @@ returns-in-Ok g c =
 
 pub returns-in-Err-TooBig : goal.returns-in-Err-TooBig
 returns-in-Err-TooBig g c =
-    let a = place g.D.Depot c.args.depot.now in
-    let b = place g.D.Depot c.read_file.new.depot in
+    let a = depot_state g.D.Depot c.args.depot.now in
+    let b = depot_state g.D.Depot c.read_file.new.depot in
     let h = rw c.in-Err-TooBig.field-0-is at c.in-Err-TooBig.ensures in
     looks_long (λ bytes. bytes.items) c.args.word.number c.args.most c.args.kind c.args.word.text.now a b
     (h.too_big refl)
@@ -27,8 +27,8 @@ returns-in-Err-TooBig g c =
 
 pub returns-in-Err-Failed : goal.returns-in-Err-Failed
 returns-in-Err-Failed g c =
-    let a = place g.D.Depot c.args.depot.now in
-    let b = place g.D.Depot c.read_file.new.depot in
+    let a = depot_state g.D.Depot c.args.depot.now in
+    let b = depot_state g.D.Depot c.read_file.new.depot in
     let h = rw c.in-Err-Failed.field-0-is at c.in-Err-Failed.ensures in
     looks_stopped (λ bytes. bytes.items) c.args.word.number c.args.most c.args.kind c.args.word.text.now a b DepotFault
     (inr (refl, h.cause.failed refl, h.stops.failed refl)) h.once
@@ -37,8 +37,8 @@ returns-in-Err-Failed g c =
 
 pub returns-in-Err-NoMemory : goal.returns-in-Err-NoMemory
 returns-in-Err-NoMemory g c =
-    let a = place g.D.Depot c.args.depot.now in
-    let b = place g.D.Depot c.read_file.new.depot in
+    let a = depot_state g.D.Depot c.args.depot.now in
+    let b = depot_state g.D.Depot c.read_file.new.depot in
     let h = rw c.in-Err-NoMemory.field-0-is at c.in-Err-NoMemory.ensures in
     looks_stopped (λ bytes. bytes.items) c.args.word.number c.args.most c.args.kind c.args.word.text.now a b NoMemory
     (inl (refl, h.cause.no_fault (λ e. cc), h.stops.calm (λ e. cc))) h.once

@@ -3,7 +3,7 @@ use Rattle.sd_engine.specs.Stage.{vessel}
 use Rattle.sd_ecm.specs.Parts.{message_of, parts_of}
 use Rattle.sd_ecm.proofs.Sharing.{as_many}
 use Rattle.sd_entitling.proofs.Packing.{taken_at}
-use Rattle.sd_head.specs.Sending.{Takes, CutsOff, packed_part, counter_after}
+use Rattle.sd_head.specs.Sending.{TakesBytes, FailsWithin, packed_part, counter_after}
 use Rattle.sd_head.proofs.Sends.{one_more, one_cut, all_sent, sends_err, counter_next}
 use Rattle.sd_head.proofs.sending.send_message.Goals as goal
 
@@ -19,7 +19,7 @@ returns-in_err-send-clause-value g c =
     (taken_at (parts_of message) n c.of_message-part.result c.of_message-part.ensures.value)
     c.loop-number.invariant.next
     c.loop-number.invariant.value
-    (subst (CutsOff (vessel g.K.Sink c.loop-number.out) (vessel g.K.Sink c.send.new.out))
+    (subst (FailsWithin (vessel g.K.Sink c.loop-number.out) (vessel g.K.Sink c.send.new.out))
     (c.write_ecm.ensures.value ∙ ap (packed_part c.args.pid c.of_message-part.result) c.take.ensures.value)
     c.in_err-send.ensures.value))
 
@@ -35,7 +35,7 @@ loop-number-preserved g c =
           (taken_at (parts_of message) n c.of_message-part.result c.of_message-part.ensures.value)
           c.loop-number.invariant.next
           c.loop-number.invariant.value
-          (subst (Takes (vessel g.K.Sink c.loop-number.out) (vessel g.K.Sink c.send.new.out))
+          (subst (TakesBytes (vessel g.K.Sink c.loop-number.out) (vessel g.K.Sink c.send.new.out))
           (c.write_ecm.ensures.value ∙ ap (packed_part c.args.pid c.of_message-part.result) c.take.ensures.value)
           c.in_ok-send.ensures.value);
       next = counter_next c.args.counter.now c.loop-number.counter c.take.new.self n c.loop-number.invariant.next

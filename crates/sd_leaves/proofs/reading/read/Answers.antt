@@ -2,7 +2,7 @@ use Rattle.std.proofs.Common.{◌≡◌, ◌+◌, ◌<◌, ◌^◌, ◌++◌, �
 use Rattle.std.proofs.Common.{◌∙◌, arith}
 use Rattle.std.proofs.lemmas.List.Elements.{All-push}
 use Rattle.std.specs.List.Sorted.{IsStrictlyIncreasing}
-use Rattle.sd_text.specs.Number.{number_of}
+use Rattle.sd_text.specs.Number.{decimal_value}
 use Rattle.sd_leaves.specs.declared.reading.LeavesFault.TheVariants.{Line}
 use Rattle.sd_leaves.specs.Text.{leaf_after}
 use Rattle.sd_leaves.proofs.Lines.{AreRead, read_more, read_fault, read_all, leaf_fits, above_more}
@@ -18,7 +18,7 @@ returns-in_default-next_leaf-clause-fault c k is =
     let none = sym c.next_leaf.ensures ∙ c.in_default-next_leaf.is in
     let told = read_fault c.args.h c.args.bytes.now c.loop-line.rest.now c.in-Some.after.now c.in-Some.line.now
     c.loop-line.leaves.items c.loop-line.invariant.read
-    c.in-Some.ensures.first (ap (λ (us : List ℕ). leaf_after c.args.h us (number_of c.in-Some.line.now))
+    c.in-Some.ensures.first (ap (λ (us : List ℕ). leaf_after c.args.h us (decimal_value c.in-Some.line.now))
     (sym c.deref.ensures.value) ∙ none) in
     let fault : Line (length c.deref-in_default-next_leaf.result.now + 1) ≡ Line k = cc in
     let number : length c.deref-in_default-next_leaf.result.now + 1 ≡ k = cc in
@@ -28,7 +28,8 @@ pub loop-line-preserved : goal.loop-line-preserved
 loop-line-preserved c =
     let i = c.loop-line.invariant in
     let first = c.in-Some.ensures.first in
-    let leaf = ap (λ (us : List ℕ). leaf_after c.args.h us (number_of c.in-Some.line.now)) (sym c.deref.ensures.value)
+    let leaf = ap (λ (us : List ℕ).
+    leaf_after c.args.h us (decimal_value c.in-Some.line.now)) (sym c.deref.ensures.value)
     ∙ (sym c.next_leaf.ensures ∙ c.in-Some-next_leaf.is) in
     let added = sym c.in_ok-add.ensures.value in
     record {
@@ -38,8 +39,8 @@ loop-line-preserved c =
           c.in-Some-next_leaf.leaf i.read first leaf);
       fits = subst (All (λ u. u < 2 ^ c.args.h)) added (All-push (λ u. u < 2 ^ c.args.h) c.loop-line.leaves.items
           c.in-Some-next_leaf.leaf i.fits (leaf_fits c.args.h c.in-Some-next_leaf.leaf c.loop-line.leaves.items
-          (number_of c.in-Some.line.now) leaf));
+          (decimal_value c.in-Some.line.now) leaf));
       ascending = subst IsStrictlyIncreasing added
-          (above_more c.args.h c.in-Some-next_leaf.leaf c.loop-line.leaves.items (number_of c.in-Some.line.now) leaf
+          (above_more c.args.h c.in-Some-next_leaf.leaf c.loop-line.leaves.items (decimal_value c.in-Some.line.now) leaf
           i.ascending);
     }

@@ -1,7 +1,7 @@
 use Rattle.std.proofs.Common.{arith, ◌≤◌, ◌+◌, ap, ◌∙◌}
 use Rattle.std.proofs.lemmas.Result.{err_from_is_err_and}
 use Rattle.sd_book.specs.Commands.{last_period}
-use Rattle.sd_status.specs.Outside.{page}
+use Rattle.sd_status.specs.Outside.{page_state}
 use Rattle.sd_periods.proofs.Printed.{is_inside, one_more, some_printed, one_failed}
 use Rattle.sd_periods.proofs.printing.print_periods.Invariants.{listed_at}
 use Rattle.sd_periods.proofs.printing.print_periods.Goals as goal
@@ -12,7 +12,8 @@ returns-in_err-revoked g c =
     let p = err_from_is_err_and c.from_residual.result c.from_residual.ensures.1 in
     let commands = c.args.book.now.commands in
     rw (p.1, p.2) (some_printed (listed_at g c.args.listing.now c.args.book.now.height commands) (last_period commands)
-    c.loop-periods.q (page g.P.Sink c.args.print.now) (page g.P.Sink c.loop-periods.print) turn.within turn.texts)
+    c.loop-periods.q (page_state g.P.Sink c.args.print.now) (page_state g.P.Sink c.loop-periods.print) turn.within
+    turn.texts)
 
 pub returns-in_err-print_period : goal.returns-in_err-print_period
 returns-in_err-print_period g c =
@@ -25,7 +26,8 @@ returns-in_err-print_period g c =
     let value = rw (turn.height, turn.commands, turn.next, c.in-Some.is) at c.in_ok-revoked.ensures.value in
     let period = rw (c.height-h.ensures, c.deref.ensures.value, value) at c.in_err-print_period.ensures.value in
     rw (p.1, p.2) (one_failed (listed_at g c.args.listing.now c.args.book.now.height commands) (last_period commands) q
-    (page g.P.Sink c.args.print.now) (page g.P.Sink c.loop-periods.print) (page g.P.Sink c.print_period.new.print)
+    (page_state g.P.Sink c.args.print.now) (page_state g.P.Sink c.loop-periods.print)
+    (page_state g.P.Sink c.print_period.new.print)
     c.in_err-print_period.field-0.0 (is_inside (last_period commands) q end) turn.texts
     c.in_err-print_period.ensures.fault period)
 
@@ -41,8 +43,8 @@ loop-periods-preserved g c =
     let next = rw c.in-Some.is at c.in_ok-revoked.ensures.next in
     record {
       texts = one_more (listed_at g c.args.listing.now c.args.book.now.height commands) q
-          (page g.P.Sink c.args.print.now) (page g.P.Sink c.loop-periods.print)
-          (page g.P.Sink c.print_period.new.print) turn.texts period;
+          (page_state g.P.Sink c.args.print.now) (page_state g.P.Sink c.loop-periods.print)
+          (page_state g.P.Sink c.print_period.new.print) turn.texts period;
       height = c.in_ok-revoked.ensures.height ∙ turn.height;
       commands = c.in_ok-revoked.ensures.commands ∙ turn.commands;
       next = next ∙ ap (λ n. n + 1) turn.next;

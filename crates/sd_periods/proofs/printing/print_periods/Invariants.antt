@@ -1,7 +1,7 @@
 use Rattle.std.proofs.Common.{◌≡◌, ℕ, ◌≤◌, ◌+◌, ◌-◌, List}
 use Rattle.sd_book.specs.declared.command.Command.{Command}
 use Rattle.sd_book.specs.Commands.{last_period}
-use Rattle.sd_status.specs.Outside.{page}
+use Rattle.sd_status.specs.Outside.{page_state}
 use Rattle.sd_periods.specs.Periods.{text_at}
 use Rattle.sd_periods.proofs.Printed.{ArePrinted}
 use Rattle.sd_periods.proofs.printing.print_periods.Given as goal
@@ -13,7 +13,7 @@ listed_at g listing d commands = text_at (g.L.Listing.sets listing d) (g.L.Listi
 -- the first q periods are printed, period q is the next one of the book, and print didn't fail
 pub record Printed (g : goal.Over) (l : goal.Live-loop-periods g) : Type 0 where
   pub texts : ArePrinted (listed_at g l.fn.listing l.fn.book.height l.fn.book.commands) l.q
-      (page g.P.Sink l.fn.print) (page g.P.Sink l.print)
+      (page_state g.P.Sink l.fn.print) (page_state g.P.Sink l.print)
   pub height : l.periods.height ≡ l.fn.book.height
   pub commands : l.periods.commands ≡ l.fn.book.commands
   pub next : l.periods.next ≡ l.q

@@ -10,11 +10,11 @@ returns-in-Ok-closed-clause-file g c =
 pub returns-in-Err-closed-clause-file : goal.returns-in-Err-closed-clause-file
 returns-in-Err-closed-clause-file g c =
     written_cut _ _ _ _ _ _ _ c.args.bytes.now _ _ c.in_ok-port.ensures.files c.in_ok-port.ensures.empty
-    c.in-Ok.ensures.all c.close_out-closed.ensures.prefix c.in_ok-port.ensures.made.given c.in_ok-port.ensures.made.later
-    c.close_out-closed.ensures.made
+    c.in-Ok.ensures.all c.close_out-closed.ensures.prefix c.in_ok-port.ensures.made.given
+    c.in_ok-port.ensures.made.later c.close_out-closed.ensures.made
 
 pub returns-in-Err-clause-file : goal.returns-in-Err-clause-file
 returns-in-Err-clause-file g c =
     written_prefix _ _ _ _ _ _ _ c.args.bytes.now _ _ c.in_ok-port.ensures.files c.in_ok-port.ensures.empty
-    c.in-Err.ensures.prefix c.close_out-closed.ensures.prefix c.in_ok-port.ensures.made.given c.in_ok-port.ensures.made.later
-    c.close_out-closed.ensures.made
+    c.in-Err.ensures.prefix c.close_out-closed.ensures.prefix c.in_ok-port.ensures.made.given
+    c.in_ok-port.ensures.made.later c.close_out-closed.ensures.made

@@ -1,8 +1,9 @@
-use Rattle.sd_status.specs.Outside.{place}
+use Rattle.sd_status.specs.Outside.{depot_state}
 use Rattle.sd_run.proofs.top.follow.Goals as goal
 
 pub returns-in-Help : goal.returns-in-Help
-returns-in-Help g c = rw c.in-Help.is (c.help.ensures (place g.D.Depot c.args.depot.now) c.args.steps.now)
+returns-in-Help g c = rw c.in-Help.is (c.help.ensures (depot_state g.D.Depot c.args.depot.now) c.args.steps.now)
 
 pub returns-in-Version : goal.returns-in-Version
-returns-in-Version g c = rw c.in-Version.is (c.version.ensures (place g.D.Depot c.args.depot.now) c.args.steps.now)
+returns-in-Version g c = rw c.in-Version.is
+    (c.version.ensures (depot_state g.D.Depot c.args.depot.now) c.args.steps.now)

@@ -3,8 +3,8 @@ use Rattle.std.specs.Prelude.{map, string_bytes}
 use Rattle.sd_status.specs.declared.status.Status.{Status}
 use Rattle.sd_status.specs.declared.status.Status.TheVariants.{Done, PrintFault}
 use Rattle.sd_status.specs.Texts.{line_of}
-use Rattle.sd_status.specs.Outside.{place, page, outside}
-use Rattle.sd_status.specs.Answers.{Answers}
+use Rattle.sd_status.specs.Outside.{depot_state, page_state, outside}
+use Rattle.sd_status.specs.Results.{RunResult}
 use Rattle.sd_status.proofs.Told.{done_line, cut_line, lineless_answers, usage_meant}
 use Rattle.sd_words.specs.Words.{order_of}
 use Rattle.sd_run.proofs.Ordered.{only_words}
@@ -14,8 +14,8 @@ use Rattle.sd_run.proofs.top.run.Goals as goal
 pub returns-in-Ok-clause-value : goal.returns-in-Ok-clause-value
 returns-in-Ok-clause-value g c =
     lineless_answers (meaning (map string_bytes c.args.words.now))
-    (outside (place g.D.Depot c.args.depot.now) (page g.P.Sink c.args.print.now) c.args.steps.now)
-    (outside (place g.D.Depot c.obey.new.depot) (page g.P.Sink c.obey.new.print) c.obey.new.steps)
+    (outside (depot_state g.D.Depot c.args.depot.now) (page_state g.P.Sink c.args.print.now) c.args.steps.now)
+    (outside (depot_state g.D.Depot c.obey.new.depot) (page_state g.P.Sink c.obey.new.print) c.obey.new.steps)
     Done done_line c.in-Ok.ensures.value
 
 pub returns-in-Err-clause-value : goal.returns-in-Err-clause-value
@@ -23,25 +23,26 @@ returns-in-Err-clause-value g c =
     let status = c.in-Err.status in
     let cut : status ≡ PrintFault = search rules in
     lineless_answers (meaning (map string_bytes c.args.words.now))
-    (outside (place g.D.Depot c.args.depot.now) (page g.P.Sink c.args.print.now) c.args.steps.now)
-    (outside (place g.D.Depot c.obey.new.depot) (page g.P.Sink c.obey.new.print) c.obey.new.steps)
+    (outside (depot_state g.D.Depot c.args.depot.now) (page_state g.P.Sink c.args.print.now) c.args.steps.now)
+    (outside (depot_state g.D.Depot c.obey.new.depot) (page_state g.P.Sink c.obey.new.print) c.obey.new.steps)
     status (subst (λ (s : Status). line_of s ≡ []) (sym cut) cut_line) c.in-Err.ensures.value
 
 pub returns-in-Err-2-clause-usage : goal.returns-in-Err-2-clause-usage
 returns-in-Err-2-clause-usage g c is =
     let words = map string_bytes c.args.words.now in
-    let answers : Answers (meaning words)
-    (outside (place g.D.Depot c.args.depot.now) (page g.P.Sink c.args.print.now) c.args.steps.now)
-    (outside (place g.D.Depot c.obey.new.depot) (page g.P.Sink c.tell.new.print) c.obey.new.steps) c.tell.result =
+    let answers : RunResult (meaning words)
+    (outside (depot_state g.D.Depot c.args.depot.now) (page_state g.P.Sink c.args.print.now) c.args.steps.now)
+    (outside (depot_state g.D.Depot c.obey.new.depot) (page_state g.P.Sink c.tell.new.print) c.obey.new.steps)
+    c.tell.result =
     record {
       status = c.in-Err.status;
-      page = page g.P.Sink c.obey.new.print;
+      page = page_state g.P.Sink c.obey.new.print;
       obeyed = c.in-Err.ensures.value;
       told =
           c.tell.ensures;
     } in
     let meant = usage_meant (meaning words)
-    (outside (place g.D.Depot c.args.depot.now) (page g.P.Sink c.args.print.now) c.args.steps.now)
-    (outside (place g.D.Depot c.obey.new.depot) (page g.P.Sink c.tell.new.print) c.obey.new.steps) c.tell.result answers
-    is in
+    (outside (depot_state g.D.Depot c.args.depot.now) (page_state g.P.Sink c.args.print.now) c.args.steps.now)
+    (outside (depot_state g.D.Depot c.obey.new.depot) (page_state g.P.Sink c.tell.new.print) c.obey.new.steps)
+    c.tell.result answers is in
     only_words (order_of words) meant.0 meant.1

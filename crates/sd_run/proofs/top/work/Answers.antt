@@ -1,6 +1,6 @@
 use Rattle.std.proofs.Common.{ap}
-use Rattle.sd_files.specs.Shown.{Number}
-use Rattle.sd_status.specs.Outside.{page}
+use Rattle.sd_files.specs.Shown.{NumberArgument}
+use Rattle.sd_status.specs.Outside.{page_state}
 use Rattle.sd_words.specs.Orders.{arguments_said}
 use Rattle.sd_run.proofs.Ordered.{packets_fit, plan_fits}
 use Rattle.sd_run.proofs.top.work.Goals as goal
@@ -8,19 +8,19 @@ use Rattle.sd_run.proofs.top.work.Goals as goal
 pub sample-requires : goal.sample-requires
 sample-requires g c =
     let fits = rw c.in-Sample.is at c.requires in
-    let packets = ap (λ (n : Number). n.value) c.number-in-Sample-2.ensures.value in
+    let packets = ap (λ (n : NumberArgument). n.value) c.number-in-Sample-2.ensures.value in
     rw packets (packets_fit (arguments_said 1 c.args.row.now.list.items) fits)
 
 pub plan-requires-clause-packets : goal.plan-requires-clause-packets
 plan-requires-clause-packets g c =
     let fits = rw c.in-Plan.is at c.requires in
-    let packets = ap (λ (n : Number). n.value) c.number-in-Plan.ensures.value in
+    let packets = ap (λ (n : NumberArgument). n.value) c.number-in-Plan.ensures.value in
     rw packets (plan_fits (arguments_said 1 c.args.row.now.list.items) fits).0
 
 pub plan-requires-clause-pids : goal.plan-requires-clause-pids
 plan-requires-clause-pids g c =
     let fits = rw c.in-Plan.is at c.requires in
-    let pids = ap (λ (n : Number). n.value) c.number-in-Plan-2.ensures.value in
+    let pids = ap (λ (n : NumberArgument). n.value) c.number-in-Plan-2.ensures.value in
     rw pids (plan_fits (arguments_said 1 c.args.row.now.list.items) fits).1
 
 pub returns-in-Accounts : goal.returns-in-Accounts
@@ -51,14 +51,14 @@ returns-in-Book g c =
       c.file-in-Book-3.ensures.value,
       c.file-in-Book-4.ensures.value,
     )
-    at c.book.ensures (page g.P.Sink c.args.print.now) c.args.steps.now in
+    at c.book.ensures (page_state g.P.Sink c.args.print.now) c.args.steps.now in
     rw c.in-Book.is done
 
 pub returns-in-Card : goal.returns-in-Card
 returns-in-Card g c =
     let done =
     rw (c.file-in-Card.ensures.value, c.number.ensures.value, c.file-in-Card-2.ensures.value)
-    at c.card.ensures (page g.P.Sink c.args.print.now) in
+    at c.card.ensures (page_state g.P.Sink c.args.print.now) in
     rw c.in-Card.is done
 
 pub returns-in-Cover : goal.returns-in-Cover
@@ -77,7 +77,7 @@ returns-in-Head g c =
       c.file-in-Head-3.ensures.value,
       c.file-in-Head-4.ensures.value,
     )
-    at c.head.ensures (page g.P.Sink c.args.print.now) in
+    at c.head.ensures (page_state g.P.Sink c.args.print.now) in
     rw c.in-Head.is done
 
 pub returns-in-Layered : goal.returns-in-Layered
@@ -96,12 +96,13 @@ returns-in-Lcard g c =
       c.number-in-Lcard-2.ensures.value,
       c.file-in-Lcard-2.ensures.value,
     )
-    at c.lcard.ensures (page g.P.Sink c.args.print.now) in
+    at c.lcard.ensures (page_state g.P.Sink c.args.print.now) in
     rw c.in-Lcard.is done
 
 pub returns-in-Messages : goal.returns-in-Messages
 returns-in-Messages g c =
-    let done = rw (c.file-in-Messages.ensures.value, c.file-in-Messages-2.ensures.value) at c.messages.ensures c.args.steps.now in
+    let done = rw (c.file-in-Messages.ensures.value, c.file-in-Messages-2.ensures.value) at c.messages.ensures
+    c.args.steps.now in
     rw c.in-Messages.is done
 
 pub returns-in-Opens : goal.returns-in-Opens
@@ -113,7 +114,7 @@ returns-in-Opens g c =
 
 pub returns-in-Plan : goal.returns-in-Plan
 returns-in-Plan g c =
-    let pids = ap (λ (n : Number). n.value) c.number-in-Plan-2.ensures.value in
+    let pids = ap (λ (n : NumberArgument). n.value) c.number-in-Plan-2.ensures.value in
     let done =
     rw (c.file-in-Plan.ensures.value, c.file-in-Plan-2.ensures.value, c.number-in-Plan.ensures.value, pids)
     at c.plan.ensures c.args.steps.now in
@@ -123,16 +124,16 @@ pub returns-in-Receive : goal.returns-in-Receive
 returns-in-Receive g c =
     let done =
     rw (c.file-in-Receive.ensures.value, c.file-in-Receive-2.ensures.value, c.file-in-Receive-3.ensures.value)
-    at c.receive.ensures.value (page g.P.Sink c.args.print.now) in
+    at c.receive.ensures.value (page_state g.P.Sink c.args.print.now) in
     rw c.in-Receive.is done
 
 pub returns-in-Sample : goal.returns-in-Sample
 returns-in-Sample g c =
-    let number = ap (λ (n : Number). n.value) c.number-in-Sample.ensures.value in
-    let packets = ap (λ (n : Number). n.value) c.number-in-Sample-2.ensures.value in
+    let number = ap (λ (n : NumberArgument). n.value) c.number-in-Sample.ensures.value in
+    let packets = ap (λ (n : NumberArgument). n.value) c.number-in-Sample-2.ensures.value in
     let done =
     rw (number, packets, c.file-in-Sample.ensures.value)
-    at c.sample.ensures (page g.P.Sink c.args.print.now) c.args.steps.now in
+    at c.sample.ensures (page_state g.P.Sink c.args.print.now) c.args.steps.now in
     rw c.in-Sample.is done
 
 pub returns-in-Show : goal.returns-in-Show

@@ -1,7 +1,7 @@
 use Rattle.std.proofs.lemmas.Result.{err_from_is_err_and}
 use Rattle.sd_site.specs.Fields.{fields_of}
-use Rattle.sd_status.specs.Outside.{place}
-use Rattle.sd_status.specs.Meant.{value, ◌>>=◌}
+use Rattle.sd_status.specs.Outside.{depot_state}
+use Rattle.sd_status.specs.Spec.{value, ◌>>=◌}
 use Rattle.sd_status.proofs.Follow.{reads_first, reads_then}
 use Rattle.sd_files.specs.Files.{site_of_file}
 use Rattle.sd_files.specs.Shown.{shown_word}
@@ -17,7 +17,7 @@ returns-in_err-site g c =
     let accounts = shown_word c.args.accounts in
     rw (p.1, p.2) (reads_first fields_of (λ accounts. accounts) (site_of_file site.number)
     (λ given fields. accounts_of_file accounts.number fields.height (given accounts) >>= λ found. value found) site
-    (place g.D.Depot c.args.depot.now) (place g.D.Depot c.read_site.new.depot) c.in_err-site.field-0.0
+    (depot_state g.D.Depot c.args.depot.now) (depot_state g.D.Depot c.read_site.new.depot) c.in_err-site.field-0.0
     c.in_err-site.ensures)
 
 pub returns : goal.returns
@@ -27,6 +27,6 @@ returns g c =
     let accounts = shown_word c.args.accounts in
     reads_then fields_of (λ accounts. accounts) (λ accounts. accounts) (site_of_file site.number)
     (λ fields got. accounts_of_file accounts.number fields.height got) (λ fields found. found) site accounts
-    (place g.D.Depot c.args.depot.now) (place g.D.Depot c.read_site.new.depot)
-    (place g.D.Depot c.read_accounts.new.depot) c.in_ok-site.site c.read_accounts.result c.requires
+    (depot_state g.D.Depot c.args.depot.now) (depot_state g.D.Depot c.read_site.new.depot)
+    (depot_state g.D.Depot c.read_accounts.new.depot) c.in_ok-site.site c.read_accounts.result c.requires
     c.in_ok-site.ensures c.read_accounts.ensures (same_where_ok c.read_accounts.result (λ accounts. accounts))

@@ -1,6 +1,6 @@
 use Rattle.std.proofs.lemmas.Result.{err_from_is_err_and}
-use Rattle.sd_status.specs.Outside.{place, page}
-use Rattle.sd_status.specs.Comes.{status_of}
+use Rattle.sd_status.specs.Outside.{depot_state, page_state}
+use Rattle.sd_status.specs.Outcome.{status_of}
 use Rattle.sd_files.specs.Shown.{shown_word}
 use Rattle.sd_run_accounts.proofs.Made.{made_then, not_made}
 use Rattle.sd_run_accounts.proofs.command.make_and_print.Goals as goal
@@ -10,13 +10,15 @@ returns-in_err-told g c steps =
     let p = err_from_is_err_and c.from_residual.result c.from_residual.ensures.1 in
     let w = c.write_file.ensures in
     rw (p.1, p.2) (not_made (shown_word c.args.out) c.args.bytes.now c.args.text.now
-    (place g.D.Depot c.args.depot.now) (place g.D.Depot c.write_file.new.depot) (page g.P.Sink c.args.print.now) steps
+    (depot_state g.D.Depot c.args.depot.now) (depot_state g.D.Depot c.write_file.new.depot)
+    (page_state g.P.Sink c.args.print.now) steps
     c.write_file.result c.in_err-told.field-0.0 c.in_err-told.ensures w.file w.cause w.stops w.ports w.calls.most)
 
 pub returns : goal.returns
 returns g c steps =
     let w = c.write_file.ensures in
     made_then (shown_word c.args.out) c.args.bytes.now c.args.text.now
-    (place g.D.Depot c.args.depot.now) (place g.D.Depot c.write_file.new.depot) (page g.P.Sink c.args.print.now) steps
-    c.write_file.result (page g.P.Sink c.print_text.new.print) (status_of c.print_text.result) c.in_ok-told.ensures
-    w.file w.cause w.ports w.calls.most c.print_text.ensures.value
+    (depot_state g.D.Depot c.args.depot.now) (depot_state g.D.Depot c.write_file.new.depot)
+    (page_state g.P.Sink c.args.print.now) steps
+    c.write_file.result (page_state g.P.Sink c.print_text.new.print) (status_of c.print_text.result)
+    c.in_ok-told.ensures w.file w.cause w.ports w.calls.most c.print_text.ensures.value

@@ -1,9 +1,9 @@
 use Rattle.std.proofs.Common.{string_bytes, Global, String}
 use Rattle.std.proofs.lemmas.Result.{err_from_is_err_and}
 use Rattle.sd_site.specs.Fields.{fields_of}
-use Rattle.sd_status.specs.Outside.{place, page, outside}
-use Rattle.sd_status.specs.Meant.{judged, value, ◌>>=◌}
-use Rattle.sd_status.specs.Comes.{status_of}
+use Rattle.sd_status.specs.Outside.{depot_state, page_state, outside}
+use Rattle.sd_status.specs.Spec.{judged, value, ◌>>=◌}
+use Rattle.sd_status.specs.Outcome.{status_of}
 use Rattle.sd_status.proofs.Firsts.{first_obeys}
 use Rattle.sd_status.proofs.Moves.{then_obeys}
 use Rattle.sd_files.specs.Both.{SiteBook, both_by}
@@ -21,9 +21,9 @@ returns-in_err-other g c steps =
     let book = shown_word c.args.book in
     let other = shown_word c.args.other in
     let more = shown_word c.args.more in
-    let q = place g.D.Depot c.read_both.new.depot in
-    let r = place g.D.Depot c.read_both-2.new.depot in
-    let now = page g.P.Sink c.args.print.now in
+    let q = depot_state g.D.Depot c.read_both.new.depot in
+    let r = depot_state g.D.Depot c.read_both-2.new.depot in
+    let now = page_state g.P.Sink c.args.print.now in
     let one : SiteBook = record { site = fields_of c.in_ok-site.site; commands = c.in_ok-site.book.commands } in
     let second = c.in_err-other.ensures.value in
     let status = c.in_err-other.field-0.0 in
@@ -31,7 +31,7 @@ returns-in_err-other g c steps =
     (both_by site.number book.number)
     (λ first got got_more. both_by other.number more.number got got_more
     >>= λ second. judged (told_apart (plan_of_both first) (plan_of_both second)) >>= λ text. value (saying text))
-    site book other more second.given (place g.D.Depot c.args.depot.now) q now steps (outside r now steps)
+    site book other more second.given (depot_state g.D.Depot c.args.depot.now) q now steps (outside r now steps)
     (c.in_ok-site.site, c.in_ok-site.book) status c.requires.sites.0 c.requires.sites.1 c.requires.books.0
     c.requires.books.1 c.in_ok-site.ensures.value second.is_given
     (first_obeys (both_by other.number more.number (second.given other) (second.given more))
@@ -46,9 +46,9 @@ returns-in_err-text g c steps =
     let book = shown_word c.args.book in
     let other = shown_word c.args.other in
     let more = shown_word c.args.more in
-    let q = place g.D.Depot c.read_both.new.depot in
-    let r = place g.D.Depot c.read_both-2.new.depot in
-    let now = page g.P.Sink c.args.print.now in
+    let q = depot_state g.D.Depot c.read_both.new.depot in
+    let r = depot_state g.D.Depot c.read_both-2.new.depot in
+    let now = page_state g.P.Sink c.args.print.now in
     let one : SiteBook = record { site = fields_of c.in_ok-site.site; commands = c.in_ok-site.book.commands } in
     let two : SiteBook = record { site = fields_of c.in_ok-other.other; commands = c.in_ok-other.more.commands } in
     let second = c.in_ok-other.ensures.value in
@@ -57,7 +57,7 @@ returns-in_err-text g c steps =
     (both_by site.number book.number)
     (λ first got got_more. both_by other.number more.number got got_more
     >>= λ second. judged (told_apart (plan_of_both first) (plan_of_both second)) >>= λ text. value (saying text))
-    site book other more second.given (place g.D.Depot c.args.depot.now) q now steps (outside r now steps)
+    site book other more second.given (depot_state g.D.Depot c.args.depot.now) q now steps (outside r now steps)
     (c.in_ok-site.site, c.in_ok-site.book) status c.requires.sites.0 c.requires.sites.1 c.requires.books.0
     c.requires.books.1 c.in_ok-site.ensures.value second.is_given
     (then_obeys (both_by other.number more.number (second.given other) (second.given more)) two
@@ -73,10 +73,10 @@ returns g c steps =
     let book = shown_word c.args.book in
     let other = shown_word c.args.other in
     let more = shown_word c.args.more in
-    let q = place g.D.Depot c.read_both.new.depot in
-    let r = place g.D.Depot c.read_both-2.new.depot in
-    let before = page g.P.Sink c.args.print.now in
-    let now = page g.P.Sink c.print_text.new.print in
+    let q = depot_state g.D.Depot c.read_both.new.depot in
+    let r = depot_state g.D.Depot c.read_both-2.new.depot in
+    let before = page_state g.P.Sink c.args.print.now in
+    let now = page_state g.P.Sink c.print_text.new.print in
     let one : SiteBook = record { site = fields_of c.in_ok-site.site; commands = c.in_ok-site.book.commands } in
     let two : SiteBook = record { site = fields_of c.in_ok-other.other; commands = c.in_ok-other.more.commands } in
     let second = c.in_ok-other.ensures.value in
@@ -87,7 +87,7 @@ returns g c steps =
     (both_by site.number book.number)
     (λ first got got_more. both_by other.number more.number got got_more
     >>= λ second. judged (told_apart (plan_of_both first) (plan_of_both second)) >>= λ text. value (saying text))
-    site book other more second.given (place g.D.Depot c.args.depot.now) q before steps (outside r now steps)
+    site book other more second.given (depot_state g.D.Depot c.args.depot.now) q before steps (outside r now steps)
     (c.in_ok-site.site, c.in_ok-site.book) status c.requires.sites.0 c.requires.sites.1 c.requires.books.0
     c.requires.books.1 c.in_ok-site.ensures.value second.is_given
     (then_obeys (both_by other.number more.number (second.given other) (second.given more)) two

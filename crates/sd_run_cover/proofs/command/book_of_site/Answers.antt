@@ -1,8 +1,8 @@
 use Rattle.std.proofs.Common.{◌≡◌, ap, ℕ, sym}
 use Rattle.std.proofs.lemmas.Result.{err_from_is_err_and}
 use Rattle.sd_site.specs.Fields.{fields_of}
-use Rattle.sd_status.specs.Outside.{place}
-use Rattle.sd_status.specs.Meant.{value, ◌>>=◌}
+use Rattle.sd_status.specs.Outside.{depot_state}
+use Rattle.sd_status.specs.Spec.{value, ◌>>=◌}
 use Rattle.sd_status.proofs.Follow.{reads_first, reads_then, where_ok}
 use Rattle.sd_files.specs.Files.{site_of_file, book_of_file}
 use Rattle.sd_run_cover.specs.Cover.{covering, cover_meaning}
@@ -18,7 +18,7 @@ returns-in_err-site g c =
     rw (p.1, p.2) (reads_first fields_of (λ book. covering book.height book.commands) (site_of_file site.number)
     (λ given fields. book_of_file book.number fields.height (given book) >>= λ commands. value
     (covering fields.height commands)) site
-    (place g.D.Depot c.args.depot.now) (place g.D.Depot c.read_site.new.depot) c.in_err-site.field-0.0
+    (depot_state g.D.Depot c.args.depot.now) (depot_state g.D.Depot c.read_site.new.depot) c.in_err-site.field-0.0
     c.in_err-site.ensures)
 
 pub returns : goal.returns
@@ -30,7 +30,8 @@ returns g c =
     reads_then fields_of (λ book. book.commands) (λ book. covering book.height book.commands) (site_of_file site.number)
     (λ fields got. book_of_file book.number fields.height got) (λ fields commands. covering fields.height commands) site
     book
-    (place g.D.Depot c.args.depot.now) (place g.D.Depot c.read_site.new.depot) (place g.D.Depot c.read_book.new.depot)
+    (depot_state g.D.Depot c.args.depot.now) (depot_state g.D.Depot c.read_site.new.depot)
+    (depot_state g.D.Depot c.read_book.new.depot)
     c.in_ok-site.site c.read_book.result c.requires c.in_ok-site.ensures c.read_book.ensures.value
     (where_ok c.read_book.result (λ book. book.height ≡ fields.height)
     (λ b. covering fields.height b.commands ≡ covering b.height b.commands)

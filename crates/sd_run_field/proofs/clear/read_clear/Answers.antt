@@ -1,8 +1,8 @@
 use Rattle.std.proofs.Common.{◌*◌, ◌≤◌, length}
 use Rattle.std.proofs.lemmas.Result.{err_from_is_err_and}
 use Rattle.sd_status.specs.declared.status.LimitKind.TheVariants.{FieldPackets}
-use Rattle.sd_status.specs.Outside.{place}
-use Rattle.sd_status.specs.Meant.{within, judged}
+use Rattle.sd_status.specs.Outside.{depot_state}
+use Rattle.sd_status.specs.Spec.{within, judged}
 use Rattle.sd_status.proofs.Follow.{looks_first, looks_judged, where_ok}
 use Rattle.sd_run_field.specs.Field.{clear_of_file, most_clear_bytes, told_clear}
 use Rattle.sd_run_field.proofs.Cutting.{bytes_within, packets_within}
@@ -14,7 +14,7 @@ returns-in_err-bytes-clause-value g c =
     let p = err_from_is_err_and c.from_residual.result c.from_residual.ensures.1 in
     rw (p.1, p.2) (looks_first (λ bytes. bytes.items) (λ packets. packets.items)
     (within c.args.word.number most_clear_bytes FieldPackets) (λ bytes. judged (told_clear bytes))
-    c.args.word.text.now (place g.D.Depot c.args.depot.now) (place g.D.Depot c.read_bytes.new.depot)
+    c.args.word.text.now (depot_state g.D.Depot c.args.depot.now) (depot_state g.D.Depot c.read_bytes.new.depot)
     c.in_err-bytes.field-0.0 c.in_err-bytes.ensures)
 
 pub returns-clause-value : goal.returns-clause-value
@@ -23,7 +23,7 @@ returns-clause-value g c =
     let judges = rw c.deref.ensures.value at c.cut.ensures.value in
     looks_judged (λ bytes. bytes.items) (λ packets. packets.items)
     (within c.args.word.number most_clear_bytes FieldPackets) told_clear c.args.word.text.now
-    (place g.D.Depot c.args.depot.now) (place g.D.Depot c.read_bytes.new.depot) c.in_ok-bytes.bytes
+    (depot_state g.D.Depot c.args.depot.now) (depot_state g.D.Depot c.read_bytes.new.depot) c.in_ok-bytes.bytes
     c.cut.result c.in_ok-bytes.ensures judges
 
 pub returns-clause-few : goal.returns-clause-few

@@ -2,9 +2,9 @@ use Rattle.std.proofs.Common.{string_bytes, sym, subst, List, Result, ℕ}
 use Rattle.std.proofs.lemmas.Result.{err_from_is_err_and}
 use Rattle.sd_site.specs.Fields.{fields_of}
 use Rattle.sd_status.specs.declared.status.Status.{Status}
-use Rattle.sd_status.specs.Outside.{place, page, outside}
-use Rattle.sd_status.specs.Meant.{value, ◌>>=◌}
-use Rattle.sd_status.specs.Comes.{Obeys, status_of}
+use Rattle.sd_status.specs.Outside.{depot_state, page_state, outside}
+use Rattle.sd_status.specs.Spec.{value, ◌>>=◌}
+use Rattle.sd_status.specs.Outcome.{OutcomeWithin, status_of}
 use Rattle.sd_files.specs.Printed.{printing}
 use Rattle.sd_files.specs.Shown.{shown_word}
 use Rattle.sd_files.proofs.Printed.{nothing_printed, text_printed}
@@ -24,8 +24,8 @@ returns-in_err-site g c =
     (inputs_by site.number clear.number)
     (λ inputs got. script_of_file script.number inputs.site.height got
     >>= λ events. value (printing (field_text inputs.site inputs.clear events)))
-    site clear script (place g.D.Depot c.args.depot.now) (place g.D.Depot c.read_inputs.new.depot)
-    (page g.P.Sink c.args.print.now) c.args.steps.now c.in_err-site.field-0.0 c.in_err-site.ensures.value)
+    site clear script (depot_state g.D.Depot c.args.depot.now) (depot_state g.D.Depot c.read_inputs.new.depot)
+    (page_state g.P.Sink c.args.print.now) c.args.steps.now c.in_err-site.field-0.0 c.in_err-site.ensures.value)
 
 -- nor was the script
 pub returns-in_err-events : goal.returns-in_err-events
@@ -39,8 +39,8 @@ returns-in_err-events g c =
     (inputs_by site.number clear.number) (λ events. events.items)
     (λ inputs got. script_of_file script.number inputs.site.height got)
     (λ inputs events. value (printing (field_text inputs.site inputs.clear events))) site clear script
-    (place g.D.Depot c.args.depot.now) (place g.D.Depot c.read_inputs.new.depot)
-    (place g.D.Depot c.read_events.new.depot) (page g.P.Sink c.args.print.now) c.args.steps.now
+    (depot_state g.D.Depot c.args.depot.now) (depot_state g.D.Depot c.read_inputs.new.depot)
+    (depot_state g.D.Depot c.read_events.new.depot) (page_state g.P.Sink c.args.print.now) c.args.steps.now
     (c.in_ok-site.site, c.in_ok-site.clear) c.in_err-events.field-0.0 c.requires.1 c.requires.2
     c.in_ok-site.ensures.value c.in_err-events.ensures.value)
 
@@ -52,18 +52,19 @@ returns-in_err-text g c =
     let site = shown_word c.args.site in
     let clear = shown_word c.args.clear in
     let script = shown_word c.args.script in
-    let r = place g.D.Depot c.read_events.new.depot in
-    let page = page g.P.Sink c.args.print.now in
+    let r = depot_state g.D.Depot c.read_events.new.depot in
+    let page_state = page_state g.P.Sink c.args.print.now in
     let text = field_text (fields_of c.in_ok-site.site) c.in_ok-site.clear.items c.in_ok-events.events.items in
     let status = c.in_err-text.field-0.0 in
     rw (p.1, p.2) (third_looked (λ inputs. record { site = fields_of inputs.0; clear = inputs.1.items })
     (inputs_by site.number clear.number) (λ events. events.items)
     (λ inputs got. script_of_file script.number inputs.site.height got)
     (λ inputs events. value (printing (field_text inputs.site inputs.clear events))) site clear script
-    (place g.D.Depot c.args.depot.now) (place g.D.Depot c.read_inputs.new.depot) r page c.args.steps.now
-    (outside r page c.text_of.new.steps) (c.in_ok-site.site, c.in_ok-site.clear) c.in_ok-events.events status
+    (depot_state g.D.Depot c.args.depot.now) (depot_state g.D.Depot c.read_inputs.new.depot) r page_state
+    c.args.steps.now
+    (outside r page_state c.text_of.new.steps) (c.in_ok-site.site, c.in_ok-site.clear) c.in_ok-events.events status
     c.requires.1 c.requires.2 c.in_ok-site.ensures.value c.in_ok-events.ensures.value
-    (nothing_printed (λ (xs : List ℕ). xs) text r page c.args.steps.now c.text_of.new.steps status
+    (nothing_printed (λ (xs : List ℕ). xs) text r page_state c.args.steps.now c.text_of.new.steps status
     c.in_err-text.ensures))
 
 -- it was printed, or printing failed
@@ -73,9 +74,9 @@ returns g c =
     let site = shown_word c.args.site in
     let clear = shown_word c.args.clear in
     let script = shown_word c.args.script in
-    let r = place g.D.Depot c.read_events.new.depot in
-    let before = page g.P.Sink c.args.print.now in
-    let now = page g.P.Sink c.print_text.new.print in
+    let r = depot_state g.D.Depot c.read_events.new.depot in
+    let before = page_state g.P.Sink c.args.print.now in
+    let now = page_state g.P.Sink c.print_text.new.print in
     let more = c.text_of.new.steps in
     let text = string_bytes c.in_ok-text.text in
     let status = status_of c.print_text.result in
@@ -84,9 +85,9 @@ returns g c =
     (inputs_by site.number clear.number) (λ events. events.items)
     (λ inputs got. script_of_file script.number inputs.site.height got)
     (λ inputs events. value (printing (field_text inputs.site inputs.clear events))) site clear script
-    (place g.D.Depot c.args.depot.now) (place g.D.Depot c.read_inputs.new.depot) r before c.args.steps.now
+    (depot_state g.D.Depot c.args.depot.now) (depot_state g.D.Depot c.read_inputs.new.depot) r before c.args.steps.now
     (outside r now more) (c.in_ok-site.site, c.in_ok-site.clear) c.in_ok-events.events status c.requires.1 c.requires.2
     c.in_ok-site.ensures.value c.in_ok-events.ensures.value
-    (subst (λ (m : Result (List ℕ) Status). Obeys (value (printing m)) (outside r before c.args.steps.now)
+    (subst (λ (m : Result (List ℕ) Status). OutcomeWithin (value (printing m)) (outside r before c.args.steps.now)
     (outside r now more) status) (sym c.in_ok-text.ensures)
     (text_printed text r before now c.args.steps.now more status prints))

@@ -1,8 +1,8 @@
 use Rattle.std.proofs.Common.{refl}
 use Rattle.std.proofs.lemmas.Result.{err_from_is_err_and}
 use Rattle.sd_site.specs.Fields.{fields_of}
-use Rattle.sd_status.specs.Outside.{place}
-use Rattle.sd_status.specs.Meant.{value, ◌>>=◌}
+use Rattle.sd_status.specs.Outside.{depot_state}
+use Rattle.sd_status.specs.Spec.{value, ◌>>=◌}
 use Rattle.sd_status.proofs.Follow.{reads_first, reads_second, reads_two}
 use Rattle.sd_files.specs.Shown.{shown_word}
 use Rattle.sd_files.proofs.Thirds.{same_refusal, same_value}
@@ -19,7 +19,7 @@ returns-in_err-site-clause-value g c =
     (low_site_of_file site.number)
     (λ given fields. clear_of_file clear.number (given clear)
     >>= λ packets. value (record { site = fields; clear = packets })) site
-    (place g.D.Depot c.args.depot.now) (place g.D.Depot c.read_low_site.new.depot) c.in_err-site.field-0.0
+    (depot_state g.D.Depot c.args.depot.now) (depot_state g.D.Depot c.read_low_site.new.depot) c.in_err-site.field-0.0
     c.in_err-site.ensures.value)
 
 pub returns-in_err-clear-clause-value : goal.returns-in_err-clear-clause-value
@@ -31,12 +31,12 @@ returns-in_err-clear-clause-value g c =
     let fields = fields_of c.in_ok-site.site in
     rw (p.1, p.2) (same_refusal (λ packets. record { site = fields; clear = packets.items })
     (λ inputs. record { site = fields_of inputs.0; clear = inputs.1.items }) (inputs_meaning site clear)
-    (place g.D.Depot c.args.depot.now) (place g.D.Depot c.read_clear.new.depot) c.in_err-clear.field-0.0
+    (depot_state g.D.Depot c.args.depot.now) (depot_state g.D.Depot c.read_clear.new.depot) c.in_err-clear.field-0.0
     (reads_second fields_of (λ packets. packets.items) (λ packets. record { site = fields; clear = packets.items })
     (low_site_of_file site.number) (λ fields got. clear_of_file clear.number got)
     (λ fields packets. value (record { site = fields; clear = packets })) site clear
-    (place g.D.Depot c.args.depot.now) (place g.D.Depot c.read_low_site.new.depot)
-    (place g.D.Depot c.read_clear.new.depot) c.in_ok-site.site c.in_err-clear.field-0.0 c.requires
+    (depot_state g.D.Depot c.args.depot.now) (depot_state g.D.Depot c.read_low_site.new.depot)
+    (depot_state g.D.Depot c.read_clear.new.depot) c.in_ok-site.site c.in_err-clear.field-0.0 c.requires
     c.in_ok-site.ensures.value c.in_err-clear.ensures.value))
 
 pub returns-clause-value : goal.returns-clause-value
@@ -47,11 +47,11 @@ returns-clause-value g c =
     let fields = fields_of c.in_ok-site.site in
     same_value (λ packets. record { site = fields; clear = packets.items })
     (λ inputs. record { site = fields_of inputs.0; clear = inputs.1.items }) (inputs_meaning site clear)
-    (place g.D.Depot c.args.depot.now) (place g.D.Depot c.read_clear.new.depot) c.in_ok-clear.clear
+    (depot_state g.D.Depot c.args.depot.now) (depot_state g.D.Depot c.read_clear.new.depot) c.in_ok-clear.clear
     (c.in_ok-site.site, c.in_ok-clear.clear) refl
     (reads_two fields_of (λ packets. packets.items) (λ packets. record { site = fields; clear = packets.items })
     (low_site_of_file site.number) (λ fields got. clear_of_file clear.number got)
     (λ fields packets. record { site = fields; clear = packets }) site clear
-    (place g.D.Depot c.args.depot.now) (place g.D.Depot c.read_low_site.new.depot)
-    (place g.D.Depot c.read_clear.new.depot) c.in_ok-site.site c.in_ok-clear.clear c.requires
+    (depot_state g.D.Depot c.args.depot.now) (depot_state g.D.Depot c.read_low_site.new.depot)
+    (depot_state g.D.Depot c.read_clear.new.depot) c.in_ok-site.site c.in_ok-clear.clear c.requires
     c.in_ok-site.ensures.value c.in_ok-clear.ensures.value refl)

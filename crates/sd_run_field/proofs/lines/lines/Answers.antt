@@ -12,7 +12,8 @@ loop-u-init c = record {
 
 pub loop-u-preserved : goal.loop-u-preserved
 loop-u-preserved c = record {
-  told = next_told c.args.field.now c.loop-u.u _ _ c.written-wrote.result.now c.as_str.result.now c.loop-u.invariant.told
+  told = next_told c.args.field.now c.loop-u.u _ _ c.written-wrote.result.now c.as_str.result.now
+      c.loop-u.invariant.told
       c.written-wrote.ensures (c.as_str.ensures.value ∙ c.in_ok-digest-2.ensures) c.in_ok-push_line.ensures;
   known = c.in_ok-digest-2.ensures;
 }

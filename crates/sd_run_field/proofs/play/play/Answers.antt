@@ -1,6 +1,6 @@
 use Rattle.std.proofs.Common.{Bool, Ok, subst}
 use Rattle.std.proofs.lemmas.Result.{err_from_is_err_and}
-use Rattle.sd_run_field.specs.Played.{Moves}
+use Rattle.sd_run_field.specs.Played.{EventOutcome}
 use Rattle.sd_run_field.proofs.Playing.{none_done, one_more_done, played_out, played_short}
 use Rattle.sd_run_field.proofs.play.play.Goals as goal
 
@@ -16,11 +16,11 @@ returns-in_err-advance g c =
 pub loop-preserved : goal.loop-preserved
 loop-preserved g c =
     one_more_done c.args.field.now c.loop.field c.advance.new.field c.loop.invariant
-    (subst (λ (more : Bool). Moves c.loop.field c.advance.new.field (Ok more)) c.if-branch.true
+    (subst (λ (more : Bool). EventOutcome c.loop.field c.advance.new.field (Ok more)) c.if-branch.true
     c.in_ok-advance.ensures)
 
 pub returns : goal.returns
 returns g c =
     played_out c.args.field.now c.loop.field c.advance.new.field c.loop.invariant
-    (subst (λ (more : Bool). Moves c.loop.field c.advance.new.field (Ok more)) c.if-branch.false
+    (subst (λ (more : Bool). EventOutcome c.loop.field c.advance.new.field (Ok more)) c.if-branch.false
     c.in_ok-advance.ensures)

@@ -4,9 +4,9 @@ use Rattle.sd_site.specs.Fields.{fields_of}
 use Rattle.sd_ports.proofs.Outlets.{there_after}
 use Rattle.sd_broadcast.specs.Plan.{Plan}
 use Rattle.sd_status.specs.declared.status.Status.TheVariants.{NoMemory}
-use Rattle.sd_status.specs.Outside.{place, outside}
+use Rattle.sd_status.specs.Outside.{depot_state, outside}
 use Rattle.sd_status.specs.Work.{Uncounted}
-use Rattle.sd_status.specs.Comes.{status_of}
+use Rattle.sd_status.specs.Outcome.{status_of}
 use Rattle.sd_status.proofs.Givens.{some_got}
 use Rattle.sd_run_head.specs.Head.{sending_of, sent_of, sent_status}
 use Rattle.sd_files.specs.Shown.{shown_word}
@@ -29,10 +29,10 @@ returns-in_err-site g c page =
     rw (p.1, p.2) (no_plan (λ plan. record { site = fields_of plan.0; commands = plan.1.commands })
     (shown_word c.args.site)
     (shown_word c.args.book) (shown_word c.args.clear) (shown_word c.args.out)
-    (place g.D.Depot c.args.depot.now) (place g.D.Depot c.read_both.new.depot) page c.args.steps.now
+    (depot_state g.D.Depot c.args.depot.now) (depot_state g.D.Depot c.read_both.new.depot) page c.args.steps.now
     c.in_err-site.field-0.0
-    (reads_plan both_read (shown_word c.args.site) (shown_word c.args.book) (place g.D.Depot c.args.depot.now)
-    (place g.D.Depot c.read_both.new.depot) (Err c.in_err-site.field-0.0) c.in_err-site.ensures.value))
+    (reads_plan both_read (shown_word c.args.site) (shown_word c.args.book) (depot_state g.D.Depot c.args.depot.now)
+    (depot_state g.D.Depot c.read_both.new.depot) (Err c.in_err-site.field-0.0) c.in_err-site.ensures.value))
 
 -- memory was out for the head end
 pub returns-in_err-head : goal.returns-in_err-head
@@ -40,15 +40,15 @@ returns-in_err-head g c page =
     let p = err_from_is_err_and c.from_residual-in_err-head.result c.from_residual-in_err-head.ensures.1 in
     let clear = shown_word c.args.clear in
     let out = shown_word c.args.out in
-    let q = place g.D.Depot c.read_both.new.depot in
+    let q = depot_state g.D.Depot c.read_both.new.depot in
     let got = some_got q.files clear.text in
     let plan : Plan = record { site = fields_of c.in_ok-site.site; commands = c.in_ok-site.book.commands } in
     rw (p.1, p.2) (plan_follows (λ plan. record { site = fields_of plan.0; commands = plan.1.commands })
     (shown_word c.args.site)
-    (shown_word c.args.book) clear out got.0 (place g.D.Depot c.args.depot.now) q page c.args.steps.now
+    (shown_word c.args.book) clear out got.0 (depot_state g.D.Depot c.args.depot.now) q page c.args.steps.now
     (outside q page c.args.steps.now)
     (c.in_ok-site.site, c.in_ok-site.book) NoMemory c.requires.1 c.requires.2
-    (reads_plan both_read (shown_word c.args.site) (shown_word c.args.book) (place g.D.Depot c.args.depot.now) q
+    (reads_plan both_read (shown_word c.args.site) (shown_word c.args.book) (depot_state g.D.Depot c.args.depot.now) q
     (Ok (c.in_ok-site.site, c.in_ok-site.book)) c.in_ok-site.ensures.value) got.1
     (wanting_obeys (sending_of clear out got.0 plan) q page c.args.steps.now NoMemory refl))
 
@@ -58,8 +58,8 @@ returns-in_err-inlet g c page =
     let p = err_from_is_err_and c.from_residual-in_err-inlet.result c.from_residual-in_err-inlet.ensures.1 in
     let clear = shown_word c.args.clear in
     let out = shown_word c.args.out in
-    let q = place g.D.Depot c.read_both.new.depot in
-    let r = place g.D.Depot c.open_both.new.depot in
+    let q = depot_state g.D.Depot c.read_both.new.depot in
+    let r = depot_state g.D.Depot c.open_both.new.depot in
     let status = c.in_err-inlet.field-0.0 in
     let plan : Plan = record { site = fields_of c.in_ok-site.site; commands = c.in_ok-site.book.commands } in
     let none = not_turned (λ bytes. Uncounted) (sent_of plan) (sent_status plan) clear out q r page c.args.steps.now
@@ -67,10 +67,10 @@ returns-in_err-inlet g c page =
     c.in_err-inlet.ensures.fault in
     rw (p.1, p.2) (plan_follows (λ plan. record { site = fields_of plan.0; commands = plan.1.commands })
     (shown_word c.args.site)
-    (shown_word c.args.book) clear out none.got (place g.D.Depot c.args.depot.now) q page c.args.steps.now
+    (shown_word c.args.book) clear out none.got (depot_state g.D.Depot c.args.depot.now) q page c.args.steps.now
     (outside r page c.args.steps.now)
     (c.in_ok-site.site, c.in_ok-site.book) status c.requires.1 c.requires.2
-    (reads_plan both_read (shown_word c.args.site) (shown_word c.args.book) (place g.D.Depot c.args.depot.now) q
+    (reads_plan both_read (shown_word c.args.site) (shown_word c.args.book) (depot_state g.D.Depot c.args.depot.now) q
     (Ok (c.in_ok-site.site, c.in_ok-site.book)) c.in_ok-site.ensures.value) none.is_got
     none.obeys)
 
@@ -83,17 +83,18 @@ pub returns : goal.returns
 returns g c page =
     let clear = shown_word c.args.clear in
     let out = shown_word c.args.out in
-    let q = place g.D.Depot c.read_both.new.depot in
-    let m = place g.D.Depot c.open_both.new.depot in
-    let r = place g.D.Depot c.close_both.new.depot in
+    let q = depot_state g.D.Depot c.read_both.new.depot in
+    let m = depot_state g.D.Depot c.open_both.new.depot in
+    let r = depot_state g.D.Depot c.close_both.new.depot in
     let plan : Plan = record { site = fields_of c.in_ok-site.site; commands = c.in_ok-site.book.commands } in
     let opened = c.in_ok-inlet.ensures.ok in
     let sent = c.send-sent.ensures.value in
     plan_follows (λ plan. record { site = fields_of plan.0; commands = plan.1.commands }) (shown_word c.args.site)
-    (shown_word c.args.book) clear out (Some sent.bytes) (place g.D.Depot c.args.depot.now) q page c.args.steps.now
+    (shown_word c.args.book) clear out (Some sent.bytes) (depot_state g.D.Depot c.args.depot.now) q page
+    c.args.steps.now
     (outside r page c.send-sent.new.steps) (c.in_ok-site.site, c.in_ok-site.book) (status_of c.close_both.result)
     c.requires.1 c.requires.2
-    (reads_plan both_read (shown_word c.args.site) (shown_word c.args.book) (place g.D.Depot c.args.depot.now) q
+    (reads_plan both_read (shown_word c.args.site) (shown_word c.args.book) (depot_state g.D.Depot c.args.depot.now) q
     (Ok (c.in_ok-site.site, c.in_ok-site.book)) c.in_ok-site.ensures.value)
     (opened_got q.files clear.text _ sent.bytes opened.opens sent.is_left)
     (turned_obeys (λ bytes. Uncounted) (sent_of plan) (sent_status plan) clear out sent.bytes q m r page

@@ -1,11 +1,11 @@
 use Rattle.sd_run_laws.proofs.Lost.{rest_confirmed}
 use Rattle.sd_run_laws.proofs.Losing.{lost_part}
-use Rattle.sd_status.specs.Meant.{told_by}
+use Rattle.sd_status.specs.Spec.{contents_of}
 use Rattle.sd_run_laws.proofs.losses.losses_are_received.Goals as goal
 
 pub returns-clause-meant : goal.returns-clause-meant
 returns-clause-meant c plan u clear flags words files is all whole synced leaf rest =
-    rest_confirmed plan u clear flags words (told_by files) is all whole synced leaf rest
+    rest_confirmed plan u clear flags words (contents_of files) is all whole synced leaf rest
 
 pub returns-clause-receive : goal.returns-clause-receive
 returns-clause-receive c names plan u clear z a b flags answer given leaf card_there stream_there answers well =

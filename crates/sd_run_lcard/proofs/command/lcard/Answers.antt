@@ -2,10 +2,10 @@ use Rattle.std.proofs.Common.{inl, subst, ℕ, List}
 use Rattle.std.proofs.lemmas.Result.{err_from_is_err_and}
 use Rattle.sd_site.specs.Fields.{fields_of}
 use Rattle.sd_lsd.specs.Fields.{layer_card_of, layer_bytes}
-use Rattle.sd_status.specs.Outside.{place, outside}
+use Rattle.sd_status.specs.Outside.{depot_state, outside}
 use Rattle.sd_status.specs.Work.{Uncounted}
-use Rattle.sd_status.specs.Meant.{judged, value, ◌>>=◌}
-use Rattle.sd_status.specs.Comes.{Obeys, status_of}
+use Rattle.sd_status.specs.Spec.{judged, value, ◌>>=◌}
+use Rattle.sd_status.specs.Outcome.{OutcomeWithin, status_of}
 use Rattle.sd_status.proofs.Follow.{looks_follows, looked_follows}
 use Rattle.sd_files.specs.Files.{site_of_file}
 use Rattle.sd_files.specs.Made.{making}
@@ -23,7 +23,7 @@ returns-in_err-site g c page =
     let width = shown_number c.args.width in
     let out = shown_word c.args.out in
     rw (p.1, p.2) (looks_follows fields_of (site_of_file site.number) (λ fields. carding fields leaf width out) site
-    (place g.D.Depot c.args.depot.now) (place g.D.Depot c.read_site.new.depot) page c.args.steps.now
+    (depot_state g.D.Depot c.args.depot.now) (depot_state g.D.Depot c.read_site.new.depot) page c.args.steps.now
     c.in_err-site.field-0.0 c.in_err-site.ensures)
 
 pub returns-in_err-u : goal.returns-in_err-u
@@ -33,11 +33,11 @@ returns-in_err-u g c page =
     let leaf = shown_number c.args.leaf in
     let width = shown_number c.args.width in
     let out = shown_word c.args.out in
-    let q = place g.D.Depot c.read_site.new.depot in
+    let q = depot_state g.D.Depot c.read_site.new.depot in
     let status = c.in_err-u.field-0.0 in
     let f = fields_of c.in_ok-site.site in
     rw (p.1, p.2) (looked_follows fields_of (site_of_file site.number) (λ fields. carding fields leaf width out) site
-    (place g.D.Depot c.args.depot.now) q page c.args.steps.now (outside q page c.args.steps.now) c.in_ok-site.site
+    (depot_state g.D.Depot c.args.depot.now) q page c.args.steps.now (outside q page c.args.steps.now) c.in_ok-site.site
     status c.in_ok-site.ensures
     (judged_refused (λ (u : ℕ). u) (told_leaf f.height leaf)
     (λ u. judged (told_width f.height width)
@@ -51,13 +51,13 @@ returns-in_err-w g c page =
     let leaf = shown_number c.args.leaf in
     let width = shown_number c.args.width in
     let out = shown_word c.args.out in
-    let q = place g.D.Depot c.read_site.new.depot in
+    let q = depot_state g.D.Depot c.read_site.new.depot in
     let b = outside q page c.args.steps.now in
     let status = c.in_err-w.field-0.0 in
     let f = fields_of c.in_ok-site.site in
     let u = c.in_ok-u.u in
     rw (p.1, p.2) (looked_follows fields_of (site_of_file site.number) (λ fields. carding fields leaf width out) site
-    (place g.D.Depot c.args.depot.now) q page c.args.steps.now b c.in_ok-site.site status c.in_ok-site.ensures
+    (depot_state g.D.Depot c.args.depot.now) q page c.args.steps.now b c.in_ok-site.site status c.in_ok-site.ensures
     (judged_obeys (told_leaf f.height leaf) u
     (λ u. judged (told_width f.height width)
     >>= λ w. value (making Uncounted out (layer_bytes (layer_card_of f.master f.ca f.height w u))))
@@ -73,7 +73,7 @@ returns-in_err-bytes g c page =
     let leaf = shown_number c.args.leaf in
     let width = shown_number c.args.width in
     let out = shown_word c.args.out in
-    let q = place g.D.Depot c.read_site.new.depot in
+    let q = depot_state g.D.Depot c.read_site.new.depot in
     let a = outside q page c.args.steps.now in
     let b = outside q page c.card_bytes.new.steps in
     let status = c.in_err-bytes.field-0.0 in
@@ -82,7 +82,7 @@ returns-in_err-bytes g c page =
     let w = c.in_ok-w.w in
     let bytes = layer_bytes (layer_card_of f.master f.ca f.height w u) in
     rw (p.1, p.2) (looked_follows fields_of (site_of_file site.number) (λ fields. carding fields leaf width out) site
-    (place g.D.Depot c.args.depot.now) q page c.args.steps.now b c.in_ok-site.site status c.in_ok-site.ensures
+    (depot_state g.D.Depot c.args.depot.now) q page c.args.steps.now b c.in_ok-site.site status c.in_ok-site.ensures
     (judged_obeys (told_leaf f.height leaf) u
     (λ u. judged (told_width f.height width)
     >>= λ w. value (making Uncounted out (layer_bytes (layer_card_of f.master f.ca f.height w u))))
@@ -100,9 +100,9 @@ returns g c page =
     let leaf = shown_number c.args.leaf in
     let width = shown_number c.args.width in
     let out = shown_word c.args.out in
-    let q = place g.D.Depot c.read_site.new.depot in
+    let q = depot_state g.D.Depot c.read_site.new.depot in
     let a = outside q page c.args.steps.now in
-    let b = outside (place g.D.Depot c.make_file.new.depot) page c.card_bytes.new.steps in
+    let b = outside (depot_state g.D.Depot c.make_file.new.depot) page c.card_bytes.new.steps in
     let status = status_of c.make_file.result in
     let f = fields_of c.in_ok-site.site in
     let u = c.in_ok-u.u in
@@ -110,7 +110,7 @@ returns g c page =
     let bytes = layer_bytes (layer_card_of f.master f.ca f.height w u) in
     let made = rw c.deref.ensures.value at c.make_file.ensures page c.card_bytes.new.steps Uncounted in
     looked_follows fields_of (site_of_file site.number) (λ fields. carding fields leaf width out) site
-    (place g.D.Depot c.args.depot.now) q page c.args.steps.now b c.in_ok-site.site status c.in_ok-site.ensures
+    (depot_state g.D.Depot c.args.depot.now) q page c.args.steps.now b c.in_ok-site.site status c.in_ok-site.ensures
     (judged_obeys (told_leaf f.height leaf) u
     (λ u. judged (told_width f.height width)
     >>= λ w. value (making Uncounted out (layer_bytes (layer_card_of f.master f.ca f.height w u))))
@@ -119,5 +119,6 @@ returns g c page =
     (λ w. value (making Uncounted out (layer_bytes (layer_card_of f.master f.ca f.height w u))))
     a b status c.in_ok-w.ensures.value
     (any_steps out bytes q page c.card_bytes.new.steps c.args.steps.now b status
-    (subst (λ (xs : List ℕ). Obeys (value (making Uncounted out xs)) (outside q page c.card_bytes.new.steps) b status)
+    (subst (λ (xs : List ℕ). OutcomeWithin
+    (value (making Uncounted out xs)) (outside q page c.card_bytes.new.steps) b status)
     c.in_ok-bytes.ensures.value made))))

@@ -1,8 +1,8 @@
 use Rattle.std.proofs.lemmas.Result.{err_from_is_err_and}
 use Rattle.sd_site.specs.Fields.{fields_of}
-use Rattle.sd_status.specs.Outside.{place, page, outside}
-use Rattle.sd_status.specs.Meant.{all_of, value, ◌>>=◌}
-use Rattle.sd_status.specs.Comes.{status_of}
+use Rattle.sd_status.specs.Outside.{depot_state, page_state, outside}
+use Rattle.sd_status.specs.Spec.{all_of, value, ◌>>=◌}
+use Rattle.sd_status.specs.Outcome.{status_of}
 use Rattle.sd_files.specs.Files.{site_of_file}
 use Rattle.sd_files.specs.Shown.{shown_word}
 use Rattle.sd_run_receive.proofs.Streamed.{first_follows, then_follows}
@@ -17,8 +17,8 @@ returns-in_err-site g c steps =
     let site = shown_word c.args.site in
     rw (p.1, p.2) (first_follows fields_of (site_of_file site.number)
     (λ given fields. stream_meaning fields (shown_word c.args.stream) given) site
-    (place g.D.Depot c.args.depot.now) (place g.D.Depot c.read_site.new.depot) (page g.P.Sink c.args.print.now) steps
-    c.in_err-site.field-0.0 c.in_err-site.ensures)
+    (depot_state g.D.Depot c.args.depot.now) (depot_state g.D.Depot c.read_site.new.depot)
+    (page_state g.P.Sink c.args.print.now) steps c.in_err-site.field-0.0 c.in_err-site.ensures)
 
 pub returns : goal.returns
 unfolding messages_meaning
@@ -27,6 +27,7 @@ returns g c steps =
     let stream = shown_word c.args.stream in
     then_follows fields_of (site_of_file site.number)
     (λ fields got. all_of stream.number got >>= λ bytes. value (monitoring fields bytes)) site stream
-    (place g.D.Depot c.args.depot.now) (place g.D.Depot c.read_site.new.depot) (page g.P.Sink c.args.print.now) steps
-    (outside (place g.D.Depot c.print_file.new.depot) (page g.P.Sink c.print_file.new.print) steps) c.in_ok-site.site
-    (status_of c.print_file.result) c.requires c.in_ok-site.ensures (c.print_file.ensures steps)
+    (depot_state g.D.Depot c.args.depot.now) (depot_state g.D.Depot c.read_site.new.depot)
+    (page_state g.P.Sink c.args.print.now) steps
+    (outside (depot_state g.D.Depot c.print_file.new.depot) (page_state g.P.Sink c.print_file.new.print) steps)
+    c.in_ok-site.site (status_of c.print_file.result) c.requires c.in_ok-site.ensures (c.print_file.ensures steps)

@@ -2,9 +2,9 @@ use Rattle.std.proofs.Common.{refl, ◌∙◌, ◌≡◌, arith}
 use Rattle.sd_ports.proofs.Calls.{twice_called, open_as_before}
 use Rattle.sd_engine.specs.Taken.{end_of}
 use Rattle.sd_site.specs.Fields.{fields_of}
-use Rattle.sd_status.specs.Outside.{place, page}
-use Rattle.sd_status.specs.Meant.{all_of, value}
-use Rattle.sd_status.specs.Comes.{status_of}
+use Rattle.sd_status.specs.Outside.{depot_state, page_state}
+use Rattle.sd_status.specs.Spec.{all_of, value}
+use Rattle.sd_status.specs.Outcome.{status_of}
 use Rattle.sd_status.proofs.Follow.{looks_follows}
 use Rattle.sd_status.proofs.Streams.{faults_added, reading_follows}
 use Rattle.sd_files.specs.Shown.{shown_word}
@@ -17,25 +17,25 @@ use Rattle.sd_run_messages.proofs.command.print_file.Goals as goal
 pub returns-in-Err : goal.returns-in-Err
 returns-in-Err g c steps =
     let stream = shown_word c.args.stream in
-    let p = place g.D.Depot c.args.depot.now in
-    let q = place g.D.Depot c.open_in.new.self in
+    let p = depot_state g.D.Depot c.args.depot.now in
+    let q = depot_state g.D.Depot c.open_in.new.self in
     let h = c.in-Err.ensures in
     looks_follows bytes_seen (all_of stream.number) (λ bytes. value (monitoring (fields_of c.args.site.now) bytes))
-    stream p q (page g.P.Sink c.args.print.now) steps _
+    stream p q (page_state g.P.Sink c.args.print.now) steps _
     (rw c.opening_fault.ensures (opens_refused stream.number stream.text p q _ h.not_there h.cause h.stops
     (record { files = h.files; made = h.made; ports = h.ports.refused; calls = let n = h.calls in omega (arith, n) })))
 
 pub returns : goal.returns
 returns g c steps =
     let stream = shown_word c.args.stream in
-    let p = place g.D.Depot c.args.depot.now in
-    let q = place g.D.Depot c.close_in.new.self in
+    let p = depot_state g.D.Depot c.args.depot.now in
+    let q = depot_state g.D.Depot c.close_in.new.self in
     let status = status_of c.print_messages-printed.result in
     let h = c.in-Ok.ensures in
     let k = c.close_in.ensures in
     let seen = c.print_messages-printed.ensures.value in
-    reading_follows (monitoring (fields_of c.args.site.now)) stream seen.bytes p q (page g.P.Sink c.args.print.now)
-    (page g.P.Sink c.print_messages-printed.new.print)
+    reading_follows (monitoring (fields_of c.args.site.now)) stream seen.bytes p q
+    (page_state g.P.Sink c.args.print.now) (page_state g.P.Sink c.print_messages-printed.new.print)
     steps status refl (stream_ends (end_of seen.bytes)) (opened_got p.files stream.text _ seen.bytes h.opened
     seen.is_left)
     (record {

@@ -38,8 +38,8 @@ loop-before-preserved c =
     record {
       text = text_more plan n before c.cryptos_in-share.result leaves (string_bytes c.loop-before.text)
           (string_bytes c.push_numbers.new.text) one turn.text pushed;
-      tables = tables_more plan n before c.cryptos_in-share.result c.loop-before.tables c.in_ok-tables.field-0 leaves one
-          turn.tables added;
+      tables = tables_more plan n before c.cryptos_in-share.result c.loop-before.tables c.in_ok-tables.field-0 leaves
+          one turn.tables added;
       fits = omega (arith, turn.fits, c.in_ok-tables.ensures.fits);
       height = c.in_ok-revoked.ensures.height ∙ turn.height;
       commands = c.in_ok-revoked.ensures.commands ∙ turn.commands;

@@ -3,10 +3,10 @@ use Rattle.std.specs.Prelude.{◌⊎◌}
 use Rattle.std.proofs.lemmas.Result.{err_from_is_err_and}
 use Rattle.sd_ports.proofs.Outlets.{there_after}
 use Rattle.sd_receive.specs.Receiving.{card_in}
-use Rattle.sd_status.specs.Outside.{place, outside}
-use Rattle.sd_status.specs.Meant.{all_of, value, ◌>>=◌}
+use Rattle.sd_status.specs.Outside.{depot_state, outside}
+use Rattle.sd_status.specs.Spec.{all_of, value, ◌>>=◌}
 use Rattle.sd_status.specs.Work.{UpTo}
-use Rattle.sd_status.specs.Comes.{status_of}
+use Rattle.sd_status.specs.Outcome.{status_of}
 use Rattle.sd_run_receive.specs.Receive.{received_of, received_status, received_steps, receiving}
 use Rattle.sd_files.specs.Shown.{shown_word}
 use Rattle.sd_files.specs.Turned.{unclosed_by}
@@ -22,8 +22,8 @@ returns-in_err-inlet-clause-value g c page =
     let card = card_in c.args.receiver in
     let stream = shown_word c.args.stream in
     let out = shown_word c.args.out in
-    let p = place g.D.Depot c.args.depot.now in
-    let q = place g.D.Depot c.open_both.new.depot in
+    let p = depot_state g.D.Depot c.args.depot.now in
+    let q = depot_state g.D.Depot c.open_both.new.depot in
     let i = c.args.steps.now in
     let status = c.in_err-inlet.field-0.0 in
     let not = not_turned (λ bytes. UpTo (received_steps card bytes)) (received_of card) (received_status card) stream
@@ -41,9 +41,9 @@ returns-clause-value g c page =
     let card = card_in c.args.receiver in
     let stream = shown_word c.args.stream in
     let out = shown_word c.args.out in
-    let p = place g.D.Depot c.args.depot.now in
-    let q = place g.D.Depot c.open_both.new.depot in
-    let r = place g.D.Depot c.close_both.new.depot in
+    let p = depot_state g.D.Depot c.args.depot.now in
+    let q = depot_state g.D.Depot c.open_both.new.depot in
+    let r = depot_state g.D.Depot c.close_both.new.depot in
     let i = c.args.steps.now in
     let j = c.receive_all-ended.new.steps in
     let opened = c.in_ok-inlet.ensures.ok in
@@ -61,7 +61,7 @@ returns-clause-value g c page =
 
 pub returns-in_err-inlet-clause-memory : goal.returns-in_err-inlet-clause-memory
 returns-in_err-inlet-clause-memory g c = λ e. not_opened (shown_word c.args.stream) (shown_word c.args.out)
-    (place g.D.Depot c.args.depot.now) (place g.D.Depot c.open_both.new.depot) c.in_err-inlet.field-0.0
+    (depot_state g.D.Depot c.args.depot.now) (depot_state g.D.Depot c.open_both.new.depot) c.in_err-inlet.field-0.0
     c.in_err-inlet.ensures.fault
 
 pub returns-clause-memory : goal.returns-clause-memory

@@ -1,8 +1,8 @@
 use Rattle.std.proofs.Common.{refl, string_bytes}
 use Rattle.std.proofs.lemmas.Result.{err_from_is_err_and}
-use Rattle.sd_status.specs.Outside.{place, page}
-use Rattle.sd_status.specs.Meant.{value}
-use Rattle.sd_status.specs.Comes.{status_of}
+use Rattle.sd_status.specs.Outside.{depot_state, page_state}
+use Rattle.sd_status.specs.Spec.{value}
+use Rattle.sd_status.specs.Outcome.{status_of}
 use Rattle.sd_status.proofs.Follow.{looks_follows, looks_reads, prints_follows}
 use Rattle.sd_files.specs.Shown.{shown_word}
 use Rattle.sd_run_show.specs.Show.{line_of_file, printing, show_meaning}
@@ -15,16 +15,17 @@ returns-in_err-line g c steps =
     let p = err_from_is_err_and c.from_residual.result c.from_residual.ensures.1 in
     let card = shown_word c.args.card in
     rw (p.1, p.2) (looks_follows (λ line. string_bytes line) (line_of_file card.number)
-    (λ line. value (printing line)) card (place g.D.Depot c.args.depot.now) (place g.D.Depot c.read_line.new.depot)
-    (page g.P.Sink c.args.print.now) steps c.in_err-line.field-0.0 c.in_err-line.ensures)
+    (λ line. value (printing line)) card (depot_state g.D.Depot c.args.depot.now)
+    (depot_state g.D.Depot c.read_line.new.depot)
+    (page_state g.P.Sink c.args.print.now) steps c.in_err-line.field-0.0 c.in_err-line.ensures)
 
 pub returns : goal.returns
 returns g c steps =
     let card = shown_word c.args.card in
-    let p = place g.D.Depot c.args.depot.now in
-    let q = place g.D.Depot c.read_line.new.depot in
-    let before = page g.P.Sink c.args.print.now in
-    let now = page g.P.Sink c.print_text.new.print in
+    let p = depot_state g.D.Depot c.args.depot.now in
+    let q = depot_state g.D.Depot c.read_line.new.depot in
+    let before = page_state g.P.Sink c.args.print.now in
+    let now = page_state g.P.Sink c.print_text.new.print in
     let printed = rw c.as_bytes.ensures.value at c.print_text.ensures.value in
     prints_follows (λ line. printing (string_bytes line)) (show_meaning card) p q before now steps c.in_ok-line.line
     (status_of c.print_text.result) refl tt

@@ -1,13 +1,13 @@
 use Rattle.std.proofs.lemmas.Result.{err_from_is_err_and}
-use Rattle.sd_status.specs.Outside.{page}
-use Rattle.sd_status.specs.Comes.{status_of}
+use Rattle.sd_status.specs.Outside.{page_state}
+use Rattle.sd_status.specs.Outcome.{status_of}
 use Rattle.sd_run_tables.proofs.Inspected.{not_inspected, is_inspected, read_caused}
 use Rattle.sd_run_tables.proofs.command.inspect.Goals as goal
 
 pub returns-in_err-inspector-clause-value : goal.returns-in_err-inspector-clause-value
 returns-in_err-inspector-clause-value g c =
     let p = err_from_is_err_and c.from_residual.result c.from_residual.ensures.1 in
-    rw (p.1, p.2) (not_inspected (g.S.Source.left c.args.source.now) (page g.P.Sink c.args.print.now))
+    rw (p.1, p.2) (not_inspected (g.S.Source.left c.args.source.now) (page_state g.P.Sink c.args.print.now))
 
 pub returns-clause-value : goal.returns-clause-value
 returns-clause-value g c =

@@ -1,9 +1,9 @@
 use Rattle.std.proofs.Common.{refl, ◌∙◌, ◌≡◌, inl, inr, arith}
 use Rattle.sd_ports.proofs.Calls.{twice_called, open_as_before}
 use Rattle.sd_engine.specs.Taken.{end_of}
-use Rattle.sd_status.specs.Outside.{place, page}
-use Rattle.sd_status.specs.Meant.{all_of, value}
-use Rattle.sd_status.specs.Comes.{status_of}
+use Rattle.sd_status.specs.Outside.{depot_state, page_state}
+use Rattle.sd_status.specs.Spec.{all_of, value}
+use Rattle.sd_status.specs.Outcome.{status_of}
 use Rattle.sd_status.proofs.Follow.{looks_follows}
 use Rattle.sd_status.proofs.Streams.{faults_added, reading_follows}
 use Rattle.sd_run_tables.specs.Tables.{inspecting, tables_meaning}
@@ -16,11 +16,11 @@ pub returns-in-Err : goal.returns-in-Err
 unfolding tables_meaning
 returns-in-Err g c steps =
     let stream = shown_word c.args.stream in
-    let p = place g.D.Depot c.args.depot.now in
-    let q = place g.D.Depot c.open_in.new.self in
+    let p = depot_state g.D.Depot c.args.depot.now in
+    let q = depot_state g.D.Depot c.open_in.new.self in
     let h = c.in-Err.ensures in
     looks_follows bytes_seen (all_of stream.number) (λ bytes. value (inspecting bytes)) stream p q
-    (page g.P.Sink c.args.print.now) steps _
+    (page_state g.P.Sink c.args.print.now) steps _
     (rw c.opening_fault.ensures (opens_refused stream.number stream.text p q _ h.not_there h.cause h.stops
     (record { files = h.files; made = h.made; ports = h.ports.refused; calls = let n = h.calls in omega (arith, n) })))
 
@@ -28,14 +28,14 @@ pub returns : goal.returns
 unfolding tables_meaning
 returns g c steps =
     let stream = shown_word c.args.stream in
-    let p = place g.D.Depot c.args.depot.now in
-    let q = place g.D.Depot c.close_in.new.self in
+    let p = depot_state g.D.Depot c.args.depot.now in
+    let q = depot_state g.D.Depot c.close_in.new.self in
     let status = status_of c.print_tables-printed.result in
     let h = c.in-Ok.ensures in
     let k = c.close_in.ensures in
     let seen = c.print_tables-printed.ensures.value in
-    reading_follows inspecting stream seen.bytes p q (page g.P.Sink c.args.print.now)
-    (page g.P.Sink c.print_tables-printed.new.print)
+    reading_follows inspecting stream seen.bytes p q (page_state g.P.Sink c.args.print.now)
+    (page_state g.P.Sink c.print_tables-printed.new.print)
     steps status refl (stream_ends (end_of seen.bytes)) (opened_got p.files stream.text _ seen.bytes h.opened
     seen.is_left)
     (record {

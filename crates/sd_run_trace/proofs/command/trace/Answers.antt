@@ -1,10 +1,10 @@
 use Rattle.std.proofs.Common.{◌≡◌, ℕ, List, Ok, Err, refl, subst, string_bytes}
 use Rattle.std.proofs.lemmas.Result.{err_from_is_err_and}
 use Rattle.sd_site.specs.Fields.{fields_of}
-use Rattle.sd_status.specs.Outside.{place, page, outside}
-use Rattle.sd_status.specs.Meant.{judged, value, ◌>>=◌}
-use Rattle.sd_status.specs.Comes.{status_of}
-use Rattle.sd_status.specs.Reads.{Judges}
+use Rattle.sd_status.specs.Outside.{depot_state, page_state, outside}
+use Rattle.sd_status.specs.Spec.{judged, value, ◌>>=◌}
+use Rattle.sd_status.specs.Outcome.{status_of}
+use Rattle.sd_status.specs.Reads.{JudgedOutcome}
 use Rattle.sd_status.proofs.Follow.{rests, printed_obeys}
 use Rattle.sd_files.specs.Both.{SiteBook, both_by}
 use Rattle.sd_files.specs.Leaves.{leaves_of_file}
@@ -26,8 +26,8 @@ returns-in_err-site g c steps =
     (both_by site.number book.number)
     (λ both got. leaves_of_file leaves.number both.site.height got
     >>= λ coalition. judged (traced both.site.height coalition both.commands) >>= λ text. value (telling text))
-    site book leaves (place g.D.Depot c.args.depot.now) (place g.D.Depot c.read_both.new.depot)
-    (page g.P.Sink c.args.print.now) steps c.in_err-site.field-0.0 c.in_err-site.ensures.value)
+    site book leaves (depot_state g.D.Depot c.args.depot.now) (depot_state g.D.Depot c.read_both.new.depot)
+    (page_state g.P.Sink c.args.print.now) steps c.in_err-site.field-0.0 c.in_err-site.ensures.value)
 
 -- the leaves were refused, or not read
 pub returns-in_err-leaves : goal.returns-in_err-leaves
@@ -41,8 +41,8 @@ returns-in_err-leaves g c steps =
     (both_by site.number book.number) (λ leaves. leaves.items)
     (λ both got. leaves_of_file leaves.number both.site.height got)
     (λ both coalition. judged (traced both.site.height coalition both.commands) >>= λ text. value (telling text))
-    site book leaves (place g.D.Depot c.args.depot.now) (place g.D.Depot c.read_both.new.depot)
-    (place g.D.Depot c.read_leaves.new.depot) (page g.P.Sink c.args.print.now) steps
+    site book leaves (depot_state g.D.Depot c.args.depot.now) (depot_state g.D.Depot c.read_both.new.depot)
+    (depot_state g.D.Depot c.read_leaves.new.depot) (page_state g.P.Sink c.args.print.now) steps
     (c.in_ok-site.site, c.in_ok-site.book) c.in_err-leaves.field-0.0 c.requires.1 c.requires.2
     c.in_ok-site.ensures.value c.in_err-leaves.ensures.value)
 
@@ -54,8 +54,8 @@ returns-in_err-text g c steps =
     let site = shown_word c.args.site in
     let book = shown_word c.args.book in
     let leaves = shown_word c.args.leaves in
-    let r = place g.D.Depot c.read_leaves.new.depot in
-    let before = page g.P.Sink c.args.print.now in
+    let r = depot_state g.D.Depot c.read_leaves.new.depot in
+    let before = page_state g.P.Sink c.args.print.now in
     let status = c.in_err-text.field-0.0 in
     let both : SiteBook = record { site = fields_of c.in_ok-site.site; commands = c.in_ok-site.book.commands } in
     let coalition = c.in_ok-leaves.leaves.items in
@@ -63,12 +63,12 @@ returns-in_err-text g c steps =
     (both_by site.number book.number) (λ leaves. leaves.items)
     (λ both got. leaves_of_file leaves.number both.site.height got)
     (λ both coalition. judged (traced both.site.height coalition both.commands) >>= λ text. value (telling text))
-    site book leaves (place g.D.Depot c.args.depot.now) (place g.D.Depot c.read_both.new.depot) r before steps
-    (outside r before steps) (c.in_ok-site.site, c.in_ok-site.book) c.in_ok-leaves.leaves status c.requires.1
+    site book leaves (depot_state g.D.Depot c.args.depot.now) (depot_state g.D.Depot c.read_both.new.depot) r before
+    steps (outside r before steps) (c.in_ok-site.site, c.in_ok-site.book) c.in_ok-leaves.leaves status c.requires.1
     c.requires.2 c.in_ok-site.ensures.value c.in_ok-leaves.ensures.value
     (judged_refused (λ (xs : List ℕ). xs) (traced both.site.height coalition both.commands)
     (λ text. value (telling text)) r before steps status
-    (subst (λ (d : ℕ). Judges (λ (xs : List ℕ). xs) (traced d coalition both.commands) (Err status))
+    (subst (λ (d : ℕ). JudgedOutcome (λ (xs : List ℕ). xs) (traced d coalition both.commands) (Err status))
     c.in_ok-site.ensures.height c.in_err-text.ensures)))
 
 pub returns : goal.returns
@@ -77,9 +77,9 @@ returns g c steps =
     let site = shown_word c.args.site in
     let book = shown_word c.args.book in
     let leaves = shown_word c.args.leaves in
-    let r = place g.D.Depot c.read_leaves.new.depot in
-    let now = page g.P.Sink c.print_text.new.print in
-    let before = page g.P.Sink c.args.print.now in
+    let r = depot_state g.D.Depot c.read_leaves.new.depot in
+    let now = page_state g.P.Sink c.print_text.new.print in
+    let before = page_state g.P.Sink c.args.print.now in
     let status = status_of c.print_text.result in
     let both : SiteBook = record { site = fields_of c.in_ok-site.site; commands = c.in_ok-site.book.commands } in
     let coalition = c.in_ok-leaves.leaves.items in
@@ -91,12 +91,12 @@ returns g c steps =
     (both_by site.number book.number) (λ leaves. leaves.items)
     (λ both got. leaves_of_file leaves.number both.site.height got)
     (λ both coalition. judged (traced both.site.height coalition both.commands) >>= λ text. value (telling text))
-    site book leaves (place g.D.Depot c.args.depot.now) (place g.D.Depot c.read_both.new.depot) r
+    site book leaves (depot_state g.D.Depot c.args.depot.now) (depot_state g.D.Depot c.read_both.new.depot) r
     before steps (outside r now steps) (c.in_ok-site.site, c.in_ok-site.book) c.in_ok-leaves.leaves status
     c.requires.1 c.requires.2 c.in_ok-site.ensures.value c.in_ok-leaves.ensures.value
     (judged_obeys (traced both.site.height coalition both.commands) text (λ text. value (telling text))
     (outside r before steps) (outside r now steps) status is
     (printed_obeys (value (telling text)) (telling text) r r before now steps status refl refl tt
     (rests (leaves_of_file leaves.number both.site.height c.in_ok-leaves.ensures.value.got).calls
-    (place g.D.Depot c.read_both.new.depot) r c.in_ok-leaves.ensures.value.gives.1)
+    (depot_state g.D.Depot c.read_both.new.depot) r c.in_ok-leaves.ensures.value.gives.1)
     (text_prints text before now status printed)))

@@ -1,7 +1,7 @@
 use Rattle.std.proofs.lemmas.Result.{err_from_is_err_and}
 use Rattle.sd_site.specs.Fields.{fields_of}
-use Rattle.sd_status.specs.Outside.{place}
-use Rattle.sd_status.specs.Meant.{judged}
+use Rattle.sd_status.specs.Outside.{depot_state}
+use Rattle.sd_status.specs.Spec.{judged}
 use Rattle.sd_status.proofs.Follow.{alone_judges, looks_first, looks_judged}
 use Rattle.sd_files.specs.Files.{site_of_file}
 use Rattle.sd_run_trial.specs.Trial.{told_low, low_site_of_file}
@@ -13,7 +13,7 @@ returns-in_err-site g c =
     let p = err_from_is_err_and c.from_residual.result c.from_residual.ensures.1 in
     rw (p.1, p.2) (looks_first fields_of fields_of (site_of_file c.args.word.number)
     (λ site. judged (told_low site)) c.args.word.text.now
-    (place g.D.Depot c.args.depot.now) (place g.D.Depot c.read_site.new.depot) c.in_err-site.field-0.0
+    (depot_state g.D.Depot c.args.depot.now) (depot_state g.D.Depot c.read_site.new.depot) c.in_err-site.field-0.0
     c.in_err-site.ensures)
 
 pub returns : goal.returns
@@ -21,6 +21,6 @@ unfolding low_site_of_file
 returns g c =
     looks_judged fields_of fields_of (site_of_file c.args.word.number)
     told_low c.args.word.text.now
-    (place g.D.Depot c.args.depot.now) (place g.D.Depot c.read_site.new.depot) c.in_ok-site.site c.judge_height.result
-    c.in_ok-site.ensures
+    (depot_state g.D.Depot c.args.depot.now) (depot_state g.D.Depot c.read_site.new.depot) c.in_ok-site.site
+    c.judge_height.result c.in_ok-site.ensures
     (alone_judges fields_of (told_low (fields_of c.in_ok-site.site)) c.judge_height.result c.judge_height.ensures)

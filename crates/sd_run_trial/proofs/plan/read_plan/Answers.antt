@@ -1,8 +1,8 @@
 use Rattle.std.proofs.Common.{refl}
 use Rattle.std.proofs.lemmas.Result.{err_from_is_err_and}
 use Rattle.sd_site.specs.Fields.{fields_of}
-use Rattle.sd_status.specs.Outside.{place}
-use Rattle.sd_status.specs.Meant.{value, ◌>>=◌}
+use Rattle.sd_status.specs.Outside.{depot_state}
+use Rattle.sd_status.specs.Spec.{value, ◌>>=◌}
 use Rattle.sd_status.proofs.Follow.{reads_first, reads_second, reads_two}
 use Rattle.sd_files.specs.Files.{book_of_file}
 use Rattle.sd_run_trial.specs.Trial.{low_site_of_file, plan_by, plan_meaning}
@@ -20,7 +20,7 @@ returns-in_err-site-clause-value g c =
     (low_site_of_file site.number)
     (λ given fields. book_of_file book.number fields.height (given book)
     >>= λ commands. value (record { site = fields; commands = commands })) site
-    (place g.D.Depot c.args.depot.now) (place g.D.Depot c.read_low_site.new.depot) c.in_err-site.field-0.0
+    (depot_state g.D.Depot c.args.depot.now) (depot_state g.D.Depot c.read_low_site.new.depot) c.in_err-site.field-0.0
     c.in_err-site.ensures)
 
 pub returns-in_err-book-clause-value : goal.returns-in_err-book-clause-value
@@ -32,13 +32,13 @@ returns-in_err-book-clause-value g c =
     let fields = fields_of c.in_ok-site.site in
     rw (p.1, p.2) (same_refusal (λ book. record { site = fields; commands = book.commands })
     (λ plan. record { site = fields_of plan.0; commands = plan.1.commands }) (plan_meaning site book)
-    (place g.D.Depot c.args.depot.now) (place g.D.Depot c.read_book.new.depot) c.in_err-book.field-0.0
+    (depot_state g.D.Depot c.args.depot.now) (depot_state g.D.Depot c.read_book.new.depot) c.in_err-book.field-0.0
     (reads_second fields_of (λ book. book.commands) (λ book. record { site = fields; commands = book.commands })
     (low_site_of_file site.number) (λ fields got. book_of_file book.number fields.height got)
     (λ fields commands. value (record { site = fields; commands = commands })) site book
-    (place g.D.Depot c.args.depot.now) (place g.D.Depot c.read_low_site.new.depot)
-    (place g.D.Depot c.read_book.new.depot) c.in_ok-site.site c.in_err-book.field-0.0 c.requires c.in_ok-site.ensures
-    c.in_err-book.ensures.value))
+    (depot_state g.D.Depot c.args.depot.now) (depot_state g.D.Depot c.read_low_site.new.depot)
+    (depot_state g.D.Depot c.read_book.new.depot) c.in_ok-site.site c.in_err-book.field-0.0 c.requires
+    c.in_ok-site.ensures c.in_err-book.ensures.value))
 
 pub returns-clause-value : goal.returns-clause-value
 unfolding plan_by
@@ -48,11 +48,11 @@ returns-clause-value g c =
     let fields = fields_of c.in_ok-site.site in
     same_value (λ book. record { site = fields; commands = book.commands })
     (λ plan. record { site = fields_of plan.0; commands = plan.1.commands }) (plan_meaning site book)
-    (place g.D.Depot c.args.depot.now) (place g.D.Depot c.read_book.new.depot) c.in_ok-book.book
+    (depot_state g.D.Depot c.args.depot.now) (depot_state g.D.Depot c.read_book.new.depot) c.in_ok-book.book
     (c.in_ok-site.site, c.in_ok-book.book) refl
     (reads_two fields_of (λ book. book.commands) (λ book. record { site = fields; commands = book.commands })
     (low_site_of_file site.number) (λ fields got. book_of_file book.number fields.height got)
     (λ fields commands. record { site = fields; commands = commands }) site book
-    (place g.D.Depot c.args.depot.now) (place g.D.Depot c.read_low_site.new.depot)
-    (place g.D.Depot c.read_book.new.depot) c.in_ok-site.site c.in_ok-book.book c.requires c.in_ok-site.ensures
+    (depot_state g.D.Depot c.args.depot.now) (depot_state g.D.Depot c.read_low_site.new.depot)
+    (depot_state g.D.Depot c.read_book.new.depot) c.in_ok-site.site c.in_ok-book.book c.requires c.in_ok-site.ensures
     c.in_ok-book.ensures.value refl)

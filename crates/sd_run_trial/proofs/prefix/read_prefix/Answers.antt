@@ -1,8 +1,8 @@
 use Rattle.std.proofs.Common.{◌∙◌, arith}
 use Rattle.sd_ports.specs.Bytes.{prefix_of}
 use Rattle.sd_ports.proofs.Calls.{twice_called, open_as_before}
-use Rattle.sd_status.specs.Outside.{place}
-use Rattle.sd_status.specs.Meant.{all_of, value}
+use Rattle.sd_status.specs.Outside.{depot_state}
+use Rattle.sd_status.specs.Spec.{all_of, value}
 use Rattle.sd_status.proofs.Follow.{looks_first}
 use Rattle.sd_files.proofs.Looked.{bytes_seen, opens_refused}
 use Rattle.sd_run_trial.specs.Prefixes.{prefix_of_file}
@@ -14,8 +14,8 @@ unfolding prefix_of_file
 returns-in-Err g c =
     let word = c.args.word.number in
     let name = c.args.word.text.now in
-    let p = place g.D.Depot c.args.depot.now in
-    let q = place g.D.Depot c.open_in.new.self in
+    let p = depot_state g.D.Depot c.args.depot.now in
+    let q = depot_state g.D.Depot c.open_in.new.self in
     let h = c.in-Err.ensures in
     looks_first bytes_seen (λ prefix. prefix) (all_of word) (λ bytes. value (prefix_of c.args.most bytes)) name p q _
     (rw c.opening_fault.ensures (opens_refused word name p q _ h.not_there h.cause h.stops
@@ -23,8 +23,8 @@ returns-in-Err g c =
 
 pub returns : goal.returns
 returns g c =
-    let p = place g.D.Depot c.args.depot.now in
-    let q = place g.D.Depot c.close_in.new.self in
+    let p = depot_state g.D.Depot c.args.depot.now in
+    let q = depot_state g.D.Depot c.close_in.new.self in
     let h = c.in-Ok.ensures in
     let k = c.close_in.ensures in
     let r = c.read_most-read.ensures in

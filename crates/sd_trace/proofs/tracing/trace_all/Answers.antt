@@ -4,7 +4,7 @@ use Rattle.std.proofs.lemmas.List.{append-nil, append_assoc, length_push}
 use Rattle.std.proofs.lemmas.List.Sums.{sum_by_push}
 use Rattle.sd_trace.specs.declared.found.Found.{Found}
 use Rattle.sd_trace.specs.Trace.{IsTrace, AreAnyRounds}
-use Rattle.sd_trace.specs.Rounds.{RoundOf, TellsRound, Joined}
+use Rattle.sd_trace.specs.Rounds.{RoundOf, RoundOfCoalition, IsJoined}
 use Rattle.sd_trace.proofs.Chained.{rounds_more, trace_more, joined_leaves, none_any, one_any, none_traced}
 use Rattle.sd_trace.proofs.Rounds.{round_few}
 use Rattle.sd_trace.proofs.Inside.{round_inside}
@@ -19,18 +19,20 @@ returns-clause-rounds g c =
 pub returns-clause-traced : goal.returns-clause-traced
 returns-clause-traced g c coalition told =
     let round = c.in_ok-next.ensures.told coalition (c.loop-found.invariant.coalition ∙ told) in
-    let ended : TellsRound c.args.h coalition c.loop-found.gone.items None =
-    subst (λ (r : Option Found). TellsRound c.args.h coalition c.loop-found.gone.items r) c.in_default.is
-    (subst (λ (gone : List ℕ). TellsRound c.args.h coalition gone c.in_ok-next.field-0) c.deref.ensures.value round) in
+    let ended : RoundOfCoalition c.args.h coalition c.loop-found.gone.items None =
+    subst (λ (r : Option Found). RoundOfCoalition c.args.h coalition c.loop-found.gone.items r) c.in_default.is
+    (subst (λ (gone : List ℕ). RoundOfCoalition c.args.h coalition gone c.in_ok-next.field-0) c.deref.ensures.value
+    round) in
     subst (IsTrace c.args.h coalition c.args.revoked.now) (append-nil c.loop-found.found.items)
     (c.loop-found.invariant.traced coalition told [] (none_traced c.args.h coalition c.loop-found.gone.items ended))
 
 pub returns-clause-told : goal.returns-clause-told
 returns-clause-told g c coalition told =
     let round = c.in_ok-next.ensures.told coalition (c.loop-found.invariant.coalition ∙ told) in
-    let ended : TellsRound c.args.h coalition c.loop-found.gone.items None =
-    subst (λ (r : Option Found). TellsRound c.args.h coalition c.loop-found.gone.items r) c.in_default.is
-    (subst (λ (gone : List ℕ). TellsRound c.args.h coalition gone c.in_ok-next.field-0) c.deref.ensures.value round) in
+    let ended : RoundOfCoalition c.args.h coalition c.loop-found.gone.items None =
+    subst (λ (r : Option Found). RoundOfCoalition c.args.h coalition c.loop-found.gone.items r) c.in_default.is
+    (subst (λ (gone : List ℕ). RoundOfCoalition c.args.h coalition gone c.in_ok-next.field-0) c.deref.ensures.value
+    round) in
     let left = c.loop-found.invariant.left coalition told in
     let none = none_left c.args.h coalition c.loop-found.gone.items ended in
     omega (arith, left, none, c.loop-found.invariant.counted, c.loop-found.invariant.few)
@@ -39,9 +41,10 @@ pub returns-then-len-eq-MOST_REVOKED-clause-told_many :
     goal.returns-then-len-eq-MOST_REVOKED-clause-told_many
 returns-then-len-eq-MOST_REVOKED-clause-told_many g c coalition told many =
     let round = c.in_ok-next.ensures.told coalition (c.loop-found.invariant.coalition ∙ told) in
-    let found : TellsRound c.args.h coalition c.loop-found.gone.items (Some c.in-Some.next) =
-    subst (λ (r : Option Found). TellsRound c.args.h coalition c.loop-found.gone.items r) c.in-Some.is
-    (subst (λ (gone : List ℕ). TellsRound c.args.h coalition gone c.in_ok-next.field-0) c.deref.ensures.value round) in
+    let found : RoundOfCoalition c.args.h coalition c.loop-found.gone.items (Some c.in-Some.next) =
+    subst (λ (r : Option Found). RoundOfCoalition c.args.h coalition c.loop-found.gone.items r) c.in-Some.is
+    (subst (λ (gone : List ℕ). RoundOfCoalition c.args.h coalition gone c.in_ok-next.field-0) c.deref.ensures.value
+    round) in
     let left = c.loop-found.invariant.left coalition told in
     let some = some_left c.args.h coalition c.loop-found.gone.items c.in-Some.next c.round.ensures.tree.0
     c.round.ensures.tree.1 c.loop-found.invariant.leaves found in
@@ -96,11 +99,11 @@ loop-found-preserved g c =
     (g.B.TestBox.asked c.round.new.target) r)
     c.in-Some.is value in
     let told_round : (coalition : List ℕ) → g.B.TestBox.coalition c.args.target.now ≡ Some coalition →
-    TellsRound h coalition gone (Some next) =
-    λ coalition told. subst (λ (r : Option Found). TellsRound h coalition gone r) c.in-Some.is
-    (subst (λ (leaves : List ℕ). TellsRound h coalition leaves c.in_ok-next.field-0) c.deref.ensures.value
+    RoundOfCoalition h coalition gone (Some next) =
+    λ coalition told. subst (λ (r : Option Found). RoundOfCoalition h coalition gone r) c.in-Some.is
+    (subst (λ (leaves : List ℕ). RoundOfCoalition h coalition leaves c.in_ok-next.field-0) c.deref.ensures.value
     (c.in_ok-next.ensures.told coalition (i.coalition ∙ told))) in
-    let joined : Joined next.leaf gone new = c.in_ok-join.ensures in
+    let joined : IsJoined next.leaf gone new = c.in_ok-join.ensures in
     let added = c.in_ok-add.ensures in
     let sum = ap (sum_by (λ (f : Found). f.trials)) added ∙ sum_by_push (λ (f : Found). f.trials)
     c.loop-found.found.items next in

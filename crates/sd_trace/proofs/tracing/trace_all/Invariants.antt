@@ -2,7 +2,7 @@ use Rattle.std.proofs.Common.{◌≡◌, ℕ, ◌+◌, ◌-◌, ◌*◌, ◌^◌
 use Rattle.std.specs.List.Sorted.{IsStrictlyIncreasing}
 use Rattle.sd_tree.specs.declared.leaf.TheConstants.{MOST_REVOKED}
 use Rattle.sd_trace.specs.declared.found.Found.{Found}
-use Rattle.sd_trace.specs.Trace.{IsTrace, AreAnyRounds, outside}
+use Rattle.sd_trace.specs.Trace.{IsTrace, AreAnyRounds, not_among}
 use Rattle.sd_trace.proofs.tracing.trace_all.Given as goal
 
 abbrev pub invariant-loop-found : goal.invariant-loop-found
@@ -22,8 +22,8 @@ invariant-loop-found g l = record {
       (later : List Found) → IsTrace l.fn.h coalition l.gone.items later →
       IsTrace l.fn.h coalition l.fn.revoked (l.found.items ++ later);
   left : (coalition : List ℕ) → g.B.TestBox.coalition l.fn.target ≡ Some coalition →
-      length l.found.items + length (outside l.fn.h l.gone.items coalition)
-      ≡ length (outside l.fn.h l.fn.revoked coalition);
+      length l.found.items + length (not_among l.fn.h l.gone.items coalition)
+      ≡ length (not_among l.fn.h l.fn.revoked coalition);
 }
 
 abbrev pub decreases-loop-found : goal.decreases-loop-found

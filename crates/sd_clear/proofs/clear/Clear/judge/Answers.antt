@@ -3,7 +3,7 @@ use Rattle.std.proofs.Common.{eq-eqb, ne_eqb}
 use Rattle.std.specs.Prelude.{None}
 use Rattle.sd_packet.specs.Header.{pid_of, scrambling_of}
 use Rattle.sd_site.specs.Fields.{fields_of}
-use Rattle.sd_broadcast.specs.Refused.{is_taken, pat_wrong, is_full_own, is_too_long}
+use Rattle.sd_broadcast.specs.Refused.{is_reserved_pid, pat_wrong, is_full_own, is_too_long}
 use Rattle.sd_clear.proofs.Refusing.{scrambled_refused, taken_refused, pat_refused, full_refused, many_refused}
 use Rattle.sd_clear.proofs.Refusing.{long_refused, none_refused}
 use Rattle.sd_clear.proofs.clear.Clear.judge.Goals as goal
@@ -20,8 +20,8 @@ returns-then-is_taken-clause-value c =
     let packet = c.args.packet.now in
     let clear : (scrambling_of packet == 0) ≡ true =
     eq-eqb (scrambling_of packet) 0 (sym c.scrambling.ensures.value ∙ c.if-scrambling-ne0.false) in
-    let free : is_taken (fields_of c.args.site.now) (pid_of packet) ≡ true =
-    ap (is_taken (fields_of c.args.site.now)) (sym c.pid-pid.ensures.value)
+    let free : is_reserved_pid (fields_of c.args.site.now) (pid_of packet) ≡ true =
+    ap (is_reserved_pid (fields_of c.args.site.now)) (sym c.pid-pid.ensures.value)
     ∙ (sym c.is_taken.ensures ∙ c.if-is_taken.true) in
     λ before after. taken_refused (fields_of c.args.site.now) before packet c.from-number.result c.pid-pid.result
     (c.from-number.ensures ∙ after.number)
@@ -32,8 +32,8 @@ returns-in-Some-clause-value c =
     let packet = c.args.packet.now in
     let clear : (scrambling_of packet == 0) ≡ true =
     eq-eqb (scrambling_of packet) 0 (sym c.scrambling.ensures.value ∙ c.if-scrambling-ne0.false) in
-    let free : is_taken (fields_of c.args.site.now) (pid_of packet) ≡ false =
-    ap (is_taken (fields_of c.args.site.now)) (sym c.pid-pid.ensures.value)
+    let free : is_reserved_pid (fields_of c.args.site.now) (pid_of packet) ≡ false =
+    ap (is_reserved_pid (fields_of c.args.site.now)) (sym c.pid-pid.ensures.value)
     ∙ (sym c.is_taken.ensures ∙ c.if-is_taken.false) in
     λ before after. pat_refused (fields_of c.args.site.now) before packet c.from-number.result c.in-Some.fault
     (c.from-number.ensures ∙ after.number) clear free
@@ -44,8 +44,8 @@ returns-then-is_full_own-clause-value c =
     let packet = c.args.packet.now in
     let clear : (scrambling_of packet == 0) ≡ true =
     eq-eqb (scrambling_of packet) 0 (sym c.scrambling.ensures.value ∙ c.if-scrambling-ne0.false) in
-    let free : is_taken (fields_of c.args.site.now) (pid_of packet) ≡ false =
-    ap (is_taken (fields_of c.args.site.now)) (sym c.pid-pid.ensures.value)
+    let free : is_reserved_pid (fields_of c.args.site.now) (pid_of packet) ≡ false =
+    ap (is_reserved_pid (fields_of c.args.site.now)) (sym c.pid-pid.ensures.value)
     ∙ (sym c.is_taken.ensures ∙ c.if-is_taken.false) in
     let pat : pat_wrong packet ≡ None = sym c.pat_fault.ensures ∙ c.in_default.is in
     λ before after. full_refused (fields_of c.args.site.now) before packet c.from-number.result
@@ -58,8 +58,8 @@ returns-then-is_one_too_many-clause-value c =
     let packet = c.args.packet.now in
     let clear : (scrambling_of packet == 0) ≡ true =
     eq-eqb (scrambling_of packet) 0 (sym c.scrambling.ensures.value ∙ c.if-scrambling-ne0.false) in
-    let free : is_taken (fields_of c.args.site.now) (pid_of packet) ≡ false =
-    ap (is_taken (fields_of c.args.site.now)) (sym c.pid-pid.ensures.value)
+    let free : is_reserved_pid (fields_of c.args.site.now) (pid_of packet) ≡ false =
+    ap (is_reserved_pid (fields_of c.args.site.now)) (sym c.pid-pid.ensures.value)
     ∙ (sym c.is_taken.ensures ∙ c.if-is_taken.false) in
     let pat : pat_wrong packet ≡ None = sym c.pat_fault.ensures ∙ c.in_default.is in
     λ before after. many_refused (fields_of c.args.site.now) before packet c.from-number.result
@@ -73,8 +73,8 @@ returns-then-is_at_end-clause-value c =
     let packet = c.args.packet.now in
     let clear : (scrambling_of packet == 0) ≡ true =
     eq-eqb (scrambling_of packet) 0 (sym c.scrambling.ensures.value ∙ c.if-scrambling-ne0.false) in
-    let free : is_taken (fields_of c.args.site.now) (pid_of packet) ≡ false =
-    ap (is_taken (fields_of c.args.site.now)) (sym c.pid-pid.ensures.value)
+    let free : is_reserved_pid (fields_of c.args.site.now) (pid_of packet) ≡ false =
+    ap (is_reserved_pid (fields_of c.args.site.now)) (sym c.pid-pid.ensures.value)
     ∙ (sym c.is_taken.ensures ∙ c.if-is_taken.false) in
     let pat : pat_wrong packet ≡ None = sym c.pat_fault.ensures ∙ c.in_default.is in
     λ before after. long_refused (fields_of c.args.site.now) before packet c.from-number.result
@@ -89,8 +89,8 @@ returns-clause-value c =
     let packet = c.args.packet.now in
     let clear : (scrambling_of packet == 0) ≡ true =
     eq-eqb (scrambling_of packet) 0 (sym c.scrambling.ensures.value ∙ c.if-scrambling-ne0.false) in
-    let free : is_taken (fields_of c.args.site.now) (pid_of packet) ≡ false =
-    ap (is_taken (fields_of c.args.site.now)) (sym c.pid-pid.ensures.value)
+    let free : is_reserved_pid (fields_of c.args.site.now) (pid_of packet) ≡ false =
+    ap (is_reserved_pid (fields_of c.args.site.now)) (sym c.pid-pid.ensures.value)
     ∙ (sym c.is_taken.ensures ∙ c.if-is_taken.false) in
     let pat : pat_wrong packet ≡ None = sym c.pat_fault.ensures ∙ c.in_default.is in
     λ before after. none_refused (fields_of c.args.site.now) before packet clear free pat

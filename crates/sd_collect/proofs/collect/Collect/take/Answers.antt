@@ -5,8 +5,8 @@ use Rattle.sd_ecm.specs.Parts.{message_of}
 use Rattle.sd_ecm.specs.declared.message.EcmHead.{EcmHead}
 use Rattle.sd_reception.specs.Stretches.{newest}
 use Rattle.sd_reception.specs.Offered.{is_back}
-use Rattle.sd_collect.specs.Gathered.{Gathers, next_run, said_by}
-use Rattle.sd_collect.specs.Collected.{run_in}
+use Rattle.sd_collect.specs.Gathered.{IsGathered, next_run, said_by}
+use Rattle.sd_collect.specs.Collected.{parts_collected}
 use Rattle.sd_collect.proofs.Collecting.{uncounted_part, waiting_part, bad_part, not_last, no_run, ends_here}
 use Rattle.sd_collect.proofs.Collecting.{back_part, complete_part, good_places}
 use Rattle.sd_collect.proofs.collect.Collect.take.Goals as goal
@@ -24,19 +24,19 @@ pub returns-in-Err : goal.returns-in-Err
 returns-in-Err c = record {
   value = λ past collects now.
       let counts = sym (c.counts.ensures (newest past).message collects.last) ∙ c.if-not-counts.false in
-      bad_part past c.args.part.now c.in-Err.fault counts (c.in-Err.ensures (run_in past) collects.run);
+      bad_part past c.args.part.now c.in-Err.fault counts (c.in-Err.ensures (parts_collected past) collects.run);
 }
 
 pub returns-then-is_empty : goal.returns-then-is_empty
 returns-then-is_empty c = record {
   value = λ past collects now.
       let counts = sym (c.counts.ensures (newest past).message collects.last) ∙ c.if-not-counts.false in
-      let good = c.in_default.ensures (run_in past) collects.run in
+      let good = c.in_default.ensures (parts_collected past) collects.run in
       waiting_part past c.args.part.now _ counts good.0 good.1 collects.last (elim c.then-is_empty.branch [
         | then-is_empty-via-then-is_empty w ↦
             no_run past c.args.part.now c.take.new.self.places.items counts
-            (subst (λ kept. Gathers (next_run (run_in past) c.args.part.now) kept c.take.new.self.places.items)
-            (c.is_empty.ensures.0 w.if-is_empty.true) good.1)
+            (subst (λ kept. IsGathered (next_run (parts_collected past) c.args.part.now) kept
+            c.take.new.self.places.items) (c.is_empty.ensures.0 w.if-is_empty.true) good.1)
         | then-is_empty-via-else-is_empty+then-part w ↦
             not_last past c.args.part.now (ne_eqb c.args.part.now.part c.args.part.now.last_part w.if-part.true)
       ]);
@@ -48,12 +48,12 @@ returns-then-is_back c = record {
       let part = c.args.part.now in
       let all = c.take.new.self.places.items in
       let counts = sym (c.counts.ensures (newest past).message collects.last) ∙ c.if-not-counts.false in
-      let good = c.in_default.ensures (run_in past) collects.run in
+      let good = c.in_default.ensures (parts_collected past) collects.run in
       let some : c.take.new.self.part ≡ None → ⊥ =
       λ none. both_ways c.is_empty.result c.if-is_empty.false (c.is_empty.ensures.1 none) in
       let ends = ends_here past part c.take.new.self.part all counts c.if-part.false some good.1 in
       let told = c.is_back.ensures past collects.last
-      (good_places (next_run (run_in past) part) c.take.new.self.part all good.1).ascending now in
+      (good_places (next_run (parts_collected past) part) c.take.new.self.part all good.1).ascending now in
       let same = ap (λ (head : EcmHead). is_back past (message_of head all)) c.head_of-head.ensures in
       back_part past part (message_of (said_by part) all) counts good.0 ends.complete
       (sym same ∙ (sym told ∙ c.if-is_back.true));
@@ -65,11 +65,11 @@ returns c = record {
       let part = c.args.part.now in
       let all = c.take.new.self.places.items in
       let counts = sym (c.counts.ensures (newest past).message collects.last) ∙ c.if-not-counts.false in
-      let good = c.in_default.ensures (run_in past) collects.run in
+      let good = c.in_default.ensures (parts_collected past) collects.run in
       let some : c.take.new.self.part ≡ None → ⊥ =
       λ none. both_ways c.is_empty.result c.if-is_empty.false (c.is_empty.ensures.1 none) in
       let ends = ends_here past part c.take.new.self.part all counts c.if-part.false some good.1 in
-      let right = good_places (next_run (run_in past) part) c.take.new.self.part all good.1 in
+      let right = good_places (next_run (parts_collected past) part) c.take.new.self.part all good.1 in
       let told = c.is_back.ensures past collects.last right.ascending now in
       let same = ap (λ (head : EcmHead). is_back past (message_of head all)) c.head_of-head.ensures in
       record {

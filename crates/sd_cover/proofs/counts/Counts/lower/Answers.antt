@@ -1,5 +1,5 @@
 use Rattle.std.proofs.Common.{◌≡◌, ◌<◌, ◌-◌, get_or, set, subst, rules}
-use Rattle.sd_cover.specs.Tally.{Tally, count_at, with_count}
+use Rattle.sd_cover.specs.Tally.{Tally, tally_at, with_count}
 use Rattle.sd_cover.specs.Table.{map_of}
 use Rattle.sd_cover.proofs.Tables.{count_in_table, counted_within, table_written, lowered_map}
 use Rattle.sd_cover.proofs.counts.Counts.lower.Goals as goal
@@ -17,5 +17,5 @@ returns-clause-value g c =
     let some : 0 < get_or c.self.inside.table.items c.args.v 0 = search rules in
     let n : c.visit-count.result ≡ get_or c.self.inside.table.items c.args.v 0 = search rules in
     let written = set c.self.inside.table.items c.args.v (c.visit-count.result - 1) in
-    subst (λ (t : Tally). map_of written ≡ with_count t.counts c.args.v (count_at t.counts c.args.v - 1)) c.self.view_is
+    subst (λ (t : Tally). map_of written ≡ with_count t.counts c.args.v (tally_at t.counts c.args.v - 1)) c.self.view_is
     (lowered_map c.self.inside.table.items c.args.v c.visit-count.result (counted_within _ _ some) n)

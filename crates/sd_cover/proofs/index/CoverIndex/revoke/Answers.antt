@@ -2,7 +2,7 @@ use Rattle.std.proofs.Common.{◌≡◌, ◌+◌, ◌^◌, ℕ, ap, ◌∙◌, a
 use Rattle.sd_tree.specs.Leaves.{with_leaf}
 use Rattle.sd_cover.specs.Index.{IndexValue}
 use Rattle.sd_cover.specs.Path.{met_by}
-use Rattle.sd_cover.specs.Tally.{count_at}
+use Rattle.sd_cover.specs.Tally.{tally_at}
 use Rattle.sd_cover.proofs.Indexes.{seen_leaf, seen_other, count_within, revoked_more, index_more}
 use Rattle.sd_cover.proofs.index.CoverIndex.revoke.Given.{Over}
 use Rattle.sd_cover.proofs.index.CoverIndex.revoke.Goals as goal
@@ -11,8 +11,8 @@ pub raise_path-requires-clause-fits : goal.raise_path-requires-clause-fits
 raise_path-requires-clause-fits g c = λ v low high. count_within c.self.inside.height v c.self.inside.counts.counts
     c.self.invariant low high
 
-raised : (g : Over) (c : goal.After-raise_path g) → (v : ℕ) → count_at c.raise_path.new.counts.counts v
-    ≡ count_at c.self.inside.counts.counts v + met_by (2 ^ c.self.inside.height + c.args.u) (c.self.inside.height + 1) v
+raised : (g : Over) (c : goal.After-raise_path g) → (v : ℕ) → tally_at c.raise_path.new.counts.counts v
+    ≡ tally_at c.self.inside.counts.counts v + met_by (2 ^ c.self.inside.height + c.args.u) (c.self.inside.height + 1) v
 raised g c = rw (← c.lowest_node-node.ensures.value) c.raise_path.ensures.value
 
 pub invariant_of-self : goal.invariant_of-self

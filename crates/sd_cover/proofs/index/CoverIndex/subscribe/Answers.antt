@@ -2,7 +2,7 @@ use Rattle.std.proofs.Common.{◌≡◌, ◌+◌, ◌^◌, ℕ, ap, ◌∙◌, a
 use Rattle.sd_tree.specs.Leaves.{without_leaf}
 use Rattle.sd_cover.specs.Index.{IndexValue}
 use Rattle.sd_cover.specs.Path.{met_by}
-use Rattle.sd_cover.specs.Tally.{count_at}
+use Rattle.sd_cover.specs.Tally.{tally_at}
 use Rattle.sd_cover.proofs.Indexes.{seen_leaf, seen_revoked, met_within, revoked_fewer, index_fewer}
 use Rattle.sd_cover.proofs.index.CoverIndex.subscribe.Given.{Over}
 use Rattle.sd_cover.proofs.index.CoverIndex.subscribe.Goals as goal
@@ -16,8 +16,8 @@ lower_path-requires-clause-some g c =
     (λ v low high. met_within c.self.inside.height c.args.u v c.self.inside.counts.counts (omega arith) leaf
     c.self.invariant old low high)
 
-lowered : (g : Over) (c : goal.After-lower_path g) → (v : ℕ) → count_at c.lower_path.new.counts.counts v
-    + met_by (2 ^ c.self.inside.height + c.args.u) (c.self.inside.height + 1) v ≡ count_at c.self.inside.counts.counts v
+lowered : (g : Over) (c : goal.After-lower_path g) → (v : ℕ) → tally_at c.lower_path.new.counts.counts v
+    + met_by (2 ^ c.self.inside.height + c.args.u) (c.self.inside.height + 1) v ≡ tally_at c.self.inside.counts.counts v
 lowered g c = rw (← c.lowest_node-node.ensures.value) c.lower_path.ensures.value
 
 pub invariant_of-self : goal.invariant_of-self

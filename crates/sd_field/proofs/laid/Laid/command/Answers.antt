@@ -2,7 +2,7 @@ use Rattle.std.proofs.Common.{arith, ◌≡◌, ◌∙◌, ◌<◌, ◌≤◌, �
 use Rattle.sd_site.specs.Fields.{fields_of}
 use Rattle.sd_book.specs.Limits.{IsDraft, IsWithinLimits}
 use Rattle.sd_book.specs.declared.command.Command.{Command}
-use Rattle.sd_events.specs.Book.{filled, period_after}
+use Rattle.sd_events.specs.Book.{with_periods_to, period_after}
 use Rattle.sd_field.proofs.Laying.{command_beyond, command_within, front_within, whole_fits}
 use Rattle.sd_field.proofs.laid.Laid.command.Goals as goal
 
@@ -23,8 +23,8 @@ returns-clause-value c =
     let same : c.period_after-period.result ≡ q = c.period_after-period.ensures in
     let low : q ≤ 1023 = omega (arith, within, most, same) in
     let old : List Command = c.args.self.now.draft.commands in
-    let full : c.fill.new.self.draft.commands ≡ filled q old =
-    c.in_ok-fill.ensures.value ∙ ap (λ (p : ℕ). filled p old) same in
+    let full : c.fill.new.self.draft.commands ≡ with_periods_to q old =
+    c.in_ok-fill.ensures.value ∙ ap (λ (p : ℕ). with_periods_to p old) same in
     subst (λ (xs : List Command). OnOk c.push.result (c.push.new.draft.commands ≡ xs))
     (ap (λ (xs : List Command). xs ++ c.args.command ∷ []) full ∙ command_within q c.args.command old low)
     c.push.ensures.value
@@ -37,8 +37,8 @@ fill-requires-clause-fits c =
     let same : c.period_after-period.result ≡ q = c.period_after-period.ensures in
     let low : q ≤ 1023 = omega (arith, within, most, same) in
     let old = c.args.self.now.draft in
-    subst (λ (p : ℕ). IsWithinLimits old.height (filled p old.commands)) (sym same)
-    (front_within old.height (filled q old.commands) (c.args.command ∷ []) c.requires.low
+    subst (λ (p : ℕ). IsWithinLimits old.height (with_periods_to p old.commands)) (sym same)
+    (front_within old.height (with_periods_to q old.commands) (c.args.command ∷ []) c.requires.low
     (subst (IsWithinLimits old.height) (sym (command_within q c.args.command old.commands low)) c.requires.fits))
 
 pub push-requires-clause-fits : goal.push-requires-clause-fits
@@ -49,9 +49,9 @@ push-requires-clause-fits c =
     let same : c.period_after-period.result ≡ q = c.period_after-period.ensures in
     let low : q ≤ 1023 = omega (arith, within, most, same) in
     let old = c.args.self.now.draft in
-    let full : c.fill.new.self.draft.commands ≡ filled q old.commands =
-    c.in_ok-fill.ensures.value ∙ ap (λ (p : ℕ). filled p old.commands) same in
+    let full : c.fill.new.self.draft.commands ≡ with_periods_to q old.commands =
+    c.in_ok-fill.ensures.value ∙ ap (λ (p : ℕ). with_periods_to p old.commands) same in
     subst (λ (d : ℕ). IsDraft d (c.fill.new.self.draft.commands ++ c.args.command ∷ [])) (sym c.fill.ensures.height)
     (subst (λ (xs : List Command). IsDraft old.height (xs ++ c.args.command ∷ [])) (sym full)
-    (whole_fits old.height (filled q old.commands ++ c.args.command ∷ [])
+    (whole_fits old.height (with_periods_to q old.commands ++ c.args.command ∷ [])
     (subst (IsWithinLimits old.height) (sym (command_within q c.args.command old.commands low)) c.requires.fits)))

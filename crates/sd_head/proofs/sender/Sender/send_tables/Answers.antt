@@ -1,7 +1,7 @@
 use Rattle.std.proofs.Common.{Bool, sym, subst}
 use Rattle.std.specs.List.{concat}
 use Rattle.sd_engine.specs.Stage.{vessel}
-use Rattle.sd_head.specs.Sending.{CutsOff, numbered, recounted}
+use Rattle.sd_head.specs.Sending.{FailsWithin, numbered, recounted}
 use Rattle.sd_head.specs.Items.{tables_bytes}
 use Rattle.sd_head.proofs.Sends.{sends_err, cuts_sooner}
 use Rattle.sd_head.proofs.sender.Sender.send_tables.Goals as goal
@@ -9,7 +9,7 @@ use Rattle.sd_head.proofs.sender.Sender.send_tables.Goals as goal
 pub returns-in_err-send_counted-clause-value : goal.returns-in_err-send_counted-clause-value
 returns-in_err-send_counted-clause-value g c =
     sends_err c.from_residual.result _ _ _ c.from_residual.ensures.0
-    (subst (λ (due : Bool). CutsOff (vessel g.K.Sink c.args.out.now) (vessel g.K.Sink c.send_counted.new.out)
+    (subst (λ (due : Bool). FailsWithin (vessel g.K.Sink c.args.out.now) (vessel g.K.Sink c.send_counted.new.out)
     (tables_bytes c.args.self.now due c.args.emms.now))
     (sym c.if-not-due.false)
     (cuts_sooner _ _ (recounted c.args.self.now.cat c.args.self.now.cats)

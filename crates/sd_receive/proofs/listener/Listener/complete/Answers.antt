@@ -4,7 +4,7 @@ use Rattle.sd_cause.specs.Count.{with_added}
 use Rattle.sd_card.specs.Fields.{fields_of}
 use Rattle.sd_engine.specs.Stage.{vessel}
 use Rattle.sd_hearing.specs.Ears.{tuned}
-use Rattle.sd_segment.specs.Writing.{Writes}
+use Rattle.sd_segment.specs.Writing.{WriteOutcome}
 use Rattle.sd_segment.specs.declared.fault.SegmentFault.{SegmentFault}
 use Rattle.sd_receive.specs.Held.{pair_wrote}
 use Rattle.sd_receive.proofs.Messages.{counting, parity_message, word_message, taken_message, cut_message}
@@ -42,7 +42,7 @@ returns-in-Err-Parity-clause-value g c =
     (pair_wrote s.collect.last s.segment head.since c.args.card.now.ca c.args.tuning.ecm s.collect.run.places.items)
     c.in-Err-Parity.held
     (vessel g.K.Sink c.args.out.now) (vessel g.K.Sink c.write.new.out) refl
-    (subst (λ (f : SegmentFault). Writes (pair_wrote s.collect.last s.segment head.since c.args.card.now.ca
+    (subst (λ (f : SegmentFault). WriteOutcome (pair_wrote s.collect.last s.segment head.since c.args.card.now.ca
     c.args.tuning.ecm s.collect.run.places.items)
     (vessel g.K.Sink c.args.out.now) (vessel g.K.Sink c.write.new.out) (Err f)) c.in-Err-Parity.field-0-is
     c.in-Err-Parity.ensures.value)
@@ -55,7 +55,7 @@ returns-in-Err-Write-clause-value g c =
     (pair_wrote s.collect.last s.segment head.since c.args.card.now.ca c.args.tuning.ecm s.collect.run.places.items)
     c.begin-in-Err-Write.result (vessel g.K.Sink c.args.out.now) (vessel g.K.Sink c.write.new.out) refl
     (λ past part done. c.begin-in-Err-Write.ensures.value (fields_of c.args.card.now) past part done)
-    (subst (λ (f : SegmentFault). Writes (pair_wrote s.collect.last s.segment head.since c.args.card.now.ca
+    (subst (λ (f : SegmentFault). WriteOutcome (pair_wrote s.collect.last s.segment head.since c.args.card.now.ca
     c.args.tuning.ecm s.collect.run.places.items)
     (vessel g.K.Sink c.args.out.now) (vessel g.K.Sink c.write.new.out) (Err f)) c.in-Err-Write.field-0-is
     c.in-Err-Write.ensures.value)

@@ -6,7 +6,7 @@ use Rattle.sd_reception.specs.declared.fault.StreamFault.TheVariants.{BadEcm}
 use Rattle.sd_reception.specs.Heard.{Heard, Controls}
 use Rattle.sd_reception.specs.Stretches.{current}
 use Rattle.sd_hearing.specs.Ears.{tuned}
-use Rattle.sd_collect.specs.Collected.{Collects, IsComplete, Takes}
+use Rattle.sd_collect.specs.Collected.{IsCollected, IsComplete, PartOutcome}
 use Rattle.sd_collect.specs.declared.collect.Taken.{Taken}
 use Rattle.sd_receive.specs.Listening.{TakesHeard, RefusesHeard, TakesMessage, RefusesMessage}
 use Rattle.sd_receive.specs.declared.listener.Listener.{Listener}
@@ -28,7 +28,7 @@ returns-in-Ok-Waits-clause-value g c =
     (TakesHeard (fields_of c.args.card.now) (tuned c.args.tuning) c.args.number (Controls c.args.part.now) s t)
     (part_waiting (fields_of c.args.card.now) (tuned c.args.tuning) c.args.number c.args.part.now s t refl refl refl
     refl
-    (λ past collects now. subst (λ (taken : Taken). Takes past c.args.part.now c.take.new.self (Ok taken))
+    (λ past collects now. subst (λ (taken : Taken). PartOutcome past c.args.part.now c.take.new.self (Ok taken))
     c.in-Ok-Waits.field-0-is
     (c.in-Ok-Waits.ensures.value past collects (now ∙ sym c.period.ensures))))
 
@@ -48,7 +48,7 @@ complete-requires-clause-live g c =
       c.args.part.now,
       message_heard (fields_of c.args.card.now) (tuned c.args.tuning) c.args.number c.args.part.now
           c.in-Ok-Complete.head s t refl refl refl
-          (λ past collects now. subst (λ (taken : Taken). Takes past c.args.part.now c.take.new.self (Ok taken))
+          (λ past collects now. subst (λ (taken : Taken). PartOutcome past c.args.part.now c.take.new.self (Ok taken))
           c.in-Ok-Complete.field-0-is
           (c.in-Ok-Complete.ensures.value past collects (now ∙ sym c.period.ensures))) l.0 l.1
           (sym l.1.closed ∙ c.requires.open),
@@ -67,9 +67,9 @@ returns-in-Ok-Complete-clause-value g c =
     } in
     let card = fields_of c.args.card.now in
     let head = c.in-Ok-Complete.head in
-    let done : (past : List Heard) → Collects past s.collect → current past ≡ s.entitled.period →
+    let done : (past : List Heard) → IsCollected past s.collect → current past ≡ s.entitled.period →
     IsComplete past c.args.part.now head t.collect =
-    λ past collects now. subst (λ (taken : Taken). Takes past c.args.part.now c.take.new.self (Ok taken))
+    λ past collects now. subst (λ (taken : Taken). PartOutcome past c.args.part.now c.take.new.self (Ok taken))
     c.in-Ok-Complete.field-0-is
     (c.in-Ok-Complete.ensures.value past collects (now ∙ sym c.period.ensures)) in
     comes_weaker (TakesMessage card (tuned c.args.tuning) c.args.number head t)

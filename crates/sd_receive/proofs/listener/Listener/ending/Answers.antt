@@ -3,7 +3,7 @@ use Rattle.std.specs.Prelude.{find}
 use Rattle.std.specs.Option.{option_map_or}
 use Rattle.sd_reception.specs.declared.ending.Ending.TheVariants.{Gaps, Unclosed}
 use Rattle.sd_reception.specs.Ending.{periods_told, is_unkeyed}
-use Rattle.sd_entitled.specs.Entitled.{is_revoked}
+use Rattle.sd_entitled.specs.Entitled.{is_told_revoked}
 use Rattle.sd_receive.proofs.Endings.{unclosed, closed, revoked_ending, unheard_ending, opened_ending, gaps_ending}
 use Rattle.sd_receive.proofs.listener.Listener.ending.Goals as goal
 
@@ -14,7 +14,8 @@ returns-then-not-self c = λ card past total follows written.
 pub returns-in-Some : goal.returns-in-Some
 returns-in-Some c = λ card past total follows written.
     let l = c.args.self.now in
-    revoked_ending (find (is_revoked card past) (periods_told past)) (find (is_unkeyed card past) (periods_told past))
+    revoked_ending (find (is_told_revoked card past) (periods_told past))
+    (find (is_unkeyed card past) (periods_told past))
     (option_map_or (λ head. head.clear) l.collect.last 0 - total) c.in-Some.period
     (sym (c.revoked.ensures card past follows.entitled) ∙ c.in-Some.is)
     ∙ closed card past total l follows c.if-not-self.false
@@ -22,7 +23,8 @@ returns-in-Some c = λ card past total follows written.
 pub returns-in-Some-unkeyed : goal.returns-in-Some-unkeyed
 returns-in-Some-unkeyed c = λ card past total follows written.
     let l = c.args.self.now in
-    unheard_ending (find (is_revoked card past) (periods_told past)) (find (is_unkeyed card past) (periods_told past))
+    unheard_ending (find (is_told_revoked card past) (periods_told past))
+    (find (is_unkeyed card past) (periods_told past))
     (option_map_or (λ head. head.clear) l.collect.last 0 - total) c.in-Some-unkeyed.period
     (sym (c.revoked.ensures card past follows.entitled) ∙ c.in_default.is)
     (sym (c.unkeyed.ensures card past follows.entitled) ∙ c.in-Some-unkeyed.is)
@@ -32,8 +34,8 @@ pub returns : goal.returns
 returns c = λ card past total follows written.
     let l = c.args.self.now in
     let zero : c.missing-missing.result ≡ 0 = omega arith in
-    opened_ending (find (is_revoked card past) (periods_told past)) (find (is_unkeyed card past) (periods_told past))
-    (option_map_or (λ head. head.clear) l.collect.last 0 - total)
+    opened_ending (find (is_told_revoked card past) (periods_told past))
+    (find (is_unkeyed card past) (periods_told past)) (option_map_or (λ head. head.clear) l.collect.last 0 - total)
     (sym (c.revoked.ensures card past follows.entitled) ∙ c.in_default.is)
     (sym (c.unkeyed.ensures card past follows.entitled) ∙ c.in_default-unkeyed.is)
     (sym (c.missing-missing.ensures total written) ∙ zero)
@@ -44,8 +46,8 @@ returns-then-missing-gt0 c = λ card past total follows written.
     let l = c.args.self.now in
     let gaps = c.missing-missing.ensures total written in
     ap Gaps gaps
-    ∙ (gaps_ending (find (is_revoked card past) (periods_told past)) (find (is_unkeyed card past) (periods_told past))
-    (option_map_or (λ head. head.clear) l.collect.last 0 - total)
+    ∙ (gaps_ending (find (is_told_revoked card past) (periods_told past))
+    (find (is_unkeyed card past) (periods_told past)) (option_map_or (λ head. head.clear) l.collect.last 0 - total)
     (sym (c.revoked.ensures card past follows.entitled) ∙ c.in_default.is)
     (sym (c.unkeyed.ensures card past follows.entitled) ∙ c.in_default-unkeyed.is)
     (λ none. absurd (omega (arith, gaps, none)))

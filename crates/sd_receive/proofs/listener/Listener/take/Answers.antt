@@ -13,8 +13,8 @@ returns-in-Dropped-clause-value g c =
     let s = c.args.self.now in
     let card = fields_of c.args.card.now in
     took_nothing (vessel g.K.Sink c.args.out.now)
-    (TakesHeard card (tuned c.args.tuning) c.args.number (heard_as c.args.number c.args.packet.now c.args.heard.now) s s)
-    (subst (λ (h : Heard). TakesHeard card (tuned c.args.tuning) c.args.number h s s [])
+    (TakesHeard card (tuned c.args.tuning) c.args.number (heard_as c.args.number c.args.packet.now c.args.heard.now) s
+    s) (subst (λ (h : Heard). TakesHeard card (tuned c.args.tuning) c.args.number h s s [])
     (ap (heard_as c.args.number c.args.packet.now) (sym c.in-Dropped.is))
     (dropped_heard card (tuned c.args.tuning) c.args.number s))
 
@@ -31,8 +31,8 @@ returns-in-Other-clause-value g c =
       written = s.written;
     } in
     took_nothing (vessel g.K.Sink c.args.out.now)
-    (TakesHeard card (tuned c.args.tuning) c.args.number (heard_as c.args.number c.args.packet.now c.args.heard.now) s t)
-    (subst (λ (h : Heard). TakesHeard card (tuned c.args.tuning) c.args.number h s t [])
+    (TakesHeard card (tuned c.args.tuning) c.args.number (heard_as c.args.number c.args.packet.now c.args.heard.now) s
+    t) (subst (λ (h : Heard). TakesHeard card (tuned c.args.tuning) c.args.number h s t [])
     (ap (heard_as c.args.number c.args.packet.now) (sym c.in-Other.is))
     (other_heard card (tuned c.args.tuning) c.args.number c.args.packet.now s t refl refl refl refl c.hold.ensures))
 
@@ -49,8 +49,8 @@ returns-in-Ok-clause-value g c =
       written = s.written;
     } in
     took_nothing (vessel g.K.Sink c.args.out.now)
-    (TakesHeard card (tuned c.args.tuning) c.args.number (heard_as c.args.number c.args.packet.now c.args.heard.now) s t)
-    (subst (λ (h : Heard). TakesHeard card (tuned c.args.tuning) c.args.number h s t [])
+    (TakesHeard card (tuned c.args.tuning) c.args.number (heard_as c.args.number c.args.packet.now c.args.heard.now) s
+    t) (subst (λ (h : Heard). TakesHeard card (tuned c.args.tuning) c.args.number h s t [])
     (ap (heard_as c.args.number c.args.packet.now) (sym c.in-Entitles.is))
     (section_taken card (tuned c.args.tuning) c.args.number c.in-Entitles.emm s t refl refl refl refl
     (λ past entitled. c.in-Ok.ensures.ok past entitled) (λ past entitled. c.in-Ok.ensures.fault past entitled)))
@@ -60,8 +60,8 @@ returns-in-Err-clause-value g c =
     let s = c.args.self.now in
     let card = fields_of c.args.card.now in
     took_nothing (vessel g.K.Sink c.args.out.now)
-    (RefusesHeard card (tuned c.args.tuning) c.args.number (heard_as c.args.number c.args.packet.now c.args.heard.now) s c.in-Err.fault)
-    (subst (λ (h : Heard). RefusesHeard card (tuned c.args.tuning) c.args.number h s c.in-Err.fault [])
+    (RefusesHeard card (tuned c.args.tuning) c.args.number (heard_as c.args.number c.args.packet.now c.args.heard.now) s
+    c.in-Err.fault) (subst (λ (h : Heard). RefusesHeard card (tuned c.args.tuning) c.args.number h s c.in-Err.fault [])
     (ap (heard_as c.args.number c.args.packet.now) (sym c.in-Entitles.is))
     (section_refused card (tuned c.args.tuning) c.args.number c.in-Entitles.emm s c.in-Err.fault
     (λ past entitled. c.in-Err.ensures.fault past entitled)))

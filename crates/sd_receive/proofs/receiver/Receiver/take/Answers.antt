@@ -4,7 +4,7 @@ use Rattle.std.specs.Option.{option_or}
 use Rattle.sd_engine.specs.Stage.{vessel}
 use Rattle.sd_reception.specs.Tuned.{cat_tuning}
 use Rattle.sd_reception.specs.Heard.{hears}
-use Rattle.sd_reception.specs.Runs.{name_of}
+use Rattle.sd_reception.specs.Runs.{run_name_heard}
 use Rattle.sd_hearing.specs.Ears.{tuned, heard_as}
 use Rattle.sd_hearing.specs.declared.tune.Tuning.{Tuning as Kept}
 use Rattle.sd_receive.specs.Listening.{capped, TakesHeard, RefusesHeard}
@@ -60,10 +60,10 @@ returns-clause-value g c =
     let added : c.saturating_add-self.result ≡ capped (s.count + 1) = omega arith in
     let few = few_same (card_in u) (card_in s) thing (thing_of s kept packet) u.listener c.args.steps.now
     c.take.new.steps known.card_is is c.take.ensures.steps in
-    let named : c.or-self.result ≡ option_or (name_of (thing_of s kept packet)) s.name = c.or-self.ensures
+    let named : c.or-self.result ≡ option_or (run_name_heard (thing_of s kept packet)) s.name = c.or-self.ensures
     ∙ (ap (option_or c.name_of-name.result) known.name_is
-    ∙ ap (λ (n : Option (Option ℕ)). option_or n s.name) (c.name_of-name.ensures s.count packet ∙ ap name_of is)) in
-    grew_of (TakesHeard (card_in u) (tuned kept) s.count thing u.listener)
+    ∙ ap (λ (n : Option (Option ℕ)). option_or n s.name) (c.name_of-name.ensures s.count packet ∙ ap run_name_heard is))
+    in grew_of (TakesHeard (card_in u) (tuned kept) s.count thing u.listener)
     (RefusesHeard (card_in u) (tuned kept) s.count thing u.listener)
     (vessel g.K.Sink c.args.out.now) (vessel g.K.Sink c.take.new.out) c.take.new.self c.take.result
     c.args.steps.now c.take.new.steps (receiver_does s packet (listening u c.or-self.result c.take.new.self))
@@ -126,10 +126,10 @@ returns-clause-prefix g c = λ failed.
     let added : c.saturating_add-self.result ≡ capped (s.count + 1) = omega arith in
     let few = few_same (card_in u) (card_in s) thing (thing_of s kept packet) u.listener c.args.steps.now
     c.take.new.steps known.card_is is c.take.ensures.steps in
-    let named : c.or-self.result ≡ option_or (name_of (thing_of s kept packet)) s.name = c.or-self.ensures
+    let named : c.or-self.result ≡ option_or (run_name_heard (thing_of s kept packet)) s.name = c.or-self.ensures
     ∙ (ap (option_or c.name_of-name.result) known.name_is
-    ∙ ap (λ (n : Option (Option ℕ)). option_or n s.name) (c.name_of-name.ensures s.count packet ∙ ap name_of is)) in
-    cut_of (TakesHeard (card_in u) (tuned kept) s.count thing u.listener)
+    ∙ ap (λ (n : Option (Option ℕ)). option_or n s.name) (c.name_of-name.ensures s.count packet ∙ ap run_name_heard is))
+    in cut_of (TakesHeard (card_in u) (tuned kept) s.count thing u.listener)
     (RefusesHeard (card_in u) (tuned kept) s.count thing u.listener)
     (vessel g.K.Sink c.args.out.now) (vessel g.K.Sink c.take.new.out) c.take.new.self c.take.result
     c.args.steps.now c.take.new.steps (receiver_does s packet) (receiver_refuses s (Some packet)) s failed

@@ -7,6 +7,7 @@ use Rattle.sd_words.proofs.argument.Arguments.files.Given as goal
 abbrev pub invariant-loop-index : goal.invariant-loop-index
 invariant-loop-index l = record {
   few : length l.files.items ≤ l.index;
-  rest : map (λ text. text.now) l.files.items ++ files_in (arguments_said (l.index + 1) (drop l.index l.self.list.items))
+  rest : map (λ text. text.now) l.files.items ++ files_in
+      (arguments_said (l.index + 1) (drop l.index l.self.list.items))
       ≡ files_in (arguments_said 1 l.self.list.items);
 }

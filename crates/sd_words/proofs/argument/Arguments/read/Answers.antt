@@ -14,6 +14,6 @@ loop-index-preserved c =
           ∙ (length-append c.loop-index.list.items (c.in-Ok.argument ∷ []) ∙ ap (λ n. n + 1) count);
       rest =
           rw grown
-          (read_more c.args.operands.now c.args.texts.now c.loop-index.list.items c.in-Ok.argument c.loop-index.index _ _
-          c.loop-index-test.true c.requires.one_each count read ∙ c.loop-index.invariant.rest);
+          (read_more c.args.operands.now c.args.texts.now c.loop-index.list.items c.in-Ok.argument c.loop-index.index _
+          _ c.loop-index-test.true c.requires.one_each count read ∙ c.loop-index.invariant.rest);
     }

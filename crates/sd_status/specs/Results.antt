@@ -1,17 +1,17 @@
 -- Public meaning: what a run answers, and what it leaves after it.
 use Rattle.std.specs.Prelude.{◌≡◌, ◌≢◌, ◌⊎◌, ℕ, Result, Ok, Err}
 use Rattle.std.specs.Io.KnownBytes.{Appends}
-use Rattle.sd_cause.specs.Count.{Rose}
+use Rattle.sd_cause.specs.Count.{HasRisen}
 use Rattle.sd_ports.specs.Bytes.{AppendsPrefix}
 use Rattle.sd_status.specs.declared.status.Status.{Status}
 use Rattle.sd_status.specs.declared.status.Status.TheVariants.{Done, Usage, Missing, Revoked, DepotFault, PrintFault}
 use Rattle.sd_status.specs.declared.status.Status.TheVariants.{BadSite, BadBook, BadCard, BadClear, BadStream, Limit}
 use Rattle.sd_status.specs.declared.status.Status.TheVariants.{NoMemory, Unheard, Unclosed, Gaps, NoCat, BadWord, Clash}
 use Rattle.sd_status.specs.Texts.{line_of}
-use Rattle.sd_status.specs.Outside.{Page, Outside}
-use Rattle.sd_status.specs.Meant.{Meant, Given}
+use Rattle.sd_status.specs.Outside.{PageState, Outside}
+use Rattle.sd_status.specs.Spec.{Spec, Readings}
 use Rattle.sd_status.specs.Work.{Work}
-use Rattle.sd_status.specs.Comes.{Follows}
+use Rattle.sd_status.specs.Outcome.{Implements}
 
 -- the line of a status is made in memory: it has a number
 abbrev pub TakesMemory : Status → Type 0
@@ -36,16 +36,16 @@ TakesMemory (BadWord word) = Unit {0}
 TakesMemory (Clash clash) = Unit {0}
 
 -- the line of a status was printed and is answered, or printing failed at it
-abbrev pub Says : Page → Page → Status → Status → Type 0
-Says a b line answer =
+abbrev pub PrintsLine : PageState → PageState → Status → Status → Type 0
+PrintsLine a b line answer =
     ((answer ≡ line) × Appends a.printed b.printed (line_of line) × (b.faults ≡ a.faults))
-    ⊎ ((answer ≡ PrintFault) × AppendsPrefix a.printed b.printed (line_of line) × Rose a.faults b.faults)
+    ⊎ ((answer ≡ PrintFault) × AppendsPrefix a.printed b.printed (line_of line) × HasRisen a.faults b.faults)
 
 -- the line of a status is told: its own, or where memory is out for it the line of that
-pub record Tells (a b : Page) (status answer : Status) : Type 0 where
+pub record PrintsStatusLine (a b : PageState) (status answer : Status) : Type 0 where
   pub line : Status
   pub of : (line ≡ status) ⊎ (TakesMemory status × (line ≡ NoMemory))
-  pub says : Says a b line answer
+  pub says : PrintsLine a b line answer
 
 -- the status is answered, or printing failed at its line, or memory was out for its line
 abbrev pub IsToldAs : Status → Status → Type 0
@@ -53,22 +53,22 @@ IsToldAs status answer =
     (answer ≡ status) ⊎ ((answer ≡ PrintFault) ⊎ (TakesMemory status × (answer ≡ NoMemory)))
 
 -- the outside with another page
-abbrev pub with_page : Outside → Page → Outside
+abbrev pub with_page : Outside → PageState → Outside
 with_page at page = record { place = at.place; page = page; steps = at.steps }
 
 -- A run that leaves b where a stood answers this: a command that is obeyed came to a status, and its line was told.
-pub record Answers (meant : Given → Meant Work) (a b : Outside) (answer : Status) : Type 0 where
+pub record RunResult (meant : Readings → Spec Work) (a b : Outside) (answer : Status) : Type 0 where
   -- the status of the command, and the page as the command left it
   pub status : Status
-  pub page : Page
-  pub obeyed : Follows meant a (with_page b page) status
-  pub told : Tells page b.page status answer
+  pub page : PageState
+  pub obeyed : Implements meant a (with_page b page) status
+  pub told : PrintsStatusLine page b.page status answer
 
 -- what an answer of the outside is caused by, and what stands as before without it
-pub record HasCause (a b : Outside) (answer : Status) : Type 0 where
-  pub missing : (word : ℕ) → answer ≡ Missing word → Rose a.place.misses b.place.misses
-  pub depot : answer ≡ DepotFault → Rose a.place.faults b.place.faults
-  pub print : answer ≡ PrintFault → Rose a.page.faults b.page.faults
+pub record HasAnswerCause (a b : Outside) (answer : Status) : Type 0 where
+  pub missing : (word : ℕ) → answer ≡ Missing word → HasRisen a.place.misses b.place.misses
+  pub depot : answer ≡ DepotFault → HasRisen a.place.faults b.place.faults
+  pub print : answer ≡ PrintFault → HasRisen a.page.faults b.page.faults
   pub print_calm : answer ≢ PrintFault → b.page.faults ≡ a.page.faults
   pub done : answer ≡ Done → b.place.faults ≡ a.place.faults
 
