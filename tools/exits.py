@@ -1,19 +1,19 @@
 #!/usr/bin/env python3
 """exits.py: the texts of the exits are the same in all places that have them.
 
-The meaning of each exit has three places: help (sd_commands, specs/Exits), the last column of the table in
+The meaning of each exit has three places: help (sd_command_table, specs/Exits), the last column of the table in
 docs/FORMATS.md, and the manual page docs/sdca.1. A cell of the table begins with the text that help prints; details may
 follow after a full stop. The manual page has that text as a sentence. The printed lines have two places: `line_of` and
-what it cites (sd_status, specs/Texts), and the second column of the table. Each printed text is in the table, and the
-table has no other text. It prints what differs, and exits with 1 if something does."""
+what it cites (sd_command_status, specs/Texts), and the second column of the table. Each printed text is in the table,
+and the table has no other text. It prints what differs, and exits with 1 if something does."""
 
 import os
 import re
 import sys
 
 TOP = os.path.dirname(os.path.dirname(os.path.realpath(__file__)))
-HELP = "crates/sd_commands/specs/Exits.antt"
-LINES = "crates/sd_status/specs/Texts.antt"
+HELP = "crates/sd_command_table/specs/Exits.antt"
+LINES = "crates/sd_command_status/specs/Texts.antt"
 TABLE = "docs/FORMATS.md"
 MANUAL = "docs/sdca.1"
 # What the table writes for a number, a digest or a text of another row.

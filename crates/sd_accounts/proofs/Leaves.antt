@@ -4,9 +4,9 @@ use Rattle.std.proofs.Common.{Ok, Err}
 use Rattle.std.proofs.Common.{nat_lt, refl, sym, ap, pow_mono}
 use Rattle.std.proofs.lemmas.Bool.{lt-ltb, le-ltb, ltb-true, ltb-false}
 use Rattle.std.specs.Prelude.{if◌then◌else◌}
-use Rattle.sd_text.specs.declared.number.NumberFault.{NumberFault}
-use Rattle.sd_text.specs.declared.number.NumberFault.TheVariants.{TooLarge}
-use Rattle.sd_text.specs.Number.{decimal_value, rest_after, decimal_after, fitting}
+use Rattle.sd_base_text.specs.declared.number.NumberFault.{NumberFault}
+use Rattle.sd_base_text.specs.declared.number.NumberFault.TheVariants.{TooLarge}
+use Rattle.sd_base_text.specs.Number.{decimal_value, rest_after, decimal_after, fitting}
 use Rattle.sd_accounts.specs.Line.{leaf_numbered, leaf_in}
 
 -- a decimal of 32 bits says its number

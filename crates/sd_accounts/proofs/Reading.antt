@@ -3,7 +3,7 @@ use Rattle.std.proofs.Common.{◌≡◌, ℕ, ◌+◌, List, [], ◌∷◌, ◌+
 use Rattle.std.proofs.Common.{Option, Ok, Err, refl, sym, ap, subst, ◌∙◌}
 use Rattle.std.proofs.lemmas.List.{length_push}
 use Rattle.std.specs.Prelude.{map}
-use Rattle.sd_text.specs.Lines.{lines_of}
+use Rattle.sd_base_text.specs.Lines.{lines_of}
 use Rattle.sd_book.specs.declared.command.Command.{Command}
 use Rattle.sd_book.specs.Text.{ended}
 use Rattle.sd_accounts.specs.declared.fault.AccountFault.{AccountFault}

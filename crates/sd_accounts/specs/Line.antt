@@ -3,8 +3,8 @@ use Rattle.std.specs.Prelude.{ℕ, ◌==◌, ◌&&◌, ◌||◌, ◌^◌, Bool, 
 use Rattle.std.specs.Prelude.{bytes_eq, if◌then◌else◌, Option, Some, None, option_map, option_and_then}
 use Rattle.std.specs.Char.{is_ascii_digit, is_ascii_lowercase}
 use Rattle.std.specs.List.{list_all}
-use Rattle.sd_text.specs.Lines.{lines_of}
-use Rattle.sd_text.specs.Number.{rest_after, decimal_value}
+use Rattle.sd_base_text.specs.Lines.{lines_of}
+use Rattle.sd_base_text.specs.Number.{rest_after, decimal_value}
 
 -- what a line says
 pub data Entry : Type 0 where

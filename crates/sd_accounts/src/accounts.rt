@@ -11,8 +11,8 @@ ghost use Rattle.sd_accounts.specs.Report.{report_data};
 use crate::fault::AccountFault;
 use crate::register::Register;
 use crate::report::report;
+use sd_base::NoMemory;
 use sd_book::Book;
-use sd_cause::NoMemory;
 use sd_tree::{Height, Leaf};
 use std::alloc::Global;
 use std::collections::BTreeMap;
@@ -67,8 +67,8 @@ impl Accounts {
         &self.book
     }
 
-    /// The report as compact JSON: each account by name with its leaf and whether the leaf is active, not revoked, in the
-    /// last period; the height of the tree; the number of the last period.
+    /// The report as compact JSON: each account by name with its leaf and whether the leaf is active, not revoked, in
+    /// the last period; the height of the tree; the number of the last period.
     pub fn report(&self, alloc: Global) -> Result<Vec<u8>, NoMemory>
         ensures { IfOk result (λ text. text.items ≡ compact_text (report_data self.now)) }
     {

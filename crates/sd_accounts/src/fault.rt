@@ -42,10 +42,10 @@ impl<T: Drop> From<AllocFailed<T>> for AccountFault {
     }
 }
 
-impl From<sd_cause::NoMemory> for AccountFault {
+impl From<sd_base::NoMemory> for AccountFault {
     ghost from_gives = { λ _ e. e ≡ NoMemory };
 
-    fn from(_error: sd_cause::NoMemory) -> AccountFault {
+    fn from(_error: sd_base::NoMemory) -> AccountFault {
         AccountFault::NoMemory
     }
 }

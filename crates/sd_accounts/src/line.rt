@@ -5,7 +5,7 @@ ghost use Rattle.sd_accounts.specs.Read.{entry_in};
 
 use crate::name::name_in;
 use memchr::memchr;
-use sd_text::number_after;
+use sd_base_text::number_after;
 use sd_tree::{Height, Leaf};
 
 /// What a line says.
@@ -22,7 +22,7 @@ pub(crate) enum Line<'a> {
 }
 
 /// What a line says for a tree of this height, where it is in the grammar and its leaf in the tree.
-#[tactic(auto, unfolding(crate::specs::Line::entry_on, sd_text::specs::Number::rest_after))]
+#[tactic(auto, unfolding(crate::specs::Line::entry_on, sd_base_text::specs::Number::rest_after))]
 pub(crate) fn line_in(text: &[u8], h: Height) -> Option<Line<'_>>
     ensures value { option_map entry_in result ≡ entry_on h text.now }
     ensures leaf { IfSome result (λ line. IsBelow (2 ^ h) (entry_in line)) }

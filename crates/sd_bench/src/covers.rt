@@ -3,9 +3,9 @@
 ghost use Rattle.std.specs.Prelude.{◌≡◌, ℕ, ◌^◌, ◌<◌, List, All, IsTrue};
 ghost use Rattle.std.specs.List.Sorted.{IsStrictlyIncreasing};
 
+use sd_base::Steps;
 use sd_cover::CoverIndex;
 use sd_steiner::cover;
-use sd_steps::Steps;
 use sd_tree::{Height, Leaf, SetName};
 use std::alloc::{AllocError, Global};
 use std::marker::Brand;

@@ -11,7 +11,7 @@ use crate::command::Command;
 use crate::fault::{BookFault, BookLimit};
 use crate::limits::MOST_COMMANDS;
 use crate::tally::Tally;
-use sd_cause::NoMemory;
+use sd_base::NoMemory;
 use sd_tree::Height;
 use std::alloc::Global;
 use std::marker::Model;

@@ -51,10 +51,10 @@ impl<T: Drop> From<AllocFailed<T>> for BookFault {
     }
 }
 
-impl From<sd_cause::NoMemory> for BookFault {
+impl From<sd_base::NoMemory> for BookFault {
     ghost from_gives = { λ _ e. e ≡ NoMemory };
 
-    fn from(_error: sd_cause::NoMemory) -> BookFault {
+    fn from(_error: sd_base::NoMemory) -> BookFault {
         BookFault::NoMemory
     }
 }

@@ -10,7 +10,7 @@ ghost use Rattle.sd_book.specs.Replay.{IsReplay};
 
 use crate::command::Command;
 use crate::place::Place;
-use sd_cause::NoMemory;
+use sd_base::NoMemory;
 use sd_tree::{Height, Leaf};
 use std::alloc::Global;
 use std::collections::BTreeSet;

@@ -15,8 +15,8 @@ use Rattle.sd_label.specs.declared.label.Side.TheVariants.{Left, Right}
 use Rattle.sd_label.specs.declared.name.Name.{Name}
 use Rattle.sd_label.specs.declared.name.Name.TheVariants.{Whole, Pair}
 use Rattle.sd_label.proofs.Counts.{length_given, length_given_under}
-use Rattle.sd_secrets.specs.Files.{AreSecrets}
-use Rattle.sd_secrets.specs.Secrets.{secret_of}
+use Rattle.sd_card_secrets.specs.Files.{AreSecrets}
+use Rattle.sd_card_secrets.specs.Secrets.{secret_of}
 use Rattle.sd_card.specs.Fields.{IsCard, card_of}
 
 -- all pairs of an ancestor

@@ -11,9 +11,9 @@ use Rattle.std.proofs.Math.Seq.{take-add}
 use Rattle.std.proofs.Math.Pow.{pow_mono}
 use Rattle.byteorder.specs.Endian.{big_bytes}
 use Rattle.sd_bits.proofs.Endian.{two_again, four_again, number_again}
-use Rattle.sd_secrets.specs.Files.{AreSecrets, byte_at, bytes_from, check_in, check_due, file_body, file_bytes}
-use Rattle.sd_secrets.proofs.Written.{AreBytes, bytes_at, cut_bytes, passed, goes, file_length, check_written}
-use Rattle.sd_secrets.proofs.Written.{secrets_once, cut_count, file_said}
+use Rattle.sd_card_secrets.specs.Files.{AreSecrets, byte_at, bytes_from, check_in, check_due, file_body, file_bytes}
+use Rattle.sd_card_secrets.proofs.Written.{AreBytes, bytes_at, cut_bytes, passed, goes, file_length, check_written}
+use Rattle.sd_card_secrets.proofs.Written.{secrets_once, cut_count, file_said}
 use Rattle.sd_card.specs.declared.card.Card.{Card}
 use Rattle.sd_card.specs.declared.fault.CardFault.{CardFault}
 use Rattle.sd_card.specs.declared.fault.CardFault.TheVariants.{NoMemory}

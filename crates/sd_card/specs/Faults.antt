@@ -3,8 +3,8 @@ use Rattle.std.specs.Prelude.{◌≡◌, ℕ, ◌+◌, ◌*◌, ◌/◌, ◌^◌
 use Rattle.std.specs.Prelude.{List, length, take, Option, Some, None}
 use Rattle.byteorder.specs.Endian.{big_number}
 use Rattle.sd_tree.specs.Limits.{highest}
-use Rattle.sd_secrets.specs.Files.{byte_at, bytes_from, check_in, check_due, unless}
-use Rattle.sd_secrets.specs.declared.file.TheConstants.{SECRET_BYTES, CHECK_BYTES}
+use Rattle.sd_card_secrets.specs.Files.{byte_at, bytes_from, check_in, check_due, unless}
+use Rattle.sd_card_secrets.specs.declared.file.TheConstants.{SECRET_BYTES, CHECK_BYTES}
 use Rattle.sd_card.specs.declared.fault.CardFault.{CardFault}
 use Rattle.sd_card.specs.declared.fault.CardFault.TheVariants.{Magic, Version, Height, Leaf, Length, Check, NoMemory}
 use Rattle.sd_card.specs.declared.format.TheConstants.{VERSION_AT, HEIGHT_AT, LEAF_AT, CA_AT}

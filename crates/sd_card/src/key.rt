@@ -7,9 +7,9 @@ ghost use Rattle.sd_card.specs.Fields.{fields_of, card_of, card_key, CardDerives
 
 use crate::card::Card;
 use crate::place::place;
+use sd_base::Steps;
+use sd_card_secrets::hanging_above;
 use sd_label::{Label, descend, middle};
-use sd_secrets::hanging_above;
-use sd_steps::Steps;
 use sd_tree::{SetName, contains, depth};
 use std::sync::ledger::Ledger;
 

@@ -1,5 +1,5 @@
 ghost use Rattle.std.specs.Prelude.{◌≡◌, ◌+◌, ◌≤◌, Some, None, length, IfOk, MatchResult};
-ghost use Rattle.sd_secrets.specs.Files.{byte_at as byte_of};
+ghost use Rattle.sd_card_secrets.specs.Files.{byte_at as byte_of};
 ghost use Rattle.sd_card.specs.Fields.{CardFields, IsCard, fields_of, card_bytes};
 ghost use Rattle.sd_card.specs.Faults.{height_in, leaf_in, ca_in, length_at as length_of, fault_in, IsFaultOf};
 
@@ -8,7 +8,7 @@ use crate::count::count_at;
 use crate::fault::CardFault;
 use crate::format::{CA_AT, HEIGHT_AT, LEAF_AT, MAGIC, SECRETS_AT, VERSION, VERSION_AT};
 use byteorder::{BigEndian, ByteOrder};
-use sd_secrets::{CHECK_BYTES, SECRET_BYTES, byte_at, checks, secrets_in};
+use sd_card_secrets::{CHECK_BYTES, SECRET_BYTES, byte_at, checks, secrets_in};
 use sd_tree::{Height, Leaf};
 use std::alloc::Global;
 

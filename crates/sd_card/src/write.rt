@@ -3,8 +3,8 @@ ghost use Rattle.sd_card.specs.Fields.{IsCard, fields_of, card_head, card_bytes}
 
 use crate::card::Card;
 use crate::format::{MAGIC, VERSION};
-use sd_cause::NoMemory;
-use sd_secrets::{four_bytes, two_bytes, write_file};
+use sd_base::NoMemory;
+use sd_card_secrets::{four_bytes, two_bytes, write_file};
 use std::alloc::{AllocError, Global};
 
 impl Card {

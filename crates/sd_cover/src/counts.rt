@@ -5,8 +5,7 @@ ghost use Rattle.sd_cover.specs.declared.counts.TheConstants.{NODES, MOST_ROOM};
 ghost use Rattle.sd_cover.specs.Table.{used};
 ghost use Rattle.sd_cover.specs.Tally.{tally_at, with_count};
 
-use sd_cause::NoMemory;
-use sd_steps::Steps;
+use sd_base::{NoMemory, Steps};
 use sd_tree::HIGHEST;
 use std::alloc::Global;
 use std::marker::Model;

@@ -4,8 +4,7 @@ ghost use Rattle.sd_cover.specs.declared.index.TheConstants.{MOST_SPARE};
 
 use crate::counts::Counts;
 use crate::path::{lower_path, lowest_node, raise_path};
-use sd_cause::NoMemory;
-use sd_steps::Steps;
+use sd_base::{NoMemory, Steps};
 use sd_tree::{HIGHEST, Height, Leaf};
 use std::alloc::Global;
 use std::marker::Model;

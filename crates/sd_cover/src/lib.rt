@@ -1,4 +1,5 @@
 //! An index of the revoked leaves, kept from period to period, that gives the sets of their cover.
+//! The cover of leaves that are not kept so is `cover` of `sd_steiner`.
 #![tactic(auto)]
 
 mod counts;

@@ -6,7 +6,7 @@ ghost use Rattle.sd_cover.specs.Tally.{tally_at};
 ghost use Rattle.sd_cover.specs.Path.{met_by};
 
 use crate::counts::Counts;
-use sd_steps::Steps;
+use sd_base::Steps;
 use sd_tree::{HIGHEST, Height, Leaf, leaf_node};
 use std::sync::ledger::Ledger;
 

@@ -9,8 +9,7 @@ ghost use Rattle.sd_cover.specs.Index.{IsIndex, AreRevocable, revoked_by};
 
 use crate::counts::Counts;
 use crate::index::CoverIndex;
-use sd_cause::NoMemory;
-use sd_steps::Steps;
+use sd_base::{NoMemory, Steps};
 use sd_tree::{Height, SetName};
 use std::alloc::{AllocError, Global};
 use std::sync::ledger::Ledger;

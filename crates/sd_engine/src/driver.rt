@@ -1,14 +1,14 @@
 ghost use Rattle.std.specs.Prelude.{◌≡◌, ℕ, Err, IsErrOf};
-ghost use Rattle.sd_cause.specs.Count.{IsCaused};
+ghost use Rattle.sd_base.specs.Count.{IsCaused};
 ghost use Rattle.sd_engine.specs.Stage.{vessel};
 ghost use Rattle.sd_engine.specs.Driving.{moment, DriveOutcome, IsClosed, broken_by, overrun_by, stopped_by};
 
 use crate::fault::StreamBreak;
 use crate::feed::{FeedFault, Span, next};
 use crate::stage::{Stage, StageFault};
+use sd_base::Steps;
 use sd_packet::SIZE;
 use sd_ports::{Sink, Source};
-use sd_steps::Steps;
 use std::sync::ledger::Ledger;
 
 /// The most packets of a stream.

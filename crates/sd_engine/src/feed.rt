@@ -1,5 +1,5 @@
 ghost use Rattle.std.specs.Prelude.{◌≡◌, ◌-◌, ◌<◌, ◌≤◌, IfOk, IfErr, IsErrOf, OnErr, length};
-ghost use Rattle.sd_cause.specs.Count.{HasCause, IsCaused};
+ghost use Rattle.sd_base.specs.Count.{HasCause, IsCaused};
 ghost use Rattle.sd_engine.specs.Feeding.{waiting, HasFilled, FeedOutcome, FeedStop, TakesPacket};
 ghost use Rattle.sd_ports.specs.Bytes.{LosesPrefix};
 

@@ -1,10 +1,10 @@
 ghost use Rattle.std.specs.Prelude.{◌≡◌, ℕ, List, Option, None, Some, Err, OnOk, IsErrOf};
-ghost use Rattle.sd_cause.specs.Count.{IsCaused};
+ghost use Rattle.sd_base.specs.Count.{IsCaused};
 ghost use Rattle.sd_engine.specs.Stage.{HasGrown, IsCutShort, IsAllowed, vessel};
 
+use sd_base::Steps;
 use sd_packet::Packet;
 use sd_ports::Sink;
-use sd_steps::Steps;
 use std::sync::ledger::Ledger;
 
 /// Why a stage stopped.

@@ -14,12 +14,12 @@ use Rattle.sd_book.specs.declared.command.Command.TheVariants.{Period}
 use Rattle.sd_book.specs.Limits.{IsDraft, IsWithinLimits}
 use Rattle.sd_book.specs.Commands.{last_period}
 use Rattle.sd_book.proofs.Cuts.{period_append}
-use Rattle.sd_events.specs.declared.event.Event.{Event}
-use Rattle.sd_events.specs.Events.{is_of, sends_with}
-use Rattle.sd_events.specs.Book.{booked, commanded, event_book, with_periods_to, sends}
-use Rattle.sd_events.proofs.Filled.{filled_ends}
-use Rattle.sd_events.proofs.Fitting.{event_books_fit, fronts_fit, revoked_few}
-use Rattle.sd_events.proofs.Sends.{sends_are_counted}
+use Rattle.sd_spec_field.specs.declared.event.Event.{Event}
+use Rattle.sd_spec_field.specs.Events.{is_of, sends_with}
+use Rattle.sd_spec_field.specs.Book.{booked, commanded, event_book, with_periods_to, sends}
+use Rattle.sd_spec_field.proofs.Filled.{filled_ends}
+use Rattle.sd_spec_field.proofs.Fitting.{event_books_fit, fronts_fit, revoked_few}
+use Rattle.sd_spec_field.proofs.Sends.{sends_are_counted}
 use Rattle.sd_field.specs.Laid.{IsLaid}
 use Rattle.sd_field.specs.declared.laid.Laid.{Laid}
 

@@ -9,15 +9,15 @@ use Rattle.std.proofs.lemmas.Bool.Decides.{nat_tests}
 use Rattle.std.proofs.lemmas.List.Folds.{concat-append}
 use Rattle.sd_site.specs.declared.site.Site.{Site}
 use Rattle.sd_card.specs.Fields.{CardFields, card_of}
-use Rattle.sd_broadcast.specs.Plan.{Plan}
+use Rattle.sd_spec_broadcast.specs.Plan.{Plan}
 use Rattle.sd_ports.specs.Memory.{Store}
-use Rattle.sd_reception.specs.Offered.{out_from, break_from}
+use Rattle.sd_spec_receiver.specs.Offered.{out_from, break_from}
 use Rattle.sd_receive.specs.Receiving.{IsAfter, IsLive, card_in}
 use Rattle.sd_receive.specs.declared.receiver.Receiver.{Receiver}
-use Rattle.sd_events.specs.declared.event.Event.TheVariants.{Lose, Off, Offer, On}
-use Rattle.sd_events.specs.Watch.{Watch, at_places, passed_by, present, stream, times, watched}
-use Rattle.sd_events.specs.Watch.{switched_off, switched_on, written}
-use Rattle.sd_events.proofs.Offers.{heard_is, on_is, offer_is_present, switched_writes_nothing, written_parts}
+use Rattle.sd_spec_field.specs.declared.event.Event.TheVariants.{Lose, Off, Offer, On}
+use Rattle.sd_spec_field.specs.Watch.{Watch, at_places, passed_by, present, stream, times, watched}
+use Rattle.sd_spec_field.specs.Watch.{switched_off, switched_on, written}
+use Rattle.sd_spec_field.proofs.Offers.{heard_is, on_is, offer_is_present, switched_writes_nothing, written_parts}
 use Rattle.sd_field.specs.Heard.{HasRoom, IsHeard}
 use Rattle.sd_field.specs.Seats.{AreNew, IsNew, IsSeated, wrote_before}
 use Rattle.sd_field.specs.declared.seat.Seat.{Seat}

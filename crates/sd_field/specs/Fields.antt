@@ -7,16 +7,16 @@ use Rattle.std.specs.List.{concat}
 use Rattle.sd_site.specs.Fields.{SiteFields}
 use Rattle.sd_card.specs.Fields.{CardFields, card_of}
 use Rattle.sd_book.specs.Value.{BookValue}
-use Rattle.sd_broadcast.specs.declared.fault.ClearFault.{ClearFault}
-use Rattle.sd_broadcast.specs.Plan.{Plan, IsPlan}
-use Rattle.sd_broadcast.specs.Refused.{refusal_of, IsClear}
-use Rattle.sd_broadcast.specs.Sent.{body}
+use Rattle.sd_spec_broadcast.specs.declared.fault.ClearFault.{ClearFault}
+use Rattle.sd_spec_broadcast.specs.Plan.{Plan, IsPlan}
+use Rattle.sd_spec_broadcast.specs.Refused.{refusal_of, IsClear}
+use Rattle.sd_spec_broadcast.specs.Sent.{body}
 use Rattle.sd_head.specs.Schedule.{begins_with}
-use Rattle.sd_events.specs.declared.event.Event.{Event}
-use Rattle.sd_events.specs.declared.event.Event.TheVariants.{Subscribe, Revoke, Send, Offer, Lose, Off, On}
-use Rattle.sd_events.specs.Events.{is_of, is_send}
-use Rattle.sd_events.specs.Book.{sends, plan_after}
-use Rattle.sd_events.specs.Watch.{Watch, watch, written}
+use Rattle.sd_spec_field.specs.declared.event.Event.{Event}
+use Rattle.sd_spec_field.specs.declared.event.Event.TheVariants.{Subscribe, Revoke, Send, Offer, Lose, Off, On}
+use Rattle.sd_spec_field.specs.Events.{is_of, is_send}
+use Rattle.sd_spec_field.specs.Book.{sends, plan_after}
+use Rattle.sd_spec_field.specs.Watch.{Watch, watch, written}
 use Rattle.sd_field.specs.declared.fault.FieldFault.{FieldFault}
 use Rattle.sd_field.specs.declared.fault.FieldFault.TheVariants.{NoMemory}
 use Rattle.sd_field.specs.Heard.{HasRoom}

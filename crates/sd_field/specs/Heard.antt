@@ -4,8 +4,8 @@ use Rattle.std.specs.List.{concat}
 use Rattle.sd_card.specs.Fields.{CardFields}
 use Rattle.sd_ports.specs.Memory.{Store, room_in}
 use Rattle.sd_engine.specs.Stage.{Chain}
-use Rattle.sd_reception.specs.declared.fault.StreamFault.{StreamFault}
-use Rattle.sd_reception.specs.Offered.{out_from, break_from}
+use Rattle.sd_spec_receiver.specs.declared.fault.StreamFault.{StreamFault}
+use Rattle.sd_spec_receiver.specs.Offered.{out_from, break_from}
 use Rattle.sd_receive.specs.Receiving.{IsAfter, IsLive, card_in, receiver_does}
 use Rattle.sd_receive.specs.declared.receiver.Receiver.{Receiver}
 

@@ -4,10 +4,10 @@ use Rattle.std.specs.Prelude.{◌≡◌, ◌↔◌, ℕ, true, List, [], map, re
 use Rattle.std.specs.List.{concat, flat_map}
 use Rattle.sd_site.specs.declared.site.Site.{Site}
 use Rattle.sd_card.specs.Fields.{CardFields, card_of}
-use Rattle.sd_broadcast.specs.Plan.{Plan}
-use Rattle.sd_reception.specs.Offered.{out_from}
+use Rattle.sd_spec_broadcast.specs.Plan.{Plan}
+use Rattle.sd_spec_receiver.specs.Offered.{out_from}
 use Rattle.sd_receive.specs.declared.receiver.Receiver.{Receiver}
-use Rattle.sd_events.specs.Watch.{Watch, at_places, present, stream, written}
+use Rattle.sd_spec_field.specs.Watch.{Watch, at_places, present, stream, written}
 use Rattle.sd_field.specs.Heard.{HasRoom, IsHeard}
 use Rattle.sd_field.specs.declared.seat.Seat.{Seat}
 

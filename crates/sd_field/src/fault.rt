@@ -2,7 +2,7 @@ ghost use Rattle.std.specs.Prelude.{◌≡◌};
 ghost use Rattle.sd_field.specs.declared.fault.ScriptFault.TheVariants.{NoMemory};
 ghost use Rattle.sd_field.specs.declared.fault.FieldFault.TheVariants as FieldFault;
 
-use sd_broadcast::ClearFault;
+use sd_spec_broadcast::ClearFault;
 use std::alloc::AllocFailed;
 
 /// Why bytes are no script. Lines are numbered from 1 and judged in order, and the first bad line decides [this
@@ -36,10 +36,10 @@ pub enum FieldFault {
     NoMemory,
 }
 
-impl From<sd_cause::NoMemory> for FieldFault {
+impl From<sd_base::NoMemory> for FieldFault {
     ghost from_gives = { λ _ e. e ≡ FieldFault.NoMemory };
 
-    fn from(_error: sd_cause::NoMemory) -> FieldFault {
+    fn from(_error: sd_base::NoMemory) -> FieldFault {
         FieldFault::NoMemory
     }
 }

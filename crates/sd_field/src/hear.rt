@@ -1,16 +1,15 @@
 ghost use Rattle.std.specs.Prelude.{◌≡◌, ◌<◌, ◌++◌, ◌∷◌, [], ℕ, List, length, OnOk, IsErr};
 ghost use Rattle.std.specs.List.{concat};
 ghost use Rattle.sd_card.specs.Fields.{CardFields};
-ghost use Rattle.sd_reception.specs.Offered.{out_from};
+ghost use Rattle.sd_spec_receiver.specs.Offered.{out_from};
 ghost use Rattle.sd_receive.specs.Receiving.{IsCountable, IsLive};
 ghost use Rattle.sd_field.specs.Heard.{HasRoom, IsHeard};
 
-use sd_cause::NoMemory;
+use sd_base::{NoMemory, Steps};
 use sd_engine::{Stage, StageFault};
 use sd_packet::Packet;
 use sd_ports::MemSink;
 use sd_receive::Receiver;
-use sd_steps::Steps;
 use std::sync::ledger::Ledger;
 
 /// Offers a packet to a receiver, which writes into a sink in memory. If the receiver refuses it, that is no error:

@@ -1,11 +1,11 @@
 ghost use Rattle.std.specs.Prelude.{◌≡◌, option_map};
-ghost use Rattle.sd_text.specs.Number.{fitting, decimal_value};
+ghost use Rattle.sd_base_text.specs.Number.{fitting, decimal_value};
 ghost use Rattle.sd_field.specs.Line.{leaf_in, pair_in, events_in_run, times_in};
 ghost use Rattle.sd_field.specs.Script.{count_of, counted, cut_at_space, leaf_and_count, spoken};
 
 use memchr::memchr;
-use sd_events::Event;
-use sd_text::{NumberFault, number_after};
+use sd_base_text::{NumberFault, number_after};
+use sd_spec_field::Event;
 use sd_tree::{Height, Leaf};
 
 /// The most events that one line of a script says [this project, docs/FORMATS.md, Field].
@@ -21,7 +21,7 @@ pub(crate) enum LineFault {
 }
 
 /// The event that a line says, and how often.
-#[tactic(auto, unfolding(crate::specs::Script::spoken, crate::specs::Script::alone, crate::specs::Script::sends_said, crate::specs::Script::repeated, sd_text::specs::Number::rest_after))]
+#[tactic(auto, unfolding(crate::specs::Script::spoken, crate::specs::Script::alone, crate::specs::Script::sends_said, crate::specs::Script::repeated, sd_base_text::specs::Number::rest_after))]
 pub(crate) fn run_on(line: &[u8], h: Height) -> Result<(Event, u32), LineFault>
     ensures { result ≡ events_in_run h (spoken line.now) }
 {
@@ -85,7 +85,7 @@ fn counted(times: u32) -> Result<u32, LineFault>
 }
 
 /// The number that a text says.
-#[tactic(auto, unfolding(sd_text::specs::Number::rest_after))]
+#[tactic(auto, unfolding(sd_base_text::specs::Number::rest_after))]
 fn number_in(text: &[u8]) -> Result<u32, NumberFault>
     ensures { result ≡ fitting (decimal_value text.now) }
 {

@@ -3,21 +3,20 @@ ghost use Rattle.std.specs.Prelude.{IfOk, IfSome, IsSome, IsErr, OnOk, false, is
 ghost use Rattle.std.specs.List.{concat};
 ghost use Rattle.sd_card.specs.Fields.{CardFields, card_of};
 ghost use Rattle.sd_engine.specs.Stream.{packets_of};
-ghost use Rattle.sd_broadcast.specs.Plan.{Plan};
+ghost use Rattle.sd_spec_broadcast.specs.Plan.{Plan};
 ghost use Rattle.sd_receive.specs.Receiving.{IsCountable, IsLive};
-ghost use Rattle.sd_events.specs.declared.event.Event.TheVariants.{Lose, Off, Offer, On};
-ghost use Rattle.sd_events.specs.Watch.{Watch, present, stream, watched, written};
+ghost use Rattle.sd_spec_field.specs.declared.event.Event.TheVariants.{Lose, Off, Offer, On};
+ghost use Rattle.sd_spec_field.specs.Watch.{Watch, present, stream, watched, written};
 ghost use Rattle.sd_field.specs.Heard.{HasRoom};
 ghost use Rattle.sd_field.specs.Seats.{AreNew, IsNew, IsSeated};
 
 use crate::hear::hear;
+use sd_base::{NoMemory, Steps};
 use sd_card::Card;
-use sd_cause::NoMemory;
 use sd_packet::{Packet, SIZE};
 use sd_ports::MemSink;
 use sd_receive::Receiver;
 use sd_site::Site;
-use sd_steps::Steps;
 use sd_tree::Leaf;
 use std::alloc::Global;
 use std::sync::ledger::Ledger;

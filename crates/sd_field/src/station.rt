@@ -1,25 +1,24 @@
 ghost use Rattle.std.specs.Prelude.{◌≡◌, ◌⊎◌, ◌<◌, ◌++◌, ◌∷◌, [], ℕ, List, None, Some, Err, IfOk, IsErr, OnOk, length};
 ghost use Rattle.std.specs.Prelude.{true};
 ghost use Rattle.std.specs.List.{concat};
-ghost use Rattle.sd_broadcast.specs.declared.fault.ClearFault.{ClearFault as Fault};
-ghost use Rattle.sd_broadcast.specs.Plan.{Plan};
-ghost use Rattle.sd_broadcast.specs.Refused.{refusal_of};
-ghost use Rattle.sd_broadcast.specs.Sent.{body};
-ghost use Rattle.sd_entitling.specs.Kept.{plan_of};
+ghost use Rattle.sd_spec_broadcast.specs.declared.fault.ClearFault.{ClearFault as Fault};
+ghost use Rattle.sd_spec_broadcast.specs.Plan.{Plan};
+ghost use Rattle.sd_spec_broadcast.specs.Refused.{refusal_of};
+ghost use Rattle.sd_spec_broadcast.specs.Sent.{body};
+ghost use Rattle.sd_head_periods.specs.Kept.{plan_of};
 ghost use Rattle.sd_head.specs.Schedule.{begins_with};
 ghost use Rattle.sd_head.specs.Staged.{IsReady};
 ghost use Rattle.sd_field.specs.Stations.{IsStation};
 
 use crate::fault::FieldFault;
 use crate::seat::sink_of;
+use sd_base::{NoMemory, Steps};
 use sd_book::Book;
-use sd_cause::NoMemory;
 use sd_engine::{Stage, StageFault};
 use sd_head::{Head, HeadFault};
 use sd_packet::Packet;
 use sd_ports::MemSink;
 use sd_site::Site;
-use sd_steps::Steps;
 use std::alloc::Global;
 use std::sync::ledger::Ledger;
 

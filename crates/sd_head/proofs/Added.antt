@@ -11,18 +11,18 @@ use Rattle.sd_ecm.specs.Parts.{Message, message_of, parts_of}
 use Rattle.sd_ecm.specs.declared.message.EcmHead.{EcmHead}
 use Rattle.sd_ecm.specs.declared.part.Place.{Place}
 use Rattle.sd_site.specs.Fields.{SiteFields}
-use Rattle.sd_broadcast.specs.Plan.{Plan, crypto_length, crypto_of, word_in, word_of, period_in, period_of}
-use Rattle.sd_broadcast.specs.Plan.{closing_number}
-use Rattle.sd_broadcast.specs.Carried.{carried}
-use Rattle.sd_broadcast.specs.Messages.{period_at, message_at, places_after}
-use Rattle.sd_broadcast.specs.Sent.{Item, Controls, Carries, tables_at, tables_before, message_before, added}
-use Rattle.sd_broadcast.specs.Sent.{closing_of, packets_from, sent, bytes_added}
-use Rattle.sd_broadcast.proofs.Sending.{sent_more}
-use Rattle.sd_entitling.specs.declared.crypto.CryptoPeriod.{CryptoPeriod}
-use Rattle.sd_entitling.specs.declared.entitling.Entitling.{Entitling}
-use Rattle.sd_entitling.specs.Crypto.{crypto_in}
-use Rattle.sd_entitling.specs.Packets.{period_packets}
-use Rattle.sd_entitling.specs.Kept.{IsOf}
+use Rattle.sd_spec_broadcast.specs.Plan.{Plan, crypto_length, crypto_of, word_in, word_of, period_in, period_of}
+use Rattle.sd_spec_broadcast.specs.Plan.{closing_number}
+use Rattle.sd_spec_broadcast.specs.Carried.{carried}
+use Rattle.sd_spec_broadcast.specs.Messages.{period_at, message_at, places_after}
+use Rattle.sd_spec_broadcast.specs.Sent.{Item, Controls, Carries, tables_at, tables_before, message_before, added}
+use Rattle.sd_spec_broadcast.specs.Sent.{closing_of, packets_from, sent, bytes_added}
+use Rattle.sd_spec_broadcast.proofs.Sending.{sent_more}
+use Rattle.sd_head_periods.specs.declared.crypto.CryptoPeriod.{CryptoPeriod}
+use Rattle.sd_head_periods.specs.declared.entitling.Entitling.{Entitling}
+use Rattle.sd_head_periods.specs.Crypto.{crypto_in}
+use Rattle.sd_head_periods.specs.Packets.{period_packets}
+use Rattle.sd_head_periods.specs.Kept.{IsOf}
 use Rattle.sd_head.specs.Messages.{head_of, message_due}
 use Rattle.sd_head.specs.Items.{HasSent, HasCountersAfter, tables_bytes, message_bytes}
 use Rattle.sd_head.specs.declared.sender.Sender.{Sender}

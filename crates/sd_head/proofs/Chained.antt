@@ -9,12 +9,12 @@ use Rattle.sd_engine.specs.Stage.{Chain, all_from}
 use Rattle.sd_engine.specs.Driving.{ChainToEnd, ChainToRefusal as Refused}
 use Rattle.sd_engine.proofs.Chains.{chain_writes}
 use Rattle.sd_site.specs.Fields.{SiteFields}
-use Rattle.sd_broadcast.specs.declared.fault.ClearFault.{ClearFault}
-use Rattle.sd_broadcast.specs.Plan.{Plan}
-use Rattle.sd_broadcast.specs.Refused.{refusal_of, refusal_from, IsClear}
-use Rattle.sd_broadcast.specs.Sent.{sent, body, broadcast, bytes_added, bytes_from, closing_of, packets_from}
-use Rattle.sd_broadcast.proofs.Bodies.{body_bytes}
-use Rattle.sd_broadcast.proofs.Sending.{packets_in_turn}
+use Rattle.sd_spec_broadcast.specs.declared.fault.ClearFault.{ClearFault}
+use Rattle.sd_spec_broadcast.specs.Plan.{Plan}
+use Rattle.sd_spec_broadcast.specs.Refused.{refusal_of, refusal_from, IsClear}
+use Rattle.sd_spec_broadcast.specs.Sent.{sent, body, broadcast, bytes_added, bytes_from, closing_of, packets_from}
+use Rattle.sd_spec_broadcast.proofs.Bodies.{body_bytes}
+use Rattle.sd_spec_broadcast.proofs.Sending.{packets_in_turn}
 use Rattle.sd_head.specs.Staged.{head_does, head_ends, head_refuses, IsAfter}
 use Rattle.sd_head.specs.declared.fault.HeadFault.{HeadFault}
 use Rattle.sd_head.specs.declared.fault.HeadFault.TheVariants.{Clear}

@@ -4,10 +4,10 @@ use Rattle.std.proofs.Common.{refl, sym, ap, subst, ◌∙◌, arith, eq-eqb}
 use Rattle.std.specs.Prelude.{Result, Ok, Err, OnErr}
 use Rattle.std.proofs.Math.Nat.{zero-div, div-eq_of_lt-le, mod-lt}
 use Rattle.std.proofs.lemmas.Nat.{div-add-mod'}
-use Rattle.sd_broadcast.specs.Plan.{Plan, IsPlan, crypto_length, crypto_of, word_of, period_of}
-use Rattle.sd_broadcast.proofs.Schedule.{crypto_length_some}
-use Rattle.sd_entitling.specs.Kept.{IsOf, IsBefore, begins_period, revoked_before}
-use Rattle.sd_entitling.specs.declared.entitling.Entitling.{Entitling}
+use Rattle.sd_spec_broadcast.specs.Plan.{Plan, IsPlan, crypto_length, crypto_of, word_of, period_of}
+use Rattle.sd_spec_broadcast.proofs.Schedule.{crypto_length_some}
+use Rattle.sd_head_periods.specs.Kept.{IsOf, IsBefore, begins_period, revoked_before}
+use Rattle.sd_head_periods.specs.declared.entitling.Entitling.{Entitling}
 use Rattle.sd_head.specs.Schedule.{IsAt, begins_with, periods_begun}
 use Rattle.sd_book.specs.Commands.{revoked}
 

@@ -10,16 +10,16 @@ use Rattle.sd_site.specs.Fields.{SiteFields, fields_of}
 use Rattle.sd_engine.specs.declared.stage.StageFault.{StageFault}
 use Rattle.sd_engine.specs.declared.stage.StageFault.TheVariants.{Refused}
 use Rattle.sd_ecm.specs.declared.message.EcmHead.{EcmHead}
-use Rattle.sd_broadcast.specs.Plan.{Plan, crypto_length, crypto_of, word_in, word_of, period_in, period_of}
-use Rattle.sd_broadcast.specs.Plan.{closing_number}
-use Rattle.sd_broadcast.specs.Carried.{carried}
-use Rattle.sd_broadcast.specs.Messages.{places_after}
-use Rattle.sd_broadcast.specs.Refused.{refusal_of, refusal_from, IsClear}
-use Rattle.sd_broadcast.specs.declared.fault.ClearFault.{ClearFault}
-use Rattle.sd_broadcast.specs.Sent.{Item, sent, sent_from, bytes_added, closing_of, packets_from, message_before}
-use Rattle.sd_clear.specs.After.{IsAfter as IsKept}
-use Rattle.sd_entitling.specs.Kept.{plan_of, IsOf}
-use Rattle.sd_entitling.specs.declared.entitling.Entitling.{Entitling}
+use Rattle.sd_spec_broadcast.specs.Plan.{Plan, crypto_length, crypto_of, word_in, word_of, period_in, period_of}
+use Rattle.sd_spec_broadcast.specs.Plan.{closing_number}
+use Rattle.sd_spec_broadcast.specs.Carried.{carried}
+use Rattle.sd_spec_broadcast.specs.Messages.{places_after}
+use Rattle.sd_spec_broadcast.specs.Refused.{refusal_of, refusal_from, IsClear}
+use Rattle.sd_spec_broadcast.specs.declared.fault.ClearFault.{ClearFault}
+use Rattle.sd_spec_broadcast.specs.Sent.{Item, sent, sent_from, bytes_added, closing_of, packets_from, message_before}
+use Rattle.sd_head_clear.specs.After.{IsAfter as IsKept}
+use Rattle.sd_head_periods.specs.Kept.{plan_of, IsOf}
+use Rattle.sd_head_periods.specs.declared.entitling.Entitling.{Entitling}
 use Rattle.sd_head.specs.Messages.{head_of, message_due}
 use Rattle.sd_head.specs.Items.{HasSent, HasPlaced, HasCountersAfter, tables_bytes, message_bytes}
 use Rattle.sd_head.specs.Schedule.{IsAt}

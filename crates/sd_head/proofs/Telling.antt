@@ -7,9 +7,9 @@ use Rattle.sd_site.specs.Forms.{IsWithin, messages_line}
 use Rattle.sd_site.specs.Fields.{SiteFields}
 use Rattle.sd_ecm.specs.declared.message.EcmHead.{EcmHead}
 use Rattle.sd_ecm.specs.declared.part.Place.{Place}
-use Rattle.sd_clear.proofs.Placing.{positioned, ascending, short}
-use Rattle.sd_broadcast.specs.Messages.{places_after}
-use Rattle.sd_entitling.specs.declared.crypto.CryptoPeriod.{CryptoPeriod}
+use Rattle.sd_head_clear.proofs.Placing.{positioned, ascending, short}
+use Rattle.sd_spec_broadcast.specs.Messages.{places_after}
+use Rattle.sd_head_periods.specs.declared.crypto.CryptoPeriod.{CryptoPeriod}
 use Rattle.sd_head.specs.Messages.{head_of, message_due}
 use Rattle.std.specs.List.{concat}
 use Rattle.std.proofs.Common.{Vec, Global}
@@ -18,9 +18,9 @@ use Rattle.sd_head.specs.Sending.{numbered, packed_part}
 use Rattle.sd_head.specs.Items.{MayBeSent, message_bytes}
 use Rattle.sd_head.specs.declared.sender.Sender.{Sender}
 use Rattle.sd_ecm.specs.Versions.{IsVersion, IsSince, IsBefore, most_places}
-use Rattle.sd_broadcast.specs.Plan.{since_of}
-use Rattle.sd_broadcast.proofs.Schedule.{since_is_below}
-use Rattle.sd_broadcast.proofs.Naming.{version_is, named_is}
+use Rattle.sd_spec_broadcast.specs.Plan.{since_of}
+use Rattle.sd_spec_broadcast.proofs.Schedule.{since_is_below}
+use Rattle.sd_spec_broadcast.proofs.Naming.{version_is, named_is}
 
 -- message 0 has no message before it
 pub since_first : (version cryptos number : ℕ) → number ≡ 0 → since_of version cryptos number ≡ 0

@@ -10,7 +10,7 @@ use Rattle.sd_ecm.specs.Form.{ArePositioned, AreAscending, AreShort}
 use Rattle.sd_ecm.specs.Parts.{message_of, parts_of}
 use Rattle.sd_ecm.specs.declared.message.EcmHead.{EcmHead}
 use Rattle.sd_ecm.specs.declared.part.Place.{Place}
-use Rattle.sd_broadcast.specs.Sent.{Item, Cat, Entitles, Controls, Carries}
+use Rattle.sd_spec_broadcast.specs.Sent.{Item, Cat, Entitles, Controls, Carries}
 use Rattle.sd_head.specs.Sending.{counter_after, numbered, recounted, packed_part}
 use Rattle.sd_head.specs.declared.sender.Sender.{Sender}
 

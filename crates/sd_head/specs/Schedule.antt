@@ -1,9 +1,9 @@
 -- Public meaning: when crypto periods and periods begin, and why a head end refuses.
 use Rattle.std.specs.Prelude.{◌≡◌, ℕ, zero, suc, ◌+◌, ◌%◌, ◌==◌, ◌&&◌, Bool, true, List, [], length, Option, Some, None}
-use Rattle.sd_broadcast.specs.Plan.{Plan, crypto_length, crypto_of, period_of}
-use Rattle.sd_broadcast.specs.Refused.{refusal_of}
-use Rattle.sd_entitling.specs.declared.entitling.Entitling.{Entitling}
-use Rattle.sd_entitling.specs.Kept.{begins_period, IsNew, IsOf}
+use Rattle.sd_spec_broadcast.specs.Plan.{Plan, crypto_length, crypto_of, period_of}
+use Rattle.sd_spec_broadcast.specs.Refused.{refusal_of}
+use Rattle.sd_head_periods.specs.declared.entitling.Entitling.{Entitling}
+use Rattle.sd_head_periods.specs.Kept.{begins_period, IsNew, IsOf}
 use Rattle.sd_head.specs.declared.fault.HeadFault.{HeadFault}
 use Rattle.sd_head.specs.declared.fault.HeadFault.TheVariants.{Clear, NoMemory}
 

@@ -1,12 +1,12 @@
 -- Public meaning: the head end as a stage of packets.
 use Rattle.std.specs.Prelude.{◌≡◌, ◌⊎◌, ℕ, ◌-◌, List, [], ◌∷◌, ◌++◌, length, Option, Some, None}
 use Rattle.std.specs.List.{concat}
-use Rattle.sd_broadcast.specs.Plan.{Plan, period_of}
+use Rattle.sd_spec_broadcast.specs.Plan.{Plan, period_of}
 use Rattle.sd_book.specs.Commands.{revoked}
-use Rattle.sd_broadcast.specs.Refused.{refusal_of, IsClear}
-use Rattle.sd_broadcast.specs.Sent.{sent, closing_of, bytes_added, packets_from}
-use Rattle.sd_clear.specs.After.{IsAfter as IsKept}
-use Rattle.sd_entitling.specs.Kept.{plan_of}
+use Rattle.sd_spec_broadcast.specs.Refused.{refusal_of, IsClear}
+use Rattle.sd_spec_broadcast.specs.Sent.{sent, closing_of, bytes_added, packets_from}
+use Rattle.sd_head_clear.specs.After.{IsAfter as IsKept}
+use Rattle.sd_head_periods.specs.Kept.{plan_of}
 use Rattle.sd_head.specs.Items.{HasSent}
 use Rattle.sd_head.specs.Schedule.{IsAt, IsDue}
 use Rattle.sd_head.specs.declared.fault.HeadFault.{HeadFault}

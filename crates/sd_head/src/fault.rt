@@ -1,4 +1,4 @@
-use sd_broadcast::ClearFault;
+use sd_spec_broadcast::ClearFault;
 
 /// Why the head end stopped.
 #[derive(Clone, Copy, Debug, PartialEq, Eq)]

@@ -4,10 +4,10 @@ ghost use Rattle.std.specs.Prelude.{◌≡◌, ◌++◌, ◌∷◌, [], ℕ, Lis
 ghost use Rattle.std.specs.List.{concat};
 ghost use Rattle.sd_engine.specs.Stage.{Chain};
 ghost use Rattle.sd_engine.specs.Driving.{ChainToEnd, ChainToRefusal};
-ghost use Rattle.sd_broadcast.specs.declared.fault.ClearFault.{ClearFault as ClearFaults};
-ghost use Rattle.sd_broadcast.specs.Plan.{Plan};
-ghost use Rattle.sd_broadcast.specs.Refused.{refusal_from, IsClear};
-ghost use Rattle.sd_broadcast.specs.Sent.{body, broadcast};
+ghost use Rattle.sd_spec_broadcast.specs.declared.fault.ClearFault.{ClearFault as ClearFaults};
+ghost use Rattle.sd_spec_broadcast.specs.Plan.{Plan};
+ghost use Rattle.sd_spec_broadcast.specs.Refused.{refusal_from, IsClear};
+ghost use Rattle.sd_spec_broadcast.specs.Sent.{body, broadcast};
 ghost use Rattle.sd_head.specs.declared.fault.HeadFault.{HeadFault as Faults};
 ghost use Rattle.sd_head.specs.declared.fault.HeadFault.TheVariants.{Clear as ClearOf};
 ghost use Rattle.sd_head.specs.declared.head.Head.{Head as Heads};

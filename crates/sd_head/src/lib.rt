@@ -14,4 +14,4 @@ mod sending;
 
 pub use fault::HeadFault;
 pub use head::Head;
-pub use sd_broadcast::ClearFault;
+pub use sd_spec_broadcast::ClearFault;

@@ -1,20 +1,19 @@
 ghost use Rattle.std.specs.Prelude.{◌≡◌, ◌-◌, ◌%◌, ◌^◌, ◌==◌, ◌<◌, ℕ, List, Some, None, Err, true, IfOk, OnOk, OnErr};
 ghost use Rattle.sd_site.specs.Fields.{fields_of};
-ghost use Rattle.sd_broadcast.specs.Plan.{crypto_length as length_of, crypto_of, word_of};
-ghost use Rattle.sd_broadcast.specs.Refused.{refusal_of};
-ghost use Rattle.sd_clear.specs.After.{IsAfter as IsKept, MayFollow, IsKindAfter};
-ghost use Rattle.sd_entitling.specs.Kept.{plan_of, IsOf};
+ghost use Rattle.sd_spec_broadcast.specs.Plan.{crypto_length as length_of, crypto_of, word_of};
+ghost use Rattle.sd_spec_broadcast.specs.Refused.{refusal_of};
+ghost use Rattle.sd_head_clear.specs.After.{IsAfter as IsKept, MayFollow, IsKindAfter};
+ghost use Rattle.sd_head_periods.specs.Kept.{plan_of, IsOf};
 ghost use Rattle.sd_head.specs.declared.fault.HeadFault.{HeadFault as Faults};
 ghost use Rattle.sd_head.specs.Schedule.{begins_with, IsAt, IsDue};
 
 use crate::fault::HeadFault;
-use sd_broadcast::Kind;
-use sd_cause::NoMemory;
-use sd_clear::Clear;
-use sd_entitling::Entitling;
+use sd_base::{NoMemory, Steps};
+use sd_head_clear::Clear;
+use sd_head_periods::Entitling;
 use sd_packet::Packet;
 use sd_site::Site;
-use sd_steps::Steps;
+use sd_spec_broadcast::Kind;
 use std::sync::ledger::Ledger;
 
 /// How many clear packets a crypto period has (this project, docs/FORMATS.md, Broadcast).

@@ -1,6 +1,6 @@
 ghost use Rattle.std.specs.Prelude.{◌≡◌, ◌+◌, ◌%◌, ◌<◌, ◌≤◌, OnOk, length};
 ghost use Rattle.std.specs.List.{concat};
-ghost use Rattle.sd_cause.specs.Count.{HasCause};
+ghost use Rattle.sd_base.specs.Count.{HasCause};
 ghost use Rattle.sd_engine.specs.Stage.{vessel};
 ghost use Rattle.sd_ecm.specs.declared.format.TheConstants.{MOST_PLACES};
 ghost use Rattle.sd_ecm.specs.Versions.{IsVersion, IsNamed, IsSince};

@@ -2,7 +2,7 @@
 use Rattle.std.specs.Prelude.{ℕ}
 use Rattle.std.specs.declared.io.ErrorKind.{ErrorKind}
 use Rattle.std.specs.declared.io.ErrorKind.TheVariants.{NotFound, NotADirectory, OutOfMemory}
-use Rattle.sd_cause.specs.Count.{with_added}
+use Rattle.sd_base.specs.Count.{with_added}
 use Rattle.sd_ports.specs.declared.fault.DepotFault.{DepotFault}
 use Rattle.sd_ports.specs.declared.fault.DepotFault.TheVariants.{Missing, Failed, NoMemory}
 

@@ -1,5 +1,5 @@
 ghost use Rattle.std.specs.Prelude.{◌≡◌, ◌↔◌, None, Err, IfOk, IsErrOf, IsTrue};
-ghost use Rattle.sd_cause.specs.Count.{IsCaused};
+ghost use Rattle.sd_base.specs.Count.{IsCaused};
 ghost use Rattle.sd_ports.specs.Causes.{HasDepotCause};
 ghost use Rattle.sd_host.specs.Faults.{fault_of, faults_after, misses_after};
 ghost use Rattle.sd_host.specs.Kept.{IsThrough};

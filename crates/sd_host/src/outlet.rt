@@ -1,7 +1,7 @@
 ghost use Rattle.std.specs.Prelude.{◌≡◌, ◌<◌, ◌≤◌, None, [], vec_len, vec_capacity, IfOk, OnOk, OnErr, length};
 ghost use Rattle.std.specs.Io.{WritesAtMost};
 ghost use Rattle.std.specs.Io.KnownBytes.{Keeps, WriteAppends};
-ghost use Rattle.sd_cause.specs.Count.{HasCause, with_added};
+ghost use Rattle.sd_base.specs.Count.{HasCause, with_added};
 ghost use Rattle.sd_ports.specs.Rooms.{TakesRoom};
 ghost use Rattle.sd_host.specs.Waiting.{given_to};
 

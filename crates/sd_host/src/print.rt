@@ -1,7 +1,7 @@
 ghost use Rattle.std.specs.Prelude.{◌≡◌, ◌<◌, None, IfOk, OnErr, length};
 ghost use Rattle.std.specs.Io.{WritesAtMost};
 ghost use Rattle.std.specs.Io.KnownBytes.{WriteAppends};
-ghost use Rattle.sd_cause.specs.Count.{HasCause, with_added};
+ghost use Rattle.sd_base.specs.Count.{HasCause, with_added};
 ghost use Rattle.sd_ports.specs.Rooms.{TakesRoom};
 
 use sd_ports::{PortFault, Sink};

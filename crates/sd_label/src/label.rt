@@ -4,7 +4,7 @@ ghost use Rattle.sd_tree.specs.Node.{depth as depth_of, IsAbove};
 ghost use Rattle.sd_label.specs.Labels.{label_of_node, third_of, middle_of, side_of, descended};
 
 use crate::digest::{numbered, tagged};
-use sd_steps::Steps;
+use sd_base::Steps;
 use sd_tree::depth;
 use std::sync::ledger::Ledger;
 

@@ -9,10 +9,10 @@ use Rattle.std.specs.List.{range_with_len}
 use Rattle.std.specs.List.Sorted.{IsStrictlyIncreasing}
 use Rattle.std.proofs.lemmas.List.{append_assoc, append-nil, map-append, length-append, length_push, get_or_append_left}
 use Rattle.std.specs.Option.{option_map_or}
-use Rattle.sd_text.specs.Lines.{lines_of}
-use Rattle.sd_text.specs.Number.{decimal_value, rest_after, decimal_after, fitting}
-use Rattle.sd_text.specs.declared.number.NumberFault.{NumberFault}
-use Rattle.sd_text.specs.declared.number.NumberFault.TheVariants.{TooLarge}
+use Rattle.sd_base_text.specs.Lines.{lines_of}
+use Rattle.sd_base_text.specs.Number.{decimal_value, rest_after, decimal_after, fitting}
+use Rattle.sd_base_text.specs.declared.number.NumberFault.{NumberFault}
+use Rattle.sd_base_text.specs.declared.number.NumberFault.TheVariants.{TooLarge}
 use Rattle.sd_leaves.specs.Text.{is_leaf_line, first_fault, leaves_of_text, leaf_after, leaf_number_on, stands_above}
 
 -- the first number of a range that passes a test

@@ -4,8 +4,8 @@ use Rattle.std.specs.Prelude.{length, get_or, map, slice_get}
 use Rattle.std.specs.Prelude.{find, if◌then◌else◌, Option, Some, None, Result, Ok, Err}
 use Rattle.std.specs.List.{range_with_len}
 use Rattle.std.specs.Option.{option_map_or}
-use Rattle.sd_text.specs.Lines.{lines_of}
-use Rattle.sd_text.specs.Number.{decimal_value}
+use Rattle.sd_base_text.specs.Lines.{lines_of}
+use Rattle.sd_base_text.specs.Number.{decimal_value}
 
 -- the number on a line, where it is a decimal
 abbrev pub leaf_number_on : List (List ℕ) → ℕ → Option ℕ

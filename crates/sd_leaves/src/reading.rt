@@ -2,10 +2,10 @@ ghost use Rattle.std.specs.Prelude.{◌≡◌, ℕ, ◌-◌, ◌^◌, ◌<◌, A
 ghost use Rattle.std.specs.Prelude.{◌+◌, length, nat_lt, slice_get};
 ghost use Rattle.std.specs.Option.{option_map_or};
 ghost use Rattle.std.specs.List.Sorted.{IsStrictlyIncreasing};
-ghost use Rattle.sd_text.specs.Number.{decimal_value};
+ghost use Rattle.sd_base_text.specs.Number.{decimal_value};
 ghost use Rattle.sd_leaves.specs.Text.{leaves_of_text, leaf_after};
 
-use sd_text::{next_line, number_after};
+use sd_base_text::{next_line, number_after};
 use sd_tree::{HIGHEST, Height, Leaf};
 use std::alloc::Global;
 

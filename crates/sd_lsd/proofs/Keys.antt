@@ -14,13 +14,13 @@ use Rattle.sd_label.specs.Keys.{key_of}
 use Rattle.sd_label.specs.Names.{given}
 use Rattle.sd_label.specs.declared.name.Name.TheVariants.{Pair}
 use Rattle.sd_label.proofs.Pairs.{given_is_hanging}
-use Rattle.sd_secrets.specs.Hanging.{IsHanging}
-use Rattle.sd_secrets.specs.Secrets.{secret_of, HoldsSecret, DerivesPair, key_held}
-use Rattle.sd_secrets.proofs.Held.{AreOfLeaf, derived_is_among, own_among}
-use Rattle.sd_secrets.proofs.Once.{given_once}
-use Rattle.sd_secrets.proofs.Paths.{node_within, ancestor_on_path}
-use Rattle.sd_layers.specs.Layers.{is_useful}
-use Rattle.sd_layers.proofs.Layers.{useful_upwards}
+use Rattle.sd_card_secrets.specs.Hanging.{IsHanging}
+use Rattle.sd_card_secrets.specs.Secrets.{secret_of, HoldsSecret, DerivesPair, key_held}
+use Rattle.sd_card_secrets.proofs.Held.{AreOfLeaf, derived_is_among, own_among}
+use Rattle.sd_card_secrets.proofs.Once.{given_once}
+use Rattle.sd_card_secrets.proofs.Paths.{node_within, ancestor_on_path}
+use Rattle.sd_lsd_sets.specs.Layers.{is_useful}
+use Rattle.sd_lsd_sets.proofs.Layers.{useful_upwards}
 use Rattle.sd_lsd.specs.LayerNames.{layer_given, is_useful_name, pairs_under, pairs_above}
 use Rattle.sd_lsd.specs.Fields.{LayerFields, layer_card_of, layer_key}
 use Rattle.sd_lsd.proofs.Pairs.{useful_within}

@@ -11,8 +11,8 @@ use Rattle.sd_label.specs.declared.label.Side.{Side}
 use Rattle.sd_label.specs.declared.label.Side.TheVariants.{Left, Right}
 use Rattle.sd_label.specs.declared.name.Name.{Name}
 use Rattle.sd_label.specs.declared.name.Name.TheVariants.{Whole, Pair}
-use Rattle.sd_secrets.specs.Files.{AreSecrets}
-use Rattle.sd_secrets.specs.Secrets.{secret_of}
+use Rattle.sd_card_secrets.specs.Files.{AreSecrets}
+use Rattle.sd_card_secrets.specs.Secrets.{secret_of}
 use Rattle.sd_lsd.specs.LayerNames.{layer_given}
 use Rattle.sd_lsd.specs.Fields.{IsLayerCard, layer_card_of}
 use Rattle.sd_lsd.proofs.Pairs.{range_more}

@@ -3,8 +3,8 @@ use Rattle.std.specs.Prelude.{◌≡◌, ℕ, ◌+◌, ◌*◌, ◌^◌, ◌==�
 use Rattle.std.specs.Prelude.{List, length, take, Option, Some, None}
 use Rattle.byteorder.specs.Endian.{big_number}
 use Rattle.sd_tree.specs.Limits.{highest}
-use Rattle.sd_secrets.specs.Files.{byte_at, bytes_from, check_in, check_due, unless}
-use Rattle.sd_secrets.specs.declared.file.TheConstants.{SECRET_BYTES, CHECK_BYTES}
+use Rattle.sd_card_secrets.specs.Files.{byte_at, bytes_from, check_in, check_due, unless}
+use Rattle.sd_card_secrets.specs.declared.file.TheConstants.{SECRET_BYTES, CHECK_BYTES}
 use Rattle.sd_lsd.specs.LayerNames.{layer_count}
 use Rattle.sd_lsd.specs.declared.fault.LayerFault.{LayerFault}
 use Rattle.sd_lsd.specs.declared.fault.LayerFault.TheVariants.{Magic, Version, Height, Width, Leaf, Length, Check}

@@ -1,5 +1,5 @@
 ghost use Rattle.std.specs.Prelude.{◌≡◌, ◌+◌, ◌≤◌, Some, None, length, IfOk, MatchResult};
-ghost use Rattle.sd_secrets.specs.Files.{byte_at as byte_of};
+ghost use Rattle.sd_card_secrets.specs.Files.{byte_at as byte_of};
 ghost use Rattle.sd_lsd.specs.Fields.{LayerFields, IsLayerCard, fields_of, layer_bytes};
 ghost use Rattle.sd_lsd.specs.Faults.{height_in, width_in, leaf_in, ca_in, length_at as length_of, fault_in, IsFaultOf};
 
@@ -8,8 +8,8 @@ use crate::counts::layer_count;
 use crate::fault::LayerFault;
 use crate::format::{CA_AT, HEIGHT_AT, LEAF_AT, MAGIC, SECRETS_AT, VERSION, VERSION_AT, WIDTH_AT};
 use byteorder::{BigEndian, ByteOrder};
-use sd_layers::Width;
-use sd_secrets::{CHECK_BYTES, SECRET_BYTES, byte_at, checks, secrets_in};
+use sd_card_secrets::{CHECK_BYTES, SECRET_BYTES, byte_at, checks, secrets_in};
+use sd_lsd_sets::Width;
 use sd_tree::{Height, Leaf};
 use std::alloc::Global;
 

@@ -3,8 +3,8 @@ ghost use Rattle.sd_lsd.specs.Fields.{IsLayerCard, fields_of, layer_head, layer_
 
 use crate::card::LayerCard;
 use crate::format::{MAGIC, VERSION};
-use sd_cause::NoMemory;
-use sd_secrets::{four_bytes, two_bytes, write_file};
+use sd_base::NoMemory;
+use sd_card_secrets::{four_bytes, two_bytes, write_file};
 use std::alloc::{AllocError, Global};
 
 impl LayerCard {

@@ -1,9 +1,9 @@
 ghost use Rattle.std.specs.Prelude.{◌≡◌, ◌↔◌, Ok, map, string_bytes, true};
-ghost use Rattle.sd_words.specs.Words.{order_of, MakesCard, Order};
+ghost use Rattle.sd_command_line.specs.Words.{order_of, MakesCard, Order};
 
-use sd_commands::{Command, Kind};
+use sd_command_line::{holds_secrets, read_words};
+use sd_command_table::{Command, Kind};
 use sd_host::HostDepot;
-use sd_words::{holds_secrets, read_words};
 use std::fs::Files;
 
 /// Whether the file that the words make holds the secrets of a receiver.

@@ -1,19 +1,19 @@
 ghost use Rattle.std.specs.Prelude.{◌≡◌, ◌<◌, ℕ, None, Err, map, string_bytes};
 ghost use Rattle.std.specs.Process.{exit_status};
-ghost use Rattle.sd_status.specs.Exits.{code_of};
-ghost use Rattle.sd_status.specs.Outside.{outside, page_state, depot_state, Outside};
-ghost use Rattle.sd_status.specs.Results.{RunResult, IsToldAs};
-ghost use Rattle.sd_words.specs.Words.{order_of};
+ghost use Rattle.sd_command_status.specs.Exits.{code_of};
+ghost use Rattle.sd_command_status.specs.Outside.{outside, page_state, depot_state, Outside};
+ghost use Rattle.sd_command_status.specs.Results.{RunResult, IsToldAs};
+ghost use Rattle.sd_command_line.specs.Words.{order_of};
 ghost use Rattle.sd_run.specs.Meaning.{meaning};
 
 use crate::edge::{makes_secrets, names_output};
 use crate::lines::Lines;
-use sd_explain::explanation;
+use sd_base::Steps;
+use sd_command_refusals::explanation;
+use sd_command_status::{Status, tell};
 use sd_host::{HostDepot, StdPrint};
 use sd_ports::{Depot, Sink, write_all};
 use sd_run::run;
-use sd_status::{Status, tell};
-use sd_steps::Steps;
 use std::alloc::Global;
 use std::env;
 use std::fs::Files;

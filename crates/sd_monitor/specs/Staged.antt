@@ -1,7 +1,7 @@
 -- Public meaning: the monitor as a stage of packets.
 use Rattle.std.specs.Prelude.{◌≡◌, ℕ, true, List, [], Option}
-use Rattle.sd_cause.specs.Count.{with_added}
-use Rattle.sd_cause.specs.declared.memory.NoMemory.{NoMemory}
+use Rattle.sd_base.specs.Count.{with_added}
+use Rattle.sd_base.specs.declared.memory.NoMemory.{NoMemory}
 use Rattle.sd_site.specs.Fields.{SiteFields, fields_of}
 use Rattle.sd_monitor.specs.Lines.{message_line}
 use Rattle.sd_monitor.specs.declared.monitor.Monitor.{Monitor}

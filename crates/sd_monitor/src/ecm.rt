@@ -1,8 +1,8 @@
 ghost use Rattle.std.specs.Prelude.{◌≡◌, ◌≤◌, ◌++◌, IfOk, OnOk, map};
 ghost use Rattle.serde_json.specs.View.{view};
-ghost use Rattle.sd_lines.specs.Lines.{list_data as list_of};
+ghost use Rattle.sd_tables_line.specs.Lines.{list_data as list_of};
 ghost use Rattle.sd_ecm.specs.declared.format.TheConstants.{POSITIONS};
-ghost use Rattle.sd_lines.specs.Members.{named_data};
+ghost use Rattle.sd_tables_line.specs.Members.{named_data};
 ghost use Rattle.sd_monitor.specs.Lines.{ecm_data, place_data};
 ghost use Rattle.sd_monitor.specs.Members.{ecm_members, run_members};
 

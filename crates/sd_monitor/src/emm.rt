@@ -1,7 +1,7 @@
 ghost use Rattle.std.specs.Prelude.{◌≡◌, ◌++◌, ◌≤◌, IfOk, OnOk, map, string_bytes};
 ghost use Rattle.serde_json.specs.View.{view};
 ghost use Rattle.serde_json.specs.Data.{string};
-ghost use Rattle.sd_lines.specs.Lines.{list_data as list_of};
+ghost use Rattle.sd_tables_line.specs.Lines.{list_data as list_of};
 ghost use Rattle.sd_emm.specs.Spelled.{names_in};
 ghost use Rattle.sd_emm.specs.declared.format.TheConstants.{MOST_ENTRIES};
 ghost use Rattle.sd_monitor.specs.Lines.{emm_data, name_data, set_word};

@@ -3,12 +3,11 @@ ghost use Rattle.sd_site.specs.Fields.{fields_of};
 ghost use Rattle.sd_monitor.specs.Staged.{IsBegun, monitor_does, monitor_ends, monitor_refuses};
 
 use crate::line::line_of;
-use sd_cause::NoMemory;
+use sd_base::{NoMemory, Steps};
 use sd_engine::{Stage, StageFault};
 use sd_packet::Packet;
 use sd_ports::{Sink, write_all};
 use sd_site::Site;
-use sd_steps::Steps;
 use std::alloc::Global;
 use std::sync::ledger::Ledger;
 

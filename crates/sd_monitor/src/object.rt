@@ -1,6 +1,6 @@
 ghost use Rattle.std.specs.Prelude.{◌≡◌, IfOk};
 ghost use Rattle.serde_json.specs.View.{view};
-ghost use Rattle.sd_lines.specs.Members.{object_by};
+ghost use Rattle.sd_tables_line.specs.Members.{object_by};
 
 use serde_json::{Map, Value, put};
 use std::alloc::{AllocError, Global};

@@ -3,7 +3,7 @@ use Rattle.std.proofs.Common.{rules, ◌≡◌, ℕ, ◌^◌, ◌<◌, arith, re
 use Rattle.std.proofs.Common.{sym, subst}
 use Rattle.std.specs.Prelude.{Option, None, Some, IsSome, List, Err}
 use Rattle.sd_ports.specs.Files.{Files, OpensFile, IsThere}
-use Rattle.sd_cause.specs.Count.{with_added}
+use Rattle.sd_base.specs.Count.{with_added}
 use Rattle.sd_ports.specs.Causes.{one_more, CountsClosed, HasDepotCause}
 use Rattle.sd_ports.specs.declared.fault.DepotFault.TheVariants.{Failed}
 

@@ -11,7 +11,7 @@ use Rattle.std.proofs.lemmas.Cmp.{nat_list_cmp_total, eq_by_cmp_equiv}
 use Rattle.sd_ports.specs.Bytes.{IsPrefix, AppendsPrefix}
 use Rattle.sd_ports.specs.Files.{Files, ClosesFile, LeavesPrefix, IsFresh, IsThere, WritesFile, with_bytes}
 use Rattle.sd_ports.specs.declared.file.FileFault.TheVariants.{Failed}
-use Rattle.sd_cause.specs.Count.{with_added}
+use Rattle.sd_base.specs.Count.{with_added}
 
 -- of two choices by the same test the second is idle
 chosen_twice : (b : Bool) (x y : Option (List ℕ)) (o : Option (List ℕ)) → cond b x (cond b y o) ≡ cond b x o

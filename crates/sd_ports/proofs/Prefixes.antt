@@ -7,7 +7,7 @@ use Rattle.std.proofs.Math.Seq.{take-append-add}
 use Rattle.std.specs.Prelude.{Option, None, Some, Ok, Err, min, nat_lt}
 use Rattle.std.specs.Io.KnownBytes.{Consumes, IsAtEnd, Keeps}
 use Rattle.std.proofs.KnownBytes.{Consumes-trans, Consumes-kept}
-use Rattle.sd_cause.specs.Count.{HasRisen}
+use Rattle.sd_base.specs.Count.{HasRisen}
 use Rattle.sd_ports.specs.Bytes.{Prefix, IsTakenFrom}
 use Rattle.sd_ports.specs.Causes.{ReadsFirst}
 use Rattle.sd_ports.specs.declared.prefix.ReadMostFault.TheVariants.{Failed, NoMemory}

@@ -1,7 +1,7 @@
 -- Public meaning: why a file system refuses, and what it counts: misses, faults, ports made and ports open.
 use Rattle.std.specs.Prelude.{◌≡◌, ℕ, ◌+◌, ◌%◌, ◌^◌, ◌<◌, ◌≤◌, List, length, Bool, true, false, Option, Result, IfOk}
 use Rattle.std.specs.Prelude.{OnOk, OnErr, IsErrOf}
-use Rattle.sd_cause.specs.Count.{HasRisen, with_added}
+use Rattle.sd_base.specs.Count.{HasRisen, with_added}
 use Rattle.sd_ports.specs.Bytes.{GivesAll, IsTakenFrom, LosesPrefix}
 use Rattle.sd_ports.specs.declared.fault.DepotFault.{DepotFault}
 use Rattle.sd_ports.specs.declared.fault.DepotFault.TheVariants.{Missing, Failed}

@@ -4,7 +4,7 @@ use Rattle.std.specs.List.{list_any}
 use Rattle.std.specs.Coded.{Coded, code_by, coded×, coded_ℕ, coded_list}
 use Rattle.std.specs.Str.{bytes_eq}
 use Rattle.circular_buffer.specs.Buffer.{keep_last}
-use Rattle.sd_cause.specs.Count.{with_added}
+use Rattle.sd_base.specs.Count.{with_added}
 use Rattle.sd_ports.specs.declared.failing.PortCall.{PortCall}
 
 -- the numbers of the depot's own calls that are to fail, the names of ports with the numbers of their calls that are to

@@ -6,7 +6,7 @@ use Rattle.std.specs.FinMap.{from_entries, code, empty, insert}
 use Rattle.std.specs.Coded.{Coded, code_by, coded×, coded_ℕ, coded_list}
 use Rattle.std.specs.BTreeMap.{BTreeMap}
 use Rattle.std.specs.declared.alloc.Global.{Global}
-use Rattle.sd_cause.specs.Count.{with_added}
+use Rattle.sd_base.specs.Count.{with_added}
 use Rattle.sd_ports.specs.Files.{Files}
 use Rattle.sd_ports.specs.Causes.{one_more}
 use Rattle.sd_ports.specs.Failing.{Failures, failures_code, no_failures, with_failing_call, with_failing_port}

@@ -1,5 +1,5 @@
 ghost use Rattle.std.specs.Prelude.{◌≡◌, ◌<◌, ◌^◌, ℕ, Option, None, IfOk, OnOk, OnErr, IsErrOf, []};
-ghost use Rattle.sd_cause.specs.Count.{HasCause, IsCaused, with_added};
+ghost use Rattle.sd_base.specs.Count.{HasCause, IsCaused, with_added};
 ghost use Rattle.sd_ports.specs.Files.{ClosesFile, Files, HoldsBytes, IsFresh, IsNotThere, IsThere, LeavesPrefix};
 ghost use Rattle.sd_ports.specs.Files.{OpensFile, with_bytes};
 ghost use Rattle.sd_ports.specs.Causes.{CountsClosed, CountsMade, CountsOpen, HasDepotCause};

@@ -4,7 +4,7 @@ ghost use Rattle.sd_ports.specs.Failing.{with_failing_call, with_failing_port};
 
 use crate::supply::is_listed;
 use circular_buffer::HeapCircularBuffer;
-use sd_cause::NoMemory;
+use sd_base::NoMemory;
 use std::alloc::Global;
 use std::marker::Model;
 

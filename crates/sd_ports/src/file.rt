@@ -1,5 +1,5 @@
 ghost use Rattle.std.specs.Prelude.{◌≡◌, ◌≤◌, ◌⊎◌, IfOk, IsErrOf, length};
-ghost use Rattle.sd_cause.specs.Count.{IsCaused, with_added};
+ghost use Rattle.sd_base.specs.Count.{IsCaused, with_added};
 ghost use Rattle.sd_ports.specs.Causes.{CountsCalls, HasFileCause};
 ghost use Rattle.sd_ports.specs.Files.{IsFile, IsLongFile, IsNotThere, IsThere, WritesFile};
 

@@ -1,10 +1,10 @@
 ghost use Rattle.std.specs.Prelude.{◌≡◌, ◌≤◌, ◌++◌, nat_lt, true, false, IfOk, IsErrOf, [], length, take};
-ghost use Rattle.sd_cause.specs.Count.{HasRisen};
+ghost use Rattle.sd_base.specs.Count.{HasRisen};
 ghost use Rattle.sd_ports.specs.Bytes.{GivesAll, IsTakenFrom, LosesPrefix};
 ghost use Rattle.sd_ports.specs.Causes.{ReadsFirst};
 
 use crate::source::Source;
-use sd_cause::NoMemory;
+use sd_base::NoMemory;
 use std::alloc::Global;
 use std::marker::Model;
 

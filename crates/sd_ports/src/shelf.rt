@@ -2,7 +2,7 @@ ghost use Rattle.std.specs.Prelude.{◌≡◌, ◌≤◌, ◌<◌, ◌^◌, ◌�
 ghost use Rattle.std.specs.Prelude.{true, false, string_bytes, All};
 ghost use Rattle.std.specs.Option.{option_map};
 ghost use Rattle.std.specs.FinMap as map;
-ghost use Rattle.sd_cause.specs.Count.{HasCause, IsCaused, with_added};
+ghost use Rattle.sd_base.specs.Count.{HasCause, IsCaused, with_added};
 ghost use Rattle.sd_ports.specs.Causes.{CountsClosed, CountsMade, CountsOpen, HasDepotCause};
 ghost use Rattle.sd_ports.specs.Files.{ClosesFile, HoldsBytes, IsFresh, IsNotThere, IsThere, LeavesPrefix, OpensFile};
 ghost use Rattle.sd_ports.specs.Files.{with_bytes};
@@ -14,7 +14,7 @@ use crate::failing::Failing;
 use crate::fault::DepotFault;
 use crate::store::MemSink;
 use crate::supply::MemSource;
-use sd_cause::NoMemory;
+use sd_base::NoMemory;
 use std::alloc::Global;
 use std::collections::BTreeMap;
 use std::marker::Model;

@@ -1,7 +1,7 @@
 ghost use Rattle.std.specs.Prelude.{◌<◌, ℕ, List, Option, length, IfOk};
 ghost use Rattle.std.specs.Io.{WritesAtMost};
 ghost use Rattle.std.specs.Io.KnownBytes.{WriteAppends};
-ghost use Rattle.sd_cause.specs.Count.{HasCause};
+ghost use Rattle.sd_base.specs.Count.{HasCause};
 ghost use Rattle.sd_ports.specs.Rooms.{TakesRoom};
 
 use crate::fault::PortFault;

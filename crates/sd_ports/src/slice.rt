@@ -1,7 +1,7 @@
 ghost use Rattle.std.specs.Prelude.{◌≡◌, ◌<◌, Some, length};
 ghost use Rattle.std.specs.Io.{ReadsAtMost};
 ghost use Rattle.std.specs.Io.KnownBytes.{ReadConsumes};
-ghost use Rattle.sd_cause.specs.Count.{HasCause};
+ghost use Rattle.sd_base.specs.Count.{HasCause};
 
 use crate::fault::PortFault;
 use crate::source::Source;

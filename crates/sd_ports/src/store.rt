@@ -1,14 +1,14 @@
 ghost use Rattle.std.specs.Prelude.{◌≡◌, ◌<◌, ◌≤◌, ◌↔◌, IfOk, IsErr, Some, [], length, true};
 ghost use Rattle.std.specs.Io.{WritesAtMost};
 ghost use Rattle.std.specs.Io.KnownBytes.{WriteAppends};
-ghost use Rattle.sd_cause.specs.Count.{HasCause};
+ghost use Rattle.sd_base.specs.Count.{HasCause};
 ghost use Rattle.sd_ports.specs.Memory.{after_write, room_in, taken, write_fails};
 ghost use Rattle.sd_ports.specs.Rooms.{TakesRoom};
 
 use crate::fault::PortFault;
 use crate::sink::Sink;
 use crate::supply::is_listed;
-use sd_cause::NoMemory;
+use sd_base::NoMemory;
 use std::alloc::Global;
 use std::marker::Model;
 

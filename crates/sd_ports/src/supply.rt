@@ -1,7 +1,7 @@
 ghost use Rattle.std.specs.Prelude.{◌≡◌, ◌<◌, ◌≤◌, ◌↔◌, IfOk, IsErr, Some, length, min, take, true};
 ghost use Rattle.std.specs.Io.{ReadsAtMost};
 ghost use Rattle.std.specs.Io.KnownBytes.{ReadConsumes};
-ghost use Rattle.sd_cause.specs.Count.{HasCause};
+ghost use Rattle.sd_base.specs.Count.{HasCause};
 ghost use Rattle.sd_ports.specs.Failing.{is_listed};
 ghost use Rattle.sd_ports.specs.Memory.{after_read, given_bytes, read_fails};
 

@@ -1,6 +1,6 @@
 ghost use Rattle.std.specs.Prelude.{◌≡◌, ◌≤◌, IfOk, OnOk, OnErr, IsErrOf, length};
 ghost use Rattle.std.specs.Io.KnownBytes.{Appends};
-ghost use Rattle.sd_cause.specs.Count.{HasCause, HasRisen};
+ghost use Rattle.sd_base.specs.Count.{HasCause, HasRisen};
 ghost use Rattle.sd_ports.specs.Rooms.{FillsRoom};
 ghost use Rattle.sd_ports.specs.Bytes.{AppendsPrefix, LosesPrefix, GivesAll, IsLonger};
 

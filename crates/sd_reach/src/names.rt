@@ -2,7 +2,7 @@ ghost use Rattle.std.specs.Prelude.{◌≡◌, ◌+◌, ◌^◌, ◌<◌, ◌≤
 ghost use Rattle.sd_label.specs.Names.{given, given_under};
 ghost use Rattle.sd_reach.specs.Reach.{ReachesItsSets};
 
-use sd_cause::NoMemory;
+use sd_base::NoMemory;
 use sd_label::Name;
 use sd_tree::{Height, Leaf, path_node, sibling};
 use std::alloc::{AllocError, Global};

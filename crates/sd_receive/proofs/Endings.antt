@@ -7,18 +7,18 @@ use Rattle.sd_ecm.specs.Parts.{Message}
 use Rattle.sd_ecm.specs.declared.part.Place.{Place}
 use Rattle.sd_ecm.specs.declared.message.EcmHead.{EcmHead}
 use Rattle.sd_card.specs.Fields.{CardFields}
-use Rattle.sd_reception.specs.declared.ending.Ending.{Ending}
-use Rattle.sd_reception.specs.declared.ending.Ending.TheVariants.{Opened, Revoked, Unheard, NoCat, Unclosed, Gaps}
-use Rattle.sd_reception.specs.Tuned.{tuning_of}
-use Rattle.sd_reception.specs.Stretches.{newest, is_closed}
-use Rattle.sd_reception.specs.Heard.{Heard}
-use Rattle.sd_reception.specs.Offered.{heard}
-use Rattle.sd_reception.specs.Ending.{periods_told, is_unkeyed, ending_with, run_ending, joined, run_wrote}
-use Rattle.sd_reception.specs.Ending.{ended_before, ending_of}
-use Rattle.sd_hearing.specs.Ears.{tuned}
-use Rattle.sd_hearing.specs.declared.tune.Tuning.{Tuning as Kept}
-use Rattle.sd_collect.specs.Collected.{IsMessageKept}
-use Rattle.sd_entitled.specs.Entitled.{is_told_revoked}
+use Rattle.sd_spec_receiver.specs.declared.ending.Ending.{Ending}
+use Rattle.sd_spec_receiver.specs.declared.ending.Ending.TheVariants.{Opened, Revoked, Unheard, NoCat, Unclosed, Gaps}
+use Rattle.sd_spec_receiver.specs.Tuned.{tuning_of}
+use Rattle.sd_spec_receiver.specs.Stretches.{newest, is_closed}
+use Rattle.sd_spec_receiver.specs.Heard.{Heard}
+use Rattle.sd_spec_receiver.specs.Offered.{heard}
+use Rattle.sd_spec_receiver.specs.Ending.{periods_told, is_unkeyed, ending_with, run_ending, joined, run_wrote}
+use Rattle.sd_spec_receiver.specs.Ending.{ended_before, ending_of}
+use Rattle.sd_receive_filter.specs.Ears.{tuned}
+use Rattle.sd_receive_filter.specs.declared.tune.Tuning.{Tuning as Kept}
+use Rattle.sd_receive_ecm.specs.Collected.{IsMessageKept}
+use Rattle.sd_receive_emm.specs.Entitled.{is_told_revoked}
 use Rattle.sd_receive.specs.Listening.{IsListenerAfter}
 use Rattle.sd_receive.specs.Receiving.{card_in, IsAfter}
 use Rattle.sd_receive.specs.declared.listener.Listener.{Listener}

@@ -9,15 +9,15 @@ use Rattle.sd_ecm.specs.Parts.{Message, message_of}
 use Rattle.sd_ecm.specs.declared.part.EcmPart.{EcmPart}
 use Rattle.sd_ecm.specs.declared.part.Place.{Place}
 use Rattle.sd_ecm.specs.declared.message.EcmHead.{EcmHead}
-use Rattle.sd_reception.specs.Tuned.{Tuning}
-use Rattle.sd_reception.specs.Heard.{Heard, Controls, Other}
-use Rattle.sd_reception.specs.Stretches.{Stretch, newest, completes, others, other_with, held_in}
-use Rattle.sd_reception.specs.Keys.{key_in, key_at}
-use Rattle.sd_reception.specs.Confirmed.{Wrote}
-use Rattle.sd_reception.specs.Offered.{segment_wrote, stretch_wrote}
-use Rattle.sd_segment.specs.Holding.{after_message, held_more}
-use Rattle.sd_segment.specs.Writing.{wrote_of}
-use Rattle.sd_segment.proofs.Walking.{between_messages}
+use Rattle.sd_spec_receiver.specs.Tuned.{Tuning}
+use Rattle.sd_spec_receiver.specs.Heard.{Heard, Controls, Other}
+use Rattle.sd_spec_receiver.specs.Stretches.{Stretch, newest, completes, others, other_with, held_in}
+use Rattle.sd_spec_receiver.specs.Keys.{key_in, key_at}
+use Rattle.sd_spec_receiver.specs.Confirmed.{Wrote}
+use Rattle.sd_spec_receiver.specs.Offered.{segment_wrote, stretch_wrote}
+use Rattle.sd_receive_hold.specs.Holding.{after_message, held_more}
+use Rattle.sd_receive_hold.specs.Writing.{wrote_of}
+use Rattle.sd_receive_hold.proofs.Walking.{between_messages}
 use Rattle.sd_receive.specs.Held.{word_under, held_under, held_after, holding_in, pair_wrote, unwritten}
 use Rattle.sd_receive.proofs.Stretching.{newest_waits, newest_completes, holds_more, holds_same, sees_same}
 

@@ -14,23 +14,23 @@ use Rattle.sd_ecm.specs.declared.fault.EcmFault.{EcmFault}
 use Rattle.sd_engine.specs.Stage.{SinkState}
 use Rattle.sd_engine.specs.declared.stage.StageFault.{StageFault}
 use Rattle.sd_engine.specs.declared.stage.StageFault.TheVariants.{Write, Refused}
-use Rattle.sd_reception.specs.declared.fault.StreamFault.{StreamFault}
-use Rattle.sd_reception.specs.declared.fault.StreamFault.TheVariants as Fault
-use Rattle.sd_reception.specs.Tuned.{Tuning}
-use Rattle.sd_reception.specs.Heard.{Heard, Dropped, Entitles, Controls, BadEmm, BadEcm, Other}
-use Rattle.sd_reception.specs.Stretches.{completes, current, seen, is_closed}
-use Rattle.sd_reception.specs.Keys.{key_from, key_at}
-use Rattle.sd_reception.specs.Offered.{Offering, no_offering, refuses, key_offering, key_if_none, is_mixed}
-use Rattle.sd_reception.specs.Offered.{emm_offering}
-use Rattle.sd_reception.specs.Offered.{heard_offering}
-use Rattle.sd_entitled.specs.Entitled.{IsEntitled}
-use Rattle.sd_entitled.specs.declared.entitled.Entitled.{Entitled}
-use Rattle.sd_entitled.proofs.Keeping.{nothing_told}
-use Rattle.sd_collect.specs.Collected.{IsCollected, IsWaiting, IsComplete, fault_of}
-use Rattle.sd_collect.specs.declared.collect.Collect.{Collect}
-use Rattle.sd_collect.proofs.Collecting as Collecting
-use Rattle.sd_segment.specs.Holding.{Holding, held_more}
-use Rattle.sd_segment.proofs.Sinks.{took_none}
+use Rattle.sd_spec_receiver.specs.declared.fault.StreamFault.{StreamFault}
+use Rattle.sd_spec_receiver.specs.declared.fault.StreamFault.TheVariants as Fault
+use Rattle.sd_spec_receiver.specs.Tuned.{Tuning}
+use Rattle.sd_spec_receiver.specs.Heard.{Heard, Dropped, Entitles, Controls, BadEmm, BadEcm, Other}
+use Rattle.sd_spec_receiver.specs.Stretches.{completes, current, seen, is_closed}
+use Rattle.sd_spec_receiver.specs.Keys.{key_from, key_at}
+use Rattle.sd_spec_receiver.specs.Offered.{Offering, no_offering, refuses, key_offering, key_if_none, is_mixed}
+use Rattle.sd_spec_receiver.specs.Offered.{emm_offering}
+use Rattle.sd_spec_receiver.specs.Offered.{heard_offering}
+use Rattle.sd_receive_emm.specs.Entitled.{IsEntitled}
+use Rattle.sd_receive_emm.specs.declared.entitled.Entitled.{Entitled}
+use Rattle.sd_receive_emm.proofs.Keeping.{nothing_told}
+use Rattle.sd_receive_ecm.specs.Collected.{IsCollected, IsWaiting, IsComplete, fault_of}
+use Rattle.sd_receive_ecm.specs.declared.collect.Collect.{Collect}
+use Rattle.sd_receive_ecm.proofs.Collecting as Collecting
+use Rattle.sd_receive_hold.specs.Holding.{Holding, held_more}
+use Rattle.sd_receive_hold.proofs.Sinks.{took_none}
 use Rattle.sd_receive.specs.Listening.{IsListenerAfter, IsListenerAtMessage, CountsMore, PassesOffering}
 use Rattle.sd_receive.specs.Listening.{StopsAtOffering, TakesHeard, RefusesHeard, TookSome}
 use Rattle.sd_receive.specs.Listening.{PacketOutcome}

@@ -4,29 +4,29 @@ use Rattle.std.specs.Prelude.{Option, Some, None, max, option_map, Result, Ok, E
 use Rattle.std.specs.List.{concat}
 use Rattle.std.specs.Option.{option_map_or}
 use Rattle.std.specs.Result.{MatchResult}
-use Rattle.sd_cause.specs.Count.{with_added}
+use Rattle.sd_base.specs.Count.{with_added}
 use Rattle.sd_card.specs.Fields.{CardFields}
 use Rattle.sd_ecm.specs.Parts.{Message, message_of}
 use Rattle.sd_ecm.specs.declared.part.Place.{Place}
 use Rattle.sd_ecm.specs.declared.part.EcmPart.{EcmPart}
 use Rattle.sd_ecm.specs.declared.message.EcmHead.{EcmHead}
 use Rattle.sd_engine.specs.Stage.{SinkState, IsCutShort}
-use Rattle.sd_reception.specs.declared.fault.StreamFault.{StreamFault}
-use Rattle.sd_reception.specs.declared.fault.StreamFault.TheVariants as Fault
-use Rattle.sd_reception.specs.Tuned.{Tuning}
-use Rattle.sd_reception.specs.Heard.{Heard, Controls}
-use Rattle.sd_reception.specs.Stretches.{newest, completes, current}
-use Rattle.sd_reception.specs.Keys.{key_at}
-use Rattle.sd_reception.specs.Confirmed.{Wrote}
-use Rattle.sd_reception.specs.Offered.{Offering, word_fault, wrote_or, heard_offering}
-use Rattle.sd_entitled.specs.Entitled.{IsEntitled}
-use Rattle.sd_entitled.specs.declared.entitled.Entitled.{Entitled}
-use Rattle.sd_collect.specs.Gathered.{ArePlaces}
-use Rattle.sd_collect.specs.Collected.{IsCollected}
-use Rattle.sd_collect.specs.declared.collect.Collect.{Collect}
-use Rattle.sd_segment.specs.Writing.{TookBytes}
-use Rattle.sd_segment.specs.Holding as Segments
-use Rattle.sd_segment.specs.Holding.{Holding, after_message}
+use Rattle.sd_spec_receiver.specs.declared.fault.StreamFault.{StreamFault}
+use Rattle.sd_spec_receiver.specs.declared.fault.StreamFault.TheVariants as Fault
+use Rattle.sd_spec_receiver.specs.Tuned.{Tuning}
+use Rattle.sd_spec_receiver.specs.Heard.{Heard, Controls}
+use Rattle.sd_spec_receiver.specs.Stretches.{newest, completes, current}
+use Rattle.sd_spec_receiver.specs.Keys.{key_at}
+use Rattle.sd_spec_receiver.specs.Confirmed.{Wrote}
+use Rattle.sd_spec_receiver.specs.Offered.{Offering, word_fault, wrote_or, heard_offering}
+use Rattle.sd_receive_emm.specs.Entitled.{IsEntitled}
+use Rattle.sd_receive_emm.specs.declared.entitled.Entitled.{Entitled}
+use Rattle.sd_receive_ecm.specs.Gathered.{ArePlaces}
+use Rattle.sd_receive_ecm.specs.Collected.{IsCollected}
+use Rattle.sd_receive_ecm.specs.declared.collect.Collect.{Collect}
+use Rattle.sd_receive_hold.specs.Writing.{TookBytes}
+use Rattle.sd_receive_hold.specs.Holding as Segments
+use Rattle.sd_receive_hold.specs.Holding.{Holding, after_message}
 use Rattle.sd_receive.specs.Held.{word_under, holding_in, pair_wrote}
 use Rattle.sd_receive.specs.Listening.{IsListenerAfter, IsListenerAtMessage, capped, CountsMore, PassesOffering}
 use Rattle.sd_receive.specs.Listening.{TookSome, StopsAtOffering, TakesMessage}

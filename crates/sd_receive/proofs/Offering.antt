@@ -8,14 +8,15 @@ use Rattle.sd_ecm.specs.Parts.{Message}
 use Rattle.sd_ecm.specs.declared.part.EcmPart.{EcmPart}
 use Rattle.sd_ecm.specs.declared.fault.EcmFault.{EcmFault}
 use Rattle.sd_ecm.specs.declared.fault.EcmFault.TheVariants.{Back}
-use Rattle.sd_reception.specs.declared.fault.StreamFault.TheVariants as Fault
-use Rattle.sd_reception.specs.Tuned.{Tuning}
-use Rattle.sd_reception.specs.Heard.{Heard, Controls}
-use Rattle.sd_reception.specs.Stretches.{newest, run_to, completes, current}
-use Rattle.sd_reception.specs.Keys.{key_at}
-use Rattle.sd_reception.specs.Offered.{Offering, no_offering, refuses, part_fault, is_before, is_back, part_offering}
-use Rattle.sd_reception.specs.Offered.{message_offering, stretch_wrote, word_fault, wrote_or, heard_offering}
-use Rattle.sd_collect.specs.Collected.{back_fault, fault_of}
+use Rattle.sd_spec_receiver.specs.declared.fault.StreamFault.TheVariants as Fault
+use Rattle.sd_spec_receiver.specs.Tuned.{Tuning}
+use Rattle.sd_spec_receiver.specs.Heard.{Heard, Controls}
+use Rattle.sd_spec_receiver.specs.Stretches.{newest, run_to, completes, current}
+use Rattle.sd_spec_receiver.specs.Keys.{key_at}
+use Rattle.sd_spec_receiver.specs.Offered.{Offering, no_offering, refuses, part_fault, is_before, is_back}
+use Rattle.sd_spec_receiver.specs.Offered.{part_offering}
+use Rattle.sd_spec_receiver.specs.Offered.{message_offering, stretch_wrote, word_fault, wrote_or, heard_offering}
+use Rattle.sd_receive_ecm.specs.Collected.{back_fault, fault_of}
 
 -- a message that goes back
 back_of : (back : Bool) (fault : EcmFault) (n : ℕ) (next : Offering) → (if back then Some Back else None) ≡ Some fault →

@@ -12,23 +12,23 @@ use Rattle.sd_card.specs.Fields.{CardFields, fields_of}
 use Rattle.sd_engine.specs.Stage.{SinkState, HasGrown, IsCutShort, IsAllowed}
 use Rattle.sd_engine.specs.declared.stage.StageFault.{StageFault}
 use Rattle.sd_engine.specs.declared.stage.StageFault.TheVariants.{Write, Refused}
-use Rattle.sd_reception.specs.declared.fault.StreamFault.{StreamFault}
+use Rattle.sd_spec_receiver.specs.declared.fault.StreamFault.{StreamFault}
 use Rattle.sd_bits.proofs.Fields.{field_below}
 use Rattle.sd_packet.specs.Header.{pid_of, has_payload}
 use Rattle.sd_section.specs.Header.{body_of}
 use Rattle.sd_psi.specs.Tables.{descriptors_of}
 use Rattle.sd_psi.specs.Forms.{cat_fault, section_in}
-use Rattle.sd_segment.proofs.Sinks.{took_none}
-use Rattle.sd_reception.specs.Tuned.{Tuning, tuning_in, is_for, cat_tuning, tuned_by, tuning_of}
-use Rattle.sd_reception.specs.Heard.{Heard, hears}
-use Rattle.sd_reception.specs.declared.ending.Ending.{Ending}
-use Rattle.sd_reception.specs.declared.ending.Ending.TheVariants.{Opened}
-use Rattle.sd_reception.specs.Stretches.{is_closed}
-use Rattle.sd_reception.specs.Runs.{run_name_heard, name_in, are_two, is_turn, of_run}
-use Rattle.sd_reception.specs.Offered.{Offering, no_offering, heard, offered, heard_offering, break_from}
-use Rattle.sd_reception.specs.Ending.{run_ending, joined, turns_at, run_wrote, ended_before}
-use Rattle.sd_hearing.specs.Ears.{tuned}
-use Rattle.sd_hearing.specs.declared.tune.Tuning.{Tuning as Kept}
+use Rattle.sd_receive_hold.proofs.Sinks.{took_none}
+use Rattle.sd_spec_receiver.specs.Tuned.{Tuning, tuning_in, is_for, cat_tuning, tuned_by, tuning_of}
+use Rattle.sd_spec_receiver.specs.Heard.{Heard, hears}
+use Rattle.sd_spec_receiver.specs.declared.ending.Ending.{Ending}
+use Rattle.sd_spec_receiver.specs.declared.ending.Ending.TheVariants.{Opened}
+use Rattle.sd_spec_receiver.specs.Stretches.{is_closed}
+use Rattle.sd_spec_receiver.specs.Runs.{run_name_heard, name_in, are_two, is_turn, of_run}
+use Rattle.sd_spec_receiver.specs.Offered.{Offering, no_offering, heard, offered, heard_offering, break_from}
+use Rattle.sd_spec_receiver.specs.Ending.{run_ending, joined, turns_at, run_wrote, ended_before}
+use Rattle.sd_receive_filter.specs.Ears.{tuned}
+use Rattle.sd_receive_filter.specs.declared.tune.Tuning.{Tuning as Kept}
 use Rattle.sd_receive.specs.Listening.{IsListenerAfter, capped, CountsMore, TakesHeard, RefusesHeard, PacketOutcome}
 use Rattle.sd_receive.specs.Receiving.{card_in, with_run, IsAfter, TurnsBy, takes_key_of, takes_key_at, steps_at}
 use Rattle.sd_receive.specs.Receiving.{TakesPacket, receiver_does, Refusing, IsFit}

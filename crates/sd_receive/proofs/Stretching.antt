@@ -4,8 +4,8 @@ use Rattle.std.specs.Prelude.{Some, None, reverse}
 use Rattle.std.proofs.lemmas.List.{reverse-append}
 use Rattle.sd_ecm.specs.Parts.{Message}
 use Rattle.sd_ecm.specs.declared.part.EcmPart.{EcmPart}
-use Rattle.sd_reception.specs.Heard.{Heard, Controls, Other}
-use Rattle.sd_reception.specs.Stretches.{newest, stretched, completes, is_closed, seen, others, other_with, held_in}
+use Rattle.sd_spec_receiver.specs.Heard.{Heard, Controls, Other}
+use Rattle.sd_spec_receiver.specs.Stretches.{newest, stretched, completes, is_closed, seen, others, other_with, held_in}
 
 -- what completes nothing is heard after the newest message
 pub newest_waits : (past : List Heard) (heard : Heard) → completes past heard ≡ None →

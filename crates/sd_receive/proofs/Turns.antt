@@ -6,13 +6,13 @@ use Rattle.std.specs.Option.{option_map_or, option_or}
 use Rattle.std.proofs.lemmas.Bool.{false≢true}
 use Rattle.std.proofs.lemmas.List.{reverse-append}
 use Rattle.sd_card.specs.Fields.{CardFields}
-use Rattle.sd_reception.specs.declared.fault.StreamFault.{StreamFault}
-use Rattle.sd_reception.specs.Tuned.{Tuning, tuning_of}
-use Rattle.sd_reception.specs.Heard.{Heard, hears}
-use Rattle.sd_reception.specs.Stretches.{is_closed}
-use Rattle.sd_reception.specs.Runs.{run_name_heard, name_or, name_in, are_two, is_turn, of_run}
-use Rattle.sd_reception.specs.Offered.{no_offering, heard, offered, heard_offering, out_from, break_from}
-use Rattle.sd_reception.specs.Ending.{run_ending, joined, turns_at, run_wrote, ended_before}
+use Rattle.sd_spec_receiver.specs.declared.fault.StreamFault.{StreamFault}
+use Rattle.sd_spec_receiver.specs.Tuned.{Tuning, tuning_of}
+use Rattle.sd_spec_receiver.specs.Heard.{Heard, hears}
+use Rattle.sd_spec_receiver.specs.Stretches.{is_closed}
+use Rattle.sd_spec_receiver.specs.Runs.{run_name_heard, name_or, name_in, are_two, is_turn, of_run}
+use Rattle.sd_spec_receiver.specs.Offered.{no_offering, heard, offered, heard_offering, out_from, break_from}
+use Rattle.sd_spec_receiver.specs.Ending.{run_ending, joined, turns_at, run_wrote, ended_before}
 
 -- packets before others stand before them
 pub reversed : (packet : List ℕ) (packets past : List (List ℕ)) →

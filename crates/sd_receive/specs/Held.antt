@@ -5,13 +5,13 @@ use Rattle.sd_wrap.specs.Wrapping.{wrapped as under}
 use Rattle.sd_ecm.specs.Parts.{Message}
 use Rattle.sd_ecm.specs.declared.part.Place.{Place}
 use Rattle.sd_ecm.specs.declared.message.EcmHead.{EcmHead}
-use Rattle.sd_reception.specs.Heard.{Heard}
-use Rattle.sd_reception.specs.Stretches.{Stretch, newest, held_in}
-use Rattle.sd_reception.specs.Keys.{key_at}
-use Rattle.sd_reception.specs.Confirmed.{Wrote}
-use Rattle.sd_segment.specs.Holding.{Holding, after_message}
-use Rattle.sd_segment.specs.Writing.{wrote_of}
-use Rattle.sd_reception.specs.Offered.{most_held}
+use Rattle.sd_spec_receiver.specs.Heard.{Heard}
+use Rattle.sd_spec_receiver.specs.Stretches.{Stretch, newest, held_in}
+use Rattle.sd_spec_receiver.specs.Keys.{key_at}
+use Rattle.sd_spec_receiver.specs.Confirmed.{Wrote}
+use Rattle.sd_receive_hold.specs.Holding.{Holding, after_message}
+use Rattle.sd_receive_hold.specs.Writing.{wrote_of}
+use Rattle.sd_spec_receiver.specs.Offered.{most_held}
 
 -- the control word of a message under the key of its period, if that is known
 abbrev pub word_under : Message → Option (List ℕ) → Option (List ℕ)

@@ -3,16 +3,16 @@ use Rattle.std.specs.Prelude.{◌≡◌, ℕ, ◌-◌, ◌*◌, ◌^◌, ◌<◌
 use Rattle.std.specs.Prelude.{if◌then◌else◌, Option, Some, None, option_map, IfSome}
 use Rattle.std.specs.List.{concat}
 use Rattle.sd_card.specs.Fields.{CardFields, fields_of}
-use Rattle.sd_reception.specs.declared.fault.StreamFault.{StreamFault}
-use Rattle.sd_reception.specs.declared.ending.Ending.{Ending}
-use Rattle.sd_reception.specs.Tuned.{tuning_of}
-use Rattle.sd_reception.specs.Heard.{Heard}
-use Rattle.sd_reception.specs.Runs.{name_in, are_two}
-use Rattle.sd_reception.specs.Ending.{joined, run_ending, run_wrote, ended_before}
-use Rattle.sd_reception.specs.Offered.{heard, offered, out_from, break_from}
-pub use Rattle.sd_reception.specs.Taken.{takes_key_of}
-unfoldable pub use Rattle.sd_reception.specs.Taken.{takes_key_at, taken_keys}
-use Rattle.sd_hearing.specs.Ears.{tuned}
+use Rattle.sd_spec_receiver.specs.declared.fault.StreamFault.{StreamFault}
+use Rattle.sd_spec_receiver.specs.declared.ending.Ending.{Ending}
+use Rattle.sd_spec_receiver.specs.Tuned.{tuning_of}
+use Rattle.sd_spec_receiver.specs.Heard.{Heard}
+use Rattle.sd_spec_receiver.specs.Runs.{name_in, are_two}
+use Rattle.sd_spec_receiver.specs.Ending.{joined, run_ending, run_wrote, ended_before}
+use Rattle.sd_spec_receiver.specs.Offered.{heard, offered, out_from, break_from}
+pub use Rattle.sd_spec_receiver.specs.Taken.{takes_key_of}
+unfoldable pub use Rattle.sd_spec_receiver.specs.Taken.{takes_key_at, taken_keys}
+use Rattle.sd_receive_filter.specs.Ears.{tuned}
 use Rattle.sd_receive.specs.Listening.{IsListenerAfter, capped}
 use Rattle.sd_receive.specs.declared.listener.Listener.{Listener}
 use Rattle.sd_receive.specs.declared.receiver.Receiver.{Receiver}

@@ -1,17 +1,17 @@
 ghost use Rattle.std.specs.Prelude.{◌≡◌, ◌<◌, ◌∷◌, [], List, option_map, Some, None, MatchResult, IsErrOf};
-ghost use Rattle.sd_cause.specs.Count.{IsCaused};
+ghost use Rattle.sd_base.specs.Count.{IsCaused};
 ghost use Rattle.sd_card.specs.Fields.{CardFields, fields_of};
 ghost use Rattle.sd_ecm.specs.Form.{AreShort};
 ghost use Rattle.sd_ecm.specs.Parts.{message_of};
 ghost use Rattle.sd_ecm.specs.declared.part.EcmPart.{EcmPart};
 ghost use Rattle.sd_engine.specs.Stage.{vessel};
-ghost use Rattle.sd_reception.specs.Heard.{Heard, Controls};
-ghost use Rattle.sd_reception.specs.Keys.{key_at};
-ghost use Rattle.sd_reception.specs.Offered.{word_fault};
-ghost use Rattle.sd_hearing.specs.Ears.{tuned};
-ghost use Rattle.sd_collect.specs.Collected.{IsCollected, IsComplete};
-ghost use Rattle.sd_segment.specs.Holding.{after_message};
-ghost use Rattle.sd_segment.specs.Writing.{WriteOutcome};
+ghost use Rattle.sd_spec_receiver.specs.Heard.{Heard, Controls};
+ghost use Rattle.sd_spec_receiver.specs.Keys.{key_at};
+ghost use Rattle.sd_spec_receiver.specs.Offered.{word_fault};
+ghost use Rattle.sd_receive_filter.specs.Ears.{tuned};
+ghost use Rattle.sd_receive_ecm.specs.Collected.{IsCollected, IsComplete};
+ghost use Rattle.sd_receive_hold.specs.Holding.{after_message};
+ghost use Rattle.sd_receive_hold.specs.Writing.{WriteOutcome};
 ghost use Rattle.sd_receive.specs.Held.{pair_wrote};
 ghost use Rattle.sd_receive.specs.Listening.{IsListenerAfter, IsListenerAtMessage, TakesMessage, RefusesMessage};
 ghost use Rattle.sd_receive.specs.Listening.{PacketOutcome};
@@ -21,10 +21,10 @@ use crate::word::word_of;
 use sd_card::Card;
 use sd_ecm::EcmHead;
 use sd_engine::StageFault;
-use sd_hearing::Tuning;
 use sd_ports::Sink;
-use sd_reception::StreamFault;
-use sd_segment::SegmentFault;
+use sd_receive_filter::Tuning;
+use sd_receive_hold::SegmentFault;
+use sd_spec_receiver::StreamFault;
 
 impl Listener {
     // Takes a control message, which packet `number` of the stream completes.

@@ -2,7 +2,7 @@
 
 ghost use Rattle.std.specs.Prelude.{◌≡◌, ℕ, ◌+◌, ◌-◌, ◌*◌, ◌^◌, ◌<◌, ◌≤◌, ◌++◌, ◌∷◌, [], List, length};
 ghost use Rattle.sd_engine.specs.Stage.{Chain};
-ghost use Rattle.sd_reception.specs.declared.fault.StreamFault.{StreamFault};
+ghost use Rattle.sd_spec_receiver.specs.declared.fault.StreamFault.{StreamFault};
 ghost use Rattle.sd_receive.specs.Receiving.{card_in, IsAfter, taken_keys, receiver_does, Refusing, OutcomeOf, BreakAt};
 ghost use Rattle.sd_receive.specs.declared.receiver.Receiver.{Receiver};
 

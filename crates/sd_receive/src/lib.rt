@@ -13,4 +13,4 @@ mod turn;
 mod word;
 
 pub use receiver::Receiver;
-pub use sd_reception::{Ending, StreamFault};
+pub use sd_spec_receiver::{Ending, StreamFault};

@@ -1,6 +1,6 @@
-use sd_collect::Collect;
-use sd_entitled::Entitled;
-use sd_segment::Segment;
+use sd_receive_ecm::Collect;
+use sd_receive_emm::Entitled;
+use sd_receive_hold::Segment;
 
 // What a receiver that took a CAT keeps of the current run.
 #[derive(Drop)]

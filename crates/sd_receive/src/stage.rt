@@ -1,5 +1,5 @@
 ghost use Rattle.std.specs.Prelude.{◌≡◌, [], Some, None, Err, IfOk, OnOk, IsErrOf};
-ghost use Rattle.sd_cause.specs.Count.{IsCaused};
+ghost use Rattle.sd_base.specs.Count.{IsCaused};
 ghost use Rattle.sd_engine.specs.Stage.{vessel, HasGrown, IsCutShort, IsAllowed};
 ghost use Rattle.sd_receive.specs.Receiving.{IsAfter, IsFit, IsLive, Refusing, receiver_does, receiver_ends};
 ghost use Rattle.sd_receive.specs.Receiving.{receiver_refuses};
@@ -7,14 +7,13 @@ ghost use Rattle.sd_receive.specs.Receiving.{receiver_refuses};
 use crate::listener::Listener;
 use crate::receiver::Receiver;
 use crate::turn::name_of;
+use sd_base::{NoMemory, Steps};
 use sd_card::Card;
-use sd_cause::NoMemory;
 use sd_engine::{Stage, StageFault};
-use sd_hearing::{cat_tuning, hear};
 use sd_packet::Packet;
 use sd_ports::Sink;
-use sd_reception::{Ending, StreamFault};
-use sd_steps::Steps;
+use sd_receive_filter::{cat_tuning, hear};
+use sd_spec_receiver::{Ending, StreamFault};
 use std::alloc::Global;
 use std::sync::ledger::Ledger;
 

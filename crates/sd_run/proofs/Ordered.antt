@@ -1,19 +1,19 @@
 -- What words that are an order, or none, come to.
 use Rattle.std.proofs.Common.{◌≡◌, ◌≤◌, ℕ, List, [], ◌∷◌, Result, Ok, Err, refl, sym, ap, subst, ◌∙◌, inl, inr, arith}
-use Rattle.sd_status.specs.declared.status.Status.{Status}
-use Rattle.sd_status.specs.declared.status.Status.TheVariants.{Usage, Missing}
-use Rattle.sd_status.specs.Outside.{Outside}
-use Rattle.sd_status.specs.Spec.{Spec, Readings, judged, ◌>>=◌}
-use Rattle.sd_status.specs.Work.{Work}
-use Rattle.sd_status.specs.Outcome.{IsRefusal, refused, OutcomeWithin, Implements}
-use Rattle.sd_status.proofs.Givens.{any_given}
-use Rattle.sd_files.proofs.Others.{IsOther}
+use Rattle.sd_command_status.specs.declared.status.Status.{Status}
+use Rattle.sd_command_status.specs.declared.status.Status.TheVariants.{Usage, Missing}
+use Rattle.sd_command_status.specs.Outside.{Outside}
+use Rattle.sd_command_status.specs.Spec.{Spec, Readings, judged, ◌>>=◌}
+use Rattle.sd_command_status.specs.Work.{Work}
+use Rattle.sd_command_status.specs.Outcome.{IsRefusal, refused, OutcomeWithin, Implements}
+use Rattle.sd_command_status.proofs.Givens.{any_given}
+use Rattle.sd_command_files.proofs.Others.{IsOther}
 use Rattle.sd_run_help.proofs.Others.{other_help, other_version}
-use Rattle.sd_commands.specs.declared.command.Command.TheVariants.{Plan, Sample}
-use Rattle.sd_words.specs.Words.{Argument, InputOf, OutOf, NumberOf, Order, CommandOf, HelpOf, VersionOf, number}
-use Rattle.sd_words.specs.Words.{order_of}
-use Rattle.sd_commands.specs.Commands.{operands_of}
-use Rattle.sd_words.specs.Orders.{AreOf, RefusesWords}
+use Rattle.sd_command_table.specs.declared.command.Command.TheVariants.{Plan, Sample}
+use Rattle.sd_command_line.specs.Words.{Argument, InputOf, OutOf, NumberOf, Order, CommandOf, HelpOf, VersionOf, number}
+use Rattle.sd_command_line.specs.Words.{order_of}
+use Rattle.sd_command_table.specs.Commands.{operands_of}
+use Rattle.sd_command_line.specs.Orders.{AreOf, RefusesWords}
 use Rattle.sd_run.specs.Meaning.{order_meaning, meaning}
 use Rattle.sd_run.proofs.Rows.{other_command}
 

@@ -1,13 +1,13 @@
 -- What is said of each command of the table: here, and nowhere else above its own crate, has a command its row.
 use Rattle.std.proofs.Common.{ℕ, ◌+◌, List, [], ◌∷◌, Option, Some, None, refl}
 use Rattle.sd_engine.specs.Taken.{end_of}
-use Rattle.sd_status.specs.Spec.{FileArgument, Readings, all_of, judged, value, ◌>>=◌}
-use Rattle.sd_status.specs.Work.{Uncounted, NoSteps, UpTo}
-use Rattle.sd_files.specs.Shown.{NumberArgument}
-use Rattle.sd_files.specs.Both.{both_meaning}
-use Rattle.sd_files.specs.Files.{site_in, book_in}
-use Rattle.sd_files.specs.Leaves.{leaves_in}
-use Rattle.sd_files.specs.Made.{making}
+use Rattle.sd_command_status.specs.Spec.{FileArgument, Readings, all_of, judged, value, ◌>>=◌}
+use Rattle.sd_command_status.specs.Work.{Uncounted, NoSteps, UpTo}
+use Rattle.sd_command_files.specs.Shown.{NumberArgument}
+use Rattle.sd_command_files.specs.Both.{both_meaning}
+use Rattle.sd_command_files.specs.Files.{site_in, book_in}
+use Rattle.sd_command_files.specs.Leaves.{leaves_in}
+use Rattle.sd_command_files.specs.Made.{making}
 use Rattle.sd_run_accounts.specs.Accounts.{accounts_in, making_then, report_line, accounts_meaning}
 use Rattle.sd_run_apart.specs.Apart.{apart_meaning, plan_of_both, saying, told_apart}
 use Rattle.sd_run_book.specs.Book.{longer_book, book_meaning}
@@ -27,7 +27,7 @@ use Rattle.sd_run_sample.specs.Sample.{sample_meaning}
 use Rattle.sd_run_show.specs.Show.{line_of_file, show_meaning, printing as showing}
 use Rattle.sd_run_tables.specs.Tables.{inspecting, tables_meaning}
 use Rattle.sd_run_trace.specs.Trace.{traced, telling, trace_meaning}
-use Rattle.sd_files.specs.Printed.{printing}
+use Rattle.sd_command_files.specs.Printed.{printing}
 use Rattle.sd_run_field.specs.Field.{field_meaning, field_text, inputs_meaning, script_of_file}
 use Rattle.sd_run_trial.specs.Prefixes.{prefix_of_file}
 use Rattle.sd_run_trial.specs.Trial.{plan_meaning as trial_plan, trial_text, trying, trial_meaning}
@@ -36,18 +36,20 @@ use Rattle.sd_sample.specs.Sample.{sample_of}
 use Rattle.sd_site.specs.Fields.{SiteFields}
 use Rattle.sd_book.specs.Text.{text_of}
 use Rattle.sd_lsd.specs.Fields.{layer_card_of, layer_bytes}
-use Rattle.sd_commands.specs.declared.command.Command.{Command}
-use Rattle.sd_commands.specs.declared.command.Command.TheVariants.{Accounts, Book, Card, Cover, Field, Head, Layered}
-use Rattle.sd_commands.specs.declared.command.Command.TheVariants.{Lcard}
-use Rattle.sd_commands.specs.declared.command.Command.TheVariants.{Apart, Messages, Opens, Plan as Air, Receive, Sample}
-use Rattle.sd_commands.specs.declared.command.Command.TheVariants.{Show}
-use Rattle.sd_commands.specs.declared.command.Command.TheVariants.{Tables, Trace, Trial}
-use Rattle.sd_commands.specs.declared.operand.Operand.{Operand}
-use Rattle.sd_commands.specs.Commands.{command_named, example_of, command_name, operands_of}
-use Rattle.sd_commands.specs.Operands.{operand_kind}
-use Rattle.sd_words.specs.Words.{Argument, file, number, named_words, or_output}
+use Rattle.sd_command_table.specs.declared.command.Command.{Command}
+use Rattle.sd_command_table.specs.declared.command.Command.TheVariants.{Accounts, Book, Card, Cover, Field, Head}
+use Rattle.sd_command_table.specs.declared.command.Command.TheVariants.{Layered}
+use Rattle.sd_command_table.specs.declared.command.Command.TheVariants.{Lcard}
+use Rattle.sd_command_table.specs.declared.command.Command.TheVariants.{Apart, Messages, Opens, Plan as Air, Receive}
+use Rattle.sd_command_table.specs.declared.command.Command.TheVariants.{Sample}
+use Rattle.sd_command_table.specs.declared.command.Command.TheVariants.{Show}
+use Rattle.sd_command_table.specs.declared.command.Command.TheVariants.{Tables, Trace, Trial}
+use Rattle.sd_command_table.specs.declared.operand.Operand.{Operand}
+use Rattle.sd_command_table.specs.Commands.{command_named, example_of, command_name, operands_of}
+use Rattle.sd_command_table.specs.Operands.{operand_kind}
+use Rattle.sd_command_line.specs.Words.{Argument, file, number, named_words, or_output}
 use Rattle.sd_run.specs.Meaning.{command_meaning}
-use Rattle.sd_files.proofs.Others.{IsOther}
+use Rattle.sd_command_files.proofs.Others.{IsOther}
 use Rattle.sd_run_cover.proofs.Others.{other_cover}
 use Rattle.sd_run_card.proofs.Others.{other_card_order}
 use Rattle.sd_run_tables.proofs.Others.{other_tables}
@@ -68,7 +70,7 @@ use Rattle.sd_run_trial.proofs.Others.{other_trial}
 use Rattle.sd_run.proofs.Works.{AreOrderly, orderly_after, same_name, made_whole, turned, none_made, sent_apart}
 use Rattle.sd_run.proofs.Works.{stream_apart, stream_received, text_quiet}
 use Rattle.sd_run.proofs.Examples.{IsExample, words_in, onto_first, arguments_in}
-use Rattle.sd_text.specs.Number.{decimal_value}
+use Rattle.sd_base_text.specs.Number.{decimal_value}
 
 -- the commands that make a file
 accounts_orderly : (site accounts out : FileArgument) (given : Readings) →

@@ -4,24 +4,24 @@ use Rattle.std.proofs.Common.{refl, sym, ap, ◌∙◌}
 use Rattle.std.specs.Option.{option_map}
 use Rattle.sd_engine.specs.Taken.{StreamEnd, Whole, Breaks, RunsOn, taken_of, end_of}
 use Rattle.sd_card.specs.Fields.{CardFields}
-use Rattle.sd_broadcast.specs.Plan.{Plan}
-use Rattle.sd_broadcast.specs.Refused.{refusal_from}
-use Rattle.sd_broadcast.specs.declared.fault.ClearFault.{ClearFault}
-use Rattle.sd_reception.specs.Offered.{break_from}
-use Rattle.sd_reception.specs.declared.ending.Ending.{Ending}
-use Rattle.sd_reception.specs.declared.ending.Ending.TheVariants as end
-use Rattle.sd_reception.specs.declared.fault.StreamFault.{StreamFault}
-use Rattle.sd_reception.specs.declared.fault.StreamFault.TheVariants as fault
-use Rattle.sd_status.specs.declared.status.Status.{Status}
-use Rattle.sd_status.specs.Spec.{Spec, FileArgument, and_then, ◌>>=◌}
-use Rattle.sd_status.specs.Work.{StepBound, Out, Work}
-use Rattle.sd_files.specs.Made.{making}
-use Rattle.sd_files.specs.Turned.{turning}
-use Rattle.sd_files.specs.Streams.{stream_status}
+use Rattle.sd_spec_broadcast.specs.Plan.{Plan}
+use Rattle.sd_spec_broadcast.specs.Refused.{refusal_from}
+use Rattle.sd_spec_broadcast.specs.declared.fault.ClearFault.{ClearFault}
+use Rattle.sd_spec_receiver.specs.Offered.{break_from}
+use Rattle.sd_spec_receiver.specs.declared.ending.Ending.{Ending}
+use Rattle.sd_spec_receiver.specs.declared.ending.Ending.TheVariants as end
+use Rattle.sd_spec_receiver.specs.declared.fault.StreamFault.{StreamFault}
+use Rattle.sd_spec_receiver.specs.declared.fault.StreamFault.TheVariants as fault
+use Rattle.sd_command_status.specs.declared.status.Status.{Status}
+use Rattle.sd_command_status.specs.Spec.{Spec, FileArgument, and_then, ◌>>=◌}
+use Rattle.sd_command_status.specs.Work.{StepBound, Out, Work}
+use Rattle.sd_command_files.specs.Made.{making}
+use Rattle.sd_command_files.specs.Turned.{turning}
+use Rattle.sd_command_files.specs.Streams.{stream_status}
 use Rattle.sd_run_head.specs.Head.{status_where, sent_status}
 use Rattle.sd_run_receive.specs.Receive.{ended_status, ending_status, status_at, unless_refused, received_status}
-use Rattle.sd_files.specs.Printed.{printing}
-use Rattle.sd_words.specs.Words.{number}
+use Rattle.sd_command_files.specs.Printed.{printing}
+use Rattle.sd_command_line.specs.Words.{number}
 use Rattle.sd_run.specs.Refusals.{RefusesFirst}
 
 -- the work makes the file of this name or none; and if it ends with a refusal of words or files, it does nothing

@@ -1,14 +1,16 @@
 -- Public meaning: the work that the program's arguments and files ask for.
 use Rattle.std.specs.Prelude.{List, ℕ}
-use Rattle.sd_status.specs.Spec.{Spec, Readings, judged, ◌>>=◌}
-use Rattle.sd_status.specs.Work.{Work}
-use Rattle.sd_commands.specs.declared.command.Command.{Command}
-use Rattle.sd_commands.specs.declared.command.Command.TheVariants.{Accounts, Book, Card, Cover, Field, Head, Layered}
-use Rattle.sd_commands.specs.declared.command.Command.TheVariants.{Lcard}
-use Rattle.sd_commands.specs.declared.command.Command.TheVariants.{Apart, Messages, Opens, Plan, Receive, Sample, Show}
-use Rattle.sd_commands.specs.declared.command.Command.TheVariants.{Tables}
-use Rattle.sd_commands.specs.declared.command.Command.TheVariants.{Trace, Trial}
-use Rattle.sd_words.specs.Words.{Argument, Order, CommandOf, HelpOf, VersionOf, file, number, order_of}
+use Rattle.sd_command_status.specs.Spec.{Spec, Readings, judged, ◌>>=◌}
+use Rattle.sd_command_status.specs.Work.{Work}
+use Rattle.sd_command_table.specs.declared.command.Command.{Command}
+use Rattle.sd_command_table.specs.declared.command.Command.TheVariants.{Accounts, Book, Card, Cover, Field, Head}
+use Rattle.sd_command_table.specs.declared.command.Command.TheVariants.{Layered}
+use Rattle.sd_command_table.specs.declared.command.Command.TheVariants.{Lcard}
+use Rattle.sd_command_table.specs.declared.command.Command.TheVariants.{Apart, Messages, Opens, Plan, Receive, Sample}
+use Rattle.sd_command_table.specs.declared.command.Command.TheVariants.{Show}
+use Rattle.sd_command_table.specs.declared.command.Command.TheVariants.{Tables}
+use Rattle.sd_command_table.specs.declared.command.Command.TheVariants.{Trace, Trial}
+use Rattle.sd_command_line.specs.Words.{Argument, Order, CommandOf, HelpOf, VersionOf, file, number, order_of}
 use Rattle.sd_run_cover.specs.Cover.{cover_meaning}
 use Rattle.sd_run_card.specs.Card.{card_meaning}
 use Rattle.sd_run_sample.specs.Sample.{sample_meaning}

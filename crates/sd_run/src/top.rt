@@ -1,16 +1,19 @@
 ghost use Rattle.std.specs.Prelude.{◌≡◌, Some, Err, IsErrOf, map, string_bytes};
-ghost use Rattle.sd_cause.specs.Count.{HasNotRisen};
+ghost use Rattle.sd_base.specs.Count.{HasNotRisen};
 ghost use Rattle.sd_ports.specs.Files.{Files};
-ghost use Rattle.sd_status.specs.Outside.{outside, page_state, depot_state};
-ghost use Rattle.sd_status.specs.Spec.{contents_of};
-ghost use Rattle.sd_status.specs.Outcome.{Implements, status_of};
-ghost use Rattle.sd_status.specs.Results.{RunResult, HasAnswerCause, IsMeant, IsToldAs};
-ghost use Rattle.sd_commands.specs.Commands.{operands_of};
-ghost use Rattle.sd_words.specs.Words.{order_of};
+ghost use Rattle.sd_command_status.specs.Outside.{outside, page_state, depot_state};
+ghost use Rattle.sd_command_status.specs.Spec.{contents_of};
+ghost use Rattle.sd_command_status.specs.Outcome.{Implements, status_of};
+ghost use Rattle.sd_command_status.specs.Results.{RunResult, HasAnswerCause, IsMeant, IsToldAs};
+ghost use Rattle.sd_command_table.specs.Commands.{operands_of};
+ghost use Rattle.sd_command_line.specs.Words.{order_of};
 ghost use Rattle.sd_run.specs.Meaning.{command_meaning, meaning, order_meaning};
-ghost use Rattle.sd_words.specs.Orders.{arguments_said, order_said, AreOf, IsSound};
+ghost use Rattle.sd_command_line.specs.Orders.{arguments_said, order_said, AreOf, IsSound};
 
-use sd_commands::Command;
+use sd_base::Steps;
+use sd_command_line::{Arguments, Order, read_words};
+use sd_command_status::{Status, tell};
+use sd_command_table::Command;
 use sd_ports::{Depot, Sink};
 use sd_run_apart::apart;
 use sd_run_card::card;
@@ -29,9 +32,6 @@ use sd_run_show::show;
 use sd_run_tables::tables;
 use sd_run_trace::trace;
 use sd_run_trial::trial;
-use sd_status::{Status, tell};
-use sd_steps::Steps;
-use sd_words::{Arguments, Order, read_words};
 use std::alloc::Global;
 use std::sync::ledger::Ledger;
 

@@ -5,11 +5,11 @@ use Rattle.sd_book.specs.Text.{text_of}
 use Rattle.sd_book.specs.declared.command.Command.{Command}
 use Rattle.sd_accounts.specs.Accounts.{AccountsValue}
 use Rattle.sd_accounts.specs.Judged.{book_of}
-use Rattle.sd_status.specs.declared.status.Status.{Status}
-use Rattle.sd_status.specs.declared.status.Status.TheVariants.{Limit}
-use Rattle.sd_status.specs.declared.status.LimitKind.TheVariants.{BookBytes}
-use Rattle.sd_status.specs.Spec.{Spec, FileArgument, Readings, and_then, judged, value, within, ◌>>=◌}
-use Rattle.sd_files.specs.Files.{site_in, most_book_bytes}
+use Rattle.sd_command_status.specs.declared.status.Status.{Status}
+use Rattle.sd_command_status.specs.declared.status.Status.TheVariants.{Limit}
+use Rattle.sd_command_status.specs.declared.status.LimitKind.TheVariants.{BookBytes}
+use Rattle.sd_command_status.specs.Spec.{Spec, FileArgument, Readings, and_then, judged, value, within, ◌>>=◌}
+use Rattle.sd_command_files.specs.Files.{site_in, most_book_bytes}
 use Rattle.sd_run_accounts.specs.Accounts.{accounts_in, accounts_meaning, accounts_of_file, accounts_value}
 use Rattle.sd_run_accounts.specs.Accounts.{making_then, report_line, told_accounts}
 

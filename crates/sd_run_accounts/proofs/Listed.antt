@@ -20,7 +20,7 @@ use Rattle.sd_accounts.specs.Judged.{book_of}
 use Rattle.sd_accounts.specs.Line.{Entry, Assigns, Drops, Restores, Ends, said_by}
 use Rattle.sd_accounts.specs.declared.fault.AccountFault.{AccountFault}
 use Rattle.sd_accounts.specs.declared.fault.AccountFault.TheVariants.{Line, Unknown, Taken, Limit, NoMemory}
-use Rattle.sd_status.specs.Reads.{JudgedOutcome}
+use Rattle.sd_command_status.specs.Reads.{JudgedOutcome}
 use Rattle.sd_run_accounts.specs.Accounts.{account_on, bound_by, accounts_value, refused_accounts, told_accounts}
 
 -- a name below those of some accounts

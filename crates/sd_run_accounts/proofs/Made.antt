@@ -4,23 +4,24 @@ use Rattle.std.proofs.Common.{refl, sym, ap, subst, inl, inr, arith}
 use Rattle.std.proofs.lemmas.List.{append-nil}
 use Rattle.std.specs.Prelude.{IfOk, IsErrOf}
 use Rattle.std.specs.Io.KnownBytes.{Appends}
-use Rattle.sd_cause.specs.Count.{with_added}
+use Rattle.sd_base.specs.Count.{with_added}
 use Rattle.sd_ports.specs.Bytes.{AppendsPrefix}
 use Rattle.sd_ports.specs.Files.{WritesFile, IsUnmade as IsNoFile, IsMadeShort as IsShortFile}
 use Rattle.sd_ports.specs.Causes.{HasFileCause}
 use Rattle.sd_ports.specs.declared.file.FileFault.{FileFault}
 use Rattle.sd_ports.specs.declared.file.FileFault.TheVariants as file
-use Rattle.sd_status.specs.declared.status.Status.{Status}
-use Rattle.sd_status.specs.Outside.{DepotState, PageState, Outside, outside}
-use Rattle.sd_status.specs.Spec.{Spec, FileArgument, Readings, value, ◌>>=◌}
-use Rattle.sd_status.specs.Work.{Out, Work}
-use Rattle.sd_status.specs.Outcome.{IsEnding, IsMade, Progress, untouched, writing, Outcome, ended, exhausted, failed}
-use Rattle.sd_status.specs.Outcome.{nowhere, cut_off, OutcomeWithin, Implements, status_of}
-use Rattle.sd_status.specs.Prints.{PrintsText}
-use Rattle.sd_status.specs.Reads.{FilesOutcome}
-use Rattle.sd_status.proofs.Moves.{then_obeys}
-use Rattle.sd_status.proofs.Firsts.{first_obeys}
-use Rattle.sd_files.specs.Made.{making_told}
+use Rattle.sd_command_status.specs.declared.status.Status.{Status}
+use Rattle.sd_command_status.specs.Outside.{DepotState, PageState, Outside, outside}
+use Rattle.sd_command_status.specs.Spec.{Spec, FileArgument, Readings, value, ◌>>=◌}
+use Rattle.sd_command_status.specs.Work.{Out, Work}
+use Rattle.sd_command_status.specs.Outcome.{IsEnding, IsMade, Progress, untouched, writing, Outcome, ended, exhausted}
+use Rattle.sd_command_status.specs.Outcome.{failed}
+use Rattle.sd_command_status.specs.Outcome.{nowhere, cut_off, OutcomeWithin, Implements, status_of}
+use Rattle.sd_command_status.specs.Prints.{PrintsText}
+use Rattle.sd_command_status.specs.Reads.{FilesOutcome}
+use Rattle.sd_command_status.proofs.Moves.{then_obeys}
+use Rattle.sd_command_status.proofs.Firsts.{first_obeys}
+use Rattle.sd_command_files.specs.Made.{making_told}
 use Rattle.sd_run_accounts.specs.Accounts.{making_then}
 
 pub same_where_ok : {X Y E : Type 0} (r : Result X E) (f : X → Y) → IfOk r (λ x. f x ≡ f x)

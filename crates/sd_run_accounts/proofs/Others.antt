@@ -6,10 +6,10 @@ use Rattle.sd_accounts.specs.Accounts.{AccountsValue}
 use Rattle.sd_accounts.specs.Judged.{book_of}
 use Rattle.sd_accounts.specs.declared.fault.AccountFault.{AccountFault}
 use Rattle.sd_accounts.specs.declared.fault.AccountFault.TheVariants.{Line, Unknown, Taken, Limit, NoMemory}
-use Rattle.sd_status.specs.declared.status.LimitKind.TheVariants.{BookBytes}
-use Rattle.sd_status.specs.Spec.{FileArgument, Readings, judged, value, within, ◌>>=◌}
-use Rattle.sd_files.specs.Files.{site_of_file, most_book_bytes}
-use Rattle.sd_files.proofs.Others.{IsOther, other_after, other_file, other_site_file}
+use Rattle.sd_command_status.specs.declared.status.LimitKind.TheVariants.{BookBytes}
+use Rattle.sd_command_status.specs.Spec.{FileArgument, Readings, judged, value, within, ◌>>=◌}
+use Rattle.sd_command_files.specs.Files.{site_of_file, most_book_bytes}
+use Rattle.sd_command_files.proofs.Others.{IsOther, other_after, other_file, other_site_file}
 use Rattle.sd_run_accounts.specs.Accounts.{accounts_in, accounts_meaning, accounts_of_file, accounts_value}
 use Rattle.sd_run_accounts.specs.Accounts.{making_then, report_line, told_accounts}
 

@@ -13,12 +13,12 @@ use Rattle.sd_accounts.specs.Judged.{book_of}
 use Rattle.sd_accounts.specs.Report.{report_data}
 use Rattle.sd_accounts.specs.declared.fault.AccountFault.{AccountFault}
 use Rattle.sd_accounts.specs.declared.fault.AccountFault.TheVariants as account
-use Rattle.sd_status.specs.declared.status.Status.{Status}
-use Rattle.sd_status.specs.declared.status.Status.TheVariants.{Done, BadBook, Limit, NoMemory}
-use Rattle.sd_status.specs.declared.status.LimitKind.TheVariants.{BookBytes, Book}
-use Rattle.sd_status.specs.Spec.{Spec, FileArgument, Readings, value, judged, within, ◌>>=◌}
-use Rattle.sd_status.specs.Work.{NoSteps, Work}
-use Rattle.sd_files.specs.Files.{site_in, most_book_bytes}
+use Rattle.sd_command_status.specs.declared.status.Status.{Status}
+use Rattle.sd_command_status.specs.declared.status.Status.TheVariants.{Done, BadBook, Limit, NoMemory}
+use Rattle.sd_command_status.specs.declared.status.LimitKind.TheVariants.{BookBytes, Book}
+use Rattle.sd_command_status.specs.Spec.{Spec, FileArgument, Readings, value, judged, within, ◌>>=◌}
+use Rattle.sd_command_status.specs.Work.{NoSteps, Work}
+use Rattle.sd_command_files.specs.Files.{site_in, most_book_bytes}
 
 -- the account that a line binds
 abbrev pub account_on : Option Entry → Option Account

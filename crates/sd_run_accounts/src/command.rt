@@ -1,18 +1,18 @@
 ghost use Rattle.std.specs.Prelude.{◌≡◌, ◌≢◌, ℕ, IfOk, IfErr};
 ghost use Rattle.sd_site.specs.Fields.{fields_of};
 ghost use Rattle.sd_accounts.specs.Judged.{book_of};
-ghost use Rattle.sd_status.specs.Spec.{value};
-ghost use Rattle.sd_status.specs.Outside.{outside, page_state, depot_state};
-ghost use Rattle.sd_status.specs.Reads.{JudgedOutcome, FileOutcome, FilesOutcome};
-ghost use Rattle.sd_status.specs.Outcome.{Implements, OutcomeWithin, status_of};
-ghost use Rattle.sd_files.specs.Shown.{shown_word};
+ghost use Rattle.sd_command_status.specs.Spec.{value};
+ghost use Rattle.sd_command_status.specs.Outside.{outside, page_state, depot_state};
+ghost use Rattle.sd_command_status.specs.Reads.{JudgedOutcome, FileOutcome, FilesOutcome};
+ghost use Rattle.sd_command_status.specs.Outcome.{Implements, OutcomeWithin, status_of};
+ghost use Rattle.sd_command_files.specs.Shown.{shown_word};
 ghost use Rattle.sd_run_accounts.specs.Accounts.{accounts_in, accounts_meaning, accounts_of_file, accounts_value};
 ghost use Rattle.sd_run_accounts.specs.Accounts.{making_then, refused_accounts, report_line, told_accounts};
 
 use sd_accounts::{AccountFault, Accounts};
-use sd_files::{MOST_BOOK_BYTES, Word, print_text, read_bytes, read_site, told};
+use sd_command_files::{MOST_BOOK_BYTES, Word, print_text, read_bytes, read_site, told};
+use sd_command_status::{LimitKind, Status};
 use sd_ports::{Depot, Sink, write_file};
-use sd_status::{LimitKind, Status};
 use sd_tree::Height;
 use std::alloc::Global;
 

@@ -8,9 +8,9 @@ use Rattle.std.proofs.lemmas.Bool.{cases_lt}
 use Rattle.sd_book.specs.declared.command.Command.{Command}
 use Rattle.sd_book.specs.Commands.{commands_until, is_revoked, last_period, revoked}
 use Rattle.sd_book.proofs.Cuts.{revoked_past}
-use Rattle.sd_broadcast.specs.Plan.{Plan}
-use Rattle.sd_status.specs.declared.status.Clash.{Clash as ClashKind}
-use Rattle.sd_status.specs.declared.status.Clash.TheVariants.{Books}
+use Rattle.sd_spec_broadcast.specs.Plan.{Plan}
+use Rattle.sd_command_status.specs.declared.status.Clash.{Clash as ClashKind}
+use Rattle.sd_command_status.specs.declared.status.Clash.TheVariants.{Books}
 use Rattle.sd_run_apart.specs.Apart.{clash_in, first_differing, first_of, first_shared}
 
 -- some first numbers, and the others

@@ -1,10 +1,10 @@
 -- `apart` never means `Usage`.
 use Rattle.std.proofs.Common.{ℕ, List, Option, Some, None}
-use Rattle.sd_status.specs.declared.status.Clash.{Clash as ClashKind}
-use Rattle.sd_status.specs.Spec.{FileArgument, Readings, judged, value, ◌>>=◌}
-use Rattle.sd_files.specs.Both.{SiteBook, both_by}
-use Rattle.sd_files.specs.Files.{site_of_file, book_of_file}
-use Rattle.sd_files.proofs.Others.{IsOther, other_after, other_site_file, other_book_file}
+use Rattle.sd_command_status.specs.declared.status.Clash.{Clash as ClashKind}
+use Rattle.sd_command_status.specs.Spec.{FileArgument, Readings, judged, value, ◌>>=◌}
+use Rattle.sd_command_files.specs.Both.{SiteBook, both_by}
+use Rattle.sd_command_files.specs.Files.{site_of_file, book_of_file}
+use Rattle.sd_command_files.proofs.Others.{IsOther, other_after, other_site_file, other_book_file}
 use Rattle.sd_run_apart.specs.Apart.{apart_meaning, apart_text, clash_of, plan_of_both, saying, told_apart, told_clash}
 
 -- a site and a book are read, or refused

@@ -6,14 +6,14 @@ use Rattle.std.specs.Io.KnownBytes.{Appends}
 use Rattle.std.proofs.lemmas.Bool.Decides.{nat_tests}
 use Rattle.sd_ports.specs.Bytes.{AppendsPrefix}
 use Rattle.sd_ports.specs.Files.{Files}
-use Rattle.sd_status.specs.declared.status.Status.{Status}
-use Rattle.sd_status.specs.Outside.{DepotState, PageState, Outside, outside}
-use Rattle.sd_status.specs.Spec.{Spec, FileArgument, Readings, IsGiven, value, ◌>>=◌}
-use Rattle.sd_status.specs.Work.{Work}
-use Rattle.sd_status.specs.Outcome.{IsEnding, ended, cut_off, OutcomeWithin, Implements}
-use Rattle.sd_status.specs.Prints.{PrintsText}
-use Rattle.sd_status.specs.Reads.{FilesOutcome}
-use Rattle.sd_status.proofs.Moves.{then_obeys}
+use Rattle.sd_command_status.specs.declared.status.Status.{Status}
+use Rattle.sd_command_status.specs.Outside.{DepotState, PageState, Outside, outside}
+use Rattle.sd_command_status.specs.Spec.{Spec, FileArgument, Readings, IsGiven, value, ◌>>=◌}
+use Rattle.sd_command_status.specs.Work.{Work}
+use Rattle.sd_command_status.specs.Outcome.{IsEnding, ended, cut_off, OutcomeWithin, Implements}
+use Rattle.sd_command_status.specs.Prints.{PrintsText}
+use Rattle.sd_command_status.specs.Reads.{FilesOutcome}
+use Rattle.sd_command_status.proofs.Moves.{then_obeys}
 use Rattle.sd_run_apart.specs.Apart.{saying}
 
 other_number : (n k : ℕ) → n ≢ k → nat_eq k n ≡ false

@@ -7,10 +7,10 @@ ghost use Rattle.sd_site.specs.Fields.{fields_of};
 ghost use Rattle.sd_run_apart.specs.Apart.{books_clash, first_differing};
 
 use crate::sites::last_due;
+use sd_base::NoMemory;
 use sd_book::{Book, Periods};
-use sd_cause::NoMemory;
+use sd_command_status::Clash;
 use sd_site::Site;
-use sd_status::Clash;
 use sd_tree::Leaf;
 use std::alloc::Global;
 

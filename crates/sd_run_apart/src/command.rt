@@ -1,19 +1,19 @@
 ghost use Rattle.std.specs.Prelude.{◌≡◌, ◌≢◌, ℕ, string_bytes};
 ghost use Rattle.sd_site.specs.Fields.{fields_of};
-ghost use Rattle.sd_status.specs.Outside.{outside, page_state, depot_state};
-ghost use Rattle.sd_status.specs.Reads.{JudgedOutcome};
-ghost use Rattle.sd_status.specs.Outcome.{Implements, status_of};
-ghost use Rattle.sd_files.specs.Shown.{shown_word};
+ghost use Rattle.sd_command_status.specs.Outside.{outside, page_state, depot_state};
+ghost use Rattle.sd_command_status.specs.Reads.{JudgedOutcome};
+ghost use Rattle.sd_command_status.specs.Outcome.{Implements, status_of};
+ghost use Rattle.sd_command_files.specs.Shown.{shown_word};
 ghost use Rattle.sd_run_apart.specs.Apart.{apart_meaning, told_apart};
 
 use crate::books::clash_of_books;
 use crate::lines::push_site;
 use crate::sites::clash_of_sites;
 use sd_book::Book;
-use sd_files::{Word, print_text, read_both};
+use sd_command_files::{Word, print_text, read_both};
+use sd_command_status::Status;
 use sd_ports::{Depot, Sink};
 use sd_site::Site;
-use sd_status::Status;
 use std::alloc::Global;
 
 /// Does `apart SITE BOOK SITE BOOK`.

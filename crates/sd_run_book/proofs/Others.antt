@@ -2,12 +2,12 @@
 use Rattle.std.proofs.Common.{ℕ, List, [], ◌++◌, map, Some}
 use Rattle.sd_book.specs.declared.command.Command.{Command}
 use Rattle.sd_book.specs.Text.{judged as said, text_of}
-use Rattle.sd_status.specs.Spec.{FileArgument, Readings, judged, value, ◌>>=◌}
-use Rattle.sd_status.specs.Work.{NoSteps}
-use Rattle.sd_files.specs.Both.{both_by}
-use Rattle.sd_files.specs.Files.{book_of_file}
-use Rattle.sd_files.specs.Made.{making}
-use Rattle.sd_files.proofs.Others.{IsOther, other_after, other_book, other_book_file, other_both}
+use Rattle.sd_command_status.specs.Spec.{FileArgument, Readings, judged, value, ◌>>=◌}
+use Rattle.sd_command_status.specs.Work.{NoSteps}
+use Rattle.sd_command_files.specs.Both.{both_by}
+use Rattle.sd_command_files.specs.Files.{book_of_file}
+use Rattle.sd_command_files.specs.Made.{making}
+use Rattle.sd_command_files.proofs.Others.{IsOther, other_after, other_book, other_book_file, other_both}
 use Rattle.sd_run_book.specs.Book.{longer_book, book_meaning}
 
 other_longer : (word d : ℕ) (commands added : List Command) → IsOther (longer_book word d commands added)

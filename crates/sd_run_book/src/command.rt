@@ -1,14 +1,14 @@
 ghost use Rattle.std.specs.Prelude.{◌≡◌, ◌≢◌, ℕ};
-ghost use Rattle.sd_status.specs.Outside.{PageState, outside, depot_state};
-ghost use Rattle.sd_status.specs.Reads.{JudgedOutcome};
-ghost use Rattle.sd_status.specs.Outcome.{Implements, status_of};
-ghost use Rattle.sd_files.specs.Shown.{shown_word};
+ghost use Rattle.sd_command_status.specs.Outside.{PageState, outside, depot_state};
+ghost use Rattle.sd_command_status.specs.Reads.{JudgedOutcome};
+ghost use Rattle.sd_command_status.specs.Outcome.{Implements, status_of};
+ghost use Rattle.sd_command_files.specs.Shown.{shown_word};
 ghost use Rattle.sd_run_book.specs.Book.{book_meaning, longer_book};
 
 use sd_book::Book;
-use sd_files::{Word, book_fault, make_file, read_book, read_both};
+use sd_command_files::{Word, book_fault, make_file, read_book, read_both};
+use sd_command_status::Status;
 use sd_ports::Depot;
-use sd_status::Status;
 use std::alloc::Global;
 
 /// Does `book SITE BOOK COMMANDS OUT`: COMMANDS is a book by itself, and OUT is BOOK with its commands at the end.

@@ -1,7 +1,7 @@
 use hex::FromHex;
+use sd_command_status::Status;
 use sd_ports::{MemDepot, MemSink};
-use sd_run_memory::{SITE, uncounted};
-use sd_status::Status;
+use sd_test_memory::{SITE, uncounted};
 use sha2::{Digest, Sha256};
 use std::alloc::{AllocError, Global};
 

@@ -3,13 +3,13 @@ use Rattle.std.proofs.Common.{ℕ, ◌^◌, Bool, true, false, cond, List, Ok, E
 use Rattle.std.specs.Prelude.{nat_lt}
 use Rattle.sd_site.specs.Fields.{SiteFields}
 use Rattle.sd_card.specs.Fields.{card_of, card_bytes}
-use Rattle.sd_status.specs.declared.status.Status.TheVariants.{BadWord}
-use Rattle.sd_status.specs.Spec.{FileArgument, Readings, judged, value, ◌>>=◌}
-use Rattle.sd_status.specs.Work.{Uncounted}
-use Rattle.sd_files.specs.Shown.{NumberArgument}
-use Rattle.sd_files.specs.Files.{site_of_file}
-use Rattle.sd_files.specs.Made.{making}
-use Rattle.sd_files.proofs.Others.{IsOther, other_after, other_site_file}
+use Rattle.sd_command_status.specs.declared.status.Status.TheVariants.{BadWord}
+use Rattle.sd_command_status.specs.Spec.{FileArgument, Readings, judged, value, ◌>>=◌}
+use Rattle.sd_command_status.specs.Work.{Uncounted}
+use Rattle.sd_command_files.specs.Shown.{NumberArgument}
+use Rattle.sd_command_files.specs.Files.{site_of_file}
+use Rattle.sd_command_files.specs.Made.{making}
+use Rattle.sd_command_files.proofs.Others.{IsOther, other_after, other_site_file}
 use Rattle.sd_run_card.specs.Card.{told_card, card_meaning}
 
 other_leaf : (b : Bool) (bytes : List ℕ) (word : ℕ) → IsOther (cond b (Ok bytes) (Err (BadWord word)))

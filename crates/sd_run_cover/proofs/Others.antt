@@ -1,7 +1,7 @@
 -- `cover` never means `Usage`.
-use Rattle.sd_status.specs.Spec.{FileArgument, Readings, value, ◌>>=◌}
-use Rattle.sd_files.specs.Files.{site_of_file, book_of_file}
-use Rattle.sd_files.proofs.Others.{IsOther, other_after, other_site_file, other_book_file}
+use Rattle.sd_command_status.specs.Spec.{FileArgument, Readings, value, ◌>>=◌}
+use Rattle.sd_command_files.specs.Files.{site_of_file, book_of_file}
+use Rattle.sd_command_files.proofs.Others.{IsOther, other_after, other_site_file, other_book_file}
 use Rattle.sd_run_cover.specs.Cover.{covering, cover_meaning}
 
 pub other_cover : (site book : FileArgument) (given : Readings) → IsOther (cover_meaning site book given).result

@@ -1,16 +1,16 @@
 ghost use Rattle.std.specs.Prelude.{◌≡◌, ◌≢◌, ℕ};
-ghost use Rattle.sd_status.specs.Outside.{outside, page_state, depot_state};
-ghost use Rattle.sd_status.specs.Reads.{FilesOutcome};
-ghost use Rattle.sd_status.specs.Outcome.{Implements, status_of};
+ghost use Rattle.sd_command_status.specs.Outside.{outside, page_state, depot_state};
+ghost use Rattle.sd_command_status.specs.Reads.{FilesOutcome};
+ghost use Rattle.sd_command_status.specs.Outcome.{Implements, status_of};
 ghost use Rattle.sd_run_cover.specs.Cover.{cover_meaning, covering};
-ghost use Rattle.sd_files.specs.Shown.{shown_word};
+ghost use Rattle.sd_command_files.specs.Shown.{shown_word};
 
 use crate::bare::Bare;
 use sd_book::Book;
-use sd_files::{Word, read_book, read_site};
-use sd_periods::print_periods;
+use sd_command_files::{Word, read_book, read_site};
+use sd_command_periods::print_periods;
+use sd_command_status::Status;
 use sd_ports::{Depot, Sink};
-use sd_status::Status;
 use std::alloc::Global;
 
 /// Does `cover SITE BOOK`.

@@ -4,16 +4,16 @@ use Rattle.std.specs.Prelude.{nat_lt}
 use Rattle.sd_engine.specs.Stream.{packets_of, break_of}
 use Rattle.sd_engine.specs.declared.fault.StreamBreak.{StreamBreak}
 use Rattle.sd_site.specs.Fields.{SiteFields}
-use Rattle.sd_events.specs.declared.event.Event.{Event}
+use Rattle.sd_spec_field.specs.declared.event.Event.{Event}
 use Rattle.sd_field.specs.Script.{script_of}
 use Rattle.sd_field.specs.declared.fault.ScriptFault.{ScriptFault}
 use Rattle.sd_field.specs.declared.fault.ScriptFault.TheVariants as script
-use Rattle.sd_status.specs.declared.status.Status.TheVariants.{Limit}
-use Rattle.sd_status.specs.declared.status.LimitKind.TheVariants.{BookBytes, FieldHeight, FieldPackets}
-use Rattle.sd_status.specs.Spec.{FileArgument, Readings, judged, value, within, ◌>>=◌}
-use Rattle.sd_files.specs.Files.{site_of_file, most_book_bytes}
-use Rattle.sd_files.specs.Printed.{printing}
-use Rattle.sd_files.proofs.Others.{IsOther, other_after, other_file, other_site_file}
+use Rattle.sd_command_status.specs.declared.status.Status.TheVariants.{Limit}
+use Rattle.sd_command_status.specs.declared.status.LimitKind.TheVariants.{BookBytes, FieldHeight, FieldPackets}
+use Rattle.sd_command_status.specs.Spec.{FileArgument, Readings, judged, value, within, ◌>>=◌}
+use Rattle.sd_command_files.specs.Files.{site_of_file, most_book_bytes}
+use Rattle.sd_command_files.specs.Printed.{printing}
+use Rattle.sd_command_files.proofs.Others.{IsOther, other_after, other_file, other_site_file}
 use Rattle.sd_run_field.specs.Field.{clear_of_file, field_meaning, field_text, inputs_by, low_site_of_file}
 use Rattle.sd_run_field.specs.Field.{most_clear_bytes, most_height, script_of_file, told_clear, told_low, told_script}
 use Rattle.sd_run_field.specs.Field.{unbroken}

@@ -6,14 +6,14 @@ use Rattle.std.specs.List.{concat}
 use Rattle.sd_site.specs.Fields.{SiteFields}
 use Rattle.sd_book.specs.declared.command.Command.{Command}
 use Rattle.sd_book.specs.Commands.{last_period}
-use Rattle.sd_broadcast.specs.Sent.{body}
-use Rattle.sd_broadcast.specs.declared.fault.ClearFault.{ClearFault}
-use Rattle.sd_events.specs.declared.event.Event.{Event}
+use Rattle.sd_spec_broadcast.specs.Sent.{body}
+use Rattle.sd_spec_broadcast.specs.declared.fault.ClearFault.{ClearFault}
+use Rattle.sd_spec_field.specs.declared.event.Event.{Event}
 use Rattle.sd_field.specs.Fields.{FieldValue, IsSentCut, plan_in, sends_of, taken, written_of}
 use Rattle.sd_field.proofs.Fields.{unsent}
-use Rattle.sd_status.specs.declared.status.Status.{Status}
-use Rattle.sd_status.specs.Outcome.{IsEnding}
-use Rattle.sd_files.specs.Printed.{MemoryOutcome}
+use Rattle.sd_command_status.specs.declared.status.Status.{Status}
+use Rattle.sd_command_status.specs.Outcome.{IsEnding}
+use Rattle.sd_command_files.specs.Printed.{MemoryOutcome}
 use Rattle.sd_run_field.specs.Field.{digest_of, done_field, field_text, first_line, lines_to, receiver_line, text_in}
 use Rattle.sd_run_field.specs.Field.{unrefused, wrote_line}
 use Rattle.sd_run_field.specs.Played.{PlayOutcome}

@@ -1,15 +1,15 @@
 ghost use Rattle.std.specs.Prelude.{◌≡◌, ◌*◌, ◌≤◌, ◌++◌, ◌∷◌, [], IfOk, OnOk, length};
-ghost use Rattle.sd_status.specs.Outside.{depot_state};
-ghost use Rattle.sd_status.specs.Reads.{JudgedOutcome, FileOutcome};
+ghost use Rattle.sd_command_status.specs.Outside.{depot_state};
+ghost use Rattle.sd_command_status.specs.Reads.{JudgedOutcome, FileOutcome};
 ghost use Rattle.sd_run_field.specs.Clear.{BeginsWithPacket, broken_status};
 ghost use Rattle.sd_run_field.specs.Field.{clear_of_file, told_clear};
 
-use sd_cause::NoMemory;
+use sd_base::NoMemory;
+use sd_command_files::{Word, read_bytes};
+use sd_command_status::{ClearCause, LimitKind, Status};
 use sd_engine::BreakCause;
-use sd_files::{Word, read_bytes};
 use sd_packet::{Packet, SIZE};
 use sd_ports::Depot;
-use sd_status::{ClearCause, LimitKind, Status};
 use std::alloc::Global;
 
 /// The most bytes of a clear stream: those of 16,384 packets.

@@ -1,24 +1,24 @@
 ghost use Rattle.std.specs.Prelude.{◌≡◌, ◌≢◌, ◌≤◌, All, length, string_bytes, true};
 ghost use Rattle.sd_site.specs.Fields.{fields_of};
-ghost use Rattle.sd_events.specs.Events.{is_of};
-ghost use Rattle.sd_status.specs.Outside.{outside, page_state, depot_state};
-ghost use Rattle.sd_status.specs.Outcome.{Implements, status_of};
-ghost use Rattle.sd_files.specs.Printed.{MemoryOutcome};
-ghost use Rattle.sd_files.specs.Shown.{shown_word};
+ghost use Rattle.sd_spec_field.specs.Events.{is_of};
+ghost use Rattle.sd_command_status.specs.Outside.{outside, page_state, depot_state};
+ghost use Rattle.sd_command_status.specs.Outcome.{Implements, status_of};
+ghost use Rattle.sd_command_files.specs.Printed.{MemoryOutcome};
+ghost use Rattle.sd_command_files.specs.Shown.{shown_word};
 ghost use Rattle.sd_run_field.specs.Field.{field_meaning, field_text};
 
 use crate::inputs::read_inputs;
 use crate::lines::lines;
 use crate::play::play;
 use crate::script::read_events;
-use sd_events::Event;
+use sd_base::Steps;
+use sd_command_files::{Word, print_text};
+use sd_command_status::Status;
 use sd_field::Field;
-use sd_files::{Word, print_text};
 use sd_packet::Packet;
 use sd_ports::{Depot, Sink};
 use sd_site::Site;
-use sd_status::Status;
-use sd_steps::Steps;
+use sd_spec_field::Event;
 use std::alloc::Global;
 use std::sync::ledger::Ledger;
 

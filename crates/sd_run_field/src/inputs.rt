@@ -1,16 +1,16 @@
 ghost use Rattle.std.specs.Prelude.{◌≡◌, ◌≢◌, ◌≤◌, IfOk, length};
 ghost use Rattle.sd_site.specs.Fields.{fields_of};
-ghost use Rattle.sd_status.specs.Outside.{depot_state};
-ghost use Rattle.sd_status.specs.Reads.{SureOutcome, FileOutcome, FilesOutcome};
-ghost use Rattle.sd_files.specs.Shown.{shown_word};
+ghost use Rattle.sd_command_status.specs.Outside.{depot_state};
+ghost use Rattle.sd_command_status.specs.Reads.{SureOutcome, FileOutcome, FilesOutcome};
+ghost use Rattle.sd_command_files.specs.Shown.{shown_word};
 ghost use Rattle.sd_run_field.specs.Field.{inputs_meaning, low_site_of_file, told_low};
 
 use crate::clear::read_clear;
-use sd_files::{Word, read_site};
+use sd_command_files::{Word, read_site};
+use sd_command_status::{LimitKind, Status};
 use sd_packet::Packet;
 use sd_ports::Depot;
 use sd_site::Site;
-use sd_status::{LimitKind, Status};
 use std::alloc::Global;
 
 /// The greatest height of a field's tree.

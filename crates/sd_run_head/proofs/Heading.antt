@@ -3,29 +3,29 @@ use Rattle.std.proofs.Common.{◌≡◌, ◌≢◌, ℕ, Bool, true, false, cond
 use Rattle.std.proofs.Common.{sym, ap, subst, ◌∙◌, inl, inr, arith}
 use Rattle.std.specs.Prelude.{nat_eq, IsErrOf}
 use Rattle.std.proofs.lemmas.Bool.Decides.{nat_tests}
-use Rattle.sd_cause.specs.Count.{IsCaused}
+use Rattle.sd_base.specs.Count.{IsCaused}
 use Rattle.sd_ports.specs.Files.{Files}
 use Rattle.sd_engine.specs.Driving.{DriveState, DriveOutcome}
 use Rattle.sd_engine.proofs.Taken.{is_over}
 use Rattle.sd_engine.specs.declared.driver.DriveFault.{DriveFault}
 use Rattle.sd_engine.specs.declared.driver.DriveFault.TheVariants as drive
-use Rattle.sd_broadcast.specs.Plan.{Plan}
-use Rattle.sd_broadcast.specs.declared.fault.ClearFault.{ClearFault}
+use Rattle.sd_spec_broadcast.specs.Plan.{Plan}
+use Rattle.sd_spec_broadcast.specs.declared.fault.ClearFault.{ClearFault}
 use Rattle.sd_head.specs.declared.fault.HeadFault.{HeadFault}
 use Rattle.sd_head.specs.declared.fault.HeadFault.TheVariants as head
 use Rattle.sd_head.specs.declared.head.Head.{Head}
 use Rattle.sd_head.specs.Schedule.{IsDue}
 use Rattle.sd_head.specs.Staged.{IsAfter, head_does, head_ends, head_refuses, RefusesPacket}
-use Rattle.sd_status.specs.declared.status.Status.{Status}
-use Rattle.sd_status.specs.declared.status.Status.TheVariants.{DepotFault, NoMemory}
-use Rattle.sd_status.specs.Outside.{DepotState, PageState, Outside, outside}
-use Rattle.sd_status.specs.Spec.{Spec, FileArgument, Readings, IsGiven, IsGot, ◌>>=◌}
-use Rattle.sd_status.specs.Work.{Work}
-use Rattle.sd_status.specs.Outcome.{untouched, exhausted, OutcomeWithin, Implements}
-use Rattle.sd_status.specs.Reads.{FilesOutcome}
-use Rattle.sd_status.proofs.Firsts.{takes_none, first_obeys}
-use Rattle.sd_status.proofs.Moves.{then_obeys}
-use Rattle.sd_files.specs.Turned.{HasPortCause, Wrote}
+use Rattle.sd_command_status.specs.declared.status.Status.{Status}
+use Rattle.sd_command_status.specs.declared.status.Status.TheVariants.{DepotFault, NoMemory}
+use Rattle.sd_command_status.specs.Outside.{DepotState, PageState, Outside, outside}
+use Rattle.sd_command_status.specs.Spec.{Spec, FileArgument, Readings, IsGiven, IsGot, ◌>>=◌}
+use Rattle.sd_command_status.specs.Work.{Work}
+use Rattle.sd_command_status.specs.Outcome.{untouched, exhausted, OutcomeWithin, Implements}
+use Rattle.sd_command_status.specs.Reads.{FilesOutcome}
+use Rattle.sd_command_status.proofs.Firsts.{takes_none, first_obeys}
+use Rattle.sd_command_status.proofs.Moves.{then_obeys}
+use Rattle.sd_command_files.specs.Turned.{HasPortCause, Wrote}
 use Rattle.sd_run_head.specs.Head.{plan_by, plan_meaning, sending_of, head_meaning, refusal_in, stop_status, sent_told}
 use Rattle.sd_run_head.specs.Head.{SendsLeft, sent_of, sent_status}
 use Rattle.sd_run_head.proofs.Sending.{IsHeadEnd, IsDueAt, wrote_sent}

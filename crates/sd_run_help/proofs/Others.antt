@@ -1,8 +1,8 @@
 -- Neither `help` nor `version` means `Usage`.
 use Rattle.std.proofs.Common.{Option}
-use Rattle.sd_status.specs.Spec.{Readings}
-use Rattle.sd_files.proofs.Others.{IsOther}
-use Rattle.sd_commands.specs.declared.command.Command.{Command}
+use Rattle.sd_command_status.specs.Spec.{Readings}
+use Rattle.sd_command_files.proofs.Others.{IsOther}
+use Rattle.sd_command_table.specs.declared.command.Command.{Command}
 use Rattle.sd_run_help.specs.Help.{help_meaning, version_meaning}
 
 pub other_help : (topic : Option Command) (given : Readings) → IsOther (help_meaning topic given).result

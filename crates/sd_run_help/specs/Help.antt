@@ -1,9 +1,9 @@
 -- Public meaning: `help`, `help COMMAND` and `version` [this project, docs/FORMATS.md, Help].
 use Rattle.std.specs.Prelude.{ℕ, false, List, [], ◌∷◌, Option, None}
-use Rattle.sd_status.specs.declared.status.Status.TheVariants.{Done}
-use Rattle.sd_status.specs.Spec.{Spec, Readings, value}
-use Rattle.sd_status.specs.Work.{NoSteps, Work}
-use Rattle.sd_commands.specs.declared.command.Command.{Command}
+use Rattle.sd_command_status.specs.declared.status.Status.TheVariants.{Done}
+use Rattle.sd_command_status.specs.Spec.{Spec, Readings, value}
+use Rattle.sd_command_status.specs.Work.{NoSteps, Work}
+use Rattle.sd_command_table.specs.declared.command.Command.{Command}
 use Rattle.sd_run_help.specs.Pages.{help_text, version_text}
 
 -- a text is printed

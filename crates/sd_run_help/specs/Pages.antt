@@ -2,11 +2,11 @@
 use Rattle.std.specs.Prelude.{ℕ, ◌-◌, ◌^◌, List, ◌++◌, codes, Option, Some, None}
 use Rattle.std.specs.List.{flat_map}
 use Rattle.std.specs.Fmt.{padded, format_spec}
-use Rattle.sd_commands.specs.declared.command.Command.{Command}
-use Rattle.sd_commands.specs.declared.operand.Operand.{Operand}
-use Rattle.sd_commands.specs.Operands.{meaning_of, operand_name as word_of}
-use Rattle.sd_commands.specs.Exits.{exit_line}
-use Rattle.sd_commands.specs.Commands.{commands, example_of, exits_of, command_name, operands_of, work_of}
+use Rattle.sd_command_table.specs.declared.command.Command.{Command}
+use Rattle.sd_command_table.specs.declared.operand.Operand.{Operand}
+use Rattle.sd_command_table.specs.Operands.{meaning_of, operand_name as word_of}
+use Rattle.sd_command_table.specs.Exits.{exit_line}
+use Rattle.sd_command_table.specs.Commands.{commands, example_of, exits_of, command_name, operands_of, work_of}
 
 -- a text at the left of a column of that width in characters, filled up with spaces
 abbrev pub at_left : ℕ → List ℕ → List ℕ

@@ -1,14 +1,14 @@
 ghost use Rattle.std.specs.Prelude.{◌≡◌, ℕ, IfOk, string_bytes};
-ghost use Rattle.sd_status.specs.Outcome.{Implements, status_of};
-ghost use Rattle.sd_status.specs.Outside.{DepotState, outside, page_state};
+ghost use Rattle.sd_command_status.specs.Outcome.{Implements, status_of};
+ghost use Rattle.sd_command_status.specs.Outside.{DepotState, outside, page_state};
 ghost use Rattle.sd_run_help.specs.Help.{help_meaning, version_meaning};
 ghost use Rattle.sd_run_help.specs.Pages.{help_text, version_text};
 
 use crate::page::{overview, page as page_of};
-use sd_commands::Command;
-use sd_files::print_text;
+use sd_command_files::print_text;
+use sd_command_status::Status;
+use sd_command_table::Command;
 use sd_ports::Sink;
-use sd_status::Status;
 use std::alloc::{AllocError, Global};
 
 /// Runs `help COMMAND`, or `help` if no command is named: prints the page of the command, or the list of all commands.

@@ -1,10 +1,10 @@
 ghost use Rattle.std.specs.Prelude.{◌≡◌, ◌++◌, IfOk, OnOk, string_bytes};
 ghost use Rattle.std.specs.List.{flat_map};
-ghost use Rattle.sd_commands.specs.Exits.{exit_line};
+ghost use Rattle.sd_command_table.specs.Exits.{exit_line};
 ghost use Rattle.sd_run_help.specs.Pages.{head_text, operand_line, overview as overview_text, page_text, spaced};
 ghost use Rattle.sd_run_help.specs.Pages.{tail_text, topic_line, usage_of};
 
-use sd_commands::{COMMANDS, Command, Exit, Operand};
+use sd_command_table::{COMMANDS, Command, Exit, Operand};
 use std::alloc::{AllocError, Global};
 use std::fmt::Write;
 

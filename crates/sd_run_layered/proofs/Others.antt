@@ -1,11 +1,11 @@
 -- `layered` never means `Usage`.
 use Rattle.std.proofs.Common.{ℕ, Bool, true, false, cond, List, Option, Ok, Err}
 use Rattle.std.specs.Prelude.{nat_le, ◌&&◌}
-use Rattle.sd_status.specs.declared.status.Status.TheVariants.{BadWord}
-use Rattle.sd_status.specs.Spec.{FileArgument, Readings, judged, value, ◌>>=◌}
-use Rattle.sd_files.specs.Shown.{NumberArgument}
-use Rattle.sd_files.specs.Files.{site_of_file, book_of_file}
-use Rattle.sd_files.proofs.Others.{IsOther, other_after, other_site_file, other_book_file}
+use Rattle.sd_command_status.specs.declared.status.Status.TheVariants.{BadWord}
+use Rattle.sd_command_status.specs.Spec.{FileArgument, Readings, judged, value, ◌>>=◌}
+use Rattle.sd_command_files.specs.Shown.{NumberArgument}
+use Rattle.sd_command_files.specs.Files.{site_of_file, book_of_file}
+use Rattle.sd_command_files.proofs.Others.{IsOther, other_after, other_site_file, other_book_file}
 use Rattle.sd_run_layered.specs.Layered.{Layers, told_layers, layers_of_file, layering, layered_meaning}
 
 -- the width is good, or refused

@@ -1,16 +1,16 @@
 ghost use Rattle.std.specs.Prelude.{◌≡◌, ◌≢◌, ◌≤◌, ℕ, IfOk};
-ghost use Rattle.sd_status.specs.Outside.{outside, page_state, depot_state};
-ghost use Rattle.sd_status.specs.Reads.{SureOutcome, FileOutcome};
-ghost use Rattle.sd_status.specs.Outcome.{Implements, status_of};
-ghost use Rattle.sd_files.specs.Shown.{shown_number, shown_word};
+ghost use Rattle.sd_command_status.specs.Outside.{outside, page_state, depot_state};
+ghost use Rattle.sd_command_status.specs.Reads.{SureOutcome, FileOutcome};
+ghost use Rattle.sd_command_status.specs.Outcome.{Implements, status_of};
+ghost use Rattle.sd_command_files.specs.Shown.{shown_number, shown_word};
 ghost use Rattle.sd_run_layered.specs.Layered.{layered_meaning, layers_of_file, shown_layers, told_layers};
 
 use crate::useful::UsefulSets;
-use sd_files::{Number, Word, read_book, read_site};
-use sd_layers::Width;
-use sd_periods::print_periods;
+use sd_command_files::{Number, Word, read_book, read_site};
+use sd_command_periods::print_periods;
+use sd_command_status::Status;
+use sd_lsd_sets::Width;
 use sd_ports::{Depot, Sink};
-use sd_status::Status;
 use sd_tree::{HIGHEST, Height};
 use std::alloc::Global;
 

@@ -7,8 +7,8 @@ ghost use Rattle.sd_tree.specs.SetNames.{IsOfHeight};
 ghost use Rattle.sd_book.specs.declared.command.Command.{Command};
 ghost use Rattle.sd_book.specs.Commands.{revoked};
 ghost use Rattle.sd_steiner.specs.Partition.{IsPartition};
-ghost use Rattle.sd_layers.specs.Layers.{is_useful};
-ghost use Rattle.sd_layers.specs.Cover.{IsDoubleSmall, layer_cover_of};
+ghost use Rattle.sd_lsd_sets.specs.Layers.{is_useful};
+ghost use Rattle.sd_lsd_sets.specs.Cover.{IsDoubleSmall, layer_cover_of};
 
 /// The sets that are printed of a period are useful and of the tree's height. They are disjoint and unite to the leaves
 /// that aren't revoked in it. They are the whole set alone where none is revoked, and at most 4r - 2 where r are.

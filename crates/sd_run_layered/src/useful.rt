@@ -1,6 +1,6 @@
-use sd_cause::NoMemory;
-use sd_layers::{Width, layered_cover};
-use sd_periods::Listing;
+use sd_base::NoMemory;
+use sd_command_periods::Listing;
+use sd_lsd_sets::{Width, layered_cover};
 use sd_steiner::CoverFault;
 use sd_tree::{HIGHEST, Height, Leaf, SetName};
 use std::alloc::Global;
@@ -13,8 +13,8 @@ pub(crate) struct UsefulSets {
 
 impl Listing for UsefulSets {
     ghost use Rattle.std.specs.Prelude.{◌≤◌};
-    ghost use Rattle.sd_layers.specs.Cover.{layer_cover_of};
-    ghost use Rattle.sd_periods.specs.Periods.{bare_end};
+    ghost use Rattle.sd_lsd_sets.specs.Cover.{layer_cover_of};
+    ghost use Rattle.sd_command_periods.specs.Periods.{bare_end};
 
     ghost fits = { λ x h. x.width ≤ h };
 

@@ -2,13 +2,13 @@
 use Rattle.std.proofs.Common.{ℕ, ◌^◌, Bool, true, false, cond, Ok, Err}
 use Rattle.std.specs.Prelude.{nat_lt, nat_le, ◌&&◌}
 use Rattle.sd_lsd.specs.Fields.{layer_card_of, layer_bytes}
-use Rattle.sd_status.specs.declared.status.Status.TheVariants.{BadWord}
-use Rattle.sd_status.specs.Spec.{FileArgument, Readings, judged, value, ◌>>=◌}
-use Rattle.sd_status.specs.Work.{Uncounted}
-use Rattle.sd_files.specs.Shown.{NumberArgument}
-use Rattle.sd_files.specs.Files.{site_of_file}
-use Rattle.sd_files.specs.Made.{making}
-use Rattle.sd_files.proofs.Others.{IsOther, other_after, other_site_file}
+use Rattle.sd_command_status.specs.declared.status.Status.TheVariants.{BadWord}
+use Rattle.sd_command_status.specs.Spec.{FileArgument, Readings, judged, value, ◌>>=◌}
+use Rattle.sd_command_status.specs.Work.{Uncounted}
+use Rattle.sd_command_files.specs.Shown.{NumberArgument}
+use Rattle.sd_command_files.specs.Files.{site_of_file}
+use Rattle.sd_command_files.specs.Made.{making}
+use Rattle.sd_command_files.proofs.Others.{IsOther, other_after, other_site_file}
 use Rattle.sd_run_lcard.specs.Lcard.{told_leaf, told_width, carding, lcard_meaning}
 
 -- a number word is its number, or refused

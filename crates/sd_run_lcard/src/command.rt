@@ -1,18 +1,18 @@
 ghost use Rattle.std.specs.Prelude.{◌≡◌, ◌^◌, ◌<◌, ◌≤◌, IfOk, IfErr};
 ghost use Rattle.sd_lsd.specs.Fields.{layer_card_of, layer_bytes};
-ghost use Rattle.sd_status.specs.Outside.{PageState, depot_state, outside};
-ghost use Rattle.sd_status.specs.Reads.{SureOutcome};
-ghost use Rattle.sd_status.specs.Outcome.{Implements, status_of};
-ghost use Rattle.sd_files.specs.Shown.{shown_word, shown_number};
+ghost use Rattle.sd_command_status.specs.Outside.{PageState, depot_state, outside};
+ghost use Rattle.sd_command_status.specs.Reads.{SureOutcome};
+ghost use Rattle.sd_command_status.specs.Outcome.{Implements, status_of};
+ghost use Rattle.sd_command_files.specs.Shown.{shown_word, shown_number};
 ghost use Rattle.sd_run_lcard.specs.Lcard.{lcard_meaning, told_leaf, told_width};
 
-use sd_files::{Number, Word, make_file, read_site};
-use sd_layers::Width;
+use sd_base::Steps;
+use sd_command_files::{Number, Word, make_file, read_site};
+use sd_command_status::Status;
 use sd_lsd::LayerCard;
+use sd_lsd_sets::Width;
 use sd_ports::Depot;
 use sd_site::Site;
-use sd_status::Status;
-use sd_steps::Steps;
 use sd_tree::{HIGHEST, Height, Leaf};
 use std::alloc::Global;
 use std::sync::ledger::Ledger;

@@ -9,8 +9,8 @@ use Rattle.std.proofs.lemmas.List.Folds.{concat-append}
 use Rattle.std.specs.List.{concat}
 use Rattle.std.specs.Io.KnownBytes.{Appends}
 use Rattle.std.proofs.KnownBytes.{Appends-trans}
-use Rattle.sd_cause.specs.Count.{IsCaused}
-use Rattle.sd_cause.specs.declared.memory.NoMemory.{NoMemory as OutOfMemory}
+use Rattle.sd_base.specs.Count.{IsCaused}
+use Rattle.sd_base.specs.declared.memory.NoMemory.{NoMemory as OutOfMemory}
 use Rattle.sd_ports.specs.Bytes.{IsPrefix, AppendsPrefix}
 use Rattle.sd_engine.specs.Stage.{Chain}
 use Rattle.sd_engine.specs.Driving.{DriveState, most_packets, ChainToEnd, ChainToRefusal, IsAllowedAt, DriveOutcome}
@@ -23,9 +23,9 @@ use Rattle.sd_monitor.specs.Lines.{message_line, message_lines}
 use Rattle.sd_monitor.specs.Staged.{IsBegun, monitor_does, monitor_ends, monitor_refuses}
 use Rattle.sd_monitor.specs.declared.monitor.Monitor.{Monitor}
 use Rattle.sd_monitor.proofs.Chained.{IsAt, begun_lines, chain_lines, line_at}
-use Rattle.sd_status.specs.declared.status.Status.{Status}
-use Rattle.sd_status.specs.Prints.{PrintsReading}
-use Rattle.sd_files.specs.Streams.{stream_status}
+use Rattle.sd_command_status.specs.declared.status.Status.{Status}
+use Rattle.sd_command_status.specs.Prints.{PrintsReading}
+use Rattle.sd_command_files.specs.Streams.{stream_status}
 use Rattle.sd_run_tables.specs.Tables.{drive_status}
 use Rattle.sd_run_messages.specs.Messages.{monitoring, MonitorsLeft}
 

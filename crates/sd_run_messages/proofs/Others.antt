@@ -1,8 +1,8 @@
 -- `messages` never means `Usage`.
 use Rattle.sd_site.specs.Fields.{SiteFields}
-use Rattle.sd_status.specs.Spec.{FileArgument, Readings, all_of, value}
-use Rattle.sd_files.specs.Files.{site_of_file}
-use Rattle.sd_files.proofs.Others.{IsOther, other_after, other_site_file, other_stream}
+use Rattle.sd_command_status.specs.Spec.{FileArgument, Readings, all_of, value}
+use Rattle.sd_command_files.specs.Files.{site_of_file}
+use Rattle.sd_command_files.proofs.Others.{IsOther, other_after, other_site_file, other_stream}
 use Rattle.sd_run_messages.specs.Messages.{messages_meaning, monitoring, stream_meaning}
 
 other_monitored : (site : SiteFields) (stream : FileArgument) (given : Readings) →

@@ -3,13 +3,13 @@ use Rattle.std.specs.Prelude.{ℕ, List, false, Option, None}
 use Rattle.sd_engine.specs.Taken.{taken_of, end_of, IsLeft}
 use Rattle.sd_site.specs.Fields.{SiteFields}
 use Rattle.sd_monitor.specs.Lines.{message_lines}
-use Rattle.sd_status.specs.declared.status.Status.{Status}
-use Rattle.sd_status.specs.Outside.{PageState}
-use Rattle.sd_status.specs.Spec.{Spec, FileArgument, Readings, all_of, value, ◌>>=◌}
-use Rattle.sd_status.specs.Work.{NoSteps, Work}
-use Rattle.sd_status.specs.Prints.{PrintsReading}
-use Rattle.sd_files.specs.Files.{site_in}
-use Rattle.sd_files.specs.Streams.{stream_status}
+use Rattle.sd_command_status.specs.declared.status.Status.{Status}
+use Rattle.sd_command_status.specs.Outside.{PageState}
+use Rattle.sd_command_status.specs.Spec.{Spec, FileArgument, Readings, all_of, value, ◌>>=◌}
+use Rattle.sd_command_status.specs.Work.{NoSteps, Work}
+use Rattle.sd_command_status.specs.Prints.{PrintsReading}
+use Rattle.sd_command_files.specs.Files.{site_in}
+use Rattle.sd_command_files.specs.Streams.{stream_status}
 
 -- prints the lines of the messages on the site's PIDs in a stream of these bytes
 abbrev pub monitoring : SiteFields → List ℕ → Work

@@ -1,8 +1,8 @@
 -- `opens` never means `Usage`.
-use Rattle.sd_status.specs.Spec.{FileArgument, Readings, value, ◌>>=◌}
-use Rattle.sd_files.specs.Both.{both_by}
-use Rattle.sd_files.specs.Leaves.{leaves_of_file}
-use Rattle.sd_files.proofs.Others.{IsOther, other_after, other_both, other_leaves_file}
+use Rattle.sd_command_status.specs.Spec.{FileArgument, Readings, value, ◌>>=◌}
+use Rattle.sd_command_files.specs.Both.{both_by}
+use Rattle.sd_command_files.specs.Leaves.{leaves_of_file}
+use Rattle.sd_command_files.proofs.Others.{IsOther, other_after, other_both, other_leaves_file}
 use Rattle.sd_run_opens.specs.Opens.{opening, opens_meaning}
 
 pub other_opens : (site book leaves : FileArgument) (given : Readings) →

@@ -5,11 +5,11 @@ use Rattle.sd_tree.specs.declared.set.SetName.{SetName}
 use Rattle.sd_tree.specs.Leaves.{is_member}
 use Rattle.sd_book.specs.declared.command.Command.{Command}
 use Rattle.sd_steiner.specs.Cover.{cover_of}
-use Rattle.sd_status.specs.Spec.{Spec, FileArgument, Readings, value, ◌>>=◌}
-use Rattle.sd_status.specs.Work.{Work}
-use Rattle.sd_periods.specs.Periods.{listing, text_at}
-use Rattle.sd_files.specs.Both.{both_meaning}
-use Rattle.sd_files.specs.Leaves.{leaves_in}
+use Rattle.sd_command_status.specs.Spec.{Spec, FileArgument, Readings, value, ◌>>=◌}
+use Rattle.sd_command_status.specs.Work.{Work}
+use Rattle.sd_command_periods.specs.Periods.{listing, text_at}
+use Rattle.sd_command_files.specs.Both.{both_meaning}
+use Rattle.sd_command_files.specs.Leaves.{leaves_in}
 
 -- the ends of the lines of the sets that are open, and of the others
 abbrev pub open_end : List ℕ

@@ -1,14 +1,14 @@
 ghost use Rattle.std.specs.Prelude.{◌≡◌, ◌≢◌, ℕ};
-ghost use Rattle.sd_status.specs.Outside.{outside, page_state, depot_state};
-ghost use Rattle.sd_status.specs.Outcome.{Implements, status_of};
-ghost use Rattle.sd_files.specs.Shown.{shown_word};
+ghost use Rattle.sd_command_status.specs.Outside.{outside, page_state, depot_state};
+ghost use Rattle.sd_command_status.specs.Outcome.{Implements, status_of};
+ghost use Rattle.sd_command_files.specs.Shown.{shown_word};
 ghost use Rattle.sd_run_opens.specs.Opens.{opens_meaning};
 
 use crate::pool::Pool;
-use sd_files::{Word, read_both, read_leaves};
-use sd_periods::print_periods;
+use sd_command_files::{Word, read_both, read_leaves};
+use sd_command_periods::print_periods;
+use sd_command_status::Status;
 use sd_ports::{Depot, Sink};
-use sd_status::Status;
 use std::alloc::Global;
 
 /// Does `opens SITE BOOK LEAVES`.

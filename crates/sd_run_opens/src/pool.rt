@@ -1,5 +1,5 @@
-use sd_cause::NoMemory;
-use sd_periods::{Listing, cover_sets};
+use sd_base::NoMemory;
+use sd_command_periods::{Listing, cover_sets};
 use sd_reach::opens;
 use sd_tree::{Height, Leaf, SetName};
 use std::alloc::Global;

@@ -11,7 +11,7 @@ use Rattle.sd_book.specs.Commands.{last_period, revoked}
 use Rattle.sd_book.proofs.Cuts.{revoked_past}
 use Rattle.sd_steiner.specs.Cover.{cover_of}
 use Rattle.sd_emm.specs.Form.{sections_for}
-use Rattle.sd_broadcast.specs.Plan.{Plan, sets_at}
+use Rattle.sd_spec_broadcast.specs.Plan.{Plan, sets_at}
 use Rattle.sd_run_plan.specs.Air.{cryptos_in, line_at, period_line, tables_in}
 
 -- one number more

@@ -12,10 +12,10 @@ ghost use Rattle.sd_run_plan.specs.Air.{line_at, period_line, periods_for, table
 
 use crate::lines::{PeriodNumbers, push_period};
 use crate::schedule::{cryptos_in, period_count};
+use sd_base::NoMemory;
 use sd_book::{Book, Periods};
-use sd_cause::NoMemory;
+use sd_command_periods::cover_sets;
 use sd_emm::section_count;
-use sd_periods::cover_sets;
 use sd_site::Site;
 use sd_tree::{HIGHEST, Height, Leaf};
 use std::alloc::Global;

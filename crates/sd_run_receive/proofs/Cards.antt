@@ -4,16 +4,16 @@ use Rattle.std.proofs.Common.{drop, append_assoc, Option, None, Ok, Err, refl, s
 use Rattle.std.proofs.Common.{subst, ◌∙◌, inl, inr}
 use Rattle.std.specs.List.{concat}
 use Rattle.std.proofs.lemmas.List.{take_at, drop_at}
-use Rattle.sd_secrets.specs.Files.{AreSecrets, check_of, file_body}
-use Rattle.sd_secrets.proofs.Written.{after_head}
+use Rattle.sd_card_secrets.specs.Files.{AreSecrets, check_of, file_body}
+use Rattle.sd_card_secrets.proofs.Written.{after_head}
 use Rattle.sd_card.specs.declared.fault.CardFault.{CardFault}
 use Rattle.sd_card.specs.declared.fault.CardFault.TheVariants as fault
 use Rattle.sd_card.specs.Faults.{height_in, fault_in, IsFaultOf}
 use Rattle.sd_card.specs.Fields.{CardFields, IsCard, card_head, card_bytes}
 use Rattle.sd_card.proofs.Spellings.{height_written, leaf_written, ca_written, written_is_good}
-use Rattle.sd_status.specs.declared.status.Status.{Status}
-use Rattle.sd_status.specs.declared.status.Status.TheVariants.{BadCard, NoMemory}
-use Rattle.sd_status.specs.Outcome.{IsRefusal, IsEnding}
+use Rattle.sd_command_status.specs.declared.status.Status.{Status}
+use Rattle.sd_command_status.specs.declared.status.Status.TheVariants.{BadCard, NoMemory}
+use Rattle.sd_command_status.specs.Outcome.{IsRefusal, IsEnding}
 use Rattle.sd_run_receive.specs.Receive.{secrets_of, card_said, card_unless, refused_card, told_card}
 
 -- secrets that were joined are found again

@@ -17,24 +17,24 @@ use Rattle.sd_engine.specs.Taken.{DriveOutcomeOver}
 use Rattle.sd_engine.proofs.Taken.{least_of, is_over}
 use Rattle.sd_engine.specs.declared.driver.DriveFault.{DriveFault}
 use Rattle.sd_engine.specs.declared.driver.DriveFault.TheVariants as drive
-use Rattle.sd_reception.specs.declared.fault.StreamFault.{StreamFault}
-use Rattle.sd_reception.specs.declared.fault.StreamFault.TheVariants as fault
-use Rattle.sd_reception.specs.declared.ending.Ending.{Ending}
-use Rattle.sd_reception.specs.declared.ending.Ending.TheVariants as end
-use Rattle.sd_reception.specs.Tuned.{tuning_of}
-use Rattle.sd_hearing.specs.Ears.{tuned}
-use Rattle.sd_reception.specs.Offered.{heard, offered, out_from, break_from}
-use Rattle.sd_reception.specs.Ending.{ending_of}
+use Rattle.sd_spec_receiver.specs.declared.fault.StreamFault.{StreamFault}
+use Rattle.sd_spec_receiver.specs.declared.fault.StreamFault.TheVariants as fault
+use Rattle.sd_spec_receiver.specs.declared.ending.Ending.{Ending}
+use Rattle.sd_spec_receiver.specs.declared.ending.Ending.TheVariants as end
+use Rattle.sd_spec_receiver.specs.Tuned.{tuning_of}
+use Rattle.sd_receive_filter.specs.Ears.{tuned}
+use Rattle.sd_spec_receiver.specs.Offered.{heard, offered, out_from, break_from}
+use Rattle.sd_spec_receiver.specs.Ending.{ending_of}
 use Rattle.sd_receive.specs.declared.receiver.Receiver.{Receiver}
 use Rattle.sd_receive.specs.Receiving.{IsAfter, IsLive, card_in, steps_at, taken_keys, receiver_does}
 use Rattle.sd_receive.specs.Receiving.{receiver_ends, receiver_refuses}
 use Rattle.sd_receive.specs.Receiving.{OutcomeOf, BreakAt}
 use Rattle.sd_receive.proofs.Chained.{came_to_all, broke_at, out_joined, steps_more}
 use Rattle.sd_receive.proofs.Turns.{first_none, rest_none, reversed}
-use Rattle.sd_status.specs.declared.status.Status.{Status}
-use Rattle.sd_status.specs.declared.status.Status.TheVariants.{DepotFault}
-use Rattle.sd_status.specs.Outcome.{IsEnding}
-use Rattle.sd_files.specs.Turned.{Wrote, all_written, some_written}
+use Rattle.sd_command_status.specs.declared.status.Status.{Status}
+use Rattle.sd_command_status.specs.declared.status.Status.TheVariants.{DepotFault}
+use Rattle.sd_command_status.specs.Outcome.{IsEnding}
+use Rattle.sd_command_files.specs.Turned.{Wrote, all_written, some_written}
 use Rattle.sd_run_receive.specs.Receive.{ended_status, ending_status, status_at, unless_refused, refused_status}
 use Rattle.sd_run_receive.specs.Receive.{stopped_status, received_of, received_status, received_steps, ReceivesLeft}
 use Rattle.sd_run_receive.specs.Receive.{upto_break}

@@ -1,15 +1,15 @@
 -- What comes of a file that is turned into OUT once another one was read.
 use Rattle.std.proofs.Common.{◌≢◌, ℕ, List, Option, Some, None, Ok, Err, sym, ap, subst}
 use Rattle.sd_ports.specs.Files.{Files}
-use Rattle.sd_status.specs.declared.status.Status.{Status}
-use Rattle.sd_status.specs.Outside.{DepotState, PageState, Outside, outside}
-use Rattle.sd_status.specs.Spec.{Spec, FileArgument, Readings, IsGiven, IsGot, ◌>>=◌}
-use Rattle.sd_status.specs.Work.{Work}
-use Rattle.sd_status.specs.Outcome.{OutcomeWithin, Implements}
-use Rattle.sd_status.specs.Reads.{FileOutcome}
-use Rattle.sd_status.proofs.Moves.{then_obeys}
-use Rattle.sd_status.proofs.Givens.{one_given, two_given}
-use Rattle.sd_status.proofs.Follow.{reads_first, reads_follows}
+use Rattle.sd_command_status.specs.declared.status.Status.{Status}
+use Rattle.sd_command_status.specs.Outside.{DepotState, PageState, Outside, outside}
+use Rattle.sd_command_status.specs.Spec.{Spec, FileArgument, Readings, IsGiven, IsGot, ◌>>=◌}
+use Rattle.sd_command_status.specs.Work.{Work}
+use Rattle.sd_command_status.specs.Outcome.{OutcomeWithin, Implements}
+use Rattle.sd_command_status.specs.Reads.{FileOutcome}
+use Rattle.sd_command_status.proofs.Moves.{then_obeys}
+use Rattle.sd_command_status.proofs.Givens.{one_given, two_given}
+use Rattle.sd_command_status.proofs.Follow.{reads_first, reads_follows}
 
 -- what a command is by what one file gave
 pub got_follows : (meant : Option (List ℕ) → Spec Work) (word : FileArgument) (got : Option (List ℕ)) (a b : Outside)

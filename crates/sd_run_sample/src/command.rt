@@ -2,15 +2,15 @@ ghost use Rattle.std.specs.Prelude.{◌≡◌, ◌≤◌, ℕ, IsErrOf};
 ghost use Rattle.sd_ports.specs.Causes.{CountsCalls, HasFileCause};
 ghost use Rattle.sd_ports.specs.Files.{WritesFile};
 ghost use Rattle.sd_sample.specs.Sample.{sample_of};
-ghost use Rattle.sd_status.specs.Outside.{PageState, outside, depot_state};
-ghost use Rattle.sd_status.specs.Outcome.{Implements, status_of};
+ghost use Rattle.sd_command_status.specs.Outside.{PageState, outside, depot_state};
+ghost use Rattle.sd_command_status.specs.Outcome.{Implements, status_of};
 ghost use Rattle.sd_run_sample.specs.Sample.{sample_meaning};
-ghost use Rattle.sd_files.specs.Shown.{shown_word};
+ghost use Rattle.sd_command_files.specs.Shown.{shown_word};
 
-use sd_files::{Word, told};
+use sd_command_files::{Word, told};
+use sd_command_status::Status;
 use sd_ports::{Depot, DepotFault, FileFault};
 use sd_sample::MOST_PACKETS;
-use sd_status::Status;
 use std::alloc::Global;
 
 /// Does `sample NUMBER PACKETS OUT`.

@@ -1,14 +1,14 @@
 -- The line of a card's file that was read.
 use Rattle.std.proofs.Common.{◌≡◌, ◌⊎◌, ℕ, List, Option, None, Ok, Err, refl, sym, ap, subst, ◌∙◌, inl, inr}
-use Rattle.sd_secrets.specs.Files.{check_in}
+use Rattle.sd_card_secrets.specs.Files.{check_in}
 use Rattle.sd_card.specs.declared.fault.CardFault.{CardFault}
 use Rattle.sd_card.specs.declared.fault.CardFault.TheVariants as fault
 use Rattle.sd_card.specs.Faults.{height_in, leaf_in, ca_in, fault_in, IsFaultOf}
 use Rattle.sd_card.specs.Fields.{CardFields, IsCard, card_bytes}
 use Rattle.sd_card.proofs.Spellings.{height_written, leaf_written, ca_written}
-use Rattle.sd_status.specs.declared.status.Status.{Status}
-use Rattle.sd_status.specs.declared.status.Status.TheVariants.{BadCard, NoMemory}
-use Rattle.sd_status.specs.Outcome.{IsRefusal, IsEnding}
+use Rattle.sd_command_status.specs.declared.status.Status.{Status}
+use Rattle.sd_command_status.specs.declared.status.Status.TheVariants.{BadCard, NoMemory}
+use Rattle.sd_command_status.specs.Outcome.{IsRefusal, IsEnding}
 use Rattle.sd_run_show.specs.Show.{card_line, line_unless, refused_card, shown_line, told_show}
 
 -- the line of a card is that of its file's bytes

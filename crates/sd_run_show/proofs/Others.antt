@@ -2,9 +2,9 @@
 use Rattle.std.proofs.Common.{ℕ, List, Option, Some, None}
 use Rattle.sd_card.specs.declared.fault.CardFault.{CardFault}
 use Rattle.sd_card.specs.Faults.{fault_in}
-use Rattle.sd_status.specs.declared.status.LimitKind.TheVariants.{CardBytes}
-use Rattle.sd_status.specs.Spec.{FileArgument, Readings, judged, value, within}
-use Rattle.sd_files.proofs.Others.{IsOther, other_after, other_file}
+use Rattle.sd_command_status.specs.declared.status.LimitKind.TheVariants.{CardBytes}
+use Rattle.sd_command_status.specs.Spec.{FileArgument, Readings, judged, value, within}
+use Rattle.sd_command_files.proofs.Others.{IsOther, other_after, other_file}
 use Rattle.sd_run_show.specs.Show.{card_line, line_of_file, line_unless, most_card_bytes, printing, show_meaning}
 use Rattle.sd_run_show.specs.Show.{told_show}
 

@@ -2,9 +2,9 @@
 use Rattle.std.proofs.Common.{ℕ, List, append-nil, sym, subst, inl, inr}
 use Rattle.std.specs.Io.KnownBytes.{Appends}
 use Rattle.sd_ports.specs.Bytes.{AppendsPrefix}
-use Rattle.sd_status.specs.declared.status.Status.{Status}
-use Rattle.sd_status.specs.Outside.{PageState}
-use Rattle.sd_status.specs.Prints.{PrintsWork, PrintsText}
+use Rattle.sd_command_status.specs.declared.status.Status.{Status}
+use Rattle.sd_command_status.specs.Outside.{PageState}
+use Rattle.sd_command_status.specs.Prints.{PrintsWork, PrintsText}
 use Rattle.sd_run_show.specs.Show.{printing}
 
 -- a line that was printed, or a prefix of it, is work that prints it

@@ -6,12 +6,12 @@ use Rattle.serde_json.specs.Written.{compact_text}
 use Rattle.sd_card.specs.declared.fault.CardFault.{CardFault}
 use Rattle.sd_card.specs.declared.fault.CardFault.TheVariants as card
 use Rattle.sd_card.specs.Faults.{height_in, leaf_in, ca_in, fault_in}
-use Rattle.sd_secrets.specs.Files.{check_in}
-use Rattle.sd_status.specs.declared.status.Status.{Status}
-use Rattle.sd_status.specs.declared.status.Status.TheVariants.{Done, BadCard, NoMemory}
-use Rattle.sd_status.specs.declared.status.LimitKind.TheVariants.{CardBytes}
-use Rattle.sd_status.specs.Spec.{Spec, FileArgument, Readings, within, judged, value, ◌>>=◌}
-use Rattle.sd_status.specs.Work.{NoSteps, Work}
+use Rattle.sd_card_secrets.specs.Files.{check_in}
+use Rattle.sd_command_status.specs.declared.status.Status.{Status}
+use Rattle.sd_command_status.specs.declared.status.Status.TheVariants.{Done, BadCard, NoMemory}
+use Rattle.sd_command_status.specs.declared.status.LimitKind.TheVariants.{CardBytes}
+use Rattle.sd_command_status.specs.Spec.{Spec, FileArgument, Readings, within, judged, value, ◌>>=◌}
+use Rattle.sd_command_status.specs.Work.{NoSteps, Work}
 
 -- the bytes of the longest card file [this project, docs/FORMATS.md, Card]
 abbrev pub most_card_bytes : ℕ

@@ -1,15 +1,15 @@
 ghost use Rattle.std.specs.Prelude.{◌≡◌, ℕ, string_bytes};
-ghost use Rattle.sd_status.specs.Outside.{outside, page_state, depot_state};
-ghost use Rattle.sd_status.specs.Reads.{JudgedOutcome, FileOutcome};
-ghost use Rattle.sd_status.specs.Outcome.{Implements, status_of};
-ghost use Rattle.sd_files.specs.Shown.{shown_word};
+ghost use Rattle.sd_command_status.specs.Outside.{outside, page_state, depot_state};
+ghost use Rattle.sd_command_status.specs.Reads.{JudgedOutcome, FileOutcome};
+ghost use Rattle.sd_command_status.specs.Outcome.{Implements, status_of};
+ghost use Rattle.sd_command_files.specs.Shown.{shown_word};
 ghost use Rattle.sd_run_show.specs.Show.{line_of_file, refused_card, show_meaning, told_show};
 
 use crate::line::line_of;
 use sd_card::{Card, CardFault};
-use sd_files::{Word, print_text, read_bytes};
+use sd_command_files::{Word, print_text, read_bytes};
+use sd_command_status::{LimitKind, Status};
 use sd_ports::{Depot, Sink};
-use sd_status::{LimitKind, Status};
 use std::alloc::Global;
 
 /// The most bytes of a card's file.

@@ -9,10 +9,10 @@ use Rattle.std.proofs.lemmas.Option.{slice_get_within, get_or_from_slice_get}
 use Rattle.std.specs.List.{concat, flat_map}
 use Rattle.std.specs.Io.KnownBytes.{Appends}
 use Rattle.std.proofs.KnownBytes.{Appends-trans, Appends-nil}
-use Rattle.sd_cause.specs.Count.{IsCaused}
-use Rattle.sd_cause.specs.declared.memory.NoMemory.{NoMemory as OutOfMemory}
+use Rattle.sd_base.specs.Count.{IsCaused}
+use Rattle.sd_base.specs.declared.memory.NoMemory.{NoMemory as OutOfMemory}
 use Rattle.sd_packet.specs.Header.{pid_of}
-use Rattle.sd_lines.specs.Lines.{section_line}
+use Rattle.sd_tables_line.specs.Lines.{section_line}
 use Rattle.sd_ports.specs.Bytes.{IsPrefix, AppendsPrefix}
 use Rattle.sd_engine.specs.Stage.{Chain}
 use Rattle.sd_engine.specs.Driving.{DriveState, most_packets, ChainToEnd, ChainToRefusal, IsAllowedAt, DriveOutcome}
@@ -24,13 +24,13 @@ use Rattle.sd_tables.specs.Inspected.{lines_in, sections_at}
 use Rattle.sd_tables.specs.Staged.{seen, inspector_does, inspector_ends, inspector_refuses, IsStateAfter}
 use Rattle.sd_tables.specs.declared.inspector.Inspector.{Inspector}
 use Rattle.sd_tables.proofs.Chained.{all_written, all_after}
-use Rattle.sd_status.specs.declared.status.Status.{Status}
-use Rattle.sd_status.specs.declared.status.Status.TheVariants.{DepotFault, NoMemory}
-use Rattle.sd_status.specs.Outside.{PageState}
-use Rattle.sd_status.specs.Outcome.{IsEnding}
-use Rattle.sd_status.specs.Prints.{PrintsReading}
+use Rattle.sd_command_status.specs.declared.status.Status.{Status}
+use Rattle.sd_command_status.specs.declared.status.Status.TheVariants.{DepotFault, NoMemory}
+use Rattle.sd_command_status.specs.Outside.{PageState}
+use Rattle.sd_command_status.specs.Outcome.{IsEnding}
+use Rattle.sd_command_status.specs.Prints.{PrintsReading}
 use Rattle.sd_run_tables.specs.Tables.{packet_lines, inspecting, drive_status, InspectsLeft}
-use Rattle.sd_files.specs.Streams.{stream_status}
+use Rattle.sd_command_files.specs.Streams.{stream_status}
 
 -- the end of a stream may stand at the end of work
 pub stream_ends : (end : StreamEnd) → IsEnding (stream_status end)

@@ -1,6 +1,6 @@
 -- `tables` never means `Usage`.
-use Rattle.sd_status.specs.Spec.{FileArgument, Readings, all_of, value}
-use Rattle.sd_files.proofs.Others.{IsOther, other_after, other_stream}
+use Rattle.sd_command_status.specs.Spec.{FileArgument, Readings, all_of, value}
+use Rattle.sd_command_files.proofs.Others.{IsOther, other_after, other_stream}
 use Rattle.sd_run_tables.specs.Tables.{inspecting, tables_meaning}
 
 pub other_tables : (stream : FileArgument) (given : Readings) → IsOther (tables_meaning stream given).result

@@ -1,22 +1,23 @@
 -- Public meaning: `tables STREAM` [this project, docs/FORMATS.md, Inspector].
 use Rattle.std.specs.Prelude.{ℕ, List, [], ◌∷◌, length, false, Option, None, Result, Ok, Err}
 use Rattle.std.specs.List.{flat_map}
-use Rattle.sd_cause.specs.declared.memory.NoMemory.{NoMemory as OutOfMemory}
+use Rattle.sd_base.specs.declared.memory.NoMemory.{NoMemory as OutOfMemory}
 use Rattle.sd_packet.specs.Header.{pid_of}
 use Rattle.sd_engine.specs.Driving.{most_packets}
 use Rattle.sd_engine.specs.Taken.{taken_of, end_of, IsLeft}
 use Rattle.sd_engine.specs.declared.driver.DriveFault.{DriveFault}
 use Rattle.sd_engine.specs.declared.driver.DriveFault.TheVariants as drive
-use Rattle.sd_lines.specs.Lines.{section_line}
+use Rattle.sd_tables_line.specs.Lines.{section_line}
 use Rattle.sd_tables.specs.Inspected.{sections_at}
-use Rattle.sd_status.specs.declared.status.Status.{Status}
-use Rattle.sd_status.specs.declared.status.Status.TheVariants.{Done, BadStream, DepotFault, PrintFault, NoMemory}
-use Rattle.sd_status.specs.declared.status.StreamCause.TheVariants.{Broken, TooLong}
-use Rattle.sd_status.specs.Outside.{PageState}
-use Rattle.sd_status.specs.Spec.{Spec, FileArgument, Readings, all_of, value, ◌>>=◌}
-use Rattle.sd_status.specs.Work.{NoSteps, Work}
-use Rattle.sd_status.specs.Prints.{PrintsReading}
-use Rattle.sd_files.specs.Streams.{stream_status}
+use Rattle.sd_command_status.specs.declared.status.Status.{Status}
+use Rattle.sd_command_status.specs.declared.status.Status.TheVariants.{Done, BadStream, DepotFault, PrintFault}
+use Rattle.sd_command_status.specs.declared.status.Status.TheVariants.{NoMemory}
+use Rattle.sd_command_status.specs.declared.status.StreamCause.TheVariants.{Broken, TooLong}
+use Rattle.sd_command_status.specs.Outside.{PageState}
+use Rattle.sd_command_status.specs.Spec.{Spec, FileArgument, Readings, all_of, value, ◌>>=◌}
+use Rattle.sd_command_status.specs.Work.{NoSteps, Work}
+use Rattle.sd_command_status.specs.Prints.{PrintsReading}
+use Rattle.sd_command_files.specs.Streams.{stream_status}
 
 -- the lines of each packet in turn, where these came before them, of which the last comes first
 abbrev pub packet_lines : List (List ℕ) → List (List ℕ) → List (List ℕ)

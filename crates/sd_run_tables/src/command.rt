@@ -1,19 +1,18 @@
 ghost use Rattle.std.specs.Prelude.{◌≡◌, ◌<◌, ℕ, IsErrOf};
-ghost use Rattle.sd_cause.specs.Count.{IsCaused};
-ghost use Rattle.sd_cause.specs.declared.memory.NoMemory.{NoMemory};
+ghost use Rattle.sd_base.specs.Count.{IsCaused};
+ghost use Rattle.sd_base.specs.declared.memory.NoMemory.{NoMemory};
 ghost use Rattle.sd_engine.specs.Stage.{vessel};
 ghost use Rattle.sd_engine.specs.Driving.{moment, DriveOutcome};
-ghost use Rattle.sd_status.specs.Outside.{outside, page_state, depot_state};
-ghost use Rattle.sd_status.specs.Outcome.{Implements, status_of};
+ghost use Rattle.sd_command_status.specs.Outside.{outside, page_state, depot_state};
+ghost use Rattle.sd_command_status.specs.Outcome.{Implements, status_of};
 ghost use Rattle.sd_run_tables.specs.Tables.{InspectsLeft, drive_status, tables_meaning};
-ghost use Rattle.sd_files.specs.Shown.{shown_word};
+ghost use Rattle.sd_command_files.specs.Shown.{shown_word};
 
-use sd_cause::NoMemory;
+use sd_base::{NoMemory, Steps};
+use sd_command_files::{Word, opening_fault};
+use sd_command_status::{Status, StreamCause};
 use sd_engine::{BreakCause, DriveFault, MOST_PACKETS, drive};
-use sd_files::{Word, opening_fault};
 use sd_ports::{Depot, Sink, Source};
-use sd_status::{Status, StreamCause};
-use sd_steps::Steps;
 use sd_tables::Inspector;
 use std::alloc::Global;
 use std::marker::Brand;

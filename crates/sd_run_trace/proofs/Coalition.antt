@@ -10,9 +10,9 @@ use Rattle.sd_trace.specs.Trace.{IsTrace, not_among, trace_of}
 use Rattle.sd_trace.specs.declared.found.Found.{Found}
 use Rattle.sd_trace.proofs.Inside.{trace_is_coalition}
 use Rattle.sd_trace.proofs.Listed.{there_is_a_trace, trace_new, trace_once}
-use Rattle.sd_status.specs.declared.status.Status.{Status}
-use Rattle.sd_status.specs.declared.status.Status.TheVariants.{Limit}
-use Rattle.sd_status.specs.declared.status.LimitKind.TheVariants.{Traced}
+use Rattle.sd_command_status.specs.declared.status.Status.{Status}
+use Rattle.sd_command_status.specs.declared.status.Status.TheVariants.{Limit}
+use Rattle.sd_command_status.specs.declared.status.LimitKind.TheVariants.{Traced}
 use Rattle.sd_run_trace.specs.Trace.{revoked_last, trace_text, traced}
 
 told_text : (b : Bool) (limit : Status) (x y : List ℕ) → (if b then Err limit else Ok x) ≡ Ok y → y ≡ x

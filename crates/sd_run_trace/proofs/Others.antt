@@ -4,12 +4,12 @@ use Rattle.std.specs.Prelude.{nat_lt, if◌then◌else◌}
 use Rattle.sd_tree.specs.Limits.{most_revoked}
 use Rattle.sd_book.specs.declared.command.Command.{Command}
 use Rattle.sd_trace.specs.Trace.{not_among, trace_of}
-use Rattle.sd_status.specs.declared.status.Status.TheVariants.{Limit}
-use Rattle.sd_status.specs.declared.status.LimitKind.TheVariants.{Traced}
-use Rattle.sd_status.specs.Spec.{FileArgument, Readings, judged, value, ◌>>=◌}
-use Rattle.sd_files.specs.Both.{both_by}
-use Rattle.sd_files.specs.Leaves.{leaves_of_file}
-use Rattle.sd_files.proofs.Others.{IsOther, other_after, other_both, other_leaves_file}
+use Rattle.sd_command_status.specs.declared.status.Status.TheVariants.{Limit}
+use Rattle.sd_command_status.specs.declared.status.LimitKind.TheVariants.{Traced}
+use Rattle.sd_command_status.specs.Spec.{FileArgument, Readings, judged, value, ◌>>=◌}
+use Rattle.sd_command_files.specs.Both.{both_by}
+use Rattle.sd_command_files.specs.Leaves.{leaves_of_file}
+use Rattle.sd_command_files.proofs.Others.{IsOther, other_after, other_both, other_leaves_file}
 use Rattle.sd_run_trace.specs.Trace.{revoked_last, trace_text, traced, telling, trace_meaning}
 
 other_limit : (b : Bool) (text : List ℕ) → IsOther (if b then Err (Limit Traced) else Ok text)

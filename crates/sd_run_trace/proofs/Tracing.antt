@@ -7,8 +7,8 @@ use Rattle.sd_trace.specs.declared.found.Found.{Found}
 use Rattle.sd_trace.specs.Trace.{IsTrace, not_among, trace_of}
 use Rattle.sd_trace.proofs.Anyway.{one_trace}
 use Rattle.sd_trace.proofs.Listed.{there_is_a_trace}
-use Rattle.sd_status.specs.declared.status.Status.TheVariants.{Limit}
-use Rattle.sd_status.specs.declared.status.LimitKind.TheVariants.{Traced}
+use Rattle.sd_command_status.specs.declared.status.Status.TheVariants.{Limit}
+use Rattle.sd_command_status.specs.declared.status.LimitKind.TheVariants.{Traced}
 use Rattle.sd_run_trace.specs.Trace.{revoked_last, trace_text, traced}
 
 -- the text of a trace that keeps to the limit

@@ -8,13 +8,13 @@ use Rattle.sd_book.specs.declared.command.Command.{Command}
 use Rattle.sd_book.specs.Commands.{last_period, revoked}
 use Rattle.sd_trace.specs.declared.found.Found.{Found}
 use Rattle.sd_trace.specs.Trace.{not_among, trace_of}
-use Rattle.sd_status.specs.declared.status.Status.{Status}
-use Rattle.sd_status.specs.declared.status.Status.TheVariants.{Done, Limit}
-use Rattle.sd_status.specs.declared.status.LimitKind.TheVariants.{Traced}
-use Rattle.sd_status.specs.Spec.{Spec, FileArgument, Readings, value, judged, ◌>>=◌}
-use Rattle.sd_status.specs.Work.{NoSteps, Work}
-use Rattle.sd_files.specs.Both.{both_meaning}
-use Rattle.sd_files.specs.Leaves.{leaves_in}
+use Rattle.sd_command_status.specs.declared.status.Status.{Status}
+use Rattle.sd_command_status.specs.declared.status.Status.TheVariants.{Done, Limit}
+use Rattle.sd_command_status.specs.declared.status.LimitKind.TheVariants.{Traced}
+use Rattle.sd_command_status.specs.Spec.{Spec, FileArgument, Readings, value, judged, ◌>>=◌}
+use Rattle.sd_command_status.specs.Work.{NoSteps, Work}
+use Rattle.sd_command_files.specs.Both.{both_meaning}
+use Rattle.sd_command_files.specs.Leaves.{leaves_in}
 
 -- the leaves that are revoked in the last period of a book
 abbrev pub revoked_last : ℕ → List Command → List ℕ

@@ -1,15 +1,15 @@
 ghost use Rattle.std.specs.Prelude.{◌≡◌, ◌≢◌, ◌^◌, ◌<◌, ℕ, All, string_bytes};
-ghost use Rattle.sd_status.specs.Outside.{outside, page_state, depot_state};
-ghost use Rattle.sd_status.specs.Outcome.{Implements, status_of};
-ghost use Rattle.sd_status.specs.Reads.{JudgedOutcome};
-ghost use Rattle.sd_files.specs.Shown.{shown_word};
+ghost use Rattle.sd_command_status.specs.Outside.{outside, page_state, depot_state};
+ghost use Rattle.sd_command_status.specs.Outcome.{Implements, status_of};
+ghost use Rattle.sd_command_status.specs.Reads.{JudgedOutcome};
+ghost use Rattle.sd_command_files.specs.Shown.{shown_word};
 ghost use Rattle.sd_run_trace.specs.Trace.{trace_meaning, traced};
 
 use crate::text::trace_text;
 use sd_book::Book;
-use sd_files::{Word, print_text, read_both, read_leaves};
+use sd_command_files::{Word, print_text, read_both, read_leaves};
+use sd_command_status::{LimitKind, Status};
 use sd_ports::{Depot, Sink};
-use sd_status::{LimitKind, Status};
 use sd_trace::{CoalitionBox, TraceFault, trace_all};
 use sd_tree::Leaf;
 use std::alloc::Global;

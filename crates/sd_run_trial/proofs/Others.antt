@@ -2,12 +2,12 @@
 use Rattle.std.proofs.Common.{ℕ, Bool, true, false, cond, List, Option, Ok, Err}
 use Rattle.std.specs.Prelude.{nat_lt}
 use Rattle.sd_site.specs.Fields.{SiteFields}
-use Rattle.sd_status.specs.declared.status.Status.TheVariants.{Limit}
-use Rattle.sd_status.specs.declared.status.LimitKind.TheVariants.{TrialHeight}
-use Rattle.sd_status.specs.Spec.{FileArgument, Readings, all_of, judged, value, ◌>>=◌}
+use Rattle.sd_command_status.specs.declared.status.Status.TheVariants.{Limit}
+use Rattle.sd_command_status.specs.declared.status.LimitKind.TheVariants.{TrialHeight}
+use Rattle.sd_command_status.specs.Spec.{FileArgument, Readings, all_of, judged, value, ◌>>=◌}
 use Rattle.sd_ports.specs.Bytes.{prefix_of}
-use Rattle.sd_files.specs.Files.{site_of_file, book_of_file}
-use Rattle.sd_files.proofs.Others.{IsOther, other_after, other_stream, other_site_file, other_book_file}
+use Rattle.sd_command_files.specs.Files.{site_of_file, book_of_file}
+use Rattle.sd_command_files.proofs.Others.{IsOther, other_after, other_stream, other_site_file, other_book_file}
 use Rattle.sd_run_trial.specs.Trial.{most_clear_bytes}
 use Rattle.sd_run_trial.specs.Prefixes.{prefix_of_file}
 use Rattle.sd_run_trial.specs.Trial.{told_low, low_site_of_file, plan_by, trial_meaning, trying, most_height}

@@ -5,18 +5,18 @@ use Rattle.std.proofs.Common.{le-ltb}
 use Rattle.std.proofs.Common.{lt-ltb}
 use Rattle.std.specs.Prelude.{nat_lt, IfOk, IsErrOf}
 use Rattle.std.proofs.lemmas.List.{take-append-le}
-use Rattle.sd_cause.specs.Count.{HasRisen, with_added}
+use Rattle.sd_base.specs.Count.{HasRisen, with_added}
 use Rattle.sd_ports.specs.Files.{OpensFile}
 use Rattle.sd_ports.specs.Bytes.{Prefix, prefix_of, IsTakenFrom}
 use Rattle.sd_ports.specs.declared.prefix.ReadMostFault.{ReadMostFault}
 use Rattle.sd_ports.specs.declared.prefix.ReadMostFault.TheVariants as fault
 use Rattle.sd_engine.specs.Taken.{IsLeft}
-use Rattle.sd_status.specs.declared.status.Status.{Status}
-use Rattle.sd_status.specs.declared.status.Status.TheVariants.{DepotFault, NoMemory}
-use Rattle.sd_status.specs.Outside.{DepotState, called}
-use Rattle.sd_status.specs.Reads.{IsAsked, StopCause, FileOutcome}
-use Rattle.sd_files.proofs.Looked.{opened_got}
-use Rattle.sd_files.proofs.Places.{only_called}
+use Rattle.sd_command_status.specs.declared.status.Status.{Status}
+use Rattle.sd_command_status.specs.declared.status.Status.TheVariants.{DepotFault, NoMemory}
+use Rattle.sd_command_status.specs.Outside.{DepotState, called}
+use Rattle.sd_command_status.specs.Reads.{IsAsked, StopCause, FileOutcome}
+use Rattle.sd_command_files.proofs.Looked.{opened_got}
+use Rattle.sd_command_files.proofs.Places.{only_called}
 use Rattle.sd_run_trial.specs.Prefixes.{prefix_of_file, told_prefix}
 
 abbrev prefix : List ℕ → Bool → Prefix

@@ -1,22 +1,22 @@
 ghost use Rattle.std.specs.Prelude.{◌≡◌, ◌≢◌, string_bytes};
-ghost use Rattle.sd_entitling.specs.Kept.{plan_of};
-ghost use Rattle.sd_status.specs.Outside.{outside, page_state, depot_state};
-ghost use Rattle.sd_status.specs.Outcome.{Implements, status_of};
-ghost use Rattle.sd_files.specs.Shown.{shown_word};
-ghost use Rattle.sd_files.specs.Printed.{MemoryOutcome};
+ghost use Rattle.sd_head_periods.specs.Kept.{plan_of};
+ghost use Rattle.sd_command_status.specs.Outside.{outside, page_state, depot_state};
+ghost use Rattle.sd_command_status.specs.Outcome.{Implements, status_of};
+ghost use Rattle.sd_command_files.specs.Shown.{shown_word};
+ghost use Rattle.sd_command_files.specs.Printed.{MemoryOutcome};
 ghost use Rattle.sd_run_trial.specs.Trial.{trial_meaning, trial_text};
 
 use crate::lines::lines;
 use crate::plan::read_plan;
 use crate::prefix::read_prefix;
 use crate::send::sent_for;
+use sd_base::Steps;
 use sd_book::Book;
-use sd_files::{Word, print_text};
+use sd_command_files::{Word, print_text};
+use sd_command_status::Status;
 use sd_packet::SIZE;
 use sd_ports::{Depot, Sink, Taken};
 use sd_site::Site;
-use sd_status::Status;
-use sd_steps::Steps;
 use std::alloc::Global;
 use std::sync::ledger::Ledger;
 

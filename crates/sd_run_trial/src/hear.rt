@@ -3,12 +3,11 @@ ghost use Rattle.sd_receive.specs.Receiving.{IsAfter, card_in};
 ghost use Rattle.sd_run_trial.specs.Trial.{HasHeard};
 
 use crate::send::{settled, wants_memory};
-use sd_cause::NoMemory;
+use sd_base::{NoMemory, Steps};
+use sd_command_status::Status;
 use sd_ports::{MemSink, SliceSource};
 use sd_receive::Receiver;
 use sd_run_receive::receive_all;
-use sd_status::Status;
-use sd_steps::Steps;
 use std::alloc::Global;
 use std::sync::ledger::Ledger;
 

@@ -1,16 +1,16 @@
 ghost use Rattle.std.specs.Prelude.{◌≡◌, ◌^◌, ◌<◌, ◌/◌, string_bytes, length, IfOk};
 ghost use Rattle.sd_site.specs.Fields.{fields_of};
-ghost use Rattle.sd_status.specs.Outcome.{IsEnding};
-ghost use Rattle.sd_files.specs.Printed.{MemoryOutcome};
+ghost use Rattle.sd_command_status.specs.Outcome.{IsEnding};
+ghost use Rattle.sd_command_files.specs.Printed.{MemoryOutcome};
 ghost use Rattle.sd_run_trial.specs.Trial.{AddsLine, clear_line, lines_to, receiver_line, told_line};
 
 use crate::hear::hear;
+use sd_base::Steps;
 use sd_card::Card;
+use sd_command_status::Status;
 use sd_packet::SIZE;
 use sd_receive::Receiver;
 use sd_site::Site;
-use sd_status::Status;
-use sd_steps::Steps;
 use sd_tree::Leaf;
 use std::alloc::{AllocError, Global};
 use std::fmt::Write;

@@ -1,11 +1,11 @@
 ghost use Rattle.std.specs.Prelude.{◌≡◌};
-ghost use Rattle.sd_status.specs.Outside.{depot_state};
-ghost use Rattle.sd_status.specs.Reads.{FileOutcome};
+ghost use Rattle.sd_command_status.specs.Outside.{depot_state};
+ghost use Rattle.sd_command_status.specs.Reads.{FileOutcome};
 ghost use Rattle.sd_run_trial.specs.Prefixes.{prefix_of_file, told_prefix};
 
-use sd_files::{Word, opening_fault};
+use sd_command_files::{Word, opening_fault};
+use sd_command_status::Status;
 use sd_ports::{Depot, ReadMostFault, Taken, read_most};
-use sd_status::Status;
 use std::alloc::Global;
 
 /// Opens, reads and closes the file of this argument, and returns its first bytes, at most `most`.

@@ -1,18 +1,17 @@
 ghost use Rattle.std.specs.Prelude.{◌≡◌, IfOk};
-ghost use Rattle.sd_entitling.specs.Kept.{plan_of};
-ghost use Rattle.sd_status.specs.Outcome.{IsEnding, status_of};
-ghost use Rattle.sd_files.specs.Printed.{MemoryOutcome};
+ghost use Rattle.sd_head_periods.specs.Kept.{plan_of};
+ghost use Rattle.sd_command_status.specs.Outcome.{IsEnding, status_of};
+ghost use Rattle.sd_command_files.specs.Printed.{MemoryOutcome};
 ghost use Rattle.sd_run_trial.specs.Trial.{HasSent, is_wanting, sent_or, told_sent};
 
+use sd_base::{NoMemory, Steps};
 use sd_book::Book;
-use sd_cause::NoMemory;
+use sd_command_status::{LimitKind, Status};
 use sd_head::Head;
 use sd_packet::SIZE;
 use sd_ports::{MemSink, SliceSource, Taken};
 use sd_run_head::send;
 use sd_site::Site;
-use sd_status::{LimitKind, Status};
-use sd_steps::Steps;
 use std::alloc::Global;
 use std::sync::ledger::Ledger;
 

@@ -1,7 +1,7 @@
 ghost use Rattle.std.specs.Prelude.{◌≡◌, ◌+◌, ◌≤◌, ◌<◌, ℕ, OnOk, OnErr, length, map};
 ghost use Rattle.std.specs.List.{range_with_len};
 ghost use Rattle.std.specs.Io.KnownBytes.{Appends};
-ghost use Rattle.sd_cause.specs.Count.{HasCause};
+ghost use Rattle.sd_base.specs.Count.{HasCause};
 ghost use Rattle.sd_ports.specs.Bytes.{AppendsPrefix};
 ghost use Rattle.sd_sample.specs.Sample.{state_at, generated_before, sample_packet, sample_of};
 

@@ -11,7 +11,7 @@ use crate::limits::LONGEST;
 use crate::making::{
     fresh_in, gather, go_on, is_next, is_taken, keep_if, part, store, whole_length,
 };
-use sd_cause::NoMemory;
+use sd_base::NoMemory;
 use std::alloc::Global;
 use std::marker::Model;
 

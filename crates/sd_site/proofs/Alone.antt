@@ -5,8 +5,8 @@ use Rattle.std.proofs.lemmas.Bool.{cases_lt, ne_eqb, lt-ltb, le-ltb}
 use Rattle.std.proofs.lemmas.Option.{none-some, same_Some, slice_get_past, slice_get-get_or, option_and_then_some}
 use Rattle.std.specs.Prelude.{nat_lt, slice_get, is_some, unwrap_or, IsErrOf, IfOk, MatchResult, ◌↔◌}
 use Rattle.std.specs.Int.{w16, from_be_bytes}
-use Rattle.sd_text.specs.Lines.{lines_of}
-use Rattle.sd_text.specs.Number.{decimal_after}
+use Rattle.sd_base_text.specs.Lines.{lines_of}
+use Rattle.sd_base_text.specs.Number.{decimal_after}
 use Rattle.sd_site.specs.declared.fault.SiteFault.{SiteFault}
 use Rattle.sd_site.specs.declared.fault.SiteFault.TheVariants.{Line, Range, SamePid, Extra, Short}
 use Rattle.sd_site.specs.declared.site.Site.{Site}

@@ -5,7 +5,7 @@ use Rattle.std.proofs.Common.{true≢false}
 use Rattle.std.proofs.lemmas.Bool.{eqb-true, eqb-false, cases_lt, and_parts, leb-true, le-leb, and_from}
 use Rattle.std.proofs.lemmas.Option.{none-some, same_Some, slice_get_past}
 use Rattle.std.specs.Prelude.{◌&&◌, nat_le, slice_get}
-use Rattle.sd_text.specs.Number.{decimal_after}
+use Rattle.sd_base_text.specs.Number.{decimal_after}
 use Rattle.sd_site.specs.declared.fault.SiteFault.{SiteFault}
 use Rattle.sd_site.specs.declared.fault.SiteFault.TheVariants.{Range, SamePid}
 use Rattle.sd_site.specs.Fields.{SiteFields, AreInRange}

@@ -1,6 +1,6 @@
 -- Public meaning: when each fault comes.
 use Rattle.std.specs.Prelude.{◌≡◌, ℕ, ◌+◌, ◌<◌, ◌≤◌, List, length, slice_get, Some}
-use Rattle.sd_text.specs.Number.{decimal_after}
+use Rattle.sd_base_text.specs.Number.{decimal_after}
 use Rattle.sd_site.specs.Forms.{Form, number, bytes, forms, IsWithin, bytes_after, number_on, emm_line, ecm_line}
 use Rattle.sd_site.specs.declared.fault.SiteFault.{SiteFault}
 use Rattle.sd_site.specs.declared.fault.SiteFault.TheVariants.{Line, Range, SamePid, Extra, Short}

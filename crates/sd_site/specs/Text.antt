@@ -2,8 +2,8 @@
 use Rattle.std.specs.Prelude.{◌≡◌, ℕ, ◌==◌, ◌&&◌, ◌≤◌, nat_le, List, [], ◌∷◌, length, slice_get}
 use Rattle.std.specs.Prelude.{if◌then◌else◌, Option, Some, None, Result, Ok, Err}
 use Rattle.std.specs.Int.{w16, from_be_bytes}
-use Rattle.sd_text.specs.Lines.{lines_of}
-use Rattle.sd_text.specs.Number.{decimal_after}
+use Rattle.sd_base_text.specs.Lines.{lines_of}
+use Rattle.sd_base_text.specs.Number.{decimal_after}
 use Rattle.sd_site.specs.Fields.{SiteFields, AreInRange}
 use Rattle.sd_site.specs.Forms.{NumberLine, BytesLine, bytes_after, number_on, bytes_on, number_or}
 use Rattle.sd_site.specs.Forms.{height_line, master_line, ca_line, emm_line, ecm_line, every_line, cryptos_line}

@@ -1,5 +1,5 @@
 ghost use Rattle.std.specs.Prelude.{◌≡◌, ◌≤◌, ◌↔◌, Ok, Err, IfOk, IsErrOf, MatchResult};
-ghost use Rattle.sd_text.specs.Lines.{lines_of};
+ghost use Rattle.sd_base_text.specs.Lines.{lines_of};
 ghost use Rattle.sd_site.specs.Fields.{SiteFields, fields_of};
 ghost use Rattle.sd_site.specs.Forms.{IsWithin, emm_line, messages_line};
 ghost use Rattle.sd_site.specs.Faults.{IsCauseOf};
@@ -11,8 +11,8 @@ use crate::site::{
     MOST_CRYPTOS, MOST_EVERY, MOST_FIRST_PERIOD, MOST_MESSAGES, MOST_SPAN, MOST_WORD, Site,
 };
 use hex::FromHex;
+use sd_base_text::{NumberFault, next_line, number_after};
 use sd_packet::{HIGHEST_POSITIONAL, LOWEST_POSITIONAL};
-use sd_text::{NumberFault, next_line, number_after};
 use sd_tree::{HIGHEST, Height};
 
 // The number on line k, which is the first of these bytes, and the bytes after the line.
@@ -100,7 +100,7 @@ fn optional_lines(bytes: &[u8]) -> Result<(Optional, &[u8]), SiteFault>
 }
 
 // The N bytes in hexadecimal digits on line k, and the bytes after the line.
-#[tactic(auto, using(crate::proofs::Digits::bytes_of_digits), unfolding(crate::specs::Forms::bytes_after, sd_text::specs::Number::rest_after))]
+#[tactic(auto, using(crate::proofs::Digits::bytes_of_digits), unfolding(crate::specs::Forms::bytes_after, sd_base_text::specs::Number::rest_after))]
 fn bytes_line<'a, const N: usize>(
     bytes: &'a [u8],
     k: u32,

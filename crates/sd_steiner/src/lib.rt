@@ -1,4 +1,5 @@
 //! The cover of the leaves that are not revoked: chains of the Steiner tree.
+//! `sd_cover` keeps an index that gives it from period to period.
 #![tactic(auto)]
 
 mod laws;

@@ -5,7 +5,7 @@ use Rattle.std.specs.Prelude.{Option, Some, slice_get, drop}
 use Rattle.std.specs.List.{flat_map, list_any}
 use Rattle.std.proofs.lemmas.List.Folds.{list_any-append}
 use Rattle.sd_section.specs.Assembled.{Assembling, all_lent}
-use Rattle.sd_lines.specs.Lines.{section_line}
+use Rattle.sd_tables_line.specs.Lines.{section_line}
 use Rattle.sd_tables.specs.Inspected.{pids_named_by}
 use Rattle.sd_tables.specs.Watching.{is_named_pid, naming, IsLearned, IsLearning}
 use Rattle.sd_tables.proofs.Learning.{or_false, or_assoc}

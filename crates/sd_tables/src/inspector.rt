@@ -3,11 +3,10 @@ ghost use Rattle.sd_tables.specs.Staged.{inspector_does, inspector_ends, inspect
 ghost use Rattle.sd_tables.specs.Staged.{IsStateAfter};
 
 use crate::assemblies::Assemblies;
-use sd_cause::NoMemory;
+use sd_base::{NoMemory, Steps};
 use sd_engine::{Stage, StageFault};
 use sd_packet::Packet;
 use sd_ports::{Sink, write_all};
-use sd_steps::Steps;
 use std::alloc::Global;
 use std::sync::ledger::Ledger;
 

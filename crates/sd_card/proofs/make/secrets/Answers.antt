@@ -2,7 +2,7 @@ use Rattle.std.proofs.Common.{◌≡◌, ◌-◌, ◌++◌, ◌∙◌, ◌∷◌
 use Rattle.std.proofs.lemmas.List.{length-map}
 use Rattle.sd_label.specs.Names.{given, given_under}
 use Rattle.sd_label.proofs.Counts.{length_given}
-use Rattle.sd_secrets.specs.Secrets.{secret_of}
+use Rattle.sd_card_secrets.specs.Secrets.{secret_of}
 use Rattle.sd_card.proofs.Made.{all_under, secrets_first, secrets_more, secrets_all}
 use Rattle.sd_card.proofs.make.secrets.Goals as goal
 

@@ -1,4 +1,4 @@
-use Rattle.sd_entitling.specs.Kept.{plan_of}
+use Rattle.sd_head_periods.specs.Kept.{plan_of}
 use Rattle.sd_head.proofs.Starting.{starts, stays, word_begins, begun_at, begins_there, on_err_holds}
 use Rattle.sd_head.proofs.schedule.begin.Goals as goal
 

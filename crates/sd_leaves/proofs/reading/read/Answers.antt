@@ -2,7 +2,7 @@ use Rattle.std.proofs.Common.{◌≡◌, ◌+◌, ◌<◌, ◌^◌, ◌++◌, �
 use Rattle.std.proofs.Common.{◌∙◌, arith}
 use Rattle.std.proofs.lemmas.List.Elements.{All-push}
 use Rattle.std.specs.List.Sorted.{IsStrictlyIncreasing}
-use Rattle.sd_text.specs.Number.{decimal_value}
+use Rattle.sd_base_text.specs.Number.{decimal_value}
 use Rattle.sd_leaves.specs.declared.reading.LeavesFault.TheVariants.{Line}
 use Rattle.sd_leaves.specs.Text.{leaf_after}
 use Rattle.sd_leaves.proofs.Lines.{AreRead, read_more, read_fault, read_all, leaf_fits, above_more}

@@ -1,6 +1,6 @@
 use Rattle.std.proofs.Common.{rules, ◌≡◌, ◌≤◌, ◌++◌, ◌∙◌, ◌∷◌, [], List, ℕ, map, length, ap, arith}
 use Rattle.std.proofs.lemmas.List.{length-map}
-use Rattle.sd_secrets.specs.Secrets.{secret_of}
+use Rattle.sd_card_secrets.specs.Secrets.{secret_of}
 use Rattle.sd_lsd.specs.LayerNames.{layer_given}
 use Rattle.sd_lsd.proofs.Given.{useful_under, length_layer_given}
 use Rattle.sd_lsd.proofs.Made.{secrets_first, secrets_more, secrets_all}

@@ -1,7 +1,7 @@
 use Rattle.std.proofs.Common.{◌≡◌}
 use Rattle.serde_json.specs.Data.{no_members}
 use Rattle.serde_json.specs.View.{members_view}
-use Rattle.sd_lines.specs.Members.{named_data, put_all}
+use Rattle.sd_tables_line.specs.Members.{named_data, put_all}
 use Rattle.sd_monitor.proofs.object.object_of.Given as goal
 
 abbrev pub invariant-loop-key : goal.invariant-loop-key

@@ -1,7 +1,7 @@
 use Rattle.std.specs.Prelude.{map, string_bytes}
-use Rattle.sd_status.specs.Outside.{depot_state, page_state, outside}
-use Rattle.sd_status.specs.Outcome.{status_of}
-use Rattle.sd_words.specs.Orders.{order_said}
+use Rattle.sd_command_status.specs.Outside.{depot_state, page_state, outside}
+use Rattle.sd_command_status.specs.Outcome.{status_of}
+use Rattle.sd_command_line.specs.Orders.{order_said}
 use Rattle.sd_run.proofs.Ordered.{order_follows, words_follow}
 use Rattle.sd_run.proofs.top.obey.Goals as goal
 

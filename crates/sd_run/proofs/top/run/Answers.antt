@@ -1,12 +1,12 @@
 use Rattle.std.proofs.Common.{rules, ◌≡◌, [], sym, subst}
 use Rattle.std.specs.Prelude.{map, string_bytes}
-use Rattle.sd_status.specs.declared.status.Status.{Status}
-use Rattle.sd_status.specs.declared.status.Status.TheVariants.{Done, PrintFault}
-use Rattle.sd_status.specs.Texts.{line_of}
-use Rattle.sd_status.specs.Outside.{depot_state, page_state, outside}
-use Rattle.sd_status.specs.Results.{RunResult}
-use Rattle.sd_status.proofs.Told.{done_line, cut_line, lineless_answers, usage_meant}
-use Rattle.sd_words.specs.Words.{order_of}
+use Rattle.sd_command_status.specs.declared.status.Status.{Status}
+use Rattle.sd_command_status.specs.declared.status.Status.TheVariants.{Done, PrintFault}
+use Rattle.sd_command_status.specs.Texts.{line_of}
+use Rattle.sd_command_status.specs.Outside.{depot_state, page_state, outside}
+use Rattle.sd_command_status.specs.Results.{RunResult}
+use Rattle.sd_command_status.proofs.Told.{done_line, cut_line, lineless_answers, usage_meant}
+use Rattle.sd_command_line.specs.Words.{order_of}
 use Rattle.sd_run.proofs.Ordered.{only_words}
 use Rattle.sd_run.specs.Meaning.{meaning}
 use Rattle.sd_run.proofs.top.run.Goals as goal

@@ -1,7 +1,7 @@
 use Rattle.std.proofs.Common.{ap}
-use Rattle.sd_files.specs.Shown.{NumberArgument}
-use Rattle.sd_status.specs.Outside.{page_state}
-use Rattle.sd_words.specs.Orders.{arguments_said}
+use Rattle.sd_command_files.specs.Shown.{NumberArgument}
+use Rattle.sd_command_status.specs.Outside.{page_state}
+use Rattle.sd_command_line.specs.Orders.{arguments_said}
 use Rattle.sd_run.proofs.Ordered.{packets_fit, plan_fits}
 use Rattle.sd_run.proofs.top.work.Goals as goal
 

@@ -2,12 +2,12 @@ use Rattle.std.proofs.Common.{◌≡◌, ◌∙◌, ap, refl}
 use Rattle.std.proofs.lemmas.Result.{err_from_is_err_and}
 use Rattle.sd_book.specs.Text.{text_of}
 use Rattle.sd_book.specs.Value.{BookValue}
-use Rattle.sd_status.specs.declared.status.Status.TheVariants.{NoMemory}
-use Rattle.sd_status.specs.Spec.{value}
-use Rattle.sd_status.specs.Outside.{outside, depot_state, page_state}
-use Rattle.sd_status.specs.Outcome.{status_of}
-use Rattle.sd_files.specs.Shown.{shown_word}
-use Rattle.sd_files.proofs.Thirds.{wanting_obeys}
+use Rattle.sd_command_status.specs.declared.status.Status.TheVariants.{NoMemory}
+use Rattle.sd_command_status.specs.Spec.{value}
+use Rattle.sd_command_status.specs.Outside.{outside, depot_state, page_state}
+use Rattle.sd_command_status.specs.Outcome.{status_of}
+use Rattle.sd_command_files.specs.Shown.{shown_word}
+use Rattle.sd_command_files.proofs.Thirds.{wanting_obeys}
 use Rattle.sd_run_accounts.specs.Accounts.{accounts_in, making_then, report_line}
 use Rattle.sd_run_accounts.proofs.Made.{not_read, read_then}
 use Rattle.sd_run_accounts.proofs.command.accounts.Goals as goal

@@ -1,12 +1,12 @@
 use Rattle.std.proofs.Common.{◌≡◌, ap, ℕ, sym}
 use Rattle.std.proofs.lemmas.Result.{err_from_is_err_and}
 use Rattle.sd_site.specs.Fields.{fields_of}
-use Rattle.sd_status.specs.Outside.{depot_state}
-use Rattle.sd_status.specs.Spec.{value, ◌>>=◌}
-use Rattle.sd_status.proofs.Follow.{reads_first, reads_then, where_ok}
-use Rattle.sd_files.specs.Files.{site_of_file, book_of_file}
+use Rattle.sd_command_status.specs.Outside.{depot_state}
+use Rattle.sd_command_status.specs.Spec.{value, ◌>>=◌}
+use Rattle.sd_command_status.proofs.Follow.{reads_first, reads_then, where_ok}
+use Rattle.sd_command_files.specs.Files.{site_of_file, book_of_file}
 use Rattle.sd_run_cover.specs.Cover.{covering, cover_meaning}
-use Rattle.sd_files.specs.Shown.{shown_word}
+use Rattle.sd_command_files.specs.Shown.{shown_word}
 use Rattle.sd_run_cover.proofs.command.book_of_site.Goals as goal
 
 pub returns-in_err-site : goal.returns-in_err-site

@@ -1,10 +1,10 @@
 use Rattle.std.proofs.Common.{refl}
 use Rattle.std.proofs.lemmas.Result.{err_from_is_err_and}
-use Rattle.sd_status.specs.Outside.{depot_state, page_state}
-use Rattle.sd_status.specs.Outcome.{status_of}
-use Rattle.sd_status.proofs.Follow.{reads_follows, prints_follows}
+use Rattle.sd_command_status.specs.Outside.{depot_state, page_state}
+use Rattle.sd_command_status.specs.Outcome.{status_of}
+use Rattle.sd_command_status.proofs.Follow.{reads_follows, prints_follows}
 use Rattle.sd_run_cover.specs.Cover.{covering, cover_meaning}
-use Rattle.sd_files.specs.Shown.{shown_word}
+use Rattle.sd_command_files.specs.Shown.{shown_word}
 use Rattle.sd_run_cover.proofs.command.cover.Goals as goal
 
 pub returns-in_err-book : goal.returns-in_err-book

@@ -2,20 +2,20 @@ use Rattle.std.proofs.Common.{refl, Some, Ok, Err, []}
 use Rattle.std.proofs.lemmas.Result.{err_from_is_err_and}
 use Rattle.sd_site.specs.Fields.{fields_of}
 use Rattle.sd_ports.proofs.Outlets.{there_after}
-use Rattle.sd_broadcast.specs.Plan.{Plan}
-use Rattle.sd_status.specs.declared.status.Status.TheVariants.{NoMemory}
-use Rattle.sd_status.specs.Outside.{depot_state, outside}
-use Rattle.sd_status.specs.Work.{Uncounted}
-use Rattle.sd_status.specs.Outcome.{status_of}
-use Rattle.sd_status.proofs.Givens.{some_got}
+use Rattle.sd_spec_broadcast.specs.Plan.{Plan}
+use Rattle.sd_command_status.specs.declared.status.Status.TheVariants.{NoMemory}
+use Rattle.sd_command_status.specs.Outside.{depot_state, outside}
+use Rattle.sd_command_status.specs.Work.{Uncounted}
+use Rattle.sd_command_status.specs.Outcome.{status_of}
+use Rattle.sd_command_status.proofs.Givens.{some_got}
 use Rattle.sd_run_head.specs.Head.{sending_of, sent_of, sent_status}
-use Rattle.sd_files.specs.Shown.{shown_word}
-use Rattle.sd_files.proofs.Looked.{opened_got}
-use Rattle.sd_files.proofs.Turning.{turned_obeys, not_turned}
+use Rattle.sd_command_files.specs.Shown.{shown_word}
+use Rattle.sd_command_files.proofs.Looked.{opened_got}
+use Rattle.sd_command_files.proofs.Turning.{turned_obeys, not_turned}
 use Rattle.sd_run_head.proofs.Heading.{by_plan, plan_follows, no_plan, wanting_obeys}
 use Rattle.sd_run_head.proofs.Planned.{reads_plan}
 use Rattle.sd_run_head.proofs.command.head.Goals as goal
-use Rattle.sd_files.specs.Both.{SiteBook}
+use Rattle.sd_command_files.specs.Both.{SiteBook}
 use Rattle.sd_site.specs.declared.site.Site.{Site}
 use Rattle.sd_book.specs.declared.book.Book.{Book}
 

@@ -1,5 +1,5 @@
 use Rattle.sd_head.specs.Staged.{plan_in}
-use Rattle.sd_status.specs.Outcome.{status_of}
+use Rattle.sd_command_status.specs.Outcome.{status_of}
 use Rattle.sd_run_head.proofs.Heading.{sends_left, port_caused}
 use Rattle.sd_run_head.proofs.command.send.Goals as goal
 

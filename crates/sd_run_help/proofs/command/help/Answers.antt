@@ -1,8 +1,8 @@
 use Rattle.std.proofs.Common.{inl, inr, refl}
 use Rattle.std.proofs.lemmas.Result.{err_from_is_err_and}
-use Rattle.sd_status.specs.declared.status.Status.TheVariants.{NoMemory}
-use Rattle.sd_status.specs.Outside.{page_state}
-use Rattle.sd_status.specs.Outcome.{status_of}
+use Rattle.sd_command_status.specs.declared.status.Status.TheVariants.{NoMemory}
+use Rattle.sd_command_status.specs.Outside.{page_state}
+use Rattle.sd_command_status.specs.Outcome.{status_of}
 use Rattle.sd_run_help.specs.Pages.{help_text}
 use Rattle.sd_run_help.proofs.Printing.{text_told}
 use Rattle.sd_run_help.proofs.command.help.Goals as goal

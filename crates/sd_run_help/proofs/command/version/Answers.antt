@@ -1,6 +1,6 @@
 use Rattle.std.proofs.Common.{inl}
-use Rattle.sd_status.specs.Outside.{page_state}
-use Rattle.sd_status.specs.Outcome.{status_of}
+use Rattle.sd_command_status.specs.Outside.{page_state}
+use Rattle.sd_command_status.specs.Outcome.{status_of}
 use Rattle.sd_run_help.specs.Pages.{version_text}
 use Rattle.sd_run_help.proofs.Printing.{text_told}
 use Rattle.sd_run_help.proofs.command.version.Goals as goal

@@ -1,6 +1,6 @@
 use Rattle.std.proofs.Common.{◌≡◌, ◌++◌, take, string_bytes}
 use Rattle.std.specs.List.{flat_map}
-use Rattle.sd_commands.specs.Exits.{exit_line}
+use Rattle.sd_command_table.specs.Exits.{exit_line}
 use Rattle.sd_run_help.proofs.page.push_exits.Given as goal
 
 -- the text so far has the lines of the first of them

@@ -1,12 +1,12 @@
 use Rattle.std.proofs.Common.{refl}
 use Rattle.std.proofs.lemmas.Result.{err_from_is_err_and}
-use Rattle.sd_status.specs.Outside.{depot_state, page_state}
-use Rattle.sd_status.specs.Spec.{value, ◌>>=◌}
-use Rattle.sd_status.specs.Work.{Work}
-use Rattle.sd_status.specs.Outcome.{status_of}
-use Rattle.sd_status.proofs.Follow.{reads_follows, reads_first, reads_second, reads_two, prints_follows}
-use Rattle.sd_files.specs.Files.{book_of_file}
-use Rattle.sd_files.specs.Shown.{shown_word, shown_number}
+use Rattle.sd_command_status.specs.Outside.{depot_state, page_state}
+use Rattle.sd_command_status.specs.Spec.{value, ◌>>=◌}
+use Rattle.sd_command_status.specs.Work.{Work}
+use Rattle.sd_command_status.specs.Outcome.{status_of}
+use Rattle.sd_command_status.proofs.Follow.{reads_follows, reads_first, reads_second, reads_two, prints_follows}
+use Rattle.sd_command_files.specs.Files.{book_of_file}
+use Rattle.sd_command_files.specs.Shown.{shown_word, shown_number}
 use Rattle.sd_run_layered.specs.Layered.{shown_layers, layers_of_file, layering, layered_meaning}
 use Rattle.sd_run_layered.proofs.command.layered.Goals as goal
 

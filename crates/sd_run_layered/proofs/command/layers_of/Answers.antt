@@ -1,10 +1,10 @@
 use Rattle.std.proofs.lemmas.Result.{err_from_is_err_and}
 use Rattle.sd_site.specs.Fields.{fields_of}
-use Rattle.sd_status.specs.Outside.{depot_state}
-use Rattle.sd_status.specs.Spec.{judged}
-use Rattle.sd_status.proofs.Follow.{alone_judges, looks_first, looks_judged}
-use Rattle.sd_files.specs.Files.{site_of_file}
-use Rattle.sd_files.specs.Shown.{shown_number}
+use Rattle.sd_command_status.specs.Outside.{depot_state}
+use Rattle.sd_command_status.specs.Spec.{judged}
+use Rattle.sd_command_status.proofs.Follow.{alone_judges, looks_first, looks_judged}
+use Rattle.sd_command_files.specs.Files.{site_of_file}
+use Rattle.sd_command_files.specs.Shown.{shown_number}
 use Rattle.sd_run_layered.specs.Layered.{shown_layers, told_layers}
 use Rattle.sd_run_layered.proofs.command.layers_of.Goals as goal
 

@@ -1,10 +1,10 @@
 use Rattle.std.proofs.lemmas.Result.{err_from_is_err_and}
 use Rattle.sd_site.specs.Fields.{fields_of}
-use Rattle.sd_status.specs.Outside.{depot_state, page_state, outside}
-use Rattle.sd_status.specs.Spec.{all_of, value, ◌>>=◌}
-use Rattle.sd_status.specs.Outcome.{status_of}
-use Rattle.sd_files.specs.Files.{site_of_file}
-use Rattle.sd_files.specs.Shown.{shown_word}
+use Rattle.sd_command_status.specs.Outside.{depot_state, page_state, outside}
+use Rattle.sd_command_status.specs.Spec.{all_of, value, ◌>>=◌}
+use Rattle.sd_command_status.specs.Outcome.{status_of}
+use Rattle.sd_command_files.specs.Files.{site_of_file}
+use Rattle.sd_command_files.specs.Shown.{shown_word}
 use Rattle.sd_run_receive.proofs.Streamed.{first_follows, then_follows}
 use Rattle.sd_run_messages.specs.Messages.{messages_meaning, monitoring, stream_meaning}
 use Rattle.sd_run_messages.proofs.command.messages.Goals as goal

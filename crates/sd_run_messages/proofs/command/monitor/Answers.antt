@@ -1,5 +1,5 @@
 use Rattle.sd_site.specs.Fields.{fields_of}
-use Rattle.sd_status.specs.Outcome.{status_of}
+use Rattle.sd_command_status.specs.Outcome.{status_of}
 use Rattle.sd_run_tables.proofs.Inspected.{read_caused}
 use Rattle.sd_run_messages.proofs.Monitored.{is_monitored}
 use Rattle.sd_run_messages.proofs.command.monitor.Goals as goal

@@ -1,15 +1,15 @@
 use Rattle.std.proofs.Common.{ℕ, refl, subst}
 use Rattle.std.proofs.lemmas.Result.{err_from_is_err_and}
 use Rattle.sd_site.specs.Fields.{fields_of}
-use Rattle.sd_status.specs.Outside.{depot_state, page_state, outside}
-use Rattle.sd_status.specs.Spec.{value, ◌>>=◌}
-use Rattle.sd_status.specs.Outcome.{status_of}
-use Rattle.sd_status.specs.Prints.{PrintsWork}
-use Rattle.sd_status.proofs.Follow.{rests, printed_obeys}
-use Rattle.sd_files.specs.Both.{SiteBook, both_by}
-use Rattle.sd_files.specs.Leaves.{leaves_of_file}
-use Rattle.sd_files.specs.Shown.{shown_word}
-use Rattle.sd_files.proofs.Thirds.{not_both, not_third, third_looked}
+use Rattle.sd_command_status.specs.Outside.{depot_state, page_state, outside}
+use Rattle.sd_command_status.specs.Spec.{value, ◌>>=◌}
+use Rattle.sd_command_status.specs.Outcome.{status_of}
+use Rattle.sd_command_status.specs.Prints.{PrintsWork}
+use Rattle.sd_command_status.proofs.Follow.{rests, printed_obeys}
+use Rattle.sd_command_files.specs.Both.{SiteBook, both_by}
+use Rattle.sd_command_files.specs.Leaves.{leaves_of_file}
+use Rattle.sd_command_files.specs.Shown.{shown_word}
+use Rattle.sd_command_files.proofs.Thirds.{not_both, not_third, third_looked}
 use Rattle.sd_run_opens.specs.Opens.{opening, opens_meaning}
 use Rattle.sd_run_opens.proofs.command.opens.Goals as goal
 

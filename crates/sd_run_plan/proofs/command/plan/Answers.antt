@@ -1,14 +1,14 @@
 use Rattle.std.proofs.Common.{refl, ◌∙◌}
 use Rattle.std.proofs.lemmas.Result.{err_from_is_err_and}
 use Rattle.sd_site.specs.Fields.{fields_of}
-use Rattle.sd_broadcast.specs.Plan.{Plan}
-use Rattle.sd_status.specs.Outside.{depot_state, page_state}
-use Rattle.sd_status.specs.Spec.{value, ◌>>=◌}
-use Rattle.sd_status.specs.Work.{Work}
-use Rattle.sd_status.specs.Outcome.{status_of}
-use Rattle.sd_status.proofs.Follow.{reads_follows, reads_first, reads_second, reads_two, prints_follows}
-use Rattle.sd_files.specs.Files.{book_of_file}
-use Rattle.sd_files.specs.Shown.{shown_word, shown_number}
+use Rattle.sd_spec_broadcast.specs.Plan.{Plan}
+use Rattle.sd_command_status.specs.Outside.{depot_state, page_state}
+use Rattle.sd_command_status.specs.Spec.{value, ◌>>=◌}
+use Rattle.sd_command_status.specs.Work.{Work}
+use Rattle.sd_command_status.specs.Outcome.{status_of}
+use Rattle.sd_command_status.proofs.Follow.{reads_follows, reads_first, reads_second, reads_two, prints_follows}
+use Rattle.sd_command_files.specs.Files.{book_of_file}
+use Rattle.sd_command_files.specs.Shown.{shown_word, shown_number}
 use Rattle.sd_run_plan.specs.Air.{plan_meaning, planning, roomy_site_of_file}
 use Rattle.sd_run_plan.proofs.Printing.{no_text, one_text}
 use Rattle.sd_run_plan.proofs.command.plan.Goals as goal

@@ -1,9 +1,9 @@
 use Rattle.std.proofs.lemmas.Result.{err_from_is_err_and}
 use Rattle.sd_receive.specs.Receiving.{card_in}
-use Rattle.sd_status.specs.declared.status.LimitKind.TheVariants.{CardBytes}
-use Rattle.sd_status.specs.Outside.{depot_state}
-use Rattle.sd_status.specs.Spec.{within, judged}
-use Rattle.sd_status.proofs.Follow.{looks_first, looks_judged}
+use Rattle.sd_command_status.specs.declared.status.LimitKind.TheVariants.{CardBytes}
+use Rattle.sd_command_status.specs.Outside.{depot_state}
+use Rattle.sd_command_status.specs.Spec.{within, judged}
+use Rattle.sd_command_status.proofs.Follow.{looks_first, looks_judged}
 use Rattle.sd_run_receive.specs.Receive.{told_card, card_of_file, most_card_bytes}
 use Rattle.sd_run_receive.proofs.command.read_receiver.Goals as goal
 

@@ -1,9 +1,9 @@
 use Rattle.sd_sample.specs.Sample.{sample_of}
-use Rattle.sd_status.specs.Outside.{depot_state}
-use Rattle.sd_status.specs.Work.{NoSteps}
-use Rattle.sd_files.specs.Shown.{shown_word}
-use Rattle.sd_status.proofs.Givens.{any_given}
-use Rattle.sd_files.proofs.Making.{made_obeys}
+use Rattle.sd_command_status.specs.Outside.{depot_state}
+use Rattle.sd_command_status.specs.Work.{NoSteps}
+use Rattle.sd_command_files.specs.Shown.{shown_word}
+use Rattle.sd_command_status.proofs.Givens.{any_given}
+use Rattle.sd_command_files.proofs.Making.{made_obeys}
 use Rattle.sd_run_sample.proofs.command.sample.Goals as goal
 
 pub returns : goal.returns

@@ -1,9 +1,9 @@
 use Rattle.std.proofs.Common.{string_bytes}
 use Rattle.std.proofs.lemmas.Result.{err_from_is_err_and}
-use Rattle.sd_status.specs.declared.status.LimitKind.TheVariants.{CardBytes}
-use Rattle.sd_status.specs.Outside.{depot_state}
-use Rattle.sd_status.specs.Spec.{within, judged}
-use Rattle.sd_status.proofs.Follow.{looks_first, looks_judged}
+use Rattle.sd_command_status.specs.declared.status.LimitKind.TheVariants.{CardBytes}
+use Rattle.sd_command_status.specs.Outside.{depot_state}
+use Rattle.sd_command_status.specs.Spec.{within, judged}
+use Rattle.sd_command_status.proofs.Follow.{looks_first, looks_judged}
 use Rattle.sd_run_show.specs.Show.{told_show, line_of_file, most_card_bytes}
 use Rattle.sd_run_show.proofs.command.read_line.Goals as goal
 

@@ -1,10 +1,10 @@
 use Rattle.std.proofs.Common.{refl, string_bytes}
 use Rattle.std.proofs.lemmas.Result.{err_from_is_err_and}
-use Rattle.sd_status.specs.Outside.{depot_state, page_state}
-use Rattle.sd_status.specs.Spec.{value}
-use Rattle.sd_status.specs.Outcome.{status_of}
-use Rattle.sd_status.proofs.Follow.{looks_follows, looks_reads, prints_follows}
-use Rattle.sd_files.specs.Shown.{shown_word}
+use Rattle.sd_command_status.specs.Outside.{depot_state, page_state}
+use Rattle.sd_command_status.specs.Spec.{value}
+use Rattle.sd_command_status.specs.Outcome.{status_of}
+use Rattle.sd_command_status.proofs.Follow.{looks_follows, looks_reads, prints_follows}
+use Rattle.sd_command_files.specs.Shown.{shown_word}
 use Rattle.sd_run_show.specs.Show.{line_of_file, printing, show_meaning}
 use Rattle.sd_run_show.proofs.Printed.{line_prints}
 use Rattle.sd_run_show.proofs.command.show.Goals as goal

@@ -1,15 +1,15 @@
 use Rattle.std.proofs.Common.{◌≡◌, ℕ, List, Ok, Err, refl, subst, string_bytes}
 use Rattle.std.proofs.lemmas.Result.{err_from_is_err_and}
 use Rattle.sd_site.specs.Fields.{fields_of}
-use Rattle.sd_status.specs.Outside.{depot_state, page_state, outside}
-use Rattle.sd_status.specs.Spec.{judged, value, ◌>>=◌}
-use Rattle.sd_status.specs.Outcome.{status_of}
-use Rattle.sd_status.specs.Reads.{JudgedOutcome}
-use Rattle.sd_status.proofs.Follow.{rests, printed_obeys}
-use Rattle.sd_files.specs.Both.{SiteBook, both_by}
-use Rattle.sd_files.specs.Leaves.{leaves_of_file}
-use Rattle.sd_files.specs.Shown.{shown_word}
-use Rattle.sd_files.proofs.Thirds.{not_both, not_third, third_looked, judged_refused, judged_obeys}
+use Rattle.sd_command_status.specs.Outside.{depot_state, page_state, outside}
+use Rattle.sd_command_status.specs.Spec.{judged, value, ◌>>=◌}
+use Rattle.sd_command_status.specs.Outcome.{status_of}
+use Rattle.sd_command_status.specs.Reads.{JudgedOutcome}
+use Rattle.sd_command_status.proofs.Follow.{rests, printed_obeys}
+use Rattle.sd_command_files.specs.Both.{SiteBook, both_by}
+use Rattle.sd_command_files.specs.Leaves.{leaves_of_file}
+use Rattle.sd_command_files.specs.Shown.{shown_word}
+use Rattle.sd_command_files.proofs.Thirds.{not_both, not_third, third_looked, judged_refused, judged_obeys}
 use Rattle.sd_run_trace.specs.Trace.{traced, telling, trace_meaning}
 use Rattle.sd_run_trace.proofs.Telling.{text_prints}
 use Rattle.sd_run_trace.proofs.command.trace.Goals as goal

@@ -1,6 +1,6 @@
 use Rattle.std.proofs.Common.{ℕ, List, string_bytes}
 use Rattle.std.proofs.lemmas.Result.{err_from_is_err_and}
-use Rattle.sd_entitling.specs.Kept.{plan_of}
+use Rattle.sd_head_periods.specs.Kept.{plan_of}
 use Rattle.sd_run_trial.proofs.Trying.{sent_stopped, receivers_run}
 use Rattle.sd_run_trial.proofs.command.text_of.Goals as goal
 

@@ -1,13 +1,13 @@
 use Rattle.std.proofs.Common.{refl}
 use Rattle.std.proofs.lemmas.Result.{err_from_is_err_and}
 use Rattle.sd_site.specs.Fields.{fields_of}
-use Rattle.sd_status.specs.Outside.{depot_state}
-use Rattle.sd_status.specs.Spec.{value, ◌>>=◌}
-use Rattle.sd_status.proofs.Follow.{reads_first, reads_second, reads_two}
-use Rattle.sd_files.specs.Files.{book_of_file}
+use Rattle.sd_command_status.specs.Outside.{depot_state}
+use Rattle.sd_command_status.specs.Spec.{value, ◌>>=◌}
+use Rattle.sd_command_status.proofs.Follow.{reads_first, reads_second, reads_two}
+use Rattle.sd_command_files.specs.Files.{book_of_file}
 use Rattle.sd_run_trial.specs.Trial.{low_site_of_file, plan_by, plan_meaning}
-use Rattle.sd_files.specs.Shown.{shown_word}
-use Rattle.sd_files.proofs.Thirds.{same_refusal, same_value}
+use Rattle.sd_command_files.specs.Shown.{shown_word}
+use Rattle.sd_command_files.proofs.Thirds.{same_refusal, same_value}
 use Rattle.sd_run_trial.proofs.plan.read_plan.Goals as goal
 
 pub returns-in_err-site-clause-value : goal.returns-in_err-site-clause-value

@@ -1,5 +1,5 @@
 use Rattle.std.proofs.Common.{sym, ap, ◌∙◌}
-use Rattle.sd_entitling.specs.Kept.{plan_of}
+use Rattle.sd_head_periods.specs.Kept.{plan_of}
 use Rattle.sd_ports.specs.Memory.{Store}
 use Rattle.sd_run_trial.proofs.Sending.{all_sent}
 use Rattle.sd_run_trial.proofs.send.send_all.Goals as goal

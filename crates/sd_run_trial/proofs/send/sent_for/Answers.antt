@@ -1,4 +1,4 @@
-use Rattle.sd_entitling.specs.Kept.{plan_of}
+use Rattle.sd_head_periods.specs.Kept.{plan_of}
 use Rattle.sd_run_trial.proofs.Trying.{told_as}
 use Rattle.sd_run_trial.proofs.send.sent_for.Goals as goal
 

@@ -2,9 +2,9 @@ use Rattle.std.proofs.Common.{arith, ◌≡◌, ◌∙◌, ◌*◌, [], ℕ, Lis
 use Rattle.std.specs.Prelude.{reverse}
 use Rattle.sd_site.specs.Fields.{SiteFields, fields_of}
 use Rattle.sd_book.specs.declared.command.Command.{Command}
-use Rattle.sd_broadcast.specs.Plan.{Plan}
-use Rattle.sd_events.specs.declared.event.Event.{Event}
-use Rattle.sd_events.specs.Book.{event_book}
+use Rattle.sd_spec_broadcast.specs.Plan.{Plan}
+use Rattle.sd_spec_field.specs.declared.event.Event.{Event}
+use Rattle.sd_spec_field.specs.Book.{event_book}
 use Rattle.sd_field.specs.Fields.{FieldValue, plan_in}
 use Rattle.sd_field.specs.Seats.{AreNew}
 use Rattle.sd_field.specs.Stations.{IsStation}

@@ -2,7 +2,7 @@ use Rattle.std.proofs.Common.{arith, ◌≡◌, ◌∙◌, ◌<◌, ◌≤◌, �
 use Rattle.sd_site.specs.Fields.{fields_of}
 use Rattle.sd_book.specs.Limits.{IsDraft, IsWithinLimits}
 use Rattle.sd_book.specs.declared.command.Command.{Command}
-use Rattle.sd_events.specs.Book.{with_periods_to, period_after}
+use Rattle.sd_spec_field.specs.Book.{with_periods_to, period_after}
 use Rattle.sd_field.proofs.Laying.{command_beyond, command_within, front_within, whole_fits}
 use Rattle.sd_field.proofs.laid.Laid.command.Goals as goal
 

@@ -2,10 +2,10 @@ use Rattle.std.proofs.Common.{◌∙◌, ◌++◌, ◌-◌, ◌==◌, ℕ, true,
 use Rattle.std.specs.Prelude.{Some, None}
 use Rattle.sd_site.specs.Fields.{fields_of}
 use Rattle.sd_engine.specs.Stage.{vessel}
-use Rattle.sd_broadcast.specs.Plan.{closing_number, crypto_of}
-use Rattle.sd_entitling.specs.Kept.{IsOf}
+use Rattle.sd_spec_broadcast.specs.Plan.{closing_number, crypto_of}
+use Rattle.sd_head_periods.specs.Kept.{IsOf}
 use Rattle.sd_head.specs.Staged.{plan_in}
-use Rattle.sd_entitling.specs.declared.crypto.CryptoPeriod.{CryptoPeriod}
+use Rattle.sd_head_periods.specs.declared.crypto.CryptoPeriod.{CryptoPeriod}
 use Rattle.sd_head.specs.Messages.{head_of}
 use Rattle.sd_head.specs.Items.{tables_bytes, message_bytes}
 use Rattle.sd_head.specs.Schedule.{IsDue}

@@ -3,8 +3,8 @@ use Rattle.std.specs.Prelude.{Some, if◌then◌else◌}
 use Rattle.sd_label.specs.Keys.{control_word_of}
 use Rattle.sd_site.specs.Fields.{fields_of}
 use Rattle.sd_engine.specs.Stage.{vessel}
-use Rattle.sd_broadcast.specs.Plan.{Plan}
-use Rattle.sd_entitling.specs.declared.crypto.CryptoPeriod.{CryptoPeriod}
+use Rattle.sd_spec_broadcast.specs.Plan.{Plan}
+use Rattle.sd_head_periods.specs.declared.crypto.CryptoPeriod.{CryptoPeriod}
 use Rattle.sd_head.specs.Messages.{message_due}
 use Rattle.sd_head.specs.Sending.{counter_after}
 use Rattle.sd_head.specs.Items.{tables_bytes, message_bytes, parts_in}

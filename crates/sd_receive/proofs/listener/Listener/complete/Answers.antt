@@ -1,11 +1,11 @@
 use Rattle.std.proofs.Common.{◌≡◌, refl, ap, subst, arith, ℕ}
 use Rattle.std.specs.Prelude.{Err}
-use Rattle.sd_cause.specs.Count.{with_added}
+use Rattle.sd_base.specs.Count.{with_added}
 use Rattle.sd_card.specs.Fields.{fields_of}
 use Rattle.sd_engine.specs.Stage.{vessel}
-use Rattle.sd_hearing.specs.Ears.{tuned}
-use Rattle.sd_segment.specs.Writing.{WriteOutcome}
-use Rattle.sd_segment.specs.declared.fault.SegmentFault.{SegmentFault}
+use Rattle.sd_receive_filter.specs.Ears.{tuned}
+use Rattle.sd_receive_hold.specs.Writing.{WriteOutcome}
+use Rattle.sd_receive_hold.specs.declared.fault.SegmentFault.{SegmentFault}
 use Rattle.sd_receive.specs.Held.{pair_wrote}
 use Rattle.sd_receive.proofs.Messages.{counting, parity_message, word_message, taken_message, cut_message}
 use Rattle.sd_receive.proofs.listener.Listener.complete.Goals as goal

@@ -2,12 +2,12 @@ use Rattle.std.proofs.Common.{◌≡◌, ◌∙◌, refl, sym, subst, List}
 use Rattle.std.specs.Prelude.{Ok}
 use Rattle.sd_card.specs.Fields.{fields_of}
 use Rattle.sd_engine.specs.Stage.{vessel}
-use Rattle.sd_reception.specs.declared.fault.StreamFault.TheVariants.{BadEcm}
-use Rattle.sd_reception.specs.Heard.{Heard, Controls}
-use Rattle.sd_reception.specs.Stretches.{current}
-use Rattle.sd_hearing.specs.Ears.{tuned}
-use Rattle.sd_collect.specs.Collected.{IsCollected, IsComplete, PartOutcome}
-use Rattle.sd_collect.specs.declared.collect.Taken.{Taken}
+use Rattle.sd_spec_receiver.specs.declared.fault.StreamFault.TheVariants.{BadEcm}
+use Rattle.sd_spec_receiver.specs.Heard.{Heard, Controls}
+use Rattle.sd_spec_receiver.specs.Stretches.{current}
+use Rattle.sd_receive_filter.specs.Ears.{tuned}
+use Rattle.sd_receive_ecm.specs.Collected.{IsCollected, IsComplete, PartOutcome}
+use Rattle.sd_receive_ecm.specs.declared.collect.Taken.{Taken}
 use Rattle.sd_receive.specs.Listening.{TakesHeard, RefusesHeard, TakesMessage, RefusesMessage}
 use Rattle.sd_receive.specs.declared.listener.Listener.{Listener}
 use Rattle.sd_receive.proofs.Listening.{took_nothing, part_waiting, part_bad, comes_weaker, message_heard}

@@ -2,11 +2,11 @@ use Rattle.std.proofs.Common.{◌≡◌, ◌+◌, ◌<◌, ◌∙◌, ap, arith,
 use Rattle.std.specs.Prelude.{Option, Some, IfSome}
 use Rattle.std.specs.Option.{option_or}
 use Rattle.sd_engine.specs.Stage.{vessel}
-use Rattle.sd_reception.specs.Tuned.{cat_tuning}
-use Rattle.sd_reception.specs.Heard.{hears}
-use Rattle.sd_reception.specs.Runs.{run_name_heard}
-use Rattle.sd_hearing.specs.Ears.{tuned, heard_as}
-use Rattle.sd_hearing.specs.declared.tune.Tuning.{Tuning as Kept}
+use Rattle.sd_spec_receiver.specs.Tuned.{cat_tuning}
+use Rattle.sd_spec_receiver.specs.Heard.{hears}
+use Rattle.sd_spec_receiver.specs.Runs.{run_name_heard}
+use Rattle.sd_receive_filter.specs.Ears.{tuned, heard_as}
+use Rattle.sd_receive_filter.specs.declared.tune.Tuning.{Tuning as Kept}
 use Rattle.sd_receive.specs.Listening.{capped, TakesHeard, RefusesHeard}
 use Rattle.sd_receive.specs.Receiving.{card_in, receiver_does, receiver_refuses, Refusing}
 use Rattle.sd_receive.proofs.Receiving.{counted, listening, thing_of, idle_untuned, idle_closed, heard_does}

@@ -1,0 +1,124 @@
+-- An order that was read has the arguments of its command's row.
+use Rattle.std.proofs.Common.{◌≡◌, ℕ, zero, suc, ◌+◌, ◌==◌, ◌||◌, not, Bool, true, false, List, [], ◌∷◌, length}
+use Rattle.std.proofs.Common.{Option, Some, None, Result, Ok, Err, IfOk, refl, sym, subst, arith, inl, inr}
+use Rattle.std.proofs.Common.{lt-ltb, le-ltb, if◌then◌else◌}
+use Rattle.std.proofs.lemmas.Bool.{cases_lt}
+use Rattle.sd_command_table.specs.declared.command.Command.{Command}
+use Rattle.sd_command_table.specs.declared.operand.Operand.{Operand}
+use Rattle.sd_command_table.specs.declared.operand.Kind.{Kind}
+use Rattle.sd_command_table.specs.declared.operand.Kind.TheVariants as kind
+use Rattle.sd_command_table.specs.Commands.{command_named, operands_of}
+use Rattle.sd_command_table.specs.Operands.{operand_kind}
+use Rattle.sd_base_text.specs.Number.{decimal_value}
+use Rattle.sd_command_status.specs.declared.status.Status.{Status}
+use Rattle.sd_command_status.specs.declared.status.Status.TheVariants.{Usage, BadWord}
+use Rattle.sd_command_line.specs.declared.order.Order as declared
+use Rattle.sd_command_line.specs.Words.{Argument, Order, argument_of, arguments_from, at_most, before, counted}
+use Rattle.sd_command_line.specs.Words.{help_on, help_words, is_help, is_version, named_words, number_in, numbered}
+use Rattle.sd_command_line.specs.Words.{ordered}
+use Rattle.sd_command_line.specs.Words.{out_is_read, version_words, words_of}
+use Rattle.sd_command_line.specs.Orders.{AreOf, IsOf, IsSound, order_said, shown}
+
+-- a number that was read is within its limit
+number_sound : (place most : ℕ) (found : Option ℕ) →
+    IfOk (numbered place (at_most place most found)) (IsOf place (kind.Number most))
+number_sound place most None = tt
+number_sound place most (Some n) =
+    elim (cases_lt most n) [
+      | inl lt ↦
+          subst
+          (λ (b : Bool). IfOk (numbered place (if b then Err (BadWord place) else Ok n))
+          (IsOf place (kind.Number most))) (sym (lt-ltb most n lt)) tt
+      | inr le ↦
+          subst
+          (λ (b : Bool). IfOk (numbered place (if b then Err (BadWord place) else Ok n))
+          (IsOf place (kind.Number most))) (sym (le-ltb most n le)) (refl, le)
+    ]
+
+-- a count is not 0 either
+count_sound : (place most : ℕ) (read : Result ℕ Status) → IfOk (numbered place read) (IsOf place (kind.Number most)) →
+    IfOk (numbered place (counted place read)) (IsOf place (kind.Count most))
+count_sound place most (Ok zero) h = tt
+count_sound place most (Ok (suc n)) h = (h.0, (omega arith, h.1))
+count_sound place most (Err status) h = tt
+
+argument_sound : (place : ℕ) (k : Kind) (text : List ℕ) → IfOk (argument_of place k text) (IsOf place k)
+argument_sound place kind.Input text = refl
+argument_sound place kind.Output text = refl
+argument_sound place (kind.Number most) text = number_sound place most (decimal_value text)
+argument_sound place (kind.Count most) text =
+    count_sound place most (number_in place most text) (number_sound place most (decimal_value text))
+
+before_sound : (place : ℕ) (operand : Operand) (operands : List Operand) (first : Result Argument Status)
+    (rest : Result (List Argument) Status) → IfOk first (IsOf place (operand_kind operand)) →
+    IfOk rest (AreOf (place + 1) operands) → IfOk (before first rest) (AreOf place (operand ∷ operands))
+before_sound place operand operands (Err status) rest a b = tt
+before_sound place operand operands (Ok argument) (Err status) a b = tt
+before_sound place operand operands (Ok argument) (Ok arguments) a b = (a, b)
+
+arguments_sound : (place : ℕ) (operands : List Operand) (texts : List (List ℕ)) → length texts ≡ length operands →
+    IfOk (arguments_from place operands texts) (AreOf place operands)
+arguments_sound place [] texts h = tt
+arguments_sound place (operand ∷ operands) [] h = absurd (omega (arith, h))
+arguments_sound place (operand ∷ operands) (text ∷ texts) h =
+    before_sound place operand operands (argument_of place (operand_kind operand) text)
+    (arguments_from (place + 1) operands texts) (argument_sound place (operand_kind operand) text)
+    (arguments_sound (place + 1) operands texts (omega (arith, h)))
+
+ordered_sound : (command : Command) (read : Result (List Argument) Status) → IfOk read (AreOf 1 (operands_of command)) →
+    IfOk (ordered command read) IsSound
+ordered_sound command (Ok arguments) h = h
+ordered_sound command (Err status) h = tt
+
+unless : (p : Bool) (order : Result Order Status) → (p ≡ false → IfOk order IsSound) →
+    IfOk (if p then Err Usage else order) IsSound
+unless true order h = tt
+unless false order h = h refl
+
+either : (p : Bool) (a b : Result Order Status) → IfOk a IsSound → IfOk b IsSound → IfOk (if p then a else b) IsSound
+either true a b h k = h
+either false a b h k = k
+
+as_many : (m n : ℕ) (p : Bool) → not (m == n) || p ≡ false → m ≡ n
+as_many m n p h = grind (arith, h)
+
+named_command_sound : (command : Option Command) (texts : List (List ℕ)) → IfOk (words_of command texts) IsSound
+named_command_sound None texts = tt
+named_command_sound (Some command) texts =
+    let operands = operands_of command in
+    unless (not (length texts == length operands) || out_is_read operands texts)
+    (ordered command (arguments_from 1 operands texts))
+    (λ h. ordered_sound command (arguments_from 1 operands texts)
+    (arguments_sound 1 operands texts (as_many (length texts) (length operands) (out_is_read operands texts) h)))
+
+topic_sound : (topic : Option Command) → IfOk (help_on topic) IsSound
+topic_sound None = tt
+topic_sound (Some topic) = tt
+
+help_sound : (texts : List (List ℕ)) → IfOk (help_words texts) IsSound
+help_sound [] = tt
+help_sound (name ∷ []) = topic_sound (command_named name)
+help_sound (name ∷ word ∷ words) = tt
+
+version_sound : (texts : List (List ℕ)) → IfOk (version_words texts) IsSound
+version_sound [] = tt
+version_sound (word ∷ words) = tt
+
+named_sound : (name : List ℕ) (texts : List (List ℕ)) → IfOk (named_words name texts) IsSound
+unfolding named_words
+named_sound name texts =
+    either (is_help name) (help_words texts)
+    (if is_version name then version_words texts else words_of (command_named name) texts) (help_sound texts)
+    (either (is_version name) (version_words texts) (words_of (command_named name) texts) (version_sound texts)
+    (named_command_sound (command_named name) texts))
+
+said_sound : (read : Result declared.Order Status) → IfOk (shown read) IsSound →
+    IfOk read (λ order. IsSound (order_said order))
+said_sound (Ok order) h = h
+said_sound (Err status) h = tt
+
+-- so is one that was read of a name and other words
+pub read_sound : (read : Result declared.Order Status) (name : List ℕ) (texts : List (List ℕ)) →
+    shown read ≡ named_words name texts → IfOk read (λ order. IsSound (order_said order))
+read_sound read name texts is =
+    said_sound read (subst (λ (r : Result Order Status). IfOk r IsSound) (sym is) (named_sound name texts))

@@ -1,0 +1,162 @@
+ghost use Rattle.std.specs.Prelude.{◌≡◌, ◌<◌, ◌≤◌, ℕ, IfErr, IfOk, length, map, option_map, slice_get, string_bytes};
+ghost use Rattle.std.specs.Prelude.{◌-◌};
+ghost use Rattle.sd_command_files.specs.Shown.{shown_number, shown_word};
+ghost use Rattle.sd_command_line.specs.Orders.{all_said, argument_said, arguments_said, one_said};
+ghost use Rattle.sd_command_line.specs.Words.{argument_of, arguments_from, counted, file, files_in, number, number_in};
+ghost use Rattle.sd_command_line.specs.Words.{out_in};
+
+use arrayvec::ArrayVec;
+use sd_base_text::number_after;
+use sd_command_files::{Number, Word};
+use sd_command_status::Status;
+use sd_command_table::{Kind, Operand};
+
+/// What an argument says.
+#[derive(Clone, Copy)]
+pub enum Argument<'a> {
+    /// A file that is read.
+    Input(&'a str),
+    /// The file that is made.
+    Output(&'a str),
+    /// A number.
+    Number(u32),
+}
+
+impl Default for Argument<'_> {
+    fn default() -> Self {
+        Argument::Number(0)
+    }
+}
+
+/// The arguments of a command.
+#[derive(Drop)]
+pub struct Arguments<'a> {
+    list: ArrayVec<Argument<'a>, 4>,
+}
+
+impl<'a> Arguments<'a> {
+    /// The arguments that these texts say, by their operands.
+    pub fn read(operands: &[Operand], texts: &'a [String]) -> Result<Arguments<'a>, Status>
+        requires one_each { length operands.now ≡ length texts.now }
+        requires few { length operands.now ≤ 4 }
+        ensures value { arguments_from 1 operands.now (map string_bytes texts.now) ≡ all_said result }
+        ensures fault { IfErr result (λ status. (word : ℕ) × (status ≡ Status.BadWord word)) }
+    {
+        let mut list = ArrayVec::new();
+        for index in 0..operands.len() {
+            let place = index as u8 + 1;
+            match read_argument(place, operands[index].kind(), texts[index].as_str()) {
+                Ok(argument) => list.push(argument),
+                Err(status) => return Err(status),
+            }
+        }
+        Ok(Arguments { list })
+    }
+
+    /// The file of the argument at this place, counted from 1.
+    pub fn file(&self, place: u8) -> Word<'a>
+        requires { 0 < place }
+        ensures value { shown_word result ≡ file place (arguments_said 1 self.now.list.items) }
+        ensures number { result.number ≡ place }
+    {
+        match self.argument(place) {
+            Some(Argument::Input(text)) => Word::at(place, text),
+            Some(Argument::Output(text)) => Word::at(place, text),
+            _ => Word::at(place, ""),
+        }
+    }
+
+    /// The number of the argument at this place, counted from 1.
+    pub fn number(&self, place: u8) -> Number
+        requires { 0 < place }
+        ensures value { shown_number result ≡ number place (arguments_said 1 self.now.list.items) }
+    {
+        match self.argument(place) {
+            Some(Argument::Number(value)) => Number { word: place, value },
+            _ => Number {
+                word: place,
+                value: 0,
+            },
+        }
+    }
+
+    /// The texts that name the files that are read.
+    pub fn files(&self) -> ArrayVec<&'a str, 4>
+        ensures { map (λ text. text.now) result.items ≡ files_in (arguments_said 1 self.now.list.items) }
+    {
+        let mut files = ArrayVec::new();
+        for index in 0..self.list.len() {
+            if let Argument::Input(text) = self.list[index] {
+                files.push(text);
+            }
+        }
+        files
+    }
+
+    /// The text of OUT, if there is one.
+    pub fn output(&self) -> Option<&'a str>
+        ensures { option_map (λ text. text.now) result ≡ out_in (arguments_said 1 self.now.list.items) }
+    {
+        for index in 0..self.list.len() {
+            if let Argument::Output(text) = self.list[index] {
+                return Some(text);
+            }
+        }
+        None
+    }
+
+    /// The argument at this place, counted from 1.
+    fn argument(&self, place: u8) -> Option<Argument<'a>>
+        requires { 0 < place }
+        ensures { option_map (argument_said place) result
+            ≡ slice_get (arguments_said 1 self.now.list.items) (place - 1) }
+    {
+        match self.list.get(usize::from(place) - 1) {
+            Some(argument) => Some(*argument),
+            None => None,
+        }
+    }
+}
+
+/// The argument of this kind.
+fn read_argument<'a>(place: u8, kind: Kind, text: &'a str) -> Result<Argument<'a>, Status>
+    ensures value { argument_of place kind text.now ≡ one_said place result }
+    ensures fault { IfErr result (λ status. status ≡ Status.BadWord place) }
+{
+    match kind {
+        Kind::Input => Ok(Argument::Input(text)),
+        Kind::Output => Ok(Argument::Output(text)),
+        Kind::Number(most) => match read_number(place, text, most) {
+            Ok(value) => Ok(Argument::Number(value)),
+            Err(status) => Err(status),
+        },
+        Kind::Count(most) => match read_count(place, text, most) {
+            Ok(value) => Ok(Argument::Number(value)),
+            Err(status) => Err(status),
+        },
+    }
+}
+
+/// The number of this word, which must be at least 1 and at most the greatest.
+fn read_count(word: u8, text: &str, most: u32) -> Result<u32, Status>
+    ensures value { result ≡ counted word (number_in word most text.now) }
+    ensures fault { IfErr result (λ status. status ≡ Status.BadWord word) }
+{
+    match read_number(word, text, most) {
+        Ok(0) => Err(Status::BadWord(word)),
+        Ok(number) => Ok(number),
+        Err(status) => Err(status),
+    }
+}
+
+/// The number of this word, which must be at most the greatest.
+fn read_number(word: u8, text: &str, most: u32) -> Result<u32, Status>
+    ensures value { result ≡ number_in word most text.now }
+    ensures fits { IfOk result (λ number. number ≤ most) }
+    ensures fault { IfErr result (λ status. status ≡ Status.BadWord word) }
+{
+    match number_after(b"", text.as_bytes()) {
+        Ok(number) if number <= most => Ok(number),
+        _ => Err(Status::BadWord(word)),
+    }
+}

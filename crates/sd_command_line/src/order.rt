@@ -1,0 +1,144 @@
+ghost use Rattle.std.specs.Prelude.{[], ◌≡◌, ◌≤◌, bytes_eq, length, map, option_map, string_bytes, IfOk, IfErr};
+ghost use Rattle.std.specs.List.{list_any};
+ghost use Rattle.sd_command_table.specs.Commands.{command_named, operands_of};
+ghost use Rattle.sd_command_line.specs.Words.{command_words, help_on, help_words, input_texts, named_words, order_of};
+ghost use Rattle.sd_command_line.specs.Words.{out_is_read, out_text, version_words, with_input};
+ghost use Rattle.sd_command_line.specs.Orders.{order_said, shown, IsSound, RefusesWords};
+
+use crate::argument::Arguments;
+use sd_command_status::Status;
+use sd_command_table::{Command, Kind, Operand};
+
+/// What the arguments of the program ask for.
+#[derive(Drop)]
+pub enum Order<'a> {
+    /// A command and its arguments.
+    Command {
+        command: Command,
+        arguments: Arguments<'a>,
+    },
+    /// `help`, or `help COMMAND`.
+    Help {
+        topic: Option<Command>,
+    },
+    /// `version`.
+    Version,
+}
+
+/// What the arguments ask for, or the status of their refusal.
+pub fn read_words(words: &[String]) -> Result<Order<'_>, Status>
+    ensures value { shown result ≡ order_of (map string_bytes words.now) }
+    ensures fits { IfOk result (λ order. IsSound (order_said order)) }
+    ensures fault { IfErr result RefusesWords }
+{
+    match words {
+        [name, texts @ ..] => read_named(name.as_str(), texts),
+        _ => Err(Status::Usage),
+    }
+}
+
+/// What the words after this name say.
+#[tactic(auto, unfolding(crate::specs::Words::named_words))]
+fn read_named<'a>(name: &str, texts: &'a [String]) -> Result<Order<'a>, Status>
+    ensures value { shown result ≡ named_words name.now (map string_bytes texts.now) }
+    ensures fault { IfErr result RefusesWords }
+{
+    match name {
+        "help" | "--help" | "-h" => read_help(texts),
+        "version" | "--version" => read_version(texts),
+        _ => match Command::of(name) {
+            Some(command) => read_command(command, texts),
+            None => Err(Status::Usage),
+        },
+    }
+}
+
+/// Help on a command, or on all.
+fn read_help<'a>(texts: &[String]) -> Result<Order<'a>, Status>
+    ensures value { shown result ≡ help_words (map string_bytes texts.now) }
+    ensures fault { IfErr result RefusesWords }
+{
+    match texts {
+        [] => Ok(Order::Help { topic: None }),
+        [name] => match Command::of(name.as_str()) {
+            Some(topic) => Ok(Order::Help { topic: Some(topic) }),
+            None => Err(Status::Usage),
+        },
+        _ => Err(Status::Usage),
+    }
+}
+
+/// `version` takes no arguments.
+fn read_version<'a>(texts: &[String]) -> Result<Order<'a>, Status>
+    ensures value { shown result ≡ version_words (map string_bytes texts.now) }
+    ensures fault { IfErr result RefusesWords }
+{
+    if texts.is_empty() {
+        Ok(Order::Version)
+    } else {
+        Err(Status::Usage)
+    }
+}
+
+/// The arguments of a command.
+fn read_command<'a>(command: Command, texts: &'a [String]) -> Result<Order<'a>, Status>
+    ensures value { shown result ≡ command_words command (operands_of command) (map string_bytes texts.now) }
+    ensures fault { IfErr result RefusesWords }
+{
+    let operands = command.operands();
+    if texts.len() != operands.len() || out_is_input(operands, texts) {
+        return Err(Status::Usage);
+    }
+    match Arguments::read(operands, texts) {
+        Ok(arguments) => Ok(Order::Command { command, arguments }),
+        Err(status) => Err(status),
+    }
+}
+
+/// Whether OUT is one of the files that are read.
+fn out_is_input(operands: &[Operand], texts: &[String]) -> bool
+    requires { length operands.now ≡ length texts.now }
+    ensures { result ≡ out_is_read operands.now (map string_bytes texts.now) }
+{
+    match out_among(operands, texts) {
+        Some(out) => is_input(operands, texts, out),
+        None => false,
+    }
+}
+
+/// The text of OUT, if there is one.
+fn out_among<'a>(operands: &[Operand], texts: &'a [String]) -> Option<&'a str>
+    requires { length operands.now ≡ length texts.now }
+    ensures { option_map (λ text. text.now) result ≡ out_text operands.now (map string_bytes texts.now) }
+{
+    for index in 0..operands.len() {
+        if operands[index].kind() == Kind::Output {
+            return Some(texts[index].as_str());
+        }
+    }
+    None
+}
+
+/// Whether a file that is read has this name.
+fn is_input(operands: &[Operand], texts: &[String], name: &str) -> bool
+    requires { length operands.now ≡ length texts.now }
+    ensures { result
+        ≡ list_any (λ text. bytes_eq text name.now) (input_texts operands.now (map string_bytes texts.now)) }
+{
+    for index in 0..operands.len() {
+        if names_input(operands[index].kind(), texts[index].as_str(), name) {
+            return true;
+        }
+    }
+    false
+}
+
+/// Whether an argument of this kind is a file that is read and has this name.
+fn names_input(kind: Kind, text: &str, name: &str) -> bool
+    ensures { result ≡ list_any (λ text. bytes_eq text name.now) (with_input kind text.now []) }
+{
+    match kind {
+        Kind::Input => text == name,
+        Kind::Output | Kind::Number(_) | Kind::Count(_) => false,
+    }
+}

@@ -1,0 +1,93 @@
+-- Public meaning: what a refusal is to a user, on the standard error [this project, docs/FORMATS.md, Explanations].
+use Rattle.std.specs.Prelude.{ℕ, List, [], ◌∷◌, ◌++◌, codes, length, slice_get, Option, Some, None, zero, suc}
+use Rattle.std.specs.Prelude.{if◌then◌else◌, ◌==◌, Bool, false, bytes_eq}
+use Rattle.sd_command_table.specs.declared.command.Command.{Command}
+use Rattle.sd_command_table.specs.declared.operand.Operand.{Operand}
+use Rattle.sd_command_table.specs.Commands.{command_named, operands_of}
+use Rattle.sd_command_table.specs.Operands.{operand_name}
+use Rattle.sd_command_status.specs.declared.status.Status.{Status}
+use Rattle.sd_command_status.specs.declared.status.Status.TheVariants.{Usage, Missing, BadSite, BadBook, BadCard}
+use Rattle.sd_command_status.specs.declared.status.Status.TheVariants.{BadWord}
+use Rattle.sd_command_refusals.specs.declared.found.Argument.{Argument}
+use Rattle.sd_command_refusals.specs.Reasons.{card_reason, line_reason, missing_reason, range_reason, site_reason}
+
+-- what an argument is, and its text
+abbrev pub shown : Argument → Operand × List ℕ
+shown argument = (argument.operand, argument.text.now)
+
+-- both, where both are there
+abbrev pub both : Option Operand → Option (List ℕ) → Option (Operand × List ℕ)
+both (Some operand) (Some text) = Some (operand, text)
+both (Some operand) None = None
+both None text = None
+
+-- the argument of this number of the words after a command's name, numbered from 0
+abbrev pub argument_at : Option Command → List (List ℕ) → ℕ → Option (Operand × List ℕ)
+argument_at None texts place = None
+argument_at (Some command) texts place = both (slice_get (operands_of command) place) (slice_get texts place)
+
+-- the argument of this number, numbered from 1, where the first word is a command that takes as many
+abbrev pub argument_of : List (List ℕ) → ℕ → Option (Operand × List ℕ)
+argument_of words zero = None
+argument_of [] (suc place) = None
+argument_of (command ∷ texts) (suc place) = argument_at (command_named command) texts place
+
+-- the line of an argument: its name, its text and why it is refused
+unfoldable pub argument_line : List ℕ → Operand × List ℕ → List ℕ
+argument_line reason (operand, text) =
+    codes "sdca: " ++ (operand_name operand ++ (codes " " ++ (text ++ (codes ": " ++ (reason ++ codes "\n")))))
+
+-- the line of the argument that was found, or none
+abbrev pub found_line : Option (Operand × List ℕ) → (Operand → List ℕ) → List ℕ
+found_line None reason = []
+found_line (Some argument) reason = argument_line (reason argument.0) argument
+
+-- the line of the argument of this number
+abbrev pub of_argument : List (List ℕ) → ℕ → (Operand → List ℕ) → List ℕ
+of_argument words number reason = found_line (argument_of words number) reason
+
+-- the words are of a command that reads two sites, the first and the third of its arguments
+abbrev pub has_two_sites : List (List ℕ) → Bool
+has_two_sites [] = false
+has_two_sites (name ∷ texts) = bytes_eq name (codes "apart")
+
+-- the line of two sites of which one is refused: the status doesn't say which
+unfoldable pub sites_line : List ℕ → List ℕ → List ℕ → List ℕ
+sites_line reason first second =
+    codes "sdca: SITE " ++ (first ++ (codes " or SITE " ++ (second ++ (codes ": " ++ (reason ++ codes "\n")))))
+
+-- the line of the two sites that were found, or none
+abbrev pub of_sites : Option (Operand × List ℕ) → Option (Operand × List ℕ) → List ℕ → List ℕ
+of_sites None second reason = []
+of_sites (Some first) None reason = []
+of_sites (Some first) (Some second) reason = sites_line reason first.1 second.1
+
+-- the line of a refused site
+abbrev pub site_line : List (List ℕ) → List ℕ → List ℕ
+site_line words reason =
+    if has_two_sites words then of_sites (argument_of words 1) (argument_of words 3) reason
+    else of_argument words 1 (λ operand. reason)
+
+-- the line of a command, by its name and whether it takes as many arguments as it has
+abbrev pub command_line : List ℕ → ℕ → Option Command → List ℕ
+command_line name count None =
+    codes "sdca: " ++ (name ++ codes ": no command with these arguments; see sdca help\n")
+command_line name count (Some command) =
+    if count == length (operands_of command) then codes "sdca: OUT is a file that is read\n"
+    else codes "sdca: " ++ (name ++ (codes ": another number of arguments; see sdca help " ++ (name ++ codes "\n")))
+
+-- the line of words that are no command
+unfoldable pub usage_line : List (List ℕ) → List ℕ
+usage_line [] = codes "sdca: no command is given; see sdca help\n"
+usage_line (name ∷ texts) = command_line name (length texts) (command_named name)
+
+-- The line that explains a status to a user, or no text if the status is about no argument. The site and the card are
+-- the first arguments of their commands.
+unfoldable pub explained : List (List ℕ) → Status → List ℕ
+explained words Usage = usage_line words
+explained words (Missing word) = of_argument words word (λ operand. missing_reason operand)
+explained words (BadSite fault) = site_line words (site_reason fault)
+explained words (BadBook word line) = of_argument words word (λ operand. line_reason operand line)
+explained words (BadCard fault) = of_argument words 1 (λ operand. card_reason fault)
+explained words (BadWord word) = of_argument words word (λ operand. range_reason operand)
+explained words status = []

@@ -1,0 +1,169 @@
+ghost use Rattle.std.specs.Prelude.{◌≡◌, map, string_bytes, IfOk, length};
+ghost use Rattle.sd_command_refusals.specs.Explained.{argument_line, argument_of, command_line, explained};
+ghost use Rattle.sd_command_refusals.specs.Explained.{has_two_sites as two_sites, of_argument, of_sites, shown};
+ghost use Rattle.sd_command_refusals.specs.Explained.{site_line, sites_line, usage_line};
+ghost use Rattle.sd_command_table.specs.Commands.{command_named};
+ghost use Rattle.sd_command_refusals.specs.Reasons.{card_reason, missing_reason, range_reason, line_reason};
+ghost use Rattle.sd_command_refusals.specs.Reasons.{site_reason};
+
+use crate::found::{Argument, find_argument};
+use crate::reason;
+use sd_card::CardFault;
+use sd_command_status::Status;
+use sd_command_table::Command;
+use sd_site::SiteFault;
+use std::alloc::{AllocError, Global};
+
+/// The number of the argument that is a site or a card.
+const FIRST: u8 = 1;
+
+/// The number of the argument that is a second site.
+const SECOND_SITE: u8 = 3;
+
+/// The line that explains a status to a user, or no text if the status is about no argument.
+#[tactic(auto, unfolding(crate::specs::Explained::explained))]
+pub fn explanation(alloc: Global, words: &[String], status: Status) -> Result<String, AllocError>
+    ensures { IfOk result (λ text. string_bytes text ≡ explained (map string_bytes words.now) status) }
+{
+    match status {
+        Status::Usage => usage(alloc, words),
+        Status::Missing(word) => missing(alloc, words, word),
+        Status::BadSite(fault) => site(alloc, words, fault),
+        Status::BadBook { word, line } => book(alloc, words, word, line),
+        Status::BadCard(fault) => card(alloc, words, fault),
+        Status::BadWord(word) => range(alloc, words, word),
+        _ => Ok(String::new(alloc)),
+    }
+}
+
+/// The line of an argument.
+#[tactic(auto, unfolding(crate::specs::Explained::argument_line))]
+fn line(alloc: Global, argument: Argument<'_>, reason: &str) -> Result<String, AllocError>
+    ensures { IfOk result (λ text. string_bytes text ≡ argument_line reason.now (shown argument.entry)) }
+{
+    let name = argument.operand.name();
+    let text = argument.text;
+    format!(in alloc; "sdca: {name} {text}: {reason}\n")
+}
+
+/// The line of words that are no command.
+#[tactic(auto, unfolding(crate::specs::Explained::usage_line))]
+fn usage(alloc: Global, words: &[String]) -> Result<String, AllocError>
+    ensures { IfOk result (λ text. string_bytes text ≡ usage_line (map string_bytes words.now)) }
+{
+    let Some(word) = words.first() else {
+        return String::from_str(alloc, "sdca: no command is given; see sdca help\n");
+    };
+    command(alloc, word.as_str(), words.len() - 1)
+}
+
+/// The line of a first word with this number of arguments, which are refused.
+fn command(alloc: Global, name: &str, count: usize) -> Result<String, AllocError>
+    ensures { IfOk result (λ text. string_bytes text ≡ command_line name.now count (command_named name.now)) }
+{
+    match Command::of(name) {
+        Some(command) if count == command.operands().len() => {
+            String::from_str(alloc, "sdca: OUT is a file that is read\n")
+        }
+        Some(_) => format!(in alloc;
+            "sdca: {name}: another number of arguments; see sdca help {name}\n"
+        ),
+        None => format!(in alloc; "sdca: {name}: no command with these arguments; see sdca help\n"),
+    }
+}
+
+/// The line of a file that isn't there.
+fn missing(alloc: Global, words: &[String], word: u8) -> Result<String, AllocError>
+    ensures { IfOk result (λ text. string_bytes text ≡
+        of_argument (map string_bytes words.now) word (λ operand. missing_reason operand)) }
+{
+    match find_argument(words, word) {
+        Some(argument) => line(alloc, argument, reason::missing(argument.operand)),
+        None => Ok(String::new(alloc)),
+    }
+}
+
+/// Whether the words are of a command that reads two sites.
+fn has_two_sites(words: &[String]) -> bool
+    ensures { result ≡ two_sites (map string_bytes words.now) }
+{
+    match words {
+        [name, ..] => name.as_str() == "apart",
+        [] => false,
+    }
+}
+
+/// The line of a site that is refused.
+fn site(alloc: Global, words: &[String], fault: SiteFault) -> Result<String, AllocError>
+    ensures { IfOk result (λ text. string_bytes text ≡ site_line (map string_bytes words.now) (site_reason fault)) }
+{
+    let reason = reason::site(alloc, fault)?;
+    if has_two_sites(words) {
+        return either_site(alloc, words, reason.as_str());
+    }
+    match find_argument(words, FIRST) {
+        Some(argument) => line(alloc, argument, reason.as_str()),
+        None => Ok(String::new(alloc)),
+    }
+}
+
+/// The line of two sites of which one is refused: the status doesn't say which.
+fn either_site(alloc: Global, words: &[String], reason: &str) -> Result<String, AllocError>
+    ensures { IfOk result (λ text. string_bytes text ≡ of_sites (argument_of (map string_bytes words.now) 1)
+        (argument_of (map string_bytes words.now) 3) reason.now) }
+{
+    match (
+        find_argument(words, FIRST),
+        find_argument(words, SECOND_SITE),
+    ) {
+        (Some(first), Some(second)) => sites(alloc, first.text, second.text, reason),
+        _ => Ok(String::new(alloc)),
+    }
+}
+
+/// The line that names two sites.
+#[tactic(auto, unfolding(crate::specs::Explained::sites_line))]
+fn sites(alloc: Global, first: &str, second: &str, reason: &str) -> Result<String, AllocError>
+    ensures { IfOk result (λ text. string_bytes text ≡ sites_line reason.now first.now second.now) }
+{
+    format!(in alloc; "sdca: SITE {first} or SITE {second}: {reason}\n")
+}
+
+/// The line of a file of which a line is refused.
+fn book(alloc: Global, words: &[String], word: u8, number: u32) -> Result<String, AllocError>
+    ensures { IfOk result (λ text. string_bytes text ≡
+        of_argument (map string_bytes words.now) word (λ operand. line_reason operand number)) }
+{
+    match find_argument(words, word) {
+        Some(argument) => {
+            let reason = reason::line(alloc, argument.operand, number)?;
+            line(alloc, argument, reason.as_str())
+        }
+        None => Ok(String::new(alloc)),
+    }
+}
+
+/// The line of a card that is refused.
+fn card(alloc: Global, words: &[String], fault: CardFault) -> Result<String, AllocError>
+    ensures { IfOk result (λ text. string_bytes text ≡
+        of_argument (map string_bytes words.now) 1 (λ operand. card_reason fault)) }
+{
+    match find_argument(words, FIRST) {
+        Some(argument) => line(alloc, argument, reason::card(fault)),
+        None => Ok(String::new(alloc)),
+    }
+}
+
+/// The line of a number that is refused.
+fn range(alloc: Global, words: &[String], word: u8) -> Result<String, AllocError>
+    ensures { IfOk result (λ text. string_bytes text ≡
+        of_argument (map string_bytes words.now) word (λ operand. range_reason operand)) }
+{
+    match find_argument(words, word) {
+        Some(argument) => {
+            let reason = reason::range(alloc, argument.operand)?;
+            line(alloc, argument, reason.as_str())
+        }
+        None => Ok(String::new(alloc)),
+    }
+}

@@ -1,0 +1,75 @@
+-- Refusals by the tests in their order.
+use Rattle.std.proofs.Common.{◌≡◌, ℕ, ◌-◌, ◌^◌, ◌<◌, ◌≤◌, ◌==◌, true, false, List, length, refl, sym, ap, ◌∙◌, arith}
+use Rattle.std.proofs.lemmas.Bool.Decides.{nat_tests}
+use Rattle.std.specs.Prelude.{Some, None}
+use Rattle.sd_packet.specs.Header.{pid_of, scrambling_of}
+use Rattle.sd_site.specs.Fields.{SiteFields}
+use Rattle.sd_psi.specs.declared.fault.FormFault.{FormFault}
+use Rattle.sd_psi.specs.declared.fault.FormFault.TheVariants as Form
+use Rattle.sd_spec_broadcast.specs.Kinds.{kind_of}
+use Rattle.sd_spec_broadcast.specs.Plan.{word_of}
+use Rattle.sd_spec_broadcast.specs.Refused.{refusal_of, is_reserved_pid, pat_wrong, is_full_own, is_one_too_many}
+use Rattle.sd_spec_broadcast.specs.Refused.{is_too_long}
+use Rattle.sd_spec_broadcast.specs.declared.fault.ClearFault.TheVariants.{AlreadyScrambled, PidTaken, PatForm, PmtForm}
+use Rattle.sd_spec_broadcast.specs.declared.fault.ClearFault.TheVariants.{TooManyPids, TooLong}
+
+pub scrambled_refused : (site : SiteFields) (before : List (List ℕ)) (packet : List ℕ) (n : ℕ) → n ≡ length before
+    → (scrambling_of packet == 0) ≡ false → refusal_of site before packet ≡ Some (AlreadyScrambled n)
+unfolding refusal_of
+scrambled_refused site before packet n is scrambled =
+    rw scrambled (ap (λ (k : ℕ). Some (AlreadyScrambled k)) (sym is))
+
+pub taken_refused : (site : SiteFields) (before : List (List ℕ)) (packet : List ℕ) (n pid : ℕ) → n ≡ length before
+    → pid ≡ pid_of packet → (scrambling_of packet == 0) ≡ true → is_reserved_pid site (pid_of packet) ≡ true
+    → refusal_of site before packet ≡ Some (PidTaken n pid)
+unfolding refusal_of
+taken_refused site before packet n pid is same clear taken =
+    rw clear (rw taken (sym (ap (λ (k : ℕ). Some (PidTaken k pid)) is
+    ∙ ap (λ (p : ℕ). Some (PidTaken (length before) p)) same)))
+
+pub pat_refused : (site : SiteFields) (before : List (List ℕ)) (packet : List ℕ) (n : ℕ) (fault : FormFault)
+    → n ≡ length before → (scrambling_of packet == 0) ≡ true → is_reserved_pid site (pid_of packet) ≡ false
+    → pat_wrong packet ≡ Some fault → refusal_of site before packet ≡ Some (PatForm n fault)
+unfolding refusal_of
+pat_refused site before packet n fault is clear free wrong =
+    rw clear (rw free (rw wrong (ap (λ (k : ℕ). Some (PatForm k fault)) (sym is))))
+
+pub full_refused : (site : SiteFields) (before : List (List ℕ)) (packet : List ℕ) (n : ℕ) → n ≡ length before
+    → (scrambling_of packet == 0) ≡ true → is_reserved_pid site (pid_of packet) ≡ false → pat_wrong packet ≡ None
+    → is_full_own site (kind_of before packet) packet ≡ true
+    → refusal_of site before packet ≡ Some (PmtForm n Form.NoRoom)
+unfolding refusal_of
+full_refused site before packet n is clear free pat full =
+    rw clear (rw free (rw pat (rw full (ap (λ (k : ℕ). Some (PmtForm k Form.NoRoom)) (sym is)))))
+
+pub many_refused : (site : SiteFields) (before : List (List ℕ)) (packet : List ℕ) (n : ℕ) → n ≡ length before
+    → (scrambling_of packet == 0) ≡ true → is_reserved_pid site (pid_of packet) ≡ false → pat_wrong packet ≡ None
+    → is_full_own site (kind_of before packet) packet ≡ false → is_one_too_many before packet ≡ true
+    → refusal_of site before packet ≡ Some (TooManyPids n)
+unfolding refusal_of
+many_refused site before packet n is clear free pat full many =
+    rw clear (rw free (rw pat (rw full (rw many (ap (λ (k : ℕ). Some (TooManyPids k)) (sym is))))))
+
+pub long_refused : (site : SiteFields) (before : List (List ℕ)) (packet : List ℕ) (n : ℕ) → n ≡ length before
+    → (scrambling_of packet == 0) ≡ true → is_reserved_pid site (pid_of packet) ≡ false → pat_wrong packet ≡ None
+    → is_full_own site (kind_of before packet) packet ≡ false → is_one_too_many before packet ≡ false
+    → is_too_long site (length before) ≡ true → refusal_of site before packet ≡ Some (TooLong n)
+unfolding refusal_of
+long_refused site before packet n is clear free pat full many long =
+    rw clear (rw free (rw pat (rw full (rw many (rw long (ap (λ (k : ℕ). Some (TooLong k)) (sym is)))))))
+
+pub none_refused : (site : SiteFields) (before : List (List ℕ)) (packet : List ℕ)
+    → (scrambling_of packet == 0) ≡ true → is_reserved_pid site (pid_of packet) ≡ false → pat_wrong packet ≡ None
+    → is_full_own site (kind_of before packet) packet ≡ false → is_one_too_many before packet ≡ false
+    → is_too_long site (length before) ≡ false → refusal_of site before packet ≡ None
+unfolding refusal_of
+none_refused site before packet clear free pat full many long =
+    rw clear (rw free (rw pat (rw full (rw many (rw long refl)))))
+
+-- a packet that isn't too long has a control word of the site's
+pub word_left : (site : SiteFields) (k : ℕ) → is_too_long site k ≡ false → word_of site k ≤ site.last_word
+word_left site k short = grind (arith, nat_tests, short)
+
+-- and it has a number
+pub number_left : (site : SiteFields) (k : ℕ) → k < 2 ^ 32 → is_too_long site k ≡ false → k < 2 ^ 32 - 1
+number_left site k small short = grind (arith, nat_tests, small, short)

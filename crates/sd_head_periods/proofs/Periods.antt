@@ -1,0 +1,144 @@
+-- Which period comes with a crypto period.
+use Rattle.std.proofs.Common.{◌≡◌, ℕ, zero, suc, ◌+◌, ◌-◌, ◌/◌, ◌<◌, ◌≤◌, min, true}
+use Rattle.std.proofs.Common.{refl, ap, sym, subst, ◌∙◌, inl, inr, arith}
+use Rattle.std.proofs.lemmas.Bool.{cases_lt}
+use Rattle.std.proofs.lemmas.Grind.{common_steps}
+use Rattle.std.specs.Prelude.{List, Result, Ok, Err, OnErr}
+use Rattle.sd_tree.specs.declared.set.SetName.{SetName}
+use Rattle.sd_book.specs.Commands.{last_period, revoked}
+use Rattle.sd_book.proofs.Cuts.{revoked_past}
+use Rattle.sd_book.specs.declared.command.Command.{Command}
+use Rattle.sd_book.specs.Place.{PlaceValue, IsPlaceIn}
+use Rattle.sd_book.specs.Value.{BookValue}
+use Rattle.sd_steiner.specs.Cover.{cover_of}
+use Rattle.sd_cover.specs.Index.{IndexValue}
+use Rattle.sd_spec_broadcast.specs.Messages.{period_at}
+use Rattle.sd_head_periods.specs.Crypto.{crypto_in}
+use Rattle.sd_head_periods.specs.Packets.{period_packets, period_of_sets}
+use Rattle.sd_spec_broadcast.specs.Plan.{Plan, IsPlan, sets_at, word_in, period_in}
+use Rattle.sd_spec_broadcast.proofs.Schedule.{periods_in_rise, period_in_first, period_in_within}
+use Rattle.sd_head_periods.specs.Kept.{begins_period, HasBegun, IsInPeriod, IsOf, IsBefore}
+use Rattle.sd_head_periods.specs.declared.entitling.Entitling.{Entitling}
+
+-- what holds at all events holds after an error
+pub on_err_always : {T E P : Type 0} (result : Result T E) → P → OnErr result P
+on_err_always (Ok x) p = tt
+on_err_always (Err e) p = p
+
+-- no crypto period is of a period before the site's first
+from_first : (plan : Plan) (n : ℕ) → IsPlan plan → plan.site.first_period ≤ period_in plan n
+from_first plan n p = omega (arith, period_in_first plan, periods_in_rise plan 0 n p.site (omega arith))
+
+rises : (plan : Plan) (n : ℕ) → IsPlan plan → period_in plan n ≤ period_in plan (suc n)
+rises plan n p = periods_in_rise plan n (suc n) p.site (omega arith)
+
+-- where the next crypto period's period has no commands to take, it is the same
+held : (plan : Plan) (n : ℕ) → IsPlan plan →
+    min (period_in plan (suc n)) (last_period plan.commands) ≤ min (period_in plan n) (last_period plan.commands) →
+    period_in plan n ≡ period_in plan (suc n)
+held plan n p same =
+    elim (period_in_within plan (suc n)) [
+      | inl first ↦ omega (arith, first, from_first plan n p, rises plan n p)
+      | inr below ↦ omega (arith, below, same, rises plan n p)
+    ]
+
+-- where all commands up to those of crypto period n's period are taken, that period is at work
+pub still_at_work : (plan : Plan) (n p : ℕ) (state : Entitling) → IsBefore plan n state →
+    p ≡ min (period_in plan n) (last_period plan.commands) → p < state.place.next →
+    IsInPeriod plan (period_in plan n) state
+still_at_work plan zero p state is decides above = absurd (omega (arith, is.next, above))
+still_at_work plan (suc n) p state is decides above =
+    let same = held plan n is.period.begun.is_plan (omega (arith, above, decides, is.period.begun.next)) in
+    subst (λ (q : ℕ). IsInPeriod plan q state) same is.period
+
+-- and where some are not, just the periods before the one that comes next have begun
+pub begins_now : (plan : Plan) (n p : ℕ) (state : Entitling) → IsBefore plan n state →
+    p ≡ min (period_in plan n) (last_period plan.commands) → state.place.next ≤ p →
+    HasBegun plan state.place.next state
+begins_now plan zero p state is decides below =
+    let none : 0 ≡ state.place.next = omega (arith, is.next) in
+    subst (λ (q : ℕ). HasBegun plan q state) none is
+begins_now plan (suc n) p state is decides below =
+    let same : period_in plan n + 1 ≡ state.place.next = omega (arith, below, decides, is.period.begun.next) in
+    subst (λ (q : ℕ). HasBegun plan q state) same is.period.begun
+
+-- and a period begins with crypto period n
+pub begun_is : (plan : Plan) (n p : ℕ) (state : Entitling) → IsBefore plan n state →
+    p ≡ min (period_in plan n) (last_period plan.commands) → state.place.next ≤ p →
+    begins_period plan n ≡ true
+unfolding begins_period
+begun_is plan zero p state is decides below = refl
+begun_is plan (suc n) p state is decides below =
+    let less : period_in plan n < period_in plan (suc n) = omega (arith, below, decides, is.period.begun.next) in
+    let back : suc n - 1 ≡ n = omega arith in
+    rw back (grind (arith, common_steps))
+
+-- the period that a head end comes to
+pub period_is : (plan : Plan) (n few most last : ℕ) → few ≡ min (n / plan.site.span) most →
+    most ≡ last - plan.site.first_period → last ≡ last_period plan.commands →
+    plan.site.first_period + few ≡ period_in plan n
+unfolding period_in
+period_is plan n few most last is up of_book =
+    ap (λ (x : ℕ). plan.site.first_period + x) (is ∙ (ap (min (n / plan.site.span)) up
+    ∙ ap (λ (x : ℕ). min (n / plan.site.span) (x - plan.site.first_period)) of_book))
+
+-- the last commands that decide a period are those of the book's last, where it is after that
+pub revoked_min : (d q : ℕ) (commands : List Command) →
+    revoked d commands (min q (last_period commands)) ≡ revoked d commands q
+revoked_min d q commands =
+    elim (cases_lt q (last_period commands)) [
+      | inl below ↦
+          let same : min q (last_period commands) ≡ q = omega (arith, below) in
+          ap (revoked d commands) same
+      | inr past ↦
+          let same : min q (last_period commands) ≡ last_period commands = omega (arith, past) in
+          ap (revoked d commands) same ∙ sym (revoked_past d q commands past)
+    ]
+
+-- a period that has begun
+pub in_period : (plan : Plan) (begun p q : ℕ) (old new : Entitling) → HasBegun plan begun old →
+    p ≡ min q (last_period plan.commands) → new.book ≡ old.book →
+    IsPlaceIn plan.commands new.place → new.place.next ≡ p + 1 →
+    new.index.height ≡ old.index.height →
+    new.index.revoked ≡ revoked plan.site.height plan.commands p →
+    new.emms.items ≡ period_packets plan.site.emm
+    (period_of_sets plan.site q (cover_of new.index.height new.index.revoked)) →
+    IsInPeriod plan q new
+unfolding period_at period_of_sets sets_at
+in_period plan begun p q old new was decides same place next height decided emms =
+    let one : q + 1 ≡ suc q = omega arith in
+    let revoked_are = decided ∙ (ap (revoked plan.site.height plan.commands) decides
+    ∙ revoked_min plan.site.height q plan.commands) in
+    record {
+      begun = rw one (record {
+        is_plan = was.is_plan;
+        commands = ap (λ (book : BookValue). book.commands) same ∙ was.commands;
+        of_height = ap (λ (book : BookValue). book.height) same ∙ was.of_height;
+        place = place;
+        next = omega (arith, next, decides);
+        height = height ∙ was.height;
+        revoked_are = revoked_are;
+      });
+      emms = emms ∙ ap (λ (sets : List SetName). period_packets plan.site.emm (period_of_sets plan.site q sets))
+          (rw (height ∙ was.height, revoked_are) refl);
+    }
+
+-- a crypto period that has begun
+pub at_work : (plan : Plan) (n q : ℕ) (old new : Entitling) → IsInPeriod plan q old → q ≡ period_in plan n →
+    new.book ≡ old.book → new.place ≡ old.place → new.index ≡ old.index → new.emms.items ≡ old.emms.items →
+    new.crypto ≡ crypto_in plan.site.master q (word_in plan.site n) → IsOf plan n new
+at_work plan n q old new was period book place index emms crypto = record {
+  period = subst (λ (p : ℕ). IsInPeriod plan p new) period (record {
+    begun = record {
+      is_plan = was.begun.is_plan;
+      commands = ap (λ (b : BookValue). b.commands) book ∙ was.begun.commands;
+      of_height = ap (λ (b : BookValue). b.height) book ∙ was.begun.of_height;
+      place = subst (IsPlaceIn plan.commands) (sym place) was.begun.place;
+      next = ap (λ (p : PlaceValue). p.next) place ∙ was.begun.next;
+      height = ap (λ (i : IndexValue). i.height) index ∙ was.begun.height;
+      revoked_are = ap (λ (i : IndexValue). i.revoked) index ∙ was.begun.revoked_are;
+    };
+    emms = emms ∙ was.emms;
+  });
+  crypto = crypto ∙ ap (λ (p : ℕ). crypto_in plan.site.master p (word_in plan.site n)) period;
+}

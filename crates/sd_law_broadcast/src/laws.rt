@@ -1,0 +1,158 @@
+//! What is known of what a broadcast sends.
+
+ghost use Rattle.std.specs.Prelude.{◌≡◌, ◌+◌, ◌-◌, ◌*◌, ◌/◌, ◌%◌, ◌^◌, ◌<◌, ◌≤◌, ◌++◌, ◌∷◌, [], ℕ, Bool, List, None};
+ghost use Rattle.std.specs.Prelude.{◌≢◌, true, false, All, Contains, drop, get_or, length, take};
+ghost use Rattle.sd_tree.specs.Leaves.{is_member};
+ghost use Rattle.sd_packet.specs.Header.{pid_of, scrambling_of};
+ghost use Rattle.sd_packet.specs.Positions.{is_placed, moved};
+ghost use Rattle.sd_label.specs.Names.{given};
+ghost use Rattle.sd_site.specs.Fields.{SiteFields, AreInRange, run_name_of};
+ghost use Rattle.sd_book.specs.Commands.{revoked, entitled};
+ghost use Rattle.sd_steiner.specs.Partition.{IsPartition, IsSmall};
+ghost use Rattle.sd_reach.specs.Reach.{ReachesNoneOf};
+ghost use Rattle.sd_emm.specs.Form.{AreSets};
+ghost use Rattle.sd_emm.specs.Period.{IsPeriod};
+ghost use Rattle.sd_emm.specs.declared.emm.Emm.{Emm};
+ghost use Rattle.sd_ecm.specs.Versions.{most_places};
+ghost use Rattle.sd_ecm.specs.Parts.{IsMessage, parts_of};
+ghost use Rattle.sd_ecm.specs.declared.part.EcmPart.{EcmPart};
+ghost use Rattle.sd_spec_broadcast.specs.Plan.{Plan, IsPlan, sets_at, word_of, period_of, since_of, closing_number};
+ghost use Rattle.sd_spec_broadcast.specs.Kinds.{kind_of, moved_pids};
+ghost use Rattle.sd_spec_broadcast.specs.Carried.{carried};
+ghost use Rattle.sd_spec_broadcast.specs.Messages.{period_at, message_at};
+ghost use Rattle.sd_spec_broadcast.specs.Refused.{refusal_of, IsClear};
+ghost use Rattle.sd_spec_broadcast.specs.Sent.{Controls, Entitles, sent_from, closing_of, broadcast};
+ghost use Rattle.sd_spec_broadcast.specs.Items.{IsOfBroadcast};
+ghost use Rattle.sd_spec_broadcast.specs.declared.kind.Kind.TheVariants.{Passed};
+ghost use Rattle.sd_law_broadcast.specs.Accepted.{IsAccepted};
+ghost use Rattle.sd_law_broadcast.specs.Narrowed.{up_to, plan_up_to};
+ghost use Rattle.sd_law_broadcast.specs.Packets.{IsWholePacket, AreLong};
+ghost use Rattle.sd_law_broadcast.specs.Named.{sets_named, NamesPeriod};
+ghost use Rattle.sd_law_broadcast.specs.Numbered.{numbered};
+ghost use Rattle.sd_law_broadcast.specs.Rest.{IsOfRest};
+ghost use Rattle.sd_law_broadcast.specs.Headers.{control_in, IsCarriedWith};
+
+/// The first packets of a clear stream are a clear stream, which goes on as long as no packet is refused; a packet that
+/// is not refused breaks no rule.
+pub fn clear_streams_go_on()
+    ensures prefix { (site : SiteFields) (xs ys : List (List ℕ)) → IsClear site (xs ++ ys) → IsClear site xs }
+    ensures first { (site : SiteFields) (clear : List (List ℕ)) (k : ℕ) → IsClear site clear → IsClear site
+        (take k clear) }
+    ensures next { (site : SiteFields) (before : List (List ℕ)) (packet : List ℕ) →
+        IsClear site (before ++ packet ∷ []) → refusal_of site before packet ≡ None }
+    ensures more { (site : SiteFields) (before : List (List ℕ)) (packet : List ℕ) → IsClear site before →
+        refusal_of site before packet ≡ None → IsClear site (before ++ packet ∷ []) }
+    ensures each { (site : SiteFields) (clear : List (List ℕ)) (k : ℕ) → IsClear site clear → k < length clear →
+        refusal_of site (take k clear) (get_or clear k []) ≡ None }
+    ensures rules { (site : SiteFields) (before : List (List ℕ)) (packet : List ℕ) →
+        refusal_of site before packet ≡ None → IsAccepted site before packet }
+{}
+
+/// A clear stream has fewer than 2^32 packets, no more than 256 PIDs with positions that moved, and no control word
+/// above the site's last.
+pub fn clear_streams_are_bounded()
+    ensures packets { (site : SiteFields) (clear : List (List ℕ)) → IsClear site clear → length clear < 2 ^ 32 }
+    ensures pids { (site : SiteFields) (clear : List (List ℕ)) → IsClear site clear →
+        length (moved_pids clear) ≤ most_places }
+    ensures words { (site : SiteFields) (clear : List (List ℕ)) (k : ℕ) → IsClear site clear → k < length clear →
+        word_of site k ≤ site.last_word }
+{}
+
+/// The entitlements of each period below 2^32 are a period's, and their sets may stand at the site's height; each
+/// packet is of such a period.
+pub fn periods_fit()
+    ensures form { (plan : Plan) (q : ℕ) → IsPlan plan → q < 2 ^ 32 → IsPeriod (period_at plan q) }
+    ensures sets { (plan : Plan) (q : ℕ) → IsPlan plan →
+        AreSets plan.site.height (length (period_at plan q).entries) (period_at plan q).entries }
+    ensures fits { (plan : Plan) (k : ℕ) → IsPlan plan → period_of plan k < 2 ^ 32 }
+{}
+
+/// The control messages of a clear stream are messages, with at most 256 positions: whatever their numbers and those of
+/// their control words below 2^32, and so those before packets and the closing one.
+pub fn messages_fit()
+    ensures any { (plan : Plan) (before : List (List ℕ)) (a k : ℕ) (closing : Bool) → IsPlan plan →
+        IsClear plan.site before → a < 2 ^ 32 → word_of plan.site k < 2 ^ 32 →
+        IsMessage (message_at plan before a k closing) }
+    ensures before { (plan : Plan) (before : List (List ℕ)) → IsPlan plan → IsClear plan.site before →
+        word_of plan.site (length before) < 2 ^ 32 →
+        IsMessage (message_at plan before (length before / plan.site.every) (length before) false) }
+    ensures closing { (plan : Plan) (clear : List (List ℕ)) → IsPlan plan → IsClear plan.site clear →
+        IsMessage (message_at plan clear (closing_number plan.site (length clear)) (length clear - 1) true) }
+{}
+
+/// A broadcast names, in the sections of entitlements that are read from it, the cover of each period that it reaches:
+/// disjoint sets that have just the leaves that are entitled in the period, one set where none is revoked and at most
+/// 2r - 1 where r are. No revoked leaf is in one of them, or reaches a label or the key of one.
+pub fn covers_are_named()
+    ensures { (plan : Plan) (clear : List (List ℕ)) (q : ℕ) → IsPlan plan → IsClear plan.site clear →
+        AreLong clear → plan.site.first_period ≤ q → q ≤ period_of plan (length clear - 1) →
+        NamesPeriod plan q (sets_named plan.site.height plan.site.emm q (broadcast plan clear)) }
+{}
+
+/// Each period from the site's first up to that of a packet is the one of a packet up to it.
+pub fn periods_are_reached()
+    ensures { (plan : Plan) (k q : ℕ) → AreInRange plan.site → plan.site.first_period ≤ q → q ≤ period_of plan k →
+        (j : ℕ) × (j ≤ k) × (period_of plan j ≡ q) }
+{}
+
+/// The control messages of a broadcast by their numbers: the one before each e-th packet, and the closing one; each
+/// part that is sent is of one of them. Each tells from which number on its control word holds.
+pub fn messages_are_numbered()
+    ensures at { (plan : Plan) (clear : List (List ℕ)) (k : ℕ) → AreInRange plan.site → k < length clear →
+        k % plan.site.every ≡ 0 →
+        message_at plan (take k clear) (k / plan.site.every) k false ≡ numbered plan clear (k / plan.site.every) }
+    ensures before { (plan : Plan) (clear : List (List ℕ)) (a : ℕ) → a < closing_number plan.site (length clear) →
+        numbered plan clear a ≡ message_at plan (take (a * plan.site.every) clear) a (a * plan.site.every) false }
+    ensures closing { (plan : Plan) (clear : List (List ℕ)) →
+        numbered plan clear (closing_number plan.site (length clear))
+        ≡ message_at plan clear (closing_number plan.site (length clear)) (length clear - 1) true }
+    ensures number { (plan : Plan) (clear : List (List ℕ)) (a : ℕ) → (numbered plan clear a).number ≡ a }
+    ensures since { (plan : Plan) (clear : List (List ℕ)) (a : ℕ) →
+        (numbered plan clear a).since ≡ since_of plan.site.messages plan.site.cryptos a }
+    ensures fits { (plan : Plan) (clear : List (List ℕ)) (a : ℕ) → IsPlan plan → IsClear plan.site clear →
+        a ≤ closing_number plan.site (length clear) → IsMessage (numbered plan clear a) }
+    ensures parts { (plan : Plan) (clear : List (List ℕ)) (one : EcmPart) → AreInRange plan.site →
+        IsOfBroadcast plan clear (Controls one) →
+        (a : ℕ) × (a ≤ closing_number plan.site (length clear)) × Contains (parts_of (numbered plan clear a)) one }
+{}
+
+/// What is sent from a packet on is the CAT, sections of its period or later ones, parts of messages that stand before
+/// it or later packets, the closing message, and it and later packets.
+pub fn what_is_sent_comes_in_order()
+    ensures { (plan : Plan) (clear : List (List ℕ)) (k : ℕ) → k ≤ length clear →
+        All (IsOfRest plan clear k) (sent_from plan (take k clear) (drop k clear) ++ closing_of plan clear) }
+{}
+
+/// The last word that a site may use is in no packet that is sent. A clear stream is one of the same site with another
+/// last word, if none of its packets has a word above that.
+pub fn last_word_is_a_bound()
+    ensures sent { (plan : Plan) (clear : List (List ℕ)) (x : ℕ) →
+        broadcast (plan_up_to x plan) clear ≡ broadcast plan clear }
+    ensures fewer_words { (site : SiteFields) (clear : List (List ℕ)) (x : ℕ) → IsClear site clear →
+        ((k : ℕ) → k < length clear → word_of site k ≤ x) → IsClear (up_to x site) clear }
+{}
+
+/// A clear packet is carried under its own header but for transport_scrambling_control, which tells whether it is
+/// scrambled and under which control word. So it moves positions as it did.
+pub fn headers_are_carried()
+    ensures pid { (site : SiteFields) (before : List (List ℕ)) (packet : List ℕ) → length packet ≡ 188 →
+        pid_of (carried site before packet) ≡ pid_of packet }
+    ensures header { (site : SiteFields) (before : List (List ℕ)) (packet : List ℕ) → IsWholePacket packet →
+        scrambling_of packet ≡ 0 →
+        IsCarriedWith (control_in (kind_of before packet) (word_of site (length before))) packet
+        (carried site before packet) }
+    ensures moved { (control pid position : ℕ) (old new : List ℕ) → IsCarriedWith control old new →
+        moved pid position new ≡ moved pid position old }
+    ensures placed { (before : List (List ℕ)) (packet : List ℕ) → kind_of before packet ≢ Passed →
+        is_placed packet ≡ true }
+{}
+
+/// Each section of entitlements and each part of a control message that is sent names its run: by the site's first
+/// control word in version 3, and not at all in versions 1 and 2.
+#[tactic(auto, using(crate::proofs::Runs::section_names, crate::proofs::Runs::part_names))]
+pub fn messages_name_their_run()
+    ensures sections { (plan : Plan) (clear : List (List ℕ)) (emm : Emm) → IsOfBroadcast plan clear (Entitles emm) →
+        emm.run ≡ run_name_of plan.site }
+    ensures parts { (plan : Plan) (clear : List (List ℕ)) (part : EcmPart) → IsOfBroadcast plan clear (Controls part) →
+        part.run ≡ run_name_of plan.site }
+{}

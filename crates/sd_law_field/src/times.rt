@@ -1,0 +1,80 @@
+//! What a receiver writes in all times that it is on. Events are listed with the newest first.
+
+ghost use Rattle.std.specs.Prelude.{◌≡◌, ◌*◌, ◌^◌, ◌<◌, ◌≤◌, [], ℕ, false, List, Some, None, All, length, slice_get};
+ghost use Rattle.std.specs.List.{concat};
+ghost use Rattle.std.specs.List.Sorted.{IsStrictlyIncreasing};
+ghost use Rattle.sd_spec_broadcast.specs.Plan.{Plan, IsPlan, period_of};
+ghost use Rattle.sd_spec_broadcast.specs.Refused.{IsClear};
+ghost use Rattle.sd_law_broadcast.specs.Packets.{AreWholePackets};
+ghost use Rattle.sd_law_file.specs.Synced.{AreSynced};
+ghost use Rattle.sd_spec_receiver.specs.Offered.{break_from};
+ghost use Rattle.sd_law_losses.specs.Confirmed.{packets_at, is_revoked_in};
+ghost use Rattle.sd_spec_field.specs.declared.event.Event.{Event};
+ghost use Rattle.sd_spec_field.specs.Watch.{watch, present, written};
+ghost use Rattle.sd_law_field.specs.Times.{card_at, taken, places_of};
+
+/// By whatever book a head end sends, and however often a receiver is switched off and on and loses packets: what it
+/// writes is the clear packets that are confirmed to it. Their numbers rise over all times that it was on, they were
+/// sent, and they are of periods in which its leaf isn't revoked.
+#[tactic(auto, using(crate::proofs::Written::written_is_confirmed, crate::proofs::Written::places_rise, crate::proofs::Written::places_are_sent, crate::proofs::Written::places_entitled))]
+pub fn written_packets_are_confirmed()
+    ensures packets { (plan : Plan) (clear : List (List ℕ)) (u : ℕ) (past : List Event) → IsPlan plan →
+        IsClear plan.site (taken clear past) → AreWholePackets (taken clear past) → AreSynced (taken clear past) →
+        u < 2 ^ plan.site.height → written plan (card_at plan u) (taken clear past) (watch plan clear u past)
+        ≡ packets_at (taken clear past) (places_of plan u (taken clear past) (watch plan clear u past)) }
+    ensures rising { (plan : Plan) (clear : List (List ℕ)) (u : ℕ) (past : List Event) → IsPlan plan →
+        IsClear plan.site (taken clear past) → AreWholePackets (taken clear past) → AreSynced (taken clear past) →
+        u < 2 ^ plan.site.height →
+        IsStrictlyIncreasing (places_of plan u (taken clear past) (watch plan clear u past)) }
+    ensures inside { (plan : Plan) (clear : List (List ℕ)) (u : ℕ) (past : List Event) → IsPlan plan →
+        IsClear plan.site (taken clear past) → AreWholePackets (taken clear past) → AreSynced (taken clear past) →
+        u < 2 ^ plan.site.height → All (λ j. j < length (taken clear past))
+        (places_of plan u (taken clear past) (watch plan clear u past)) }
+    ensures entitled { (plan : Plan) (clear : List (List ℕ)) (u : ℕ) (past : List Event) → IsPlan plan →
+        IsClear plan.site (taken clear past) → AreWholePackets (taken clear past) → AreSynced (taken clear past) →
+        u < 2 ^ plan.site.height → All (λ j. is_revoked_in plan u (period_of plan j) ≡ false)
+        (places_of plan u (taken clear past) (watch plan clear u past)) }
+{}
+
+/// No two receivers ever write different packets for one clear packet, however their events and times interleave, and
+/// at whatever moments the two are looked at.
+#[tactic(auto, using(crate::proofs::Written::one_packet))]
+pub fn one_packet_for_a_place()
+    ensures { (plan : Plan) (clear : List (List ℕ)) (u v i k j : ℕ) (past other : List Event) → IsPlan plan →
+        IsClear plan.site (taken clear past) → AreWholePackets (taken clear past) → AreSynced (taken clear past) →
+        IsClear plan.site (taken clear other) → AreWholePackets (taken clear other) → AreSynced (taken clear other) →
+        u < 2 ^ plan.site.height → v < 2 ^ plan.site.height →
+        slice_get (places_of plan u (taken clear past) (watch plan clear u past)) i ≡ Some j →
+        slice_get (places_of plan v (taken clear other) (watch plan clear v other)) k ≡ Some j →
+        slice_get (written plan (card_at plan u) (taken clear past) (watch plan clear u past)) i
+        ≡ slice_get (written plan (card_at plan v) (taken clear other) (watch plan clear v other)) k }
+{}
+
+/// No receiver ever refuses a packet.
+#[tactic(auto, using(crate::proofs::Written::present_unrefused))]
+pub fn receivers_never_refuse()
+    ensures { (plan : Plan) (clear : List (List ℕ)) (u : ℕ) (past : List Event) → IsPlan plan →
+        IsClear plan.site (taken clear past) → AreWholePackets (taken clear past) → AreSynced (taken clear past) →
+        u < 2 ^ plan.site.height →
+        break_from (card_at plan u) [] (present plan (taken clear past) (watch plan clear u past)) ≡ None }
+{}
+
+/// A receiver never writes more packets than were sent clear, so that 188 bytes for each clear packet are enough.
+#[tactic(auto, using(crate::proofs::Written::written_few, crate::proofs::Written::written_short, crate::proofs::Written::written_has_room))]
+pub fn written_lists_have_room()
+    ensures packets { (plan : Plan) (clear : List (List ℕ)) (u : ℕ) (past : List Event) → IsPlan plan →
+        IsClear plan.site (taken clear past) → AreWholePackets (taken clear past) → AreSynced (taken clear past) →
+        u < 2 ^ plan.site.height →
+        length (written plan (card_at plan u) (taken clear past) (watch plan clear u past))
+        ≤ length (taken clear past) }
+    ensures bytes { (plan : Plan) (clear : List (List ℕ)) (u : ℕ) (past : List Event) → IsPlan plan →
+        IsClear plan.site (taken clear past) → AreWholePackets (taken clear past) → AreSynced (taken clear past) →
+        u < 2 ^ plan.site.height →
+        length (concat (written plan (card_at plan u) (taken clear past) (watch plan clear u past)))
+        ≤ 188 * length (taken clear past) }
+    ensures room { (plan : Plan) (clear : List (List ℕ)) (u : ℕ) (past : List Event) → IsPlan plan →
+        IsClear plan.site (taken clear past) → AreWholePackets (taken clear past) → AreSynced (taken clear past) →
+        u < 2 ^ plan.site.height →
+        length (concat (written plan (card_at plan u) (taken clear past) (watch plan clear u past)))
+        ≤ 188 * length clear }
+{}

@@ -1,0 +1,137 @@
+-- How many packets a broadcast has.
+use Rattle.std.proofs.Common.{◌≡◌, ℕ, suc, ◌-◌, ◌*◌, ◌/◌, ◌%◌, ◌≤◌, ◌==◌, Bool, true, false, List, [], ◌∷◌, ◌++◌}
+use Rattle.std.proofs.Common.{length, map, refl, sym, ap, subst, arith, inl, inr, length-append, append_assoc}
+use Rattle.std.specs.Prelude.{if◌then◌else◌}
+use Rattle.std.proofs.lemmas.Bool.{cases_Bool}
+use Rattle.std.proofs.lemmas.List.{length-map}
+use Rattle.sd_message.specs.Pieces.{pieces_for}
+use Rattle.sd_emm.specs.Period.{Period, IsPeriod, emms_of}
+use Rattle.sd_emm.specs.declared.emm.Emm.{Emm}
+use Rattle.sd_emm.proofs.Sharing.{as_many as sections_many}
+use Rattle.sd_ecm.specs.Parts.{Message, IsMessage, parts_of}
+use Rattle.sd_ecm.specs.Versions.{positions_for}
+use Rattle.sd_ecm.proofs.Sharing.{as_many as parts_many}
+use Rattle.sd_engine.specs.Driving.{most_packets}
+use Rattle.sd_spec_broadcast.specs.Plan.{Plan, IsPlan, crypto_length, period_of, closing_number}
+use Rattle.sd_spec_broadcast.specs.Carried.{carried}
+use Rattle.sd_spec_broadcast.specs.Messages.{period_at, message_at}
+use Rattle.sd_spec_broadcast.specs.Refused.{IsClear}
+use Rattle.sd_spec_broadcast.specs.Sent.{Item, Entitles, Controls, Carries, tables_at, tables_before, message_before}
+use Rattle.sd_spec_broadcast.specs.Sent.{added}
+use Rattle.sd_spec_broadcast.specs.Sent.{packets_from, sent_from, sent, closing_of, body, broadcast}
+use Rattle.sd_spec_broadcast.proofs.Schedule.{period_short}
+use Rattle.sd_law_broadcast.proofs.Clear.{clear_short, prefix_clear}
+use Rattle.sd_law_broadcast.proofs.Fitting.{period_fits, message_before_fits, word_low, closing_fits}
+
+-- as many packets as things
+packets_many : (plan : Plan) (earlier items : List Item) → length (packets_from plan.site earlier items) ≡ length items
+unfolding packets_from
+packets_many plan earlier [] = refl
+packets_many plan earlier (item ∷ items) = ap suc (packets_many plan (earlier ++ item ∷ []) items)
+
+-- a period's sections are few
+sections_few : (period : Period) → IsPeriod period → length (emms_of period) ≤ 43691
+unfolding pieces_for
+sections_few period is = omega (arith, sections_many period, is.sets)
+
+-- and so are a message's parts
+shared_few : (v n : ℕ) → n ≤ 256 → pieces_for (positions_for v) n ≤ 22
+unfolding pieces_for positions_for
+shared_few v n few = elim (cases_Bool (v == 1)) [
+  | inl one ↦ rw one (omega (arith, few))
+  | inr later ↦ rw later (omega (arith, few))
+]
+
+pub parts_few : (message : Message) → IsMessage message → length (parts_of message) ≤ 22
+parts_few message is = omega (arith, parts_many message, shared_few message.version (length message.places) is.count)
+
+module _ (plan : Plan) (is : IsPlan plan) where
+  -- the tables of a packet
+  tables_few : (k : ℕ) → length (tables_at plan k) ≤ 43692
+  unfolding tables_at
+  tables_few k =
+      let q : ℕ = period_of plan k in
+      let emms : List Emm = emms_of (period_at plan q) in
+      omega (
+        arith,
+        length-map emms Entitles,
+        sections_few (period_at plan q) (period_fits plan q is (period_short plan k is)),
+      )
+
+  tables_or_none : (b : Bool) (k : ℕ) → length (if b then tables_at plan k else []) ≤ 43692
+  tables_or_none true k = tables_few k
+  tables_or_none false k = omega arith
+
+  -- the message before a packet
+  message_few : (message : Message) → IsMessage message → length (map Controls (parts_of message)) ≤ 22
+  message_few message fits = omega (arith, length-map (parts_of message) Controls, parts_few message fits)
+
+  message_or_none : (b : Bool) (message : Message) → IsMessage message →
+      length (if b then map Controls (parts_of message) else []) ≤ 22
+  message_or_none true message fits = message_few message fits
+  message_or_none false message fits = omega arith
+
+  -- what one packet adds
+  added_few : (before : List (List ℕ)) (packet : List ℕ) → IsClear plan.site (before ++ packet ∷ []) →
+      length (added plan before packet) ≤ 65536
+  unfolding added
+  added_few before packet all =
+      let n : ℕ = length before in
+      let own : List Item = Carries n (carried plan.site before packet) ∷ [] in
+      let more = length-append before (packet ∷ []) in
+      let low = word_low plan (before ++ packet ∷ []) n is all (omega (arith, more)) in
+      omega (
+        arith,
+        length-append (tables_before plan n) (message_before plan before ++ own),
+        length-append (message_before plan before) own,
+        tables_or_none (n % crypto_length plan.site == 0) n,
+        message_or_none (n % plan.site.every == 0) (message_at plan before (n / plan.site.every) n false)
+            (message_before_fits plan before is (prefix_clear plan.site before (packet ∷ []) all) low),
+      )
+
+  -- what packets add after others
+  sent_few : (before packets : List (List ℕ)) → IsClear plan.site (before ++ packets) →
+      length (sent_from plan before packets) ≤ 65536 * length packets
+  unfolding sent_from
+  sent_few before [] all = omega arith
+  sent_few before (packet ∷ packets) all =
+      omega (
+        arith,
+        length-append (added plan before packet) (sent_from plan (before ++ packet ∷ []) packets),
+        added_few before packet (prefix_clear plan.site (before ++ packet ∷ []) packets whole),
+        sent_few (before ++ packet ∷ []) packets whole,
+      )
+    where
+      whole : IsClear plan.site ((before ++ packet ∷ []) ++ packets)
+      whole = subst (IsClear plan.site) (sym (append_assoc before (packet ∷ []) packets)) all
+
+  -- the closing message
+  closing_few : (clear : List (List ℕ)) → IsClear plan.site clear → length (closing_of plan clear) ≤ 65536
+  unfolding closing_of
+  closing_few clear all =
+      let message : Message =
+      message_at plan clear (closing_number plan.site (length clear)) (length clear - 1) true in
+      omega (
+        arith,
+        length-append (if length clear == 0 then tables_at plan 0 else []) (map Controls (parts_of message)),
+        tables_or_none (length clear == 0) 0,
+        message_few message (closing_fits plan clear is all),
+      )
+
+  -- no more than a stream may have
+  pub broadcast_short : (clear : List (List ℕ)) → IsClear plan.site clear → length (broadcast plan clear) ≤ most_packets
+  unfolding broadcast
+  broadcast_short clear all =
+      omega (
+        arith,
+        packets_many plan [] (sent plan clear ++ closing_of plan clear),
+        length-append (sent plan clear) (closing_of plan clear),
+        sent_few [] clear all,
+        closing_few clear all,
+        clear_short plan.site clear all,
+      )
+
+  pub body_short : (clear : List (List ℕ)) → IsClear plan.site clear → length (body plan clear) ≤ most_packets
+  unfolding body
+  body_short clear all =
+      omega (arith, packets_many plan [] (sent plan clear), sent_few [] clear all, clear_short plan.site clear all)

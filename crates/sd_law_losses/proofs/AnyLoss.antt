@@ -1,0 +1,452 @@
+-- Whatever is lost of a broadcast, a receiver refuses nothing and writes exactly what is confirmed.
+use Rattle.std.proofs.Common.{◌≡◌, refl, ℕ, zero, suc, ◌+◌, ◌-◌, ◌%◌, ◌<◌, ◌==◌, Bool, true, false}
+use Rattle.std.proofs.Common.{List, [], ◌∷◌, ◌++◌, map, filter, length, take, drop, Option, Some, None, is_none}
+use Rattle.std.proofs.Common.{if◌then◌else◌}
+use Rattle.std.proofs.Common.{arith, sym, ap, ◌∙◌, inl, inr, ◌⊎◌, subst, append_assoc, append-nil}
+use Rattle.std.specs.Prelude.{All}
+use Rattle.std.specs.List.{list_any, range_with_len}
+use Rattle.std.specs.Option.{option_map_or}
+use Rattle.std.proofs.lemmas.List.Elements.{All-nil, All-tail, All-contains_itself}
+use Rattle.sd_site.specs.Fields.{run_name_of as site_name}
+use Rattle.std.proofs.lemmas.List.Folds.{list_any-append}
+use Rattle.std.proofs.lemmas.Bool.{cases_Bool}
+use Rattle.std.proofs.lemmas.Bool.Decides.{nat_tests}
+use Rattle.sd_emm.specs.Period.{emms_of}
+use Rattle.sd_ecm.specs.Parts.{parts_of}
+use Rattle.sd_spec_broadcast.specs.Plan.{crypto_length, period_of, closing_number}
+use Rattle.sd_spec_broadcast.specs.Messages.{period_at}
+use Rattle.sd_spec_broadcast.specs.Sent.{Item, Cat, Controls, tables_at, sent, closing_of, packet_of, packets_from}
+use Rattle.sd_spec_broadcast.specs.Sent.{broadcast}
+use Rattle.sd_spec_broadcast.specs.Items.{IsOfBroadcast}
+use Rattle.sd_spec_broadcast.proofs.Items.{all_are_of_broadcast}
+use Rattle.sd_spec_receiver.specs.Tuned.{Tuning, tuning_of, tuned_by, cat_tuning}
+use Rattle.sd_spec_receiver.specs.Heard.{Heard}
+use Rattle.sd_spec_receiver.specs.Offered.{Offering, heard, heard_with, offered, out_from, break_from, no_offering}
+use Rattle.sd_law_losses.specs.Chosen.{chosen}
+use Rattle.sd_law_losses.specs.Kept.{is_carried, has_arrived, after_cat}
+use Rattle.sd_law_losses.specs.Confirmed.{confirmed, packets_at}
+use Rattle.sd_card.specs.Fields.{CardFields}
+use Rattle.sd_law_losses.proofs.Completing.{IsLater}
+use Rattle.sd_law_losses.proofs.Writing.{onto, Writes, writes_append, IsOpenUpto, open_upto, open_append}
+use Rattle.sd_law_losses.proofs.Arriving.{is_of}
+use Rattle.sd_law_losses.proofs.Setting.{Setting, AreLaws, tuning_at, final, told_by}
+use Rattle.sd_law_losses.proofs.Facts.{AreHeard, Passes}
+use Rattle.sd_law_losses.proofs.Hearing.{AreHearable, heard_from, heard_append, is_cat_item, IsTuned}
+use Rattle.sd_law_losses.proofs.Remaining.{rest_at, rest_none, closing_items}
+use Rattle.sd_law_losses.proofs.Later.{chosen_append, chosen_fails, numbers_later, packets_later}
+use Rattle.sd_law_losses.proofs.Confirming.{confirms, confirmed_in}
+use Rattle.sd_law_losses.proofs.Groups.{Goes, goes_after, sections_pass, tail_goes}
+use Rattle.sd_law_losses.proofs.Writings.{rest_unconfirmed}
+use Rattle.sd_law_losses.proofs.Losses.{all_first, all_second, packets_chosen, AreWritten, nothing_more, written_all}
+use Rattle.sd_law_losses.proofs.Losses.{closing_written}
+use Rattle.sd_law_losses.proofs.Tuned.{IsWrittenFrom, group_written, tuned_written}
+use Rattle.sd_law_losses.proofs.OneRun.{IsOfRun, untuned_turn}
+use Rattle.sd_law_losses.proofs.Untuned.{IsSkipped, packets_skipped, offered_none, untuned_heard, untuned_one_run}
+use Rattle.sd_law_losses.proofs.Untuned.{after_none}
+use Rattle.sd_law_losses.proofs.Untuned.{after_no_cat, no_part_cat, no_section_cat}
+use Rattle.sd_law_losses.proofs.Untuned.{sections_at, tail_at, no_tail_cat, due_rest, other_rest, kept_start}
+use Rattle.sd_law_losses.proofs.Untuned.{heard_start}
+
+-- what is written of what is left, where no CAT was taken
+abbrev pub IsWrittenBefore : Setting → List Item → List Item → List Bool → List (List ℕ) → Type 0
+IsWrittenBefore s earlier items fs past =
+    AreWritten s past (chosen fs (packets_from s.plan.site earlier items))
+    (confirmed_in s (after_cat (chosen fs items)) 0 (length s.clear))
+
+-- of things of which none is kept after a CAT nothing is confirmed
+nothing_confirmed : (s : Setting) (laws : AreLaws s) → confirmed_in s [] 0 (length s.clear) ≡ []
+unfolding has_arrived
+nothing_confirmed s laws = rest_unconfirmed s [] 0 None laws.range (λ b. refl)
+
+-- where no CAT is kept
+without_cat : (s : Setting) (laws : AreLaws s) (able : AreHearable s) (items earlier : List Item) (fs : List Bool)
+    (past : List (List ℕ)) → All (IsOfBroadcast s.plan s.clear) items → tuning_of s.card.ca past ≡ None →
+    list_any is_cat_item (chosen fs items) ≡ false → IsWrittenBefore s earlier items fs past
+without_cat s laws able items earlier fs past all none no_cat =
+    subst (AreWritten s past packets)
+    (sym (ap (λ (kept : List Item). confirmed_in s kept 0 (length s.clear)) (after_no_cat (chosen fs items) no_cat)
+    ∙ nothing_confirmed s laws))
+    (subst (λ (ps : List (List ℕ)). AreWritten s past ps []) (append-nil packets) (record {
+      out = skipped.out ∙ (nothing_more s (onto packets past)).out;
+      none = skipped.breaks ∙ (nothing_more s (onto packets past)).none;
+    }))
+  where
+    packets : List (List ℕ)
+    packets = chosen fs (packets_from s.plan.site earlier items)
+
+    skipped : IsSkipped s past packets []
+    skipped = packets_skipped s able items earlier fs past [] all none no_cat
+
+-- things of which no CAT is kept, and then others
+skipped_first : (s : Setting) (able : AreHearable s) (group rest earlier : List Item) (fs : List Bool) (past : List
+    (List ℕ)) →
+    All (IsOfBroadcast s.plan s.clear) (group ++ rest) → tuning_of s.card.ca past ≡ None →
+    list_any is_cat_item (chosen (take (length group) fs) group) ≡ false →
+    (tuning_of s.card.ca (onto (chosen (take (length group) fs) (packets_from s.plan.site earlier group)) past) ≡ None →
+    IsWrittenBefore s (earlier ++ group) rest (drop (length group) fs)
+    (onto (chosen (take (length group) fs) (packets_from s.plan.site earlier group)) past)) →
+    IsWrittenBefore s earlier (group ++ rest) fs past
+skipped_first s able group rest earlier fs past all none no_cat more =
+    subst (λ (ps : List (List ℕ)). AreWritten s past ps (confirmed_in s (after_cat (chosen fs (group ++ rest))) 0
+    (length s.clear)))
+    (sym (packets_chosen s.plan.site earlier group rest fs))
+    (subst (AreWritten s past (first ++ others))
+    (ap (λ (kept : List Item). confirmed_in s kept 0 (length s.clear))
+    (sym (ap after_cat (chosen_append fs group rest)
+    ∙ after_none (chosen (take (length group) fs) group) (chosen (drop (length group) fs) rest) no_cat)))
+    (record { out = skipped.out ∙ after.out; none = skipped.breaks ∙ after.none }))
+  where
+    first : List (List ℕ)
+    first = chosen (take (length group) fs) (packets_from s.plan.site earlier group)
+
+    others : List (List ℕ)
+    others = chosen (drop (length group) fs) (packets_from s.plan.site (earlier ++ group) rest)
+
+    skipped : IsSkipped s past first others
+    skipped = packets_skipped s able group earlier (take (length group) fs) past others
+        (all_first (IsOfBroadcast s.plan s.clear) group rest all) none no_cat
+
+    after : AreWritten s (onto first past) others (confirmed_in s (after_cat (chosen (drop
+        (length group) fs) rest)) 0 (length s.clear))
+    after = more skipped.untuned
+
+-- where no CAT was taken, nothing of the first one that is kept is heard
+pub taken_heard : (card : CardFields) (packet : List ℕ) (past : List (List ℕ)) → tuning_of card.ca past ≡ None →
+    heard card (packet ∷ past) ≡ []
+unfolding heard
+taken_heard card packet past none =
+    ap (λ (t : Option Tuning). heard_with card t (length past) packet (heard card past)) none
+    ∙ untuned_heard card past none
+
+cat_tunes : (s : Setting) (able : AreHearable s) (earlier : List Item) (past : List (List ℕ)) →
+    tuning_of s.card.ca past ≡ None →
+    tuning_of s.card.ca (packet_of s.plan.site earlier Cat ∷ past) ≡ Some (tuning_at s)
+unfolding tuning_of
+cat_tunes s able earlier past none =
+    ap (λ (t : Option Tuning). tuned_by t (cat_tuning s.card.ca (packet_of s.plan.site earlier Cat))) none
+    ∙ able.tuning earlier
+
+-- a CAT that is kept is taken, and what is written then
+pub taken_tuning : (s : Setting) (able : AreHearable s) (earlier : List Item) (past : List (List ℕ)) →
+    tuning_of s.card.ca past ≡ None → IsTuned s (packet_of s.plan.site earlier Cat ∷ past)
+taken_tuning s able earlier past none = record {
+  tuning = cat_tunes s able earlier past none;
+  named = subst (All named) (sym (taken_heard s.card (packet_of s.plan.site earlier Cat) past none)) (All-nil named);
+  one = (
+    untuned_turn s.card past (packet_of s.plan.site earlier Cat) none,
+    untuned_one_run s.card past none,
+  );
+}
+  where
+    named : Heard → Type 0
+    named = IsOfRun (site_name s.plan.site)
+
+one_skipped : (s : Setting) (past packets wrote : List (List ℕ)) (packet : List ℕ) →
+    offered s.card past packet ≡ no_offering →
+    AreWritten s (packet ∷ past) packets wrote → AreWritten s past (packet ∷ packets) wrote
+unfolding out_from break_from
+one_skipped s past packets wrote packet is rest = record {
+  out = ap (λ (o : Offering). o.wrote ++ (if is_none o.fault then out_from s.card
+      (packet ∷ past) packets else [])) is ∙ rest.out;
+  none = ap (λ (o : Offering). option_map_or Some o.fault (break_from s.card (packet ∷ past) packets)) is ∙ rest.none;
+}
+
+cat_taken : (s : Setting) (able : AreHearable s) (items earlier : List Item) (fs : List Bool) (past : List (List ℕ)) →
+    tuning_of s.card.ca past ≡ None →
+    (IsTuned s (packet_of s.plan.site earlier Cat ∷ past) →
+    heard s.card (packet_of s.plan.site earlier Cat ∷ past) ≡ [] →
+    IsWrittenFrom s (earlier ++ Cat ∷ []) items fs (packet_of s.plan.site earlier Cat ∷ past) None []) →
+    IsWrittenBefore s earlier (Cat ∷ items) (true ∷ fs) past
+unfolding chosen packets_from after_cat
+cat_taken s able items earlier fs past none more =
+    one_skipped s past (chosen fs (packets_from s.plan.site (earlier ++ Cat ∷ []) items))
+    (confirmed_in s (chosen fs items) 0 (length s.clear)) (packet_of s.plan.site earlier Cat)
+    (offered_none s.card past (packet_of s.plan.site earlier Cat) none)
+    (more (taken_tuning s able earlier past none) (taken_heard s.card (packet_of s.plan.site earlier Cat) past none))
+
+-- after the CAT before packet k
+pub after_cat_goes : (s : Setting) (laws : AreLaws s) (k i : ℕ) (fs : List Bool) (later : List Item) →
+    k < length s.clear →
+    IsLater (k + 1) later →
+    Goes s ([] ++ (chosen fs (sections_at s (period_of s.plan k) ++ tail_at s k) ++ later)) k (k + 1)
+    (period_of s.plan k)
+    (closing_number s.plan.site (k + 1)) None ([] ++ chosen fs (sections_at s (period_of s.plan k) ++ tail_at s k)) []
+    (heard_from i (chosen fs (sections_at s (period_of s.plan k) ++ tail_at s k)))
+after_cat_goes s laws k i fs later within is =
+    subst (λ (items : List Item). Goes s ([] ++ (items ++ later)) k (k + 1) (period_of s.plan k)
+    (closing_number s.plan.site (k + 1)) None ([] ++ items) [] (heard_from i items))
+    (sym (chosen_append fs (sections_at s q) (tail_at s k)))
+    (subst (λ (hs : List Heard). Goes s ([] ++ ((xs ++ ys) ++ later)) k (k + 1) q (closing_number s.plan.site
+    (k + 1)) None (xs ++ ys) [] hs)
+    (sym (heard_append i xs ys))
+    (goes_after s ((xs ++ ys) ++ later) k k (k + 1) q q (closing_number s.plan.site k) (closing_number s.plan.site
+    (k + 1)) None
+    xs (xs ++ ys) [] (heard_from i xs) (heard_from (length xs + i) ys) first
+    (subst (λ (all : List Item). Goes s all k (k + 1) q (closing_number s.plan.site (k + 1)) None (xs ++ ys)
+    (onto (heard_from i xs) []) (heard_from (length xs + i) ys)) (sym (append_assoc xs ys later))
+    (tail_goes s laws k (length xs + i) None (drop (length (sections_at s q)) fs) xs later (onto
+    (heard_from i xs) []) within is
+    first.kept_is first.heard_is))))
+  where
+    q : ℕ
+    q = period_of s.plan k
+
+    xs : List Item
+    xs = chosen (take (length (sections_at s q)) fs) (sections_at s q)
+
+    ys : List Item
+    ys = chosen (drop (length (sections_at s q)) fs) (tail_at s k)
+
+    first : Passes s k q (closing_number s.plan.site k) None xs [] (heard_from i xs) []
+    first = sections_pass s laws k q (closing_number s.plan.site k) i None (emms_of (period_at s.plan q))
+        (take (length (sections_at s q)) fs) [] [] (All-contains_itself (emms_of (period_at s.plan q)))
+        (kept_start k (closing_number s.plan.site k)) (heard_start s k q (closing_number s.plan.site k))
+
+-- the CAT before packet k is kept
+cat_here : (s : Setting) (laws : AreLaws s) (able : AreHearable s) (n k : ℕ) (fs : List Bool) (earlier : List Item)
+    (past : List (List ℕ)) → k + suc n ≡ length s.clear → (k % crypto_length s.plan.site == 0) ≡ true →
+    All (IsOfBroadcast s.plan s.clear) ((sections_at s (period_of s.plan k) ++ tail_at s k) ++ rest_at s (k + 1)) →
+    IsTuned s past → heard s.card past ≡ [] →
+    IsWrittenFrom s earlier ((sections_at s (period_of s.plan k) ++ tail_at s k) ++ rest_at s (k + 1)) fs past None []
+cat_here s laws able n k fs earlier past count due all tuned none =
+    group_written s laws able k (period_of s.plan k) (period_of s.plan k) (closing_number s.plan.site k)
+    (closing_number s.plan.site (k + 1)) None fs group (rest_at s (k + 1)) earlier [] past within refl refl
+    (omega arith) all tuned
+    (kept_start k (closing_number s.plan.site k)).last_is
+    (λ b below. ap (list_any (is_of b)) (sym (due_rest s k laws.range within due)) ∙ numbers_later s laws
+    (suc n) k b count below)
+    (λ b below. numbers_later s laws n (k + 1) b (omega (arith, count)) below)
+    goes
+    (λ tuned_then heard_then. tuned_written s laws able n (k + 1) goes.next (drop (length group) fs) (earlier ++ group)
+    ([] ++ chosen (take (length group) fs) group) (onto (chosen (take (length group) fs)
+    (packets_from s.plan.site earlier group)) past)
+    (omega (arith, count)) (all_second (IsOfBroadcast s.plan s.clear) group (rest_at s
+    (k + 1)) all) tuned_then goes.passes.kept_is
+    (subst (λ (j : ℕ). AreHeard s (k + 1) (period_of s.plan j) (closing_number s.plan.site (k + 1)) goes.next
+    (chosen (take (length group) fs) group)
+    (heard s.card (onto (chosen (take (length group) fs) (packets_from s.plan.site earlier group)) past)))
+    (omega arith) heard_then))
+  where
+    within : k < length s.clear
+    within = omega (arith, count)
+
+    group : List Item
+    group = sections_at s (period_of s.plan k) ++ tail_at s k
+
+    goes : Goes s ([] ++ (chosen (take (length group) fs) group ++ chosen (drop (length group) fs) (rest_at s
+        (k + 1)))) k (k + 1)
+        (period_of s.plan k) (closing_number s.plan.site (k + 1)) None ([] ++ chosen (take (length group) fs) group)
+        (heard s.card past)
+        (heard_from (length past) (chosen (take (length group) fs) group))
+    goes = subst (λ (hs : List Heard). Goes s ([] ++ (chosen (take (length group) fs) group ++ chosen (drop
+        (length group) fs) (rest_at s (k + 1)))) k (k + 1)
+        (period_of s.plan k) (closing_number s.plan.site (k + 1)) None ([] ++ chosen (take (length group) fs) group) hs
+        (heard_from (length past) (chosen (take (length group) fs) group))) (sym none)
+        (after_cat_goes s laws k (length past) (take (length group) fs) (chosen (drop (length group) fs) (rest_at s
+        (k + 1))) within
+        (λ j below. chosen_fails (is_carried j) (drop (length group) fs) (rest_at s (k + 1))
+        (packets_later s laws n (k + 1) j (omega (arith, count)) below)))
+
+-- the sections and the closing parts after the CAT of a broadcast without a packet
+abbrev pub items_of_none : Setting → List Item
+items_of_none s = sections_at s (period_of s.plan 0) ++ map Controls (parts_of (told_by s (final s)))
+
+pub sections_alone : (s : Setting) (laws : AreLaws s) (i : ℕ) (fs : List Bool) →
+    Passes s (length s.clear) (period_of s.plan 0) (final s) None
+    ([] ++ chosen (take (length (sections_at s (period_of s.plan 0))) fs) (sections_at s (period_of s.plan 0))) []
+    (heard_from i (chosen (take (length (sections_at s (period_of s.plan 0))) fs) (sections_at s
+    (period_of s.plan 0)))) []
+sections_alone s laws i fs =
+    sections_pass s laws (length s.clear) q (final s) i None (emms_of (period_at s.plan q))
+    (take (length (sections_at s q)) fs) [] [] (All-contains_itself (emms_of (period_at s.plan q)))
+    (kept_start (length s.clear) (final s)) (heard_start s (length s.clear) q (final s))
+  where
+    q : ℕ
+    q = period_of s.plan 0
+
+pub sections_heard : (s : Setting) (laws : AreLaws s) (i : ℕ) (fs : List Bool) → length s.clear ≡ 0 →
+    IsOpenUpto [] (heard_from i (chosen fs (items_of_none s)))
+    × Writes s.card (tuning_at s) [] (heard_from i (chosen fs (items_of_none s)))
+    (confirmed_in s (chosen fs (items_of_none s)) 0 (length s.clear))
+sections_heard s laws i fs empty =
+    subst (λ (items : List Item). IsOpenUpto [] (heard_from i items)
+    × Writes s.card (tuning_at s) [] (heard_from i items) (confirmed_in s items 0 (length s.clear)))
+    (sym (chosen_append fs (sections_at s q) (map Controls (parts_of (told_by s (final s))))))
+    (subst (λ (hs : List Heard). IsOpenUpto [] hs × Writes s.card (tuning_at s) [] hs (confirmed_in s (xs ++ ys) 0
+    (length s.clear)))
+    (sym (heard_append i xs ys)) (
+      open_append [] (heard_from i xs) (heard_from (length xs + i) ys)
+          (open_upto [] (heard_from i xs) first.heard_is.open_yet) then_is.0,
+      writes_append s.card (tuning_at s) [] (heard_from i xs) (heard_from (length xs + i) ys) []
+          (confirmed_in s (xs ++ ys) 0 (length s.clear)) first.writes then_is.1,
+    ))
+  where
+    q : ℕ
+    q = period_of s.plan 0
+
+    xs : List Item
+    xs = chosen (take (length (sections_at s q)) fs) (sections_at s q)
+
+    ys : List Item
+    ys = chosen (drop (length (sections_at s q)) fs) (map Controls (parts_of (told_by s (final s))))
+
+    first : Passes s (length s.clear) q (final s) None xs [] (heard_from i xs) []
+    first = sections_alone s laws i fs
+
+    first_period : length s.clear - 1 ≡ 0
+    first_period = omega (arith, empty)
+
+    then_is : IsOpenUpto (onto (heard_from i xs) []) (heard_from (length xs + i) ys)
+        × Writes s.card (tuning_at s) (onto (heard_from i xs) []) (heard_from (length xs + i) ys)
+        (confirmed_in s (xs ++ ys) 0 (length s.clear))
+    then_is = closing_written s laws q (length xs + i) None (drop (length (sections_at s q)) fs) xs (onto
+        (heard_from i xs) [])
+        (omega (arith, ap (period_of s.plan) first_period)) first.kept_is first.heard_is
+
+-- the CAT of a broadcast without a packet is kept
+sections_end : (s : Setting) (laws : AreLaws s) (able : AreHearable s) (fs : List Bool) (earlier : List Item)
+    (past : List (List ℕ)) → length s.clear ≡ 0 → All (IsOfBroadcast s.plan s.clear) (items_of_none s) →
+    IsTuned s past → heard s.card past ≡ [] →
+    IsWrittenFrom s earlier (items_of_none s) fs past None []
+sections_end s laws able fs earlier past empty all tuned none =
+    written_all s able (items_of_none s) earlier fs past (confirmed_in s (chosen fs (items_of_none s)) 0
+    (length s.clear)) all tuned
+    (subst (λ (hs : List Heard). IsOpenUpto hs (heard_from (length past) (chosen fs (items_of_none s)))) (sym none)
+    (sections_heard s laws (length past) fs empty).0)
+    (subst (λ (hs : List Heard). Writes s.card (tuning_at s) hs (heard_from (length past) (chosen fs (items_of_none s)))
+    (confirmed_in s (chosen fs (items_of_none s)) 0 (length s.clear))) (sym none) (sections_heard s laws
+    (length past) fs empty).1)
+
+-- the end of a broadcast, where no CAT was taken
+end_untuned : (s : Setting) (laws : AreLaws s) (able : AreHearable s) (fs : List Bool) (earlier : List Item)
+    (past : List (List ℕ)) (some : Bool) → (length s.clear == 0) ≡ some → tuning_of s.card.ca past ≡ None →
+    All (IsOfBroadcast s.plan s.clear) ((if some then tables_at s.plan 0 else []) ++ map Controls (parts_of
+    (told_by s (final s)))) →
+    IsWrittenBefore s earlier ((if some then tables_at s.plan 0 else []) ++ map Controls (parts_of (told_by s
+    (final s)))) fs past
+unfolding tables_at chosen
+end_untuned s laws able fs earlier past false is none all =
+    without_cat s laws able (map Controls (parts_of (told_by s (final s)))) earlier fs past all none
+    (chosen_fails is_cat_item fs (map Controls (parts_of (told_by s (final s)))) (no_part_cat (parts_of (told_by s
+    (final s)))))
+end_untuned s laws able [] earlier past true is none all =
+    without_cat s laws able (tables_at s.plan 0 ++ map Controls (parts_of (told_by s
+    (final s)))) earlier [] past all none refl
+end_untuned s laws able (false ∷ fs) earlier past true is none all =
+    without_cat s laws able (tables_at s.plan 0 ++ map Controls (parts_of (told_by s (final s)))) earlier
+    (false ∷ fs) past all none
+    (chosen_fails is_cat_item fs (sections_at s (period_of s.plan 0) ++ map Controls (parts_of (told_by s
+    (final s)))) no_cat)
+  where
+    no_cat : list_any is_cat_item (sections_at s (period_of s.plan 0) ++ map Controls (parts_of (told_by s
+        (final s)))) ≡ false
+    no_cat = list_any-append is_cat_item (sections_at s (period_of s.plan 0))
+        (map Controls (parts_of (told_by s (final s))))
+        ∙ rw (no_section_cat (emms_of (period_at s.plan (period_of s.plan 0)))) (no_part_cat (parts_of (told_by s
+        (final s))))
+end_untuned s laws able (true ∷ fs) earlier past true is none all =
+    cat_taken s able (sections_at s (period_of s.plan 0) ++ map Controls (parts_of (told_by s
+    (final s)))) earlier fs past none
+    (λ tuned heard_none. sections_end s laws able fs (earlier ++ Cat ∷ []) (packet_of s.plan.site earlier Cat ∷ past)
+    (grind (arith, nat_tests, is))
+    (All-tail (IsOfBroadcast s.plan s.clear) Cat (sections_at s (period_of s.plan 0) ++ map Controls (parts_of
+    (told_by s (final s)))) all)
+    tuned heard_none)
+
+-- a group with the tables, of which the CAT may be kept
+due_untuned : (s : Setting) (laws : AreLaws s) (able : AreHearable s) (n k : ℕ) (fs : List Bool) (earlier : List Item)
+    (past : List (List ℕ)) → k + suc n ≡ length s.clear → (k % crypto_length s.plan.site == 0) ≡ true →
+    All (IsOfBroadcast s.plan s.clear) (Cat ∷ ((sections_at s (period_of s.plan k) ++ tail_at s k) ++ rest_at s
+    (k + 1))) →
+    tuning_of s.card.ca past ≡ None →
+    ((fs : List Bool) (earlier : List Item) (past : List (List ℕ)) → tuning_of s.card.ca past ≡ None →
+    IsWrittenBefore s earlier (rest_at s (k + 1)) fs past) →
+    IsWrittenBefore s earlier (Cat ∷ ((sections_at s (period_of s.plan k) ++ tail_at s k) ++ rest_at s (k + 1))) fs past
+unfolding chosen
+due_untuned s laws able n k (true ∷ fs) earlier past count due all none more =
+    cat_taken s able ((sections_at s (period_of s.plan k) ++ tail_at s k) ++ rest_at s (k + 1)) earlier fs past none
+    (λ tuned heard_none. cat_here s laws able n k fs (earlier ++ Cat ∷ [])
+    (packet_of s.plan.site earlier Cat ∷ past) count due
+    (All-tail (IsOfBroadcast s.plan s.clear) Cat ((sections_at s (period_of s.plan k) ++ tail_at s k) ++ rest_at s
+    (k + 1)) all)
+    tuned heard_none)
+due_untuned s laws able n k [] earlier past count due all none more =
+    skipped_first s able (Cat ∷ (sections_at s (period_of s.plan k) ++ tail_at s k)) (rest_at s
+    (k + 1)) earlier [] past all none refl
+    (λ still. more (drop (length (Cat ∷ (sections_at s (period_of s.plan k) ++ tail_at s k))) [])
+    (earlier ++ (Cat ∷ (sections_at s (period_of s.plan k) ++ tail_at s k)))
+    (onto (chosen (take (length (Cat ∷ (sections_at s (period_of s.plan k) ++ tail_at s k))) [])
+    (packets_from s.plan.site earlier (Cat ∷ (sections_at s (period_of s.plan k) ++ tail_at s k)))) past) still)
+due_untuned s laws able n k (false ∷ fs) earlier past count due all none more =
+    skipped_first s able (Cat ∷ (sections_at s (period_of s.plan k) ++ tail_at s k)) (rest_at s (k + 1)) earlier
+    (false ∷ fs) past all none
+    (chosen_fails is_cat_item (take (length (sections_at s (period_of s.plan k) ++ tail_at s k)) fs)
+    (sections_at s (period_of s.plan k) ++ tail_at s k) no_cat)
+    (λ still. more (drop (length (Cat ∷ (sections_at s (period_of s.plan k) ++ tail_at s k))) (false ∷ fs))
+    (earlier ++ (Cat ∷ (sections_at s (period_of s.plan k) ++ tail_at s k)))
+    (onto (chosen (take (length (Cat ∷ (sections_at s (period_of s.plan k) ++ tail_at s k))) (false ∷ fs))
+    (packets_from s.plan.site earlier (Cat ∷ (sections_at s (period_of s.plan k) ++ tail_at s k)))) past) still)
+  where
+    no_cat : list_any is_cat_item (sections_at s (period_of s.plan k) ++ tail_at s k) ≡ false
+    no_cat = list_any-append is_cat_item (sections_at s (period_of s.plan k)) (tail_at s k)
+        ∙ rw (no_section_cat (emms_of (period_at s.plan (period_of s.plan k)))) (no_tail_cat s k)
+
+-- from packet k on, where no CAT was taken
+untuned_written : (s : Setting) (laws : AreLaws s) (able : AreHearable s) (n k : ℕ) (fs : List Bool)
+    (earlier : List Item)
+    (past : List (List ℕ)) → k + n ≡ length s.clear → All (IsOfBroadcast s.plan s.clear) (rest_at s k) →
+    tuning_of s.card.ca past ≡ None → IsWrittenBefore s earlier (rest_at s k) fs past
+untuned_written s laws able zero k fs earlier past count all none =
+    subst (λ (items : List Item). IsWrittenBefore s earlier items fs past) (sym ends)
+    (end_untuned s laws able fs earlier past (length s.clear == 0) refl none (subst (All
+    (IsOfBroadcast s.plan s.clear)) ends all))
+  where
+    ends : rest_at s k ≡ (if length s.clear == 0 then tables_at s.plan 0 else []) ++ map Controls (parts_of
+        (told_by s (final s)))
+    ends = ap (rest_at s) (omega (arith, count)) ∙ (rest_none s ∙ closing_items s)
+untuned_written s laws able (suc n) k fs earlier past count all none =
+    by_test (cases_Bool (k % crypto_length s.plan.site == 0))
+    (λ all_later fs earlier past still. untuned_written s laws able n (k + 1) fs earlier past (omega
+    (arith, count)) all_later still)
+  where
+    within : k < length s.clear
+    within = omega (arith, count)
+
+    by_test : ((k % crypto_length s.plan.site == 0) ≡ true) ⊎ ((k % crypto_length s.plan.site == 0) ≡ false) →
+        (All (IsOfBroadcast s.plan s.clear) (rest_at s (k + 1)) → (fs : List Bool) (earlier : List Item) (past : List
+        (List ℕ)) →
+        tuning_of s.card.ca past ≡ None → IsWrittenBefore s earlier (rest_at s (k + 1)) fs past) →
+        IsWrittenBefore s earlier (rest_at s k) fs past
+    by_test (inl due) more =
+        let parts = due_rest s k laws.range within due in
+        let all_parts = subst (All (IsOfBroadcast s.plan s.clear)) parts all in
+        subst (λ (items : List Item). IsWrittenBefore s earlier items fs past) (sym parts)
+        (due_untuned s laws able n k fs earlier past count due all_parts none
+        (more (all_second (IsOfBroadcast s.plan s.clear) (sections_at s (period_of s.plan k) ++ tail_at s k)
+        (rest_at s (k + 1))
+        (All-tail (IsOfBroadcast s.plan s.clear) Cat ((sections_at s (period_of s.plan k) ++ tail_at s k) ++ rest_at s
+        (k + 1)) all_parts))))
+    by_test (inr not_due) more =
+        let parts = other_rest s k laws.range within not_due in
+        let all_parts = subst (All (IsOfBroadcast s.plan s.clear)) parts all in
+        subst (λ (items : List Item). IsWrittenBefore s earlier items fs past) (sym parts)
+        (skipped_first s able (tail_at s k) (rest_at s (k + 1)) earlier fs past all_parts none
+        (chosen_fails is_cat_item (take (length (tail_at s k)) fs) (tail_at s k) (no_tail_cat s k))
+        (λ still. more (all_second (IsOfBroadcast s.plan s.clear) (tail_at s k) (rest_at s (k + 1)) all_parts)
+        (drop (length (tail_at s k)) fs) (earlier ++ tail_at s k)
+        (onto (chosen (take (length (tail_at s k)) fs) (packets_from s.plan.site earlier (tail_at s k))) past) still))
+
+-- Whatever is lost of a broadcast, a receiver refuses nothing and writes exactly what is confirmed.
+pub losses_are_confirmed : (s : Setting) → AreLaws s → AreHearable s → (fs : List Bool) →
+    AreWritten s [] (chosen fs (broadcast s.plan s.clear))
+    (confirmed s.plan s.card.leaf s.clear (chosen fs (sent s.plan s.clear ++ closing_of s.plan s.clear)))
+unfolding broadcast confirmed tuning_of
+losses_are_confirmed s laws able fs =
+    subst (λ (n : ℕ). AreWritten s [] (chosen fs (broadcast s.plan s.clear))
+    (packets_at s.clear (filter (confirms s (after_cat (chosen fs (sent s.plan s.clear ++ closing_of s.plan
+    s.clear)))) (range_with_len 0 n))))
+    all (untuned_written s laws able (length s.clear) 0 fs [] [] (omega arith)
+    (all_are_of_broadcast s.plan s.clear) refl)
+  where
+    all : length s.clear - 0 ≡ length s.clear
+    all = omega arith

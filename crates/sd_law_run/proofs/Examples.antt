@@ -1,0 +1,51 @@
+-- Each exit's line and each example, by computation.
+use Rattle.std.proofs.Common.{◌≡◌, refl, take}
+use Rattle.std.specs.Fmt.{digits}
+use Rattle.sd_command_table.specs.declared.command.Command.{Command}
+use Rattle.sd_command_table.specs.Commands.{example_of}
+use Rattle.sd_command_table.specs.Exits.{exit_line}
+use Rattle.sd_command_status.specs.Exits.{code_of}
+use Rattle.sd_command_status.specs.declared.status.Status.{Status}
+use Rattle.sd_command_status.specs.declared.status.Status.TheVariants.{Done, Usage, Missing, Revoked, DepotFault}
+use Rattle.sd_command_status.specs.declared.status.Status.TheVariants.{PrintFault}
+use Rattle.sd_command_status.specs.declared.status.Status.TheVariants.{BadSite, BadBook, BadCard, BadClear, BadStream}
+use Rattle.sd_command_status.specs.declared.status.Status.TheVariants.{Limit}
+use Rattle.sd_command_status.specs.declared.status.Status.TheVariants.{NoMemory, Unheard, Unclosed, Gaps, NoCat}
+use Rattle.sd_command_status.specs.declared.status.Status.TheVariants.{BadWord, Clash}
+use Rattle.sd_law_run.specs.Helped.{help_exit, in_column, IsOrdered}
+use Rattle.sd_run.proofs.Examples.{words_in, arguments_in, example_order}
+use Rattle.sd_run.proofs.Rows.{example}
+
+-- the first four characters of an exit's line are its number
+pub exit_numbers : (status : Status) → take 4 (exit_line (help_exit status)) ≡ in_column (code_of status)
+unfolding exit_line digits
+exit_numbers Done = refl
+exit_numbers Usage = refl
+exit_numbers (Missing word) = refl
+exit_numbers (Revoked leaf period) = refl
+exit_numbers DepotFault = refl
+exit_numbers PrintFault = refl
+exit_numbers (BadSite fault) = refl
+exit_numbers (BadBook word line) = refl
+exit_numbers (BadCard fault) = refl
+exit_numbers (BadClear packet cause) = refl
+exit_numbers (BadStream packet cause) = refl
+exit_numbers (Limit kind) = refl
+exit_numbers NoMemory = refl
+exit_numbers (Unheard leaf period) = refl
+exit_numbers (Unclosed number) = refl
+exit_numbers (Gaps packets) = refl
+exit_numbers NoCat = refl
+exit_numbers (BadWord word) = refl
+exit_numbers (Clash clash) = refl
+
+-- the example of each command
+pub examples_are_ordered : (command : Command) → IsOrdered command
+examples_are_ordered command =
+    let both = example command in
+    record {
+      words = words_in (example_of command);
+      arguments = arguments_in (example_order command);
+      line = both.0;
+      order = both.1;
+    }

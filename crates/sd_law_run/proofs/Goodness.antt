@@ -1,0 +1,172 @@
+-- Good words over good files mean work.
+use Rattle.std.proofs.Common.{◌≡◌, ℕ, ◌≤◌, ◌^◌, cond, List, length, Option, Some, Result, Ok, Err, ap, ◌∙◌, le-ltb}
+use Rattle.std.proofs.Common.{lt-ltb, arith, refl}
+use Rattle.sd_site.specs.Fields.{SiteFields}
+use Rattle.sd_site.specs.Text.{site_of, IsSite}
+use Rattle.sd_site.proofs.Alone.{answered}
+use Rattle.sd_card.specs.Fields.{card_of, card_bytes}
+use Rattle.sd_sample.specs.Sample.{sample_of}
+use Rattle.sd_book.specs.declared.command.Command.{Command}
+use Rattle.sd_book.specs.Text.{SpellsBook, book_of, text_of}
+use Rattle.sd_book.proofs.Judged.{book_again}
+use Rattle.sd_base_text.specs.Lines.{lines_of}
+use Rattle.sd_command_status.specs.declared.status.Status.{Status}
+use Rattle.sd_command_status.specs.declared.status.Status.TheVariants.{Done, Limit, BadWord}
+use Rattle.sd_command_status.specs.declared.status.LimitKind.{LimitKind}
+use Rattle.sd_command_status.specs.declared.status.LimitKind.TheVariants.{SiteBytes, BookBytes}
+use Rattle.sd_command_status.specs.Spec.{Spec, FileArgument, Readings, and_then, all_of, judged, value, within, ◌>>=◌}
+use Rattle.sd_command_status.specs.Work.{Uncounted, NoSteps}
+use Rattle.sd_command_line.specs.Words.{Order, order_of, CoverOf, CardOf, SampleOf, TablesOf, HeadOf}
+use Rattle.sd_command_files.specs.Files.{most_site_bytes, most_book_bytes, told_site, told_book, site_of_file}
+use Rattle.sd_command_files.specs.Files.{book_of_file}
+use Rattle.sd_command_files.specs.Files.{site_in, book_in}
+use Rattle.sd_book.proofs.Short.{book_short}
+use Rattle.sd_site.proofs.Short.{site_short}
+use Rattle.sd_book.proofs.Written.{spelled_again}
+use Rattle.sd_book.specs.Limits.{IsWithinLimits}
+use Rattle.sd_law_run.specs.Good.{IsGoodSite, IsGoodBook}
+use Rattle.sd_run_cover.specs.Cover.{covering, cover_meaning}
+use Rattle.sd_law_run.specs.Good.{IsGoodCover}
+use Rattle.sd_command_files.specs.Made.{making}
+use Rattle.sd_run_card.specs.Card.{told_card}
+use Rattle.sd_law_run.specs.Good.{IsGoodCard}
+use Rattle.sd_law_run.specs.Good.{IsGoodSample}
+use Rattle.sd_run_tables.specs.Tables.{inspecting, tables_meaning}
+use Rattle.sd_command_files.specs.Streams.{stream_status}
+use Rattle.sd_law_run.specs.Good.{IsGoodTables}
+use Rattle.std.specs.List.{concat}
+use Rattle.sd_engine.specs.Taken.{Whole, taken_of}
+use Rattle.sd_spec_broadcast.specs.Sent.{broadcast}
+use Rattle.sd_run_head.specs.Head.{plan_by, plan_meaning, sending, sending_of, sent_of, sent_status, head_meaning}
+use Rattle.sd_law_run.specs.Good.{plan_told, IsGoodHead}
+use Rattle.sd_run_head.proofs.Sending.{sent_unrefused}
+use Rattle.sd_run.specs.Meaning.{order_meaning, meaning}
+
+pub then_is : {A B : Type 0} (first : Spec A) (x : A) (next : A → Spec B) → first.result ≡ Ok x →
+    (first >>= next).result ≡ (next x).result
+then_is {A} first x next e = ap (λ (r : Result A Status). (and_then first.calls r next).result) e
+
+pub file_read : (word most : ℕ) (kind : LimitKind) (bytes : List ℕ) → length bytes ≤ most →
+    (within word most kind (Some bytes)).result ≡ Ok bytes
+file_read word most kind bytes short = ap (λ b. cond b (Err (Limit kind)) (Ok bytes)) (le-ltb most (length bytes) short)
+
+-- sites and books are short enough
+site_fits : (bytes : List ℕ) (site : SiteFields) → IsSite bytes site → length bytes ≤ most_site_bytes
+site_fits bytes site is = omega (arith, site_short bytes site is)
+
+pub book_fits : (d : ℕ) (bytes : List ℕ) (commands : List Command) → d ≤ 20 → SpellsBook (lines_of bytes) commands →
+    IsWithinLimits d commands → length bytes ≤ most_book_bytes
+book_fits d bytes commands low spells within = omega (arith, book_short d bytes commands low spells within)
+
+-- a site's tree is at most 20 high
+pub site_low : (got : Option (List ℕ)) (fields : SiteFields) → IsGoodSite got fields → fields.height ≤ 20
+site_low got fields good = good.is_site.ranges.height.1
+
+pub site_good : (given : Readings) (word : FileArgument) (fields : SiteFields) → IsGoodSite (given word) fields →
+    (site_in given word).result ≡ Ok fields
+unfolding site_of_file
+site_good given word fields good =
+    ap (λ (got : Option (List ℕ)). (site_of_file word.number got).result) good.there
+    ∙ then_is (within word.number most_site_bytes SiteBytes (Some good.bytes)) good.bytes
+    (λ bytes. judged (told_site (site_of bytes)))
+    (file_read word.number most_site_bytes SiteBytes good.bytes (site_fits good.bytes fields good.is_site))
+    ∙ ap told_site (answered (lines_of good.bytes) (Ok fields) (good.is_site.text, good.is_site.ranges))
+
+pub book_good : (given : Readings) (d : ℕ) (word : FileArgument) (commands : List Command) → d ≤ 20 →
+    IsGoodBook (given word) d commands → (book_in given d word).result ≡ Ok commands
+unfolding book_of_file
+book_good given d word commands low good =
+    ap (λ (got : Option (List ℕ)). (book_of_file word.number d got).result) good.there
+    ∙ then_is (within word.number most_book_bytes BookBytes (Some good.bytes)) good.bytes
+    (λ bytes. judged (told_book word.number (book_of d bytes)))
+    (file_read word.number most_book_bytes BookBytes good.bytes
+    (book_fits d good.bytes commands low good.is_book good.within))
+    ∙ ap (told_book word.number) (book_again d good.bytes commands good.is_book good.within)
+
+-- the work of an order is the words'
+pub ordered : (words : List (List ℕ)) (given : Readings) (order : Order) → order_of words ≡ Ok order →
+    (meaning words given).result ≡ (order_meaning order given).result
+ordered words given order read = ap (λ (r : Result Order Status). (judged r >>= λ o. order_meaning o given).result) read
+
+pub cover_good : (words : List (List ℕ)) (given : Readings) (good : IsGoodCover words given) →
+    (meaning words given).result
+    ≡ Ok (covering good.fields.height good.commands)
+unfolding cover_meaning
+cover_good words given good =
+    let d = good.fields.height in
+    ordered words given (CoverOf good.site good.book) good.order
+    ∙ then_is (site_in given good.site) good.fields (λ fields. book_in given fields.height good.book >>= λ commands.
+    value (covering fields.height commands))
+    (site_good given good.site good.fields good.good_site)
+    ∙ then_is (book_in given d good.book) good.commands (λ commands. value (covering d commands))
+    (book_good given d good.book good.commands (site_low (given good.site) good.fields good.good_site) good.good_book)
+
+pub card_good : (words : List (List ℕ)) (given : Readings) (good : IsGoodCard words given) →
+    (meaning words given).result
+    ≡ Ok
+    (making Uncounted good.out
+    (card_bytes (card_of good.fields.master good.fields.ca good.fields.height good.leaf.value)))
+card_good words given good =
+    let fields = good.fields in
+    let bytes = card_bytes (card_of fields.master fields.ca fields.height good.leaf.value) in
+    ordered words given (CardOf good.site good.leaf good.out) good.order
+    ∙ then_is (site_in given good.site) fields (λ fields. judged (told_card fields good.leaf) >>= λ bytes. value
+    (making Uncounted good.out bytes))
+    (site_good given good.site fields good.good_site)
+    ∙ then_is (judged (told_card fields good.leaf)) bytes (λ bytes. value (making Uncounted good.out bytes))
+    (ap (λ b. cond b (Ok bytes) (Err (BadWord good.leaf.word)))
+    (lt-ltb good.leaf.value (2 ^ fields.height) good.of_tree))
+
+pub sample_good : (words : List (List ℕ)) (given : Readings) (good : IsGoodSample words) →
+    (meaning words given).result ≡ Ok (making NoSteps good.out (sample_of good.number good.packets))
+sample_good words given good = ordered words given (SampleOf good.number good.packets good.out) good.order
+
+pub tables_good : (words : List (List ℕ)) (given : Readings) (good : IsGoodTables words given) →
+    ((meaning words given).result ≡ Ok (inspecting good.bytes)) × ((inspecting good.bytes).ends ≡ Done)
+unfolding tables_meaning
+tables_good words given good = (
+  ordered words given (TablesOf good.stream) good.order
+      ∙ ap (λ (got : Option (List ℕ)). (all_of good.stream.number got >>= λ bytes. value (inspecting bytes)).result)
+      good.there,
+  ap stream_status good.whole,
+)
+
+pub plan_good : (given : Readings) (site book : FileArgument) (fields : SiteFields) (commands : List Command) →
+    IsGoodSite (given site) fields →
+    IsGoodBook (given book) fields.height commands →
+    (plan_meaning site book given).result ≡ Ok (record { site = fields; commands = commands })
+unfolding plan_by
+plan_good given site book fields commands good_site good_book =
+    then_is (site_in given site) fields
+    (λ fields. book_in given fields.height book >>= λ commands. value (record { site = fields; commands = commands }))
+    (site_good given site fields good_site)
+    ∙ then_is (book_in given fields.height book) commands
+    (λ commands. value (record { site = fields; commands = commands }))
+    (book_good given fields.height book commands (site_low (given site) fields good_site) good_book)
+
+pub head_good : (words : List (List ℕ)) (given : Readings) (good : IsGoodHead words given) →
+    ((meaning words given).result ≡ Ok (sending (plan_told good) good.out good.bytes))
+    × (concat (broadcast (plan_told good) (taken_of good.bytes)) ≡ sent_of (plan_told good) good.bytes)
+    × (Done ≡ sent_status (plan_told good) good.bytes)
+unfolding head_meaning
+head_good words given good =
+    let plan = plan_told good in
+    let sent = sent_unrefused plan good.bytes Whole good.is_clear good.whole in (
+      ordered words given (HeadOf good.site good.book good.clear good.out) good.order
+          ∙ then_is (plan_meaning good.site good.book given) plan (sending_of good.clear good.out (given good.clear))
+          (plan_good given good.site good.book good.fields good.commands good.good_site good.good_book)
+          ∙ ap (λ (got : Option (List ℕ)). (sending_of good.clear good.out got plan).result) good.there,
+      sent.0,
+      sent.1,
+    )
+
+-- the text of commands within the limits is a good book
+pub made_good : (d : ℕ) (commands : List Command) → d ≤ 20 → IsWithinLimits d commands →
+    IsGoodBook (Some (text_of commands)) d commands
+made_good d commands low within =
+    record {
+      bytes = text_of commands;
+      there = refl;
+      is_book = spelled_again d commands low within.leaves;
+      within = within;
+    }

@@ -1,0 +1,18 @@
+-- Of a broadcast a receiver takes a key in each period in which its leaf isn't revoked.
+use Rattle.std.proofs.Common.{◌≡◌, ℕ, ◌^◌, ◌<◌, List, []}
+use Rattle.sd_card.specs.Fields.{card_of}
+use Rattle.sd_spec_receiver.specs.Taken.{taken_keys}
+use Rattle.sd_spec_broadcast.specs.Plan.{Plan, IsPlan}
+use Rattle.sd_spec_broadcast.specs.Refused.{IsClear}
+use Rattle.sd_spec_broadcast.specs.Sent.{broadcast}
+use Rattle.sd_law_broadcast.specs.Packets.{AreWholePackets}
+use Rattle.sd_law_losses.proofs.Theorem.{whole_keys_taken}
+use Rattle.sd_law_run.specs.Opened.{entitled_periods}
+
+pub keys_taken : (plan : Plan) (clear : List (List ℕ)) (u : ℕ) → IsPlan plan → IsClear plan.site clear →
+    AreWholePackets clear →
+    u < 2 ^ plan.site.height →
+    taken_keys (card_of plan.site.master plan.site.ca plan.site.height u) [] (broadcast plan clear) ≡ entitled_periods
+    plan u clear
+unfolding entitled_periods
+keys_taken plan clear u is all whole leaf = whole_keys_taken plan clear u is all whole leaf

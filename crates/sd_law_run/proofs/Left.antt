@@ -1,0 +1,112 @@
+-- What a run leaves in the files.
+use Rattle.std.proofs.Common.{◌≡◌, ◌⊎◌, ℕ, List, [], Option, None, Some, Result, Ok, refl, ap, subst, ◌∙◌}
+use Rattle.std.proofs.Common.{inl, inr, append-nil}
+use Rattle.sd_base.specs.Count.{with_added}
+use Rattle.sd_ports.specs.Files.{Files, with_bytes}
+use Rattle.sd_ports.specs.Bytes.{IsPrefix}
+use Rattle.sd_command_status.specs.declared.status.Status.{Status}
+use Rattle.sd_command_status.specs.Outside.{DepotState, Outside}
+use Rattle.sd_command_status.specs.Spec.{Readings, contents_of}
+use Rattle.sd_command_status.specs.Work.{Out, Work, files_with, made_with}
+use Rattle.sd_command_status.specs.Outcome.{IsUnmade, IsMade, IsMadeShort, Progress, untouched, writing, printing}
+use Rattle.sd_command_status.specs.Outcome.{Outcome, refused, ended, unclosed, exhausted, failed, nowhere, cut_off}
+use Rattle.sd_command_status.specs.Results.{RunResult, with_page}
+use Rattle.sd_law_run.specs.Left.{IsAsBefore, HasOut}
+use Rattle.sd_run.specs.Meaning.{meaning}
+use Rattle.sd_law_run.proofs.Runs.{told_given}
+
+-- OUT of the work that is meant was made, with a prefix of what it must hold
+pub record MadeOut (meant : Result Work Status) (a b : DepotState) : Type 0 where
+  pub work : Work
+  pub is_meant : meant ≡ Ok work
+  pub out : Out
+  pub makes : work.out ≡ Some out
+  pub prefix : List ℕ
+  pub is_prefix : IsPrefix prefix out.bytes
+  pub left : b.files ≡ with_bytes a.files out.name prefix
+  pub made : b.made ≡ with_added a.made 1
+
+abbrev pub IsLeft : Result Work Status → DepotState → DepotState → Type 0
+IsLeft meant a b = IsUnmade a b ⊎ MadeOut meant a b
+
+-- OUT has a prefix
+short_made : (meant : Result Work Status) (work : Work) (out : Out) (a b : DepotState) → meant ≡ Ok work →
+    work.out ≡ Some out → IsMadeShort out a b → IsLeft meant a b
+short_made meant work out a b is makes short = inr (record {
+  work = work;
+  is_meant = is;
+  out = out;
+  makes = makes;
+  prefix = short.prefix;
+  is_prefix = short.short;
+  left = short.files;
+  made = short.made;
+})
+
+-- OUT is whole, if there is one
+all_made : (meant : Result Work Status) (work : Work) (made : Option Out) (a b : DepotState) → meant ≡ Ok work →
+    work.out ≡ made → b.files ≡ files_with made a.files → b.made ≡ made_with made a.made → IsLeft meant a b
+all_made meant work None a b is makes left count = inl (record { files = left; made = count })
+all_made meant work (Some out) a b is makes left count = inr (record {
+  work = work;
+  is_meant = is;
+  out = out;
+  makes = makes;
+  prefix = out.bytes;
+  is_prefix = ([], append-nil out.bytes);
+  left = left;
+  made = count;
+})
+
+whole_made : (meant : Result Work Status) (work : Work) (a b : DepotState) → meant ≡ Ok work → IsMade work.out a b →
+    IsLeft meant a b
+whole_made meant work a b is made = all_made meant work work.out a b is refl made.files made.made
+
+-- however far it came
+stood : (meant : Result Work Status) (a b : Outside) → Progress meant a b → IsLeft meant a.place b.place
+stood meant a b (untouched un k) = inl un
+stood meant a b (writing work is out makes short k) = short_made meant work out a.place b.place is makes short
+stood meant a b (printing work is made k) = whole_made meant work a.place b.place is made
+
+came : (meant : Result Work Status) (a b : Outside) (status : Status) → Outcome meant a b status →
+    IsLeft meant a.place b.place
+came meant a b status (refused e r un k c m) = inl un
+came meant a b status (ended work is s i made k c m) = whole_made meant work a.place b.place is made
+came meant a b status (unclosed work is s i j t out makes short k r o c m) =
+    short_made meant work out a.place b.place is makes short
+came meant a b status (exhausted s h o c m) = stood meant a b h
+came meant a b status (failed s h r o c m) = stood meant a b h
+came meant a b status (nowhere work is out f s n un k c m) = inl un
+came meant a b status (cut_off work is s made k r c m) = whole_made meant work a.place b.place is made
+
+-- by what the files gave
+pub answers_leave : (words : List (List ℕ)) (a b : Outside) (answer : Status) →
+    (answers : RunResult (meaning words) a b answer) →
+    IsLeft (meaning words answers.obeyed.given).result a.place b.place
+answers_leave words a b answer answers =
+    came (meaning words answers.obeyed.given).result a (with_page b answers.page) answers.status
+    answers.obeyed.obeyed.comes
+
+-- a run leaves all files as they were, or OUT with a prefix beside them
+pub run_leaves : (words : List (List ℕ)) (files : Files) (a b : Outside) (answer : Status) →
+    a.place.files ≡ Some files → RunResult (meaning words) a b answer →
+    IsAsBefore files a.place b.place ⊎ HasOut files (meaning words (contents_of files)).result a.place b.place
+run_leaves words files a b answer told answers =
+    let given : answers.obeyed.given ≡ contents_of files =
+    told_given a.place.files files answers.obeyed.given told answers.obeyed.is_given in
+    let left : IsLeft (meaning words (contents_of files)).result a.place b.place =
+    subst (λ (g : Readings). IsLeft (meaning words g).result a.place b.place) given
+    (answers_leave words a b answer answers) in
+    elim left [
+      | inl un ↦ inl (record { left = un.files ∙ told; made = un.made })
+      | inr out ↦ inr (record {
+        work = out.work;
+        is_meant = out.is_meant;
+        out = out.out;
+        makes = out.makes;
+        prefix = out.prefix;
+        is_prefix = out.is_prefix;
+        left = out.left ∙ ap (λ (fs : Option Files). with_bytes fs out.out.name out.prefix) told;
+        made = out.made;
+      })
+    ]

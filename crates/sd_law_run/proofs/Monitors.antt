@@ -1,0 +1,68 @@
+-- Good words over good files mean that messages and cards are shown.
+use Rattle.std.proofs.Common.{◌≡◌, ℕ, ◌^◌, ◌<◌, ◌≤◌, List, Option, Some, Ok, refl, ap, ◌∙◌, arith}
+use Rattle.sd_card.specs.Fields.{CardFields, IsCard, card_bytes, card_of}
+use Rattle.sd_card.proofs.Made.{made_is_card}
+use Rattle.sd_card.proofs.Spellings.{written_is_good}
+use Rattle.sd_card_secrets.specs.Files.{check_in}
+use Rattle.sd_command_status.specs.declared.status.Status.TheVariants.{Done}
+use Rattle.sd_command_status.specs.declared.status.LimitKind.TheVariants.{CardBytes}
+use Rattle.sd_command_status.specs.Spec.{Readings, all_of, judged, value, within, ◌>>=◌}
+use Rattle.sd_command_line.specs.Words.{MessagesOf, ShowOf}
+use Rattle.sd_command_files.specs.Files.{site_in}
+use Rattle.sd_command_files.specs.Streams.{stream_status}
+use Rattle.sd_run_messages.specs.Messages.{messages_meaning, monitoring, stream_meaning}
+use Rattle.sd_run_show.specs.Show.{line_of_file, most_card_bytes, printing, shown_line, told_show}
+use Rattle.sd_run_show.proofs.Cards.{line_read}
+use Rattle.sd_run.specs.Meaning.{meaning}
+use Rattle.sd_law_run.specs.Good.{IsGoodMessages, IsGoodShow}
+use Rattle.sd_law_run.proofs.Goodness.{file_read, ordered, site_good, then_is}
+use Rattle.sd_law_run.proofs.Broadcasts.{card_length}
+
+pub messages_good : (words : List (List ℕ)) (given : Readings) (good : IsGoodMessages words given) →
+    ((meaning words given).result ≡ Ok (monitoring good.fields good.bytes))
+    × ((monitoring good.fields good.bytes).ends ≡ Done)
+unfolding messages_meaning
+messages_good words given good = (
+  ordered words given (MessagesOf good.site good.stream) good.order
+      ∙ then_is (site_in given good.site) good.fields (λ fields. stream_meaning fields good.stream given)
+      (site_good given good.site good.fields good.good_site)
+      ∙ ap (λ (got : Option (List ℕ)). (all_of good.stream.number got
+      >>= λ bytes. value (monitoring good.fields bytes)).result) good.there,
+  ap stream_status good.whole,
+)
+
+-- a card's file within its limit gives its line
+card_told : (word : ℕ) (card : CardFields) → IsCard card →
+    (line_of_file word (Some (card_bytes card))).result
+    ≡ Ok (shown_line card.height card.leaf card.ca (check_in (card_bytes card)))
+unfolding line_of_file
+card_told word card is =
+    let bytes = card_bytes card in
+    let short = card_length card is in
+    then_is (within word most_card_bytes CardBytes (Some bytes)) bytes (λ bytes. judged (told_show bytes))
+    (file_read word most_card_bytes CardBytes bytes (omega (arith, short)))
+    ∙ line_read bytes (shown_line card.height card.leaf card.ca (check_in bytes)) card is refl (written_is_good card is)
+    refl
+
+pub show_good : (words : List (List ℕ)) (given : Readings) (good : IsGoodShow words given) →
+    (meaning words given).result
+    ≡ Ok (printing (shown_line good.fields.height good.fields.leaf good.fields.ca (check_in (card_bytes good.fields))))
+show_good words given good =
+    let card = good.fields in
+    ordered words given (ShowOf good.card) good.order
+    ∙ ap (λ (got : Option (List ℕ)). (line_of_file good.card.number got >>= λ line. value (printing line)).result)
+    good.there
+    ∙ then_is (line_of_file good.card.number (Some (card_bytes card)))
+    (shown_line card.height card.leaf card.ca (check_in (card_bytes card))) (λ line. value (printing line))
+    (card_told good.card.number card good.is_card)
+
+-- the line of a leaf's card says its height, its leaf and its system
+pub made_shown : (master : List ℕ) (ca d u : ℕ) → ca < 2 ^ 16 → 1 ≤ d → d ≤ 20 → u < 2 ^ d →
+    told_show (card_bytes (card_of master ca d u))
+    ≡ Ok (shown_line d u ca (check_in (card_bytes (card_of master ca d u))))
+unfolding card_of
+made_shown master ca d u system some low leaf =
+    let card = card_of master ca d u in
+    let is = made_is_card master ca d u system some low leaf in
+    line_read (card_bytes card) (shown_line d u ca (check_in (card_bytes card))) card is refl (written_is_good card is)
+    refl

@@ -1,0 +1,163 @@
+-- The work that words mean makes OUT of the words or no file, and refuses before anything is made.
+use Rattle.std.proofs.Common.{◌≡◌, ℕ, ◌-◌, Bool, true, false, List, [], ◌∷◌, Option, Some, None, Result, Ok, Err}
+use Rattle.std.proofs.Common.{refl, sym, ap, ◌∙◌}
+use Rattle.std.specs.Prelude.{if◌then◌else◌, ◌||◌}
+use Rattle.sd_command_status.specs.declared.status.Status.{Status}
+use Rattle.sd_command_status.specs.declared.status.Status.TheVariants.{Usage}
+use Rattle.sd_command_status.specs.Spec.{Readings, judged, ◌>>=◌}
+use Rattle.sd_command_status.specs.Work.{Work}
+use Rattle.sd_command_files.specs.Shown.{word_at}
+use Rattle.sd_run_help.specs.Help as help
+use Rattle.sd_run_help.specs.Pages.{help_text, version_text}
+use Rattle.sd_command_table.specs.declared.command.Command.{Command}
+use Rattle.sd_command_table.specs.declared.operand.Operand.{Operand}
+use Rattle.sd_command_table.specs.declared.operand.Kind.{Kind}
+use Rattle.sd_command_table.specs.declared.operand.Kind.TheVariants as kind
+use Rattle.sd_command_table.specs.Commands.{command_named, operands_of}
+use Rattle.sd_command_table.specs.Operands.{operand_kind}
+use Rattle.sd_command_line.specs.Words.{Argument, OutOf, Order, CommandOf, HelpOf, VersionOf, file, file_of, before}
+use Rattle.sd_command_line.specs.Words.{out_text, or_output}
+use Rattle.sd_command_line.specs.Words.{argument_of, arguments_from, out_is_read, ordered, command_words, words_of}
+use Rattle.sd_command_line.specs.Words.{is_help}
+use Rattle.sd_command_line.specs.Words.{is_version, help_on, help_words, version_words, named_words, order_of}
+use Rattle.std.proofs.Common.{suc, length, slice_get, not, ◌==◌, ◌≤◌, ◌+◌, arith, eqb-true}
+use Rattle.sd_run.specs.Meaning.{order_meaning, meaning}
+use Rattle.sd_law_run.specs.Outcome.{out_in_row, out_name}
+use Rattle.sd_run.proofs.Works.{AreOrderly, none_made}
+use Rattle.sd_run.proofs.Rows.{out_at, out_by, command_orderly}
+
+-- the file that an order makes
+abbrev out_of : Order → Option (List ℕ)
+out_of (CommandOf command arguments) = out_by command arguments
+out_of (HelpOf topic) = None
+out_of VersionOf = None
+
+order_orderly : (order : Order) (given : Readings) → AreOrderly (out_of order) (order_meaning order given).result
+order_orderly (CommandOf command arguments) given = command_orderly command arguments given
+order_orderly (HelpOf topic) given = none_made (help.telling (help_text topic)) refl (λ refusal. absurd refusal)
+order_orderly VersionOf given = none_made (help.telling version_text) refl (λ refusal. absurd refusal)
+
+-- an order that words are makes the file that stands at OUT's place among them
+abbrev NamesOut : List (List ℕ) → Result Order Status → Type 0
+NamesOut words (Ok order) = (name : List ℕ) → out_of order ≡ Some name → out_name words ≡ Some name
+NamesOut words (Err status) = Unit {0}
+
+names_if : (t : Bool) (words : List (List ℕ)) (then_order else_order : Result Order Status) →
+    NamesOut words then_order → NamesOut words else_order → NamesOut words (if t then then_order else else_order)
+names_if true words then_order else_order h k = h
+names_if false words then_order else_order h k = k
+
+record Before (first : Result Argument Status) (rest : Result (List Argument) Status) (arguments : List Argument) :
+    Type 0 where
+  argument : Argument
+  later : List Argument
+  first_is : first ≡ Ok argument
+  rest_is : rest ≡ Ok later
+  same : arguments ≡ argument ∷ later
+
+both_ok : (first : Result Argument Status) (rest : Result (List Argument) Status) (arguments : List Argument) →
+    before first rest ≡ Ok arguments → Before first rest arguments
+both_ok (Err status) rest arguments e = absurd (cc)
+both_ok (Ok argument) (Err status) arguments e = absurd (cc)
+both_ok (Ok argument) (Ok later) arguments e =
+    record { argument = argument; later = later; first_is = refl; rest_is = refl; same = cc }
+
+out_read : (place : ℕ) (k : Kind) (text : List ℕ) (argument : Argument) → k ≡ kind.Output →
+    argument_of place k text ≡ Ok argument → argument ≡ OutOf (word_at place text)
+out_read place k text argument is e =
+    let read = sym (ap (λ (o : Kind). argument_of place o text) is) ∙ e in cc
+
+-- the argument at OUT's place is the text there
+or_same : (k : Kind) (at : ℕ) (text : List ℕ) (argument : Argument) (all : List Argument)
+    (later other : Option (List ℕ)) → argument_of at k text ≡ Ok argument →
+    slice_get all (at - 1) ≡ Some argument → later ≡ other →
+    or_output k text later ≡ or_output k (file at all).text other
+or_same kind.Input at text argument all later other e there same = same
+or_same kind.Output at text argument all later other e there same =
+    let is : argument ≡ OutOf (word_at at text) = out_read at kind.Output text argument refl e in
+    sym (ap (λ (a : Option Argument). Some (file_of at a).text) (there ∙ ap (λ (a : Argument). Some a) is))
+or_same (kind.Number most) at text argument all later other e there same = same
+or_same (kind.Count most) at text argument all later other e there same = same
+
+-- arguments that were read have OUT where the texts have it
+out_same : (operands : List Operand) (texts : List (List ℕ)) (at : ℕ) (arguments all : List Argument) → 1 ≤ at →
+    length texts ≡ length operands → arguments_from at operands texts ≡ Ok arguments →
+    ((i : ℕ) → slice_get all (at - 1 + i) ≡ slice_get arguments i) →
+    out_text operands texts ≡ out_at at operands all
+out_same [] texts at arguments all low same e there = refl
+out_same (operand ∷ operands) [] at arguments all low same e there = absurd (omega (arith, same))
+out_same (operand ∷ operands) (text ∷ texts) at arguments all low same e there =
+    let both = both_ok (argument_of at (operand_kind operand) text) (arguments_from (at + 1) operands texts) arguments e
+    in
+    let here : at - 1 ≡ at - 1 + 0 = omega arith in
+    let first : slice_get all (at - 1) ≡ Some both.argument =
+    ap (slice_get all) here ∙ (there 0 ∙ ap (λ (xs : List Argument). slice_get xs 0) both.same) in
+    or_same (operand_kind operand) at text both.argument all (out_text operands texts) (out_at (at + 1) operands all)
+    both.first_is first
+    (out_same operands texts (at + 1) both.later all (omega arith) (omega (arith, same)) both.rest_is
+    (λ i. let next : at + 1 - 1 + i ≡ at - 1 + suc i = omega (arith, low) in
+    ap (slice_get all) next ∙ (there (suc i) ∙ ap (λ (xs : List Argument). slice_get xs (suc i)) both.same)))
+
+row_names : (command : Command) (name : List ℕ) (texts : List (List ℕ)) → command_named name ≡ Some command →
+    NamesOut (name ∷ texts) (command_words command (operands_of command) texts)
+row_names command name texts found =
+    by_count (length texts == length (operands_of command)) (out_is_read (operands_of command) texts) refl
+  where
+    by_arguments : (r : Result (List Argument) Status) → length texts ≡ length (operands_of command) →
+        arguments_from 1 (operands_of command) texts ≡ r → NamesOut (name ∷ texts) (ordered command r)
+    by_arguments (Ok arguments) same e = λ text made.
+        let all = out_same (operands_of command) texts 1 arguments arguments (omega arith) same e
+        (λ i. let here : 1 - 1 + i ≡ i = omega arith in ap (slice_get arguments) here) in
+        ap (λ (c : Option Command). out_in_row c texts) found ∙ (all ∙ made)
+    by_arguments (Err status) same e = tt
+
+    by_count : (same read : Bool) → (length texts == length (operands_of command)) ≡ same →
+        NamesOut (name ∷ texts) (if not same || read then Err Usage
+        else ordered command (arguments_from 1 (operands_of command) texts))
+    by_count false read e = tt
+    by_count true true e = tt
+    by_count true false e =
+        by_arguments (arguments_from 1 (operands_of command) texts)
+        (eqb-true (length texts) (length (operands_of command)) e) refl
+
+help_names : (name : List ℕ) (texts : List (List ℕ)) → NamesOut (name ∷ texts) (help_words texts)
+help_names name [] = λ text e. absurd (cc)
+help_names name (word ∷ next ∷ words) = tt
+help_names name (word ∷ []) = by_topic (command_named word)
+  where
+    by_topic : (topic : Option Command) → NamesOut (name ∷ word ∷ []) (help_on topic)
+    by_topic None = tt
+    by_topic (Some topic) = λ text e. absurd (cc)
+
+version_names : (name : List ℕ) (texts : List (List ℕ)) → NamesOut (name ∷ texts) (version_words texts)
+version_names name [] = λ text e. absurd (cc)
+version_names name (word ∷ words) = tt
+
+order_names : (words : List (List ℕ)) → NamesOut words (order_of words)
+unfolding named_words
+order_names [] = tt
+order_names (name ∷ texts) =
+    names_if (is_help name) (name ∷ texts) (help_words texts) _ (help_names name texts)
+    (names_if (is_version name) (name ∷ texts) (version_words texts) _ (version_names name texts)
+    (by_command (command_named name) refl))
+  where
+    by_command : (found : Option Command) → command_named name ≡ found → NamesOut (name ∷ texts) (words_of found texts)
+    by_command None e = tt
+    by_command (Some command) e = row_names command name texts e
+
+-- the work that words mean makes the file that they name at OUT's place, or none
+widened : (out name : Option (List ℕ)) (meant : Result Work Status) →
+    ((text : List ℕ) → out ≡ Some text → name ≡ Some text) → AreOrderly out meant → AreOrderly name meant
+widened out name (Ok work) wider h =
+    record { makes = λ made e. wider made.name (h.makes made e); keeps = h.keeps }
+widened out name (Err status) wider h = tt
+
+pub words_orderly : (words : List (List ℕ)) (given : Readings) →
+    AreOrderly (out_name words) (meaning words given).result
+words_orderly words given = by_order (order_of words) (order_names words)
+  where
+    by_order : (r : Result Order Status) → NamesOut words r →
+        AreOrderly (out_name words) (judged r >>= λ order. order_meaning order given).result
+    by_order (Ok order) last =
+        widened (out_of order) (out_name words) (order_meaning order given).result last (order_orderly order given)
+    by_order (Err status) last = tt

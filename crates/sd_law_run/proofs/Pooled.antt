@@ -1,0 +1,65 @@
+-- Good files of a site, a book and leaves mean work.
+use Rattle.std.proofs.Common.{◌≡◌, ℕ, ◌+◌, cond, List, length, Option, Some, Ok, Err, ap, ◌∙◌, le-ltb}
+use Rattle.sd_leaves.specs.Text.{leaves_of_text}
+use Rattle.sd_trace.specs.Trace.{not_among, trace_of}
+use Rattle.sd_tree.specs.Limits.{most_revoked}
+use Rattle.sd_command_status.specs.declared.status.Status.TheVariants.{Limit}
+use Rattle.sd_command_status.specs.declared.status.LimitKind.TheVariants.{BookBytes, Traced}
+use Rattle.sd_command_status.specs.Spec.{FileArgument, Readings, judged, value, within, ◌>>=◌}
+use Rattle.sd_command_files.specs.Files.{most_book_bytes}
+use Rattle.sd_command_files.specs.Both.{SiteBook, both_meaning}
+use Rattle.sd_command_files.specs.Leaves.{told_leaves, leaves_of_file, leaves_in}
+use Rattle.sd_command_line.specs.Words.{OpensOf, TraceOf}
+use Rattle.sd_run_opens.specs.Opens.{opening, opens_meaning}
+use Rattle.sd_run_trace.specs.Trace.{revoked_last, trace_text, traced, telling, trace_meaning}
+use Rattle.sd_law_run.specs.Good.{IsGoodLeaves, IsGoodOpens, IsGoodTrace}
+use Rattle.sd_run.specs.Meaning.{meaning}
+use Rattle.sd_law_run.proofs.Goodness.{then_is, file_read, ordered}
+use Rattle.sd_law_run.proofs.Kept.{both_good}
+
+leaves_good : (given : Readings) (d : ℕ) (word : FileArgument) (leaves : List ℕ) → IsGoodLeaves given d word leaves →
+    (leaves_in given d word).result ≡ Ok leaves
+unfolding leaves_of_file
+leaves_good given d word leaves good =
+    ap (λ (got : Option (List ℕ)). (leaves_of_file word.number d got).result) good.there
+    ∙ then_is (within word.number most_book_bytes BookBytes (Some good.bytes)) good.bytes
+    (λ bytes. judged (told_leaves word.number (leaves_of_text d bytes)))
+    (file_read word.number most_book_bytes BookBytes good.bytes good.short)
+    ∙ ap (told_leaves word.number) good.are_leaves
+
+-- the sets of each period are printed, with which of them are open
+pub opens_good : (words : List (List ℕ)) (given : Readings) (good : IsGoodOpens words given) →
+    (meaning words given).result ≡ Ok (opening good.fields.height good.pooled good.commands)
+unfolding opens_meaning
+opens_good words given good =
+    let d = good.fields.height in
+    let both : SiteBook = record { site = good.fields; commands = good.commands } in
+    ordered words given (OpensOf good.site good.book good.leaves) good.order
+    ∙ then_is (both_meaning good.site good.book given) both
+    (λ both. leaves_in given both.site.height good.leaves
+    >>= λ found. value (opening both.site.height found both.commands))
+    (both_good given good.site good.book good.fields good.commands good.good_site good.good_book)
+    ∙ then_is (leaves_in given d good.leaves) good.pooled (λ found. value (opening d found good.commands))
+    (leaves_good given d good.leaves good.pooled good.good_leaves)
+
+-- the coalition's trace is printed
+pub trace_good : (words : List (List ℕ)) (given : Readings) (good : IsGoodTrace words given) →
+    (meaning words given).result ≡ Ok (telling (trace_text
+    (trace_of good.fields.height good.coalition (revoked_last good.fields.height good.commands))))
+unfolding trace_meaning traced
+trace_good words given good =
+    let d = good.fields.height in
+    let both : SiteBook = record { site = good.fields; commands = good.commands } in
+    let gone = revoked_last d good.commands in
+    let text = trace_text (trace_of d good.coalition gone) in
+    ordered words given (TraceOf good.site good.book good.leaves) good.order
+    ∙ then_is (both_meaning good.site good.book given) both
+    (λ both. leaves_in given both.site.height good.leaves
+    >>= λ coalition. judged (traced both.site.height coalition both.commands) >>= λ text. value (telling text))
+    (both_good given good.site good.book good.fields good.commands good.good_site good.good_book)
+    ∙ then_is (leaves_in given d good.leaves) good.coalition
+    (λ coalition. judged (traced d coalition good.commands) >>= λ text. value (telling text))
+    (leaves_good given d good.leaves good.coalition good.good_leaves)
+    ∙ then_is (judged (traced d good.coalition good.commands)) text (λ text. value (telling text))
+    (ap (λ b. cond b (Err (Limit Traced)) (Ok text))
+    (le-ltb most_revoked (length gone + length (not_among d gone good.coalition)) good.few))

@@ -1,0 +1,76 @@
+-- What a run leaves where no device failed and memory was not out.
+use Rattle.std.proofs.Common.{◌≡◌, ◌≢◌, ℕ, Option, Some, Result, Ok, sym, ap, subst, ◌∙◌, arith}
+use Rattle.sd_base.specs.Count.{HasRisen, HasNotRisen}
+use Rattle.sd_ports.specs.Files.{Files}
+use Rattle.sd_command_status.specs.declared.status.Status.{Status}
+use Rattle.sd_command_status.specs.declared.status.Status.TheVariants.{PrintFault, NoMemory}
+use Rattle.sd_command_status.specs.Outside.{Outside}
+use Rattle.sd_command_status.specs.Spec.{Spec, Readings, contents_of, IsGiven}
+use Rattle.sd_command_status.specs.Work.{Work, files_with, IsWithinSteps, TakesSteps}
+use Rattle.sd_command_status.specs.Outcome.{Outcome, refused, ended, unclosed, exhausted, failed, nowhere, cut_off}
+use Rattle.sd_command_status.specs.Results.{RunResult, with_page}
+use Rattle.sd_command_status.proofs.Told.{own_line, causes}
+use Rattle.sd_law_run.specs.Headline.{IsUndisturbed}
+
+-- work that was done
+pub record IsWorked (work : Work) (files : Files) (a b : Outside) (answer : Status) : Type 0 where
+  pub ends : answer ≡ work.ends
+  pub left : b.place.files ≡ files_with work.out (Some files)
+  pub steps : IsWithinSteps work.steps a.steps b.steps
+
+same_work : (meant : Result Work Status) (work other : Work) → meant ≡ Ok work → meant ≡ Ok other → other ≡ work
+same_work meant work other e f = let both = sym f ∙ e in cc
+
+still_or_rose : (before now : ℕ) → HasNotRisen before now → HasRisen before now → ⊥
+still_or_rose before now still rose = absurd (omega (arith, still, rose))
+
+-- it came to its end
+ended_with : (meant : Result Work Status) (work : Work) (files : Files) (a b : Outside) (status : Status) →
+    meant ≡ Ok work → a.place.files ≡ Some files → HasNotRisen a.place.faults b.place.faults → status ≢ PrintFault →
+    status ≢ NoMemory → Outcome meant a b status → (status ≡ work.ends)
+    × (b.place.files ≡ files_with work.out (Some files))
+ended_with meant work files a b status is told depot print memory (refused e r h k c m) =
+    absurd (let both = sym e ∙ is in cc)
+ended_with meant work files a b status is told depot print memory (ended other e s i h k c m) =
+    let same : other ≡ work = same_work meant work other is e in (
+      s ∙ ap (λ (w : Work). w.ends) same,
+      h.files ∙ ap (λ (w : Work). files_with w.out a.place.files) same ∙ ap (files_with work.out) told,
+    )
+ended_with meant work files a b status is told depot print memory (unclosed other e s i j t out f h k r o c m) =
+    absurd (still_or_rose a.place.faults b.place.faults depot r)
+ended_with meant work files a b status is told depot print memory (exhausted s h o c m) = absurd (memory s)
+ended_with meant work files a b status is told depot print memory (failed s h r o c m) =
+    absurd (still_or_rose a.place.faults b.place.faults depot r)
+ended_with meant work files a b status is told depot print memory (nowhere other e out f s n h k c m) =
+    absurd (let both = sym told ∙ n in cc)
+ended_with meant work files a b status is told depot print memory (cut_off other e s h k r c m) = absurd (print s)
+
+pub told_given : (files : Option Files) (told : Files) (given : Readings) → files ≡ Some told → IsGiven files given →
+    given ≡ contents_of told
+told_given files told given e h = subst (λ (o : Option Files). IsGiven o given) e h
+
+steps_of : (meant : Result Work Status) (work : Work) (before now : ℕ) → meant ≡ Ok work →
+    TakesSteps meant before now → IsWithinSteps work.steps before now
+steps_of meant work before now is h = subst (λ (r : Result Work Status). TakesSteps r before now) is h
+
+-- a run does the work that is meant
+pub runs_work : (meant : Readings → Spec Work) (work : Work) (files : Files) (a b : Outside) (answer : Status) →
+    (meant (contents_of files)).result ≡ Ok work → a.place.files ≡ Some files → RunResult meant a b answer →
+    IsUndisturbed a b answer → IsWorked work files a b answer
+runs_work meant work files a b answer due told answers well =
+    let print : answer ≢ PrintFault =
+    λ e. absurd (still_or_rose a.page.faults b.page.faults well.print ((causes meant a b answer answers).print e)) in
+    let own : answers.status ≡ answer =
+    own_line answers.page b.page answers.status answer answers.told well.memory print in
+    let given : answers.obeyed.given ≡ contents_of files =
+    told_given a.place.files files answers.obeyed.given told answers.obeyed.is_given in
+    let is : (meant answers.obeyed.given).result ≡ Ok work =
+    ap (λ (g : Readings). (meant g).result) given ∙ due in
+    let obeys = answers.obeyed.obeyed in
+    let done = ended_with (meant answers.obeyed.given).result work files a (with_page b answers.page)
+    answers.status is told well.depot (λ e. print (sym own ∙ e)) (λ e. well.memory (sym own ∙ e)) obeys.comes in
+    record {
+      ends = sym own ∙ done.0;
+      left = done.1;
+      steps = steps_of (meant answers.obeyed.given).result work a.steps b.steps is obeys.steps;
+    }

@@ -1,0 +1,196 @@
+-- What `head` sent where it is done.
+use Rattle.std.proofs.Common.{◌≡◌, ℕ, ◌-◌, ◌≤◌, ◌++◌, List, [], ◌∷◌, length, Option, Some, None}
+use Rattle.std.proofs.Common.{Result, Ok, Err, refl, sym, ap, subst, ◌∙◌}
+use Rattle.std.specs.FinMap.{insert}
+use Rattle.std.specs.List.{concat}
+use Rattle.std.proofs.lemmas.List.Elements.{All-weaker}
+use Rattle.sd_ports.specs.Files.{Files}
+use Rattle.sd_base_text.specs.Lines.{lines_of}
+use Rattle.sd_site.specs.Fields.{SiteFields}
+use Rattle.sd_site.specs.Text.{site_of, IsSite}
+use Rattle.sd_site.specs.declared.fault.SiteFault.{SiteFault}
+use Rattle.sd_site.proofs.Walk.{Tells, lines_told}
+use Rattle.sd_book.specs.declared.command.Command.{Command}
+use Rattle.sd_book.specs.declared.fault.BookFault.{BookFault}
+use Rattle.sd_book.specs.Limits.{IsWithinLimits, IsDraft}
+use Rattle.sd_book.specs.Text.{judged_line, judged as judged_lines, said_by, book_of}
+use Rattle.sd_book.proofs.Judged.{bind_ok, ended_ok, judged_none, judged_more, within_at_end}
+use Rattle.sd_engine.specs.Taken.{StreamEnd, Whole, Breaks, RunsOn, taken_of, end_of}
+use Rattle.sd_spec_broadcast.specs.Plan.{Plan, IsPlan, period_of}
+use Rattle.sd_spec_broadcast.specs.Refused.{IsClear, refusal_from}
+use Rattle.sd_spec_broadcast.specs.Sent.{broadcast}
+use Rattle.sd_spec_broadcast.specs.declared.fault.ClearFault.{ClearFault}
+use Rattle.sd_law_broadcast.specs.Named.{sets_named, NamesPeriod}
+use Rattle.sd_law_broadcast.specs.Packets.{IsWholePacket}
+use Rattle.sd_law_broadcast.proofs.Covering.{period_named}
+use Rattle.sd_law_file.specs.Synced.{AreBytes}
+use Rattle.sd_law_file.proofs.Cut.{taken_synced, taken_whole}
+use Rattle.sd_law_file.proofs.Taken.{broadcast_taken}
+use Rattle.sd_command_status.specs.declared.status.Status.{Status}
+use Rattle.sd_command_status.specs.declared.status.Status.TheVariants.{Done}
+use Rattle.sd_command_status.specs.Spec.{Spec, FileArgument, Readings, contents_of, and_then, all_of, judged, value}
+use Rattle.sd_command_status.specs.Spec.{within}
+use Rattle.sd_command_status.specs.Spec.{◌>>=◌}
+use Rattle.sd_command_status.specs.Outside.{Outside}
+use Rattle.sd_command_status.specs.Work.{Work, files_with}
+use Rattle.sd_command_status.specs.Results.{RunResult}
+use Rattle.sd_command_status.specs.declared.status.LimitKind.TheVariants.{SiteBytes, BookBytes}
+use Rattle.sd_command_line.specs.Words.{Order, HeadOf, order_of}
+use Rattle.sd_command_files.specs.Files.{most_site_bytes, most_book_bytes, told_site, told_book, site_of_file}
+use Rattle.sd_command_files.specs.Files.{book_of_file}
+use Rattle.sd_run_head.specs.Head.{status_where, sent_status, sending, sending_of, plan_by, plan_meaning, head_meaning}
+use Rattle.sd_run.specs.Meaning.{order_meaning, meaning}
+use Rattle.sd_law_run.specs.Sent.{IsSent}
+use Rattle.sd_law_run.proofs.Plans.{ca_fits}
+use Rattle.sd_law_run.proofs.Outs.{done_leaves}
+use Rattle.sd_run_head.proofs.Sending.{sent_unrefused}
+
+-- what came before a step that came to a value
+pub record ThenOk {A B : Type 0} (first : Spec A) (next : A → Spec B) (y : B) : Type 0 where
+  pub from : A
+  pub first_is : first.result ≡ Ok from
+  pub next_is : (next from).result ≡ Ok y
+
+pub then_ok : {A B : Type 0} (first : Spec A) (next : A → Spec B) (y : B) → (first >>= next).result ≡ Ok y →
+    ThenOk first next y
+then_ok {A} {B} first next y e = by_result first.result refl e
+  where
+    by_result : (r : Result A Status) → first.result ≡ r → (and_then first.calls r next).result ≡ Ok y →
+        ThenOk first next y
+    by_result (Ok x) f e = record { from = x; first_is = f; next_is = e }
+    by_result (Err s) f e = absurd (cc)
+
+-- a value is what it is answered as
+pub value_is : {A : Type 0} (x y : A) → (value x).result ≡ Ok y → x ≡ y
+value_is x y e = cc
+
+-- the site that a file says is in its ranges
+pub site_right : (bytes : List ℕ) (site : SiteFields) → told_site (site_of bytes) ≡ Ok site → IsSite bytes site
+site_right bytes site e = by_answer (site_of bytes) refl e
+  where
+    by_answer : (r : Result SiteFields SiteFault) → site_of bytes ≡ r → told_site r ≡ Ok site → IsSite bytes site
+    by_answer (Ok found) f e =
+        let same : found ≡ site = cc in
+        let tells : Tells (lines_of bytes) (Ok site) =
+        subst (Tells (lines_of bytes)) (f ∙ ap (λ (s : SiteFields). Ok s) same) (lines_told (lines_of bytes)) in
+        record { text = tells.0; ranges = tells.1 }
+    by_answer (Err fault) f e = absurd (cc)
+
+-- the commands that a book says are within the limits
+lines_within : (d : ℕ) (before : List Command) (said : List (Option Command)) (commands : List Command) →
+    IsDraft d before → judged_lines d before said ≡ Ok commands → IsWithinLimits d commands
+lines_within d before [] commands all e =
+    let few = ended_ok d before before commands e in
+    subst (IsWithinLimits d) few.1 (within_at_end d before all few.0)
+lines_within d before (said ∷ rest) commands all e =
+    let one = bind_ok (judged_line d before said) (λ c. judged_lines d (before ++ c ∷ []) rest) commands e in
+    lines_within d (before ++ one.0 ∷ []) rest commands (judged_more d before said one.0 all one.1) one.2
+
+pub book_right : (word d : ℕ) (bytes : List ℕ) (commands : List Command) →
+    told_book word (book_of d bytes) ≡ Ok commands → IsWithinLimits d commands
+unfolding book_of
+book_right word d bytes commands e = by_answer (judged_lines d [] (said_by bytes)) refl e
+  where
+    by_answer : (r : Result (List Command) BookFault) → judged_lines d [] (said_by bytes) ≡ r →
+        told_book word r ≡ Ok commands → IsWithinLimits d commands
+    by_answer (Ok found) f e =
+        let same : found ≡ commands = cc in
+        lines_within d [] (said_by bytes) commands (judged_none d) (f ∙ ap (λ (c : List Command). Ok c) same)
+    by_answer (Err fault) f e = absurd (cc)
+
+-- so the two are a plan
+plan_right : (site book : FileArgument) (given : Readings) (plan : Plan) →
+    (plan_meaning site book given).result ≡ Ok plan →
+    IsPlan plan
+unfolding plan_by site_of_file book_of_file
+plan_right site book given plan e =
+    let fields = then_ok (site_of_file site.number (given site))
+    (λ fields. book_of_file book.number fields.height (given book) >>= λ commands.
+    value (record { site = fields; commands = commands })) plan e in
+    let commands = then_ok (book_of_file book.number fields.from.height (given book))
+    (λ commands. value (record { site = fields.from; commands = commands })) plan fields.next_is in
+    let site_read = then_ok (within site.number most_site_bytes SiteBytes (given site))
+    (λ bytes. judged (told_site (site_of bytes))) fields.from fields.first_is in
+    let book_read = then_ok (within book.number most_book_bytes BookBytes (given book))
+    (λ bytes. judged (told_book book.number (book_of fields.from.height bytes))) commands.from commands.first_is in
+    let is_site = site_right site_read.from fields.from site_read.next_is in
+    let is_within = book_right book.number fields.from.height book_read.from commands.from book_read.next_is in
+    let made : Plan = record { site = fields.from; commands = commands.from } in
+    subst IsPlan (value_is made plan commands.next_is) (record {
+      site = is_site.ranges;
+      ca = ca_fits site_read.from fields.from is_site;
+      book = is_within;
+    })
+
+-- all bytes of a file that was there
+pub all_read : (word : ℕ) (got : Option (List ℕ)) (bytes : List ℕ) → (all_of word got).result ≡ Ok bytes →
+    got ≡ Some bytes
+all_read word None bytes e = absurd (cc)
+all_read word (Some found) bytes e = let same : found ≡ bytes = cc in ap (λ (b : List ℕ). Some b) same
+
+-- a stream that is sent to the end is whole, and no packet of it is refused
+status_right : (end : StreamEnd) (refusal : Option ClearFault) → status_where end refusal ≡ Done →
+    (end ≡ Whole) × (refusal ≡ None)
+status_right Whole None e = (refl, refl)
+status_right (Breaks found) None e = absurd (cc)
+status_right RunsOn None e = absurd (cc)
+status_right end (Some fault) e = absurd (cc)
+
+status_is : (plan : Plan) (bytes : List ℕ) → sent_status plan bytes ≡ Done →
+    status_where (end_of bytes) (refusal_from plan.site [] (taken_of bytes)) ≡ Done
+unfolding sent_status
+status_is plan bytes e = e
+
+-- each period of a broadcast names its cover in the file that the broadcast is
+pub file_names : (plan : Plan) (bytes : List ℕ) (q : ℕ) → IsPlan plan → IsClear plan.site (taken_of bytes) →
+    AreBytes bytes → plan.site.first_period ≤ q → q ≤ period_of plan (length (taken_of bytes) - 1) →
+    NamesPeriod plan q (sets_named plan.site.height plan.site.emm q
+    (taken_of (concat (broadcast plan (taken_of bytes)))))
+file_names plan bytes q is all bytes_are from within =
+    let clear : List (List ℕ) = taken_of bytes in
+    let whole = taken_whole bytes bytes_are in
+    let taken = broadcast_taken plan clear is all whole (taken_synced bytes) in
+    let long = All-weaker IsWholePacket (λ (packet : List ℕ). length packet ≡ 188) (λ packet w. w.long) clear whole in
+    subst (λ (ps : List (List ℕ)). NamesPeriod plan q (sets_named plan.site.height plan.site.emm q ps)) (sym taken.0)
+    (period_named plan clear q is all long from within)
+
+module _ (words : List (List ℕ)) (site book clear out : FileArgument) (files : Files) (a b : Outside)
+    (order : order_of words ≡ Ok (HeadOf site book clear out)) (known : a.place.files ≡ Some files) where
+  -- by the work that was done
+  sent_work : (work : Work) → (head_meaning site book clear out (contents_of files)).result ≡ Ok work →
+      work.ends ≡ Done →
+      b.place.files ≡ files_with work.out (Some files) → IsSent site book clear out files b
+  unfolding head_meaning
+  sent_work work meant ends left =
+      let given = contents_of files in
+      let plan = then_ok (plan_meaning site book given) (sending_of clear out (given clear)) work meant in
+      let bytes = then_ok (all_of clear.number (given clear)) (λ bytes. value (sending plan.from out bytes)) work
+      plan.next_is in
+      let same = value_is (sending plan.from out bytes.from) work bytes.next_is in
+      let status = status_right (end_of bytes.from) (refusal_from plan.from.site [] (taken_of bytes.from))
+      (status_is plan.from bytes.from (ap (λ (w : Work). w.ends) same ∙ ends)) in
+      let is_plan = plan_right site book given plan.from plan.first_is in
+      let sent = sent_unrefused plan.from bytes.from Whole status.1 status.0 in
+      record {
+        plan = plan.from;
+        said = plan.first_is;
+        is_plan = is_plan;
+        bytes = bytes.from;
+        there = all_read clear.number (given clear) bytes.from bytes.first_is;
+        whole = status.0;
+        is_clear = status.1;
+        made =
+            left
+            ∙ (ap (λ (w : Work). files_with w.out (Some files)) (sym same)
+            ∙ ap (λ (bs : List ℕ). Some (insert files out.text bs)) (sym sent.0));
+        periods = λ are q from low. file_names plan.from bytes.from q is_plan status.1 are from low;
+      }
+
+  -- by the answer
+  pub head_done : RunResult (meaning words) a b Done → IsSent site book clear out files b
+  head_done answers =
+      let done = done_leaves (meaning words) files a b Done known refl answers in
+      sent_work done.work
+      (sym (ap (λ (r : Result Order Status). (judged r >>= λ o. order_meaning o (contents_of files)).result) order)
+      ∙ done.is_meant)
+      done.ends (done.made.files ∙ ap (files_with done.work.out) known)

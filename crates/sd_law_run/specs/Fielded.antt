@@ -1,0 +1,36 @@
+-- Public meaning: arguments and files that mean a field.
+use Rattle.std.specs.Prelude.{◌≡◌, ℕ, List, Some, None, Ok, ◌≤◌, length}
+use Rattle.sd_engine.specs.Stream.{packets_of, break_of}
+use Rattle.sd_site.specs.Fields.{SiteFields}
+use Rattle.sd_spec_broadcast.specs.Refused.{IsClear}
+use Rattle.sd_law_file.specs.Synced.{AreBytes}
+use Rattle.sd_spec_field.specs.declared.event.Event.{Event}
+use Rattle.sd_field.specs.Script.{script_of}
+use Rattle.sd_command_status.specs.Spec.{FileArgument, Readings}
+use Rattle.sd_law_field_lines.specs.Fielded.{sent_for}
+use Rattle.sd_command_line.specs.Words.{FieldOf, order_of}
+use Rattle.sd_law_run.specs.Good.{IsGoodSite}
+
+-- The arguments are `field SITE CLEAR SCRIPT`, and the files are there: a site whose tree is at most 6 high, at most
+-- 16,384 packets and nothing else, and a script for the tree. No packet that the script sends is refused [this project,
+-- docs/FORMATS.md, Field].
+pub record IsGoodField (words : List (List ℕ)) (given : Readings) : Type 0 where
+  pub site : FileArgument
+  pub clear : FileArgument
+  pub script : FileArgument
+  pub order : order_of words ≡ Ok (FieldOf site clear script)
+  pub fields : SiteFields
+  pub good_site : IsGoodSite (given site) fields
+  pub low : fields.height ≤ 6
+  pub bytes : List ℕ
+  pub there : given clear ≡ Some bytes
+  pub short : length bytes ≤ 3080192
+  -- each number of a file is a byte's
+  pub are_bytes : AreBytes bytes
+  pub unbroken : break_of bytes ≡ None
+  pub text : List ℕ
+  pub script_there : given script ≡ Some text
+  pub script_short : length text ≤ 33554432
+  pub events : List Event
+  pub says : script_of fields.height text ≡ Ok events
+  pub is_clear : IsClear fields (sent_for (packets_of bytes) events)

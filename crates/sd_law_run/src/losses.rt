@@ -1,0 +1,43 @@
+//! Laws on what `receive` writes of a broadcast that loses packets.
+
+ghost use Rattle.std.specs.Prelude.{◌≡◌, ◌<◌, ◌^◌, ℕ, Bool, List, Some, Ok};
+ghost use Rattle.std.specs.List.{concat};
+ghost use Rattle.sd_spec_broadcast.specs.Plan.{Plan, IsPlan};
+ghost use Rattle.sd_spec_broadcast.specs.Refused.{IsClear};
+ghost use Rattle.sd_spec_broadcast.specs.Sent.{broadcast};
+ghost use Rattle.sd_law_broadcast.specs.Packets.{AreWholePackets};
+ghost use Rattle.sd_law_file.specs.Synced.{AreSynced};
+ghost use Rattle.sd_law_losses.specs.Chosen.{chosen};
+ghost use Rattle.sd_ports.specs.Files.{Files};
+ghost use Rattle.sd_command_status.specs.Spec.{contents_of};
+ghost use Rattle.sd_command_status.specs.Outside.{Outside};
+ghost use Rattle.sd_command_status.specs.Work.{Work};
+ghost use Rattle.sd_command_status.specs.Results.{RunResult};
+ghost use Rattle.sd_command_files.specs.Shown.{word_at};
+ghost use Rattle.sd_run_receive.specs.Receive.{receive_meaning};
+ghost use Rattle.sd_run.specs.Meaning.{meaning};
+ghost use Rattle.sd_law_run.specs.Headline.{Names, file_in, AreGiven, IsUndisturbed, card_for};
+ghost use Rattle.sd_law_run.specs.Lost.{kept_items, IsRestTo, IsConfirmed, LossResult};
+
+use sd_command_status::Status;
+
+/// Take any broadcast, of any site, book within the limits and clear stream, and any choice of its packets that arrive.
+/// `receive` with the card of a leaf writes exactly the clear packets that the messages which arrived confirm: a part
+/// of what the leaf is entitled to, in its order. It refuses no packet, and its ending depends on what arrived alone.
+/// If it ends as revoked in a period, the leaf is revoked in it. For each period of which a section that has the leaf
+/// arrived it takes at most as many steps of the generator as the tree is high, and no others.
+pub fn losses_are_received()
+    // By what is meant, whatever happens to the run.
+    ensures meant { (plan : Plan) (u : ℕ) (clear : List (List ℕ)) (flags : List Bool) (words : List (List ℕ))
+        (files : Files) → IsPlan plan → IsClear plan.site clear → AreWholePackets clear → AreSynced clear →
+        u < 2 ^ plan.site.height → (rest : IsRestTo plan u clear flags words (contents_of files)) →
+        (work : Work) × ((meaning words (contents_of files)).result ≡ Ok work)
+        × IsConfirmed plan u clear (kept_items plan clear flags) rest.out work }
+    // By what a run leaves, if no I/O error occurs and memory suffices.
+    ensures receive { (names : Names) (plan : Plan) (u : ℕ) (clear : List (List ℕ)) (z a b : Outside)
+        (flags : List Bool) (answer : Status) → AreGiven z names plan clear → u < 2 ^ plan.site.height →
+        file_in a names.card ≡ Some (card_for plan.site u) →
+        file_in a names.stream ≡ Some (concat (chosen flags (broadcast plan clear))) →
+        RunResult (receive_meaning (word_at 1 names.card) (word_at 2 names.stream) (word_at 3 names.out)) a b answer →
+        IsUndisturbed a b answer → LossResult names plan u clear (kept_items plan clear flags) a b answer }
+{}

@@ -1,5 +1,0 @@
-use Rattle.sd_losses.proofs.Residual.{near_shows_exact}
-use Rattle.sd_losses.proofs.laws.positions_are_confirmed.Goals as goal
-
-pub returns-clause-exact : goal.returns-clause-exact
-returns-clause-exact c = near_shows_exact

@@ -1,0 +1,81 @@
+-- Public meaning: the parts of one control message that are collected.
+use Rattle.std.specs.Prelude.{◌≡◌, ◌+◌, ◌≤◌, ◌==◌, if◌then◌else◌, List, [], ◌∷◌, length, reverse, flat_map, All}
+use Rattle.std.specs.Prelude.{Option, Some, None}
+use Rattle.std.specs.Prelude.{Result, Ok, Err}
+use Rattle.sd_ecm.specs.Spelled.{listed_places}
+use Rattle.sd_ecm.specs.Form.{ArePositioned, AreAscending, AreShort, IsEcm}
+use Rattle.sd_ecm.specs.Parts.{ecm_header_of}
+use Rattle.sd_ecm.specs.Versions.{most_places, most_positions}
+use Rattle.sd_ecm.specs.declared.part.Place.{Place}
+use Rattle.sd_ecm.specs.declared.part.EcmPart.{EcmPart}
+use Rattle.sd_ecm.specs.declared.message.EcmHead.{EcmHead}
+use Rattle.sd_ecm.specs.declared.fault.EcmFault.{EcmFault}
+use Rattle.sd_spec_receiver.specs.Stretches.{run_with}
+use Rattle.sd_spec_receiver.specs.Offered.{part_fault}
+
+-- all positions of parts, the newest part first, in the order of the message [this project, docs/FORMATS.md, Messages]
+unfoldable pub places_of : List EcmPart → List Place
+places_of run = flat_map listed_places (reverse run)
+
+-- what a part says of its message, but for the positions
+abbrev pub said_by : EcmPart → EcmHead
+said_by part = record {
+  version = part.version;
+  number = part.number;
+  period = part.period;
+  word = part.word;
+  clear = part.clear;
+  since = part.since;
+  run = part.run;
+  closing = part.closing;
+  wrapped = part.wrapped;
+  check = part.check;
+}
+
+-- the newest of some parts
+abbrev pub newest_of : List EcmPart → Option EcmPart
+newest_of [] = None
+newest_of (part ∷ run) = Some part
+
+-- positions that a message may have [this project, docs/FORMATS.md, Messages]
+pub record ArePlaces (all : List Place) : Type 0 where
+  pub few : length all ≤ most_places
+  pub positioned : ArePositioned all
+  pub ascending : AreAscending all
+  pub short : AreShort all
+
+-- a part in its form, with room for as many positions as a part may have
+pub record IsPart (part : EcmPart) : Type 0 where
+  pub form : IsEcm part
+  pub long : length part.positions ≡ most_positions
+
+-- the part comes next after the newest of these, if there is one
+abbrev pub IsNext : List EcmPart → EcmPart → Type 0
+IsNext [] part = Unit {0}
+IsNext (before ∷ run) part = before.part + 1 ≡ part.part
+
+-- each other part says of the message what the newest says
+abbrev pub AreAlike : List EcmPart → Type 0
+AreAlike [] = Unit {0}
+AreAlike (part ∷ run) = All (λ other. ecm_header_of other ≡ ecm_header_of part) run
+
+-- parts of one message in which nothing is wrong, the newest first
+pub record IsRun (run : List EcmPart) : Type 0 where
+  pub form : All IsPart run
+  pub alike : AreAlike run
+  pub places : ArePlaces (places_of run)
+
+-- the newest of these parts and the positions of all of them are kept
+pub record IsGathered (run : List EcmPart) (kept : Option EcmPart) (all : List Place) : Type 0 where
+  pub part : kept ≡ newest_of run
+  pub places : all ≡ places_of run
+  pub good : IsRun run
+
+-- the parts that are collected after a part that counts: it begins a message, is the next after these, or drops them
+unfoldable pub next_run : List EcmPart → EcmPart → List EcmPart
+next_run run part = if part.part == 0 then part ∷ [] else run_with part run
+
+-- something is wrong with the newest of these parts, or they are kept
+abbrev pub GatherOutcome : List EcmPart → Option EcmPart → List Place → Result Unit EcmFault → Type 0
+GatherOutcome run kept all (Ok done) = (part_fault run ≡ None) × IsGathered run kept all
+GatherOutcome run kept all (Err fault) = part_fault run ≡ Some fault

@@ -1,0 +1,11 @@
+use Rattle.std.proofs.Common.{◌≡◌, length, find}
+use Rattle.sd_psi.specs.Tables.{descriptors_of}
+use Rattle.sd_spec_receiver.specs.Tuned.{is_for}
+use Rattle.sd_receive_filter.proofs.tune.first_tuning.Given as goal
+
+abbrev pub invariant-loop-descriptor : goal.invariant-loop-descriptor
+invariant-loop-descriptor l =
+    find (is_for l.ca) (descriptors_of l.rest.bytes.now) ≡ find (is_for l.ca) (descriptors_of l.descriptors.bytes.now)
+
+abbrev pub decreases-loop-descriptor : goal.decreases-loop-descriptor
+decreases-loop-descriptor l = length (descriptors_of l.rest.bytes.now)

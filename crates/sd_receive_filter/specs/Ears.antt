@@ -1,0 +1,32 @@
+-- Public meaning: what a receiver hears, as the program keeps it.
+use Rattle.std.specs.Prelude.{ℕ, List}
+use Rattle.sd_emm.specs.Spelled.{listed_entries}
+use Rattle.sd_emm.specs.Form.{IsEmm, AreSets}
+use Rattle.sd_ecm.specs.Form.{IsEcm}
+use Rattle.sd_spec_receiver.specs.Tuned.{Tuning}
+use Rattle.sd_spec_receiver.specs.Heard as Reception
+use Rattle.sd_receive_filter.specs.declared.tune.Tuning.{Tuning as Kept}
+use Rattle.sd_receive_filter.specs.declared.ears.Heard.{Heard}
+use Rattle.sd_receive_filter.specs.declared.ears.Heard.TheVariants.{Dropped, Entitles, Controls, BadEmm, BadEcm, Other}
+
+-- the two PIDs [this project, docs/FORMATS.md, Receiver]
+abbrev pub tuned : Kept → Tuning
+tuned tuning = record { emm = tuning.emm; ecm = tuning.ecm }
+
+-- what was heard of the packet of this number
+abbrev pub heard_as : ℕ → List ℕ → Heard → Reception.Heard
+heard_as number packet Dropped = Reception.Dropped
+heard_as number packet (Entitles emm) = Reception.Entitles emm
+heard_as number packet (Controls part) = Reception.Controls part
+heard_as number packet (BadEmm fault) = Reception.BadEmm fault
+heard_as number packet (BadEcm fault) = Reception.BadEcm fault
+heard_as number packet Other = Reception.Other number packet
+
+-- a section and a part are in their forms, in a tree of height h
+abbrev pub IsFormed : ℕ → Heard → Type 0
+IsFormed h (Entitles emm) = IsEmm emm × AreSets h emm.sets (listed_entries emm)
+IsFormed h (Controls part) = IsEcm part
+IsFormed h Dropped = Unit {0}
+IsFormed h (BadEmm fault) = Unit {0}
+IsFormed h (BadEcm fault) = Unit {0}
+IsFormed h Other = Unit {0}

@@ -1,5 +1,0 @@
-use Rattle.sd_run_cover.proofs.Covers.{sets_unite}
-use Rattle.sd_run_laws.proofs.laws.printed_sets_unite.Goals as goal
-
-pub returns : goal.returns
-returns c d q commands low = sets_unite d q commands low

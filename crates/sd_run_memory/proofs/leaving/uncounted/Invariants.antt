@@ -1,5 +1,0 @@
-use Rattle.sd_run_memory.proofs.leaving.uncounted.Given as goal
-
--- the ledger is the blank one
-abbrev pub ghosts-counted : goal.ghosts-counted
-ghosts-counted g a = record { name = a.blank.name; parts = a.blank.parts }

@@ -1,5 +1,0 @@
-use Rattle.sd_sent.proofs.Fitting.{message_fits, message_before_fits, closing_fits}
-use Rattle.sd_sent.proofs.laws.messages_fit.Goals as goal
-
-pub returns : goal.returns
-returns c = record { any = message_fits; before = message_before_fits; closing = closing_fits }

@@ -1,5 +1,0 @@
-use Rattle.sd_sent.proofs.Reached.{period_reached}
-use Rattle.sd_sent.proofs.laws.periods_are_reached.Goals as goal
-
-pub returns : goal.returns
-returns c = period_reached

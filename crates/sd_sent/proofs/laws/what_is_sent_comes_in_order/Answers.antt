@@ -1,5 +1,0 @@
-use Rattle.sd_sent.proofs.Coming.{what_comes}
-use Rattle.sd_sent.proofs.laws.what_is_sent_comes_in_order.Goals as goal
-
-pub returns : goal.returns
-returns c = what_comes

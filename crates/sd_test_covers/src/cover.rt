@@ -1,0 +1,172 @@
+ghost use Rattle.std.specs.Prelude.{◌≡◌, ◌<◌, ◌≤◌};
+ghost use Rattle.sd_cover.specs.declared.counts.TheConstants.{NODES};
+
+use crate::leaves::covered;
+use sd_base::Steps;
+use sd_cover::{Counts, CoverIndex, NODES};
+use sd_tree::{Height, Leaf, SetName};
+use std::alloc::Global;
+use std::marker::Brand;
+use std::sync::ledger::{Blank, Ledger};
+use std::test::*;
+
+// Revokes the leaf or subscribes it, where that changes something.
+fn change<L: Ledger>(
+    index: &mut CoverIndex,
+    u: u32,
+    revokes: bool,
+    steps: &mut Steps<L>,
+) -> Option<()> {
+    let leaf = Leaf::new(index.height, u)?;
+    index.reserve(1).ok()?;
+    let revoked = index.is_revoked(leaf, steps);
+    if revokes && !revoked {
+        index.revoke(leaf, steps);
+    }
+    if !revokes && revoked {
+        index.subscribe(leaf, steps);
+    }
+    Some(())
+}
+
+// The sets after some changes, each of a leaf with whether it is revoked.
+fn counted_sets<L: Ledger>(
+    alloc: Global,
+    d: u8,
+    changes: &[(u32, bool)],
+    blank: Blank,
+) -> Option<Vec<SetName>>
+    requires name { blank.name ≡ L.name }
+    requires parts { blank.parts ≡ L.parts }
+    requires some { 0 < blank.parts }
+{
+    let mut steps = Steps::<L>::new(blank);
+    let mut index = CoverIndex::new(alloc, Height::new(d)?);
+    for (u, revokes) in changes {
+        change(&mut index, *u, *revokes, &mut steps)?;
+    }
+    index.sets(alloc, &mut steps).ok()
+}
+
+fn sets(alloc: Global, d: u8, changes: &[(u32, bool)]) -> Option<Vec<SetName>> {
+    counted_sets::<Brand>(alloc, d, changes, Blank::new(1))
+}
+
+#[test]
+fn sets_after_changes(rt: HostRuntime) {
+    let set = |i, j| SetName::Diff { i, j };
+    // The height, the changes, and the sets after them.
+    let cases: [(u8, &[(u32, bool)], &[SetName]); 5] = [
+        (
+            3,
+            &[(0, true), (2, true)],
+            &[set(1, 2), set(4, 8), set(5, 10)],
+        ),
+        (3, &[(0, true), (2, true), (0, false)], &[set(1, 10)]),
+        (3, &[(0, true), (0, false)], &[SetName::Whole]),
+        (1, &[(0, true), (1, true)], &[]),
+        (
+            20,
+            &[(0, true), (1_048_575, true)],
+            &[set(2, 1_048_576), set(3, 2_097_151)],
+        ),
+    ];
+    for (d, changes, due) in cases {
+        let sets = sets(rt.alloc(), d, changes).expect(&rt, "the sets");
+        assert_eq!(rt; sets.as_slice(), due);
+    }
+}
+
+// The cover from scratch of the leaves that are marked.
+fn fresh(alloc: Global, h: Height, marks: &[bool; 16]) -> Option<Vec<SetName>> {
+    let mut revoked = Vec::new(alloc);
+    for u in 0..16u32 {
+        if marks[u as usize] {
+            revoked.push(Leaf::new(h, u)?).ok()?;
+        }
+    }
+    covered(alloc, h, &revoked)
+}
+
+// Whether the sets are those of a cover from scratch after each of so many changes.
+fn counted_same<L: Ledger>(alloc: Global, d: u8, count: u32, blank: Blank) -> Option<bool>
+    requires name { blank.name ≡ L.name }
+    requires parts { blank.parts ≡ L.parts }
+    requires some { 0 < blank.parts }
+{
+    let h = Height::new(d)?;
+    let mut steps = Steps::<L>::new(blank);
+    let mut index = CoverIndex::new(alloc, h);
+    let mut marks = [false; 16];
+    let mut state = u64::from(d);
+    for _ in 0..count {
+        state = state
+            .wrapping_mul(6_364_136_223_846_793_005)
+            .wrapping_add(1_442_695_040_888_963_407);
+        let u = (state >> 33) as u32 % h.leaves() % 16;
+        let revokes = state >> 63 == 1;
+        change(&mut index, u, revokes, &mut steps)?;
+        marks[u as usize] = revokes;
+        if index.sets(alloc, &mut steps).ok()?.as_slice() != fresh(alloc, h, &marks)?.as_slice() {
+            return Some(false);
+        }
+    }
+    Some(true)
+}
+
+fn same(alloc: Global, d: u8, count: u32) -> Option<bool> {
+    counted_same::<Brand>(alloc, d, count, Blank::new(1))
+}
+
+#[test]
+fn sets_are_those_from_scratch(rt: HostRuntime) {
+    for d in 1..=4 {
+        assert_eq!(rt; same(rt.alloc(), d, 100), Some(true), "height {d}");
+    }
+}
+
+// What the node counts after it is raised.
+fn raised<L: Ledger>(counts: &mut Counts, v: u32, steps: &mut Steps<L>) -> Option<u32>
+    requires low { 1 ≤ v }
+    requires high { v < NODES }
+{
+    counts.reserve(1).ok()?;
+    if counts.get(v, steps) == u32::MAX {
+        return None;
+    }
+    counts.raise(v, steps);
+    Some(counts.get(v, steps))
+}
+
+// What nodes 5 and 7 count after they are raised, and node 5 after it is raised again and lowered.
+fn counted_counts<L: Ledger>(alloc: Global, blank: Blank) -> Option<(u32, u32, u32)>
+    requires name { blank.name ≡ L.name }
+    requires parts { blank.parts ≡ L.parts }
+    requires some { 0 < blank.parts }
+{
+    let mut steps = Steps::<L>::new(blank);
+    let mut counts = Counts::new(alloc);
+    let five = raised(&mut counts, 5, &mut steps)?;
+    let seven = raised(&mut counts, 7, &mut steps)?;
+    if raised(&mut counts, 5, &mut steps)? == 2 && counts.get(5, &mut steps) > 0 {
+        counts.lower(5, &mut steps);
+    }
+    Some((five, seven, counts.get(5, &mut steps)))
+}
+
+fn counts(alloc: Global) -> Option<(u32, u32, u32)> {
+    counted_counts::<Brand>(alloc, Blank::new(1))
+}
+
+#[test]
+fn counts_of_nodes(rt: HostRuntime) {
+    assert_eq!(rt; counts(rt.alloc()), Some((1, 1, 1)));
+}
+
+#[test]
+fn index_has_two_fields(rt: HostRuntime) {
+    let h = Height::new(3).expect(&rt, "a height");
+    let CoverIndex { height, counts } = CoverIndex::new(rt.alloc(), h);
+    assert_eq!(rt; height.get(), 3);
+    drop(counts);
+}

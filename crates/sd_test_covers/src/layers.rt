@@ -1,0 +1,91 @@
+use crate::leaves::{are_ascending, are_of_height, has_bit, marked};
+use sd_lsd_sets::{Width, layered_cover};
+use sd_tree::{Height, SetName, depth};
+use std::alloc::Global;
+use std::test::*;
+
+// The cover of width w where the leaves of these bits are revoked.
+fn covered(alloc: Global, d: u8, w: u8, bits: u32) -> Option<Vec<SetName>> {
+    let h = Height::new(d)?;
+    let width = Width::new(h, w)?;
+    let revoked = marked(alloc, h, bits)?;
+    if are_of_height(h, &revoked) && are_ascending(&revoked) {
+        layered_cover(alloc, h, width, &revoked).ok()
+    } else {
+        None
+    }
+}
+
+// Whether node v is i or stands below it, by halvings.
+fn stands_below(v: u32, i: u32) -> bool {
+    (0..6u32).any(|k| v >> k == i)
+}
+
+// Whether leaf u of height d is in the set.
+fn has_leaf(d: u8, name: SetName, u: u32) -> bool {
+    let node = (1u32 << (d % 8)).wrapping_add(u);
+    match name {
+        SetName::Whole => true,
+        SetName::Diff { i, j } => stands_below(node, i) && !stands_below(node, j),
+    }
+}
+
+// How far below the root the node stands.
+fn level(v: u32) -> u32 {
+    if v == 0 { 0 } else { depth(v) }
+}
+
+// Whether no layer's end stands properly between the set's nodes, or one at the upper.
+fn is_of_a_layer(w: u32, name: SetName) -> bool {
+    match name {
+        SetName::Whole => true,
+        SetName::Diff { i, j } => {
+            let ends = |depth: u32| w != 0 && depth % w == 0;
+            ends(level(i))
+                || !(0..5u32).any(|depth| level(i) < depth && depth < level(j) && ends(depth))
+        }
+    }
+}
+
+#[test]
+fn all_revoked_leaves_of_small_trees(rt: HostRuntime) -> Result<(), Fail> {
+    for (d, leaves) in [(1u8, 2u32), (2, 4), (3, 8)] {
+        for w in 1..=d {
+            for bits in 0..1u32 << leaves {
+                let sets = covered(rt.alloc(), d, w, bits).ok_or("the leaves have a cover")?;
+                for u in 0..leaves {
+                    let held = sets.iter().filter(|name| has_leaf(d, **name, u)).count();
+                    let due = usize::from(!has_bit(bits, u));
+                    assert_eq!(rt; held, due, "leaf {u} of {d}, width {w}, revoked {bits}");
+                }
+                assert!(rt; sets.iter().all(|name| is_of_a_layer(u32::from(w), *name)));
+                let most = (4 * bits.count_ones() as usize).saturating_sub(2).max(1);
+                assert!(rt; sets.len() <= most, "sets of {bits} at {d}, width {w}");
+            }
+        }
+    }
+    Ok(())
+}
+
+#[test]
+fn covers_of_two_revoked_leaves(rt: HostRuntime) -> Result<(), Fail> {
+    let set = |i, j| SetName::Diff { i, j };
+    let cut = [set(2, 4), set(3, 7), set(4, 8), set(7, 15)];
+    let uncut = [set(2, 8), set(3, 15)];
+    // Leaves 0 and 7 of height 3.
+    for (w, due) in [(1, &uncut[..]), (2, &cut[..]), (3, &uncut[..])] {
+        let sets = covered(rt.alloc(), 3, w, 0b1000_0001).ok_or("the leaves have a cover")?;
+        assert!(rt; &sets[..] == due, "width {w}");
+    }
+    for (d, w, known) in [
+        (3, 0, false),
+        (3, 3, true),
+        (3, 4, false),
+        (20, 20, true),
+        (1, 1, true),
+    ] {
+        let width = Height::new(d).and_then(|h| Width::new(h, w));
+        assert_eq!(rt; width.is_some(), known, "width {w} of {d}");
+    }
+    Ok(())
+}

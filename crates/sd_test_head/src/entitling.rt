@@ -1,0 +1,143 @@
+ghost use Rattle.std.specs.Prelude.{◌≡◌, ◌<◌};
+
+use crate::sections::ALL;
+use crate::sites::SITE;
+use sd_base::Steps;
+use sd_book::Book;
+use sd_head_periods::{CryptoPeriod, Entitling};
+use sd_packet::{Packet, pack_section};
+use std::alloc::Global;
+use std::marker::Brand;
+use std::sync::ledger::{Blank, Ledger};
+
+// In period 1 leaf 5 is revoked.
+static BOOK: &str = "period
+revoke 5
+";
+
+// The entitlements of period 1, of S(1,13).
+const OTHERS: [u8; 79] = [
+    0x82, 0xB0, 0x4C, 0x00, 0x00, 0xC1, 0x00, 0x00, 0x00, 0x00, 0x00, 0x01, 0x00, 0x00, 0x00, 0x01,
+    0x00, 0x01, 0x1D, 0xCD, 0x30, 0x91, 0x3B, 0x9A, 0x37, 0xB4, 0x77, 0x26, 0x94, 0xD7, 0x8C, 0x1D,
+    0x7F, 0x2F, 0x01, 0x00, 0x00, 0x00, 0x01, 0x00, 0x00, 0x00, 0x0D, 0x40, 0x62, 0x1E, 0xBE, 0xFD,
+    0x0A, 0xD7, 0x3F, 0xDB, 0xB9, 0x42, 0x4F, 0xCF, 0xF1, 0xC7, 0x0B, 0x28, 0x33, 0x94, 0x08, 0x0D,
+    0x07, 0x27, 0x1C, 0xC4, 0xEF, 0x66, 0x5B, 0xBC, 0x77, 0xB8, 0xC6, 0x23, 0xD6, 0xD6, 0x18,
+];
+
+// The check values of the control words.
+const FIRST_CHECK: [u8; 16] = [
+    0x16, 0xF2, 0x1B, 0xEC, 0x8B, 0x49, 0xA2, 0x9A, 0x6B, 0xF9, 0x44, 0xDA, 0x8F, 0xBB, 0x98, 0xBB,
+];
+
+const SECOND_CHECK: [u8; 16] = [
+    0xBF, 0xA8, 0x80, 0x7F, 0x78, 0x5E, 0x1F, 0xC8, 0xF7, 0xF0, 0x55, 0xA5, 0x75, 0x33, 0x72, 0xB8,
+];
+
+// What is kept once a crypto period has begun: the packets of entitlements, and the crypto period.
+type Begun = (Vec<Packet>, CryptoPeriod);
+
+// What is kept in the first two crypto periods, each of which begins a period.
+fn counted<L: Ledger>(alloc: Global, blank: Blank) -> Option<(Begun, Begun)>
+    requires name { blank.name ≡ L.name }
+    requires parts { blank.parts ≡ L.parts }
+    requires some { 0 < blank.parts }
+{
+    let mut steps = Steps::<L>::new(blank);
+    let site = sd_site::read(SITE.as_bytes()).ok()?;
+    let book = Book::read(alloc, BOOK.as_bytes(), site.height).ok()?;
+    let mut entitling = Entitling::new(alloc, &site, book);
+    entitling.begin(&site, 0, &mut steps).ok()?;
+    let first = (entitling.emms().to_vec(alloc).ok()?, *entitling.crypto());
+    entitling.begin(&site, 1, &mut steps).ok()?;
+    let second = (entitling.emms().to_vec(alloc).ok()?, *entitling.crypto());
+    Some((first, second))
+}
+
+fn uncounted(alloc: Global) -> Option<(Begun, Begun)> {
+    counted::<Brand>(alloc, Blank::new(1))
+}
+
+#[test]
+fn periods_begin_with_their_sets(rt: HostRuntime) {
+    let begun = uncounted(rt.alloc());
+    assert!(rt; begun.is_some());
+    if let Some((first, second)) = begun {
+        assert!(rt; first.0.as_slice() == [pack_section(&ALL, 496, 0)].as_slice());
+        assert!(rt; second.0.as_slice() == [pack_section(&OTHERS, 496, 0)].as_slice());
+        for (crypto, number, check) in [(first.1, 0, FIRST_CHECK), (second.1, 1, SECOND_CHECK)] {
+            assert_eq!(rt; crypto.number, number);
+            assert_eq!(rt; crypto.period, number);
+            assert_eq!(rt; crypto.check, check);
+        }
+    }
+}
+
+// Runs that begin at control word 7: with period 1, and with one after the book's last.
+static LATER: &str = "height 3
+master 000102030405060708090a0b0c0d0e0f101112131415161718191a1b1c1d1e1f
+ca 1234
+emm 496
+ecm 497
+ecm-every 200
+crypto-ecms 2
+period-cryptos 1
+messages 2
+first-word 7
+last-word 8
+first-period 1
+";
+
+static LAST: &str = "height 3
+master 000102030405060708090a0b0c0d0e0f101112131415161718191a1b1c1d1e1f
+ca 1234
+emm 496
+ecm 497
+ecm-every 200
+crypto-ecms 2
+period-cryptos 1
+messages 2
+first-word 7
+last-word 8
+first-period 4294967295
+";
+
+// The check value of control word 7.
+const SEVENTH_CHECK: [u8; 16] = [
+    0x1B, 0x74, 0x70, 0xF9, 0xAA, 0xB7, 0xBC, 0x5E, 0xC2, 0xB2, 0x3E, 0x36, 0x70, 0x39, 0x51, 0x26,
+];
+
+// What is kept in the first crypto period, and how many sets its index gives.
+fn begun<L: Ledger>(alloc: Global, site: &[u8], blank: Blank) -> Option<(Begun, usize)>
+    requires name { blank.name ≡ L.name }
+    requires parts { blank.parts ≡ L.parts }
+    requires some { 0 < blank.parts }
+{
+    let mut steps = Steps::<L>::new(blank);
+    let site = sd_site::read(site).ok()?;
+    let book = Book::read(alloc, BOOK.as_bytes(), site.height).ok()?;
+    let mut entitling = Entitling::new(alloc, &site, book);
+    entitling.begin(&site, 0, &mut steps).ok()?;
+    let sets = entitling.index().sets(alloc, &mut steps).ok()?;
+    let first = (entitling.emms().to_vec(alloc).ok()?, *entitling.crypto());
+    Some((first, sets.len()))
+}
+
+fn first_begun(alloc: Global, site: &[u8]) -> Option<(Begun, usize)> {
+    begun::<Brand>(alloc, site, Blank::new(1))
+}
+
+#[test]
+fn a_run_begins_at_its_first_word_and_period(rt: HostRuntime) {
+    for (site, period) in [(LATER, 1), (LAST, 4_294_967_295)] {
+        let begun = first_begun(rt.alloc(), site.as_bytes());
+        assert!(rt; begun.is_some());
+        if let Some(((emms, crypto), sets)) = begun {
+            assert_eq!(rt; (crypto.number, crypto.period, sets), (7, period, 1));
+            assert_eq!(rt; crypto.check, SEVENTH_CHECK);
+            assert!(rt; emms.len() == 1);
+            assert!(rt;
+                period > 1 || emms.as_slice() == [pack_section(&OTHERS, 496, 0)].as_slice()
+            );
+        }
+    }
+}

@@ -1,0 +1,119 @@
+ghost use Rattle.std.specs.Prelude.{◌≡◌, ◌<◌, ◌≤◌};
+
+use crate::files::{Files, ROOM};
+use sd_base::Steps;
+use sd_command_status::Status;
+use sd_ports::{Depot, MemSink, Sink};
+use sd_run::run;
+use std::alloc::{AllocError, Global};
+use std::marker::Brand;
+use std::sync::ledger::{Blank, Ledger};
+
+/// The call of the outside that fails in a run.
+#[derive(Clone, Copy, Debug)]
+pub enum Fault<'a> {
+    /// No call fails.
+    Nowhere,
+    /// The depot's call of this number.
+    Call(u32),
+    /// The call of this number on each port of this name.
+    Port(&'a str, u32),
+    /// The print of this number.
+    Print(u32),
+}
+
+/// What a run leaves.
+#[derive(Drop)]
+pub struct Leaving {
+    /// The run's status.
+    pub status: Status,
+    /// The bytes that were printed.
+    pub printed: Vec<u8>,
+    /// The file O.
+    pub out: Option<Vec<u8>>,
+    /// Whether some call of the depot failed.
+    pub failed: bool,
+    /// How many files were made.
+    pub made: u64,
+    /// Whether the files that were there are as they were, and none that is asked for was missing.
+    pub stayed: bool,
+}
+
+impl Leaving {
+    /// Whether a file O was made that begins this one.
+    pub fn is_prefix_of(&self, whole: &[u8]) -> bool {
+        match &self.out {
+            Some(out) => whole.starts_with(out),
+            None => false,
+        }
+    }
+}
+
+/// What a run with these arguments leaves in these files, if a call of a port moves at most `most` bytes.
+pub fn left(
+    alloc: Global,
+    files: &Files,
+    words: &[&str],
+    most: usize,
+    fault: Fault<'_>,
+) -> Result<Leaving, AllocError>
+    requires { 1 ≤ most }
+{
+    let mut depot = files.shelf(alloc, most)?;
+    let mut fails = Vec::new(alloc);
+    match fault {
+        Fault::Nowhere => {}
+        Fault::Call(number) => depot.fail_call(number),
+        Fault::Port(name, number) => depot.fail_port(String::from_str(alloc, name)?, number),
+        Fault::Print(number) => fails.push(number)?,
+    }
+    let mut print = MemSink::new(alloc, ROOM.max(files.room), most, fails).map_err(|_| AllocError)?;
+    let mut list = Vec::new(alloc);
+    for word in words {
+        list.push(String::from_str(alloc, word)?)?;
+    }
+    let status = uncounted(alloc, &list, &mut depot, &mut print);
+    let out = match depot.get("O") {
+        Some(bytes) => Some(Vec::from_slice(alloc, bytes)?),
+        None => None,
+    };
+    Ok(Leaving {
+        status,
+        printed: print.into_bytes(),
+        out,
+        failed: depot.faults() > 0,
+        made: depot.made(),
+        stayed: depot.misses() == 0 && files.stand_in(&depot),
+    })
+}
+
+/// Runs the words and counts no step.
+pub fn uncounted<D: Depot, P: Sink>(
+    alloc: Global,
+    words: &[String],
+    depot: &mut D,
+    print: &mut P,
+) -> Status {
+    counted::<D, P, Brand>(alloc, words, depot, print, Blank::new(1))
+}
+
+fn counted<D: Depot, P: Sink, L: Ledger>(
+    alloc: Global,
+    words: &[String],
+    depot: &mut D,
+    print: &mut P,
+    blank: Blank,
+) -> Status
+    requires name { blank.name ≡ L.name }
+    requires parts { blank.parts ≡ L.parts }
+    requires some { 0 < blank.parts }
+{
+    let mut steps = Steps::<L>::new(blank);
+    run(alloc, words, depot, print, &mut steps)
+}
+
+/// The file O that the words make.
+pub fn made(alloc: Global, files: &Files, words: &[&str]) -> Result<Vec<u8>, AllocError> {
+    let left = left(alloc, files, words, ROOM, Fault::Nowhere)?;
+    left.out.ok_or(AllocError)
+}

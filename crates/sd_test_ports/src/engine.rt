@@ -1,0 +1,134 @@
+ghost use Rattle.std.specs.Prelude.{◌≡◌, ◌≤◌, ◌<◌, []};
+
+use sd_base::Steps;
+use sd_engine::{DriveFault, Stage, StageFault, drive};
+use sd_packet::{Packet, SIZE};
+use sd_ports::{MemSink, MemSource, Sink, read_all, write_all};
+use std::alloc::{AllocError, Global};
+use std::marker::Brand;
+use std::sync::ledger::{Blank, Ledger};
+
+/// A stage that copies the packets, and refuses the one of the number `bad` by its number.
+#[derive(Drop)]
+struct Copier {
+    number: u64,
+    bad: u64,
+    refused: Option<u64>,
+}
+
+impl<K: Sink, L: Ledger> Stage<K, L> for Copier {
+    type Fault = u64;
+
+    ghost live = { λ s. Unit {0} };
+
+    ghost kept = { λ s. s.refused };
+
+    ghost does = { λ s packet t bytes steps. bytes ≡ packet };
+
+    ghost ends = { λ s t bytes steps. bytes ≡ [] };
+
+    ghost refuses = { λ s packet fault t bytes steps. bytes ≡ [] };
+
+    fn offer(
+        &mut self,
+        packet: &Packet,
+        out: &mut K,
+        steps: &mut Steps<L>,
+    ) -> Result<(), StageFault<u64>> {
+        if let Some(fault) = self.refused {
+            return Err(StageFault::Refused(fault));
+        }
+        if self.number == self.bad {
+            self.refused = Some(self.number);
+            return Err(StageFault::Refused(self.number));
+        }
+        self.number = self.number.saturating_add(1);
+        match write_all(out, packet.bytes()) {
+            Ok(()) => Ok(()),
+            Err(_) => Err(StageFault::Write),
+        }
+    }
+
+    fn close(&mut self, out: &mut K, steps: &mut Steps<L>) -> Result<(), StageFault<u64>> {
+        match self.refused {
+            Some(fault) => Err(StageFault::Refused(fault)),
+            None => Ok(()),
+        }
+    }
+}
+
+// What a drive of a stream answers, how many of its bytes are copied, and how many are left to read. Packet `bad` is
+// refused, a read gives at most `most` bytes, and this read and this write fail.
+fn driven<L: Ledger>(
+    alloc: Global,
+    blank: Blank,
+    stream: &[u8],
+    bad: u64,
+    most: usize,
+    read: u32,
+    write: u32,
+) -> Result<(Result<u64, DriveFault<u64>>, Vec<u8>, Vec<u8>), AllocError>
+    requires most { 1 ≤ most }
+    requires name { blank.name ≡ L.name }
+    requires parts { blank.parts ≡ L.parts }
+    requires some { 0 < blank.parts }
+{
+    let fails = Vec::from_slice(alloc, &[read])?;
+    let mut source = MemSource::new(Vec::from_slice(alloc, stream)?, most, fails);
+    let fails = Vec::from_slice(alloc, &[write])?;
+    let Ok(mut sink) = MemSink::new(alloc, 1000, SIZE, fails) else {
+        return Err(AllocError);
+    };
+    let mut stage = Copier {
+        number: 0,
+        bad,
+        refused: None,
+    };
+    let mut steps = Steps::<L>::new(blank);
+    let result = drive(&mut source, &mut sink, &mut stage, &mut steps);
+    let Ok(left) = read_all(alloc, &mut source, stream.len()) else {
+        return Err(AllocError);
+    };
+    Ok((result, sink.into_bytes(), left))
+}
+
+// A packet with this number in it.
+fn packet(number: u8) -> [u8; SIZE] {
+    let mut bytes = [0xFF; SIZE];
+    bytes[..4].copy_from_slice(&[0x47, 0x01, number, 0x10]);
+    bytes
+}
+
+#[test]
+fn packets_are_offered_up_to_the_first_fault(rt: HostRuntime) -> Result<(), AllocError> {
+    let packets = [packet(0), packet(1), packet(2), packet(3), packet(4)];
+    let stream = packets.as_flattened();
+    // The packet that is refused, the bytes of a read, the read and the write that fail, the answer, how many packets
+    // are copied, and how many bytes are left to read.
+    let table = [
+        (9, 1, 999, 999, Ok(5), 5, 0),
+        (9, 187, 999, 999, Ok(5), 5, 0),
+        (9, 189, 999, 999, Ok(5), 5, 0),
+        (9, 376, 999, 999, Ok(5), 5, 0),
+        (2, 188, 999, 999, Err(DriveFault::Refused(2)), 2, 376),
+        (2, 376, 999, 999, Err(DriveFault::Refused(2)), 2, 188),
+        (9, 188, 999, 1, Err(DriveFault::WriteFault), 1, 564),
+        (9, 188, 3, 999, Err(DriveFault::ReadFault), 3, 376),
+    ];
+    for (bad, most, read, write, answer, copied, rest) in table {
+        assert!(rt; most >= 1 && copied <= 5 && rest <= stream.len());
+        let (result, out, left) = driven::<Brand>(
+            rt.alloc(),
+            Blank::new(1),
+            stream,
+            bad,
+            most,
+            read,
+            write,
+        )?;
+        assert!(rt; result == answer);
+        assert!(rt; out.as_slice() == packets[..copied].as_flattened());
+        assert!(rt; left.as_slice() == &stream[stream.len() - rest..]);
+    }
+    Ok(())
+}

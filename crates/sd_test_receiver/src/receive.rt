@@ -1,0 +1,123 @@
+ghost use Rattle.std.specs.Prelude.{◌≡◌, ◌<◌, ◌≤◌};
+
+use crate::packets::{ALL, beginning};
+use hex::FromHex;
+use sd_base::Steps;
+use sd_card::Card;
+use sd_engine::{DriveFault, drive};
+use sd_ports::{MemSink, MemSource};
+use sd_receive::{Ending, Receiver, StreamFault};
+use sha2::{Digest, Sha256};
+use std::alloc::Global;
+use std::marker::Brand;
+use std::sync::ledger::{Blank, Ledger};
+use std::test::Fail;
+
+// The card of leaf 2 in a tree of height 3.
+const CARD: &str = "\
+     5344434401030000000212349a9aea255b8e54be50fc2cb5d0b83ebf64120b12e68d82699face4ee860511dc0938f5db1e2e38332732e7\
+     da82f1ad3e4ce6cfe09cd3dfda4ac268d6eabfa59aee4d21c982312fd80834f911ed891d93214f9f72536fa8db07c548dd30da1f202582\
+     a4cfaf5a9444dd58050be50a075f801493e197b2c04bac59cabb73e8e6e7ccaf99236088b4a8bd28a8999e9c8d27cf8e23a0f26c3bdce6\
+     084602a32625a3f7f3ee49a353c81995d54a82af23247fe5ce67a5696d2cfed25841b2a693d0e12cc03168d502156fd4e14b34743149c7\
+     c963b493c4075571946f3c3980e9d12312e36057a5c45afdecb73654e952b3c8";
+
+// The packets of a broadcast of four clear packets that an independent implementation made, up to the stuffing.
+const PACKETS: [&str; 8] = [
+    "474001100001b011ffffc1000009061234e1f0e1f192f94eeb",
+    ALL,
+    "4741f1100080b04b0000c1000000000000000000000000000000000000008229606edb4eb380c6745a1a0ef112fb4f37fd1a5ac322f2\
+     eb828187831d8c4016f21bec8b49a29a6bf944da8fbb98bb002a26ffa7",
+    "4701009eecb85568172380d7c15b91adc1ad9b63e1e4bdba3080a4040fdee3a8c602170f08a864eeffb97347d0095177f2ffd14ef281\
+     0de9f4f332d5fb4b1d341fc9031cc007214ae0fc6f81f09dc2ae4861accb8661f306a2ad6c3692facaf8314344b2e4decb75f98653c2\
+     3e63da408110262778f11fb3c46f014f0089ff45b23b339806b5b5adbd7e447e7afb95bd07edb33a2610fe2179db3ecd83b4c1b0ae50\
+     c29cf63d39299e1435609a3a2cccf10a984335d7dcfdfad56f26",
+    "4701009f397844715a304c51058db5c165ce90fc5b057510992e99696e94f12a385de9865d683af7bad27d86a02a0936942b294b56b2\
+     a0468470f0aed566d09997d6330607ea025e4ee9ee13f590e00ca0f7614a9a20625992bff01b823dc3e35771921d126aeeac613165d6\
+     ae062df9ff812fd08fbe0d7c1f0ee647d0ab7bf5c4ae39c78d1b9f869f0bd474b1cd3850b3be88d2f556ad3074dd6a7ef1be929686f2\
+     a3308c37811a33f64511b4ab9f9bf47fd99f8bec7ac3dc1293b2",
+    "4701009077662dc2c9c3443057a5dbe7b493e98678eb1e7ede20e9ba8189859b54a4f537a74239289b304a42845992e2d25c65d3977f\
+     d34b31e6646ad615e1c38d503254201887955d28315a78d1ac81ce95de1e8fec886d7f967c5683a998d6bbcdf8ae57b769b95e0a10ad\
+     71f03174535bc831c8d2eb0e6cc73d295553d980817eb70780bc8c9ddde5e8dc2c2d68c7ede05379b04a8ccb9b1f06d9e7f612a09c30\
+     1e24acaf7b8557f4ead3a365e906c82a0eb579fa21a5ed7ea736",
+    "47010090ee079eb0ee5d2d1758e9ebab51d6020c0875a92fcfece9659edf71a15a211db0ba30cc12586e5320d8341b7387e849f8eacc\
+     f32983e9d038ddd2e8e9a8250cfe84ba7a8b2d1fe0c8cc7f3918c741b9813eb9a0b158f720b3f83148f820fb9d4adc0e9e90e7707796\
+     07ee4e2421993936aa52dad624ee42b1219616e9ddb13964ec493e7c1e72dc4a71298db0769aaf2b3e95afd322f99fff59615be25e30\
+     2eb323198dcba75c1f27e97ca1f430c2302f38ab6cf2b6034c58",
+    "4741f1110080b0530000c1000000000001000000000000000000000004018229606edb4eb380c6745a1a0ef112fb4f37fd1a5ac322f2\
+     eb828187831d8c4016f21bec8b49a29a6bf944da8fbb98bb010100000000000030c471bce7",
+];
+
+// The SHA-256 of the four clear packets.
+const CLEAR: &str = "915ed159f855453591af9353b4144cc0cdf5808705c820efa83948d069ab70fd";
+
+// The stream up to its last packet but so many.
+fn stream(alloc: Global, left_out: usize) -> Option<Vec<u8>> {
+    let mut bytes = Vec::new(alloc);
+    for text in PACKETS
+        .iter()
+        .take(PACKETS.len() - left_out.min(PACKETS.len()))
+    {
+        bytes.extend_from_slice(&beginning(text)?).ok()?;
+    }
+    Some(bytes)
+}
+
+// What is answered for a stream that is read and written so many bytes at a time, how it ended, and what was written.
+fn counted<L: Ledger>(
+    alloc: Global,
+    bytes: Vec<u8>,
+    most: usize,
+    blank: Blank,
+) -> Option<(Result<u64, DriveFault<StreamFault>>, Ending, Vec<u8>)>
+    requires name { blank.name ≡ L.name }
+    requires parts { blank.parts ≡ L.parts }
+    requires some { 0 < blank.parts }
+    requires most { 1 ≤ most }
+{
+    let file = <[u8; 252]>::from_hex(CARD).ok()?;
+    let mut steps = Steps::<L>::new(blank);
+    let card = Card::read(alloc, &file).ok()?;
+    let Ok(mut receiver) = Receiver::new(alloc, card) else {
+        return None;
+    };
+    let mut source = MemSource::new(bytes, most, Vec::new(alloc));
+    let mut sink = MemSink::new(alloc, 1000, most, Vec::new(alloc)).ok()?;
+    let result = drive(&mut source, &mut sink, &mut receiver, &mut steps);
+    Some((result, receiver.ending(), sink.into_bytes()))
+}
+
+fn uncounted(
+    alloc: Global,
+    bytes: Vec<u8>,
+    most: usize,
+) -> Option<(Result<u64, DriveFault<StreamFault>>, Ending, Vec<u8>)>
+    requires most { 1 ≤ most }
+{
+    counted::<Brand>(alloc, bytes, most, Blank::new(1))
+}
+
+#[test]
+fn streams_are_opened(rt: HostRuntime) -> Result<(), Fail> {
+    // How many packets are left out at the end, how many bytes are read and written at a time, the ending, and how many
+    // bytes are written.
+    for (left_out, most, due, count) in [
+        (0, 1000, Ending::Opened, 752),
+        (0, 1, Ending::Opened, 752),
+        (1, 1000, Ending::Unclosed(1), 0),
+        (6, 1, Ending::Unclosed(0), 0),
+        (8, 1, Ending::NoCat, 0),
+    ] {
+        let bytes = stream(rt.alloc(), left_out).ok_or("no stream")?;
+        let (result, ending, clear) = uncounted(rt.alloc(), bytes, most).ok_or("no receiver")?;
+        assert_eq!(rt; result, Ok(8 - left_out as u64));
+        assert_eq!(rt; ending, due);
+        assert_eq!(rt; clear.len(), count);
+        if count > 0 {
+            assert_eq!(rt;
+                Sha256::digest(&clear),
+                <[u8; 32]>::from_hex(CLEAR).map_err(|_| "no hash")?
+            );
+        }
+    }
+    Ok(())
+}

@@ -1,0 +1,298 @@
+use crate::sums::has_sum;
+use sd_command_status::Status;
+use sd_test_memory::{Fault, Files, Leaving, left, made};
+use std::alloc::{AllocError, Global};
+use std::test::Fail;
+
+/// How many bytes go through a call of a port: fewer than half of any file that a command makes, and of any text.
+const PIECE: usize = 8;
+
+/// What a command makes and prints, by how the SHA-256 of it begins: nothing where there is no text.
+type Sum<'a> = &'a str;
+
+/// A command.
+#[derive(Clone, Copy)]
+struct Command<'a> {
+    words: &'a [&'a str],
+    /// The files that it reads, in their order, each of one letter.
+    reads: &'a [&'a str],
+    /// Whether the last of them goes into OUT while it is read.
+    streams: bool,
+    /// OUT.
+    makes: Sum<'a>,
+    prints: Sum<'a>,
+}
+
+/// A run of it in which nothing fails, and its files.
+#[derive(Drop)]
+struct Whole<'a> {
+    command: Command<'a>,
+    files: &'a Files,
+    left: Leaving,
+}
+
+/// The files that the commands read.
+fn files(alloc: Global) -> Result<Files, AllocError> {
+    let mut files = Files::new(alloc)?;
+    files.add(alloc, "B", b"revoke 0\nrevoke 7\n")?;
+    files.add(alloc, "R", b"revoke 5\n")?;
+    files.add(alloc, "M", b"period\nsubscribe 5\n")?;
+    files.add(alloc, "A", b"assign ann 5\nperiod\ndrop ann\n")?;
+    files.add(alloc, "P", b"revoke 0\nrevoke 2\n")?;
+    files.add(alloc, "L", b"1\n6\n")?;
+    let clear = made(alloc, &files, &["sample", "0", "3", "O"])?;
+    files.add(alloc, "C", &clear)?;
+    let card = made(alloc, &files, &["card", "S", "0", "O"])?;
+    files.add(alloc, "K", &card)?;
+    let stream = made(alloc, &files, &["head", "S", "M", "C", "O"])?;
+    files.add(alloc, "X", &stream)?;
+    Ok(files)
+}
+
+impl<'a> Whole<'a> {
+    /// Whether it made and printed all.
+    fn is_done(&self) -> bool {
+        let left = &self.left;
+        let out = match &left.out {
+            Some(out) => has_sum(out, self.command.makes),
+            None => self.command.makes.is_empty(),
+        };
+        let printed = has_sum(&left.printed, self.command.prints);
+        left.status == Status::Done
+            && out
+            && (printed || left.printed.is_empty() && self.command.prints.is_empty())
+            && !left.failed
+            && left.made == u64::from(left.out.is_some())
+            && left.stayed
+    }
+
+    /// What is left where a call fails.
+    fn left(&self, alloc: Global, fault: Fault<'_>) -> Result<Leaving, AllocError> {
+        left(alloc, self.files, self.command.words, PIECE, fault)
+    }
+
+    /// Whether a device's fault is told after the first whole lines, and OUT begins the whole one where it was made.
+    fn is_failed(&self, left: &Leaving, is_made: bool) -> bool {
+        let is_prefix = match &self.left.out {
+            Some(whole) if is_made => left.is_prefix_of(whole),
+            _ => left.out.is_none(),
+        };
+        left.status == Status::DepotFault
+            && left.status.code() == 4
+            && self.is_told(&left.printed, b"device fault\n")
+            && is_prefix
+            && left.failed
+            && left.made == u64::from(is_made)
+            && left.stayed
+    }
+
+    /// Whether the line is printed after the first whole lines.
+    fn is_told(&self, printed: &[u8], line: &[u8]) -> bool {
+        let length = printed.len().saturating_sub(line.len());
+        let prefix = printed.get(..length).unwrap_or(&[]);
+        printed.ends_with(line)
+            && self.left.printed.starts_with(prefix)
+            && (prefix.is_empty() || prefix.ends_with(b"\n"))
+    }
+
+    /// Whether printing failed after so many bytes, and OUT is whole; or all is done where nothing is printed.
+    fn is_cut_off(&self, left: &Leaving, length: usize) -> bool {
+        let is_told = if self.left.printed.is_empty() {
+            left.status == Status::Done && left.printed.is_empty()
+        } else {
+            left.status == Status::PrintFault
+                && left.status.code() == 5
+                && left.printed.len() == length
+                && self.left.printed.starts_with(&left.printed)
+        };
+        is_told
+            && left.out == self.left.out
+            && !left.failed
+            && left.made == self.left.made
+            && left.stayed
+    }
+
+    /// The first call of the depot that fails and isn't told so: one opens each file that is read, and two make OUT and
+    /// close it.
+    fn wrong_call(&self, alloc: Global) -> Result<Option<u32>, AllocError> {
+        let reads = self.command.reads.len();
+        let calls = if self.left.out.is_some() { 2 } else { 0 };
+        for place in 0..reads.saturating_add(calls) {
+            let number = u32::try_from(place).unwrap_or(u32::MAX);
+            let left = self.left(alloc, Fault::Call(number))?;
+            if !self.is_failed(&left, reads < place) {
+                return Ok(Some(number));
+            }
+        }
+        Ok(None)
+    }
+
+    /// The first file of which the first or the second call fails and isn't told so.
+    fn wrong_port(&self, alloc: Global) -> Result<Option<&'a str>, AllocError> {
+        let mut rest = self.command.reads.len();
+        for name in self.command.reads {
+            rest = rest.saturating_sub(1);
+            let is_made = self.command.streams && rest == 0;
+            if !self.fails_at(alloc, name, is_made)? {
+                return Ok(Some(name));
+            }
+        }
+        if self.left.out.is_some() && !self.fails_at(alloc, "O", true)? {
+            return Ok(Some("O"));
+        }
+        Ok(None)
+    }
+
+    /// Whether the first and the second call of the port of this name are told where they fail.
+    fn fails_at(&self, alloc: Global, name: &str, is_made: bool) -> Result<bool, AllocError> {
+        let first = self.left(alloc, Fault::Port(name, 0))?;
+        let second = self.left(alloc, Fault::Port(name, 1))?;
+        Ok(self.is_failed(&first, is_made) && self.is_failed(&second, is_made))
+    }
+
+    /// Whether the first and the second print are told where they fail.
+    fn fails_at_prints(&self, alloc: Global) -> Result<bool, AllocError> {
+        let first = self.left(alloc, Fault::Print(0))?;
+        let second = self.left(alloc, Fault::Print(1))?;
+        Ok(self.is_cut_off(&first, 0) && self.is_cut_off(&second, PIECE))
+    }
+}
+
+/// A command that makes and prints this, by its words, the files that it reads, and whether the last of them is read
+/// while OUT is written.
+fn row<'a>(
+    words: &'a [&'a str],
+    reads: &'a [&'a str],
+    streams: bool,
+    makes: Sum<'a>,
+    prints: Sum<'a>,
+) -> Command<'a> {
+    Command {
+        words,
+        reads,
+        streams,
+        makes,
+        prints,
+    }
+}
+
+#[test]
+fn failing_calls_are_told_by_each_command(rt: HostRuntime) -> Result<(), Fail> {
+    let alloc = rt.alloc();
+    let files = files(alloc)?;
+    for command in [
+        row(
+            &["cover", "S", "B"],
+            &["S", "B"],
+            false,
+            "",
+            "8f49d544add51b1c",
+        ),
+        row(
+            &["layered", "S", "B", "2"],
+            &["S", "B"],
+            false,
+            "",
+            "49da13b5f9be295e",
+        ),
+        row(
+            &["plan", "S", "B", "600", "3"],
+            &["S", "B"],
+            false,
+            "",
+            "8a5646abe1cff276",
+        ),
+        row(
+            &["accounts", "S", "A", "O"],
+            &["S", "A"],
+            false,
+            "6004a0e63339f065",
+            "20a39407d36daa17",
+        ),
+        row(
+            &["book", "S", "R", "M", "O"],
+            &["S", "R", "M"],
+            false,
+            "1be60745ace5d12f",
+            "",
+        ),
+        row(
+            &["card", "S", "0", "O"],
+            &["S"],
+            false,
+            "a4b19001906beb19",
+            "",
+        ),
+        row(
+            &["lcard", "S", "5", "2", "O"],
+            &["S"],
+            false,
+            "c2961eac63670ce1",
+            "",
+        ),
+        row(
+            &["sample", "0", "4", "O"],
+            &[],
+            false,
+            "fcc946789d7bffb6",
+            "",
+        ),
+        row(
+            &["head", "S", "M", "C", "O"],
+            &["S", "M", "C"],
+            true,
+            "9c6d622db9f9fa35",
+            "",
+        ),
+        row(
+            &["receive", "K", "X", "O"],
+            &["K", "X"],
+            true,
+            "3e68d36a18df2132",
+            "",
+        ),
+        row(&["tables", "X"], &["X"], false, "", "d29b54c31bc48ee2"),
+        row(
+            &["messages", "S", "X"],
+            &["S", "X"],
+            false,
+            "",
+            "0fb3c1549838f547",
+        ),
+        row(&["show", "K"], &["K"], false, "", "733f52ad790b39c9"),
+        row(
+            &["opens", "S", "P", "L"],
+            &["S", "P", "L"],
+            false,
+            "",
+            "de5663d6a325561e",
+        ),
+        row(
+            &["trace", "S", "R", "L"],
+            &["S", "R", "L"],
+            false,
+            "",
+            "93d74fcfdebfd23e",
+        ),
+        row(
+            &["trial", "S", "R", "C"],
+            &["S", "R", "C"],
+            false,
+            "",
+            "668c63a3ea9d5a9b",
+        ),
+    ] {
+        let words = command.words;
+        let left = left(alloc, &files, words, PIECE, Fault::Nowhere)?;
+        let whole = Whole {
+            command,
+            files: &files,
+            left,
+        };
+        assert!(rt; whole.is_done(), "{words:?}");
+        assert_eq!(rt; whole.wrong_call(alloc)?, None, "{words:?}");
+        assert_eq!(rt; whole.wrong_port(alloc)?, None, "{words:?}");
+        assert!(rt; whole.fails_at_prints(alloc)?, "{words:?}");
+    }
+    Ok(())
+}

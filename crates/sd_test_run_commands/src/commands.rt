@@ -1,0 +1,426 @@
+ghost use Rattle.std.specs.Prelude.{◌≤◌};
+
+use sd_command_status::{ClearCause, Status, StreamCause};
+use sd_engine::BreakCause;
+use sd_test_memory::{Fault, Files, Leaving, left};
+use std::alloc::{AllocError, Global};
+
+/// The page of `tables`.
+const PAGE: &str = "sdca tables STREAM
+prints the tables of a stream, one line of JSON each
+
+arguments
+  STREAM    a transport stream; /dev/stdin for a pipe
+
+exits
+   0  the work is done
+   1  usage: unknown command, wrong number of arguments, text not in UTF-8, or OUT is an input
+   2  the file that argument N names does not exist; for OUT, its folder does not exist
+   4  an I/O error at a file
+   5  an I/O error while printing
+  10  a packet of the stream is refused
+  12  out of memory
+
+example
+  sdca tables broadcast.ts
+";
+
+/// What `version` prints.
+const VERSION: &str = "sdca 1.0.0
+proved in logic dac8208d650f15bf (rattle-kit-13f)
+";
+
+/// The lines of `help` that stand at its ends and beside the longest words.
+const LISTED: [(usize, &str); 4] = [
+    (
+        0,
+        "sdca: conditional access for transport streams, by Subset Difference",
+    ),
+    (
+        2,
+        "  accounts SITE ACCOUNTS OUT   makes the book from the accounts of named subscribers, and reports them",
+    ),
+    (
+        4,
+        "  book SITE BOOK COMMANDS OUT  makes a longer book: its commands, then those of COMMANDS",
+    ),
+    (
+        19,
+        "  trial SITE BOOK CLEAR        prints what each receiver writes from a broadcast",
+    ),
+];
+
+/// A book that revokes the leaves 0 and 2.
+const REVOKED: &[u8] = b"revoke 0\nrevoke 2\n";
+
+/// A file by its name.
+type File<'a> = (&'a str, &'a [u8]);
+
+/// What the words leave where the site is the file S and these stand beside it.
+fn after(
+    alloc: Global,
+    words: &[&str],
+    files: &[File<'_>],
+    most: usize,
+) -> Result<Leaving, AllocError>
+    requires { 1 ≤ most }
+{
+    let mut all = Files::new(alloc)?;
+    for (name, bytes) in files {
+        all.add(alloc, name, bytes)?;
+    }
+    left(alloc, &all, words, most, Fault::Nowhere)
+}
+
+/// What a run leaves.
+#[derive(Clone, Copy)]
+struct Due<'a> {
+    status: Status,
+    printed: &'a str,
+    out: Option<&'a [u8]>,
+}
+
+/// A refusal by this line, which leaves this OUT.
+fn refused<'a>(status: Status, line: &'a str, out: Option<&'a [u8]>) -> Due<'a> {
+    Due {
+        status,
+        printed: line,
+        out,
+    }
+}
+
+/// This text, printed.
+fn printed(text: &str) -> Due<'_> {
+    Due {
+        status: Status::Done,
+        printed: text,
+        out: None,
+    }
+}
+
+impl<'a> Due<'a> {
+    /// Whether it is what was left.
+    fn is_left(&self, left: &Leaving) -> bool {
+        let out = match &left.out {
+            Some(bytes) => self.out == Some(bytes.as_slice()),
+            None => self.out.is_none(),
+        };
+        left.status == self.status
+            && left.printed.as_slice() == self.printed.as_bytes()
+            && out
+            && left.stayed
+    }
+}
+
+#[test]
+fn accounts_are_refused_by_their_line(rt: HostRuntime) -> Result<(), AllocError> {
+    let lines = b"assign ann 5\ndrop bob\ndrop ann\n";
+    let left = after(
+        rt.alloc(),
+        &["accounts", "S", "A", "O"],
+        &[("A", lines)],
+        10,
+    )?;
+    let status = Status::BadBook { word: 2, line: 2 };
+    assert!(rt; refused(status, "word 2 line 2 is refused\n", None).is_left(&left));
+    Ok(())
+}
+
+#[test]
+fn broadcasts_are_made(rt: HostRuntime) -> Result<(), AllocError> {
+    let alloc = rt.alloc();
+    let words = ["head", "S", "B", "C", "O"];
+    let cause = ClearCause::Broken(BreakCause::Torn);
+    let torn = Status::BadClear { packet: 0, cause };
+    for most in [1, 1000] {
+        let left = after(alloc, &words, &[("B", b""), ("C", b"")], most)?;
+        assert_eq!(rt; left.status, Status::Done);
+        let out = left.out.expect(&rt, "a broadcast");
+        assert_eq!(rt; out.len(), 564);
+        assert!(rt; out.as_slice().starts_with(&[0x47, 0x40, 0x01, 0x10, 0x00]));
+        let left = after(alloc, &words, &[("B", b""), ("C", b"period\n")], most)?;
+        assert!(rt; refused(torn, "clear packet 0: torn\n", Some(b"")).is_left(&left));
+    }
+    let mut files = Files::new(alloc)?;
+    files.add(alloc, "B", b"")?;
+    files.add(alloc, "C", b"")?;
+    files.room = 200;
+    let cut = left(alloc, &files, &words, 100, Fault::Nowhere)?;
+    assert_eq!(rt; cut.status, Status::DepotFault);
+    assert!(rt; cut.out.is_some_and(|out| out.len() < 564));
+    Ok(())
+}
+
+#[test]
+fn messages_are_printed(rt: HostRuntime) -> Result<(), AllocError> {
+    let alloc = rt.alloc();
+    for (packets, lines) in [
+        (
+            [
+                "474001100001b011ffffc1000009061234e1f0e1f192f94eeb",
+                "4741f0100082b04c0000c10000000000000000000100018e7c98755d4f1259303e2c26f84665c7010000000000000000a96fc38d45af14016d8f9f0d1688616d0d70f5ba661218fb326af486ddaa0354cdb2897d",
+                "4741f1100080b04b0000c1000000000000000000000000000000000000008229606edb4eb380c6745a1a0ef112fb4f37fd1a5ac322f2eb828187831d8c4016f21bec8b49a29a6bf944da8fbb98bb002a26ffa7",
+            ]
+            .as_slice(),
+            "{\"check\":\"8e7c98755d4f1259303e2c26f84665c7\",\"index\":0,\"names\":[\"all\"],\"packet\":1,\"period\":0,\"pid\":496,\"sections\":1,\"sets\":1,\"table\":\"emm\"}
+{\"check\":\"16f21bec8b49a29a6bf944da8fbb98bb\",\"clear\":0,\"closing\":false,\"last\":0,\"number\":0,\"packet\":2,\"part\":0,\"period\":0,\"pid\":497,\"positions\":[],\"since\":0,\"table\":\"ecm\",\"version\":1,\"word\":0}
+",
+        ),
+        (
+            &[
+                "4741f0100082b04c0000c10000000000000000000100028e7c98755d4f1259303e2c26f84665c7010000000000000000a96fc38d45af14016d8f9f0d1688616d0d70f5ba661218fb326af486ddaa03541809772d",
+            ],
+            "{\"fault\":\"count\",\"packet\":0,\"pid\":496,\"table\":\"emm\"}\n",
+        ),
+        (
+            &[
+                "4741f0100082b04c0000c10000000000000000000100018e7c98755d4f1259303e2c26f84665c7010000000000000001a96fc38d45af14016d8f9f0d1688616d0d70f5ba661218fb326af486ddaa035466f23e63",
+            ],
+            "{\"fault\":\"node\",\"packet\":0,\"pid\":496,\"table\":\"emm\"}\n",
+        ),
+        (
+            &[
+                "4741f1110080b0530000c1000000000001000000000000000000000003018229606edb4eb380c6745a1a0ef112fb4f37fd1a5ac322f2eb828187831d8c4016f21bec8b49a29a6bf944da8fbb98bb01001f000000000010927c7887",
+            ],
+            "{\"fault\":\"pid\",\"packet\":0,\"pid\":497,\"table\":\"ecm\"}\n",
+        ),
+    ] {
+        let stream = stream_of(alloc, packets)?;
+        let left = after(alloc, &["messages", "S", "X"], &[("X", &stream)], 100)?;
+        assert!(rt; printed(lines).is_left(&left), "{lines}");
+    }
+    Ok(())
+}
+
+#[test]
+fn cards_are_shown(rt: HostRuntime) -> Result<(), AllocError> {
+    let alloc = rt.alloc();
+    let line =
+        "{\"card\":\"plain\",\"check\":\"058ed3587196e436f13871ca96cfc690\",\"height\":1,\"labels\":1,\"leaf\":0,\"system\":38646}\n";
+    let mut card = hex::decode(
+        alloc,
+        "5344434401010000000096f685e5892971494fcc50e75b868272f7e50f7f27effca8c87c30598ab380d78ee67ab9bfe7bcc2714019729b03ccf923995ff581dd4f2a0798390b367dfa2294ff058ed3587196e436f13871ca96cfc690",
+    )
+    .map_err(|_| AllocError)?;
+    let left = after(alloc, &["show", "K"], &[("K", &card)], 100)?;
+    assert!(rt; printed(line).is_left(&left));
+    card.truncate(91);
+    let left = after(alloc, &["show", "K"], &[("K", &card)], 100)?;
+    assert_eq!(rt; left.status.code(), 8);
+    assert!(rt; left.printed.as_slice() == b"card: length\n".as_slice());
+    Ok(())
+}
+
+#[test]
+fn help_and_version_are_printed(rt: HostRuntime) -> Result<(), AllocError> {
+    let alloc = rt.alloc();
+    for (words, due) in [
+        (["help", "tables"].as_slice(), printed(PAGE)),
+        (&["version"], printed(VERSION)),
+        (&["help", "Tables"], refused(Status::Usage, "usage\n", None)),
+    ] {
+        assert!(rt; due.is_left(&after(alloc, words, &[], 4096)?), "{words:?}");
+    }
+    let list = after(alloc, &["help"], &[], 4096)?;
+    for (place, line) in LISTED {
+        assert!(rt; has_line(&list.printed, place, line.as_bytes()));
+    }
+    Ok(())
+}
+
+/// Whether this line stands at this place.
+fn has_line(text: &[u8], place: usize, line: &[u8]) -> bool {
+    match text.split(|byte| *byte == b'\n').nth(place) {
+        Some(found) => found == line,
+        None => false,
+    }
+}
+
+#[test]
+fn sets_are_open_or_shut(rt: HostRuntime) -> Result<(), AllocError> {
+    let bad = |word, line| Status::BadBook { word, line };
+    let two_periods = "period 0 revoked 0 sets 1\nall open\nperiod 1 revoked 1 sets 1\n1 13 shut\n";
+    let cases: [(&[u8], &[u8], Due<'_>); 7] = [
+        (
+            REVOKED,
+            b"0\n1\n",
+            printed("period 0 revoked 2 sets 3\n1 2 shut\n4 8 open\n5 10 shut\n"),
+        ),
+        (
+            REVOKED,
+            b"0\n2\n",
+            printed("period 0 revoked 2 sets 3\n1 2 shut\n4 8 shut\n5 10 shut\n"),
+        ),
+        (b"period\nrevoke 5\n", b"5\n", printed(two_periods)),
+        (b"", b"", printed("period 0 revoked 0 sets 1\nall shut\n")),
+        (
+            b"",
+            b"1\n0\n",
+            refused(bad(3, 2), "word 3 line 2 is refused\n", None),
+        ),
+        (
+            b"",
+            b"8\n",
+            refused(bad(3, 1), "word 3 line 1 is refused\n", None),
+        ),
+        (
+            b"revoke 8\n",
+            b"8\n",
+            refused(bad(2, 1), "word 2 line 1 is refused\n", None),
+        ),
+    ];
+    for (book, leaves, due) in cases {
+        let left = after(
+            rt.alloc(),
+            &["opens", "S", "B", "L"],
+            &[("B", book), ("L", leaves)],
+            64,
+        )?;
+        assert!(rt; due.is_left(&left), "{book:?} {leaves:?}");
+    }
+    Ok(())
+}
+
+#[test]
+fn coalitions_are_traced(rt: HostRuntime) -> Result<(), AllocError> {
+    let twice = Status::BadBook { word: 3, line: 2 };
+    let cases: [(&[u8], &[u8], Due<'_>); 5] = [
+        (
+            REVOKED,
+            b"1\n6\n",
+            printed("leaf 1 trials 3 splits 0\nleaf 6 trials 4 splits 2\nsilent trials 1\n"),
+        ),
+        (
+            b"",
+            b"6\n",
+            printed("leaf 6 trials 4 splits 3\nsilent trials 1\n"),
+        ),
+        (REVOKED, b"0\n", printed("silent trials 1\n")),
+        (b"period\nrevoke 6\n", b"6\n", printed("silent trials 1\n")),
+        (
+            b"",
+            b"6\n6\n",
+            refused(twice, "word 3 line 2 is refused\n", None),
+        ),
+    ];
+    for (book, leaves, due) in cases {
+        let left = after(
+            rt.alloc(),
+            &["trace", "S", "B", "L"],
+            &[("B", book), ("L", leaves)],
+            64,
+        )?;
+        assert!(rt; due.is_left(&left), "{book:?} {leaves:?}");
+    }
+    Ok(())
+}
+
+/// The card of leaf 0 of this site.
+fn card_0(alloc: Global) -> Result<Vec<u8>, AllocError> {
+    hex::decode(
+        alloc,
+        "5344434401030000000012349a9aea255b8e54be50fc2cb5d0b83ebf64120b12e68d82699face4ee860511dc0938f5db1e2e38332732e7da82f1ad3e4ce6cfe09cd3dfda4ac268d6eabfa59ab342ded9ec0c6429af0728e4d7cc230aa9b240bd7b6685508645c9c756f37c6f0135799ab8c694ef3440af71e7b6efda56a9b412a3317dbcf9a6176da916bf13294ece16c2e41604c23e8fe92448dbb6167694cc2436ee322f6615c94c8e9028fb6a8a9230ac0c7e65288d89f5c32b2bab5fbaf35e3602c60446efa84f2b9563f16ef9480a25e9576d5fc3023e24ba9f562a4a309d483a4724be88217fed2d1c81ab7160c1c8841c3e07b388132bd63b",
+    )
+    .map_err(|_| AllocError)
+}
+
+/// These packets, with bytes 0xFF up to their ends.
+fn stream_of(alloc: Global, packets: &[&str]) -> Result<Vec<u8>, AllocError> {
+    let mut bytes = Vec::new(alloc);
+    for packet in packets {
+        let head = hex::decode(alloc, packet).map_err(|_| AllocError)?;
+        for k in 0..188 {
+            bytes.push(match head.get(k) {
+                Some(byte) => *byte,
+                None => 0xFF,
+            })?;
+        }
+    }
+    Ok(bytes)
+}
+
+/// A broadcast of a PAT and a PMT to all leaves: its packets without the bytes 0xFF at their ends.
+fn opened(alloc: Global) -> Result<Vec<u8>, AllocError> {
+    stream_of(
+        alloc,
+        &[
+            "474001100001b011ffffc1000009061234e1f0e1f192f94eeb",
+            "4741f0100082b04c0000c10000000000000000000100018e7c98755d4f1259303e2c26f84665c7010000000000000000a96fc38d45af14016d8f9f0d1688616d0d70f5ba661218fb326af486ddaa0354cdb2897d",
+            "4741f1100080b04b0000c1000000000000000000000000000000000000008229606edb4eb380c6745a1a0ef112fb4f37fd1a5ac322f2eb828187831d8c4016f21bec8b49a29a6bf944da8fbb98bb002a26ffa7",
+            "474000100000b00d0001c100000001f0002ab104b2",
+            "475000100002b0170001c10000e100f0001ce100f0000fe101f0002f44b99b",
+            "4741f1110080b0530000c1000000000001000000000000000000000002018229606edb4eb380c6745a1a0ef112fb4f37fd1a5ac322f2eb828187831d8c4016f21bec8b49a29a6bf944da8fbb98bb011000000000000010d5aa8db5",
+        ],
+    )
+}
+
+/// One of three packets, of which the first control message has another last byte and is dropped.
+fn missing(alloc: Global) -> Result<Vec<u8>, AllocError> {
+    stream_of(
+        alloc,
+        &[
+            "474001100001b011ffffc1000009061234e1f0e1f192f94eeb",
+            "4741f0100082b04c0000c10000000000000000000100018e7c98755d4f1259303e2c26f84665c7010000000000000000a96fc38d45af14016d8f9f0d1688616d0d70f5ba661218fb326af486ddaa0354cdb2897d",
+            "4741f1100080b04b0000c1000000000000000000000000000000000000008229606edb4eb380c6745a1a0ef112fb4f37fd1a5ac322f2eb828187831d8c4016f21bec8b49a29a6bf944da8fbb98bb002a26ffa6",
+            "474000100000b00d0001c100000001f0002ab104b2",
+            "475000100002b01d0001c10000e100f00609041234e1f11be100f0000fe101f000b06cc7bd",
+            "471fff10",
+            "4741f1110080b0530000c1000000000001000000000000000000000003018229606edb4eb380c6745a1a0ef112fb4f37fd1a5ac322f2eb828187831d8c4016f21bec8b49a29a6bf944da8fbb98bb011000000000000010428a56a6",
+        ],
+    )
+}
+
+/// Whether a stream is received so, if a byte, a packet or more is read and written at a time.
+fn is_received<'a>(
+    alloc: Global,
+    card: &'a [u8],
+    stream: &'a [u8],
+    due: Due<'_>,
+) -> Result<bool, AllocError> {
+    for most in [1, 188, 1000] {
+        let files: [File<'a>; 2] = [("K", card), ("X", stream)];
+        let left = after(alloc, &["receive", "K", "X", "O"], &files, most)?;
+        if !due.is_left(&left) {
+            return Ok(false);
+        }
+    }
+    Ok(true)
+}
+
+#[test]
+fn broadcasts_are_received(rt: HostRuntime) -> Result<(), AllocError> {
+    let alloc = rt.alloc();
+    let card = card_0(alloc)?;
+    let opened = opened(alloc)?;
+    let clear = stream_of(
+        alloc,
+        &[
+            "474000100000b00d0001c100000001f0002ab104b2",
+            "475000100002b0170001c10000e100f0001ce100f0000fe101f0002f44b99b",
+        ],
+    )?;
+    let missing = missing(alloc)?;
+    let cause = StreamCause::Broken(BreakCause::Torn);
+    let torn = Status::BadStream { packet: 1, cause };
+    let nothing: Option<&[u8]> = Some(b"");
+    let done = Due {
+        out: Some(&clear),
+        ..printed("")
+    };
+    assert!(rt; is_received(alloc, &card, &opened, done)?);
+    let unclosed = refused(
+        Status::Unclosed(1),
+        "stream ends before message 1\n",
+        nothing,
+    );
+    let early = opened.get(..940).unwrap_or(&[]);
+    assert!(rt; is_received(alloc, &card, early, unclosed)?);
+    let gaps = refused(Status::Gaps(3), "3 clear packets are missing\n", nothing);
+    assert!(rt; is_received(alloc, &card, &missing, gaps)?);
+    let no_cat = refused(Status::NoCat, "no CAT for this card\n", nothing);
+    assert!(rt; is_received(alloc, &card, b"", no_cat)?);
+    let broken = refused(torn, "stream packet 1: torn\n", nothing);
+    let cut = opened.get(..200).unwrap_or(&[]);
+    assert!(rt; is_received(alloc, &card, cut, broken)?);
+    Ok(())
+}

@@ -1,0 +1,76 @@
+use crate::rows::{ALL, covered};
+use sd_command_status::Status;
+use sd_test_memory::{Fault, SITE};
+use std::alloc::{AllocError, Global};
+
+/// Whether node v of a tree of height d is at or above one of these leaves, which are the bits of a number.
+fn is_in_tree(d: u32, leaves: u32, v: u32) -> bool {
+    let first = 1u32.wrapping_shl(d);
+    (0..first).any(|u| {
+        let node = first.wrapping_add(u);
+        leaves.wrapping_shr(u) & 1 == 1 && (0..=d).any(|k| node.wrapping_shr(k) == v)
+    })
+}
+
+/// The lines of the chain cover where these leaves are revoked, read off its definition.
+fn plain_cover(alloc: Global, d: u32, leaves: u32) -> Result<String, AllocError> {
+    let mut sets = String::new(alloc);
+    let mut count = 0u32;
+    for v in 1..2u32.wrapping_shl(d) {
+        if !is_in_tree(d, leaves, v) || (v != 1 && !is_in_tree(d, leaves, v ^ 1)) {
+            continue;
+        }
+        let mut end = v;
+        for _level in 0..d {
+            let left = end.wrapping_mul(2);
+            let right = left.wrapping_add(1);
+            match (is_in_tree(d, leaves, left), is_in_tree(d, leaves, right)) {
+                (true, false) => end = left,
+                (false, true) => end = right,
+                _ => {}
+            }
+        }
+        if end != v {
+            write!(sets, "{v} {end}\n")?;
+            count = count.wrapping_add(1);
+        }
+    }
+    if leaves == 0 {
+        return String::from_str(alloc, ALL);
+    }
+    let revoked = leaves.count_ones();
+    format!(in alloc; "period 0 revoked {revoked} sets {count}\n{sets}")
+}
+
+#[test]
+fn covers_are_those_of_the_definition(rt: HostRuntime) -> Result<(), AllocError> {
+    let alloc = rt.alloc();
+    for d in 1..=3u32 {
+        let mut site = format!(in alloc; "height {d}")?;
+        let rest = str::from_utf8(&SITE[8..]).map_err(|_| AllocError)?;
+        site.push_str(rest)?;
+        for leaves in 0..1u32.wrapping_shl(1u32.wrapping_shl(d)) {
+            let mut book = String::new(alloc);
+            for u in 0..1u32.wrapping_shl(d) {
+                if leaves.wrapping_shr(u) & 1 == 1 {
+                    write!(book, "revoke {u}\n")?;
+                }
+            }
+            let due = plain_cover(alloc, d, leaves)?;
+            let (status, printed) = covered(
+                alloc,
+                site.as_bytes(),
+                book.as_bytes(),
+                65_536,
+                Fault::Nowhere,
+            )?;
+            assert_eq!(rt; status, Status::Done);
+            assert_eq!(rt;
+                printed.as_slice(),
+                due.as_bytes(),
+                "{leaves} at height {d}"
+            );
+        }
+    }
+    Ok(())
+}

@@ -1,0 +1,143 @@
+use sd_command_status::{ClearCause, Status};
+use sd_ports::MemSink;
+use sd_sample::sample;
+use sd_test_memory::{Fault, Files, SITE, left};
+use std::alloc::{AllocError, Global};
+use std::fmt::Write;
+
+/// The digests of nothing, and of the first 200 and 400 packets of the clear stream.
+const NOTHING: &str = "e3b0c44298fc1c149afbf4c8996fb924";
+
+const FIRST_200: &str = "cc8f355dd52654098b1d7a22ca415505";
+
+const FIRST_400: &str = "65ca572549de292daf9c613e29bc7ad9";
+
+/// Lines of a site that shares its cards: from the first word and the last to the first period.
+const WORDS: &str = "messages 2\nfirst-word 7\nlast-word 8\nfirst-period 1\n";
+
+const HIGH: &str = "messages 2\nfirst-word 1\nlast-word 2\nfirst-period 4294967295\n";
+
+const LAST: &str = "messages 2\nfirst-word 1\nlast-word 2\nfirst-period 1023\n";
+
+/// Lines after the site's, a script, the first line that is printed, and how many packets each receiver writes.
+type Row = (&'static str, &'static str, &'static str, [u32; 8]);
+
+static ROWS: [Row; 9] = [
+    (
+        "",
+        "send 250\nrevoke 5\nsend 350\noffer 5 607\noffer 0 607\nlose 3 3\noffer 3 604\noffer 1 300\noff 1\non 1\noffer 1 307\n",
+        "sends 600 packets 607 period 1\n",
+        [400, 200, 0, 0, 0, 400, 0, 0],
+    ),
+    (
+        "",
+        "send 1\nrevoke 0\nsend 400\noffer 0 408\n",
+        "sends 401 packets 408 period 1\n",
+        [400, 0, 0, 0, 0, 0, 0, 0],
+    ),
+    (
+        "",
+        "revoke 0\nsend 1\nrevoke 0\nsend 400\noffer 0 408\n",
+        "sends 401 packets 408 period 1\n",
+        [0; 8],
+    ),
+    (
+        WORDS,
+        "send 250\nrevoke 5\nsend 350\noffer 5 607\noffer 0 607\n",
+        "sends 600 packets 607 period 2\n",
+        [400, 0, 0, 0, 0, 400, 0, 0],
+    ),
+    (
+        WORDS,
+        "revoke 5\nsend 401\noffer 5 408\n",
+        "sends 401 packets 408 period 2\n",
+        [0; 8],
+    ),
+    (
+        HIGH,
+        "revoke 5\nsend 250\nrevoke 0\nsend 350\noffer 5 607\noffer 0 607\n",
+        "sends 600 packets 607 period 1023\n",
+        [400, 0, 0, 0, 0, 0, 0, 0],
+    ),
+    (
+        LAST,
+        "revoke 5\nsend 250\nrevoke 0\nsend 350\noffer 5 607\noffer 0 607\n",
+        "sends 600 packets 607 period 1023\n",
+        [400, 0, 0, 0, 0, 0, 0, 0],
+    ),
+    (
+        "messages 1\nfirst-word 7\nlast-word 7\nfirst-period 0\n",
+        "send 400\n",
+        "sends 400 packets 404 period 0\n",
+        [0; 8],
+    ),
+    (
+        "",
+        "off 0\non 0\noffer 0 3\n",
+        "sends 0 packets 0 period 0\n",
+        [0; 8],
+    ),
+];
+
+/// The files of a field: the site with lines after it, the clear stream of 600 packets, and the script.
+fn field_files(alloc: Global, more: &str, script: &str) -> Result<Files, AllocError> {
+    let mut site = Vec::from_slice(alloc, SITE)?;
+    site.extend_from_slice(more.as_bytes())?;
+    let mut sink = MemSink::new(alloc, 112_800, 112_800, Vec::new(alloc)).map_err(|_| AllocError)?;
+    sample(7, 600, &mut sink).map_err(|_| AllocError)?;
+    let mut files = Files::with(alloc, "S", &site)?;
+    files.add(alloc, "C", sink.bytes())?;
+    files.add(alloc, "E", script.as_bytes())?;
+    Ok(files)
+}
+
+/// The lines of a field: the first, and that of each receiver.
+fn lines(alloc: Global, first: &str, wrote: &[u32]) -> Result<String, AllocError> {
+    let mut text = String::from_str(alloc, first)?;
+    for (u, count) in wrote.iter().enumerate() {
+        let digest = match *count {
+            0 => NOTHING,
+            200 => FIRST_200,
+            _ => FIRST_400,
+        };
+        write!(&mut text, "receiver {u} wrote {count} digest {digest}\n").map_err(|_| AllocError)?;
+    }
+    Ok(text)
+}
+
+#[test]
+fn fields_are_printed(rt: HostRuntime) -> Result<(), AllocError> {
+    let alloc = rt.alloc();
+    for (more, script, first, wrote) in ROWS {
+        let files = field_files(alloc, more, script)?;
+        let left = left(
+            alloc,
+            &files,
+            &["field", "S", "C", "E"],
+            4096,
+            Fault::Nowhere,
+        )?;
+        assert_eq!(rt; left.status, Status::Done);
+        let due = lines(alloc, first, &wrote)?;
+        assert!(rt; left.printed.as_slice() == due.as_bytes(), "{script}");
+    }
+    Ok(())
+}
+
+#[test]
+fn refused_sends_are_told_alone(rt: HostRuntime) -> Result<(), AllocError> {
+    let alloc = rt.alloc();
+    let more = "messages 1\nfirst-word 7\nlast-word 7\nfirst-period 0\n";
+    let files = field_files(alloc, more, "send 401\noffer 0 405\n")?;
+    let left = left(
+        alloc,
+        &files,
+        &["field", "S", "C", "E"],
+        4096,
+        Fault::Nowhere,
+    )?;
+    let cause = ClearCause::TooLong;
+    assert_eq!(rt; left.status, Status::BadClear { packet: 400, cause });
+    assert!(rt; left.printed.as_slice() == b"clear packet 400: too long\n".as_slice());
+    Ok(())
+}

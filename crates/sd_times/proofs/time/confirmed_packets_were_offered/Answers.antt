@@ -1,5 +1,0 @@
-use Rattle.sd_times.proofs.Kept.{confirmed_are_kept}
-use Rattle.sd_times.proofs.time.confirmed_packets_were_offered.Goals as goal
-
-pub returns : goal.returns
-returns c = confirmed_are_kept

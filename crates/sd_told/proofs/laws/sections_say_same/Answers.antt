@@ -1,6 +1,0 @@
-use Rattle.sd_told.proofs.Alike.{any_two, none_mixed}
-use Rattle.sd_told.proofs.Keyed.{period_due}
-use Rattle.sd_told.proofs.laws.sections_say_same.Goals as goal
-
-pub returns : goal.returns
-returns c = record { period = period_due; two = any_two; mixed = none_mixed }
