@@ -26,8 +26,8 @@ pub record PageState : Type 0 where
   pub faults : ℕ
 
 pub record Outside : Type 0 where
-  pub depot_state : DepotState
-  pub page_state : PageState
+  pub place : DepotState
+  pub page : PageState
   -- the steps of the generator
   pub steps : ℕ
 
@@ -46,7 +46,7 @@ abbrev pub page_state : {P : Type 0} → SinkMeanings P → P → PageState
 page_state meanings print = record { printed = meanings.held print; faults = meanings.faults print }
 
 abbrev pub outside : DepotState → PageState → ℕ → Outside
-outside depot_state page_state steps = record { place = depot_state; page = page_state; steps = steps }
+outside place page steps = record { place = place; page = page; steps = steps }
 
 -- the depot with another count of calls
 abbrev pub recalled : ℕ → DepotState → DepotState
