@@ -4,4 +4,4 @@
 mod keystream;
 pub mod laws;
 
-pub use keystream::{fill, first_bytes, lay};
+pub use keystream::{fill, first_bytes, lay, payload_stream};

@@ -4,7 +4,7 @@ ghost use Rattle.sd_packet.specs.Positions.{is_positional};
 ghost use Rattle.sd_keystream.specs.Keystream.{xored};
 ghost use Rattle.sd_scramble.specs.Scrambling.{laid_under, control_of, scrambled, descrambled};
 
-use sd_keystream::{fill, lay};
+use sd_keystream::{lay, payload_stream};
 use sd_packet::Packet;
 
 /// Whether the number of a control word is even or odd.
@@ -64,8 +64,7 @@ fn lay_under(packet: &mut Packet, word: &[u8; 32], position: u64, control: u8)
     ensures length { length packet.old ≡ 188 }
 {
     let number = u64::from(packet.pid()) * (1 << 48) + position;
-    let mut bytes = [0; 184];
-    fill(word, number, &mut bytes);
+    let mut bytes = payload_stream(word, number);
     let length = packet.payload().len();
     lay_first(&mut bytes, packet.payload());
     packet.set_payload(&bytes[..length]);

@@ -30,7 +30,7 @@ returns-clause-value c =
     c.set_payload.new.self c.set_scrambling.new.self c.args.position c.args.control c.set_payload.ensures.length
     (ap (λ (n : ℕ). take n c.lay_first.new.stream) (c.payload-length.ensures.length ∙ sym c.payload.ensures.length)
     ∙ (c.lay_first.ensures
-    ∙ grind (arith, c.payload.ensures.value, c.fill.ensures.value, c.from.ensures, c.pid.ensures.value)))
+    ∙ grind (arith, c.payload.ensures.value, c.payload_stream-bytes.ensures, c.from.ensures, c.pid.ensures.value)))
     c.set_payload.ensures.value c.set_scrambling.ensures.value
 
 pub returns-clause-byte : goal.returns-clause-byte
