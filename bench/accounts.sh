@@ -1,6 +1,7 @@
 #!/bin/sh
 # Measures `accounts` beside awk doing the same bookkeeping, in one run. To be run by hand, from any folder:
-# `bench/accounts.sh`, or `SDCA=PROGRAM bench/accounts.sh` with a program that is built already.
+# `bench/accounts.sh`, or `SDCA=PROGRAM [OLD=PROGRAM] bench/accounts.sh` with programs that are built already. An older
+# program named by OLD takes its turn too.
 #
 # The accounts file has 1,048,576 lines for a site of height 20: 500,000 names that are assigned leaves in no order, and
 # then names that are dropped and restored, drawn at random, with 1,000 periods and at most 65,536 names dropped at a
@@ -9,8 +10,8 @@
 # five rounds are shown, and the books and the reports are compared byte for byte. The files are in memory where there
 # is /dev/shm.
 #
-# It prints the milliseconds of both and what part of awk's time sdca takes, which is to be at most 0.5, and the peak
-# memory of sdca.
+# It prints the milliseconds of each and what part of awk's time sdca takes, which is to be at most 0.25, and the peak
+# memory, which is to be at most 160 MiB.
 set -eu
 . "$(dirname "$0")/shared.sh"
 rounds=5
@@ -38,7 +39,8 @@ awk 'BEGIN {
 }' >"$files/accounts"
 [ "$(wc -l <"$files/accounts")" = 1048576 ] || fail "the accounts file has another number of lines"
 
-accounts_ours() { ./sdca accounts site "$files/accounts" "$files/ours" >"$files/reported"; }
+# PROGRAM: its book and its report.
+accounts_by() { "$1" accounts site "$files/accounts" "$files/ours" >"$files/reported"; }
 
 accounts_awk() {
     awk -v book="$files/theirs" -v last="$files/last" '
@@ -85,19 +87,21 @@ accounts_awk() {
         }' >"$files/awk"
 }
 
-: >times.ours
-: >times.awk
 for _ in $(seq $rounds); do
-    timed accounts_ours >>times.ours
     timed accounts_awk >>times.awk
-    cmp -s "$files/ours" "$files/theirs" || fail "the books differ"
-    cmp -s "$files/reported" "$files/awk" || fail "the reports differ"
+    for each in $programs; do
+        timed accounts_by "$each" >>"times.${each#./}"
+        cmp -s "$files/ours" "$files/theirs" || fail "the books differ"
+        cmp -s "$files/reported" "$files/awk" || fail "the reports differ"
+    done
 done
-echo "$(median times.ours) $(median times.awk)" | awk '{
-    printf "1,048,576 lines, 500,000 names: sdca %.1f ms, awk %.1f ms, ratio %.2f (to reach: 0.50)\n",
-        $1 / 1000, $2 / 1000, $1 / $2
-}'
-if [ -x /usr/bin/time ]; then
-    /usr/bin/time -f %M ./sdca accounts site "$files/accounts" "$files/ours" 2>&1 >/dev/null | tail -n 1 |
-        awk '{ printf "peak memory: %.1f MiB\n", $1 / 1024 }'
-fi
+for each in $programs; do
+    echo "$(median "times.${each#./}") $(median times.awk)" | awk -v name="${each#./}" '{
+        printf "1,048,576 lines, 500,000 names: %-4s %.1f ms, awk %.1f ms, ratio %.2f (to reach: 0.25)\n",
+            name, $1 / 1000, $2 / 1000, $1 / $2
+    }'
+    if [ -x /usr/bin/time ]; then
+        /usr/bin/time -f %M "$each" accounts site "$files/accounts" "$files/ours" 2>&1 >/dev/null | tail -n 1 |
+            awk -v name="${each#./}" '{ printf "peak memory of %s: %.1f MiB (to reach: 160)\n", name, $1 / 1024 }'
+    fi
+done

@@ -1,7 +1,7 @@
 #!/bin/sh
 # Measures `head` beside bench/head.c, which makes the same broadcasts with OpenSSL's ChaCha20 and SHA-256, in one
-# run. To be run by hand, from any folder: `bench/head.sh`, or `SDCA=PROGRAM bench/head.sh` with a program that is
-# built already.
+# run. To be run by hand, from any folder: `bench/head.sh`, or `SDCA=PROGRAM [OLD=PROGRAM] bench/head.sh` with programs
+# that are built already. An older program named by OLD takes its turn too.
 #
 # Both programs go over packets of the sample stream with a site of height 20, an ECM before each 200 packets and two
 # ECMs a crypto period, from a file into a new file, in memory where there is /dev/shm. C is not held back: `cc -O2`,
@@ -10,9 +10,9 @@
 # byte.
 #
 # It prints for 188 MB under an empty book, for 20 MB with 4,096 leaves revoked and for 4 MB with 65,536 revoked,
-# drawn at random, the rate in MB/s of the clear stream for both programs and how fast sdca is in terms of C, which is
-# to be at least 1.0; and the peak memory of sdca for 188 MB and for a tenth of it, which is to be the same, and at
-# most 24 MiB. Without OpenSSL's headers it says so and measures nothing.
+# drawn at random, the rate in MB/s of the clear stream for each program and how fast it is in terms of C, which is to
+# be at least 1.10, 0.95 and 0.90; and the peak memory of sdca for 188 MB and for a tenth of it, which is to be the
+# same, and at most 24 MiB. Without OpenSSL's headers it says so and measures nothing.
 set -eu
 . "$(dirname "$0")/shared.sh"
 rounds=5
@@ -29,39 +29,41 @@ if [ -d /dev/shm ]; then
     trap 'rm -rf "$work" "$streams"' EXIT
 fi
 
-head_ours() { ./sdca head site book "$streams/clear" "$streams/ours"; }
-head_c() { ./head head site book "$streams/clear" "$streams/theirs"; }
+# PROGRAM: the broadcast that it makes, under its own name.
+head_by() { "./$1" head site book "$streams/clear" "$streams/by-$1"; }
 
-# PACKETS REVOKED: both programs on so many packets with so many leaves revoked.
+# PACKETS REVOKED RATIO: the programs on so many packets with so many leaves revoked, and what is to be reached.
 measure() {
     ./sdca sample 1 "$1" "$streams/clear"
     make_book "$2"
-    : >times.ours
-    : >times.theirs
+    rm -f times.*
     for _ in $(seq $rounds); do
-        timed head_ours >>times.ours
-        timed head_c >>times.theirs
-        cmp -s "$streams/ours" "$streams/theirs" || fail "the broadcasts of $1 packets differ"
+        for each in $programs ./head; do
+            timed head_by "${each#./}" >>"times.${each#./}"
+            cmp -s "$streams/by-sdca" "$streams/by-${each#./}" || fail "the broadcasts of $1 packets differ"
+        done
     done
-    sent=$(wc -c <"$streams/ours")
-    awk -v packets="$1" -v revoked="$2" -v sent="$sent" \
-        -v a="$(median times.ours)" -v b="$(median times.theirs)" 'BEGIN {
-        bytes = packets * 188
-        printf "%5.1f MB, %5d revoked, %5.1f MB sent: sdca %8.1f ms (%.1f MB/s, %.0f ns a packet sent), ",
-            bytes / 1000000, revoked, sent / 1000000, a / 1000, bytes / a, a * 1000 * 188 / sent
-        printf "C %8.1f ms (%.1f MB/s), ratio %.2f (to reach: 1.00)\n", b / 1000, bytes / b, b / a
-    }'
+    sent=$(wc -c <"$streams/by-sdca")
+    for each in $programs; do
+        awk -v packets="$1" -v revoked="$2" -v sent="$sent" -v reach="$3" -v name="${each#./}" \
+            -v a="$(median "times.${each#./}")" -v b="$(median times.head)" 'BEGIN {
+            bytes = packets * 188
+            printf "%5.1f MB, %5d revoked, %5.1f MB sent: %-4s %8.1f ms (%.1f MB/s, %.0f ns a packet sent), ",
+                bytes / 1000000, revoked, sent / 1000000, name, a / 1000, bytes / a, a * 1000 * 188 / sent
+            printf "C %8.1f ms (%.1f MB/s), ratio %.2f (to reach: %s)\n", b / 1000, bytes / b, b / a, reach
+        }'
+    done
 }
 
 # PACKETS: the most memory that a run of sdca held, in kilobytes.
 peak() {
     ./sdca sample 1 "$1" "$streams/clear"
-    /usr/bin/time -f %M ./sdca head site book "$streams/clear" "$streams/ours" 2>&1 >/dev/null | tail -n 1
+    /usr/bin/time -f %M ./sdca head site book "$streams/clear" "$streams/by-sdca" 2>&1 >/dev/null | tail -n 1
 }
 
-measure 1000000 0
-measure 106383 4096
-measure 21277 65536
+measure 1000000 0 1.10
+measure 106383 4096 0.95
+measure 21277 65536 0.90
 
 if [ -x /usr/bin/time ]; then
     : >book

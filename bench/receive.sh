@@ -1,7 +1,7 @@
 #!/bin/sh
 # Measures `receive` beside bench/receive.c, which opens the same broadcasts with OpenSSL's ChaCha20 and SHA-256, in
-# one run. To be run by hand, from any folder: `bench/receive.sh`, or `SDCA=PROGRAM bench/receive.sh` with a program
-# that is built already.
+# one run. To be run by hand, from any folder: `bench/receive.sh`, or `SDCA=PROGRAM [OLD=PROGRAM] bench/receive.sh`
+# with programs that are built already. An older program named by OLD takes its turn too.
 #
 # Both programs open broadcasts of the sample stream by a card of a site of height 20, with an ECM before each 200
 # packets and two ECMs a crypto period, from a file into a new file, in memory where there is /dev/shm. C is not held
@@ -10,9 +10,9 @@
 # clear stream.
 #
 # It prints for 188 MB under an empty book, for 20 MB with 4,096 leaves revoked and for 4 MB with 65,536 revoked,
-# drawn at random, the rate in MB/s of the broadcast for both programs and how fast sdca is in terms of C, which is to
-# be at least 1.0; and the peak memory of sdca for 188 MB, for a tenth of it and for a run that only prints `usage`:
-# the first two are to be the same, and at most 8 MiB above the last. Without OpenSSL's headers it says so and
+# drawn at random, the rate in MB/s of the broadcast for each program and how fast it is in terms of C, which is to be
+# at least 1.20, 1.8 and 2.1; and the peak memory of sdca for 188 MB, for a tenth of it and for a run that only prints
+# `usage`: the first two are to be the same, and at most 8 MiB above the last. Without OpenSSL's headers it says so and
 # measures nothing.
 set -eu
 . "$(dirname "$0")/shared.sh"
@@ -33,8 +33,8 @@ fi
 sed -i 's/^ecm-every .*/ecm-every 200/; s/^crypto-ecms .*/crypto-ecms 2/' site
 ./sdca card site $leaf card
 
-receive_ours() { ./sdca receive card "$streams/sent" "$streams/ours"; }
-receive_c() { ./receive receive card "$streams/sent" "$streams/theirs"; }
+# PROGRAM: what it opens, under its own name.
+receive_by() { "./$1" receive card "$streams/sent" "$streams/by-$1"; }
 
 # COUNT: a book that revokes so many of the 1,048,576 leaves, drawn at random, in ascending order, but not the card's.
 make_book() {
@@ -56,39 +56,39 @@ send() {
     ./sdca head site book "$streams/clear" "$streams/sent"
 }
 
-# PACKETS REVOKED: both programs on that broadcast.
+# PACKETS REVOKED RATIO: the programs on that broadcast, and what is to be reached.
 measure() {
     send "$1" "$2"
-    : >times.ours
-    : >times.theirs
+    rm -f times.*
     for _ in $(seq $rounds); do
-        timed receive_ours >>times.ours
-        timed receive_c >>times.theirs
-        for opened in ours theirs; do
-            cmp -s "$streams/$opened" "$streams/clear" || fail "$opened: what is opened of $1 packets is another stream"
+        for each in $programs ./receive; do
+            timed receive_by "${each#./}" >>"times.${each#./}"
+            cmp -s "$streams/by-${each#./}" "$streams/clear" || fail "$each opens another stream of $1 packets"
         done
     done
     sent=$(wc -c <"$streams/sent")
-    awk -v packets="$1" -v revoked="$2" -v sent="$sent" \
-        -v a="$(median times.ours)" -v b="$(median times.theirs)" 'BEGIN {
-        printf "%5.1f MB, %5d revoked, %5.1f MB sent: sdca %8.1f ms (%.1f MB/s, %.0f ns a packet sent), ",
-            packets * 188 / 1000000, revoked, sent / 1000000, a / 1000, sent / a, a * 1000 * 188 / sent
-        printf "C %8.1f ms (%.1f MB/s), ratio %.2f (to reach: 1.00)\n", b / 1000, sent / b, b / a
-    }'
+    for each in $programs; do
+        awk -v packets="$1" -v revoked="$2" -v sent="$sent" -v reach="$3" -v name="${each#./}" \
+            -v a="$(median "times.${each#./}")" -v b="$(median times.receive)" 'BEGIN {
+            printf "%5.1f MB, %5d revoked, %5.1f MB sent: %-4s %8.1f ms (%.1f MB/s, %.0f ns a packet sent), ",
+                packets * 188 / 1000000, revoked, sent / 1000000, name, a / 1000, sent / a, a * 1000 * 188 / sent
+            printf "C %8.1f ms (%.1f MB/s), ratio %.2f (to reach: %s)\n", b / 1000, sent / b, b / a, reach
+        }'
+    done
 }
 
 # WORDS..: the most memory that a run of sdca held, in kilobytes.
 peak() { /usr/bin/time -f %M ./sdca "$@" 2>&1 >/dev/null | tail -n 1; }
 
-measure 1000000 0
-measure 106383 4096
-measure 21277 65536
+measure 1000000 0 1.20
+measure 106383 4096 1.8
+measure 21277 65536 2.1
 
 if [ -x /usr/bin/time ]; then
     send 1000000 0
-    long=$(peak receive card "$streams/sent" "$streams/ours")
+    long=$(peak receive card "$streams/sent" "$streams/by-sdca")
     send 100000 0
-    short=$(peak receive card "$streams/sent" "$streams/ours")
+    short=$(peak receive card "$streams/sent" "$streams/by-sdca")
     echo "$long $short $(peak)" | awk '{
         printf "peak memory: %.1f MiB for 188 MB, %.1f MiB for a tenth of it, " \
             "%.1f MiB above a run that prints usage (to reach: 8)\n",
