@@ -1,13 +1,16 @@
 -- Refusals by the tests in their order.
-use Rattle.std.proofs.Common.{◌≡◌, ℕ, ◌-◌, ◌^◌, ◌<◌, ◌≤◌, ◌==◌, true, false, List, length, refl, sym, ap, ◌∙◌, arith}
+use Rattle.std.proofs.Common.{◌≡◌, ℕ, ◌+◌, ◌-◌, ◌*◌, ◌^◌, ◌<◌, ◌≤◌, ◌==◌, true, false, List, length, refl, sym, ap, ◌∙◌}
+use Rattle.std.proofs.Common.{inl, inr, arith}
+use Rattle.std.proofs.lemmas.Bool.{cases_lt}
 use Rattle.std.proofs.lemmas.Bool.Decides.{nat_tests}
-use Rattle.std.specs.Prelude.{Some, None}
+use Rattle.std.proofs.lemmas.Nat.{div_below, le-div}
+use Rattle.std.specs.Prelude.{Some, None, nat_le, nat_lt}
 use Rattle.sd_packet.specs.Header.{pid_of, scrambling_of}
 use Rattle.sd_site.specs.Fields.{SiteFields}
 use Rattle.sd_psi.specs.declared.fault.FormFault.{FormFault}
 use Rattle.sd_psi.specs.declared.fault.FormFault.TheVariants as Form
 use Rattle.sd_spec_broadcast.specs.Kinds.{kind_of}
-use Rattle.sd_spec_broadcast.specs.Plan.{word_of}
+use Rattle.sd_spec_broadcast.specs.Plan.{crypto_length, crypto_of, word_of}
 use Rattle.sd_spec_broadcast.specs.Refused.{refusal_of, is_reserved_pid, pat_wrong, is_full_own, is_one_too_many}
 use Rattle.sd_spec_broadcast.specs.Refused.{is_too_long}
 use Rattle.sd_spec_broadcast.specs.declared.fault.ClearFault.TheVariants.{AlreadyScrambled, PidTaken, PatForm, PmtForm}
@@ -65,6 +68,21 @@ pub none_refused : (site : SiteFields) (before : List (List ℕ)) (packet : List
 unfolding refusal_of
 none_refused site before packet clear free pat full many long =
     rw clear (rw free (rw pat (rw full (rw many (rw long refl)))))
+
+-- the site's control words are used up after so many packets
+pub words_used : (site : SiteFields) (k : ℕ) → 0 < crypto_length site
+    → nat_le ((site.last_word + 1 - site.first_word) * crypto_length site) k ≡ nat_lt site.last_word (word_of site k)
+unfolding word_of crypto_of
+words_used site k some =
+    let words = site.last_word + 1 - site.first_word in
+    elim (cases_lt k (words * crypto_length site)) [
+      | inl below ↦
+          let fewer = div_below k (crypto_length site) words some below in
+          grind (arith, nat_tests, below, fewer)
+      | inr above ↦
+          let more = le-div words k (crypto_length site) some above in
+          grind (arith, nat_tests, above, more)
+    ]
 
 -- a packet that isn't too long has a control word of the site's
 pub word_left : (site : SiteFields) (k : ℕ) → is_too_long site k ≡ false → word_of site k ≤ site.last_word

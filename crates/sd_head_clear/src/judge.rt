@@ -1,10 +1,10 @@
-ghost use Rattle.std.specs.Prelude.{◌≡◌, ◌≢◌, ◌<◌, ◌≤◌, ◌==◌, ◌&&◌, ℕ, List, true, false, Some, None, nat_le};
-ghost use Rattle.std.specs.Prelude.{IfOk, OnOk, MatchResult};
+ghost use Rattle.std.specs.Prelude.{◌≡◌, ◌≢◌, ◌+◌, ◌-◌, ◌*◌, ◌<◌, ◌≤◌, ◌==◌, ◌&&◌, ℕ, List, true, false, Some, None};
+ghost use Rattle.std.specs.Prelude.{IfOk, OnOk, MatchResult, nat_le};
 ghost use Rattle.std.specs.Prelude.{length, get_or, slice_index};
 ghost use Rattle.sd_packet.specs.Header.{pid_of, payload_start_of};
 ghost use Rattle.sd_packet.specs.Positions.{is_placed, first_position};
 ghost use Rattle.sd_site.specs.Fields.{fields_of};
-ghost use Rattle.sd_spec_broadcast.specs.Plan.{word_of};
+ghost use Rattle.sd_spec_broadcast.specs.Plan.{crypto_length, word_of};
 ghost use Rattle.sd_spec_broadcast.specs.Kinds.{kind_of};
 ghost use Rattle.sd_spec_broadcast.specs.declared.kind.Kind.TheVariants.{Passed, Pmt};
 ghost use Rattle.sd_spec_broadcast.specs.Refused.{refusal_of, is_reserved_pid as is_taken_pid, pat_wrong};
@@ -110,12 +110,10 @@ impl Clear {
     }
 
     // Whether no number of a packet, or no control word of the site's, is left for the packet.
-    #[tactic(auto, unfolding(sd_spec_broadcast::specs::Plan::word_of, sd_spec_broadcast::specs::Plan::crypto_of))]
     fn is_at_end(&self, site: &Site) -> bool
         ensures { result ≡ is_too_long (fields_of site.now) self.now.count }
     {
-        let word = u64::from(site.first_word) + u64::from(self.count / (site.every * site.cryptos));
-        self.count == u32::MAX || word > u64::from(site.last_word)
+        self.count == u32::MAX || u64::from(self.count) >= most_packets(site)
     }
 
     // Whether the packet is the first that moves its PID's position.
@@ -125,6 +123,14 @@ impl Clear {
     {
         packet.is_placed() && self.position_of(packet.pid()) == FIRST_POSITION
     }
+}
+
+// How many packets the site's control words are enough for. A division by the packet would take longer.
+fn most_packets(site: &Site) -> u64
+    ensures { result ≡ (site.now.last_word + 1 - site.now.first_word) * crypto_length (fields_of site.now) }
+{
+    let words = (u64::from(site.last_word) + 1).saturating_sub(u64::from(site.first_word));
+    words * u64::from(site.every * site.cryptos)
 }
 
 // Whether the PID is 1 or that of the site's messages.
