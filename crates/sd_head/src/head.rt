@@ -87,10 +87,11 @@ impl<K: Sink, L: Ledger> Stage<K, L> for Head {
         };
         let crypto = self.entitling.crypto();
         let message = self.sender.prepare(&self.site, crypto, &self.clear);
-        let carried = self.clear.carry(
+        let mut carried = *packet;
+        self.clear.carry(
             admitted.kind,
             &self.site,
-            packet,
+            &mut carried,
             crypto.number,
             &crypto.word,
         );

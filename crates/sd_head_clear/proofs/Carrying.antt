@@ -1,9 +1,12 @@
 -- What a packet becomes, by its kind.
 use Rattle.std.proofs.Common.{◌≡◌, ℕ, true, List, length, get_or, refl, sym, ap, ◌∙◌}
+use Rattle.std.specs.Prelude.{Some, None, Result, Ok, Err, OnOk, OnErr, MatchResult}
 use Rattle.sd_packet.specs.Header.{pid_of, counter_of}
 use Rattle.sd_packet.specs.Positions.{advanced, is_placed}
 use Rattle.sd_label.specs.Keys.{control_word_of}
 use Rattle.sd_site.specs.Fields.{SiteFields}
+use Rattle.sd_psi.specs.declared.fault.FormFault.{FormFault}
+use Rattle.sd_psi.specs.Rewriting.{rewrite_fault, rewritten}
 use Rattle.sd_scramble.specs.Scrambling.{scrambled}
 use Rattle.sd_scramble.specs.declared.payload.Parity.{Parity}
 use Rattle.sd_spec_broadcast.specs.Plan.{word_of}
@@ -28,6 +31,15 @@ carried_passed site before packet is = by_kind Passed site before packet is
 pub carried_pmt : (site : SiteFields) (before : List (List ℕ)) (packet new : List ℕ) → Pmt ≡ kind_of before packet →
     new ≡ pmt_carried site packet → new ≡ carried site before packet
 carried_pmt site before packet new is value = value ∙ by_kind Pmt site before packet is
+
+-- a PMT after it was to be rewritten
+pub pmt_carried_by : {T : Type 0} → (site : SiteFields) (packet new : List ℕ) (result : Result T FormFault)
+    → OnOk result (new ≡ rewritten site.ca site.ecm packet)
+    → MatchResult result (λ _. rewrite_fault packet ≡ None) (λ fault. rewrite_fault packet ≡ Some fault)
+    → OnErr result (new ≡ packet) → new ≡ pmt_carried site packet
+unfolding pmt_carried
+pmt_carried_by site packet new (Ok done) value none unchanged = rw none value
+pmt_carried_by site packet new (Err fault) value some unchanged = rw some unchanged
 
 -- the position that a placed packet leads to
 place_is : (before : List (List ℕ)) (packet positions : List ℕ) → is_placed packet ≡ true

@@ -1,9 +1,8 @@
-ghost use Rattle.std.specs.Prelude.{◌≡◌, ◌+◌, ◌*◌, ◌<◌, ◌≤◌, ◌^◌, ℕ, List, true, length, slice_index};
-ghost use Rattle.sd_packet.specs.Header.{pid_of, counter_of, scrambling_of, payload_start_of};
-ghost use Rattle.sd_packet.specs.Positions.{is_placed, is_positional, advanced};
+ghost use Rattle.std.specs.Prelude.{◌≡◌, ◌+◌, ◌*◌, ◌<◌, ◌≤◌, ◌^◌, ℕ, List, length, slice_index};
+ghost use Rattle.sd_packet.specs.Header.{pid_of, counter_of, payload_start_of};
+ghost use Rattle.sd_packet.specs.Positions.{advanced};
 ghost use Rattle.sd_label.specs.Keys.{control_word_of};
 ghost use Rattle.sd_site.specs.Fields.{fields_of};
-ghost use Rattle.sd_scramble.specs.Scrambling.{scrambled};
 ghost use Rattle.sd_spec_broadcast.specs.Plan.{word_of};
 ghost use Rattle.sd_spec_broadcast.specs.Carried.{carried, pmt_carried, parity_of};
 ghost use Rattle.sd_head_clear.specs.After.{IsAfter, MayFollow, IsKindAfter};
@@ -16,27 +15,23 @@ use sd_site::Site;
 use sd_spec_broadcast::Kind;
 
 impl Clear {
-    /// What the packet, of this kind, becomes in the crypto period whose control word has this number and is this
-    /// (docs/FORMATS.md, Broadcast).
-    pub fn carry(
-        &self,
-        kind: Kind,
-        site: &Site,
-        packet: &Packet,
-        number: u32,
-        word: &[u8; 32],
-    ) -> Packet
-        requires follows { MayFollow self.now packet.now }
-        requires kind { IsKindAfter self.now packet.now kind }
+    /// Makes of the packet, of this kind, what it becomes in the crypto period whose control word has this number and
+    /// is this (docs/FORMATS.md, Broadcast).
+    pub fn carry(&self, kind: Kind, site: &Site, packet: &mut Packet, number: u32, word: &[u8; 32])
+        requires follows { MayFollow self.now packet.old }
+        requires kind { IsKindAfter self.now packet.old kind }
         ensures { (before : List (List ℕ)) → IsAfter before self.now →
             number ≡ word_of (fields_of site.now) (length before) →
             word.now ≡ control_word_of site.now.master number →
-            result ≡ carried (fields_of site.now) before packet.now }
+            packet.new ≡ carried (fields_of site.now) before packet.old }
     {
         match kind {
-            Kind::Passed => *packet,
-            Kind::Pmt => rewritten(site, packet),
-            Kind::Scrambled => veiled(packet, word, self.next_position(packet), parity(number)),
+            Kind::Passed => {}
+            Kind::Pmt => rewrite(site, packet),
+            Kind::Scrambled => {
+                let position = self.next_position(packet);
+                scramble(packet, word, position, parity(number));
+            }
         }
     }
 
@@ -51,29 +46,13 @@ impl Clear {
     }
 }
 
-// The PMT with the project's CA_descriptor, where it can be rewritten.
-#[tactic(auto, unfolding(sd_spec_broadcast::specs::Carried::pmt_carried))]
-fn rewritten(site: &Site, packet: &Packet) -> Packet
-    requires { payload_start_of packet.now < 188 }
-    ensures { result ≡ pmt_carried (fields_of site.now) packet.now }
+// Puts the project's CA_descriptor into the PMT, where it can be rewritten.
+fn rewrite(site: &Site, packet: &mut Packet)
+    requires { payload_start_of packet.old < 188 }
+    ensures { packet.new ≡ pmt_carried (fields_of site.now) packet.old }
 {
-    let mut carried = *packet;
-    match rewrite_pmt(&mut carried, site.ca, site.ecm) {
-        Ok(()) => carried,
-        Err(_) => *packet,
-    }
-}
-
-// The packet under a control word, at its position.
-fn veiled(packet: &Packet, word: &[u8; 32], position: u64, parity: Parity) -> Packet
-    requires placed { is_placed packet.now ≡ true }
-    requires clear { scrambling_of packet.now ≡ 0 }
-    requires position { position < 2 ^ 48 }
-    ensures { result ≡ scrambled packet.now word.now position parity }
-{
-    let mut carried = *packet;
-    scramble(&mut carried, word, position, parity);
-    carried
+    // After a refusal the packet is unchanged.
+    let _ = rewrite_pmt(packet, site.ca, site.ecm);
 }
 
 // The parity of a control word's number.

@@ -59,7 +59,8 @@ fn packet(header: [u8; 4], length: u8, fill: u8, last: u8) -> Option<Packet> {
 // What becomes of the packet, which is taken, in crypto period 0, or why it is refused.
 fn step(clear: &mut Clear, site: &Site, packet: &Packet) -> Result<Packet, ClearFault> {
     let kind = clear.judge(site, packet)?;
-    let carried = clear.carry(kind, site, packet, 0, &control_word(&site.master, 0));
+    let mut carried = *packet;
+    clear.carry(kind, site, &mut carried, 0, &control_word(&site.master, 0));
     clear.take(packet);
     Ok(carried)
 }

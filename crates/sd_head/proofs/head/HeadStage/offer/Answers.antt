@@ -37,7 +37,7 @@ pub returns-in-Ok-send_packet-clause-value : goal.returns-in-Ok-send_packet-clau
 returns-in-Ok-send_packet-clause-value g c = record {
   bytes = (tables_bytes c.prepare-message.new.self c.in-Ok.admitted.begins c.emms-emms.result.now
       ++ message_bytes c.args.self.now.site.ecm c.prepare-message.new.self c.prepare-message.result)
-      ++ c.carry-carried.result;
+      ++ c.carry.new.packet;
   steps = c.admit.new.steps;
   says = does c.args.self.now (record {
     site = c.args.self.now.site;
@@ -46,7 +46,7 @@ returns-in-Ok-send_packet-clause-value g c = record {
     sender = c.send_packet.new.self;
     refusal = c.args.self.now.refusal;
   }) c.args.packet.now c.prepare-message.new.self c.in-Ok.admitted.begins c.emms-emms.result.now
-      c.prepare-message.result c.carry-carried.result
+      c.prepare-message.result c.carry.new.packet
       (record {
         judged = c.in-Ok.ensures.judged;
         at_work = c.in-Ok.ensures.value;
@@ -57,7 +57,7 @@ returns-in-Ok-send_packet-clause-value g c = record {
             ∙ ap (λ (x : CryptoPeriod). message_due (fields_of c.args.self.now.site) x c.args.self.now.clear.count)
             c.crypto-crypto.ensures;
         places_are = c.prepare-message.ensures.places;
-        carried_is = λ before kept number word. c.carry-carried.ensures before kept
+        carried_is = λ before kept number word. c.carry.ensures before kept
             (ap (λ (x : CryptoPeriod). x.number) c.crypto-crypto.ensures ∙ number)
             (ap (λ (x : CryptoPeriod). x.word) c.crypto-crypto.ensures ∙ (word
             ∙ ap (control_word_of c.args.self.now.site.master)
@@ -86,7 +86,7 @@ returns-in-Ok-send_packet-clause-ok g c =
         sender = c.send_packet.new.self;
         refusal = c.args.self.now.refusal;
       }) c.args.packet.now c.prepare-message.new.self c.in-Ok.admitted.begins c.emms-emms.result.now
-          c.prepare-message.result c.carry-carried.result
+          c.prepare-message.result c.carry.new.packet
           (record {
             judged = c.in-Ok.ensures.judged;
             at_work = c.in-Ok.ensures.value;
@@ -97,7 +97,7 @@ returns-in-Ok-send_packet-clause-ok g c =
                 ∙ ap (λ (x : CryptoPeriod). message_due
                 (fields_of c.args.self.now.site) x c.args.self.now.clear.count) c.crypto-crypto.ensures;
             places_are = c.prepare-message.ensures.places;
-            carried_is = λ before kept number word. c.carry-carried.ensures before kept
+            carried_is = λ before kept number word. c.carry.ensures before kept
                 (ap (λ (x : CryptoPeriod). x.number) c.crypto-crypto.ensures ∙ number)
                 (ap (λ (x : CryptoPeriod). x.word) c.crypto-crypto.ensures ∙ (word
                 ∙ ap (control_word_of c.args.self.now.site.master)
@@ -118,7 +118,7 @@ pub returns-in-Err-send_packet-clause-prefix : goal.returns-in-Err-send_packet-c
 returns-in-Err-send_packet-clause-prefix g c = λ fails. record {
   bytes = (tables_bytes c.prepare-message.new.self c.in-Ok.admitted.begins c.emms-emms.result.now
       ++ message_bytes c.args.self.now.site.ecm c.prepare-message.new.self c.prepare-message.result)
-      ++ c.carry-carried.result;
+      ++ c.carry.new.packet;
   says = (
     c.admit.new.steps,
     omega arith,
@@ -159,7 +159,7 @@ returns-in-Err-send_packet-clause-prefix g c = λ fails. record {
         };
         refusal = c.args.self.now.refusal;
       }) c.args.packet.now c.prepare-message.new.self c.in-Ok.admitted.begins c.emms-emms.result.now
-          c.prepare-message.result c.carry-carried.result
+          c.prepare-message.result c.carry.new.packet
           (record {
             judged = c.in-Ok.ensures.judged;
             at_work = c.in-Ok.ensures.value;
@@ -170,7 +170,7 @@ returns-in-Err-send_packet-clause-prefix g c = λ fails. record {
                 ∙ ap (λ (x : CryptoPeriod). message_due (fields_of c.args.self.now.site) x c.args.self.now.clear.count)
                 c.crypto-crypto.ensures;
             places_are = c.prepare-message.ensures.places;
-            carried_is = λ before kept number word. c.carry-carried.ensures before kept
+            carried_is = λ before kept number word. c.carry.ensures before kept
                 (ap (λ (x : CryptoPeriod). x.number) c.crypto-crypto.ensures ∙ number)
                 (ap (λ (x : CryptoPeriod). x.word) c.crypto-crypto.ensures ∙ (word
                 ∙ ap (control_word_of c.args.self.now.site.master)
