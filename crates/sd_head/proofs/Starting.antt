@@ -1,13 +1,16 @@
 -- Which crypto period is at work after so many packets.
 use Rattle.std.proofs.Common.{◌≡◌, ◌≢◌, ℕ, zero, suc, ◌+◌, ◌-◌, ◌*◌, ◌/◌, ◌%◌, ◌^◌, ◌<◌, ◌==◌, true}
-use Rattle.std.proofs.Common.{refl, sym, ap, subst, ◌∙◌, arith, eq-eqb}
-use Rattle.std.specs.Prelude.{Result, Ok, Err, OnErr}
+use Rattle.std.proofs.Common.{refl, sym, ap, subst, ◌∙◌, arith, eq-eqb, ne_eqb, mul_comm, mul-pos}
+use Rattle.std.specs.Prelude.{Some, None, Result, Ok, Err, OnErr}
+use Rattle.std.proofs.Math.Arith.{mod-mul}
 use Rattle.std.proofs.Math.Nat.{zero-div, div-eq_of_lt-le, mod-lt}
 use Rattle.std.proofs.lemmas.Nat.{div-add-mod'}
+use Rattle.sd_site.specs.Fields.{SiteFields}
 use Rattle.sd_spec_broadcast.specs.Plan.{Plan, IsPlan, crypto_length, crypto_of, word_of, period_of}
 use Rattle.sd_spec_broadcast.proofs.Schedule.{crypto_length_some}
 use Rattle.sd_head_periods.specs.Kept.{IsOf, IsBefore, begins_period, revoked_before}
 use Rattle.sd_head_periods.specs.declared.entitling.Entitling.{Entitling}
+use Rattle.sd_head.specs.Messages.{number_due}
 use Rattle.sd_head.specs.Schedule.{IsAt, begins_with, periods_begun}
 use Rattle.sd_book.specs.Commands.{revoked}
 
@@ -40,6 +43,35 @@ same_quotient n j some other =
     let more : 0 < suc j % n = grind (arith, other) in
     let top : (q + 1) * n ≡ q * n + n = grind (arith) in
     div-eq_of_lt-le n (omega (arith, is, more)) (omega (arith, is, below, top))
+
+module _ (site : SiteFields) (k : ℕ) (every : 0 < site.every) (cryptos : 0 < site.cryptos) where
+  -- a packet's place in its crypto period, by the messages before it there
+  in_crypto : k % crypto_length site ≡ (k / site.every % site.cryptos) * site.every + k % site.every
+  in_crypto = ap (λ (n : ℕ). k % n) (mul_comm site.every site.cryptos) ∙ mod-mul k cryptos every
+
+  -- no crypto period begins where no message stands
+  pub no_message : k % site.every ≢ 0 → k % crypto_length site ≢ 0
+  no_message other first = other (omega (arith, in_crypto, first))
+
+  -- nor with a message that isn't a crypto period's first
+  pub later_message : k / site.every % site.cryptos ≢ 0 → k % crypto_length site ≢ 0
+  later_message other first =
+      let some : 0 < k / site.every % site.cryptos = grind (arith, other) in
+      absurd (omega (arith, in_crypto, first, mul-pos some every))
+
+  -- one begins with its first message
+  pub first_message : k % site.every ≡ 0 → k / site.every % site.cryptos ≡ 0 → k % crypto_length site ≡ 0
+  first_message whole first = in_crypto ∙ rw (first, whole) (omega arith)
+
+-- the number of a message there is as before
+pub message_stands_at : (site : SiteFields) (k : ℕ) → k % site.every ≡ 0 → Some (k / site.every) ≡ number_due site k
+unfolding number_due
+message_stands_at site k whole = rw (eq-eqb (k % site.every) 0 whole) refl
+
+-- and where none stands there is none
+pub no_message_stands : (site : SiteFields) (k : ℕ) → k % site.every ≢ 0 → None ≡ number_due site k
+unfolding number_due
+no_message_stands site k other = rw (ne_eqb (k % site.every) 0 other) refl
 
 -- where a crypto period begins with packet k, it is the next
 pub starts : (plan : Plan) (k length : ℕ) (entitling : Entitling) → IsAt plan k entitling →

@@ -1,8 +1,7 @@
 -- What a control message says.
-use Rattle.std.proofs.Common.{◌≡◌, ℕ, zero, suc, ◌-◌, ◌*◌, ◌/◌, ◌<◌, ◌≢◌, refl, ap, ◌∙◌, arith, subst}
-use Rattle.std.proofs.Common.{◌≤◌, ◌^◌, ◌%◌, ◌==◌, Bool, true, false, List, length, inl, inr, eq-eqb}
-use Rattle.std.specs.Prelude.{Option, Some, None}
-use Rattle.std.proofs.lemmas.Bool.{ne_eqb}
+use Rattle.std.proofs.Common.{◌≡◌, ℕ, zero, suc, ◌-◌, ◌*◌, ◌/◌, ◌<◌, refl, ap, ◌∙◌, arith, subst}
+use Rattle.std.proofs.Common.{◌≤◌, ◌^◌, ◌%◌, ◌==◌, Bool, true, false, List, length, inl, inr}
+use Rattle.std.specs.Prelude.{Option, Some, None, if◌then◌else◌}
 use Rattle.sd_site.specs.Forms.{IsWithin, messages_line}
 use Rattle.sd_site.specs.Fields.{SiteFields}
 use Rattle.sd_ecm.specs.declared.message.EcmHead.{EcmHead}
@@ -10,7 +9,7 @@ use Rattle.sd_ecm.specs.declared.part.Place.{Place}
 use Rattle.sd_head_clear.proofs.Placing.{positioned, ascending, short}
 use Rattle.sd_spec_broadcast.specs.Messages.{places_after}
 use Rattle.sd_head_periods.specs.declared.crypto.CryptoPeriod.{CryptoPeriod}
-use Rattle.sd_head.specs.Messages.{head_of, message_due}
+use Rattle.sd_head.specs.Messages.{head_of, message_due, number_due}
 use Rattle.std.specs.List.{concat}
 use Rattle.std.proofs.Common.{Vec, Global}
 use Rattle.sd_ecm.specs.Parts.{message_of, parts_of}
@@ -73,23 +72,29 @@ may_be_sent site crypto clear number closing head places before is range are cou
 }))
 
 -- no message stands before the next packet
-pub none_due : (site : SiteFields) (crypto : CryptoPeriod) (count clear : ℕ) → count ≡ clear → count % site.every ≢ 0 →
-    None ≡ message_due site crypto clear
-unfolding message_due
-none_due site crypto count clear is other =
-    let test : (clear % site.every == 0) ≡ false =
-    ne_eqb (clear % site.every) 0 (subst (λ (n : ℕ). n % site.every ≢ 0) is other) in
-    rw test refl
+pub none_due : (site : SiteFields) (crypto : CryptoPeriod) (count : ℕ) → None ≡ number_due site count →
+    None ≡ message_due site crypto count
+unfolding number_due message_due
+none_due site crypto count none = by_test (count % site.every == 0) none
+  where
+    by_test : (b : Bool) → None ≡ (if b then Some (count / site.every) else None) →
+        None ≡ (if b then Some (head_of site crypto count (count / site.every) false) else None)
+    by_test true none = absurd cc
+    by_test false none = refl
 
 -- one does
-pub some_due : (site : SiteFields) (crypto : CryptoPeriod) (count clear : ℕ) (head : EcmHead) → count ≡ clear →
-    count % site.every ≡ 0 →
-    head ≡ head_of site crypto clear (count / site.every) false → Some head ≡ message_due site crypto clear
-unfolding message_due
-some_due site crypto count clear head is whole says =
-    let test : (clear % site.every == 0) ≡ true =
-    eq-eqb (clear % site.every) 0 (subst (λ (n : ℕ). n % site.every ≡ 0) is whole) in
-    rw test (ap (λ (h : EcmHead). Some h) (says ∙ ap (λ (n : ℕ). head_of site crypto clear (n / site.every) false) is))
+pub some_due : (site : SiteFields) (crypto : CryptoPeriod) (count number : ℕ) (head : EcmHead) →
+    Some number ≡ number_due site count → head ≡ head_of site crypto count number false →
+    Some head ≡ message_due site crypto count
+unfolding number_due message_due
+some_due site crypto count number head some says = by_test (count % site.every == 0) some
+  where
+    by_test : (b : Bool) → Some number ≡ (if b then Some (count / site.every) else None) →
+        Some head ≡ (if b then Some (head_of site crypto count (count / site.every) false) else None)
+    by_test true some =
+        let same : number ≡ count / site.every = cc in
+        ap (λ (h : EcmHead). Some h) (says ∙ ap (λ (n : ℕ). head_of site crypto count n false) same)
+    by_test false some = absurd cc
 
 -- a message's bytes are of its counter and positions alone
 pub same_message : (pid : ℕ) (old new : Sender) (message : Option EcmHead) → new.ecms ≡ old.ecms →

@@ -20,6 +20,11 @@ head_of site crypto clear number closing = record {
   check = crypto.check;
 }
 
+-- the number of the message that stands before the next packet after so many, if one does [this project,
+-- docs/FORMATS.md, Broadcast]
+unfoldable pub number_due : SiteFields → ℕ → Option ℕ
+number_due site count = if count % site.every == 0 then Some (count / site.every) else None
+
 -- the message that stands before the next packet after so many, if one does [this project, docs/FORMATS.md, Broadcast]
 unfoldable pub message_due : SiteFields → CryptoPeriod → ℕ → Option EcmHead
 message_due site crypto count =

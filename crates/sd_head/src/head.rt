@@ -86,7 +86,10 @@ impl<K: Sink, L: Ledger> Stage<K, L> for Head {
             }
         };
         let crypto = self.entitling.crypto();
-        let message = self.sender.prepare(&self.site, crypto, &self.clear);
+        let inserted = admitted.inserted;
+        let message = self
+            .sender
+            .prepare(&self.site, crypto, &self.clear, inserted.message);
         let mut carried = *packet;
         self.clear.carry(
             admitted.kind,
@@ -98,7 +101,7 @@ impl<K: Sink, L: Ledger> Stage<K, L> for Head {
         self.clear.take(packet);
         let emms = self.entitling.emms();
         match self.sender.send_packet(
-            admitted.begins,
+            inserted.begins,
             emms,
             message,
             self.site.ecm,

@@ -6,7 +6,7 @@ ghost use Rattle.sd_spec_broadcast.specs.Plan.{closing_number};
 ghost use Rattle.sd_spec_broadcast.specs.Messages.{places_after};
 ghost use Rattle.sd_head_clear.specs.After.{IsAfter as IsKept};
 ghost use Rattle.sd_head.specs.Sending.{SendsBytes};
-ghost use Rattle.sd_head.specs.Messages.{head_of, message_due};
+ghost use Rattle.sd_head.specs.Messages.{head_of, message_due, number_due};
 ghost use Rattle.sd_head.specs.Items.{message_bytes, tables_bytes, AllMayBeSent, HasCountersAfter, HasPlaced, HasSent};
 ghost use Rattle.sd_head.specs.Items.{MayBeSent};
 
@@ -38,20 +38,26 @@ impl Sender {
         })
     }
 
-    /// Makes ready the message that stands before the next packet, if one does.
-    pub fn prepare(&mut self, site: &Site, crypto: &CryptoPeriod, clear: &Clear) -> Option<EcmHead>
-        requires { (before : List (List ℕ)) × IsKept before clear.now }
+    /// Makes ready the message that stands before the next packet, of this number, if one does.
+    pub fn prepare(
+        &mut self,
+        site: &Site,
+        crypto: &CryptoPeriod,
+        clear: &Clear,
+        message: Option<u32>,
+    ) -> Option<EcmHead>
+        requires kept { (before : List (List ℕ)) × IsKept before clear.now }
+        requires due { message ≡ number_due (fields_of site.now) clear.now.count }
         ensures value { result ≡ message_due (fields_of site.now) crypto.now clear.now.count }
         ensures fits { AllMayBeSent result self.new.places.items }
         ensures places { (before : List (List ℕ)) → IsKept before clear.now → IsSome result →
             self.new.places.items ≡ places_after before }
         ensures unchanged { HasPlaced self.old self.new }
     {
-        let count = clear.count();
-        if count % site.every != 0 {
-            return None;
+        match message {
+            Some(number) => Some(self.make_ready(site, crypto, clear, number, false)),
+            None => None,
         }
-        Some(self.make_ready(site, crypto, clear, count / site.every, false))
     }
 
     /// Makes ready the closing message.

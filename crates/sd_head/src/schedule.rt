@@ -1,10 +1,11 @@
 ghost use Rattle.std.specs.Prelude.{◌≡◌, ◌-◌, ◌%◌, ◌^◌, ◌==◌, ◌<◌, ℕ, List, Some, None, Err, true, IfOk, OnOk, OnErr};
 ghost use Rattle.sd_site.specs.Fields.{fields_of};
-ghost use Rattle.sd_spec_broadcast.specs.Plan.{crypto_length as length_of, crypto_of, word_of};
+ghost use Rattle.sd_spec_broadcast.specs.Plan.{crypto_length, crypto_of, word_of};
 ghost use Rattle.sd_spec_broadcast.specs.Refused.{refusal_of};
 ghost use Rattle.sd_head_clear.specs.After.{IsAfter as IsKept, MayFollow, IsKindAfter};
 ghost use Rattle.sd_head_periods.specs.Kept.{plan_of, IsOf};
 ghost use Rattle.sd_head.specs.declared.fault.HeadFault.{HeadFault as Faults};
+ghost use Rattle.sd_head.specs.Messages.{number_due};
 ghost use Rattle.sd_head.specs.Schedule.{begins_with, IsAt, IsDue};
 
 use crate::fault::HeadFault;
@@ -16,20 +17,21 @@ use sd_site::Site;
 use sd_spec_broadcast::Kind;
 use std::sync::ledger::Ledger;
 
-/// How many clear packets a crypto period has (this project, docs/FORMATS.md, Broadcast).
-pub fn crypto_length(site: &Site) -> u32
-    ensures value { result ≡ length_of (fields_of site.now) }
-    ensures some { 0 < result }
-{
-    site.every * site.cryptos
-}
-
 /// What a packet that isn't refused comes to.
 #[derive(Clone, Copy)]
 pub struct Admitted {
     /// What becomes of it.
     pub kind: Kind,
-    /// Whether a crypto period begins with it.
+    /// What stands before it.
+    pub inserted: Inserted,
+}
+
+/// What stands before a packet.
+#[derive(Clone, Copy)]
+pub struct Inserted {
+    /// The number of the message, if one stands there.
+    pub message: Option<u32>,
+    /// Whether a crypto period begins there.
     pub begins: bool,
 }
 
@@ -49,8 +51,10 @@ pub fn admit<L: Ledger>(
     ensures value { OnOk result
         (IsOf (plan_of site.now entitling.old.book) (crypto_of (fields_of site.now) clear.now.count) entitling.new) }
     ensures kind { IfOk result (λ admitted. IsKindAfter clear.now packet.now admitted.kind) }
+    ensures message { IfOk result (λ admitted.
+        admitted.inserted.message ≡ number_due (fields_of site.now) clear.now.count) }
     ensures begins { IfOk result (λ admitted.
-        admitted.begins ≡ (clear.now.count % length_of (fields_of site.now) == 0)) }
+        admitted.inserted.begins ≡ (clear.now.count % crypto_length (fields_of site.now) == 0)) }
     ensures fault { (before : List (List ℕ)) (fault : Faults) → IsKept before clear.now → result ≡ Err fault →
         IsDue (plan_of site.now entitling.old.book) before (Some packet.now) fault }
 {
@@ -59,32 +63,46 @@ pub fn admit<L: Ledger>(
         Err(fault) => return Err(HeadFault::Clear(fault)),
     };
     match begin(entitling, site, clear.count(), steps) {
-        Ok(begins) => Ok(Admitted { kind, begins }),
+        Ok(inserted) => Ok(Admitted { kind, inserted }),
         Err(_) => Err(HeadFault::NoMemory),
     }
 }
 
-// Begins the crypto period that begins with packet k, and says whether one does.
+// Begins the crypto period that begins with packet k, if one does, and says what stands before the packet.
 fn begin<L: Ledger>(
     entitling: &mut Entitling,
     site: &Site,
     k: u32,
     steps: &mut Steps<L>,
-) -> Result<bool, NoMemory>
+) -> Result<Inserted, NoMemory>
     requires at { IsAt (plan_of site.now entitling.old.book) k entitling.old }
     requires word { word_of (fields_of site.now) k < 2 ^ 32 }
     ensures book { entitling.new.book ≡ entitling.old.book }
     ensures value { OnOk result
         (IsOf (plan_of site.now entitling.old.book) (crypto_of (fields_of site.now) k) entitling.new) }
-    ensures begins { IfOk result (λ begins. begins ≡ (k % length_of (fields_of site.now) == 0)) }
+    ensures message { IfOk result (λ inserted. inserted.message ≡ number_due (fields_of site.now) k) }
+    ensures begins { IfOk result (λ inserted. inserted.begins ≡ (k % crypto_length (fields_of site.now) == 0)) }
     ensures fault { OnErr result (begins_with (plan_of site.now entitling.old.book) k ≡ true) }
 {
-    let length = crypto_length(site);
-    if k % length != 0 {
-        return Ok(false);
+    if k % site.every != 0 {
+        return Ok(Inserted {
+            message: None,
+            begins: false,
+        });
     }
-    entitling.begin(site, k / length, steps)?;
-    Ok(true)
+    let number = k / site.every;
+    let message = Some(number);
+    if number % site.cryptos != 0 {
+        return Ok(Inserted {
+            message,
+            begins: false,
+        });
+    }
+    entitling.begin(site, number / site.cryptos, steps)?;
+    Ok(Inserted {
+        message,
+        begins: true,
+    })
 }
 
 /// Begins the first crypto period where the stream of so many packets ends with none.

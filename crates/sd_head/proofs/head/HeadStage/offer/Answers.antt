@@ -35,7 +35,7 @@ returns-in-Err-clause-fault g c = λ fault same.
 
 pub returns-in-Ok-send_packet-clause-value : goal.returns-in-Ok-send_packet-clause-value
 returns-in-Ok-send_packet-clause-value g c = record {
-  bytes = (tables_bytes c.prepare-message.new.self c.in-Ok.admitted.begins c.emms-emms.result.now
+  bytes = (tables_bytes c.prepare-message.new.self c.in-Ok.admitted.inserted.begins c.emms-emms.result.now
       ++ message_bytes c.args.self.now.site.ecm c.prepare-message.new.self c.prepare-message.result)
       ++ c.carry.new.packet;
   steps = c.admit.new.steps;
@@ -45,7 +45,7 @@ returns-in-Ok-send_packet-clause-value g c = record {
     entitling = c.admit.new.entitling;
     sender = c.send_packet.new.self;
     refusal = c.args.self.now.refusal;
-  }) c.args.packet.now c.prepare-message.new.self c.in-Ok.admitted.begins c.emms-emms.result.now
+  }) c.args.packet.now c.prepare-message.new.self c.in-Ok.admitted.inserted.begins c.emms-emms.result.now
       c.prepare-message.result c.carry.new.packet
       (record {
         judged = c.in-Ok.ensures.judged;
@@ -85,7 +85,7 @@ returns-in-Ok-send_packet-clause-ok g c =
         entitling = c.admit.new.entitling;
         sender = c.send_packet.new.self;
         refusal = c.args.self.now.refusal;
-      }) c.args.packet.now c.prepare-message.new.self c.in-Ok.admitted.begins c.emms-emms.result.now
+      }) c.args.packet.now c.prepare-message.new.self c.in-Ok.admitted.inserted.begins c.emms-emms.result.now
           c.prepare-message.result c.carry.new.packet
           (record {
             judged = c.in-Ok.ensures.judged;
@@ -116,7 +116,7 @@ returns-in-Ok-send_packet-clause-ok g c =
 
 pub returns-in-Err-send_packet-clause-prefix : goal.returns-in-Err-send_packet-clause-prefix
 returns-in-Err-send_packet-clause-prefix g c = λ fails. record {
-  bytes = (tables_bytes c.prepare-message.new.self c.in-Ok.admitted.begins c.emms-emms.result.now
+  bytes = (tables_bytes c.prepare-message.new.self c.in-Ok.admitted.inserted.begins c.emms-emms.result.now
       ++ message_bytes c.args.self.now.site.ecm c.prepare-message.new.self c.prepare-message.result)
       ++ c.carry.new.packet;
   says = (
@@ -129,9 +129,9 @@ returns-in-Err-send_packet-clause-prefix g c = λ fails. record {
         entitling = c.admit.new.entitling;
         sender = record {
           cat = c.prepare-message.new.self.cat;
-          cats = if c.in-Ok.admitted.begins then
+          cats = if c.in-Ok.admitted.inserted.begins then
               (c.prepare-message.new.self.cats + 1) % 16 else c.prepare-message.new.self.cats;
-          emms = if c.in-Ok.admitted.begins
+          emms = if c.in-Ok.admitted.inserted.begins
               then counter_after c.prepare-message.new.self.emms (length c.emms-emms.result.now)
               else c.prepare-message.new.self.emms;
           ecms = counter_after c.prepare-message.new.self.ecms
@@ -147,9 +147,9 @@ returns-in-Err-send_packet-clause-prefix g c = λ fails. record {
         entitling = c.admit.new.entitling;
         sender = record {
           cat = c.prepare-message.new.self.cat;
-          cats = if c.in-Ok.admitted.begins then
+          cats = if c.in-Ok.admitted.inserted.begins then
               (c.prepare-message.new.self.cats + 1) % 16 else c.prepare-message.new.self.cats;
-          emms = if c.in-Ok.admitted.begins
+          emms = if c.in-Ok.admitted.inserted.begins
               then counter_after c.prepare-message.new.self.emms (length c.emms-emms.result.now)
               else c.prepare-message.new.self.emms;
           ecms = counter_after c.prepare-message.new.self.ecms
@@ -158,7 +158,7 @@ returns-in-Err-send_packet-clause-prefix g c = λ fails. record {
           places_room = c.prepare-message.new.self.places_room;
         };
         refusal = c.args.self.now.refusal;
-      }) c.args.packet.now c.prepare-message.new.self c.in-Ok.admitted.begins c.emms-emms.result.now
+      }) c.args.packet.now c.prepare-message.new.self c.in-Ok.admitted.inserted.begins c.emms-emms.result.now
           c.prepare-message.result c.carry.new.packet
           (record {
             judged = c.in-Ok.ensures.judged;
