@@ -74,6 +74,45 @@ fn the_host_writes_files(rt: HostRuntime) {
 }
 
 #[test]
+fn long_pieces_follow_what_waits(rt: HostRuntime) -> io::Result<()> {
+    let alloc = rt.alloc();
+    let name = "sd_host_pieces";
+    let long = [7; 70000];
+    let pieces = [TEXT, &long, &long, TEXT];
+    for trouble in [Trouble::None, Trouble::Signals] {
+        let machine = Machine {
+            rt: &rt,
+            output: "no such file",
+            trouble,
+        };
+        let mut depot = HostDepot::new(alloc, &machine, false);
+        let port = depot.create_out(alloc, name);
+        assert!(rt; port.is_ok());
+        if let Ok(mut port) = port {
+            for piece in pieces {
+                assert!(rt; write_all(&mut port, piece) == Ok(()));
+            }
+            assert!(rt; depot.close_out(name, port) == Ok(()));
+        }
+        let read = read_file(alloc, &mut HostDepot::new(alloc, &rt, false), name, 200000);
+        assert!(rt; read.is_ok_and(|read| are_in_turn(&read, &pieces)));
+    }
+    fs::remove_file(&rt, name)
+}
+
+// Whether the bytes are these pieces, one after the other.
+fn are_in_turn(bytes: &[u8], pieces: &[&[u8]]) -> bool {
+    let mut rest = bytes;
+    for piece in pieces {
+        match rest.strip_prefix(*piece) {
+            Some(after) => rest = after,
+            None => return false,
+        }
+    }
+    rest.is_empty()
+}
+
+#[test]
 fn an_input_is_never_made_anew(rt: HostRuntime) -> io::Result<()> {
     let alloc = rt.alloc();
     let (name, hard, symbolic) = ("sd_host_input", "sd_host_hard", "sd_host_symbolic");
