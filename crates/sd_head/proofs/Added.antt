@@ -22,7 +22,7 @@ use Rattle.sd_head_periods.specs.declared.crypto.CryptoPeriod.{CryptoPeriod}
 use Rattle.sd_head_periods.specs.declared.entitling.Entitling.{Entitling}
 use Rattle.sd_head_periods.specs.Crypto.{crypto_in}
 use Rattle.sd_head_periods.specs.Packets.{period_packets}
-use Rattle.sd_head_periods.specs.Kept.{IsOf}
+use Rattle.sd_head_periods.specs.Kept.{uncounted, IsOf}
 use Rattle.sd_head.specs.Messages.{head_of, message_due}
 use Rattle.sd_head.specs.Items.{HasSent, HasCountersAfter, tables_bytes, message_bytes}
 use Rattle.sd_head.specs.declared.sender.Sender.{Sender}
@@ -35,7 +35,7 @@ sections_at plan k = emms_of (period_at plan (period_of plan k))
 
 -- the packets of the period at work are those of the period of packet k
 pub emms_are : (plan : Plan) (k : ℕ) (entitling : Entitling) → IsOf plan (crypto_of plan.site k) entitling →
-    entitling.emms.items ≡ of_sections plan.site (sections_at plan k)
+    map uncounted entitling.emms.items ≡ of_sections plan.site (sections_at plan k)
 unfolding period_packets period_of
 emms_are plan k entitling of = of.period.emms
 
@@ -84,7 +84,7 @@ message_stands plan before crypto clear places counted is are =
 pub added_bytes : (plan : Plan) (before : List (List ℕ)) (packet veiled : List ℕ) (due : Bool) (emms : List (List ℕ))
     (message : Option EcmHead) (sender : Sender) → HasSent plan.site (sent plan before) sender →
     due ≡ (length before % crypto_length plan.site == 0) →
-    emms ≡ of_sections plan.site (sections_at plan (length before)) →
+    map uncounted emms ≡ of_sections plan.site (sections_at plan (length before)) →
     items_of message sender.places.items ≡ message_before plan before → veiled ≡ carried plan.site before packet →
     (tables_bytes sender due emms ++ message_bytes plan.site.ecm sender message) ++ veiled
     ≡ bytes_added plan before packet
@@ -110,7 +110,7 @@ added_bytes plan before packet veiled due emms message sender has is are told ma
 pub added_next : (plan : Plan) (before : List (List ℕ)) (packet : List ℕ) (due : Bool) (emms : List (List ℕ))
     (message : Option EcmHead) (old new : Sender) → HasSent plan.site (sent plan before) old →
     due ≡ (length before % crypto_length plan.site == 0) →
-    emms ≡ of_sections plan.site (sections_at plan (length before)) →
+    map uncounted emms ≡ of_sections plan.site (sections_at plan (length before)) →
     items_of message old.places.items ≡ message_before plan before → HasCountersAfter old due emms message new →
     HasSent plan.site (sent plan (before ++ packet ∷ [])) new
 unfolding added
@@ -135,7 +135,7 @@ added_next plan before packet due emms message old new has is are told follows =
 pub closing_bytes : (plan : Plan) (before : List (List ℕ)) (crypto : CryptoPeriod) (clear : ℕ) (due : Bool)
     (emms : List (List ℕ))
     (head : EcmHead) (sender : Sender) → HasSent plan.site (sent plan before) sender → clear ≡ length before →
-    due ≡ (clear == 0) → emms ≡ of_sections plan.site (sections_at plan (clear - 1)) →
+    due ≡ (clear == 0) → map uncounted emms ≡ of_sections plan.site (sections_at plan (clear - 1)) →
     crypto ≡ crypto_in plan.site.master (period_in plan (crypto_of plan.site (clear - 1)))
     (word_in plan.site (crypto_of plan.site (clear - 1))) →
     head ≡ head_of plan.site crypto clear (closing_number plan.site clear) true →

@@ -19,11 +19,13 @@ use Rattle.sd_ecm.specs.Parts.{message_of, parts_of}
 use Rattle.sd_ecm.specs.declared.message.EcmHead.{EcmHead}
 use Rattle.sd_ecm.specs.declared.part.Place.{Place}
 use Rattle.sd_spec_broadcast.proofs.Sending.{packets_in_turn}
+use Rattle.sd_head_periods.specs.Kept.{uncounted}
 use Rattle.sd_head.specs.Sending.{counter_after, numbered, recounted, packed_part}
 use Rattle.sd_head.specs.Items.{is_cat_item, is_entitlement, is_control, tables_bytes, message_bytes, parts_in, HasSent}
 use Rattle.sd_head.specs.Items.{HasCountersAfter}
 use Rattle.sd_head.specs.declared.sender.Sender.{Sender}
 use Rattle.sd_head.proofs.Sends.{counter_is}
+use Rattle.sd_head.proofs.Numbering.{numbered_anew}
 
 -- tests that agree count alike
 same_counts : (p q : Item → Bool) → ((x : Item) → p x ≡ q x) → (xs : List Item) → count_by p xs ≡ count_by q xs
@@ -166,6 +168,13 @@ tables_told site earlier true sections sender sent =
     ∙ ap (λ (ps : List (List ℕ)). recounted sender.cat sender.cats ++ concat ps)
     (entitled site sender.emms (earlier ++ Cat ∷ []) sections next))
 
+-- the counters that the packets had before don't matter
+tables_anew : (sender : Sender) (due : Bool) (emms : List (List ℕ)) →
+    tables_bytes sender due emms ≡ tables_bytes sender due (map uncounted emms)
+tables_anew sender false emms = refl
+tables_anew sender true emms =
+    ap (λ (ps : List (List ℕ)). recounted sender.cat sender.cats ++ concat ps) (sym (numbered_anew sender.emms emms))
+
 -- the bytes of a message
 message_told : (site : SiteFields) (earlier : List Item) (message : Option EcmHead) (sender : Sender) →
     sender.ecms ≡ count_by is_control earlier % 16 →
@@ -216,7 +225,8 @@ ecms_of (Some head) sender = all_count is_control Controls (λ a. refl) (parts_o
 
 -- tables and a message are sent
 pub inserted_bytes : (site : SiteFields) (earlier : List Item) (due : Bool) (sections : List Emm) (emms : List (List ℕ))
-    (message : Option EcmHead) (sender : Sender) → HasSent site earlier sender → emms ≡ of_sections site sections →
+    (message : Option EcmHead) (sender : Sender) → HasSent site earlier sender →
+    map uncounted emms ≡ of_sections site sections →
     tables_bytes sender due emms ++ message_bytes site.ecm sender message
     ≡ concat (packets_from site earlier (items_due due sections ++ items_of message sender.places.items))
 inserted_bytes site earlier due sections emms message sender sent are =
@@ -224,7 +234,8 @@ inserted_bytes site earlier due sections emms message sender sent are =
     let on = counts_on is_control earlier (items_due due sections) in
     let same : count_by is_control (earlier ++ items_due due sections) ≡ count_by is_control earlier =
     omega (arith, none, on) in
-    ap (λ (ps : List (List ℕ)). tables_bytes sender due ps ++ message_bytes site.ecm sender message) are
+    ap (λ (bytes : List ℕ). bytes ++ message_bytes site.ecm sender message) (tables_anew sender due emms
+    ∙ ap (tables_bytes sender due) are)
     ∙ (ap (λ (bytes : List ℕ). bytes ++ message_bytes site.ecm sender message)
     (tables_told site earlier due sections sender sent)
     ∙ (ap (λ (bytes : List ℕ). concat (packets_from site earlier (items_due due sections)) ++ bytes)
@@ -234,12 +245,13 @@ inserted_bytes site earlier due sections emms message sender sent are =
 
 -- and then come these counters
 pub inserted_next : (site : SiteFields) (earlier : List Item) (due : Bool) (sections : List Emm) (emms : List (List ℕ))
-    (message : Option EcmHead) (old new : Sender) → HasSent site earlier old → emms ≡ of_sections site sections →
+    (message : Option EcmHead) (old new : Sender) → HasSent site earlier old →
+    map uncounted emms ≡ of_sections site sections →
     HasCountersAfter old due emms message new →
     HasSent site (earlier ++ (items_due due sections ++ items_of message old.places.items)) new
 inserted_next site earlier due sections emms message old new sent are follows =
     let many : length emms ≡ length sections =
-    ap (λ (ps : List (List ℕ)). length ps) are
+    sym (length-map emms uncounted) ∙ ap (λ (ps : List (List ℕ)). length ps) are
     ∙ length-map sections (λ (emm : Emm). packed (emm_section emm) site.emm 0) in
     record {
       cat_is = follows.cat ∙ sent.cat_is;

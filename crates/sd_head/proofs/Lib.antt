@@ -1,5 +1,6 @@
 mod Telling
 mod Sends
+mod Numbering
 mod Counting
 mod Starting
 mod Added

@@ -67,7 +67,7 @@ sends_on (Ok x) u v w a b first then = takes_on u v w a b first then
 sends_on (Err e) u v w a b first then = cuts_later u v w a b first then
 
 -- the counter after one packet more, counted from the first or from the second
-counter_shift : (counter n : ℕ) → counter_after ((counter + 1) % 16) n ≡ counter_after counter (suc n)
+pub counter_shift : (counter n : ℕ) → counter_after ((counter + 1) % 16) n ≡ counter_after counter (suc n)
 counter_shift counter zero = refl
 counter_shift counter (suc n) = ap (λ (c : ℕ). (c + 1) % 16) (counter_shift counter n)
 

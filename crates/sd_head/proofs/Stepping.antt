@@ -1,7 +1,7 @@
 -- One step of a head end.
 use Rattle.std.proofs.Common.{◌≡◌, ℕ, ◌-◌, ◌%◌, ◌==◌, Bool, true, List, [], ◌∷◌, ◌++◌, length}
 use Rattle.std.proofs.Common.{refl, sym, ap, subst, ◌∙◌, arith, append_assoc, append-nil, length-append}
-use Rattle.std.specs.Prelude.{Option, Some, None, IsSome, Result, Err}
+use Rattle.std.specs.Prelude.{map, Option, Some, None, IsSome, Result, Err}
 use Rattle.std.specs.List.{concat}
 use Rattle.std.specs.Option.{option_map_or}
 use Rattle.sd_label.specs.Keys.{control_word_of}
@@ -18,7 +18,7 @@ use Rattle.sd_spec_broadcast.specs.Refused.{refusal_of, refusal_from, IsClear}
 use Rattle.sd_spec_broadcast.specs.declared.fault.ClearFault.{ClearFault}
 use Rattle.sd_spec_broadcast.specs.Sent.{Item, sent, sent_from, bytes_added, closing_of, packets_from, message_before}
 use Rattle.sd_head_clear.specs.After.{IsAfter as IsKept}
-use Rattle.sd_head_periods.specs.Kept.{plan_of, IsOf}
+use Rattle.sd_head_periods.specs.Kept.{plan_of, uncounted, AreAlike, IsOf}
 use Rattle.sd_head_periods.specs.declared.entitling.Entitling.{Entitling}
 use Rattle.sd_head.specs.Messages.{head_of, message_due}
 use Rattle.sd_head.specs.Items.{HasSent, HasPlaced, HasCountersAfter, tables_bytes, message_bytes}
@@ -83,7 +83,7 @@ pub record Comes (s : Head) (packet : List ℕ) (entitling : Entitling) (m : Sen
   pub at_work : IsOf (plan_in s) (crypto_of (fields_of s.site) s.clear.count) entitling
   pub placed : HasPlaced s.sender m
   pub due_is : due ≡ (s.clear.count % crypto_length (fields_of s.site) == 0)
-  pub emms_of : emms ≡ entitling.emms.items
+  pub emms_of : AreAlike emms entitling.emms.items
   pub message_of : message ≡ message_due (fields_of s.site) entitling.crypto s.clear.count
   pub places_are : (before : List (List ℕ)) → IsKept before s.clear → IsSome message →
       m.places.items ≡ places_after before
@@ -116,7 +116,7 @@ module _ (s t : Head) (packet : List ℕ) (m : Sender) (due : Bool) (emms : List
 
   -- the period's packets are those of the packet's period
   listed : (before : List (List ℕ)) → IsAfter (plan_in s) before s →
-      emms ≡ of_sections (fields_of s.site) (sections_at (plan_in s) (length before))
+      map uncounted emms ≡ of_sections (fields_of s.site) (sections_at (plan_in s) (length before))
   listed before after =
       comes.emms_of ∙ (emms_are (plan_in s) s.clear.count t.entitling comes.at_work
       ∙ ap (λ (n : ℕ). of_sections (fields_of s.site) (sections_at (plan_in s) n)) after.clear_is.number)
@@ -189,7 +189,7 @@ pub record Ends (s : Head) (entitling : Entitling) (m : Sender) (due : Bool) (em
   pub at_work : IsOf (plan_in s) (crypto_of (fields_of s.site) (s.clear.count - 1)) entitling
   pub placed : HasPlaced s.sender m
   pub due_is : due ≡ (s.clear.count == 0)
-  pub emms_of : emms ≡ entitling.emms.items
+  pub emms_of : AreAlike emms entitling.emms.items
   pub head_is : head ≡ head_of (fields_of s.site) entitling.crypto s.clear.count
       (closing_number (fields_of s.site) s.clear.count) true
   pub places_are : (before : List (List ℕ)) → IsKept before s.clear → m.places.items ≡ places_after before

@@ -5,6 +5,7 @@ ghost use Rattle.sd_site.specs.Fields.{fields_of};
 ghost use Rattle.sd_spec_broadcast.specs.Plan.{closing_number};
 ghost use Rattle.sd_spec_broadcast.specs.Messages.{places_after};
 ghost use Rattle.sd_head_clear.specs.After.{IsAfter as IsKept};
+ghost use Rattle.sd_head_periods.specs.Kept.{AreAlike};
 ghost use Rattle.sd_head.specs.Sending.{SendsBytes};
 ghost use Rattle.sd_head.specs.Messages.{head_of, message_due, number_due};
 ghost use Rattle.sd_head.specs.Items.{message_bytes, tables_bytes, AllMayBeSent, HasCountersAfter, HasPlaced, HasSent};
@@ -19,7 +20,7 @@ use sd_base::NoMemory;
 use sd_ecm::{EcmHead, MOST_PLACES};
 use sd_head_clear::Clear;
 use sd_head_periods::CryptoPeriod;
-use sd_packet::Packet;
+use sd_packet::{Packet, SIZE};
 use sd_ports::{PortFault, Sink};
 use sd_site::Site;
 use std::alloc::Global;
@@ -99,7 +100,7 @@ impl Sender {
     pub fn send_inserted<K: Sink>(
         &mut self,
         due: bool,
-        emms: &[Packet],
+        emms: &mut [[u8; SIZE]],
         message: Option<EcmHead>,
         pid: u16,
         out: &mut K,
@@ -107,8 +108,9 @@ impl Sender {
         requires pid { pid < 8192 }
         requires fits { AllMayBeSent message self.old.places.items }
         ensures value { SendsBytes (vessel K.Sink out.old) (vessel K.Sink out.new)
-            (tables_bytes self.old due emms.now ++ message_bytes pid self.old message) result }
-        ensures next { OnOk result (HasCountersAfter self.old due emms.now message self.new) }
+            (tables_bytes self.old due emms.old ++ message_bytes pid self.old message) result }
+        ensures next { OnOk result (HasCountersAfter self.old due emms.old message self.new) }
+        ensures alike { OnOk result (AreAlike emms.new emms.old) }
         ensures cause { HasCause (K.faults out.old) (K.faults out.new) result }
     {
         self.send_tables(due, emms, out)?;
@@ -119,12 +121,13 @@ impl Sender {
     fn send_tables<K: Sink>(
         &mut self,
         due: bool,
-        emms: &[Packet],
+        emms: &mut [[u8; SIZE]],
         out: &mut K,
     ) -> Result<(), PortFault>
         ensures value { SendsBytes (vessel K.Sink out.old) (vessel K.Sink out.new)
-            (tables_bytes self.old due emms.now) result }
-        ensures next { OnOk result (HasCountersAfter self.old due emms.now None self.new) }
+            (tables_bytes self.old due emms.old) result }
+        ensures next { OnOk result (HasCountersAfter self.old due emms.old None self.new) }
+        ensures alike { OnOk result (AreAlike emms.new emms.old) }
         ensures places { self.new.places ≡ self.old.places }
         ensures cause { HasCause (K.faults out.old) (K.faults out.new) result }
     {
@@ -159,7 +162,7 @@ impl Sender {
     pub fn send_packet<K: Sink>(
         &mut self,
         due: bool,
-        emms: &[Packet],
+        emms: &mut [[u8; SIZE]],
         message: Option<EcmHead>,
         pid: u16,
         packet: &Packet,
@@ -168,8 +171,9 @@ impl Sender {
         requires pid { pid < 8192 }
         requires fits { AllMayBeSent message self.old.places.items }
         ensures value { SendsBytes (vessel K.Sink out.old) (vessel K.Sink out.new)
-            ((tables_bytes self.old due emms.now ++ message_bytes pid self.old message) ++ packet.now) result }
-        ensures next { OnOk result (HasCountersAfter self.old due emms.now message self.new) }
+            ((tables_bytes self.old due emms.old ++ message_bytes pid self.old message) ++ packet.now) result }
+        ensures next { OnOk result (HasCountersAfter self.old due emms.old message self.new) }
+        ensures alike { OnOk result (AreAlike emms.new emms.old) }
         ensures cause { HasCause (K.faults out.old) (K.faults out.new) result }
     {
         self.send_inserted(due, emms, message, pid, out)?;

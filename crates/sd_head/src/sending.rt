@@ -6,11 +6,12 @@ ghost use Rattle.sd_ecm.specs.declared.format.TheConstants.{MOST_PLACES};
 ghost use Rattle.sd_ecm.specs.Versions.{IsVersion, IsNamed, IsSince};
 ghost use Rattle.sd_ecm.specs.Form.{ArePositioned, AreAscending, AreShort};
 ghost use Rattle.sd_ecm.specs.Parts.{message_of, parts_of};
+ghost use Rattle.sd_head_periods.specs.Kept.{AreAlike};
 ghost use Rattle.sd_head.specs.Sending.{SendsBytes, counter_after, numbered, packed_part, recounted};
 
 use crate::counter::Counter;
 use sd_ecm::{EcmHead, EcmPart, Place, part_count, write_ecm};
-use sd_packet::Packet;
+use sd_packet::{Packet, SIZE};
 use sd_ports::{PortFault, Sink, write_all};
 
 /// Sends the packet under the next counter.
@@ -28,21 +29,32 @@ pub fn send_counted<K: Sink>(
     write_all(out, &bytes)
 }
 
-/// Sends the packets one after the other, each under the next counter.
+/// Sends the packets one after the other, each under the next counter, which is put into it.
+#[tactic(auto, using(crate::proofs::Numbering::flattened_sent))]
 pub fn send_all<K: Sink>(
     out: &mut K,
-    packets: &[Packet],
+    packets: &mut [[u8; SIZE]],
     counter: &mut Counter,
 ) -> Result<(), PortFault>
     ensures value { SendsBytes (vessel K.Sink out.old) (vessel K.Sink out.new)
-        (concat (numbered recounted counter.old packets.now)) result }
-    ensures next { OnOk result (counter.new ≡ counter_after counter.old (length packets.now)) }
+        (concat (numbered recounted counter.old packets.old)) result }
+    ensures next { OnOk result (counter.new ≡ counter_after counter.old (length packets.old)) }
+    ensures alike { AreAlike packets.new packets.old }
     ensures cause { HasCause (K.faults out.old) (K.faults out.new) result }
 {
-    for packet in packets {
-        send_counted(out, packet, counter)?;
+    number(packets, counter);
+    write_all(out, packets.as_flattened())
+}
+
+// Puts the next counters into the packets.
+fn number(packets: &mut [[u8; SIZE]], counter: &mut Counter)
+    ensures packets { packets.new ≡ numbered recounted counter.old packets.old }
+    ensures next { counter.new ≡ counter_after counter.old (length packets.old) }
+    ensures alike { AreAlike packets.new packets.old }
+{
+    for i in 0..packets.len() {
+        packets[i][3] = 0x10 + counter.take();
     }
-    Ok(())
 }
 
 /// Sends the parts of a control message one after the other, each under the next counter.

@@ -2,4 +2,4 @@ mod Replayed
 mod Listing
 pub mod Packing
 mod Sets
-mod Periods
+pub mod Periods

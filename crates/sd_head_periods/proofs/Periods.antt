@@ -3,7 +3,8 @@ use Rattle.std.proofs.Common.{◌≡◌, ℕ, zero, suc, ◌+◌, ◌-◌, ◌/�
 use Rattle.std.proofs.Common.{refl, ap, sym, subst, ◌∙◌, inl, inr, arith}
 use Rattle.std.proofs.lemmas.Bool.{cases_lt}
 use Rattle.std.proofs.lemmas.Grind.{common_steps}
-use Rattle.std.specs.Prelude.{List, Result, Ok, Err, OnErr}
+use Rattle.std.proofs.lemmas.List.{with_items_is}
+use Rattle.std.specs.Prelude.{List, [], ◌∷◌, map, length, Result, Ok, Err, OnErr}
 use Rattle.sd_tree.specs.declared.set.SetName.{SetName}
 use Rattle.sd_book.specs.Commands.{last_period, revoked}
 use Rattle.sd_book.proofs.Cuts.{revoked_past}
@@ -11,13 +12,20 @@ use Rattle.sd_book.specs.declared.command.Command.{Command}
 use Rattle.sd_book.specs.Place.{PlaceValue, IsPlaceIn}
 use Rattle.sd_book.specs.Value.{BookValue}
 use Rattle.sd_steiner.specs.Cover.{cover_of}
+use Rattle.sd_packet.specs.Packing.{packed}
+use Rattle.sd_packet.proofs.Packets.{packet_counted}
+use Rattle.sd_emm.specs.Spelled.{emm_section}
+use Rattle.sd_emm.specs.Period.{Period, emms_of}
+use Rattle.sd_emm.specs.declared.emm.Emm.{Emm}
 use Rattle.sd_cover.specs.Index.{IndexValue}
 use Rattle.sd_spec_broadcast.specs.Messages.{period_at}
 use Rattle.sd_head_periods.specs.Crypto.{crypto_in}
 use Rattle.sd_head_periods.specs.Packets.{period_packets, period_of_sets}
 use Rattle.sd_spec_broadcast.specs.Plan.{Plan, IsPlan, sets_at, word_in, period_in}
 use Rattle.sd_spec_broadcast.proofs.Schedule.{periods_in_rise, period_in_first, period_in_within}
-use Rattle.sd_head_periods.specs.Kept.{begins_period, HasBegun, IsInPeriod, IsOf, IsBefore}
+use Rattle.sd_head_periods.specs.Kept.{begins_period, uncounted, AreAlike, HasBegun, IsInPeriod, IsOf, IsBefore}
+use Rattle.sd_head_periods.proofs.Packing.{of_sections}
+use Rattle.sd_head_periods.specs.Lending.{with_emms}
 use Rattle.sd_head_periods.specs.declared.entitling.Entitling.{Entitling}
 
 -- what holds at all events holds after an error
@@ -95,6 +103,32 @@ revoked_min d q commands =
           ap (revoked d commands) same ∙ sym (revoked_past d q commands past)
     ]
 
+-- the packets of sections, each with counter 0, are such
+made_uncounted : (pid : ℕ) (period : Period) →
+    map uncounted (period_packets pid period) ≡ period_packets pid period
+unfolding period_packets
+made_uncounted pid period = all_made (emms_of period)
+  where
+    all_made : (emms : List Emm) → map uncounted (of_sections pid emms) ≡ of_sections pid emms
+    all_made [] = refl
+    all_made (emm ∷ emms) =
+        ap (λ (packet : List ℕ). packet ∷ map uncounted (of_sections pid emms))
+        (sym (packet_counted (emm_section emm) pid 0))
+        ∙ ap (λ (packets : List (List ℕ)). packed (emm_section emm) pid 0 ∷ packets) (all_made emms)
+
+-- the periods that have begun are those of the book, the place and the index
+same_begun : (plan : Plan) (periods : ℕ) (old new : Entitling) → HasBegun plan periods old →
+    new.book ≡ old.book → new.place ≡ old.place → new.index ≡ old.index → HasBegun plan periods new
+same_begun plan periods old new was book place index = record {
+  is_plan = was.is_plan;
+  commands = ap (λ (b : BookValue). b.commands) book ∙ was.commands;
+  of_height = ap (λ (b : BookValue). b.height) book ∙ was.of_height;
+  place = subst (IsPlaceIn plan.commands) (sym place) was.place;
+  next = ap (λ (p : PlaceValue). p.next) place ∙ was.next;
+  height = ap (λ (i : IndexValue). i.height) index ∙ was.height;
+  revoked_are = ap (λ (i : IndexValue). i.revoked) index ∙ was.revoked_are;
+}
+
 -- a period that has begun
 pub in_period : (plan : Plan) (begun p q : ℕ) (old new : Entitling) → HasBegun plan begun old →
     p ≡ min q (last_period plan.commands) → new.book ≡ old.book →
@@ -119,9 +153,28 @@ in_period plan begun p q old new was decides same place next height decided emms
         height = height ∙ was.height;
         revoked_are = revoked_are;
       });
-      emms = emms ∙ ap (λ (sets : List SetName). period_packets plan.site.emm (period_of_sets plan.site q sets))
-          (rw (height ∙ was.height, revoked_are) refl);
+      emms = ap (map uncounted) emms ∙ (made_uncounted plan.site.emm _
+          ∙ ap (λ (sets : List SetName). period_packets plan.site.emm (period_of_sets plan.site q sets))
+          (rw (height ∙ was.height, revoked_are) refl));
     }
+
+-- the packets that are kept once those lent got other counters
+pub left_alike : (state : Entitling) (lent left : List (List ℕ)) → lent ≡ state.emms.items →
+    length left ≡ length lent → AreAlike left lent → AreAlike (with_emms state left).emms.items lent
+left_alike state lent left is long alike =
+    let same : length lent ≡ length state.emms.items = ap (λ (xs : List (List ℕ)). length xs) is in
+    ap (map uncounted) (with_items_is state.emms left (omega (arith, long, same, state.emms.ok.0))) ∙ alike
+
+-- the crypto period stays at work
+pub still_of : (plan : Plan) (n : ℕ) (state : Entitling) (lent left : List (List ℕ)) → IsOf plan n state →
+    lent ≡ state.emms.items → length left ≡ length lent → AreAlike left lent → IsOf plan n (with_emms state left)
+still_of plan n state lent left was is long alike = record {
+  period = record {
+    begun = same_begun plan (period_in plan n + 1) state (with_emms state left) was.period.begun refl refl refl;
+    emms = left_alike state lent left is long alike ∙ (ap (map uncounted) is ∙ was.period.emms);
+  };
+  crypto = was.crypto;
+}
 
 -- a crypto period that has begun
 pub at_work : (plan : Plan) (n q : ℕ) (old new : Entitling) → IsInPeriod plan q old → q ≡ period_in plan n →
@@ -129,16 +182,8 @@ pub at_work : (plan : Plan) (n q : ℕ) (old new : Entitling) → IsInPeriod pla
     new.crypto ≡ crypto_in plan.site.master q (word_in plan.site n) → IsOf plan n new
 at_work plan n q old new was period book place index emms crypto = record {
   period = subst (λ (p : ℕ). IsInPeriod plan p new) period (record {
-    begun = record {
-      is_plan = was.begun.is_plan;
-      commands = ap (λ (b : BookValue). b.commands) book ∙ was.begun.commands;
-      of_height = ap (λ (b : BookValue). b.height) book ∙ was.begun.of_height;
-      place = subst (IsPlaceIn plan.commands) (sym place) was.begun.place;
-      next = ap (λ (p : PlaceValue). p.next) place ∙ was.begun.next;
-      height = ap (λ (i : IndexValue). i.height) index ∙ was.begun.height;
-      revoked_are = ap (λ (i : IndexValue). i.revoked) index ∙ was.begun.revoked_are;
-    };
-    emms = emms ∙ was.emms;
+    begun = same_begun plan (q + 1) old new was.begun book place index;
+    emms = ap (map uncounted) emms ∙ was.emms;
   });
   crypto = crypto ∙ ap (λ (p : ℕ). crypto_in plan.site.master p (word_in plan.site n)) period;
 }

@@ -1,5 +1,6 @@
 -- Public meaning: what is kept of the period and the crypto period at work.
 use Rattle.std.specs.Prelude.{◌≡◌, ℕ, zero, suc, ◌+◌, ◌-◌, ◌==◌, ◌||◌, not, Bool, min, List, []}
+use Rattle.std.specs.Prelude.{map, slice_set}
 use Rattle.sd_site.specs.declared.site.Site.{Site}
 use Rattle.sd_site.specs.Fields.{fields_of}
 use Rattle.sd_book.specs.Value.{BookValue}
@@ -39,10 +40,18 @@ pub record HasBegun (plan : Plan) (periods : ℕ) (state : Entitling) : Type 0 w
 abbrev pub IsNew : Plan → Entitling → Type 0
 IsNew plan state = HasBegun plan 0 state
 
--- period q is at work
+-- the packet under counter 0
+abbrev pub uncounted : List ℕ → List ℕ
+uncounted packet = slice_set packet 3 0x10
+
+-- the same packets but for their counters
+abbrev pub AreAlike : List (List ℕ) → List (List ℕ) → Type 0
+AreAlike packets others = map uncounted packets ≡ map uncounted others
+
+-- period q is at work, and its packets are kept under any counters
 pub record IsInPeriod (plan : Plan) (q : ℕ) (state : Entitling) : Type 0 where
   pub begun : HasBegun plan (q + 1) state
-  pub emms : state.emms.items ≡ period_packets plan.site.emm (period_at plan q)
+  pub emms : map uncounted state.emms.items ≡ period_packets plan.site.emm (period_at plan q)
 
 -- crypto period n is at work
 pub record IsOf (plan : Plan) (n : ℕ) (state : Entitling) : Type 0 where

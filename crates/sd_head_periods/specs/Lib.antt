@@ -1,3 +1,4 @@
 pub mod Crypto
 pub mod Packets
 pub mod Kept
+pub mod Lending

@@ -1,4 +1,5 @@
 ghost use Rattle.std.specs.Prelude.{◌≡◌, ◌+◌, ◌^◌, ◌<◌, ◌≤◌, min, true, OnOk, OnErr, length};
+ghost use Rattle.std.specs.Borrow.{sem};
 ghost use Rattle.sd_tree.specs.declared.height.TheConstants.{HIGHEST};
 ghost use Rattle.sd_tree.specs.declared.leaf.TheConstants.{MOST_REVOKED};
 ghost use Rattle.sd_site.specs.Fields.{fields_of};
@@ -10,6 +11,7 @@ ghost use Rattle.sd_head_periods.specs.Packets.{period_packets, period_of_sets};
 ghost use Rattle.sd_spec_broadcast.specs.Plan.{period_in};
 ghost use Rattle.sd_head_periods.specs.Kept.{plan_of, begins_period, revoked_before, HasBegun, IsNew};
 ghost use Rattle.sd_head_periods.specs.Kept.{IsInPeriod, IsOf, IsBefore};
+ghost use Rattle.sd_head_periods.specs.Lending.{LendsPackets};
 
 use crate::crypto::CryptoPeriod;
 use crate::entries::entries_of;
@@ -19,7 +21,7 @@ use sd_base::{NoMemory, Steps};
 use sd_book::{Book, Place};
 use sd_cover::CoverIndex;
 use sd_label::{check_value, period_key};
-use sd_packet::Packet;
+use sd_packet::SIZE;
 use sd_site::Site;
 use sd_tree::HIGHEST;
 use std::alloc::Global;
@@ -32,7 +34,7 @@ pub struct Entitling {
     book: Book,
     place: Place,
     index: CoverIndex,
-    emms: Vec<Packet>,
+    emms: Vec<[u8; SIZE]>,
     crypto: CryptoPeriod,
 }
 
@@ -119,11 +121,12 @@ impl Entitling {
         pack_period(&mut self.emms, &self.index, site, q, steps)
     }
 
-    /// The packets of the period's entitlements, each with counter 0.
-    pub fn emms(&self) -> &[Packet]
-        ensures { result.now ≡ self.now.emms.items }
+    /// The packets of the period's entitlements, for a sender to put its counters into. Until then each has counter 0.
+    pub fn emms(&mut self) -> &mut [[u8; SIZE]]
+        ensures* lent { sem 𝓛 (LendsPackets self.entry result) }
+        ensures value { result.now ≡ self.old.emms.items }
     {
-        &self.emms
+        self.emms.as_mut_slice()
     }
 
     /// The index of the leaves that are revoked in the last period that has begun.
@@ -189,7 +192,7 @@ fn take_period<L: Ledger>(
 
 // Makes the packets of the entitlements of period q from the index of its revoked leaves.
 fn pack_period<L: Ledger>(
-    packets: &mut Vec<Packet>,
+    packets: &mut Vec<[u8; SIZE]>,
     index: &CoverIndex,
     site: &Site,
     q: u32,

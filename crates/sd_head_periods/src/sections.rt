@@ -6,13 +6,13 @@ ghost use Rattle.sd_head_periods.specs.Packets.{period_packets, period_of_entrie
 
 use sd_base::NoMemory;
 use sd_emm::{Emm, Entry, section_count, write_emm};
-use sd_packet::Packet;
+use sd_packet::SIZE;
 
 /// Fills the list with the packets of the sections of period q, each with counter 0. They name the run where a name is
 /// given.
 #[tactic(auto, using(crate::proofs::Packing::section_more, crate::proofs::Packing::all_sections))]
 pub fn pack_sections(
-    packets: &mut Vec<Packet>,
+    packets: &mut Vec<[u8; SIZE]>,
     pid: u16,
     run: Option<u32>,
     q: u32,
@@ -27,7 +27,8 @@ pub fn pack_sections(
     packets.clear();
     for index in 0..section_count(entries.len()) {
         let emm = Emm::of_period(run, q, check, entries, index);
-        packets.push(write_emm(&emm, pid, 0)).map_err(|_| NoMemory)?;
+        let packet = write_emm(&emm, pid, 0);
+        packets.push(*packet.bytes()).map_err(|_| NoMemory)?;
     }
     Ok(())
 }

@@ -5,7 +5,7 @@ use crate::sites::SITE;
 use sd_base::Steps;
 use sd_book::Book;
 use sd_head_periods::{CryptoPeriod, Entitling};
-use sd_packet::{Packet, pack_section};
+use sd_packet::{SIZE, pack_section};
 use std::alloc::Global;
 use std::marker::Brand;
 use std::sync::ledger::{Blank, Ledger};
@@ -34,7 +34,7 @@ const SECOND_CHECK: [u8; 16] = [
 ];
 
 // What is kept once a crypto period has begun: the packets of entitlements, and the crypto period.
-type Begun = (Vec<Packet>, CryptoPeriod);
+type Begun = (Vec<[u8; SIZE]>, CryptoPeriod);
 
 // What is kept in the first two crypto periods, each of which begins a period.
 fn counted<L: Ledger>(alloc: Global, blank: Blank) -> Option<(Begun, Begun)>
@@ -62,8 +62,8 @@ fn periods_begin_with_their_sets(rt: HostRuntime) {
     let begun = uncounted(rt.alloc());
     assert!(rt; begun.is_some());
     if let Some((first, second)) = begun {
-        assert!(rt; first.0.as_slice() == [pack_section(&ALL, 496, 0)].as_slice());
-        assert!(rt; second.0.as_slice() == [pack_section(&OTHERS, 496, 0)].as_slice());
+        assert!(rt; first.0.as_slice() == [*pack_section(&ALL, 496, 0).bytes()].as_slice());
+        assert!(rt; second.0.as_slice() == [*pack_section(&OTHERS, 496, 0).bytes()].as_slice());
         for (crypto, number, check) in [(first.1, 0, FIRST_CHECK), (second.1, 1, SECOND_CHECK)] {
             assert_eq!(rt; crypto.number, number);
             assert_eq!(rt; crypto.period, number);
@@ -136,7 +136,7 @@ fn a_run_begins_at_its_first_word_and_period(rt: HostRuntime) {
             assert_eq!(rt; crypto.check, SEVENTH_CHECK);
             assert!(rt; emms.len() == 1);
             assert!(rt;
-                period > 1 || emms.as_slice() == [pack_section(&OTHERS, 496, 0)].as_slice()
+                period > 1 || emms.as_slice() == [*pack_section(&OTHERS, 496, 0).bytes()].as_slice()
             );
         }
     }

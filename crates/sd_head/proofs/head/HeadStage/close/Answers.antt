@@ -1,9 +1,11 @@
-use Rattle.std.proofs.Common.{◌∙◌, ◌++◌, ◌-◌, ◌==◌, ℕ, true, [], inl, inr, refl, ap, subst, arith}
-use Rattle.std.specs.Prelude.{Some, None}
+use Rattle.std.proofs.Common.{◌∙◌, ◌++◌, ◌-◌, ◌==◌, ℕ, true, [], inl, inr, refl, sym, ap, subst, arith}
+use Rattle.std.specs.Prelude.{map, Some, None}
 use Rattle.sd_site.specs.Fields.{fields_of}
 use Rattle.sd_engine.specs.Stage.{vessel}
 use Rattle.sd_spec_broadcast.specs.Plan.{closing_number, crypto_of}
-use Rattle.sd_head_periods.specs.Kept.{IsOf}
+use Rattle.sd_head_periods.specs.Kept.{uncounted, IsOf}
+use Rattle.sd_head_periods.specs.Lending.{with_emms}
+use Rattle.sd_head_periods.proofs.Periods.{still_of, left_alike}
 use Rattle.sd_head.specs.Staged.{plan_in}
 use Rattle.sd_head_periods.specs.declared.crypto.CryptoPeriod.{CryptoPeriod}
 use Rattle.sd_head.specs.Messages.{head_of}
@@ -39,19 +41,22 @@ returns-in-Ok-clause-value g c = record {
   says = ends c.args.self.now (record {
     site = c.args.self.now.site;
     clear = c.args.self.now.clear;
-    entitling = c.finish.new.entitling;
+    entitling = with_emms c.finish.new.entitling c.send_inserted.new.emms;
     sender = c.send_inserted.new.self;
     refusal = c.args.self.now.refusal;
   }) c.prepare_closing-message.new.self
       (c.count-count.result == 0) c.emms-emms.result.now
       c.prepare_closing-message.result c.finish.new.steps
       (record {
-        at_work = subst (λ (n : ℕ). IsOf (plan_in c.args.self.now)
-            (crypto_of (fields_of c.args.self.now.site) (n - 1)) c.finish.new.entitling)
-            c.count-count.ensures c.in_default-finish.ensures.value;
+        at_work = subst (λ (n : ℕ). IsOf (plan_in c.args.self.now) (crypto_of (fields_of c.args.self.now.site) (n - 1))
+            (with_emms c.finish.new.entitling c.send_inserted.new.emms)) c.count-count.ensures
+            (still_of (plan_in c.args.self.now) (crypto_of (fields_of c.args.self.now.site) (c.count-count.result - 1))
+            c.finish.new.entitling c.emms-emms.result.now c.send_inserted.new.emms c.in_default-finish.ensures.value
+            c.emms-emms.ensures.value c.send_inserted.auto.emms c.in-Ok.ensures.alike);
         placed = c.prepare_closing-message.ensures.unchanged;
         due_is = ap (λ (n : ℕ). n == 0) c.count-count.ensures;
-        emms_of = c.emms-emms.ensures;
+        emms_of = sym (left_alike c.finish.new.entitling c.emms-emms.result.now c.send_inserted.new.emms
+            c.emms-emms.ensures.value c.send_inserted.auto.emms c.in-Ok.ensures.alike);
         head_is = c.prepare_closing-message.ensures.value
             ∙ ap (λ (x : CryptoPeriod). head_of (fields_of c.args.self.now.site) x c.args.self.now.clear.count
             (closing_number (fields_of c.args.self.now.site) c.args.self.now.clear.count) true) c.crypto-crypto.ensures;
@@ -93,7 +98,7 @@ returns-in-Err-send_inserted-clause-prefix g c = λ fails. record {
                 c.count-count.ensures c.in_default-finish.ensures.value;
             placed = c.prepare_closing-message.ensures.unchanged;
             due_is = ap (λ (n : ℕ). n == 0) c.count-count.ensures;
-            emms_of = c.emms-emms.ensures;
+            emms_of = ap (map uncounted) c.emms-emms.ensures.value;
             head_is = c.prepare_closing-message.ensures.value
                 ∙ ap (λ (x : CryptoPeriod). head_of (fields_of c.args.self.now.site) x c.args.self.now.clear.count
                 (closing_number (fields_of c.args.self.now.site) c.args.self.now.clear.count) true)

@@ -1,10 +1,13 @@
-use Rattle.std.proofs.Common.{◌∙◌, ◌++◌, ◌+◌, ◌%◌, ℕ, [], length, inl, inr, refl, sym, ap, subst, arith}
-use Rattle.std.specs.Prelude.{Some, if◌then◌else◌}
+use Rattle.std.proofs.Common.{◌∙◌, ◌++◌, ◌+◌, ◌%◌, [], length, inl, inr, refl, sym, ap, subst, arith}
+use Rattle.std.specs.Prelude.{map, Some, if◌then◌else◌}
 use Rattle.sd_label.specs.Keys.{control_word_of}
 use Rattle.sd_site.specs.Fields.{fields_of}
 use Rattle.sd_engine.specs.Stage.{vessel}
-use Rattle.sd_spec_broadcast.specs.Plan.{Plan}
+use Rattle.sd_spec_broadcast.specs.Plan.{Plan, crypto_of}
 use Rattle.sd_head_periods.specs.declared.crypto.CryptoPeriod.{CryptoPeriod}
+use Rattle.sd_head_periods.specs.Kept.{uncounted}
+use Rattle.sd_head_periods.specs.Lending.{with_emms}
+use Rattle.sd_head_periods.proofs.Periods.{still_of, left_alike}
 use Rattle.sd_head.specs.Messages.{message_due}
 use Rattle.sd_head.specs.Sending.{counter_after}
 use Rattle.sd_head.specs.Items.{tables_bytes, message_bytes, parts_in}
@@ -42,17 +45,21 @@ returns-in-Ok-send_packet-clause-value g c = record {
   says = does c.args.self.now (record {
     site = c.args.self.now.site;
     clear = c.take.new.self;
-    entitling = c.admit.new.entitling;
+    entitling = with_emms c.admit.new.entitling c.send_packet.new.emms;
     sender = c.send_packet.new.self;
     refusal = c.args.self.now.refusal;
   }) c.args.packet.now c.prepare-message.new.self c.in-Ok.admitted.inserted.begins c.emms-emms.result.now
       c.prepare-message.result c.carry.new.packet
       (record {
         judged = c.in-Ok.ensures.judged;
-        at_work = c.in-Ok.ensures.value;
+        at_work = still_of (plan_in c.args.self.now)
+            (crypto_of (fields_of c.args.self.now.site) c.args.self.now.clear.count)
+            c.admit.new.entitling c.emms-emms.result.now c.send_packet.new.emms c.in-Ok.ensures.value
+            c.emms-emms.ensures.value c.send_packet.auto.emms c.in-Ok-send_packet.ensures.alike;
         placed = c.prepare-message.ensures.unchanged;
         due_is = c.in-Ok.ensures.begins;
-        emms_of = c.emms-emms.ensures;
+        emms_of = sym (left_alike c.admit.new.entitling c.emms-emms.result.now c.send_packet.new.emms
+            c.emms-emms.ensures.value c.send_packet.auto.emms c.in-Ok-send_packet.ensures.alike);
         message_of = c.prepare-message.ensures.value
             ∙ ap (λ (x : CryptoPeriod). message_due (fields_of c.args.self.now.site) x c.args.self.now.clear.count)
             c.crypto-crypto.ensures;
@@ -82,17 +89,21 @@ returns-in-Ok-send_packet-clause-ok g c =
       λ calm. ready c.args.self.now (record {
         site = c.args.self.now.site;
         clear = c.take.new.self;
-        entitling = c.admit.new.entitling;
+        entitling = with_emms c.admit.new.entitling c.send_packet.new.emms;
         sender = c.send_packet.new.self;
         refusal = c.args.self.now.refusal;
       }) c.args.packet.now c.prepare-message.new.self c.in-Ok.admitted.inserted.begins c.emms-emms.result.now
           c.prepare-message.result c.carry.new.packet
           (record {
             judged = c.in-Ok.ensures.judged;
-            at_work = c.in-Ok.ensures.value;
+            at_work = still_of (plan_in c.args.self.now)
+                (crypto_of (fields_of c.args.self.now.site) c.args.self.now.clear.count)
+                c.admit.new.entitling c.emms-emms.result.now c.send_packet.new.emms c.in-Ok.ensures.value
+                c.emms-emms.ensures.value c.send_packet.auto.emms c.in-Ok-send_packet.ensures.alike;
             placed = c.prepare-message.ensures.unchanged;
             due_is = c.in-Ok.ensures.begins;
-            emms_of = c.emms-emms.ensures;
+            emms_of = sym (left_alike c.admit.new.entitling c.emms-emms.result.now c.send_packet.new.emms
+                c.emms-emms.ensures.value c.send_packet.auto.emms c.in-Ok-send_packet.ensures.alike);
             message_of = c.prepare-message.ensures.value
                 ∙ ap (λ (x : CryptoPeriod). message_due
                 (fields_of c.args.self.now.site) x c.args.self.now.clear.count) c.crypto-crypto.ensures;
@@ -165,7 +176,7 @@ returns-in-Err-send_packet-clause-prefix g c = λ fails. record {
             at_work = c.in-Ok.ensures.value;
             placed = c.prepare-message.ensures.unchanged;
             due_is = c.in-Ok.ensures.begins;
-            emms_of = c.emms-emms.ensures;
+            emms_of = ap (map uncounted) c.emms-emms.ensures.value;
             message_of = c.prepare-message.ensures.value
                 ∙ ap (λ (x : CryptoPeriod). message_due (fields_of c.args.self.now.site) x c.args.self.now.clear.count)
                 c.crypto-crypto.ensures;
