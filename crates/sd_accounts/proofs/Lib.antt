@@ -3,6 +3,7 @@ pub mod Kept
 pub mod Leaves
 pub mod Limits
 pub mod Listed
+pub mod Named
 pub mod Reading
 pub mod Reports
 pub mod Spaces

@@ -1,14 +1,15 @@
 -- What is reported.
 use Rattle.std.proofs.Common.{arith, ◌≡◌, ℕ, ◌+◌, ◌<◌, ◌≤◌, ◌≢◌, nat_lt, Bool, true, false, List, [], ◌∷◌}
 use Rattle.std.proofs.Common.{length, get_or, Ok, Err}
-use Rattle.std.proofs.Common.{refl, sym, ap, ◌∙◌, zero, suc, ◌++◌, append_assoc, append-nil}
+use Rattle.std.proofs.Common.{refl, sym, ap, ◌∙◌, zero, suc, ◌++◌, append_assoc}
 use Rattle.std.proofs.lemmas.Bool.{eqb-true, eqb-false, ltb-true, ltb-false}
 use Rattle.std.proofs.lemmas.List.Sorted.{searched}
 use Rattle.std.proofs.lemmas.List.Folds.{list_any_at}
-use Rattle.std.specs.Prelude.{map, nat_eq, String, string_bytes, codes, decimal}
+use Rattle.std.specs.Prelude.{map, nat_eq, codes, decimal}
 use Rattle.std.specs.List.{list_any}
 use Rattle.std.specs.List.Sorted.{IsBinarySearchResult, IsStrictlyIncreasing}
 use Rattle.std.specs.Ordering.{nat_cmp}
+use Rattle.arrayvec.specs.ArrayString.{ArrayString}
 use Rattle.json.specs.Token.{Token, begin_object, end_object, begin_array, end_array, key as key_token}
 use Rattle.json.specs.Token.{number as number_token}
 use Rattle.json.specs.Print.{print}
@@ -99,11 +100,11 @@ report_joined leaves value h last a b c d e f up high late to_b to_c to_d to_e t
     rw (to_f, to_e, shown, to_c, to_b, high, late) (simp append_assoc)
 
 -- the tokens of the accounts in these entries, with the closing bracket
-abbrev pub tokens_due : {Z : Type 0} → List ℕ → List (String Z × ℕ) → List Token
+abbrev pub tokens_due : List ℕ → List (ArrayString × ℕ) → List Token
 tokens_due leaves entries = items_tokens (items_outline (items_of (map (account_data leaves) (accounts_in entries))))
 
 -- the accounts come after the tokens before them and the bracket
-pub accounts_begin : {Z : Type 0} (leaves : List ℕ) (before now : List Token) (all rest : List (String Z × ℕ)) →
+pub accounts_begin : (leaves : List ℕ) (before now : List Token) (all rest : List (ArrayString × ℕ)) →
     now ≡ before ++ begin_array ∷ [] → rest ≡ all →
     now ++ tokens_due leaves rest
     ≡ before ++ json_tokens (outline (array (items_of (map (account_data leaves) (accounts_in all)))))
@@ -111,17 +112,17 @@ accounts_begin leaves before now all rest to_now is =
     rw (to_now, is) (append_assoc before (begin_array ∷ []) (tokens_due leaves all))
 
 -- the first of the accounts that are left comes after the tokens so far
-pub account_first : {Z : Type 0} (leaves : List ℕ) (before now due : List Token) (all rest : List (String Z × ℕ))
-    (key : String Z) (leaf : ℕ) (name : List ℕ) → all ≡ (key, leaf) ∷ rest → name ≡ string_bytes key →
+pub account_first : (leaves : List ℕ) (before now due : List Token) (all rest : List (ArrayString × ℕ))
+    (key : ArrayString) (leaf : ℕ) (name : List ℕ) → all ≡ (key, leaf) ∷ rest → name ≡ key.bytes →
     now ≡ before ++ json_tokens (outline (account_data leaves (name, leaf))) → before ++ tokens_due leaves all ≡ due →
     now ++ tokens_due leaves rest ≡ due
 account_first leaves before now due all rest key leaf name cut same to_now is =
     rw (to_now, same)
-    (append_assoc before (json_tokens (outline (account_data leaves (string_bytes key, leaf)))) (tokens_due leaves rest)
+    (append_assoc before (json_tokens (outline (account_data leaves (key.bytes, leaf)))) (tokens_due leaves rest)
     ∙ (ap (λ entries. before ++ tokens_due leaves entries) (sym cut) ∙ is))
 
 -- where none is left, the bracket closes
-pub accounts_end : {Z : Type 0} (leaves : List ℕ) (before due : List Token) (rest : List (String Z × ℕ)) → rest ≡ [] →
+pub accounts_end : (leaves : List ℕ) (before due : List Token) (rest : List (ArrayString × ℕ)) → rest ≡ [] →
     before ++ tokens_due leaves rest ≡ due → before ++ end_array ∷ [] ≡ due
 accounts_end leaves before due rest none is = ap (λ entries. before ++ tokens_due leaves entries) (sym none) ∙ is
 

@@ -1,10 +1,10 @@
 -- The bytes of names.
-use Rattle.std.proofs.Common.{arith, ◌≡◌, ℕ, ◌<◌, true, List, [], ◌∷◌, zero, suc}
+use Rattle.std.proofs.Common.{arith, ◌≡◌, ℕ, ◌<◌, ◌≤◌, true, List, [], ◌∷◌, zero, suc, length}
 use Rattle.std.proofs.lemmas.Grind.{common_steps}
 use Rattle.std.proofs.lemmas.Str.{IsUtf8-from_ascii}
 use Rattle.std.specs.List.{list_all}
 use Rattle.std.specs.Str.{IsAscii, IsUtf8}
-use Rattle.sd_accounts.specs.Line.{is_name, is_name_byte}
+use Rattle.sd_accounts.specs.Line.{is_name, is_name_byte, longest_name}
 
 -- a byte of a name is ASCII
 small_byte : (byte : ℕ) → is_name_byte byte ≡ true → byte < 128
@@ -26,3 +26,8 @@ unfolding is_name
 name_is_utf8 text h =
     let all : list_all is_name_byte text ≡ true = grind (arith, common_steps) in
     IsUtf8-from_ascii text (all_small text all)
+
+-- a name isn't longer than the longest
+pub name_fits : (text : List ℕ) → is_name text ≡ true → length text ≤ longest_name
+unfolding is_name
+name_fits text h = grind (arith, common_steps)

@@ -1,6 +1,11 @@
 -- Public meaning: what is kept of the lines so far: the leaf of each name, and a mark for each leaf that is bound.
 use Rattle.std.specs.Prelude.{◌≡◌, ℕ, ◌<◌, ◌^◌, Bool, true, false, List, [], ◌++◌, length, get_or, slice_set}
-use Rattle.std.specs.Prelude.{map, bytes_eq, string_bytes, String, if◌then◌else◌, Option, Some}
+use Rattle.std.specs.Prelude.{map, bytes_eq, if◌then◌else◌, Option, Some}
+use Rattle.std.specs.BTreeMap.{BTreeMap, get_by}
+use Rattle.std.specs.Cmp.Lexicographic.{slice_cmp}
+use Rattle.std.specs.Ordering.{nat_cmp}
+use Rattle.std.specs.declared.cmp.Ordering.{Ordering}
+use Rattle.arrayvec.specs.ArrayString.{ArrayString}
 use Rattle.sd_book.specs.declared.command.Command.{Command}
 use Rattle.sd_accounts.specs.Line.{Entry, Assigns, Drops, Restores, Ends, said_by}
 use Rattle.sd_accounts.specs.Bound.{leaf_of, is_held}
@@ -48,6 +53,14 @@ pub record IsRead (d : ℕ) (bytes rest : List ℕ) (commands : List Command) (l
   pub kept : IsKept d before leaf_for marks
   pub same : judged d [] [] (said_by d bytes) ≡ judged d before commands (said_by d rest)
 
+-- names in the order of their bytes
+abbrev pub name_cmp : ArrayString → ArrayString → Ordering
+name_cmp name other = slice_cmp nat_cmp name.bytes other.bytes
+
+-- the leaf that a map has at the name with these bytes
+abbrev pub leaf_named : BTreeMap ArrayString ℕ → List ℕ → Option ℕ
+leaf_named leaves bytes = get_by (λ name. slice_cmp nat_cmp bytes name.bytes) leaves
+
 -- the entries of a map by name, as accounts
-abbrev pub accounts_in : {Z : Type 0} → List (String Z × ℕ) → List Account
-accounts_in entries = map (λ entry. (string_bytes entry.0, entry.1)) entries
+abbrev pub accounts_in : List (ArrayString × ℕ) → List Account
+accounts_in entries = map (λ entry. (entry.0.bytes, entry.1)) entries

@@ -5,7 +5,7 @@ use Rattle.sd_accounts.specs.Line.{Entry, Assigns, Drops, Restores, Ends}
 
 -- what it says
 abbrev pub entry_in : Line → Entry
-entry_in (Assign name leaf) = Assigns name.now leaf
-entry_in (Drop name) = Drops name.now
-entry_in (Restore name) = Restores name.now
+entry_in (Assign name leaf) = Assigns name.bytes leaf
+entry_in (Drop name) = Drops name.bytes
+entry_in (Restore name) = Restores name.bytes
 entry_in Period = Ends

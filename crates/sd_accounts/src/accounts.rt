@@ -9,6 +9,7 @@ ghost use Rattle.sd_accounts.specs.Line.{said_by};
 ghost use Rattle.sd_accounts.specs.Report.{report_data};
 
 use crate::fault::AccountFault;
+use crate::name::Name;
 use crate::register::Register;
 use crate::report::report;
 use sd_base::NoMemory;
@@ -22,7 +23,7 @@ use std::marker::Model;
 #[derive(Drop)]
 pub struct Accounts {
     book: Book,
-    leaves: BTreeMap<String, Leaf>,
+    leaves: BTreeMap<Name, Leaf>,
 }
 
 impl Model for Accounts {

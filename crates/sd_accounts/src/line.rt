@@ -3,27 +3,27 @@ ghost use Rattle.sd_accounts.specs.Kept.{IsBelow};
 ghost use Rattle.sd_accounts.specs.Line.{assigned, cut_at_space, entry_on, leaf_in, leaf_numbered};
 ghost use Rattle.sd_accounts.specs.Read.{entry_in};
 
-use crate::name::name_in;
+use crate::name::{Name, name_in};
 use memchr::memchr;
 use sd_base_text::number_after;
 use sd_tree::{Height, Leaf};
 
 /// What a line says.
 #[derive(Clone, Copy)]
-pub(crate) enum Line<'a> {
+pub(crate) enum Line {
     /// The name is bound to the leaf, which is subscribed.
-    Assign(&'a str, Leaf),
+    Assign(Name, Leaf),
     /// The name's leaf is revoked.
-    Drop(&'a str),
+    Drop(Name),
     /// The name's leaf is subscribed again.
-    Restore(&'a str),
+    Restore(Name),
     /// The next period begins.
     Period,
 }
 
 /// What a line says for a tree of this height, where it is in the grammar and its leaf in the tree.
 #[tactic(auto, unfolding(crate::specs::Line::entry_on, sd_base_text::specs::Number::rest_after))]
-pub(crate) fn line_in(text: &[u8], h: Height) -> Option<Line<'_>>
+pub(crate) fn line_in(text: &[u8], h: Height) -> Option<Line>
     ensures value { option_map entry_in result ≡ entry_on h text.now }
     ensures leaf { IfSome result (λ line. IsBelow (2 ^ h) (entry_in line)) }
 {
@@ -42,7 +42,7 @@ pub(crate) fn line_in(text: &[u8], h: Height) -> Option<Line<'_>>
 
 /// A name, a space and a leaf.
 #[tactic(auto, unfolding(crate::specs::Line::assigned))]
-fn assign_in(text: &[u8], h: Height) -> Option<Line<'_>>
+fn assign_in(text: &[u8], h: Height) -> Option<Line>
     ensures value { option_map entry_in result ≡ assigned h text.now }
     ensures leaf { IfSome result (λ line. IsBelow (2 ^ h) (entry_in line)) }
 {

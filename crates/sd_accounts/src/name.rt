@@ -2,20 +2,24 @@ ghost use Rattle.std.specs.Prelude.{◌≡◌, option_map};
 ghost use Rattle.std.specs.List.{list_all};
 ghost use Rattle.sd_accounts.specs.Line.{is_name, is_name_byte, name_in};
 
+use arrayvec::ArrayString;
 use std::str;
 
 /// The most bytes of a name.
 pub const LONGEST_NAME: usize = 32;
 
+/// A name, whose bytes lie in the value itself.
+pub(crate) type Name = ArrayString<LONGEST_NAME>;
+
 /// The name that a text is.
-#[tactic(auto, using(crate::proofs::Spellings::name_is_utf8))]
-pub(crate) fn name_in(text: &[u8]) -> Option<&str>
-    ensures { option_map (λ name. name.now) result ≡ name_in text.now }
+#[tactic(auto, using(crate::proofs::Spellings::name_is_utf8, crate::proofs::Spellings::name_fits))]
+pub(crate) fn name_in(text: &[u8]) -> Option<Name>
+    ensures { option_map (λ name. name.bytes) result ≡ name_in text.now }
 {
     if !is_name(text) {
         return None;
     }
-    str::from_utf8(text).ok()
+    Name::from(str::from_utf8(text).ok()?).ok()
 }
 
 #[tactic(auto, unfolding(crate::specs::Line::is_name))]

@@ -1,15 +1,15 @@
 ghost use Rattle.std.specs.Prelude.{◌≡◌, ◌⊎◌, ℕ, List, Option, [], ◌∷◌, ◌++◌, IfOk, Ok, Err, MatchResult, length};
-ghost use Rattle.std.specs.BTreeMap.{get_by_text};
 ghost use Rattle.sd_book.specs.declared.command.Command.{Command as Commands};
 ghost use Rattle.sd_book.specs.Limits.{IsWithinLimits};
 ghost use Rattle.sd_book.specs.Text.{ended};
 ghost use Rattle.sd_accounts.specs.Accounts.{IsListOf};
 ghost use Rattle.sd_accounts.specs.Judged.{allowed, book_of, judged_line};
-ghost use Rattle.sd_accounts.specs.Kept.{IsKept, accounts_in};
+ghost use Rattle.sd_accounts.specs.Kept.{IsKept, accounts_in, leaf_named};
 ghost use Rattle.sd_accounts.specs.Line.{Entry, entry_on, said_by};
 
 use crate::fault::AccountFault;
 use crate::line::line_in;
+use crate::name::Name;
 use crate::names::Names;
 use sd_base_text::next_line;
 use sd_book::{Book, Draft, MOST_COMMANDS};
@@ -30,7 +30,7 @@ impl Register {
     pub(crate) fn read(alloc: Global, bytes: &[u8], h: Height) -> Result<Register, AccountFault>
         ensures height { IfOk result (λ register. register.draft.height ≡ h) }
         ensures kept { IfOk result (λ register.
-            IsKept h (said_by h bytes.now) (get_by_text register.names.leaves) register.names.marks.items) }
+            IsKept h (said_by h bytes.now) (leaf_named register.names.leaves) register.names.marks.items) }
         ensures value { MatchResult result
             (λ register. book_of h bytes.now ≡ allowed (ended h register.draft.commands register.draft.commands))
             (λ fault. (fault ≡ AccountFault.NoMemory) ⊎ (book_of h bytes.now ≡ Err fault)) }
@@ -41,7 +41,7 @@ impl Register {
         };
         let mut rest = bytes;
         while let Some((line, after)) = next_line(rest) {
-            register.take(alloc, line, h)?;
+            register.take(line, h)?;
             rest = after;
         }
         Ok(register)
@@ -49,17 +49,17 @@ impl Register {
 
     /// Takes one more line.
     #[tactic(auto, using(crate::proofs::Taking::below_all))]
-    fn take(&mut self, alloc: Global, text: &[u8], h: Height) -> Result<(), AccountFault>
+    fn take(&mut self, text: &[u8], h: Height) -> Result<(), AccountFault>
         requires height { self.old.draft.height ≡ h }
         requires kept { (before : List (Option Entry)) ×
-            IsKept h before (get_by_text self.old.names.leaves) self.old.names.marks.items ×
+            IsKept h before (leaf_named self.old.names.leaves) self.old.names.marks.items ×
             (length before ≡ length self.old.draft.commands) }
         ensures height { self.new.draft.height ≡ h }
         ensures value { (before : List (Option Entry)) →
-            IsKept h before (get_by_text self.old.names.leaves) self.old.names.marks.items →
+            IsKept h before (leaf_named self.old.names.leaves) self.old.names.marks.items →
             length before ≡ length self.old.draft.commands →
             MatchResult result
-            (λ _. IsKept h (before ++ entry_on h text.now ∷ []) (get_by_text self.new.names.leaves)
+            (λ _. IsKept h (before ++ entry_on h text.now ∷ []) (leaf_named self.new.names.leaves)
             self.new.names.marks.items
             × ((command : Commands) ×
             (judged_line h before self.old.draft.commands (entry_on h text.now) ≡ Ok command)
@@ -71,18 +71,18 @@ impl Register {
         let Some(line) = line_in(text, h) else {
             return Err(AccountFault::Line(k));
         };
-        let command = self.names.command(alloc, line, k)?;
+        let command = self.names.command(line, k)?;
         self.draft.push(command)?;
         Ok(())
     }
 
     /// The book of these lines, and the leaves of their names.
     #[tactic(auto, using(crate::proofs::Limits::book_ends, crate::proofs::Limits::book_ends_not))]
-    pub(crate) fn finish(self) -> Result<(Book, BTreeMap<String, Leaf>), AccountFault>
+    pub(crate) fn finish(self) -> Result<(Book, BTreeMap<Name, Leaf>), AccountFault>
         ensures height { IfOk result (λ parts. parts.0.height ≡ self.draft.height) }
         ensures fits { IfOk result (λ parts. IsWithinLimits self.draft.height parts.0.commands) }
         ensures leaves { (d : ℕ) (said : List (Option Entry)) →
-            IsKept d said (get_by_text self.names.leaves) self.names.marks.items →
+            IsKept d said (leaf_named self.names.leaves) self.names.marks.items →
             IfOk result (λ parts. IsListOf said (accounts_in parts.1.entries)) }
         ensures value { MatchResult result
             (λ parts. allowed (ended self.draft.height self.draft.commands self.draft.commands)

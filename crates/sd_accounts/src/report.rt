@@ -9,6 +9,7 @@ ghost use Rattle.sd_book.specs.Commands.{last_period, revoked as revoked_in};
 ghost use Rattle.sd_accounts.specs.Kept.{accounts_in};
 ghost use Rattle.sd_accounts.specs.Report.{account_data, is_active, report_data};
 
+use crate::name::Name;
 use json::Writer;
 use sd_book::Book;
 use sd_tree::Leaf;
@@ -20,7 +21,7 @@ use std::collections::BTreeMap;
 pub(crate) fn report(
     alloc: Global,
     book: &Book,
-    leaves: &BTreeMap<String, Leaf>,
+    leaves: &BTreeMap<Name, Leaf>,
 ) -> Result<Vec<u8>, AllocError>
     ensures { IfOk result (λ text. text.items ≡ compact_text
         (report_data (record { book = book.now; accounts = accounts_in leaves.now.entries }))) }
@@ -38,7 +39,7 @@ fn write_report(
     out: &mut Writer,
     book: &Book,
     revoked: &[Leaf],
-    leaves: &BTreeMap<String, Leaf>,
+    leaves: &BTreeMap<Name, Leaf>,
 ) -> Result<(), AllocError>
     requires revoked { revoked.now ≡
         revoked_in book.now.height book.now.commands (last_period book.now.commands) }
@@ -70,7 +71,7 @@ fn write_number(out: &mut Writer, name: &str, number: u64) -> Result<(), AllocEr
 fn write_accounts(
     out: &mut Writer,
     revoked: &[Leaf],
-    leaves: &BTreeMap<String, Leaf>,
+    leaves: &BTreeMap<Name, Leaf>,
 ) -> Result<(), AllocError>
     requires { IsStrictlyIncreasing revoked.now }
     ensures tokens { OnOk result (out.new.tokens ≡ out.old.tokens ++ json_tokens (outline

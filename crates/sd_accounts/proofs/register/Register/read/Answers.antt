@@ -1,9 +1,9 @@
 use Rattle.std.proofs.Common.{rules, ◌≡◌, inl, inr, Err}
 use Rattle.std.specs.Prelude.{◌⊎◌}
-use Rattle.std.specs.BTreeMap.{get_by_text}
 use Rattle.std.proofs.lemmas.Result.{err_from_is_err_and}
 use Rattle.sd_accounts.specs.declared.fault.AccountFault.TheVariants.{NoMemory}
 use Rattle.sd_accounts.specs.Judged.{book_of}
+use Rattle.sd_accounts.specs.Kept.{leaf_named}
 use Rattle.sd_accounts.proofs.Reading.{read_more, read_refused, ends_judged}
 use Rattle.sd_accounts.proofs.register.Register.read.Goals as goal
 
@@ -16,7 +16,7 @@ returns-in_err-take-clause-value c =
       | inl none ↦ inl none
       | inr refused ↦ inr (read_refused c.args.h c.args.bytes.now c.loop-line.rest.now c.in-Some.line.now
           c.in-Some.after.now c.loop-line.register.draft.commands c.in_err-take.field-0.0
-          (get_by_text c.loop-line.register.names.leaves) c.loop-line.register.names.marks.items
+          (leaf_named c.loop-line.register.names.leaves) c.loop-line.register.names.marks.items
           (search rules) read refused)
     ] in
     rw (p.1, p.2) why
@@ -29,12 +29,12 @@ loop-line-preserved c =
       height = search rules;
       read = read_more c.args.h c.args.bytes.now c.loop-line.rest.now c.in-Some.line.now c.in-Some.after.now
           c.loop-line.register.draft.commands c.take.new.self.draft.commands taken.1.0
-          (get_by_text c.loop-line.register.names.leaves) (get_by_text c.take.new.self.names.leaves)
+          (leaf_named c.loop-line.register.names.leaves) (leaf_named c.take.new.self.names.leaves)
           c.loop-line.register.names.marks.items c.take.new.self.names.marks.items (search rules) read taken.0 taken.1.1
           taken.1.2;
     }
 
 pub returns-clause-value : goal.returns-clause-value
 returns-clause-value c = ends_judged c.args.h c.args.bytes.now c.loop-line.rest.now
-    c.loop-line.register.draft.commands (get_by_text c.loop-line.register.names.leaves)
+    c.loop-line.register.draft.commands (leaf_named c.loop-line.register.names.leaves)
     c.loop-line.register.names.marks.items (search rules) c.loop-line.invariant.read

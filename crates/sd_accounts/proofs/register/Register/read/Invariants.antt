@@ -1,13 +1,12 @@
 use Rattle.std.proofs.Common.{◌≡◌, length}
-use Rattle.std.specs.BTreeMap.{get_by_text}
-use Rattle.sd_accounts.specs.Kept.{IsRead}
+use Rattle.sd_accounts.specs.Kept.{IsRead, leaf_named}
 use Rattle.sd_accounts.proofs.register.Register.read.Given as goal
 
 -- the lines so far are taken
 abbrev pub invariant-loop-line : goal.invariant-loop-line
 invariant-loop-line l = record {
   height : l.register.draft.height ≡ l.h;
-  read : IsRead l.h l.bytes l.rest l.register.draft.commands (get_by_text l.register.names.leaves)
+  read : IsRead l.h l.bytes l.rest l.register.draft.commands (leaf_named l.register.names.leaves)
       l.register.names.marks.items;
 }
 

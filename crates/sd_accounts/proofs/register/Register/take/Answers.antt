@@ -1,5 +1,5 @@
 use Rattle.std.proofs.Common.{◌≡◌, ◌+◌, length, sym, ap, ◌∙◌}
-use Rattle.std.specs.BTreeMap.{get_by_text}
+use Rattle.sd_accounts.specs.Kept.{leaf_named}
 use Rattle.sd_accounts.specs.Read.{entry_in}
 use Rattle.sd_accounts.proofs.Taking.{keeps_line, takes_line}
 use Rattle.sd_accounts.proofs.register.Register.take.Goals as goal
@@ -13,14 +13,14 @@ returns-clause-value c = λ before kept count.
     let made = c.in_ok-command.ensures.value in
     let fits = rw (c.push.ensures.height, c.requires.height, c.in_ok-push.ensures.value) at c.push.ensures.fits in (
       keeps_line c.args.h before c.args.text.now (entry_in c.in-Some.line)
-          (get_by_text c.args.self.now.names.leaves) c.args.self.now.names.marks.items
+          (leaf_named c.args.self.now.names.leaves) c.args.self.now.names.marks.items
           (length c.commands.result.now + 1) c.args.self.now.draft.commands kept says low number
-          c.in_ok-command.command (get_by_text c.command.new.self.leaves) c.command.new.self.marks.items made
+          c.in_ok-command.command (leaf_named c.command.new.self.leaves) c.command.new.self.marks.items made
           c.in_ok-command.ensures.leaves c.in_ok-command.ensures.marks,
       (
         c.in_ok-command.command,
         takes_line c.args.h before c.args.text.now (entry_in c.in-Some.line)
-            (get_by_text c.args.self.now.names.leaves) c.args.self.now.names.marks.items
+            (leaf_named c.args.self.now.names.leaves) c.args.self.now.names.marks.items
             (length c.commands.result.now + 1) c.args.self.now.draft.commands kept says low number
             c.in_ok-command.command made fits,
         c.in_ok-push.ensures.value,
