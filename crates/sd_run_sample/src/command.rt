@@ -9,7 +9,7 @@ ghost use Rattle.sd_command_files.specs.Shown.{shown_word};
 
 use sd_command_files::{Word, told};
 use sd_command_status::Status;
-use sd_ports::{Depot, DepotFault, FileFault};
+use sd_ports::{Depot, FileFault};
 use sd_sample::MOST_PACKETS;
 use std::alloc::Global;
 
@@ -34,7 +34,7 @@ pub fn sample<D: Depot>(
 }
 
 /// Makes a file, writes the stream to it and closes it, and only then answers.
-#[tactic(auto, using(sd_ports::proofs::Outlets::there_after, sd_ports::proofs::Calls::twice_called, sd_ports::proofs::Calls::open_as_before))]
+#[tactic(auto, using(sd_ports::proofs::Outlets::there_after, sd_ports::proofs::Calls::twice_called, sd_ports::proofs::Calls::open_as_before, sd_ports::proofs::Faults::file_cause, sd_ports::proofs::Faults::unwritten))]
 fn write_sample<D: Depot>(
     alloc: Global,
     depot: &mut D,
@@ -52,12 +52,7 @@ fn write_sample<D: Depot>(
     ensures ports { D.opened depot.new ≡ D.opened depot.old }
     ensures calls { CountsCalls (D.calls depot.old) (D.calls depot.new) result }
 {
-    let mut port = match depot.create_out(alloc, name) {
-        Ok(port) => port,
-        Err(DepotFault::Missing) => return Err(FileFault::Missing),
-        Err(DepotFault::Failed) => return Err(FileFault::Failed),
-        Err(DepotFault::NoMemory) => return Err(FileFault::NoMemory),
-    };
+    let mut port = depot.create_out(alloc, name)?;
     let written = sd_sample::sample(number, packets, &mut port);
     let closed = depot.close_out(name, port);
     match written {
