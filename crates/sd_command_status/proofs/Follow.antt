@@ -291,3 +291,24 @@ looks_reads before next meant word p q x h =
           h.gives.1
           (refl, rests (meant h.got).calls p q h.gives.1));
     }
+
+-- files that were read, and then a value of what they said
+pub read_then : {X W Y V : Type 0} (before : X → Y) (view : W → V) (meant : Readings → Spec Y) (next : Y → V)
+    (p q : DepotState) (x : X) (w : W) → next (before x) ≡ view w → FilesOutcome before meant p q (Ok x) →
+    FilesOutcome view (λ given. meant given >>= λ y. value (next y)) p q (Ok w)
+read_then before view meant next p q x w same h = record {
+  given = h.given;
+  is_given = h.is_given;
+  gives = then_gives view (meant h.given) (before x) (λ y. value (next y)) p q q (Ok w) h.gives.0 h.gives.1
+      (ap Ok same, rests (meant h.given).calls p q h.gives.1);
+}
+
+-- files of which one was refused, or not read
+pub unread_then : {X W Y V : Type 0} (before : X → Y) (view : W → V) (meant : Readings → Spec Y) (next : Y → V)
+    (p q : DepotState) (status : Status) → FilesOutcome before meant p q (Err status) →
+    FilesOutcome view (λ given. meant given >>= λ y. value (next y)) p q (Err status)
+unread_then before view meant next p q status h = record {
+  given = h.given;
+  is_given = h.is_given;
+  gives = first_gives view (meant h.given) (λ y. value (next y)) p q status h.gives;
+}

@@ -4,3 +4,4 @@ pub mod Givens
 pub mod Told
 pub mod Follow
 pub mod Streams
+pub mod Texts

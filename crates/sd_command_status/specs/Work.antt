@@ -1,8 +1,9 @@
 -- Public meaning: what a command does.
-use Rattle.std.specs.Prelude.{◌≡◌, ℕ, ◌+◌, ◌≤◌, Bool, List, Option, Some, None, Result, Ok, Err}
+use Rattle.std.specs.Prelude.{◌≡◌, ℕ, ◌+◌, ◌≤◌, Bool, false, List, [], ◌∷◌, Option, Some, None, Result, Ok, Err}
 use Rattle.sd_base.specs.Count.{with_added}
 use Rattle.sd_ports.specs.Files.{Files, with_bytes}
 use Rattle.sd_command_status.specs.declared.status.Status.{Status}
+use Rattle.sd_command_status.specs.declared.status.Status.TheVariants.{Done}
 use Rattle.sd_command_status.specs.Spec.{Spec}
 
 -- a file to be made: the number of its word, its name, and all its bytes
@@ -26,6 +27,10 @@ pub record Work : Type 0 where
   -- the status is a refusal in the midst of a stream, which stands though OUT fails to close after it
   pub breaks : Bool
   pub steps : StepBound
+
+-- prints a text and makes no file, without a step of the generator
+abbrev pub work_of_text : List ℕ → Work
+work_of_text text = record { out = None; pieces = text ∷ []; ends = Done; breaks = false; steps = NoSteps }
 
 -- the files once OUT has these of its bytes, if the model knows them
 abbrev pub files_with : Option Out → Option Files → Option Files

@@ -20,6 +20,7 @@ use Rattle.sd_command_line.specs.Words.{Order, order_of, CoverOf, CardOf, Sample
 use Rattle.sd_command_files.specs.Files.{most_site_bytes, most_book_bytes, told_site, told_book, site_of_file}
 use Rattle.sd_command_files.specs.Files.{book_of_file}
 use Rattle.sd_command_files.specs.Files.{site_in, book_in}
+use Rattle.sd_command_files.specs.Both.{SiteBook, both_meaning, both_by}
 use Rattle.sd_book.proofs.Short.{book_short}
 use Rattle.sd_site.proofs.Short.{site_short}
 use Rattle.sd_book.proofs.Written.{spelled_again}
@@ -82,6 +83,20 @@ book_good given d word commands low good =
     (file_read word.number most_book_bytes BookBytes good.bytes
     (book_fits d good.bytes commands low good.is_book good.within))
     ∙ ap (told_book word.number) (book_again d good.bytes commands good.is_book good.within)
+
+-- a site and its book are read
+pub both_good : (given : Readings) (site book : FileArgument) (fields : SiteFields) (commands : List Command) →
+    IsGoodSite (given site) fields → IsGoodBook (given book) fields.height commands →
+    (both_meaning site book given).result ≡ Ok (record { site = fields; commands = commands })
+unfolding both_by
+both_good given site book fields commands good_site good_book =
+    then_is (site_in given site) fields
+    (λ fields. book_in given fields.height book
+    >>= λ commands. value {A = SiteBook} (record { site = fields; commands = commands }))
+    (site_good given site fields good_site)
+    ∙ then_is (book_in given fields.height book) commands
+    (λ commands. value {A = SiteBook} (record { site = fields; commands = commands }))
+    (book_good given fields.height book commands (site_low (given site) fields good_site) good_book)
 
 -- the work of an order is the words'
 pub ordered : (words : List (List ℕ)) (given : Readings) (order : Order) → order_of words ≡ Ok order →

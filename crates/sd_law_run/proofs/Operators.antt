@@ -5,15 +5,15 @@ use Rattle.sd_spec_broadcast.specs.Plan.{Plan}
 use Rattle.sd_command_status.specs.declared.status.Status.TheVariants.{BadWord, Clash}
 use Rattle.sd_command_status.specs.declared.status.Clash.{Clash as ClashKind}
 use Rattle.sd_command_status.specs.Spec.{Readings, judged, value, ◌>>=◌}
+use Rattle.sd_command_status.specs.Work.{work_of_text}
 use Rattle.sd_command_files.specs.Both.{SiteBook, both_meaning}
 use Rattle.sd_command_files.specs.Files.{site_in, book_in}
 use Rattle.sd_command_line.specs.Words.{ApartOf, PlanOf}
-use Rattle.sd_run_apart.specs.Apart.{apart_text, clash_of, plan_of_both, saying, told_apart, told_clash}
+use Rattle.sd_run_apart.specs.Apart.{apart_text, clash_of, plan_of_both, told_apart, told_clash}
 use Rattle.sd_run_plan.specs.Air.{last_word_for, planning, roomy_site_of_file, told_room}
 use Rattle.sd_law_run.specs.Good.{IsGoodApart, IsGoodPlan}
 use Rattle.sd_run.specs.Meaning.{meaning}
-use Rattle.sd_law_run.proofs.Goodness.{then_is, site_good, site_low, book_good, ordered}
-use Rattle.sd_law_run.proofs.Kept.{both_good}
+use Rattle.sd_law_run.proofs.Goodness.{then_is, site_good, site_low, book_good, both_good, ordered}
 
 -- what a broadcast takes is printed
 pub air_good : (words : List (List ℕ)) (given : Readings) (good : IsGoodPlan words given) →
@@ -46,7 +46,7 @@ judged_so : (words : List (List ℕ)) (given : Readings) (good : IsGoodApart wor
     (meaning words given).result ≡ (judged (told_clash
     (clash_of (plan_of_both (first_plan words given good)) (plan_of_both (second_plan words given good)))
     (apart_text (plan_of_both (first_plan words given good)) (plan_of_both (second_plan words given good))))
-    >>= λ text. value (saying text)).result
+    >>= λ text. value (work_of_text text)).result
 unfolding told_apart
 judged_so words given good =
     let one = first_plan words given good in
@@ -54,21 +54,21 @@ judged_so words given good =
     ordered words given (ApartOf good.site good.book good.other good.more) good.order
     ∙ then_is (both_meaning good.site good.book given) one
     (λ first. both_meaning good.other good.more given
-    >>= λ second. judged (told_apart (plan_of_both first) (plan_of_both second)) >>= λ text. value (saying text))
+    >>= λ second. judged (told_apart (plan_of_both first) (plan_of_both second)) >>= λ text. value (work_of_text text))
     (both_good given good.site good.book good.fields good.commands good.good_site good.good_book)
     ∙ then_is (both_meaning good.other good.more given) two
-    (λ second. judged (told_apart (plan_of_both one) (plan_of_both second)) >>= λ text. value (saying text))
+    (λ second. judged (told_apart (plan_of_both one) (plan_of_both second)) >>= λ text. value (work_of_text text))
     (both_good given good.other good.more good.other_fields good.more_commands good.good_other good.good_more)
 
 -- both lines are printed where there is no clash
 pub apart_good : (words : List (List ℕ)) (given : Readings) (good : IsGoodApart words given) →
     clash_of (plan_of_both (first_plan words given good)) (plan_of_both (second_plan words given good)) ≡ None →
-    (meaning words given).result ≡ Ok (saying (apart_text (plan_of_both (first_plan words given good))
+    (meaning words given).result ≡ Ok (work_of_text (apart_text (plan_of_both (first_plan words given good))
     (plan_of_both (second_plan words given good))))
 apart_good words given good none =
     judged_so words given good
     ∙ ap (λ (c : Option ClashKind). (judged (told_clash c (apart_text (plan_of_both (first_plan words given good))
-    (plan_of_both (second_plan words given good)))) >>= λ text. value (saying text)).result) none
+    (plan_of_both (second_plan words given good)))) >>= λ text. value (work_of_text text)).result) none
 
 -- and where there is one it is the refusal
 pub apart_clashes : (words : List (List ℕ)) (given : Readings) (good : IsGoodApart words given) (clash : ClashKind) →
@@ -77,4 +77,4 @@ pub apart_clashes : (words : List (List ℕ)) (given : Readings) (good : IsGoodA
 apart_clashes words given good clash some =
     judged_so words given good
     ∙ ap (λ (c : Option ClashKind). (judged (told_clash c (apart_text (plan_of_both (first_plan words given good))
-    (plan_of_both (second_plan words given good)))) >>= λ text. value (saying text)).result) some
+    (plan_of_both (second_plan words given good)))) >>= λ text. value (work_of_text text)).result) some

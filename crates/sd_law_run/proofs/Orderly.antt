@@ -5,9 +5,8 @@ use Rattle.std.specs.Prelude.{if◌then◌else◌, ◌||◌}
 use Rattle.sd_command_status.specs.declared.status.Status.{Status}
 use Rattle.sd_command_status.specs.declared.status.Status.TheVariants.{Usage}
 use Rattle.sd_command_status.specs.Spec.{Readings, judged, ◌>>=◌}
-use Rattle.sd_command_status.specs.Work.{Work}
+use Rattle.sd_command_status.specs.Work.{Work, work_of_text}
 use Rattle.sd_command_files.specs.Shown.{word_at}
-use Rattle.sd_run_help.specs.Help as help
 use Rattle.sd_run_help.specs.Pages.{help_text, version_text}
 use Rattle.sd_command_table.specs.declared.command.Command.{Command}
 use Rattle.sd_command_table.specs.declared.operand.Operand.{Operand}
@@ -34,8 +33,8 @@ out_of VersionOf = None
 
 order_orderly : (order : Order) (given : Readings) → AreOrderly (out_of order) (order_meaning order given).result
 order_orderly (CommandOf command arguments) given = command_orderly command arguments given
-order_orderly (HelpOf topic) given = none_made (help.telling (help_text topic)) refl (λ refusal. absurd refusal)
-order_orderly VersionOf given = none_made (help.telling version_text) refl (λ refusal. absurd refusal)
+order_orderly (HelpOf topic) given = none_made (work_of_text (help_text topic)) refl (λ refusal. absurd refusal)
+order_orderly VersionOf given = none_made (work_of_text version_text) refl (λ refusal. absurd refusal)
 
 -- an order that words are makes the file that stands at OUT's place among them
 abbrev NamesOut : List (List ℕ) → Result Order Status → Type 0

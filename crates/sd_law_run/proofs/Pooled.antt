@@ -6,16 +6,16 @@ use Rattle.sd_tree.specs.Limits.{most_revoked}
 use Rattle.sd_command_status.specs.declared.status.Status.TheVariants.{Limit}
 use Rattle.sd_command_status.specs.declared.status.LimitKind.TheVariants.{BookBytes, Traced}
 use Rattle.sd_command_status.specs.Spec.{FileArgument, Readings, judged, value, within, ◌>>=◌}
+use Rattle.sd_command_status.specs.Work.{work_of_text}
 use Rattle.sd_command_files.specs.Files.{most_book_bytes}
 use Rattle.sd_command_files.specs.Both.{SiteBook, both_meaning}
 use Rattle.sd_command_files.specs.Leaves.{told_leaves, leaves_of_file, leaves_in}
 use Rattle.sd_command_line.specs.Words.{OpensOf, TraceOf}
 use Rattle.sd_run_opens.specs.Opens.{opening, opens_meaning}
-use Rattle.sd_run_trace.specs.Trace.{revoked_last, trace_text, traced, telling, trace_meaning}
+use Rattle.sd_run_trace.specs.Trace.{revoked_last, trace_text, traced, trace_meaning}
 use Rattle.sd_law_run.specs.Good.{IsGoodLeaves, IsGoodOpens, IsGoodTrace}
 use Rattle.sd_run.specs.Meaning.{meaning}
-use Rattle.sd_law_run.proofs.Goodness.{then_is, file_read, ordered}
-use Rattle.sd_law_run.proofs.Kept.{both_good}
+use Rattle.sd_law_run.proofs.Goodness.{then_is, file_read, both_good, ordered}
 
 leaves_good : (given : Readings) (d : ℕ) (word : FileArgument) (leaves : List ℕ) → IsGoodLeaves given d word leaves →
     (leaves_in given d word).result ≡ Ok leaves
@@ -44,7 +44,7 @@ opens_good words given good =
 
 -- the coalition's trace is printed
 pub trace_good : (words : List (List ℕ)) (given : Readings) (good : IsGoodTrace words given) →
-    (meaning words given).result ≡ Ok (telling (trace_text
+    (meaning words given).result ≡ Ok (work_of_text (trace_text
     (trace_of good.fields.height good.coalition (revoked_last good.fields.height good.commands))))
 unfolding trace_meaning traced
 trace_good words given good =
@@ -55,11 +55,11 @@ trace_good words given good =
     ordered words given (TraceOf good.site good.book good.leaves) good.order
     ∙ then_is (both_meaning good.site good.book given) both
     (λ both. leaves_in given both.site.height good.leaves
-    >>= λ coalition. judged (traced both.site.height coalition both.commands) >>= λ text. value (telling text))
+    >>= λ coalition. judged (traced both.site.height coalition both.commands) >>= λ text. value (work_of_text text))
     (both_good given good.site good.book good.fields good.commands good.good_site good.good_book)
     ∙ then_is (leaves_in given d good.leaves) good.coalition
-    (λ coalition. judged (traced d coalition good.commands) >>= λ text. value (telling text))
+    (λ coalition. judged (traced d coalition good.commands) >>= λ text. value (work_of_text text))
     (leaves_good given d good.leaves good.coalition good.good_leaves)
-    ∙ then_is (judged (traced d good.coalition good.commands)) text (λ text. value (telling text))
+    ∙ then_is (judged (traced d good.coalition good.commands)) text (λ text. value (work_of_text text))
     (ap (λ b. cond b (Err (Limit Traced)) (Ok text))
     (le-ltb most_revoked (length gone + length (not_among d gone good.coalition)) good.few))

@@ -3,11 +3,11 @@ ghost use Rattle.std.specs.Prelude.{◌≡◌, ◌⊎◌, ◌≤◌, ◌<◌, �
 ghost use Rattle.sd_book.specs.Text.{text_of};
 ghost use Rattle.sd_lsd.specs.Fields.{layer_bytes, layer_card_of};
 ghost use Rattle.sd_run_accounts.specs.Accounts.{accounts_value, making_then, report_line};
-ghost use Rattle.sd_run_apart.specs.Apart.{apart_text, clash_of, saying};
+ghost use Rattle.sd_run_apart.specs.Apart.{apart_text, clash_of};
 ghost use Rattle.sd_run_layered.specs.Layered.{layering};
 ghost use Rattle.sd_trace.specs.Trace.{trace_of};
 ghost use Rattle.sd_run_opens.specs.Opens.{opening};
-ghost use Rattle.sd_run_trace.specs.Trace.{revoked_last, telling, trace_text};
+ghost use Rattle.sd_run_trace.specs.Trace.{revoked_last, trace_text};
 ghost use Rattle.sd_law_lines.specs.Trials.{opened_lines};
 ghost use Rattle.sd_command_files.specs.Printed.{printing as tried};
 ghost use Rattle.sd_run_trial.specs.Trial.{trial_meaning};
@@ -34,7 +34,7 @@ ghost use Rattle.sd_command_status.specs.declared.status.Status.TheVariants.{Cla
 ghost use Rattle.sd_command_status.specs.Results.{RunResult};
 ghost use Rattle.sd_command_status.specs.Spec.{FileArgument, contents_of};
 ghost use Rattle.sd_command_status.specs.Outside.{Outside};
-ghost use Rattle.sd_command_status.specs.Work.{NoSteps, Uncounted};
+ghost use Rattle.sd_command_status.specs.Work.{NoSteps, Uncounted, Work, work_of_text};
 ghost use Rattle.sd_run_cover.specs.Cover.{covering};
 ghost use Rattle.sd_law_run.specs.Good.{IsGoodCover, IsGoodCard, IsGoodSample, IsGoodTables, plan_told, IsGoodHead};
 ghost use Rattle.sd_command_files.specs.Made.{making};
@@ -51,7 +51,6 @@ ghost use Rattle.sd_run.specs.Meaning.{meaning};
 ghost use Rattle.sd_spec_broadcast.specs.Plan.{Plan, IsPlan};
 ghost use Rattle.sd_spec_broadcast.specs.Refused.{IsClear};
 ghost use Rattle.sd_law_broadcast.specs.Packets.{AreWholePackets};
-ghost use Rattle.sd_command_status.specs.Work.{Work};
 ghost use Rattle.sd_run_receive.specs.Receive.{receiving};
 ghost use Rattle.sd_law_run.specs.Good.{IsGoodReceive};
 ghost use Rattle.sd_law_run.specs.Opened.{IsBroadcastTo, IsOpened};
@@ -165,7 +164,7 @@ pub fn good_sites_are_judged()
     ensures apart { (words : List (List ℕ)) (files : Files) (good : IsGoodApart words (contents_of files)) →
         clash_of (record { site = good.fields; commands = good.commands })
         (record { site = good.other_fields; commands = good.more_commands }) ≡ None →
-        (meaning words (contents_of files)).result ≡ Ok (saying (apart_text
+        (meaning words (contents_of files)).result ≡ Ok (work_of_text (apart_text
         (record { site = good.fields; commands = good.commands })
         (record { site = good.other_fields; commands = good.more_commands }))) }
     ensures clash { (words : List (List ℕ)) (files : Files) (good : IsGoodApart words (contents_of files))
@@ -194,7 +193,7 @@ pub fn good_pools_are_printed()
 #[tactic(auto, using(crate::proofs::Pooled::trace_good))]
 pub fn good_traces_are_printed()
     ensures { (words : List (List ℕ)) (files : Files) (good : IsGoodTrace words (contents_of files)) →
-        (meaning words (contents_of files)).result ≡ Ok (telling (trace_text
+        (meaning words (contents_of files)).result ≡ Ok (work_of_text (trace_text
         (trace_of good.fields.height good.coalition (revoked_last good.fields.height good.commands)))) }
 {}
 

@@ -2,14 +2,14 @@
 use Rattle.std.proofs.Common.{ℕ, ◌+◌, List, [], ◌∷◌, Option, Some, None, refl}
 use Rattle.sd_engine.specs.Taken.{end_of}
 use Rattle.sd_command_status.specs.Spec.{FileArgument, Readings, all_of, judged, value, ◌>>=◌}
-use Rattle.sd_command_status.specs.Work.{Uncounted, NoSteps, UpTo}
+use Rattle.sd_command_status.specs.Work.{Uncounted, NoSteps, UpTo, work_of_text}
 use Rattle.sd_command_files.specs.Shown.{NumberArgument}
 use Rattle.sd_command_files.specs.Both.{both_meaning}
 use Rattle.sd_command_files.specs.Files.{site_in, book_in}
 use Rattle.sd_command_files.specs.Leaves.{leaves_in}
 use Rattle.sd_command_files.specs.Made.{making}
 use Rattle.sd_run_accounts.specs.Accounts.{accounts_in, making_then, report_line, accounts_meaning}
-use Rattle.sd_run_apart.specs.Apart.{apart_meaning, plan_of_both, saying, told_apart}
+use Rattle.sd_run_apart.specs.Apart.{apart_meaning, plan_of_both, told_apart}
 use Rattle.sd_run_book.specs.Book.{longer_book, book_meaning}
 use Rattle.sd_run_card.specs.Card.{told_card, card_meaning}
 use Rattle.sd_run_cover.specs.Cover.{covering, cover_meaning}
@@ -26,7 +26,7 @@ use Rattle.sd_run_receive.specs.Receive.{receive_meaning}
 use Rattle.sd_run_sample.specs.Sample.{sample_meaning}
 use Rattle.sd_run_show.specs.Show.{line_of_file, show_meaning, printing as showing}
 use Rattle.sd_run_tables.specs.Tables.{inspecting, tables_meaning}
-use Rattle.sd_run_trace.specs.Trace.{traced, telling, trace_meaning}
+use Rattle.sd_run_trace.specs.Trace.{traced, trace_meaning}
 use Rattle.sd_command_files.specs.Printed.{printing}
 use Rattle.sd_run_field.specs.Field.{field_meaning, field_text, inputs_meaning, script_of_file}
 use Rattle.sd_run_trial.specs.Prefixes.{prefix_of_file}
@@ -191,11 +191,11 @@ apart_orderly : (site book other more : FileArgument) (given : Readings) →
 apart_orderly site book other more given =
     orderly_after None (both_meaning site book given)
     (λ first. both_meaning other more given
-    >>= λ second. judged (told_apart (plan_of_both first) (plan_of_both second)) >>= λ text. value (saying text))
+    >>= λ second. judged (told_apart (plan_of_both first) (plan_of_both second)) >>= λ text. value (work_of_text text))
     (λ first. orderly_after None (both_meaning other more given)
-    (λ second. judged (told_apart (plan_of_both first) (plan_of_both second)) >>= λ text. value (saying text))
+    (λ second. judged (told_apart (plan_of_both first) (plan_of_both second)) >>= λ text. value (work_of_text text))
     (λ second. orderly_after None (judged (told_apart (plan_of_both first) (plan_of_both second)))
-    (λ text. value (saying text)) (λ text. none_made (saying text) refl (λ refusal. absurd refusal))))
+    (λ text. value (work_of_text text)) (λ text. none_made (work_of_text text) refl (λ refusal. absurd refusal))))
 
 air_orderly : (site book : FileArgument) (packets : NumberArgument) (pids : ℕ) (given : Readings) →
     AreOrderly None (air_meaning site book packets pids given).result
@@ -225,11 +225,11 @@ unfolding trace_meaning
 trace_orderly site book leaves given =
     orderly_after None (both_meaning site book given)
     (λ both. leaves_in given both.site.height leaves
-    >>= λ coalition. judged (traced both.site.height coalition both.commands) >>= λ text. value (telling text))
+    >>= λ coalition. judged (traced both.site.height coalition both.commands) >>= λ text. value (work_of_text text))
     (λ both. orderly_after None (leaves_in given both.site.height leaves)
-    (λ coalition. judged (traced both.site.height coalition both.commands) >>= λ text. value (telling text))
+    (λ coalition. judged (traced both.site.height coalition both.commands) >>= λ text. value (work_of_text text))
     (λ coalition. orderly_after None (judged (traced both.site.height coalition both.commands))
-    (λ text. value (telling text)) (λ text. none_made (telling text) refl (λ refusal. absurd refusal))))
+    (λ text. value (work_of_text text)) (λ text. none_made (work_of_text text) refl (λ refusal. absurd refusal))))
 
 trial_orderly : (site book clear : FileArgument) (given : Readings) →
     AreOrderly None (trial_meaning site book clear given).result

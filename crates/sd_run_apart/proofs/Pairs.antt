@@ -9,12 +9,11 @@ use Rattle.sd_ports.specs.Files.{Files}
 use Rattle.sd_command_status.specs.declared.status.Status.{Status}
 use Rattle.sd_command_status.specs.Outside.{DepotState, PageState, Outside, outside}
 use Rattle.sd_command_status.specs.Spec.{Spec, FileArgument, Readings, IsGiven, value, ◌>>=◌}
-use Rattle.sd_command_status.specs.Work.{Work}
+use Rattle.sd_command_status.specs.Work.{Work, work_of_text}
 use Rattle.sd_command_status.specs.Outcome.{IsEnding, ended, cut_off, OutcomeWithin, Implements}
 use Rattle.sd_command_status.specs.Prints.{PrintsText}
 use Rattle.sd_command_status.specs.Reads.{FilesOutcome}
 use Rattle.sd_command_status.proofs.Moves.{then_obeys}
-use Rattle.sd_run_apart.specs.Apart.{saying}
 
 other_number : (n k : ℕ) → n ≢ k → nat_eq k n ≡ false
 other_number n k h = grind (arith, nat_tests)
@@ -92,9 +91,9 @@ pair_follows {Y = Y} view by next a b c d h p q page steps out x status ac ad bc
 -- a text was printed, or a prefix of it
 pub text_said : (text : List ℕ) (q : DepotState) (page now : PageState) (steps : ℕ) (status : Status) →
     PrintsText text page now status →
-    OutcomeWithin (value (saying text)) (outside q page steps) (outside q now steps) status
+    OutcomeWithin (value (work_of_text text)) (outside q page steps) (outside q now steps) status
 text_said text q page now steps status (inl all) = record {
-  comes = ended (saying text) refl all.0 (subst IsEnding (sym all.0) tt) (record { files = refl; made = refl })
+  comes = ended (work_of_text text) refl all.0 (subst IsEnding (sym all.0) tt) (record { files = refl; made = refl })
       (subst (λ (xs : List ℕ). Appends page.printed now.printed xs) (sym (append-nil text)) all.1)
       (record { depot = refl; print = all.2 }) refl;
   ports = refl;
@@ -102,7 +101,7 @@ text_said text q page now steps status (inl all) = record {
   steps = refl;
 }
 text_said text q page now steps status (inr cut) = record {
-  comes = cut_off (saying text) refl cut.0 (record { files = refl; made = refl })
+  comes = cut_off (work_of_text text) refl cut.0 (record { files = refl; made = refl })
       (subst (λ (xs : List ℕ). AppendsPrefix page.printed now.printed xs) (sym (append-nil text)) cut.1) cut.2
       refl refl;
   ports = refl;

@@ -8,11 +8,11 @@ use Rattle.sd_site.specs.Fields.{SiteFields}
 use Rattle.sd_book.specs.Commands.{commands_until, is_revoked}
 use Rattle.sd_spec_broadcast.specs.Plan.{Plan, period_in}
 use Rattle.sd_command_status.specs.declared.status.Status.{Status}
-use Rattle.sd_command_status.specs.declared.status.Status.TheVariants.{Clash, Done}
+use Rattle.sd_command_status.specs.declared.status.Status.TheVariants.{Clash}
 use Rattle.sd_command_status.specs.declared.status.Clash.{Clash as ClashKind}
 use Rattle.sd_command_status.specs.declared.status.Clash.TheVariants.{Heights, Masters, NoWords, SharedWord, Books}
 use Rattle.sd_command_status.specs.Spec.{Spec, FileArgument, Readings, judged, value, ◌>>=◌}
-use Rattle.sd_command_status.specs.Work.{NoSteps, Work}
+use Rattle.sd_command_status.specs.Work.{Work, work_of_text}
 use Rattle.sd_command_files.specs.Both.{SiteBook, both_meaning}
 
 -- the last period that a broadcast may use, whatever its stream is: that of the last control word of its range
@@ -107,10 +107,6 @@ told_clash (Some clash) text = Err (Clash clash)
 unfoldable pub told_apart : Plan → Plan → Result (List ℕ) Status
 told_apart a b = told_clash (clash_of a b) (apart_text a b)
 
--- prints a text
-abbrev pub saying : List ℕ → Work
-saying text = record { out = None; pieces = text ∷ []; ends = Done; breaks = false; steps = NoSteps }
-
 abbrev pub plan_of_both : SiteBook → Plan
 plan_of_both both = record { site = both.site; commands = both.commands }
 
@@ -120,4 +116,4 @@ apart_meaning site book other more given = do
   first ← both_meaning site book given
   second ← both_meaning other more given
   text ← judged (told_apart (plan_of_both first) (plan_of_both second))
-  value (saying text)
+  value (work_of_text text)

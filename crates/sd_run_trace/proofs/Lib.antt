@@ -1,4 +1,3 @@
 pub mod Tracing
-pub mod Telling
 pub mod Coalition
 pub mod Others

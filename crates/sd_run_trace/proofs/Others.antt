@@ -7,10 +7,11 @@ use Rattle.sd_trace.specs.Trace.{not_among, trace_of}
 use Rattle.sd_command_status.specs.declared.status.Status.TheVariants.{Limit}
 use Rattle.sd_command_status.specs.declared.status.LimitKind.TheVariants.{Traced}
 use Rattle.sd_command_status.specs.Spec.{FileArgument, Readings, judged, value, ◌>>=◌}
+use Rattle.sd_command_status.specs.Work.{work_of_text}
 use Rattle.sd_command_files.specs.Both.{both_by}
 use Rattle.sd_command_files.specs.Leaves.{leaves_of_file}
 use Rattle.sd_command_files.proofs.Others.{IsOther, other_after, other_both, other_leaves_file}
-use Rattle.sd_run_trace.specs.Trace.{revoked_last, trace_text, traced, telling, trace_meaning}
+use Rattle.sd_run_trace.specs.Trace.{revoked_last, trace_text, traced, trace_meaning}
 
 other_limit : (b : Bool) (text : List ℕ) → IsOther (if b then Err (Limit Traced) else Ok text)
 other_limit true text = λ e. cc
@@ -30,11 +31,11 @@ other_trace site book leaves given =
     other_after (both_by site.number book.number (given site) (given book)).calls
     (both_by site.number book.number (given site) (given book)).result
     (λ both. leaves_of_file leaves.number both.site.height (given leaves)
-    >>= λ coalition. judged (traced both.site.height coalition both.commands) >>= λ text. value (telling text))
+    >>= λ coalition. judged (traced both.site.height coalition both.commands) >>= λ text. value (work_of_text text))
     (other_both site.number book.number (given site) (given book))
     (λ both. other_after (leaves_of_file leaves.number both.site.height (given leaves)).calls
     (leaves_of_file leaves.number both.site.height (given leaves)).result
-    (λ coalition. judged (traced both.site.height coalition both.commands) >>= λ text. value (telling text))
+    (λ coalition. judged (traced both.site.height coalition both.commands) >>= λ text. value (work_of_text text))
     (other_leaves_file leaves.number both.site.height (given leaves))
-    (λ coalition. other_after 0 (traced both.site.height coalition both.commands) (λ text. value (telling text))
+    (λ coalition. other_after 0 (traced both.site.height coalition both.commands) (λ text. value (work_of_text text))
     (other_traced both.site.height coalition both.commands) (λ text. tt)))

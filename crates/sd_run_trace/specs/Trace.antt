@@ -1,5 +1,5 @@
 -- Public meaning: `trace SITE BOOK LEAVES` [this project, docs/FORMATS.md, Tracing].
-use Rattle.std.specs.Prelude.{ℕ, ◌+◌, nat_lt, false, List, [], ◌∷◌, ◌++◌, length, codes, if◌then◌else◌, None, Result}
+use Rattle.std.specs.Prelude.{ℕ, ◌+◌, nat_lt, List, ◌++◌, length, codes, if◌then◌else◌, Result}
 use Rattle.std.specs.Prelude.{Ok, Err}
 use Rattle.std.specs.List.{flat_map}
 use Rattle.std.specs.Fmt.{decimal}
@@ -9,10 +9,10 @@ use Rattle.sd_book.specs.Commands.{last_period, revoked}
 use Rattle.sd_trace.specs.declared.found.Found.{Found}
 use Rattle.sd_trace.specs.Trace.{not_among, trace_of}
 use Rattle.sd_command_status.specs.declared.status.Status.{Status}
-use Rattle.sd_command_status.specs.declared.status.Status.TheVariants.{Done, Limit}
+use Rattle.sd_command_status.specs.declared.status.Status.TheVariants.{Limit}
 use Rattle.sd_command_status.specs.declared.status.LimitKind.TheVariants.{Traced}
 use Rattle.sd_command_status.specs.Spec.{Spec, FileArgument, Readings, value, judged, ◌>>=◌}
-use Rattle.sd_command_status.specs.Work.{NoSteps, Work}
+use Rattle.sd_command_status.specs.Work.{Work, work_of_text}
 use Rattle.sd_command_files.specs.Both.{both_meaning}
 use Rattle.sd_command_files.specs.Leaves.{leaves_in}
 
@@ -42,14 +42,10 @@ traced d coalition commands =
     if nat_lt most_revoked (length gone + length (not_among d gone coalition)) then Err (Limit Traced)
     else Ok (trace_text (trace_of d coalition gone))
 
--- prints this text
-abbrev pub telling : List ℕ → Work
-telling text = record { out = None; pieces = text ∷ []; ends = Done; breaks = false; steps = NoSteps }
-
 -- the work that the three files say
 unfoldable pub trace_meaning : FileArgument → FileArgument → FileArgument → Readings → Spec Work
 trace_meaning site book leaves given = do
   both ← both_meaning site book given
   coalition ← leaves_in given both.site.height leaves
   text ← judged (traced both.site.height coalition both.commands)
-  value (telling text)
+  value (work_of_text text)

@@ -3,13 +3,14 @@ use Rattle.std.proofs.lemmas.Result.{err_from_is_err_and}
 use Rattle.sd_site.specs.Fields.{fields_of}
 use Rattle.sd_command_status.specs.Outside.{depot_state, page_state, outside}
 use Rattle.sd_command_status.specs.Spec.{judged, value, ◌>>=◌}
+use Rattle.sd_command_status.specs.Work.{work_of_text}
 use Rattle.sd_command_status.specs.Outcome.{status_of}
 use Rattle.sd_command_status.proofs.Firsts.{first_obeys}
 use Rattle.sd_command_status.proofs.Moves.{then_obeys}
 use Rattle.sd_command_files.specs.Both.{SiteBook, both_by}
 use Rattle.sd_command_files.specs.Shown.{shown_word}
 use Rattle.sd_command_files.proofs.Thirds.{judged_obeys, judged_refused}
-use Rattle.sd_run_apart.specs.Apart.{plan_of_both, saying, told_apart}
+use Rattle.sd_run_apart.specs.Apart.{plan_of_both, told_apart}
 use Rattle.sd_run_apart.proofs.Pairs.{pair_follows, text_said}
 use Rattle.sd_run_apart.proofs.command.apart.Goals as goal
 
@@ -30,12 +31,12 @@ returns-in_err-other g c steps =
     rw (p.1, p.2) (pair_follows (λ both. record { site = fields_of both.0; commands = both.1.commands })
     (both_by site.number book.number)
     (λ first got got_more. both_by other.number more.number got got_more
-    >>= λ second. judged (told_apart (plan_of_both first) (plan_of_both second)) >>= λ text. value (saying text))
+    >>= λ second. judged (told_apart (plan_of_both first) (plan_of_both second)) >>= λ text. value (work_of_text text))
     site book other more second.given (depot_state g.D.Depot c.args.depot.now) q now steps (outside r now steps)
     (c.in_ok-site.site, c.in_ok-site.book) status c.requires.sites.0 c.requires.sites.1 c.requires.books.0
     c.requires.books.1 c.in_ok-site.ensures.value second.is_given
     (first_obeys (both_by other.number more.number (second.given other) (second.given more))
-    (λ second. judged (told_apart (plan_of_both one) (plan_of_both second)) >>= λ text. value (saying text))
+    (λ second. judged (told_apart (plan_of_both one) (plan_of_both second)) >>= λ text. value (work_of_text text))
     q r now steps status second.gives))
 
 -- the two clash, or memory was out
@@ -56,15 +57,15 @@ returns-in_err-text g c steps =
     rw (p.1, p.2) (pair_follows (λ both. record { site = fields_of both.0; commands = both.1.commands })
     (both_by site.number book.number)
     (λ first got got_more. both_by other.number more.number got got_more
-    >>= λ second. judged (told_apart (plan_of_both first) (plan_of_both second)) >>= λ text. value (saying text))
+    >>= λ second. judged (told_apart (plan_of_both first) (plan_of_both second)) >>= λ text. value (work_of_text text))
     site book other more second.given (depot_state g.D.Depot c.args.depot.now) q now steps (outside r now steps)
     (c.in_ok-site.site, c.in_ok-site.book) status c.requires.sites.0 c.requires.sites.1 c.requires.books.0
     c.requires.books.1 c.in_ok-site.ensures.value second.is_given
     (then_obeys (both_by other.number more.number (second.given other) (second.given more)) two
-    (λ second. judged (told_apart (plan_of_both one) (plan_of_both second)) >>= λ text. value (saying text))
+    (λ second. judged (told_apart (plan_of_both one) (plan_of_both second)) >>= λ text. value (work_of_text text))
     q r now steps (outside r now steps) status second.gives.0 second.gives.1
     (judged_refused (λ (text : String Global). string_bytes text) (told_apart (plan_of_both one) (plan_of_both two))
-    (λ text. value (saying text)) r now steps status c.in_err-text.ensures)))
+    (λ text. value (work_of_text text)) r now steps status c.in_err-text.ensures)))
 
 -- both lines were printed, or printing failed
 pub returns : goal.returns
@@ -86,13 +87,13 @@ returns g c steps =
     pair_follows (λ both. record { site = fields_of both.0; commands = both.1.commands })
     (both_by site.number book.number)
     (λ first got got_more. both_by other.number more.number got got_more
-    >>= λ second. judged (told_apart (plan_of_both first) (plan_of_both second)) >>= λ text. value (saying text))
+    >>= λ second. judged (told_apart (plan_of_both first) (plan_of_both second)) >>= λ text. value (work_of_text text))
     site book other more second.given (depot_state g.D.Depot c.args.depot.now) q before steps (outside r now steps)
     (c.in_ok-site.site, c.in_ok-site.book) status c.requires.sites.0 c.requires.sites.1 c.requires.books.0
     c.requires.books.1 c.in_ok-site.ensures.value second.is_given
     (then_obeys (both_by other.number more.number (second.given other) (second.given more)) two
-    (λ second. judged (told_apart (plan_of_both one) (plan_of_both second)) >>= λ text. value (saying text))
+    (λ second. judged (told_apart (plan_of_both one) (plan_of_both second)) >>= λ text. value (work_of_text text))
     q r before steps (outside r now steps) status second.gives.0 second.gives.1
-    (judged_obeys (told_apart (plan_of_both one) (plan_of_both two)) text (λ text. value (saying text))
+    (judged_obeys (told_apart (plan_of_both one) (plan_of_both two)) text (λ text. value (work_of_text text))
     (outside r before steps) (outside r now steps) status c.in_ok-text.ensures
     (text_said text r before now steps status prints)))

@@ -4,12 +4,12 @@ use Rattle.std.specs.Io.KnownBytes.{Appends}
 use Rattle.sd_ports.specs.Bytes.{AppendsPrefix}
 use Rattle.sd_command_status.specs.declared.status.Status.{Status}
 use Rattle.sd_command_status.specs.Outside.{PageState}
+use Rattle.sd_command_status.specs.Work.{work_of_text}
 use Rattle.sd_command_status.specs.Prints.{PrintsWork, PrintsText}
-use Rattle.sd_run_trace.specs.Trace.{telling}
 
 -- a text that was printed, or a prefix of it, is work that prints it
 pub text_prints : (text : List ℕ) (a b : PageState) (status : Status) → PrintsText text a b status →
-    PrintsWork (telling text) a b status
+    PrintsWork (work_of_text text) a b status
 text_prints text a b status (inl all) = inl (
   all.0,
   subst (λ (xs : List ℕ). Appends a.printed b.printed xs) (sym (append-nil text)) all.1,
