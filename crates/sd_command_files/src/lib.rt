@@ -6,6 +6,7 @@ mod files;
 mod leaves;
 mod made;
 mod print;
+mod replay;
 mod turn;
 mod word;
 
@@ -16,3 +17,4 @@ pub use made::{make_file, told};
 pub use print::print_text;
 pub use turn::{close_both, open_both, opening_fault};
 pub use word::{Number, Word};
+pub use replay::replay_from;

@@ -2,13 +2,13 @@
 
 ghost use Rattle.std.specs.Prelude.{◌≡◌, ◌≤◌, ℕ, Bool, filter, IfOk};
 ghost use Rattle.std.specs.List.{range_with_len};
-ghost use Rattle.sd_book.specs.Commands.{last_period as last_of};
 ghost use Rattle.sd_site.specs.Fields.{fields_of};
 ghost use Rattle.sd_run_apart.specs.Apart.{books_clash, first_differing};
 
 use crate::sites::last_due;
 use sd_base::NoMemory;
-use sd_book::{Book, Periods};
+use sd_book::Book;
+use sd_command_files::replay_from;
 use sd_command_status::Clash;
 use sd_site::Site;
 use sd_tree::Leaf;
@@ -72,18 +72,4 @@ fn first_apart(left: &[Leaf], right: &[Leaf]) -> Option<u32>
     } else {
         None
     }
-}
-
-/// A replay of the book whose next period is q, one of its own.
-fn replay_from(alloc: Global, book: &Book, q: u32) -> Result<Periods<'_>, NoMemory>
-    requires { q ≤ last_of book.now.commands }
-    ensures height { IfOk result (λ periods. periods.height ≡ book.now.height) }
-    ensures commands { IfOk result (λ periods. periods.commands ≡ book.now.commands) }
-    ensures next { IfOk result (λ periods. periods.next ≡ q) }
-{
-    let mut periods = book.periods(alloc);
-    for _ in 0..q {
-        periods.next(alloc)?;
-    }
-    Ok(periods)
 }

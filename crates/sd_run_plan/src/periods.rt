@@ -4,7 +4,6 @@ ghost use Rattle.std.specs.Prelude.{◌≡◌, ◌^◌, ◌<◌, ◌≤◌, ◌+
 ghost use Rattle.std.specs.List.{concat, range_with_len, sum_by};
 ghost use Rattle.std.specs.List.Sorted.{IsStrictlyIncreasing};
 ghost use Rattle.sd_tree.specs.declared.leaf.TheConstants.{MOST_REVOKED};
-ghost use Rattle.sd_book.specs.Commands.{last_period as last_of};
 ghost use Rattle.sd_site.specs.Fields.{fields_of};
 ghost use Rattle.sd_steiner.specs.Cover.{cover_of};
 ghost use Rattle.sd_emm.specs.Form.{sections_for};
@@ -13,7 +12,8 @@ ghost use Rattle.sd_run_plan.specs.Air.{line_at, period_line, periods_for, table
 use crate::lines::{PeriodNumbers, push_period};
 use crate::schedule::{cryptos_in, period_count};
 use sd_base::NoMemory;
-use sd_book::{Book, Periods};
+use sd_book::Book;
+use sd_command_files::replay_from;
 use sd_command_periods::cover_sets;
 use sd_emm::section_count;
 use sd_site::Site;
@@ -51,20 +51,6 @@ pub(crate) fn periods_text(
         tables += push_numbers(alloc, &mut text, site.height, period, share, &revoked)?;
     }
     Ok((text, tables))
-}
-
-/// A replay of the book whose next period is q, one of its own.
-fn replay_from(alloc: Global, book: &Book, q: u32) -> Result<Periods<'_>, NoMemory>
-    requires { q ≤ last_of book.now.commands }
-    ensures height { IfOk result (λ periods. periods.height ≡ book.now.height) }
-    ensures commands { IfOk result (λ periods. periods.commands ≡ book.now.commands) }
-    ensures next { IfOk result (λ periods. periods.next ≡ q) }
-{
-    let mut periods = book.periods(alloc);
-    for _ in 0..q {
-        periods.next(alloc)?;
-    }
-    Ok(periods)
 }
 
 /// Puts the line of a period with these revoked leaves and so many crypto periods after the text, and gives how many

@@ -1,6 +1,6 @@
 use Rattle.std.proofs.Common.{◌≡◌, ◌≤◌}
 use Rattle.sd_book.specs.Commands.{last_period}
-use Rattle.sd_run_plan.proofs.periods.replay_from.Given as goal
+use Rattle.sd_command_files.proofs.replay.replay_from.Given as goal
 
 -- so many periods were taken
 abbrev pub invariant-loop : goal.invariant-loop
