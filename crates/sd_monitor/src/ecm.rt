@@ -6,8 +6,8 @@ ghost use Rattle.sd_tables_line.specs.Members.{named_data};
 ghost use Rattle.sd_monitor.specs.Lines.{ecm_data, place_data};
 ghost use Rattle.sd_monitor.specs.Members.{ecm_members, run_members};
 
-use crate::object::object_of;
 use sd_ecm::{EcmPart, Place};
+use sd_tables_line::object_of;
 use serde_json::{Value, json};
 use std::alloc::{AllocError, Global};
 

@@ -6,8 +6,8 @@ ghost use Rattle.sd_emm.specs.Spelled.{names_in};
 ghost use Rattle.sd_emm.specs.declared.format.TheConstants.{MOST_ENTRIES};
 ghost use Rattle.sd_monitor.specs.Lines.{emm_data, name_data, set_word};
 
-use crate::object::object_of;
 use sd_emm::{Emm, Entry};
+use sd_tables_line::object_of;
 use sd_tree::SetName;
 use serde_json::Value;
 use std::alloc::{AllocError, Global};

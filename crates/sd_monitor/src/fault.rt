@@ -2,9 +2,9 @@ ghost use Rattle.std.specs.Prelude.{◌≡◌, IfOk};
 ghost use Rattle.serde_json.specs.View.{view};
 ghost use Rattle.sd_monitor.specs.Lines.{fault_data, emm_fault_word, ecm_fault_word};
 
-use crate::object::object_of;
 use sd_ecm::EcmFault;
 use sd_emm::EmmFault;
+use sd_tables_line::object_of;
 use serde_json::Value;
 use std::alloc::{AllocError, Global};
 

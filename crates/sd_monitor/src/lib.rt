@@ -7,6 +7,5 @@ mod fault;
 pub mod laws;
 mod line;
 mod monitor;
-mod object;
 
 pub use monitor::Monitor;

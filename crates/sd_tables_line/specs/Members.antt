@@ -1,4 +1,4 @@
--- Inner: objects from lists of their members.
+-- Public meaning: objects from lists of their members.
 use Rattle.std.specs.Prelude.{ℕ, List, [], ◌∷◌, map}
 use Rattle.std.specs.Borrow.{Bor}
 use Rattle.serde_json.specs.Data.{Data, Members, object, no_members, put}

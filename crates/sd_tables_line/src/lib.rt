@@ -10,4 +10,5 @@ mod pmt;
 mod table;
 
 pub use line::push_line;
+pub use object::object_of;
 pub use table::{Table, TableFault, table_on};

@@ -5,8 +5,8 @@ ghost use Rattle.sd_tables_line.specs.Members.{object_by};
 use serde_json::{Map, Value, put};
 use std::alloc::{AllocError, Global};
 
-// The object with these members. One `json!` of many costs its proof far more, since each of its members may fail.
-pub(crate) fn object_of(alloc: Global, members: Vec<(&str, Value)>) -> Result<Value, AllocError>
+/// The object with these members. One `json!` of many costs its proof far more, since each of its members may fail.
+pub fn object_of(alloc: Global, members: Vec<(&str, Value)>) -> Result<Value, AllocError>
     ensures { IfOk result (λ value. view value ≡ object_by members.entry.items) }
 {
     let mut object = Map::new(alloc);
