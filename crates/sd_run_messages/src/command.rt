@@ -7,15 +7,15 @@ ghost use Rattle.sd_site.specs.Fields.{fields_of};
 ghost use Rattle.sd_command_status.specs.Outside.{outside, page_state, depot_state};
 ghost use Rattle.sd_command_status.specs.Outcome.{Implements, status_of};
 ghost use Rattle.sd_command_files.specs.Shown.{shown_word};
-ghost use Rattle.sd_run_tables.specs.Tables.{drive_status};
 ghost use Rattle.sd_run_messages.specs.Messages.{MonitorsLeft, messages_meaning, stream_meaning};
 
-use sd_base::{NoMemory, Steps};
+use sd_base::Steps;
 use sd_command_files::{Word, opening_fault, read_site};
-use sd_command_status::{Status, StreamCause};
-use sd_engine::{DriveFault, MOST_PACKETS, drive};
+use sd_command_status::Status;
+use sd_engine::drive;
 use sd_monitor::Monitor;
 use sd_ports::{Depot, Sink, Source};
+use sd_run_tables::drive_result;
 use sd_site::Site;
 use std::alloc::Global;
 use std::marker::Brand;
@@ -91,25 +91,5 @@ fn monitor<L: Ledger, S: Source, P: Sink>(
 {
     let mut monitor = Monitor::new(alloc, site);
     let mut steps = Steps::<L>::new(blank);
-    told(drive(source, print, &mut monitor, &mut steps))
-}
-
-/// The result of a stream that was driven.
-fn told(driven: Result<u64, DriveFault<NoMemory>>) -> Result<(), Status>
-    ensures { status_of result ≡ drive_status driven }
-{
-    match driven {
-        Ok(_) => Ok(()),
-        Err(DriveFault::Broken(found)) => Err(Status::BadStream {
-            packet: found.packet,
-            cause: StreamCause::Broken(found.cause),
-        }),
-        Err(DriveFault::TooLong) => Err(Status::BadStream {
-            packet: MOST_PACKETS,
-            cause: StreamCause::TooLong,
-        }),
-        Err(DriveFault::ReadFault) => Err(Status::DepotFault),
-        Err(DriveFault::WriteFault) => Err(Status::PrintFault),
-        Err(DriveFault::Refused(NoMemory)) => Err(Status::NoMemory),
-    }
+    drive_result(drive(source, print, &mut monitor, &mut steps))
 }

@@ -68,11 +68,11 @@ fn inspect<L: Ledger, S: Source, P: Sink>(
 {
     let mut inspector = Inspector::new(alloc)?;
     let mut steps = Steps::<L>::new(blank);
-    told(drive(source, print, &mut inspector, &mut steps))
+    drive_result(drive(source, print, &mut inspector, &mut steps))
 }
 
-/// What is answered once the stream was driven.
-fn told(driven: Result<u64, DriveFault<NoMemory>>) -> Result<(), Status>
+/// The result of a command that prints lines of a stream, once the stream was driven.
+pub fn drive_result(driven: Result<u64, DriveFault<NoMemory>>) -> Result<(), Status>
     ensures { status_of result ≡ drive_status driven }
 {
     match driven {

@@ -3,4 +3,4 @@
 
 mod command;
 
-pub use command::tables;
+pub use command::{drive_result, tables};

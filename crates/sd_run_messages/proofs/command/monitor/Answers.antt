@@ -6,8 +6,9 @@ use Rattle.sd_run_messages.proofs.command.monitor.Goals as goal
 
 pub returns-clause-value : goal.returns-clause-value
 returns-clause-value g c =
-    is_monitored (fields_of c.args.site.now) _ _ _ _ c.drive.result (status_of c.told.result)
-    c.new-monitor.ensures.value c.drive.ensures.written c.drive.ensures.value c.told.ensures
+    is_monitored (fields_of c.args.site.now) _ _ _ _ c.drive.result (status_of c.drive_result.result)
+    c.new-monitor.ensures.value c.drive.ensures.written c.drive.ensures.value c.drive_result.ensures
 
 pub returns-clause-cause : goal.returns-clause-cause
-returns-clause-cause g c = read_caused _ _ c.drive.result (status_of c.told.result) c.told.ensures c.drive.ensures.read
+returns-clause-cause g c =
+    read_caused _ _ c.drive.result (status_of c.drive_result.result) c.drive_result.ensures c.drive.ensures.read

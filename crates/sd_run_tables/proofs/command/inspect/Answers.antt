@@ -11,9 +11,10 @@ returns-in_err-inspector-clause-value g c =
 
 pub returns-clause-value : goal.returns-clause-value
 returns-clause-value g c =
-    is_inspected _ _ _ _ c.drive.result (status_of c.told.result) c.in_ok-inspector.ensures.value
+    is_inspected _ _ _ _ c.drive.result (status_of c.drive_result.result) c.in_ok-inspector.ensures.value
     c.drive.ensures.written
-    c.drive.ensures.value c.told.ensures
+    c.drive.ensures.value c.drive_result.ensures
 
 pub returns-clause-cause : goal.returns-clause-cause
-returns-clause-cause g c = read_caused _ _ c.drive.result (status_of c.told.result) c.told.ensures c.drive.ensures.read
+returns-clause-cause g c =
+    read_caused _ _ c.drive.result (status_of c.drive_result.result) c.drive_result.ensures c.drive.ensures.read
