@@ -7,8 +7,10 @@ use Rattle.sd_book.specs.declared.command.Command.{Command}
 use Rattle.sd_book.specs.declared.fault.BookFault.{BookFault}
 use Rattle.sd_book.specs.declared.fault.BookFault.TheVariants as book
 use Rattle.sd_book.specs.Text.{book_of}
+use Rattle.sd_card.specs.declared.fault.CardFault.{CardFault}
+use Rattle.sd_card.specs.declared.fault.CardFault.TheVariants as card
 use Rattle.sd_command_status.specs.declared.status.Status.{Status}
-use Rattle.sd_command_status.specs.declared.status.Status.TheVariants.{BadSite, BadBook, Limit, NoMemory}
+use Rattle.sd_command_status.specs.declared.status.Status.TheVariants.{BadSite, BadBook, BadCard, Limit, NoMemory}
 use Rattle.sd_command_status.specs.declared.status.LimitKind.TheVariants.{SiteBytes, BookBytes, Book}
 use Rattle.sd_command_status.specs.Spec.{Spec, FileArgument, Readings, within, judged, ◌>>=◌}
 
@@ -19,6 +21,10 @@ most_site_bytes = 4096
 -- the bytes of the longest file of a book, of accounts and of leaves [this project, docs/FORMATS.md, Leaves]
 abbrev pub most_book_bytes : ℕ
 most_book_bytes = 33554432
+
+-- the bytes of the longest card file [this project, docs/FORMATS.md, Card]
+abbrev pub most_card_bytes : ℕ
+most_card_bytes = 8192
 
 -- the site that a file's bytes say
 abbrev pub told_site : Result SiteFields SiteFault → Result SiteFields Status
@@ -37,6 +43,11 @@ refused_book word (book.Line k) = BadBook word k
 refused_book word (book.Leaf k) = BadBook word k
 refused_book word (book.Limit limit) = Limit (Book limit)
 refused_book word book.NoMemory = NoMemory
+
+-- the status of bytes that are no card
+abbrev pub refused_card : CardFault → Status
+refused_card card.NoMemory = NoMemory
+refused_card found = BadCard found
 
 -- the commands that a file's bytes say
 abbrev pub told_book : ℕ → Result (List Command) BookFault → Result (List Command) Status

@@ -5,11 +5,13 @@ ghost use Rattle.sd_site.specs.Text.{site_of};
 ghost use Rattle.sd_command_status.specs.Spec.{within};
 ghost use Rattle.sd_command_status.specs.Outside.{depot_state};
 ghost use Rattle.sd_command_status.specs.Reads.{JudgedOutcome, SureOutcome, FileOutcome};
-ghost use Rattle.sd_command_files.specs.Files.{site_of_file, book_of_file, refused_book, told_book, told_site};
+ghost use Rattle.sd_command_files.specs.Files.{site_of_file, book_of_file, told_book, told_site};
+ghost use Rattle.sd_command_files.specs.Files.{most_card_bytes, refused_book, refused_card};
 ghost use Rattle.sd_command_files.specs.Shown.{shown_word};
 
 use crate::word::Word;
 use sd_book::{Book, BookFault};
+use sd_card::CardFault;
 use sd_command_status::{LimitKind, Status};
 use sd_ports::{Depot, FileFault, read_file};
 use sd_site::Site;
@@ -21,6 +23,9 @@ pub const MOST_SITE_BYTES: usize = 4_096;
 
 /// As many bytes as a book file may have.
 pub const MOST_BOOK_BYTES: usize = 33_554_432;
+
+/// As many bytes as a card's file may have.
+pub const MOST_CARD_BYTES: usize = 8_192;
 
 /// The site of the word's file.
 pub fn read_site<D: Depot>(alloc: Global, depot: &mut D, word: Word<'_>) -> Result<Site, Status>
@@ -75,6 +80,28 @@ pub fn book_fault(word: u8, fault: BookFault) -> Status
         BookFault::Line(line) | BookFault::Leaf(line) => Status::BadBook { word, line },
         BookFault::Limit(limit) => Status::Limit(LimitKind::Book(limit)),
         BookFault::NoMemory => Status::NoMemory,
+    }
+}
+
+/// The bytes of the word's file, a card's.
+pub fn read_card_bytes<D: Depot>(
+    alloc: Global,
+    depot: &mut D,
+    word: Word<'_>,
+) -> Result<Vec<u8>, Status>
+    ensures { FileOutcome (λ bytes. bytes.items) (within word.entry.number most_card_bytes LimitKind.CardBytes)
+        word.entry.text.now (depot_state D.Depot depot.old) (depot_state D.Depot depot.new) result }
+{
+    read_bytes(alloc, depot, word, MOST_CARD_BYTES, LimitKind::CardBytes)
+}
+
+/// The status of bytes that are no card, or of an allocation that failed.
+pub fn card_fault(fault: CardFault) -> Status
+    ensures { result ≡ refused_card fault }
+{
+    match fault {
+        CardFault::NoMemory => Status::NoMemory,
+        _ => Status::BadCard(fault),
     }
 }
 

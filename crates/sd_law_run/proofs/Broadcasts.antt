@@ -22,7 +22,7 @@ use Rattle.sd_command_status.specs.declared.status.Status.TheVariants.{Limit}
 use Rattle.sd_command_status.specs.declared.status.LimitKind.TheVariants.{CardBytes}
 use Rattle.sd_command_status.specs.Spec.{Spec, FileArgument, Readings, and_then, all_of, judged, value, within, ◌>>=◌}
 use Rattle.sd_command_status.specs.Work.{Work}
-use Rattle.sd_run_receive.specs.Receive.{most_card_bytes}
+use Rattle.sd_command_files.specs.Files.{most_card_bytes}
 use Rattle.sd_command_line.specs.Words.{Order, order_of, ReceiveOf}
 use Rattle.sd_run_receive.specs.Receive.{told_card, card_of_file, ending_status, ended_status}
 use Rattle.sd_run_receive.specs.Receive.{received_of, received_status, received_steps, receiving, stream_meaning}

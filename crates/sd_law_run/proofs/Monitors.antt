@@ -8,10 +8,11 @@ use Rattle.sd_command_status.specs.declared.status.Status.TheVariants.{Done}
 use Rattle.sd_command_status.specs.declared.status.LimitKind.TheVariants.{CardBytes}
 use Rattle.sd_command_status.specs.Spec.{Readings, all_of, judged, value, within, ◌>>=◌}
 use Rattle.sd_command_line.specs.Words.{MessagesOf, ShowOf}
-use Rattle.sd_command_files.specs.Files.{site_in}
+use Rattle.sd_command_status.specs.Work.{work_of_text}
+use Rattle.sd_command_files.specs.Files.{most_card_bytes, site_in}
 use Rattle.sd_command_files.specs.Streams.{stream_status}
 use Rattle.sd_run_messages.specs.Messages.{messages_meaning, monitoring, stream_meaning}
-use Rattle.sd_run_show.specs.Show.{line_of_file, most_card_bytes, printing, shown_line, told_show}
+use Rattle.sd_run_show.specs.Show.{line_of_file, shown_line, told_show}
 use Rattle.sd_run_show.proofs.Cards.{line_read}
 use Rattle.sd_run.specs.Meaning.{meaning}
 use Rattle.sd_law_run.specs.Good.{IsGoodMessages, IsGoodShow}
@@ -46,14 +47,15 @@ card_told word card is =
 
 pub show_good : (words : List (List ℕ)) (given : Readings) (good : IsGoodShow words given) →
     (meaning words given).result
-    ≡ Ok (printing (shown_line good.fields.height good.fields.leaf good.fields.ca (check_in (card_bytes good.fields))))
+    ≡ Ok
+    (work_of_text (shown_line good.fields.height good.fields.leaf good.fields.ca (check_in (card_bytes good.fields))))
 show_good words given good =
     let card = good.fields in
     ordered words given (ShowOf good.card) good.order
-    ∙ ap (λ (got : Option (List ℕ)). (line_of_file good.card.number got >>= λ line. value (printing line)).result)
+    ∙ ap (λ (got : Option (List ℕ)). (line_of_file good.card.number got >>= λ line. value (work_of_text line)).result)
     good.there
     ∙ then_is (line_of_file good.card.number (Some (card_bytes card)))
-    (shown_line card.height card.leaf card.ca (check_in (card_bytes card))) (λ line. value (printing line))
+    (shown_line card.height card.leaf card.ca (check_in (card_bytes card))) (λ line. value (work_of_text line))
     (card_told good.card.number card good.is_card)
 
 -- the line of a leaf's card says its height, its leaf and its system

@@ -9,7 +9,7 @@ ghost use Rattle.sd_trace.specs.Trace.{trace_of};
 ghost use Rattle.sd_run_opens.specs.Opens.{opening};
 ghost use Rattle.sd_run_trace.specs.Trace.{revoked_last, trace_text};
 ghost use Rattle.sd_law_lines.specs.Trials.{opened_lines};
-ghost use Rattle.sd_command_files.specs.Printed.{printing as tried};
+ghost use Rattle.sd_command_files.specs.Printed.{printing};
 ghost use Rattle.sd_run_trial.specs.Trial.{trial_meaning};
 ghost use Rattle.sd_run_plan.specs.Air.{planning};
 ghost use Rattle.sd_law_run.specs.Good.{IsGoodApart, IsGoodPlan};
@@ -39,7 +39,7 @@ ghost use Rattle.sd_run_cover.specs.Cover.{covering};
 ghost use Rattle.sd_law_run.specs.Good.{IsGoodCover, IsGoodCard, IsGoodSample, IsGoodTables, plan_told, IsGoodHead};
 ghost use Rattle.sd_command_files.specs.Made.{making};
 ghost use Rattle.sd_run_messages.specs.Messages.{monitoring};
-ghost use Rattle.sd_run_show.specs.Show.{printing, shown_line, told_show};
+ghost use Rattle.sd_run_show.specs.Show.{shown_line, told_show};
 ghost use Rattle.sd_card_secrets.specs.Files.{check_in};
 ghost use Rattle.sd_law_run.specs.Good.{IsGoodMessages, IsGoodShow};
 ghost use Rattle.sd_run_tables.specs.Tables.{inspecting};
@@ -98,7 +98,7 @@ pub fn good_messages_are_printed()
 #[tactic(auto, using(crate::proofs::Monitors::show_good))]
 pub fn good_cards_are_shown()
     ensures { (words : List (List ℕ)) (files : Files) (good : IsGoodShow words (contents_of files)) →
-        (meaning words (contents_of files)).result ≡ Ok (printing (shown_line good.fields.height good.fields.leaf
+        (meaning words (contents_of files)).result ≡ Ok (work_of_text (shown_line good.fields.height good.fields.leaf
         good.fields.ca (check_in (card_bytes good.fields)))) }
 {}
 
@@ -201,7 +201,7 @@ pub fn good_traces_are_printed()
 #[tactic(auto, using(crate::proofs::Tried::trial_good))]
 pub fn good_trials_are_printed()
     ensures { (words : List (List ℕ)) (files : Files) (good : IsGoodTrial words (contents_of files)) →
-        (meaning words (contents_of files)).result ≡ Ok (tried (Ok
+        (meaning words (contents_of files)).result ≡ Ok (printing (Ok
         (opened_lines (plan_tried good) (taken_of good.bytes) (2 ^ good.fields.height)))) }
 {}
 
@@ -210,8 +210,8 @@ pub fn good_trials_are_printed()
 #[tactic(auto, using(crate::proofs::Fielded::field_good))]
 pub fn good_fields_are_printed()
     ensures { (words : List (List ℕ)) (files : Files) (good : IsGoodField words (contents_of files)) →
-        (meaning words (contents_of files)).result ≡ Ok (tried (Ok (confirmed_lines good.fields (packets_of good.bytes)
-        good.events (2 ^ good.fields.height)))) }
+        (meaning words (contents_of files)).result ≡ Ok (printing (Ok
+        (confirmed_lines good.fields (packets_of good.bytes) good.events (2 ^ good.fields.height)))) }
 {}
 
 /// If `trial` succeeds in a file system whose contents the model knows, its files were a good site, a good book and a

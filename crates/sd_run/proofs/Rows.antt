@@ -24,7 +24,7 @@ use Rattle.sd_run_receive.specs.Receive.{received_status}
 use Rattle.sd_run_receive.specs.Receive.{card_in, received_of, received_steps, receiving, stream_meaning}
 use Rattle.sd_run_receive.specs.Receive.{receive_meaning}
 use Rattle.sd_run_sample.specs.Sample.{sample_meaning}
-use Rattle.sd_run_show.specs.Show.{line_of_file, show_meaning, printing as showing}
+use Rattle.sd_run_show.specs.Show.{line_of_file, show_meaning}
 use Rattle.sd_run_tables.specs.Tables.{inspecting, tables_meaning}
 use Rattle.sd_run_trace.specs.Trace.{traced, trace_meaning}
 use Rattle.sd_command_files.specs.Printed.{printing}
@@ -173,8 +173,8 @@ messages_orderly site stream given =
 
 show_orderly : (card : FileArgument) (given : Readings) → AreOrderly None (show_meaning card given).result
 show_orderly card given =
-    orderly_after None (line_of_file card.number (given card)) (λ line. value (showing line))
-    (λ line. none_made (showing line) refl (λ refusal. absurd refusal))
+    orderly_after None (line_of_file card.number (given card)) (λ line. value (work_of_text line))
+    (λ line. none_made (work_of_text line) refl (λ refusal. absurd refusal))
 
 layered_orderly : (site book : FileArgument) (width : NumberArgument) (given : Readings) →
     AreOrderly None (layered_meaning site book width given).result

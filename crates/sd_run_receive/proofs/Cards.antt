@@ -14,7 +14,8 @@ use Rattle.sd_card.proofs.Spellings.{height_written, leaf_written, ca_written, w
 use Rattle.sd_command_status.specs.declared.status.Status.{Status}
 use Rattle.sd_command_status.specs.declared.status.Status.TheVariants.{BadCard, NoMemory}
 use Rattle.sd_command_status.specs.Outcome.{IsRefusal, IsEnding}
-use Rattle.sd_run_receive.specs.Receive.{secrets_of, card_said, card_unless, refused_card, told_card}
+use Rattle.sd_command_files.specs.Files.{refused_card}
+use Rattle.sd_run_receive.specs.Receive.{secrets_of, card_said, card_unless, told_card}
 
 -- secrets that were joined are found again
 secrets_again : (secrets : List (List ℕ)) (rest : List ℕ) → AreSecrets secrets →

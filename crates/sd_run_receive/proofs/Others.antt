@@ -5,9 +5,10 @@ use Rattle.sd_card.specs.Fields.{CardFields}
 use Rattle.sd_card.specs.Faults.{fault_in}
 use Rattle.sd_command_status.specs.declared.status.LimitKind.TheVariants.{CardBytes}
 use Rattle.sd_command_status.specs.Spec.{FileArgument, Readings, all_of, judged, value, within}
+use Rattle.sd_command_files.specs.Files.{most_card_bytes}
 use Rattle.sd_command_files.proofs.Others.{IsOther, other_after, other_file, other_stream}
 use Rattle.sd_run_receive.specs.Receive.{card_said, card_unless, told_card, card_of_file, receiving, stream_meaning}
-use Rattle.sd_run_receive.specs.Receive.{receive_meaning, most_card_bytes}
+use Rattle.sd_run_receive.specs.Receive.{receive_meaning}
 
 other_unless : (fault : Option CardFault) (card : CardFields) → IsOther (card_unless fault card)
 other_unless None card = tt

@@ -9,7 +9,6 @@ use Rattle.sd_engine.specs.declared.driver.DriveFault.TheVariants as drive
 use Rattle.sd_card_secrets.specs.declared.file.TheConstants.{SECRET_BYTES}
 use Rattle.sd_card.specs.declared.format.TheConstants.{SECRETS_AT}
 use Rattle.sd_card.specs.declared.fault.CardFault.{CardFault}
-use Rattle.sd_card.specs.declared.fault.CardFault.TheVariants as card
 use Rattle.sd_card.specs.Faults.{height_in, leaf_in, ca_in, fault_in}
 use Rattle.sd_card.specs.Fields.{CardFields, saying}
 use Rattle.sd_spec_receiver.specs.declared.fault.StreamFault.{StreamFault}
@@ -22,18 +21,15 @@ use Rattle.sd_receive.specs.Receiving.{taken_keys}
 use Rattle.sd_command_status.specs.declared.status.Status.{Status}
 use Rattle.sd_command_status.specs.declared.status.Status.TheVariants.{Done, Revoked, DepotFault, BadCard, BadStream}
 use Rattle.sd_command_status.specs.declared.status.Status.TheVariants.{Unheard}
-use Rattle.sd_command_status.specs.declared.status.Status.TheVariants.{Unclosed, Gaps, NoCat, NoMemory}
+use Rattle.sd_command_status.specs.declared.status.Status.TheVariants.{Unclosed, Gaps, NoCat}
 use Rattle.sd_command_status.specs.declared.status.StreamCause.TheVariants.{Broken, TooLong, WrongKey, WrongWord}
 use Rattle.sd_command_status.specs.declared.status.StreamCause.TheVariants.{BadEmm}
 use Rattle.sd_command_status.specs.declared.status.StreamCause.TheVariants.{BadEcm, Parity}
 use Rattle.sd_command_status.specs.declared.status.LimitKind.TheVariants.{CardBytes}
 use Rattle.sd_command_status.specs.Spec.{Spec, FileArgument, Readings, all_of, within, judged, value, ◌>>=◌}
 use Rattle.sd_command_status.specs.Work.{UpTo, Work}
+use Rattle.sd_command_files.specs.Files.{most_card_bytes}
 use Rattle.sd_command_files.specs.Turned.{turning, Wrote}
-
--- the bytes of the longest card file [this project, docs/FORMATS.md, Card]
-abbrev pub most_card_bytes : ℕ
-most_card_bytes = 8192
 
 -- the first n secrets in these bytes
 unfoldable pub secrets_of : ℕ → List ℕ → List (List ℕ)
@@ -50,11 +46,6 @@ card_said bytes =
 abbrev pub card_unless : Option CardFault → CardFields → Result CardFields Status
 card_unless None card = Ok card
 card_unless (Some fault) card = Err (BadCard fault)
-
--- the status of bytes that are no card
-abbrev pub refused_card : CardFault → Status
-refused_card card.NoMemory = NoMemory
-refused_card found = BadCard found
 
 -- the card of a file of these bytes, or the status of its fault
 unfoldable pub told_card : List ℕ → Result CardFields Status

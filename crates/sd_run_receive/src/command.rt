@@ -9,21 +9,18 @@ ghost use Rattle.sd_command_status.specs.Reads.{JudgedOutcome, FileOutcome};
 ghost use Rattle.sd_command_status.specs.Outcome.{Implements, IsEnding, status_of};
 ghost use Rattle.sd_command_files.specs.Turned.{HasPortCause};
 ghost use Rattle.sd_run_receive.specs.Receive.{ReceivesLeft, card_of_file, told_card, receive_meaning, stream_meaning};
-ghost use Rattle.sd_run_receive.specs.Receive.{ending_status, refused_card, refused_status, stopped_status};
+ghost use Rattle.sd_run_receive.specs.Receive.{ending_status, refused_status, stopped_status};
 ghost use Rattle.sd_command_files.specs.Shown.{shown_word};
 
 use sd_base::Steps;
-use sd_card::{Card, CardFault};
-use sd_command_files::{Word, close_both, open_both, read_bytes};
-use sd_command_status::{LimitKind, Status, StreamCause};
+use sd_card::Card;
+use sd_command_files::{Word, card_fault, close_both, open_both, read_card_bytes};
+use sd_command_status::{Status, StreamCause};
 use sd_engine::{DriveFault, MOST_PACKETS, drive};
 use sd_ports::{Depot, Sink, Source};
 use sd_receive::{Ending, Receiver, StreamFault};
 use std::alloc::Global;
 use std::sync::ledger::Ledger;
-
-/// The most bytes of a card's file.
-pub const MOST_CARD_BYTES: usize = 8_192;
 
 /// Runs `receive CARD STREAM OUT`: the stream goes through the receiver of the card into OUT [this project,
 /// docs/FORMATS.md, Receiver].
@@ -56,7 +53,7 @@ fn read_receiver<D: Depot>(alloc: Global, depot: &mut D, word: Word<'_>) -> Resu
         (depot_state D.Depot depot.old) (depot_state D.Depot depot.new) result }
     ensures new { IfOk result (IsAfter []) }
 {
-    let bytes = read_bytes(alloc, depot, word, MOST_CARD_BYTES, LimitKind::CardBytes)?;
+    let bytes = read_card_bytes(alloc, depot, word)?;
     judge_card(alloc, &bytes)
 }
 
@@ -67,17 +64,7 @@ fn judge_card(alloc: Global, bytes: &[u8]) -> Result<Receiver, Status>
 {
     match Card::read(alloc, bytes) {
         Ok(card) => Ok(Receiver::new(alloc, card)?),
-        Err(fault) => Err(card_status(fault)),
-    }
-}
-
-/// The status of bytes that are no card, or of an allocation that failed.
-fn card_status(fault: CardFault) -> Status
-    ensures { result ≡ refused_card fault }
-{
-    match fault {
-        CardFault::NoMemory => Status::NoMemory,
-        _ => Status::BadCard(fault),
+        Err(fault) => Err(card_fault(fault)),
     }
 }
 

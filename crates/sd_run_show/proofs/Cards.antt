@@ -9,7 +9,8 @@ use Rattle.sd_card.proofs.Spellings.{height_written, leaf_written, ca_written}
 use Rattle.sd_command_status.specs.declared.status.Status.{Status}
 use Rattle.sd_command_status.specs.declared.status.Status.TheVariants.{BadCard, NoMemory}
 use Rattle.sd_command_status.specs.Outcome.{IsRefusal, IsEnding}
-use Rattle.sd_run_show.specs.Show.{card_line, line_unless, refused_card, shown_line, told_show}
+use Rattle.sd_command_files.specs.Files.{refused_card}
+use Rattle.sd_run_show.specs.Show.{card_line, line_unless, shown_line, told_show}
 
 -- the line of a card is that of its file's bytes
 line_written : (bytes : List ℕ) (card : CardFields) → IsCard card → bytes ≡ card_bytes card →

@@ -1,4 +1,3 @@
 pub mod Plain
 pub mod Cards
 pub mod Others
-pub mod Printed

@@ -1,29 +1,22 @@
 -- Public meaning: `show CARD` [this project, docs/FORMATS.md, Card].
-use Rattle.std.specs.Prelude.{ℕ, ◌+◌, ◌*◌, ◌/◌, false, List, [], ◌∷◌, ◌++◌, codes, Option, Some, None, Result, Ok, Err}
+use Rattle.std.specs.Prelude.{ℕ, ◌+◌, ◌*◌, ◌/◌, List, [], ◌∷◌, ◌++◌, codes, Option, Some, None, Result, Ok, Err}
 use Rattle.hex.specs.Hex.{encode_lower}
-use Rattle.serde_json.specs.Data.{Data, number, unsigned, string, object, member, no_members}
+use Rattle.serde_json.specs.Data.{Data, string, object, member, no_members}
 use Rattle.serde_json.specs.Written.{compact_text}
 use Rattle.sd_card.specs.declared.fault.CardFault.{CardFault}
-use Rattle.sd_card.specs.declared.fault.CardFault.TheVariants as card
 use Rattle.sd_card.specs.Faults.{height_in, leaf_in, ca_in, fault_in}
+use Rattle.sd_tables_line.specs.Lines.{num}
 use Rattle.sd_card_secrets.specs.Files.{check_in}
 use Rattle.sd_command_status.specs.declared.status.Status.{Status}
-use Rattle.sd_command_status.specs.declared.status.Status.TheVariants.{Done, BadCard, NoMemory}
+use Rattle.sd_command_status.specs.declared.status.Status.TheVariants.{BadCard}
 use Rattle.sd_command_status.specs.declared.status.LimitKind.TheVariants.{CardBytes}
 use Rattle.sd_command_status.specs.Spec.{Spec, FileArgument, Readings, within, judged, value, ◌>>=◌}
-use Rattle.sd_command_status.specs.Work.{NoSteps, Work}
-
--- the bytes of the longest card file [this project, docs/FORMATS.md, Card]
-abbrev pub most_card_bytes : ℕ
-most_card_bytes = 8192
+use Rattle.sd_command_status.specs.Work.{Work, work_of_text}
+use Rattle.sd_command_files.specs.Files.{most_card_bytes}
 
 -- the number of labels in a card at height d, the key of the whole set not among them [Naor, Naor, Lotspiech 2001, 3.2]
 abbrev pub labels_for : ℕ → ℕ
 labels_for d = d * (d + 1) / 2
-
--- a number
-abbrev pub num : ℕ → Data
-num n = number (unsigned n)
 
 -- What is shown of a card: the height, the leaf, the conditional access system and the check at the end of its file. No
 -- key and no label is among them [this project, docs/FORMATS.md, Card].
@@ -50,11 +43,6 @@ abbrev pub line_unless : Option CardFault → List ℕ → Result (List ℕ) Sta
 line_unless None line = Ok line
 line_unless (Some fault) line = Err (BadCard fault)
 
--- the status of bytes that are no card
-abbrev pub refused_card : CardFault → Status
-refused_card card.NoMemory = NoMemory
-refused_card found = BadCard found
-
 -- the line of the card that a file's bytes are
 unfoldable pub told_show : List ℕ → Result (List ℕ) Status
 told_show bytes = line_unless (fault_in bytes) (card_line bytes)
@@ -63,10 +51,6 @@ told_show bytes = line_unless (fault_in bytes) (card_line bytes)
 unfoldable pub line_of_file : ℕ → Option (List ℕ) → Spec (List ℕ)
 line_of_file word got = within word most_card_bytes CardBytes got >>= λ bytes. judged (told_show bytes)
 
--- prints a line
-abbrev pub printing : List ℕ → Work
-printing line = record { out = None; pieces = line ∷ []; ends = Done; breaks = false; steps = NoSteps }
-
 -- the work that the card's file says
 abbrev pub show_meaning : FileArgument → Readings → Spec Work
-show_meaning card given = line_of_file card.number (given card) >>= λ line. value (printing line)
+show_meaning card given = line_of_file card.number (given card) >>= λ line. value (work_of_text line)

@@ -3,17 +3,14 @@ ghost use Rattle.sd_command_status.specs.Outside.{outside, page_state, depot_sta
 ghost use Rattle.sd_command_status.specs.Reads.{JudgedOutcome, FileOutcome};
 ghost use Rattle.sd_command_status.specs.Outcome.{Implements, status_of};
 ghost use Rattle.sd_command_files.specs.Shown.{shown_word};
-ghost use Rattle.sd_run_show.specs.Show.{line_of_file, refused_card, show_meaning, told_show};
+ghost use Rattle.sd_run_show.specs.Show.{line_of_file, show_meaning, told_show};
 
 use crate::line::line_of;
-use sd_card::{Card, CardFault};
-use sd_command_files::{Word, print_text, read_bytes};
-use sd_command_status::{LimitKind, Status};
+use sd_card::Card;
+use sd_command_files::{Word, card_fault, print_text, read_card_bytes};
+use sd_command_status::Status;
 use sd_ports::{Depot, Sink};
 use std::alloc::Global;
-
-/// The most bytes of a card's file.
-pub const MOST_CARD_BYTES: usize = 8_192;
 
 /// Does `show CARD`.
 #[inline(never)]
@@ -36,7 +33,7 @@ fn read_line<D: Depot>(alloc: Global, depot: &mut D, word: Word<'_>) -> Result<S
     ensures { FileOutcome (λ line. string_bytes line) (line_of_file word.entry.number) word.entry.text.now
         (depot_state D.Depot depot.old) (depot_state D.Depot depot.new) result }
 {
-    let bytes = read_bytes(alloc, depot, word, MOST_CARD_BYTES, LimitKind::CardBytes)?;
+    let bytes = read_card_bytes(alloc, depot, word)?;
     judge_card(alloc, &bytes)
 }
 
@@ -46,16 +43,6 @@ fn judge_card(alloc: Global, bytes: &[u8]) -> Result<String, Status>
 {
     match Card::read(alloc, bytes) {
         Ok(card) => Ok(line_of(alloc, &card, bytes)?),
-        Err(fault) => Err(card_status(fault)),
-    }
-}
-
-/// The status of bytes that are no card, or for which memory ran out.
-fn card_status(fault: CardFault) -> Status
-    ensures { result ≡ refused_card fault }
-{
-    match fault {
-        CardFault::NoMemory => Status::NoMemory,
-        _ => Status::BadCard(fault),
+        Err(fault) => Err(card_fault(fault)),
     }
 }

@@ -12,4 +12,4 @@ returns-in_ok-new-in-Ok-clause-value c =
 
 pub returns-in-Err-clause-value : goal.returns-in-Err-clause-value
 returns-in-Err-clause-value c =
-    card_refused c.args.bytes.now c.in-Err.fault c.card_status.result c.card_status.ensures c.in-Err.ensures.fault
+    card_refused c.args.bytes.now c.in-Err.fault c.card_fault.result c.card_fault.ensures c.in-Err.ensures.fault

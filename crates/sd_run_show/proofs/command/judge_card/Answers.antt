@@ -11,4 +11,4 @@ returns-in_ok-line_of-in-Ok c =
 
 pub returns-in-Err : goal.returns-in-Err
 returns-in-Err c =
-    card_refused c.args.bytes.now c.in-Err.fault c.card_status.result c.card_status.ensures c.in-Err.ensures.fault
+    card_refused c.args.bytes.now c.in-Err.fault c.card_fault.result c.card_fault.ensures c.in-Err.ensures.fault

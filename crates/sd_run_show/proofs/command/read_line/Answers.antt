@@ -4,7 +4,8 @@ use Rattle.sd_command_status.specs.declared.status.LimitKind.TheVariants.{CardBy
 use Rattle.sd_command_status.specs.Outside.{depot_state}
 use Rattle.sd_command_status.specs.Spec.{within, judged}
 use Rattle.sd_command_status.proofs.Follow.{looks_first, looks_judged}
-use Rattle.sd_run_show.specs.Show.{told_show, line_of_file, most_card_bytes}
+use Rattle.sd_command_files.specs.Files.{most_card_bytes}
+use Rattle.sd_run_show.specs.Show.{told_show, line_of_file}
 use Rattle.sd_run_show.proofs.command.read_line.Goals as goal
 
 pub returns-in_err-bytes : goal.returns-in_err-bytes
@@ -13,8 +14,8 @@ returns-in_err-bytes g c =
     let p = err_from_is_err_and c.from_residual.result c.from_residual.ensures.1 in
     rw (p.1, p.2) (looks_first (λ bytes. bytes.items) (λ line. string_bytes line)
     (within c.args.word.number most_card_bytes CardBytes) (λ bytes. judged (told_show bytes)) c.args.word.text.now
-    (depot_state g.D.Depot c.args.depot.now) (depot_state g.D.Depot c.read_bytes.new.depot) c.in_err-bytes.field-0.0
-    c.in_err-bytes.ensures)
+    (depot_state g.D.Depot c.args.depot.now) (depot_state g.D.Depot c.read_card_bytes.new.depot)
+    c.in_err-bytes.field-0.0 c.in_err-bytes.ensures)
 
 pub returns : goal.returns
 unfolding line_of_file
@@ -22,5 +23,5 @@ returns g c =
     let judges = rw c.deref.ensures.value at c.judge_card.ensures in
     looks_judged (λ bytes. bytes.items) (λ line. string_bytes line)
     (within c.args.word.number most_card_bytes CardBytes) told_show c.args.word.text.now
-    (depot_state g.D.Depot c.args.depot.now) (depot_state g.D.Depot c.read_bytes.new.depot) c.in_ok-bytes.bytes
+    (depot_state g.D.Depot c.args.depot.now) (depot_state g.D.Depot c.read_card_bytes.new.depot) c.in_ok-bytes.bytes
     c.judge_card.result c.in_ok-bytes.ensures judges
