@@ -108,13 +108,10 @@ pub cover_good : (words : List (List ℕ)) (given : Readings) (good : IsGoodCove
     ≡ Ok (covering good.fields.height good.commands)
 unfolding cover_meaning
 cover_good words given good =
-    let d = good.fields.height in
+    let both : SiteBook = record { site = good.fields; commands = good.commands } in
     ordered words given (CoverOf good.site good.book) good.order
-    ∙ then_is (site_in given good.site) good.fields (λ fields. book_in given fields.height good.book >>= λ commands.
-    value (covering fields.height commands))
-    (site_good given good.site good.fields good.good_site)
-    ∙ then_is (book_in given d good.book) good.commands (λ commands. value (covering d commands))
-    (book_good given d good.book good.commands (site_low (given good.site) good.fields good.good_site) good.good_book)
+    ∙ then_is (both_meaning good.site good.book given) both (λ both. value (covering both.site.height both.commands))
+    (both_good given good.site good.book good.fields good.commands good.good_site good.good_book)
 
 pub card_good : (words : List (List ℕ)) (given : Readings) (good : IsGoodCard words given) →
     (meaning words given).result

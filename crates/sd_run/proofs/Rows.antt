@@ -149,11 +149,9 @@ receive_orderly card stream out given =
 cover_orderly : (site book : FileArgument) (given : Readings) → AreOrderly None (cover_meaning site book given).result
 unfolding cover_meaning
 cover_orderly site book given =
-    orderly_after None (site_in given site)
-    (λ fields. book_in given fields.height book >>= λ commands. value (covering fields.height commands))
-    (λ fields. orderly_after None (book_in given fields.height book)
-    (λ commands. value (covering fields.height commands))
-    (λ commands. none_made (covering fields.height commands) refl (λ refusal. absurd refusal)))
+    orderly_after None (both_meaning site book given)
+    (λ both. value (covering both.site.height both.commands))
+    (λ both. none_made (covering both.site.height both.commands) refl (λ refusal. absurd refusal))
 
 tables_orderly : (stream : FileArgument) (given : Readings) → AreOrderly None (tables_meaning stream given).result
 unfolding tables_meaning

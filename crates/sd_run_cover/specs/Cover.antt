@@ -5,7 +5,7 @@ use Rattle.sd_steiner.specs.Cover.{cover_of}
 use Rattle.sd_command_status.specs.Spec.{Spec, FileArgument, Readings, value, ◌>>=◌}
 use Rattle.sd_command_status.specs.Work.{Work}
 use Rattle.sd_command_periods.specs.Periods.{bare_end, listing}
-use Rattle.sd_command_files.specs.Files.{site_in, book_in}
+use Rattle.sd_command_files.specs.Both.{both_meaning}
 
 -- prints the sets of each period of a book for a tree of this height [Naor, Naor, Lotspiech 2001, 3.2]
 abbrev pub covering : ℕ → List Command → Work
@@ -14,6 +14,5 @@ covering d commands = listing (cover_of d) bare_end d commands
 -- the work that the two files say
 unfoldable pub cover_meaning : FileArgument → FileArgument → Readings → Spec Work
 cover_meaning site book given = do
-  fields ← site_in given site
-  commands ← book_in given fields.height book
-  value (covering fields.height commands)
+  both ← both_meaning site book given
+  value (covering both.site.height both.commands)

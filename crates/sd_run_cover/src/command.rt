@@ -1,13 +1,11 @@
 ghost use Rattle.std.specs.Prelude.{◌≡◌, ◌≢◌, ℕ};
 ghost use Rattle.sd_command_status.specs.Outside.{outside, page_state, depot_state};
-ghost use Rattle.sd_command_status.specs.Reads.{FilesOutcome};
 ghost use Rattle.sd_command_status.specs.Outcome.{Implements, status_of};
-ghost use Rattle.sd_run_cover.specs.Cover.{cover_meaning, covering};
+ghost use Rattle.sd_run_cover.specs.Cover.{cover_meaning};
 ghost use Rattle.sd_command_files.specs.Shown.{shown_word};
 
 use crate::bare::Bare;
-use sd_book::Book;
-use sd_command_files::{Word, read_book, read_site};
+use sd_command_files::{Word, read_both};
 use sd_command_periods::print_periods;
 use sd_command_status::Status;
 use sd_ports::{Depot, Sink};
@@ -27,23 +25,6 @@ pub fn cover<D: Depot, P: Sink>(
         (outside (depot_state D.Depot depot.old) (page_state P.Sink print.old) steps)
         (outside (depot_state D.Depot depot.new) (page_state P.Sink print.new) steps) (status_of result) }
 {
-    let book = book_of_site(alloc, depot, site, book)?;
+    let (_, book) = read_both(alloc, depot, site, book)?;
     print_periods(alloc, print, &book, &Bare)
-}
-
-/// The book for the tree of the site.
-#[tactic(auto, unfolding(crate::specs::Cover::cover_meaning))]
-fn book_of_site<D: Depot>(
-    alloc: Global,
-    depot: &mut D,
-    site: Word<'_>,
-    book: Word<'_>,
-) -> Result<Book, Status>
-    requires { site.number ≢ book.number }
-    ensures { FilesOutcome (λ book. covering book.height book.commands)
-        (cover_meaning (shown_word site.entry) (shown_word book.entry))
-        (depot_state D.Depot depot.old) (depot_state D.Depot depot.new) result }
-{
-    let site = read_site(alloc, depot, site)?;
-    read_book(alloc, depot, book, site.height)
 }
