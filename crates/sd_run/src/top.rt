@@ -111,7 +111,7 @@ fn follow<D: Depot, P: Sink, L: Ledger>(
     }
 }
 
-/// Runs a command with its arguments.
+/// Runs a command with its arguments. A command uses the files of the places at which its row has them.
 fn work<D: Depot, P: Sink, L: Ledger>(
     alloc: Global,
     command: Command,
@@ -125,92 +125,38 @@ fn work<D: Depot, P: Sink, L: Ledger>(
         (outside (depot_state D.Depot depot.old) (page_state P.Sink print.old) steps.old)
         (outside (depot_state D.Depot depot.new) (page_state P.Sink print.new) steps.new) (status_of result) }
 {
+    let first = row.file(1);
+    let second = row.file(2);
+    let third = row.file(3);
+    let fourth = row.file(4);
     match command {
-        Command::Accounts => sd_run_accounts::accounts(
-            alloc,
-            depot,
-            print,
-            row.file(1),
-            row.file(2),
-            row.file(3),
-        ),
-        Command::Apart => apart(
-            alloc,
-            depot,
-            print,
-            row.file(1),
-            row.file(2),
-            row.file(3),
-            row.file(4),
-        ),
-        Command::Book => sd_run_book::book(
-            alloc,
-            depot,
-            row.file(1),
-            row.file(2),
-            row.file(3),
-            row.file(4),
-        ),
-        Command::Card => card(alloc, depot, row.file(1), row.number(2), row.file(3), steps),
-        Command::Cover => cover(alloc, depot, print, row.file(1), row.file(2)),
-        Command::Field => field(
-            alloc,
-            depot,
-            print,
-            row.file(1),
-            row.file(2),
-            row.file(3),
-            steps,
-        ),
-        Command::Head => head(
-            alloc,
-            depot,
-            row.file(1),
-            row.file(2),
-            row.file(3),
-            row.file(4),
-            steps,
-        ),
-        Command::Layered => layered(alloc, depot, print, row.file(1), row.file(2), row.number(3)),
-        Command::Lcard => lcard(
-            alloc,
-            depot,
-            row.file(1),
-            row.number(2),
-            row.number(3),
-            row.file(4),
-            steps,
-        ),
-        Command::Messages => messages(alloc, depot, print, row.file(1), row.file(2)),
-        Command::Opens => opens(alloc, depot, print, row.file(1), row.file(2), row.file(3)),
-        Command::Plan => plan(
-            alloc,
-            depot,
-            print,
-            row.file(1),
-            row.file(2),
-            row.number(3),
-            row.number(4).value,
-        ),
-        Command::Receive => receive(alloc, depot, row.file(1), row.file(2), row.file(3), steps),
-        Command::Sample => sample(
-            alloc,
-            depot,
-            row.number(1).value,
-            row.number(2).value,
-            row.file(3),
-        ),
-        Command::Show => show(alloc, depot, print, row.file(1)),
-        Command::Tables => tables(alloc, depot, print, row.file(1)),
-        Command::Trace => trace(alloc, depot, print, row.file(1), row.file(2), row.file(3)),
-        Command::Trial => trial(
-            alloc,
-            depot,
-            print,
-            row.file(1),
-            row.file(2),
-            row.file(3),
-            steps,
-        ),
+        Command::Accounts => sd_run_accounts::accounts(alloc, depot, print, first, second, third),
+        Command::Apart => apart(alloc, depot, print, first, second, third, fourth),
+        Command::Book => sd_run_book::book(alloc, depot, first, second, third, fourth),
+        Command::Card => card(alloc, depot, first, row.number(2), third, steps),
+        Command::Cover => cover(alloc, depot, print, first, second),
+        Command::Field => field(alloc, depot, print, first, second, third, steps),
+        Command::Head => head(alloc, depot, first, second, third, fourth, steps),
+        Command::Layered => layered(alloc, depot, print, first, second, row.number(3)),
+        Command::Lcard => {
+            let leaf = row.number(2);
+            lcard(alloc, depot, first, leaf, row.number(3), fourth, steps)
+        }
+        Command::Messages => messages(alloc, depot, print, first, second),
+        Command::Opens => opens(alloc, depot, print, first, second, third),
+        Command::Plan => {
+            let clears = row.number(3);
+            let pids = row.number(4);
+            plan(alloc, depot, print, first, second, clears, pids.value)
+        }
+        Command::Receive => receive(alloc, depot, first, second, third, steps),
+        Command::Sample => {
+            let packets = row.number(2);
+            sample(alloc, depot, row.number(1).value, packets.value, third)
+        }
+        Command::Show => show(alloc, depot, print, first),
+        Command::Tables => tables(alloc, depot, print, first),
+        Command::Trace => trace(alloc, depot, print, first, second, third),
+        Command::Trial => trial(alloc, depot, print, first, second, third, steps),
     }
 }
