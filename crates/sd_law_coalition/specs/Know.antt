@@ -2,6 +2,7 @@
 -- names and not of bytes.
 use Rattle.std.specs.Prelude.{◌≡◌, ℕ, ◌≤◌, ◌/◌, min, List, Contains, Any}
 use Rattle.std.specs.List.{flat_map}
+use Rattle.sd_spec_types.specs.Types.{Height, Leaves, PeriodNumber, WordNumber}
 use Rattle.sd_tree.specs.declared.set.SetName.{SetName}
 use Rattle.sd_label.specs.Names.{given}
 use Rattle.sd_book.specs.declared.command.Command.{Command}
@@ -12,27 +13,27 @@ use Rattle.sd_reach.specs.Reach.{Secret, Key, IsGeneratorStep, IsHeld}
 
 -- what counts of a broadcast: the tree's height, how many crypto periods a period has, and the commands of its book
 pub record Service : Type 0 where
-  pub height : ℕ
+  pub height : Height
   pub span : ℕ
   pub commands : List Command
 
 -- what may be known, by its name: a secret of the tree, the key of a period, the control word of a crypto period
 pub data Knowable : Type 0 where
   OfTree : Secret → Knowable
-  PeriodKey : ℕ → Knowable
-  ControlWord : ℕ → Knowable
+  PeriodKey : PeriodNumber → Knowable
+  ControlWord : WordNumber → Knowable
 
 -- the period of crypto period t of a broadcast that counts its control words and periods from 0: the last one goes on
 -- to the end [this project, docs/FORMATS.md, Broadcast]
-abbrev pub period_of_word : Service → ℕ → ℕ
+abbrev pub period_of_word : Service → WordNumber → PeriodNumber
 period_of_word service t = min (t / service.span) (last_period service.commands)
 
 -- the leaves that are revoked in period q
-abbrev pub revoked_at : Service → ℕ → List ℕ
+abbrev pub revoked_at : Service → PeriodNumber → Leaves
 revoked_at service q = revoked service.height service.commands q
 
 -- the sets of period q: the cover of the leaves that are revoked in it [Naor, Naor, Lotspiech 2001, 3.2]
-unfoldable pub service_sets : Service → ℕ → List SetName
+unfoldable pub service_sets : Service → PeriodNumber → List SetName
 service_sets service q = cover_of service.height (revoked_at service q)
 
 -- the second is made from the first: by the generator; a period's key from the key of one of its sets, under which it
@@ -40,31 +41,33 @@ service_sets service q = cover_of service.height (revoked_at service q)
 -- docs/FORMATS.md, Messages]
 pub data IsKnowledgeStep (service : Service) : Knowable → Knowable → Type 0 where
   generated : {from to : Secret} → IsGeneratorStep from to → IsKnowledgeStep service (OfTree from) (OfTree to)
-  entitled : {name : SetName} {q : ℕ} → q ≤ last_period service.commands → Contains (service_sets service q) name
+  entitled : {name : SetName} {q : PeriodNumber} → q ≤ last_period service.commands →
+      Contains (service_sets service q) name
       → IsKnowledgeStep service (OfTree (Key name)) (PeriodKey q)
-  controlled : {q t : ℕ} → period_of_word service t ≡ q → IsKnowledgeStep service (PeriodKey q) (ControlWord t)
+  controlled : {q : PeriodNumber} {t : WordNumber} → period_of_word service t ≡ q →
+      IsKnowledgeStep service (PeriodKey q) (ControlWord t)
 
 -- what the cards of a coalition hold together: the secrets of all names of its leaves [Naor, Naor, Lotspiech 2001, 3.2]
-abbrev pub IsPooled : ℕ → List ℕ → Knowable → Type 0
+abbrev pub IsPooled : Height → Leaves → Knowable → Type 0
 IsPooled d coalition (OfTree secret) = IsHeld (flat_map (given d) coalition) secret
 IsPooled d coalition (PeriodKey q) = ⊥
 IsPooled d coalition (ControlWord t) = ⊥
 
 -- the coalition knows it: some derivation from what its cards hold together ends with it, by the messages of all
 -- periods of the one book
-unfoldable pub IsKnown : Service → List ℕ → Knowable → Type 0
+unfoldable pub IsKnown : Service → Leaves → Knowable → Type 0
 IsKnown service coalition item = IsDerived (IsPooled service.height coalition) (IsKnowledgeStep service) item
 
 -- some leaf of the coalition isn't revoked in period q
-abbrev pub HasUnrevoked : Service → List ℕ → ℕ → Type 0
+abbrev pub HasUnrevoked : Service → Leaves → PeriodNumber → Type 0
 HasUnrevoked service coalition q = Any (λ u. ¬ Contains (revoked_at service q) u) coalition
 
 -- the key of period q and the control word of each crypto period of it are known
-pub record KnowsPeriod (service : Service) (coalition : List ℕ) (q : ℕ) : Type 0 where
+pub record KnowsPeriod (service : Service) (coalition : Leaves) (q : PeriodNumber) : Type 0 where
   pub key : IsKnown service coalition (PeriodKey q)
-  pub words : (t : ℕ) → period_of_word service t ≡ q → IsKnown service coalition (ControlWord t)
+  pub words : (t : WordNumber) → period_of_word service t ≡ q → IsKnown service coalition (ControlWord t)
 
 -- neither the key of period q nor the control word of any crypto period of it is known
-pub record KnowsNothingOf (service : Service) (coalition : List ℕ) (q : ℕ) : Type 0 where
+pub record KnowsNothingOf (service : Service) (coalition : Leaves) (q : PeriodNumber) : Type 0 where
   pub key : ¬ IsKnown service coalition (PeriodKey q)
-  pub words : (t : ℕ) → period_of_word service t ≡ q → ¬ IsKnown service coalition (ControlWord t)
+  pub words : (t : WordNumber) → period_of_word service t ≡ q → ¬ IsKnown service coalition (ControlWord t)

@@ -1,0 +1,2 @@
+//! What the lists and numbers in signatures of definitions are.
+#![tactic(auto)]
