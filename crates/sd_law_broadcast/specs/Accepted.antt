@@ -1,5 +1,6 @@
 -- Public meaning: what the head end knows of a packet that it takes.
-use Rattle.std.specs.Prelude.{◌≡◌, ◌≢◌, ℕ, ◌-◌, ◌^◌, ◌≤◌, false, List, length, None}
+use Rattle.std.specs.Prelude.{◌≡◌, ◌≢◌, ◌-◌, ◌^◌, ◌≤◌, false, length, None}
+use Rattle.sd_spec_types.specs.Types.{Packet, Packets}
 use Rattle.sd_packet.specs.Header.{pid_of, scrambling_of}
 use Rattle.sd_site.specs.Fields.{SiteFields}
 use Rattle.sd_spec_broadcast.specs.Plan.{word_of}
@@ -7,7 +8,7 @@ use Rattle.sd_spec_broadcast.specs.Kinds.{kind_of}
 use Rattle.sd_spec_broadcast.specs.Refused.{is_reserved_pid, pat_wrong, is_full_own, is_one_too_many}
 
 -- no rule on clear packets is broken by one after these [this project, docs/FORMATS.md, Broadcast]
-pub record IsAccepted (site : SiteFields) (before : List (List ℕ)) (packet : List ℕ) : Type 0 where
+pub record IsAccepted (site : SiteFields) (before : Packets) (packet : Packet) : Type 0 where
   pub clear : scrambling_of packet ≡ 0
   pub untaken : is_reserved_pid site (pid_of packet) ≡ false
   pub pat : pat_wrong packet ≡ None

@@ -1,12 +1,12 @@
 -- Public meaning: a site that may use other control words.
-use Rattle.std.specs.Prelude.{ℕ}
+use Rattle.sd_spec_types.specs.Types.{WordNumber}
 use Rattle.sd_site.specs.Fields.{SiteFields}
 use Rattle.sd_spec_broadcast.specs.Plan.{Plan}
 
 -- the site with x for its last control word
-abbrev pub up_to : ℕ → SiteFields → SiteFields
+abbrev pub up_to : WordNumber → SiteFields → SiteFields
 up_to x site = record site { last_word = x }
 
 -- the plan with that site
-abbrev pub plan_up_to : ℕ → Plan → Plan
+abbrev pub plan_up_to : WordNumber → Plan → Plan
 plan_up_to x plan = record plan { site = up_to x plan.site }

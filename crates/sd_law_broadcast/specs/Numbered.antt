@@ -1,12 +1,13 @@
 -- Public meaning: the control messages of a broadcast by their numbers.
-use Rattle.std.specs.Prelude.{ℕ, ◌-◌, ◌*◌, true, false, nat_lt, List, length, take, if◌then◌else◌}
+use Rattle.std.specs.Prelude.{◌-◌, ◌*◌, true, false, nat_lt, length, take, if◌then◌else◌}
+use Rattle.sd_spec_types.specs.Types.{Packets, MessageNumber}
 use Rattle.sd_ecm.specs.Parts.{Message}
 use Rattle.sd_spec_broadcast.specs.Plan.{Plan, closing_number}
 use Rattle.sd_spec_broadcast.specs.Messages.{message_at}
 
 -- control message a of a clear stream: the one before its packet a e, or the closing one
 -- [this project, docs/FORMATS.md, Broadcast]
-unfoldable pub numbered : Plan → List (List ℕ) → ℕ → Message
+unfoldable pub numbered : Plan → Packets → MessageNumber → Message
 numbered plan clear a =
     if nat_lt a (closing_number plan.site (length clear))
     then message_at plan (take (a * plan.site.every) clear) a (a * plan.site.every) false

@@ -1,7 +1,9 @@
 //! What is known of what a broadcast sends.
 
-ghost use Rattle.std.specs.Prelude.{◌≡◌, ◌+◌, ◌-◌, ◌*◌, ◌/◌, ◌%◌, ◌^◌, ◌<◌, ◌≤◌, ◌++◌, ◌∷◌, [], ℕ, Bool, List, None};
+ghost use Rattle.std.specs.Prelude.{◌≡◌, ◌+◌, ◌-◌, ◌*◌, ◌/◌, ◌%◌, ◌^◌, ◌<◌, ◌≤◌, ◌++◌, ◌∷◌, [], ℕ, Bool, None};
 ghost use Rattle.std.specs.Prelude.{◌≢◌, true, false, All, Contains, drop, get_or, length, take};
+ghost use Rattle.sd_spec_types.specs.Types.{Packet, Packets, Pid, Position, PeriodNumber, WordNumber, PacketNumber};
+ghost use Rattle.sd_spec_types.specs.Types.{MessageNumber};
 ghost use Rattle.sd_tree.specs.Leaves.{is_member};
 ghost use Rattle.sd_packet.specs.Header.{pid_of, scrambling_of};
 ghost use Rattle.sd_packet.specs.Positions.{is_placed, moved};
@@ -35,48 +37,48 @@ ghost use Rattle.sd_law_broadcast.specs.Headers.{control_in, IsCarriedWith};
 /// The first packets of a clear stream are a clear stream, which goes on as long as no packet is refused; a packet that
 /// is not refused breaks no rule.
 pub fn clear_streams_go_on()
-    ensures prefix { (site : SiteFields) (xs ys : List (List ℕ)) → IsClear site (xs ++ ys) → IsClear site xs }
-    ensures first { (site : SiteFields) (clear : List (List ℕ)) (k : ℕ) → IsClear site clear → IsClear site
+    ensures prefix { (site : SiteFields) (xs ys : Packets) → IsClear site (xs ++ ys) → IsClear site xs }
+    ensures first { (site : SiteFields) (clear : Packets) (k : PacketNumber) → IsClear site clear → IsClear site
         (take k clear) }
-    ensures next { (site : SiteFields) (before : List (List ℕ)) (packet : List ℕ) →
+    ensures next { (site : SiteFields) (before : Packets) (packet : Packet) →
         IsClear site (before ++ packet ∷ []) → refusal_of site before packet ≡ None }
-    ensures more { (site : SiteFields) (before : List (List ℕ)) (packet : List ℕ) → IsClear site before →
+    ensures more { (site : SiteFields) (before : Packets) (packet : Packet) → IsClear site before →
         refusal_of site before packet ≡ None → IsClear site (before ++ packet ∷ []) }
-    ensures each { (site : SiteFields) (clear : List (List ℕ)) (k : ℕ) → IsClear site clear → k < length clear →
+    ensures each { (site : SiteFields) (clear : Packets) (k : PacketNumber) → IsClear site clear → k < length clear →
         refusal_of site (take k clear) (get_or clear k []) ≡ None }
-    ensures rules { (site : SiteFields) (before : List (List ℕ)) (packet : List ℕ) →
+    ensures rules { (site : SiteFields) (before : Packets) (packet : Packet) →
         refusal_of site before packet ≡ None → IsAccepted site before packet }
 {}
 
 /// A clear stream has fewer than 2^32 packets, no more than 256 PIDs with positions that moved, and no control word
 /// above the site's last.
 pub fn clear_streams_are_bounded()
-    ensures packets { (site : SiteFields) (clear : List (List ℕ)) → IsClear site clear → length clear < 2 ^ 32 }
-    ensures pids { (site : SiteFields) (clear : List (List ℕ)) → IsClear site clear →
+    ensures packets { (site : SiteFields) (clear : Packets) → IsClear site clear → length clear < 2 ^ 32 }
+    ensures pids { (site : SiteFields) (clear : Packets) → IsClear site clear →
         length (moved_pids clear) ≤ most_places }
-    ensures words { (site : SiteFields) (clear : List (List ℕ)) (k : ℕ) → IsClear site clear → k < length clear →
+    ensures words { (site : SiteFields) (clear : Packets) (k : PacketNumber) → IsClear site clear → k < length clear →
         word_of site k ≤ site.last_word }
 {}
 
 /// The entitlements of each period below 2^32 are a period's, and their sets may stand at the site's height; each
 /// packet is of such a period.
 pub fn periods_fit()
-    ensures form { (plan : Plan) (q : ℕ) → IsPlan plan → q < 2 ^ 32 → IsPeriod (period_at plan q) }
-    ensures sets { (plan : Plan) (q : ℕ) → IsPlan plan →
+    ensures form { (plan : Plan) (q : PeriodNumber) → IsPlan plan → q < 2 ^ 32 → IsPeriod (period_at plan q) }
+    ensures sets { (plan : Plan) (q : PeriodNumber) → IsPlan plan →
         AreSets plan.site.height (length (period_at plan q).entries) (period_at plan q).entries }
-    ensures fits { (plan : Plan) (k : ℕ) → IsPlan plan → period_of plan k < 2 ^ 32 }
+    ensures fits { (plan : Plan) (k : PacketNumber) → IsPlan plan → period_of plan k < 2 ^ 32 }
 {}
 
 /// The control messages of a clear stream are messages, with at most 256 positions: whatever their numbers and those of
 /// their control words below 2^32, and so those before packets and the closing one.
 pub fn messages_fit()
-    ensures any { (plan : Plan) (before : List (List ℕ)) (a k : ℕ) (closing : Bool) → IsPlan plan →
-        IsClear plan.site before → a < 2 ^ 32 → word_of plan.site k < 2 ^ 32 →
+    ensures any { (plan : Plan) (before : Packets) (a : MessageNumber) (k : PacketNumber) (closing : Bool) →
+        IsPlan plan → IsClear plan.site before → a < 2 ^ 32 → word_of plan.site k < 2 ^ 32 →
         IsMessage (message_at plan before a k closing) }
-    ensures before { (plan : Plan) (before : List (List ℕ)) → IsPlan plan → IsClear plan.site before →
+    ensures before { (plan : Plan) (before : Packets) → IsPlan plan → IsClear plan.site before →
         word_of plan.site (length before) < 2 ^ 32 →
         IsMessage (message_at plan before (length before / plan.site.every) (length before) false) }
-    ensures closing { (plan : Plan) (clear : List (List ℕ)) → IsPlan plan → IsClear plan.site clear →
+    ensures closing { (plan : Plan) (clear : Packets) → IsPlan plan → IsClear plan.site clear →
         IsMessage (message_at plan clear (closing_number plan.site (length clear)) (length clear - 1) true) }
 {}
 
@@ -84,66 +86,67 @@ pub fn messages_fit()
 /// disjoint sets that have just the leaves that are entitled in the period, one set where none is revoked and at most
 /// 2r - 1 where r are. No revoked leaf is in one of them, or reaches a label or the key of one.
 pub fn covers_are_named()
-    ensures { (plan : Plan) (clear : List (List ℕ)) (q : ℕ) → IsPlan plan → IsClear plan.site clear →
+    ensures { (plan : Plan) (clear : Packets) (q : PeriodNumber) → IsPlan plan → IsClear plan.site clear →
         AreLong clear → plan.site.first_period ≤ q → q ≤ period_of plan (length clear - 1) →
         NamesPeriod plan q (sets_named plan.site.height plan.site.emm q (broadcast plan clear)) }
 {}
 
 /// Each period from the site's first up to that of a packet is the one of a packet up to it.
 pub fn periods_are_reached()
-    ensures { (plan : Plan) (k q : ℕ) → AreInRange plan.site → plan.site.first_period ≤ q → q ≤ period_of plan k →
-        (j : ℕ) × (j ≤ k) × (period_of plan j ≡ q) }
+    ensures { (plan : Plan) (k : PacketNumber) (q : PeriodNumber) → AreInRange plan.site → plan.site.first_period ≤ q →
+        q ≤ period_of plan k → (j : PacketNumber) × (j ≤ k) × (period_of plan j ≡ q) }
 {}
 
 /// The control messages of a broadcast by their numbers: the one before each e-th packet, and the closing one; each
 /// part that is sent is of one of them. Each tells from which number on its control word holds.
 pub fn messages_are_numbered()
-    ensures at { (plan : Plan) (clear : List (List ℕ)) (k : ℕ) → AreInRange plan.site → k < length clear →
+    ensures at { (plan : Plan) (clear : Packets) (k : PacketNumber) → AreInRange plan.site → k < length clear →
         k % plan.site.every ≡ 0 →
         message_at plan (take k clear) (k / plan.site.every) k false ≡ numbered plan clear (k / plan.site.every) }
-    ensures before { (plan : Plan) (clear : List (List ℕ)) (a : ℕ) → a < closing_number plan.site (length clear) →
+    ensures before { (plan : Plan) (clear : Packets) (a : MessageNumber) → a < closing_number plan.site (length clear) →
         numbered plan clear a ≡ message_at plan (take (a * plan.site.every) clear) a (a * plan.site.every) false }
-    ensures closing { (plan : Plan) (clear : List (List ℕ)) →
+    ensures closing { (plan : Plan) (clear : Packets) →
         numbered plan clear (closing_number plan.site (length clear))
         ≡ message_at plan clear (closing_number plan.site (length clear)) (length clear - 1) true }
-    ensures number { (plan : Plan) (clear : List (List ℕ)) (a : ℕ) → (numbered plan clear a).number ≡ a }
-    ensures since { (plan : Plan) (clear : List (List ℕ)) (a : ℕ) →
+    ensures number { (plan : Plan) (clear : Packets) (a : MessageNumber) → (numbered plan clear a).number ≡ a }
+    ensures since { (plan : Plan) (clear : Packets) (a : MessageNumber) →
         (numbered plan clear a).since ≡ since_of plan.site.messages plan.site.cryptos a }
-    ensures fits { (plan : Plan) (clear : List (List ℕ)) (a : ℕ) → IsPlan plan → IsClear plan.site clear →
+    ensures fits { (plan : Plan) (clear : Packets) (a : MessageNumber) → IsPlan plan → IsClear plan.site clear →
         a ≤ closing_number plan.site (length clear) → IsMessage (numbered plan clear a) }
-    ensures parts { (plan : Plan) (clear : List (List ℕ)) (one : EcmPart) → AreInRange plan.site →
+    ensures parts { (plan : Plan) (clear : Packets) (one : EcmPart) → AreInRange plan.site →
         IsOfBroadcast plan clear (Controls one) →
-        (a : ℕ) × (a ≤ closing_number plan.site (length clear)) × Contains (parts_of (numbered plan clear a)) one }
+        (a : MessageNumber) × (a ≤ closing_number plan.site (length clear)) ×
+        Contains (parts_of (numbered plan clear a)) one }
 {}
 
 /// What is sent from a packet on is the CAT, sections of its period or later ones, parts of messages that stand before
 /// it or later packets, the closing message, and it and later packets.
 pub fn what_is_sent_comes_in_order()
-    ensures { (plan : Plan) (clear : List (List ℕ)) (k : ℕ) → k ≤ length clear →
+    ensures { (plan : Plan) (clear : Packets) (k : PacketNumber) → k ≤ length clear →
         All (IsOfRest plan clear k) (sent_from plan (take k clear) (drop k clear) ++ closing_of plan clear) }
 {}
 
 /// The last word that a site may use is in no packet that is sent. A clear stream is one of the same site with another
 /// last word, if none of its packets has a word above that.
 pub fn last_word_is_a_bound()
-    ensures sent { (plan : Plan) (clear : List (List ℕ)) (x : ℕ) →
+    ensures sent { (plan : Plan) (clear : Packets) (x : WordNumber) →
         broadcast (plan_up_to x plan) clear ≡ broadcast plan clear }
-    ensures fewer_words { (site : SiteFields) (clear : List (List ℕ)) (x : ℕ) → IsClear site clear →
-        ((k : ℕ) → k < length clear → word_of site k ≤ x) → IsClear (up_to x site) clear }
+    ensures fewer_words { (site : SiteFields) (clear : Packets) (x : WordNumber) → IsClear site clear →
+        ((k : PacketNumber) → k < length clear → word_of site k ≤ x) → IsClear (up_to x site) clear }
 {}
 
 /// A clear packet is carried under its own header but for transport_scrambling_control, which tells whether it is
 /// scrambled and under which control word. So it moves positions as it did.
 pub fn headers_are_carried()
-    ensures pid { (site : SiteFields) (before : List (List ℕ)) (packet : List ℕ) → length packet ≡ 188 →
+    ensures pid { (site : SiteFields) (before : Packets) (packet : Packet) → length packet ≡ 188 →
         pid_of (carried site before packet) ≡ pid_of packet }
-    ensures header { (site : SiteFields) (before : List (List ℕ)) (packet : List ℕ) → IsWholePacket packet →
+    ensures header { (site : SiteFields) (before : Packets) (packet : Packet) → IsWholePacket packet →
         scrambling_of packet ≡ 0 →
         IsCarriedWith (control_in (kind_of before packet) (word_of site (length before))) packet
         (carried site before packet) }
-    ensures moved { (control pid position : ℕ) (old new : List ℕ) → IsCarriedWith control old new →
+    ensures moved { (control : ℕ) (pid : Pid) (position : Position) (old new : Packet) → IsCarriedWith control old new →
         moved pid position new ≡ moved pid position old }
-    ensures placed { (before : List (List ℕ)) (packet : List ℕ) → kind_of before packet ≢ Passed →
+    ensures placed { (before : Packets) (packet : Packet) → kind_of before packet ≢ Passed →
         is_placed packet ≡ true }
 {}
 
@@ -151,8 +154,8 @@ pub fn headers_are_carried()
 /// control word in version 3, and not at all in versions 1 and 2.
 #[tactic(auto, using(crate::proofs::Runs::section_names, crate::proofs::Runs::part_names))]
 pub fn messages_name_their_run()
-    ensures sections { (plan : Plan) (clear : List (List ℕ)) (emm : Emm) → IsOfBroadcast plan clear (Entitles emm) →
+    ensures sections { (plan : Plan) (clear : Packets) (emm : Emm) → IsOfBroadcast plan clear (Entitles emm) →
         emm.run ≡ run_name_of plan.site }
-    ensures parts { (plan : Plan) (clear : List (List ℕ)) (part : EcmPart) → IsOfBroadcast plan clear (Controls part) →
+    ensures parts { (plan : Plan) (clear : Packets) (part : EcmPart) → IsOfBroadcast plan clear (Controls part) →
         part.run ≡ run_name_of plan.site }
 {}

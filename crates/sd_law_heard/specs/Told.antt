@@ -1,5 +1,5 @@
 -- Public meaning: what a receiver hears of the things that are sent.
-use Rattle.std.specs.Prelude.{ℕ}
+use Rattle.sd_spec_types.specs.Types.{PacketNumber}
 use Rattle.sd_site.specs.Fields.{SiteFields}
 use Rattle.sd_spec_broadcast.specs.Sent.{Item, Cat, Entitles as SendsEmm, Controls as SendsEcm, Carries}
 use Rattle.sd_spec_receiver.specs.Tuned.{Tuning}
@@ -10,7 +10,7 @@ abbrev pub tuning_to : SiteFields → Tuning
 tuning_to site = record { emm = site.emm; ecm = site.ecm }
 
 -- what a receiver hears of a thing that comes as packet n [this project, docs/FORMATS.md, Receiver]
-abbrev pub heard_of : ℕ → Item → Heard
+abbrev pub heard_of : PacketNumber → Item → Heard
 heard_of n Cat = Dropped
 heard_of n (SendsEmm emm) = Entitles emm
 heard_of n (SendsEcm part) = Controls part

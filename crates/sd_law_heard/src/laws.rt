@@ -3,6 +3,7 @@
 ghost use Rattle.std.specs.Prelude.{◌≡◌, ◌≢◌, ◌^◌, ◌<◌, ◌≤◌, ◌++◌, ◌∷◌, ℕ, List, Some, None, true, false};
 ghost use Rattle.std.specs.Prelude.{All, Contains, length, take, reverse, if◌then◌else◌};
 ghost use Rattle.std.specs.List.{list_any};
+ghost use Rattle.sd_spec_types.specs.Types.{Packet, Packets, LeafNumber, PeriodNumber, PacketNumber, MessageNumber};
 ghost use Rattle.sd_tree.specs.Leaves.{is_member};
 ghost use Rattle.sd_label.specs.Keys.{period_key_of, control_word_of, check_value_of};
 ghost use Rattle.sd_card.specs.Fields.{card_of};
@@ -35,7 +36,7 @@ ghost use Rattle.sd_law_heard.specs.Parts.{IsPartBetween};
 
 /// A later control message of a broadcast never goes back before an earlier one.
 pub fn messages_never_back()
-    ensures { (plan : Plan) (clear : List (List ℕ)) (a b : ℕ) → IsPlan plan → a < b →
+    ensures { (plan : Plan) (clear : Packets) (a b : MessageNumber) → IsPlan plan → a < b →
         b ≤ closing_number plan.site (length clear) →
         is_before (numbered plan clear b) (numbered plan clear a) ≡ false }
 {}
@@ -54,16 +55,17 @@ pub fn parts_are_right()
 
 /// A control message has the control word of its number under the key of its period, and that word's check value.
 pub fn words_are_due()
-    ensures word { (plan : Plan) (clear : List (List ℕ)) (a : ℕ) →
+    ensures word { (plan : Plan) (clear : Packets) (a : MessageNumber) →
         under (period_key_of plan.site.master (numbered plan clear a).period) (numbered plan clear a).word
         (numbered plan clear a).wrapped ≡ control_word_of plan.site.master (numbered plan clear a).word }
-    ensures check { (plan : Plan) (clear : List (List ℕ)) (a : ℕ) →
+    ensures check { (plan : Plan) (clear : Packets) (a : MessageNumber) →
         (numbered plan clear a).check ≡ check_value_of (control_word_of plan.site.master (numbered plan clear a).word) }
 {}
 
 /// All sections of a period have its number and agree on it.
 pub fn sections_say_same()
-    ensures period { (plan : Plan) (q : ℕ) (emm : Emm) → Contains (emms_of (period_at plan q)) emm → emm.period ≡ q }
+    ensures period { (plan : Plan) (q : PeriodNumber) (emm : Emm) → Contains (emms_of (period_at plan q)) emm →
+        emm.period ≡ q }
     ensures two { (period : Period) (a b : Emm) → Contains (emms_of period) a → Contains (emms_of period) b →
         says_same a b ≡ true }
     ensures mixed { (period : Period) (emm : Emm) (sections : List Emm) → Contains (emms_of period) emm →
@@ -73,12 +75,12 @@ pub fn sections_say_same()
 /// A section of a period gives the card of a leaf the period's key if one of its sets has the leaf, and else nothing.
 /// It has that key's check value.
 pub fn keys_are_due()
-    ensures key { (plan : Plan) (q u : ℕ) (emm : Emm) → IsPlan plan → u < 2 ^ plan.site.height →
-        Contains (emms_of (period_at plan q)) emm →
+    ensures key { (plan : Plan) (q : PeriodNumber) (u : LeafNumber) (emm : Emm) → IsPlan plan →
+        u < 2 ^ plan.site.height → Contains (emms_of (period_at plan q)) emm →
         key_from (card_of plan.site.master plan.site.ca plan.site.height u) emm ≡
         (if list_any (λ entry. is_member plan.site.height entry.name u) (listed_entries emm)
         then Some (period_key_of plan.site.master q) else None) }
-    ensures check { (plan : Plan) (q : ℕ) (emm : Emm) → Contains (emms_of (period_at plan q)) emm →
+    ensures check { (plan : Plan) (q : PeriodNumber) (emm : Emm) → Contains (emms_of (period_at plan q)) emm →
         emm.check ≡ check_value_of (period_key_of plan.site.master q) }
 {}
 
@@ -86,14 +88,14 @@ pub fn keys_are_due()
 pub fn cat_is_taken()
     ensures cat { (plan : Plan) (earlier : List Item) → IsPlan plan →
         cat_tuning plan.site.ca (packet_of plan.site earlier Cat) ≡ Some (tuning_to plan.site) }
-    ensures other { (plan : Plan) (clear : List (List ℕ)) (earlier : List Item) (item : Item) → IsPlan plan →
+    ensures other { (plan : Plan) (clear : Packets) (earlier : List Item) (item : Item) → IsPlan plan →
         IsClear plan.site clear → AreLong clear → IsOfBroadcast plan clear item → is_alike Cat item ≡ false →
         cat_tuning plan.site.ca (packet_of plan.site earlier item) ≡ None }
 {}
 
 /// After the CAT is taken, a receiver hears each thing as what was sent.
 pub fn items_are_heard()
-    ensures { (plan : Plan) (clear : List (List ℕ)) (earlier : List Item) (n : ℕ) (item : Item) → IsPlan plan →
+    ensures { (plan : Plan) (clear : Packets) (earlier : List Item) (n : PacketNumber) (item : Item) → IsPlan plan →
         IsClear plan.site clear → AreLong clear → IsOfBroadcast plan clear item →
         hears plan.site.height (tuning_to plan.site) n (packet_of plan.site earlier item) ≡ heard_of n item }
 {}
@@ -101,10 +103,10 @@ pub fn items_are_heard()
 /// A packet that was carried is what it was: a clear one without the project's descriptor, and a scrambled one under
 /// its control word at its own position.
 pub fn carried_packets_come_back()
-    ensures clear { (site : SiteFields) (before : List (List ℕ)) (packet : List ℕ) (segment : Segment) →
+    ensures clear { (site : SiteFields) (before : Packets) (packet : Packet) (segment : Segment) →
         IsWholePacket packet → refusal_of site before packet ≡ None → segment.ca ≡ site.ca → segment.ecm ≡ site.ecm →
         kind_of before packet ≢ Scrambled → unmarked segment (carried site before packet) ≡ packet }
-    ensures scrambled { (site : SiteFields) (before : List (List ℕ)) (packet : List ℕ) → IsWholePacket packet →
+    ensures scrambled { (site : SiteFields) (before : Packets) (packet : Packet) → IsWholePacket packet →
         refusal_of site before packet ≡ None → kind_of before packet ≡ Scrambled →
         descrambled (carried site before packet) (control_word_of site.master (word_of site (length before)))
         (place_after before packet) ≡ packet }

@@ -1,6 +1,7 @@
 -- Public meaning: what a broadcast lays keystreams over.
 use Rattle.std.specs.Prelude.{ℕ, List, [], ◌∷◌, Bool, true, false, take, map, if◌then◌else◌}
 use Rattle.std.specs.List.{flat_map}
+use Rattle.sd_spec_types.specs.Types.{Bytes, Key, PeriodNumber, WordNumber, PacketNumber}
 use Rattle.sd_tree.specs.declared.set.SetName.{SetName}
 use Rattle.sd_packet.specs.Header.{pid_of, payload_of}
 use Rattle.sd_label.specs.Keys.{key_of, period_key_of, control_word_of}
@@ -18,11 +19,11 @@ use Rattle.sd_law_several.specs.Runs.{Run, sent_by, run_packet, is_veiled}
 -- the name of a key: that of a set, of a period, or a control word by its number
 pub data KeyName : Type 0 where
   SetKey : SetName → KeyName
-  PeriodKey : ℕ → KeyName
-  Word : ℕ → KeyName
+  PeriodKey : PeriodNumber → KeyName
+  Word : WordNumber → KeyName
 
 -- the key itself [this project, docs/FORMATS.md, Keys and labels]
-abbrev pub key_bytes : List ℕ → KeyName → List ℕ
+abbrev pub key_bytes : Key → KeyName → Key
 key_bytes master (SetKey name) = key_of master name
 key_bytes master (PeriodKey q) = period_key_of master q
 key_bytes master (Word t) = control_word_of master t
@@ -37,14 +38,14 @@ is_for_keys (Word t) = false
 pub record Pad : Type 0 where
   pub key : KeyName
   pub number : ℕ
-  pub text : List ℕ
+  pub text : Bytes
 
 -- the text of the pad XORed with the first n bytes of its keystream [this project, docs/FORMATS.md, Keystream]
-abbrev pub under_keystream : List ℕ → Pad → ℕ → List ℕ
+abbrev pub under_keystream : Key → Pad → ℕ → Bytes
 under_keystream master pad n = xored pad.text (keystream (key_bytes master pad.key) pad.number n)
 
 -- the stream number of clear packet k: its PID, and its position [this project, docs/FORMATS.md, Keystream]
-unfoldable pub number_at : Run → ℕ → ℕ
+unfoldable pub number_at : Run → PacketNumber → ℕ
 number_at run k = stream_number (pid_of (run_packet run k)) (place_after (take k run.clear) (run_packet run k))
 
 -- a set's entry: the period's key under the key of the set [this project, docs/FORMATS.md, Messages]
@@ -61,7 +62,7 @@ part_pad run part = record {
 }
 
 -- clear packet k: its payload under its control word [this project, docs/FORMATS.md, Keystream]
-abbrev pub payload_pad : Run → ℕ → Pad
+abbrev pub payload_pad : Run → PacketNumber → Pad
 payload_pad run k = record {
   key = Word (word_of run.plan.site k);
   number = number_at run k;

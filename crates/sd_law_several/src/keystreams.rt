@@ -1,6 +1,7 @@
 //! No keystream is used twice, in one broadcast or in several of one master.
 
 ghost use Rattle.std.specs.Prelude.{◌≡◌, ◌⊎◌, ◌<◌, ◌↔◌, ℕ, true, false, List, Some, All, Contains, length, slice_get};
+ghost use Rattle.sd_spec_types.specs.Types.{Packet, Key, PacketNumber};
 ghost use Rattle.sd_packet.specs.Header.{payload_of};
 ghost use Rattle.sd_emm.specs.Spelled.{listed_entries};
 ghost use Rattle.sd_emm.specs.declared.emm.Emm.{Emm};
@@ -26,11 +27,11 @@ pub fn texts_lie_under_their_keystreams()
         entry.wrapped ≡ under_keystream run.plan.site.master (entry_pad run emm entry) 32 }
     ensures parts { (run : Run) (part : EcmPart) → IsOfBroadcast run.plan run.clear (Controls part) →
         part.wrapped ≡ under_keystream run.plan.site.master (part_pad run part) 32 }
-    ensures payloads { (run : Run) (k : ℕ) (packet : List ℕ) → AreWholePackets run.clear →
+    ensures payloads { (run : Run) (k : PacketNumber) (packet : Packet) → AreWholePackets run.clear →
         IsOfBroadcast run.plan run.clear (Carries k packet) → is_veiled run k ≡ true →
         payload_of packet ≡ under_keystream run.plan.site.master (payload_pad run k) 184 }
-    ensures others { (run : Run) (k : ℕ) (packet : List ℕ) → IsOfBroadcast run.plan run.clear (Carries k packet) →
-        is_veiled run k ≡ false →
+    ensures others { (run : Run) (k : PacketNumber) (packet : Packet) →
+        IsOfBroadcast run.plan run.clear (Carries k packet) → is_veiled run k ≡ false →
         (packet ≡ run_packet run k) ⊎ (packet ≡ pmt_carried run.plan.site (run_packet run k)) }
     ensures pads { (run : Run) (pad : Pad) → Contains (pads_of run) pad ↔
         ((item : Item) × Contains (sent_by run) item × Contains (pads_in run item) pad) }
@@ -41,7 +42,7 @@ pub fn texts_lie_under_their_keystreams()
 pub fn a_broadcast_repeats_no_keystream()
     ensures texts { (run : Run) (x y : Pad) → IsClear run.plan.site run.clear → Contains (pads_of run) x →
         Contains (pads_of run) y → x.key ≡ y.key → x.number ≡ y.number → x.text ≡ y.text }
-    ensures packets { (run : Run) (j k : ℕ) → IsClear run.plan.site run.clear → j < length run.clear →
+    ensures packets { (run : Run) (j k : PacketNumber) → IsClear run.plan.site run.clear → j < length run.clear →
         k < length run.clear → is_veiled run j ≡ true → is_veiled run k ≡ true →
         number_at run j ≡ number_at run k → j ≡ k }
 {}
@@ -52,11 +53,11 @@ pub fn a_broadcast_repeats_no_keystream()
 pub fn broadcasts_repeat_no_keystream()
     ensures keys { (a b : Run) (x y : Pad) → a.plan.site.master ≡ b.plan.site.master → Contains (pads_of a) x →
         Contains (pads_of b) y → x.key ≡ y.key → x.number ≡ y.number → is_for_keys x.key ≡ true → x.text ≡ y.text }
-    ensures texts { (master : List ℕ) (runs : List Run) (i j : ℕ) (a b : Run) (x y : Pad) → All (IsRun master) runs →
+    ensures texts { (master : Key) (runs : List Run) (i j : ℕ) (a b : Run) (x y : Pad) → All (IsRun master) runs →
         HaveOwnWords runs → slice_get runs i ≡ Some a → slice_get runs j ≡ Some b → Contains (pads_of a) x →
         Contains (pads_of b) y → x.key ≡ y.key → x.number ≡ y.number → x.text ≡ y.text }
-    ensures packets { (master : List ℕ) (runs : List Run) (i j k l : ℕ) (a b : Run) → All (IsRun master) runs →
-        HaveOwnWords runs → slice_get runs i ≡ Some a → slice_get runs j ≡ Some b → k < length a.clear →
-        l < length b.clear → is_veiled a k ≡ true → is_veiled b l ≡ true →
+    ensures packets { (master : Key) (runs : List Run) (i j : ℕ) (k l : PacketNumber) (a b : Run) →
+        All (IsRun master) runs → HaveOwnWords runs → slice_get runs i ≡ Some a → slice_get runs j ≡ Some b →
+        k < length a.clear → l < length b.clear → is_veiled a k ≡ true → is_veiled b l ≡ true →
         word_of a.plan.site k ≡ word_of b.plan.site l → number_at a k ≡ number_at b l → (i ≡ j) × (k ≡ l) }
 {}

@@ -1,7 +1,8 @@
 //! What an operator has to keep to, so that the laws on several broadcasts hold, and what a broadcast uses.
 
-ghost use Rattle.std.specs.Prelude.{◌≡◌, ◌≢◌, ◌+◌, ◌-◌, ◌*◌, ◌^◌, ◌<◌, ◌≤◌, ◌++◌, ◌↔◌, ℕ, false, List, Contains};
+ghost use Rattle.std.specs.Prelude.{◌≡◌, ◌≢◌, ◌+◌, ◌-◌, ◌*◌, ◌^◌, ◌<◌, ◌≤◌, ◌++◌, ◌↔◌, false, List, Contains};
 ghost use Rattle.std.specs.Prelude.{length};
+ghost use Rattle.sd_spec_types.specs.Types.{Key, PeriodNumber, WordNumber, PacketNumber};
 ghost use Rattle.sd_site.specs.Fields.{SiteFields, AreInRange};
 ghost use Rattle.sd_book.specs.declared.command.Command.{Command};
 ghost use Rattle.sd_book.specs.Commands.{last_period};
@@ -17,20 +18,20 @@ ghost use Rattle.sd_law_several.specs.Runs.{Run, IsRun, HasWords, UsesWord, Uses
 
 /// A broadcast of which no packet is refused uses control words of its site's range alone.
 pub fn words_are_own()
-    ensures { (master : List ℕ) (run : Run) (t q : ℕ) → IsRun master run → HasWords run.plan.site → UsesWord run t q →
-        (run.plan.site.first_word ≤ t) × (t ≤ run.plan.site.last_word) }
+    ensures { (master : Key) (run : Run) (t : WordNumber) (q : PeriodNumber) → IsRun master run →
+        HasWords run.plan.site → UsesWord run t q → (run.plan.site.first_word ≤ t) × (t ≤ run.plan.site.last_word) }
 {}
 
 /// The control words of a site suffice for just the packets of as many crypto periods.
 #[tactic(auto, using(crate::proofs::Using::words_suffice))]
 pub fn words_suffice()
-    ensures { (site : SiteFields) (k : ℕ) → AreInRange site → HasWords site → (is_too_long site k ≡ false) ↔
+    ensures { (site : SiteFields) (k : PacketNumber) → AreInRange site → HasWords site → (is_too_long site k ≡ false) ↔
         ((k ≢ 2 ^ 32 - 1) × (k < (site.last_word + 1 - site.first_word) * crypto_length site)) }
 {}
 
 /// A broadcast whose first period is above all periods of another one shares none with it.
 pub fn later_periods_are_new()
-    ensures { (a b : Run) (q : ℕ) → period_of a.plan (length a.clear - 1) < b.plan.site.first_period →
+    ensures { (a b : Run) (q : PeriodNumber) → period_of a.plan (length a.clear - 1) < b.plan.site.first_period →
         UsesPeriod a q → UsesPeriod b q → ⊥ }
 {}
 
