@@ -2,6 +2,7 @@
 use Rattle.std.specs.Prelude.{ℕ, ◌+◌, ◌-◌, ◌==◌, ◌&&◌, ◌||◌, Bool, true, false, nat_le, nat_lt, List, [], ◌∷◌}
 use Rattle.std.specs.Prelude.{filter, if◌then◌else◌, Option, Some, None}
 use Rattle.std.specs.List.{list_any, list_all, range_with_len}
+use Rattle.sd_spec_types.specs.Types.{Height, LeafNumber, PeriodNumber, PacketNumber, MessageNumber}
 use Rattle.sd_tree.specs.Leaves.{is_member}
 use Rattle.sd_emm.specs.Spelled.{listed_entries}
 use Rattle.sd_spec_broadcast.specs.Sent.{Item, Cat, Entitles, Controls, Carries}
@@ -22,29 +23,29 @@ after_cat (Controls part ∷ kept) = after_cat kept
 after_cat (Carries j packet ∷ kept) = after_cat kept
 
 -- clear packet j, as it is carried
-abbrev pub is_carried : ℕ → Item → Bool
+abbrev pub is_carried : PacketNumber → Item → Bool
 is_carried j (Carries i packet) = i == j
 is_carried j Cat = false
 is_carried j (Entitles emm) = false
 is_carried j (Controls part) = false
 
 -- clear packet j is kept
-abbrev pub is_kept : List Item → ℕ → Bool
+abbrev pub is_kept : List Item → PacketNumber → Bool
 is_kept kept j = list_any (is_carried j) kept
 
 -- the kept clear packets from low on, below high
-unfoldable pub kept_in : List Item → ℕ → ℕ → List ℕ
+unfoldable pub kept_in : List Item → PacketNumber → PacketNumber → List PacketNumber
 kept_in kept low high = filter (is_kept kept) (range_with_len low (high - low))
 
 -- part x of message a
-abbrev pub is_part : ℕ → ℕ → Item → Bool
+abbrev pub is_part : MessageNumber → ℕ → Item → Bool
 is_part a x (Controls part) = (part.number == a) && (part.part == x)
 is_part a x Cat = false
 is_part a x (Entitles emm) = false
 is_part a x (Carries j packet) = false
 
 -- a part of message a, all parts of which are kept
-abbrev pub has_parts : List Item → ℕ → Item → Bool
+abbrev pub has_parts : List Item → MessageNumber → Item → Bool
 has_parts kept a (Controls part) =
     (part.number == a) && list_all (λ x. list_any (is_part a x) kept) (range_with_len 0 (part.last_part + 1))
 has_parts kept a Cat = false
@@ -52,11 +53,11 @@ has_parts kept a (Entitles emm) = false
 has_parts kept a (Carries j packet) = false
 
 -- message a has arrived: a part of it is kept, and so are all others [this project, docs/FORMATS.md, Receiver]
-unfoldable pub has_arrived : List Item → ℕ → Bool
+unfoldable pub has_arrived : List Item → MessageNumber → Bool
 has_arrived kept a = list_any (has_parts kept a) kept
 
 -- the messages up to number last that have arrived, ascending
-unfoldable pub arrived : ℕ → List Item → List ℕ
+unfoldable pub arrived : MessageNumber → List Item → List MessageNumber
 arrived last kept = filter (has_arrived kept) (range_with_len 0 (last + 1))
 
 -- the greatest of ascending numbers that is at most n
@@ -72,28 +73,28 @@ least_above n [] = None
 least_above n (a ∷ numbers) = if nat_lt n a then Some a else least_above n numbers
 
 -- a section of period q that has a set with leaf u
-abbrev pub entitles : ℕ → ℕ → ℕ → Item → Bool
+abbrev pub entitles : Height → LeafNumber → PeriodNumber → Item → Bool
 entitles h u q (Entitles emm) = (emm.period == q) && list_any (λ entry. is_member h entry.name u) (listed_entries emm)
 entitles h u q Cat = false
 entitles h u q (Controls part) = false
 entitles h u q (Carries j packet) = false
 
 -- the last part of message a
-abbrev pub is_last_part : ℕ → Item → Bool
+abbrev pub is_last_part : MessageNumber → Item → Bool
 is_last_part a (Controls part) = (part.number == a) && (part.part == part.last_part)
 is_last_part a Cat = false
 is_last_part a (Entitles emm) = false
 is_last_part a (Carries j packet) = false
 
 -- a section of period q that has a set with leaf u is before the last part of message a, which is kept
-unfoldable pub is_entitled_before : ℕ → ℕ → ℕ → ℕ → List Item → Bool
+unfoldable pub is_entitled_before : Height → LeafNumber → PeriodNumber → MessageNumber → List Item → Bool
 is_entitled_before h u q a [] = false
 is_entitled_before h u q a (item ∷ kept) =
     if is_last_part a item then false
     else (entitles h u q item && list_any (is_last_part a) kept) || is_entitled_before h u q a kept
 
 -- a section of period q with index x
-abbrev pub is_section_item : ℕ → ℕ → Item → Bool
+abbrev pub is_section_item : PeriodNumber → ℕ → Item → Bool
 is_section_item q x (Entitles emm) = (emm.period == q) && (emm.index == x)
 is_section_item q x Cat = false
 is_section_item q x (Controls part) = false

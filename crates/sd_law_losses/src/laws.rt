@@ -18,6 +18,8 @@ ghost use Rattle.sd_spec_receiver.specs.declared.ending.Ending.TheVariants.{Revo
 ghost use Rattle.sd_law_losses.specs.Chosen.{chosen};
 ghost use Rattle.std.specs.Prelude.{◌-◌};
 ghost use Rattle.std.specs.List.{list_any};
+ghost use Rattle.sd_spec_types.specs.Types.{Packet, Packets, Arrived, Pid, Position, LeafNumber, PeriodNumber};
+ghost use Rattle.sd_spec_types.specs.Types.{PacketNumber, MessageNumber};
 ghost use Rattle.sd_law_losses.specs.Taken.{taken_keys, how_many};
 ghost use Rattle.sd_law_losses.specs.Kept.{is_kept, has_arrived, entitles, after_cat};
 ghost use Rattle.sd_law_losses.specs.Confirmed.{packet_at, upto, is_open, is_scrambled, is_confirmed_at, confirmed};
@@ -30,9 +32,10 @@ ghost use Rattle.sd_law_losses.specs.Gaps.{kept_positions, are_near, has_no_gap}
 /// before them was tracked exactly.
 #[tactic(auto, using(crate::proofs::Residual::shortfall_stays, crate::proofs::Residual::near_shows_exact))]
 pub fn positions_are_confirmed()
-    ensures stays { (pid near far short : ℕ) (flags : List Bool) (packets : List (List ℕ)) → short % 16 ≡ 0 →
-        near + short ≤ far → moved_by pid near (chosen flags packets) + short ≤ moved_by pid far packets }
-    ensures exact { (pid near far : ℕ) (packet : List ℕ) (flags : List Bool) (packets : List (List ℕ))
+    ensures stays { (pid : Pid) (near far : Position) (short : ℕ) (flags : Arrived) (packets : Packets) →
+        short % 16 ≡ 0 → near + short ≤ far →
+        moved_by pid near (chosen flags packets) + short ≤ moved_by pid far packets }
+    ensures exact { (pid : Pid) (near far : Position) (packet : Packet) (flags : Arrived) (packets : Packets)
         → is_moving pid packet ≡ true → near ≤ far →
         moved_by pid (moved pid far packet) packets
         ≤ moved_by pid (moved pid near packet) (chosen flags packets) + 15 →
@@ -43,7 +46,7 @@ pub fn positions_are_confirmed()
 /// start on no two neighbouring positions are more than 16 apart, and the end is at most 15 above the last of them.
 #[tactic(auto, using(crate::proofs::Gaps::near_by_gaps))]
 pub fn gaps_are_told()
-    ensures { (pid start : ℕ) (flags : List Bool) (packets : List (List ℕ)) →
+    ensures { (pid : Pid) (start : Position) (flags : Arrived) (packets : Packets) →
         are_near start (kept_positions pid start flags packets) (moved_by pid start packets)
         ≡ nat_le (moved_by pid start packets) (moved_by pid start (chosen flags packets) + 15) }
 {}
@@ -52,11 +55,11 @@ pub fn gaps_are_told()
 /// packets that the messages which arrived confirm to it.
 #[tactic(auto, using(crate::proofs::Theorem::none_refused, crate::proofs::Theorem::confirmed_alone))]
 pub fn losses_are_confirmed()
-    ensures none { (plan : Plan) (clear : List (List ℕ)) (u : ℕ) (flags : List Bool) → IsPlan plan →
+    ensures none { (plan : Plan) (clear : Packets) (u : LeafNumber) (flags : Arrived) → IsPlan plan →
         IsClear plan.site clear → AreWholePackets clear → u < 2 ^ plan.site.height →
         break_from (card_of plan.site.master plan.site.ca plan.site.height u) [] (chosen flags (broadcast plan clear))
         ≡ None }
-    ensures out { (plan : Plan) (clear : List (List ℕ)) (u : ℕ) (flags : List Bool) → IsPlan plan →
+    ensures out { (plan : Plan) (clear : Packets) (u : LeafNumber) (flags : Arrived) → IsPlan plan →
         IsClear plan.site clear → AreWholePackets clear → u < 2 ^ plan.site.height →
         out_from (card_of plan.site.master plan.site.ca plan.site.height u) [] (chosen flags (broadcast plan clear))
         ≡ confirmed plan u clear (chosen flags (sent plan clear ++ closing_of plan clear)) }
@@ -67,13 +70,13 @@ pub fn losses_are_confirmed()
 /// confirmed. If it ends as revoked in a period, the leaf is revoked in it.
 #[tactic(auto, using(crate::proofs::Theorem::ends_as_told, crate::proofs::Revoking::revoked_truly))]
 pub fn losses_are_told()
-    ensures ending { (plan : Plan) (clear : List (List ℕ)) (u : ℕ) (flags : List Bool) → IsPlan plan →
+    ensures ending { (plan : Plan) (clear : Packets) (u : LeafNumber) (flags : Arrived) → IsPlan plan →
         IsClear plan.site clear → AreWholePackets clear → u < 2 ^ plan.site.height →
         ending_of (card_of plan.site.master plan.site.ca plan.site.height u)
         (reverse (chosen flags (broadcast plan clear)))
         ≡ ending_told plan u clear (chosen flags (sent plan clear ++ closing_of plan clear)) }
-    ensures revoked { (plan : Plan) (clear : List (List ℕ)) (u q : ℕ) (flags : List Bool) → IsPlan plan →
-        u < 2 ^ plan.site.height →
+    ensures revoked { (plan : Plan) (clear : Packets) (u : LeafNumber) (q : PeriodNumber) (flags : Arrived) →
+        IsPlan plan → u < 2 ^ plan.site.height →
         ending_told plan u clear (chosen flags (sent plan clear ++ closing_of plan clear)) ≡ Revoked q →
         is_revoked_in plan u q ≡ true }
 {}
@@ -83,9 +86,10 @@ pub fn losses_are_told()
 /// packets leave no wide gap, and else none.
 #[tactic(auto, using(crate::proofs::Gapless::confirmed_by_gaps))]
 pub fn packets_are_confirmed_by_gaps()
-    ensures { (plan : Plan) (clear : List (List ℕ)) (u : ℕ) (kept : List Item) (a b j : ℕ) → AreInRange plan.site →
+    ensures { (plan : Plan) (clear : Packets) (u : LeafNumber) (kept : List Item) (a b : MessageNumber)
+        (j : PacketNumber) → AreInRange plan.site →
         a < b → b ≤ closing_number plan.site (length clear) → has_arrived kept a ≡ true → has_arrived kept b ≡ true →
-        ((c : ℕ) → a < c → c < b → has_arrived kept c ≡ false) → is_open plan u clear kept a b ≡ true →
+        ((c : MessageNumber) → a < c → c < b → has_arrived kept c ≡ false) → is_open plan u clear kept a b ≡ true →
         is_kept kept j ≡ true → a * plan.site.every ≤ j → j < upto plan clear b →
         is_confirmed_at plan u clear kept j ≡ (not (is_scrambled (kind_of (take j clear) (packet_at clear j)))
         || has_no_gap plan clear kept a b (pid_of (packet_at clear j))) }
@@ -95,11 +99,11 @@ pub fn packets_are_confirmed_by_gaps()
 /// are all of them.
 #[tactic(auto, using(crate::proofs::Opened::confirmed_are_opened, crate::proofs::AllOpened::all_are_opened))]
 pub fn confirmed_packets_are_opened()
-    ensures part { (plan : Plan) (clear : List (List ℕ)) (u : ℕ) (flags : List Bool) → IsPlan plan →
+    ensures part { (plan : Plan) (clear : Packets) (u : LeafNumber) (flags : Arrived) → IsPlan plan →
         u < 2 ^ plan.site.height → (parts : List Bool)
         × (confirmed plan u clear (chosen flags (sent plan clear ++ closing_of plan clear))
         ≡ chosen parts (opened_by plan u clear)) }
-    ensures whole { (plan : Plan) (clear : List (List ℕ)) (u : ℕ) → IsPlan plan → IsClear plan.site clear →
+    ensures whole { (plan : Plan) (clear : Packets) (u : LeafNumber) → IsPlan plan → IsClear plan.site clear →
         AreWholePackets clear → u < 2 ^ plan.site.height →
         confirmed plan u clear (sent plan clear ++ closing_of plan clear) ≡ opened_by plan u clear }
 {}
@@ -109,14 +113,14 @@ pub fn confirmed_packets_are_opened()
 /// leaf is.
 #[tactic(auto, using(crate::proofs::Theorem::whole_refused, crate::proofs::Theorem::whole_opened, crate::proofs::Theorem::whole_ended))]
 pub fn whole_broadcasts_are_opened()
-    ensures none { (plan : Plan) (clear : List (List ℕ)) (u : ℕ) → IsPlan plan → IsClear plan.site clear →
+    ensures none { (plan : Plan) (clear : Packets) (u : LeafNumber) → IsPlan plan → IsClear plan.site clear →
         AreWholePackets clear → u < 2 ^ plan.site.height →
         break_from (card_of plan.site.master plan.site.ca plan.site.height u) [] (broadcast plan clear) ≡ None }
-    ensures out { (plan : Plan) (clear : List (List ℕ)) (u : ℕ) → IsPlan plan → IsClear plan.site clear →
+    ensures out { (plan : Plan) (clear : Packets) (u : LeafNumber) → IsPlan plan → IsClear plan.site clear →
         AreWholePackets clear → u < 2 ^ plan.site.height →
         out_from (card_of plan.site.master plan.site.ca plan.site.height u) [] (broadcast plan clear)
         ≡ opened_by plan u clear }
-    ensures ending { (plan : Plan) (clear : List (List ℕ)) (u : ℕ) → IsPlan plan → IsClear plan.site clear →
+    ensures ending { (plan : Plan) (clear : Packets) (u : LeafNumber) → IsPlan plan → IsClear plan.site clear →
         AreWholePackets clear → u < 2 ^ plan.site.height →
         ending_of (card_of plan.site.master plan.site.ca plan.site.height u) (reverse (broadcast plan clear))
         ≡ whole_ending (first_revoked plan u clear) }
@@ -126,12 +130,12 @@ pub fn whole_broadcasts_are_opened()
 /// Of a whole broadcast that is once for each of its periods in which the leaf isn't revoked.
 #[tactic(auto, using(crate::proofs::Theorem::keys_taken, crate::proofs::Theorem::whole_keys_taken))]
 pub fn keys_are_taken_once()
-    ensures lost { (plan : Plan) (clear : List (List ℕ)) (u : ℕ) (flags : List Bool) → IsPlan plan →
+    ensures lost { (plan : Plan) (clear : Packets) (u : LeafNumber) (flags : Arrived) → IsPlan plan →
         IsClear plan.site clear → AreWholePackets clear → u < 2 ^ plan.site.height →
         taken_keys (card_of plan.site.master plan.site.ca plan.site.height u) [] (chosen flags (broadcast plan clear))
         ≡ how_many (λ q. list_any (entitles plan.site.height u q)
         (after_cat (chosen flags (sent plan clear ++ closing_of plan clear)))) (period_of plan (length clear - 1) + 1) }
-    ensures whole { (plan : Plan) (clear : List (List ℕ)) (u : ℕ) → IsPlan plan → IsClear plan.site clear →
+    ensures whole { (plan : Plan) (clear : Packets) (u : LeafNumber) → IsPlan plan → IsClear plan.site clear →
         AreWholePackets clear → u < 2 ^ plan.site.height →
         taken_keys (card_of plan.site.master plan.site.ca plan.site.height u) [] (broadcast plan clear)
         ≡ how_many (λ q. is_on_air plan q && not (is_revoked_in plan u q)) (period_of plan (length clear - 1) + 1) }

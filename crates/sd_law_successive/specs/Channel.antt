@@ -1,5 +1,6 @@
 -- Public meaning: broadcasts of one channel that follow one another, and which of their packets arrive.
-use Rattle.std.specs.Prelude.{◌≡◌, ◌≢◌, ℕ, Bool, List, [], ◌∷◌, ◌++◌, All}
+use Rattle.std.specs.Prelude.{◌≡◌, ◌≢◌, List, [], ◌∷◌, ◌++◌, All}
+use Rattle.sd_spec_types.specs.Types.{Packets, Arrived, Pid, SystemId, Key, Height}
 use Rattle.sd_site.specs.Fields.{run_name_of}
 use Rattle.sd_spec_broadcast.specs.Plan.{Plan, IsPlan}
 use Rattle.sd_spec_broadcast.specs.Refused.{IsClear}
@@ -10,16 +11,16 @@ use Rattle.sd_law_losses.specs.Chosen.{chosen}
 -- a broadcast, and which of its packets arrive
 pub record Arrival : Type 0 where
   pub plan : Plan
-  pub clear : List (List ℕ)
-  pub flags : List Bool
+  pub clear : Packets
+  pub flags : Arrived
 
 -- what the sites of a channel's broadcasts have in common [this project, docs/FORMATS.md, Receiver]
 pub record Channel : Type 0 where
-  pub height : ℕ
-  pub master : List ℕ
-  pub ca : ℕ
-  pub emm : ℕ
-  pub ecm : ℕ
+  pub height : Height
+  pub master : Key
+  pub ca : SystemId
+  pub emm : Pid
+  pub ecm : Pid
 
 -- the broadcast is of the channel, and a head end takes its clear packets
 pub record IsRunOf (channel : Channel) (run : Arrival) : Type 0 where
@@ -42,11 +43,11 @@ AreRunsOf channel [] = Unit {0}
 AreRunsOf channel (run ∷ runs) = IsRunOf channel run × All (HaveTwoNames run) runs × AreRunsOf channel runs
 
 -- the packets that arrive of broadcasts that are sent one after the other
-abbrev pub arriving : List Arrival → List (List ℕ)
+abbrev pub arriving : List Arrival → Packets
 arriving [] = []
 arriving (run ∷ runs) = chosen run.flags (broadcast run.plan run.clear) ++ arriving runs
 
 -- all packets of broadcasts that are sent one after the other
-abbrev pub all_sent : List Arrival → List (List ℕ)
+abbrev pub all_sent : List Arrival → Packets
 all_sent [] = []
 all_sent (run ∷ runs) = broadcast run.plan run.clear ++ all_sent runs

@@ -1,6 +1,7 @@
 -- Public meaning: how broadcasts that follow one another end for a receiver.
-use Rattle.std.specs.Prelude.{ℕ, ◌||◌, Bool, true, false, List, [], ◌∷◌, if◌then◌else◌}
+use Rattle.std.specs.Prelude.{◌||◌, Bool, true, false, List, [], ◌∷◌, if◌then◌else◌}
 use Rattle.std.specs.List.{list_any}
+use Rattle.sd_spec_types.specs.Types.{LeafNumber}
 use Rattle.sd_spec_broadcast.specs.Sent.{Item, Cat, Entitles, Controls, Carries}
 use Rattle.sd_spec_receiver.specs.declared.ending.Ending.{Ending}
 use Rattle.sd_spec_receiver.specs.declared.ending.Ending.TheVariants.{NoCat, Unclosed}
@@ -22,7 +23,7 @@ abbrev pub is_told : Bool → Arrival → Bool
 is_told tuned run = list_any is_message (after_cat (kept_of_arrival tuned run))
 
 -- how those broadcasts end of which leaf u's receiver hears a message, each by itself
-abbrev pub endings_from : Bool → ℕ → List Arrival → List Ending
+abbrev pub endings_from : Bool → LeafNumber → List Arrival → List Ending
 endings_from tuned u [] = []
 endings_from tuned u (run ∷ runs) =
     if is_told tuned run
@@ -35,9 +36,9 @@ all_joined [] = Unclosed 0
 all_joined (ending ∷ endings) = joined_to ending endings
 
 -- how broadcasts that follow one another end for leaf u's receiver, together [this project, docs/FORMATS.md, Receiver]
-abbrev pub ending_of_all : ℕ → List Arrival → Ending
+abbrev pub ending_of_all : LeafNumber → List Arrival → Ending
 ending_of_all u runs = if list_any has_cat runs then all_joined (endings_from false u runs) else NoCat
 
 -- how a whole broadcast ends for leaf u's receiver
-abbrev pub whole_ending_of : ℕ → Arrival → Ending
+abbrev pub whole_ending_of : LeafNumber → Arrival → Ending
 whole_ending_of u run = whole_ending (first_revoked run.plan u run.clear)

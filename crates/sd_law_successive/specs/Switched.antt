@@ -1,24 +1,25 @@
 -- Public meaning: pieces of broadcasts that follow one another, as at a switch to a spare head end and back.
-use Rattle.std.specs.Prelude.{◌≢◌, ℕ, ◌||◌, Bool, false, List, [], ◌∷◌, if◌then◌else◌, Option, All}
+use Rattle.std.specs.Prelude.{◌≢◌, ◌||◌, Bool, false, List, [], ◌∷◌, if◌then◌else◌, Option, All}
+use Rattle.sd_spec_types.specs.Types.{RunName}
 use Rattle.sd_site.specs.Fields.{run_name_of}
 use Rattle.sd_law_successive.specs.Channel.{Arrival, Channel, IsRunOf}
 use Rattle.sd_law_successive.specs.Many.{has_cat}
 use Rattle.sd_law_successive.specs.Ends.{is_told}
 
 -- the names of the runs whose pieces a receiver is told of, in order
-abbrev pub names_from : Bool → List Arrival → List (Option ℕ)
+abbrev pub names_from : Bool → List Arrival → List RunName
 names_from tuned [] = []
 names_from tuned (piece ∷ pieces) =
     if is_told tuned piece then run_name_of piece.plan.site ∷ names_from (tuned || has_cat piece) pieces
     else names_from (tuned || has_cat piece) pieces
 
 -- the first of these names, if there is one, isn't this one
-abbrev pub IsOtherThanFirst : Option ℕ → List (Option ℕ) → Type 0
+abbrev pub IsOtherThanFirst : RunName → List RunName → Type 0
 IsOtherThanFirst name [] = Unit {0}
 IsOtherThanFirst name (next ∷ names) = name ≢ next
 
 -- no two names that follow one another are the same
-abbrev pub AreAlternating : List (Option ℕ) → Type 0
+abbrev pub AreAlternating : List RunName → Type 0
 AreAlternating [] = Unit {0}
 AreAlternating (name ∷ names) = IsOtherThanFirst name names × AreAlternating names
 

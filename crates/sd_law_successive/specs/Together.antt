@@ -3,6 +3,7 @@
 use Rattle.std.specs.Prelude.{ℕ, ◌+◌, List, [], ◌∷◌, ◌++◌, length, map, reverse, if◌then◌else◌, is_none, Option, Some}
 use Rattle.std.specs.Prelude.{None}
 use Rattle.std.specs.Option.{option_map_or}
+use Rattle.sd_spec_types.specs.Types.{Packet, Packets, PacketNumber}
 use Rattle.sd_card.specs.Fields.{CardFields}
 use Rattle.sd_spec_receiver.specs.declared.ending.Ending.{Ending}
 use Rattle.sd_spec_receiver.specs.declared.ending.Ending.TheVariants.{Opened, NoCat}
@@ -21,14 +22,14 @@ fault_later k (Fault.BadEcm n fault) = Fault.BadEcm (k + n) fault
 fault_later k (Fault.Parity n) = Fault.Parity (k + n)
 
 -- what is written of pieces, up to the first packet that is refused
-abbrev pub out_with : CardFields → List ℕ → List (List (List ℕ)) → List (List ℕ)
+abbrev pub out_with : CardFields → Packet → List Packets → Packets
 out_with card cat [] = []
 out_with card cat (piece ∷ pieces) =
     out_from card [] (cat ∷ piece)
     ++ (if is_none (break_from card [] (cat ∷ piece)) then out_with card cat pieces else [])
 
 -- why the first refused packet of pieces is refused, if the packet before all of them is number k
-abbrev pub break_with : CardFields → List ℕ → ℕ → List (List (List ℕ)) → Option StreamFault
+abbrev pub break_with : CardFields → Packet → PacketNumber → List Packets → Option StreamFault
 break_with card cat k [] = None
 break_with card cat k (piece ∷ pieces) =
     option_map_or (λ fault. Some (fault_later k fault)) (break_from card [] (cat ∷ piece))
@@ -40,22 +41,22 @@ joined_to earlier [] = earlier
 joined_to earlier (ending ∷ endings) = joined_to (joined earlier ending) endings
 
 -- how a piece ends by itself
-abbrev pub piece_ending : CardFields → List ℕ → List (List ℕ) → Ending
+abbrev pub piece_ending : CardFields → Packet → Packets → Ending
 piece_ending card cat piece = ending_of card (reverse (cat ∷ piece))
 
 -- what is written of a stream, by its pieces [this project, docs/FORMATS.md, Receiver]
-unfoldable pub out_of : CardFields → List (List ℕ) → List (List ℕ)
+unfoldable pub out_of : CardFields → Packets → Packets
 out_of card packets =
     option_map_or (λ tuned. out_with card tuned.cat (pieces_of card.height tuned)) (first_cat card.ca 0 packets) []
 
 -- why a stream is refused, if it is, by its pieces [this project, docs/FORMATS.md, Receiver]
-unfoldable pub run_break_of : CardFields → List (List ℕ) → Option StreamFault
+unfoldable pub run_break_of : CardFields → Packets → Option StreamFault
 run_break_of card packets =
     option_map_or (λ tuned. break_with card tuned.cat tuned.number (pieces_of card.height tuned))
     (first_cat card.ca 0 packets) None
 
 -- how a stream ends, by its pieces [this project, docs/FORMATS.md, Receiver]
-unfoldable pub run_end_of : CardFields → List (List ℕ) → Ending
+unfoldable pub run_end_of : CardFields → Packets → Ending
 run_end_of card packets =
     option_map_or
     (λ tuned. joined_to Opened (map (piece_ending card tuned.cat) (pieces_of card.height tuned)))

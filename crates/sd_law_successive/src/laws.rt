@@ -1,6 +1,7 @@
 //! Laws.
 
-ghost use Rattle.std.specs.Prelude.{◌≡◌, ◌^◌, ◌<◌, ℕ, Bool, false, List, [], ◌∷◌, map, None, reverse};
+ghost use Rattle.std.specs.Prelude.{◌≡◌, ◌^◌, ◌<◌, Bool, false, List, [], ◌∷◌, map, None, reverse};
+ghost use Rattle.sd_spec_types.specs.Types.{Packets, LeafNumber};
 ghost use Rattle.sd_card.specs.Fields.{CardFields, card_of};
 ghost use Rattle.sd_spec_receiver.specs.declared.ending.Ending.TheVariants.{Opened};
 ghost use Rattle.sd_spec_receiver.specs.Offered.{out_from, break_from};
@@ -18,12 +19,12 @@ ghost use Rattle.sd_law_successive.specs.Switched.{ArePiecesOf};
 /// stream's pieces, each behind the CAT by itself: the stream is cut before each message of another run.
 #[tactic(auto, using(crate::proofs::Streams::out_is, crate::proofs::Streams::break_is, crate::proofs::Streams::end_is))]
 pub fn streams_are_their_pieces()
-    ensures out { (card : CardFields) (packets : List (List ℕ)) → out_from card [] packets ≡ out_of card packets }
-    ensures refused { (card : CardFields) (packets : List (List ℕ)) →
+    ensures out { (card : CardFields) (packets : Packets) → out_from card [] packets ≡ out_of card packets }
+    ensures refused { (card : CardFields) (packets : Packets) →
         break_from card [] packets ≡ run_break_of card packets }
-    ensures ending { (card : CardFields) (packets : List (List ℕ)) →
+    ensures ending { (card : CardFields) (packets : Packets) →
         ending_of card (reverse packets) ≡ run_end_of card packets }
-    ensures keys { (card : CardFields) (packets : List (List ℕ)) →
+    ensures keys { (card : CardFields) (packets : Packets) →
         taken_keys card [] packets ≡ taken_of card packets }
 {}
 
@@ -32,17 +33,17 @@ pub fn streams_are_their_pieces()
 /// the leaf is entitled to. It ends as the broadcasts that it is told of do, together.
 #[tactic(auto, using(crate::proofs::Finishing::runs_break, crate::proofs::Finishing::runs_out))]
 pub fn losses_of_runs_are_confirmed()
-    ensures none { (channel : Channel) (runs : List Arrival) (u : ℕ) → AreRunsOf channel runs →
+    ensures none { (channel : Channel) (runs : List Arrival) (u : LeafNumber) → AreRunsOf channel runs →
         u < 2 ^ channel.height →
         break_from (card_of channel.master channel.ca channel.height u) [] (arriving runs) ≡ None }
-    ensures out { (channel : Channel) (runs : List Arrival) (u : ℕ) → AreRunsOf channel runs →
+    ensures out { (channel : Channel) (runs : List Arrival) (u : LeafNumber) → AreRunsOf channel runs →
         u < 2 ^ channel.height →
         out_from (card_of channel.master channel.ca channel.height u) [] (arriving runs)
         ≡ confirmed_from false u runs }
-    ensures part { (channel : Channel) (runs : List Arrival) (u : ℕ) → AreRunsOf channel runs →
+    ensures part { (channel : Channel) (runs : List Arrival) (u : LeafNumber) → AreRunsOf channel runs →
         u < 2 ^ channel.height →
         (parts : List Bool) × (confirmed_from false u runs ≡ chosen parts (opened_of_all u runs)) }
-    ensures ending { (channel : Channel) (runs : List Arrival) (u : ℕ) → AreRunsOf channel runs →
+    ensures ending { (channel : Channel) (runs : List Arrival) (u : LeafNumber) → AreRunsOf channel runs →
         u < 2 ^ channel.height →
         ending_of (card_of channel.master channel.ca channel.height u) (reverse (arriving runs))
         ≡ ending_of_all u runs }
@@ -52,13 +53,13 @@ pub fn losses_of_runs_are_confirmed()
 /// ends opened, or revoked in the leaf's first revoked period of the first broadcast that has one.
 #[tactic(auto, using(crate::proofs::Whole::whole_break, crate::proofs::Whole::whole_out))]
 pub fn whole_runs_are_opened()
-    ensures none { (channel : Channel) (runs : List Arrival) (u : ℕ) → AreRunsOf channel runs →
+    ensures none { (channel : Channel) (runs : List Arrival) (u : LeafNumber) → AreRunsOf channel runs →
         u < 2 ^ channel.height →
         break_from (card_of channel.master channel.ca channel.height u) [] (all_sent runs) ≡ None }
-    ensures out { (channel : Channel) (runs : List Arrival) (u : ℕ) → AreRunsOf channel runs →
+    ensures out { (channel : Channel) (runs : List Arrival) (u : LeafNumber) → AreRunsOf channel runs →
         u < 2 ^ channel.height →
         out_from (card_of channel.master channel.ca channel.height u) [] (all_sent runs) ≡ opened_of_all u runs }
-    ensures ending { (channel : Channel) (run : Arrival) (runs : List Arrival) (u : ℕ) →
+    ensures ending { (channel : Channel) (run : Arrival) (runs : List Arrival) (u : LeafNumber) →
         AreRunsOf channel (run ∷ runs) → u < 2 ^ channel.height →
         ending_of (card_of channel.master channel.ca channel.height u) (reverse (all_sent (run ∷ runs)))
         ≡ joined_to Opened (map (whole_ending_of u) (run ∷ runs)) }
@@ -68,14 +69,14 @@ pub fn whole_runs_are_opened()
 /// told of one after the other have one name.
 #[tactic(auto, using(crate::proofs::Finishing::pieces_break, crate::proofs::Finishing::pieces_out))]
 pub fn switches_are_followed()
-    ensures none { (channel : Channel) (pieces : List Arrival) (u : ℕ) → ArePiecesOf channel pieces →
+    ensures none { (channel : Channel) (pieces : List Arrival) (u : LeafNumber) → ArePiecesOf channel pieces →
         u < 2 ^ channel.height →
         break_from (card_of channel.master channel.ca channel.height u) [] (arriving pieces) ≡ None }
-    ensures out { (channel : Channel) (pieces : List Arrival) (u : ℕ) → ArePiecesOf channel pieces →
+    ensures out { (channel : Channel) (pieces : List Arrival) (u : LeafNumber) → ArePiecesOf channel pieces →
         u < 2 ^ channel.height →
         out_from (card_of channel.master channel.ca channel.height u) [] (arriving pieces)
         ≡ confirmed_from false u pieces }
-    ensures ending { (channel : Channel) (pieces : List Arrival) (u : ℕ) → ArePiecesOf channel pieces →
+    ensures ending { (channel : Channel) (pieces : List Arrival) (u : LeafNumber) → ArePiecesOf channel pieces →
         u < 2 ^ channel.height →
         ending_of (card_of channel.master channel.ca channel.height u) (reverse (arriving pieces))
         ≡ ending_of_all u pieces }
@@ -87,14 +88,14 @@ pub fn switches_are_followed()
 /// broadcast in which the leaf is not revoked.
 #[tactic(auto, using(crate::proofs::Finishing::runs_taken, crate::proofs::Whole::whole_taken))]
 pub fn keys_of_runs_are_taken_once()
-    ensures lost { (channel : Channel) (runs : List Arrival) (u : ℕ) → AreRunsOf channel runs →
+    ensures lost { (channel : Channel) (runs : List Arrival) (u : LeafNumber) → AreRunsOf channel runs →
         u < 2 ^ channel.height →
         taken_keys (card_of channel.master channel.ca channel.height u) [] (arriving runs) ≡ keys_from false u runs }
-    ensures switched { (channel : Channel) (pieces : List Arrival) (u : ℕ) → ArePiecesOf channel pieces →
+    ensures switched { (channel : Channel) (pieces : List Arrival) (u : LeafNumber) → ArePiecesOf channel pieces →
         u < 2 ^ channel.height →
         taken_keys (card_of channel.master channel.ca channel.height u) [] (arriving pieces)
         ≡ keys_from false u pieces }
-    ensures whole { (channel : Channel) (runs : List Arrival) (u : ℕ) → AreRunsOf channel runs →
+    ensures whole { (channel : Channel) (runs : List Arrival) (u : LeafNumber) → AreRunsOf channel runs →
         u < 2 ^ channel.height →
         taken_keys (card_of channel.master channel.ca channel.height u) [] (all_sent runs) ≡ keys_of_all u runs }
 {}
