@@ -1,7 +1,8 @@
 -- Public meaning: which clear packets a receiver writes that is switched off and on and loses packets. Events are
 -- listed with the newest first.
-use Rattle.std.specs.Prelude.{ℕ, Bool, nat_eq, List, filter, length, map, take}
+use Rattle.std.specs.Prelude.{ℕ, nat_eq, List, filter, length, map, take}
 use Rattle.std.specs.List.{flat_map, list_any, range_with_len}
+use Rattle.sd_spec_types.specs.Types.{Packets, Arrived, LeafNumber, PacketNumber}
 use Rattle.sd_card.specs.Fields.{CardFields, card_of}
 use Rattle.sd_spec_broadcast.specs.Plan.{Plan}
 use Rattle.sd_spec_broadcast.specs.Sent.{Item, Cat, sent}
@@ -17,28 +18,28 @@ abbrev pub most_added : ℕ
 most_added = 67
 
 -- the card of leaf u of the plan's site
-abbrev pub card_at : Plan → ℕ → CardFields
+abbrev pub card_at : Plan → LeafNumber → CardFields
 card_at plan u = card_of plan.site.master plan.site.ca plan.site.height u
 
 -- the clear packets that were sent in these events
-abbrev pub taken : List (List ℕ) → List Event → List (List ℕ)
+abbrev pub taken : Packets → List Event → Packets
 taken clear past = take (sends (length clear) past) clear
 
 -- of each number below n, whether it is one of these
-unfoldable pub flags_of : List ℕ → ℕ → List Bool
+unfoldable pub flags_of : List PacketNumber → ℕ → Arrived
 flags_of places n = map (λ i. list_any (nat_eq i) places) (range_with_len 0 n)
 
 -- what follows the first CAT, of what was sent, for a receiver that was offered the packets with these numbers in one
 -- time that it was on
-abbrev pub kept_at : Plan → List (List ℕ) → List ℕ → List Item
+abbrev pub kept_at : Plan → Packets → List PacketNumber → List Item
 kept_at plan clear places = after_cat (at_places Cat (sent plan clear) places)
 
 -- the numbers of the clear packets that are confirmed to leaf u in one time that its receiver was on [this project,
 -- docs/FORMATS.md, Receiver]
-unfoldable pub places_in : Plan → ℕ → List (List ℕ) → List ℕ → List ℕ
+unfoldable pub places_in : Plan → LeafNumber → Packets → List PacketNumber → List PacketNumber
 places_in plan u clear places =
     filter (is_confirmed_at plan u clear (kept_at plan clear places)) (range_with_len 0 (length clear))
 
 -- the numbers of the clear packets that are confirmed to leaf u in all times that its receiver was on
-unfoldable pub places_of : Plan → ℕ → List (List ℕ) → Watch → List ℕ
+unfoldable pub places_of : Plan → LeafNumber → Packets → Watch → List PacketNumber
 places_of plan u clear w = flat_map (places_in plan u clear) (times w)

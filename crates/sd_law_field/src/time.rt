@@ -1,7 +1,8 @@
 //! What a receiver writes in one time that it is on.
 
-ghost use Rattle.std.specs.Prelude.{◌≡◌, ◌^◌, ◌<◌, ◌++◌, [], ℕ, false, List, None, All, Contains, get_or, length};
+ghost use Rattle.std.specs.Prelude.{◌≡◌, ◌^◌, ◌<◌, ◌++◌, [], false, List, None, All, Contains, get_or, length};
 ghost use Rattle.std.specs.List.Sorted.{IsStrictlyIncreasing};
+ghost use Rattle.sd_spec_types.specs.Types.{Packet, Packets, LeafNumber, PacketNumber};
 ghost use Rattle.sd_spec_broadcast.specs.Plan.{Plan, IsPlan, period_of};
 ghost use Rattle.sd_spec_broadcast.specs.Refused.{IsClear};
 ghost use Rattle.sd_spec_broadcast.specs.Sent.{Item, Cat, Carries, sent};
@@ -16,13 +17,13 @@ ghost use Rattle.sd_law_field.specs.Times.{card_at, flags_of, places_in};
 /// What is at rising places of a list is a choice of the list, and the same choice of a longer one.
 #[tactic(auto, using(crate::proofs::Chosen::packets_chosen, crate::proofs::Chosen::items_chosen, crate::proofs::Chosen::packets_chosen_of_more, crate::proofs::Chosen::items_chosen_of_more))]
 pub fn places_are_chosen()
-    ensures packets { (xs : List (List ℕ)) (places : List ℕ) → IsStrictlyIncreasing places →
+    ensures packets { (xs : Packets) (places : List PacketNumber) → IsStrictlyIncreasing places →
         All (λ i. i < length xs) places → chosen (flags_of places (length xs)) xs ≡ at_places [] xs places }
-    ensures items { (xs : List Item) (places : List ℕ) → IsStrictlyIncreasing places →
+    ensures items { (xs : List Item) (places : List PacketNumber) → IsStrictlyIncreasing places →
         All (λ i. i < length xs) places → chosen (flags_of places (length xs)) xs ≡ at_places Cat xs places }
-    ensures longer_packets { (xs ys : List (List ℕ)) (places : List ℕ) → IsStrictlyIncreasing places →
+    ensures longer_packets { (xs ys : Packets) (places : List PacketNumber) → IsStrictlyIncreasing places →
         All (λ i. i < length xs) places → chosen (flags_of places (length xs)) (xs ++ ys) ≡ at_places [] xs places }
-    ensures longer_items { (xs ys : List Item) (places : List ℕ) → IsStrictlyIncreasing places →
+    ensures longer_items { (xs ys : List Item) (places : List PacketNumber) → IsStrictlyIncreasing places →
         All (λ i. i < length xs) places → chosen (flags_of places (length xs)) (xs ++ ys) ≡ at_places Cat xs places }
 {}
 
@@ -30,11 +31,11 @@ pub fn places_are_chosen()
 /// packets that are confirmed to it.
 #[tactic(auto, using(crate::proofs::OneTime::none_refused, crate::proofs::OneTime::time_writes))]
 pub fn times_are_confirmed()
-    ensures none { (plan : Plan) (clear : List (List ℕ)) (u : ℕ) (places : List ℕ) → IsPlan plan →
+    ensures none { (plan : Plan) (clear : Packets) (u : LeafNumber) (places : List PacketNumber) → IsPlan plan →
         IsClear plan.site clear → AreWholePackets clear → AreSynced clear → u < 2 ^ plan.site.height →
         IsStrictlyIncreasing places → All (λ i. i < length (sent plan clear)) places →
         break_from (card_at plan u) [] (at_places [] (stream plan clear) places) ≡ None }
-    ensures out { (plan : Plan) (clear : List (List ℕ)) (u : ℕ) (places : List ℕ) → IsPlan plan →
+    ensures out { (plan : Plan) (clear : Packets) (u : LeafNumber) (places : List PacketNumber) → IsPlan plan →
         IsClear plan.site clear → AreWholePackets clear → AreSynced clear → u < 2 ^ plan.site.height →
         IsStrictlyIncreasing places → All (λ i. i < length (sent plan clear)) places →
         out_from (card_at plan u) [] (at_places [] (stream plan clear) places)
@@ -43,23 +44,24 @@ pub fn times_are_confirmed()
 
 /// A clear packet that is confirmed was offered.
 pub fn confirmed_packets_were_offered()
-    ensures { (plan : Plan) (clear : List (List ℕ)) (u j : ℕ) (places : List ℕ) →
+    ensures { (plan : Plan) (clear : Packets) (u : LeafNumber) (j : PacketNumber) (places : List PacketNumber) →
         Contains (places_in plan u clear places) j →
-        (i : ℕ) × (packet : List ℕ) × Contains places i × (get_or (sent plan clear) i Cat ≡ Carries j packet) }
+        (i : PacketNumber) × (packet : Packet) × Contains places i ×
+        (get_or (sent plan clear) i Cat ≡ Carries j packet) }
 {}
 
 /// If a receiver was offered all packets of one time before those of another, it is confirmed later clear packets in
 /// the other.
 pub fn later_times_have_later_packets()
-    ensures { (plan : Plan) (clear : List (List ℕ)) (u j l : ℕ) (places later : List ℕ) →
-        ((i k : ℕ) → Contains places i → Contains later k → i < k) →
+    ensures { (plan : Plan) (clear : Packets) (u : LeafNumber) (j l : PacketNumber) (places later : List PacketNumber) →
+        ((i k : PacketNumber) → Contains places i → Contains later k → i < k) →
         Contains (places_in plan u clear places) j → Contains (places_in plan u clear later) l → j < l }
 {}
 
 /// A clear packet that is confirmed is of a period in which the leaf isn't revoked.
 #[tactic(auto, using(crate::proofs::Entitled::places_are_entitled))]
 pub fn confirmed_packets_are_entitled()
-    ensures { (plan : Plan) (clear : List (List ℕ)) (u : ℕ) (places : List ℕ) → IsPlan plan →
+    ensures { (plan : Plan) (clear : Packets) (u : LeafNumber) (places : List PacketNumber) → IsPlan plan →
         u < 2 ^ plan.site.height →
         All (λ j. is_revoked_in plan u (period_of plan j) ≡ false) (places_in plan u clear places) }
 {}

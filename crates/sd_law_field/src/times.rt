@@ -3,6 +3,7 @@
 ghost use Rattle.std.specs.Prelude.{◌≡◌, ◌*◌, ◌^◌, ◌<◌, ◌≤◌, [], ℕ, false, List, Some, None, All, length, slice_get};
 ghost use Rattle.std.specs.List.{concat};
 ghost use Rattle.std.specs.List.Sorted.{IsStrictlyIncreasing};
+ghost use Rattle.sd_spec_types.specs.Types.{Packets, LeafNumber, PacketNumber};
 ghost use Rattle.sd_spec_broadcast.specs.Plan.{Plan, IsPlan, period_of};
 ghost use Rattle.sd_spec_broadcast.specs.Refused.{IsClear};
 ghost use Rattle.sd_law_broadcast.specs.Packets.{AreWholePackets};
@@ -18,19 +19,19 @@ ghost use Rattle.sd_law_field.specs.Times.{card_at, taken, places_of};
 /// sent, and they are of periods in which its leaf isn't revoked.
 #[tactic(auto, using(crate::proofs::Written::written_is_confirmed, crate::proofs::Written::places_rise, crate::proofs::Written::places_are_sent, crate::proofs::Written::places_entitled))]
 pub fn written_packets_are_confirmed()
-    ensures packets { (plan : Plan) (clear : List (List ℕ)) (u : ℕ) (past : List Event) → IsPlan plan →
+    ensures packets { (plan : Plan) (clear : Packets) (u : LeafNumber) (past : List Event) → IsPlan plan →
         IsClear plan.site (taken clear past) → AreWholePackets (taken clear past) → AreSynced (taken clear past) →
         u < 2 ^ plan.site.height → written plan (card_at plan u) (taken clear past) (watch plan clear u past)
         ≡ packets_at (taken clear past) (places_of plan u (taken clear past) (watch plan clear u past)) }
-    ensures rising { (plan : Plan) (clear : List (List ℕ)) (u : ℕ) (past : List Event) → IsPlan plan →
+    ensures rising { (plan : Plan) (clear : Packets) (u : LeafNumber) (past : List Event) → IsPlan plan →
         IsClear plan.site (taken clear past) → AreWholePackets (taken clear past) → AreSynced (taken clear past) →
         u < 2 ^ plan.site.height →
         IsStrictlyIncreasing (places_of plan u (taken clear past) (watch plan clear u past)) }
-    ensures inside { (plan : Plan) (clear : List (List ℕ)) (u : ℕ) (past : List Event) → IsPlan plan →
+    ensures inside { (plan : Plan) (clear : Packets) (u : LeafNumber) (past : List Event) → IsPlan plan →
         IsClear plan.site (taken clear past) → AreWholePackets (taken clear past) → AreSynced (taken clear past) →
         u < 2 ^ plan.site.height → All (λ j. j < length (taken clear past))
         (places_of plan u (taken clear past) (watch plan clear u past)) }
-    ensures entitled { (plan : Plan) (clear : List (List ℕ)) (u : ℕ) (past : List Event) → IsPlan plan →
+    ensures entitled { (plan : Plan) (clear : Packets) (u : LeafNumber) (past : List Event) → IsPlan plan →
         IsClear plan.site (taken clear past) → AreWholePackets (taken clear past) → AreSynced (taken clear past) →
         u < 2 ^ plan.site.height → All (λ j. is_revoked_in plan u (period_of plan j) ≡ false)
         (places_of plan u (taken clear past) (watch plan clear u past)) }
@@ -40,7 +41,8 @@ pub fn written_packets_are_confirmed()
 /// at whatever moments the two are looked at.
 #[tactic(auto, using(crate::proofs::Written::one_packet))]
 pub fn one_packet_for_a_place()
-    ensures { (plan : Plan) (clear : List (List ℕ)) (u v i k j : ℕ) (past other : List Event) → IsPlan plan →
+    ensures { (plan : Plan) (clear : Packets) (u v : LeafNumber) (i k : ℕ) (j : PacketNumber)
+        (past other : List Event) → IsPlan plan →
         IsClear plan.site (taken clear past) → AreWholePackets (taken clear past) → AreSynced (taken clear past) →
         IsClear plan.site (taken clear other) → AreWholePackets (taken clear other) → AreSynced (taken clear other) →
         u < 2 ^ plan.site.height → v < 2 ^ plan.site.height →
@@ -53,7 +55,7 @@ pub fn one_packet_for_a_place()
 /// No receiver ever refuses a packet.
 #[tactic(auto, using(crate::proofs::Written::present_unrefused))]
 pub fn receivers_never_refuse()
-    ensures { (plan : Plan) (clear : List (List ℕ)) (u : ℕ) (past : List Event) → IsPlan plan →
+    ensures { (plan : Plan) (clear : Packets) (u : LeafNumber) (past : List Event) → IsPlan plan →
         IsClear plan.site (taken clear past) → AreWholePackets (taken clear past) → AreSynced (taken clear past) →
         u < 2 ^ plan.site.height →
         break_from (card_at plan u) [] (present plan (taken clear past) (watch plan clear u past)) ≡ None }
@@ -62,17 +64,17 @@ pub fn receivers_never_refuse()
 /// A receiver never writes more packets than were sent clear, so that 188 bytes for each clear packet are enough.
 #[tactic(auto, using(crate::proofs::Written::written_few, crate::proofs::Written::written_short, crate::proofs::Written::written_has_room))]
 pub fn written_lists_have_room()
-    ensures packets { (plan : Plan) (clear : List (List ℕ)) (u : ℕ) (past : List Event) → IsPlan plan →
+    ensures packets { (plan : Plan) (clear : Packets) (u : LeafNumber) (past : List Event) → IsPlan plan →
         IsClear plan.site (taken clear past) → AreWholePackets (taken clear past) → AreSynced (taken clear past) →
         u < 2 ^ plan.site.height →
         length (written plan (card_at plan u) (taken clear past) (watch plan clear u past))
         ≤ length (taken clear past) }
-    ensures bytes { (plan : Plan) (clear : List (List ℕ)) (u : ℕ) (past : List Event) → IsPlan plan →
+    ensures bytes { (plan : Plan) (clear : Packets) (u : LeafNumber) (past : List Event) → IsPlan plan →
         IsClear plan.site (taken clear past) → AreWholePackets (taken clear past) → AreSynced (taken clear past) →
         u < 2 ^ plan.site.height →
         length (concat (written plan (card_at plan u) (taken clear past) (watch plan clear u past)))
         ≤ 188 * length (taken clear past) }
-    ensures room { (plan : Plan) (clear : List (List ℕ)) (u : ℕ) (past : List Event) → IsPlan plan →
+    ensures room { (plan : Plan) (clear : Packets) (u : LeafNumber) (past : List Event) → IsPlan plan →
         IsClear plan.site (taken clear past) → AreWholePackets (taken clear past) → AreSynced (taken clear past) →
         u < 2 ^ plan.site.height →
         length (concat (written plan (card_at plan u) (taken clear past) (watch plan clear u past)))
