@@ -1,6 +1,7 @@
 -- Public meaning: what is so where two sites with their books may not go out under one set of cards
 -- [this project, docs/FORMATS.md, Apart].
 use Rattle.std.specs.Prelude.{◌≡◌, ◌≢◌, ◌⊎◌, ◌↔◌, ℕ, ◌<◌, ◌≤◌, List, Contains}
+use Rattle.sd_spec_types.specs.Types.{LeafNumber, Leaves, PeriodNumber, WordNumber}
 use Rattle.sd_book.specs.Commands.{revoked}
 use Rattle.sd_spec_broadcast.specs.Plan.{Plan}
 use Rattle.sd_law_several.specs.Runs.{HasWords}
@@ -9,15 +10,15 @@ use Rattle.sd_command_status.specs.declared.status.Clash.TheVariants.{Heights, M
 use Rattle.sd_run_apart.specs.Apart.{last_due}
 
 -- the leaves that the book revokes in period q, ascending [this project, docs/FORMATS.md, Book]
-abbrev pub revoked_by : Plan → ℕ → List ℕ
+abbrev pub revoked_by : Plan → PeriodNumber → Leaves
 revoked_by plan q = revoked plan.site.height plan.commands q
 
 -- the control word is of the site's range
-abbrev pub IsWordOf : Plan → ℕ → Type 0
+abbrev pub IsWordOf : Plan → WordNumber → Type 0
 IsWordOf plan t = (plan.site.first_word ≤ t) × (t ≤ plan.site.last_word)
 
 -- some broadcast of the site and the book may use the period: its stream is not known
-abbrev pub IsDueIn : Plan → ℕ → Type 0
+abbrev pub IsDueIn : Plan → PeriodNumber → Type 0
 IsDueIn plan q = (plan.site.first_period ≤ q) × (q ≤ last_due plan)
 
 -- one of two lists alone has the number
@@ -25,18 +26,18 @@ abbrev pub IsOfOne : List ℕ → List ℕ → ℕ → Type 0
 IsOfOne us vs u = (Contains us u × (Contains vs u → ⊥)) ⊎ (Contains vs u × (Contains us u → ⊥))
 
 -- of the receivers that one of the books alone revokes in a period of both, u in period q is the first
-pub record IsFirstApart (a b : Plan) (u q : ℕ) : Type 0 where
+pub record IsFirstApart (a b : Plan) (u : LeafNumber) (q : PeriodNumber) : Type 0 where
   pub due : IsDueIn a q
   pub due_more : IsDueIn b q
   pub alone : IsOfOne (revoked_by a q) (revoked_by b q) u
-  pub least : (v : ℕ) → v < u → Contains (revoked_by a q) v ↔ Contains (revoked_by b q) v
-  pub first : (p : ℕ) → IsDueIn a p → IsDueIn b p → p < q → revoked_by a p ≡ revoked_by b p
+  pub least : (v : LeafNumber) → v < u → Contains (revoked_by a q) v ↔ Contains (revoked_by b q) v
+  pub first : (p : PeriodNumber) → IsDueIn a p → IsDueIn b p → p < q → revoked_by a p ≡ revoked_by b p
 
 -- the control word is the least that both sites have
-pub record IsLeastShared (a b : Plan) (t : ℕ) : Type 0 where
+pub record IsLeastShared (a b : Plan) (t : WordNumber) : Type 0 where
   pub is : IsWordOf a t
   pub is_more : IsWordOf b t
-  pub least : (s : ℕ) → IsWordOf a s → IsWordOf b s → t ≤ s
+  pub least : (s : WordNumber) → IsWordOf a s → IsWordOf b s → t ≤ s
 
 -- the site of this number has no control word
 abbrev pub HasNone : Plan → Plan → ℕ → Type 0

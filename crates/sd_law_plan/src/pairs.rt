@@ -1,6 +1,7 @@
 //! What it means that two sites with their books are taken or refused.
 
 ghost use Rattle.std.specs.Prelude.{◌≡◌, ◌<◌, ◌≤◌, ◌∷◌, ℕ, List, None, Some, length, slice_get};
+ghost use Rattle.sd_spec_types.specs.Types.{Key};
 ghost use Rattle.sd_site.specs.Fields.{AreInRange};
 ghost use Rattle.sd_spec_broadcast.specs.Plan.{Plan};
 ghost use Rattle.sd_law_several.specs.Runs.{Run, IsRun, HasWords, ShareNoWord, HaveOwnWords, AgreeOnPeriods, AllAgree};
@@ -14,13 +15,13 @@ ghost use Rattle.sd_law_plan.specs.Told.{IsSo};
 /// are. If each two of a list don't, they hold for the list.
 #[tactic(auto, using(crate::proofs::Clashes::two_apart, crate::proofs::Clashes::one_set, crate::proofs::Clashes::next_have_none, crate::proofs::Clashes::swapped_have_none, crate::proofs::Told::told_is_so))]
 pub fn checked_broadcasts_are_apart()
-    ensures two { (master : List ℕ) (a b : Run) → IsRun master a → IsRun master b → clash_of a.plan b.plan ≡ None →
+    ensures two { (master : Key) (a b : Run) → IsRun master a → IsRun master b → clash_of a.plan b.plan ≡ None →
         (HasWords a.plan.site × HasWords b.plan.site) × (ShareNoWord a.plan.site b.plan.site × AgreeOnPeriods a b) }
-    ensures words { (master : List ℕ) (runs : List Run) →
+    ensures words { (master : Key) (runs : List Run) →
         ((i : ℕ) (a : Run) → slice_get runs i ≡ Some a → IsRun master a) → 1 < length runs →
         ((i j : ℕ) (a b : Run) → slice_get runs i ≡ Some a → slice_get runs j ≡ Some b → i < j →
         clash_of a.plan b.plan ≡ None) → HaveOwnWords runs }
-    ensures agree { (master : List ℕ) (runs : List Run) →
+    ensures agree { (master : Key) (runs : List Run) →
         ((i : ℕ) (a : Run) → slice_get runs i ≡ Some a → IsRun master a) →
         ((i j : ℕ) (a b : Run) → slice_get runs i ≡ Some a → slice_get runs j ≡ Some b → i < j →
         clash_of a.plan b.plan ≡ None) → AllAgree runs }

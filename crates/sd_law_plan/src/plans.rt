@@ -1,6 +1,7 @@
 //! What a plan says of streams, and of a broadcast after it.
 
-ghost use Rattle.std.specs.Prelude.{◌≡◌, ◌+◌, ◌^◌, ◌<◌, ◌≤◌, ℕ, List, length, false};
+ghost use Rattle.std.specs.Prelude.{◌≡◌, ◌+◌, ◌^◌, ◌<◌, ◌≤◌, ℕ, length, false};
+ghost use Rattle.sd_spec_types.specs.Types.{Packets, PacketNumber};
 ghost use Rattle.sd_site.specs.Fields.{SiteFields, AreInRange};
 ghost use Rattle.sd_spec_broadcast.specs.Kinds.{moved_pids};
 ghost use Rattle.sd_spec_broadcast.specs.Plan.{Plan, IsPlan, period_of, word_of};
@@ -14,24 +15,24 @@ ghost use Rattle.sd_law_plan.specs.Within.{IsWithinPlan};
 /// those that are printed, and each period's sections are sent as often as is printed. No clear stream has more than
 /// 256 PIDs with positions.
 pub fn broadcasts_are_within_plans()
-    ensures told { (plan : Plan) (n : ℕ) (clear : List (List ℕ)) → IsPlan plan → IsClear plan.site clear →
+    ensures told { (plan : Plan) (n : ℕ) (clear : Packets) → IsPlan plan → IsClear plan.site clear →
         AreLong clear → 0 < length clear → length (moved_pids clear) ≤ n → IsWithinPlan plan n clear }
-    ensures any { (plan : Plan) (clear : List (List ℕ)) → IsPlan plan → IsClear plan.site clear → AreLong clear →
+    ensures any { (plan : Plan) (clear : Packets) → IsPlan plan → IsClear plan.site clear → AreLong clear →
         0 < length clear → IsWithinPlan plan 256 clear }
 {}
 
 /// A stream of as many packets as a site has control words for has no packet that is too long.
 #[tactic(auto, using(crate::proofs::Airs::streams_have_words))]
 pub fn planned_streams_have_words()
-    ensures { (site : SiteFields) (m k : ℕ) → AreInRange site → m < 2 ^ 32 → k < m →
+    ensures { (site : SiteFields) (m : ℕ) (k : PacketNumber) → AreInRange site → m < 2 ^ 32 → k < m →
         last_word_for site m ≤ site.last_word → is_too_long site k ≡ false }
 {}
 
 /// A broadcast from the next control word and period on has no control word and no period of this one's.
 pub fn next_broadcasts_are_apart()
-    ensures words { (plan more : Plan) (j k m : ℕ) → AreInRange plan.site → j < m →
+    ensures words { (plan more : Plan) (j k : PacketNumber) (m : ℕ) → AreInRange plan.site → j < m →
         more.site.first_word ≡ last_word_for plan.site m + 1 → word_of plan.site j < word_of more.site k }
-    ensures periods { (plan more : Plan) (j k m : ℕ) → AreInRange plan.site → AreInRange more.site → j < m →
-        more.site.first_period ≡ last_period_for plan (cryptos_for plan.site m) + 1 →
+    ensures periods { (plan more : Plan) (j k : PacketNumber) (m : ℕ) → AreInRange plan.site → AreInRange more.site →
+        j < m → more.site.first_period ≡ last_period_for plan (cryptos_for plan.site m) + 1 →
         period_of plan j < period_of more k }
 {}
