@@ -2,6 +2,7 @@
 
 ghost use Rattle.std.specs.Prelude.{◌≡◌, ◌^◌, ◌<◌, [], ℕ, false, List, Ok, None, Some, All, length, slice_get};
 ghost use Rattle.std.specs.List.Sorted.{IsStrictlyIncreasing};
+ghost use Rattle.sd_spec_types.specs.Types.{Bytes, Packets, LeafNumber, PacketNumber};
 ghost use Rattle.sd_site.specs.Fields.{SiteFields};
 ghost use Rattle.sd_spec_broadcast.specs.Plan.{period_of};
 ghost use Rattle.sd_spec_broadcast.specs.Refused.{IsClear};
@@ -19,7 +20,7 @@ ghost use Rattle.sd_law_field_lines.specs.Fielded.{plan_for, sent_for, wrote_for
 /// on. It prints nothing else.
 #[tactic(auto, using(crate::proofs::Fielded::text_is_confirmed))]
 pub fn good_fields_print_what_is_confirmed()
-    ensures { (site : SiteFields) (clear : List (List ℕ)) (events : List Event) → IsGoodField site clear events →
+    ensures { (site : SiteFields) (clear : Packets) (events : List Event) → IsGoodField site clear events →
         field_text site clear events ≡ Ok (confirmed_lines site clear events (2 ^ site.height)) }
 {}
 
@@ -27,13 +28,13 @@ pub fn good_fields_print_what_is_confirmed()
 /// leaf isn't revoked.
 #[tactic(auto, using(crate::proofs::Fielded::confirmed_rise, crate::proofs::Fielded::confirmed_sent, crate::proofs::Fielded::confirmed_entitled))]
 pub fn confirmed_places_are_entitled()
-    ensures rising { (site : SiteFields) (clear : List (List ℕ)) (events : List Event) (u : ℕ) →
+    ensures rising { (site : SiteFields) (clear : Packets) (events : List Event) (u : LeafNumber) →
         IsGoodField site clear events → u < 2 ^ site.height →
         IsStrictlyIncreasing (confirmed_places site clear events u) }
-    ensures sent { (site : SiteFields) (clear : List (List ℕ)) (events : List Event) (u : ℕ) →
+    ensures sent { (site : SiteFields) (clear : Packets) (events : List Event) (u : LeafNumber) →
         IsGoodField site clear events → u < 2 ^ site.height →
         All (λ j. j < length (sent_for clear events)) (confirmed_places site clear events u) }
-    ensures entitled { (site : SiteFields) (clear : List (List ℕ)) (events : List Event) (u : ℕ) →
+    ensures entitled { (site : SiteFields) (clear : Packets) (events : List Event) (u : LeafNumber) →
         IsGoodField site clear events → u < 2 ^ site.height →
         All (λ j. is_revoked_in (plan_for site clear events) u (period_of (plan_for site clear events) j) ≡ false)
         (confirmed_places site clear events u) }
@@ -42,14 +43,15 @@ pub fn confirmed_places_are_entitled()
 /// A field that prints its lines sent no clear packet that is refused.
 #[tactic(auto, using(crate::proofs::Fielded::done_is_clear))]
 pub fn done_fields_sent_clear_packets()
-    ensures { (site : SiteFields) (clear : List (List ℕ)) (events : List Event) (text : List ℕ) →
+    ensures { (site : SiteFields) (clear : Packets) (events : List Event) (text : Bytes) →
         field_text site clear events ≡ Ok text → IsClear site (sent_for clear events) }
 {}
 
 /// Two receivers that wrote for one clear packet wrote the same packet.
 #[tactic(auto, using(crate::proofs::Fielded::one_for_a_place))]
 pub fn receivers_write_one_packet()
-    ensures { (site : SiteFields) (clear : List (List ℕ)) (events : List Event) (u v i k j : ℕ) →
+    ensures { (site : SiteFields) (clear : Packets) (events : List Event) (u v : LeafNumber) (i k : ℕ)
+        (j : PacketNumber) →
         IsGoodField site clear events → u < 2 ^ site.height → v < 2 ^ site.height →
         slice_get (confirmed_places site clear events u) i ≡ Some j →
         slice_get (confirmed_places site clear events v) k ≡ Some j →
@@ -59,8 +61,8 @@ pub fn receivers_write_one_packet()
 /// Over whole packets no receiver of a field ever refuses one, and no write ever passes the room that a field takes.
 #[tactic(auto, using(crate::proofs::Never::never_refuses, crate::proofs::Never::never_written_over, crate::proofs::Never::never_sent_over))]
 pub fn fields_never_run_over()
-    ensures refusal { (v : FieldValue) (u : ℕ) → IsWhole v → u < 2 ^ v.site.height →
+    ensures refusal { (v : FieldValue) (u : LeafNumber) → IsWhole v → u < 2 ^ v.site.height →
         break_from (card_at v u) [] (present (plan_in v) (taken v) (watch_of u v)) ≡ None }
-    ensures written { (v : FieldValue) (u : ℕ) → IsWhole v → u < 2 ^ v.site.height → ¬ IsWrittenOver u v }
+    ensures written { (v : FieldValue) (u : LeafNumber) → IsWhole v → u < 2 ^ v.site.height → ¬ IsWrittenOver u v }
     ensures sent { (v : FieldValue) → IsWhole v → ¬ IsSentOver v }
 {}

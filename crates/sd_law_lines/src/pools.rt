@@ -1,8 +1,9 @@
 //! Laws on what the lines of `opens` say of a coalition's cards. They are symbolic: they speak of names of labels and
 //! keys, and of the messages of one book.
 
-ghost use Rattle.std.specs.Prelude.{◌≡◌, ℕ, ◌^◌, ◌<◌, ◌≤◌, ◌↔◌, List, All, Any, Contains};
+ghost use Rattle.std.specs.Prelude.{◌≡◌, ◌^◌, ◌<◌, ◌≤◌, ◌↔◌, All, Any, Contains};
 ghost use Rattle.std.specs.List.{flat_map};
+ghost use Rattle.sd_spec_types.specs.Types.{Height, Leaves, PeriodNumber};
 ghost use Rattle.sd_tree.specs.Limits.{highest};
 ghost use Rattle.sd_tree.specs.declared.set.SetName.{SetName};
 ghost use Rattle.sd_tree.specs.SetNames.{IsOfHeight};
@@ -17,10 +18,10 @@ ghost use Rattle.sd_run_opens.specs.Opens.{open_end, shut_end, pool_end, opened_
 /// [Naor, Naor, Lotspiech 2001, 3.2]. All messages of the book add nothing to that.
 #[tactic(auto, using(crate::proofs::Ends::open_is_reached, crate::proofs::Ends::open_is_known))]
 pub fn open_sets_are_reached()
-    ensures reached { (d : ℕ) (leaves : List ℕ) (name : SetName) → d ≤ highest → All (λ u. u < 2 ^ d) leaves →
+    ensures reached { (d : Height) (leaves : Leaves) (name : SetName) → d ≤ highest → All (λ u. u < 2 ^ d) leaves →
         IsOfHeight d name →
         (pool_end d leaves name ≡ open_end) ↔ IsReached (flat_map (given d) leaves) (Key name) }
-    ensures known { (service : Service) (leaves : List ℕ) (name : SetName) → service.height ≤ highest →
+    ensures known { (service : Service) (leaves : Leaves) (name : SetName) → service.height ≤ highest →
         All (λ u. u < 2 ^ service.height) leaves → IsOfHeight service.height name →
         (pool_end service.height leaves name ≡ open_end) ↔ IsKnown service leaves (OfTree (Key name)) }
 {}
@@ -29,7 +30,7 @@ pub fn open_sets_are_reached()
 /// together.
 #[tactic(auto, using(crate::proofs::Ends::open_gives_period))]
 pub fn open_lines_give_the_period()
-    ensures { (service : Service) (leaves : List ℕ) (q : ℕ) → service.height ≤ highest →
+    ensures { (service : Service) (leaves : Leaves) (q : PeriodNumber) → service.height ≤ highest →
         All (λ u. u < 2 ^ service.height) leaves → q ≤ last_period service.commands →
         Any (λ name. pool_end service.height leaves name ≡ open_end) (service_sets service q)
         ↔ IsKnown service leaves (PeriodKey q) }
@@ -38,9 +39,9 @@ pub fn open_lines_give_the_period()
 /// If all listed leaves are revoked in a period, each line of its sets says `shut`. Then neither the key of the period
 /// nor a control word of it is derivable from their cards together.
 pub fn revoked_leaves_open_none()
-    ensures shut { (service : Service) (leaves : List ℕ) (q : ℕ) → service.height ≤ highest →
+    ensures shut { (service : Service) (leaves : Leaves) (q : PeriodNumber) → service.height ≤ highest →
         All (Contains (revoked_at service q)) leaves →
         opened_text service.height leaves service.commands q ≡ shut_text service.height service.commands q }
-    ensures nothing { (service : Service) (leaves : List ℕ) (q : ℕ) → service.height ≤ highest →
+    ensures nothing { (service : Service) (leaves : Leaves) (q : PeriodNumber) → service.height ≤ highest →
         All (Contains (revoked_at service q)) leaves → KnowsNothingOf service leaves q }
 {}

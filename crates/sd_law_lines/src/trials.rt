@@ -1,6 +1,7 @@
 //! Laws on what a trial prints, by the theorems on the head end and the receiver.
 
-ghost use Rattle.std.specs.Prelude.{◌≡◌, ◌^◌, ◌≤◌, ℕ, List, Some, Ok, false, length};
+ghost use Rattle.std.specs.Prelude.{◌≡◌, ◌^◌, ◌≤◌, Some, Ok, false, length};
+ghost use Rattle.sd_spec_types.specs.Types.{Bytes};
 ghost use Rattle.sd_ports.specs.Bytes.{Prefix};
 ghost use Rattle.sd_engine.specs.Taken.{Whole, taken_of, end_of};
 ghost use Rattle.sd_spec_broadcast.specs.Plan.{Plan, IsPlan};
@@ -17,7 +18,7 @@ ghost use Rattle.sd_law_lines.specs.Trials.{opened_lines};
 /// the first period of the broadcast in which it is.
 #[tactic(auto, using(crate::proofs::Tried::trial_good))]
 pub fn good_trials_print_what_is_opened()
-    ensures { (site book clear : FileArgument) (given : Readings) (plan : Plan) (bytes : List ℕ) → IsPlan plan →
+    ensures { (site book clear : FileArgument) (given : Readings) (plan : Plan) (bytes : Bytes) → IsPlan plan →
         (plan_meaning site book given).result ≡ Ok plan → given clear ≡ Some bytes → length bytes ≤ most_clear_bytes →
         AreBytes bytes → end_of bytes ≡ Whole → IsClear plan.site (taken_of bytes) →
         (trial_meaning site book clear given).result
@@ -28,7 +29,7 @@ pub fn good_trials_print_what_is_opened()
 /// what its receivers open.
 #[tactic(auto, using(crate::proofs::Tried::trial_done))]
 pub fn done_trials_print_what_is_opened()
-    ensures { (plan : Plan) (prefix : Prefix) (text : List ℕ) → IsPlan plan → AreBytes prefix.bytes →
+    ensures { (plan : Plan) (prefix : Prefix) (text : Bytes) → IsPlan plan → AreBytes prefix.bytes →
         trial_text plan prefix ≡ Ok text →
         (end_of prefix.bytes ≡ Whole) × IsClear plan.site (taken_of prefix.bytes) × (prefix.more ≡ false)
         × (text ≡ opened_lines plan (taken_of prefix.bytes) (2 ^ plan.site.height)) }

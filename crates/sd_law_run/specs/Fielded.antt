@@ -1,5 +1,6 @@
 -- Public meaning: arguments and files that mean a field.
-use Rattle.std.specs.Prelude.{◌≡◌, ℕ, List, Some, None, Ok, ◌≤◌, length}
+use Rattle.std.specs.Prelude.{◌≡◌, List, Some, None, Ok, ◌≤◌, length}
+use Rattle.sd_spec_types.specs.Types.{Bytes}
 use Rattle.sd_engine.specs.Stream.{packets_of, break_of}
 use Rattle.sd_site.specs.Fields.{SiteFields}
 use Rattle.sd_spec_broadcast.specs.Refused.{IsClear}
@@ -14,7 +15,7 @@ use Rattle.sd_law_run.specs.Good.{IsGoodSite}
 -- The arguments are `field SITE CLEAR SCRIPT`, and the files are there: a site whose tree is at most 6 high, at most
 -- 16,384 packets and nothing else, and a script for the tree. No packet that the script sends is refused [this project,
 -- docs/FORMATS.md, Field].
-pub record IsGoodField (words : List (List ℕ)) (given : Readings) : Type 0 where
+pub record IsGoodField (words : List Bytes) (given : Readings) : Type 0 where
   pub site : FileArgument
   pub clear : FileArgument
   pub script : FileArgument
@@ -22,13 +23,13 @@ pub record IsGoodField (words : List (List ℕ)) (given : Readings) : Type 0 whe
   pub fields : SiteFields
   pub good_site : IsGoodSite (given site) fields
   pub low : fields.height ≤ 6
-  pub bytes : List ℕ
+  pub bytes : Bytes
   pub there : given clear ≡ Some bytes
   pub short : length bytes ≤ 3080192
   -- each number of a file is a byte's
   pub are_bytes : AreBytes bytes
   pub unbroken : break_of bytes ≡ None
-  pub text : List ℕ
+  pub text : Bytes
   pub script_there : given script ≡ Some text
   pub script_short : length text ≤ 33554432
   pub events : List Event

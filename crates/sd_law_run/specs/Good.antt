@@ -1,5 +1,6 @@
 -- Public meaning: arguments and files that mean work: they are there, in their grammars and within their limits.
 use Rattle.std.specs.Prelude.{◌≡◌, ℕ, List, Option, Some, Ok, ◌≤◌, [], ◌++◌, ◌+◌, length, None, ◌^◌, ◌<◌}
+use Rattle.sd_spec_types.specs.Types.{Bytes, Packets, Height, Leaves}
 use Rattle.sd_command_status.specs.Spec.{FileArgument, Readings}
 use Rattle.sd_command_line.specs.Words.{SampleOf, order_of, ReceiveOf, CoverOf, CardOf, TablesOf, HeadOf}
 use Rattle.sd_command_line.specs.Words.{AccountsOf, ApartOf, BookOf, LayeredOf, LcardOf, MessagesOf, OpensOf, PlanOf}
@@ -26,21 +27,21 @@ use Rattle.sd_book.specs.Limits.{IsWithinLimits}
 use Rattle.sd_command_files.specs.Files.{most_book_bytes}
 
 -- a file is there and a site, and says this
-pub record IsGoodSite (got : Option (List ℕ)) (fields : SiteFields) : Type 0 where
-  pub bytes : List ℕ
+pub record IsGoodSite (got : Option Bytes) (fields : SiteFields) : Type 0 where
+  pub bytes : Bytes
   pub there : got ≡ Some bytes
   pub is_site : IsSite bytes fields
 
 -- a file is there and a book for a tree of height d, within the limits, and says these commands
-pub record IsGoodBook (got : Option (List ℕ)) (d : ℕ) (commands : List Command) : Type 0 where
-  pub bytes : List ℕ
+pub record IsGoodBook (got : Option Bytes) (d : Height) (commands : List Command) : Type 0 where
+  pub bytes : Bytes
   pub there : got ≡ Some bytes
   pub is_book : SpellsBook (lines_of bytes) commands
   pub within : IsWithinLimits d commands
 
 -- a file is there and a clear stream for a site: it ends whole, its packets are these, and none of them is refused
-pub record IsGoodClear (got : Option (List ℕ)) (site : SiteFields) (clear : List (List ℕ)) : Type 0 where
-  pub bytes : List ℕ
+pub record IsGoodClear (got : Option Bytes) (site : SiteFields) (clear : Packets) : Type 0 where
+  pub bytes : Bytes
   pub there : got ≡ Some bytes
   -- each number of a file is a byte's
   pub are_bytes : AreBytes bytes
@@ -49,7 +50,7 @@ pub record IsGoodClear (got : Option (List ℕ)) (site : SiteFields) (clear : Li
   pub is_clear : IsClear site clear
 
 -- the arguments are `cover SITE BOOK`, and the two files are there, in their grammars and within their limits
-pub record IsGoodCover (words : List (List ℕ)) (given : Readings) : Type 0 where
+pub record IsGoodCover (words : List Bytes) (given : Readings) : Type 0 where
   pub site : FileArgument
   pub book : FileArgument
   pub order : order_of words ≡ Ok (CoverOf site book)
@@ -59,7 +60,7 @@ pub record IsGoodCover (words : List (List ℕ)) (given : Readings) : Type 0 whe
   pub good_book : IsGoodBook (given book) fields.height commands
 
 -- the arguments are `card SITE LEAF OUT`, the file is there and a site, and its tree has the leaf
-pub record IsGoodCard (words : List (List ℕ)) (given : Readings) : Type 0 where
+pub record IsGoodCard (words : List Bytes) (given : Readings) : Type 0 where
   pub site : FileArgument
   pub leaf : NumberArgument
   pub out : FileArgument
@@ -69,34 +70,34 @@ pub record IsGoodCard (words : List (List ℕ)) (given : Readings) : Type 0 wher
   pub of_tree : leaf.value < 2 ^ fields.height
 
 -- the arguments are `sample NUMBER PACKETS OUT`
-pub record IsGoodSample (words : List (List ℕ)) : Type 0 where
+pub record IsGoodSample (words : List Bytes) : Type 0 where
   pub number : ℕ
   pub packets : ℕ
   pub out : FileArgument
   pub order : order_of words ≡ Ok (SampleOf number packets out)
 
 -- the arguments are `tables STREAM`, and the file is there and nothing but packets, and no more than a stream has
-pub record IsGoodTables (words : List (List ℕ)) (given : Readings) : Type 0 where
+pub record IsGoodTables (words : List Bytes) (given : Readings) : Type 0 where
   pub stream : FileArgument
   pub order : order_of words ≡ Ok (TablesOf stream)
-  pub bytes : List ℕ
+  pub bytes : Bytes
   pub there : given stream ≡ Some bytes
   pub whole : end_of bytes ≡ Whole
 
 -- the arguments are `messages SITE STREAM`, and the two files are there, the first a site, and the second nothing but
 -- packets, and no more than a stream has
-pub record IsGoodMessages (words : List (List ℕ)) (given : Readings) : Type 0 where
+pub record IsGoodMessages (words : List Bytes) (given : Readings) : Type 0 where
   pub site : FileArgument
   pub stream : FileArgument
   pub order : order_of words ≡ Ok (MessagesOf site stream)
   pub fields : SiteFields
   pub good_site : IsGoodSite (given site) fields
-  pub bytes : List ℕ
+  pub bytes : Bytes
   pub there : given stream ≡ Some bytes
   pub whole : end_of bytes ≡ Whole
 
 -- the arguments are `show CARD`, and the file is there and a card
-pub record IsGoodShow (words : List (List ℕ)) (given : Readings) : Type 0 where
+pub record IsGoodShow (words : List Bytes) (given : Readings) : Type 0 where
   pub card : FileArgument
   pub order : order_of words ≡ Ok (ShowOf card)
   pub fields : CardFields
@@ -105,7 +106,7 @@ pub record IsGoodShow (words : List (List ℕ)) (given : Readings) : Type 0 wher
 
 -- the arguments are `head SITE BOOK CLEAR OUT`, the files are there, a site, a book and a stream of which no packet is
 -- refused
-pub record IsGoodHead (words : List (List ℕ)) (given : Readings) : Type 0 where
+pub record IsGoodHead (words : List Bytes) (given : Readings) : Type 0 where
   pub site : FileArgument
   pub book : FileArgument
   pub clear : FileArgument
@@ -115,17 +116,17 @@ pub record IsGoodHead (words : List (List ℕ)) (given : Readings) : Type 0 wher
   pub good_site : IsGoodSite (given site) fields
   pub commands : List Command
   pub good_book : IsGoodBook (given book) fields.height commands
-  pub bytes : List ℕ
+  pub bytes : Bytes
   pub there : given clear ≡ Some bytes
   pub whole : end_of bytes ≡ Whole
   pub is_clear : refusal_from fields [] (taken_of bytes) ≡ None
 
 -- the plan that they say
-abbrev pub plan_told : {words : List (List ℕ)} {given : Readings} → IsGoodHead words given → Plan
+abbrev pub plan_told : {words : List Bytes} {given : Readings} → IsGoodHead words given → Plan
 plan_told good = record { site = good.fields; commands = good.commands }
 
 -- the arguments are `receive CARD STREAM OUT`, and the two files are there, the first a card within the limit
-pub record IsGoodReceive (words : List (List ℕ)) (given : Readings) : Type 0 where
+pub record IsGoodReceive (words : List Bytes) (given : Readings) : Type 0 where
   pub card : FileArgument
   pub stream : FileArgument
   pub out : FileArgument
@@ -133,26 +134,26 @@ pub record IsGoodReceive (words : List (List ℕ)) (given : Readings) : Type 0 w
   pub fields : CardFields
   pub is_card : IsCard fields
   pub card_there : given card ≡ Some (card_bytes fields)
-  pub bytes : List ℕ
+  pub bytes : Bytes
   pub there : given stream ≡ Some bytes
 
 -- the arguments are `accounts SITE ACCOUNTS OUT`, the two files are there, the first a site and the second within the
 -- limit, and its lines make a book within the limits
-pub record IsGoodAccounts (words : List (List ℕ)) (given : Readings) : Type 0 where
+pub record IsGoodAccounts (words : List Bytes) (given : Readings) : Type 0 where
   pub site : FileArgument
   pub accounts : FileArgument
   pub out : FileArgument
   pub order : order_of words ≡ Ok (AccountsOf site accounts out)
   pub fields : SiteFields
   pub good_site : IsGoodSite (given site) fields
-  pub bytes : List ℕ
+  pub bytes : Bytes
   pub there : given accounts ≡ Some bytes
   pub short : length bytes ≤ most_book_bytes
   pub commands : List Command
   pub is_book : book_of fields.height bytes ≡ Ok commands
 
 -- the arguments are `apart SITE BOOK SITE BOOK`, and the four files are good
-pub record IsGoodApart (words : List (List ℕ)) (given : Readings) : Type 0 where
+pub record IsGoodApart (words : List Bytes) (given : Readings) : Type 0 where
   pub site : FileArgument
   pub book : FileArgument
   pub other : FileArgument
@@ -169,7 +170,7 @@ pub record IsGoodApart (words : List (List ℕ)) (given : Readings) : Type 0 whe
 
 -- the arguments are `book SITE BOOK COMMANDS OUT`, the three files are there, a site and two books, and the second
 -- book's commands after the first's are within the limits
-pub record IsGoodBooks (words : List (List ℕ)) (given : Readings) : Type 0 where
+pub record IsGoodBooks (words : List Bytes) (given : Readings) : Type 0 where
   pub site : FileArgument
   pub book : FileArgument
   pub commands : FileArgument
@@ -184,7 +185,7 @@ pub record IsGoodBooks (words : List (List ℕ)) (given : Readings) : Type 0 whe
   pub within : IsWithinLimits fields.height (before ++ added)
 
 -- the arguments are `layered SITE BOOK WIDTH`, the two files are good, and the width is 1 to the height
-pub record IsGoodLayered (words : List (List ℕ)) (given : Readings) : Type 0 where
+pub record IsGoodLayered (words : List Bytes) (given : Readings) : Type 0 where
   pub site : FileArgument
   pub book : FileArgument
   pub width : NumberArgument
@@ -198,7 +199,7 @@ pub record IsGoodLayered (words : List (List ℕ)) (given : Readings) : Type 0 w
 
 -- the arguments are `lcard SITE LEAF WIDTH OUT`, the file is there and a site, its tree has the leaf, and the width is
 -- 1 to the height
-pub record IsGoodLcard (words : List (List ℕ)) (given : Readings) : Type 0 where
+pub record IsGoodLcard (words : List Bytes) (given : Readings) : Type 0 where
   pub site : FileArgument
   pub leaf : NumberArgument
   pub width : NumberArgument
@@ -212,7 +213,7 @@ pub record IsGoodLcard (words : List (List ℕ)) (given : Readings) : Type 0 whe
 
 -- the arguments are `plan SITE BOOK PACKETS PIDS`, the two files are good, and the site has a control word for each
 -- packet
-pub record IsGoodPlan (words : List (List ℕ)) (given : Readings) : Type 0 where
+pub record IsGoodPlan (words : List Bytes) (given : Readings) : Type 0 where
   pub site : FileArgument
   pub book : FileArgument
   pub packets : NumberArgument
@@ -225,14 +226,14 @@ pub record IsGoodPlan (words : List (List ℕ)) (given : Readings) : Type 0 wher
   pub good_book : IsGoodBook (given book) fields.height commands
 
 -- the word's file is there and within the limit, and says these leaves of a tree of height d, ascending
-pub record IsGoodLeaves (given : Readings) (d : ℕ) (word : FileArgument) (leaves : List ℕ) : Type 0 where
-  pub bytes : List ℕ
+pub record IsGoodLeaves (given : Readings) (d : Height) (word : FileArgument) (leaves : Leaves) : Type 0 where
+  pub bytes : Bytes
   pub there : given word ≡ Some bytes
   pub short : length bytes ≤ most_book_bytes
   pub are_leaves : leaves_of_text d bytes ≡ Ok leaves
 
 -- the arguments are `opens SITE BOOK LEAVES`, and the three files are good
-pub record IsGoodOpens (words : List (List ℕ)) (given : Readings) : Type 0 where
+pub record IsGoodOpens (words : List Bytes) (given : Readings) : Type 0 where
   pub site : FileArgument
   pub book : FileArgument
   pub leaves : FileArgument
@@ -241,12 +242,12 @@ pub record IsGoodOpens (words : List (List ℕ)) (given : Readings) : Type 0 whe
   pub good_site : IsGoodSite (given site) fields
   pub commands : List Command
   pub good_book : IsGoodBook (given book) fields.height commands
-  pub pooled : List ℕ
+  pub pooled : Leaves
   pub good_leaves : IsGoodLeaves given fields.height leaves pooled
 
 -- the arguments are `trace SITE BOOK LEAVES`, the three files are good, and no more leaves are revoked in the last
 -- period or of the coalition than may be revoked
-pub record IsGoodTrace (words : List (List ℕ)) (given : Readings) : Type 0 where
+pub record IsGoodTrace (words : List Bytes) (given : Readings) : Type 0 where
   pub site : FileArgument
   pub book : FileArgument
   pub leaves : FileArgument
@@ -255,7 +256,7 @@ pub record IsGoodTrace (words : List (List ℕ)) (given : Readings) : Type 0 whe
   pub good_site : IsGoodSite (given site) fields
   pub commands : List Command
   pub good_book : IsGoodBook (given book) fields.height commands
-  pub coalition : List ℕ
+  pub coalition : Leaves
   pub good_leaves : IsGoodLeaves given fields.height leaves coalition
   pub few : length (revoked_last fields.height commands)
       + length (not_among fields.height (revoked_last fields.height commands) coalition) ≤ most_revoked

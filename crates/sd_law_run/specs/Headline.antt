@@ -1,8 +1,9 @@
 -- Public meaning: the headline in three parts: the results of `head`, of `card` and of `receive`, each a run by itself.
-use Rattle.std.specs.Prelude.{◌≡◌, ◌≢◌, ℕ, ◌+◌, ◌-◌, ◌*◌, ◌≤◌, List, [], ◌∷◌, codes, length, map, Option, Some}
+use Rattle.std.specs.Prelude.{◌≡◌, ◌≢◌, ◌+◌, ◌-◌, ◌*◌, ◌≤◌, List, [], ◌∷◌, codes, length, map, Option, Some}
 use Rattle.std.specs.FinMap.{get}
 use Rattle.std.specs.List.{concat}
 use Rattle.std.specs.Option.{option_and_then}
+use Rattle.sd_spec_types.specs.Types.{Bytes, FileName, Packets, LeafNumber, PeriodNumber}
 use Rattle.sd_base.specs.Count.{HasNotRisen}
 use Rattle.sd_label.specs.Names.{given}
 use Rattle.sd_site.specs.Fields.{SiteFields}
@@ -23,31 +24,31 @@ use Rattle.sd_law_run.specs.Opened.{entitled_periods, revoked_status}
 
 -- the names of the files
 pub record Names : Type 0 where
-  pub site : List ℕ
-  pub book : List ℕ
-  pub clear : List ℕ
-  pub stream : List ℕ
-  pub card : List ℕ
-  pub out : List ℕ
+  pub site : FileName
+  pub book : FileName
+  pub clear : FileName
+  pub stream : FileName
+  pub card : FileName
+  pub out : FileName
 
 -- `head SITE BOOK CLEAR STREAM` [this project, docs/FORMATS.md, Commands]
-abbrev pub head_run : Names → List (List ℕ)
+abbrev pub head_run : Names → List Bytes
 head_run names = codes "head" ∷ names.site ∷ names.book ∷ names.clear ∷ names.stream ∷ []
 
 -- `card SITE LEAF CARD` [this project, docs/FORMATS.md, Commands]
-abbrev pub card_run : Names → List ℕ → List (List ℕ)
+abbrev pub card_run : Names → Bytes → List Bytes
 card_run names leaf = codes "card" ∷ names.site ∷ leaf ∷ names.card ∷ []
 
 -- `receive CARD STREAM OUT` [this project, docs/FORMATS.md, Commands]
-abbrev pub receive_run : Names → List (List ℕ)
+abbrev pub receive_run : Names → List Bytes
 receive_run names = codes "receive" ∷ names.card ∷ names.stream ∷ names.out ∷ []
 
 -- the bytes of the file of that name, if it is there and the model knows the file system's contents
-abbrev pub file_in : Outside → List ℕ → Option (List ℕ)
+abbrev pub file_in : Outside → FileName → Option Bytes
 file_in at name = option_and_then (λ files. get files name) at.place.files
 
 -- SITE, BOOK and CLEAR are a site, a book of its tree and a clear stream, all within their limits
-pub record AreGiven (at : Outside) (names : Names) (plan : Plan) (packets : List (List ℕ)) : Type 0 where
+pub record AreGiven (at : Outside) (names : Names) (plan : Plan) (packets : Packets) : Type 0 where
   pub site : IsGoodSite (file_in at names.site) plan.site
   pub book : IsGoodBook (file_in at names.book) plan.site.height plan.commands
   pub clear : IsGoodClear (file_in at names.clear) plan.site packets
@@ -60,11 +61,11 @@ pub record IsUndisturbed (a b : Outside) (answer : Status) : Type 0 where
 
 -- the card of leaf u as a file: its head, the secrets of the names that the leaf is given, and the check value of both
 -- [Naor, Naor, Lotspiech 2001, 3.2; this project, docs/FORMATS.md, Card]
-abbrev pub card_for : SiteFields → ℕ → List ℕ
+abbrev pub card_for : SiteFields → LeafNumber → Bytes
 card_for site u = file_bytes (card_head site.height u site.ca) (map (secret_of site.master) (given site.height u))
 
 -- The result of `head SITE BOOK CLEAR STREAM`.
-pub record HeadResult (names : Names) (plan : Plan) (clear : List (List ℕ)) (a b : Outside) (answer : Status) : Type 0
+pub record HeadResult (names : Names) (plan : Plan) (clear : Packets) (a b : Outside) (answer : Status) : Type 0
   where
     pub done : answer ≡ Done
     -- STREAM is the broadcast: its packets, one after the other
@@ -72,20 +73,21 @@ pub record HeadResult (names : Names) (plan : Plan) (clear : List (List ℕ)) (a
     -- each of its periods names, in the bytes of STREAM, disjoint sets that unite to exactly the leaves that aren't
     -- revoked. It is one set if none is, and at most 2r - 1 sets if r > 0 are. No label or key of a named set is
     -- derivable from what a revoked leaf is given
-    pub periods : (q : ℕ) → plan.site.first_period ≤ q → q ≤ period_of plan (length clear - 1) →
+    pub periods : (q : PeriodNumber) → plan.site.first_period ≤ q → q ≤ period_of plan (length clear - 1) →
         NamesPeriod plan q (sets_named plan.site.height plan.site.emm q (taken_of (concat (broadcast plan clear))))
     -- all other files are as they were
-    pub others : (name : List ℕ) → name ≢ names.stream → file_in b name ≡ file_in a name
+    pub others : (name : FileName) → name ≢ names.stream → file_in b name ≡ file_in a name
 
 -- The result of `card SITE LEAF CARD`.
-pub record CardResult (names : Names) (site : SiteFields) (u : ℕ) (a b : Outside) (answer : Status) : Type 0 where
-  pub done : answer ≡ Done
-  -- CARD is the card of the leaf
-  pub card_is : file_in b names.card ≡ Some (card_for site u)
-  pub others : (name : List ℕ) → name ≢ names.card → file_in b name ≡ file_in a name
+pub record CardResult (names : Names) (site : SiteFields) (u : LeafNumber) (a b : Outside) (answer : Status) : Type 0
+  where
+    pub done : answer ≡ Done
+    -- CARD is the card of the leaf
+    pub card_is : file_in b names.card ≡ Some (card_for site u)
+    pub others : (name : FileName) → name ≢ names.card → file_in b name ≡ file_in a name
 
 -- The result of `receive CARD STREAM OUT`, if CARD is the card of leaf u and STREAM is the broadcast.
-pub record ReceiveResult (names : Names) (plan : Plan) (u : ℕ) (clear : List (List ℕ)) (a b : Outside)
+pub record ReceiveResult (names : Names) (plan : Plan) (u : LeafNumber) (clear : Packets) (a b : Outside)
     (answer : Status) : Type 0 where
   -- OUT is the clear packets of the periods in which the leaf isn't revoked, and no others
   pub written : file_in b names.out ≡ Some (concat (opened_by plan u clear))
@@ -93,4 +95,4 @@ pub record ReceiveResult (names : Names) (plan : Plan) (u : ℕ) (clear : List (
   pub ends : answer ≡ revoked_status u (first_revoked plan u clear)
   -- at most as many steps of the generator as the tree is high, for each period in which the leaf isn't revoked
   pub steps : b.steps ≤ a.steps + plan.site.height * entitled_periods plan u clear
-  pub others : (name : List ℕ) → name ≢ names.out → file_in b name ≡ file_in a name
+  pub others : (name : FileName) → name ≢ names.out → file_in b name ≡ file_in a name

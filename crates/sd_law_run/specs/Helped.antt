@@ -2,6 +2,7 @@
 use Rattle.std.specs.Prelude.{◌≡◌, ℕ, ◌-◌, List, ◌∷◌, ◌++◌, length, replicate, Ok}
 use Rattle.std.specs.List.{flat_map}
 use Rattle.std.specs.Fmt.{decimal}
+use Rattle.sd_spec_types.specs.Types.{Bytes}
 use Rattle.sd_command_table.specs.declared.command.Command.{Command}
 use Rattle.sd_command_table.specs.declared.exit.Exit.{Exit}
 use Rattle.sd_command_table.specs.declared.exit.Exit.TheVariants as exit
@@ -38,12 +39,12 @@ help_exit (BadWord word) = exit.BadWord
 help_exit (Clash clash) = exit.Clash
 
 -- a number at the right of a column of four
-abbrev pub in_column : ℕ → List ℕ
+abbrev pub in_column : ℕ → Bytes
 in_column n = replicate (4 - length (decimal n)) 32 ++ decimal n
 
 -- the example that help gives of a command has arguments that the program takes for this command
 pub record IsOrdered (command : Command) : Type 0 where
-  pub words : List (List ℕ)
+  pub words : List Bytes
   pub arguments : List Argument
   pub line : flat_map (λ word. 32 ∷ word) words ≡ 32 ∷ example_of command
   pub order : order_of words ≡ Ok (CommandOf command arguments)

@@ -1,6 +1,7 @@
 -- Public meaning: what a run leaves in the files, whatever it answers [this project, docs/FORMATS.md, What OUT holds].
-use Rattle.std.specs.Prelude.{◌≡◌, List, ℕ, Some, Result, Ok}
+use Rattle.std.specs.Prelude.{◌≡◌, Some, Result, Ok}
 use Rattle.std.specs.FinMap.{insert}
+use Rattle.sd_spec_types.specs.Types.{Bytes}
 use Rattle.sd_base.specs.Count.{with_added}
 use Rattle.sd_ports.specs.Files.{Files}
 use Rattle.sd_ports.specs.Bytes.{IsPrefix}
@@ -19,7 +20,7 @@ pub record HasOut (files : Files) (meant : Result Work Status) (a b : DepotState
   pub is_meant : meant ≡ Ok work
   pub out : Out
   pub makes : work.out ≡ Some out
-  pub prefix : List ℕ
+  pub prefix : Bytes
   pub is_prefix : IsPrefix prefix out.bytes
   pub left : b.files ≡ Some (insert files out.name prefix)
   pub made : b.made ≡ with_added a.made 1

@@ -2,6 +2,7 @@
 -- Receiver].
 use Rattle.std.specs.Prelude.{◌≡◌, ◌≢◌, ℕ, ◌+◌, ◌-◌, ◌*◌, ◌≤◌, ◌++◌, Bool, true, false, List, [], length, Some, Ok}
 use Rattle.std.specs.List.{concat, list_any}
+use Rattle.sd_spec_types.specs.Types.{Bytes, FileName, Packets, Arrived, LeafNumber, PeriodNumber}
 use Rattle.sd_card.specs.Fields.{card_of, card_bytes}
 use Rattle.sd_spec_broadcast.specs.Plan.{Plan, period_of}
 use Rattle.sd_spec_broadcast.specs.Sent.{Item, sent, closing_of, broadcast}
@@ -20,17 +21,17 @@ use Rattle.sd_run_receive.specs.Receive.{ending_status}
 use Rattle.sd_law_run.specs.Headline.{Names, file_in}
 
 -- the things of a broadcast that are kept
-unfoldable pub kept_items : Plan → List (List ℕ) → List Bool → List Item
+unfoldable pub kept_items : Plan → Packets → Arrived → List Item
 kept_items plan clear flags = chosen flags (sent plan clear ++ closing_of plan clear)
 
 -- the number of periods of which a section that has a set with leaf u is kept after the CAT
-unfoldable pub kept_periods : Plan → ℕ → List (List ℕ) → List Item → ℕ
+unfoldable pub kept_periods : Plan → LeafNumber → Packets → List Item → ℕ
 kept_periods plan u clear kept =
     how_many (λ q. list_any (entitles plan.site.height u q) (after_cat kept)) (period_of plan (length clear - 1) + 1)
 
 -- the arguments are `receive CARD STREAM OUT`. CARD is the card of leaf u of the site, and STREAM is the packets that
 -- are kept of the broadcast of the clear stream, one after the other
-pub record IsRestTo (plan : Plan) (u : ℕ) (clear : List (List ℕ)) (flags : List Bool) (words : List (List ℕ))
+pub record IsRestTo (plan : Plan) (u : LeafNumber) (clear : Packets) (flags : Arrived) (words : List Bytes)
     (given : Readings) : Type 0 where
   pub card : FileArgument
   pub stream : FileArgument
@@ -43,7 +44,7 @@ pub record IsRestTo (plan : Plan) (u : ℕ) (clear : List (List ℕ)) (flags : L
 -- its order. No packet is refused. The status is how the broadcast ends for the leaf; if it is `Revoked` the leaf is.
 -- For each period of which a section with a set of the leaf is kept, at most as many steps are taken as the tree is
 -- high
-pub record IsConfirmed (plan : Plan) (u : ℕ) (clear : List (List ℕ)) (kept : List Item) (out : FileArgument)
+pub record IsConfirmed (plan : Plan) (u : LeafNumber) (clear : Packets) (kept : List Item) (out : FileArgument)
     (work : Work) : Type 0 where
   pub file : work.out
       ≡ Some (record { word = out.number; name = out.text; bytes = concat (confirmed plan u clear kept) })
@@ -52,14 +53,14 @@ pub record IsConfirmed (plan : Plan) (u : ℕ) (clear : List (List ℕ)) (kept :
   pub printed : work.pieces ≡ []
   pub ends : work.ends ≡ ending_status u (ending_told plan u clear kept)
   pub unrefused : work.breaks ≡ false
-  pub revoked : (q : ℕ) → work.ends ≡ Revoked u q → is_revoked_in plan u q ≡ true
+  pub revoked : (q : PeriodNumber) → work.ends ≡ Revoked u q → is_revoked_in plan u q ≡ true
   pub most : ℕ
   pub counted : work.steps ≡ UpTo most
   pub few : most ≤ plan.site.height * kept_periods plan u clear kept
 
 -- The result of `receive CARD STREAM OUT`, if CARD is the card of leaf u and STREAM is what is kept of the broadcast.
-pub record LossResult (names : Names) (plan : Plan) (u : ℕ) (clear : List (List ℕ)) (kept : List Item) (a b : Outside)
-    (answer : Status) : Type 0 where
+pub record LossResult (names : Names) (plan : Plan) (u : LeafNumber) (clear : Packets) (kept : List Item)
+    (a b : Outside) (answer : Status) : Type 0 where
   -- OUT is the clear packets that the kept messages confirm to the leaf
   pub written : file_in b names.out ≡ Some (concat (confirmed plan u clear kept))
   -- they are a part of what the leaf is entitled to, in its order
@@ -67,8 +68,8 @@ pub record LossResult (names : Names) (plan : Plan) (u : ℕ) (clear : List (Lis
   pub part : confirmed plan u clear kept ≡ chosen parts (opened_by plan u clear)
   -- the answer is how what arrived ends for the leaf; if it is `Revoked` the leaf is
   pub ends : answer ≡ ending_status u (ending_told plan u clear kept)
-  pub revoked : (q : ℕ) → answer ≡ Revoked u q → is_revoked_in plan u q ≡ true
+  pub revoked : (q : PeriodNumber) → answer ≡ Revoked u q → is_revoked_in plan u q ≡ true
   -- at most as many steps of the generator as the tree is high, for each period of which a section with a set of the
   -- leaf arrived
   pub steps : b.steps ≤ a.steps + plan.site.height * kept_periods plan u clear kept
-  pub others : (name : List ℕ) → name ≢ names.out → file_in b name ≡ file_in a name
+  pub others : (name : FileName) → name ≢ names.out → file_in b name ≡ file_in a name

@@ -1,6 +1,7 @@
 -- Public meaning: what `receive` writes of a whole broadcast [this project, docs/FORMATS.md, Receiver].
 use Rattle.std.specs.Prelude.{◌≡◌, ℕ, ◌+◌, ◌-◌, ◌*◌, ◌≤◌, nat_le, ◌&&◌, not, List, [], length, Option, Some, None, Ok}
 use Rattle.std.specs.List.{concat}
+use Rattle.sd_spec_types.specs.Types.{Bytes, Packets, LeafNumber, PeriodNumber}
 use Rattle.sd_card.specs.Fields.{card_of, card_bytes}
 use Rattle.sd_engine.specs.Taken.{Whole, taken_of, end_of}
 use Rattle.sd_spec_broadcast.specs.Plan.{Plan, period_of}
@@ -15,19 +16,19 @@ use Rattle.sd_command_status.specs.Work.{UpTo, Work}
 use Rattle.sd_command_line.specs.Words.{ReceiveOf, order_of}
 
 -- the number of the broadcast's periods in which leaf u isn't revoked
-unfoldable pub entitled_periods : Plan → ℕ → List (List ℕ) → ℕ
+unfoldable pub entitled_periods : Plan → LeafNumber → Packets → ℕ
 entitled_periods plan u clear =
     how_many (λ q. nat_le plan.site.first_period q && not (is_revoked_in plan u q))
     (period_of plan (length clear - 1) + 1)
 
 -- done, or leaf u is revoked in this period
-abbrev pub revoked_status : ℕ → Option ℕ → Status
+abbrev pub revoked_status : LeafNumber → Option PeriodNumber → Status
 revoked_status u None = Done
 revoked_status u (Some q) = Revoked u q
 
 -- the arguments are `receive CARD STREAM OUT`. CARD is the card of leaf u of the site, and the packets of STREAM are
 -- the broadcast of the clear stream
-pub record IsBroadcastTo (plan : Plan) (u : ℕ) (clear : List (List ℕ)) (words : List (List ℕ)) (given : Readings) : Type
+pub record IsBroadcastTo (plan : Plan) (u : LeafNumber) (clear : Packets) (words : List Bytes) (given : Readings) : Type
     0
   where
     pub card : FileArgument
@@ -35,7 +36,7 @@ pub record IsBroadcastTo (plan : Plan) (u : ℕ) (clear : List (List ℕ)) (word
     pub out : FileArgument
     pub order : order_of words ≡ Ok (ReceiveOf card stream out)
     pub card_there : given card ≡ Some (card_bytes (card_of plan.site.master plan.site.ca plan.site.height u))
-    pub bytes : List ℕ
+    pub bytes : Bytes
     pub there : given stream ≡ Some bytes
     pub packets : taken_of bytes ≡ broadcast plan clear
     pub whole : end_of bytes ≡ Whole
@@ -43,7 +44,7 @@ pub record IsBroadcastTo (plan : Plan) (u : ℕ) (clear : List (List ℕ)) (word
 -- OUT is the clear packets of the periods in which leaf u isn't revoked. The status is `Done`, or names the leaf as
 -- revoked and the first of the broadcast's periods in which it is. For each period in which it isn't, at most as many
 -- steps are taken as the tree is high
-pub record IsOpened (plan : Plan) (u : ℕ) (clear : List (List ℕ)) (out : FileArgument) (work : Work) : Type 0 where
+pub record IsOpened (plan : Plan) (u : LeafNumber) (clear : Packets) (out : FileArgument) (work : Work) : Type 0 where
   pub file : work.out ≡ Some (record { word = out.number; name = out.text; bytes = concat (opened_by plan u clear) })
   pub printed : work.pieces ≡ []
   pub ends : work.ends ≡ revoked_status u (first_revoked plan u clear)

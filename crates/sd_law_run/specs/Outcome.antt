@@ -1,5 +1,6 @@
 -- Public meaning: what a caller may rely on after every run, whatever its arguments.
-use Rattle.std.specs.Prelude.{◌≡◌, ℕ, List, [], ◌∷◌, Option, Some, None, Result, Ok}
+use Rattle.std.specs.Prelude.{◌≡◌, List, [], ◌∷◌, Option, Some, None, Result, Ok}
+use Rattle.sd_spec_types.specs.Types.{Bytes, FileName}
 use Rattle.sd_command_table.specs.declared.command.Command.{Command}
 use Rattle.sd_command_table.specs.Commands.{command_named, operands_of}
 use Rattle.sd_command_line.specs.Words.{out_text}
@@ -10,12 +11,12 @@ use Rattle.sd_command_status.specs.Work.{Work}
 use Rattle.sd_command_status.specs.Outcome.{IsMade, IsFaultless, PrintsAll}
 
 -- the word at the place of OUT in the row of a command
-abbrev pub out_in_row : Option Command → List (List ℕ) → Option (List ℕ)
+abbrev pub out_in_row : Option Command → List Bytes → Option Bytes
 out_in_row None texts = None
 out_in_row (Some command) texts = out_text (operands_of command) texts
 
 -- the name of OUT, if the command makes a file [this project, docs/FORMATS.md, Commands]
-abbrev pub out_name : List (List ℕ) → Option (List ℕ)
+abbrev pub out_name : List Bytes → Option FileName
 out_name [] = None
 out_name (name ∷ texts) = out_in_row (command_named name) texts
 

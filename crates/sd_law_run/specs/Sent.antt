@@ -1,7 +1,8 @@
 -- Public meaning: what a run of `head` that is done leaves.
-use Rattle.std.specs.Prelude.{◌≡◌, ℕ, ◌-◌, ◌≤◌, List, length, Some, Ok}
+use Rattle.std.specs.Prelude.{◌≡◌, ◌-◌, ◌≤◌, length, Some, Ok}
 use Rattle.std.specs.FinMap.{get, insert}
 use Rattle.std.specs.List.{concat}
+use Rattle.sd_spec_types.specs.Types.{Bytes, PeriodNumber}
 use Rattle.sd_ports.specs.Files.{Files}
 use Rattle.sd_engine.specs.Taken.{Whole, taken_of, end_of}
 use Rattle.sd_spec_broadcast.specs.Plan.{Plan, IsPlan, period_of}
@@ -20,7 +21,7 @@ pub record IsSent (site book clear out : FileArgument) (files : Files) (b : Outs
   pub said : (plan_meaning site book (contents_of files)).result ≡ Ok plan
   pub is_plan : IsPlan plan
   -- the clear stream, of which no packet is refused
-  pub bytes : List ℕ
+  pub bytes : Bytes
   pub there : get files clear.text ≡ Some bytes
   pub whole : end_of bytes ≡ Whole
   pub is_clear : IsClear plan.site (taken_of bytes)
@@ -29,7 +30,7 @@ pub record IsSent (site book clear out : FileArgument) (files : Files) (b : Outs
   -- each period of the broadcast names, in OUT, disjoint sets that unite to exactly its leaves that aren't revoked. It
   -- is one set if none is, and at most 2r - 1 sets if r > 0 are. No label or key of a named set is derivable from what
   -- a revoked leaf is given
-  pub periods : AreBytes bytes → (q : ℕ) → plan.site.first_period ≤ q →
+  pub periods : AreBytes bytes → (q : PeriodNumber) → plan.site.first_period ≤ q →
       q ≤ period_of plan (length (taken_of bytes) - 1) →
       NamesPeriod plan q
       (sets_named plan.site.height plan.site.emm q (taken_of (concat (broadcast plan (taken_of bytes)))))

@@ -1,7 +1,8 @@
 -- Public meaning: arguments and files that mean a trial, and what a trial leaves.
-use Rattle.std.specs.Prelude.{◌≡◌, ℕ, List, Some, Ok, ◌≤◌, ◌^◌, length}
+use Rattle.std.specs.Prelude.{◌≡◌, List, Some, Ok, ◌≤◌, ◌^◌, length}
 use Rattle.std.specs.FinMap.{get}
 use Rattle.std.specs.Io.KnownBytes.{Appends}
+use Rattle.sd_spec_types.specs.Types.{Bytes}
 use Rattle.sd_ports.specs.Files.{Files}
 use Rattle.sd_engine.specs.Taken.{Whole, taken_of, end_of}
 use Rattle.sd_site.specs.Fields.{SiteFields}
@@ -20,7 +21,7 @@ use Rattle.sd_law_run.specs.Good.{IsGoodSite, IsGoodBook}
 
 -- the arguments are `trial SITE BOOK CLEAR`, and the files are there: a site whose tree is low enough, a book of its
 -- tree, and a stream within the limit of which no packet is refused
-pub record IsGoodTrial (words : List (List ℕ)) (given : Readings) : Type 0 where
+pub record IsGoodTrial (words : List Bytes) (given : Readings) : Type 0 where
   pub site : FileArgument
   pub book : FileArgument
   pub clear : FileArgument
@@ -30,7 +31,7 @@ pub record IsGoodTrial (words : List (List ℕ)) (given : Readings) : Type 0 whe
   pub low : fields.height ≤ most_height
   pub commands : List Command
   pub good_book : IsGoodBook (given book) fields.height commands
-  pub bytes : List ℕ
+  pub bytes : Bytes
   pub there : given clear ≡ Some bytes
   pub short : length bytes ≤ most_clear_bytes
   pub are_bytes : AreBytes bytes
@@ -38,7 +39,7 @@ pub record IsGoodTrial (words : List (List ℕ)) (given : Readings) : Type 0 whe
   pub is_clear : IsClear fields (taken_of bytes)
 
 -- the plan that they say
-abbrev pub plan_tried : {words : List (List ℕ)} {given : Readings} → IsGoodTrial words given → Plan
+abbrev pub plan_tried : {words : List Bytes} {given : Readings} → IsGoodTrial words given → Plan
 plan_tried good = record { site = good.fields; commands = good.commands }
 
 -- What a trial that is done leaves: its files were good, and exactly their lines were printed.
@@ -49,7 +50,7 @@ pub record IsTried (site book clear : FileArgument) (files : Files) (a b : Outsi
   pub is_plan : IsPlan plan
   pub low : plan.site.height ≤ most_height
   -- the clear stream, of which no packet is refused
-  pub bytes : List ℕ
+  pub bytes : Bytes
   pub there : get files clear.text ≡ Some bytes
   pub short : length bytes ≤ most_clear_bytes
   pub whole : end_of bytes ≡ Whole

@@ -1,5 +1,5 @@
 //! The headline: the one call, and what its clauses say of `head`, `card` and `receive`.
-ghost use Rattle.std.specs.Prelude.{◌≡◌, ◌≢◌, ◌⊎◌, ◌<◌, ◌^◌, ℕ, Bool, List, [], ◌∷◌, codes, Some, IsSome};
+ghost use Rattle.std.specs.Prelude.{◌≡◌, ◌≢◌, ◌⊎◌, ◌<◌, ◌^◌, List, [], ◌∷◌, codes, Some, IsSome};
 ghost use Rattle.std.specs.Prelude.{Ok, map, string_bytes};
 ghost use Rattle.std.specs.FinMap.{get};
 ghost use Rattle.std.specs.Io.KnownBytes.{Appends};
@@ -16,6 +16,7 @@ ghost use Rattle.sd_spec_broadcast.specs.Plan.{Plan};
 ghost use Rattle.sd_spec_broadcast.specs.Sent.{broadcast};
 ghost use Rattle.sd_law_losses.specs.Chosen.{chosen};
 ghost use Rattle.std.specs.List.{concat};
+ghost use Rattle.sd_spec_types.specs.Types.{Bytes, FileName, Packets, Arrived, LeafNumber};
 ghost use Rattle.sd_command_status.specs.Outside.{Outside, outside, page_state, depot_state};
 ghost use Rattle.sd_command_status.specs.Results.{RunResult};
 ghost use Rattle.sd_command_files.specs.Shown.{word_at};
@@ -54,7 +55,7 @@ pub fn run<D: Depot, P: Sink, L: Ledger>(
     steps: &mut Steps<L>,
 ) -> Status
     // Over a good site, book and clear stream `head` makes the broadcast, whose periods name their covers.
-    ensures head { (names : Names) (plan : Plan) (clear : List (List ℕ)) →
+    ensures head { (names : Names) (plan : Plan) (clear : Packets) →
         map string_bytes words.now
         ≡ codes "head" ∷ names.site ∷ names.book ∷ names.clear ∷ names.stream ∷ [] →
         names.stream ≢ names.site → names.stream ≢ names.book → names.stream ≢ names.clear →
@@ -64,7 +65,7 @@ pub fn run<D: Depot, P: Sink, L: Ledger>(
         HeadResult names plan clear (outside (depot_state D.Depot depot.old) (page_state P.Sink print.old) steps.old)
         (outside (depot_state D.Depot depot.new) (page_state P.Sink print.new) steps.new) result }
     // Over a good site `card` makes the leaf's card.
-    ensures card { (names : Names) (leaf : List ℕ) (site : SiteFields) (u : ℕ) →
+    ensures card { (names : Names) (leaf : Bytes) (site : SiteFields) (u : LeafNumber) →
         map string_bytes words.now ≡ codes "card" ∷ names.site ∷ leaf ∷ names.card ∷ [] →
         decimal_value leaf ≡ Some u → names.card ≢ names.site →
         IsGoodSite (file_in (outside (depot_state D.Depot depot.old) (page_state P.Sink print.old) steps.old)
@@ -75,7 +76,7 @@ pub fn run<D: Depot, P: Sink, L: Ledger>(
         CardResult names site u (outside (depot_state D.Depot depot.old) (page_state P.Sink print.old) steps.old)
         (outside (depot_state D.Depot depot.new) (page_state P.Sink print.new) steps.new) result }
     // Over the card of a leaf and a broadcast, wherever they were made, `receive` makes what the leaf is entitled to.
-    ensures receive { (names : Names) (plan : Plan) (u : ℕ) (clear : List (List ℕ)) (z : Outside) →
+    ensures receive { (names : Names) (plan : Plan) (u : LeafNumber) (clear : Packets) (z : Outside) →
         map string_bytes words.now ≡ codes "receive" ∷ names.card ∷ names.stream ∷ names.out ∷ [] →
         names.out ≢ names.card → names.out ≢ names.stream →
         AreGiven z names plan clear → u < 2 ^ plan.site.height →
@@ -88,7 +89,7 @@ pub fn run<D: Depot, P: Sink, L: Ledger>(
         ReceiveResult names plan u clear (outside (depot_state D.Depot depot.old) (page_state P.Sink print.old) steps.old)
         (outside (depot_state D.Depot depot.new) (page_state P.Sink print.new) steps.new) result }
     // Over the card of a leaf and any choice of a broadcast's packets it makes what the messages that arrived confirm.
-    ensures lost { (names : Names) (plan : Plan) (u : ℕ) (clear : List (List ℕ)) (z : Outside) (flags : List Bool) →
+    ensures lost { (names : Names) (plan : Plan) (u : LeafNumber) (clear : Packets) (z : Outside) (flags : Arrived) →
         map string_bytes words.now ≡ codes "receive" ∷ names.card ∷ names.stream ∷ names.out ∷ [] →
         names.out ≢ names.card → names.out ≢ names.stream →
         AreGiven z names plan clear → u < 2 ^ plan.site.height →
@@ -102,7 +103,7 @@ pub fn run<D: Depot, P: Sink, L: Ledger>(
         (outside (depot_state D.Depot depot.old) (page_state P.Sink print.old) steps.old)
         (outside (depot_state D.Depot depot.new) (page_state P.Sink print.new) steps.new) result }
     // No file changes but OUT, which is the word at its place in the row of a command that makes a file.
-    ensures files { (files : Files) (name : List ℕ) → D.files depot.old ≡ Some files →
+    ensures files { (files : Files) (name : FileName) → D.files depot.old ≡ Some files →
         out_name (map string_bytes words.now) ≢ Some name →
         file_in (outside (depot_state D.Depot depot.new) (page_state P.Sink print.new) steps.new) name ≡ get files name }
     // At most one file is made, and none by other commands.
@@ -124,15 +125,15 @@ pub fn run<D: Depot, P: Sink, L: Ledger>(
 /// What `run` gives for `head`, `card` and `receive` follows from the specification of each command: whatever meets the
 /// clause of `run` meets this too.
 pub fn exactly_the_unrevoked_receive()
-    ensures head { (names : Names) (plan : Plan) (clear : List (List ℕ)) (a b : Outside) (answer : Status) →
+    ensures head { (names : Names) (plan : Plan) (clear : Packets) (a b : Outside) (answer : Status) →
         AreGiven a names plan clear → RunResult (head_meaning (word_at 1 names.site) (word_at 2 names.book)
         (word_at 3 names.clear) (word_at 4 names.stream)) a b answer → IsUndisturbed a b answer →
         HeadResult names plan clear a b answer }
-    ensures card { (names : Names) (site : SiteFields) (u : ℕ) (a b : Outside) (answer : Status) →
+    ensures card { (names : Names) (site : SiteFields) (u : LeafNumber) (a b : Outside) (answer : Status) →
         IsGoodSite (file_in a names.site) site → u < 2 ^ site.height → RunResult (card_meaning (word_at 1 names.site)
         (record { word = 2; value = u }) (word_at 3 names.card)) a b answer → IsUndisturbed a b answer →
         CardResult names site u a b answer }
-    ensures receive { (names : Names) (plan : Plan) (u : ℕ) (clear : List (List ℕ)) (z a b : Outside)
+    ensures receive { (names : Names) (plan : Plan) (u : LeafNumber) (clear : Packets) (z a b : Outside)
         (answer : Status) → AreGiven z names plan clear → u < 2 ^ plan.site.height →
         file_in a names.card ≡ Some (card_for plan.site u) →
         file_in a names.stream ≡ Some (concat (broadcast plan clear)) →
@@ -147,7 +148,7 @@ pub fn words_are_their_commands()
         names.stream ≢ names.book → names.stream ≢ names.clear → RunResult (meaning (head_run names)) a b answer →
         RunResult (head_meaning (word_at 1 names.site) (word_at 2 names.book) (word_at 3 names.clear)
         (word_at 4 names.stream)) a b answer }
-    ensures card { (names : Names) (leaf : List ℕ) (u : ℕ) (a b : Outside) (answer : Status) →
+    ensures card { (names : Names) (leaf : Bytes) (u : LeafNumber) (a b : Outside) (answer : Status) →
         names.card ≢ names.site → decimal_value leaf ≡ Some u → u < 2 ^ 32 →
         RunResult (meaning (card_run names leaf)) a b answer → RunResult (card_meaning (word_at 1 names.site)
         (record { word = 2; value = u }) (word_at 3 names.card)) a b answer }
@@ -161,7 +162,7 @@ pub fn words_are_their_commands()
 /// unrevoked receivers, one if none is revoked and at most 2r - 1 if r > 0 are.
 #[tactic(auto, using(crate::proofs::Sent::head_done))]
 pub fn done_heads_name_their_covers()
-    ensures { (words : List (List ℕ)) (site book clear out : FileArgument) (files : Files) (a b : Outside) →
+    ensures { (words : List Bytes) (site book clear out : FileArgument) (files : Files) (a b : Outside) →
         order_of words ≡ Ok (HeadOf site book clear out) → a.place.files ≡ Some files →
         RunResult (meaning words) a b Status.Done → IsSent site book clear out files b }
 {}

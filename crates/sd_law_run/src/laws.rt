@@ -1,5 +1,5 @@
 //! Good arguments and good files mean work. `run` does that work if no I/O error occurs and memory suffices.
-ghost use Rattle.std.specs.Prelude.{◌≡◌, ◌⊎◌, ◌≤◌, ◌<◌, ◌^◌, ◌++◌, ℕ, List, Some, None, Ok, Err, length};
+ghost use Rattle.std.specs.Prelude.{◌≡◌, ◌⊎◌, ◌≤◌, ◌<◌, ◌^◌, ◌++◌, List, Some, None, Ok, Err, length};
 ghost use Rattle.sd_book.specs.Text.{text_of};
 ghost use Rattle.sd_lsd.specs.Fields.{layer_bytes, layer_card_of};
 ghost use Rattle.sd_run_accounts.specs.Accounts.{accounts_value, making_then, report_line};
@@ -44,6 +44,7 @@ ghost use Rattle.sd_card_secrets.specs.Files.{check_in};
 ghost use Rattle.sd_law_run.specs.Good.{IsGoodMessages, IsGoodShow};
 ghost use Rattle.sd_run_tables.specs.Tables.{inspecting};
 ghost use Rattle.std.specs.List.{concat};
+ghost use Rattle.sd_spec_types.specs.Types.{Bytes, Packets, SystemId, Key, Height, LeafNumber, PeriodNumber};
 ghost use Rattle.sd_engine.specs.Taken.{taken_of};
 ghost use Rattle.sd_spec_broadcast.specs.Sent.{broadcast};
 ghost use Rattle.sd_run_head.specs.Head.{sending, sent_of, sent_status};
@@ -59,14 +60,14 @@ use sd_command_status::Status;
 
 /// `cover SITE BOOK` over a site and a book prints the sets of each period.
 pub fn good_covers_are_printed()
-    ensures { (words : List (List ℕ)) (files : Files) (good : IsGoodCover words (contents_of files)) →
+    ensures { (words : List Bytes) (files : Files) (good : IsGoodCover words (contents_of files)) →
         (meaning words (contents_of files)).result ≡ Ok (covering good.fields.height good.commands) }
 {}
 
 /// `card SITE LEAF OUT` over a site with the leaf makes its card.
 #[tactic(auto, using(crate::proofs::Goodness::card_good))]
 pub fn good_cards_are_made()
-    ensures { (words : List (List ℕ)) (files : Files) (good : IsGoodCard words (contents_of files)) →
+    ensures { (words : List Bytes) (files : Files) (good : IsGoodCard words (contents_of files)) →
         (meaning words (contents_of files)).result ≡ Ok (making Uncounted good.out
         (card_bytes (card_of good.fields.master good.fields.ca good.fields.height good.leaf.value))) }
 {}
@@ -74,14 +75,14 @@ pub fn good_cards_are_made()
 /// `sample NUMBER PACKETS OUT` makes the sample stream.
 #[tactic(auto, using(crate::proofs::Goodness::sample_good))]
 pub fn samples_are_made()
-    ensures { (words : List (List ℕ)) (files : Files) (good : IsGoodSample words) →
+    ensures { (words : List Bytes) (files : Files) (good : IsGoodSample words) →
         (meaning words (contents_of files)).result ≡ Ok (making NoSteps good.out (sample_of good.number good.packets)) }
 {}
 
 /// `tables STREAM` over a stream of packets prints the lines of its tables, and is done.
 #[tactic(auto, using(crate::proofs::Goodness::tables_good))]
 pub fn good_tables_are_printed()
-    ensures { (words : List (List ℕ)) (files : Files) (good : IsGoodTables words (contents_of files)) →
+    ensures { (words : List Bytes) (files : Files) (good : IsGoodTables words (contents_of files)) →
         ((meaning words (contents_of files)).result ≡ Ok (inspecting good.bytes))
         × ((inspecting good.bytes).ends ≡ Status.Done) }
 {}
@@ -89,7 +90,7 @@ pub fn good_tables_are_printed()
 /// `messages SITE STREAM` over a site and a stream of packets prints the lines of its messages, and is done.
 #[tactic(auto, using(crate::proofs::Monitors::messages_good))]
 pub fn good_messages_are_printed()
-    ensures { (words : List (List ℕ)) (files : Files) (good : IsGoodMessages words (contents_of files)) →
+    ensures { (words : List Bytes) (files : Files) (good : IsGoodMessages words (contents_of files)) →
         ((meaning words (contents_of files)).result ≡ Ok (monitoring good.fields good.bytes))
         × ((monitoring good.fields good.bytes).ends ≡ Status.Done) }
 {}
@@ -97,7 +98,7 @@ pub fn good_messages_are_printed()
 /// `show CARD` over a card prints its line: its height, leaf and system, and the check at the end of its file.
 #[tactic(auto, using(crate::proofs::Monitors::show_good))]
 pub fn good_cards_are_shown()
-    ensures { (words : List (List ℕ)) (files : Files) (good : IsGoodShow words (contents_of files)) →
+    ensures { (words : List Bytes) (files : Files) (good : IsGoodShow words (contents_of files)) →
         (meaning words (contents_of files)).result ≡ Ok (work_of_text (shown_line good.fields.height good.fields.leaf
         good.fields.ca (check_in (card_bytes good.fields)))) }
 {}
@@ -105,14 +106,14 @@ pub fn good_cards_are_shown()
 /// The line of the card of a leaf names the leaf, the tree's height and the system that the card was made for.
 #[tactic(auto, using(crate::proofs::Monitors::made_shown))]
 pub fn made_cards_are_shown()
-    ensures { (master : List ℕ) (ca d u : ℕ) → ca < 2 ^ 16 → 1 ≤ d → d ≤ 20 → u < 2 ^ d →
+    ensures { (master : Key) (ca : SystemId) (d : Height) (u : LeafNumber) → ca < 2 ^ 16 → 1 ≤ d → d ≤ 20 → u < 2 ^ d →
         told_show (card_bytes (card_of master ca d u))
         ≡ Ok (shown_line d u ca (check_in (card_bytes (card_of master ca d u)))) }
 {}
 
 /// `head SITE BOOK CLEAR OUT` over a site, a book and a clear stream makes its broadcast, and is done.
 pub fn good_streams_are_broadcast()
-    ensures { (words : List (List ℕ)) (files : Files) (good : IsGoodHead words (contents_of files)) →
+    ensures { (words : List Bytes) (files : Files) (good : IsGoodHead words (contents_of files)) →
         ((meaning words (contents_of files)).result ≡ Ok (sending (plan_told good) good.out good.bytes))
         × (concat (broadcast (plan_told good) (taken_of good.bytes)) ≡ sent_of (plan_told good) good.bytes)
         × (Status.Done ≡ sent_status (plan_told good) good.bytes) }
@@ -121,7 +122,7 @@ pub fn good_streams_are_broadcast()
 /// `accounts SITE ACCOUNTS OUT` over a site and accounts makes the book that their lines make, and reports them.
 #[tactic(auto, using(crate::proofs::Kept::accounts_kept))]
 pub fn good_accounts_are_kept()
-    ensures { (words : List (List ℕ)) (files : Files) (good : IsGoodAccounts words (contents_of files)) →
+    ensures { (words : List Bytes) (files : Files) (good : IsGoodAccounts words (contents_of files)) →
         (meaning words (contents_of files)).result ≡ Ok (making_then good.out (text_of good.commands)
         (report_line (accounts_value good.fields.height good.bytes good.commands))) }
 {}
@@ -130,21 +131,21 @@ pub fn good_accounts_are_kept()
 /// second's.
 #[tactic(auto, using(crate::proofs::Kept::books_joined))]
 pub fn good_books_are_joined()
-    ensures { (words : List (List ℕ)) (files : Files) (good : IsGoodBooks words (contents_of files)) →
+    ensures { (words : List Bytes) (files : Files) (good : IsGoodBooks words (contents_of files)) →
         (meaning words (contents_of files)).result ≡ Ok (making NoSteps good.out (text_of (good.before ++ good.added))) }
 {}
 
 /// The book that `accounts` or `book` makes is one that each other command reads, as the same commands.
 #[tactic(auto, using(crate::proofs::Goodness::made_good))]
 pub fn made_books_are_read()
-    ensures { (d : ℕ) (commands : List Command) → d ≤ 20 → IsWithinLimits d commands →
+    ensures { (d : Height) (commands : List Command) → d ≤ 20 → IsWithinLimits d commands →
         IsGoodBook (Some (text_of commands)) d commands }
 {}
 
 /// `layered SITE BOOK WIDTH` over a site and a book prints the useful sets of each period.
 #[tactic(auto, using(crate::proofs::Layers::layered_good))]
 pub fn good_layers_are_printed()
-    ensures { (words : List (List ℕ)) (files : Files) (good : IsGoodLayered words (contents_of files)) →
+    ensures { (words : List Bytes) (files : Files) (good : IsGoodLayered words (contents_of files)) →
         (meaning words (contents_of files)).result ≡ Ok (layering good.fields.height good.width.value good.commands) }
 {}
 
@@ -152,7 +153,7 @@ pub fn good_layers_are_printed()
 /// broadcast takes.
 #[tactic(auto, using(crate::proofs::Operators::air_good))]
 pub fn good_plans_are_printed()
-    ensures { (words : List (List ℕ)) (files : Files) (good : IsGoodPlan words (contents_of files)) →
+    ensures { (words : List Bytes) (files : Files) (good : IsGoodPlan words (contents_of files)) →
         (meaning words (contents_of files)).result ≡ Ok (planning
         (record { site = good.fields; commands = good.commands }) good.packets.value good.pids.value) }
 {}
@@ -161,13 +162,13 @@ pub fn good_plans_are_printed()
 /// with their clash if they do.
 #[tactic(auto, using(crate::proofs::Operators::apart_good, crate::proofs::Operators::apart_clashes))]
 pub fn good_sites_are_judged()
-    ensures apart { (words : List (List ℕ)) (files : Files) (good : IsGoodApart words (contents_of files)) →
+    ensures apart { (words : List Bytes) (files : Files) (good : IsGoodApart words (contents_of files)) →
         clash_of (record { site = good.fields; commands = good.commands })
         (record { site = good.other_fields; commands = good.more_commands }) ≡ None →
         (meaning words (contents_of files)).result ≡ Ok (work_of_text (apart_text
         (record { site = good.fields; commands = good.commands })
         (record { site = good.other_fields; commands = good.more_commands }))) }
-    ensures clash { (words : List (List ℕ)) (files : Files) (good : IsGoodApart words (contents_of files))
+    ensures clash { (words : List Bytes) (files : Files) (good : IsGoodApart words (contents_of files))
         (clash : ClashKind) →
         clash_of (record { site = good.fields; commands = good.commands })
         (record { site = good.other_fields; commands = good.more_commands }) ≡ Some clash →
@@ -177,7 +178,7 @@ pub fn good_sites_are_judged()
 /// `lcard SITE LEAF WIDTH OUT` over a site with the leaf makes its layer card.
 #[tactic(auto, using(crate::proofs::Layers::lcard_good))]
 pub fn good_layer_cards_are_made()
-    ensures { (words : List (List ℕ)) (files : Files) (good : IsGoodLcard words (contents_of files)) →
+    ensures { (words : List Bytes) (files : Files) (good : IsGoodLcard words (contents_of files)) →
         (meaning words (contents_of files)).result ≡ Ok (making Uncounted good.out (layer_bytes
         (layer_card_of good.fields.master good.fields.ca good.fields.height good.width.value good.leaf.value))) }
 {}
@@ -185,14 +186,14 @@ pub fn good_layer_cards_are_made()
 /// `opens SITE BOOK LEAVES` over good files prints the sets of each period, and which of them the leaves' cards open.
 #[tactic(auto, using(crate::proofs::Pooled::opens_good))]
 pub fn good_pools_are_printed()
-    ensures { (words : List (List ℕ)) (files : Files) (good : IsGoodOpens words (contents_of files)) →
+    ensures { (words : List Bytes) (files : Files) (good : IsGoodOpens words (contents_of files)) →
         (meaning words (contents_of files)).result ≡ Ok (opening good.fields.height good.pooled good.commands) }
 {}
 
 /// `trace SITE BOOK LEAVES` over good files prints the trace of a box with the leaves' cards in the last period.
 #[tactic(auto, using(crate::proofs::Pooled::trace_good))]
 pub fn good_traces_are_printed()
-    ensures { (words : List (List ℕ)) (files : Files) (good : IsGoodTrace words (contents_of files)) →
+    ensures { (words : List Bytes) (files : Files) (good : IsGoodTrace words (contents_of files)) →
         (meaning words (contents_of files)).result ≡ Ok (work_of_text (trace_text
         (trace_of good.fields.height good.coalition (revoked_last good.fields.height good.commands)))) }
 {}
@@ -200,7 +201,7 @@ pub fn good_traces_are_printed()
 /// `trial SITE BOOK CLEAR` over a good site, a good book and a clear stream prints the lines of what is opened.
 #[tactic(auto, using(crate::proofs::Tried::trial_good))]
 pub fn good_trials_are_printed()
-    ensures { (words : List (List ℕ)) (files : Files) (good : IsGoodTrial words (contents_of files)) →
+    ensures { (words : List Bytes) (files : Files) (good : IsGoodTrial words (contents_of files)) →
         (meaning words (contents_of files)).result ≡ Ok (printing (Ok
         (opened_lines (plan_tried good) (taken_of good.bytes) (2 ^ good.fields.height)))) }
 {}
@@ -209,7 +210,7 @@ pub fn good_trials_are_printed()
 /// receivers.
 #[tactic(auto, using(crate::proofs::Fielded::field_good))]
 pub fn good_fields_are_printed()
-    ensures { (words : List (List ℕ)) (files : Files) (good : IsGoodField words (contents_of files)) →
+    ensures { (words : List Bytes) (files : Files) (good : IsGoodField words (contents_of files)) →
         (meaning words (contents_of files)).result ≡ Ok (printing (Ok
         (confirmed_lines good.fields (packets_of good.bytes) good.events (2 ^ good.fields.height)))) }
 {}
@@ -227,7 +228,7 @@ pub fn done_trials_had_good_files()
 /// prefix of its due contents, and all others are as they were.
 #[tactic(auto, using(crate::proofs::Left::run_leaves))]
 pub fn no_file_changes_but_out()
-    ensures { (words : List (List ℕ)) (files : Files) (a b : Outside) (answer : Status) →
+    ensures { (words : List Bytes) (files : Files) (a b : Outside) (answer : Status) →
         a.place.files ≡ Some files → RunResult (meaning words) a b answer →
         IsAsBefore files a.place b.place ⊎ HasOut files (meaning words (contents_of files)).result a.place b.place }
 {}
@@ -235,7 +236,7 @@ pub fn no_file_changes_but_out()
 /// The sets of a period are disjoint and unite to exactly the leaves that aren't revoked in it. It is one set if none
 /// is revoked, and at most 2r - 1 sets if r > 0 are [Naor, Naor, Lotspiech 2001, 3.2].
 pub fn printed_sets_unite()
-    ensures { (d q : ℕ) (commands : List Command) → d ≤ 20 →
+    ensures { (d : Height) (q : PeriodNumber) (commands : List Command) → d ≤ 20 →
         IsPartition d (cover_of d (revoked d commands q)) (unrevoked d (revoked d commands q))
         × IsSmall (cover_of d (revoked d commands q)) (length (revoked d commands q)) }
 {}
@@ -243,7 +244,7 @@ pub fn printed_sets_unite()
 /// `receive CARD STREAM OUT` over a card and any stream makes what the card opens of it, and ends as the stream does.
 #[tactic(auto, using(crate::proofs::Broadcasts::receive_good))]
 pub fn streams_are_received()
-    ensures { (words : List (List ℕ)) (files : Files) (good : IsGoodReceive words (contents_of files)) →
+    ensures { (words : List Bytes) (files : Files) (good : IsGoodReceive words (contents_of files)) →
         (meaning words (contents_of files)).result ≡ Ok (receiving good.fields good.out good.bytes) }
 {}
 
@@ -253,7 +254,7 @@ pub fn streams_are_received()
 /// most as many steps of the generator as the tree is high, and no others.
 #[tactic(auto, using(crate::proofs::Broadcasts::broadcast_opened))]
 pub fn broadcasts_are_opened_by_the_entitled()
-    ensures { (plan : Plan) (u : ℕ) (clear : List (List ℕ)) (words : List (List ℕ)) (files : Files) → IsPlan plan →
+    ensures { (plan : Plan) (u : LeafNumber) (clear : Packets) (words : List Bytes) (files : Files) → IsPlan plan →
         IsClear plan.site clear → AreWholePackets clear → u < 2 ^ plan.site.height →
         (sent : IsBroadcastTo plan u clear words (contents_of files)) →
         (work : Work) × ((meaning words (contents_of files)).result ≡ Ok work) × IsOpened plan u clear sent.out work }

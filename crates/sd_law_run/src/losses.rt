@@ -1,7 +1,8 @@
 //! Laws on what `receive` writes of a broadcast that loses packets.
 
-ghost use Rattle.std.specs.Prelude.{◌≡◌, ◌<◌, ◌^◌, ℕ, Bool, List, Some, Ok};
+ghost use Rattle.std.specs.Prelude.{◌≡◌, ◌<◌, ◌^◌, List, Some, Ok};
 ghost use Rattle.std.specs.List.{concat};
+ghost use Rattle.sd_spec_types.specs.Types.{Bytes, Packets, Arrived, LeafNumber};
 ghost use Rattle.sd_spec_broadcast.specs.Plan.{Plan, IsPlan};
 ghost use Rattle.sd_spec_broadcast.specs.Refused.{IsClear};
 ghost use Rattle.sd_spec_broadcast.specs.Sent.{broadcast};
@@ -28,14 +29,14 @@ use sd_command_status::Status;
 /// arrived it takes at most as many steps of the generator as the tree is high, and no others.
 pub fn losses_are_received()
     // By what is meant, whatever happens to the run.
-    ensures meant { (plan : Plan) (u : ℕ) (clear : List (List ℕ)) (flags : List Bool) (words : List (List ℕ))
+    ensures meant { (plan : Plan) (u : LeafNumber) (clear : Packets) (flags : Arrived) (words : List Bytes)
         (files : Files) → IsPlan plan → IsClear plan.site clear → AreWholePackets clear → AreSynced clear →
         u < 2 ^ plan.site.height → (rest : IsRestTo plan u clear flags words (contents_of files)) →
         (work : Work) × ((meaning words (contents_of files)).result ≡ Ok work)
         × IsConfirmed plan u clear (kept_items plan clear flags) rest.out work }
     // By what a run leaves, if no I/O error occurs and memory suffices.
-    ensures receive { (names : Names) (plan : Plan) (u : ℕ) (clear : List (List ℕ)) (z a b : Outside)
-        (flags : List Bool) (answer : Status) → AreGiven z names plan clear → u < 2 ^ plan.site.height →
+    ensures receive { (names : Names) (plan : Plan) (u : LeafNumber) (clear : Packets) (z a b : Outside)
+        (flags : Arrived) (answer : Status) → AreGiven z names plan clear → u < 2 ^ plan.site.height →
         file_in a names.card ≡ Some (card_for plan.site u) →
         file_in a names.stream ≡ Some (concat (chosen flags (broadcast plan clear))) →
         RunResult (receive_meaning (word_at 1 names.card) (word_at 2 names.stream) (word_at 3 names.out)) a b answer →
