@@ -4,7 +4,7 @@ use sd_ecm::{EcmFault, EcmHead, EcmPart, MOST_PLACES, Place, part_count, read_ec
 use sd_packet::Packet;
 use std::alloc::Global;
 use std::ops::Range;
-use std::test::Fail;
+use std::test::*;
 
 // A part that an independent implementation wrote, and its packet up to its stuffing.
 struct Row {
@@ -458,6 +458,11 @@ static ROWS: [Row; 19] = [
     },
 ];
 
+// The rows. Other functions call this one, since a check walks the whole table in each function that names it.
+fn rows() -> &'static [Row] {
+    &ROWS
+}
+
 fn positions_of(row: &Row) -> Option<[Place; 13]> {
     let nothing = Place {
         pid: 0,
@@ -509,16 +514,18 @@ fn written_again(packet: &Packet) -> Option<Packet> {
     Some(write_ecm(&part, packet.pid(), packet.counter()))
 }
 
+// Whether the row's packet is read as its part, and written again as it was.
+fn goes_both_ways(row: &Row) -> Option<bool> {
+    let packet = packet_of(row.packet)?;
+    let is_read = read_ecm(&packet) == Ok(Some(part_of(row)?));
+    Some(is_read && written_again(&packet)?.bytes() == packet.bytes())
+}
+
 #[test]
-fn messages_both_ways(rt: HostRuntime) -> Result<(), Fail> {
-    for row in &ROWS {
-        let packet = packet_of(row.packet).ok_or("no packet")?;
-        let part = part_of(row).ok_or("no part")?;
-        assert_eq!(rt; read_ecm(&packet), Ok(Some(part)));
-        let written = written_again(&packet).ok_or("not written")?;
-        assert_eq!(rt; written.bytes(), packet.bytes());
+fn messages_both_ways(rt: HostRuntime) {
+    for row in rows() {
+        assert!(rt; goes_both_ways(row) == Some(true), "{}", row.packet);
     }
-    Ok(())
 }
 
 // What a message says beside its positions, by one of its parts.
@@ -538,14 +545,14 @@ fn head_of(part: &EcmPart) -> EcmHead {
 }
 
 // The positions of these rows, one after the other.
-fn places_of(alloc: Global, rows: &[Row]) -> Result<Vec<Place>, Fail> {
+fn places_of(alloc: Global, rows: &[Row]) -> Option<Vec<Place>> {
     let mut places = Vec::new(alloc);
     for row in rows {
-        let part = part_of(row).ok_or("no part")?;
-        let own = part.positions.get(..usize::from(part.count));
-        places.extend_from_slice(own.ok_or("no positions")?)?;
+        let part = part_of(row)?;
+        let own = part.positions.get(..usize::from(part.count))?;
+        places.extend_from_slice(own).ok()?;
     }
-    Ok(places)
+    Some(places)
 }
 
 // The part of this row's number of the message that has these positions and says what the row does.
@@ -559,31 +566,45 @@ fn part_again(row: &Row, places: &[Place]) -> Option<EcmPart> {
     }
 }
 
-#[test]
-fn parts_of_messages(rt: HostRuntime) -> Result<(), Fail> {
-    // The first row of each message, and how many rows it has.
-    for (first, count) in [
-        (0, 1),
-        (1, 1),
-        (4, 2),
-        (6, 3),
-        (9, 1),
-        (12, 2),
-        (15, 1),
-        (17, 2),
-    ] {
-        let rows = ROWS.get(first..first + count).ok_or("no rows")?;
-        let places = places_of(rt.alloc(), rows)?;
-        let head = rows.first().and_then(part_of).ok_or("no part")?;
-        assert!(rt; places.len() <= MOST_PLACES);
-        assert_eq!(rt; usize::from(part_count(head.version, places.len())), count);
-        for row in rows {
-            let due = part_of(row).ok_or("no part")?;
-            assert_eq!(rt; part_again(row, &places), Some(due));
-            assert!(rt; due.same_header(&head));
-        }
+// Whether the row's part is made again of all positions, and has the header of the first.
+fn is_made_again(row: &Row, places: &[Place], first: &EcmPart) -> bool {
+    match part_of(row) {
+        Some(due) => part_again(row, places) == Some(due) && due.same_header(first),
+        None => false,
     }
-    Ok(())
+}
+
+// Whether the message of these rows has a part for each, and each is made again.
+fn are_made_again(alloc: Global, rows: &[Row]) -> Option<bool> {
+    let places = places_of(alloc, rows)?;
+    let first = part_of(rows.first()?)?;
+    if places.len() > MOST_PLACES {
+        return None;
+    }
+    let count = usize::from(part_count(first.version, places.len()));
+    let are_made = rows.iter().all(|row| is_made_again(row, &places, &first));
+    Some(count == rows.len() && are_made)
+}
+
+// The first row of each message, and how many rows it has.
+static MESSAGES: [(usize, usize); 8] = [
+    (0, 1),
+    (1, 1),
+    (4, 2),
+    (6, 3),
+    (9, 1),
+    (12, 2),
+    (15, 1),
+    (17, 2),
+];
+
+#[test]
+fn parts_of_messages(rt: HostRuntime) {
+    for (first, count) in &MESSAGES {
+        let rows = rows().get(*first..first.saturating_add(*count));
+        let made = rows.and_then(|rows| are_made_again(rt.alloc(), rows));
+        assert!(rt; made == Some(true), "the message of row {first}");
+    }
 }
 
 // A count, a length, a part that isn't the last with 3 positions, and with 12, a last part with none; in version 2 13
@@ -645,7 +666,7 @@ static OTHER_KINDS: [Change; 9] = [
 // Whether each packet that is changed so is read as this.
 fn are_read_as(changes: &[Change], due: Result<Option<EcmPart>, EcmFault>) -> bool {
     for (row, bytes) in changes {
-        let packet = ROWS.get(*row).and_then(|row| changed(row.packet, bytes));
+        let packet = rows().get(*row).and_then(|row| changed(row.packet, bytes));
         if packet.map(|packet| read_ecm(&packet)) != Some(due) {
             return false;
         }
@@ -654,13 +675,12 @@ fn are_read_as(changes: &[Change], due: Result<Option<EcmPart>, EcmFault>) -> bo
 }
 
 #[test]
-fn faults_in_order(rt: HostRuntime) -> Result<(), Fail> {
+fn faults_in_order(rt: HostRuntime) {
     assert!(rt; are_read_as(&OTHER_COUNTS, Err(EcmFault::Count)));
     assert!(rt; are_read_as(&OTHER_PIDS, Err(EcmFault::Pid)));
     assert!(rt; are_read_as(&OTHER_ORDERS, Err(EcmFault::Order)));
     assert!(rt; are_read_as(&OTHER_HEADS, Err(EcmFault::Mixed)));
     assert!(rt; are_read_as(&OTHER_KINDS, Ok(None)));
-    Ok(())
 }
 
 // Whether the packet is read as this whichever of these bytes has a bit flipped.
@@ -673,13 +693,19 @@ fn is_still_read_as(packet: &Packet, places: Range<usize>, due: Option<EcmPart>)
     true
 }
 
+// Whether a flipped bit of the row's packet makes no other part: the header's PID, the counter and what stands after
+// the section aren't read.
+fn is_spoilt_by_flips(row: &Row) -> Option<bool> {
+    let packet = packet_of(row.packet)?;
+    let due = Some(part_of(row)?);
+    Some(
+        is_still_read_as(&packet, 1..4, due)
+            && is_still_read_as(&packet, 4..107, None)
+            && is_still_read_as(&packet, 107..188, due),
+    )
+}
+
 #[test]
-fn no_bit_makes_another_message(rt: HostRuntime) -> Result<(), Fail> {
-    let packet = packet_of(ROWS[1].packet).ok_or("no packet")?;
-    let part = part_of(&ROWS[1]).ok_or("no part")?;
-    // The header's PID, the counter and what stands after the section aren't read.
-    assert!(rt; is_still_read_as(&packet, 1..4, Some(part)));
-    assert!(rt; is_still_read_as(&packet, 4..107, None));
-    assert!(rt; is_still_read_as(&packet, 107..188, Some(part)));
-    Ok(())
+fn no_bit_makes_another_message(rt: HostRuntime) {
+    assert!(rt; rows().get(1).and_then(is_spoilt_by_flips) == Some(true));
 }

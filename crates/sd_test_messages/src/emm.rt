@@ -5,7 +5,7 @@ use sd_packet::Packet;
 use sd_tree::{Height, SetName};
 use std::alloc::Global;
 use std::ops::Range;
-use std::test::Fail;
+use std::test::*;
 
 // Entitlements that an independent implementation wrote, and their packet up to its stuffing.
 struct Row {
@@ -232,6 +232,11 @@ static ROWS: [Row; 9] = [
     },
 ];
 
+// The rows. Other functions call this one, since a check walks the whole table in each function that names it.
+fn rows() -> &'static [Row] {
+    &ROWS
+}
+
 fn emm_of(row: &Row) -> Option<Emm> {
     let nothing = Entry {
         name: SetName::Whole,
@@ -267,28 +272,30 @@ fn written_again(h: Height, packet: &Packet) -> Option<Packet> {
     Some(write_emm(&emm, packet.pid(), packet.counter()))
 }
 
+// Whether the row's packet is read as its section, and written again as it was.
+fn goes_both_ways(row: &Row) -> Option<bool> {
+    let packet = packet_of(row.packet)?;
+    let h = Height::new(row.height)?;
+    let is_read = read_emm(h, &packet) == Ok(Some(emm_of(row)?));
+    Some(is_read && written_again(h, &packet)?.bytes() == packet.bytes())
+}
+
 #[test]
-fn messages_both_ways(rt: HostRuntime) -> Result<(), Fail> {
-    for row in &ROWS {
-        let packet = packet_of(row.packet).ok_or("no packet")?;
-        let h = Height::new(row.height).ok_or("no height")?;
-        let emm = emm_of(row).ok_or("no emm")?;
-        assert_eq!(rt; read_emm(h, &packet), Ok(Some(emm)));
-        let written = written_again(h, &packet).ok_or("not written")?;
-        assert_eq!(rt; written.bytes(), packet.bytes());
+fn messages_both_ways(rt: HostRuntime) {
+    for row in rows() {
+        assert!(rt; goes_both_ways(row) == Some(true), "{}", row.packet);
     }
-    Ok(())
 }
 
 // The entries of these rows, one after the other.
-fn entries_of(alloc: Global, rows: &[Row]) -> Result<Vec<Entry>, Fail> {
+fn entries_of(alloc: Global, rows: &[Row]) -> Option<Vec<Entry>> {
     let mut entries = Vec::new(alloc);
     for row in rows {
-        let emm = emm_of(row).ok_or("no emm")?;
-        let own = emm.entries.get(..usize::from(emm.count));
-        entries.extend_from_slice(own.ok_or("no entries")?)?;
+        let emm = emm_of(row)?;
+        let own = emm.entries.get(..usize::from(emm.count))?;
+        entries.extend_from_slice(own).ok()?;
     }
-    Ok(entries)
+    Some(entries)
 }
 
 // The section of this row's index of the period that has these entries.
@@ -301,19 +308,29 @@ fn section_again(row: &Row, entries: &[Entry]) -> Option<Emm> {
     }
 }
 
-#[test]
-fn sections_of_periods(rt: HostRuntime) -> Result<(), Fail> {
-    // The first row of each period, and how many rows it has.
-    for (first, count) in [(0, 1), (1, 1), (3, 1), (5, 2), (8, 1)] {
-        let rows = ROWS.get(first..first + count).ok_or("no rows")?;
-        let entries = entries_of(rt.alloc(), rows)?;
-        assert!(rt; entries.len() <= MOST_SETS);
-        assert_eq!(rt; usize::from(section_count(entries.len())), count);
-        for row in rows {
-            assert_eq!(rt; section_again(row, &entries), emm_of(row));
-        }
+// Whether the period of these rows has a section for each, and each is made again of all entries.
+fn are_made_again(alloc: Global, rows: &[Row]) -> Option<bool> {
+    let entries = entries_of(alloc, rows)?;
+    if entries.len() > MOST_SETS {
+        return None;
     }
-    Ok(())
+    let count = usize::from(section_count(entries.len()));
+    let are_made = rows
+        .iter()
+        .all(|row| section_again(row, &entries) == emm_of(row));
+    Some(count == rows.len() && are_made)
+}
+
+// The first row of each period, and how many rows it has.
+static PERIODS: [(usize, usize); 5] = [(0, 1), (1, 1), (3, 1), (5, 2), (8, 1)];
+
+#[test]
+fn sections_of_periods(rt: HostRuntime) {
+    for (first, count) in &PERIODS {
+        let rows = rows().get(*first..first.saturating_add(*count));
+        let made = rows.and_then(|rows| are_made_again(rt.alloc(), rows));
+        assert!(rt; made == Some(true), "the period of row {first}");
+    }
 }
 
 // A count of 2 with section_length 76; a length, a number of sections, an index, numbers of sets; a section that names
@@ -361,7 +378,7 @@ static OTHER_KINDS: [Change; 7] = [
 // Whether each packet that is changed so is read as this.
 fn are_read_as(changes: &[Change], due: Result<Option<Emm>, EmmFault>) -> bool {
     for (row, bytes) in changes {
-        if ROWS.get(*row).and_then(|row| read_changed(row, bytes)) != Some(due) {
+        if rows().get(*row).and_then(|row| read_changed(row, bytes)) != Some(due) {
             return false;
         }
     }
@@ -394,14 +411,20 @@ fn is_still_read_as(h: Height, packet: &Packet, places: Range<usize>, due: Optio
     true
 }
 
+// Whether a flipped bit of the row's packet makes no other section: the header's PID, the counter and what stands after
+// the section aren't read.
+fn is_spoilt_by_flips(row: &Row) -> Option<bool> {
+    let packet = packet_of(row.packet)?;
+    let due = Some(emm_of(row)?);
+    let h = Height::new(row.height)?;
+    Some(
+        is_still_read_as(h, &packet, 1..4, due)
+            && is_still_read_as(h, &packet, 4..164, None)
+            && is_still_read_as(h, &packet, 164..188, due),
+    )
+}
+
 #[test]
-fn no_bit_makes_another_message(rt: HostRuntime) -> Result<(), Fail> {
-    let packet = packet_of(ROWS[3].packet).ok_or("no packet")?;
-    let emm = emm_of(&ROWS[3]).ok_or("no emm")?;
-    let h = Height::new(ROWS[3].height).ok_or("no height")?;
-    // The header's PID, the counter and what stands after the section aren't read.
-    assert!(rt; is_still_read_as(h, &packet, 1..4, Some(emm)));
-    assert!(rt; is_still_read_as(h, &packet, 4..164, None));
-    assert!(rt; is_still_read_as(h, &packet, 164..188, Some(emm)));
-    Ok(())
+fn no_bit_makes_another_message(rt: HostRuntime) {
+    assert!(rt; rows().get(3).and_then(is_spoilt_by_flips) == Some(true));
 }

@@ -39,21 +39,31 @@ static GOOD: [(usize, usize, &str, u8); 5] = [
     (9, 9, "messages 3", 3),
 ];
 
+// Whether the text is read as the site of the lines, with this version of messages.
+fn is_read(bytes: &[u8], messages: u8) -> bool {
+    let Ok(site) = read(bytes) else {
+        return false;
+    };
+    let mut counts_up = true;
+    for (i, byte) in site.master.iter().enumerate() {
+        counts_up = counts_up && usize::from(*byte) == i;
+    }
+    counts_up
+        && site.height.get() == 3
+        && (site.ca, site.emm, site.ecm) == (0x1234, 496, 497)
+        && (site.every, site.cryptos, site.span) == (200, 2, 1)
+        && site.messages == messages
+}
+
 #[test]
 fn a_site_is_read(rt: HostRuntime) -> Result<(), Fail> {
     for (count, k, line, messages) in &GOOD {
         let text = text(rt.alloc(), *count, *k, line)?;
         let whole = text.as_bytes();
-        for bytes in [whole, &whole[..whole.len().saturating_sub(1)]] {
-            let site = read(bytes).ok().ok_or("the text is a site file")?;
-            assert_eq!(rt; site.height.get(), 3);
-            for (i, byte) in site.master.iter().enumerate() {
-                assert_eq!(rt; usize::from(*byte), i);
-            }
-            assert_eq!(rt; (site.ca, site.emm, site.ecm), (0x1234, 496, 497));
-            assert_eq!(rt; (site.every, site.cryptos, site.span), (200, 2, 1));
-            assert_eq!(rt; site.messages, *messages);
-        }
+        assert!(rt; is_read(whole, *messages), "{count} lines with {line}");
+        // The last line may lack its end.
+        let cut = whole.get(..whole.len().saturating_sub(1)).ok_or("a line")?;
+        assert!(rt; is_read(cut, *messages), "{count} lines with {line}, cut");
     }
     Ok(())
 }
