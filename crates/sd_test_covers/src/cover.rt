@@ -52,28 +52,44 @@ fn sets(alloc: Global, d: u8, changes: &[(u32, bool)]) -> Option<Vec<SetName>> {
     counted_sets::<Brand>(alloc, d, changes, Blank::new(1))
 }
 
+// A height, changes of its leaves, and the sets after them.
+type Row = (u8, &'static [(u32, bool)], &'static [SetName]);
+
+static CHANGED: [Row; 5] = [
+    (
+        3,
+        &[(0, true), (2, true)],
+        &[
+            SetName::Diff { i: 1, j: 2 },
+            SetName::Diff { i: 4, j: 8 },
+            SetName::Diff { i: 5, j: 10 },
+        ],
+    ),
+    (
+        3,
+        &[(0, true), (2, true), (0, false)],
+        &[SetName::Diff { i: 1, j: 10 }],
+    ),
+    (3, &[(0, true), (0, false)], &[SetName::Whole]),
+    (1, &[(0, true), (1, true)], &[]),
+    (
+        20,
+        &[(0, true), (1_048_575, true)],
+        &[
+            SetName::Diff { i: 2, j: 1_048_576 },
+            SetName::Diff { i: 3, j: 2_097_151 },
+        ],
+    ),
+];
+
 #[test]
 fn sets_after_changes(rt: HostRuntime) {
-    let set = |i, j| SetName::Diff { i, j };
-    // The height, the changes, and the sets after them.
-    let cases: [(u8, &[(u32, bool)], &[SetName]); 5] = [
-        (
-            3,
-            &[(0, true), (2, true)],
-            &[set(1, 2), set(4, 8), set(5, 10)],
-        ),
-        (3, &[(0, true), (2, true), (0, false)], &[set(1, 10)]),
-        (3, &[(0, true), (0, false)], &[SetName::Whole]),
-        (1, &[(0, true), (1, true)], &[]),
-        (
-            20,
-            &[(0, true), (1_048_575, true)],
-            &[set(2, 1_048_576), set(3, 2_097_151)],
-        ),
-    ];
-    for (d, changes, due) in cases {
-        let sets = sets(rt.alloc(), d, changes).expect(&rt, "the sets");
-        assert_eq!(rt; sets.as_slice(), due);
+    for (d, changes, due) in &CHANGED {
+        let found = sets(rt.alloc(), *d, changes);
+        assert!(rt;
+            found.is_some_and(|sets| sets.as_slice() == *due),
+            "height {d}"
+        );
     }
 }
 

@@ -47,45 +47,74 @@ fn is_of_a_layer(w: u32, name: SetName) -> bool {
     }
 }
 
+// Whether these sets hold each of so many leaves once, unless its bit is set.
+fn are_apart(d: u8, leaves: u32, bits: u32, sets: &[SetName]) -> bool {
+    for u in 0..leaves {
+        let held = sets.iter().filter(|name| has_leaf(d, **name, u)).count();
+        if held != usize::from(!has_bit(bits, u)) {
+            return false;
+        }
+    }
+    true
+}
+
+// Whether these are no more sets than the leaves of these bits need, each of a layer.
+fn are_of_layers(w: u8, bits: u32, sets: &[SetName]) -> bool {
+    let most = (4 * bits.count_ones() as usize).saturating_sub(2).max(1);
+    sets.len() <= most && sets.iter().all(|name| is_of_a_layer(u32::from(w), *name))
+}
+
+// Heights, and how many leaves each has.
+static HEIGHTS: [(u8, u32); 3] = [(1, 2), (2, 4), (3, 8)];
+
 #[test]
 fn all_revoked_leaves_of_small_trees(rt: HostRuntime) -> Result<(), Fail> {
-    for (d, leaves) in [(1u8, 2u32), (2, 4), (3, 8)] {
-        for w in 1..=d {
-            for bits in 0..1u32 << leaves {
-                let sets = covered(rt.alloc(), d, w, bits).ok_or("the leaves have a cover")?;
-                for u in 0..leaves {
-                    let held = sets.iter().filter(|name| has_leaf(d, **name, u)).count();
-                    let due = usize::from(!has_bit(bits, u));
-                    assert_eq!(rt; held, due, "leaf {u} of {d}, width {w}, revoked {bits}");
-                }
-                assert!(rt; sets.iter().all(|name| is_of_a_layer(u32::from(w), *name)));
-                let most = (4 * bits.count_ones() as usize).saturating_sub(2).max(1);
-                assert!(rt; sets.len() <= most, "sets of {bits} at {d}, width {w}");
+    for (d, leaves) in &HEIGHTS {
+        for w in 1..=*d {
+            for bits in 0..1u32.wrapping_shl(*leaves) {
+                let sets = covered(rt.alloc(), *d, w, bits).ok_or("the leaves have a cover")?;
+                assert!(rt;
+                    are_apart(*d, *leaves, bits, &sets) && are_of_layers(w, bits, &sets),
+                    "height {d}, width {w}, revoked {bits}"
+                );
             }
         }
     }
     Ok(())
 }
 
+const CUT: &[SetName] = &[
+    SetName::Diff { i: 2, j: 4 },
+    SetName::Diff { i: 3, j: 7 },
+    SetName::Diff { i: 4, j: 8 },
+    SetName::Diff { i: 7, j: 15 },
+];
+
+const UNCUT: &[SetName] = &[SetName::Diff { i: 2, j: 8 }, SetName::Diff { i: 3, j: 15 }];
+
+// The cover of each width where leaves 0 and 7 of height 3 are revoked.
+static COVERS: [(u8, &[SetName]); 3] = [(1, UNCUT), (2, CUT), (3, UNCUT)];
+
+// A height, a width, and whether it is one of the height.
+static WIDTHS: [(u8, u8, bool); 5] = [
+    (3, 0, false),
+    (3, 3, true),
+    (3, 4, false),
+    (20, 20, true),
+    (1, 1, true),
+];
+
 #[test]
-fn covers_of_two_revoked_leaves(rt: HostRuntime) -> Result<(), Fail> {
-    let set = |i, j| SetName::Diff { i, j };
-    let cut = [set(2, 4), set(3, 7), set(4, 8), set(7, 15)];
-    let uncut = [set(2, 8), set(3, 15)];
-    // Leaves 0 and 7 of height 3.
-    for (w, due) in [(1, &uncut[..]), (2, &cut[..]), (3, &uncut[..])] {
-        let sets = covered(rt.alloc(), 3, w, 0b1000_0001).ok_or("the leaves have a cover")?;
-        assert!(rt; &sets[..] == due, "width {w}");
+fn covers_of_two_revoked_leaves(rt: HostRuntime) {
+    for (w, due) in &COVERS {
+        let sets = covered(rt.alloc(), 3, *w, 0b1000_0001);
+        assert!(rt;
+            sets.is_some_and(|sets| sets.as_slice() == *due),
+            "width {w}"
+        );
     }
-    for (d, w, known) in [
-        (3, 0, false),
-        (3, 3, true),
-        (3, 4, false),
-        (20, 20, true),
-        (1, 1, true),
-    ] {
-        let width = Height::new(d).and_then(|h| Width::new(h, w));
-        assert_eq!(rt; width.is_some(), known, "width {w} of {d}");
+    for (d, w, known) in &WIDTHS {
+        let width = Height::new(*d).and_then(|h| Width::new(h, *w));
+        assert!(rt; width.is_some() == *known, "width {w} of {d}");
     }
-    Ok(())
 }

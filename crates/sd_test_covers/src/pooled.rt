@@ -142,30 +142,39 @@ fn all_orders(alloc: Global) -> Result<Vec<Order>, AllocError> {
     Ok(orders)
 }
 
-#[test]
-fn pooled_cards_of_all_small_books(rt: HostRuntime) -> Result<(), Fail> {
-    let alloc = rt.alloc();
-    let coalitions: [&[u32]; 11] = [
-        &[],
-        &[0],
-        &[1],
-        &[2],
-        &[3],
-        &[0, 1],
-        &[0, 2],
-        &[0, 3],
-        &[1, 2],
-        &[1, 3],
-        &[2, 3],
-    ];
-    let orders = all_orders(alloc)?;
-    for leaves in coalitions {
-        let closure = pooled(alloc, leaves).ok_or("a closure")?;
-        for first in orders.iter() {
-            for second in orders.iter() {
-                assert_eq!(rt; agree(alloc, *first, *second, leaves, &closure), Some(true));
+static COALITIONS: [&[u32]; 11] = [
+    &[],
+    &[0],
+    &[1],
+    &[2],
+    &[3],
+    &[0, 1],
+    &[0, 2],
+    &[0, 3],
+    &[1, 2],
+    &[1, 3],
+    &[2, 3],
+];
+
+// Whether these leaves know what they should in each book of two of these commands.
+fn agree_in_all(alloc: Global, orders: &[Order], leaves: &[u32]) -> Option<bool> {
+    let closure = pooled(alloc, leaves)?;
+    for first in orders {
+        for second in orders {
+            if !agree(alloc, *first, *second, leaves, &closure)? {
+                return Some(false);
             }
         }
+    }
+    Some(true)
+}
+
+#[test]
+fn pooled_cards_of_all_small_books(rt: HostRuntime) -> Result<(), AllocError> {
+    let orders = all_orders(rt.alloc())?;
+    for leaves in &COALITIONS {
+        let agreed = agree_in_all(rt.alloc(), &orders, leaves);
+        assert!(rt; agreed == Some(true), "{leaves:?}");
     }
     Ok(())
 }

@@ -58,43 +58,47 @@ fn pair_opens(a: u32, b: u32, i: u32, j: u32) -> Option<bool> {
     Some(opens(h, &coalition, SetName::new(h, i, j)?))
 }
 
+// Two leaves, a set, and whether they open it.
+static PAIRS: [(u32, u32, (u32, u32), bool); 5] = [
+    (5, 0, (1, 13), true),
+    (0, 5, (1, 13), true),
+    (4, 5, (3, 6), false),
+    (4, 5, (3, 7), true),
+    (4, 5, (0, 0), true),
+];
+
 #[test]
 fn either_leaf_opens(rt: HostRuntime) {
-    for (a, b, (i, j), due) in [
-        (5, 0, (1, 13), true),
-        (0, 5, (1, 13), true),
-        (4, 5, (3, 6), false),
-        (4, 5, (3, 7), true),
-        (4, 5, (0, 0), true),
-    ] {
-        assert_eq!(rt;
-            pair_opens(a, b, i, j),
-            Some(due),
-            "{a} and {b} at ({i},{j})"
-        );
+    for (a, b, (i, j), due) in &PAIRS {
+        let is_open = pair_opens(*a, *b, *i, *j);
+        assert!(rt; is_open == Some(*due), "{a} and {b} at ({i},{j})");
     }
 }
+
+static NAMES_OF_5: [Name; 7] = [
+    Name::Whole,
+    Name::Pair { i: 1, w: 2 },
+    Name::Pair { i: 1, w: 7 },
+    Name::Pair { i: 1, w: 12 },
+    Name::Pair { i: 3, w: 7 },
+    Name::Pair { i: 3, w: 12 },
+    Name::Pair { i: 6, w: 12 },
+];
+
+// Sets, and whether leaf 5 reaches them.
+static REACHED: [(SetName, bool); 4] = [
+    (SetName::Diff { i: 1, j: 8 }, true),
+    (SetName::Diff { i: 1, j: 2 }, true),
+    (SetName::Whole, true),
+    (SetName::Diff { i: 1, j: 6 }, false),
+];
 
 #[test]
 fn names_of_leaf_5(rt: HostRuntime) -> Result<(), Fail> {
     let held = names(rt.alloc(), 3, 5).ok_or("names")?;
-    let due = [
-        Name::Whole,
-        Name::Pair { i: 1, w: 2 },
-        Name::Pair { i: 1, w: 7 },
-        Name::Pair { i: 1, w: 12 },
-        Name::Pair { i: 3, w: 7 },
-        Name::Pair { i: 3, w: 12 },
-        Name::Pair { i: 6, w: 12 },
-    ];
-    assert_eq!(rt; held.as_slice(), due.as_slice());
-    for (name, reached) in [
-        (SetName::Diff { i: 1, j: 8 }, true),
-        (SetName::Diff { i: 1, j: 2 }, true),
-        (SetName::Whole, true),
-        (SetName::Diff { i: 1, j: 6 }, false),
-    ] {
-        assert_eq!(rt; reaches(&held, name), reached, "{name:?}");
+    assert!(rt; held.as_slice() == NAMES_OF_5.as_slice());
+    for (name, reached) in &REACHED {
+        assert!(rt; reaches(&held, *name) == *reached, "{name:?}");
     }
     Ok(())
 }
@@ -106,24 +110,33 @@ fn leaves_reach_their_sets(rt: HostRuntime) {
     assert!(rt; agree(rt.alloc(), 3, 8, &HEIGHT_3));
 }
 
-#[test]
-fn odd_names_reach_by_the_rules(rt: HostRuntime) -> Result<(), Fail> {
-    for name in [
-        Name::Whole,
-        Name::Pair { i: 1, w: 0 },
-        Name::Pair { i: 0, w: 1 },
-        Name::Pair { i: 5, w: 2 },
-        Name::Pair { i: 2, w: 2 },
-        Name::Pair { i: 7, w: 15 },
-    ] {
-        let held = [name, Name::Pair { i: 4, w: 9 }];
-        let all = closure(rt.alloc(), &held)?;
-        for i in 0..8 {
-            for j in 0..16 {
-                let reached = reaches(&held, SetName::Diff { i, j });
-                assert_eq!(rt; reached, has(&all, i, j), "({i},{j}) from {name:?}");
+static ODD: [Name; 6] = [
+    Name::Whole,
+    Name::Pair { i: 1, w: 0 },
+    Name::Pair { i: 0, w: 1 },
+    Name::Pair { i: 5, w: 2 },
+    Name::Pair { i: 2, w: 2 },
+    Name::Pair { i: 7, w: 15 },
+];
+
+// Whether this name and another reach what the rules give.
+fn reaches_by_the_rules(alloc: Global, name: Name) -> Option<bool> {
+    let held = [name, Name::Pair { i: 4, w: 9 }];
+    let all = closure(alloc, &held).ok()?;
+    for i in 0..8 {
+        for j in 0..16 {
+            if reaches(&held, SetName::Diff { i, j }) != has(&all, i, j) {
+                return Some(false);
             }
         }
     }
-    Ok(())
+    Some(true)
+}
+
+#[test]
+fn odd_names_reach_by_the_rules(rt: HostRuntime) {
+    for name in &ODD {
+        let reached = reaches_by_the_rules(rt.alloc(), *name);
+        assert!(rt; reached == Some(true), "{name:?}");
+    }
 }

@@ -42,18 +42,29 @@ fn traced(
     Some(told)
 }
 
+// A height, the revoked leaves, the coalition; of each leaf that is found its number, its trials and its splits.
+type Row = (
+    u8,
+    &'static [u32],
+    &'static [u32],
+    &'static [(u32, u32, u32)],
+);
+
+static COALITIONS: [Row; 4] = [
+    (3, &[0, 2], &[1, 6], &[(1, 3, 0), (6, 4, 2)]),
+    (3, &[0, 2], &[0], &[]),
+    (3, &[], &[6], &[(6, 4, 3)]),
+    (1, &[0, 1], &[0, 1], &[]),
+];
+
 #[test]
 fn coalitions_are_found(rt: HostRuntime) {
-    // The height, the revoked leaves, the coalition; of each leaf that is found its number, its trials and its splits.
-    let cases: [(u8, &[u32], &[u32], &[(u32, u32, u32)]); 4] = [
-        (3, &[0, 2], &[1, 6], &[(1, 3, 0), (6, 4, 2)]),
-        (3, &[0, 2], &[0], &[]),
-        (3, &[], &[6], &[(6, 4, 3)]),
-        (1, &[0, 1], &[0, 1], &[]),
-    ];
-    for (height, revoked, coalition, due) in cases {
-        let found = traced(rt.alloc(), height, revoked, coalition).expect(&rt, "a trace");
-        assert_eq!(rt; found.as_slice(), due, "{coalition:?} at height {height}");
+    for (height, revoked, coalition, due) in &COALITIONS {
+        let found = traced(rt.alloc(), *height, revoked, coalition);
+        assert!(rt;
+            found.is_some_and(|found| found.as_slice() == *due),
+            "{coalition:?} at height {height}"
+        );
     }
 }
 
@@ -223,27 +234,33 @@ impl TestBox for CountingBox {
     }
 }
 
-#[test]
-fn all_sets_are_probed(rt: HostRuntime) -> Result<(), Fail> {
-    let alloc = rt.alloc();
-    let h = Height::new(3).ok_or("a height")?;
-    let revoked = leaves_of(alloc, h, &[0, 2]).ok_or("leaves")?;
-    let coalition = leaves_of(alloc, h, &[1, 6]).ok_or("leaves")?;
-    assert!(rt;
-        are_of_height(h, &coalition) && are_of_height(h, &revoked) && are_ascending(&revoked)
-    );
-    assert!(rt; revoked.len() <= MOST_REVOKED);
+// How many sets a box of the coalition is asked for at each probe where these leaves of height 3 are revoked.
+fn probed(alloc: Global, revoked: &[u32], coalition: &[u32]) -> Option<Vec<usize>> {
+    let h = Height::new(3)?;
+    let revoked = leaves_of(alloc, h, revoked)?;
+    let coalition = leaves_of(alloc, h, coalition)?;
+    if !are_of_height(h, &coalition)
+        || !are_of_height(h, &revoked)
+        || !are_ascending(&revoked)
+        || revoked.len() > MOST_REVOKED
+    {
+        return None;
+    }
     let mut target = CountingBox {
         inner: CoalitionBox::new(h, coalition),
         counts: Vec::new(alloc),
     };
-    assert!(rt; trace_all(alloc, h, &revoked, &mut target).is_ok());
-    // Three sets and two halvings; two sets, one halving and two cuts; and two sets at the end.
-    assert_eq!(rt;
-        target.counts.as_slice(),
-        [3, 3, 3, 2, 2, 2, 2, 2].as_slice()
-    );
-    Ok(())
+    trace_all(alloc, h, &revoked, &mut target).ok()?;
+    Some(target.counts)
+}
+
+// Three sets and two halvings; two sets, one halving and two cuts; and two sets at the end.
+static PROBES: [usize; 8] = [3, 3, 3, 2, 2, 2, 2, 2];
+
+#[test]
+fn all_sets_are_probed(rt: HostRuntime) {
+    let counts = probed(rt.alloc(), &[0, 2], &[1, 6]);
+    assert!(rt; counts.is_some_and(|counts| counts.as_slice() == PROBES.as_slice()));
 }
 
 // A box that tells nothing and answers by the bits of a number, whatever it is asked.
@@ -295,24 +312,23 @@ fn bears_lies(alloc: Global, revoked: u32, answers: u32) -> Option<bool> {
     Some(trials == target.asked)
 }
 
+static LIES: [u32; 8] = [
+    0,
+    u32::MAX,
+    0x5555_5555,
+    0xAAAA_AAAA,
+    0x0F0F_0F0F,
+    0x1234_5678,
+    0xDEAD_BEEF,
+    7,
+];
+
 #[test]
 fn boxes_that_lie_are_borne(rt: HostRuntime) {
-    for answers in [
-        0,
-        u32::MAX,
-        0x5555_5555,
-        0xAAAA_AAAA,
-        0x0F0F_0F0F,
-        0x1234_5678,
-        0xDEAD_BEEF,
-        7,
-    ] {
+    for answers in &LIES {
         for revoked in 0..256 {
-            assert_eq!(rt;
-                bears_lies(rt.alloc(), revoked, answers),
-                Some(true),
-                "{revoked} {answers}"
-            );
+            let is_borne = bears_lies(rt.alloc(), revoked, *answers) == Some(true);
+            assert!(rt; is_borne, "{revoked} {answers}");
         }
     }
 }
