@@ -1,5 +1,5 @@
-//! An index of the revoked leaves, kept from period to period, that gives the sets of their cover.
-//! The cover of leaves that are not kept so is `cover` of `sd_steiner`.
+//! The incremental index of the cover, and not the cover itself: that is `sd_steiner`.
+//! It keeps the revoked leaves from period to period, and gives the sets of their cover.
 #![tactic(auto)]
 
 mod counts;

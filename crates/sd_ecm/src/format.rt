@@ -8,10 +8,10 @@ ghost use Rattle.sd_ecm.specs.declared.format.TheConstants.{POSITIONS};
 /// The table_id of a part of version 1 whose control word has an even number. That of an odd one follows it.
 pub const TABLE_ID_1: u8 = 0x80;
 
-/// The same of version 2.
+/// The table_id of a part of version 2 whose control word has an even number. That of an odd one follows it.
 pub const TABLE_ID_2: u8 = 0x84;
 
-/// The same of version 3.
+/// The table_id of a part of version 3 whose control word has an even number. That of an odd one follows it.
 pub const TABLE_ID_3: u8 = 0x88;
 
 /// The most positions of a part of version 1, and of any part.
@@ -32,13 +32,13 @@ pub const FLAGS_AT_3: usize = 24;
 /// How many bytes after the flags the wrapped control word stands.
 pub const WRAPPED_AT: usize = 1;
 
-/// How many bytes after them its check value stands.
+/// How many bytes after the flags the check value of the control word stands.
 pub const CHECK_AT: usize = 33;
 
-/// How many bytes after them the count of positions stands.
+/// How many bytes after the flags the count of positions stands.
 pub const COUNT_AT: usize = 49;
 
-/// How many bytes after them the positions begin.
+/// How many bytes after the flags the positions begin.
 pub const PLACES_AT: usize = 50;
 
 /// The bytes of a position.

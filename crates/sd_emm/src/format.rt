@@ -6,7 +6,7 @@ ghost use Rattle.sd_emm.specs.Fields.{count_at as count_place, emm_head_length a
 /// The table_id of a section that doesn't name its broadcast.
 pub const TABLE_ID: u8 = 0x82;
 
-/// The table_id of one that does.
+/// The table_id of a section that names its broadcast.
 pub const NAMED_TABLE_ID: u8 = 0x8A;
 
 /// Where the check value of the period key stands.
@@ -40,7 +40,7 @@ pub fn count_at(named: bool) -> usize
     if named { RUN_AT + RUN_BYTES } else { RUN_AT }
 }
 
-/// Where its entries begin.
+/// Where the entries begin in a section that names its broadcast, or doesn't.
 pub fn head_length(named: bool) -> usize
     ensures value { result ≡ length_of_head named }
     ensures few { result ≤ 31 }

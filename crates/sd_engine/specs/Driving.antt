@@ -1,4 +1,4 @@
--- Public meaning: what it comes to when a stream is driven through a stage.
+-- Public meaning: what results from driving a stream through a stage.
 use Rattle.std.specs.Prelude.{◌≡◌, ℕ, ◌+◌, ◌*◌, ◌^◌, ◌<◌, ◌≤◌, List, ◌++◌, length, take, slice_get, Option, Some, None}
 use Rattle.std.specs.Prelude.{Result, Ok, Err}
 use Rattle.std.specs.Io.KnownBytes.{Consumes, IsAtEnd}
@@ -17,7 +17,7 @@ use Rattle.sd_engine.specs.declared.driver.DriveFault.TheVariants.{Broken, TooLo
 abbrev pub most_packets : ℕ
 most_packets = 2 ^ 48
 
--- one moment of a drive: what is left of the source, the sink, the stage, and the steps that were counted
+-- the state of a drive: what is left of the source, the sink, the stage, and the steps that were counted
 pub record DriveState (S : Type 0) : Type 0 where
   pub left : Option (List ℕ)
   pub sink : SinkState
@@ -27,12 +27,12 @@ pub record DriveState (S : Type 0) : Type 0 where
 abbrev pub moment : {S : Type 0} → Option (List ℕ) → SinkState → S → ℕ → DriveState S
 moment left sink stage steps = record { left = left; sink = sink; stage = stage; steps = steps }
 
--- the sink grew by what these packets came to, one after the other
+-- the sink grew by what was written for these packets, one after the other
 abbrev pub PassesPackets : {S : Type 0} → (S → List ℕ → S → List ℕ → ℕ → Type 0) → DriveState S → List (List ℕ) →
     DriveState S → Type 0
 PassesPackets does a packets b = HasGrown a.sink b.sink a.steps b.steps (Chain does a.stage packets b.stage)
 
--- So far: these bytes were read, of which so many packets went through, and these bytes wait.
+-- So far: these bytes were read, of which this number of packets went through, and these bytes wait.
 pub record IsUnderWay {S : Type 0} (does : S → List ℕ → S → List ℕ → ℕ → Type 0) (a b : DriveState S) (count : ℕ)
     (waiting : List ℕ) : Type 0 where
   pub taken : List ℕ
@@ -129,13 +129,13 @@ pub record IsCutOff {S F : Type 0} (does : S → List ℕ → S → List ℕ →
   pub count : ℕ
   pub read : Consumes a.left b.left bytes
   pub place : IsPlace b.left bytes count
-  -- the moment before it
+  -- the state before it
   pub mid : DriveState S
   pub passed : PassesPackets does a (take count (packets_of bytes)) mid
   pub cut : IsCutShort mid.sink b.sink
       (IsAllowedAt does ends refuses mid.stage (slice_get (packets_of bytes) count) mid.steps b.steps)
 
--- what a drive from one moment to another answers
+-- the result of a drive from one state to another
 abbrev pub DriveOutcome : {S F : Type 0} → (S → List ℕ → S → List ℕ → ℕ → Type 0) → (S → S → List ℕ → ℕ → Type 0)
     → (S → Option (List ℕ) → F → S → List ℕ → ℕ → Type 0) → DriveState S → DriveState S → Result ℕ (DriveFault F) →
     Type 0

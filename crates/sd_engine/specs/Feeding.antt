@@ -44,7 +44,7 @@ pub record GivesNone (before now : Option (List ℕ)) (old new : List ℕ) : Typ
   pub none : new ≡ []
   pub end : IsAtEnd now
 
--- what comes of a source, of which some bytes wait
+-- the result of a feed from a source, of which some bytes wait
 abbrev pub FeedOutcome : Option (List ℕ) → Option (List ℕ) → List ℕ → List ℕ → Option (List ℕ) → Type 0
 FeedOutcome before now old new (Some packet) = GivesPacket before now old new packet
 FeedOutcome before now old new None = GivesNone before now old new
@@ -56,7 +56,7 @@ pub record IsBroken (before now : Option (List ℕ)) (old : List ℕ) (cause : B
   pub broken : TakesPacket left (Err cause)
   pub end : cause ≡ Torn → IsAtEnd now
 
--- why nothing comes
+-- why a feed gives no packet
 abbrev pub FeedStop : Option (List ℕ) → Option (List ℕ) → List ℕ → FeedFault → Type 0
 FeedStop before now old Read = LosesPrefix before now
 FeedStop before now old (Break cause) = IsBroken before now old cause

@@ -5,7 +5,7 @@ use Rattle.sd_ports.specs.Bytes.{IsPrefix}
 use Rattle.sd_ports.specs.Rooms.{HasTaken}
 use Rattle.sd_ports.specs.declared.sink.Sink.{Ghosts as SinkMeanings}
 
--- a sink at one moment: the bytes taken so far and the room that is left, where it tells them
+-- the state of a sink: the bytes taken so far and the room that is left, if the model knows them
 pub record SinkState : Type 0 where
   pub held : Option (List ℕ)
   pub room : Option ℕ
@@ -13,8 +13,8 @@ pub record SinkState : Type 0 where
 abbrev pub vessel : {K : Type 0} → SinkMeanings K → K → SinkState
 vessel meanings sink = record { held = meanings.held sink; room = meanings.room sink }
 
--- The sink grew by some bytes, in at most so many steps of the generator, of both of which something is said; and the
--- room is less by them.
+-- The sink grew by some bytes and its room is less by them, and a number of steps was counted at most: `Says` holds of
+-- these bytes and steps.
 pub record HasGrown (old new : SinkState) (from to : ℕ) (Says : List ℕ → ℕ → Type 0) : Type 0 where
   pub bytes : List ℕ
   pub steps : ℕ
@@ -23,13 +23,13 @@ pub record HasGrown (old new : SinkState) (from to : ℕ) (Says : List ℕ → �
   pub room : HasTaken old.room new.room (length bytes)
   pub counted : to ≤ from + steps
 
--- there is less room than so many bytes, where it is told
+-- there is less room than this number of bytes, if the model knows the room
 abbrev pub IsTooShort : Option ℕ → ℕ → Type 0
 IsTooShort None size = Unit {0}
 IsTooShort (Some room) size = room < size
 
--- A write failed: the sink grew by a prefix of some bytes, of which something is said; and they pass the room that
--- there was.
+-- A write failed: the sink grew by a prefix of some bytes of which `Says` holds, and all of these are more than the
+-- room that there was.
 pub record IsCutShort (old new : SinkState) (Says : List ℕ → Type 0) : Type 0 where
   pub bytes : List ℕ
   pub says : Says bytes

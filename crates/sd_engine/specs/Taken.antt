@@ -62,7 +62,7 @@ pub record CutAt {S F : Type 0} (does : S → List ℕ → S → List ℕ → �
   pub cut : IsCutShort mid.sink b.sink
       (IsAllowedAt does ends refuses mid.stage (slice_get (taken_of bytes) count) mid.steps b.steps)
 
--- what the drive of a stream of these bytes answers
+-- the result of the drive of a stream of these bytes
 abbrev pub DriveOutcomeOver : {S F : Type 0} → (S → List ℕ → S → List ℕ → ℕ → Type 0) → (S → S → List ℕ → ℕ → Type 0)
     → (S → Option (List ℕ) → F → S → List ℕ → ℕ → Type 0) → List ℕ → DriveState S → DriveState S →
     Result ℕ (DriveFault F) →

@@ -140,7 +140,7 @@ assembling_code = code_by (Option ℕ × (List ℕ × List (List ℕ)))
     (λ s. (s.counter, (s.making, s.waiting))) (λ p. record { counter = p.0; making = p.1.0; waiting = p.1.1 })
     (λ _. refl)
 
--- as it stands after these packets, of which the last comes first
+-- the assembler after these packets, of which the last comes first
 unfoldable pub assembler_after : List Fed → Assembling
 assembler_after packets = record {
   counter = last_counter packets;

@@ -13,7 +13,7 @@ abbrev pub begun_of : List ℕ → Begun
 begun_of bytes = if is_overlong bytes then Overlong else if is_whole bytes then Whole
     (3 + section_length_of bytes) else Part
 
--- what comes of a partial section with more bytes after it
+-- what a partial section is cut into with more bytes after it
 unfoldable pub cut_more : List ℕ → List ℕ → Cut
 cut_more [] bytes = no_cut
 cut_more (byte ∷ making) bytes =

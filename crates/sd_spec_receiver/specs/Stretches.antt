@@ -111,7 +111,7 @@ is_closed [] = false
 is_closed (heard ∷ past) = if is_closed past then true
     else option_map_or (λ message. message.closing) (completes past heard) false
 
--- the period of what comes: of a section, or of the message that it completes; else 0
+-- the period of what is heard: of a section, or of the message that it completes; else 0
 abbrev pub period_heard : List Heard → Heard → ℕ
 period_heard past (Entitles emm) = emm.period
 period_heard past (Controls part) = option_map_or (λ message. message.period) (completes past (Controls part)) 0

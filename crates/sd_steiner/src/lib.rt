@@ -1,5 +1,5 @@
-//! The cover of the leaves that are not revoked: chains of the Steiner tree.
-//! `sd_cover` keeps an index that gives it from period to period.
+//! The cover itself, by chains of the Steiner tree. Its incremental index is `sd_cover`.
+//! Other crates cite its definition, `cover_of`, and the laws on it.
 #![tactic(auto)]
 
 mod laws;

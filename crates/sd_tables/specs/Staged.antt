@@ -25,7 +25,7 @@ seen stage = record {
   out_of_memory = stage.out_of_memory;
 }
 
--- it stands after these packets, of which the last comes first
+-- the state of the inspector after these packets, of which the last comes first
 pub record IsStateAfter (before : List (List ℕ)) (state : Inspecting) : Type 0 where
   pub after : IsAfter before state.marks state.places
   pub number : state.number ≡ length before
@@ -45,24 +45,24 @@ pub record EndsInspection (s t : Inspecting) (bytes : List ℕ) (steps : ℕ) : 
   pub same : t ≡ s
   pub no_steps : steps ≡ 0
 
--- where memory ran out nothing is written, and that is kept
+-- if memory ran out nothing is written, and that is kept
 pub record RefusesPacket (t : Inspecting) (bytes : List ℕ) (steps : ℕ) : Type 0 where
   pub nothing : bytes ≡ []
   pub kept : t.out_of_memory ≡ true
   pub no_steps : steps ≡ 0
 
--- it may be offered a packet: it stands after some, unless memory ran out
+-- the inspector may be offered a packet: its state is that after some packets, unless memory ran out
 abbrev pub IsReady : Inspecting → Type 0
 IsReady s = s.out_of_memory ≡ false → (before : List (List ℕ)) × IsAfter before s.marks s.places
 
--- what a packet comes to
+-- what the inspector does at a packet
 abbrev pub inspector_does : Inspector → List ℕ → Inspector → List ℕ → ℕ → Type 0
 inspector_does s packet t bytes steps = InspectsPacket (seen s) packet (seen t) bytes steps
 
--- what the end of the stream comes to
+-- what the inspector does at the end of the stream
 abbrev pub inspector_ends : Inspector → Inspector → List ℕ → ℕ → Type 0
 inspector_ends s t bytes steps = EndsInspection (seen s) (seen t) bytes steps
 
--- what a refusal comes to
+-- what the inspector leaves at a refusal
 abbrev pub inspector_refuses : Inspector → Option (List ℕ) → NoMemory → Inspector → List ℕ → ℕ → Type 0
 inspector_refuses s packet fault t bytes steps = RefusesPacket (seen t) bytes steps
