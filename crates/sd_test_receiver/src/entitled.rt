@@ -56,7 +56,7 @@ static EMMS: [&str; 4] = [
 
 // The section of a row, whose check value's first byte is changed by some bits.
 fn emm_of(card: &Card, row: usize, bits: u8) -> Option<Emm>
-    ensures { IfSome result (λ emm. IsEmm emm × AreSets card.now.height emm.sets (listed emm)) }
+    ensures { IfSome result (λ emm. IsEmm emm × AreSets card.now.height emm.sets (listed_entries emm)) }
 {
     let text = EMMS.get(row)?;
     let mut bytes = beginning(text)?;
@@ -71,7 +71,7 @@ fn emm_of(card: &Card, row: usize, bits: u8) -> Option<Emm>
 }
 
 fn emm_in(card: &Card, packet: &Packet) -> Option<Emm>
-    ensures { IfSome result (λ emm. IsEmm emm × AreSets card.now.height emm.sets (listed emm)) }
+    ensures { IfSome result (λ emm. IsEmm emm × AreSets card.now.height emm.sets (listed_entries emm)) }
 {
     match read_emm(card.height(), packet) {
         Ok(Some(emm)) => Some(emm),
