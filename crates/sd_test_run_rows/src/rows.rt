@@ -319,7 +319,10 @@ fn tables_are_printed(rt: HostRuntime) -> Result<(), AllocError> {
         let left = over(alloc, &["tables", "S"], stream, b"", 100, Fault::Nowhere)?;
         assert_eq!(rt; left.status, status);
         assert!(rt; left.printed.as_slice().starts_with(lines.as_bytes()));
-        assert_eq!(rt; left.printed.len(), lines.len() + last.len());
+        assert_eq!(rt;
+            lines.len().checked_add(last.len()),
+            Some(left.printed.len())
+        );
         assert!(rt; left.printed.as_slice().ends_with(last.as_bytes()));
     }
     let left = over(alloc, &["tables", "S"], &whole, b"", 100, Fault::Print(1))?;
