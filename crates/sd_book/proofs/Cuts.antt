@@ -1,6 +1,7 @@
-use Rattle.std.proofs.Common.{arith, ◌≡◌, ℕ, zero, suc, ◌+◌, ◌<◌, ◌≤◌, List, [], ◌∷◌, ◌++◌, true}
-use Rattle.std.proofs.Common.{refl, ap, sym, ◌∙◌, take, drop}
+use Rattle.std.proofs.Common.{arith, ◌≡◌, ℕ, zero, suc, ◌+◌, ◌-◌, ◌<◌, ◌≤◌, min, List, [], ◌∷◌, ◌++◌, true}
+use Rattle.std.proofs.Common.{refl, ap, sym, ◌∙◌, inl, inr, take, drop}
 use Rattle.std.specs.List.{All}
+use Rattle.std.proofs.lemmas.Bool.{cases_lt}
 use Rattle.std.proofs.lemmas.List.{take-append-drop}
 use Rattle.std.proofs.lemmas.List.Elements.{All-nil, All-cons, All-head, All-tail}
 use Rattle.std.proofs.lemmas.Grind.{common_steps}
@@ -160,3 +161,17 @@ all_until P (suc q) (Period ∷ commands) h = All-cons P _ _ (All-head P _ _ h)
 pub within_until : (d q : ℕ) (commands : List Command) → All (λ command. is_within d command ≡ true) commands →
     All (λ command. is_within d command ≡ true) (commands_until q commands)
 within_until d q commands h = all_until (λ command. is_within d command ≡ true) q commands h
+
+-- a period after the last one of a book has the revoked leaves of that
+pub same_revoked : (d first before : ℕ) (commands : List Command) → before ≤ last_period commands - first →
+    revoked d commands (min first (last_period commands) + before) ≡ revoked d commands (first + before)
+same_revoked d first before commands within =
+    elim (cases_lt (last_period commands) first) [
+      | inl past ↦
+          let low : min first (last_period commands) + before ≡ last_period commands = omega (arith, past, within) in
+          let high : last_period commands ≤ first + before = omega (arith, past) in
+          ap (revoked d commands) low ∙ sym (revoked_past d (first + before) commands high)
+      | inr le ↦
+          let same : min first (last_period commands) + before ≡ first + before = omega (arith, le) in
+          ap (revoked d commands) same
+    ]

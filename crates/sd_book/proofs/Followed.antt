@@ -5,6 +5,7 @@ use Rattle.std.specs.Prelude.{not, nat_eq, ◌||◌}
 use Rattle.std.specs.List.{range_with_len, filter, list_any}
 use Rattle.std.proofs.lemmas.Bool.{cases_lt}
 use Rattle.std.proofs.lemmas.Grind.{common_steps}
+use Rattle.sd_base.proofs.Ranges.{filter_range}
 use Rattle.sd_tree.specs.Leaves.{leaves, with_leaf, without_leaf}
 use Rattle.sd_book.specs.declared.command.Command.{Command}
 use Rattle.sd_book.specs.declared.command.Command.TheVariants.{Subscribe, Revoke, Period}
@@ -14,16 +15,6 @@ use Rattle.sd_book.proofs.Tallies.{revoked_more}
 use Rattle.sd_book.proofs.Kept.{kept_period}
 use Rattle.sd_book.proofs.Places.{first_in, until_next}
 use Rattle.sd_book.proofs.Replays.{none_revoked}
-
--- tests that agree on some numbers keep the same of them
-same_within : (f g : ℕ → Bool) (a n : ℕ) → ((x : ℕ) → a ≤ x → x < a + n → f x ≡ g x) → filter f (range_with_len a n)
-    ≡ filter g (range_with_len a n)
-same_within f g a zero h = refl
-same_within f g a (suc n) h =
-    let here : f a ≡ g a = h a (omega arith) (omega arith) in
-    let rest : filter f (range_with_len (a + 1) n) ≡ filter g (range_with_len (a + 1) n) = same_within f g (a + 1) n
-    (λ x low high. h x (omega arith) (omega arith)) in
-    rw here (ap (λ (xs : List ℕ). cond (g a) (a ∷ xs) xs) rest)
 
 -- another number before them changes nothing
 among_rest : (b : Bool) (w a : ℕ) (xs : List ℕ) (c : Bool) → (w == a) ≡ false → list_any (nat_eq w) xs ≡ c →
@@ -83,7 +74,7 @@ with_is : (d : ℕ) (commands : List Command) (u : ℕ) → with_leaf d u (revok
     (commands ++ Revoke u ∷ [])
 unfolding with_leaf
 with_is d commands u =
-    same_within _ _ 0 (2 ^ d)
+    filter_range _ _ 0 (2 ^ d)
     (λ x low high. rw (among (is_revoked commands) x 0 (2 ^ d) low high)
     (either (x == u) (u == x) (is_revoked commands x) (grind (arith, common_steps)) ∙
     sym (revoked_more commands (Revoke u) x)))
@@ -100,7 +91,7 @@ without_is : (d : ℕ) (commands : List Command) (u : ℕ) → without_leaf u (r
     (commands ++ Subscribe u ∷ [])
 unfolding without_leaf
 without_is d commands u =
-    kept_twice (is_revoked commands) u (leaves d) ∙ same_within _ _ 0 (2 ^ d)
+    kept_twice (is_revoked commands) u (leaves d) ∙ filter_range _ _ 0 (2 ^ d)
     (λ x low high. sym (revoked_more commands (Subscribe u) x))
 
 -- one more command
@@ -111,8 +102,8 @@ one_follows d commands (Revoke u) = with_is d commands u
 one_follows d commands Period = kept_period d commands (revoked_after d commands) refl
 
 -- and more of them
-all_follow : (d : ℕ) (commands more : List Command) → after_commands d (revoked_after d commands) more ≡ revoked_after d
-    (commands ++ more)
+pub all_follow : (d : ℕ) (commands more : List Command) →
+    after_commands d (revoked_after d commands) more ≡ revoked_after d (commands ++ more)
 all_follow d commands [] = ap (revoked_after d) (sym (append-nil commands))
 all_follow d commands (command ∷ more) =
     ap (λ (xs : List ℕ). after_commands d xs more) (one_follows d commands command)
@@ -137,5 +128,5 @@ next_follows d q commands h =
 pub entitled_is : (d : ℕ) (commands : List Command) (q : ℕ) → entitled d commands q ≡ filter
     (λ u. not (is_revoked (commands_until q commands) u)) (leaves d)
 entitled_is d commands q =
-    same_within _ _ 0 (2 ^ d)
+    filter_range _ _ 0 (2 ^ d)
     (λ x low high. ap not (among (is_revoked (commands_until q commands)) x 0 (2 ^ d) low high))

@@ -1,8 +1,8 @@
 -- What comes of a command that reads two files, then a third one, and goes on from what they said.
-use Rattle.std.proofs.Common.{◌≡◌, ◌≢◌, ℕ, Bool, true, false, cond, List, Option, Some, None, Result, Ok, Err}
+use Rattle.std.proofs.Common.{◌≡◌, ◌≢◌, ℕ, Bool, cond, List, Option, Some, None, Result, Ok, Err}
 use Rattle.std.proofs.Common.{refl, sym, ap, subst, ◌∙◌, inl, inr, arith}
 use Rattle.std.specs.Prelude.{nat_eq}
-use Rattle.std.proofs.lemmas.Bool.Decides.{nat_tests}
+use Rattle.sd_base.proofs.Numbers.{same_number, other_number}
 use Rattle.sd_ports.specs.Files.{Files}
 use Rattle.sd_command_status.specs.declared.status.Status.{Status}
 use Rattle.sd_command_status.specs.declared.status.Status.TheVariants.{NoMemory}
@@ -13,12 +13,6 @@ use Rattle.sd_command_status.specs.Outcome.{IsEnding, untouched, exhausted, Outc
 use Rattle.sd_command_status.specs.Reads.{IsAsked, FileOutcome, FilesOutcome, JudgedOutcome}
 use Rattle.sd_command_status.proofs.Firsts.{takes_none, first_obeys}
 use Rattle.sd_command_status.proofs.Moves.{then_obeys}
-
-other_number : (n k : ℕ) → n ≢ k → nat_eq n k ≡ false
-other_number n k h = grind (arith, nat_tests)
-
-same_number : (n : ℕ) → nat_eq n n ≡ true
-same_number n = grind (arith, nat_tests)
 
 -- what two files gave, and then a third
 pub record MoreGiven (files : Option Files) (given : Readings) (a b c : FileArgument) (got : Option (List ℕ)) : Type 0

@@ -21,12 +21,12 @@ use Rattle.sd_command_status.specs.declared.status.Status.TheVariants.{BadWord, 
 use Rattle.sd_command_status.specs.Outside.{DepotState, PageState, Outside, outside}
 use Rattle.sd_command_status.specs.Spec.{Spec, FileArgument, IsGot, all_of, value, ◌>>=◌}
 use Rattle.sd_command_status.specs.Work.{StepBound, Work, TakesSteps}
-use Rattle.sd_command_status.specs.Outcome.{IsRefusal, IsEnding, IsUnmade, IsMadeShort, writing, Outcome, ended}
+use Rattle.sd_command_status.specs.Outcome.{IsRefusal, IsMadeShort, writing, Outcome, ended}
 use Rattle.sd_command_status.specs.Outcome.{unclosed}
 use Rattle.sd_command_status.specs.Outcome.{StopsFirst, exhausted, failed, nowhere, OutcomeWithin, status_of}
-use Rattle.sd_command_status.specs.Reads.{IsAsked}
-use Rattle.sd_command_status.proofs.Firsts.{takes_none, stopped_comes, first_obeys}
+use Rattle.sd_command_status.proofs.Firsts.{takes_none, stopped_comes, first_obeys, unmade}
 use Rattle.sd_command_status.proofs.Givens.{some_got as any_got}
+use Rattle.sd_command_status.proofs.Streams.{is_other}
 use Rattle.sd_command_files.specs.Turned.{IsOpened, NotOpened, no_input, no_folder, stopped_first, stopped_then}
 use Rattle.sd_command_files.specs.Turned.{unclosed_status, unclosed_by, IsClosed, is_break, turning, Wrote, all_written}
 use Rattle.sd_command_files.specs.Turned.{some_written, HasPortCause}
@@ -119,9 +119,6 @@ stops_rose out bytes ends p q r left held held' from f f' o o' over result h is 
     rises p.stops q.stops r.stops f f' o o' (status_of over) h.opened.stops h.opened.from_fresh h.opened.out_fresh
     h.cause is h.closed.stops
 
-ending_other : (status : Status) → IsEnding status → status ≢ DepotFault
-ending_other status ending is = absurd (subst IsEnding is ending)
-
 -- a refusal of a stream stands where OUT wasn't closed, and running out of memory, and every other status gives way
 by_break : (s : Status) → ((unclosed_status s ≡ s) × (is_break s ≡ true) × IsRefusal s)
     ⊎ ((s ≡ NoMemory) ⊎ ((unclosed_status s ≡ DepotFault) × (is_break s ≡ false) × (s ≢ NoMemory)))
@@ -172,7 +169,7 @@ closed_comes steps out bytes ends p q r page i j left held held' from f f' o o' 
     (Appends-nil page.printed)
     (record {
       depot = still p.faults q.faults r.faults f f' o o' (status_of over) h.opened.faults h.closed.within
-          h.opened.from_fresh h.opened.out_fresh h.cause (λ e. ending_other status ending (is ∙ e)) added;
+          h.opened.from_fresh h.opened.out_fresh h.cause (λ e. is_other status ending (is ∙ e)) added;
       print = refl;
     })
     (missed out bytes ends p q r left held held' from f f' o o' over result h)
@@ -325,9 +322,6 @@ there_got (Some m) name there = some_of (get m name) there
 untold_got : (files : Option Files) (name bytes : List ℕ) → files ≡ None → IsGot files name (Some bytes)
 untold_got files name bytes none = subst (λ (o : Option Files). IsGot o name (Some bytes)) (sym none) tt
 
-unasked : (most : ℕ) (p q : DepotState) → IsAsked most p q → IsUnmade p q
-unasked most p q h = record { files = h.files; made = h.made }
-
 pub not_turned : (steps : List ℕ → StepBound) (written : List ℕ → List ℕ) (ends : List ℕ →
     Status) (word out : FileArgument)
     (p q : DepotState) (page : PageState) (i : ℕ) (status : Status) → NotOpened word out p q status →
@@ -353,7 +347,7 @@ not_turned steps written ends word out p q page i status (no_folder is none aske
   obeys = record {
     comes = nowhere (turning (steps []) out (written []) (ends [])) refl
         (record { word = out.number; name = out.text; bytes = written [] }) refl
-        is none (unasked 3 p q asked) refl (record { depot = calm; print = refl }) rose;
+        is none (unmade 3 p q asked) refl (record { depot = calm; print = refl }) rose;
     ports = asked.ports;
     calls = let c = asked.calls in omega (arith, c);
     steps = takes_none (Ok (turning (steps []) out (written []) (ends []))) i;

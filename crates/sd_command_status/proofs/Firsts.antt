@@ -25,7 +25,7 @@ at_least : {A : Type 0} (n x now : ℕ) (r : Result A Status) (next : A → Spec
 at_least n x now (Ok y) next h = omega arith
 at_least n x now (Err status) next h = omega arith
 
-unmade : (most : ℕ) (p q : DepotState) → IsAsked most p q → IsUnmade p q
+pub unmade : (most : ℕ) (p q : DepotState) → IsAsked most p q → IsUnmade p q
 unmade most p q h = record { files = h.files; made = h.made }
 
 -- a device that failed but at closing a file stops a stream first

@@ -6,7 +6,7 @@ use Rattle.sd_base.specs.Count.{with_added}
 use Rattle.sd_ports.specs.Files.{Files}
 use Rattle.sd_command_status.specs.declared.status.Status.{Status}
 use Rattle.sd_command_status.specs.Outside.{DepotState, PageState, Outside, outside, called}
-use Rattle.sd_command_status.specs.Spec.{Spec, FileArgument, Readings, IsGot, judged, value, ◌>>=◌}
+use Rattle.sd_command_status.specs.Spec.{Spec, FileArgument, Readings, IsGot, and_then, judged, value, ◌>>=◌}
 use Rattle.sd_command_status.specs.Work.{Out, Work}
 use Rattle.sd_command_status.specs.Outcome.{IsEnding, HasMiss, IsMade, printing, refused, ended, exhausted, cut_off}
 use Rattle.sd_command_status.specs.Outcome.{OutcomeWithin}
@@ -312,3 +312,8 @@ unread_then before view meant next p q status h = record {
   is_given = h.is_given;
   gives = first_gives view (meant h.given) (λ y. value (next y)) p q status h.gives;
 }
+
+-- after a first value, the result is what the next step's is
+pub then_is : {A B : Type 0} (first : Spec A) (x : A) (next : A → Spec B) → first.result ≡ Ok x →
+    (first >>= next).result ≡ (next x).result
+then_is {A} first x next e = ap (λ (r : Result A Status). (and_then first.calls r next).result) e

@@ -1,10 +1,10 @@
 -- What the files of words gave.
-use Rattle.std.proofs.Common.{◌≡◌, ◌≢◌, ℕ, Bool, true, false, cond, List, Option, Some, None, refl, sym, ap, arith}
+use Rattle.std.proofs.Common.{◌≡◌, ◌≢◌, ℕ, Bool, cond, List, Option, Some, None, refl, sym, ap}
 use Rattle.std.specs.Prelude.{nat_eq}
 use Rattle.std.specs.FinMap.{get}
+use Rattle.sd_base.proofs.Numbers.{same_number, other_number_back}
 use Rattle.sd_ports.specs.Files.{Files}
 use Rattle.sd_command_status.specs.Spec.{FileArgument, Readings, contents_of, IsGiven, IsGot}
-use Rattle.std.proofs.lemmas.Bool.Decides.{nat_tests}
 
 -- what a file gave that nothing was learned of
 pub some_got : (files : Option Files) (name : List ℕ) → (got : Option (List ℕ)) × IsGot files name got
@@ -29,12 +29,6 @@ pub record TwoGiven (files : Option Files) (first second : FileArgument) (got mo
   pub gave : given first ≡ got
   pub gave_more : given second ≡ more
 
-same_number : (n : ℕ) → nat_eq n n ≡ true
-same_number n = grind (arith, nat_tests)
-
-other_number : (n k : ℕ) → n ≢ k → nat_eq k n ≡ false
-other_number n k h = grind (arith, nat_tests)
-
 pub two_given : (files : Option Files) (first second : FileArgument) (got more : Option (List ℕ)) →
     first.number ≢ second.number →
     IsGot files first.text got → IsGot files second.text more → TwoGiven files first second got more
@@ -42,7 +36,7 @@ two_given None first second got more apart h k = record {
   given = λ w. cond (nat_eq w.number first.number) got more;
   is_given = tt;
   gave = ap (λ (b : Bool). cond b got more) (same_number first.number);
-  gave_more = ap (λ (b : Bool). cond b got more) (other_number first.number second.number apart);
+  gave_more = ap (λ (b : Bool). cond b got more) (other_number_back first.number second.number apart);
 }
 two_given (Some files) first second got more apart h k =
     record { given = contents_of files; is_given = refl; gave = sym h; gave_more = sym k }

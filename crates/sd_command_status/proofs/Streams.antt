@@ -37,7 +37,7 @@ none_made : (out : Option Out) (p q : DepotState) → out ≡ None → q.files �
 none_made out p q none files made = subst (λ (o : Option Out). IsMade o p q) (sym none)
     (record { files = files; made = made })
 
-is_other : (status : Status) → IsEnding status → status ≢ DepotFault
+pub is_other : (status : Status) → IsEnding status → status ≢ DepotFault
 is_other status ending is = absurd (subst IsEnding is ending)
 
 -- work that only prints and reads its file meanwhile

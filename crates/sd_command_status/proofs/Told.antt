@@ -4,6 +4,7 @@ use Rattle.std.proofs.Common.{inr, arith}
 use Rattle.std.proofs.KnownBytes.{Appends-nil}
 use Rattle.std.specs.Io.KnownBytes.{Appends}
 use Rattle.sd_base.specs.Count.{HasRisen, HasNotRisen as IsStill}
+use Rattle.sd_base.proofs.Numbers.{still_or_rose}
 use Rattle.sd_ports.specs.Files.{Files}
 use Rattle.sd_command_status.specs.declared.status.Status.{Status}
 use Rattle.sd_command_status.specs.declared.status.Status.TheVariants.{Done, Usage, Missing, DepotFault, PrintFault}
@@ -183,9 +184,6 @@ out_of_memory : (meant : Result Work Status) (answer : Status) → answer ≡ No
 out_of_memory (Ok work) answer e = inr e
 out_of_memory (Err status) answer e = inr e
 
-still_or_not : (before now : ℕ) → IsStill before now → HasRisen before now → ⊥
-still_or_not before now still rose = absurd (omega arith)
-
 -- the status of a command is the one that is meant where no device failed
 own_meant : (meant : Result Work Status) (files : Files) (a b : Outside) (status answer : Status) → a.place.files
     ≡ Some files →
@@ -196,9 +194,9 @@ own_meant meant files a b status answer told depot print (refused e r h k c m) i
 own_meant meant files a b status answer told depot print (ended work e s i h k c m) is = subst
     (λ (r : Result Work Status). IsMeant r answer) (sym e) (inl (is ∙ s))
 own_meant meant files a b status answer told depot print (unclosed work e s i j t out f h k r v c m) is = absurd
-    (still_or_not _ _ depot r)
+    (still_or_rose _ _ depot r)
 own_meant meant files a b status answer told depot print (exhausted s h v c m) is = out_of_memory meant answer (is ∙ s)
-own_meant meant files a b status answer told depot print (failed s h r v c m) is = absurd (still_or_not _ _ depot r)
+own_meant meant files a b status answer told depot print (failed s h r v c m) is = absurd (still_or_rose _ _ depot r)
 own_meant meant files a b status answer told depot print (nowhere work e out f s n h k c m) is = absurd
     (let x = sym told ∙ n in cc)
 own_meant meant files a b status answer told depot print (cut_off work e s h k r c m) is = absurd (print r)
@@ -212,15 +210,15 @@ answered meant files a b page status answer told depot print comes tells =
     elim tells.says [
       | inl said ↦ elim tells.of [
         | inl own ↦ own_meant meant files a (with_page b page) status answer told depot
-            (λ rose. still_or_not _ _ print (subst (λ (n : ℕ). HasRisen a.page.faults n) (sym said.2) rose)) comes
+            (λ rose. still_or_rose _ _ print (subst (λ (n : ℕ). HasRisen a.page.faults n) (sym said.2) rose)) comes
             (said.0 ∙ own)
         | inr other ↦ out_of_memory meant answer (said.0 ∙ other.1)
       ]
-      | inr cut ↦ absurd (still_or_not _ _ print
+      | inr cut ↦ absurd (still_or_rose _ _ print
           (rose_on a.page.faults page.faults b.page.faults (page_later meant a (with_page b page) status comes) cut.2))
     ]
 
-told_given : (files : Option Files) (told : Files) (given : Readings) → files ≡ Some told → IsGiven files given →
+pub told_given : (files : Option Files) (told : Files) (given : Readings) → files ≡ Some told → IsGiven files given →
     given ≡ contents_of told
 told_given files told given e h = subst (λ (o : Option Files). IsGiven o given) e h
 

@@ -1,13 +1,12 @@
 -- The walk from node to node by their counts.
-use Rattle.std.proofs.Common.{◌≡◌, ◌∙◌, ℕ, zero, suc, ◌+◌, ◌-◌, ◌*◌, ◌/◌, ◌^◌, ◌<◌, ◌≤◌, ◌↔◌, List, [], ◌∷◌, ◌++◌, All}
+use Rattle.std.proofs.Common.{◌≡◌, ◌∙◌, ℕ, zero, suc, ◌+◌, ◌-◌, ◌*◌, ◌/◌, ◌^◌, ◌<◌, ◌≤◌, ◌↔◌, List, [], ◌∷◌, ◌++◌}
 use Rattle.std.proofs.Common.{length, cond, eq-eqb, append_assoc, arith, sym, ap, subst, refl, inl, inr}
 use Rattle.std.specs.Ordering.{nat_cmp}
-use Rattle.std.specs.List.Sorted.{IsSorted, IsPermutation, IsStrictlyIncreasing}
+use Rattle.std.specs.List.Sorted.{IsSorted, IsPermutation}
 use Rattle.std.specs.FinMap.{FinMap}
 use Rattle.std.proofs.Math.Nat.{mul-suc, add-mul}
 use Rattle.std.proofs.lemmas.Bool.{cond-true}
-use Rattle.std.proofs.lemmas.List.Elements.{All-contains, All-filter, All-from_get_or}
-use Rattle.std.proofs.lemmas.List.FromFn.{length-range_with_len, get_or-range_with_len}
+use Rattle.std.proofs.lemmas.List.Elements.{All-contains, All-filter}
 use Rattle.std.proofs.lemmas.List.Kept.{IsStrictlyIncreasing-filter}
 use Rattle.std.proofs.lemmas.List.Sums.{sum_by-cons}
 use Rattle.sd_steiner.proofs.Ancestry.{leaf_to_root}
@@ -16,6 +15,7 @@ use Rattle.sd_tree.specs.SetNames.{set_cmp, AreAscending}
 use Rattle.sd_tree.specs.Leaves.{is_below, leaves}
 use Rattle.sd_tree.specs.declared.set.SetName.{SetName}
 use Rattle.sd_tree.specs.declared.set.SetName.TheVariants.{Whole}
+use Rattle.sd_tree.proofs.Members.{leaves_below, leaves_ascending}
 use Rattle.sd_steiner.specs.Chains.{IsInTree, HasOneChild, HasTwoChildren, IsChainCover}
 use Rattle.sd_steiner.specs.Walk.{node_at, of_ends, IsOnChain, AddsChains}
 use Rattle.sd_steiner.proofs.Ends.{AreLeaves}
@@ -29,31 +29,11 @@ use Rattle.sd_cover.specs.Tally.{tally_at}
 use Rattle.sd_cover.specs.Index.{count_below, counts_one, revoked_by, IsIndex, AreRevocable}
 use Rattle.sd_cover.proofs.Bridge.{counts_in_tree, count_children, stands_low, stands_high}
 
--- the leaves are the numbers below their number, and ascend
-all_leaves : (d : ℕ) → All (λ u. u < 2 ^ d) (leaves d)
-all_leaves d = All-from_get_or (λ u. u < 2 ^ d) (leaves d) 0
-    (λ i h. omega (
-      arith,
-      length-range_with_len 0 (2 ^ d),
-      get_or-range_with_len 0 (2 ^ d) i 0
-          (omega (arith, length-range_with_len 0 (2 ^ d))),
-    ))
-
-leaves_ascending : (d : ℕ) → IsStrictlyIncreasing (leaves d)
-leaves_ascending d = λ k h. omega (
-  arith,
-  length-range_with_len 0 (2 ^ d),
-  get_or-range_with_len 0 (2 ^ d) k 0
-      (omega (arith, length-range_with_len 0 (2 ^ d))),
-  get_or-range_with_len 0 (2 ^ d) (k + 1) 0
-      (omega (arith, length-range_with_len 0 (2 ^ d))),
-)
-
 -- the revoked leaves are leaves of the tree, ascending
 pub revocable : (d : ℕ) (m : FinMap nat_cmp ℕ) → AreRevocable d (revoked_by d m)
 unfolding revoked_by
 revocable d m = record {
-  leaves = All-filter (counts_one d m) (λ u. u < 2 ^ d) (leaves d) (all_leaves d);
+  leaves = All-filter (counts_one d m) (λ u. u < 2 ^ d) (leaves d) (leaves_below d);
   ascending = IsStrictlyIncreasing-filter (counts_one d m) (leaves d) (leaves_ascending d);
 }
 

@@ -1,6 +1,6 @@
 -- What a drive takes of all the bytes of a stream.
-use Rattle.std.proofs.Common.{◌≡◌, ℕ, ◌+◌, ◌*◌, ◌<◌, ◌≤◌, List, [], ◌++◌, length, take, get_or, cond, min, le_trans}
-use Rattle.std.proofs.Common.{lt_of_lt_of_le, Bool, length-append, nat_lt}
+use Rattle.std.proofs.Common.{◌≡◌, ℕ, ◌+◌, ◌-◌, ◌*◌, ◌^◌, ◌<◌, ◌≤◌, List, [], ◌++◌, length, take, get_or, cond, min}
+use Rattle.std.proofs.Common.{le_trans, lt_of_lt_of_le, Bool, length-append, nat_lt}
 use Rattle.std.proofs.Common.{refl, sym, ap, subst, ◌∙◌, arith, append-nil, lt-ltb, le-ltb, inl, inr}
 use Rattle.std.specs.Prelude.{Option, None, Some, Result, Ok, Err, slice_get}
 use Rattle.std.specs.Io.KnownBytes.{Consumes, IsAtEnd}
@@ -72,7 +72,7 @@ runs_on : (bytes : List ℕ) → most_packets ≤ length (packets_of bytes) → 
 runs_on bytes many long =
     ends_late bytes many ∙ ap (λ (b : Bool). cond b RunsOn Whole) (lt-ltb (188 * most_packets) (length bytes) long)
 
-is_whole : (bytes : List ℕ) → break_of bytes ≡ None → length bytes ≤ 188 * most_packets → end_of bytes ≡ Whole
+pub is_whole : (bytes : List ℕ) → break_of bytes ≡ None → length bytes ≤ 188 * most_packets → end_of bytes ≡ Whole
 is_whole bytes unbroken short = elim (cases_lt (length (packets_of bytes)) most_packets) [
   | inl few ↦ ends_early bytes few ∙ ap ended_by unbroken
   | inr many ↦
@@ -294,3 +294,18 @@ is_over does ends refuses a b (Err (Refused fault)) h =
             (sym o.same.first) h.passed);
       };
     }
+
+-- the packets that are taken, or some first ones, can be counted
+pub few_taken : (k : ℕ) (bytes : List ℕ) → length (take k (taken_of bytes)) ≤ 2 ^ 64 - 1
+few_taken k bytes = few_of (taken_of bytes) k (least_of bytes).1
+  where
+    few_of : (packets : List (List ℕ)) (k : ℕ) → length packets ≤ most_packets → length (take k packets) ≤ 2 ^ 64 - 1
+    few_of packets k few = omega (arith, few, length-take k packets)
+
+pub all_few : (bytes : List ℕ) → length (taken_of bytes) ≤ 2 ^ 64 - 1
+all_few bytes = let few = (least_of bytes).1 in omega (arith, few)
+
+-- some bytes are left
+pub some_left : (left : Option (List ℕ)) → (bytes : List ℕ) × IsLeft left bytes
+some_left None = ([], tt)
+some_left (Some bytes) = (bytes, refl)

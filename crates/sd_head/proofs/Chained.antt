@@ -4,7 +4,6 @@ use Rattle.std.proofs.Common.{inr}
 use Rattle.std.specs.Prelude.{Option, Some, None}
 use Rattle.std.specs.List.{concat}
 use Rattle.std.specs.Option.{option_map_or}
-use Rattle.std.proofs.lemmas.List.Folds.{concat-append}
 use Rattle.sd_engine.specs.Stage.{Chain, all_from}
 use Rattle.sd_engine.specs.Driving.{ChainToEnd, ChainToRefusal as Refused}
 use Rattle.sd_engine.proofs.Chains.{chain_writes}
@@ -12,9 +11,8 @@ use Rattle.sd_site.specs.Fields.{SiteFields}
 use Rattle.sd_spec_broadcast.specs.declared.fault.ClearFault.{ClearFault}
 use Rattle.sd_spec_broadcast.specs.Plan.{Plan}
 use Rattle.sd_spec_broadcast.specs.Refused.{refusal_of, refusal_from, IsClear}
-use Rattle.sd_spec_broadcast.specs.Sent.{sent, body, broadcast, bytes_added, bytes_from, closing_of, packets_from}
-use Rattle.sd_spec_broadcast.proofs.Bodies.{body_bytes}
-use Rattle.sd_spec_broadcast.proofs.Sending.{packets_in_turn}
+use Rattle.sd_spec_broadcast.specs.Sent.{body, broadcast, bytes_added, bytes_from}
+use Rattle.sd_spec_broadcast.proofs.Bodies.{body_bytes, closed_bytes}
 use Rattle.sd_head.specs.Staged.{head_does, head_ends, head_refuses, IsAfter}
 use Rattle.sd_head.specs.declared.fault.HeadFault.{HeadFault}
 use Rattle.sd_head.specs.declared.fault.HeadFault.TheVariants.{Clear}
@@ -50,22 +48,14 @@ pub all_clear : (plan : Plan) (packets : List (List ℕ)) (s t : Head) (bytes : 
     Chain head_does s packets t bytes steps → IsClear plan.site packets
 all_clear plan packets s t bytes steps after chain = (all_after plan packets s t bytes steps after chain).are_clear
 
--- a broadcast is its body and the closing message
-closed : (plan : Plan) (packets : List (List ℕ)) → concat (broadcast plan packets)
-    ≡ concat (body plan packets) ++ concat (packets_from plan.site (sent plan packets) (closing_of plan packets))
-unfolding broadcast body
-closed plan packets =
-    ap concat (packets_in_turn plan.site [] (sent plan packets) (closing_of plan packets))
-    ∙ concat-append (packets_from plan.site [] (sent plan packets))
-    (packets_from plan.site (sent plan packets) (closing_of plan packets))
-
 pub whole_written : (plan : Plan) (packets : List (List ℕ)) (s t : Head) (bytes : List ℕ) (steps : ℕ) →
     IsAfter plan [] s →
     ChainToEnd head_does head_ends s packets t bytes steps → bytes ≡ concat (broadcast plan packets)
 whole_written plan packets s t bytes steps after (mid, first, last, m, k, chain, end, joined, counted) =
     let there = chained plan packets s mid first m after chain in
     joined ∙ (ap (λ (xs : List ℕ). xs ++ last) there.0
-    ∙ (ap (λ (xs : List ℕ). concat (body plan packets) ++ xs) (end plan packets there.1).0 ∙ sym (closed plan packets)))
+    ∙ (ap (λ (xs : List ℕ). concat (body plan packets) ++ xs) (end plan packets there.1).0
+    ∙ sym (closed_bytes plan packets)))
 
 pub whole_clear : (plan : Plan) (packets : List (List ℕ)) (s t : Head) (bytes : List ℕ) (steps : ℕ) →
     IsAfter plan [] s →

@@ -1,7 +1,7 @@
 -- What is sent in turn.
 use Rattle.std.proofs.Common.{◌≡◌, ℕ, zero, suc, ◌+◌, ◌-◌, ◌*◌, ◌/◌, ◌%◌, min, ◌<◌, ◌≤◌, List, [], ◌∷◌, ◌++◌, length}
 use Rattle.std.proofs.Common.{take, drop}
-use Rattle.std.proofs.Common.{refl, sym, ap, subst, ◌∙◌, arith, append_assoc, append-nil, length-append, length-take-le}
+use Rattle.std.proofs.Common.{refl, sym, ap, subst, ◌∙◌, arith, append_assoc, length-append, length-take-le}
 use Rattle.std.specs.Prelude.{Option, Some, None, Result, Ok, Err, IsErr, OnOk}
 use Rattle.std.specs.List.{concat}
 use Rattle.std.proofs.lemmas.List.Folds.{concat-append}
@@ -9,6 +9,7 @@ use Rattle.std.proofs.Math.Nat.{div-eq_of_lt-le}
 use Rattle.std.proofs.lemmas.Grind.{div_ceil_times}
 use Rattle.std.proofs.KnownBytes.{Appends-trans, Appends-nil}
 use Rattle.std.proofs.lemmas.List.{take-append-drop, take_all}
+use Rattle.sd_base.proofs.Lists.{concat_one}
 use Rattle.sd_ports.specs.Rooms.{HasTaken}
 use Rattle.sd_engine.specs.Stage.{SinkState, IsTooShort}
 use Rattle.sd_engine.proofs.Chains.{taken_on}
@@ -79,11 +80,6 @@ numbered_on make counter (x ∷ xs) ys =
     ap (λ (rest : List (List ℕ)). make x counter ∷ rest) (numbered_on make ((counter + 1) % 16) xs ys
     ∙ ap (λ (c : ℕ). numbered make ((counter + 1) % 16) xs ++ numbered make c ys) (counter_shift counter (length xs)))
 
--- the bytes of one packet more
-concat_more : (packets : List (List ℕ)) (packet : List ℕ) → concat (packets ++ packet ∷ []) ≡ concat packets ++ packet
-concat_more packets packet = concat-append packets (packet ∷ [])
-    ∙ ap (λ (xs : List ℕ). concat packets ++ xs) (append-nil packet)
-
 numbered_more : {A : Type 0} → (make : A → ℕ → List ℕ) (counter n : ℕ) (xs : List A) (x : A) → n ≤ length xs →
     take (n + 1) xs ≡ take n xs ++ x ∷ [] →
     concat (numbered make counter (take (n + 1) xs)) ≡ concat (numbered make counter (take n xs))
@@ -93,7 +89,7 @@ numbered_more {A} make counter n xs x within more =
     ∙ (ap concat (numbered_on make counter (take n xs) (x ∷ [])
     ∙ ap (λ (k : ℕ). numbered make counter (take n xs) ++ make x (counter_after counter k) ∷ [])
     (length-take-le n xs within))
-    ∙ concat_more (numbered make counter (take n xs)) (make x (counter_after counter n)))
+    ∙ concat_one (numbered make counter (take n xs)) (make x (counter_after counter n)))
 
 -- one more is sent
 pub one_more : {A : Type 0} → (make : A → ℕ → List ℕ) (counter now n : ℕ) (xs : List A) (x : A) (u v w : SinkState) →

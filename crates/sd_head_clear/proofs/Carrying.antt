@@ -3,6 +3,7 @@ use Rattle.std.proofs.Common.{◌≡◌, ℕ, true, List, length, get_or, refl, 
 use Rattle.std.specs.Prelude.{Some, None, Result, Ok, Err, OnOk, OnErr, MatchResult}
 use Rattle.sd_packet.specs.Header.{pid_of, counter_of}
 use Rattle.sd_packet.specs.Positions.{advanced, is_placed}
+use Rattle.sd_packet.proofs.Positions.{own_moves}
 use Rattle.sd_label.specs.Keys.{control_word_of}
 use Rattle.sd_site.specs.Fields.{SiteFields}
 use Rattle.sd_psi.specs.declared.fault.FormFault.{FormFault}
@@ -16,7 +17,6 @@ use Rattle.sd_spec_broadcast.specs.declared.kind.Kind.{Kind}
 use Rattle.sd_spec_broadcast.specs.declared.kind.Kind.TheVariants.{Passed, Pmt, Scrambled}
 use Rattle.sd_head_clear.specs.After.{ArePositions}
 use Rattle.sd_head_clear.proofs.Telling.{placed_pid}
-use Rattle.sd_head_clear.proofs.Moving.{own_moves}
 
 by_kind : (kind : Kind) (site : SiteFields) (before : List (List ℕ)) (packet : List ℕ)
     → kind ≡ kind_of before packet →

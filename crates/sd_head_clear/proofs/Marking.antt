@@ -7,6 +7,7 @@ use Rattle.std.specs.List.{list_any}
 use Rattle.std.specs.Option.{option_map_or}
 use Rattle.std.proofs.lemmas.Bool.{eq-eqb, ne_eqb, cases_eq}
 use Rattle.std.proofs.lemmas.List.{get_or-set_same, get_or-set_other, get_or-replicate}
+use Rattle.sd_base.proofs.Bools.{or_false, or_assoc}
 use Rattle.sd_packet.specs.Header.{pid_of, has_payload}
 use Rattle.sd_section.specs.Header.{current_of}
 use Rattle.sd_psi.specs.declared.fault.FormFault.{FormFault}
@@ -20,14 +21,6 @@ use Rattle.sd_head_clear.specs.Kept.{AreMarked}
 pub record AreMarking (all left : List ℕ) (marks : List Bool) : Type 0 where
   pub at : (pid : ℕ) → pid < 8192 →
       (get_or marks pid false || list_any (nat_eq pid) left) ≡ list_any (nat_eq pid) all
-
-or_false : (a : Bool) → (a || false) ≡ a
-or_false true = refl
-or_false false = refl
-
-or_assoc : (a b c : Bool) → ((a || b) || c) ≡ (a || (b || c))
-or_assoc true b c = refl
-or_assoc false b c = refl
 
 or_true : (a : Bool) → true ≡ (a || true)
 or_true true = refl

@@ -10,7 +10,7 @@ use Rattle.std.proofs.lemmas.Bool.Decides.{nat_tests}
 use Rattle.std.proofs.lemmas.List.{get_or-set_same, get_or-set_other}
 use Rattle.sd_packet.specs.Header.{pid_of, counter_of, has_payload}
 use Rattle.sd_packet.specs.Positions.{advanced, is_positional, is_placed, is_moving, moved, position_of}
-use Rattle.sd_packet.proofs.Positions.{one_more, advanced_is_next, counter_below}
+use Rattle.sd_packet.proofs.Positions.{one_more, advanced_is_next, counter_below, own_moves}
 use Rattle.sd_spec_broadcast.specs.Kinds.{has_moved, moved_pids, put_in}
 use Rattle.sd_spec_broadcast.proofs.Following.{moved_first, moved_again, moved_unplaced}
 use Rattle.sd_head_clear.specs.Kept.{AreKnown, AreNear}
@@ -82,16 +82,6 @@ unplaced_moves_none packet pid unplaced positional = elim (cases_eq (pid_of pack
     and_false : (a : Bool) → (a && false) ≡ false
     and_false true = refl
     and_false false = refl
-
--- a placed packet moves its own PID and no other
-pub own_moves : (packet : List ℕ) → is_placed packet ≡ true → is_moving (pid_of packet) packet ≡ true
-own_moves packet placed =
-    let same : (pid_of packet == pid_of packet) ≡ true = eq-eqb (pid_of packet) (pid_of packet) refl in
-    rw same (right (is_positional (pid_of packet)) (has_payload packet) placed)
-  where
-    right : (a b : Bool) → (a && b) ≡ true → b ≡ true
-    right true b h = h
-    right false b h = absurd (cc)
 
 other_stays : (packet : List ℕ) (pid : ℕ) → pid ≢ pid_of packet → is_moving pid packet ≡ false
 other_stays packet pid apart = rw (ne_eqb (pid_of packet) pid (λ e. apart (sym e))) refl

@@ -6,6 +6,7 @@ use Rattle.std.specs.Option.{option_map_or}
 use Rattle.std.proofs.lemmas.Bool.{cases_Bool}
 use Rattle.std.proofs.lemmas.Bool.Decides.{nat_tests}
 use Rattle.std.proofs.lemmas.List.{take-append-drop, take_more, length-take-le}
+use Rattle.sd_base.proofs.Lists.{both_none}
 use Rattle.sd_packet.specs.Header.{pid_of, scrambling_of}
 use Rattle.sd_packet.specs.Positions.{is_placed}
 use Rattle.sd_site.specs.Fields.{SiteFields}
@@ -22,11 +23,6 @@ use Rattle.sd_spec_broadcast.specs.declared.fault.ClearFault.TheVariants.{TooMan
 use Rattle.sd_psi.specs.declared.fault.FormFault.TheVariants as Form
 use Rattle.sd_spec_broadcast.proofs.Following.{moved_first, moved_again, moved_unplaced}
 use Rattle.sd_law_broadcast.specs.Accepted.{IsAccepted}
-
--- neither the first nor else the other
-pub both_none : {A : Type 0} (x y : Option A) → option_map_or Some x y ≡ None → (x ≡ None) × (y ≡ None)
-both_none None y h = (refl, h)
-both_none (Some a) y h = absurd (cc)
 
 pub none_then : {A : Type 0} (x y : Option A) → x ≡ None → y ≡ None → option_map_or Some x y ≡ None
 none_then None y p q = q

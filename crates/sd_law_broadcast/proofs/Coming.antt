@@ -1,12 +1,13 @@
 -- What is sent from a packet on.
 use Rattle.std.proofs.Common.{◌≡◌, ℕ, ◌-◌, ◌/◌, ◌%◌, ◌<◌, ◌≤◌, ◌==◌, Bool, true, false}
-use Rattle.std.proofs.Common.{List, [], ◌∷◌, ◌++◌, length, take, drop, get_or, map, if◌then◌else◌}
+use Rattle.std.proofs.Common.{List, [], ◌∷◌, ◌++◌, length, take, drop, map, if◌then◌else◌}
 use Rattle.std.proofs.Common.{refl, sym, subst, arith, append_assoc, length-append}
 use Rattle.std.specs.Prelude.{Contains, All}
 use Rattle.std.proofs.lemmas.List.{take-append-drop, length-take-le}
-use Rattle.std.proofs.lemmas.List.Elements.{All-nil, All-append, All-cons, All-map, All-weaker, All-contains_itself}
+use Rattle.std.proofs.lemmas.List.Elements.{All-nil, All-append, All-cons, All-map, All-weaker}
 use Rattle.std.proofs.Math.Seq.{take-append_seam, get_or-append_seam}
 use Rattle.std.proofs.lemmas.Bool.Decides.{nat_tests}
+use Rattle.sd_base.proofs.Lists.{all_by}
 use Rattle.sd_emm.specs.Period.{emms_of}
 use Rattle.sd_emm.specs.declared.emm.Emm.{Emm}
 use Rattle.sd_ecm.specs.Parts.{parts_of}
@@ -27,10 +28,6 @@ later plan clear j k _ low (entitlement i from within m) = entitlement i (omega 
 later plan clear j k _ low (part i from within due m) = part i (omega (arith, low, from)) within due m
 later plan clear j k _ low (closing m) = closing m
 later plan clear j k _ low (carried_on i from within) = carried_on i (omega (arith, low, from)) within
-
--- all of these have what is shown of each of their members
-all_by : {A : Type 0} (P : A → Type 0) (xs : List A) → ((x : A) → Contains xs x → P x) → All P xs
-all_by P xs each = λ k d within. each (get_or xs k d) (All-contains_itself xs k d within)
 
 -- the tables of packet k
 tables_come : (plan : Plan) (clear : List (List ℕ)) (k : ℕ) → k ≤ length clear - 1 →

@@ -1,11 +1,10 @@
 -- The sets that a broadcast names for a period, and who is in them.
-use Rattle.std.proofs.Common.{◌≡◌, ℕ, ◌-◌, ◌≤◌, true, false, nat_eq, List, length, get_or}
-use Rattle.std.proofs.Common.{refl, inl, inr, arith, eq-eqb}
+use Rattle.std.proofs.Common.{◌≡◌, ℕ, ◌-◌, ◌≤◌, false, List, length, get_or}
+use Rattle.std.proofs.Common.{refl, inl, inr, arith}
 use Rattle.std.specs.Prelude.{All, Contains}
-use Rattle.std.specs.List.{list_any}
 use Rattle.std.proofs.lemmas.Bool.{cases_Bool}
 use Rattle.std.proofs.lemmas.List.Elements.{Contains-get_or}
-use Rattle.std.proofs.lemmas.List.Folds.{list_any_at}
+use Rattle.sd_base.proofs.Lists.{is_found}
 use Rattle.sd_tree.specs.Leaves.{is_member}
 use Rattle.sd_tree.specs.declared.set.SetName.{SetName}
 use Rattle.sd_label.specs.Names.{given}
@@ -32,10 +31,6 @@ sets_partition plan q is =
     let high = is.site.height.1 in
     cover_partition plan.site.height (revoked plan.site.height plan.commands q) (sets_at plan q) (omega (arith, high))
     (are_leaves plan q) (sets_cover plan q is)
-
--- a number in a list is found by the test
-is_found : (leaves : List ℕ) (u : ℕ) → Contains leaves u → list_any (nat_eq u) leaves ≡ true
-is_found leaves u (k, within, is) = list_any_at (nat_eq u) leaves k u within (rw is (eq-eqb u u refl))
 
 -- none of them has a revoked leaf
 pub none_has : (plan : Plan) (q u : ℕ) → IsPlan plan → Contains (revoked plan.site.height plan.commands q) u →

@@ -47,6 +47,7 @@ use Rattle.sd_spec_broadcast.specs.Kinds.{has_moved, positional_pids, moved_pids
 use Rattle.sd_spec_broadcast.specs.Messages.{entry_of, period_at, places_after, message_at}
 use Rattle.sd_spec_broadcast.specs.Refused.{IsClear}
 use Rattle.sd_spec_broadcast.proofs.Schedule.{since_is_below, closing_of_none, period_short}
+use Rattle.sd_spec_broadcast.proofs.Periods.{names_are}
 use Rattle.sd_law_broadcast.proofs.Clear.{clear_short, clear_pids, clear_words}
 
 -- a text under a stream that is as long keeps its length
@@ -136,12 +137,6 @@ sets_stand plan q is = λ k d within. record {
       | inl some ↦ absurd ((sets_small plan q is).none_whole some k d within whole)
       | inr none ↦ rw ((sets_small plan q is).none_revoked (omega (arith, none))) (omega arith)
     ]
-
--- the entries name the sets
-names_are : (site : SiteFields) (q : ℕ) (names : List SetName) → names_in (map (entry_of site q) names) ≡ names
-unfolding entry_of
-names_are site q [] = refl
-names_are site q (name ∷ names) = ap (λ (rest : List SetName). name ∷ rest) (names_are site q names)
 
 -- each with a wrapped key of 32 bytes
 entry_wrapped : (site : SiteFields) (q : ℕ) (name : SetName) → length (entry_of site q name).wrapped ≡ 32

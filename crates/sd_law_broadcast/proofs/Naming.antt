@@ -23,6 +23,7 @@ use Rattle.sd_spec_broadcast.specs.Refused.{IsClear}
 use Rattle.sd_spec_broadcast.specs.Sent.{Item, sent, closing_of, broadcast}
 use Rattle.sd_spec_broadcast.proofs.Items.{all_are_of_broadcast}
 use Rattle.sd_spec_broadcast.proofs.Schedule.{period_short}
+use Rattle.sd_spec_broadcast.proofs.Periods.{number_is}
 use Rattle.sd_steiner.proofs.Lists.{member_cases, member_first, member_later, no_member}
 use Rattle.sd_law_broadcast.specs.Packets.{AreLong}
 use Rattle.sd_law_broadcast.specs.Named.{names_at, sets_named}
@@ -105,10 +106,6 @@ at_index period x = refl
 at_period : (period : Period) (x : ℕ) → (emm_at period x).period ≡ period.number
 unfolding emm_at
 at_period period x = refl
-
-number_is : (plan : Plan) (q : ℕ) → (period_at plan q).number ≡ q
-unfolding period_at
-number_is plan q = refl
 
 -- a section of a packet's period is one of the period that it says
 of_its_period : (plan : Plan) (clear : List (List ℕ)) (emm : Emm) (q : ℕ) → IsSectionOf plan clear emm →

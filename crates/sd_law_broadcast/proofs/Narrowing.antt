@@ -3,6 +3,7 @@ use Rattle.std.proofs.Common.{◌≡◌, ℕ, ◌+◌, ◌-◌, ◌/◌, ◌<◌
 use Rattle.std.proofs.Common.{length}
 use Rattle.std.proofs.Common.{Option, Some, None, refl, ap, arith, length-append}
 use Rattle.std.proofs.lemmas.Bool.Decides.{nat_tests}
+use Rattle.sd_base.proofs.Lists.{both_none}
 use Rattle.sd_packet.specs.Header.{scrambling_of}
 use Rattle.sd_site.specs.Fields.{SiteFields, run_name_of}
 use Rattle.sd_psi.specs.declared.fault.FormFault.{FormFault}
@@ -20,7 +21,7 @@ use Rattle.sd_spec_broadcast.specs.declared.kind.Kind.{Kind}
 use Rattle.sd_spec_broadcast.specs.declared.kind.Kind.TheVariants.{Passed, Pmt, Scrambled}
 use Rattle.sd_law_broadcast.specs.Accepted.{IsAccepted}
 use Rattle.sd_law_broadcast.specs.Narrowed.{up_to, plan_up_to}
-use Rattle.sd_law_broadcast.proofs.Clear.{both_none, none_then, accepted}
+use Rattle.sd_law_broadcast.proofs.Clear.{none_then, accepted}
 
 -- a packet's control word is the same
 word_same : (x : ℕ) (site : SiteFields) (k : ℕ) → word_of (up_to x site) k ≡ word_of site k

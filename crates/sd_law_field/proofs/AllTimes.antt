@@ -1,12 +1,13 @@
 -- What a receiver writes in several times that it is on.
-use Rattle.std.proofs.Common.{◌≡◌, refl, ℕ, ◌<◌, ◌^◌, List, [], ◌∷◌, ◌++◌, length, get_or}
+use Rattle.std.proofs.Common.{◌≡◌, refl, ℕ, ◌<◌, ◌^◌, List, [], ◌∷◌, ◌++◌, length}
 use Rattle.std.proofs.Common.{arith, sym, ap, ◌∙◌}
 use Rattle.std.specs.Prelude.{All, Contains}
 use Rattle.std.specs.List.{concat, flat_map, range_with_len}
 use Rattle.std.proofs.lemmas.List.{map-append}
-use Rattle.std.proofs.lemmas.List.Elements.{All-nil, All-append, All-contains, All-contains_itself, All-filter}
+use Rattle.std.proofs.lemmas.List.Elements.{All-nil, All-append, All-contains, All-filter}
 use Rattle.std.proofs.lemmas.List.Elements.{Contains-append_left, Contains-append_right}
 use Rattle.std.proofs.lemmas.List.FromFn.{get_or-range_with_len, length-range_with_len}
+use Rattle.sd_base.proofs.Lists.{all_by, all_first}
 use Rattle.sd_spec_broadcast.specs.Plan.{Plan, IsPlan}
 use Rattle.sd_spec_broadcast.specs.Refused.{IsClear}
 use Rattle.sd_spec_broadcast.specs.Sent.{sent}
@@ -14,17 +15,13 @@ use Rattle.sd_law_broadcast.specs.Packets.{AreWholePackets}
 use Rattle.sd_law_file.specs.Synced.{AreSynced}
 use Rattle.sd_spec_receiver.specs.Offered.{out_from}
 use Rattle.sd_law_losses.specs.Confirmed.{packet_at, packets_at, is_confirmed_at}
-use Rattle.sd_law_losses.proofs.Losses.{all_first, all_second}
+use Rattle.sd_law_losses.proofs.Losses.{all_second}
 use Rattle.sd_spec_field.specs.Watch.{stream, at_places}
 use Rattle.sd_law_field.specs.Times.{card_at, kept_at, places_in}
 use Rattle.sd_law_field.proofs.Rising.{Rises, rises_first, rises_second, rises_apart, rises_both, rises_increase}
 use Rattle.sd_law_field.proofs.Rising.{range_rises}
 use Rattle.sd_law_field.proofs.Kept.{kept_apart}
 use Rattle.sd_law_field.proofs.OneTime.{time_writes}
-
--- what is shown of each member holds of all
-all_by : {A : Type 0} (P : A → Type 0) (xs : List A) → ((x : A) → Contains xs x → P x) → All P xs
-all_by P xs each = λ k d within. each (get_or xs k d) (All-contains_itself xs k d within)
 
 -- each time writes what is confirmed in it
 pub times_write : (plan : Plan) (clear : List (List ℕ)) (u : ℕ) → IsPlan plan → IsClear plan.site clear →

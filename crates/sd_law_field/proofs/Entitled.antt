@@ -1,28 +1,24 @@
 -- What is confirmed is of periods in which the leaf isn't revoked.
-use Rattle.std.proofs.Common.{◌≡◌, refl, ℕ, ◌<◌, ◌^◌, Bool, true, false}
+use Rattle.std.proofs.Common.{◌≡◌, ℕ, ◌<◌, ◌^◌, Bool, true, false}
 use Rattle.std.proofs.Common.{List, filter, length, get_or, sym, subst}
 use Rattle.std.proofs.Common.{inl}
 use Rattle.std.proofs.Common.{inr}
-use Rattle.std.specs.Prelude.{All, not}
+use Rattle.std.specs.Prelude.{All}
 use Rattle.std.specs.List.{range_with_len}
 use Rattle.std.proofs.lemmas.Bool.{cases_lt}
 use Rattle.std.proofs.lemmas.List.Elements.{All-get_or, All-map, All-weaker, filter_passes}
 use Rattle.std.proofs.lemmas.List.{get_or_past}
+use Rattle.sd_base.proofs.Bools.{false_from_not}
+use Rattle.sd_base.proofs.Lists.{all_first}
 use Rattle.sd_spec_broadcast.specs.Plan.{Plan, IsPlan, period_of}
 use Rattle.sd_spec_broadcast.specs.Sent.{Cat, sent, closing_of}
 use Rattle.sd_spec_broadcast.specs.Items.{IsOfBroadcast, cat}
 use Rattle.sd_spec_broadcast.proofs.Items.{all_are_of_broadcast}
 use Rattle.sd_law_losses.specs.Confirmed.{is_confirmed_at}
 use Rattle.sd_law_losses.specs.Confirmed.{is_revoked_in}
-use Rattle.sd_law_losses.proofs.Losses.{all_first}
 use Rattle.sd_law_losses.proofs.Opened.{after_all, confirmed_open}
 use Rattle.sd_spec_field.specs.Watch.{at_places}
 use Rattle.sd_law_field.specs.Times.{kept_at, places_in}
-
--- a leaf that is not revoked isn't
-not_true : (b : Bool) → not b ≡ true → b ≡ false
-not_true true is = absurd (let no = is in cc)
-not_true false is = refl
 
 -- what is at any places of what is sent is of the broadcast
 places_of_broadcast : (plan : Plan) (clear : List (List ℕ)) (places : List ℕ) →
@@ -48,7 +44,7 @@ unfolding places_in
 places_are_entitled plan clear u places is leaf =
     let test : ℕ → Bool = is_confirmed_at plan u clear (kept_at plan clear places) in
     All-weaker (λ j. test j ≡ true) (λ j. is_revoked_in plan u (period_of plan j) ≡ false)
-    (λ j told. not_true (is_revoked_in plan u (period_of plan j))
+    (λ j told. false_from_not (is_revoked_in plan u (period_of plan j))
     (confirmed_open plan clear u j (kept_at plan clear places) is leaf
     (after_all (IsOfBroadcast plan clear) (at_places Cat (sent plan clear) places)
     (places_of_broadcast plan clear places)) told))

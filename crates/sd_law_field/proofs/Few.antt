@@ -18,10 +18,10 @@ use Rattle.sd_spec_broadcast.specs.Refused.{IsClear}
 use Rattle.sd_spec_broadcast.specs.Sent.{Item, Entitles, Controls, Carries, tables_at, tables_before, message_before}
 use Rattle.sd_spec_broadcast.specs.Sent.{added}
 use Rattle.sd_spec_broadcast.specs.Sent.{sent_from, sent, body}
+use Rattle.sd_spec_broadcast.proofs.Bodies.{packets_many}
 use Rattle.sd_law_broadcast.specs.Packets.{AreWholePackets}
 use Rattle.sd_law_broadcast.proofs.Clear.{prefix_clear}
 use Rattle.sd_law_broadcast.proofs.Fitting.{sets_small, period_count, message_before_fits, word_low}
-use Rattle.sd_law_losses.proofs.Losses.{packets_long}
 use Rattle.sd_law_file.specs.Synced.{AreSynced}
 use Rattle.sd_law_file.proofs.Counted.{parts_few}
 use Rattle.sd_law_file.proofs.Joined.{joined_long}
@@ -112,6 +112,6 @@ body_is_short plan clear low is all whole synced =
     omega (
       arith,
       joined_long (body plan clear) (body_synced plan clear is all whole synced),
-      packets_long plan.site [] (sent plan clear),
+      packets_many plan.site [] (sent plan clear),
       sent_few plan low is [] clear all,
     )

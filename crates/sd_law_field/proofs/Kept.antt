@@ -1,9 +1,9 @@
 -- What is confirmed was offered, and later packets in later times.
-use Rattle.std.proofs.Common.{◌≡◌, refl, ℕ, zero, ◌<◌, ◌==◌, ◌||◌, Bool, true, false, List, [], ◌∷◌, map, filter}
+use Rattle.std.proofs.Common.{◌≡◌, refl, ℕ, zero, ◌<◌, ◌==◌, Bool, true, false, List, [], ◌∷◌, map, filter}
 use Rattle.std.proofs.Common.{length, get_or, arith, ap, inl, inr, ◌⊎◌}
 use Rattle.std.specs.Prelude.{Contains}
 use Rattle.std.specs.List.{list_any, range_with_len}
-use Rattle.std.proofs.lemmas.Bool.{cases_Bool, and_parts}
+use Rattle.std.proofs.lemmas.Bool.{cases_Bool, and_parts, or_right}
 use Rattle.std.proofs.lemmas.Bool.Decides.{nat_tests}
 use Rattle.std.proofs.lemmas.List.Elements.{All-contains, Contains-append_right, filter_passes}
 use Rattle.sd_spec_broadcast.specs.Plan.{Plan}
@@ -14,11 +14,6 @@ use Rattle.sd_spec_field.specs.Watch.{at_places}
 use Rattle.sd_law_field.specs.Times.{kept_at, places_in}
 use Rattle.sd_law_field.proofs.Numbers.{sent_rises}
 
--- one of two is enough
-second_enough : (a b : Bool) → b ≡ true → (a || b) ≡ true
-second_enough true b is = refl
-second_enough false b is = is
-
 -- what is kept after the CAT is kept
 after_is_kept : (j : ℕ) (items : List Item) → list_any (is_carried j) (after_cat items) ≡ true →
     list_any (is_carried j) items ≡ true
@@ -28,7 +23,7 @@ after_is_kept j (Cat ∷ items) is = is
 after_is_kept j (Entitles emm ∷ items) is = after_is_kept j items is
 after_is_kept j (Controls part ∷ items) is = after_is_kept j items is
 after_is_kept j (Carries k packet ∷ items) is =
-    second_enough (k == j) (list_any (is_carried j) items) (after_is_kept j items is)
+    or_right (k == j) (list_any (is_carried j) items) (after_is_kept j items is)
 
 -- one of what is at some places passes a test: it is at one of the places
 one_passes : {A : Type 0} (p : A → Bool) (f : ℕ → A) (places : List ℕ) → list_any p (map f places) ≡ true →

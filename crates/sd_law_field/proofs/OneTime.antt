@@ -6,12 +6,12 @@ use Rattle.sd_spec_broadcast.specs.Plan.{Plan, IsPlan}
 use Rattle.sd_spec_broadcast.specs.Refused.{IsClear}
 use Rattle.sd_spec_broadcast.specs.Sent.{Cat, sent, closing_of, packets_from, body, broadcast}
 use Rattle.sd_spec_broadcast.proofs.Sending.{packets_in_turn}
+use Rattle.sd_spec_broadcast.proofs.Bodies.{packets_many}
 use Rattle.sd_law_broadcast.specs.Packets.{AreWholePackets}
 use Rattle.sd_law_file.specs.Synced.{AreSynced}
 use Rattle.sd_spec_receiver.specs.Offered.{out_from, break_from}
 use Rattle.sd_law_losses.specs.Chosen.{chosen}
 use Rattle.sd_law_losses.specs.Confirmed.{packets_at, confirmed}
-use Rattle.sd_law_losses.proofs.Losses.{packets_long}
 use Rattle.sd_law_losses.proofs.Theorem.{confirmed_alone, none_refused as none_of_choice}
 use Rattle.sd_spec_field.specs.Watch.{stream, at_places}
 use Rattle.sd_law_field.specs.Times.{card_at, flags_of, places_in}
@@ -29,7 +29,7 @@ module _ (plan : Plan) (clear : List (List ℕ)) (places : List ℕ) (up : IsStr
   body_chosen =
       let first : List (List ℕ) = packets_from plan.site [] (sent plan clear) in
       let rest : List (List ℕ) = packets_from plan.site (sent plan clear) (closing_of plan clear) in
-      let long : length first ≡ length (sent plan clear) = packets_long plan.site [] (sent plan clear) in
+      let long : length first ≡ length (sent plan clear) = packets_many plan.site [] (sent plan clear) in
       ap (chosen flags) (packets_in_turn plan.site [] (sent plan clear) (closing_of plan clear))
       ∙ (ap (λ (n : ℕ). chosen (flags_of places n) (first ++ rest)) (sym long)
       ∙ packets_chosen_of_more first rest places up

@@ -12,12 +12,13 @@ use Rattle.std.proofs.Math.Seq.{get_or-take}
 use Rattle.sd_spec_broadcast.specs.Plan.{Plan, IsPlan, period_of}
 use Rattle.sd_spec_broadcast.specs.Refused.{IsClear}
 use Rattle.sd_spec_broadcast.specs.Sent.{sent, body}
+use Rattle.sd_spec_broadcast.proofs.Bodies.{packets_many}
 use Rattle.sd_law_broadcast.specs.Packets.{AreWholePackets}
 use Rattle.sd_law_file.specs.Synced.{IsSynced, AreSynced}
 use Rattle.sd_law_file.proofs.Joined.{joined_long}
 use Rattle.sd_spec_receiver.specs.Offered.{break_from}
 use Rattle.sd_law_losses.specs.Confirmed.{packet_at, packets_at, is_revoked_in}
-use Rattle.sd_law_losses.proofs.Losses.{all_second, packets_long}
+use Rattle.sd_law_losses.proofs.Losses.{all_second}
 use Rattle.sd_spec_field.specs.declared.event.Event.{Event}
 use Rattle.sd_spec_field.specs.Book.{sends}
 use Rattle.sd_spec_field.specs.Watch.{Watch, stream, watch, times, present, written}
@@ -32,7 +33,7 @@ use Rattle.sd_law_field.proofs.AllTimes as all
 -- as many packets as things are sent
 body_long : (plan : Plan) (clear : List (List ℕ)) → length (body plan clear) ≡ length (sent plan clear)
 unfolding body
-body_long plan clear = packets_long plan.site [] (sent plan clear)
+body_long plan clear = packets_many plan.site [] (sent plan clear)
 
 -- what a receiver was offered was sent
 offered_within : (plan : Plan) (clear : List (List ℕ)) (u : ℕ) (past : List Event) → IsPlan plan →

@@ -1,15 +1,15 @@
 -- Packets one after the other are taken again.
-use Rattle.std.proofs.Common.{◌≡◌, ℕ, ◌+◌, ◌*◌, ◌≤◌, List, [], ◌∷◌, ◌++◌, length, take, drop, cond, Bool}
-use Rattle.std.proofs.Common.{refl, ap, ◌∙◌, arith, inl, inr, length-append, lt-ltb, le-ltb, nat_lt}
+use Rattle.std.proofs.Common.{◌≡◌, ℕ, ◌+◌, ◌*◌, ◌≤◌, List, [], ◌∷◌, ◌++◌, length, take, drop}
+use Rattle.std.proofs.Common.{refl, ap, ◌∙◌, arith, length-append}
 use Rattle.std.specs.Prelude.{None, slice_index}
 use Rattle.std.specs.List.{concat}
-use Rattle.std.proofs.lemmas.Bool.{cases_lt}
 use Rattle.std.proofs.lemmas.List.{take_all, take_at, drop_at, get_or_append_left}
 use Rattle.std.proofs.lemmas.List.Elements.{All-head, All-tail}
 use Rattle.sd_engine.specs.Stream.{packets_of, break_after, break_of}
 use Rattle.sd_engine.specs.Driving.{most_packets}
-use Rattle.sd_engine.specs.Taken.{StreamEnd, Whole, RunsOn, taken_of, ended_by, end_of}
+use Rattle.sd_engine.specs.Taken.{Whole, taken_of, end_of}
 use Rattle.sd_engine.proofs.Walking.{no_piece, packets_more, break_after_more, none_at_end}
+use Rattle.sd_engine.proofs.Taken.{is_whole}
 use Rattle.sd_law_file.specs.Synced.{IsSynced, AreSynced}
 
 -- the first packet, and the bytes after it
@@ -68,23 +68,7 @@ unfolding taken_of
 taken_again packets each few =
     ap (take most_packets) (packets_again packets each) ∙ take_all most_packets packets few
 
--- a stream that has no break and no more bytes than the most packets ends whole
-pub ends_whole : (bytes : List ℕ) → break_of bytes ≡ None → length bytes ≤ 188 * most_packets → end_of bytes ≡ Whole
-unfolding end_of
-ends_whole bytes unbroken short =
-    let late : StreamEnd = cond (nat_lt (188 * most_packets) (length bytes)) RunsOn Whole in
-    elim (cases_lt (length (packets_of bytes)) most_packets) [
-      | inl few ↦
-          ap (λ (b : Bool). cond b (ended_by (break_of bytes)) late)
-          (lt-ltb (length (packets_of bytes)) most_packets few)
-          ∙ ap ended_by unbroken
-      | inr many ↦
-          ap (λ (b : Bool). cond b (ended_by (break_of bytes)) late)
-          (le-ltb (length (packets_of bytes)) most_packets many)
-          ∙ ap (λ (b : Bool). cond b RunsOn Whole) (le-ltb (188 * most_packets) (length bytes) short)
-    ]
-
 pub joined_whole : (packets : List (List ℕ)) → AreSynced packets → length packets ≤ most_packets →
     end_of (concat packets) ≡ Whole
 joined_whole packets each few =
-    ends_whole (concat packets) (none_broken packets each) (omega (arith, joined_long packets each, few))
+    is_whole (concat packets) (none_broken packets each) (omega (arith, joined_long packets each, few))

@@ -2,6 +2,7 @@
 use Rattle.std.proofs.Common.{ℕ, ◌%◌, List, [], ◌∷◌, ◌++◌, take, get_or, subst, sym, arith}
 use Rattle.std.specs.Prelude.{All, count_by}
 use Rattle.std.proofs.lemmas.List.Elements.{All-nil, All-cons, All-head, All-tail, All-contains, All-get_or}
+use Rattle.sd_base.proofs.Lists.{all_first}
 use Rattle.sd_psi.specs.Access.{cat_section}
 use Rattle.sd_emm.specs.Spelled.{listed_entries, emm_section}
 use Rattle.sd_emm.specs.Form.{AreSets, IsEmm, FitsFields}
@@ -27,12 +28,6 @@ use Rattle.sd_law_broadcast.proofs.Fitting.{period_fits, period_sets}
 use Rattle.sd_law_broadcast.proofs.Sections.{IsSaid, said}
 use Rattle.sd_law_file.specs.Synced.{IsSynced, AreSynced}
 use Rattle.sd_law_file.proofs.Spelled.{packed_synced, cat_short, emm_short, ecm_short, carried_synced}
-
--- the first of two lists have what all have
-pub all_left : {A : Type 0} (P : A → Type 0) (xs ys : List A) → All P (xs ++ ys) → All P xs
-all_left P [] ys each = All-nil P
-all_left P (x ∷ xs) ys each =
-    All-cons P x xs (All-head P x (xs ++ ys) each) (all_left P xs ys (All-tail P x (xs ++ ys) each))
 
 module _ (plan : Plan) (clear : List (List ℕ)) (is : IsPlan plan) (all : IsClear plan.site clear)
     (whole : AreWholePackets clear) (synced : AreSynced clear) where
@@ -80,4 +75,4 @@ module _ (plan : Plan) (clear : List (List ℕ)) (is : IsPlan plan) (all : IsCle
   unfolding body
   body_synced =
       sent_synced [] (sent plan clear)
-      (all_left (IsOfBroadcast plan clear) (sent plan clear) (closing_of plan clear) (all_are_of_broadcast plan clear))
+      (all_first (IsOfBroadcast plan clear) (sent plan clear) (closing_of plan clear) (all_are_of_broadcast plan clear))

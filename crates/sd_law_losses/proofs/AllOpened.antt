@@ -12,6 +12,8 @@ use Rattle.std.proofs.lemmas.List.Elements.{All-contains_itself, All-head, All-t
 use Rattle.std.proofs.lemmas.Nat.{div-add-mod'}
 use Rattle.std.proofs.Math.Nat.{mul-mod_left, mul-div_cancel, div-lt_iff_lt-mul, le-div_iff_mul-le}
 use Rattle.std.proofs.lemmas.List.Folds.{list_any-append}
+use Rattle.sd_base.proofs.Lists.{all_first}
+use Rattle.sd_base.proofs.Ranges.{filter_range}
 use Rattle.sd_packet.specs.Header.{pid_of}
 use Rattle.sd_packet.specs.Positions.{moved_by}
 use Rattle.sd_card.specs.Fields.{card_of}
@@ -26,15 +28,14 @@ use Rattle.sd_spec_broadcast.specs.Sent.{Item, Cat, Entitles, Controls, tables_a
 use Rattle.sd_spec_broadcast.specs.Items.{IsOfBroadcast}
 use Rattle.sd_spec_broadcast.proofs.Items.{all_are_of_broadcast}
 use Rattle.sd_spec_broadcast.proofs.Schedule.{period_begins, since_is_below, closing_needed}
+use Rattle.sd_spec_broadcast.proofs.Periods.{section_number}
 use Rattle.sd_law_broadcast.specs.Packets.{AreWholePackets}
-use Rattle.sd_law_heard.proofs.Keyed.{period_due}
 use Rattle.sd_law_losses.specs.Chosen.{chosen}
 use Rattle.sd_law_losses.specs.Kept.{is_kept, kept_in, has_arrived, entitles, is_last_part, is_entitled_before}
 use Rattle.sd_law_losses.specs.Kept.{after_cat}
 use Rattle.sd_law_losses.specs.Confirmed.{packet_at, packets_at, is_open, tracked_position, is_traced, is_scrambled}
 use Rattle.sd_law_losses.specs.Confirmed.{confirmed}
 use Rattle.sd_law_losses.specs.Confirmed.{is_revoked_in, opened_by}
-use Rattle.sd_law_losses.proofs.Tests.{filter_range}
 use Rattle.sd_law_losses.proofs.Arriving.{is_of, entitled_before, last_there}
 use Rattle.sd_law_losses.proofs.Setting.{Setting, AreLaws, final, told_by}
 use Rattle.sd_law_losses.proofs.Pairs.{start_of, end_of, number_is}
@@ -45,7 +46,6 @@ use Rattle.sd_law_losses.proofs.Remaining.{rest_at, number_within, due_number}
 use Rattle.sd_law_losses.proofs.Carrying.{carrying}
 use Rattle.sd_law_losses.proofs.Later.{tables_before_fail, no_section_part}
 use Rattle.sd_law_losses.proofs.Untuned.{sections_at, tail_at, due_rest}
-use Rattle.sd_law_losses.proofs.Losses.{all_first}
 use Rattle.sd_law_losses.proofs.Entitled.{has_set, sections_have, entitled_ones}
 use Rattle.sd_law_losses.proofs.Opened.{one_period}
 use Rattle.sd_law_losses.proofs.Standing.{pre_at, pre_any, any_first, any_second, packet_stands, pre_numbers}
@@ -76,7 +76,7 @@ sections_entitle plan q u is leaf =
     of_sections (emm ∷ emms) = ap (λ (b : Bool). ((emm.period == q) && has_set plan u emm) || b) (of_sections emms)
 
     same_period : (emm : Emm) → Contains (emms_of (period_at plan q)) emm → (emm.period == q) ≡ true
-    same_period emm there = grind (arith, nat_tests, period_due plan q emm there)
+    same_period emm there = grind (arith, nat_tests, section_number plan q emm there)
 
 -- the tables before the first packet of a crypto period entitle to its period
 tables_entitle : (plan : Plan) (k u : ℕ) → IsPlan plan → u < 2 ^ plan.site.height →

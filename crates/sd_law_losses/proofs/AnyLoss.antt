@@ -7,6 +7,7 @@ use Rattle.std.specs.Prelude.{All}
 use Rattle.std.specs.List.{list_any, range_with_len}
 use Rattle.std.specs.Option.{option_map_or}
 use Rattle.std.proofs.lemmas.List.Elements.{All-nil, All-tail, All-contains_itself}
+use Rattle.sd_base.proofs.Lists.{all_first}
 use Rattle.sd_site.specs.Fields.{run_name_of as site_name}
 use Rattle.std.proofs.lemmas.List.Folds.{list_any-append}
 use Rattle.std.proofs.lemmas.Bool.{cases_Bool}
@@ -22,6 +23,7 @@ use Rattle.sd_spec_broadcast.proofs.Items.{all_are_of_broadcast}
 use Rattle.sd_spec_receiver.specs.Tuned.{Tuning, tuning_of, tuned_by, cat_tuning}
 use Rattle.sd_spec_receiver.specs.Heard.{Heard}
 use Rattle.sd_spec_receiver.specs.Offered.{Offering, heard, heard_with, offered, out_from, break_from, no_offering}
+use Rattle.sd_spec_receiver.proofs.Runs.{never_turns}
 use Rattle.sd_law_losses.specs.Chosen.{chosen}
 use Rattle.sd_law_losses.specs.Kept.{is_carried, has_arrived, after_cat}
 use Rattle.sd_law_losses.specs.Confirmed.{confirmed, packets_at}
@@ -37,10 +39,10 @@ use Rattle.sd_law_losses.proofs.Later.{chosen_append, chosen_fails, numbers_late
 use Rattle.sd_law_losses.proofs.Confirming.{confirms, confirmed_in}
 use Rattle.sd_law_losses.proofs.Groups.{Goes, goes_after, sections_pass, tail_goes}
 use Rattle.sd_law_losses.proofs.Writings.{rest_unconfirmed}
-use Rattle.sd_law_losses.proofs.Losses.{all_first, all_second, packets_chosen, AreWritten, nothing_more, written_all}
+use Rattle.sd_law_losses.proofs.Losses.{all_second, packets_chosen, AreWritten, nothing_more, written_all}
 use Rattle.sd_law_losses.proofs.Losses.{closing_written}
 use Rattle.sd_law_losses.proofs.Tuned.{IsWrittenFrom, group_written, tuned_written}
-use Rattle.sd_law_losses.proofs.OneRun.{IsOfRun, untuned_turn}
+use Rattle.sd_law_losses.proofs.OneRun.{IsOfRun}
 use Rattle.sd_law_losses.proofs.Untuned.{IsSkipped, packets_skipped, offered_none, untuned_heard, untuned_one_run}
 use Rattle.sd_law_losses.proofs.Untuned.{after_none}
 use Rattle.sd_law_losses.proofs.Untuned.{after_no_cat, no_part_cat, no_section_cat}
@@ -133,7 +135,7 @@ taken_tuning s able earlier past none = record {
   tuning = cat_tunes s able earlier past none;
   named = subst (All named) (sym (taken_heard s.card (packet_of s.plan.site earlier Cat) past none)) (All-nil named);
   one = (
-    untuned_turn s.card past (packet_of s.plan.site earlier Cat) none,
+    never_turns s.card past (packet_of s.plan.site earlier Cat) none,
     untuned_one_run s.card past none,
   );
 }

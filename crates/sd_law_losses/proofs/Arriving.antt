@@ -5,6 +5,7 @@ use Rattle.std.specs.List.{list_any, list_all, range_with_len}
 use Rattle.std.proofs.lemmas.Bool.{cases_Bool, cases_eq, or_parts}
 use Rattle.std.proofs.lemmas.Bool.Decides.{nat_tests}
 use Rattle.std.proofs.lemmas.List.Folds.{list_any-append}
+use Rattle.sd_base.proofs.Bools.{or_false}
 use Rattle.sd_ecm.specs.Parts.{Message}
 use Rattle.sd_ecm.specs.declared.part.EcmPart.{EcmPart}
 use Rattle.sd_spec_broadcast.specs.Sent.{Item, Cat, Entitles, Controls, Carries}
@@ -38,17 +39,13 @@ has_is_of kept a (Entitles emm) h = refl
 has_is_of kept a (Carries j packet) h = refl
 has_is_of kept a (Controls part) h = rw h refl
 
-or_none : (b : Bool) → (b || false) ≡ b
-or_none true = refl
-or_none false = refl
-
 -- what is none of message a after others makes no difference to one
 part_stays : (kept later : List Item) (a x : ℕ) → list_any (is_of a) later ≡ false →
     list_any (is_part a x) (kept ++ later) ≡ list_any (is_part a x) kept
 part_stays kept later a x none = list_any-append (is_part a x) kept later
     ∙ (ap (λ (b : Bool). list_any (is_part a x) kept || b) (none_weaker (is_part a x) (is_of a) later
     (part_is_of a x) none)
-    ∙ or_none (list_any (is_part a x) kept))
+    ∙ or_false (list_any (is_part a x) kept))
 
 parts_stay : (kept later : List Item) (a : ℕ) → list_any (is_of a) later ≡ false → (item : Item) →
     has_parts (kept ++ later) a item ≡ has_parts kept a item
@@ -68,7 +65,7 @@ arrived_stays kept later a none =
     list_any-append (has_parts (kept ++ later) a) kept later
     ∙ (ap (λ (b : Bool). list_any (has_parts (kept ++ later) a) kept || b)
     (none_weaker (has_parts (kept ++ later) a) (is_of a) later (has_is_of (kept ++ later) a) none)
-    ∙ (or_none (list_any (has_parts (kept ++ later) a) kept)
+    ∙ (or_false (list_any (has_parts (kept ++ later) a) kept)
     ∙ any_agree (has_parts (kept ++ later) a) (has_parts kept a) kept (parts_stay kept later a none)))
 
 -- a message of which nothing is there has not arrived

@@ -4,6 +4,7 @@ use Rattle.std.proofs.Common.{List, [], ◌∷◌, ◌++◌, map, length, Option
 use Rattle.std.specs.Prelude.{if◌then◌else◌, All}
 use Rattle.std.proofs.lemmas.List.Elements.{All-cons, All-head, All-weaker}
 use Rattle.std.proofs.lemmas.Bool.Decides.{nat_tests}
+use Rattle.sd_base.proofs.Bools.{chosen_itself}
 use Rattle.sd_card.specs.Fields.{CardFields}
 use Rattle.sd_ecm.specs.Parts.{Message}
 use Rattle.sd_ecm.specs.declared.part.EcmPart.{EcmPart}
@@ -60,10 +61,6 @@ same_after past mid now a b = record {
   taken = λ card. b.taken card ∙ a.taken card;
 }
 
-closed_by : (b : Bool) → (if b then true else false) ≡ b
-closed_by true = refl
-closed_by false = refl
-
 -- one such part
 pub one_part : (past : List Heard) (part : EcmPart) → completed (newest past) (Controls part) ≡ None →
     Same past (Controls part ∷ past)
@@ -74,7 +71,7 @@ one_part past part none = record {
   others = rw none refl;
   current = rw none (omega arith);
   seen = λ q. refl;
-  closed = rw none (closed_by (is_closed past));
+  closed = rw none (chosen_itself (is_closed past));
   messages = rw none refl;
   taken = λ card. omega arith;
 }

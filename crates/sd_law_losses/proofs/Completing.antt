@@ -6,9 +6,9 @@ use Rattle.std.specs.Prelude.{if◌then◌else◌, All, Contains, option_map}
 use Rattle.std.specs.List.{list_any, range_with_len}
 use Rattle.std.specs.Option.{option_map_or}
 use Rattle.std.proofs.lemmas.List.Elements.{All-weaker, filter-append}
-use Rattle.sd_law_losses.proofs.Tests.{range_parts, filter_range}
+use Rattle.sd_base.proofs.Ranges.{range_parts, filter_range}
 use Rattle.std.proofs.lemmas.List.Folds.{list_any-append}
-use Rattle.std.proofs.lemmas.Bool.{cases_eq}
+use Rattle.std.proofs.lemmas.Bool.{cases_eq, or_from}
 use Rattle.std.proofs.lemmas.Bool.Decides.{nat_tests}
 use Rattle.sd_emm.specs.Period.{emms_of}
 use Rattle.sd_ecm.specs.Parts.{Message, parts_of}
@@ -68,9 +68,6 @@ arrives s laws a fs kept within none =
     ∙ arrived_by_parts (told_by s a) kept fs (parts_of (told_by s a))
     (ap (λ (n : ℕ). list_any (is_of n) kept) (number_is s a) ∙ none) (laws.parts a within) (laws.some a within)
 
-or_false : (x y : Bool) → x ≡ false → y ≡ false → (x || y) ≡ false
-or_false x y a b = rw a (rw b refl)
-
 -- the rest of what is known of what is kept
 pub after_parts : (s : Setting) (laws : AreLaws s) (k a : ℕ) (last next : Option ℕ) (fs : List Bool)
     (kept : List Item) →
@@ -79,11 +76,11 @@ pub after_parts : (s : Setting) (laws : AreLaws s) (k a : ℕ) (last next : Opti
 after_parts s laws k a last next fs kept within are is = record {
   last_is = is;
   none = λ b above. list_any-append (is_of b) kept (map Controls (parts_at s a fs))
-      ∙ or_false (list_any (is_of b) kept) (list_any (is_of b) (map Controls (parts_at s a fs)))
+      ∙ or_from (list_any (is_of b) kept) (list_any (is_of b) (map Controls (parts_at s a fs)))
       (are.none b (omega (arith, above)))
       (parts_of_other s laws a b fs within (grind (arith, nat_tests, above)));
   passed = λ j above. list_any-append (is_carried j) kept (map Controls (parts_at s a fs))
-      ∙ or_false (list_any (is_carried j) kept) (list_any (is_carried j) (map Controls (parts_at s a fs)))
+      ∙ or_from (list_any (is_carried j) kept) (list_any (is_carried j) (map Controls (parts_at s a fs)))
       (are.passed j above) (none_carried j (parts_at s a fs));
 }
 
@@ -119,7 +116,7 @@ now_last s laws k a last fs kept within are all = (
   arrives s laws a fs kept within (are.none a (omega arith)) ∙ all,
   λ b above. none_arrived (kept ++ map Controls (parts_at s a fs)) b
       (list_any-append (is_of b) kept (map Controls (parts_at s a fs))
-      ∙ or_false (list_any (is_of b) kept) (list_any (is_of b) (map Controls (parts_at s a fs)))
+      ∙ or_from (list_any (is_of b) kept) (list_any (is_of b) (map Controls (parts_at s a fs)))
       (are.none b (omega (arith, above)))
       (parts_of_other s laws a b fs within (grind (arith, nat_tests, above)))),
 )
@@ -206,7 +203,7 @@ not_back : (s : Setting) (laws : AreLaws s) (k p n a : ℕ) (last : Option ℕ) 
     is_back now (told_by s a) ≡ false
 unfolding is_back
 not_back s laws k p n a last kept past now within below period is same are =
-    or_false (nat_lt (told_by s a).period (current now)) (option_map_or (is_before (told_by s a))
+    or_from (nat_lt (told_by s a).period (current now)) (option_map_or (is_before (told_by s a))
     (newest now).message false)
     (grind (arith, nat_tests, period, are.now, same.current))
     (ap (λ (m : Option Message). option_map_or (is_before (told_by s a)) m false) (same.message ∙ are.message)

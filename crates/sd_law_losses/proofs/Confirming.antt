@@ -4,12 +4,13 @@ use Rattle.std.proofs.Common.{List, [], ◌∷◌, filter, Option, Some, None, i
 use Rattle.std.proofs.Common.{arith, sym, ap, ◌∙◌}
 use Rattle.std.specs.List.{range_with_len}
 use Rattle.std.proofs.Math.Nat.{div-lt_iff_lt-mul, le-div_iff_mul-le}
+use Rattle.std.proofs.lemmas.Bool.{and_right}
+use Rattle.sd_base.proofs.Ranges.{filter_range}
 use Rattle.sd_site.specs.Fields.{AreInRange}
 use Rattle.sd_spec_broadcast.specs.Sent.{Item}
 use Rattle.sd_law_losses.specs.Kept.{is_kept, kept_in, has_arrived, arrived, greatest_at_most, least_above}
 use Rattle.sd_law_losses.specs.Confirmed.{packets_at, between, is_confirmed_at, is_written_between}
 use Rattle.sd_law_losses.proofs.Neighbours.{greatest_none, greatest_is, least_none, least_is}
-use Rattle.sd_law_losses.proofs.Tests.{filter_range}
 use Rattle.sd_law_losses.proofs.Setting.{Setting, final}
 use Rattle.sd_law_losses.proofs.Pairs.{start_of, end_of, IsPair}
 use Rattle.sd_law_losses.proofs.Between.{pair_packets, written_between}
@@ -77,10 +78,6 @@ pair_confirmed s kept c a range pair is_c is_a none =
     (end_of s a - start_of s c)
     (λ j from below. neighbours s kept c a j range pair is_c is_a none from (omega (arith, from, below))))
 
-and_none : (b c : Bool) → c ≡ false → (b && c) ≡ false
-and_none true c is = is
-and_none false c is = refl
-
 -- before the first message that has arrived none is confirmed
 pub none_before : (s : Setting) (kept : List Item) (a high : ℕ) → AreInRange s.plan.site → high ≤ start_of s a →
     ((b : ℕ) → b < a → has_arrived kept b ≡ false) → confirmed_in s kept 0 high ≡ []
@@ -93,7 +90,7 @@ none_before s kept a high range within none =
     unconfirmed j below =
         let some : 0 < s.plan.site.every = omega (arith, range.every.0) in
         let less : j / s.plan.site.every < a = (div-lt_iff_lt-mul some).1 (omega (arith, below, within)) in
-        and_none (is_kept kept j) (between (greatest_at_most (j / s.plan.site.every) (filter (has_arrived kept)
+        and_right (is_kept kept j) (between (greatest_at_most (j / s.plan.site.every) (filter (has_arrived kept)
         (range_with_len 0 (final s + 1))))
         (least_above (j / s.plan.site.every) (filter (has_arrived kept) (range_with_len 0 (final s + 1))))
         (λ x y. is_written_between s.plan s.card.leaf s.clear kept j x y))
@@ -120,7 +117,7 @@ none_after s kept c high range none =
     unconfirmed j from =
         let some : 0 < s.plan.site.every = omega (arith, range.every.0) in
         let more : c ≤ j / s.plan.site.every = (le-div_iff_mul-le some).1 from in
-        and_none (is_kept kept j) (between (greatest_at_most (j / s.plan.site.every) (filter (has_arrived kept)
+        and_right (is_kept kept j) (between (greatest_at_most (j / s.plan.site.every) (filter (has_arrived kept)
         (range_with_len 0 (final s + 1))))
         (least_above (j / s.plan.site.every) (filter (has_arrived kept) (range_with_len 0 (final s + 1))))
         (λ x y. is_written_between s.plan s.card.leaf s.clear kept j x y))

@@ -30,6 +30,7 @@ use Rattle.sd_spec_receiver.specs.Ending.{periods_told, is_unkeyed, is_all_seen,
 use Rattle.sd_spec_receiver.specs.Ending.{joined, run_wrote, run_ending, ended_before, ending_of}
 use Rattle.sd_spec_receiver.specs.declared.ending.Ending.{Ending}
 use Rattle.sd_spec_receiver.specs.declared.ending.Ending.TheVariants.{NoCat, Unclosed}
+use Rattle.sd_spec_receiver.proofs.Runs.{opened_joins}
 use Rattle.sd_law_losses.specs.Chosen.{chosen}
 use Rattle.sd_law_losses.specs.Kept.{is_cat_item, after_cat, has_arrived, arrived, is_section_item}
 use Rattle.sd_law_losses.specs.Confirmed.{confirmed}
@@ -37,7 +38,7 @@ use Rattle.sd_law_losses.specs.Endings.{period_told, periods_arrived, is_untold,
 use Rattle.sd_law_losses.specs.Endings.{ending_told}
 use Rattle.sd_law_losses.specs.Taken.{taken_keys, how_many}
 use Rattle.sd_law_losses.proofs.Taking.{keys_of, taken_heard, how_many_none}
-use Rattle.sd_law_losses.proofs.OneRun.{AreOneRun, none_ended, ending_alone, run_wrote_first}
+use Rattle.sd_law_losses.proofs.OneRun.{AreOneRun, none_ended, run_wrote_first}
 use Rattle.sd_law_losses.proofs.Untuned.{untuned_heard, untuned_one_run, after_no_cat}
 use Rattle.sd_law_losses.proofs.Writing.{onto}
 use Rattle.sd_law_losses.proofs.Neighbours.{greatest_none, greatest_is}
@@ -235,7 +236,7 @@ tuned_ending s kept past range stands =
     ap (λ (t : Option Tuning). if is_none t then NoCat else joined (ended_before s.card past) ending)
     stands.tuned.tuning
     ∙ (ap (λ (before : Ending). joined before ending) (none_ended s.card past stands.tuned.one)
-    ∙ (ending_alone ending ∙ run_ends s kept (heard s.card past) (run_wrote s.card past) range stands.ended))
+    ∙ (opened_joins ending ∙ run_ends s kept (heard s.card past) (run_wrote s.card past) range stands.ended))
   where
     ending : Ending
     ending = run_ending s.card (heard s.card past) (run_wrote s.card past)

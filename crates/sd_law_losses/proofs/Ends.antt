@@ -8,6 +8,7 @@ use Rattle.std.proofs.lemmas.List.Elements.{All-tail}
 use Rattle.std.proofs.lemmas.List.Folds.{list_any-append}
 use Rattle.std.proofs.lemmas.Bool.{cases_Bool}
 use Rattle.std.proofs.lemmas.Bool.Decides.{nat_tests}
+use Rattle.sd_base.proofs.Lists.{all_first}
 use Rattle.sd_emm.specs.Period.{emms_of}
 use Rattle.sd_ecm.specs.Parts.{parts_of}
 use Rattle.sd_spec_broadcast.specs.Plan.{crypto_length, period_of, closing_number}
@@ -30,7 +31,7 @@ use Rattle.sd_law_losses.proofs.Remaining.{group_at, rest_at, rest_more, rest_no
 use Rattle.sd_law_losses.proofs.Later.{chosen_append, chosen_fails, packets_later}
 use Rattle.sd_law_losses.proofs.Groups.{Goes, group_goes}
 use Rattle.sd_law_losses.proofs.Confirming.{confirmed_in}
-use Rattle.sd_law_losses.proofs.Losses.{all_first, all_second, packets_chosen}
+use Rattle.sd_law_losses.proofs.Losses.{all_second, packets_chosen}
 use Rattle.sd_law_losses.proofs.Untuned.{IsSkipped, packets_skipped, after_none, no_part_cat, no_section_cat}
 use Rattle.sd_law_losses.proofs.Untuned.{sections_at, tail_at, no_tail_cat, due_rest, other_rest}
 use Rattle.sd_law_losses.proofs.AnyLoss.{after_cat_goes, taken_tuning, taken_heard, items_of_none, sections_alone}

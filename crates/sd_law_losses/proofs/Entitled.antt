@@ -8,10 +8,10 @@ use Rattle.std.proofs.lemmas.Bool.Decides.{nat_tests}
 use Rattle.std.proofs.lemmas.List.Sums.{sum_by-cons}
 use Rattle.std.proofs.lemmas.List.Folds.{list_any-append}
 use Rattle.std.proofs.lemmas.List.Elements.{All-head, All-tail}
+use Rattle.sd_base.proofs.Lists.{any_there}
 use Rattle.sd_tree.specs.Leaves.{is_member}
 use Rattle.sd_book.specs.Commands.{revoked}
 use Rattle.sd_steiner.proofs.Partitions.{among_unrevoked}
-use Rattle.sd_steiner.proofs.Lists.{counted_some}
 use Rattle.sd_emm.specs.Spelled.{listed_entries}
 use Rattle.sd_emm.specs.Period.{emms_of}
 use Rattle.sd_emm.specs.declared.emm.Emm.{Emm}
@@ -20,8 +20,8 @@ use Rattle.sd_spec_broadcast.specs.Plan.{Plan, IsPlan, sets_at, period_in, perio
 use Rattle.sd_spec_broadcast.specs.Messages.{period_at, entry_of}
 use Rattle.sd_spec_broadcast.specs.Sent.{Item, Cat, Entitles, Controls, Carries}
 use Rattle.sd_spec_broadcast.specs.Items.{IsOfBroadcast, entitlement}
+use Rattle.sd_spec_broadcast.proofs.Periods.{section_number}
 use Rattle.sd_law_broadcast.proofs.Covering.{sets_partition}
-use Rattle.sd_law_heard.proofs.Keyed.{period_due}
 use Rattle.sd_law_losses.specs.Kept.{entitles, is_last_part, is_entitled_before}
 use Rattle.sd_law_losses.specs.Confirmed.{is_revoked_in}
 
@@ -75,10 +75,6 @@ sections_have plan q u is leaf =
     ∙ (any_of_map (λ entry. is_member plan.site.height entry.name u) (entry_of plan.site q) (sets_at plan q)
     ∙ sets_have plan q u is leaf))
 
--- one of them that passes is enough
-pub any_there : {A : Type 0} (p : A → Bool) (xs : List A) (x : A) → Contains xs x → p x ≡ true → list_any p xs ≡ true
-any_there p xs x there is = any_counted p xs ∙ grind (arith, nat_tests, counted_some p xs x there is)
-
 -- what entitles before a message entitles
 pub entitles_at_all : (h u q a : ℕ) (kept : List Item) → is_entitled_before h u q a kept ≡ true →
     list_any (entitles h u q) kept ≡ true
@@ -109,7 +105,7 @@ period_above plan k = omega arith
 none_before_first : (plan : Plan) (clear : List (List ℕ)) (q u : ℕ) (item : Item) → q < plan.site.first_period →
     IsOfBroadcast plan clear item → entitles plan.site.height u q item ≡ false
 none_before_first plan clear q u (Entitles emm) low (entitlement k within there) =
-    let is = period_due plan (period_of plan k) emm there in
+    let is = section_number plan (period_of plan k) emm there in
     let from = period_above plan k in
     let other : (emm.period == q) ≡ false = grind (arith, nat_tests, low, is, from) in
     rw other refl
@@ -133,7 +129,7 @@ entitled_one plan clear q u (Entitles emm) is leaf (entitlement k within there) 
       arith,
       nat_tests,
       parts.0,
-      period_due plan
+      section_number plan
           (period_of plan k) emm there,
     ) in
     no_not (sym (sections_have plan q u is leaf)

@@ -1,15 +1,15 @@
 -- How a whole broadcast ends.
-use Rattle.std.proofs.Common.{◌≡◌, refl, ℕ, zero, suc, ◌+◌, ◌-◌, ◌*◌, ◌<◌, ◌≤◌, Bool, true, false, min}
+use Rattle.std.proofs.Common.{◌≡◌, refl, ℕ, zero, suc, ◌+◌, ◌-◌, ◌*◌, ◌≤◌, Bool, true, false, min}
 use Rattle.std.proofs.Common.{List, [], ◌∷◌, ◌++◌, map, length, Option, Some, None, if◌then◌else◌}
 use Rattle.std.proofs.Common.{arith, sym, ap, subst, ◌∙◌, inl, inr, ◌⊎◌}
 use Rattle.std.specs.List.{range_with_len, find}
 use Rattle.std.proofs.lemmas.List.{map-append}
 use Rattle.std.proofs.lemmas.Bool.{cases_Bool, cases_eq}
+use Rattle.sd_base.proofs.Ranges.{range_more, none_found}
 use Rattle.sd_site.specs.Fields.{AreInRange}
 use Rattle.sd_spec_broadcast.specs.Plan.{Plan, crypto_length, period_of, closing_number}
 use Rattle.sd_spec_broadcast.proofs.Schedule.{periods_rise, periods_step, period_of_first, closing_covers}
 use Rattle.sd_law_losses.specs.Endings.{period_told}
-use Rattle.sd_law_losses.proofs.Tests.{range_parts}
 
 -- the test of the last one
 find_none : (f : ℕ → Bool) (xs : List ℕ) (x : ℕ) → find f xs ≡ None → find f (xs ++ x ∷ []) ≡
@@ -49,22 +49,6 @@ find_again f xs x fails = by_found (find f xs) refl
     by_found None none = find_none f xs x none ∙ (rw (fails none) refl ∙ sym none)
     by_found (Some y) some = find_some f xs x y some ∙ sym some
 
--- where a range finds none, none of it passes
-pub none_found : (f : ℕ → Bool) (s n x : ℕ) → find f (range_with_len s n) ≡ None → s ≤ x → x < s + n → f x ≡ false
-none_found f s zero x none low high = absurd (omega (arith, low, high))
-none_found f s (suc n) x none low high = by_test (cases_Bool (f s)) (cases_eq s x)
-    (λ rest low. none_found f (s + 1) n x rest low (omega (arith, high)))
-  where
-    by_test : (f s ≡ true) ⊎ (f s ≡ false) → (s ≡ x) ⊎ (s ≡ x → ⊥) →
-        (find f (range_with_len (s + 1) n) ≡ None → s + 1 ≤ x → f x ≡ false) → f x ≡ false
-    by_test (inl is) other rest = absurd (cc (rw is at none))
-    by_test (inr is) (inl here) rest = ap f (sym here) ∙ is
-    by_test (inr is) (inr later) rest = rest (rw is at none) (omega (arith, low, later))
-
--- a range with one more
-range_last : (s n : ℕ) → range_with_len s (n + 1) ≡ range_with_len s n ++ (s + n) ∷ []
-range_last s n = range_parts s n 1
-
 -- numbers that rise are none below the first
 risen_above : (g : ℕ → ℕ) (n : ℕ) → ((a : ℕ) → g a ≤ g (a + 1)) → g 0 ≤ g n
 risen_above g zero rises = omega arith
@@ -83,7 +67,7 @@ find_risen g test s zero start rises steps =
     ∙ (ap (λ (m : ℕ). find test (m ∷ [])) start
     ∙ ap (λ (m : ℕ). find test (range_with_len s m)) all)
 find_risen g test s (suc n) start rises steps =
-    ap (λ (xs : List ℕ). find test (map g xs)) (range_last 0 (suc n)
+    ap (λ (xs : List ℕ). find test (map g xs)) (range_more 0 (suc n)
     ∙ (ap (λ (xs : List ℕ). xs ++ (0 + suc n) ∷ []) ready
     ∙ ap (λ (m : ℕ). range_with_len 0 (n + 1) ++ m ∷ []) last))
     ∙ (ap (find test) (map-append g (range_with_len 0 (n + 1)) (suc n ∷ []))
@@ -117,7 +101,7 @@ find_risen g test s (suc n) start rises steps =
         let more : g (suc n) ≡ s + (g n + 1 - s) = omega (arith, other, rises n, steps n, next, above) in
         let long : (g n + 1 - s) + 1 ≡ g (suc n) + 1 - s = omega (arith, more, above) in
         ap (λ (m : ℕ). find test (range_with_len s (g n + 1 - s) ++ m ∷ [])) more
-        ∙ (ap (find test) (sym (range_last s (g n + 1 - s)))
+        ∙ (ap (find test) (sym (range_more s (g n + 1 - s)))
         ∙ ap (λ (m : ℕ). find test (range_with_len s m)) long)
 
 -- the periods of messages rise so

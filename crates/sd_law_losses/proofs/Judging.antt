@@ -8,9 +8,9 @@ use Rattle.std.proofs.lemmas.List.{get_or-take, length-take, map-append}
 use Rattle.std.proofs.lemmas.List.Folds.{list_any_at}
 use Rattle.std.proofs.lemmas.Bool.{cases_Bool}
 use Rattle.std.proofs.lemmas.Bool.Decides.{nat_tests}
-use Rattle.sd_packet.specs.Header.{pid_of, scrambling_of, has_payload}
+use Rattle.sd_packet.specs.Header.{pid_of, scrambling_of}
 use Rattle.sd_packet.specs.Positions.{is_placed, is_moving}
-use Rattle.sd_packet.proofs.Positions.{next_position}
+use Rattle.sd_packet.proofs.Positions.{next_position, own_moves}
 use Rattle.sd_label.specs.Keys.{control_word_of}
 use Rattle.sd_scramble.specs.Scrambling.{descrambled}
 use Rattle.sd_ecm.specs.declared.part.Place.{Place}
@@ -35,19 +35,13 @@ placed_low packet placed = grind (arith, nat_tests, placed)
 placed_high : (packet : List ℕ) → is_placed packet ≡ true → pid_of packet ≤ 0x1FEF
 placed_high packet placed = grind (arith, nat_tests, placed)
 
-placed_moves : (packet : List ℕ) → is_placed packet ≡ true → is_moving (pid_of packet) packet ≡ true
-placed_moves packet placed =
-    let payload : has_payload packet ≡ true = grind (arith, nat_tests, placed) in
-    let same : (pid_of packet == pid_of packet) ≡ true = grind (arith, nat_tests) in
-    rw same payload
-
 -- a PID has moved once a packet of it came
 moved_by_one : (clear : List (List ℕ)) (j high : ℕ) → j < high → high ≤ length clear →
     is_placed (packet_at clear j) ≡ true → has_moved (take high clear) (pid_of (packet_at clear j)) ≡ true
 moved_by_one clear j high below within placed =
     list_any_at (is_moving (pid_of (packet_at clear j))) (take high clear) j []
     (omega (arith, length-take high clear, below, within))
-    (ap (is_moving (pid_of (packet_at clear j))) (get_or-take high clear j [] below) ∙ placed_moves
+    (ap (is_moving (pid_of (packet_at clear j))) (get_or-take high clear j [] below) ∙ own_moves
     (packet_at clear j) placed)
 
 -- the receiver confirms a PID exactly where its kept packets do
@@ -113,7 +107,7 @@ exact_place s laws kept a b j pair from below is veiled near =
     ∙ (tracked_is s laws kept a pid (j + 1) (omega (arith, pair.below, pair.within)) (placed_low p veiled.clear_placed)
     (placed_high p veiled.clear_placed) (omega (arith, from)) (omega (arith, below, bounds.1))
     ∙ (near_exact s.clear kept (start_of s a) pid j (end_of s b) from below bounds.1 is
-    (placed_moves p veiled.clear_placed) close
+    (own_moves p veiled.clear_placed) close
     ∙ next_position pid j s.clear (omega (arith, below, bounds.1)))))
   where
     p : List ℕ

@@ -24,6 +24,7 @@ use Rattle.sd_law_losses.proofs.Pairs.{number_is}
 use Rattle.sd_law_losses.proofs.Carrying.{carrying}
 use Rattle.sd_law_losses.proofs.Remaining.{parts_before, group_at, rest_at, rest_more, rest_none, closing_items}
 use Rattle.sd_law_losses.proofs.Remaining.{number_within, due_number, number_rises}
+use Rattle.sd_law_losses.proofs.Completing.{none_carried}
 
 -- a choice of two lists is one of each
 pub chosen_append : {A : Type 0} (fs : List Bool) (xs ys : List A) →
@@ -74,10 +75,6 @@ no_section_packet : (j : ℕ) (emms : List Emm) → list_any (is_carried j) (map
 no_section_packet j [] = refl
 no_section_packet j (emm ∷ emms) = no_section_packet j emms
 
-no_part_packet : (j : ℕ) (parts : List EcmPart) → list_any (is_carried j) (map Controls parts) ≡ false
-no_part_packet j [] = refl
-no_part_packet j (part ∷ parts) = no_part_packet j parts
-
 pub no_other_part : (message : Message) (b : ℕ) (rest prior : List EcmPart) → AreParts message prior rest →
     (message.number == b) ≡ false → list_any (is_of b) (map Controls rest) ≡ false
 no_other_part message b [] prior are other = refl
@@ -124,7 +121,7 @@ parts_carry_none s k j = by_test (k % s.plan.site.every == 0)
   where
     by_test : (b : Bool) → list_any (is_carried j)
         (if b then map Controls (parts_of (told_by s (k / s.plan.site.every))) else []) ≡ false
-    by_test true = no_part_packet j (parts_of (told_by s (k / s.plan.site.every)))
+    by_test true = none_carried j (parts_of (told_by s (k / s.plan.site.every)))
     by_test false = refl
 
 group_later : (s : Setting) (laws : AreLaws s) (k b : ℕ) → k < length s.clear → b < closing_number s.plan.site k →
@@ -183,7 +180,7 @@ packets_later s laws zero k j all below =
     ∙ both_fail (is_carried j) (if length s.clear == 0 then tables_at s.plan 0 else []) (map Controls (parts_of
     (told_by s (final s))))
     (closing_tables s (is_carried j) refl (no_section_packet j))
-    (no_part_packet j (parts_of (told_by s (final s)))))
+    (none_carried j (parts_of (told_by s (final s)))))
 packets_later s laws (suc n) k j all below =
     ap (list_any (is_carried j)) (rest_more s k laws.range (omega (arith, all)))
     ∙ both_fail (is_carried j) (group_at s k) (rest_at s (k + 1)) (group_carries s k j below)

@@ -7,6 +7,7 @@ use Rattle.std.specs.List.{list_any}
 use Rattle.std.proofs.lemmas.Bool.Decides.{nat_tests}
 use Rattle.std.proofs.lemmas.List.{reverse-reverse}
 use Rattle.std.proofs.lemmas.List.Elements.{All-get_or}
+use Rattle.sd_base.proofs.Lists.{equal_bytes}
 use Rattle.sd_tree.specs.Leaves.{is_member}
 use Rattle.sd_packet.specs.Header.{scrambling_of}
 use Rattle.sd_label.specs.Keys.{period_key_of, control_word_of, check_value_of}
@@ -30,8 +31,8 @@ use Rattle.sd_law_broadcast.proofs.Clear.{each_clear, accepted}
 use Rattle.sd_law_broadcast.proofs.Carrying.{carried_keeps, moves_alike, kind_placed}
 use Rattle.sd_law_broadcast.proofs.Numbers.{numbered_fits}
 use Rattle.sd_law_heard.specs.Told.{heard_of}
-use Rattle.sd_law_heard.proofs.Alike.{any_two, same_bytes}
-use Rattle.sd_law_heard.proofs.Keyed.{key_due, check_due, period_due, word_due, word_check_due}
+use Rattle.sd_law_heard.proofs.Alike.{any_two}
+use Rattle.sd_law_heard.proofs.Keyed.{key_due, check_due, word_due, word_check_due}
 use Rattle.sd_law_heard.proofs.Hearing.{cat_taken, no_other_taken, items_heard}
 use Rattle.sd_law_heard.proofs.Back.{clear_back, scrambled_back}
 use Rattle.sd_law_heard.proofs.Lists.{reverse_cons}
@@ -43,6 +44,7 @@ use Rattle.sd_law_losses.specs.Confirmed.{packet_at, is_scrambled}
 use Rattle.sd_law_losses.proofs.Coming.{AreParts, is_nil}
 use Rattle.sd_law_losses.proofs.Setting.{Setting, IsDue, IsOpen, IsVeiled, AreLaws, told_by, carried_at, key_where}
 use Rattle.sd_spec_broadcast.specs.Items.{IsOfBroadcast}
+use Rattle.sd_spec_broadcast.proofs.Periods.{section_number}
 use Rattle.sd_site.specs.Fields.{run_name_of as site_name}
 use Rattle.sd_law_broadcast.proofs.Runs.{section_names, part_names}
 use Rattle.sd_law_losses.proofs.OneRun.{IsOfRun, of_named}
@@ -137,9 +139,9 @@ module _ (plan : Plan) (clear : List (List ℕ)) (u : ℕ) (is : IsPlan plan) (a
 
   section_due : (q : ℕ) (emm : Emm) → Contains (emms_of (period_at plan q)) emm → IsDue s q emm
   section_due q emm m = record {
-    period = period_due plan q emm m;
+    period = section_number plan q emm m;
     key = section_key plan clear u q emm is leaf m;
-    check = same_bytes (check_value_of (period_key_of plan.site.master q)) emm.check (sym (check_due plan q emm m));
+    check = equal_bytes (check_value_of (period_key_of plan.site.master q)) emm.check (sym (check_due plan q emm m));
   }
 
   -- the header of packet j as it is carried
@@ -202,7 +204,7 @@ module _ (plan : Plan) (clear : List (List ℕ)) (u : ℕ) (is : IsPlan plan) (a
     forth = λ a b below within. rw (told_is s a, told_is s b) (never_back plan clear a b is below within);
     word = λ a within. rw (told_is s a) (word_due plan clear a);
     check = λ a within. rw (told_is s a)
-        (same_bytes (check_value_of (control_word_of plan.site.master (numbered plan clear a).word))
+        (equal_bytes (check_value_of (control_word_of plan.site.master (numbered plan clear a).word))
         (numbered plan clear a).check (sym (word_check_due plan clear a)));
     moves = λ j pid x within. moves_alike
         (control_in (kind_of (take j clear) (packet_at clear j)) (word_of plan.site j)) pid x (packet_at clear j)

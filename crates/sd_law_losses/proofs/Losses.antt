@@ -1,10 +1,10 @@
 -- Whatever is lost of a broadcast, a receiver that took its CAT writes exactly what is confirmed.
-use Rattle.std.proofs.Common.{◌≡◌, refl, ℕ, suc, ◌+◌, ◌-◌, ◌<◌, ◌≤◌, Bool, true, false}
+use Rattle.std.proofs.Common.{◌≡◌, refl, ℕ, ◌+◌, ◌-◌, ◌<◌, ◌≤◌, Bool, true, false}
 use Rattle.std.proofs.Common.{List, [], ◌∷◌, ◌++◌, map, length, take, drop, Option, None}
 use Rattle.std.proofs.Common.{arith, sym, ap, ◌∙◌, subst, append-nil}
 use Rattle.std.specs.Prelude.{All}
 use Rattle.std.specs.List.{list_any}
-use Rattle.std.proofs.lemmas.List.Elements.{All-head, All-tail, All-cons, All-nil}
+use Rattle.std.proofs.lemmas.List.Elements.{All-tail}
 use Rattle.std.proofs.lemmas.Bool.Decides.{nat_tests}
 use Rattle.sd_site.specs.Fields.{SiteFields}
 use Rattle.sd_ecm.specs.Parts.{Message, parts_of}
@@ -13,6 +13,7 @@ use Rattle.sd_spec_broadcast.specs.Messages.{message_at}
 use Rattle.sd_spec_broadcast.specs.Sent.{Item, Controls, packets_from}
 use Rattle.sd_spec_broadcast.specs.Items.{IsOfBroadcast}
 use Rattle.sd_spec_broadcast.proofs.Sending.{packets_in_turn}
+use Rattle.sd_spec_broadcast.proofs.Bodies.{packets_many}
 use Rattle.sd_spec_receiver.specs.Heard.{Heard, Controls as HeardControls}
 use Rattle.sd_spec_receiver.specs.Offered.{heard, out_from, break_from}
 use Rattle.sd_law_losses.specs.Chosen.{chosen}
@@ -29,21 +30,10 @@ use Rattle.sd_law_losses.proofs.Later.{chosen_append, chosen_map}
 use Rattle.sd_law_losses.proofs.Confirming.{confirmed_in}
 use Rattle.sd_law_losses.proofs.Writings.{last_before, written_confirmed, rest_unconfirmed}
 
--- what holds of two lists holds of both
-pub all_first : {A : Type 0} (P : A → Type 0) (xs ys : List A) → All P (xs ++ ys) → All P xs
-all_first P [] ys all = All-nil P
-all_first P (x ∷ xs) ys all = All-cons P x xs (All-head P x (xs ++ ys) all) (all_first P xs ys (All-tail P x
-    (xs ++ ys) all))
-
+-- what holds of two lists holds of the second
 pub all_second : {A : Type 0} (P : A → Type 0) (xs ys : List A) → All P (xs ++ ys) → All P ys
 all_second P [] ys all = all
 all_second P (x ∷ xs) ys all = all_second P xs ys (All-tail P x (xs ++ ys) all)
-
-pub packets_long : (site : SiteFields) (earlier items : List Item) → length
-    (packets_from site earlier items) ≡ length items
-unfolding packets_from
-packets_long site earlier [] = refl
-packets_long site earlier (item ∷ items) = ap suc (packets_long site (earlier ++ item ∷ []) items)
 
 -- a choice of the packets of things one after the other
 pub packets_chosen : (site : SiteFields) (earlier xs ys : List Item) (fs : List Bool) →
@@ -55,7 +45,7 @@ packets_chosen site earlier xs ys fs =
     ∙ (chosen_append fs (packets_from site earlier xs) (packets_from site (earlier ++ xs) ys)
     ∙ ap (λ (n : ℕ). chosen (take n fs) (packets_from site earlier xs) ++ chosen (drop n fs) (packets_from site
     (earlier ++ xs) ys))
-    (packets_long site earlier xs))
+    (packets_many site earlier xs))
 
 -- what is written of packets is this, and none is refused
 pub record AreWritten (s : Setting) (past packets : List (List ℕ)) (wrote : List (List ℕ)) : Type 0 where

@@ -6,16 +6,16 @@ use Rattle.std.specs.Option.{option_map_or}
 use Rattle.std.proofs.lemmas.List.Elements.{All-head, All-tail}
 use Rattle.std.proofs.lemmas.Bool.Decides.{nat_tests}
 use Rattle.sd_card.specs.Fields.{CardFields}
-use Rattle.sd_spec_receiver.specs.declared.ending.Ending.{Ending}
-use Rattle.sd_spec_receiver.specs.declared.ending.Ending.TheVariants.{Opened, Revoked, Unheard, NoCat, Unclosed, Gaps}
+use Rattle.sd_spec_receiver.specs.declared.ending.Ending.TheVariants.{Opened}
 use Rattle.sd_spec_receiver.specs.declared.fault.StreamFault.{StreamFault}
 use Rattle.sd_spec_receiver.specs.Tuned.{Tuning, tuning_of}
 use Rattle.sd_spec_receiver.specs.Heard.{Heard, hears}
 use Rattle.sd_spec_receiver.specs.Stretches.{is_closed}
-use Rattle.sd_spec_receiver.specs.Runs.{run_name_heard, name_or, name_in, is_same, are_two, is_turn, of_run}
+use Rattle.sd_spec_receiver.specs.Runs.{run_name_heard, name_or, name_in, is_same, are_two, is_turn}
 use Rattle.sd_spec_receiver.specs.Offered.{heard, heard_more, heard_offering, run_offering, offered, out_from}
 use Rattle.sd_spec_receiver.specs.Offered.{break_from}
 use Rattle.sd_spec_receiver.specs.Ending.{joined, turns_at, run_wrote, run_ending, ended_before}
+use Rattle.sd_spec_receiver.proofs.Runs.{same_run}
 use Rattle.sd_law_losses.proofs.Writing.{onto}
 
 -- what is heard is no message of another run than the one with this name
@@ -78,26 +78,14 @@ no_turn_at card tuning past packet thing tuned is straight =
     (length past) packet)) t false) tuned
     ∙ (ap (is_turn (heard card past)) is ∙ straight)
 
-pub untuned_turn : (card : CardFields) (past : List (List ℕ)) (packet : List ℕ) → tuning_of card.ca past ≡ None →
-    turns_at card past packet ≡ false
-unfolding turns_at
-untuned_turn card past packet none =
-    ap (λ (t : Option Tuning). option_map_or (λ tuning. is_turn (heard card past) (hears card.height tuning
-    (length past) packet)) t false) none
-
--- what was heard of the run stays
-pub run_stays : (past : List Heard) (thing : Heard) → is_turn past thing ≡ false → of_run past thing ≡ past
-unfolding of_run
-run_stays past thing straight = ap (λ (turn : Bool). if turn then [] else past) straight
-
 pub one_heard : (past : List Heard) (thing : Heard) → is_turn past thing ≡ false → is_closed past ≡ false →
     heard_more past thing ≡ thing ∷ past
-one_heard past thing straight opened = rw (run_stays past thing straight) (rw opened refl)
+one_heard past thing straight opened = rw (same_run past thing straight) (rw opened refl)
 
 pub one_offered : (card : CardFields) (tuning : Tuning) (n : ℕ) (past : List Heard) (thing : Heard) →
     is_turn past thing ≡ false → is_closed past ≡ false →
     run_offering card tuning n past thing ≡ heard_offering card tuning n past thing
-one_offered card tuning n past thing straight opened = rw (run_stays past thing straight) (rw opened refl)
+one_offered card tuning n past thing straight opened = rw (same_run past thing straight) (rw opened refl)
 
 -- packets before packets of one run are
 pub one_before : (card : CardFields) (packets past : List (List ℕ)) → AreOneRun card (onto packets past) →
@@ -113,16 +101,6 @@ none_ended card (packet ∷ past) one =
     ap (λ (turn : Bool). if turn then joined (ended_before card past) (run_ending card (heard card past)
     (run_wrote card past)) else ended_before card past) one.0
     ∙ none_ended card past one.1
-
--- the ending of one run alone is its own
-pub ending_alone : (ending : Ending) → joined Opened ending ≡ ending
-unfolding joined
-ending_alone Opened = refl
-ending_alone NoCat = refl
-ending_alone (Unclosed n) = refl
-ending_alone (Revoked q) = refl
-ending_alone (Unheard q) = refl
-ending_alone (Gaps n) = refl
 
 -- all that is written is written of the run, where nothing is refused
 run_wrote_all : (card : CardFields) (packets past : List (List ℕ)) → AreOneRun card (onto packets past) →

@@ -18,8 +18,8 @@ use Rattle.sd_spec_broadcast.specs.Messages.{period_at}
 use Rattle.sd_spec_broadcast.specs.Sent.{Item, Cat, Entitles, Controls, Carries, sent, closing_of}
 use Rattle.sd_spec_broadcast.specs.Items.{IsOfBroadcast, entitlement}
 use Rattle.sd_spec_broadcast.proofs.Items.{all_are_of_broadcast}
+use Rattle.sd_spec_broadcast.proofs.Periods.{section_number}
 use Rattle.sd_law_broadcast.proofs.Fitting.{period_count}
-use Rattle.sd_law_heard.proofs.Keyed.{period_due}
 use Rattle.sd_spec_receiver.specs.Ending.{ending_with}
 use Rattle.sd_spec_receiver.specs.declared.ending.Ending.TheVariants.{Opened, Gaps, Revoked, NoCat, Unclosed}
 use Rattle.sd_law_losses.specs.Chosen.{chosen}
@@ -85,7 +85,7 @@ section_entitles plan clear u q x (Entitles emm) (entitlement k within there) ha
       arith,
       nat_tests,
       parts.0,
-      period_due plan
+      section_number plan
           (period_of plan k) emm there,
     ) in
     let index : emm.index ≡ x = grind (arith, nat_tests, parts.1) in

@@ -7,6 +7,7 @@ use Rattle.std.proofs.lemmas.Bool.{cases_Bool, cases_eq}
 use Rattle.std.proofs.lemmas.Bool.Decides.{nat_tests}
 use Rattle.std.proofs.lemmas.List.Folds.{list_any-append}
 use Rattle.std.proofs.Math.Nat.{mul-mod_left, mul-div_cancel}
+use Rattle.sd_base.proofs.Bools.{or_true}
 use Rattle.sd_site.specs.Fields.{AreInRange}
 use Rattle.sd_ecm.specs.Parts.{parts_of}
 use Rattle.sd_ecm.specs.declared.part.EcmPart.{EcmPart}
@@ -44,10 +45,6 @@ sent_split s (suc k) range within =
 any_or : {A : Type 0} (p : A → Bool) (xs ys : List A) (b c : Bool) → list_any p xs ≡ b → list_any p ys ≡ c →
     list_any p (xs ++ ys) ≡ (b || c)
 any_or p xs ys b c first rest = list_any-append p xs ys ∙ rw first (rw rest refl)
-
-or_true : (b : Bool) → (b || true) ≡ true
-or_true true = refl
-or_true false = refl
 
 pub any_second : {A : Type 0} (p : A → Bool) (xs ys : List A) → list_any p ys ≡ true → list_any p (xs ++ ys) ≡ true
 any_second p xs ys there = any_or p xs ys (list_any p xs) true refl there ∙ or_true (list_any p xs)

@@ -13,9 +13,10 @@ use Rattle.sd_spec_receiver.specs.Runs.{is_turn}
 use Rattle.sd_spec_receiver.specs.Offered.{heard, heard_with, heard_more}
 use Rattle.sd_spec_receiver.specs.Ending.{turns_at}
 use Rattle.sd_spec_receiver.specs.Taken.{takes_key_in}
+use Rattle.sd_spec_receiver.proofs.Runs.{same_run}
 use Rattle.sd_law_losses.specs.Taken.{takes_key_of, takes_key_at, taken_keys, how_many}
 use Rattle.sd_law_losses.proofs.Writing.{onto}
-use Rattle.sd_law_losses.proofs.OneRun.{AreOneRun, one_before, run_stays}
+use Rattle.sd_law_losses.proofs.OneRun.{AreOneRun, one_before}
 
 -- the keys that were taken of what was heard
 abbrev pub keys_of : CardFields → List Heard → ℕ
@@ -94,7 +95,7 @@ how_many_below f g (suc n) same =
 -- one thing more of the run at hand
 one_more_taken : (card : CardFields) (past : List Heard) (thing : Heard) → is_turn past thing ≡ false →
     keys_of card (heard_more past thing) ≡ keys_of card past + (if takes_key_in card past thing then 1 else 0)
-one_more_taken card past thing straight = rw (run_stays past thing straight) (by_closed (cases_Bool (is_closed past)))
+one_more_taken card past thing straight = rw (same_run past thing straight) (by_closed (cases_Bool (is_closed past)))
   where
     by_closed : (is_closed past ≡ true) ⊎ (is_closed past ≡ false) →
         keys_of card (if is_closed past then past else thing ∷ past)

@@ -1,6 +1,6 @@
 -- Tests over lists and ranges.
 use Rattle.std.proofs.Common.{◌≡◌, refl, ℕ, zero, suc, ◌+◌, ◌<◌, ◌≤◌, Bool, true, false, ◌&&◌}
-use Rattle.std.proofs.Common.{List, [], ◌∷◌, ◌++◌, filter, arith, ap, ◌∙◌, inl, inr}
+use Rattle.std.proofs.Common.{List, [], ◌∷◌, arith, ap, ◌∙◌, inl, inr}
 use Rattle.std.specs.List.{list_any, list_all, range_with_len}
 use Rattle.std.proofs.lemmas.Bool.{cases_eq, or_parts}
 
@@ -40,23 +40,3 @@ not_all_range p s (suc n) x low high fails = elim (cases_eq s x) [
         (b && list_all p (range_with_len (s + 1) n)) ≡ false
     by_test true rest = rest
     by_test false rest = refl
-
--- tests that agree on a range pass the same of it
-pub filter_range : (p q : ℕ → Bool) (s n : ℕ) → ((x : ℕ) → s ≤ x → x < s + n → p x ≡ q x) →
-    filter p (range_with_len s n) ≡ filter q (range_with_len s n)
-filter_range p q s zero same = refl
-filter_range p q s (suc n) same =
-    let here : p s ≡ q s = same s (omega arith) (omega arith) in
-    let rest = filter_range p q (s + 1) n (λ x low high. same x (omega (arith, low)) (omega (arith, high))) in
-    rw here (rw rest refl)
-
--- a range in two parts
-pub range_parts : (s n m : ℕ) → range_with_len s (n + m) ≡ range_with_len s n ++ range_with_len (s + n) m
-range_parts s zero m =
-    let a : 0 + m ≡ m = omega arith in
-    let b : s + 0 ≡ s = omega arith in
-    rw a (rw b refl)
-range_parts s (suc n) m =
-    let a : suc n + m ≡ suc (n + m) = omega arith in
-    let b : s + suc n ≡ (s + 1) + n = omega arith in
-    rw a (rw b (ap (λ (xs : List ℕ). s ∷ xs) (range_parts (s + 1) n m)))

@@ -18,10 +18,10 @@ use Rattle.sd_law_losses.specs.Kept.{entitles, after_cat}
 use Rattle.sd_law_losses.specs.Confirmed.{is_revoked_in}
 use Rattle.sd_law_losses.specs.Taken.{taken_keys, how_many}
 use Rattle.sd_spec_broadcast.specs.Plan.{period_of}
+use Rattle.sd_spec_broadcast.proofs.Bodies.{packets_many}
 use Rattle.std.specs.List.{list_any}
 use Rattle.sd_law_losses.proofs.Endings.{losses_end, losses_take}
 use Rattle.sd_law_losses.proofs.WholeEnding.{whole_ends, keys_whole}
-use Rattle.sd_law_losses.proofs.Losses.{packets_long}
 use Rattle.sd_law_losses.proofs.AllOpened.{chosen_true, all_are_opened}
 use Rattle.sd_law_losses.proofs.AnyLoss.{losses_are_confirmed}
 use Rattle.sd_law_losses.proofs.Lawful.{setting, laws_hold, can_be_heard}
@@ -66,7 +66,7 @@ all_chosen xs n long = chosen_true (λ j. true) 0 n xs (λ j low high. refl) (om
 long_broadcast : (plan : Plan) (clear : List (List ℕ)) → length (broadcast plan clear) ≡ length
     (sent plan clear ++ closing_of plan clear)
 unfolding broadcast
-long_broadcast plan clear = packets_long plan.site [] (sent plan clear ++ closing_of plan clear)
+long_broadcast plan clear = packets_many plan.site [] (sent plan clear ++ closing_of plan clear)
 
 -- of a whole broadcast all that the leaf is entitled to is written
 pub whole_opened : (plan : Plan) (clear : List (List ℕ)) (u : ℕ) → IsPlan plan → IsClear plan.site clear →

@@ -6,6 +6,7 @@ use Rattle.std.specs.List.{range_with_len}
 use Rattle.std.proofs.lemmas.List.{map-append}
 use Rattle.std.proofs.lemmas.List.Elements.{filter-append}
 use Rattle.std.proofs.Math.Seq.{take-add}
+use Rattle.sd_base.proofs.Ranges.{range_parts}
 use Rattle.sd_packet.specs.Positions.{is_moving, moved, moved_by, position_of}
 use Rattle.sd_packet.proofs.Positions.{more_packets, next_position, one_more}
 use Rattle.sd_spec_broadcast.specs.Sent.{Item}
@@ -13,7 +14,6 @@ use Rattle.sd_law_losses.specs.Chosen.{chosen}
 use Rattle.sd_law_losses.specs.Kept.{is_kept, kept_in}
 use Rattle.sd_law_losses.specs.Confirmed.{packet_at, packets_at}
 use Rattle.sd_law_losses.proofs.Residual.{shortfall_stays, near_shows_exact}
-use Rattle.sd_law_losses.proofs.Tests.{range_parts}
 use Rattle.sd_law_losses.proofs.Traced.{chosen_numbers}
 
 -- the numbers kept up to j and those from j on

@@ -5,6 +5,7 @@ use Rattle.std.proofs.Common.{arith, sym, ap, ◌∙◌, subst, append_assoc}
 use Rattle.std.specs.Prelude.{All}
 use Rattle.std.specs.List.{list_any}
 use Rattle.std.proofs.lemmas.Bool.Decides.{nat_tests}
+use Rattle.sd_base.proofs.Lists.{all_first}
 use Rattle.sd_ecm.specs.Parts.{parts_of}
 use Rattle.sd_spec_broadcast.specs.Plan.{period_of, closing_number}
 use Rattle.sd_spec_broadcast.specs.Sent.{Item, Controls, tables_at, closing_of, packets_from}
@@ -24,7 +25,7 @@ use Rattle.sd_law_losses.proofs.Later.{chosen_append, chosen_fails, numbers_late
 use Rattle.sd_law_losses.proofs.Confirming.{confirmed_in}
 use Rattle.sd_law_losses.proofs.Groups.{Goes, tables_pass, group_goes, may_rise}
 use Rattle.sd_law_losses.proofs.Writings.{IsLastBefore, last_before, moves_confirmed}
-use Rattle.sd_law_losses.proofs.Losses.{all_first, all_second, packets_chosen, AreWritten, written_first, written_all}
+use Rattle.sd_law_losses.proofs.Losses.{all_second, packets_chosen, AreWritten, written_first, written_all}
 use Rattle.sd_law_losses.proofs.Losses.{closing_written}
 
 -- what is written of what is left, after these things

@@ -24,12 +24,13 @@ use Rattle.sd_spec_receiver.specs.Stretches.{messages, newest, counted, current,
 use Rattle.sd_spec_receiver.specs.Keys.{key_in}
 use Rattle.sd_spec_receiver.specs.Offered.{Offering, heard, heard_with, offered, tuned_offering, out_from, break_from}
 use Rattle.sd_spec_receiver.specs.Offered.{no_offering}
+use Rattle.sd_spec_receiver.proofs.Runs.{never_turns}
 use Rattle.sd_law_losses.specs.Chosen.{chosen}
 use Rattle.sd_law_losses.specs.Kept.{is_kept, kept_in, has_arrived, after_cat}
 use Rattle.sd_law_losses.proofs.Taking.{how_many_none}
 use Rattle.sd_law_losses.proofs.Facts.{is_told}
 use Rattle.sd_law_losses.proofs.Writing.{onto}
-use Rattle.sd_law_losses.proofs.OneRun.{AreOneRun, untuned_turn}
+use Rattle.sd_law_losses.proofs.OneRun.{AreOneRun}
 use Rattle.sd_law_losses.proofs.Setting.{Setting, told_by, carried_at}
 use Rattle.sd_law_losses.proofs.Facts.{AreKept, AreHeard}
 use Rattle.sd_law_losses.proofs.Carrying.{carrying}
@@ -60,7 +61,7 @@ untuned_heard card (packet ∷ past) none =
 pub untuned_one_run : (card : CardFields) (past : List (List ℕ)) → tuning_of card.ca past ≡ None → AreOneRun card past
 untuned_one_run card [] none = tt
 untuned_one_run card (packet ∷ past) none = (
-  untuned_turn card past packet (untuned_before card packet past none),
+  never_turns card past packet (untuned_before card packet past none),
   untuned_one_run card past (untuned_before card packet past none),
 )
 

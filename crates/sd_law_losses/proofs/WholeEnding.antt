@@ -12,6 +12,9 @@ use Rattle.std.proofs.lemmas.Bool.{cases_Bool, cases_eq, cases_lt, both_ways, fa
 use Rattle.std.proofs.lemmas.Bool.Decides.{nat_tests}
 use Rattle.std.proofs.lemmas.Nat.{div-add-mod'}
 use Rattle.std.proofs.Math.Nat.{mul-mod_left}
+use Rattle.std.proofs.lemmas.List.FromFn.{length-range_with_len}
+use Rattle.sd_base.proofs.Lists.{any_there}
+use Rattle.sd_base.proofs.Ranges.{none_found}
 use Rattle.sd_card.specs.Fields.{card_of}
 use Rattle.sd_emm.specs.Form.{sections_for}
 use Rattle.sd_emm.specs.Period.{emms_of, emm_at}
@@ -24,9 +27,9 @@ use Rattle.sd_spec_broadcast.specs.Refused.{IsClear}
 use Rattle.sd_spec_broadcast.specs.Sent.{Item, Cat, Entitles, Controls, tables_at, tables_before, sent, closing_of}
 use Rattle.sd_spec_broadcast.proofs.Items.{all_are_of_broadcast}
 use Rattle.sd_spec_broadcast.proofs.Schedule.{period_begins, periods_rise}
+use Rattle.sd_spec_broadcast.proofs.Periods.{section_number}
 use Rattle.sd_law_broadcast.specs.Packets.{AreWholePackets}
 use Rattle.sd_law_broadcast.proofs.Fitting.{period_count}
-use Rattle.sd_law_heard.proofs.Keyed.{period_due}
 use Rattle.sd_spec_receiver.specs.Ending.{ending_with}
 use Rattle.sd_spec_receiver.specs.declared.ending.Ending.TheVariants.{NoCat, Unclosed}
 use Rattle.sd_law_losses.specs.Kept.{is_cat_item, after_cat, has_arrived, arrived, entitles, is_section_item}
@@ -40,10 +43,10 @@ use Rattle.sd_law_losses.proofs.Tests.{all_range}
 use Rattle.sd_law_losses.proofs.Setting.{Setting, AreLaws, final, told_by}
 use Rattle.sd_law_losses.proofs.Untuned.{sections_at, tail_at, due_rest}
 use Rattle.sd_law_losses.proofs.Remaining.{group_at, rest_at, rest_more, rest_none, closing_items}
-use Rattle.sd_law_losses.proofs.Entitled.{any_there, any_of_map, period_above, none_before, entitled_ones}
+use Rattle.sd_law_losses.proofs.Entitled.{any_of_map, period_above, none_before, entitled_ones}
 use Rattle.sd_law_losses.proofs.Standing.{pre_at, sent_split, any_first, any_second, all_arrived}
 use Rattle.sd_law_losses.proofs.AllOpened.{sections_entitle, all_are_opened}
-use Rattle.sd_law_losses.proofs.Finished.{none_found, periods_found}
+use Rattle.sd_law_losses.proofs.Finished.{periods_found}
 use Rattle.sd_law_losses.proofs.Lawful.{setting, laws_hold}
 
 -- tests that agree on a range of periods find the same there
@@ -61,10 +64,6 @@ filter_all f s zero all = refl
 filter_all f s (suc n) all =
     rw (all s (omega arith) (omega arith)) (ap (λ (xs : List ℕ). s ∷ xs)
     (filter_all f (s + 1) n (λ a low high. all a (omega (arith, low)) (omega (arith, high)))))
-
-range_long : (s n : ℕ) → length (range_with_len s n) ≡ n
-range_long s zero = refl
-range_long s (suc n) = ap suc (range_long (s + 1) n)
 
 -- a period's own sections have all its indexes
 section_there : (plan : Plan) (q x : ℕ) → x < sections_for (length (sets_at plan q)) →
@@ -90,7 +89,7 @@ section_there plan q x within =
     )
 
     number : (emm.period == q) ≡ true
-    number = grind (arith, nat_tests, period_due plan q emm there)
+    number = grind (arith, nat_tests, section_number plan q emm there)
 
     index : (emm.index == x) ≡ true
     index = grind (arith, nat_tests, index_is (period_at plan q) x emm (stands_at (period_at plan q) x inside))
@@ -237,7 +236,7 @@ module _ (plan : Plan) (clear : List (List ℕ)) (u : ℕ) (is : IsPlan plan) (a
         (λ j low high. ap not (none_found (is_revoked_in plan u) plan.site.first_period
         (period_of plan (length clear - 1) + 1 - plan.site.first_period) (period_of plan j) none (period_above plan j)
         (omega (arith, period_above plan j, periods_rise plan j (length clear - 1) is.site (omega (arith, high)))))))
-        ∙ range_long 0 (length clear))
+        ∙ length-range_with_len 0 (length clear))
 
     closed_whole : closed_told plan u clear kept (length (opened_by plan u clear)) ≡ whole_ending
         (first_revoked plan u clear)

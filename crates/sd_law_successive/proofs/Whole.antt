@@ -5,11 +5,11 @@ use Rattle.std.specs.Prelude.{All}
 use Rattle.std.proofs.lemmas.List.Elements.{All-nil, All-cons, All-head, All-tail}
 use Rattle.sd_card.specs.Fields.{card_of}
 use Rattle.sd_spec_broadcast.specs.Sent.{Item, Cat, sent, closing_of, broadcast}
+use Rattle.sd_spec_broadcast.proofs.Bodies.{packets_many}
 use Rattle.sd_spec_receiver.specs.Offered.{out_from, break_from}
 use Rattle.sd_spec_receiver.specs.Taken.{taken_keys}
 use Rattle.sd_law_losses.specs.Chosen.{chosen}
 use Rattle.sd_law_losses.specs.Confirmed.{confirmed, opened_by}
-use Rattle.sd_law_losses.proofs.Losses.{packets_long}
 use Rattle.sd_law_losses.proofs.Opened.{confirmed_are_opened}
 use Rattle.sd_law_losses.proofs.AllOpened.{all_are_opened}
 use Rattle.sd_law_losses.proofs.WholeEnding.{keys_whole}
@@ -102,7 +102,7 @@ whole_packets : (run : Arrival) →
     chosen (all_true (items_of run)) (broadcast run.plan run.clear) ≡ broadcast run.plan run.clear
 unfolding broadcast
 whole_packets run =
-    all_chosen (items_of run) (broadcast run.plan run.clear) (sym (packets_long run.plan.site [] (items_of run)))
+    all_chosen (items_of run) (broadcast run.plan run.clear) (sym (packets_many run.plan.site [] (items_of run)))
 
 pub whole_stream : (runs : List Arrival) → arriving (wholes runs) ≡ all_sent runs
 whole_stream [] = refl

@@ -23,11 +23,12 @@ use Rattle.sd_steiner.proofs.Heights.{of_height}
 use Rattle.sd_steiner.proofs.Lists.{length_sum, member_cases, member_first, member_later, no_member}
 use Rattle.sd_steiner.proofs.Names.{one_cover}
 use Rattle.sd_steiner.proofs.There.{the_cover}
+use Rattle.sd_steiner.proofs.Sorting.{sorted_ascends}
 use Rattle.sd_lsd_sets.specs.Layers.{is_useful, layer_node, split_of}
 use Rattle.sd_lsd_sets.specs.Cover.{IsLayerCover, IsDoubleSmall, layer_cover_of}
 use Rattle.sd_lsd_sets.proofs.Parts.{IsPart, cut_at, parts_are_useful}
 use Rattle.sd_lsd_sets.proofs.Doubling.{split_counted, split_doubled}
-use Rattle.sd_lsd_sets.proofs.Order.{same_order, sorted_ascends, in_order_moved, in_order_ascends}
+use Rattle.sd_lsd_sets.proofs.Order.{same_order, in_order_moved, in_order_ascends}
 use Rattle.sd_lsd_sets.proofs.Once.{once_by_leaves}
 
 -- a part of some sets is a part of one of them

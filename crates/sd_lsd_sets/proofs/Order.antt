@@ -1,16 +1,15 @@
 -- The order of names, and ascending lists of them.
-use Rattle.std.proofs.Common.{◌≡◌, ◌≢◌, ℕ, suc, inl, inr, ◌⊎◌, Bool, true, false, List, [], ◌∷◌, get_or, arith}
+use Rattle.std.proofs.Common.{◌≡◌, ◌≢◌, ℕ, suc, inl, inr, ◌⊎◌, Bool, true, false, List, [], ◌∷◌, arith}
 use Rattle.std.proofs.Common.{refl, sym, subst, ap, ◌∙◌, cond}
 use Rattle.std.specs.Prelude.{Contains, All, AllPairs}
 use Rattle.std.specs.Ordering.{nat_cmp, is_lt, on, then_cmp, ordering_reverse}
 use Rattle.std.specs.Cmp.{IsTotalOrder}
 use Rattle.std.specs.FinMap.{nat_cmp-IsAntisymmetric}
-use Rattle.std.specs.List.Sorted.{IsSorted, IsPermutation}
+use Rattle.std.specs.List.Sorted.{IsPermutation}
 use Rattle.std.specs.declared.cmp.Ordering.{Ordering}
 use Rattle.std.specs.declared.cmp.Ordering.TheVariants.{Less, Equal, Greater}
-use Rattle.std.proofs.lemmas.Cmp.{nat_cmp_total, then_total, on_total, tied_itself}
-use Rattle.std.proofs.lemmas.List.MinMax.{ranks_by}
-use Rattle.std.proofs.lemmas.List.Sorted.{sorted_far, All-permutation, Contains-permutation, IsPermutation-sym}
+use Rattle.std.proofs.lemmas.Cmp.{nat_cmp_total, then_total, on_total}
+use Rattle.std.proofs.lemmas.List.Sorted.{All-permutation, Contains-permutation, IsPermutation-sym}
 use Rattle.std.proofs.lemmas.List.Sorted.{IsPermutation-trans, IsPermutation-refl, IsPermutation-cons}
 use Rattle.std.proofs.lemmas.List.Sorted.{IsPermutation-insert}
 use Rattle.std.proofs.lemmas.List.Elements.{All-nil, All-cons, All-weaker}
@@ -18,8 +17,8 @@ use Rattle.std.proofs.lemmas.List.Kept.{AllPairs-cons}
 use Rattle.sd_tree.specs.SetNames.{set_cmp, AreAscending}
 use Rattle.sd_tree.specs.declared.set.SetName.{SetName}
 use Rattle.sd_tree.specs.declared.set.SetName.TheVariants.{Whole, Diff}
-use Rattle.sd_steiner.proofs.Lists.{member_cases, member_first, member_later, no_member}
-use Rattle.sd_steiner.proofs.Names.{first_before, rest_ascending}
+use Rattle.sd_steiner.proofs.Lists.{member_first, member_later}
+use Rattle.sd_steiner.proofs.Names.{rest_ascending, same_ascending}
 use Rattle.sd_lsd_sets.specs.Cover.{with_name, in_order}
 
 -- ---- the order
@@ -71,13 +70,6 @@ tied_same (Diff i j) (Diff k l) e = same_pair (nat_cmp i k) refl e
         rw (first, second) refl
     same_pair Greater p e = absurd (let after = rw p at e in cc)
 
--- no name stands before one that stands before it
-not_both : (a b : SetName) → set_cmp a b ≡ Less → set_cmp b a ≡ Less → ⊥
-not_both a b p q =
-    let itself = names_total.trans a b a p q in
-    let tied = tied_itself names_total a in
-    absurd cc
-
 -- a name that doesn't stand before another one stands after it or is it
 after_or_same : (a b : SetName) → is_lt (set_cmp b a) ≡ false → (set_cmp a b ≡ Less) ⊎ (a ≡ b)
 after_or_same a b not_before = by_case (set_cmp a b) refl
@@ -91,45 +83,6 @@ after_or_same a b not_before = by_case (set_cmp a b) refl
 
 -- ---- ascending lists
 
--- each name of b is in a
-abbrev HasAllOf : List SetName → List SetName → Type 0
-HasAllOf a b = (name : SetName) → Contains b name → Contains a name
-
--- two ascending lists with the same members begin alike
-same_first : (x y : SetName) (xs ys : List SetName) → AreAscending (x ∷ xs) → AreAscending (y ∷ ys)
-    → HasAllOf (y ∷ ys) (x ∷ xs) → HasAllOf (x ∷ xs) (y ∷ ys) → y ≡ x
-same_first x y xs ys a b all back = elim (member_cases y ys x (all x (member_first x xs))) [
-  | inl same ↦ same
-  | inr later ↦ elim (member_cases x xs y (back y (member_first y ys))) [
-    | inl same ↦ sym same
-    | inr after ↦ absurd (not_both x y (first_before x xs a y after) (first_before y ys b x later))
-  ]
-]
-
--- after a first name that both have, what one has the other has
-rest_has : (x : SetName) (xs ys : List SetName) → AreAscending (x ∷ xs) → HasAllOf (x ∷ ys) (x ∷ xs) → HasAllOf ys xs
-rest_has x xs ys a all name m = elim (member_cases x ys name (all name (member_later x xs name m))) [
-  | inl same ↦
-      let itself = subst (λ (z : SetName). set_cmp z name ≡ Less) same (first_before x xs a name m) in
-      absurd (not_both name name itself itself)
-  | inr later ↦ later
-]
-
--- two ascending lists with the same members are equal
-pub same_ascending : (a b : List SetName) → AreAscending a → AreAscending b → HasAllOf b a → HasAllOf a b → a ≡ b
-same_ascending [] [] a b all back = refl
-same_ascending [] (y ∷ ys) a b all back = absurd (no_member y (back y (member_first y ys)))
-same_ascending (x ∷ xs) [] a b all back = absurd (no_member x (all x (member_first x xs)))
-same_ascending (x ∷ xs) (y ∷ ys) a b all back =
-    let e : y ≡ x = same_first x y xs ys a b all back in
-    let b' = subst (λ (z : SetName). AreAscending (z ∷ ys)) e b in
-    let all' = subst (λ (z : SetName). HasAllOf (z ∷ ys) (x ∷ xs)) e all in
-    let back' = subst (λ (z : SetName). HasAllOf (x ∷ xs) (z ∷ ys)) e back in
-    let rest =
-    same_ascending xs ys (rest_ascending x xs a) (rest_ascending x ys b') (rest_has x xs ys a all')
-    (rest_has x ys xs b' back') in
-    cc
-
 -- so ascending orders of one list are
 pub same_order : (names a b : List SetName) → AreAscending a → AreAscending b → IsPermutation names a
     → IsPermutation names b → a ≡ b
@@ -139,17 +92,6 @@ same_order names a b up_a up_b of_a of_b =
     (Contains-permutation a names name (IsPermutation-sym names a of_a) m))
     (λ name m. Contains-permutation names a name of_a
     (Contains-permutation b names name (IsPermutation-sym names b of_b) m))
-
--- a sorted list in which no name stands twice ascends
-pub sorted_ascends : (names : List SetName) → IsSorted set_cmp names → AllPairs (λ a b. a ≢ b) names
-    → AreAscending names
-sorted_ascends names up once i j d below within =
-    elim (after_or_same (get_or names i d) (get_or names j d)
-    (sorted_far (λ a b. is_lt (set_cmp a b)) (ranks_by names_total (λ (a : SetName). a)) names up i j d (omega arith)
-    within)) [
-      | inl less ↦ less
-      | inr same ↦ absurd (once i j d below within same)
-    ]
 
 -- ---- a list in order
 

@@ -1,5 +1,5 @@
 -- Lists in which each stands after all before it, by their neighbours, and by a test of each two.
-use Rattle.std.proofs.Common.{◌≡◌, inl, inr, ℕ, suc, ◌+◌, ◌-◌, ◌<◌, ◌≤◌, List, [], ◌∷◌, length, take, get_or}
+use Rattle.std.proofs.Common.{◌≡◌, inl, inr, ℕ, ◌+◌, ◌-◌, ◌<◌, ◌≤◌, List, [], ◌∷◌, length, take, get_or}
 use Rattle.std.proofs.Common.{get_or-take, length-take-le, arith, refl}
 use Rattle.std.specs.Prelude.{Bool, ◌&&◌, All, AllPairs}
 use Rattle.std.specs.Bool.{Decides}
@@ -8,6 +8,7 @@ use Rattle.std.proofs.lemmas.Bool.{cases_lt}
 use Rattle.std.proofs.lemmas.Bool.Decides.{Decides-and, Decides-by_and, Decides-like}
 use Rattle.std.proofs.lemmas.List.{get_or_default, length-take, take_all}
 use Rattle.std.proofs.lemmas.List.Kept.{AllPairs-cons}
+use Rattle.sd_base.proofs.Lists.{pair_parts}
 use Rattle.sd_message.specs.Items.{all_pairs}
 
 -- one that stands after another stands after all before that
@@ -52,14 +53,6 @@ pub all_ascend : {A : Type 0} (R : A → A → Type 0) (xs : List A) (k : ℕ) �
     AllPairs R xs
 all_ascend R xs k past up = rw (take_all k xs past) at up
 
--- the first stands so to all after it, and those to one another
-parts_of_pairs : {A : Type 0} (R : A → A → Type 0) (x : A) (xs : List A) → AllPairs R (x ∷ xs) → All (R x) xs
-    × AllPairs R xs
-parts_of_pairs R x xs up = (
-  λ k d below. up 0 (suc k) d (omega arith) (omega arith),
-  λ i j d before within. up (suc i) (suc j) d (omega arith) (omega arith),
-)
-
 -- the test of each two tells whether they do
 pub tells_pairs : {A : Type 0} (stands : A → A → Bool) (R : A → A → Type 0) →
     ((a b : A) → Decides (stands a b) (R a b)) →
@@ -71,4 +64,4 @@ tells_pairs {A = A} stands R each (x ∷ xs) =
     Decides-by_and (stands x) (R x) (list_all (stands x)) (each x) refl (λ _ _. refl) xs in
     let rest = tells_pairs stands R each xs in
     Decides-like (list_all (stands x) xs && all_pairs stands xs) (λ both. AllPairs-cons R x xs both.0 both.1)
-    (parts_of_pairs R x xs) (Decides-and (list_all (stands x) xs) (all_pairs stands xs) first rest)
+    (pair_parts R x xs) (Decides-and (list_all (stands x) xs) (all_pairs stands xs) first rest)

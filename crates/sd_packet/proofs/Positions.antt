@@ -1,13 +1,14 @@
 -- How positions rise.
-use Rattle.std.proofs.Common.{ℕ, ◌+◌, ◌-◌, ◌*◌, ◌%◌, ◌<◌, ◌≤◌, ◌≡◌, Bool, true, false, List, [], ◌∷◌, ◌++◌, length}
-use Rattle.std.proofs.Common.{get_or, take, refl, ap, ◌∙◌, inl, inr, arith}
+use Rattle.std.proofs.Common.{ℕ, ◌+◌, ◌-◌, ◌*◌, ◌%◌, ◌<◌, ◌≤◌, ◌≡◌, ◌==◌, Bool, true, false, List, [], ◌∷◌, ◌++◌}
+use Rattle.std.proofs.Common.{length, get_or, take, refl, ap, ◌∙◌, inl, inr, arith}
 use Rattle.std.specs.Prelude.{if◌then◌else◌, ◌↔◌}
 use Rattle.std.specs.List.{list_any}
-use Rattle.std.proofs.lemmas.Bool.{cases_Bool, cases_lt}
+use Rattle.std.proofs.lemmas.Bool.{cases_Bool, cases_lt, eq-eqb, and_parts}
 use Rattle.std.proofs.lemmas.List.{take_more}
 use Rattle.sd_bits.proofs.Fields.{field_below}
-use Rattle.sd_packet.specs.Header.{counter_of}
+use Rattle.sd_packet.specs.Header.{counter_of, pid_of, has_payload}
 use Rattle.sd_packet.specs.Positions.{advanced, IsNext, is_moving, moved, moved_by, position_of}
+use Rattle.sd_packet.specs.Positions.{is_positional, is_placed}
 
 -- a position rises by 1 to 16, to a number that equals the counter mod 16
 pub advanced_is_next : (position counter : ℕ) → counter < 16 → IsNext position counter (advanced position counter)
@@ -134,3 +135,9 @@ none_moves pid position (p ∷ ps) none = elim (cases_Bool (is_moving pid p)) [
 pub unmoved_is_none : (pid position : ℕ) (ps : List (List ℕ)) →
     (moved_by pid position ps ≡ position) ↔ (list_any (is_moving pid) ps ≡ false)
 unmoved_is_none pid position ps = (unmoved_by pid position ps, none_moves pid position ps)
+
+-- a placed packet moves its own PID
+pub own_moves : (packet : List ℕ) → is_placed packet ≡ true → is_moving (pid_of packet) packet ≡ true
+own_moves packet placed =
+    let same : (pid_of packet == pid_of packet) ≡ true = eq-eqb (pid_of packet) (pid_of packet) refl in
+    rw same (and_parts (is_positional (pid_of packet)) (has_payload packet) placed).1

@@ -6,3 +6,4 @@ pub mod Rooms
 pub mod Failings
 pub mod Prefixes
 pub mod Faults
+pub mod Starts

@@ -1,6 +1,6 @@
 -- What stands in a file once its port is closed.
-use Rattle.std.proofs.Common.{rules, ◌≡◌, ◌≤◌, ◌++◌, ℕ, List, [], Bool, true, false, cond, refl, ap, sym, subst, inr}
-use Rattle.std.proofs.Common.{◌∙◌, append-nil, append_assoc, take, drop}
+use Rattle.std.proofs.Common.{rules, ◌≡◌, ◌≤◌, ℕ, List, [], Bool, true, false, cond, refl, ap, sym, subst, inr}
+use Rattle.std.proofs.Common.{◌∙◌, append-nil, take, drop}
 use Rattle.std.proofs.lemmas.List.{take-append-drop}
 use Rattle.std.specs.Prelude.{Option, None, Some, IsSome, Ok, Err}
 use Rattle.std.specs.Ordering.{nat_cmp, eq_by_cmp}
@@ -11,6 +11,7 @@ use Rattle.std.proofs.lemmas.Cmp.{nat_list_cmp_total, eq_by_cmp_equiv}
 use Rattle.sd_ports.specs.Bytes.{IsPrefix, AppendsPrefix}
 use Rattle.sd_ports.specs.Files.{Files, ClosesFile, LeavesPrefix, IsFresh, IsThere, WritesFile, with_bytes}
 use Rattle.sd_ports.specs.declared.file.FileFault.TheVariants.{Failed}
+use Rattle.sd_ports.proofs.Starts.{prefix_of_prefix}
 use Rattle.sd_base.specs.Count.{with_added}
 
 -- of two choices by the same test the second is idle
@@ -55,10 +56,6 @@ pub closes_prefix : (b c : Option Files) (name : List ℕ) (k : Option (List ℕ
 closes_prefix None c name k p = p
 closes_prefix (Some m) c name None p = p
 closes_prefix (Some m) c name (Some y) p = (y, ([], append-nil y), p)
-
--- a prefix of a prefix is a prefix
-prefix_of_prefix : (a b c : List ℕ) → IsPrefix a b → IsPrefix b c → IsPrefix a c
-prefix_of_prefix a b c p q = (p.0 ++ q.0, sym (append_assoc a p.0 q.0) ∙ ap (λ (r : List ℕ). r ++ q.0) p.1 ∙ q.1)
 
 -- a prefix of what a port of told files took is what its file has
 told_short : (m : Files) (c : Option Files) (name bytes : List ℕ) (k : Option (List ℕ))

@@ -1,12 +1,11 @@
 -- Items as a grammar: they spell the bytes into which they are cut, and in one way.
-use Rattle.std.proofs.Common.{ℕ, zero, suc, ◌+◌, ◌*◌, ◌%◌, ◌≤◌, ◌≡◌, true, false, List, [], ◌∷◌, ◌++◌, length, take}
+use Rattle.std.proofs.Common.{ℕ, zero, suc, ◌+◌, ◌%◌, ◌≤◌, ◌≡◌, true, false, List, [], ◌∷◌, ◌++◌, length, take}
 use Rattle.std.proofs.Common.{drop, length-drop, length-append, take-append-drop, le_refl, inl, inr, refl, sym, ap, ◌∙◌}
 use Rattle.std.proofs.Common.{arith}
 use Rattle.std.specs.List.{list_all}
 use Rattle.std.proofs.lemmas.List.{take_at, drop_at}
 use Rattle.std.proofs.lemmas.Bool.{and_parts, eqb-true, cases_lt}
-use Rattle.sd_bits.specs.Bits.{field}
-use Rattle.sd_section.proofs.Judging.{field_take}
+use Rattle.sd_section.proofs.Cutting.{field_append}
 use Rattle.sd_psi.specs.declared.items.Kind.{Kind}
 use Rattle.sd_psi.specs.declared.items.Kind.TheVariants.{Program, Descriptor, Stream}
 use Rattle.sd_psi.specs.Items.{size_of, cut, items_of, is_whole_item, are_whole, joined}
@@ -28,19 +27,12 @@ pub items_spell : (kind : Kind) (bytes : List ℕ) → joined (items_of kind byt
 unfolding items_of
 items_spell kind bytes = cut_spells kind (length bytes) bytes (le_refl (length bytes))
 
--- what stands after an item doesn't change how long it says that it is
-pub head_field : (item rest : List ℕ) (at width : ℕ) → at + width ≤ 8 * length item → field (item ++ rest) at width
-    ≡ field item at width
-head_field item rest at width h =
-    sym (field_take (item ++ rest) (length item) at width h) ∙ ap (λ (l : List ℕ). field l at width)
-    (take_at item rest (length item) refl)
-
 size_before : (kind : Kind) (item rest : List ℕ) → length item ≡ size_of kind item → size_of kind (item ++ rest)
     ≡ length item
 unfolding size_of
 size_before Program item rest h = sym h
-size_before Descriptor item rest h = ap (λ (n : ℕ). 2 + n) (head_field item rest 8 8 (omega arith)) ∙ sym h
-size_before Stream item rest h = ap (λ (n : ℕ). 5 + n) (head_field item rest 28 12 (omega arith)) ∙ sym h
+size_before Descriptor item rest h = ap (λ (n : ℕ). 2 + n) (field_append item rest 8 8 (omega arith)) ∙ sym h
+size_before Stream item rest h = ap (λ (n : ℕ). 5 + n) (field_append item rest 28 12 (omega arith)) ∙ sym h
 
 -- so whole items are those of their bytes
 pub spelled_items : (kind : Kind) (items : List (List ℕ)) → list_all (is_whole_item kind) items ≡ true →

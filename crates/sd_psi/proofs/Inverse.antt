@@ -13,6 +13,7 @@ use Rattle.sd_section.proofs.Judging.{field_take}
 use Rattle.sd_section.specs.Header.{table_id_of, syntax_of, section_length_of, section_number_of, last_number_of}
 use Rattle.sd_section.specs.Header.{whole_of}
 use Rattle.sd_section.specs.Header.{body_of, crc_in, crc_due}
+use Rattle.sd_section.proofs.Cutting.{field_append}
 use Rattle.sd_psi.specs.declared.fault.FormFault.{FormFault}
 use Rattle.sd_psi.specs.declared.fault.FormFault.TheVariants as Fault
 use Rattle.sd_psi.specs.declared.form.Table.TheVariants.{Pmt}
@@ -22,12 +23,12 @@ use Rattle.sd_psi.specs.Forms.{has_body, has_length, table_crc_fault, is_stuffin
 use Rattle.sd_psi.specs.Rewriting.{ca_descriptor, inserted, removed, before_section, rewritten, restored, loops_fault}
 use Rattle.sd_psi.specs.Rewriting.{has_room, is_first, rewrite_fault, removal_fault}
 use Rattle.sd_psi.specs.Undone.{IsPacket}
-use Rattle.sd_psi.proofs.Grammar.{head_field}
 use Rattle.sd_psi.proofs.Judging.{body_long}
 use Rattle.sd_psi.proofs.Listing.{pmt_has, pmt_info}
 use Rattle.sd_psi.proofs.Heads.{bytes_after, bytes_before}
 use Rattle.sd_psi.proofs.Shapes.{IsShaped, shaped_has, IsInserted, inserted_shape, IsSix, first_six, removed_shape}
 use Rattle.sd_psi.proofs.Undoing.{IsRightPmt, removed_inserted, inserted_removed}
+use Rattle.sd_psi.proofs.Shapes.{six_long}
 
 -- where a payload starts is read from the first five bytes
 pub same_start : (p q : List ℕ) (n : ℕ) → 5 ≤ n → take n p ≡ take n q → payload_start_of p ≡ payload_start_of q
@@ -64,7 +65,7 @@ module _ (packet : List ℕ) (is : IsPacket packet) (section rest : List ℕ)
       drop_at (before_section packet) (section ++ rest) (payload_start_of packet + 1) before_long)
 
   length_of : section_length_of (section ++ rest) ≡ section_length_of section
-  length_of = head_field section rest 12 12 (omega arith)
+  length_of = field_append section rest 12 12 (omega arith)
 
   pub section_of : section_in (before_section packet ++ (section ++ rest)) ≡ section
   section_of =
@@ -196,10 +197,6 @@ may_rewrite packet is h =
       form = form;
     }
 
-six : (ca pid : ℕ) → length (ca_descriptor ca pid) ≡ 6
-unfolding ca_descriptor
-six ca pid = refl
-
 -- a packet that is good stays so with another section of its shape
 pointer_kept : (packet : List ℕ) (is : IsPacket packet) (section rest : List ℕ) → length section ≡ 3 + section_length_of
     section → 12 ≤ length section →
@@ -249,7 +246,7 @@ table_kept packet section rest good is_right shape =
     let kept : (at width : ℕ) → at + width ≤ 96 → field (section_in packet) at width ≡ field after at width =
     λ at width h. field_take after n at width (omega (arith, is_right.info)) in
     let before : (at width : ℕ) → at + width ≤ 96 → field (section ++ rest) at width ≡ field section at width =
-    λ at width h. head_field section rest at width (omega (arith, shape.low)) in
+    λ at width h. field_append section rest at width (omega (arith, shape.low)) in
     let ids = and_parts (nat_le 2 (length after))
     ((table_id_of after == 2) &&
     ((syntax_of after == 1) && ((section_number_of after == 0) && (last_number_of after == 0)))) good.table in
@@ -274,7 +271,7 @@ lengths_kept : (old section rest : List ℕ) → IsShaped old section → has_le
 unfolding has_body
 lengths_kept old section rest shape =
     let all = length-append section rest in
-    let lengths : section_length_of (section ++ rest) ≡ section_length_of section = head_field section rest 12 12
+    let lengths : section_length_of (section ++ rest) ≡ section_length_of section = field_append section rest 12 12
     (omega (arith, shape.low)) in
     let whole : whole_of (section ++ rest) ≡ section = take_at section rest (3 + section_length_of (section ++ rest))
     (shape.long ∙ omega arith) in
@@ -292,7 +289,7 @@ outer_kept packet is section rest good is_right shape stuffing =
     let some : 12 ≤ length section = omega (arith, shape.low) in
     let after : after_pointer (before_section packet ++ (section ++ rest)) ≡ section ++ rest = after_of packet is
     section rest shape.long some in
-    let lengths : section_length_of (section ++ rest) ≡ section_length_of section = head_field section rest 12 12
+    let lengths : section_length_of (section ++ rest) ≡ section_length_of section = field_append section rest 12 12
     (omega arith) in
     let count : length section ≡ 3 + section_length_of (section ++ rest) = shape.long ∙ omega arith in
     let whole : whole_of (section ++ rest) ≡ section = take_at section rest (3 + section_length_of (section ++ rest))
@@ -369,7 +366,7 @@ restored_again ca pid packet is h =
     ∙ (ap (λ (l : List ℕ). before_section packet ++ (removed section ++ (replicate 6 255 ++ l)))
     (rest_of packet is section rest new.shape.long some)
     ∙ (ap (λ (l : List ℕ). before_section packet ++ (l ++ (replicate 6 255 ++ rest)))
-    (removed_inserted (section_in packet) may.is_right (ca_descriptor ca pid) (six ca pid))
+    (removed_inserted (section_in packet) may.is_right (ca_descriptor ca pid) (six_long ca pid))
     ∙ (ap (λ (l : List ℕ). before_section packet ++ (section_in packet ++ l))
     (stuffed 6 (after_section packet) may.room may.good.stuffing) ∙ packet_parts packet))))
 
@@ -399,7 +396,7 @@ may_restore descriptor packet is h =
 ours_six : (ca pid : ℕ) (packet : List ℕ) → MayRestore (ca_descriptor ca pid) packet →
     IsSix (ca_descriptor ca pid) (section_in packet)
 ours_six ca pid packet may =
-    first_six (ca_descriptor ca pid) (section_in packet) may.is_right may.first (six ca pid)
+    first_six (ca_descriptor ca pid) (section_in packet) may.is_right may.first (six_long ca pid)
     (pmt_info (section_in packet) may.form)
 
 -- a packet that was restored may be rewritten, and is then as it was

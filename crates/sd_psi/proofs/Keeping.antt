@@ -7,6 +7,7 @@ use Rattle.sd_bits.specs.Bits.{field}
 use Rattle.sd_packet.specs.Header.{payload_start_of}
 use Rattle.sd_packet.proofs.Packets.{start_within}
 use Rattle.sd_section.proofs.Judging.{field_take}
+use Rattle.sd_section.proofs.Cutting.{field_append}
 use Rattle.sd_psi.specs.declared.fault.FormFault.{FormFault}
 use Rattle.sd_psi.specs.declared.fault.FormFault.TheVariants as Fault
 use Rattle.sd_psi.specs.declared.form.Table.TheVariants.{Pmt}
@@ -14,7 +15,6 @@ use Rattle.sd_psi.specs.Forms.{fault_unless, or_next, section_in, after_section,
 use Rattle.sd_psi.specs.Rewriting.{ca_descriptor, inserted, removed, before_section, rewritten, restored, loops_fault}
 use Rattle.sd_psi.specs.Rewriting.{has_room, is_first, rewrite_fault, removal_fault, restore_fault}
 use Rattle.sd_psi.specs.Undone.{IsPacket, KeepsHeader}
-use Rattle.sd_psi.proofs.Grammar.{head_field}
 use Rattle.sd_psi.proofs.Inverse.{same_start, none_parts}
 
 -- a packet with other bytes from its section on has its header
@@ -25,7 +25,7 @@ module _ (packet rest : List ℕ) (long : length packet ≡ 188) (some : payload
   field_stays : (at width : ℕ) → at + width ≤ 32 → field (before_section packet ++ rest) at width ≡ field packet at
       width
   field_stays at width h =
-      head_field (before_section packet) rest at width (omega (arith, head_long, (start_within packet).0, h))
+      field_append (before_section packet) rest at width (omega (arith, head_long, (start_within packet).0, h))
       ∙ field_take packet (payload_start_of packet + 1) at width (omega (arith, (start_within packet).0, h))
 
   start_stays : payload_start_of (before_section packet ++ rest) ≡ payload_start_of packet

@@ -4,7 +4,7 @@ use Rattle.std.proofs.Common.{drop, map, length-drop, length-take-le, eq-eqb, re
 use Rattle.std.specs.Prelude.{◌≢◌}
 use Rattle.std.specs.List.{list_all}
 use Rattle.std.proofs.lemmas.List.{drop-take, drop-drop}
-use Rattle.std.proofs.lemmas.Bool.{and_parts, eqb-true, ne_eqb}
+use Rattle.std.proofs.lemmas.Bool.{and_parts, eqb-true, ne_eqb, false_from_ne_true}
 use Rattle.sd_bits.specs.Bits.{field}
 use Rattle.sd_section.specs.Header.{table_id_of, body_of}
 use Rattle.sd_psi.specs.declared.items.Kind.TheVariants.{Program, Descriptor, Stream}
@@ -77,12 +77,8 @@ pmt_parts section h =
     let third = and_parts (are_descriptors (info_of section)) (are_streams (loop_of section)) second.1 in
     record { id = eqb-true (table_id_of section) 2 first.0; has = second.0; info = third.0; streams = third.1 }
 
-isnt : (test : Bool) → (test ≡ true → ⊥) → test ≡ false
-isnt true h = absurd (h refl)
-isnt false h = refl
-
 pub no_pmt : (section : List ℕ) → (IsPmt section → ⊥) → is_pmt section ≡ false
-no_pmt section h = isnt (is_pmt section) (λ is. h (pmt_parts section is))
+no_pmt section h = false_from_ne_true (is_pmt section) (λ is. h (pmt_parts section is))
 
 -- a stream has five bytes before its descriptors
 pub stream_head : (bytes : List ℕ) → 5 ≤ size_of Stream bytes
@@ -184,7 +180,7 @@ pub streams_off : (bytes : List ℕ) (at : ℕ) → at < length bytes → length
     (take (length bytes - at) (drop at bytes)) →
     are_streams (drop at bytes) ≡ false
 streams_off bytes at within off =
-    isnt (are_streams (drop at bytes))
+    false_from_ne_true (are_streams (drop at bytes))
     (λ is. untrue (are_whole Stream (drop at bytes)) (streams_whole (drop at bytes) is)
     (off_after Stream bytes at within off))
 

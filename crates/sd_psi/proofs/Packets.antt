@@ -7,6 +7,7 @@ use Rattle.std.proofs.lemmas.List.{drop-drop, take-take}
 use Rattle.std.proofs.lemmas.Slice.Eq.{bytes_eq-Decides}
 use Rattle.std.proofs.lemmas.Bool.{and_parts, leb-true, le-leb, cases_lt}
 use borrow.Rule.Slice.PartMut.{put_mid}
+use Rattle.sd_base.proofs.Numbers.{above_fails}
 use Rattle.sd_packet.specs.Header.{payload_start_of, payload_of}
 use Rattle.sd_section.proofs.Judging.{field_take}
 use Rattle.sd_section.specs.Header.{section_length_of, whole_of, body_of}
@@ -77,16 +78,12 @@ room_is packet section is long =
       length-drop 1 (payload_of packet),
     )
 
-past : (a b : ℕ) (test : Bool) → nat_le a b ≡ test → b < a → test ≡ false
-past a b false e h = refl
-past a b true e h = absurd (omega (arith, leb-true a b e))
-
 pub rewrite_room : (packet section : List ℕ) → outer_fault Pmt packet ≡ None → section ≡ section_in packet →
     length section ≡ 3 + section_length_of (after_pointer packet) →
     length (payload_of packet) < 1 + length section + 6 → rewrite_fault packet ≡ Some Fault.NoRoom
 unfolding rewrite_fault
 rewrite_room packet section h is long over =
-    let room : has_room packet ≡ false = past 6 (length (after_section packet)) _ refl
+    let room : has_room packet ≡ false = above_fails 6 (length (after_section packet)) _ refl
     (omega (arith, room_is packet section is long)) in
     rw (h, room) refl
 

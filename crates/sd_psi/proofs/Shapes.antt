@@ -129,7 +129,7 @@ six_bytes ca pid rest = omega (
       (omega arith),
 )
 
-six_long : (ca pid : ℕ) → length (ca_descriptor ca pid) ≡ 6
+pub six_long : (ca pid : ℕ) → length (ca_descriptor ca pid) ≡ 6
 unfolding ca_descriptor
 six_long ca pid = refl
 

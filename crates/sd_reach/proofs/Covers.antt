@@ -1,12 +1,13 @@
 -- A chain cover and what the names of revoked leaves reach.
 use Rattle.std.proofs.Common.{ℕ, ◌*◌, ◌/◌, ◌^◌, ◌<◌, ◌≤◌, ◌≡◌, Bool, true, false, nat_eq, List, [], ◌∷◌, cond, count_by}
-use Rattle.std.proofs.Common.{eq-eqb, ⊎_elim, refl, subst, inl, inr, arith}
+use Rattle.std.proofs.Common.{⊎_elim, refl, subst, inl, inr, arith}
 use Rattle.std.specs.Prelude.{◌↔◌, Contains, All, Any}
 use Rattle.std.specs.List.{flat_map, list_any}
 use Rattle.std.proofs.lemmas.Bool.{cases_Bool, false_from_ne_true}
 use Rattle.std.proofs.lemmas.List.Sums.{sum_by-cons}
 use Rattle.std.proofs.lemmas.List.Elements.{All-contains}
-use Rattle.std.proofs.lemmas.List.Folds.{list_any_at, Any-from_list_any}
+use Rattle.std.proofs.lemmas.List.Folds.{Any-from_list_any}
+use Rattle.sd_base.proofs.Lists.{is_found}
 use Rattle.sd_tree.specs.Node.{IsAbove}
 use Rattle.sd_tree.specs.Leaves.{is_member}
 use Rattle.sd_tree.specs.SetNames.{IsPair, IsOfHeight}
@@ -27,10 +28,6 @@ use Rattle.sd_steiner.proofs.Lists.{counted_some, found_member, member_cases, no
 use Rattle.sd_reach.specs.Reach.{IsReached, Named, Key, ReachesNoneOf, source_of}
 use Rattle.sd_reach.proofs.Reached.{reached_by_one}
 use Rattle.sd_reach.proofs.Own.{reaches_its_sets}
-
--- a number in a list is found by the test
-is_found : (leaves : List ℕ) (u : ℕ) → Contains leaves u → list_any (nat_eq u) leaves ≡ true
-is_found leaves u (k, within, is) = list_any_at (nat_eq u) leaves k u within (rw is (eq-eqb u u refl))
 
 -- no set of a chain cover has a revoked leaf
 none_has : (d : ℕ) (leaves : List ℕ) (sets : List SetName) (u : ℕ) → d ≤ 20 → AreLeaves d leaves

@@ -1,9 +1,10 @@
 -- The names of a leaf, as they are added one after another.
-use Rattle.std.proofs.Common.{ℕ, suc, zero, ◌+◌, ◌-◌, ◌≡◌, List, [], ◌∷◌, ◌++◌, map, refl, sym, ap, ◌∙◌, append_assoc}
-use Rattle.std.proofs.Common.{add-one, arith}
+use Rattle.std.proofs.Common.{ℕ, ◌+◌, ◌-◌, ◌≡◌, List, [], ◌∷◌, ◌++◌, map, refl, sym, ap, ◌∙◌, append_assoc}
+use Rattle.std.proofs.Common.{arith}
 use Rattle.std.specs.List.{range_with_len, flat_map}
 use Rattle.std.proofs.lemmas.List.{flat_map_more}
 use Rattle.std.proofs.lemmas.List.FromFn.{map-range_with_len_more}
+use Rattle.sd_base.proofs.Ranges.{range_more}
 use Rattle.sd_label.specs.declared.name.Name.{Name}
 use Rattle.sd_label.specs.declared.name.Name.TheVariants.{Whole, Pair}
 use Rattle.sd_label.specs.Names.{given, given_under}
@@ -30,13 +31,6 @@ pairs_all d u a n all = rw all refl
 -- what is given under a leaf's first k ancestors, after the whole set
 abbrev pub first_given : ℕ → ℕ → ℕ → List Name
 first_given d u k = Whole ∷ [] ++ flat_map (given_under d u) (range_with_len 0 k)
-
--- one number more in a row
-range_more : (a k : ℕ) → range_with_len a (k + 1) ≡ range_with_len a k ++ (a + k) ∷ []
-range_more a zero = let e : a + 0 ≡ a = omega arith in rw e refl
-range_more a (suc k) =
-    let e : a + 1 + k ≡ a + suc k = omega arith in
-    rw add-one (ap (λ (ks : List ℕ). a ∷ ks) (rw (add-one k, e) at (range_more (a + 1) k)))
 
 -- one ancestor more
 pub ancestor_more : (d u k : ℕ) → first_given d u k ++ given_under d u k ≡ first_given d u (k + 1)

@@ -6,24 +6,16 @@ use Rattle.std.specs.List.{concat}
 use Rattle.std.specs.Option.{option_map_or}
 use Rattle.std.proofs.lemmas.List.{length-reverse}
 use Rattle.std.proofs.lemmas.List.Folds.{concat-append}
+use Rattle.sd_base.proofs.Lists.{reversed, first_none, rest_none}
 use Rattle.sd_card.specs.Fields.{CardFields, fields_of}
 use Rattle.sd_card.specs.declared.card.Card.{Card}
 use Rattle.sd_engine.specs.Stage.{Chain}
 use Rattle.sd_spec_receiver.specs.declared.fault.StreamFault.{StreamFault}
 use Rattle.sd_spec_receiver.specs.Offered.{offered, out_from, break_from}
+use Rattle.sd_spec_receiver.proofs.Turns.{one_more}
 use Rattle.sd_receive.specs.Receiving.{card_in, IsAfter, takes_key_at, steps_at, taken_keys, RefusesPacket}
 use Rattle.sd_receive.specs.Receiving.{receiver_does, Refusing, OutcomeAfter, OutcomeOf, BreakAt}
 use Rattle.sd_receive.specs.declared.receiver.Receiver.{Receiver}
-use Rattle.sd_receive.proofs.Turns.{reversed, first_none, rest_none}
-
--- the first of several packets isn't refused
-out_first : (card : CardFields) (past : List (List ℕ)) (packet : List ℕ) (packets : List (List ℕ)) →
-    (offered card past packet).fault ≡ None →
-    out_from card past (packet ∷ packets) ≡ (offered card past packet).wrote ++ out_from card (packet ∷ past) packets
-unfolding out_from
-out_first card past packet packets none =
-    ap (λ (f : Option StreamFault). (offered card past packet).wrote ++
-    (if is_none f then out_from card (packet ∷ past) packets else [])) none
 
 break_first : (card : CardFields) (past : List (List ℕ)) (packet : List ℕ) (packets : List (List ℕ)) →
     (offered card past packet).fault ≡ None → break_from card past (packet ∷ packets) ≡ break_from card
@@ -81,7 +73,7 @@ came_to past (packet ∷ packets) s t bytes n after few (mid, first, rest, m, k,
     (came_to (packet ∷ past) packets mid t rest k here.after (omega (arith, few)) more) in
     record {
       written = joined ∙ (joined_out first rest (offered card past packet).wrote (out_from card (packet ∷ past) packets)
-          here.bytes_are there.written ∙ ap concat (sym (out_first card past packet packets here.fault)));
+          here.bytes_are there.written ∙ ap concat (sym (one_more card past packet packets here.fault)));
       unbroken = break_first card past packet packets here.fault ∙ there.unbroken;
       after = subst (λ (ps : List (List ℕ)). IsAfter ps t) (sym (reversed packet packets past)) there.after;
       few = subst (λ (x : ℕ). x ≤ card.height * taken_keys card past (packet ∷ packets)) (sym counted)
@@ -100,12 +92,12 @@ out_joined card past (packet ∷ packets) more none =
     let rest = rest_none (offered card past packet).fault (break_from card (packet ∷ past) packets) none in
     let there = out_joined card (packet ∷ past) packets more rest in
     let turned = reversed packet packets past in (
-      out_first card past packet (packets ++ more) good
+      one_more card past packet (packets ++ more) good
           ∙ (ap (λ (o : List (List ℕ)). (offered card past packet).wrote ++ o) there.0
           ∙ (sym (append_assoc (offered card past packet).wrote (out_from card (packet ∷ past) packets)
           (out_from card (reverse packets ++ packet ∷ past) more))
           ∙ (ap (λ (o : List (List ℕ)). o ++ out_from card (reverse packets ++ packet ∷ past) more)
-          (sym (out_first card past packet packets good))
+          (sym (one_more card past packet packets good))
           ∙ ap (λ (b : List (List ℕ)). out_from card past (packet ∷ packets) ++ out_from card b more) (sym turned)))),
       break_first card past packet (packets ++ more) good
           ∙ (there.1 ∙ ap (λ (b : List (List ℕ)). break_from card b more) (sym turned)),

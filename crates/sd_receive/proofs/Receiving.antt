@@ -7,6 +7,7 @@ use Rattle.std.specs.List.{concat}
 use Rattle.std.specs.Option.{option_or}
 use Rattle.std.proofs.lemmas.Bool.{true≢false}
 use Rattle.std.proofs.lemmas.List.{reverse-append, reverse-reverse}
+use Rattle.sd_base.proofs.Bools.{tested}
 use Rattle.sd_card.specs.declared.card.Card.{Card}
 use Rattle.sd_card.specs.Fields.{CardFields, fields_of}
 use Rattle.sd_engine.specs.Stage.{SinkState, HasGrown, IsCutShort, IsAllowed}
@@ -27,6 +28,7 @@ use Rattle.sd_spec_receiver.specs.Stretches.{is_closed}
 use Rattle.sd_spec_receiver.specs.Runs.{run_name_heard, name_in, are_two, is_turn, of_run}
 use Rattle.sd_spec_receiver.specs.Offered.{Offering, no_offering, heard, offered, heard_offering, break_from}
 use Rattle.sd_spec_receiver.specs.Ending.{run_ending, joined, turns_at, run_wrote, ended_before}
+use Rattle.sd_spec_receiver.proofs.Runs.{same_run, new_run, never_turns, ended_on, ended_now}
 use Rattle.sd_receive_filter.specs.Ears.{tuned}
 use Rattle.sd_receive_filter.specs.declared.tune.Tuning.{Tuning as Kept}
 use Rattle.sd_receive.specs.Listening.{IsListenerAfter, capped, CountsMore, TakesHeard, RefusesHeard, PacketOutcome}
@@ -34,8 +36,8 @@ use Rattle.sd_receive.specs.Receiving.{card_in, with_run, IsAfter, TurnsBy, take
 use Rattle.sd_receive.specs.Receiving.{TakesPacket, receiver_does, Refusing, IsFit}
 use Rattle.sd_receive.specs.declared.listener.Listener.{Listener}
 use Rattle.sd_receive.specs.declared.receiver.Receiver.{Receiver}
-use Rattle.sd_receive.proofs.Turns.{break_more, not_tuned, was_closed, was_heard, turns_is, never_turns, same_run}
-use Rattle.sd_receive.proofs.Turns.{new_run, tested, name_now, ended_on, ended_now, wrote_before, wrote_now}
+use Rattle.sd_receive.proofs.Turns.{break_more, not_tuned, was_closed, was_heard, turns_is}
+use Rattle.sd_receive.proofs.Turns.{name_now, wrote_before, wrote_now}
 
 -- the receiver with another count and another tuning
 abbrev pub counted : Receiver → ℕ → Option Kept → Receiver

@@ -1,10 +1,11 @@
 -- What is written and refused of packets, of one packet more, and what is heard of it.
-use Rattle.std.proofs.Common.{◌≡◌, ℕ, ◌++◌, List, [], ◌∷◌, length, append-nil, append_assoc, refl, sym, ap, ◌∙◌, true}
-use Rattle.std.proofs.Common.{false, Bool, ◌+◌}
+use Rattle.std.proofs.Common.{◌≡◌, ℕ, ◌++◌, List, [], ◌∷◌, length, append_assoc, refl, sym, ap, ◌∙◌, true}
+use Rattle.std.proofs.Common.{false, ◌+◌}
 use Rattle.std.specs.Prelude.{Option, Some, None, reverse, is_none, if◌then◌else◌}
 use Rattle.std.specs.Option.{option_map_or, option_or}
 use Rattle.std.proofs.lemmas.Bool.{false≢true}
-use Rattle.std.proofs.lemmas.List.{reverse-append}
+use Rattle.sd_base.proofs.Bools.{tested}
+use Rattle.sd_base.proofs.Lists.{reversed, last_out, first_none, rest_none}
 use Rattle.sd_card.specs.Fields.{CardFields}
 use Rattle.sd_spec_receiver.specs.declared.fault.StreamFault.{StreamFault}
 use Rattle.sd_spec_receiver.specs.Tuned.{Tuning, tuning_of}
@@ -12,31 +13,12 @@ use Rattle.sd_spec_receiver.specs.Heard.{Heard, hears}
 use Rattle.sd_spec_receiver.specs.Stretches.{is_closed}
 use Rattle.sd_spec_receiver.specs.Runs.{run_name_heard, name_or, name_in, are_two, is_turn, of_run}
 use Rattle.sd_spec_receiver.specs.Offered.{no_offering, heard, offered, heard_offering, out_from, break_from}
-use Rattle.sd_spec_receiver.specs.Ending.{run_ending, joined, turns_at, run_wrote, ended_before}
-
--- packets before others stand before them
-pub reversed : (packet : List ℕ) (packets past : List (List ℕ)) →
-    reverse (packet ∷ packets) ++ past ≡ reverse packets ++ packet ∷ past
-reversed packet packets past =
-    ap (λ (ps : List (List ℕ)). ps ++ past) (reverse-append (packet ∷ []) packets)
-    ∙ append_assoc (reverse packets) (packet ∷ []) past
-
--- the first is not refused where none is
-pub first_none : (fault rest : Option StreamFault) → option_map_or Some fault rest ≡ None → fault ≡ None
-first_none None rest is = refl
-first_none (Some f) rest is = absurd cc
-
-pub rest_none : (fault rest : Option StreamFault) → option_map_or Some fault rest ≡ None → rest ≡ None
-rest_none None rest is = is
-rest_none (Some f) rest is = absurd cc
+use Rattle.sd_spec_receiver.specs.Ending.{turns_at, run_wrote}
+use Rattle.sd_spec_receiver.proofs.Runs.{same_run}
 
 option_same : (fault : Option StreamFault) → option_map_or Some fault None ≡ fault
 option_same None = refl
 option_same (Some f) = refl
-
-last_out : (wrote : List (List ℕ)) (none : Bool) → wrote ++ (if none then [] else []) ≡ wrote
-last_out wrote true = append-nil wrote
-last_out wrote false = append-nil wrote
 
 -- what one packet more writes, and why it is refused
 pub out_more : (card : CardFields) (past packets : List (List ℕ)) (packet : List ℕ) →
@@ -101,25 +83,6 @@ pub turns_is : (card : CardFields) (past : List (List ℕ)) (packet : List ℕ) 
 unfolding turns_at
 turns_is card past packet tuning is = rw is refl
 
-pub never_turns : (card : CardFields) (past : List (List ℕ)) (packet : List ℕ) → tuning_of card.ca past ≡ None →
-    turns_at card past packet ≡ false
-unfolding turns_at
-never_turns card past packet none = rw none refl
-
--- what was heard of the run at hand
-pub same_run : (past : List Heard) (thing : Heard) → is_turn past thing ≡ false → of_run past thing ≡ past
-unfolding of_run
-same_run past thing stays = rw stays refl
-
-pub new_run : (past : List Heard) (thing : Heard) → is_turn past thing ≡ true → of_run past thing ≡ []
-unfolding of_run
-new_run past thing turns = rw turns refl
-
--- a test holds or doesn't
-pub tested : {X : Type 0} (test : Bool) → (test ≡ true → X) → (test ≡ false → X) → X
-tested true holds fails = holds refl
-tested false holds fails = fails refl
-
 or_same : (a b : Option (Option ℕ)) → option_or a b ≡ name_or a b
 or_same None b = refl
 or_same (Some a) b = refl
@@ -138,18 +101,6 @@ name_now past thing name is =
     ∙ tested (is_turn past thing)
     (λ turns. or_any (name_in past) (run_name_heard thing) (name_in past) (name_in (of_run past thing)) turns)
     (λ stays. ap (λ (p : List Heard). name_or (run_name_heard thing) (name_in p)) (sym (same_run past thing stays))))
-
--- the endings of the runs before the one at hand, and how many packets of that are written
-pub ended_on : (card : CardFields) (past : List (List ℕ)) (packet : List ℕ) → turns_at card past packet ≡ false →
-    ended_before card (packet ∷ past) ≡ ended_before card past
-unfolding ended_before
-ended_on card past packet stays = rw stays refl
-
-pub ended_now : (card : CardFields) (past : List (List ℕ)) (packet : List ℕ) → turns_at card past packet ≡ true →
-    ended_before card (packet ∷ past)
-    ≡ joined (ended_before card past) (run_ending card (heard card past) (run_wrote card past))
-unfolding ended_before
-ended_now card past packet turns = rw turns refl
 
 -- how many packets were written of the run that is at hand with a packet, before it
 abbrev pub wrote_before : CardFields → List (List ℕ) → List ℕ → ℕ

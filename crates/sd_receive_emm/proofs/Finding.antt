@@ -2,6 +2,7 @@
 use Rattle.std.proofs.Common.{◌≡◌, ℕ, ◌+◌, ◌<◌, ◌≤◌, Bool, true, false, List, length, drop, get_or, refl, ap, sym, ◌∙◌}
 use Rattle.std.specs.Prelude.{find, Some, None, option_map}
 use Rattle.std.proofs.lemmas.List.{at_drop_more, drop_all}
+use Rattle.std.proofs.lemmas.Bool.{true_from_ne_false}
 use Rattle.sd_tree.specs.Leaves.{is_member}
 use Rattle.sd_card.specs.Fields.{CardFields, card_key}
 use Rattle.sd_wrap.specs.Wrapping.{wrapped}
@@ -9,10 +10,6 @@ use Rattle.sd_emm.specs.Spelled.{listed_entries}
 use Rattle.sd_emm.specs.declared.emm.Emm.{Emm}
 use Rattle.sd_emm.specs.declared.emm.Entry.{Entry}
 use Rattle.sd_spec_receiver.specs.Keys.{key_from}
-
-not-false-true : (b : Bool) → (b ≡ false → ⊥) → b ≡ true
-not-false-true true h = refl
-not-false-true false h = absurd (h refl)
 
 abbrev pub has_leaf : ℕ → ℕ → Entry → Bool
 has_leaf h u entry = is_member h entry.name u
@@ -52,7 +49,7 @@ pub found_gives : (card : CardFields) (emm : Emm) (items : List Entry) (i n : �
     result ≡ wrapped key n (get_or items i d).wrapped → Some result ≡ key_from card emm
 found_gives card emm items i n d key result same number small rest has key_is result_is =
     let entry : Entry = get_or items i d in
-    let there : has_leaf card.height card.leaf entry ≡ true = not-false-true
+    let there : has_leaf card.height card.leaf entry ≡ true = true_from_ne_false
     (has_leaf card.height card.leaf entry) has in
     let found : find (has_leaf card.height card.leaf) (drop i items) ≡ Some entry =
     found_here card.height card.leaf i items d small there in

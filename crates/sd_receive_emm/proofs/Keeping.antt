@@ -1,16 +1,18 @@
 -- What is kept, when one thing more is heard.
-use Rattle.std.proofs.Common.{◌≡◌, ℕ, zero, suc, ◌<◌, ◌≤◌, ◌^◌, ◌==◌, ◌&&◌, ◌||◌, Bool, true, false, List, [], ◌∷◌}
+use Rattle.std.proofs.Common.{◌≡◌, ℕ, zero, suc, ◌<◌, ◌≤◌, ◌^◌, ◌==◌, ◌&&◌, Bool, true, false, List, [], ◌∷◌}
 use Rattle.std.proofs.Common.{length}
 use Rattle.std.proofs.Common.{refl, ap, ⊎_elim, subst, ◌∙◌, sym, arith, eq-eqb, get_or, append-nil}
 use Rattle.std.specs.Prelude.{nat_lt, find, filter, is_none, not, bytes_eq, Option, Some, None, slice_set, replicate}
 use Rattle.std.specs.List.{list_any}
-use Rattle.std.proofs.lemmas.List.{get_or-set_other, get_or-replicate, length-replicate, get_or_past}
+use Rattle.std.proofs.lemmas.List.{get_or-set_other}
 use Rattle.std.proofs.lemmas.Grind.{get_or-set_at}
 use Rattle.std.proofs.lemmas.Slice.Eq.{bytes_eq-Decides}
 use Rattle.std.proofs.lemmas.List.Elements.{filter-append}
 use Rattle.std.proofs.lemmas.List.Folds.{list_any-append, list_any_at}
-use Rattle.std.proofs.lemmas.Bool.{le-leb, le-ltb, eqb-true, ne_eqb, and_parts, cases_Bool, cases_eq, cases_lt}
+use Rattle.std.proofs.lemmas.Bool.{le-leb, le-ltb, eqb-true, ne_eqb, and_parts, cases_Bool, cases_eq}
 use Rattle.std.proofs.lemmas.Bool.{not-false, both_ways}
+use Rattle.sd_base.proofs.Bools.{or_true}
+use Rattle.sd_base.proofs.Lists.{unmarked}
 use Rattle.sd_card.specs.Fields.{CardFields}
 use Rattle.sd_emm.specs.declared.emm.Emm.{Emm}
 use Rattle.sd_ecm.specs.Parts.{Message}
@@ -26,10 +28,6 @@ use Rattle.sd_receive_emm.specs.Entitled.{says_in, said, SayAlike, has_index, is
 use Rattle.sd_receive_emm.specs.Entitled.{IsStateAt, IsEntitled, tells_nothing}
 use Rattle.sd_receive_emm.proofs.Periods.{past_stands, other_period, ahead_none, one_told, none_told, same_below}
 use Rattle.sd_receive_emm.proofs.Periods.{told_before, not_told}
-
-or_right : (b : Bool) → (b || true) ≡ true
-or_right true = refl
-or_right false = refl
 
 none_is : (o : Option Message) → is_none o ≡ true → o ≡ None
 none_is None h = refl
@@ -224,7 +222,7 @@ has_told : (heard : Heard) (tr : List Heard) (message : Message) → completes t
 has_told heard tr message done =
     let q : ℕ = message.period in
     rw (one_told heard tr message done, list_any-append (λ p. p == q) (periods_told tr) (q ∷ []), eq-eqb q q refl)
-    (or_right (list_any (λ p. p == q) (periods_told tr)))
+    (or_true (list_any (λ p. p == q) (periods_told tr)))
 
 now_told : (part : EcmPart) (tr : List Heard) (message : Message) → completes tr (Controls part) ≡ Some message →
     current tr ≤ message.period → current (Controls part ∷ tr) ≡ message.period
@@ -281,14 +279,10 @@ moved card q tr s t is h period says marks told key revoked unkeyed =
       in_turn = is.in_turn;
     }
 
-none_set : (n x : ℕ) → get_or (replicate n false) x false ≡ false
-none_set n x = ⊎_elim (λ (h : x < n). get_or-replicate n x false false h)
-    (λ (h : n ≤ x). get_or_past (replicate n false) x false (omega (arith, h, length-replicate n false))) (cases_lt x n)
-
 -- no mark of so many that are not set is
 pub none_marked : (n : ℕ) (marks : List Bool) → marks ≡ replicate n false → (x : ℕ) → x < 2 ^ 16 →
     get_or marks x false ≡ false
-none_marked n marks is x g = ap (λ (l : List Bool). get_or l x false) is ∙ none_set n x
+none_marked n marks is x g = ap (λ (l : List Bool). get_or l x false) is ∙ unmarked n x
 
 -- before anything was heard nothing is kept
 pub first : (card : CardFields) (t : Entitled) → t.period ≡ 0 → t.says ≡ None →

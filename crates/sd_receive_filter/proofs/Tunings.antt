@@ -4,6 +4,7 @@ use Rattle.std.proofs.Common.{length, refl, eq-eqb, arith, length-drop}
 use Rattle.std.specs.Prelude.{◌≢◌, ◌<◌, nat_le, find, option_map, Some, None}
 use Rattle.std.proofs.lemmas.Bool.{le-leb, lt-ltb, le-ltb, eqb-true, ne_eqb, and_parts}
 use Rattle.std.proofs.lemmas.List.{get_or-drop}
+use Rattle.sd_base.proofs.Bools.{and_false}
 use Rattle.sd_bits.specs.Bits.{bit, field}
 use Rattle.sd_psi.specs.Access.{is_ca}
 use Rattle.sd_psi.specs.Tables.{tag_of, content_of}
@@ -13,10 +14,6 @@ use Rattle.sd_psi.specs.Tables.{descriptors_of}
 use Rattle.sd_psi.specs.Forms.{cat_fault, section_in}
 use Rattle.sd_psi.specs.declared.fault.FormFault.{FormFault}
 use Rattle.sd_spec_receiver.specs.Tuned.{cat_tuning, is_for, is_tuning, tuning_in}
-
-and_false : (b : Bool) → (b && false) ≡ false
-and_false true = refl
-and_false false = refl
 
 off : (a b c rest : Bool) → (a && c) ≡ false → (b ≡ true → c ≡ true) → (a && (b && rest)) ≡ false
 off false b c rest h g = refl

@@ -6,25 +6,19 @@ use Rattle.std.proofs.KnownBytes.{Appends-trans, Appends-nil}
 use Rattle.sd_ports.specs.Rooms.{HasTaken}
 use Rattle.sd_ports.proofs.Rooms.{none_taken}
 use Rattle.sd_engine.specs.Stage.{SinkState, IsCutShort, IsTooShort}
+use Rattle.sd_engine.proofs.Chains.{taken_on}
 use Rattle.sd_receive_hold.specs.Writing.{TookBytes, HasStopped}
 
 -- nothing was taken
 pub took_none : (u : SinkState) → TookBytes u u []
 took_none u = record { taken = Appends-nil u.held; room = none_taken u.room }
 
-taken_more : (a b c : Option ℕ) (m n : ℕ) → HasTaken a b m → HasTaken b c n → HasTaken a c (m + n)
-taken_more None b c m n p q = tt
-taken_more (Some room) b c m n p q =
-    let then = subst (λ (left : Option ℕ). HasTaken left c n) p.1 q in
-    let same : room - m - n ≡ room - (m + n) = omega arith in
-    (omega (arith, p.0, then.0), then.1 ∙ ap (λ (k : ℕ). Some k) same)
-
 -- and then more bytes
 pub took_more : (u v w : SinkState) (xs ys : List ℕ) → TookBytes u v xs → TookBytes v w ys → TookBytes u w (xs ++ ys)
 took_more u v w xs ys p q = record {
   taken = Appends-trans u.held v.held w.held xs ys p.taken q.taken;
   room = subst (λ (n : ℕ). HasTaken u.room w.room n) (sym (length-append xs ys))
-      (taken_more u.room v.room w.room (length xs) (length ys) p.room q.room);
+      (taken_on u.room v.room w.room (length xs) (length ys) p.room q.room);
 }
 
 still_short : (a b : Option ℕ) (m n k : ℕ) → HasTaken a b m → IsTooShort b n → m + n ≤ k → IsTooShort a k

@@ -1,11 +1,11 @@
 -- Tables of positions by PID.
-use Rattle.std.proofs.Common.{ℕ, ◌+◌, ◌^◌, ◌<◌, ◌≤◌, ◌≡◌, ◌==◌, ◌||◌, Bool, true, false, List, [], ◌∷◌, ◌++◌}
+use Rattle.std.proofs.Common.{ℕ, ◌+◌, ◌^◌, ◌<◌, ◌≤◌, ◌≡◌, ◌==◌, false, List, [], ◌∷◌, ◌++◌}
 use Rattle.std.proofs.Common.{length}
 use Rattle.std.proofs.Common.{get_or, set, take, drop, map, refl, sym, ap, subst, ◌∙◌, inl, inr, arith}
 use Rattle.std.specs.Prelude.{Option, None}
 use Rattle.std.specs.List.{list_any}
 use Rattle.std.specs.Option.{option_map_or}
-use Rattle.std.proofs.lemmas.Bool.{cases_Bool, cases_lt, eqb-true, eqb-false}
+use Rattle.std.proofs.lemmas.Bool.{cases_Bool, cases_lt, eqb-true, eqb-false, or_parts}
 use Rattle.std.proofs.lemmas.List.{get_or-set_same, get_or-set_other, length-map, length-set, take_more}
 use Rattle.std.proofs.lemmas.List.{take-append-drop, take-append-le, take_all, map-append}
 use Rattle.std.proofs.lemmas.List.{get_or_push, get_or_append_left, length_push}
@@ -82,10 +82,6 @@ none_moving pid (p ∷ ps) none = elim (cases_Bool (pid_of p == pid)) [
   | inr other ↦ rw other (none_moving pid ps (rw other at none))
 ]
 
-either : (a b : Bool) → (a || b) ≡ false → (a ≡ false) × (b ≡ false)
-either true b h = absurd (cc h)
-either false b h = (refl, h)
-
 -- a table of positions has the first position but for the PIDs of places and packets
 pub tracked_but : (places : List Place) (packets : List (List ℕ)) (table : List ℕ) → IsTracked places packets table →
     IsClearBut (pids_in places ++ map (λ (p : List ℕ). pid_of p) packets) table
@@ -93,7 +89,7 @@ unfolding led_to start_of
 tracked_but places packets table is = record {
   long = is.long;
   clear = λ pid none small.
-      let both = either (list_any (λ q. q == pid) (pids_in places))
+      let both = or_parts (list_any (λ q. q == pid) (pids_in places))
       (list_any (λ q. q == pid) (map (λ (p : List ℕ). pid_of p) packets))
       (sym (list_any-append (λ (q : ℕ). q == pid) (pids_in places) (map (λ (p : List ℕ). pid_of p) packets)) ∙ none) in
       is.at pid small ∙ (none_moves pid (start_of places pid) packets (none_moving pid packets both.1)

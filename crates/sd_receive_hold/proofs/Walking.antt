@@ -5,6 +5,7 @@ use Rattle.std.specs.Prelude.{Some, None, Result, Ok, Err}
 use Rattle.std.specs.List.{concat}
 use Rattle.std.proofs.lemmas.List.{take_more, take_all, take-append-drop, drop_more, take-map, length-map, map-append}
 use Rattle.std.proofs.lemmas.List.Folds.{concat-append}
+use Rattle.sd_base.proofs.Lists.{concat_one}
 use Rattle.sd_packet.specs.Header.{pid_of}
 use Rattle.sd_engine.specs.Stage.{SinkState}
 use Rattle.sd_ecm.specs.Parts.{Message}
@@ -128,9 +129,6 @@ written_still c k d u v n within is far =
       counted = is.counted ∙ sym (ap (λ (w : Wrote). length w.packets) next);
       took = rw next is.took;
     }
-
-concat_one : (xs : List (List ℕ)) (p : List ℕ) → concat (xs ++ p ∷ []) ≡ concat xs ++ p
-concat_one xs p = concat-append xs (p ∷ []) ∙ ap (λ (bs : List ℕ). concat xs ++ bs) (append-nil p)
 
 -- a packet that is written
 pub written_more : (c : Confirming) (k : ℕ) (d : Held) (p : List ℕ) (u v w : SinkState) (n : ℕ) →

@@ -1,30 +1,16 @@
 -- Two books beside one another, period by period.
-use Rattle.std.proofs.Common.{arith, ◌≡◌, ℕ, zero, suc, ◌+◌, ◌-◌, ◌^◌, ◌<◌, ◌≤◌, min, Bool, List, [], ◌∷◌, ◌++◌, filter}
+use Rattle.std.proofs.Common.{arith, ◌≡◌, ℕ, suc, ◌+◌, ◌-◌, ◌^◌, ◌<◌, ◌≤◌, min, Bool, List, [], ◌∷◌, ◌++◌, filter}
 use Rattle.std.proofs.Common.{Option, Some, None}
-use Rattle.std.proofs.Common.{refl, sym, ap, ◌∙◌, inl, inr}
+use Rattle.std.proofs.Common.{refl, sym, ap, ◌∙◌}
 use Rattle.std.specs.Option.{option_map, option_or}
 use Rattle.std.specs.List.{range_with_len}
-use Rattle.std.proofs.lemmas.Bool.{cases_lt}
-use Rattle.sd_book.specs.declared.command.Command.{Command}
+use Rattle.sd_base.proofs.Ranges.{range_parts}
 use Rattle.sd_book.specs.Commands.{commands_until, is_revoked, last_period, revoked}
-use Rattle.sd_book.proofs.Cuts.{revoked_past}
+use Rattle.sd_book.proofs.Cuts.{same_revoked}
 use Rattle.sd_spec_broadcast.specs.Plan.{Plan}
 use Rattle.sd_command_status.specs.declared.status.Clash.{Clash as ClashKind}
 use Rattle.sd_command_status.specs.declared.status.Clash.TheVariants.{Books}
 use Rattle.sd_run_apart.specs.Apart.{clash_in, first_differing, first_of, first_shared}
-
--- some first numbers, and the others
-range_split : (a i n : ℕ) → range_with_len a (i + n) ≡ range_with_len a i ++ range_with_len (a + i) n
-range_split a zero n =
-    let none : 0 + n ≡ n = omega arith in
-    let same : a ≡ a + 0 = omega arith in
-    ap (range_with_len a) none ∙ ap (λ (k : ℕ). range_with_len k n) same
-range_split a (suc i) n =
-    let more : suc i + n ≡ suc (i + n) = omega arith in
-    let same : a + 1 + i ≡ a + suc i = omega arith in
-    ap (range_with_len a) more
-    ∙ ap (λ (xs : List ℕ). a ∷ xs) (range_split (a + 1) i n
-    ∙ ap (λ (k : ℕ). range_with_len (a + 1) i ++ range_with_len k n) same)
 
 through : (o p q r : Option ClashKind) → option_or o p ≡ None → (p ≡ None → q ≡ r) → option_or o q ≡ r
 through None p q r h step = step h
@@ -44,7 +30,7 @@ pub first_found : (clash : ℕ → Option ClashKind) (a i n : ℕ) (found : Clas
 first_found clash a i n found low none is =
     let all : n ≡ i + suc (n - i - 1) = omega (arith, low) in
     ap (λ (k : ℕ). first_of clash (range_with_len a k)) all
-    ∙ ap (first_of clash) (range_split a i (suc (n - i - 1)))
+    ∙ ap (first_of clash) (range_parts a i (suc (n - i - 1)))
     ∙ first_after clash (range_with_len a i) (range_with_len (a + i) (suc (n - i - 1))) none
     ∙ ap (λ (o : Option ClashKind). option_or o (first_of clash (range_with_len (a + i + 1) (n - i - 1)))) is
 
@@ -52,23 +38,9 @@ first_found clash a i n found low none is =
 pub none_more : (clash : ℕ → Option ClashKind) (a i : ℕ) → first_of clash (range_with_len a i) ≡ None →
     clash (a + i) ≡ None → first_of clash (range_with_len a (i + 1)) ≡ None
 none_more clash a i none is =
-    ap (first_of clash) (range_split a i 1)
+    ap (first_of clash) (range_parts a i 1)
     ∙ first_after clash (range_with_len a i) (range_with_len (a + i) 1) none
     ∙ ap (λ (o : Option ClashKind). option_or o None) is
-
--- the period of the book that a period of the broadcast has its revoked leaves from
-same_revoked : (d first before : ℕ) (commands : List Command) → before ≤ last_period commands - first →
-    revoked d commands (min first (last_period commands) + before) ≡ revoked d commands (first + before)
-same_revoked d first before commands within =
-    elim (cases_lt (last_period commands) first) [
-      | inl past ↦
-          let low : min first (last_period commands) + before ≡ last_period commands = omega (arith, past, within) in
-          let high : last_period commands ≤ first + before = omega (arith, past) in
-          ap (revoked d commands) low ∙ sym (revoked_past d (first + before) commands high)
-      | inr le ↦
-          let same : min first (last_period commands) + before ≡ first + before = omega (arith, le) in
-          ap (revoked d commands) same
-    ]
 
 -- what is found in the two lists is the clash in the period
 pub clash_is : (a b : Plan) (before : ℕ) (left right : List ℕ) (found : Option ℕ) →

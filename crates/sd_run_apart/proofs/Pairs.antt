@@ -3,7 +3,7 @@ use Rattle.std.proofs.Common.{◌≡◌, ◌≢◌, ℕ, Bool, true, false, cond
 use Rattle.std.proofs.Common.{refl, sym, ap, subst, ◌∙◌, inl, inr, arith, Ok}
 use Rattle.std.specs.Prelude.{nat_eq}
 use Rattle.std.specs.Io.KnownBytes.{Appends}
-use Rattle.std.proofs.lemmas.Bool.Decides.{nat_tests}
+use Rattle.sd_base.proofs.Numbers.{same_number, other_number_back}
 use Rattle.sd_ports.specs.Bytes.{AppendsPrefix}
 use Rattle.sd_ports.specs.Files.{Files}
 use Rattle.sd_command_status.specs.declared.status.Status.{Status}
@@ -14,12 +14,6 @@ use Rattle.sd_command_status.specs.Outcome.{IsEnding, ended, cut_off, OutcomeWit
 use Rattle.sd_command_status.specs.Prints.{PrintsText}
 use Rattle.sd_command_status.specs.Reads.{FilesOutcome}
 use Rattle.sd_command_status.proofs.Moves.{then_obeys}
-
-other_number : (n k : ℕ) → n ≢ k → nat_eq k n ≡ false
-other_number n k h = grind (arith, nat_tests)
-
-same_number : (n : ℕ) → nat_eq n n ≡ true
-same_number n = grind (arith, nat_tests)
 
 either_same : (b : Bool) (got : Option (List ℕ)) → cond b got got ≡ got
 either_same true got = refl
@@ -44,11 +38,11 @@ four_given None g h a b c d is more ac ad bc bd = record {
   second = ap (λ (t : Bool). cond (nat_eq b.number a.number) (g b) (cond t (g b) (h b))) (same_number b.number)
       ∙ either_same (nat_eq b.number a.number) (g b);
   third = ap (λ (t : Bool). cond t (g c) (cond (nat_eq c.number b.number) (g c) (h c)))
-      (other_number a.number c.number ac)
-      ∙ ap (λ (t : Bool). cond t (g c) (h c)) (other_number b.number c.number bc);
+      (other_number_back a.number c.number ac)
+      ∙ ap (λ (t : Bool). cond t (g c) (h c)) (other_number_back b.number c.number bc);
   fourth = ap (λ (t : Bool). cond t (g d) (cond (nat_eq d.number b.number) (g d) (h d)))
-      (other_number a.number d.number ad)
-      ∙ ap (λ (t : Bool). cond t (g d) (h d)) (other_number b.number d.number bd);
+      (other_number_back a.number d.number ad)
+      ∙ ap (λ (t : Bool). cond t (g d) (h d)) (other_number_back b.number d.number bd);
 }
 four_given (Some files) g h a b c d is more ac ad bc bd = record {
   given = g;

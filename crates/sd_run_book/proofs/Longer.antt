@@ -1,5 +1,5 @@
 -- What a longer book is, or why it is refused.
-use Rattle.std.proofs.Common.{◌≡◌, ◌⊎◌, ℕ, List, ◌++◌, map, Option, Some, Result, Ok, Err}
+use Rattle.std.proofs.Common.{◌≡◌, ◌⊎◌, ℕ, List, ◌++◌, map, Option, Some, Ok, Err}
 use Rattle.std.proofs.Common.{refl, sym, ap, subst, ◌∙◌, inl, inr}
 use Rattle.sd_book.specs.declared.command.Command.{Command}
 use Rattle.sd_book.specs.declared.fault.BookFault.{BookFault}
@@ -12,9 +12,10 @@ use Rattle.sd_command_status.specs.declared.status.Status.{Status}
 use Rattle.sd_command_status.specs.declared.status.Status.TheVariants.{NoMemory}
 use Rattle.sd_book.specs.Text.{text_of}
 use Rattle.sd_command_status.specs.Outside.{Outside}
-use Rattle.sd_command_status.specs.Spec.{Spec, FileArgument, Readings, and_then, judged, value, ◌>>=◌}
+use Rattle.sd_command_status.specs.Spec.{Spec, FileArgument, Readings, judged, value, ◌>>=◌}
 use Rattle.sd_command_status.specs.Work.{NoSteps, Work}
 use Rattle.sd_command_status.specs.Outcome.{IsRefusal, IsEnding, OutcomeWithin}
+use Rattle.sd_command_status.proofs.Follow.{then_is}
 use Rattle.sd_command_files.specs.Both.{SiteBook, both_meaning}
 use Rattle.sd_command_files.specs.Files.{book_in, book_of_file, refused_book, told_book}
 use Rattle.sd_command_files.specs.Made.{making}
@@ -62,10 +63,6 @@ pub longer_made : (word d : ℕ) (commands added whole : List Command) (out : Fi
 longer_made word d commands added whole out bytes a b status is same made =
     judged_obeys (longer_book word d commands added) whole (λ longer. value (making NoSteps out (text_of longer))) a b
     status is (subst (λ (text : List ℕ). OutcomeWithin (value (making NoSteps out text)) a b status) same made)
-
-then_is : {A B : Type 0} (first : Spec A) (x : A) (next : A → Spec B) → first.result ≡ Ok x →
-    (first >>= next).result ≡ (next x).result
-then_is {A} first x next e = ap (λ (r : Result A Status). (and_then first.calls r next).result) e
 
 -- good files mean that OUT becomes the file of the longer book
 pub good_files : (site book commands out : FileArgument) (given : Readings) (both : SiteBook) (added : List Command) →

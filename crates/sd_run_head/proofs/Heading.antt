@@ -1,9 +1,9 @@
 -- What comes of a clear stream that a head end sends into OUT.
-use Rattle.std.proofs.Common.{◌≡◌, ◌≢◌, ℕ, Bool, true, false, cond, List, [], Option, Some, None, Result, Ok, Err, refl}
+use Rattle.std.proofs.Common.{◌≡◌, ◌≢◌, ℕ, Bool, cond, List, [], Option, Some, None, Result, Ok, Err, refl}
 use Rattle.std.proofs.Common.{sym, ap, subst, ◌∙◌, inl, inr, arith}
 use Rattle.std.specs.Prelude.{nat_eq, IsErrOf}
-use Rattle.std.proofs.lemmas.Bool.Decides.{nat_tests}
 use Rattle.sd_base.specs.Count.{IsCaused}
+use Rattle.sd_base.proofs.Numbers.{same_number, other_number}
 use Rattle.sd_ports.specs.Files.{Files}
 use Rattle.sd_engine.specs.Driving.{DriveState, DriveOutcome}
 use Rattle.sd_engine.proofs.Taken.{is_over}
@@ -113,12 +113,6 @@ port_caused f g i j (Err (drive.Refused fault)) status is read written = record 
 }
 
 -- What three files gave.
-
-other_number : (n k : ℕ) → n ≢ k → nat_eq n k ≡ false
-other_number n k h = grind (arith, nat_tests)
-
-same_number : (n : ℕ) → nat_eq n n ≡ true
-same_number n = grind (arith, nat_tests)
 
 -- what two files gave, and then a third
 record MoreGiven (files : Option Files) (given : Readings) (a b c : FileArgument) (got : Option (List ℕ)) : Type 0 where

@@ -6,12 +6,13 @@ use Rattle.std.specs.Prelude.{slice_get, not}
 use Rattle.std.specs.List.{concat}
 use Rattle.std.specs.Option.{option_map_or}
 use Rattle.std.proofs.lemmas.List.{take-append-drop, length-take, drop_more, take_more, take-take, take_all}
-use Rattle.std.proofs.lemmas.List.Folds.{concat-append}
 use Rattle.std.proofs.lemmas.Option.{slice_get_within, get_or_from_slice_get, slice_get-get_or}
 use Rattle.std.proofs.lemmas.Bool.{cases_lt}
 use Rattle.std.specs.Io.KnownBytes.{Appends}
 use Rattle.std.proofs.KnownBytes.{Appends-trans}
+use Rattle.sd_base.proofs.Lists.{nothing_joined}
 use Rattle.sd_ports.specs.Bytes.{IsPrefix}
+use Rattle.sd_ports.proofs.Starts.{prefix_of_prefix, after_first, nothing_after}
 use Rattle.sd_packet.specs.Header.{pid_of, scrambling_of}
 use Rattle.sd_site.specs.Fields.{SiteFields}
 use Rattle.sd_psi.specs.declared.fault.FormFault.{FormFault}
@@ -27,8 +28,7 @@ use Rattle.sd_spec_broadcast.specs.Refused.{fault_where, form_where, is_reserved
 use Rattle.sd_spec_broadcast.specs.Refused.{is_one_too_many}
 use Rattle.sd_spec_broadcast.specs.Refused.{is_too_long, refusal_of, refusal_from}
 use Rattle.sd_spec_broadcast.specs.Sent.{sent, closing_of, packets_from, body, broadcast, bytes_added, bytes_from}
-use Rattle.sd_spec_broadcast.proofs.Bodies.{body_bytes}
-use Rattle.sd_spec_broadcast.proofs.Sending.{packets_in_turn}
+use Rattle.sd_spec_broadcast.proofs.Bodies.{body_bytes, closed_bytes}
 use Rattle.sd_spec_broadcast.specs.declared.fault.ClearFault.{ClearFault}
 use Rattle.sd_spec_broadcast.specs.declared.fault.ClearFault.TheVariants.{AlreadyScrambled, PidTaken, PatForm, PmtForm}
 use Rattle.sd_spec_broadcast.specs.declared.fault.ClearFault.TheVariants.{TooManyPids, TooLong}
@@ -128,13 +128,6 @@ bytes_in_turn plan before (x ∷ xs) ys =
     ∙ sym (append_assoc (bytes_added plan before x) (bytes_from plan (before ++ x ∷ []) xs)
     (bytes_from plan (before ++ (x ∷ xs)) ys))
 
-prefix_on : (prefix part whole : List ℕ) → IsPrefix prefix part → IsPrefix part whole → IsPrefix prefix whole
-prefix_on prefix part whole p q =
-    (p.0 ++ q.0, sym (append_assoc prefix p.0 q.0) ∙ ap (λ (xs : List ℕ). xs ++ q.0) p.1 ∙ q.1)
-
-after_first : (first prefix part : List ℕ) → IsPrefix prefix part → IsPrefix (first ++ prefix) (first ++ part)
-after_first first prefix part p = (p.0, append_assoc first prefix p.0 ∙ ap (λ (xs : List ℕ). first ++ xs) p.1)
-
 body_first : (plan : Plan) (xs ys : List (List ℕ)) → IsPrefix (concat (body plan xs)) (concat (body plan (xs ++ ys)))
 body_first plan xs ys = (
   bytes_from plan ([] ++ xs) ys,
@@ -149,16 +142,6 @@ body_taken plan k clear =
     (take-append-drop k clear)
     (body_first plan (take k clear) (drop k clear))
 
--- the broadcast is its body and the closing message
-closed_bytes : (plan : Plan) (clear : List (List ℕ)) →
-    concat (broadcast plan clear) ≡ concat (body plan clear) ++ concat (packets_from plan.site (sent plan clear)
-    (closing_of plan clear))
-unfolding body broadcast
-closed_bytes plan clear =
-    ap concat (packets_in_turn plan.site [] (sent plan clear) (closing_of plan clear))
-    ∙ concat-append (packets_from plan.site [] (sent plan clear)) (packets_from plan.site (sent plan clear)
-    (closing_of plan clear))
-
 body_of_all : (plan : Plan) (clear : List (List ℕ)) (end : StreamEnd) → IsPrefix (concat (body plan clear))
     (concat (sent_by plan clear end))
 body_of_all plan clear Whole =
@@ -172,7 +155,7 @@ sent_begins : (plan : Plan) (clear : List (List ℕ)) (end : StreamEnd) (k : ℕ
     refusal_from plan.site [] (take k clear) ≡ None → refusal_from plan.site [] clear ≡ first →
     IsPrefix (concat (body plan (take k clear))) (concat (sent_where plan clear end first))
 sent_begins plan clear end k None within none is =
-    prefix_on (concat (body plan (take k clear))) (concat (body plan clear)) (concat (sent_by plan clear end))
+    prefix_of_prefix (concat (body plan (take k clear))) (concat (body plan clear)) (concat (sent_by plan clear end))
     (body_taken plan k clear)
     (body_of_all plan clear end)
 sent_begins plan clear end k (Some fault) within none is =
@@ -338,13 +321,6 @@ all_there clear count within none = elim (cases_lt count (length clear)) [
   | inr past ↦ (omega (arith, within, past), take_all count clear past)
 ]
 
-nothing_after : (first bytes whole : List ℕ) → bytes ≡ [] → IsPrefix first whole → IsPrefix (first ++ bytes) whole
-nothing_after first bytes whole none p =
-    subst (λ (xs : List ℕ). IsPrefix xs whole) (sym (ap (λ (xs : List ℕ). first ++ xs) none ∙ append-nil first)) p
-
-nothing_joined : (first last bytes : List ℕ) → last ≡ [] → bytes ≡ first ++ last → bytes ≡ first
-nothing_joined first last bytes none joined = joined ∙ (ap (λ (xs : List ℕ). first ++ xs) none ∙ append-nil first)
-
 -- what may be written of a packet, or of the end, goes on with what is sent
 may_write : {S F : Type 0} (plan : Plan) (does : S → List ℕ → S → List ℕ → ℕ → Type 0) (ends : S → S → List ℕ → ℕ →
     Type 0)
@@ -476,7 +452,7 @@ wrote_sent plan does ends refuses told After head bytes a b (Err drive.WriteFaul
     h.mid.steps b.steps (slice_get (taken_of bytes) h.count) h.place went refl h.cut.says in
     some_written (inr refl) (
       h.passed.bytes ++ h.cut.prefix,
-      prefix_on (h.passed.bytes ++ h.cut.prefix) (h.passed.bytes ++ h.cut.bytes) (sent_of plan bytes)
+      prefix_of_prefix (h.passed.bytes ++ h.cut.prefix) (h.passed.bytes ++ h.cut.bytes) (sent_of plan bytes)
           (after_first h.passed.bytes h.cut.prefix h.cut.bytes h.cut.short) part,
       Appends-trans a.sink.held h.mid.sink.held b.sink.held h.passed.bytes h.cut.prefix h.passed.taken h.cut.taken,
     )

@@ -1,21 +1,21 @@
 -- The lines of the messages in a stream, packet by packet.
-use Rattle.std.proofs.Common.{◌≡◌, ℕ, zero, suc, ◌+◌, ◌-◌, ◌^◌, ◌≤◌, List, [], ◌∷◌, ◌++◌, length, take, drop}
+use Rattle.std.proofs.Common.{◌≡◌, ℕ, zero, suc, ◌+◌, ◌-◌, ◌^◌, ◌≤◌, List, [], ◌∷◌, ◌++◌, length, take}
 use Rattle.std.proofs.Common.{append-nil}
 use Rattle.std.proofs.Common.{append_assoc, Option, Some, None, Result, Ok, Err, refl, sym, ap, subst, ◌∙◌, arith, inl}
 use Rattle.std.proofs.Common.{inr}
 use Rattle.std.specs.Prelude.{slice_get, IsErrOf}
-use Rattle.std.proofs.lemmas.List.{take-append-drop, length-take}
-use Rattle.std.proofs.lemmas.List.Folds.{concat-append}
 use Rattle.std.specs.List.{concat}
 use Rattle.std.specs.Io.KnownBytes.{Appends}
 use Rattle.std.proofs.KnownBytes.{Appends-trans}
 use Rattle.sd_base.specs.Count.{IsCaused}
 use Rattle.sd_base.specs.declared.memory.NoMemory.{NoMemory as OutOfMemory}
+use Rattle.sd_base.proofs.Lists.{nothing_joined, same_held}
 use Rattle.sd_ports.specs.Bytes.{IsPrefix, AppendsPrefix}
+use Rattle.sd_ports.proofs.Starts.{prefix_of_prefix, after_first, nothing_after, pieces_first}
 use Rattle.sd_engine.specs.Stage.{Chain}
-use Rattle.sd_engine.specs.Driving.{DriveState, most_packets, ChainToEnd, ChainToRefusal, IsAllowedAt, DriveOutcome}
+use Rattle.sd_engine.specs.Driving.{DriveState, ChainToEnd, ChainToRefusal, IsAllowedAt, DriveOutcome}
 use Rattle.sd_engine.specs.Taken.{taken_of, CutAt, DriveOutcomeOver}
-use Rattle.sd_engine.proofs.Taken.{least_of, is_over}
+use Rattle.sd_engine.proofs.Taken.{is_over, few_taken, all_few}
 use Rattle.sd_engine.specs.declared.driver.DriveFault.{DriveFault}
 use Rattle.sd_engine.specs.declared.driver.DriveFault.TheVariants as drive
 use Rattle.sd_site.specs.Fields.{SiteFields}
@@ -38,9 +38,6 @@ first_lines site j (suc k) [] = refl
 first_lines site j (suc k) (packet ∷ packets) =
     ap (λ (ls : List (List ℕ)). message_line site j packet ∷ ls) (first_lines site (suc j) k packets)
 
-some_same : (x y : List ℕ) → Some x ≡ Some y → x ≡ y
-some_same x y e = cc
-
 -- the line of the packet after them is the next one
 next_line : (site : SiteFields) (j k : ℕ) (packets : List (List ℕ)) (packet : List ℕ) →
     slice_get packets k ≡ Some packet →
@@ -51,7 +48,7 @@ next_line site j k [] packet at = absurd (let e : slice_get {X = List ℕ} [] k 
 next_line site j zero (first ∷ packets) packet at =
     let place : j + 0 ≡ j = omega arith in
     ap (λ (n : ℕ). message_line site n packet) place
-    ∙ ap (λ (p : List ℕ). message_line site j p) (sym (some_same first packet at))
+    ∙ ap (λ (p : List ℕ). message_line site j p) (sym (same_held first packet at))
     ∙ sym (append-nil (message_line site j first))
 next_line site j (suc k) (first ∷ packets) packet at =
     let place : j + suc (length (take k packets)) ≡ suc j + length (take k packets) = omega arith in
@@ -60,38 +57,6 @@ next_line site j (suc k) (first ∷ packets) packet at =
     append_assoc before lines (message_line site (j + suc (length (take k packets))) packet)
     ∙ ap (λ (n : ℕ). before ++ (lines ++ message_line site n packet)) place
     ∙ ap (λ (xs : List ℕ). before ++ xs) (next_line site (suc j) k packets packet at)
-
--- some first pieces are a prefix of all
-pieces_first : (k : ℕ) (pieces : List (List ℕ)) → IsPrefix (concat (take k pieces)) (concat pieces)
-pieces_first k pieces = (
-  concat (drop k pieces),
-  sym (concat-append (take k pieces) (drop k pieces)) ∙ ap concat
-      (take-append-drop k pieces),
-)
-
-prefix_of : (prefix part whole : List ℕ) → IsPrefix prefix part → IsPrefix part whole → IsPrefix prefix whole
-prefix_of prefix part whole p q =
-    (p.0 ++ q.0, sym (append_assoc prefix p.0 q.0) ∙ ap (λ (xs : List ℕ). xs ++ q.0) p.1 ∙ q.1)
-
-after_part : (first prefix part : List ℕ) → IsPrefix prefix part → IsPrefix (first ++ prefix) (first ++ part)
-after_part first prefix part p = (p.0, append_assoc first prefix p.0 ∙ ap (λ (xs : List ℕ). first ++ xs) p.1)
-
-none_after : (first bytes whole : List ℕ) → bytes ≡ [] → IsPrefix first whole → IsPrefix (first ++ bytes) whole
-none_after first bytes whole none p =
-    subst (λ (xs : List ℕ). IsPrefix xs whole) (sym (ap (λ (xs : List ℕ). first ++ xs) none ∙ append-nil first)) p
-
-nothing_more : (first last bytes : List ℕ) → last ≡ [] → bytes ≡ first ++ last → bytes ≡ first
-nothing_more first last bytes none joined = joined ∙ (ap (λ (xs : List ℕ). first ++ xs) none ∙ append-nil first)
-
--- as few packets as are taken
-few_taken : (k : ℕ) (bytes : List ℕ) → length (take k (taken_of bytes)) ≤ 2 ^ 64 - 1
-few_taken k bytes = few_of (taken_of bytes) k (least_of bytes).1
-  where
-    few_of : (packets : List (List ℕ)) (k : ℕ) → length packets ≤ most_packets → length (take k packets) ≤ 2 ^ 64 - 1
-    few_of packets k few = omega (arith, few, length-take k packets)
-
-all_few : (bytes : List ℕ) → length (taken_of bytes) ≤ 2 ^ 64 - 1
-all_few bytes = let few = (least_of bytes).1 in omega (arith, few)
 
 -- the lines of packets that went through
 all_through : (site : SiteFields) (packets : List (List ℕ)) (s t : Monitor) (bytes : List ℕ) (n : ℕ) →
@@ -136,16 +101,16 @@ part_of_lines : (site : SiteFields) (k : ℕ) (packets : List (List ℕ)) (s mid
     IsAllowedAt monitor_does monitor_ends monitor_refuses mid here from to bytes →
     IsPrefix (first ++ bytes) (concat (message_lines site 0 packets))
 part_of_lines site k packets s mid first bytes n from to None begun few chain at (m, within, inl (t, ends)) =
-    none_after first bytes (concat (message_lines site 0 packets)) ends.nothing
+    nothing_after first bytes (concat (message_lines site 0 packets)) ends.nothing
     (first_begin site k packets s mid first n begun few chain)
 part_of_lines site k packets s mid first bytes n from to None begun few chain at (m, within, inr (fault, t, refuses)) =
-    none_after first bytes (concat (message_lines site 0 packets)) refuses.nothing
+    nothing_after first bytes (concat (message_lines site 0 packets)) refuses.nothing
     (first_begin site k packets s mid first n begun few chain)
 part_of_lines site k packets s mid first bytes n from to (Some packet) begun few chain at (m, within, inl (t, does)) =
     next_begin site k packets s mid t first bytes packet n m begun few chain at does
 part_of_lines site k packets s mid first bytes n from to (Some packet) begun few chain at
     (m, within, inr (fault, t, refuses)) =
-    none_after first bytes (concat (message_lines site 0 packets)) refuses.nothing
+    nothing_after first bytes (concat (message_lines site 0 packets)) refuses.nothing
     (first_begin site k packets s mid first n begun few chain)
 
 -- a write failed
@@ -159,8 +124,8 @@ cut_lines site bytes a b begun h =
     h.mid.steps b.steps (slice_get packets h.count)
     begun (few_taken h.count bytes) h.passed.says refl h.cut.says in (
       h.passed.bytes ++ h.cut.prefix,
-      prefix_of (h.passed.bytes ++ h.cut.prefix) (h.passed.bytes ++ h.cut.bytes) whole
-          (after_part h.passed.bytes h.cut.prefix h.cut.bytes h.cut.short) part,
+      prefix_of_prefix (h.passed.bytes ++ h.cut.prefix) (h.passed.bytes ++ h.cut.bytes) whole
+          (after_first h.passed.bytes h.cut.prefix h.cut.bytes h.cut.short) part,
       Appends-trans a.sink.held h.mid.sink.held b.sink.held h.passed.bytes h.cut.prefix h.passed.taken h.cut.taken,
     )
 
@@ -180,7 +145,7 @@ drives_print site bytes a b f g (Ok count) begun cause (whole, counted, grew) = 
     all_and_end : (xs : List ℕ) (n : ℕ) → ChainToEnd monitor_does monitor_ends a.stage (taken_of bytes) b.stage xs n →
         xs ≡ concat (message_lines site 0 (taken_of bytes))
     all_and_end xs n (mid, first, last, m, k, chain, ends, joined, counted) =
-        nothing_more first last xs ends.nothing joined
+        nothing_joined first last xs ends.nothing joined
         ∙ all_through site (taken_of bytes) a.stage mid first m begun (all_few bytes) chain
 drives_print site bytes a b f g (Err (drive.Broken found)) begun cause (end, grew) = inl (inl (
   ap stream_status (sym end),
@@ -223,7 +188,7 @@ drives_print site bytes a b f g (Err (drive.Refused fault)) begun cause h = inl 
         ChainToRefusal monitor_does monitor_refuses a.stage (take count (taken_of bytes)) here fault b.stage xs n →
         xs ≡ concat (take count (message_lines site 0 (taken_of bytes)))
     some_and_none count here xs n (mid, first, last, m, k, chain, refuses, joined, counted) =
-        nothing_more first last xs refuses.nothing joined
+        nothing_joined first last xs refuses.nothing joined
         ∙ some_through site count (taken_of bytes) a.stage mid first m begun (few_taken count bytes) chain
 
 -- the stream that was left was monitored

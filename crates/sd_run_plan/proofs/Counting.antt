@@ -1,43 +1,17 @@
 -- The periods of a broadcast, one after the other.
-use Rattle.std.proofs.Common.{arith, ◌≡◌, ℕ, zero, suc, ◌+◌, ◌-◌, ◌*◌, ◌≤◌, min, List, [], ◌∷◌, ◌++◌, map, length}
-use Rattle.std.proofs.Common.{append-nil, sym, ap, ◌∙◌, inl, inr}
+use Rattle.std.proofs.Common.{◌≡◌, ℕ, ◌+◌, ◌-◌, ◌*◌, ◌≤◌, min, List, [], ◌∷◌, ◌++◌, map, length}
+use Rattle.std.proofs.Common.{append-nil, sym, ap, ◌∙◌}
 use Rattle.std.specs.List.{concat, range_with_len, sum_by}
-use Rattle.std.proofs.lemmas.Bool.{cases_lt}
 use Rattle.std.proofs.lemmas.List.{map-append}
 use Rattle.std.proofs.lemmas.List.Folds.{concat-append}
 use Rattle.std.proofs.lemmas.List.Sums.{sum_by_push}
-use Rattle.sd_book.specs.declared.command.Command.{Command}
+use Rattle.sd_base.proofs.Ranges.{range_more}
 use Rattle.sd_book.specs.Commands.{last_period, revoked}
-use Rattle.sd_book.proofs.Cuts.{revoked_past}
+use Rattle.sd_book.proofs.Cuts.{same_revoked}
 use Rattle.sd_steiner.specs.Cover.{cover_of}
 use Rattle.sd_emm.specs.Form.{sections_for}
 use Rattle.sd_spec_broadcast.specs.Plan.{Plan, sets_at}
 use Rattle.sd_run_plan.specs.Air.{cryptos_in, line_at, period_line, tables_in}
-
--- one number more
-pub range_more : (a n : ℕ) → range_with_len a (n + 1) ≡ range_with_len a n ++ (a + n) ∷ []
-range_more a zero =
-    let same : a ≡ a + 0 = omega arith in
-    ap (λ (k : ℕ). k ∷ []) same
-range_more a (suc n) =
-    let more : suc n + 1 ≡ suc (n + 1) = omega arith in
-    let same : a + 1 + n ≡ a + suc n = omega arith in
-    ap (range_with_len a) more
-    ∙ ap (λ (xs : List ℕ). a ∷ xs) (range_more (a + 1) n ∙ ap (λ (k : ℕ). range_with_len (a + 1) n ++ k ∷ []) same)
-
--- the period of the book that a period of the broadcast has its revoked leaves from
-pub same_revoked : (d first before : ℕ) (commands : List Command) → before ≤ last_period commands - first →
-    revoked d commands (min first (last_period commands) + before) ≡ revoked d commands (first + before)
-same_revoked d first before commands within =
-    elim (cases_lt (last_period commands) first) [
-      | inl past ↦
-          let low : min first (last_period commands) + before ≡ last_period commands = omega (arith, past, within) in
-          let high : last_period commands ≤ first + before = omega (arith, past) in
-          ap (revoked d commands) low ∙ sym (revoked_past d (first + before) commands high)
-      | inr le ↦
-          let same : min first (last_period commands) + before ≡ first + before = omega (arith, le) in
-          ap (revoked d commands) same
-    ]
 
 -- what is told of one period more
 pub record OneMore (plan : Plan) (n before share : ℕ) (leaves : List ℕ) : Type 0 where

@@ -8,13 +8,15 @@ use Rattle.std.proofs.lemmas.List.{take-append-drop, length-take, reverse-revers
 use Rattle.std.proofs.lemmas.List.Folds.{concat-append}
 use Rattle.std.specs.Io.KnownBytes.{Appends}
 use Rattle.std.proofs.KnownBytes.{Appends-trans}
+use Rattle.sd_base.proofs.Lists.{nothing_joined, reversed, first_none, rest_none}
 use Rattle.sd_card.specs.Fields.{CardFields}
 use Rattle.sd_ports.specs.Bytes.{IsPrefix}
+use Rattle.sd_ports.proofs.Starts.{prefix_of_prefix, after_first, nothing_after}
 use Rattle.sd_engine.specs.Stage.{Chain}
 use Rattle.sd_engine.specs.Driving.{DriveState, most_packets, ChainToEnd, ChainToRefusal, IsAllowedAt, DriveOutcome}
 use Rattle.sd_engine.specs.Taken.{StreamEnd, Whole, Breaks, RunsOn, taken_of, end_of, RefusesAt, CutAt}
 use Rattle.sd_engine.specs.Taken.{DriveOutcomeOver}
-use Rattle.sd_engine.proofs.Taken.{least_of, is_over}
+use Rattle.sd_engine.proofs.Taken.{least_of, is_over, all_few}
 use Rattle.sd_engine.specs.declared.driver.DriveFault.{DriveFault}
 use Rattle.sd_engine.specs.declared.driver.DriveFault.TheVariants as drive
 use Rattle.sd_spec_receiver.specs.declared.fault.StreamFault.{StreamFault}
@@ -30,7 +32,6 @@ use Rattle.sd_receive.specs.Receiving.{IsAfter, IsLive, card_in, steps_at, taken
 use Rattle.sd_receive.specs.Receiving.{receiver_ends, receiver_refuses}
 use Rattle.sd_receive.specs.Receiving.{OutcomeOf, BreakAt}
 use Rattle.sd_receive.proofs.Chained.{came_to_all, broke_at, out_joined, steps_more}
-use Rattle.sd_receive.proofs.Turns.{first_none, rest_none, reversed}
 use Rattle.sd_command_status.specs.declared.status.Status.{Status}
 use Rattle.sd_command_status.specs.declared.status.Status.TheVariants.{DepotFault}
 use Rattle.sd_command_status.specs.Outcome.{IsEnding}
@@ -92,9 +93,6 @@ few_of packets k few = omega (arith, few, length-take k packets)
 some_few : (bytes : List ℕ) (k : ℕ) → length (take k (taken_of bytes)) < 2 ^ 64 - 1
 some_few bytes k = few_of (taken_of bytes) k (least_of bytes).1
 
-all_few : (bytes : List ℕ) → length (taken_of bytes) ≤ 2 ^ 64 - 1
-all_few bytes = let few = (least_of bytes).1 in omega (arith, few)
-
 -- the packet at a place and those after it
 split_at : (packets : List (List ℕ)) (k : ℕ) (packet : List ℕ) → slice_get packets k ≡ Some packet →
     (more : List (List ℕ)) × (packets ≡ take k packets ++ packet ∷ more)
@@ -128,20 +126,6 @@ some_of_out card packets k none =
     subst (λ (all : List (List ℕ)). IsPrefix (concat (out_from card [] (take k packets)))
     (concat (out_from card [] all)))
     (take-append-drop k packets) (first_of_out card (take k packets) (drop k packets) none)
-
-nothing_more : (first last bytes : List ℕ) → last ≡ [] → bytes ≡ first ++ last → bytes ≡ first
-nothing_more first last bytes none joined = joined ∙ (ap (λ (xs : List ℕ). first ++ xs) none ∙ append-nil first)
-
-prefix_of : (prefix part whole : List ℕ) → IsPrefix prefix part → IsPrefix part whole → IsPrefix prefix whole
-prefix_of prefix part whole p q =
-    (p.0 ++ q.0, sym (append_assoc prefix p.0 q.0) ∙ ap (λ (xs : List ℕ). xs ++ q.0) p.1 ∙ q.1)
-
-after_part : (first prefix part : List ℕ) → IsPrefix prefix part → IsPrefix (first ++ prefix) (first ++ part)
-after_part first prefix part p = (p.0, append_assoc first prefix p.0 ∙ ap (λ (xs : List ℕ). first ++ xs) p.1)
-
-none_after : (first bytes whole : List ℕ) → bytes ≡ [] → IsPrefix first whole → IsPrefix (first ++ bytes) whole
-none_after first bytes whole none p =
-    subst (λ (xs : List ℕ). IsPrefix xs whole) (sym (ap (λ (xs : List ℕ). first ++ xs) none ∙ append-nil first)) p
 
 -- what a packet writes comes first of what it and those after it do
 wrote_first : (card : CardFields) (past more : List (List ℕ)) (packet : List ℕ) →
@@ -200,11 +184,11 @@ part_of_out : (card : CardFields) (packets : List (List ℕ)) (k : ℕ) (mid : R
     IsAllowedAt receiver_does receiver_ends receiver_refuses mid here from to bytes →
     IsPrefix (first ++ bytes) (concat (out_from card [] packets))
 part_of_out card packets k mid first bytes n from to None came few at (m, counted, inl (t, ends)) =
-    none_after first bytes (concat (out_from card [] packets)) ends.1
+    nothing_after first bytes (concat (out_from card [] packets)) ends.1
     (subst (λ (xs : List ℕ). IsPrefix xs (concat (out_from card [] packets))) (sym came.written)
     (some_of_out card packets k came.unbroken))
 part_of_out card packets k mid first bytes n from to None came few at (m, counted, inr (why, t, kept)) =
-    none_after first bytes (concat (out_from card [] packets)) kept.bytes_are
+    nothing_after first bytes (concat (out_from card [] packets)) kept.bytes_are
     (subst (λ (xs : List ℕ). IsPrefix xs (concat (out_from card [] packets))) (sym came.written)
     (some_of_out card packets k came.unbroken))
 part_of_out card packets k mid first bytes n from to (Some packet) came few at allowed =
@@ -410,8 +394,9 @@ cut_wrote card bytes a b is after h =
     b.steps (slice_get packets h.count) came few refl h.cut.says in
     let before = h.passed.counted in
     wrote_some card bytes a b (h.passed.bytes ++ h.cut.prefix) (h.passed.steps + (b.steps - h.mid.steps))
-    (prefix_of (h.passed.bytes ++ h.cut.prefix) (h.passed.bytes ++ h.cut.bytes) (concat (out_from card [] packets))
-    (after_part h.passed.bytes h.cut.prefix h.cut.bytes h.cut.short) part)
+    (prefix_of_prefix (h.passed.bytes ++ h.cut.prefix) (h.passed.bytes ++ h.cut.bytes)
+    (concat (out_from card [] packets))
+    (after_first h.passed.bytes h.cut.prefix h.cut.bytes h.cut.short) part)
     (Appends-trans a.sink.held h.mid.sink.held b.sink.held h.passed.bytes h.cut.prefix h.passed.taken h.cut.taken)
     (omega (arith, before)) most
 
@@ -468,7 +453,7 @@ ended_wrote card bytes a b count status is after (whole, counted, grew) told =
         wrote_all card bytes a b status wrote n
         (told (reverse (taken_of bytes)) stands ∙ ended_as card (taken_of bytes) b.stage (ap card_in ends.0 ∙ came.same)
         ∙ sym (none_refused card bytes Whole came.unbroken whole))
-        (nothing_more first last wrote ends.1 joined ∙ came.written) taken most
+        (nothing_joined first last wrote ends.1 joined ∙ came.written) taken most
         (let few = came.few in let none = ends.2 in let same = all_steps card (taken_of bytes) came.unbroken in
         omega (arith, all, few, none, same))
 

@@ -1,23 +1,24 @@
 -- The lines of the tables in a stream, packet by packet.
-use Rattle.std.proofs.Common.{◌≡◌, ℕ, zero, suc, ◌+◌, ◌-◌, ◌^◌, ◌<◌, ◌≤◌, List, [], ◌∷◌, ◌++◌, length, take, drop}
+use Rattle.std.proofs.Common.{◌≡◌, ℕ, zero, suc, ◌+◌, ◌-◌, ◌^◌, ◌<◌, ◌≤◌, List, [], ◌∷◌, ◌++◌, length, take}
 use Rattle.std.proofs.Common.{get_or, reverse, append-nil, append_assoc, Option, Some, None, Result, Ok, Err, refl, sym}
 use Rattle.std.proofs.Common.{ap, subst, ◌∙◌, take_all, arith, inl, inr}
 use Rattle.std.specs.Prelude.{slice_get, IsErrOf}
-use Rattle.std.proofs.lemmas.List.{reverse-append, take_more, take-append-drop, length-take}
-use Rattle.std.proofs.lemmas.List.Folds.{concat-append}
+use Rattle.std.proofs.lemmas.List.{reverse-append, take_more}
 use Rattle.std.proofs.lemmas.Option.{slice_get_within, get_or_from_slice_get}
 use Rattle.std.specs.List.{concat, flat_map}
 use Rattle.std.specs.Io.KnownBytes.{Appends}
 use Rattle.std.proofs.KnownBytes.{Appends-trans, Appends-nil}
 use Rattle.sd_base.specs.Count.{IsCaused}
 use Rattle.sd_base.specs.declared.memory.NoMemory.{NoMemory as OutOfMemory}
+use Rattle.sd_base.proofs.Lists.{nothing_joined}
 use Rattle.sd_packet.specs.Header.{pid_of}
 use Rattle.sd_tables_line.specs.Lines.{section_line}
 use Rattle.sd_ports.specs.Bytes.{IsPrefix, AppendsPrefix}
+use Rattle.sd_ports.proofs.Starts.{prefix_of_prefix, after_first, nothing_after, pieces_first}
 use Rattle.sd_engine.specs.Stage.{Chain}
-use Rattle.sd_engine.specs.Driving.{DriveState, most_packets, ChainToEnd, ChainToRefusal, IsAllowedAt, DriveOutcome}
+use Rattle.sd_engine.specs.Driving.{DriveState, ChainToEnd, ChainToRefusal, IsAllowedAt, DriveOutcome}
 use Rattle.sd_engine.specs.Taken.{StreamEnd, Whole, Breaks, RunsOn, taken_of, IsLeft, CutAt, DriveOutcomeOver}
-use Rattle.sd_engine.proofs.Taken.{least_of, is_over}
+use Rattle.sd_engine.proofs.Taken.{is_over, few_taken, all_few, some_left}
 use Rattle.sd_engine.specs.declared.driver.DriveFault.{DriveFault}
 use Rattle.sd_engine.specs.declared.driver.DriveFault.TheVariants as drive
 use Rattle.sd_tables.specs.Inspected.{lines_in, sections_at}
@@ -84,31 +85,6 @@ next_lines k packets packet inside is =
     ∙ reverse-append (take k packets) (get_or packets k packet ∷ [])
     ∙ ap (λ (p : List ℕ). p ∷ reverse (take k packets)) is)
 
--- some first pieces are a prefix of all
-pieces_first : (k : ℕ) (pieces : List (List ℕ)) → IsPrefix (concat (take k pieces)) (concat pieces)
-pieces_first k pieces = (
-  concat (drop k pieces),
-  sym (concat-append (take k pieces) (drop k pieces)) ∙ ap concat
-      (take-append-drop k pieces),
-)
-
-prefix_of : (prefix part whole : List ℕ) → IsPrefix prefix part → IsPrefix part whole → IsPrefix prefix whole
-prefix_of prefix part whole p q =
-    (p.0 ++ q.0, sym (append_assoc prefix p.0 q.0) ∙ ap (λ (xs : List ℕ). xs ++ q.0) p.1 ∙ q.1)
-
-after_part : (first prefix part : List ℕ) → IsPrefix prefix part → IsPrefix (first ++ prefix) (first ++ part)
-after_part first prefix part p = (p.0, append_assoc first prefix p.0 ∙ ap (λ (xs : List ℕ). first ++ xs) p.1)
-
--- as few packets as are taken
-few_taken : (k : ℕ) (bytes : List ℕ) → length (take k (taken_of bytes)) ≤ 2 ^ 64 - 1
-few_taken k bytes = few_of (taken_of bytes) k (least_of bytes).1
-  where
-    few_of : (packets : List (List ℕ)) (k : ℕ) → length packets ≤ most_packets → length (take k packets) ≤ 2 ^ 64 - 1
-    few_of packets k few = omega (arith, few, length-take k packets)
-
-all_few : (bytes : List ℕ) → length (taken_of bytes) ≤ 2 ^ 64 - 1
-all_few bytes = let few = (least_of bytes).1 in omega (arith, few)
-
 -- the lines of packets that went through
 went_through : (s t : Inspector) (packets : List (List ℕ)) (bytes : List ℕ) (n : ℕ) → IsStateAfter [] (seen s) →
     length packets ≤ 2 ^ 64 - 1 → Chain inspector_does s packets t bytes n → bytes ≡ lines_in (reverse packets)
@@ -124,9 +100,6 @@ all_through : (packets : List (List ℕ)) (s t : Inspector) (bytes : List ℕ) (
     length packets ≤ 2 ^ 64 - 1 → Chain inspector_does s packets t bytes n → bytes ≡ concat (packet_lines [] packets)
 all_through packets s t bytes n stands few chain = went_through s t packets bytes n stands few chain ∙ all_lines packets
 
-nothing_more : (first last bytes : List ℕ) → last ≡ [] → bytes ≡ first ++ last → bytes ≡ first
-nothing_more first last bytes none joined = joined ∙ (ap (λ (xs : List ℕ). first ++ xs) none ∙ append-nil first)
-
 -- the lines of some first packets begin all
 first_begin : (k : ℕ) (packets : List (List ℕ)) (s t : Inspector) (bytes : List ℕ) (n : ℕ) → IsStateAfter [] (seen s) →
     length (take k packets) ≤ 2 ^ 64 - 1 → Chain inspector_does s (take k packets) t bytes n →
@@ -135,10 +108,6 @@ first_begin k packets s t bytes n stands few chain =
     let pieces = packet_lines [] packets in
     subst (λ (xs : List ℕ). IsPrefix xs (concat pieces)) (sym (some_through k packets s t bytes n stands few chain))
     (pieces_first k pieces)
-
-none_after : (first bytes whole : List ℕ) → bytes ≡ [] → IsPrefix first whole → IsPrefix (first ++ bytes) whole
-none_after first bytes whole none p =
-    subst (λ (xs : List ℕ). IsPrefix xs whole) (sym (ap (λ (xs : List ℕ). first ++ xs) none ∙ append-nil first)) p
 
 -- and the lines of the packet after them go on with them
 next_begin : (k : ℕ) (packets : List (List ℕ)) (s mid t : Inspector) (first bytes packet : List ℕ) (n m : ℕ) →
@@ -169,16 +138,16 @@ part_of_lines : (k : ℕ) (packets : List (List ℕ)) (s mid : Inspector) (first
     slice_get packets k ≡ here → IsAllowedAt inspector_does inspector_ends inspector_refuses mid here from to bytes →
     IsPrefix (first ++ bytes) (concat (packet_lines [] packets))
 part_of_lines k packets s mid first bytes n from to None stands few chain at (m, within, inl (t, ends)) =
-    none_after first bytes (concat (packet_lines [] packets)) ends.nothing
+    nothing_after first bytes (concat (packet_lines [] packets)) ends.nothing
     (first_begin k packets s mid first n stands few chain)
 part_of_lines k packets s mid first bytes n from to None stands few chain at (m, within, inr (fault, t, refuses)) =
-    none_after first bytes (concat (packet_lines [] packets)) refuses.nothing
+    nothing_after first bytes (concat (packet_lines [] packets)) refuses.nothing
     (first_begin k packets s mid first n stands few chain)
 part_of_lines k packets s mid first bytes n from to (Some packet) stands few chain at (m, within, inl (t, inspects)) =
     next_begin k packets s mid t first bytes packet n m stands few chain at inspects
 part_of_lines k packets s mid first bytes n from to (Some packet) stands few chain at
     (m, within, inr (fault, t, refuses)) =
-    none_after first bytes (concat (packet_lines [] packets)) refuses.nothing
+    nothing_after first bytes (concat (packet_lines [] packets)) refuses.nothing
     (first_begin k packets s mid first n stands few chain)
 
 -- a write failed
@@ -191,8 +160,9 @@ cut_lines bytes a b stands h =
     h.mid.steps b.steps (slice_get packets h.count)
     stands (few_taken h.count bytes) h.passed.says refl h.cut.says in (
       h.passed.bytes ++ h.cut.prefix,
-      prefix_of (h.passed.bytes ++ h.cut.prefix) (h.passed.bytes ++ h.cut.bytes) (concat (packet_lines [] packets))
-          (after_part h.passed.bytes h.cut.prefix h.cut.bytes h.cut.short) part,
+      prefix_of_prefix (h.passed.bytes ++ h.cut.prefix) (h.passed.bytes ++ h.cut.bytes)
+          (concat (packet_lines [] packets))
+          (after_first h.passed.bytes h.cut.prefix h.cut.bytes h.cut.short) part,
       Appends-trans a.sink.held h.mid.sink.held b.sink.held h.passed.bytes h.cut.prefix h.passed.taken h.cut.taken,
     )
 
@@ -214,7 +184,7 @@ drives_print bytes a b f g (Ok count) stands cause (whole, counted, grew) = inl 
         ChainToEnd inspector_does inspector_ends a.stage (taken_of bytes) b.stage xs n →
         xs ≡ concat (packet_lines [] (taken_of bytes))
     all_and_end xs n (mid, first, last, m, k, chain, ends, joined, counted) =
-        nothing_more first last xs ends.nothing joined
+        nothing_joined first last xs ends.nothing joined
         ∙ all_through (taken_of bytes) a.stage mid first m stands (all_few bytes) chain
 drives_print bytes a b f g (Err (drive.Broken found)) stands cause (end, grew) = inl (inl (
   ap stream_status (sym end),
@@ -255,7 +225,7 @@ drives_print bytes a b f g (Err (drive.Refused fault)) stands cause h = inl (inr
         ChainToRefusal inspector_does inspector_refuses a.stage (take count (taken_of bytes)) here fault b.stage xs n →
         xs ≡ concat (take count (packet_lines [] (taken_of bytes)))
     some_and_none count here xs n (mid, first, last, m, k, chain, refuses, joined, counted) =
-        nothing_more first last xs refuses.nothing joined
+        nothing_joined first last xs refuses.nothing joined
         ∙ some_through count (taken_of bytes) a.stage mid first m stands (few_taken count bytes) chain
 
 -- before any of it was read memory was out
@@ -266,10 +236,6 @@ none_inspected left bytes page is = record {
   is_left = is;
   prints = inl (inr (inl (refl, (0, Appends-nil page.printed), refl)));
 }
-
-some_left : (left : Option (List ℕ)) → (bytes : List ℕ) × IsLeft left bytes
-some_left None = ([], tt)
-some_left (Some bytes) = (bytes, refl)
 
 pub not_inspected : (left : Option (List ℕ)) (page : PageState) → InspectsLeft left page page NoMemory
 not_inspected left page = let some = some_left left in none_inspected left some.0 page some.1

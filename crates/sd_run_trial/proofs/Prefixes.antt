@@ -11,6 +11,7 @@ use Rattle.sd_ports.specs.Bytes.{Prefix, prefix_of, IsTakenFrom}
 use Rattle.sd_ports.specs.declared.prefix.ReadMostFault.{ReadMostFault}
 use Rattle.sd_ports.specs.declared.prefix.ReadMostFault.TheVariants as fault
 use Rattle.sd_engine.specs.Taken.{IsLeft}
+use Rattle.sd_engine.proofs.Taken.{some_left}
 use Rattle.sd_command_status.specs.declared.status.Status.{Status}
 use Rattle.sd_command_status.specs.declared.status.Status.TheVariants.{DepotFault, NoMemory}
 use Rattle.sd_command_status.specs.Outside.{DepotState, called}
@@ -65,10 +66,6 @@ prefix_looks word most name a b left prefix opens h same = record {
   is_got = opened_got a.files name left h.bytes opens h.is_left;
   gives = (ap Ok (sym h.is), same);
 }
-
-some_left : (left : Option (List ℕ)) → (bytes : List ℕ) × IsLeft left bytes
-some_left None = ([], tt)
-some_left (Some bytes) = (bytes, refl)
 
 -- reading was stopped
 pub prefix_stopped : (word most : ℕ) (name : List ℕ) (a b : DepotState) (left : Option (List ℕ)) (status : Status) →

@@ -1,10 +1,11 @@
 -- What a buffer comes to, and what is left of bytes that were looked at.
-use Rattle.std.proofs.Common.{ℕ, zero, suc, ◌+◌, ◌-◌, ◌<◌, ◌≤◌, ◌≡◌, min, Bool, true, false, not, ◌==◌, List, [], ◌∷◌}
+use Rattle.std.proofs.Common.{ℕ, zero, suc, ◌+◌, ◌-◌, ◌<◌, ◌≤◌, ◌≡◌, min, Bool, true, false, ◌==◌, List, [], ◌∷◌}
 use Rattle.std.proofs.Common.{◌++◌, length, take, drop, append_assoc, append-nil, length-append, length-drop}
 use Rattle.std.proofs.Common.{take-append-drop, inl, inr, le_refl, refl, sym, ap, subst, ◌∙◌, arith}
 use Rattle.std.specs.Prelude.{if◌then◌else◌}
 use Rattle.std.proofs.lemmas.Bool.{cases_lt}
 use Rattle.std.proofs.lemmas.List.{take-append-le, take_all, length-take}
+use Rattle.sd_base.proofs.Bools.{true_from_not, false_from_not}
 use Rattle.sd_section.specs.Header.{section_length_of, whole_of}
 use Rattle.sd_section.specs.Assembled.{starts, is_overlong, is_whole, Cut, no_cut, with_section, cut_from, cut_of}
 use Rattle.sd_section.specs.OneMore.{begun_of, cut_more, held}
@@ -141,25 +142,16 @@ same_turns (suc m) zero (b ∷ bs) more h k = absurd (omega arith)
 same_turns (suc m) (suc n) (b ∷ bs) more h k =
     same_turn m n b bs more (λ left less. same_turns m n left more (omega arith) (omega arith)) _ _ _ refl refl refl
 
--- a byte is stuffing, or isn't
-is_stuffing : (v : Bool) → not v ≡ false → v ≡ true
-is_stuffing true h = refl
-is_stuffing false h = absurd (cc)
-
-isnt_stuffing : (v : Bool) → not v ≡ true → v ≡ false
-isnt_stuffing true h = absurd (cc)
-isnt_stuffing false h = refl
-
 -- where no section starts, there is none
 pub none_starts : (bytes : List ℕ) → starts bytes ≡ false → cut_of bytes [] ≡ no_cut
 none_starts [] h = cut_none 0 []
-none_starts (b ∷ bs) h = cut_stuffed (length bs) b bs [] (is_stuffing (b == 255) h)
+none_starts (b ∷ bs) h = cut_stuffed (length bs) b bs [] (true_from_not (b == 255) h)
 
 -- where one starts, it is too long, whole, or in the making
 pub one_overlong : (bytes : List ℕ) → starts bytes ≡ true → begun_of bytes ≡ Overlong → cut_of bytes [] ≡ no_cut
 one_overlong [] h judged = absurd (cc)
 one_overlong (b ∷ bs) h judged =
-    cut_over (length bs) b bs [] (isnt_stuffing (b == 255) h) (ap is_overlong (append-nil (b ∷ bs)) ∙
+    cut_over (length bs) b bs [] (false_from_not (b == 255) h) (ap is_overlong (append-nil (b ∷ bs)) ∙
     judged_over (b ∷ bs) judged)
 
 pub one_whole : (bytes : List ℕ) (n : ℕ) → starts bytes ≡ true → begun_of bytes ≡ Whole n →
@@ -172,7 +164,7 @@ one_whole (b ∷ bs) n h judged =
     sym judgement.2 in
     let left : List ℕ = drop n (b ∷ bs) in
     let less : length left ≤ length bs = omega (arith, length-drop n (b ∷ bs), judgement.2) in
-    cut_whole (length bs) b bs [] (isnt_stuffing (b == 255) h) (ap is_overlong is ∙ judgement.0) (ap is_whole is ∙
+    cut_whole (length bs) b bs [] (false_from_not (b == 255) h) (ap is_overlong is ∙ judgement.0) (ap is_whole is ∙
     judgement.1)
     ∙ (ap (λ (k : ℕ). with_section (take k (b ∷ bs ++ [])) (cut_from (length bs) (drop k (b ∷ bs)) [])) count
     ∙ (ap (λ (l : List ℕ). with_section (take n l) (cut_from (length bs) left [])) is
@@ -198,6 +190,6 @@ one_part [] h judged = absurd (cc)
 one_part (b ∷ bs) h judged =
     let judgement = judged_part (b ∷ bs) judged in
     let is : b ∷ bs ++ [] ≡ b ∷ bs = append-nil (b ∷ bs) in
-    cut_part (length bs) b bs [] (isnt_stuffing (b == 255) h) (ap is_overlong is ∙ judgement.0) (ap is_whole is ∙
+    cut_part (length bs) b bs [] (false_from_not (b == 255) h) (ap is_overlong is ∙ judgement.0) (ap is_whole is ∙
     judgement.1)
     ∙ ap (λ (l : List ℕ). record { sections = []; making = l }) is

@@ -4,6 +4,7 @@ use Rattle.std.proofs.Common.{take, drop, append-nil, refl, sym, ap, ◌∙◌, 
 use Rattle.std.specs.Prelude.{if◌then◌else◌, Option, Some, None, slice_range, slice_get}
 use Rattle.std.proofs.lemmas.List.{drop_at, take-take, drop-drop, drop-take}
 use Rattle.std.proofs.lemmas.Bool.{eqb-true, and_parts}
+use Rattle.sd_base.proofs.Bools.{true_from_not}
 use Rattle.sd_section.specs.Assembled.{Fed, Run, Cut, cut_of, is_last, is_next, is_fed, is_taken, last_counter}
 use Rattle.sd_section.specs.Assembled.{tail_of, fresh_of, kept_run, longer_run, run_after, newly, completed_in}
 use Rattle.sd_section.specs.Assembled.{completed_by, Assembling, assembler_after, all_lent, with_section, next_of}
@@ -46,10 +47,6 @@ making_is false counter payload run =
     ∙ (sym (append-nil (cut_more (making_of run) payload).making) ∙
     ap (λ (l : List ℕ). (cut_more (making_of run) payload).making ++ l) (sym none))
 
-is_true : (v : Bool) → not v ≡ false → v ≡ true
-is_true true h = refl
-is_true false h = absurd (cc)
-
 -- a state by its parts
 abbrev assembling : Option ℕ → List ℕ → List (List ℕ) → Assembling
 assembling counter making waiting = record { counter = counter; making = making; waiting = waiting }
@@ -66,7 +63,7 @@ counter_by : (has : Bool) (counter : ℕ) (last : Option ℕ) → (has && not (i
 counter_by false counter last h = refl
 counter_by true counter None h = absurd (cc)
 counter_by true counter (Some last) h = ap (λ (n : ℕ). Some n)
-    (sym (eqb-true last counter (is_true (last == counter) h)))
+    (sym (eqb-true last counter (true_from_not (last == counter) h)))
 
 counter_passed : (packet : Fed) (before : List Fed) → is_taken packet (last_counter before) ≡ false →
     last_counter (packet ∷ before) ≡ last_counter before

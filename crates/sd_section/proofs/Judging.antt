@@ -3,6 +3,7 @@ use Rattle.std.proofs.Common.{ℕ, ◌+◌, ◌-◌, ◌*◌, ◌/◌, ◌%◌, 
 use Rattle.std.proofs.Common.{length, take, get_or-take, length-take-le, refl, sym, ap, ◌∙◌, arith}
 use Rattle.std.specs.Prelude.{Option, Some, None, nat_le}
 use Rattle.std.proofs.lemmas.Bool.{and_parts, leb-true, le-leb, eqb-true}
+use Rattle.sd_base.proofs.Numbers.{above_fails}
 use Rattle.sd_bits.specs.Bits.{field}
 use Rattle.sd_bits.proofs.Fields.{same_by_bits}
 use Rattle.sd_section.specs.declared.fault.SectionFault.{SectionFault}
@@ -63,18 +64,13 @@ head_good bytes h =
       after = before.2;
     }
 
--- a test that holds is true, so one that can't hold is false
-untrue : (a b : ℕ) (test : Bool) → nat_le a b ≡ test → b < a → test ≡ false
-untrue a b false e h = refl
-untrue a b true e h = absurd (omega (arith, leb-true a b e))
-
 -- fewer bytes than section_length says
 pub short_first : (bytes : List ℕ) (n : ℕ) → head_fault bytes ≡ None → n ≡ section_length_of bytes → length bytes < 3
     + n →
     section_fault bytes ≡ Some Short
 short_first bytes n h e short =
     let few : nat_le (3 + section_length_of bytes) (length bytes) ≡ false =
-    untrue (3 + section_length_of bytes) (length bytes) _ refl (omega arith) in
+    above_fails (3 + section_length_of bytes) (length bytes) _ refl (omega arith) in
     (head_good bytes h).after ∙ ap (λ (b : Bool). unless b Short (crc_fault (whole_of bytes))) few
 
 -- all of them

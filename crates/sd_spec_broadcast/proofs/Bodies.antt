@@ -1,9 +1,11 @@
 -- The bytes of a broadcast, packet by packet.
-use Rattle.std.proofs.Common.{◌≡◌, refl, ℕ, List, [], ◌∷◌, ◌++◌, ap, sym, ◌∙◌}
+use Rattle.std.proofs.Common.{◌≡◌, refl, ℕ, suc, List, [], ◌∷◌, ◌++◌, length, ap, sym, ◌∙◌}
 use Rattle.std.specs.List.{concat}
 use Rattle.std.proofs.lemmas.List.Folds.{concat-append}
+use Rattle.sd_site.specs.Fields.{SiteFields}
 use Rattle.sd_spec_broadcast.specs.Plan.{Plan}
-use Rattle.sd_spec_broadcast.specs.Sent.{added, bytes_added, bytes_from, sent, sent_from, packets_from, body}
+use Rattle.sd_spec_broadcast.specs.Sent.{Item, added, bytes_added, bytes_from, sent, sent_from, packets_from, body}
+use Rattle.sd_spec_broadcast.specs.Sent.{broadcast, closing_of}
 use Rattle.sd_spec_broadcast.proofs.Sending.{packets_in_turn, sent_more}
 
 pub body_in_turn : (plan : Plan) (before ps : List (List ℕ))
@@ -23,3 +25,20 @@ body_in_turn plan before (p ∷ ps) =
 pub body_bytes : (plan : Plan) (clear : List (List ℕ)) → concat (body plan clear) ≡ bytes_from plan [] clear
 unfolding body sent_from
 body_bytes plan clear = body_in_turn plan [] clear
+
+-- as many packets as things are sent
+pub packets_many : (site : SiteFields) (earlier items : List Item) →
+    length (packets_from site earlier items) ≡ length items
+unfolding packets_from
+packets_many site earlier [] = refl
+packets_many site earlier (item ∷ items) = ap suc (packets_many site (earlier ++ item ∷ []) items)
+
+-- a broadcast is its body and the closing message
+pub closed_bytes : (plan : Plan) (clear : List (List ℕ)) →
+    concat (broadcast plan clear) ≡ concat (body plan clear) ++ concat (packets_from plan.site (sent plan clear)
+    (closing_of plan clear))
+unfolding body broadcast
+closed_bytes plan clear =
+    ap concat (packets_in_turn plan.site [] (sent plan clear) (closing_of plan clear))
+    ∙ concat-append (packets_from plan.site [] (sent plan clear)) (packets_from plan.site (sent plan clear)
+    (closing_of plan clear))

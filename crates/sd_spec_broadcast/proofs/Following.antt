@@ -7,6 +7,7 @@ use Rattle.std.specs.List.{range_with_len, find}
 use Rattle.std.proofs.lemmas.List.{reverse-append}
 use Rattle.std.proofs.lemmas.List.Folds.{list_any-append}
 use Rattle.std.proofs.lemmas.Bool.Decides.{nat_tests}
+use Rattle.sd_base.proofs.Ranges.{filter_range}
 use Rattle.sd_packet.specs.Header.{pid_of, has_payload}
 use Rattle.sd_packet.specs.Positions.{is_placed, is_moving}
 use Rattle.sd_spec_broadcast.specs.Kinds.{is_current_pat, pat_in_force, has_moved, positional_pids, moved_pids, put_in}
@@ -41,15 +42,6 @@ put_first f q a (suc n) below =
     by_test true is rest = let less : nat_lt q a ≡ true = grind (arith, nat_tests, below) in rw is (rw less refl)
     by_test false is rest = rw is rest
 
--- numbers that pass two tests alike are the same
-filtered_alike : (f g : ℕ → Bool) (a n : ℕ) → ((m : ℕ) → a ≤ m → m < a + n → f m ≡ g m) →
-    filter f (range_with_len a n) ≡ filter g (range_with_len a n)
-filtered_alike f g a zero same = refl
-filtered_alike f g a (suc n) same =
-    let here : f a ≡ g a = same a (omega arith) (omega arith) in
-    let rest = filtered_alike f g (a + 1) n (λ m low high. same m (omega (arith, low)) (omega (arith, high))) in
-    rw here (rw rest refl)
-
 -- a number is this one or above it
 abbrev IsHereOrLater : ℕ → ℕ → Type 0
 IsHereOrLater a q = (a ≡ q) ⊎ (a < q)
@@ -80,7 +72,7 @@ put_here f a n none =
     let itself : (a == a) ≡ true = grind (arith, nat_tests) in
     rw none (rw itself (
     ap (λ (xs : List ℕ). a ∷ xs)
-    (filtered_alike (with_number f a) f (a + 1) n (λ m low high. apart f a m (omega (arith, low))))
+    (filter_range (with_number f a) f (a + 1) n (λ m low high. apart f a m (omega (arith, low))))
     ∙ sym (put_first f a (a + 1) n (omega arith))))
 
 -- put among those after the first
@@ -126,7 +118,7 @@ moved_first before packet placed none =
     let payload : has_payload packet ≡ true = grind (arith, nat_tests, placed) in
     let low : 0x20 ≤ pid_of packet = grind (arith, nat_tests, placed) in
     let high : pid_of packet < 0x20 + 0x1FD0 = grind (arith, nat_tests, placed) in
-    filtered_alike (has_moved (before ++ packet ∷ [])) (with_number (has_moved before) (pid_of packet)) 0x20 0x1FD0
+    filter_range (has_moved (before ++ packet ∷ [])) (with_number (has_moved before) (pid_of packet)) 0x20 0x1FD0
     (λ m at_least at_most. moved_after before packet m
     ∙ ap (λ (b : Bool). has_moved before m || b) (moves_its_own packet m payload))
     ∙ put_among (has_moved before) (pid_of packet) 0x20 0x1FD0 low high none
@@ -137,7 +129,7 @@ moved_alike : (before : List (List ℕ)) (packet : List ℕ)
     → moved_pids (before ++ packet ∷ []) ≡ moved_pids before
 unfolding moved_pids positional_pids
 moved_alike before packet still =
-    filtered_alike (has_moved (before ++ packet ∷ [])) (has_moved before) 0x20 0x1FD0
+    filter_range (has_moved (before ++ packet ∷ [])) (has_moved before) 0x20 0x1FD0
     (λ m low high. moved_after before packet m ∙ same m low high (has_moved before m) refl)
   where
     same : (m : ℕ) → 0x20 ≤ m → m < 0x20 + 0x1FD0 → (b : Bool) → has_moved before m ≡ b →

@@ -1,11 +1,12 @@
 -- Each thing that is sent is of the broadcast.
 use Rattle.std.proofs.Common.{◌≡◌, ℕ, ◌-◌, ◌/◌, ◌%◌, ◌<◌, ◌≤◌, ◌==◌, Bool, true, false}
-use Rattle.std.proofs.Common.{List, [], ◌∷◌, ◌++◌, length, take, get_or, map, if◌then◌else◌}
+use Rattle.std.proofs.Common.{List, [], ◌∷◌, ◌++◌, length, take, map, if◌then◌else◌}
 use Rattle.std.proofs.Common.{refl, sym, subst, arith, append_assoc, length-append}
 use Rattle.std.specs.Prelude.{Contains, All}
-use Rattle.std.proofs.lemmas.List.Elements.{All-append, All-cons, All-map, All-contains_itself}
+use Rattle.std.proofs.lemmas.List.Elements.{All-append, All-cons, All-map}
 use Rattle.std.proofs.Math.Seq.{take-append_seam, get_or-append_seam}
 use Rattle.std.proofs.lemmas.Bool.Decides.{nat_tests}
+use Rattle.sd_base.proofs.Lists.{all_by}
 use Rattle.sd_emm.specs.Period.{emms_of}
 use Rattle.sd_emm.specs.declared.emm.Emm.{Emm}
 use Rattle.sd_ecm.specs.Parts.{parts_of}
@@ -17,10 +18,6 @@ use Rattle.sd_spec_broadcast.specs.Sent.{Item, Cat, Entitles, Controls, Carries,
 use Rattle.sd_spec_broadcast.specs.Sent.{message_before}
 use Rattle.sd_spec_broadcast.specs.Sent.{added, sent_from, sent, closing_of}
 use Rattle.sd_spec_broadcast.specs.Items.{IsOfBroadcast, cat, entitlement, part, closing, carried_on}
-
--- all of these have what is shown of each of their members
-all_by : {A : Type 0} (P : A → Type 0) (xs : List A) → ((x : A) → Contains xs x → P x) → All P xs
-all_by P xs each = λ k d within. each (get_or xs k d) (All-contains_itself xs k d within)
 
 -- the tables of packet k
 tables_are : (plan : Plan) (clear : List (List ℕ)) (k : ℕ) → k ≤ length clear - 1 →

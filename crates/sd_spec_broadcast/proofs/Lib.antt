@@ -5,3 +5,4 @@ pub mod Sending
 pub mod Bodies
 pub mod Items
 pub mod Standing
+pub mod Periods

@@ -8,6 +8,7 @@ use Rattle.std.proofs.lemmas.List.{length-replicate}
 use Rattle.std.proofs.lemmas.List.Elements.{All-nil, All-cons, All-head, All-tail, All-append}
 use Rattle.std.proofs.lemmas.List.Sums.{length-filter, count_by-le-length}
 use Rattle.std.proofs.lemmas.List.FromFn.{length-range_with_len}
+use Rattle.sd_base.proofs.Lists.{all_first}
 use Rattle.sd_tree.specs.Leaves.{leaves}
 use Rattle.sd_site.specs.Fields.{SiteFields, AreInRange}
 use Rattle.sd_book.specs.declared.command.Command.{Command}
@@ -123,16 +124,10 @@ event_books_fit site m d past low few all = record {
   revoked = λ q within. omega (arith, few_revoked d (event_book site m past) q low);
 }
 
--- what holds of a list holds of its front
-all_front : {A : Type 0} (P : A → Type 0) (front rest : List A) → All P (front ++ rest) → All P front
-all_front P [] rest all = All-nil P
-all_front P (x ∷ front) rest all =
-    All-cons P x front (All-head P x (front ++ rest) all) (all_front P front rest (All-tail P x (front ++ rest) all))
-
 -- a front of a book within the limits, of a low tree, may be the front of a book
 pub fronts_fit : (d : ℕ) (front rest : List Command) → d ≤ 6 → IsWithinLimits d (front ++ rest) → IsDraft d front
 fronts_fit d front rest low fits = record {
-  leaves = all_front (λ command. is_within d command ≡ true) front rest fits.leaves;
+  leaves = all_first (λ command. is_within d command ≡ true) front rest fits.leaves;
   lines = let most = fits.lines in omega (arith, most, length-append front rest);
   periods = let most = fits.periods in omega (arith, most, period_append front rest);
   revoked = λ q within. omega (arith, few_revoked d front q low);

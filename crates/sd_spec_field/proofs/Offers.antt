@@ -9,6 +9,7 @@ use Rattle.std.proofs.lemmas.List.{reverse-append, length-take}
 use Rattle.std.proofs.lemmas.List.Concat.{flat_map-append}
 use Rattle.std.proofs.lemmas.List.Elements.{All-nil, All-cons, All-head, All-tail}
 use Rattle.std.proofs.lemmas.List.Sorted.{All-permutation, IsPermutation-reverse}
+use Rattle.sd_base.proofs.Lists.{last_out}
 use Rattle.sd_site.specs.Fields.{SiteFields, AreInRange}
 use Rattle.sd_card.specs.Fields.{CardFields}
 use Rattle.sd_engine.specs.Stream.{packets_of}
@@ -32,11 +33,6 @@ before_past : (packet : List ℕ) (packets past : List (List ℕ)) →
 before_past packet packets past =
     sym (ap (λ (ps : List (List ℕ)). ps ++ past) (reverse-append (packet ∷ []) packets)
     ∙ append_assoc (reverse packets) (packet ∷ []) past)
-
--- nothing is written after the last packet
-last_out : (wrote : List (List ℕ)) (none : Bool) → wrote ++ (if none then [] else []) ≡ wrote
-last_out wrote true = append-nil wrote
-last_out wrote false = append-nil wrote
 
 -- the first packet, by whether it is refused
 first_out : (fault rest : Option StreamFault) (wrote all some last : List (List ℕ)) →

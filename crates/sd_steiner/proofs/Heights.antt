@@ -13,7 +13,8 @@ use Rattle.sd_steiner.proofs.Ends.{AreLeaves, within_tree, linked_start, linked_
 use Rattle.sd_steiner.proofs.Lists.{member_cases, no_member}
 
 -- the first node of a chain is above the last
-linked_above : (d : ℕ) (leaves nodes : List ℕ) (v : ℕ) → AreLinked d leaves (v ∷ nodes) → IsAbove v (last_of v nodes)
+pub linked_above : (d : ℕ) (leaves nodes : List ℕ) (v : ℕ) → AreLinked d leaves (v ∷ nodes) →
+    IsAbove v (last_of v nodes)
 linked_above d leaves [] v l = above_self v
 linked_above d leaves (w ∷ nodes) v l = above_trans v w (last_of w nodes) (1, l.2) (linked_above d leaves nodes w l.3)
 

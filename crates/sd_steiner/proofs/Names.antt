@@ -10,7 +10,7 @@ use Rattle.sd_steiner.specs.Chains.{IsChainCover}
 use Rattle.sd_steiner.proofs.Lists.{member_cases, member_first, member_later, no_member}
 
 -- no name stands before itself, nor before one that stands before it
-not_both : (a b : SetName) → set_cmp a b ≡ Less → set_cmp b a ≡ Less → ⊥
+pub not_both : (a b : SetName) → set_cmp a b ≡ Less → set_cmp b a ≡ Less → ⊥
 not_both Whole Whole p q = cc
 not_both Whole (Diff k l) p q = cc
 not_both (Diff i j) Whole p q = cc
@@ -34,7 +34,7 @@ ascending_once sets a i j d below within same =
     not_both (get_or sets j d) (get_or sets j d) itself itself
 
 -- each name of b is in a
-abbrev HasAllOf : List SetName → List SetName → Type 0
+abbrev pub HasAllOf : List SetName → List SetName → Type 0
 HasAllOf a b = (name : SetName) → Contains b name → Contains a name
 
 -- two ascending lists with the same members begin alike
@@ -59,7 +59,7 @@ rest_has x xs ys a all name m = elim (member_cases x ys name (all name (member_l
 ]
 
 -- two ascending lists with the same members are equal
-same_ascending : (a b : List SetName) → AreAscending a → AreAscending b → HasAllOf b a → HasAllOf a b → a ≡ b
+pub same_ascending : (a b : List SetName) → AreAscending a → AreAscending b → HasAllOf b a → HasAllOf a b → a ≡ b
 same_ascending [] [] a b all back = refl
 same_ascending [] (y ∷ ys) a b all back = absurd (no_member y (back y (member_first y ys)))
 same_ascending (x ∷ xs) [] a b all back = absurd (no_member x (all x (member_first x xs)))

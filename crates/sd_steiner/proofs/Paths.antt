@@ -15,7 +15,7 @@ use Rattle.sd_steiner.proofs.Lists.{member_cases, no_member}
 use Rattle.sd_steiner.proofs.Ends.{linked_start, linked_end, sibling_cases}
 
 -- the only leaf of a list of one
-the_only_leaf : (u w : ℕ) → Contains (u ∷ []) w → w ≡ u
+pub the_only_leaf : (u w : ℕ) → Contains (u ∷ []) w → w ≡ u
 the_only_leaf u w m = elim (member_cases u [] w m) [
   | inl same ↦ sym same
   | inr none ↦ absurd (no_member w none)

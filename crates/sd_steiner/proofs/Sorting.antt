@@ -107,7 +107,7 @@ after_or_same (Diff i j) (Diff k l) p = elim (pair_cases i j k l p) [
 ]
 
 -- a sorted list in which no name stands twice ascends
-sorted_ascends : (sets : List SetName) → IsSorted set_cmp sets → AllPairs (λ a b. a ≢ b) sets → AreAscending sets
+pub sorted_ascends : (sets : List SetName) → IsSorted set_cmp sets → AllPairs (λ a b. a ≢ b) sets → AreAscending sets
 sorted_ascends sets up once i j d below within =
     elim (after_or_same (get_or sets i d) (get_or sets j d)
     (sorted_far before names_ordered sets up i j d (omega arith) within)) [

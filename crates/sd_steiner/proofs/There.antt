@@ -10,8 +10,9 @@ use Rattle.std.proofs.lemmas.Bool.{cases_Bool, and_parts, and_from, cases_lt}
 use Rattle.std.proofs.lemmas.Bool.Decides.{nat_tests, eqb_tells, same_from_decides}
 use Rattle.std.proofs.lemmas.Nat.{pow_pos}
 use Rattle.std.proofs.lemmas.List.Elements.{Contains-get_or, All-contains}
-use Rattle.std.proofs.lemmas.List.Folds.{list_any_at}
 use Rattle.std.proofs.lemmas.List.Kept.{AllPairs-cons}
+use Rattle.sd_base.proofs.Lists.{any_there}
+use Rattle.sd_base.proofs.Ranges.{range_has, in_range}
 use Rattle.sd_tree.specs.declared.height.TheConstants.{HIGHEST}
 use Rattle.sd_tree.specs.Node.{depth}
 use Rattle.sd_tree.specs.Leaves.{is_below}
@@ -39,10 +40,6 @@ passed_by p (x ∷ xs) e = elim (cases_Bool (p x)) [
   | inl yes' ↦ (x, member_first x xs, yes')
   | inr no' ↦ let rest = passed_by p xs (sym (rw no' refl) ∙ e) in (rest.0, member_later x xs rest.0 rest.1, rest.2)
 ]
-
--- a member that passes is found
-passes : {X : Type 0} (p : X → Bool) (xs : List X) (x : X) → Contains xs x → p x ≡ true → list_any p xs ≡ true
-passes p xs x (k, h, is) e = list_any_at p xs k x h (ap p is ∙ e)
 
 -- a node of a tree of height d stands so many steps above the leaves
 pub stands_by_number : (d v : ℕ) → d < 32 → 1 ≤ v → v < 2 ^ (d + 1) → StandsAt d (d - depth v) v
@@ -79,22 +76,6 @@ map_has_member f p (y ∷ ys) x m e = elim (member_cases y ys x m) [
     | inl yes' ↦ rw yes' (member_later (f y) (map f (filter p ys)) (f x) (map_has_member f p ys x later e))
     | inr no' ↦ rw no' (map_has_member f p ys x later e)
   ]
-]
-
--- the members of a range
-range_has : (a n v : ℕ) → a ≤ v → v < a + n → Contains (range_with_len a n) v
-range_has a zero v low high = absurd (omega arith)
-range_has a (suc n) v low high = elim (eqb_tells a v) [
-  | inl same ↦ subst (Contains (a ∷ range_with_len (a + 1) n)) same.1 (member_first a (range_with_len (a + 1) n))
-  | inr other ↦ let apart =
-      other.1 in member_later a (range_with_len (a + 1) n) v (range_has (a + 1) n v (omega arith) (omega arith))
-]
-
-in_range : (a n v : ℕ) → Contains (range_with_len a n) v → (a ≤ v) × (v < a + n)
-in_range a zero v m = absurd (no_member v m)
-in_range a (suc n) v m = elim (member_cases a (range_with_len (a + 1) n) v m) [
-  | inl same ↦ (omega arith, omega arith)
-  | inr later ↦ let rest = in_range (a + 1) n v later in (omega (arith, rest.0), omega (arith, rest.1))
 ]
 
 -- ascending names after one that stands before each of them ascend with it
@@ -139,7 +120,7 @@ module _ (d : ℕ) (revoked : List ℕ) (small : d < 32) (leaves : AreLeaves d r
         in_tree_from d level v u.0 revoked at u.1 is,
     λ t.
         let to = in_tree_to d level v revoked leaves at t in
-        passes (is_below d v) revoked to.0 to.1 (below_by_halvings d level v to.0 small at
+        any_there (is_below d v) revoked to.0 to.1 (below_by_halvings d level v to.0 small at
         ∙ eq-eqb (node_at d level to.0) v to.2),
   )
 
@@ -405,7 +386,7 @@ module _ (d : ℕ) (f g : ℕ → Bool) (small : d < 32) (agree : (v : ℕ) → 
 inside_either : (d : ℕ) (a b : List ℕ) (v : ℕ) → ((u : ℕ) → Contains a u → Contains b u) → is_inside d a v ≡ true
     → is_inside d b v ≡ true
 unfolding is_inside
-inside_either d a b v has e = let u = passed_by (is_below d v) a e in passes (is_below d v) b u.0 (has u.0 u.1) u.2
+inside_either d a b v has e = let u = passed_by (is_below d v) a e in any_there (is_below d v) b u.0 (has u.0 u.1) u.2
 
 -- lists of the same leaves have the same cover
 pub same_leaves : (d : ℕ) (a b : List ℕ) → d < 32 → ((u : ℕ) → Contains a u ↔ Contains b u)

@@ -1,7 +1,8 @@
 -- There is a walk: a list of the sets of all chains, with what it says of each leaf.
 use Rattle.std.proofs.Common.{◌≡◌, ◌≢◌, ℕ, suc, zero, subst, inl, inr, ◌+◌, ◌-◌, ◌*◌, ◌/◌, ◌^◌, ◌<◌, Bool, true, false}
-use Rattle.std.proofs.Common.{◌&&◌, ◌||◌, nat_eq, List, [], ◌∷◌, ◌++◌, eqb-true, arith, sym, ◌∙◌, refl}
+use Rattle.std.proofs.Common.{◌&&◌, nat_eq, List, [], ◌∷◌, ◌++◌, eqb-true, arith, sym, ◌∙◌, refl}
 use Rattle.std.specs.List.{list_any}
+use Rattle.sd_base.proofs.Bools.{or_swap}
 use Rattle.sd_tree.specs.Leaves.{is_below, HoldsLeavesOf}
 use Rattle.sd_tree.specs.declared.set.SetName.{SetName}
 use Rattle.std.proofs.lemmas.Bool.{cases_Bool}
@@ -22,13 +23,6 @@ pub record IsWalk (d : ℕ) (revoked : List ℕ) (head v : ℕ) : Type 0 where
   pub sets : List SetName
   pub chains : AreChainsFrom d revoked head v sets
   pub counted : IsCounted d revoked head v sets
-
--- one of two tests passes, in the other order
-or_swap : (a b : Bool) → (a || b) ≡ (b || a)
-or_swap true true = refl
-or_swap true false = refl
-or_swap false true = refl
-or_swap false false = refl
 
 -- both tests pass, in the other order
 and_swap : (a b : Bool) → (a && b) ≡ (b && a)

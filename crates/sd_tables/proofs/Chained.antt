@@ -1,21 +1,14 @@
 -- What the inspector writes of packets, one after the other.
 use Rattle.std.proofs.Common.{◌≡◌, ℕ, ◌+◌, ◌-◌, ◌^◌, ◌≤◌, List, [], ◌∷◌, ◌++◌, length, reverse, sym, ap, subst, ◌∙◌}
 use Rattle.std.proofs.Common.{append-nil, append_assoc, arith}
-use Rattle.std.proofs.lemmas.List.{reverse-append}
 use Rattle.std.specs.List.{flat_map}
+use Rattle.sd_base.proofs.Lists.{reversed}
 use Rattle.sd_packet.specs.Header.{pid_of}
 use Rattle.sd_tables_line.specs.Lines.{section_line}
 use Rattle.sd_engine.specs.Stage.{Chain}
 use Rattle.sd_tables.specs.Inspected.{lines_in, sections_at}
 use Rattle.sd_tables.specs.Staged.{seen, inspector_does, IsStateAfter}
 use Rattle.sd_tables.specs.declared.inspector.Inspector.{Inspector}
-
--- packets more stand before those that came before them
-reversed : (packet : List ℕ) (packets before : List (List ℕ)) →
-    reverse (packet ∷ packets) ++ before ≡ reverse packets ++ packet ∷ before
-reversed packet packets before =
-    ap (λ (ps : List (List ℕ)). ps ++ before) (reverse-append (packet ∷ []) packets)
-    ∙ append_assoc (reverse packets) (packet ∷ []) before
 
 -- the lines of a packet are those at its number
 first_lines : (packet : List ℕ) (before : List (List ℕ)) (first : List ℕ) (number : ℕ) → number ≡ length before →

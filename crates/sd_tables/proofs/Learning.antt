@@ -6,6 +6,7 @@ use Rattle.std.specs.Prelude.{Option, Some, None, is_none, Result, Ok, Err}
 use Rattle.std.specs.List.{list_any}
 use Rattle.std.proofs.lemmas.Bool.{eq-eqb, ne_eqb, cases_eq}
 use Rattle.std.proofs.lemmas.List.{get_or-set_same, get_or-set_other, get_or-replicate}
+use Rattle.sd_base.proofs.Bools.{or_false, or_assoc}
 use Rattle.sd_section.specs.Header.{whole_of}
 use Rattle.sd_section.specs.Judged.{section_fault}
 use Rattle.sd_section.specs.declared.fault.SectionFault.{SectionFault}
@@ -21,15 +22,6 @@ use Rattle.sd_tables_line.specs.declared.table.TableFault.{TableFault}
 use Rattle.sd_tables_line.specs.declared.table.TableFault.TheVariants.{Length, Crc, Form}
 use Rattle.sd_tables.specs.Inspected.{is_sound, pids_named_by, is_watched, named_in}
 use Rattle.sd_tables.specs.Watching.{is_named_pid, naming, AreAdded, IsLearned, AreMarked}
-
--- with nothing more it stays
-pub or_false : (a : Bool) → (a || false) ≡ a
-or_false true = refl
-or_false false = refl
-
-pub or_assoc : (a b c : Bool) → ((a || b) || c) ≡ (a || (b || c))
-or_assoc true b c = refl
-or_assoc false b c = refl
 
 or_mark : (a b c : Bool) → b ≡ true → c ≡ true → c ≡ (a || b)
 or_mark true b c e f = f

@@ -4,11 +4,11 @@ use Rattle.std.proofs.Common.{◌∙◌, append_assoc, append-nil}
 use Rattle.std.specs.Prelude.{Option, Some, slice_get, drop}
 use Rattle.std.specs.List.{flat_map, list_any}
 use Rattle.std.proofs.lemmas.List.Folds.{list_any-append}
+use Rattle.sd_base.proofs.Bools.{or_false, or_assoc}
 use Rattle.sd_section.specs.Assembled.{Assembling, all_lent}
 use Rattle.sd_tables_line.specs.Lines.{section_line}
 use Rattle.sd_tables.specs.Inspected.{pids_named_by}
 use Rattle.sd_tables.specs.Watching.{is_named_pid, naming, IsLearned, IsLearning}
-use Rattle.sd_tables.proofs.Learning.{or_false, or_assoc}
 
 -- the section that is lent is the first that waits
 pub first_is : (waiting rest : List (List ℕ)) (section : List ℕ) → Some section ≡ slice_get waiting 0 →

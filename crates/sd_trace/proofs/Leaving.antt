@@ -5,11 +5,11 @@ use Rattle.std.proofs.Common.{refl, sym, ap, ◌∙◌, inl, inr, arith, eq-eqb,
 use Rattle.std.specs.Prelude.{◌⊎◌, ◌↔◌, All, Contains, filter, if◌then◌else◌}
 use Rattle.std.specs.List.{list_any, range_with_len}
 use Rattle.std.proofs.lemmas.Bool.{cases_eq, cases_lt}
+use Rattle.sd_base.proofs.Lists.{is_found}
 use Rattle.sd_steiner.proofs.Lists.{found_member}
 use Rattle.sd_trace.specs.Trace.{not_among}
 use Rattle.sd_trace.specs.declared.found.Found.{Found}
 use Rattle.sd_trace.specs.Trace.{IsRound}
-use Rattle.sd_trace.proofs.Opening.{is_found}
 use Rattle.sd_trace.proofs.Inside.{round_inside}
 
 -- tests that agree above a number keep the same numbers above it

@@ -2,13 +2,13 @@
 use Rattle.std.proofs.Common.{◌≡◌, ℕ, zero, suc, ◌+◌, ◌-◌, ◌^◌, ◌<◌, Bool, true, false, not, ◌||◌, nat_eq, List, []}
 use Rattle.std.proofs.Common.{◌∷◌}
 use Rattle.std.proofs.Common.{length, get_or, take, drop, cond, count_by, arith, refl, sym, ap, subst, ◌∙◌, inl, inr}
-use Rattle.std.proofs.Common.{eq-eqb}
 use Rattle.std.specs.Prelude.{◌⊎◌, Contains, All, replicate, if◌then◌else◌}
 use Rattle.std.specs.List.{list_any}
 use Rattle.std.proofs.lemmas.List.{drop-append-le, drop-replicate, take-replicate, length-replicate, length-append}
 use Rattle.std.proofs.lemmas.List.Elements.{All-contains}
 use Rattle.std.proofs.lemmas.List.Folds.{list_any_at}
 use Rattle.std.proofs.lemmas.List.Sums.{sum_by-cons}
+use Rattle.sd_base.proofs.Lists.{is_found}
 use Rattle.sd_tree.specs.Leaves.{is_member}
 use Rattle.sd_tree.specs.declared.set.SetName.{SetName}
 use Rattle.sd_tree.specs.declared.set.SetName.TheVariants.{Whole}
@@ -27,10 +27,6 @@ pub all_right : (d : ℕ) (coalition : List ℕ) (sets : List SetName) →
 unfolding opens_some
 all_right d coalition [] = refl
 all_right d coalition (name ∷ sets) = ap (λ (b : Bool). has_some d coalition name || b) (all_right d coalition sets)
-
--- a number in a list is found by the test
-pub is_found : (xs : List ℕ) (u : ℕ) → Contains xs u → list_any (nat_eq u) xs ≡ true
-is_found xs u (k, within, is) = list_any_at (nat_eq u) xs k u within (rw is (eq-eqb u u refl))
 
 -- where no set passes a test, none at a place does
 none_at : {X : Type 0} (p : X → Bool) (xs : List X) (k : ℕ) (d : X) → list_any p xs ≡ false → k < length xs →

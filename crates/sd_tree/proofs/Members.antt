@@ -1,8 +1,11 @@
 -- The leaves of a set, and how many they are.
 use Rattle.std.proofs.Common.{ℕ, ◌+◌, ◌-◌, ◌*◌, ◌^◌, ◌<◌, ◌≤◌, ◌≡◌, Bool, true, false, not, ◌&&◌, cond, ltb, length}
 use Rattle.std.proofs.Common.{sym, refl, ◌∙◌, ⊎_elim, arith}
-use Rattle.std.specs.Prelude.{◌↔◌}
+use Rattle.std.specs.Prelude.{◌↔◌, All}
 use Rattle.std.specs.List.{filter}
+use Rattle.std.specs.List.Sorted.{IsStrictlyIncreasing}
+use Rattle.std.proofs.lemmas.List.Elements.{All-from_get_or}
+use Rattle.std.proofs.lemmas.List.FromFn.{length-range_with_len, get_or-range_with_len}
 use Rattle.std.proofs.lemmas.List.Sums.{length-filter}
 use Rattle.std.proofs.lemmas.Bool.{false≢true, and_parts, and_from, not-true, not_from_false, cases_Bool, lt-ltb}
 use Rattle.std.proofs.lemmas.Bool.{le-ltb, false_from_ne_true}
@@ -107,3 +110,24 @@ count_pair d i j h pair =
       length-filter (is_below d j) (leaves d),
       length-filter (is_member d (Diff i j)) (leaves d),
     )
+
+-- each leaf of a tree of height d is below 2^d
+pub leaves_below : (d : ℕ) → All (λ u. u < 2 ^ d) (leaves d)
+leaves_below d = All-from_get_or (λ u. u < 2 ^ d) (leaves d) 0
+    (λ i h. omega (
+      arith,
+      length-range_with_len 0 (2 ^ d),
+      get_or-range_with_len 0 (2 ^ d) i 0
+          (omega (arith, length-range_with_len 0 (2 ^ d))),
+    ))
+
+-- the leaves of a tree are ascending
+pub leaves_ascending : (d : ℕ) → IsStrictlyIncreasing (leaves d)
+leaves_ascending d = λ k h. omega (
+  arith,
+  length-range_with_len 0 (2 ^ d),
+  get_or-range_with_len 0 (2 ^ d) k 0
+      (omega (arith, length-range_with_len 0 (2 ^ d))),
+  get_or-range_with_len 0 (2 ^ d) (k + 1) 0
+      (omega (arith, length-range_with_len 0 (2 ^ d))),
+)
