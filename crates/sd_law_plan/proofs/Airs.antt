@@ -5,7 +5,7 @@ use Rattle.sd_site.specs.Fields.{SiteFields, AreInRange}
 use Rattle.sd_spec_broadcast.specs.Plan.{Plan, crypto_of, period_in, period_of, word_of}
 use Rattle.sd_spec_broadcast.specs.Refused.{is_too_long}
 use Rattle.sd_spec_broadcast.proofs.Schedule.{period_of_first, periods_rise, words_rise}
-use Rattle.sd_run_plan.specs.Air.{cryptos_for, last_period_for, last_word_for}
+use Rattle.sd_run_books.specs.Air.{cryptos_for, last_period_for, last_word_for}
 
 -- the last control word is that of the last packet
 pub last_word_is : (site : SiteFields) (m : ℕ) → last_word_for site m ≡ word_of site (m - 1)

@@ -14,9 +14,9 @@ use Rattle.sd_law_several.specs.Known.{AreOneTree}
 use Rattle.sd_law_several.proofs.Words.{used_words}
 use Rattle.sd_command_status.specs.declared.status.Clash.{Clash as ClashKind}
 use Rattle.sd_command_status.specs.declared.status.Clash.TheVariants.{Books}
-use Rattle.sd_run_apart.specs.Apart.{books_clash, clash_in, clash_of, differing_in, due_in_both, first_differing}
-use Rattle.sd_run_apart.specs.Apart.{first_of, first_shared, last_due, shared_count, sites_clash}
-use Rattle.sd_run_plan.specs.Air.{cryptos_for, last_period_for, last_word_for}
+use Rattle.sd_run_books.specs.Apart.{books_clash, clash_in, clash_of, differing_in, due_in_both, first_differing}
+use Rattle.sd_run_books.specs.Apart.{first_of, first_shared, last_due, shared_count, sites_clash}
+use Rattle.sd_run_books.specs.Air.{cryptos_for, last_period_for, last_word_for}
 use Rattle.sd_law_plan.proofs.Found.{swapped_none}
 use Rattle.sd_law_plan.proofs.Ranges.{either_none, no_leaf, none_in, none_of}
 use Rattle.sd_law_plan.proofs.Sites.{later_shares_none, pairs_have_none, ranges_apart, shares_swapped, sites_apart}

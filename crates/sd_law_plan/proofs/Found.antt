@@ -6,7 +6,7 @@ use Rattle.std.specs.List.{range_with_len}
 use Rattle.std.proofs.lemmas.Bool.{cases_lt}
 use Rattle.std.proofs.lemmas.List.Elements.{All-contains, filter_passes, Contains-append_right}
 use Rattle.std.proofs.lemmas.List.FromFn.{get_or-range_with_len, length-range_with_len}
-use Rattle.sd_run_apart.specs.Apart.{differ, first_differing}
+use Rattle.sd_run_books.specs.Apart.{differ, first_differing}
 
 -- the least number from a on, below a + n, that passes the test
 pub record IsLeast (test : ℕ → Bool) (a n u : ℕ) : Type 0 where

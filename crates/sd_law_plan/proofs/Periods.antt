@@ -34,7 +34,7 @@ use Rattle.sd_law_broadcast.proofs.Reached.{period_reached}
 use Rattle.sd_law_several.specs.Runs.{last_crypto}
 use Rattle.sd_law_several.proofs.Texts.{section_number}
 use Rattle.sd_law_several.proofs.Using.{parts_are_used}
-use Rattle.sd_run_plan.specs.Air.{cryptos_for, cryptos_in, entitlements_at, last_word_for, period_count}
+use Rattle.sd_run_books.specs.Air.{cryptos_for, cryptos_in, entitlements_at, last_word_for, period_count}
 use Rattle.sd_law_plan.specs.Within.{is_entitlement_of, told_periods}
 use Rattle.sd_law_plan.proofs.Airs.{last_period_is, last_word_is}
 use Rattle.sd_law_plan.proofs.Counts.{quotient_is, shared, sum_grows, sum_none}

@@ -10,7 +10,7 @@ use Rattle.sd_site.specs.Fields.{SiteFields}
 use Rattle.sd_law_several.specs.Runs.{HasWords, ShareNoWord}
 use Rattle.sd_command_status.specs.declared.status.Clash.{Clash as ClashKind}
 use Rattle.sd_command_status.specs.declared.status.Clash.TheVariants.{Heights, Masters, NoWords, SharedWord}
-use Rattle.sd_run_apart.specs.Apart.{clash_where, shares_word, sites_clash}
+use Rattle.sd_run_books.specs.Apart.{clash_where, shares_word, sites_clash}
 use Rattle.sd_law_plan.proofs.Ranges.{where_none}
 
 -- what sites that don't clash have

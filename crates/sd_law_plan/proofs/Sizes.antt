@@ -27,7 +27,7 @@ use Rattle.sd_spec_broadcast.specs.Sent.{packets_from, sent_from, tables_at, tab
 use Rattle.sd_spec_broadcast.proofs.Schedule.{crypto_length_some}
 use Rattle.sd_packet.specs.Positions.{is_moving}
 use Rattle.sd_law_broadcast.proofs.Fitting.{period_count as sets_many}
-use Rattle.sd_run_plan.specs.Air.{entitlements_at}
+use Rattle.sd_run_books.specs.Air.{entitlements_at}
 use Rattle.sd_law_plan.proofs.Counts.{begun, none_begins, one_begins, quotient_is, shared, shared_more}
 use Rattle.sd_law_plan.proofs.Counts.{shared_none, sum_more, times_next}
 

@@ -11,8 +11,8 @@ use Rattle.sd_book.specs.Commands.{commands_until, is_revoked, revoked}
 use Rattle.sd_spec_broadcast.specs.Plan.{Plan}
 use Rattle.sd_command_status.specs.declared.status.Clash.{Clash as ClashKind}
 use Rattle.sd_command_status.specs.declared.status.Clash.TheVariants.{Heights, Masters, NoWords, SharedWord}
-use Rattle.sd_run_apart.specs.Apart.{books_clash, clash_in, clash_of, clash_where, differ, differing_in, first_shared}
-use Rattle.sd_run_apart.specs.Apart.{shared_count, shares_word, sites_clash}
+use Rattle.sd_run_books.specs.Apart.{books_clash, clash_in, clash_of, clash_where, differ, differing_in, first_shared}
+use Rattle.sd_run_books.specs.Apart.{shared_count, shares_word, sites_clash}
 use Rattle.sd_law_plan.specs.Told.{IsDueIn, IsFirstApart, IsLeastShared, IsOfOne, IsSo, revoked_by}
 use Rattle.sd_law_plan.proofs.Found.{both_same, find_least, kept, one_alone, passes, same_filters}
 use Rattle.sd_law_plan.proofs.Ranges.{first_with, leaf_of, no_leaf}

@@ -7,7 +7,7 @@ use Rattle.sd_spec_broadcast.specs.Plan.{Plan}
 use Rattle.sd_law_several.specs.Runs.{HasWords}
 use Rattle.sd_command_status.specs.declared.status.Clash.{Clash}
 use Rattle.sd_command_status.specs.declared.status.Clash.TheVariants.{Heights, Masters, NoWords, SharedWord, Books}
-use Rattle.sd_run_apart.specs.Apart.{last_due}
+use Rattle.sd_run_books.specs.Apart.{last_due}
 
 -- the leaves that the book revokes in period q, ascending [this project, docs/FORMATS.md, Book]
 abbrev pub revoked_by : Plan → PeriodNumber → Leaves

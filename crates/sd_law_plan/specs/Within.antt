@@ -7,7 +7,7 @@ use Rattle.sd_ecm.specs.declared.part.EcmPart.{EcmPart}
 use Rattle.sd_spec_broadcast.specs.Plan.{Plan, period_of, word_of}
 use Rattle.sd_spec_broadcast.specs.Sent.{Item, Cat, Entitles, Controls, Carries, broadcast, closing_of, sent}
 use Rattle.sd_law_broadcast.specs.Named.{NamesPeriod, sets_named}
-use Rattle.sd_run_plan.specs.Air.{added_most, cryptos_for, cryptos_in, entitlements_at, last_word_for, periods_for}
+use Rattle.sd_run_books.specs.Air.{added_most, cryptos_for, cryptos_in, entitlements_at, last_word_for, periods_for}
 
 -- the thing is a section of the entitlements of period q
 abbrev pub is_entitlement_of : PeriodNumber → Item → Bool

@@ -7,8 +7,8 @@ ghost use Rattle.sd_spec_broadcast.specs.Plan.{Plan};
 ghost use Rattle.sd_law_several.specs.Runs.{Run, IsRun, HasWords, ShareNoWord, HaveOwnWords, AgreeOnPeriods, AllAgree};
 ghost use Rattle.sd_law_several.specs.Known.{AreOneTree};
 ghost use Rattle.sd_command_status.specs.declared.status.Clash.{Clash};
-ghost use Rattle.sd_run_apart.specs.Apart.{clash_of};
-ghost use Rattle.sd_run_plan.specs.Air.{cryptos_for, last_period_for, last_word_for};
+ghost use Rattle.sd_run_books.specs.Apart.{clash_of};
+ghost use Rattle.sd_run_books.specs.Air.{cryptos_for, last_period_for, last_word_for};
 ghost use Rattle.sd_law_plan.specs.Told.{IsSo};
 
 /// If two broadcasts don't clash, the premises of the laws on several broadcasts hold for them, whatever their streams

@@ -7,7 +7,7 @@ ghost use Rattle.sd_spec_broadcast.specs.Kinds.{moved_pids};
 ghost use Rattle.sd_spec_broadcast.specs.Plan.{Plan, IsPlan, period_of, word_of};
 ghost use Rattle.sd_spec_broadcast.specs.Refused.{IsClear, is_too_long};
 ghost use Rattle.sd_law_broadcast.specs.Packets.{AreLong};
-ghost use Rattle.sd_run_plan.specs.Air.{cryptos_for, last_period_for, last_word_for};
+ghost use Rattle.sd_run_books.specs.Air.{cryptos_for, last_period_for, last_word_for};
 ghost use Rattle.sd_law_plan.specs.Within.{IsWithinPlan};
 
 /// The broadcast of a clear stream with packets has no more packets than `plan` prints for its numbers of clear packets

@@ -26,13 +26,13 @@ use Rattle.sd_site.proofs.Short.{site_short}
 use Rattle.sd_book.proofs.Written.{spelled_again}
 use Rattle.sd_book.specs.Limits.{IsWithinLimits}
 use Rattle.sd_law_run.specs.Good.{IsGoodSite, IsGoodBook}
-use Rattle.sd_run_cover.specs.Cover.{covering, cover_meaning}
+use Rattle.sd_run_covers.specs.Cover.{covering, cover_meaning}
 use Rattle.sd_law_run.specs.Good.{IsGoodCover}
 use Rattle.sd_command_files.specs.Made.{making}
-use Rattle.sd_run_card.specs.Card.{told_card}
+use Rattle.sd_run_cards.specs.Card.{told_card}
 use Rattle.sd_law_run.specs.Good.{IsGoodCard}
 use Rattle.sd_law_run.specs.Good.{IsGoodSample}
-use Rattle.sd_run_tables.specs.Tables.{inspecting, tables_meaning}
+use Rattle.sd_run_streams.specs.Tables.{inspecting, tables_meaning}
 use Rattle.sd_command_files.specs.Streams.{stream_status}
 use Rattle.sd_law_run.specs.Good.{IsGoodTables}
 use Rattle.std.specs.List.{concat}

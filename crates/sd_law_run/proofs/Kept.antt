@@ -5,9 +5,9 @@ use Rattle.sd_command_status.specs.Spec.{Readings}
 use Rattle.sd_command_status.specs.Work.{NoSteps}
 use Rattle.sd_command_files.specs.Made.{making}
 use Rattle.sd_command_line.specs.Words.{AccountsOf, BookOf}
-use Rattle.sd_run_accounts.specs.Accounts.{accounts_value, making_then, report_line}
-use Rattle.sd_run_accounts.proofs.Good.{accounts_good}
-use Rattle.sd_run_book.proofs.Longer.{good_files}
+use Rattle.sd_run_books.specs.Accounts.{accounts_value, making_then, report_line}
+use Rattle.sd_run_books.proofs.GoodAccounts.{accounts_good}
+use Rattle.sd_run_books.proofs.Longer.{good_files}
 use Rattle.sd_law_run.specs.Good.{IsGoodAccounts, IsGoodBooks}
 use Rattle.sd_run.specs.Meaning.{meaning}
 use Rattle.sd_law_run.proofs.Goodness.{site_good, site_low, book_good, both_good, ordered}

@@ -8,8 +8,8 @@ use Rattle.sd_command_status.specs.Work.{Uncounted}
 use Rattle.sd_command_files.specs.Files.{site_in, book_in}
 use Rattle.sd_command_files.specs.Made.{making}
 use Rattle.sd_command_line.specs.Words.{LayeredOf, LcardOf}
-use Rattle.sd_run_layered.specs.Layered.{layers, layers_of_file, told_layers, layering}
-use Rattle.sd_run_lcard.specs.Lcard.{told_leaf, told_width, carding}
+use Rattle.sd_run_covers.specs.Layered.{layers, layers_of_file, told_layers, layering}
+use Rattle.sd_run_cards.specs.Lcard.{told_leaf, told_width, carding}
 use Rattle.sd_law_run.specs.Good.{IsGoodLayered, IsGoodLcard}
 use Rattle.sd_run.specs.Meaning.{meaning}
 use Rattle.sd_law_run.proofs.Goodness.{then_is, site_good, site_low, book_good, ordered}

@@ -9,8 +9,8 @@ use Rattle.sd_command_status.specs.Work.{work_of_text}
 use Rattle.sd_command_files.specs.Both.{SiteBook, both_meaning}
 use Rattle.sd_command_files.specs.Files.{site_in, book_in}
 use Rattle.sd_command_line.specs.Words.{ApartOf, PlanOf}
-use Rattle.sd_run_apart.specs.Apart.{apart_text, clash_of, plan_of_both, told_apart, told_clash}
-use Rattle.sd_run_plan.specs.Air.{last_word_for, planning, roomy_site_of_file, told_room}
+use Rattle.sd_run_books.specs.Apart.{apart_text, clash_of, plan_of_both, told_apart, told_clash}
+use Rattle.sd_run_books.specs.Air.{last_word_for, planning, roomy_site_of_file, told_room}
 use Rattle.sd_law_run.specs.Good.{IsGoodApart, IsGoodPlan}
 use Rattle.sd_run.specs.Meaning.{meaning}
 use Rattle.sd_law_run.proofs.Goodness.{then_is, site_good, site_low, book_good, both_good, ordered}

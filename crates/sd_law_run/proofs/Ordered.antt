@@ -17,7 +17,7 @@ use Rattle.sd_command_table.specs.Commands.{command_named, command_name, operand
 use Rattle.sd_command_line.specs.Words.{InputOf, OutOf, Order, HeadOf, CardOf, ReceiveOf, at_most, before, number_in}
 use Rattle.sd_command_line.specs.Words.{named_words, numbered, order_of, ordered}
 use Rattle.sd_command_files.specs.Shown.{word_at}
-use Rattle.sd_run_card.specs.Card.{card_meaning}
+use Rattle.sd_run_cards.specs.Card.{card_meaning}
 use Rattle.sd_run_head.specs.Head.{head_meaning}
 use Rattle.sd_run_receive.specs.Receive.{receive_meaning}
 use Rattle.sd_run.specs.Meaning.{order_meaning, meaning}

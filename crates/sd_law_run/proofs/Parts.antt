@@ -30,7 +30,7 @@ use Rattle.sd_command_files.specs.Shown.{NumberArgument, word_at}
 use Rattle.sd_command_files.specs.Files.{site_in}
 use Rattle.sd_command_files.specs.Made.{making}
 use Rattle.sd_command_files.specs.Turned.{turning}
-use Rattle.sd_run_card.specs.Card.{told_card, card_meaning}
+use Rattle.sd_run_cards.specs.Card.{told_card, card_meaning}
 use Rattle.sd_run_head.specs.Head.{plan_meaning, sending_of, sent_status, head_meaning}
 use Rattle.sd_run_head.proofs.Sending.{sent_unrefused}
 use Rattle.sd_run_receive.specs.Receive.{receiving, received_steps, receive_meaning}

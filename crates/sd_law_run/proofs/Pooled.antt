@@ -11,8 +11,8 @@ use Rattle.sd_command_files.specs.Files.{most_book_bytes}
 use Rattle.sd_command_files.specs.Both.{SiteBook, both_meaning}
 use Rattle.sd_command_files.specs.Leaves.{told_leaves, leaves_of_file, leaves_in}
 use Rattle.sd_command_line.specs.Words.{OpensOf, TraceOf}
-use Rattle.sd_run_opens.specs.Opens.{opening, opens_meaning}
-use Rattle.sd_run_trace.specs.Trace.{revoked_last, trace_text, traced, trace_meaning}
+use Rattle.sd_run_covers.specs.Opens.{opening, opens_meaning}
+use Rattle.sd_run_covers.specs.Trace.{revoked_last, trace_text, traced, trace_meaning}
 use Rattle.sd_law_run.specs.Good.{IsGoodLeaves, IsGoodOpens, IsGoodTrace}
 use Rattle.sd_run.specs.Meaning.{meaning}
 use Rattle.sd_law_run.proofs.Goodness.{then_is, file_read, both_good, ordered}

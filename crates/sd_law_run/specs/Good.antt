@@ -19,8 +19,8 @@ use Rattle.sd_site.specs.Text.{IsSite}
 use Rattle.sd_leaves.specs.Text.{leaves_of_text}
 use Rattle.sd_trace.specs.Trace.{not_among}
 use Rattle.sd_tree.specs.Limits.{most_revoked}
-use Rattle.sd_run_plan.specs.Air.{last_word_for}
-use Rattle.sd_run_trace.specs.Trace.{revoked_last}
+use Rattle.sd_run_books.specs.Air.{last_word_for}
+use Rattle.sd_run_covers.specs.Trace.{revoked_last}
 use Rattle.sd_base_text.specs.Lines.{lines_of}
 use Rattle.sd_book.specs.Text.{SpellsBook}
 use Rattle.sd_book.specs.Limits.{IsWithinLimits}

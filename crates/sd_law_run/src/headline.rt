@@ -20,7 +20,7 @@ ghost use Rattle.sd_spec_types.specs.Types.{Bytes, FileName, Packets, Arrived, L
 ghost use Rattle.sd_command_status.specs.Outside.{Outside, outside, page_state, depot_state};
 ghost use Rattle.sd_command_status.specs.Results.{RunResult};
 ghost use Rattle.sd_command_files.specs.Shown.{word_at};
-ghost use Rattle.sd_run_card.specs.Card.{card_meaning};
+ghost use Rattle.sd_run_cards.specs.Card.{card_meaning};
 ghost use Rattle.sd_run_head.specs.Head.{head_meaning};
 ghost use Rattle.sd_run_receive.specs.Receive.{receive_meaning};
 ghost use Rattle.sd_run.specs.Meaning.{meaning};

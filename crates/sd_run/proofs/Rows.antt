@@ -8,25 +8,25 @@ use Rattle.sd_command_files.specs.Both.{both_meaning}
 use Rattle.sd_command_files.specs.Files.{site_in, book_in}
 use Rattle.sd_command_files.specs.Leaves.{leaves_in}
 use Rattle.sd_command_files.specs.Made.{making}
-use Rattle.sd_run_accounts.specs.Accounts.{accounts_in, making_then, report_line, accounts_meaning}
-use Rattle.sd_run_apart.specs.Apart.{apart_meaning, plan_of_both, told_apart}
-use Rattle.sd_run_book.specs.Book.{longer_book, book_meaning}
-use Rattle.sd_run_card.specs.Card.{told_card, card_meaning}
-use Rattle.sd_run_cover.specs.Cover.{covering, cover_meaning}
+use Rattle.sd_run_books.specs.Accounts.{accounts_in, making_then, report_line, accounts_meaning}
+use Rattle.sd_run_books.specs.Apart.{apart_meaning, plan_of_both, told_apart}
+use Rattle.sd_run_books.specs.Book.{longer_book, book_meaning}
+use Rattle.sd_run_cards.specs.Card.{told_card, card_meaning}
+use Rattle.sd_run_covers.specs.Cover.{covering, cover_meaning}
 use Rattle.sd_run_head.specs.Head.{plan_meaning as head_plan, sent_of, sent_status, sending}
 use Rattle.sd_run_head.specs.Head.{sending_of, head_meaning}
-use Rattle.sd_run_layered.specs.Layered.{layers_of_file, layering, layered_meaning}
-use Rattle.sd_run_lcard.specs.Lcard.{told_leaf, told_width, carding, lcard_meaning}
-use Rattle.sd_run_messages.specs.Messages.{messages_meaning, monitoring, stream_meaning as monitor_meaning}
-use Rattle.sd_run_opens.specs.Opens.{opening, opens_meaning}
-use Rattle.sd_run_plan.specs.Air.{plan_meaning as air_meaning, planning, roomy_site_of_file}
+use Rattle.sd_run_covers.specs.Layered.{layers_of_file, layering, layered_meaning}
+use Rattle.sd_run_cards.specs.Lcard.{told_leaf, told_width, carding, lcard_meaning}
+use Rattle.sd_run_streams.specs.Messages.{messages_meaning, monitoring, stream_meaning as monitor_meaning}
+use Rattle.sd_run_covers.specs.Opens.{opening, opens_meaning}
+use Rattle.sd_run_books.specs.Air.{plan_meaning as air_meaning, planning, roomy_site_of_file}
 use Rattle.sd_run_receive.specs.Receive.{received_status}
 use Rattle.sd_run_receive.specs.Receive.{card_in, received_of, received_steps, receiving, stream_meaning}
 use Rattle.sd_run_receive.specs.Receive.{receive_meaning}
-use Rattle.sd_run_sample.specs.Sample.{sample_meaning}
-use Rattle.sd_run_show.specs.Show.{line_of_file, show_meaning}
-use Rattle.sd_run_tables.specs.Tables.{inspecting, tables_meaning}
-use Rattle.sd_run_trace.specs.Trace.{traced, trace_meaning}
+use Rattle.sd_run_streams.specs.Sample.{sample_meaning}
+use Rattle.sd_run_cards.specs.Show.{line_of_file, show_meaning}
+use Rattle.sd_run_streams.specs.Tables.{inspecting, tables_meaning}
+use Rattle.sd_run_covers.specs.Trace.{traced, trace_meaning}
 use Rattle.sd_command_files.specs.Printed.{printing}
 use Rattle.sd_run_field.specs.Field.{field_meaning, field_text, inputs_meaning, script_of_file}
 use Rattle.sd_run_trial.specs.Prefixes.{prefix_of_file}
@@ -50,22 +50,22 @@ use Rattle.sd_command_table.specs.Operands.{operand_kind}
 use Rattle.sd_command_line.specs.Words.{Argument, file, number, named_words, or_output}
 use Rattle.sd_run.specs.Meaning.{command_meaning}
 use Rattle.sd_command_files.proofs.Others.{IsOther}
-use Rattle.sd_run_cover.proofs.Others.{other_cover}
-use Rattle.sd_run_card.proofs.Others.{other_card_order}
-use Rattle.sd_run_tables.proofs.Others.{other_tables}
+use Rattle.sd_run_covers.proofs.Others.{other_cover}
+use Rattle.sd_run_cards.proofs.Others.{other_card_order}
+use Rattle.sd_run_streams.proofs.Others.{other_tables}
 use Rattle.sd_run_head.proofs.Others.{other_head}
 use Rattle.sd_run_receive.proofs.Others.{other_receive}
-use Rattle.sd_run_accounts.proofs.Others.{other_accounts}
-use Rattle.sd_run_apart.proofs.Others.{other_apart}
-use Rattle.sd_run_book.proofs.Others.{other_book_order}
-use Rattle.sd_run_layered.proofs.Others.{other_layered}
-use Rattle.sd_run_lcard.proofs.Others.{other_lcard}
+use Rattle.sd_run_books.proofs.Others.{other_accounts}
+use Rattle.sd_run_books.proofs.Others.{other_apart}
+use Rattle.sd_run_books.proofs.Others.{other_book_order}
+use Rattle.sd_run_covers.proofs.Others.{other_layered}
+use Rattle.sd_run_cards.proofs.Others.{other_lcard}
 use Rattle.sd_run_field.proofs.Others.{other_field}
-use Rattle.sd_run_messages.proofs.Others.{other_messages}
-use Rattle.sd_run_opens.proofs.Others.{other_opens}
-use Rattle.sd_run_plan.proofs.Others.{other_plan}
-use Rattle.sd_run_show.proofs.Others.{other_show}
-use Rattle.sd_run_trace.proofs.Others.{other_trace}
+use Rattle.sd_run_streams.proofs.Others.{other_messages}
+use Rattle.sd_run_covers.proofs.Others.{other_opens}
+use Rattle.sd_run_books.proofs.Others.{other_plan}
+use Rattle.sd_run_cards.proofs.Others.{other_show}
+use Rattle.sd_run_covers.proofs.Others.{other_trace}
 use Rattle.sd_run_trial.proofs.Others.{other_trial}
 use Rattle.sd_run.proofs.Works.{AreOrderly, orderly_after, same_name, made_whole, turned, none_made, sent_apart}
 use Rattle.sd_run.proofs.Works.{stream_apart, stream_received, text_quiet}

@@ -11,23 +11,23 @@ use Rattle.sd_command_table.specs.declared.command.Command.TheVariants.{Show}
 use Rattle.sd_command_table.specs.declared.command.Command.TheVariants.{Tables}
 use Rattle.sd_command_table.specs.declared.command.Command.TheVariants.{Trace, Trial}
 use Rattle.sd_command_line.specs.Words.{Argument, Order, CommandOf, HelpOf, VersionOf, file, number, order_of}
-use Rattle.sd_run_cover.specs.Cover.{cover_meaning}
-use Rattle.sd_run_card.specs.Card.{card_meaning}
-use Rattle.sd_run_sample.specs.Sample.{sample_meaning}
-use Rattle.sd_run_tables.specs.Tables.{tables_meaning}
+use Rattle.sd_run_covers.specs.Cover.{cover_meaning}
+use Rattle.sd_run_cards.specs.Card.{card_meaning}
+use Rattle.sd_run_streams.specs.Sample.{sample_meaning}
+use Rattle.sd_run_streams.specs.Tables.{tables_meaning}
 use Rattle.sd_run_field.specs.Field.{field_meaning}
 use Rattle.sd_run_head.specs.Head.{head_meaning}
 use Rattle.sd_run_receive.specs.Receive.{receive_meaning}
-use Rattle.sd_run_accounts.specs.Accounts.{accounts_meaning}
-use Rattle.sd_run_apart.specs.Apart.{apart_meaning}
-use Rattle.sd_run_book.specs.Book.{book_meaning}
-use Rattle.sd_run_layered.specs.Layered.{layered_meaning}
-use Rattle.sd_run_lcard.specs.Lcard.{lcard_meaning}
-use Rattle.sd_run_messages.specs.Messages.{messages_meaning}
-use Rattle.sd_run_opens.specs.Opens.{opens_meaning}
-use Rattle.sd_run_plan.specs.Air.{plan_meaning}
-use Rattle.sd_run_show.specs.Show.{show_meaning}
-use Rattle.sd_run_trace.specs.Trace.{trace_meaning}
+use Rattle.sd_run_books.specs.Accounts.{accounts_meaning}
+use Rattle.sd_run_books.specs.Apart.{apart_meaning}
+use Rattle.sd_run_books.specs.Book.{book_meaning}
+use Rattle.sd_run_covers.specs.Layered.{layered_meaning}
+use Rattle.sd_run_cards.specs.Lcard.{lcard_meaning}
+use Rattle.sd_run_streams.specs.Messages.{messages_meaning}
+use Rattle.sd_run_covers.specs.Opens.{opens_meaning}
+use Rattle.sd_run_books.specs.Air.{plan_meaning}
+use Rattle.sd_run_cards.specs.Show.{show_meaning}
+use Rattle.sd_run_covers.specs.Trace.{trace_meaning}
 use Rattle.sd_run_trial.specs.Trial.{trial_meaning}
 use Rattle.sd_run_help.specs.Help.{help_meaning, version_meaning}
 

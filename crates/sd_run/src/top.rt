@@ -15,22 +15,14 @@ use sd_command_line::{Arguments, Order, read_words};
 use sd_command_status::{Status, tell};
 use sd_command_table::Command;
 use sd_ports::{Depot, Sink};
-use sd_run_apart::apart;
-use sd_run_card::card;
-use sd_run_cover::cover;
+use sd_run_books::{apart, plan};
+use sd_run_cards::{card, lcard, show};
+use sd_run_covers::{cover, layered, opens, trace};
 use sd_run_field::field;
 use sd_run_head::head;
 use sd_run_help::{help, version};
-use sd_run_layered::layered;
-use sd_run_lcard::lcard;
-use sd_run_messages::messages;
-use sd_run_opens::opens;
-use sd_run_plan::plan;
 use sd_run_receive::receive;
-use sd_run_sample::sample;
-use sd_run_show::show;
-use sd_run_tables::tables;
-use sd_run_trace::trace;
+use sd_run_streams::{messages, sample, tables};
 use sd_run_trial::trial;
 use std::alloc::Global;
 use std::sync::ledger::Ledger;
@@ -130,9 +122,9 @@ fn work<D: Depot, P: Sink, L: Ledger>(
     let third = row.file(3);
     let fourth = row.file(4);
     match command {
-        Command::Accounts => sd_run_accounts::accounts(alloc, depot, print, first, second, third),
+        Command::Accounts => sd_run_books::accounts(alloc, depot, print, first, second, third),
         Command::Apart => apart(alloc, depot, print, first, second, third, fourth),
-        Command::Book => sd_run_book::book(alloc, depot, first, second, third, fourth),
+        Command::Book => sd_run_books::book(alloc, depot, first, second, third, fourth),
         Command::Card => card(alloc, depot, first, row.number(2), third, steps),
         Command::Cover => cover(alloc, depot, print, first, second),
         Command::Field => field(alloc, depot, print, first, second, third, steps),

@@ -6,7 +6,7 @@ use Rattle.sd_command_status.specs.Spec.{all_of, value, ◌>>=◌}
 use Rattle.sd_command_status.specs.Outcome.{status_of}
 use Rattle.sd_run_receive.specs.Receive.{card_of_file, receiving, stream_meaning, receive_meaning}
 use Rattle.sd_command_files.specs.Shown.{shown_word}
-use Rattle.sd_run_receive.proofs.Streamed.{first_follows, then_follows}
+use Rattle.sd_command_files.proofs.Streamed.{first_follows, then_follows}
 use Rattle.sd_run_receive.proofs.Unmade.{looked_made}
 use Rattle.sd_run_receive.proofs.command.receive.Goals as goal
 

@@ -12,7 +12,7 @@ use Rattle.sd_command_files.specs.Shown.{shown_word}
 use Rattle.sd_command_files.specs.Turned.{unclosed_by}
 use Rattle.sd_command_files.proofs.Looked.{opened_got}
 use Rattle.sd_command_files.proofs.Turning.{turned_obeys, not_turned}
-use Rattle.sd_run_receive.proofs.Streamed.{got_follows}
+use Rattle.sd_command_files.proofs.Streamed.{got_follows}
 use Rattle.sd_run_receive.proofs.Unmade.{not_opened, closed_memory}
 use Rattle.sd_run_receive.proofs.command.receive_file.Goals as goal
 

@@ -1,4 +1,0 @@
-pub mod Good
-pub mod Listed
-pub mod Made
-pub mod Others

@@ -1,4 +1,0 @@
-pub mod Agreeing
-pub mod Merging
-pub mod Pairs
-pub mod Others

@@ -1,0 +1,11 @@
+pub mod GoodAccounts
+pub mod ListedAccounts
+pub mod Made
+pub mod Longer
+pub mod Few
+pub mod Counting
+pub mod Printing
+pub mod Agreeing
+pub mod Merging
+pub mod Pairs
+pub mod Others

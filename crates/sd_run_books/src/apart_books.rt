@@ -1,0 +1,75 @@
+//! Whether two books agree on the periods of both.
+
+ghost use Rattle.std.specs.Prelude.{◌≡◌, ◌≤◌, ℕ, Bool, filter, IfOk};
+ghost use Rattle.std.specs.List.{range_with_len};
+ghost use Rattle.sd_site.specs.Fields.{fields_of};
+ghost use Rattle.sd_run_books.specs.Apart.{books_clash, first_differing};
+
+use crate::apart_sites::last_due;
+use sd_base::NoMemory;
+use sd_book::Book;
+use sd_command_files::replay_from;
+use sd_command_status::Clash;
+use sd_site::Site;
+use sd_tree::Leaf;
+use std::alloc::Global;
+
+/// Why the books of two sites don't agree on the periods that broadcasts of both may use.
+pub(crate) fn clash_of_books(
+    alloc: Global,
+    site: &Site,
+    book: &Book,
+    other: &Site,
+    more: &Book,
+) -> Result<Option<Clash>, NoMemory>
+    requires first { book.now.height ≡ site.now.height }
+    requires second { more.now.height ≡ other.now.height }
+    requires heights { site.now.height ≡ other.now.height }
+    ensures { IfOk result (λ clash. clash ≡ books_clash
+        (record { site = fields_of site.now; commands = book.now.commands })
+        (record { site = fields_of other.now; commands = more.now.commands })) }
+{
+    let last = book.last_period();
+    let last_more = more.last_period();
+    let first = site.first_period.max(other.first_period);
+    let end = last_due(site, last).min(last_due(other, last_more)) + 1;
+    let count = end.saturating_sub(u64::from(first)) as u32;
+    let mut left = replay_from(alloc, book, first.min(last))?;
+    let mut right = replay_from(alloc, more, first.min(last_more))?;
+    for before in 0..count {
+        let Some(a) = left.next(alloc)? else {
+            unreachable!();
+        };
+        let Some(b) = right.next(alloc)? else {
+            unreachable!();
+        };
+        if let Some(leaf) = first_apart(&a, &b) {
+            let period = first + before;
+            return Ok(Some(Clash::Books { leaf, period }));
+        }
+    }
+    Ok(None)
+}
+
+/// The least leaf that one of two ascending lists has and the other doesn't: where each list is what a test lets
+/// through of the numbers below n, the least of which one test says yes alone.
+fn first_apart(left: &[Leaf], right: &[Leaf]) -> Option<u32>
+    ensures { (one other : ℕ → Bool) (n : ℕ) → left.now ≡ filter one (range_with_len 0 n) →
+        right.now ≡ filter other (range_with_len 0 n) → result ≡ first_differing one other n }
+{
+    let shared = left.len().min(right.len());
+    for at in 0..shared {
+        let u = left[at].get();
+        let v = right[at].get();
+        if u != v {
+            return Some(u.min(v));
+        }
+    }
+    if shared < left.len() {
+        Some(left[shared].get())
+    } else if shared < right.len() {
+        Some(right[shared].get())
+    } else {
+        None
+    }
+}

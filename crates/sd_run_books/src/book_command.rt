@@ -1,0 +1,56 @@
+//! `book SITE BOOK COMMANDS OUT`: a book with the commands of another file after its own.
+
+ghost use Rattle.std.specs.Prelude.{◌≡◌, ◌≢◌, ℕ};
+ghost use Rattle.sd_command_status.specs.Outside.{PageState, outside, depot_state};
+ghost use Rattle.sd_command_status.specs.Reads.{JudgedOutcome};
+ghost use Rattle.sd_command_status.specs.Outcome.{Implements, status_of};
+ghost use Rattle.sd_command_files.specs.Shown.{shown_word};
+ghost use Rattle.sd_run_books.specs.Book.{book_meaning, longer_book};
+
+use sd_book::Book;
+use sd_command_files::{Word, book_fault, make_file, read_book, read_both};
+use sd_command_status::Status;
+use sd_ports::Depot;
+use std::alloc::Global;
+
+/// Does `book SITE BOOK COMMANDS OUT`: COMMANDS is a book by itself, and OUT is BOOK with its commands at the end.
+#[inline(never)]
+pub fn book<D: Depot>(
+    alloc: Global,
+    depot: &mut D,
+    site: Word<'_>,
+    book: Word<'_>,
+    commands: Word<'_>,
+    out: Word<'_>,
+) -> Result<(), Status>
+    requires { (site.number ≢ book.number) × (site.number ≢ commands.number) × (book.number ≢ commands.number) }
+    ensures { (page : PageState) (steps : ℕ) →
+        Implements (book_meaning (shown_word site.entry) (shown_word book.entry) (shown_word commands.entry)
+        (shown_word out.entry))
+        (outside (depot_state D.Depot depot.old) page steps) (outside (depot_state D.Depot depot.new) page steps)
+        (status_of result) }
+{
+    let (site, book) = read_both(alloc, depot, site, book)?;
+    let added = read_book(alloc, depot, commands, site.height)?;
+    let whole = longer(commands.number, book, &added)?;
+    let bytes = whole.write(alloc)?;
+    make_file(alloc, depot, out, &bytes)
+}
+
+/// The book with the commands of another one after its own, which this word's file says.
+#[tactic(auto, using(crate::proofs::Longer::longer_refused))]
+fn longer(word: u8, mut book: Book, added: &Book) -> Result<Book, Status>
+    requires { added.now.height ≡ book.height }
+    ensures { JudgedOutcome (λ whole. whole.commands)
+        (longer_book word book.height book.commands added.now.commands) result }
+{
+    let more = added.commands();
+    match book.apply(more) {
+        Ok(()) => {
+            // It is within the limits of a book.
+            let _ = book.commands();
+            Ok(book)
+        }
+        Err(fault) => Err(book_fault(word, fault)),
+    }
+}

@@ -1,2 +1,0 @@
-pub mod Carding
-pub mod Others

@@ -1,6 +1,0 @@
-//! `card SITE LEAF OUT`: the card of a site's leaf.
-#![tactic(auto)]
-
-mod command;
-
-pub use command::card;

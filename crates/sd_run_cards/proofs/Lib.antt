@@ -1,0 +1,4 @@
+pub mod Carding
+pub mod NoFloat
+pub mod ShownCards
+pub mod Others

@@ -1,0 +1,5 @@
+pub mod Covers
+pub mod LayerCovers
+pub mod Tracing
+pub mod Coalition
+pub mod Others

@@ -1,0 +1,4 @@
+pub mod Cover
+pub mod Layered
+pub mod Opens
+pub mod Trace

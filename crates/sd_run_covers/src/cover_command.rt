@@ -1,0 +1,32 @@
+//! `cover SITE BOOK`: the sets of each period of a book.
+
+ghost use Rattle.std.specs.Prelude.{◌≡◌, ◌≢◌, ℕ};
+ghost use Rattle.sd_command_status.specs.Outside.{outside, page_state, depot_state};
+ghost use Rattle.sd_command_status.specs.Outcome.{Implements, status_of};
+ghost use Rattle.sd_run_covers.specs.Cover.{cover_meaning};
+ghost use Rattle.sd_command_files.specs.Shown.{shown_word};
+
+use crate::cover_bare::Bare;
+use sd_command_files::{Word, read_both};
+use sd_command_periods::print_periods;
+use sd_command_status::Status;
+use sd_ports::{Depot, Sink};
+use std::alloc::Global;
+
+/// Does `cover SITE BOOK`.
+#[inline(never)]
+pub fn cover<D: Depot, P: Sink>(
+    alloc: Global,
+    depot: &mut D,
+    print: &mut P,
+    site: Word<'_>,
+    book: Word<'_>,
+) -> Result<(), Status>
+    requires { site.number ≢ book.number }
+    ensures { (steps : ℕ) → Implements (cover_meaning (shown_word site.entry) (shown_word book.entry))
+        (outside (depot_state D.Depot depot.old) (page_state P.Sink print.old) steps)
+        (outside (depot_state D.Depot depot.new) (page_state P.Sink print.new) steps) (status_of result) }
+{
+    let (_, book) = read_both(alloc, depot, site, book)?;
+    print_periods(alloc, print, &book, &Bare)
+}

@@ -1,0 +1,35 @@
+//! `opens SITE BOOK LEAVES`: which sets of each period of a book the pooled cards of some leaves open.
+
+ghost use Rattle.std.specs.Prelude.{◌≡◌, ◌≢◌, ℕ};
+ghost use Rattle.sd_command_status.specs.Outside.{outside, page_state, depot_state};
+ghost use Rattle.sd_command_status.specs.Outcome.{Implements, status_of};
+ghost use Rattle.sd_command_files.specs.Shown.{shown_word};
+ghost use Rattle.sd_run_covers.specs.Opens.{opens_meaning};
+
+use crate::opens_pool::Pool;
+use sd_command_files::{Word, read_both, read_leaves};
+use sd_command_periods::print_periods;
+use sd_command_status::Status;
+use sd_ports::{Depot, Sink};
+use std::alloc::Global;
+
+/// Does `opens SITE BOOK LEAVES`.
+#[inline(never)]
+pub fn opens<D: Depot, P: Sink>(
+    alloc: Global,
+    depot: &mut D,
+    print: &mut P,
+    site: Word<'_>,
+    book: Word<'_>,
+    leaves: Word<'_>,
+) -> Result<(), Status>
+    requires { (site.number ≢ book.number) × (site.number ≢ leaves.number) × (book.number ≢ leaves.number) }
+    ensures { (steps : ℕ) →
+        Implements (opens_meaning (shown_word site.entry) (shown_word book.entry) (shown_word leaves.entry))
+        (outside (depot_state D.Depot depot.old) (page_state P.Sink print.old) steps)
+        (outside (depot_state D.Depot depot.new) (page_state P.Sink print.new) steps) (status_of result) }
+{
+    let (site, book) = read_both(alloc, depot, site, book)?;
+    let leaves = read_leaves(alloc, depot, leaves, site.height)?;
+    print_periods(alloc, print, &book, &Pool { leaves })
+}

@@ -1,2 +1,0 @@
-pub mod Unites
-pub mod Others

@@ -1,2 +1,0 @@
-pub mod Monitored
-pub mod Others

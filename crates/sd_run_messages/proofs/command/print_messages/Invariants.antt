@@ -1,5 +1,0 @@
-use Rattle.sd_run_messages.proofs.command.print_messages.Given as goal
-
--- the ledger is the blank one
-abbrev pub ghosts-monitor : goal.ghosts-monitor
-ghosts-monitor g a = record { name = a.blank.name; parts = a.blank.parts }

@@ -1,4 +1,0 @@
-pub mod Few
-pub mod Counting
-pub mod Printing
-pub mod Others

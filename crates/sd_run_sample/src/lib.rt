@@ -1,6 +1,0 @@
-//! `sample NUMBER PACKETS OUT`: a clear stream from a number.
-#![tactic(auto)]
-
-mod command;
-
-pub use command::sample;

@@ -1,0 +1,3 @@
+pub mod Inspected
+pub mod Monitored
+pub mod Others

@@ -1,0 +1,33 @@
+use Rattle.std.proofs.lemmas.Result.{err_from_is_err_and}
+use Rattle.sd_site.specs.Fields.{fields_of}
+use Rattle.sd_command_status.specs.Outside.{depot_state, page_state, outside}
+use Rattle.sd_command_status.specs.Spec.{all_of, value, ◌>>=◌}
+use Rattle.sd_command_status.specs.Outcome.{status_of}
+use Rattle.sd_command_files.specs.Files.{site_of_file}
+use Rattle.sd_command_files.specs.Shown.{shown_word}
+use Rattle.sd_command_files.proofs.Streamed.{first_follows, then_follows}
+use Rattle.sd_run_streams.specs.Messages.{messages_meaning, monitoring, stream_meaning}
+use Rattle.sd_run_streams.proofs.messages_command.messages.Goals as goal
+
+-- the site was refused, or not read
+pub returns-in_err-site : goal.returns-in_err-site
+unfolding messages_meaning
+returns-in_err-site g c steps =
+    let p = err_from_is_err_and c.from_residual.result c.from_residual.ensures.1 in
+    let site = shown_word c.args.site in
+    rw (p.1, p.2) (first_follows fields_of (site_of_file site.number)
+    (λ given fields. stream_meaning fields (shown_word c.args.stream) given) site
+    (depot_state g.D.Depot c.args.depot.now) (depot_state g.D.Depot c.read_site.new.depot)
+    (page_state g.P.Sink c.args.print.now) steps c.in_err-site.field-0.0 c.in_err-site.ensures)
+
+pub returns : goal.returns
+unfolding messages_meaning
+returns g c steps =
+    let site = shown_word c.args.site in
+    let stream = shown_word c.args.stream in
+    then_follows fields_of (site_of_file site.number)
+    (λ fields got. all_of stream.number got >>= λ bytes. value (monitoring fields bytes)) site stream
+    (depot_state g.D.Depot c.args.depot.now) (depot_state g.D.Depot c.read_site.new.depot)
+    (page_state g.P.Sink c.args.print.now) steps
+    (outside (depot_state g.D.Depot c.print_file.new.depot) (page_state g.P.Sink c.print_file.new.print) steps)
+    c.in_ok-site.site (status_of c.print_file.result) c.requires c.in_ok-site.ensures (c.print_file.ensures steps)

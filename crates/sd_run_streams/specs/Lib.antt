@@ -1,0 +1,3 @@
+pub mod Sample
+pub mod Tables
+pub mod Messages

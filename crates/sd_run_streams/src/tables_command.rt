@@ -1,0 +1,94 @@
+//! `tables STREAM`: the tables of a stream, a line each.
+
+ghost use Rattle.std.specs.Prelude.{◌≡◌, ◌<◌, ℕ, IsErrOf};
+ghost use Rattle.sd_base.specs.Count.{IsCaused};
+ghost use Rattle.sd_base.specs.declared.memory.NoMemory.{NoMemory};
+ghost use Rattle.sd_engine.specs.Stage.{vessel};
+ghost use Rattle.sd_engine.specs.Driving.{moment, DriveOutcome};
+ghost use Rattle.sd_command_status.specs.Outside.{outside, page_state, depot_state};
+ghost use Rattle.sd_command_status.specs.Outcome.{Implements, status_of};
+ghost use Rattle.sd_run_streams.specs.Tables.{InspectsLeft, drive_status, tables_meaning};
+ghost use Rattle.sd_command_files.specs.Shown.{shown_word};
+
+use sd_base::{NoMemory, Steps};
+use sd_command_files::{Word, opening_fault};
+use sd_command_status::{Status, StreamCause};
+use sd_engine::{BreakCause, DriveFault, MOST_PACKETS, drive};
+use sd_ports::{Depot, Sink, Source};
+use sd_tables::Inspector;
+use std::alloc::Global;
+use std::marker::Brand;
+use std::sync::ledger::{Blank, Ledger};
+
+/// Does `tables STREAM`: the stream is read and its lines are printed in turn.
+#[inline(never)]
+pub fn tables<D: Depot, P: Sink>(
+    alloc: Global,
+    depot: &mut D,
+    print: &mut P,
+    stream: Word<'_>,
+) -> Result<(), Status>
+    ensures { (steps : ℕ) → Implements (tables_meaning (shown_word stream.entry))
+        (outside (depot_state D.Depot depot.old) (page_state P.Sink print.old) steps)
+        (outside (depot_state D.Depot depot.new) (page_state P.Sink print.new) steps) (status_of result) }
+{
+    let mut port = match depot.open_in(alloc, stream.text) {
+        Ok(port) => port,
+        Err(fault) => return Err(opening_fault(stream.number, fault)),
+    };
+    let printed = print_tables(alloc, &mut port, print);
+    depot.close_in(port);
+    printed
+}
+
+/// Prints the lines of the tables in the stream that is left of a source. It counts no steps.
+fn print_tables<S: Source, P: Sink>(
+    alloc: Global,
+    source: &mut S,
+    print: &mut P,
+) -> Result<(), Status>
+    ensures value { InspectsLeft (S.left source.old) (page_state P.Sink print.old) (page_state P.Sink print.new)
+        (status_of result) }
+    ensures cause { IsCaused (S.faults source.old) (S.faults source.new) (status_of result ≡ Status.DepotFault) }
+{
+    inspect::<Brand, S, P>(alloc, source, print, Blank::new(1))
+}
+
+/// So it does with a counter over a new ledger.
+fn inspect<L: Ledger, S: Source, P: Sink>(
+    alloc: Global,
+    source: &mut S,
+    print: &mut P,
+    blank: Blank,
+) -> Result<(), Status>
+    requires name { blank.name ≡ L.name }
+    requires parts { blank.parts ≡ L.parts }
+    requires some { 0 < blank.parts }
+    ensures value { InspectsLeft (S.left source.old) (page_state P.Sink print.old) (page_state P.Sink print.new)
+        (status_of result) }
+    ensures cause { IsCaused (S.faults source.old) (S.faults source.new) (status_of result ≡ Status.DepotFault) }
+{
+    let mut inspector = Inspector::new(alloc)?;
+    let mut steps = Steps::<L>::new(blank);
+    drive_result(drive(source, print, &mut inspector, &mut steps))
+}
+
+/// The result of a command that prints lines of a stream, once the stream was driven.
+pub(crate) fn drive_result(driven: Result<u64, DriveFault<NoMemory>>) -> Result<(), Status>
+    ensures { status_of result ≡ drive_status driven }
+{
+    match driven {
+        Ok(_) => Ok(()),
+        Err(DriveFault::Broken(found)) => Err(Status::BadStream {
+            packet: found.packet,
+            cause: StreamCause::Broken(found.cause),
+        }),
+        Err(DriveFault::TooLong) => Err(Status::BadStream {
+            packet: MOST_PACKETS,
+            cause: StreamCause::TooLong,
+        }),
+        Err(DriveFault::ReadFault) => Err(Status::DepotFault),
+        Err(DriveFault::WriteFault) => Err(Status::PrintFault),
+        Err(DriveFault::Refused(NoMemory)) => Err(Status::NoMemory),
+    }
+}
