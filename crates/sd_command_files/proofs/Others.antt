@@ -14,8 +14,8 @@ use Rattle.sd_command_status.specs.declared.status.LimitKind.{LimitKind}
 use Rattle.sd_command_status.specs.declared.status.LimitKind.TheVariants.{SiteBytes, BookBytes}
 use Rattle.sd_command_status.specs.Spec.{Spec, and_then, all_of, judged, value, within, ◌>>=◌}
 use Rattle.sd_command_files.specs.Both.{both_by}
-use Rattle.sd_command_files.specs.Files.{told_site, told_book, site_of_file, book_of_file, most_site_bytes}
-use Rattle.sd_command_files.specs.Files.{most_book_bytes}
+use Rattle.sd_command_files.specs.Files.{told_site, told_book, told_low, site_of_file, book_of_file, low_site_of_file}
+use Rattle.sd_command_files.specs.Files.{most_book_bytes, most_site_bytes}
 use Rattle.sd_command_files.specs.Leaves.{told_leaves, leaves_of_file}
 use Rattle.sd_leaves.specs.Text.{leaves_of_text}
 
@@ -58,6 +58,17 @@ other_site_file word got =
     other_after (within word most_site_bytes SiteBytes got).calls (within word most_site_bytes SiteBytes got).result
     (λ bytes. judged (told_site (site_of bytes))) (other_file word most_site_bytes SiteBytes got)
     (λ bytes. other_site (site_of bytes))
+
+other_height : (high : Bool) (kind : LimitKind) (site : SiteFields) → IsOther (cond high (Err (Limit kind)) (Ok site))
+other_height true kind site = λ e. cc
+other_height false kind site = tt
+
+pub other_low_site : (word most : ℕ) (kind : LimitKind) (got : Option (List ℕ)) →
+    IsOther (low_site_of_file word most kind got).result
+unfolding low_site_of_file
+other_low_site word most kind got =
+    other_after (site_of_file word got).calls (site_of_file word got).result (λ site. judged (told_low most kind site))
+    (other_site_file word got) (λ site. other_height (nat_lt most site.height) kind site)
 
 pub other_book_file : (word d : ℕ) (got : Option (List ℕ)) → IsOther (book_of_file word d got).result
 unfolding book_of_file

@@ -1,5 +1,5 @@
 -- Public meaning: what the files say that several commands read [this project, docs/FORMATS.md, Site and Book].
-use Rattle.std.specs.Prelude.{ℕ, List, Option, Result, Ok, Err}
+use Rattle.std.specs.Prelude.{ℕ, nat_lt, if◌then◌else◌, List, Option, Result, Ok, Err}
 use Rattle.sd_site.specs.Fields.{SiteFields}
 use Rattle.sd_site.specs.Text.{site_of}
 use Rattle.sd_site.specs.declared.fault.SiteFault.{SiteFault}
@@ -11,6 +11,7 @@ use Rattle.sd_card.specs.declared.fault.CardFault.{CardFault}
 use Rattle.sd_card.specs.declared.fault.CardFault.TheVariants as card
 use Rattle.sd_command_status.specs.declared.status.Status.{Status}
 use Rattle.sd_command_status.specs.declared.status.Status.TheVariants.{BadSite, BadBook, BadCard, Limit, NoMemory}
+use Rattle.sd_command_status.specs.declared.status.LimitKind.{LimitKind}
 use Rattle.sd_command_status.specs.declared.status.LimitKind.TheVariants.{SiteBytes, BookBytes, Book}
 use Rattle.sd_command_status.specs.Spec.{Spec, FileArgument, Readings, within, judged, ◌>>=◌}
 
@@ -37,6 +38,14 @@ site_of_file word got = within word most_site_bytes SiteBytes got >>= λ bytes. 
 
 abbrev pub site_in : Readings → FileArgument → Spec SiteFields
 site_in given word = site_of_file word.number (given word)
+
+-- a site, if its tree is of height at most `most`, or that this limit is exceeded
+abbrev pub told_low : ℕ → LimitKind → SiteFields → Result SiteFields Status
+told_low most kind site = if nat_lt most site.height then Err (Limit kind) else Ok site
+
+-- the site of what the file of this word gave, if its tree is of height at most `most`
+unfoldable pub low_site_of_file : ℕ → ℕ → LimitKind → Option (List ℕ) → Spec SiteFields
+low_site_of_file word most kind got = site_of_file word got >>= λ site. judged (told_low most kind site)
 
 abbrev pub refused_book : ℕ → BookFault → Status
 refused_book word (book.Line k) = BadBook word k

@@ -1,12 +1,12 @@
-ghost use Rattle.std.specs.Prelude.{◌≡◌, IfOk};
+ghost use Rattle.std.specs.Prelude.{◌≡◌, ◌≤◌, IfOk};
 ghost use Rattle.sd_book.specs.Text.{book_of};
 ghost use Rattle.sd_site.specs.Fields.{fields_of};
 ghost use Rattle.sd_site.specs.Text.{site_of};
 ghost use Rattle.sd_command_status.specs.Spec.{within};
 ghost use Rattle.sd_command_status.specs.Outside.{depot_state};
 ghost use Rattle.sd_command_status.specs.Reads.{JudgedOutcome, SureOutcome, FileOutcome};
-ghost use Rattle.sd_command_files.specs.Files.{site_of_file, book_of_file, told_book, told_site};
-ghost use Rattle.sd_command_files.specs.Files.{most_card_bytes, refused_book, refused_card};
+ghost use Rattle.sd_command_files.specs.Files.{site_of_file, book_of_file, low_site_of_file, told_book, told_low};
+ghost use Rattle.sd_command_files.specs.Files.{most_card_bytes, refused_book, refused_card, told_site};
 ghost use Rattle.sd_command_files.specs.Shown.{shown_word};
 
 use crate::word::Word;
@@ -44,6 +44,33 @@ fn judge_site(bytes: &[u8]) -> Result<Site, Status>
         Ok(site) => Ok(site),
         Err(fault) => Err(Status::BadSite(fault)),
     }
+}
+
+/// The site of the word's file, whose tree must be of height at most `most`: a higher one exceeds this limit.
+pub fn read_low_site<D: Depot>(
+    alloc: Global,
+    depot: &mut D,
+    word: Word<'_>,
+    most: u8,
+    kind: LimitKind,
+) -> Result<Site, Status>
+    ensures value { FileOutcome fields_of (low_site_of_file word.entry.number most kind) word.entry.text.now
+        (depot_state D.Depot depot.old) (depot_state D.Depot depot.new) result }
+    ensures low { IfOk result (λ site. site.height ≤ most) }
+{
+    let site = read_site(alloc, depot, word)?;
+    judge_height(site, most, kind)
+}
+
+/// The site, if its tree is of height at most `most`.
+fn judge_height(site: Site, most: u8, kind: LimitKind) -> Result<Site, Status>
+    ensures value { SureOutcome fields_of (told_low most kind (fields_of site)) result }
+    ensures low { IfOk result (λ site. site.height ≤ most) }
+{
+    if site.height.get() > most {
+        return Err(Status::Limit(kind));
+    }
+    Ok(site)
 }
 
 /// The book of the word's file.

@@ -26,12 +26,10 @@ use Rattle.sd_command_status.specs.declared.status.Status.{Status}
 use Rattle.sd_command_status.specs.declared.status.Status.TheVariants.{Limit}
 use Rattle.sd_command_status.specs.declared.status.LimitKind.TheVariants.{BookBytes, FieldHeight, FieldPackets}
 use Rattle.sd_command_status.specs.Spec.{FileArgument, Readings, judged, value, within, ◌>>=◌}
-use Rattle.sd_command_files.specs.Files.{site_in, most_book_bytes}
+use Rattle.sd_command_files.specs.Files.{low_site_of_file, most_book_bytes, site_in, told_low}
 use Rattle.sd_command_files.specs.Printed.{printing}
 use Rattle.sd_run_field.specs.Field.{Inputs, clear_of_file, field_meaning, field_text, inputs_by, inputs_meaning}
-use Rattle.sd_run_field.specs.Field.{low_site_of_file, most_clear_bytes, most_height, script_of_file, told_clear}
-use Rattle.sd_run_field.specs.Field.{told_low}
-use Rattle.sd_run_field.specs.Field.{told_script, unbroken}
+use Rattle.sd_run_field.specs.Field.{most_clear_bytes, most_height, script_of_file, told_clear, told_script, unbroken}
 use Rattle.sd_law_field_lines.specs.Fielded.{confirmed_lines}
 use Rattle.sd_law_field_lines.specs.Fielded as fielded
 use Rattle.sd_law_field_lines.proofs.Fielded.{text_is_confirmed}
@@ -120,10 +118,11 @@ limits good =
 
 -- a site whose tree is low enough is taken
 low_good : (given : Readings) (word : FileArgument) (fields : SiteFields) → IsGoodSite (given word) fields →
-    fields.height ≤ 6 → (low_site_of_file word.number (given word)).result ≡ Ok fields
+    fields.height ≤ 6 → (low_site_of_file word.number most_height FieldHeight (given word)).result ≡ Ok fields
 unfolding low_site_of_file
 low_good given word fields good low =
-    then_is (site_in given word) fields (λ site. judged (told_low site)) (site_good given word fields good)
+    then_is (site_in given word) fields (λ site. judged (told_low most_height FieldHeight site))
+    (site_good given word fields good)
     ∙ ap (λ b. cond b (Err (Limit FieldHeight)) (Ok fields)) (le-ltb most_height fields.height low)
 
 -- and so is a stream that is whole and short enough
@@ -151,12 +150,12 @@ script_good given word d text events there short says =
     ∙ ap (told_script word.number) says
 
 inputs_good : (given : Readings) (site clear : FileArgument) (fields : SiteFields) (packets : List (List ℕ)) →
-    (low_site_of_file site.number (given site)).result ≡ Ok fields →
+    (low_site_of_file site.number most_height FieldHeight (given site)).result ≡ Ok fields →
     (clear_of_file clear.number (given clear)).result ≡ Ok packets →
     (inputs_meaning site clear given).result ≡ Ok (record { site = fields; clear = packets })
 unfolding inputs_by
 inputs_good given site clear fields packets is_site is_clear =
-    then_is (low_site_of_file site.number (given site)) fields
+    then_is (low_site_of_file site.number most_height FieldHeight (given site)) fields
     (λ found. clear_of_file clear.number (given clear)
     >>= λ all. value {A = Inputs} (record { site = found; clear = all })) is_site
     ∙ then_is (clear_of_file clear.number (given clear)) packets

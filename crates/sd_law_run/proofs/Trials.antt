@@ -28,13 +28,13 @@ use Rattle.sd_command_status.specs.Work.{Work}
 use Rattle.sd_command_status.specs.Outcome.{PrintsAll}
 use Rattle.sd_command_status.specs.Results.{RunResult}
 use Rattle.sd_command_files.specs.Files.{most_site_bytes, most_book_bytes, told_site, told_book, site_of_file}
-use Rattle.sd_command_files.specs.Files.{book_of_file}
+use Rattle.sd_command_files.specs.Files.{book_of_file, low_site_of_file, told_low}
 use Rattle.sd_run_head.specs.Head.{sent_of, sent_status, status_where}
 use Rattle.sd_run_trial.specs.Trial.{most_height}
 use Rattle.sd_run_trial.specs.Trial.{most_clear_bytes}
 use Rattle.sd_run_trial.specs.Prefixes.{prefix_of_file}
 use Rattle.sd_run_trial.proofs.Prefixes.{whole_prefix}
-use Rattle.sd_run_trial.specs.Trial.{told_low, low_site_of_file, plan_by, plan_meaning, sent_or, told_sent, told_line}
+use Rattle.sd_run_trial.specs.Trial.{plan_by, plan_meaning, sent_or, told_sent, told_line}
 use Rattle.sd_command_files.specs.Printed.{printing}
 use Rattle.sd_run_trial.specs.Trial.{receiver_line, then_line, lines_to, trial_lines, clear_line, trial_text}
 use Rattle.sd_run_trial.specs.Trial.{trying, trial_meaning}
@@ -127,7 +127,8 @@ all_of_it most bytes e = (whole_prefix most bytes short, short)
     short = ltb-false most (length bytes) e
 
 -- the height of a site that is taken
-low_right : (site found : SiteFields) → told_low site ≡ Ok found → (site ≡ found) × (site.height ≤ most_height)
+low_right : (site found : SiteFields) → told_low most_height TrialHeight site ≡ Ok found →
+    (site ≡ found) × (site.height ≤ most_height)
 low_right site found e = by_test (nat_lt most_height site.height) refl e
   where
     by_test : (t : Bool) → nat_lt most_height site.height ≡ t → cond t (Err (Limit TrialHeight)) (Ok site) ≡ Ok found →
@@ -140,13 +141,13 @@ low_plan : (site book : FileArgument) (given : Readings) (plan : Plan) →
     IsPlan plan × (plan.site.height ≤ most_height)
 unfolding plan_by low_site_of_file site_of_file book_of_file
 low_plan site book given plan e =
-    let fields = then_ok (low_site_of_file site.number (given site))
+    let fields = then_ok (low_site_of_file site.number most_height TrialHeight (given site))
     (λ fields. book_of_file book.number fields.height (given book) >>= λ commands.
     value (record { site = fields; commands = commands })) plan e in
     let commands = then_ok (book_of_file book.number fields.from.height (given book))
     (λ commands. value (record { site = fields.from; commands = commands })) plan fields.next_is in
-    let any = then_ok (site_of_file site.number (given site)) (λ site. judged (told_low site)) fields.from
-    fields.first_is in
+    let any = then_ok (site_of_file site.number (given site))
+    (λ site. judged (told_low most_height TrialHeight site)) fields.from fields.first_is in
     let low = low_right any.from fields.from any.next_is in
     let site_read = then_ok (within site.number most_site_bytes SiteBytes (given site))
     (λ bytes. judged (told_site (site_of bytes))) any.from any.first_is in

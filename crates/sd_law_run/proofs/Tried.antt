@@ -6,12 +6,12 @@ use Rattle.sd_spec_broadcast.specs.Plan.{Plan}
 use Rattle.sd_command_status.specs.declared.status.Status.TheVariants.{Limit}
 use Rattle.sd_command_status.specs.declared.status.LimitKind.TheVariants.{TrialHeight}
 use Rattle.sd_command_status.specs.Spec.{FileArgument, Readings, judged, value, ◌>>=◌}
-use Rattle.sd_command_files.specs.Files.{site_in, book_in}
+use Rattle.sd_command_files.specs.Files.{site_in, book_in, low_site_of_file, told_low}
 use Rattle.sd_command_line.specs.Words.{TrialOf}
 use Rattle.sd_run_trial.specs.Trial.{most_height}
 use Rattle.sd_law_lines.specs.Trials.{opened_lines}
 use Rattle.sd_command_files.specs.Printed.{printing}
-use Rattle.sd_run_trial.specs.Trial.{told_low, low_site_of_file, plan_by, plan_meaning}
+use Rattle.sd_run_trial.specs.Trial.{plan_by, plan_meaning}
 use Rattle.sd_law_lines.proofs.Tried as opened
 use Rattle.sd_law_run.specs.Good.{IsGoodSite, IsGoodBook}
 use Rattle.sd_law_run.specs.Tried.{IsGoodTrial, plan_tried}
@@ -21,10 +21,11 @@ use Rattle.sd_law_run.proofs.Plans.{good_plan}
 
 -- a site whose tree is low enough is taken
 low_good : (given : Readings) (word : FileArgument) (fields : SiteFields) → IsGoodSite (given word) fields →
-    fields.height ≤ most_height → (low_site_of_file word.number (given word)).result ≡ Ok fields
+    fields.height ≤ most_height → (low_site_of_file word.number most_height TrialHeight (given word)).result ≡ Ok fields
 unfolding low_site_of_file
 low_good given word fields good low =
-    then_is (site_in given word) fields (λ site. judged (told_low site)) (site_good given word fields good)
+    then_is (site_in given word) fields (λ site. judged (told_low most_height TrialHeight site))
+    (site_good given word fields good)
     ∙ ap (λ b. cond b (Err (Limit TrialHeight)) (Ok fields)) (le-ltb most_height fields.height low)
 
 -- it and a book of its tree are the plan
@@ -33,7 +34,7 @@ plan_said : (given : Readings) (site book : FileArgument) (plan : Plan) → IsGo
     (plan_meaning site book given).result ≡ Ok plan
 unfolding plan_by
 plan_said given site book plan good_site low good_book =
-    then_is (low_site_of_file site.number (given site)) plan.site
+    then_is (low_site_of_file site.number most_height TrialHeight (given site)) plan.site
     (λ fields. book_in given fields.height book
     >>= λ commands. value {A = Plan} (record { site = fields; commands = commands }))
     (low_good given site plan.site good_site low)

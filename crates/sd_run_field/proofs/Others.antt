@@ -1,32 +1,18 @@
 -- `field` never means `Usage`.
-use Rattle.std.proofs.Common.{ℕ, Bool, true, false, cond, List, Option, Some, None, Result, Ok, Err}
-use Rattle.std.specs.Prelude.{nat_lt}
+use Rattle.std.proofs.Common.{ℕ, List, Option, Some, None, Result, Ok, Err}
 use Rattle.sd_engine.specs.Stream.{packets_of, break_of}
 use Rattle.sd_engine.specs.declared.fault.StreamBreak.{StreamBreak}
-use Rattle.sd_site.specs.Fields.{SiteFields}
 use Rattle.sd_spec_field.specs.declared.event.Event.{Event}
 use Rattle.sd_field.specs.Script.{script_of}
 use Rattle.sd_field.specs.declared.fault.ScriptFault.{ScriptFault}
 use Rattle.sd_field.specs.declared.fault.ScriptFault.TheVariants as script
-use Rattle.sd_command_status.specs.declared.status.Status.TheVariants.{Limit}
 use Rattle.sd_command_status.specs.declared.status.LimitKind.TheVariants.{BookBytes, FieldHeight, FieldPackets}
 use Rattle.sd_command_status.specs.Spec.{FileArgument, Readings, judged, value, within, ◌>>=◌}
-use Rattle.sd_command_files.specs.Files.{site_of_file, most_book_bytes}
+use Rattle.sd_command_files.specs.Files.{low_site_of_file, most_book_bytes}
 use Rattle.sd_command_files.specs.Printed.{printing}
-use Rattle.sd_command_files.proofs.Others.{IsOther, other_after, other_file, other_site_file}
-use Rattle.sd_run_field.specs.Field.{clear_of_file, field_meaning, field_text, inputs_by, low_site_of_file}
-use Rattle.sd_run_field.specs.Field.{most_clear_bytes, most_height, script_of_file, told_clear, told_low, told_script}
-use Rattle.sd_run_field.specs.Field.{unbroken}
-
-other_height : (high : Bool) (site : SiteFields) → IsOther (cond high (Err (Limit FieldHeight)) (Ok site))
-other_height true site = λ e. cc
-other_height false site = tt
-
-other_low : (word : ℕ) (got : Option (List ℕ)) → IsOther (low_site_of_file word got).result
-unfolding low_site_of_file
-other_low word got =
-    other_after (site_of_file word got).calls (site_of_file word got).result (λ site. judged (told_low site))
-    (other_site_file word got) (λ site. other_height (nat_lt most_height site.height) site)
+use Rattle.sd_command_files.proofs.Others.{IsOther, other_after, other_file, other_low_site}
+use Rattle.sd_run_field.specs.Field.{clear_of_file, field_meaning, field_text, inputs_by, most_clear_bytes}
+use Rattle.sd_run_field.specs.Field.{most_height, script_of_file, told_clear, told_script, unbroken}
 
 other_unbroken : (found : Option StreamBreak) (packets : List (List ℕ)) → IsOther (unbroken found packets)
 other_unbroken None packets = tt
@@ -57,9 +43,10 @@ other_inputs : (site clear : ℕ) (site_got clear_got : Option (List ℕ)) →
     IsOther (inputs_by site clear site_got clear_got).result
 unfolding inputs_by
 other_inputs site clear site_got clear_got =
-    other_after (low_site_of_file site site_got).calls (low_site_of_file site site_got).result
+    other_after (low_site_of_file site most_height FieldHeight site_got).calls
+    (low_site_of_file site most_height FieldHeight site_got).result
     (λ fields. clear_of_file clear clear_got >>= λ packets. value (record { site = fields; clear = packets }))
-    (other_low site site_got)
+    (other_low_site site most_height FieldHeight site_got)
     (λ fields. other_after (clear_of_file clear clear_got).calls (clear_of_file clear clear_got).result
     (λ packets. value (record { site = fields; clear = packets })) (other_clear clear clear_got) (λ packets. tt))
 

@@ -1,6 +1,6 @@
 -- Public meaning: `field SITE CLEAR SCRIPT` [this project, docs/FORMATS.md, Field].
-use Rattle.std.specs.Prelude.{◌^◌, ◌*◌, ◌/◌, ℕ, zero, suc, nat_lt, List, [], ◌++◌, length, take}
-use Rattle.std.specs.Prelude.{codes, if◌then◌else◌, Option, Some, None, Result, Ok, Err}
+use Rattle.std.specs.Prelude.{◌^◌, ◌*◌, ◌/◌, ℕ, zero, suc, List, [], ◌++◌, length, take}
+use Rattle.std.specs.Prelude.{codes, Option, Some, None, Result, Ok, Err}
 use Rattle.std.specs.List.{concat}
 use Rattle.std.specs.Fmt.{decimal}
 use Rattle.hex.specs.Hex.{encode_lower}
@@ -24,7 +24,7 @@ use Rattle.sd_command_status.specs.declared.status.LimitKind.TheVariants.{BookBy
 use Rattle.sd_command_status.specs.declared.status.LimitKind.TheVariants.{FieldEvents}
 use Rattle.sd_command_status.specs.Spec.{Spec, FileArgument, Readings, judged, value, within, ◌>>=◌}
 use Rattle.sd_command_status.specs.Work.{Work}
-use Rattle.sd_command_files.specs.Files.{site_of_file, most_book_bytes}
+use Rattle.sd_command_files.specs.Files.{low_site_of_file, most_book_bytes}
 use Rattle.sd_command_files.specs.Printed.{printing}
 use Rattle.sd_run_head.specs.Head.{refused_status}
 
@@ -35,14 +35,6 @@ most_height = 6
 -- the bytes of the longest clear stream of a field: 16,384 packets
 abbrev pub most_clear_bytes : ℕ
 most_clear_bytes = 16384 * 188
-
--- a site, if its tree is low enough
-abbrev pub told_low : SiteFields → Result SiteFields Status
-told_low site = if nat_lt most_height site.height then Err (Limit FieldHeight) else Ok site
-
--- the site in the file of argument `word`, if its tree is low enough
-unfoldable pub low_site_of_file : ℕ → Option (List ℕ) → Spec SiteFields
-low_site_of_file word got = site_of_file word got >>= λ site. judged (told_low site)
 
 -- the packets of a clear stream, or where it breaks
 abbrev pub unbroken : Option StreamBreak → List (List ℕ) → Result (List (List ℕ)) Status
@@ -82,7 +74,7 @@ pub record Inputs : Type 0 where
 -- the site and the clear stream in the files of two arguments
 unfoldable pub inputs_by : ℕ → ℕ → Option (List ℕ) → Option (List ℕ) → Spec Inputs
 inputs_by site clear site_got clear_got = do
-  fields ← low_site_of_file site site_got
+  fields ← low_site_of_file site most_height FieldHeight site_got
   packets ← clear_of_file clear clear_got
   value (record { site = fields; clear = packets })
 

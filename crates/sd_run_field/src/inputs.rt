@@ -1,12 +1,12 @@
 ghost use Rattle.std.specs.Prelude.{◌≡◌, ◌≢◌, ◌≤◌, IfOk, length};
 ghost use Rattle.sd_site.specs.Fields.{fields_of};
 ghost use Rattle.sd_command_status.specs.Outside.{depot_state};
-ghost use Rattle.sd_command_status.specs.Reads.{SureOutcome, FileOutcome, FilesOutcome};
+ghost use Rattle.sd_command_status.specs.Reads.{FilesOutcome};
 ghost use Rattle.sd_command_files.specs.Shown.{shown_word};
-ghost use Rattle.sd_run_field.specs.Field.{inputs_meaning, low_site_of_file, told_low};
+ghost use Rattle.sd_run_field.specs.Field.{inputs_meaning};
 
 use crate::clear::read_clear;
-use sd_command_files::{Word, read_site};
+use sd_command_files::{Word, read_low_site};
 use sd_command_status::{LimitKind, Status};
 use sd_packet::Packet;
 use sd_ports::Depot;
@@ -30,28 +30,7 @@ pub fn read_inputs<D: Depot>(
     ensures low { IfOk result (λ inputs. inputs.0.height ≤ 6) }
     ensures few { IfOk result (λ inputs. length inputs.1.items ≤ 16384) }
 {
-    let site = read_low_site(alloc, depot, site)?;
+    let site = read_low_site(alloc, depot, site, MOST_HEIGHT, LimitKind::FieldHeight)?;
     let clear = read_clear(alloc, depot, clear)?;
     Ok((site, clear))
-}
-
-/// The site in the file of this argument, whose tree must be of height at most 6.
-fn read_low_site<D: Depot>(alloc: Global, depot: &mut D, word: Word<'_>) -> Result<Site, Status>
-    ensures value { FileOutcome fields_of (low_site_of_file word.entry.number) word.entry.text.now
-        (depot_state D.Depot depot.old) (depot_state D.Depot depot.new) result }
-    ensures low { IfOk result (λ site. site.height ≤ 6) }
-{
-    let site = read_site(alloc, depot, word)?;
-    judge_height(site)
-}
-
-/// The site, if its tree is of height at most 6.
-fn judge_height(site: Site) -> Result<Site, Status>
-    ensures value { SureOutcome fields_of (told_low (fields_of site)) result }
-    ensures low { IfOk result (λ site. site.height ≤ 6) }
-{
-    if site.height.get() > MOST_HEIGHT {
-        return Err(Status::Limit(LimitKind::FieldHeight));
-    }
-    Ok(site)
 }

@@ -1,35 +1,22 @@
 -- `trial` never means `Usage`.
-use Rattle.std.proofs.Common.{ℕ, Bool, true, false, cond, List, Option, Ok, Err}
-use Rattle.std.specs.Prelude.{nat_lt}
-use Rattle.sd_site.specs.Fields.{SiteFields}
-use Rattle.sd_command_status.specs.declared.status.Status.TheVariants.{Limit}
+use Rattle.std.proofs.Common.{ℕ, List, Option}
 use Rattle.sd_command_status.specs.declared.status.LimitKind.TheVariants.{TrialHeight}
-use Rattle.sd_command_status.specs.Spec.{FileArgument, Readings, all_of, judged, value, ◌>>=◌}
+use Rattle.sd_command_status.specs.Spec.{FileArgument, Readings, all_of, value, ◌>>=◌}
 use Rattle.sd_ports.specs.Bytes.{prefix_of}
-use Rattle.sd_command_files.specs.Files.{site_of_file, book_of_file}
-use Rattle.sd_command_files.proofs.Others.{IsOther, other_after, other_stream, other_site_file, other_book_file}
-use Rattle.sd_run_trial.specs.Trial.{most_clear_bytes}
+use Rattle.sd_command_files.specs.Files.{book_of_file, low_site_of_file}
+use Rattle.sd_command_files.proofs.Others.{IsOther, other_after, other_book_file, other_low_site, other_stream}
 use Rattle.sd_run_trial.specs.Prefixes.{prefix_of_file}
-use Rattle.sd_run_trial.specs.Trial.{told_low, low_site_of_file, plan_by, trial_meaning, trying, most_height}
-
-other_height : (high : Bool) (site : SiteFields) → IsOther (cond high (Err (Limit TrialHeight)) (Ok site))
-other_height true site = λ e. cc
-other_height false site = tt
-
-other_low : (word : ℕ) (got : Option (List ℕ)) → IsOther (low_site_of_file word got).result
-unfolding low_site_of_file
-other_low word got =
-    other_after (site_of_file word got).calls (site_of_file word got).result (λ site. judged (told_low site))
-    (other_site_file word got) (λ site. other_height (nat_lt most_height site.height) site)
+use Rattle.sd_run_trial.specs.Trial.{most_clear_bytes, most_height, plan_by, trial_meaning, trying}
 
 other_plan : (site book : ℕ) (site_got book_got : Option (List ℕ)) →
     IsOther (plan_by site book site_got book_got).result
 unfolding plan_by
 other_plan site book site_got book_got =
-    other_after (low_site_of_file site site_got).calls (low_site_of_file site site_got).result
+    other_after (low_site_of_file site most_height TrialHeight site_got).calls
+    (low_site_of_file site most_height TrialHeight site_got).result
     (λ fields. book_of_file book fields.height book_got
     >>= λ commands. value (record { site = fields; commands = commands }))
-    (other_low site site_got)
+    (other_low_site site most_height TrialHeight site_got)
     (λ fields. other_after (book_of_file book fields.height book_got).calls
     (book_of_file book fields.height book_got).result
     (λ commands. value (record { site = fields; commands = commands })) (other_book_file book fields.height book_got)

@@ -1,6 +1,6 @@
 -- Public meaning: `trial SITE BOOK CLEAR` [this project, docs/FORMATS.md, Trial].
-use Rattle.std.specs.Prelude.{◌≡◌, ◌⊎◌, ◌^◌, ◌*◌, ◌/◌, ℕ, zero, suc, nat_lt, Bool, true, false, List, ◌++◌, length}
-use Rattle.std.specs.Prelude.{codes, if◌then◌else◌, Option, Result, Ok, Err}
+use Rattle.std.specs.Prelude.{◌≡◌, ◌⊎◌, ◌^◌, ◌*◌, ◌/◌, ℕ, zero, suc, Bool, true, false, List, ◌++◌, length}
+use Rattle.std.specs.Prelude.{codes, Option, Result, Ok, Err}
 use Rattle.std.specs.Fmt.{decimal}
 use Rattle.sd_ports.specs.Bytes.{Prefix}
 use Rattle.sd_site.specs.Fields.{SiteFields}
@@ -9,10 +9,10 @@ use Rattle.sd_spec_broadcast.specs.Plan.{Plan}
 use Rattle.sd_command_status.specs.declared.status.Status.{Status}
 use Rattle.sd_command_status.specs.declared.status.Status.TheVariants.{Done, Revoked, DepotFault, Limit, NoMemory}
 use Rattle.sd_command_status.specs.declared.status.LimitKind.TheVariants.{TrialHeight, TrialPackets}
-use Rattle.sd_command_status.specs.Spec.{Spec, FileArgument, Readings, judged, value, ◌>>=◌}
+use Rattle.sd_command_status.specs.Spec.{Spec, FileArgument, Readings, value, ◌>>=◌}
 use Rattle.sd_command_status.specs.Work.{Work}
 use Rattle.sd_command_status.specs.Outcome.{IsEnding}
-use Rattle.sd_command_files.specs.Files.{site_of_file, book_of_file}
+use Rattle.sd_command_files.specs.Files.{low_site_of_file, book_of_file}
 use Rattle.sd_command_files.specs.Printed.{printing}
 use Rattle.sd_run_head.specs.Head.{sent_of, sent_status}
 use Rattle.sd_run_receive.specs.Receive.{received_of, received_status}
@@ -26,18 +26,10 @@ most_height = 6
 abbrev pub most_clear_bytes : ℕ
 most_clear_bytes = 65536 * 188
 
--- a site, if its tree is low enough
-abbrev pub told_low : SiteFields → Result SiteFields Status
-told_low site = if nat_lt most_height site.height then Err (Limit TrialHeight) else Ok site
-
--- the site in the file of argument `word`, if its tree is low enough
-unfoldable pub low_site_of_file : ℕ → Option (List ℕ) → Spec SiteFields
-low_site_of_file word got = site_of_file word got >>= λ site. judged (told_low site)
-
 -- a site whose tree is low enough, and then the book for its tree, in the files of two arguments
 unfoldable pub plan_by : ℕ → ℕ → Option (List ℕ) → Option (List ℕ) → Spec Plan
 plan_by site book site_got book_got = do
-  fields ← low_site_of_file site site_got
+  fields ← low_site_of_file site most_height TrialHeight site_got
   commands ← book_of_file book fields.height book_got
   value (record { site = fields; commands = commands })
 

@@ -1,12 +1,12 @@
 ghost use Rattle.std.specs.Prelude.{◌≡◌, ◌≢◌, IfOk};
 ghost use Rattle.sd_site.specs.Fields.{fields_of};
 ghost use Rattle.sd_command_status.specs.Outside.{depot_state};
-ghost use Rattle.sd_command_status.specs.Reads.{SureOutcome, FileOutcome, FilesOutcome};
+ghost use Rattle.sd_command_status.specs.Reads.{FilesOutcome};
 ghost use Rattle.sd_command_files.specs.Shown.{shown_word};
-ghost use Rattle.sd_run_trial.specs.Trial.{told_low, low_site_of_file, plan_meaning};
+ghost use Rattle.sd_run_trial.specs.Trial.{plan_meaning};
 
 use sd_book::Book;
-use sd_command_files::{Word, read_book, read_site};
+use sd_command_files::{Word, read_book, read_low_site};
 use sd_command_status::{LimitKind, Status};
 use sd_ports::Depot;
 use sd_site::Site;
@@ -28,26 +28,7 @@ pub fn read_plan<D: Depot>(
         (depot_state D.Depot depot.old) (depot_state D.Depot depot.new) result }
     ensures height { IfOk result (λ plan. plan.1.height ≡ plan.0.height) }
 {
-    let site = read_low_site(alloc, depot, site)?;
+    let site = read_low_site(alloc, depot, site, MOST_HEIGHT, LimitKind::TrialHeight)?;
     let book = read_book(alloc, depot, book, site.height)?;
     Ok((site, book))
-}
-
-/// The site in the file of this argument, whose tree must be of height at most 6.
-fn read_low_site<D: Depot>(alloc: Global, depot: &mut D, word: Word<'_>) -> Result<Site, Status>
-    ensures { FileOutcome fields_of (low_site_of_file word.entry.number) word.entry.text.now
-        (depot_state D.Depot depot.old) (depot_state D.Depot depot.new) result }
-{
-    let site = read_site(alloc, depot, word)?;
-    judge_height(site)
-}
-
-/// The site, if its tree is of height at most 6.
-fn judge_height(site: Site) -> Result<Site, Status>
-    ensures { SureOutcome fields_of (told_low (fields_of site)) result }
-{
-    if site.height.get() > MOST_HEIGHT {
-        return Err(Status::Limit(LimitKind::TrialHeight));
-    }
-    Ok(site)
 }

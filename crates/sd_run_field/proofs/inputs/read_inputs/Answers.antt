@@ -2,11 +2,13 @@ use Rattle.std.proofs.Common.{refl}
 use Rattle.std.proofs.lemmas.Result.{err_from_is_err_and}
 use Rattle.sd_site.specs.Fields.{fields_of}
 use Rattle.sd_command_status.specs.Outside.{depot_state}
+use Rattle.sd_command_status.specs.declared.status.LimitKind.TheVariants.{FieldHeight}
 use Rattle.sd_command_status.specs.Spec.{value, ◌>>=◌}
 use Rattle.sd_command_status.proofs.Follow.{reads_first, reads_second, reads_two}
+use Rattle.sd_command_files.specs.Files.{low_site_of_file}
 use Rattle.sd_command_files.specs.Shown.{shown_word}
 use Rattle.sd_command_files.proofs.Thirds.{same_refusal, same_value}
-use Rattle.sd_run_field.specs.Field.{clear_of_file, inputs_by, inputs_meaning, low_site_of_file}
+use Rattle.sd_run_field.specs.Field.{clear_of_file, inputs_by, inputs_meaning, most_height}
 use Rattle.sd_run_field.proofs.inputs.read_inputs.Goals as goal
 
 pub returns-in_err-site-clause-value : goal.returns-in_err-site-clause-value
@@ -16,7 +18,7 @@ returns-in_err-site-clause-value g c =
     let site = shown_word c.args.site in
     let clear = shown_word c.args.clear in
     rw (p.1, p.2) (reads_first fields_of (λ inputs. record { site = fields_of inputs.0; clear = inputs.1.items })
-    (low_site_of_file site.number)
+    (low_site_of_file site.number most_height FieldHeight)
     (λ given fields. clear_of_file clear.number (given clear)
     >>= λ packets. value (record { site = fields; clear = packets })) site
     (depot_state g.D.Depot c.args.depot.now) (depot_state g.D.Depot c.read_low_site.new.depot) c.in_err-site.field-0.0
@@ -33,7 +35,7 @@ returns-in_err-clear-clause-value g c =
     (λ inputs. record { site = fields_of inputs.0; clear = inputs.1.items }) (inputs_meaning site clear)
     (depot_state g.D.Depot c.args.depot.now) (depot_state g.D.Depot c.read_clear.new.depot) c.in_err-clear.field-0.0
     (reads_second fields_of (λ packets. packets.items) (λ packets. record { site = fields; clear = packets.items })
-    (low_site_of_file site.number) (λ fields got. clear_of_file clear.number got)
+    (low_site_of_file site.number most_height FieldHeight) (λ fields got. clear_of_file clear.number got)
     (λ fields packets. value (record { site = fields; clear = packets })) site clear
     (depot_state g.D.Depot c.args.depot.now) (depot_state g.D.Depot c.read_low_site.new.depot)
     (depot_state g.D.Depot c.read_clear.new.depot) c.in_ok-site.site c.in_err-clear.field-0.0 c.requires
@@ -50,7 +52,7 @@ returns-clause-value g c =
     (depot_state g.D.Depot c.args.depot.now) (depot_state g.D.Depot c.read_clear.new.depot) c.in_ok-clear.clear
     (c.in_ok-site.site, c.in_ok-clear.clear) refl
     (reads_two fields_of (λ packets. packets.items) (λ packets. record { site = fields; clear = packets.items })
-    (low_site_of_file site.number) (λ fields got. clear_of_file clear.number got)
+    (low_site_of_file site.number most_height FieldHeight) (λ fields got. clear_of_file clear.number got)
     (λ fields packets. record { site = fields; clear = packets }) site clear
     (depot_state g.D.Depot c.args.depot.now) (depot_state g.D.Depot c.read_low_site.new.depot)
     (depot_state g.D.Depot c.read_clear.new.depot) c.in_ok-site.site c.in_ok-clear.clear c.requires

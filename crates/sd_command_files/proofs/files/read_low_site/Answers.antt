@@ -3,24 +3,24 @@ use Rattle.sd_site.specs.Fields.{fields_of}
 use Rattle.sd_command_status.specs.Outside.{depot_state}
 use Rattle.sd_command_status.specs.Spec.{judged}
 use Rattle.sd_command_status.proofs.Follow.{alone_judges, looks_first, looks_judged}
-use Rattle.sd_command_files.specs.Files.{site_of_file}
-use Rattle.sd_run_trial.specs.Trial.{told_low, low_site_of_file}
-use Rattle.sd_run_trial.proofs.plan.read_low_site.Goals as goal
+use Rattle.sd_command_files.specs.Files.{site_of_file, told_low, low_site_of_file}
+use Rattle.sd_command_files.proofs.files.read_low_site.Goals as goal
 
-pub returns-in_err-site : goal.returns-in_err-site
+pub returns-in_err-site-clause-value : goal.returns-in_err-site-clause-value
 unfolding low_site_of_file
-returns-in_err-site g c =
+returns-in_err-site-clause-value g c =
     let p = err_from_is_err_and c.from_residual.result c.from_residual.ensures.1 in
     rw (p.1, p.2) (looks_first fields_of fields_of (site_of_file c.args.word.number)
-    (λ site. judged (told_low site)) c.args.word.text.now
+    (λ site. judged (told_low c.args.most c.args.kind site)) c.args.word.text.now
     (depot_state g.D.Depot c.args.depot.now) (depot_state g.D.Depot c.read_site.new.depot) c.in_err-site.field-0.0
     c.in_err-site.ensures)
 
-pub returns : goal.returns
+pub returns-clause-value : goal.returns-clause-value
 unfolding low_site_of_file
-returns g c =
+returns-clause-value g c =
     looks_judged fields_of fields_of (site_of_file c.args.word.number)
-    told_low c.args.word.text.now
+    (told_low c.args.most c.args.kind) c.args.word.text.now
     (depot_state g.D.Depot c.args.depot.now) (depot_state g.D.Depot c.read_site.new.depot) c.in_ok-site.site
     c.judge_height.result c.in_ok-site.ensures
-    (alone_judges fields_of (told_low (fields_of c.in_ok-site.site)) c.judge_height.result c.judge_height.ensures)
+    (alone_judges fields_of (told_low c.args.most c.args.kind (fields_of c.in_ok-site.site)) c.judge_height.result
+    c.judge_height.ensures.value)
