@@ -1,9 +1,10 @@
 #!/bin/sh
 # Shows that a command which the launcher runs before its proof does what the built program does: in a fresh clone, each
 # case below has the same exit status, standard output, files and standard error, but for the launcher's first line. The
-# launcher's table of commands is what `help` prints. A case takes a minute of a processor. To be run by hand, from any
-# folder: `bench/first-look.sh`, or `SDCA=PROGRAM bench/first-look.sh` with a program that is built already. FIRST and
-# LAST, if set, are the numbers of the first and the last case to run. The last line is `N passed, M failed`.
+# comments by which the launcher knows the arguments say what `help` prints. A case takes a minute of a processor. To be
+# run by hand, from any folder: `bench/first-look.sh`, or `SDCA=PROGRAM bench/first-look.sh` with a program that is built
+# already. FIRST and LAST, if set, are the numbers of the first and the last case to run. The last line is `N passed, M
+# failed`.
 set -eu
 . "$(dirname "$0")/shared.sh"
 
@@ -12,7 +13,8 @@ first=${FIRST:-1}
 last=${LAST:-1000}
 
 "$program" help | sed -n 's/^  \([a-z]*\( [A-Z][A-Z]*\)\{1,\}\)  .*/\1/p' >table
-cmp -s table "$top/tools/commands.txt" || fail "tools/commands.txt isn't the table that help prints"
+sed -n 's|^    /// `\([a-z]* [A-Z ]*\)`: .*|\1|p' "$top/crates/sd_command_table/src/command.rt" >comments
+cmp -s table comments || fail "the comments of Command aren't the table that help prints"
 
 git clone -q "$top" clone
 mkdir files files/folder

@@ -1,11 +1,13 @@
 #!/usr/bin/env python3
-"""exits.py: the texts of the exits are the same in all places that have them.
+"""exits.py: the texts of the exits, and the arguments of the commands, are the same in all places that have them.
 
 The meaning of each exit has three places: help (sd_command_table, specs/Exits), the last column of the table in
 docs/FORMATS.md, and the manual page docs/sdca.1. A cell of the table begins with the text that help prints; details may
 follow after a full stop. The manual page has that text as a sentence. The printed lines have two places: `line_of` and
 what it cites (sd_command_status, specs/Texts), and the second column of the table. Each printed text is in the table,
-and the table has no other text. It prints what differs, and exits with 1 if something does."""
+and the table has no other text. The arguments of a command have two places: the table of commands
+(sd_command_table, specs/Commands), and the comments of `Command` in src/command.rt, which the launcher reads. It prints
+what differs, and exits with 1 if something does."""
 
 import os
 import re
@@ -13,6 +15,9 @@ import sys
 
 TOP = os.path.dirname(os.path.dirname(os.path.realpath(__file__)))
 HELP = "crates/sd_command_table/specs/Exits.antt"
+COMMANDS = "crates/sd_command_table/specs/Commands.antt"
+ARGUMENTS = "crates/sd_command_table/specs/Operands.antt"
+COMMENTS = "crates/sd_command_table/src/command.rt"
 LINES = "crates/sd_command_status/specs/Texts.antt"
 TABLE = "docs/FORMATS.md"
 MANUAL = "docs/sdca.1"
@@ -46,6 +51,20 @@ def of_manual():
         text = re.sub(r"^\.Ql ", "", text, flags=re.M)
         found[int(number)] = re.sub(r" ([:;,.])(?=\s|$)", r"\1", " ".join(text.split()))
     return found
+
+
+def arguments():
+    """What differs between the arguments of the commands and the comments that say them."""
+    words = dict(re.findall(r'^operand_name (\w+) = codes "(\w+)"$', read(ARGUMENTS), re.M))
+    names = dict(re.findall(r'^command_name (\w+) = codes "(\w+)"$', read(COMMANDS), re.M))
+    rows = dict(re.findall(r"^operands_of (\w+) = (.*) ∷ \[\]$", read(COMMANDS), re.M))
+    said = re.findall(r"^    /// `([a-z]+ [A-Z ]+)`: ", read(COMMENTS), re.M)
+    if len(said) != len(names) or len(rows) != len(names):
+        yield f"{COMMENTS}: {len(said)} comments begin with the arguments of one of {len(names)} commands"
+    for command, row in rows.items():
+        line = " ".join([names[command], *(words[it.removeprefix("word.")] for it in row.split(" ∷ "))])
+        if line not in said:
+            yield f"{COMMENTS}: no comment begins with `{line}`"
 
 
 def as_sentence(text):
@@ -83,8 +102,8 @@ def printed(table):
 
 def main():
     table = rows()
-    differing = [*meanings(table), *printed(table)]
-    print("\n".join(differing) or f"exits.py: the texts of {len(of_help())} exits agree")
+    differing = [*meanings(table), *printed(table), *arguments()]
+    print("\n".join(differing) or f"exits.py: the texts of {len(of_help())} exits and the arguments of commands agree")
     return 1 if differing else 0
 
 
