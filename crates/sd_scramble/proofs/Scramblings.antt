@@ -27,7 +27,7 @@ part_is_enough (x ∷ text) (y ∷ stream) (suc n) h =
     ap (λ (r : List ℕ). bit_xor x y ∷ r) (part_is_enough text stream n (omega arith))
 
 -- under each other, texts of one length are the same
-swapped : (text stream : List ℕ) → length text ≡ length stream → xored text stream ≡ xored stream text
+pub swapped : (text stream : List ℕ) → length text ≡ length stream → xored text stream ≡ xored stream text
 swapped [] [] h = refl
 swapped [] (y ∷ stream) h = absurd (omega arith)
 swapped (x ∷ text) [] h = absurd (omega arith)

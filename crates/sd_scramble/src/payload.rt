@@ -1,5 +1,5 @@
-ghost use Rattle.std.specs.Prelude.{◌≡◌, ◌+◌, ◌*◌, ◌^◌, ◌<◌, ◌≤◌, true, slice_index, take, length};
-ghost use Rattle.sd_packet.specs.Header.{pid_of, scrambling_of, payload_start_of};
+ghost use Rattle.std.specs.Prelude.{◌≡◌, ◌+◌, ◌*◌, ◌^◌, ◌<◌, ◌≤◌, ◌++◌, true, slice_index, take, length};
+ghost use Rattle.sd_packet.specs.Header.{pid_of, scrambling_of, payload_start_of, payload_of};
 ghost use Rattle.sd_packet.specs.Positions.{is_positional};
 ghost use Rattle.sd_keystream.specs.Keystream.{xored};
 ghost use Rattle.sd_scramble.specs.Scrambling.{laid_under, control_of, scrambled, descrambled};
@@ -64,11 +64,26 @@ fn lay_under(packet: &mut Packet, word: &[u8; 32], position: u64, control: u8)
     ensures length { length packet.old ≡ 188 }
 {
     let number = u64::from(packet.pid()) * (1 << 48) + position;
-    let mut bytes = payload_stream(word, number);
-    let length = packet.payload().len();
-    lay_first(&mut bytes, packet.payload());
-    packet.set_payload(&bytes[..length]);
+    lay_stream(packet, &mut payload_stream(word, number));
     packet.set_scrambling(control);
+}
+
+// Lays a stream over the packet's payload, and loses it. A payload that fills the packet is laid apart, since then the
+// compiler knows its length.
+#[tactic(auto, using(crate::proofs::Scramblings::swapped, crate::proofs::Scramblings::first_laid))]
+fn lay_stream(packet: &mut Packet, stream: &mut [u8; 184])
+    ensures value { packet.new ≡
+        take (payload_start_of packet.old) packet.old ++ xored (payload_of packet.old) stream.old }
+    ensures length { length packet.old ≡ 188 }
+{
+    let length = packet.payload().len();
+    if length == stream.len() {
+        lay(stream, packet.payload());
+        packet.set_payload(stream);
+    } else {
+        lay_first(stream, packet.payload());
+        packet.set_payload(&stream[..length]);
+    }
 }
 
 // Lays a payload over the first bytes of a stream.
