@@ -7,60 +7,41 @@ ghost use Rattle.sd_command_table.specs.Exits.{exits_of_shown_cards, exits_of_ta
 #[derive(Clone, Copy)]
 pub enum Exit {
     /// Exit 0: the work is done.
-    /// Exit 0: the work is done.
     Done,
-    /// Exit 1: the arguments are no usage of a command.
     /// Exit 1: the arguments are no usage of a command.
     Usage,
     /// Exit 2: a file, or the folder of OUT, does not exist.
-    /// Exit 2: a file, or the folder of OUT, does not exist.
     Missing,
-    /// Exit 3: the card's leaf is revoked in a period.
     /// Exit 3: the card's leaf is revoked in a period.
     Revoked,
     /// Exit 4: an I/O error at a file.
-    /// Exit 4: an I/O error at a file.
     DepotFault,
-    /// Exit 5: an I/O error while printing.
     /// Exit 5: an I/O error while printing.
     PrintFault,
     /// Exit 6: the site file is refused.
-    /// Exit 6: the site file is refused.
     BadSite,
-    /// Exit 7: a line of a book, of accounts or of leaves is refused.
     /// Exit 7: a line of a book, of accounts or of leaves is refused.
     BadBook,
     /// Exit 8: the card's file is refused.
-    /// Exit 8: the card's file is refused.
     BadCard,
-    /// Exit 9: a packet of the clear stream is refused.
     /// Exit 9: a packet of the clear stream is refused.
     BadClear,
     /// Exit 10: a packet of the stream is refused.
-    /// Exit 10: a packet of the stream is refused.
     BadStream,
-    /// Exit 11: a limit is exceeded.
     /// Exit 11: a limit is exceeded.
     Limit,
     /// Exit 12: out of memory.
-    /// Exit 12: out of memory.
     NoMemory,
-    /// Exit 13: the receiver did not hear its entitlement for a period.
     /// Exit 13: the receiver did not hear its entitlement for a period.
     Unheard,
     /// Exit 14: the stream ends before its closing ECM is complete.
-    /// Exit 14: the stream ends before its closing ECM is complete.
     Unclosed,
-    /// Exit 15: clear packets are missing from OUT.
     /// Exit 15: clear packets are missing from OUT.
     Gaps,
     /// Exit 16: no CAT of the stream names the card's CA system.
-    /// Exit 16: no CAT of the stream names the card's CA system.
     NoCat,
     /// Exit 17: an argument is not a decimal number in its range.
-    /// Exit 17: an argument is not a decimal number in its range.
     BadWord,
-    /// Exit 18: two broadcasts must not share one set of cards.
     /// Exit 18: two broadcasts must not share one set of cards.
     Clash,
 }
