@@ -8,6 +8,7 @@ use Rattle.std.proofs.lemmas.List.{append-nil, length_push, take-append-le}
 use Rattle.std.proofs.Math.Seq.{take-append_seam}
 use Rattle.std.specs.Prelude.{◌⊎◌, MatchResult, bytes_eq, is_some, map, slice_get, if◌then◌else◌, option_map}
 use Rattle.std.specs.Prelude.{option_and_then, codes}
+use Rattle.sd_base.proofs.Bools.{or_true}
 use Rattle.sd_base_text.specs.Lines.{lines_of}
 use Rattle.sd_base_text.specs.Number.{rest_after, decimal_value}
 use Rattle.sd_tree.specs.declared.leaf.TheConstants.{MOST_REVOKED}
@@ -35,11 +36,6 @@ use Rattle.sd_accounts.specs.Line.{Entry, Assigns, Drops, Restores, Ends, assign
 use Rattle.sd_accounts.specs.Line.{name_in, cut_at_space, said_by}
 use Rattle.sd_accounts.proofs.Kept.{leaf_more}
 use Rattle.sd_accounts.proofs.Limits.{book_ends, end_by}
-
--- a test or true
-or_true : (b : Bool) → (b || true) ≡ true
-or_true true = refl
-or_true false = refl
 
 -- a good line gives its command
 makes_command : (before : List (Option Entry)) (entry : Entry) (command : Command) → AddsCommand before entry command →

@@ -1,6 +1,5 @@
 -- What is kept of the lines so far, with one line more.
 use Rattle.std.proofs.Common.{arith, ◌≡◌, ◌==◌, ℕ, ◌<◌, ◌^◌, ◌||◌, Bool, true, false, List, [], ◌∷◌, ◌++◌}
-use Rattle.std.proofs.Common.{get_or, zero, suc}
 use Rattle.std.proofs.Common.{Option, Some, None, refl, sym, ap, ◌∙◌}
 use Rattle.std.proofs.lemmas.Bool.{eqb-true, eqb-false}
 use Rattle.std.proofs.lemmas.Grind.{get_or-set_at}
@@ -8,6 +7,8 @@ use Rattle.std.proofs.lemmas.List.{get_or-set_other, length-set, length-replicat
 use Rattle.std.proofs.lemmas.List.Folds.{list_any-append}
 use Rattle.std.specs.Prelude.{bytes_eq, slice_set, replicate, if◌then◌else◌}
 use Rattle.std.specs.Cmp.Lexicographic.{bytes_decides, nat_list_eq_equiv}
+use Rattle.sd_base.proofs.Bools.{or_true, or_false}
+use Rattle.sd_base.proofs.Lists.{unmarked}
 use Rattle.sd_accounts.specs.Line.{Entry, Assigns, Drops, Restores, Ends}
 use Rattle.sd_accounts.specs.Bound.{leaf_on, leaf_of, first_there, holds, is_held}
 use Rattle.sd_accounts.specs.Kept.{IsBelow, leaf_after, marks_after, mark_of, IsKept}
@@ -16,22 +17,6 @@ use Rattle.sd_accounts.specs.Kept.{IsBelow, leaf_after, marks_after, mark_of, Is
 none_after : (o : Option ℕ) → first_there o None ≡ o
 none_after None = refl
 none_after (Some u) = refl
-
--- of a test or nothing
-or_false : (b : Bool) → (b || false) ≡ b
-or_false true = refl
-or_false false = refl
-
-or_true : (b : Bool) → (b || true) ≡ true
-or_true true = refl
-or_true false = refl
-
--- a mark of none
-unmarked : (n u : ℕ) → get_or (replicate n false) u false ≡ false
-unmarked zero zero = refl
-unmarked zero (suc u) = refl
-unmarked (suc n) zero = refl
-unmarked (suc n) (suc u) = unmarked n u
 
 -- no line binds nothing
 pub kept_none : (d : ℕ) (leaf_for : List ℕ → Option ℕ) (marks : List Bool) → ((name : List ℕ) → leaf_for name ≡ None) →

@@ -2,7 +2,7 @@
 use Rattle.std.proofs.Common.{arith, ◌≡◌, ℕ, ◌+◌, ◌<◌, ◌≤◌, ◌≢◌, nat_lt, Bool, true, false, List, [], ◌∷◌}
 use Rattle.std.proofs.Common.{length, get_or, Ok, Err}
 use Rattle.std.proofs.Common.{refl, sym, ap, ◌∙◌, zero, suc, ◌++◌, append_assoc}
-use Rattle.std.proofs.lemmas.Bool.{eqb-true, eqb-false, ltb-true, ltb-false}
+use Rattle.std.proofs.lemmas.Bool.{eqb-true, ltb-true, ltb-false}
 use Rattle.std.proofs.lemmas.List.Sorted.{searched}
 use Rattle.std.proofs.lemmas.List.Folds.{list_any_at}
 use Rattle.std.specs.Prelude.{map, nat_eq, codes, decimal}
@@ -18,6 +18,7 @@ use Rattle.serde_json.specs.Data.{Data, array}
 use Rattle.serde_json.specs.View.{items_of}
 use Rattle.serde_json.specs.Written.{compact_text, items_outline, outline}
 use Rattle.serde_json.proofs.Texts.{print-outline}
+use Rattle.sd_base.proofs.Numbers.{same_number}
 use Rattle.sd_book.specs.Commands.{last_period, revoked}
 use Rattle.sd_accounts.specs.Accounts.{AccountsValue}
 use Rattle.sd_accounts.specs.Kept.{accounts_in}
@@ -47,13 +48,6 @@ nowhere (x ∷ xs) u none =
     let apart : x ≢ u = none 0 (omega arith) in
     let off : nat_eq u x ≡ false = differs (nat_eq u x) refl apart in
     rw (off, nowhere xs u (λ k h. none (suc k) (omega arith))) refl
-
-same_number : (u : ℕ) → nat_eq u u ≡ true
-same_number u = by (nat_eq u u) refl
-  where
-    by : (b : Bool) → nat_eq u u ≡ b → nat_eq u u ≡ true
-    by true e = e
-    by false e = absurd (eqb-false u u e refl)
 
 -- a leaf that the search finds isn't active
 pub found_revoked : (revoked : List ℕ) (u place : ℕ) →

@@ -53,7 +53,7 @@ fn assign_in(text: &[u8], h: Height) -> Option<Line>
 }
 
 /// What stands before the first space, and after it.
-#[tactic(auto, using(crate::proofs::Spaces::cut_there, crate::proofs::Spaces::no_cut, crate::proofs::Spaces::to_the_end))]
+#[tactic(auto, using(crate::proofs::Spaces::cut_there, crate::proofs::Spaces::no_cut, sd_base_text::proofs::Cuts::to_the_end))]
 fn cut_at_space(text: &[u8]) -> Option<(&[u8], &[u8])>
     ensures { option_map (λ cut. (cut.0.now, cut.1.now)) result ≡ cut_at_space text.now }
 {
