@@ -19,7 +19,7 @@ use Rattle.sd_head.specs.declared.fault.HeadFault.TheVariants.{Clear}
 use Rattle.sd_head.specs.declared.head.Head.{Head}
 
 -- the bytes of packets, each after those before it
-all_bytes : (plan : Plan) (before packets : List (List ℕ)) →
+pub all_bytes : (plan : Plan) (before packets : List (List ℕ)) →
     all_from (bytes_added plan) before packets ≡ bytes_from plan before packets
 unfolding bytes_from
 all_bytes plan before [] = refl
@@ -27,7 +27,7 @@ all_bytes plan before (packet ∷ packets) =
     ap (λ (rest : List ℕ). bytes_added plan before packet ++ rest) (all_bytes plan (before ++ packet ∷ []) packets)
 
 -- a chain from the beginning
-chained : (plan : Plan) (packets : List (List ℕ)) (s t : Head) (bytes : List ℕ) (steps : ℕ) → IsAfter plan [] s →
+pub chained : (plan : Plan) (packets : List (List ℕ)) (s t : Head) (bytes : List ℕ) (steps : ℕ) → IsAfter plan [] s →
     Chain head_does s packets t bytes steps → (bytes ≡ concat (body plan packets)) × IsAfter plan packets t
 chained plan packets s t bytes steps after chain =
     let there = chain_writes head_does (IsAfter plan) (bytes_added plan)

@@ -5,4 +5,4 @@ mod Counting
 mod Starting
 mod Added
 mod Stepping
-mod Chained
+pub mod Chained

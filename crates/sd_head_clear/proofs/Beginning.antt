@@ -1,11 +1,11 @@
 -- Before the first packet.
-use Rattle.std.proofs.Common.{◌≡◌, ℕ, zero, suc, ◌+◌, ◌*◌, ◌<◌, ◌≤◌, Bool, true, false, List, [], get_or}
+use Rattle.std.proofs.Common.{◌≡◌, ℕ, zero, suc, ◌+◌, ◌*◌, ◌<◌, ◌≤◌, Bool, false, List, [], get_or}
 use Rattle.std.proofs.Common.{filter, replicate}
 use Rattle.std.proofs.Common.{refl, sym, ap, subst, ◌∙◌, arith}
 use Rattle.std.specs.List.{range_with_len}
-use Rattle.std.proofs.lemmas.Bool.Decides.{nat_tests}
 use Rattle.std.proofs.lemmas.List.{get_or-replicate}
-use Rattle.sd_packet.specs.Positions.{is_positional, moved_by}
+use Rattle.sd_packet.specs.Positions.{moved_by}
+use Rattle.sd_packet.proofs.Positions.{positional_small}
 use Rattle.sd_spec_broadcast.specs.Kinds.{pmts_in, pat_in_force, has_moved, moved_pids, positional_pids}
 use Rattle.sd_head_clear.specs.Kept.{AreKnown, AreNear, AreMarked}
 use Rattle.sd_head_clear.specs.After.{ArePositions}
@@ -26,9 +26,6 @@ first_near positions is = record {
     repeated zero pid = omega arith
     repeated (suc n) zero = omega arith
     repeated (suc n) (suc pid) = repeated n pid
-
-positional_small : (pid : ℕ) → is_positional pid ≡ true → pid < 8192
-positional_small pid positional = grind (arith, nat_tests, positional)
 
 pub first_positions : (positions : List ℕ) → positions ≡ replicate 8192 15 → ArePositions [] positions
 unfolding moved_by

@@ -144,3 +144,9 @@ laid_more (x ∷ xs) (y ∷ ys) zero h long = refl
 laid_more (x ∷ xs) (y ∷ ys) (suc i) h long =
     let next : suc i + 1 ≡ suc (i + 1) = omega arith in
     rw next (ap (λ (r : List ℕ). x ∷ r) (laid_more xs ys i (omega arith) (omega arith)))
+
+-- a text under a stream that is as long keeps its length
+pub xored_length : (text stream : List ℕ) → length text ≤ length stream → length (xored text stream) ≡ length text
+xored_length [] ys h = refl
+xored_length (x ∷ xs) [] h = absurd (omega (arith, h))
+xored_length (x ∷ xs) (y ∷ ys) h = ap suc (xored_length xs ys (omega (arith, h)))

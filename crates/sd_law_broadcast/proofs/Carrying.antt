@@ -4,7 +4,6 @@ use Rattle.std.proofs.Common.{refl, ◌∙◌, inl, inr, arith}
 use Rattle.std.specs.Prelude.{is_none}
 use Rattle.std.proofs.lemmas.Bool.{cases_Bool}
 use Rattle.std.proofs.lemmas.Bool.Decides.{nat_tests}
-use Rattle.sd_bits.specs.Bits.{field}
 use Rattle.sd_packet.proofs.Packets.{start_within}
 use Rattle.sd_packet.specs.Header.{pid_of, scrambling_of, payload_start_of, has_payload}
 use Rattle.sd_packet.specs.Positions.{is_placed, moved}
@@ -14,7 +13,7 @@ use Rattle.sd_psi.specs.Rewriting.{rewrite_fault}
 use Rattle.sd_psi.specs.Undone.{IsPacket}
 use Rattle.sd_psi.proofs.Keeping.{rewritten_keeps, rewritten_packet_keeps}
 use Rattle.sd_scramble.specs.Scrambling.{control_of, payload_under, laid_under}
-use Rattle.sd_scramble.proofs.Scramblings.{prefix_is, laid_reads, control_fits}
+use Rattle.sd_scramble.proofs.Scramblings.{prefix_is, laid_reads, control_fits, pid_by_bytes}
 use Rattle.sd_spec_broadcast.specs.Plan.{word_of}
 use Rattle.sd_spec_broadcast.specs.Kinds.{kind_of}
 use Rattle.sd_spec_broadcast.specs.Carried.{parity_of, place_after, pmt_carried, veiled, carried_as, carried}
@@ -102,12 +101,6 @@ carried_keeps site before packet whole clear = by_kind (kind_of before packet) r
     by_kind Pmt is =
         pmt_keeps site packet (placed_packet packet whole (kind_placed before packet (λ e. absurd (cc)))) clear
     by_kind Scrambled is = veiled_keeps site (word_of site (length before)) (place_after before packet) packet whole
-
--- the PID is kept whatever the bytes are
-pid_by_bytes : (x y : List ℕ) → slice_index x 1 ≡ slice_index y 1 → slice_index x 2 ≡ slice_index y 2 →
-    pid_of x ≡ pid_of y
-unfolding field
-pid_by_bytes x y e f = rw (e, f) refl
 
 veiled_pid : (site : SiteFields) (t position : ℕ) (packet : List ℕ) → length packet ≡ 188 →
     pid_of (veiled site t position packet) ≡ pid_of packet

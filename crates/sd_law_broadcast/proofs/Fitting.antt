@@ -1,6 +1,6 @@
 -- The messages of a broadcast are ones that are written and read.
 use Rattle.std.proofs.Common.{◌≡◌, ℕ, zero, suc, ◌+◌, ◌-◌, ◌*◌, ◌/◌, ◌^◌, ◌<◌, ◌≤◌, Bool, true, false}
-use Rattle.std.proofs.Common.{List, [], ◌∷◌, ◌++◌, length, get_or, map, refl, sym, ap, subst, ◌∙◌, inl, inr, arith}
+use Rattle.std.proofs.Common.{List, [], ◌∷◌, ◌++◌, length, get_or, map, refl, sym, subst, ◌∙◌, inl, inr, arith}
 use Rattle.std.specs.Prelude.{All, AllPairs}
 use Rattle.std.specs.List.{range_with_len}
 use Rattle.std.proofs.Math.Nat.{zero-div, div-le_self, div-le_of_le-mul, mul-suc, mul-le-mul_right}
@@ -16,8 +16,8 @@ use Rattle.std.proofs.lemmas.List.{length-take-le}
 use Rattle.sd_tree.specs.SetNames.{AreAscending as AreSetsAscending}
 use Rattle.sd_tree.specs.declared.set.SetName.{SetName}
 use Rattle.sd_tree.specs.declared.set.SetName.TheVariants.{Whole}
-use Rattle.sd_keystream.specs.Keystream.{keystream, xored}
-use Rattle.sd_keystream.proofs.Streams.{keystream_length}
+use Rattle.sd_keystream.specs.Keystream.{keystream}
+use Rattle.sd_keystream.proofs.Streams.{keystream_length, xored_length}
 use Rattle.sd_packet.specs.Positions.{is_positional, position_of}
 use Rattle.sd_packet.proofs.Positions.{moved_by_near}
 use Rattle.sd_label.specs.Keys.{key_of, period_key_of, control_word_of, check_value_of}
@@ -49,12 +49,6 @@ use Rattle.sd_spec_broadcast.specs.Refused.{IsClear}
 use Rattle.sd_spec_broadcast.proofs.Schedule.{since_is_below, closing_of_none, period_short}
 use Rattle.sd_spec_broadcast.proofs.Periods.{names_are}
 use Rattle.sd_law_broadcast.proofs.Clear.{clear_short, clear_pids, clear_words}
-
--- a text under a stream that is as long keeps its length
-xored_length : (text stream : List ℕ) → length text ≤ length stream → length (xored text stream) ≡ length text
-xored_length [] ys h = refl
-xored_length (x ∷ xs) [] h = absurd (omega (arith, h))
-xored_length (x ∷ xs) (y ∷ ys) h = ap suc (xored_length xs ys (omega (arith, h)))
 
 -- a wrapped key has 32 bytes
 under_length : (key : List ℕ) (number : ℕ) (text : List ℕ) → length text ≡ 32 → length (under key number text) ≡ 32

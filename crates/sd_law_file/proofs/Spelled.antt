@@ -1,12 +1,12 @@
 -- How long the packets of a broadcast are, and that each begins with the sync byte.
-use Rattle.std.proofs.Common.{◌≡◌, ℕ, suc, ◌+◌, ◌-◌, ◌*◌, ◌%◌, ◌≤◌, List, [], ◌∷◌, ◌++◌, length, take, drop}
+use Rattle.std.proofs.Common.{◌≡◌, ℕ, ◌+◌, ◌-◌, ◌*◌, ◌%◌, ◌≤◌, List, ◌++◌, length, take, drop}
 use Rattle.std.proofs.Common.{refl, ap, ◌∙◌, arith, inl, inr, length-append, length-take-le, length-drop}
 use Rattle.std.proofs.Common.{get_or-take, true}
 use Rattle.std.specs.Prelude.{Option, Some, None, is_none, slice_index, slice_set}
 use Rattle.std.proofs.lemmas.Bool.{cases_Bool}
 use Rattle.std.proofs.lemmas.List.{get_or_append_left, length-set}
 use Rattle.sd_keystream.specs.Keystream.{keystream, xored}
-use Rattle.sd_keystream.proofs.Streams.{keystream_length}
+use Rattle.sd_keystream.proofs.Streams.{keystream_length, xored_length}
 use Rattle.sd_packet.specs.Header.{pid_of, payload_start_of}
 use Rattle.sd_packet.specs.Packing.{packed}
 use Rattle.sd_packet.proofs.Packets.{packet_length, packet_sync, start_within}
@@ -74,12 +74,6 @@ ecm_short part fits form =
       form.counted.few,
       fits_packet part.version,
     )
-
--- a text under a stream that is as long keeps its length
-xored_length : (text stream : List ℕ) → length text ≤ length stream → length (xored text stream) ≡ length text
-xored_length [] ys h = refl
-xored_length (x ∷ xs) [] h = absurd (omega (arith, h))
-xored_length (x ∷ xs) (y ∷ ys) h = ap suc (xored_length xs ys (omega (arith, h)))
 
 -- a scrambled packet is as long, and begins as it did
 veiled_synced : (site : SiteFields) (t position : ℕ) (packet : List ℕ) → IsSynced packet →

@@ -15,6 +15,7 @@ use Rattle.sd_spec_receiver.specs.Stretches.{completed}
 use Rattle.sd_spec_receiver.specs.Stretches.{completes}
 use Rattle.sd_spec_receiver.specs.Stretches.{current, seen, is_closed, others, messages}
 use Rattle.sd_spec_receiver.specs.Offered.{heard_offering, part_fault, message_offering, part_offering, no_offering}
+use Rattle.sd_spec_receiver.proofs.Hearing.{no_fault_in_none}
 use Rattle.sd_law_losses.specs.Chosen.{chosen}
 use Rattle.sd_law_losses.proofs.Parts.{Stands, follows, stands_from, whole_next, broken_next, kept_next, lost_next}
 use Rattle.sd_law_losses.proofs.Taking.{keys_of}
@@ -255,10 +256,6 @@ completes_with : (stretch : Stretch) (part : EcmPart) (message : Message) →
     (part.part == part.last_part) ≡ true → completed stretch (Controls part) ≡ Some message
 completes_with stretch part message tells last = rw last tells
 
-no_fault : part_fault [] ≡ None
-unfolding part_fault
-no_fault = refl
-
 -- parts of earlier messages stand at none of this one
 below_first : (a : ℕ) (part : EcmPart) (run : List EcmPart) → part.number < a → stands_from a 0 (part ∷ run) ≡ false
 below_first a part run below = grind (arith, nat_tests, below)
@@ -301,7 +298,8 @@ broken_come card tuning message (false ∷ fs) (part ∷ rest) prior now are mid
 broken_come card tuning message (true ∷ fs) (part ∷ rest) prior now are mid =
     let none = run_broken message prior now part rest are.0 mid in
     let calm = no_run (newest now) part none in
-    come_after false card tuning message now (map Controls (chosen fs rest)) part calm (ap part_fault none ∙ no_fault)
+    come_after false card tuning message now (map Controls (chosen fs rest)) part calm
+    (ap part_fault none ∙ no_fault_in_none)
     (broken_come card tuning message fs rest (part ∷ prior) (Controls part ∷ now) are.1
     (midway_next message.number false prior now part are.0.number are.0.place mid calm))
 

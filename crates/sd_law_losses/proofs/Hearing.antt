@@ -10,7 +10,7 @@ use Rattle.sd_emm.specs.declared.emm.Emm.{Emm}
 use Rattle.sd_ecm.specs.declared.part.EcmPart.{EcmPart}
 use Rattle.sd_spec_broadcast.specs.Sent.{Item, Cat, Entitles, Controls, Carries, packet_of, packets_from}
 use Rattle.sd_spec_broadcast.specs.Items.{IsOfBroadcast}
-use Rattle.sd_spec_receiver.specs.Tuned.{Tuning, tuning_of, cat_tuning, tuned_by}
+use Rattle.sd_spec_receiver.specs.Tuned.{Tuning, tuning_of, cat_tuning}
 use Rattle.sd_spec_receiver.specs.Heard.{Heard, Dropped, Entitles as HeardEntitles, Controls as HeardControls, Other}
 use Rattle.sd_spec_receiver.specs.Heard.{hears}
 use Rattle.sd_spec_receiver.specs.Stretches.{is_closed}
@@ -18,6 +18,7 @@ use Rattle.sd_spec_receiver.specs.Runs.{is_turn}
 use Rattle.sd_spec_receiver.specs.Offered.{Offering, heard, heard_with, heard_more, heard_offering, run_offering}
 use Rattle.sd_spec_receiver.specs.Offered.{offered}
 use Rattle.sd_spec_receiver.specs.Offered.{tuned_offering, out_from, break_from}
+use Rattle.sd_spec_receiver.proofs.Hearing.{tuned_more as still_tuned}
 use Rattle.sd_law_losses.specs.Chosen.{chosen}
 pub use Rattle.sd_law_losses.specs.Kept.{is_cat_item}
 use Rattle.sd_law_losses.proofs.Writing.{onto, Writes, IsOpenUpto}
@@ -95,11 +96,6 @@ unfolding heard
 heard_is_more card tuning past packet thing tuned straight opened is =
     ap (λ (t : Option Tuning). heard_with card t (length past) packet (heard card past)) tuned
     ∙ (ap (heard_more (heard card past)) is ∙ one_heard (heard card past) thing straight opened)
-
-still_tuned : (card : CardFields) (tuning : Tuning) (past : List (List ℕ)) (packet : List ℕ) →
-    tuning_of card.ca past ≡ Some tuning → tuning_of card.ca (packet ∷ past) ≡ Some tuning
-unfolding tuning_of
-still_tuned card tuning past packet tuned = ap (λ (t : Option Tuning). tuned_by t (cat_tuning card.ca packet)) tuned
 
 tuned_more : (s : Setting) (past : List (List ℕ)) (packet : List ℕ) (thing : Heard) → IsTuned s past →
     hears s.card.height (tuning_at s) (length past) packet ≡ thing → IsOfRun (site_name s.plan.site) thing →

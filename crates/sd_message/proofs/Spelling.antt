@@ -1,5 +1,5 @@
 -- Sections with a plain header are spelled as this project spells them.
-use Rattle.std.proofs.Common.{ℕ, ◌+◌, ◌-◌, ◌≤◌, ◌≡◌, List, ◌++◌, length, take, drop, take-add, length-take-le}
+use Rattle.std.proofs.Common.{ℕ, ◌+◌, ◌-◌, ◌≤◌, ◌≡◌, List, ◌++◌, length, take, drop, take-add}
 use Rattle.std.proofs.Common.{length-drop, length-append, append_assoc, get_or-drop, sym, ap, ◌∙◌, arith}
 use Rattle.std.specs.Int.{w32, to_be_bytes}
 use Rattle.std.proofs.lemmas.List.{take_at, take_all, take-append-drop}
@@ -7,13 +7,9 @@ use Rattle.sd_section.specs.Header.{crc_of}
 use Rattle.sd_section.specs.Header.{section_length_of, body_of, crc_in, crc_due}
 use Rattle.sd_section.specs.Written.{header_bytes, sealed, section_bytes}
 use Rattle.sd_section.specs.declared.write.Header.{Header}
+use Rattle.sd_section.proofs.Cutting.{body_long}
 use Rattle.sd_message.specs.Framed.{header_of, IsPlain}
 use Rattle.sd_message.proofs.Numbers.{IsBytes, word_spelled}
-
--- how long the body is
-body_long : (section : List ℕ) → length (body_of section) ≡ length section - 12
-body_long section =
-    omega (arith, length-take-le (length section - 4 - 8) (drop 8 section) (omega (arith, length-drop 8 section)))
 
 -- what stands before the CRC is the header and the body
 prefix_spelled : (section : List ℕ) → 12 ≤ length section → IsPlain section →

@@ -111,3 +111,7 @@ pub sync_stays : (packet rest : List ℕ) (start : ℕ) → 4 ≤ start → 1 �
 sync_stays [] rest start low some = absurd (omega arith)
 sync_stays (x ∷ packet) rest zero low some = absurd (omega arith)
 sync_stays (x ∷ packet) rest (suc n) low some = refl
+
+-- the PID of a packed section
+pub packed_pid : (section : List ℕ) (pid counter : ℕ) → pid < 8192 → pid_of (packed section pid (counter % 16)) ≡ pid
+packed_pid section pid counter low = (packet_reads section pid (counter % 16) low (omega arith)).pid_is

@@ -4,6 +4,7 @@ use Rattle.std.proofs.Common.{length, get_or, take, refl, ap, ◌∙◌, inl, in
 use Rattle.std.specs.Prelude.{if◌then◌else◌, ◌↔◌}
 use Rattle.std.specs.List.{list_any}
 use Rattle.std.proofs.lemmas.Bool.{cases_Bool, cases_lt, eq-eqb, and_parts}
+use Rattle.std.proofs.lemmas.Bool.Decides.{nat_tests}
 use Rattle.std.proofs.lemmas.List.{take_more}
 use Rattle.sd_bits.proofs.Fields.{field_below}
 use Rattle.sd_packet.specs.Header.{counter_of, pid_of, has_payload}
@@ -141,3 +142,7 @@ pub own_moves : (packet : List ℕ) → is_placed packet ≡ true → is_moving 
 own_moves packet placed =
     let same : (pid_of packet == pid_of packet) ≡ true = eq-eqb (pid_of packet) (pid_of packet) refl in
     rw same (and_parts (is_positional (pid_of packet)) (has_payload packet) placed).1
+
+-- a PID with positions is one of 13 bits
+pub positional_small : (pid : ℕ) → is_positional pid ≡ true → pid < 8192
+positional_small pid positional = grind (arith, nat_tests, positional)

@@ -1,13 +1,12 @@
 -- A chain cover and what the names of revoked leaves reach.
-use Rattle.std.proofs.Common.{ℕ, ◌*◌, ◌/◌, ◌^◌, ◌<◌, ◌≤◌, ◌≡◌, Bool, true, false, nat_eq, List, [], ◌∷◌, cond, count_by}
-use Rattle.std.proofs.Common.{⊎_elim, refl, subst, inl, inr, arith}
+use Rattle.std.proofs.Common.{ℕ, ◌*◌, ◌/◌, ◌^◌, ◌<◌, ◌≤◌, ◌≡◌, true, false, nat_eq, List}
+use Rattle.std.proofs.Common.{subst, inl, inr, arith}
 use Rattle.std.specs.Prelude.{◌↔◌, Contains, All, Any}
 use Rattle.std.specs.List.{flat_map, list_any}
-use Rattle.std.proofs.lemmas.Bool.{cases_Bool, false_from_ne_true}
-use Rattle.std.proofs.lemmas.List.Sums.{sum_by-cons}
+use Rattle.std.proofs.lemmas.Bool.{false_from_ne_true}
 use Rattle.std.proofs.lemmas.List.Elements.{All-contains}
 use Rattle.std.proofs.lemmas.List.Folds.{Any-from_list_any}
-use Rattle.sd_base.proofs.Lists.{is_found}
+use Rattle.sd_base.proofs.Lists.{is_found, counted_any}
 use Rattle.sd_tree.specs.Node.{IsAbove}
 use Rattle.sd_tree.specs.Leaves.{is_member}
 use Rattle.sd_tree.specs.SetNames.{IsPair, IsOfHeight}
@@ -81,17 +80,6 @@ pub revoked_pool_in_book_reaches_none : (d : ℕ) (commands : List Command) (q :
     → All (Contains (revoked d commands q)) coalition → ReachesNoneOf (flat_map (given d) coalition) sets
 revoked_pool_in_book_reaches_none d commands q sets coalition low cover members =
     revoked_pool_reaches_none d (revoked d commands q) sets coalition low (below d commands q) cover members
-
--- where a test is counted, some element passes it
-counted_any : {X : Type 0} (p : X → Bool) (xs : List X) → 1 ≤ count_by p xs → list_any p xs ≡ true
-counted_any p [] some = absurd (omega arith)
-counted_any p (x ∷ xs) some =
-    let parts = sum_by-cons (λ z. cond (p z) 1 0) x xs in
-    ⊎_elim (λ (e : p x ≡ true). rw e refl)
-    (λ (e : p x ≡ false).
-    let none : cond {A = ℕ} (p x) 1 0 ≡ 0 = rw e refl in
-    rw (e, counted_any p xs (omega (arith, none, parts))) refl)
-    (cases_Bool (p x))
 
 -- a leaf that isn't revoked is in a set of the cover, and its names reach the set's key
 unrevoked_reach_some : (d : ℕ) (leaves : List ℕ) (sets : List SetName) (u : ℕ) → d ≤ 20 → AreLeaves d leaves

@@ -15,11 +15,12 @@ use Rattle.sd_spec_receiver.specs.Stretches.{Stretch, newest, completes, others,
 use Rattle.sd_spec_receiver.specs.Keys.{key_in, key_at}
 use Rattle.sd_spec_receiver.specs.Confirmed.{Wrote}
 use Rattle.sd_spec_receiver.specs.Offered.{segment_wrote, stretch_wrote}
+use Rattle.sd_spec_receiver.proofs.Hearing.{newest_waits, newest_completes}
 use Rattle.sd_receive_hold.specs.Holding.{after_message, held_more}
 use Rattle.sd_receive_hold.specs.Writing.{wrote_of}
 use Rattle.sd_receive_hold.proofs.Walking.{between_messages}
 use Rattle.sd_receive.specs.Held.{word_under, held_under, held_after, holding_in, pair_wrote, unwritten}
-use Rattle.sd_receive.proofs.Stretching.{newest_waits, newest_completes, holds_more, holds_same, sees_same}
+use Rattle.sd_receive.proofs.Stretching.{holds_more, holds_same, sees_same}
 
 -- nothing was heard
 pub nothing_held : (card : CardFields) → holding_in card [] ≡ None

@@ -5,23 +5,8 @@ use Rattle.std.proofs.lemmas.List.{reverse-append}
 use Rattle.sd_ecm.specs.Parts.{Message}
 use Rattle.sd_ecm.specs.declared.part.EcmPart.{EcmPart}
 use Rattle.sd_spec_receiver.specs.Heard.{Heard, Controls, Other}
-use Rattle.sd_spec_receiver.specs.Stretches.{newest, stretched, completes, is_closed, seen, others, other_with, held_in}
-
--- what completes nothing is heard after the newest message
-pub newest_waits : (past : List Heard) (heard : Heard) → completes past heard ≡ None →
-    newest (heard ∷ past) ≡ record {
-      message = (newest past).message;
-      before = (newest past).before;
-      after =
-          heard ∷ (newest past).after;
-    }
-unfolding newest
-newest_waits past heard none = ap (stretched past (newest past) heard) none
-
-pub newest_completes : (past : List Heard) (heard : Heard) (message : Message) → completes past heard ≡ Some message →
-    newest (heard ∷ past) ≡ record { message = Some message; before = past; after = [] }
-unfolding newest
-newest_completes past heard message done = ap (stretched past (newest past) heard) done
+use Rattle.sd_spec_receiver.specs.Stretches.{newest, completes, is_closed, seen, others, other_with, held_in}
+use Rattle.sd_spec_receiver.proofs.Hearing.{newest_waits}
 
 -- the stream is closed by a closing message alone
 pub stays_open : (past : List Heard) (heard : Heard) → is_closed past ≡ false → completes past heard ≡ None →

@@ -11,9 +11,9 @@ use Rattle.sd_ecm.specs.declared.fault.EcmFault.TheVariants.{Back}
 use Rattle.sd_emm.specs.declared.emm.Emm.{Emm}
 use Rattle.sd_spec_receiver.specs.Heard.{Heard, Controls, Dropped, Entitles, Other}
 use Rattle.sd_spec_receiver.specs.Stretches.{Stretch, exceeds, counted, run_with, run_of, run_to, message_told, newest}
-use Rattle.sd_spec_receiver.specs.Stretches.{stretched}
 use Rattle.sd_spec_receiver.specs.Stretches.{completes}
 use Rattle.sd_spec_receiver.specs.Offered.{part_fault, is_back}
+use Rattle.sd_spec_receiver.proofs.Hearing.{no_fault_in_none, newest_waits, newest_completes}
 use Rattle.sd_receive_ecm.specs.Gathered.{places_of, newest_of, said_by, ArePlaces, next_run, IsGathered}
 use Rattle.sd_receive_ecm.specs.Collected.{parts_collected, IsMessageKept, IsCollected, fault_of, IsWaiting, IsComplete}
 use Rattle.sd_receive_ecm.specs.declared.collect.Collect.{Collect}
@@ -31,23 +31,6 @@ none_collected state run last places = record {
   last = subst (λ (l : List Place). IsMessageKept None state.last l) (sym places)
       (subst (λ (o : Option EcmHead). IsMessageKept None o []) (sym last) none_kept);
 }
-
--- what is heard and completes nothing is among what was heard after the newest message
-newest_waits : (past : List Heard) (heard : Heard) → completes past heard ≡ None →
-    newest (heard ∷ past) ≡ record {
-      message = (newest past).message;
-      before = (newest past).before;
-      after =
-          heard ∷ (newest past).after;
-    }
-unfolding newest
-newest_waits past heard none = ap (stretched past (newest past) heard) none
-
--- and what completes a message begins anew
-newest_completes : (past : List Heard) (heard : Heard) (message : Message) → completes past heard ≡ Some message →
-    newest (heard ∷ past) ≡ record { message = Some message; before = past; after = [] }
-unfolding newest
-newest_completes past heard message done = ap (stretched past (newest past) heard) done
 
 -- the parts of a part that counts
 pub run_is_next : (past : List Heard) (part : EcmPart) → exceeds (newest past).message part ≡ true →
@@ -92,10 +75,6 @@ no_fault : (past : List Heard) (part : EcmPart) → part_fault (run_to (newest p
     completes past (Controls part) ≡ None → fault_of past part ≡ None
 unfolding fault_of
 no_fault past part good none = rw (good, none) refl
-
-no_fault_in_none : part_fault [] ≡ None
-unfolding part_fault
-no_fault_in_none = refl
 
 pub uncounted_part : (past : List Heard) (part : EcmPart) (state : Collect) → IsCollected past state →
     exceeds (newest past).message part ≡ false → IsWaiting past part state

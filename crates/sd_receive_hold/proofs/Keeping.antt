@@ -9,14 +9,12 @@ use Rattle.std.proofs.lemmas.List.Elements.{All-nil, All-weaker}
 use Rattle.sd_bits.proofs.Fields.{field_below}
 use Rattle.sd_packet.specs.Header.{pid_of}
 use Rattle.sd_packet.specs.Positions.{moved, moved_by, is_positional, first_position}
-use Rattle.sd_packet.proofs.Positions.{one_more}
+use Rattle.sd_packet.proofs.Positions.{one_more, positional_small}
 use Rattle.sd_ecm.specs.Form.{ArePositioned}
 use Rattle.sd_spec_receiver.specs.Confirmed.{position_in}
 use Rattle.sd_spec_receiver.specs.Offered.{most_held}
 use Rattle.sd_ecm.specs.declared.part.Place.{Place}
 use Rattle.sd_ecm.specs.Versions.{most_places}
-use Rattle.std.proofs.lemmas.Bool.{and_parts, leb-true}
-use Rattle.std.specs.Prelude.{nat_le}
 use Rattle.sd_receive_hold.specs.Holding.{ArePlaces}
 use Rattle.sd_receive_hold.specs.Tracking.{packets_in, led_to, start_of, HasFirstPositions, IsTracked, AreKnown, IsKept}
 use Rattle.sd_receive_hold.specs.declared.tracks.Tracks.{Tracks}
@@ -50,13 +48,10 @@ clear_again t is places held =
     let tracked : IsTracked [] [] t.table.items = rw places at (rw held at is.tracked) in
     record { long = tracked.long; clear = λ pid none small. tracked.at pid small }
 
-known_by : (pid : ℕ) → is_positional pid ≡ true → pid < 8192
-known_by pid h = omega (arith, leb-true pid 0x1FEF (and_parts (nat_le 0x20 pid) (nat_le pid 0x1FEF) h).1)
-
 -- the PIDs of places are of 13 bits
 pub places_known : (places : List Place) → ArePositioned places → AreKnown places
 places_known places are = All-weaker (λ (p : Place). is_positional p.pid ≡ true) (λ (p : Place). p.pid < 8192)
-    (λ p h. known_by p.pid h) places are
+    (λ p h. positional_small p.pid h) places are
 
 -- nothing is held after places
 pub kept_begun : (u : Tracks) (places : List Place) → ArePlaces places → u.places.items ≡ places → u.held.items ≡ [] →

@@ -136,7 +136,7 @@ whole_back (a ∷ (b ∷ (c ∷ (d ∷ rest)))) stream (suc (suc (suc (suc k))))
     rw (sym e) (ap (λ (r : List ℕ). a ∷ (b ∷ (c ∷ (d ∷ r)))) (rest_back rest stream k (omega arith) (omega arith)))
 
 -- a PID is that of its two bytes
-pid_by_bytes : (x y : List ℕ) → slice_index x 1 ≡ slice_index y 1 → slice_index x 2 ≡ slice_index y 2
+pub pid_by_bytes : (x y : List ℕ) → slice_index x 1 ≡ slice_index y 1 → slice_index x 2 ≡ slice_index y 2
     → pid_of x ≡ pid_of y
 unfolding field
 pid_by_bytes x y e f = rw (e, f) refl

@@ -1,13 +1,13 @@
 -- Bytes that are cut into sections, with more bytes after them.
 use Rattle.std.proofs.Common.{ℕ, zero, suc, ◌+◌, ◌-◌, ◌*◌, ◌/◌, ◌%◌, ◌^◌, ◌<◌, ◌≤◌, ◌≡◌, Bool, true, false, ◌==◌, List}
 use Rattle.std.proofs.Common.{[], ◌∷◌, ◌++◌, length, take, drop, append_assoc, length-append, inl, inr, refl, sym, ap}
-use Rattle.std.proofs.Common.{◌∙◌, arith}
+use Rattle.std.proofs.Common.{length-drop, ◌∙◌, arith}
 use Rattle.std.specs.Prelude.{nat_le, nat_lt}
 use Rattle.std.proofs.lemmas.Bool.{and_parts, leb-true, le-leb, lt-ltb, cases_lt}
-use Rattle.std.proofs.lemmas.List.{get_or_append_left, take-append-le, drop_all}
+use Rattle.std.proofs.lemmas.List.{get_or_append_left, take-append-le, drop_all, length-take}
 use Rattle.sd_bits.specs.Bits.{field}
 use Rattle.sd_bits.proofs.Fields.{same_by_bits}
-use Rattle.sd_section.specs.Header.{section_length_of, whole_of}
+use Rattle.sd_section.specs.Header.{body_of, section_length_of, whole_of}
 use Rattle.sd_section.specs.Assembled.{is_overlong, is_whole, Cut, no_cut, with_section, cut_from}
 use Rattle.sd_section.specs.OneMore.{cut_more}
 
@@ -196,3 +196,7 @@ longer zero first more bytes = refl
 longer (suc n) [] more bytes = refl
 longer (suc n) (b ∷ bs) more bytes =
     longer_turn n b bs more bytes (λ first. longer n first more bytes) _ _ _ _ _ refl refl refl refl refl
+
+-- a body is what a section has but its header and its CRC
+pub body_long : (section : List ℕ) → length (body_of section) ≡ length section - 12
+body_long section = omega (arith, length-take (length section - 4 - 8) (drop 8 section), length-drop 8 section)

@@ -1,7 +1,8 @@
 -- The sets of a chain cover are of the tree's height.
-use Rattle.std.proofs.Common.{ℕ, ◌*◌, ◌/◌, ◌^◌, ◌<◌, ◌≤◌, ◌≡◌, List, [], ◌∷◌, refl, subst, inl, inr, arith}
+use Rattle.std.proofs.Common.{ℕ, ◌*◌, ◌/◌, ◌^◌, ◌<◌, ◌≤◌, ◌≡◌, List, [], ◌∷◌, get_or, refl, subst, inl, inr}
+use Rattle.std.proofs.Common.{arith}
 use Rattle.std.specs.Prelude.{Contains, All}
-use Rattle.std.proofs.lemmas.List.Elements.{All-contains}
+use Rattle.std.proofs.lemmas.List.Elements.{All-contains, Contains-get_or}
 use Rattle.sd_tree.specs.Node.{IsAbove}
 use Rattle.sd_tree.specs.SetNames.{IsPair, IsOfHeight}
 use Rattle.sd_tree.specs.declared.set.SetName.{SetName}
@@ -50,3 +51,10 @@ of_height d [] sets all cover name m =
 of_height d (u ∷ us) sets all cover Whole m = tt
 of_height d (u ∷ us) sets all cover (Diff i j) m =
     ends_are_pair d (u ∷ us) i j all ((cover.chains (λ e. absurd (cc)) (Diff i j)).0 m)
+
+-- and so are all of them
+pub cover_of_height : (d : ℕ) (revoked : List ℕ) (sets : List SetName) → All (λ u. u < 2 ^ d) revoked →
+    IsChainCover d revoked sets → All (IsOfHeight d) sets
+cover_of_height d revoked sets leaves cover k other within =
+    of_height d revoked sets (λ u m. All-contains (λ w. w < 2 ^ d) revoked u leaves m) cover
+    (get_or sets k other) (Contains-get_or sets k other within)

@@ -13,6 +13,7 @@ use Rattle.sd_tree.specs.SetNames.{IsOfHeight}
 use Rattle.sd_tree.specs.declared.set.SetName.{SetName}
 use Rattle.sd_tree.specs.declared.set.SetName.TheVariants.{Whole, Diff}
 use Rattle.sd_tree.proofs.Levels.{depth_at}
+use Rattle.sd_tree.proofs.Members.{member_within}
 use Rattle.sd_steiner.specs.Chains.{IsChainCover}
 use Rattle.sd_steiner.specs.Cover.{cover_of}
 use Rattle.sd_steiner.proofs.Ends.{AreLeaves}
@@ -99,15 +100,6 @@ no_leaf d coalition name u m none = by (is_member d name u) refl
     by false e = e
     by true e = absurd (let some = has_leaf d coalition name u m e in cc)
 
--- a member is a leaf of the height
-member_below : (d : ℕ) (name : SetName) (u : ℕ) → is_member d name u ≡ true → u < 2 ^ d
-member_below d Whole u m = ltb-true u (2 ^ d) m
-member_below d (Diff i j) u m = ltb-true u (2 ^ d) (first (nat_lt u (2 ^ d)) (is_below d i u && not (is_below d j u)) m)
-  where
-    first : (a b : Bool) → (a && b) ≡ true → a ≡ true
-    first true b e = refl
-    first false b e = absurd (cc)
-
 -- what is cut down is a leaf of the coalition and of the set
 abbrev IsInside : ℕ → List ℕ → SetName → ℕ → Type 0
 IsInside d coalition name u = Contains coalition u × (is_member d name u ≡ true)
@@ -123,7 +115,7 @@ narrowed_half d m coalition name a b some small h e opens few sub true first =
     let inside = sub a fits.left_height (omega (arith, fits.left_fewer, few)) first in (
       inside.0,
       first_holds d (narrowed d coalition m a).0 name a b some small h
-          (member_below d a (narrowed d coalition m a).0 inside.1) e inside.1,
+          (member_within d a (narrowed d coalition m a).0 inside.1) e inside.1,
     )
 narrowed_half d m coalition name a b some small h e opens few sub false first =
     let fits = half_fits d name a b some small h e in
@@ -131,13 +123,13 @@ narrowed_half d m coalition name a b some small h e opens few sub false first =
     let u : ℕ = there.0 in
     let apart = no_leaf d coalition a u there.1 first in
     let other = in_other (is_member d a u) (is_member d b u) (is_member d name u)
-    (subst (IfCounted d u name) e (halves_counted d u name some small h (member_below d name u there.2))) there.2 apart
+    (subst (IfCounted d u name) e (halves_counted d u name some small h (member_within d name u there.2))) there.2 apart
     in
     let second : has_some d coalition b ≡ true = has_leaf d coalition b u there.1 other in
     let inside = sub b fits.right_height (omega (arith, fits.right_fewer, few)) second in (
       inside.0,
       second_holds d (narrowed d coalition m b).0 name a b some small h
-          (member_below d b (narrowed d coalition m b).0 inside.1) e inside.1,
+          (member_within d b (narrowed d coalition m b).0 inside.1) e inside.1,
     )
 
 inside_by : (d most : ℕ) (coalition : List ℕ) (name : SetName) → 1 ≤ d → d ≤ 20 → IsOfHeight d name →
@@ -179,7 +171,7 @@ round_inside d coalition gone found some small leaves round =
     let inside = narrowed_inside d d coalition name some small height (cuts_few d name height) round.opened.opens in
     let is : (narrowed d coalition d name).0 ≡ found.leaf = sym (ap (λ (r : ℕ × ℕ). r.0) round.leaf) in
     let member = subst (λ (u : ℕ). is_member d name u ≡ true) is inside.1 in
-    let leaf = member_below d name found.leaf member in (
+    let leaf = member_within d name found.leaf member in (
       leaf,
       subst (Contains coalition) is inside.0,
       leaf_is_fresh d found.leaf gone sets name (omega (arith, small))

@@ -8,8 +8,9 @@ use Rattle.std.proofs.lemmas.List.Elements.{All-from_get_or}
 use Rattle.std.proofs.lemmas.List.FromFn.{length-range_with_len, get_or-range_with_len}
 use Rattle.std.proofs.lemmas.List.Sums.{length-filter}
 use Rattle.std.proofs.lemmas.Bool.{false≢true, and_parts, and_from, not-true, not_from_false, cases_Bool, lt-ltb}
-use Rattle.std.proofs.lemmas.Bool.{le-ltb, false_from_ne_true}
+use Rattle.std.proofs.lemmas.Bool.{le-ltb, ltb-true, false_from_ne_true}
 use Rattle.std.proofs.lemmas.Bool.Decides.{same_from_decides}
+use Rattle.sd_tree.specs.declared.set.SetName.{SetName}
 use Rattle.sd_tree.specs.declared.set.SetName.TheVariants.{Whole, Diff}
 use Rattle.sd_tree.specs.Node.{depth, IsAbove}
 use Rattle.sd_tree.specs.Leaves.{leaves, is_below, is_member, members}
@@ -131,3 +132,8 @@ leaves_ascending d = λ k h. omega (
   get_or-range_with_len 0 (2 ^ d) (k + 1) 0
       (omega (arith, length-range_with_len 0 (2 ^ d))),
 )
+
+-- a leaf of a set is a leaf of the tree
+pub member_within : (d : ℕ) (name : SetName) (u : ℕ) → is_member d name u ≡ true → u < 2 ^ d
+member_within d Whole u is = ltb-true u (2 ^ d) is
+member_within d (Diff i j) u is = ltb-true u (2 ^ d) (and_parts _ _ is).0
