@@ -1,9 +1,8 @@
 -- Public meaning: what is wrong with bytes that are no card's file.
 use Rattle.std.specs.Prelude.{◌≡◌, ℕ, ◌+◌, ◌*◌, ◌/◌, ◌^◌, ◌==◌, ◌&&◌, ◌⊎◌, nat_le, nat_lt, bytes_eq}
 use Rattle.std.specs.Prelude.{List, length, take, Option, Some, None}
-use Rattle.byteorder.specs.Endian.{big_number}
 use Rattle.sd_tree.specs.Limits.{highest}
-use Rattle.sd_card_secrets.specs.Files.{byte_at, bytes_from, check_in, check_due, unless}
+use Rattle.sd_card_secrets.specs.Files.{byte_at, number_in, check_in, check_due, unless}
 use Rattle.sd_card_secrets.specs.declared.file.TheConstants.{SECRET_BYTES, CHECK_BYTES}
 use Rattle.sd_card.specs.declared.fault.CardFault.{CardFault}
 use Rattle.sd_card.specs.declared.fault.CardFault.TheVariants.{Magic, Version, Height, Leaf, Length, Check, NoMemory}
@@ -16,12 +15,12 @@ abbrev pub height_in : List ℕ → ℕ
 height_in bytes = byte_at bytes HEIGHT_AT
 
 -- the leaf that it names [this project, docs/FORMATS.md, Card]
-unfoldable pub leaf_in : List ℕ → ℕ
-leaf_in bytes = big_number 4 (bytes_from bytes LEAF_AT 4)
+abbrev pub leaf_in : List ℕ → ℕ
+leaf_in bytes = number_in bytes LEAF_AT 4
 
 -- the conditional access system that it names [this project, docs/FORMATS.md, Card]
-unfoldable pub ca_in : List ℕ → ℕ
-ca_in bytes = big_number 2 (bytes_from bytes CA_AT 2)
+abbrev pub ca_in : List ℕ → ℕ
+ca_in bytes = number_in bytes CA_AT 2
 
 -- how many bytes a card has at height d [this project, docs/FORMATS.md, Card]
 unfoldable pub length_at : ℕ → ℕ

@@ -1,14 +1,12 @@
 ghost use Rattle.std.specs.Prelude.{◌≡◌, ◌+◌, ◌≤◌, Some, None, length, IfOk, MatchResult};
-ghost use Rattle.sd_card_secrets.specs.Files.{byte_at as byte_of};
 ghost use Rattle.sd_card.specs.Fields.{CardFields, IsCard, fields_of, card_bytes};
-ghost use Rattle.sd_card.specs.Faults.{height_in, leaf_in, ca_in, length_at as length_of, fault_in, IsFaultOf};
+ghost use Rattle.sd_card.specs.Faults.{height_in, leaf_in, length_at as length_of, fault_in, IsFaultOf};
 
 use crate::card::Card;
 use crate::count::count_at;
 use crate::fault::CardFault;
 use crate::format::{CA_AT, HEIGHT_AT, LEAF_AT, MAGIC, SECRETS_AT, VERSION, VERSION_AT};
-use byteorder::{BigEndian, ByteOrder};
-use sd_card_secrets::{CHECK_BYTES, SECRET_BYTES, byte_at, checks, secrets_in};
+use sd_card_secrets::{CHECK_BYTES, SECRET_BYTES, byte_at, checks, four_at, secrets_in, two_at};
 use sd_tree::{Height, Leaf};
 use std::alloc::Global;
 
@@ -33,35 +31,13 @@ fn whole(alloc: Global, bytes: &[u8]) -> Result<Card, CardFault>
     ensures fault { MatchResult result (λ _. fault_in bytes.now ≡ None) (λ fault. IsFaultOf bytes.now fault) }
 {
     let (height, leaf) = judge(bytes)?;
-    let inner = &bytes[SECRETS_AT..bytes.len() - CHECK_BYTES];
-    let secrets = secrets_in(alloc, inner)?;
+    let secrets = secrets_in(alloc, bytes, SECRETS_AT)?;
     Ok(Card {
         height,
         leaf,
-        ca: ca_at(bytes),
+        ca: two_at(bytes, CA_AT),
         secrets,
     })
-}
-
-// The conditional access system that the file names.
-#[tactic(auto, unfolding(crate::specs::Faults::ca_in))]
-fn ca_at(bytes: &[u8]) -> u16
-    ensures { result ≡ ca_in bytes.now }
-{
-    BigEndian::read_u16(&[byte_at(bytes, CA_AT), byte_at(bytes, CA_AT + 1)])
-}
-
-// The leaf that the file names.
-#[tactic(auto, unfolding(crate::specs::Faults::leaf_in))]
-fn leaf_at(bytes: &[u8]) -> u32
-    ensures { result ≡ leaf_in bytes.now }
-{
-    BigEndian::read_u32(&[
-        byte_at(bytes, LEAF_AT),
-        byte_at(bytes, LEAF_AT + 1),
-        byte_at(bytes, LEAF_AT + 2),
-        byte_at(bytes, LEAF_AT + 3),
-    ])
 }
 
 // The height and the leaf of bytes with which nothing is wrong.
@@ -78,7 +54,7 @@ fn judge(bytes: &[u8]) -> Result<(Height, Leaf), CardFault>
         return Err(CardFault::Version);
     }
     let height = Height::new(byte_at(bytes, HEIGHT_AT)).ok_or(CardFault::Height)?;
-    let leaf = Leaf::new(height, leaf_at(bytes)).ok_or(CardFault::Leaf)?;
+    let leaf = Leaf::new(height, four_at(bytes, LEAF_AT)).ok_or(CardFault::Leaf)?;
     if bytes.len() != length_at(height) {
         return Err(CardFault::Length);
     }

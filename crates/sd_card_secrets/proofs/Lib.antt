@@ -2,5 +2,6 @@ pub mod Paths
 pub mod Made
 pub mod Joined
 pub mod Written
+pub mod Heads
 pub mod Once
 pub mod Held

@@ -1,16 +1,22 @@
 -- The secrets of a leaf, as they are made.
-use Rattle.std.proofs.Common.{ℕ, zero, suc, ◌+◌, ◌-◌, ◌/◌, ◌^◌, ◌<◌, ◌≤◌, ◌≡◌, List, [], ◌∷◌, ◌++◌, take, map, sym}
+use Rattle.std.proofs.Common.{ℕ, zero, suc, ◌+◌, ◌-◌, ◌/◌, ◌^◌, ◌<◌, ◌≤◌, ◌≡◌, List, [], ◌∷◌, ◌++◌, take, map, sym, length}
 use Rattle.std.proofs.Common.{refl, ap, ◌∙◌, append_assoc, arith}
 use Rattle.std.specs.List.{range_with_len}
 use Rattle.std.proofs.Math.Pow.{shr-shr}
 use Rattle.std.proofs.lemmas.List.FromFn.{map-range_with_len_more}
-use Rattle.sd_tree.specs.Node.{IsAbove}
-use Rattle.sd_label.specs.Labels.{label_of, descended}
+use Rattle.sha2.proofs.Facts256.{length-sha256}
+use Rattle.sd_tree.specs.Node.{depth, IsAbove}
+use Rattle.sd_label.specs.Keys.{whole_key_of}
+use Rattle.sd_label.specs.Labels.{left_of, right_of, third_of, side_of, label_of_node, label_below, descended, label_of}
+use Rattle.sd_label.specs.declared.label.Side.{Side}
+use Rattle.sd_label.specs.declared.label.Side.TheVariants.{Left, Right}
 use Rattle.sd_label.proofs.Descents.{held_gives_label}
 use Rattle.sd_tree.proofs.Paths.{path_is_node}
 use Rattle.sd_tree.specs.Paths.{path_node, sibling_of}
 use Rattle.sd_label.specs.Names.{given_under}
-use Rattle.sd_label.specs.declared.name.Name.TheVariants.{Pair}
+use Rattle.sd_label.specs.declared.name.Name.{Name}
+use Rattle.sd_label.specs.declared.name.Name.TheVariants.{Whole, Pair}
+use Rattle.sd_card_secrets.specs.Files.{AreSecrets}
 use Rattle.sd_card_secrets.specs.Secrets.{secret_of}
 
 -- the labels of the ancestor at depth a with the first n hanging nodes below it
@@ -78,3 +84,26 @@ labels_given master d u a n le =
     ∙ ap (map (secret_of master))
     (sym (first_values (λ b. Pair (path_node d u a) (sibling_of (path_node d u b))) (a + 1) n (d - a)
     (omega arith)))
+
+-- a child's label has the length of a hash
+length_third : (side : Side) (label : List ℕ) → length (third_of side label) ≡ 32
+unfolding left_of right_of
+length_third Left label = length-sha256 _
+length_third Right label = length-sha256 _
+
+-- so has each label below one that has it
+length_below : (label : List ℕ) (k j : ℕ) → length label ≡ 32 → length (label_below label k j) ≡ 32
+unfolding label_below
+length_below label zero j long = long
+length_below label (suc k) j long = length_third (side_of j) _
+
+-- and so has each secret
+length_secret : (master : List ℕ) (name : Name) → length (secret_of master name) ≡ 32
+unfolding secret_of whole_key_of label_of_node descended label_of
+length_secret master Whole = length-sha256 _
+length_secret master (Pair i w) = length_below _ (depth w - depth i) w (length-sha256 _)
+
+-- also where they are many
+pub secrets_long : (master : List ℕ) (names : List Name) → AreSecrets (map (secret_of master) names)
+secrets_long master [] = tt
+secrets_long master (name ∷ names) = (length_secret master name, secrets_long master names)

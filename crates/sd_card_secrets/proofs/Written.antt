@@ -7,8 +7,8 @@ use Rattle.std.proofs.lemmas.List.{take-take}
 use Rattle.std.proofs.Math.Seq.{take-add, drop-cons}
 use Rattle.sha2.specs.Sha256.{sha256}
 use Rattle.sha2.proofs.Facts256.{length-sha256}
-use Rattle.sd_card_secrets.specs.Files.{AreSecrets, bytes_from, check_of, check_in, check_due, file_body, file_bytes}
-use Rattle.sd_card_secrets.specs.Files.{unless}
+use Rattle.sd_card_secrets.specs.Files.{AreSecrets, AreKept, bytes_from, number_in, check_of, check_in, check_due}
+use Rattle.sd_card_secrets.specs.Files.{file_body, file_bytes, unless}
 use Rattle.sd_card_secrets.proofs.Joined.{concat_more, length_joined, joined_once}
 
 -- each number is a byte
@@ -96,26 +96,34 @@ secrets_once a b ss ts k at_a at_b long_s long_t count e =
     ∙ (ap (λ (r : List ℕ). take (32 * length ss) (drop k r)) e
     ∙ (ap (λ (n : ℕ). take (32 * n) (drop k (file_bytes b ts))) count ∙ secrets_written b ts k at_b long_t)))
 
--- as many secrets are cut as there is room for between the head and the check
-pub cut_count : (bytes inner : List ℕ) (k n : ℕ) → length bytes ≡ k + 32 * n + 16
-    → inner ≡ take (length bytes - 16 - k) (drop k bytes) → length inner / 32 ≡ n
-cut_count bytes inner k n size is =
-    let long : length inner ≡ 32 * n = ap length is
-    ∙ (length-take-le (length bytes - 16 - k) (drop k bytes) (omega (arith, size, length-drop k bytes))
-    ∙ omega (arith, size)) in
-    rw long (omega arith)
+-- secrets that are joined to all but the bytes left over of what is between the head and the check are those kept there
+pub kept_of_inner : (bytes inner : List ℕ) (secrets : List (List ℕ)) (k : ℕ) → k + 16 ≤ length bytes
+    → inner ≡ take (length bytes - 16 - k) (drop k bytes) → length secrets ≡ length inner / 32
+    → concat secrets ≡ take (32 * length secrets) inner → AreSecrets secrets → AreKept bytes k secrets
+kept_of_inner bytes inner secrets k room is count joined long =
+    let m : ℕ = length bytes - 16 - k in
+    let size : length inner ≡ m = ap length is
+    ∙ length-take-le m (drop k bytes) (omega (arith, length-drop k bytes)) in
+    record {
+      count = rw (sym size) count;
+      joined = joined ∙ (ap (take (32 * length secrets)) is
+          ∙ take-take (32 * length secrets) m (drop k bytes) (omega (arith, count, size)));
+      long = long;
+    }
 
--- bytes with this head and the check that is due are the file of the secrets that are cut out of them
-pub file_said : (bytes head inner : List ℕ) (secrets : List (List ℕ)) (k n : ℕ) → length bytes ≡ k + 32 * n + 16
-    → take k bytes ≡ head → check_in bytes ≡ check_due bytes → inner ≡ take (length bytes - 16 - k) (drop k bytes)
-    → concat secrets ≡ take (32 * (length inner / 32)) inner → bytes ≡ file_bytes head secrets
+-- as many secrets are kept as there is room for between the head and the check
+pub kept_count : (bytes : List ℕ) (secrets : List (List ℕ)) (k n : ℕ) → AreKept bytes k secrets
+    → length bytes ≡ k + 32 * n + 16 → length secrets ≡ n
+kept_count bytes secrets k n kept size = omega (arith, kept.count, size)
+
+-- bytes with this head and the check that is due are the file of the secrets that they keep
+pub file_said : (bytes head : List ℕ) (secrets : List (List ℕ)) (k n : ℕ) → AreKept bytes k secrets
+    → length bytes ≡ k + 32 * n + 16 → take k bytes ≡ head → check_in bytes ≡ check_due bytes
+    → bytes ≡ file_bytes head secrets
 unfolding file_bytes file_body check_in check_due
-file_said bytes head inner secrets k n size first check is all =
-    let room : length bytes - 16 - k ≡ 32 * n = omega (arith, size) in
-    let cut : concat secrets ≡ take (32 * n) (drop k bytes) = all
-    ∙ (ap (λ (m : ℕ). take (32 * m) inner) (cut_count bytes inner k n size is)
-    ∙ (ap (take (32 * n)) (is ∙ ap (λ (m : ℕ). take m (drop k bytes)) room)
-    ∙ take-take (32 * n) (32 * n) (drop k bytes) (omega arith))) in
+file_said bytes head secrets k n kept size first check =
+    let cut : concat secrets ≡ take (32 * n) (drop k bytes) =
+    kept.joined ∙ ap (λ (m : ℕ). take (32 * m) (drop k bytes)) (kept_count bytes secrets k n kept size) in
     let before : length bytes - 16 ≡ k + 32 * n = omega (arith, size) in
     let body : take (length bytes - 16) bytes ≡ head ++ concat secrets =
     ap (λ (m : ℕ). take m bytes) before ∙ (take-add k (32 * n) bytes

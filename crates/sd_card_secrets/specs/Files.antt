@@ -1,7 +1,8 @@
 -- Public meaning: how a card's file keeps secrets, and the check at its end.
-use Rattle.std.specs.Prelude.{◌≡◌, ◌-◌, ℕ, zero, suc, Bool, true, false, List, [], ◌∷◌, ◌++◌, length, take}
+use Rattle.std.specs.Prelude.{◌≡◌, ◌-◌, ◌*◌, ◌/◌, ℕ, zero, suc, Bool, true, false, List, [], ◌∷◌, ◌++◌, length, take}
 use Rattle.std.specs.Prelude.{drop, get_or, Option, Some}
 use Rattle.std.specs.List.{AllByRecursion, concat}
+use Rattle.byteorder.specs.Endian.{big_number}
 use Rattle.sha2.specs.Sha256.{sha256}
 use Rattle.sd_card_secrets.specs.declared.file.TheConstants.{SECRET_BYTES, CHECK_BYTES}
 
@@ -17,6 +18,10 @@ byte_at bytes k = get_or bytes k 0
 abbrev pub bytes_from : List ℕ → ℕ → ℕ → List ℕ
 bytes_from bytes k zero = []
 bytes_from bytes k (suc n) = byte_at bytes k ∷ bytes_from bytes (suc k) n
+
+-- the number in n bytes of the file from place k on, the high byte first [this project, docs/FORMATS.md, Card]
+unfoldable pub number_in : List ℕ → ℕ → ℕ → ℕ
+number_in bytes k n = big_number n (bytes_from bytes k n)
 
 -- the check of bytes: the first 16 bytes of their hash [FIPS 180-4; this project, docs/FORMATS.md, Card]
 unfoldable pub check_of : List ℕ → List ℕ
@@ -37,6 +42,12 @@ check_in bytes = drop (length bytes - CHECK_BYTES) bytes
 -- the check that it is to end with: that of all before
 unfoldable pub check_due : List ℕ → List ℕ
 check_due bytes = check_of (take (length bytes - CHECK_BYTES) bytes)
+
+-- these are the secrets that a file keeps from place k on: as many as are whole before the check, one after the other
+pub record AreKept (bytes : List ℕ) (k : ℕ) (secrets : List (List ℕ)) : Type 0 where
+  pub count : length secrets ≡ (length bytes - CHECK_BYTES - k) / SECRET_BYTES
+  pub joined : concat secrets ≡ take (SECRET_BYTES * length secrets) (drop k bytes)
+  pub long : AreSecrets secrets
 
 -- this fault where a field isn't good, and else what is wrong after the field
 abbrev pub unless : {F : Type 0} → Bool → F → Option F → Option F

@@ -1,8 +1,7 @@
-ghost use Rattle.std.specs.Prelude.{◌≡◌, ◌*◌, ◌/◌, ◌^◌, ◌<◌, ◌≤◌, ◌++◌, IfOk, OnOk, length, take};
-ghost use Rattle.std.specs.List.{concat};
+ghost use Rattle.std.specs.Prelude.{◌≡◌, ◌+◌, ◌^◌, ◌<◌, ◌≤◌, ◌++◌, IfOk, OnOk, length};
 ghost use Rattle.byteorder.specs.Endian.{big_bytes};
-ghost use Rattle.sd_card_secrets.specs.Files.{AreSecrets, byte_at as byte_of, check_of as check_of_bytes, check_in};
-ghost use Rattle.sd_card_secrets.specs.Files.{check_due, file_body, file_bytes};
+ghost use Rattle.sd_card_secrets.specs.Files.{AreSecrets, AreKept, byte_at as byte_of, number_in};
+ghost use Rattle.sd_card_secrets.specs.Files.{check_of as check_of_bytes, check_in, check_due, file_body, file_bytes};
 
 use byteorder::{BigEndian, ByteOrder};
 use sha2::{Digest, Sha256};
@@ -19,6 +18,29 @@ pub fn byte_at(bytes: &[u8], k: usize) -> u8
     ensures { result ≡ byte_of bytes.now k }
 {
     bytes.get(k).copied().unwrap_or(0)
+}
+
+/// The number in the two bytes of a file from this place on, the high one first.
+#[tactic(auto, unfolding(crate::specs::Files::number_in))]
+pub fn two_at(bytes: &[u8], k: usize) -> u16
+    requires { k < 2 ^ 32 }
+    ensures { result ≡ number_in bytes.now k 2 }
+{
+    BigEndian::read_u16(&[byte_at(bytes, k), byte_at(bytes, k + 1)])
+}
+
+/// The number in the four bytes of a file from this place on, the high one first.
+#[tactic(auto, unfolding(crate::specs::Files::number_in))]
+pub fn four_at(bytes: &[u8], k: usize) -> u32
+    requires { k < 2 ^ 32 }
+    ensures { result ≡ number_in bytes.now k 4 }
+{
+    BigEndian::read_u32(&[
+        byte_at(bytes, k),
+        byte_at(bytes, k + 1),
+        byte_at(bytes, k + 2),
+        byte_at(bytes, k + 3),
+    ])
 }
 
 /// The four bytes of a number, the high one first.
@@ -64,18 +86,17 @@ pub fn checks(bytes: &[u8]) -> ([u8; 16], [u8; 16])
     (found, check_of(body))
 }
 
-/// The secrets in these bytes, as many as are whole.
-#[tactic(auto, using(crate::proofs::Joined::cut_more, crate::proofs::Joined::long_more))]
-pub fn secrets_in(alloc: Global, bytes: &[u8]) -> Result<Vec<[u8; 32]>, AllocError>
-    ensures length { IfOk result (λ secrets. length secrets.items ≡ length bytes.now / SECRET_BYTES) }
-    ensures value { IfOk result (λ secrets.
-        concat secrets.items ≡ take (SECRET_BYTES * (length bytes.now / SECRET_BYTES)) bytes.now) }
-    ensures fits { IfOk result (λ secrets. AreSecrets secrets.items) }
+/// The secrets that a file keeps from this place on, as many as are whole before its check.
+#[tactic(auto, using(crate::proofs::Joined::cut_more, crate::proofs::Joined::long_more, crate::proofs::Written::kept_of_inner))]
+pub fn secrets_in(alloc: Global, bytes: &[u8], k: usize) -> Result<Vec<[u8; 32]>, AllocError>
+    requires { k + CHECK_BYTES ≤ length bytes.now }
+    ensures { IfOk result (λ secrets. AreKept bytes.now k secrets.items) }
 {
+    let inner = &bytes[k..bytes.len() - CHECK_BYTES];
     let mut secrets = Vec::new(alloc);
-    for k in 0..bytes.len() / SECRET_BYTES {
+    for n in 0..inner.len() / SECRET_BYTES {
         let mut secret = [0; SECRET_BYTES];
-        secret.copy_from_slice(&bytes[SECRET_BYTES * k..SECRET_BYTES * k + SECRET_BYTES]);
+        secret.copy_from_slice(&inner[SECRET_BYTES * n..SECRET_BYTES * n + SECRET_BYTES]);
         secrets.push(secret)?;
     }
     Ok(secrets)

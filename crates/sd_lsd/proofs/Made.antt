@@ -3,16 +3,11 @@ use Rattle.std.proofs.Common.{ℕ, zero, suc, ◌+◌, ◌-◌, ◌^◌, ◌<◌
 use Rattle.std.proofs.Common.{ap, ◌∙◌, arith}
 use Rattle.std.specs.List.{range_with_len, flat_map}
 use Rattle.std.proofs.lemmas.List.{length-map, map-append, flat_map_more}
-use Rattle.sha2.proofs.Facts256.{length-sha256}
-use Rattle.sd_tree.specs.Node.{depth}
 use Rattle.sd_label.specs.Keys.{whole_key_of}
-use Rattle.sd_label.specs.Labels.{left_of, right_of, third_of, side_of, label_of_node, label_below, descended, label_of}
-use Rattle.sd_label.specs.declared.label.Side.{Side}
-use Rattle.sd_label.specs.declared.label.Side.TheVariants.{Left, Right}
 use Rattle.sd_label.specs.declared.name.Name.{Name}
-use Rattle.sd_label.specs.declared.name.Name.TheVariants.{Whole, Pair}
-use Rattle.sd_card_secrets.specs.Files.{AreSecrets}
+use Rattle.sd_label.specs.declared.name.Name.TheVariants.{Whole}
 use Rattle.sd_card_secrets.specs.Secrets.{secret_of}
+use Rattle.sd_card_secrets.proofs.Made.{secrets_long}
 use Rattle.sd_lsd.specs.LayerNames.{layer_given}
 use Rattle.sd_lsd.specs.Fields.{IsLayerCard, layer_card_of}
 use Rattle.sd_lsd.proofs.Pairs.{range_more}
@@ -44,29 +39,6 @@ pub secrets_all : (master : List ℕ) (d w u : ℕ) → d ≤ 20 → u < 2 ^ d
 secrets_all master d w u low leaf = ap (map (secret_of master)) (sym (layer_given_parts d w u low leaf))
 
 -- ---- the layer card of a leaf is a layer card
-
--- a child's label has the length of a hash
-length_third : (side : Side) (label : List ℕ) → length (third_of side label) ≡ 32
-unfolding left_of right_of
-length_third Left label = length-sha256 _
-length_third Right label = length-sha256 _
-
--- so has each label below one that has it
-length_below : (label : List ℕ) (k j : ℕ) → length label ≡ 32 → length (label_below label k j) ≡ 32
-unfolding label_below
-length_below label zero j long = long
-length_below label (suc k) j long = length_third (side_of j) _
-
--- and so has each secret
-length_secret : (master : List ℕ) (name : Name) → length (secret_of master name) ≡ 32
-unfolding secret_of whole_key_of label_of_node descended label_of
-length_secret master Whole = length-sha256 _
-length_secret master (Pair i w) = length_below _ (depth w - depth i) w (length-sha256 _)
-
--- also where they are many
-secrets_long : (master : List ℕ) (names : List Name) → AreSecrets (map (secret_of master) names)
-secrets_long master [] = tt
-secrets_long master (name ∷ names) = (length_secret master name, secrets_long master names)
 
 -- the layer card of a leaf is a layer card
 pub made_is_card : (master : List ℕ) (ca d w u : ℕ) → ca < 2 ^ 16 → 1 ≤ d → d ≤ 20 → 1 ≤ w → w ≤ d → u < 2 ^ d

@@ -1,4 +1,4 @@
-use Rattle.std.proofs.Common.{refl, arith}
+use Rattle.std.proofs.Common.{arith}
 use Rattle.sd_lsd.proofs.Spellings.{read_is_spelled}
 use Rattle.sd_lsd.proofs.read.whole.Goals as goal
 
@@ -6,17 +6,15 @@ use Rattle.sd_lsd.proofs.read.whole.Goals as goal
 pub returns-clause-sound : goal.returns-clause-sound
 returns-clause-sound c =
     let named = c.in_ok-height.ensures.value in
-    read_is_spelled c.args.bytes.now _ c.in_ok-height.height c.in_ok-height.width c.in_ok-height.leaf c.ca_at.result
-    c.in_ok-secrets.secrets.items (λ i. omega (arith, c.type_inv.bytes i)) c.in_ok-height.ensures.fault named.0
-    named.1.0 named.1.1 c.ca_at.ensures refl c.in_ok-secrets.ensures.length c.in_ok-secrets.ensures.value
-    c.in_ok-secrets.ensures.fits
+    read_is_spelled c.args.bytes.now c.in_ok-height.height c.in_ok-height.width c.in_ok-height.leaf c.two_at.result
+    c.in_ok-secrets.secrets.items (λ i. omega (arith, c.type_inv.bytes i)) c.in_ok-height.ensures.fault named.0 named.1.0 named.1.1 c.two_at.ensures
+    c.in_ok-secrets.ensures
 
 pub invariant_of-result : goal.invariant_of-result
 invariant_of-result c =
     let named = c.in_ok-height.ensures.value in
     let is =
-    (read_is_spelled c.args.bytes.now _ c.in_ok-height.height c.in_ok-height.width c.in_ok-height.leaf c.ca_at.result
-    c.in_ok-secrets.secrets.items (λ i. omega (arith, c.type_inv.bytes i)) c.in_ok-height.ensures.fault named.0
-    named.1.0 named.1.1 c.ca_at.ensures refl c.in_ok-secrets.ensures.length c.in_ok-secrets.ensures.value
-    c.in_ok-secrets.ensures.fits).0 in
+    (read_is_spelled c.args.bytes.now c.in_ok-height.height c.in_ok-height.width c.in_ok-height.leaf c.two_at.result
+    c.in_ok-secrets.secrets.items (λ i. omega (arith, c.type_inv.bytes i)) c.in_ok-height.ensures.fault named.0 named.1.0 named.1.1 c.two_at.ensures
+    c.in_ok-secrets.ensures).0 in
     record { height_in = is.height; width_in = is.width; leaf_in = is.leaf; count = is.count }
