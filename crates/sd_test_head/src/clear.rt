@@ -1,5 +1,4 @@
 use crate::sections::{PAT, PMT, REWRITTEN};
-use crate::sites::SITE;
 use sd_ecm::Place;
 use sd_head_clear::Clear;
 use sd_label::control_word;
@@ -7,6 +6,7 @@ use sd_packet::{Packet, pack_section};
 use sd_psi::FormFault;
 use sd_site::{Site, read};
 use sd_spec_broadcast::ClearFault;
+use sd_test_texts::{SITE, site_start};
 use std::test::*;
 
 // The PMT with another stream_type and its CRC_32 left.
@@ -187,16 +187,8 @@ fn as_many_pids_move_as_may(rt: HostRuntime) -> Result<(), Fail> {
     Ok(())
 }
 
-static EACH: &str = "height 3
-master 000102030405060708090a0b0c0d0e0f101112131415161718191a1b1c1d1e1f
-ca 1234
-emm 496
-ecm 497
-ecm-every 1
-crypto-ecms 1
-period-cryptos 1
-messages 1
-";
+// A site with a control word for each packet.
+static EACH: &str = site_start!("ecm-every 1\ncrypto-ecms 1\nperiod-cryptos 1\nmessages 1\n");
 
 #[test]
 fn a_site_has_so_many_control_words(rt: HostRuntime) -> Result<(), Fail> {

@@ -1,19 +1,14 @@
 ghost use Rattle.std.specs.Prelude.{◌≡◌, ◌<◌};
 
 use crate::sections::ALL;
-use crate::sites::SITE;
 use sd_base::Steps;
 use sd_book::Book;
 use sd_head_periods::{CryptoPeriod, Entitling};
 use sd_packet::{SIZE, pack_section};
+use sd_test_texts::{BOOK, SITE, site};
 use std::alloc::Global;
 use std::marker::Brand;
 use std::sync::ledger::{Blank, Ledger};
-
-// In period 1 leaf 5 is revoked.
-static BOOK: &str = "period
-revoke 5
-";
 
 // The entitlements of period 1, of S(1,13).
 const OTHERS: [u8; 79] = [
@@ -74,33 +69,9 @@ fn periods_begin_with_their_sets(rt: HostRuntime) {
 }
 
 // Runs that begin at control word 7: with period 1, and with one after the book's last.
-static LATER: &str = "height 3
-master 000102030405060708090a0b0c0d0e0f101112131415161718191a1b1c1d1e1f
-ca 1234
-emm 496
-ecm 497
-ecm-every 200
-crypto-ecms 2
-period-cryptos 1
-messages 2
-first-word 7
-last-word 8
-first-period 1
-";
+static LATER: &str = site!("messages 2\nfirst-word 7\nlast-word 8\nfirst-period 1\n");
 
-static LAST: &str = "height 3
-master 000102030405060708090a0b0c0d0e0f101112131415161718191a1b1c1d1e1f
-ca 1234
-emm 496
-ecm 497
-ecm-every 200
-crypto-ecms 2
-period-cryptos 1
-messages 2
-first-word 7
-last-word 8
-first-period 4294967295
-";
+static LAST: &str = site!("messages 2\nfirst-word 7\nlast-word 8\nfirst-period 4294967295\n");
 
 // The check value of control word 7.
 const SEVENTH_CHECK: [u8; 16] = [

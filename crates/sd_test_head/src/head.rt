@@ -1,13 +1,13 @@
 ghost use Rattle.std.specs.Prelude.{◌≡◌, ◌<◌, ◌≤◌};
 
 use crate::sections::{ALL, PAT, PMT, REWRITTEN};
-use crate::sites::{SECOND, SITE};
 use sd_base::Steps;
 use sd_book::Book;
 use sd_engine::{DriveFault, drive};
 use sd_head::{ClearFault, Head, HeadFault};
 use sd_packet::pack_section;
 use sd_ports::{MemSink, MemSource};
+use sd_test_texts::{BOOK, SITE, site};
 use std::alloc::{AllocError, Global};
 use std::marker::Brand;
 use std::sync::ledger::{Blank, Ledger};
@@ -51,6 +51,9 @@ const ALONE: [u8; 78] = [
     0xF2, 0xEB, 0x82, 0x81, 0x87, 0x83, 0x1D, 0x8C, 0x40, 0x16, 0xF2, 0x1B, 0xEC, 0x8B, 0x49, 0xA2,
     0x9A, 0x6B, 0xF9, 0x44, 0xDA, 0x8F, 0xBB, 0x98, 0xBB, 0x00, 0xBF, 0x0F, 0xD7, 0xF2,
 ];
+
+// The site with messages of version 2.
+static SECOND: &str = site!("messages 2\n");
 
 type Answer = Result<u64, DriveFault<HeadFault>>;
 
@@ -140,23 +143,7 @@ fn streams_are_broadcast(rt: HostRuntime) -> Result<(), AllocError> {
 }
 
 // A run that begins at control word 9 and at period 2, which is after the last of its book.
-static LATER: &str = "height 3
-master 000102030405060708090a0b0c0d0e0f101112131415161718191a1b1c1d1e1f
-ca 1234
-emm 496
-ecm 497
-ecm-every 200
-crypto-ecms 2
-period-cryptos 1
-messages 1
-first-word 9
-last-word 9
-first-period 2
-";
-
-static BOOK: &str = "period
-revoke 5
-";
+static LATER: &str = site!("messages 1\nfirst-word 9\nlast-word 9\nfirst-period 2\n");
 
 // The entitlements of period 2, of S(1,13), and the closing message after no packet.
 const LATER_EMM: [u8; 79] = [

@@ -9,5 +9,3 @@ mod entitling;
 mod head;
 #[cfg(test)]
 mod sections;
-#[cfg(test)]
-mod sites;
