@@ -7,4 +7,4 @@ mod order;
 
 pub use argument::{Argument, Arguments};
 pub use named::{files_of, holds_secrets, out_of};
-pub use order::{Order, read_words};
+pub use order::{Order, is_help, is_version, read_words};

@@ -2,6 +2,7 @@ ghost use Rattle.std.specs.Prelude.{[], ◌≡◌, ◌≤◌, bytes_eq, length, 
 ghost use Rattle.std.specs.List.{list_any};
 ghost use Rattle.sd_command_table.specs.Commands.{command_named, operands_of};
 ghost use Rattle.sd_command_line.specs.Words.{command_words, help_on, help_words, input_texts, named_words, order_of};
+ghost use Rattle.sd_command_line.specs.Words.{is_help as names_help, is_version as names_version};
 ghost use Rattle.sd_command_line.specs.Words.{out_is_read, out_text, version_words, with_input};
 ghost use Rattle.sd_command_line.specs.Orders.{order_said, shown, IsSound, RefusesWords};
 
@@ -43,14 +44,30 @@ fn read_named<'a>(name: &str, texts: &'a [String]) -> Result<Order<'a>, Status>
     ensures value { shown result ≡ named_words name.now (map string_bytes texts.now) }
     ensures fault { IfErr result RefusesWords }
 {
-    match name {
-        "help" | "--help" | "-h" => read_help(texts),
-        "version" | "--version" => read_version(texts),
-        _ => match Command::of(name) {
-            Some(command) => read_command(command, texts),
-            None => Err(Status::Usage),
-        },
+    if is_help(name) {
+        return read_help(texts);
     }
+    if is_version(name) {
+        return read_version(texts);
+    }
+    match Command::of(name) {
+        Some(command) => read_command(command, texts),
+        None => Err(Status::Usage),
+    }
+}
+
+/// Whether a first word asks for help.
+pub fn is_help(name: &str) -> bool
+    ensures { result ≡ names_help name.now }
+{
+    matches!(name, "help" | "--help" | "-h")
+}
+
+/// Whether a first word asks for the version.
+pub fn is_version(name: &str) -> bool
+    ensures { result ≡ names_version name.now }
+{
+    matches!(name, "version" | "--version")
 }
 
 /// Help on a command, or on all.
