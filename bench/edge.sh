@@ -203,9 +203,11 @@ row "a closed standard output: OUT is whole" same K K5
 
 # --- what a refusal is to a user
 for pair in "cover S no:sdca: BOOK no: no such file" "card S 5 no/x:sdca: OUT no/x: no such folder" \
-    "card S 9 K:sdca: LEAF 9: out of range; LEAF is the receiver's number, from 0 to 2^height - 1" \
+    "card S 9 K:sdca: LEAF 9: not a decimal number in its range; LEAF is the receiver's number, from 0 to 2^height - 1" \
     "cover B B:sdca: SITE B: line 1 is malformed" "receive S X K:sdca: CARD S: it is no card" \
-    "cover S:sdca: cover: another number of arguments; see sdca help cover" "card S 5 S:sdca: OUT is a file that is read"; do
+    "cover S:sdca: cover: wrong number of arguments; see sdca help cover" \
+    "card S 5 S:sdca: OUT S: it is one of the inputs" "frob:sdca: frob: unknown command; see sdca help" \
+    "help frob:sdca: frob: unknown command; see sdca help"; do
     # shellcheck disable=SC2086 # the words of a command
     sdca ${pair%%:*} >lines 2>err
     row "${pair%%:*}: explained" is "$(cat err)" "${pair#*:}"

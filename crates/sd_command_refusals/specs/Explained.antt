@@ -1,6 +1,6 @@
 -- Public meaning: what a refusal is to a user, on the standard error [this project, docs/FORMATS.md, Explanations].
 use Rattle.std.specs.Prelude.{ℕ, List, [], ◌∷◌, ◌++◌, codes, length, slice_get, Option, Some, None, zero, suc}
-use Rattle.std.specs.Prelude.{if◌then◌else◌, ◌==◌, Bool, false, bytes_eq}
+use Rattle.std.specs.Prelude.{if◌then◌else◌, ◌==◌, ◌||◌, Bool, false, bytes_eq}
 use Rattle.sd_command_table.specs.declared.command.Command.{Command}
 use Rattle.sd_command_table.specs.declared.operand.Operand.{Operand}
 use Rattle.sd_command_table.specs.Commands.{command_named, operands_of}
@@ -9,7 +9,9 @@ use Rattle.sd_command_status.specs.declared.status.Status.{Status}
 use Rattle.sd_command_status.specs.declared.status.Status.TheVariants.{Usage, Missing, BadSite, BadBook, BadCard}
 use Rattle.sd_command_status.specs.declared.status.Status.TheVariants.{BadWord}
 use Rattle.sd_command_refusals.specs.declared.found.Argument.{Argument}
-use Rattle.sd_command_refusals.specs.Reasons.{card_reason, line_reason, missing_reason, range_reason, site_reason}
+use Rattle.sd_command_line.specs.Words.{is_help, is_version}
+use Rattle.sd_command_refusals.specs.Reasons.{card_reason, line_reason, miscounted_reason, missing_reason}
+use Rattle.sd_command_refusals.specs.Reasons.{no_page_reason, output_reason, range_reason, site_reason, unknown_reason}
 
 -- what an argument is, and its text
 abbrev pub shown : Argument → Operand × List ℕ
@@ -68,18 +70,46 @@ site_line words reason =
     if has_two_sites words then of_sites (argument_of words 1) (argument_of words 3) reason
     else of_argument words 1 (λ operand. reason)
 
--- the line of a command, by its name and whether it takes as many arguments as it has
-abbrev pub command_line : List ℕ → ℕ → Option Command → List ℕ
-command_line name count None =
-    codes "sdca: " ++ (name ++ codes ": no command with these arguments; see sdca help\n")
-command_line name count (Some command) =
-    if count == length (operands_of command) then codes "sdca: OUT is a file that is read\n"
-    else codes "sdca: " ++ (name ++ (codes ": another number of arguments; see sdca help " ++ (name ++ codes "\n")))
+-- the line of a word that is refused, which leads to the list of commands
+unfoldable pub word_line : List ℕ → List ℕ → List ℕ
+word_line reason word = codes "sdca: " ++ (word ++ (codes ": " ++ (reason ++ codes "; see sdca help\n")))
 
--- the line of words that are no command
+-- the line of a command with a wrong number of arguments, which leads to the command's page
+unfoldable pub count_line : List ℕ → List ℕ
+count_line name =
+    codes "sdca: " ++ (name ++ (codes ": wrong number of arguments; see sdca help " ++ (name ++ codes "\n")))
+
+-- the line of words that begin with a command's name: OUT, the last of so many arguments, is one of the inputs, or the
+-- command takes another number of them
+abbrev pub command_line : List (List ℕ) → List ℕ → ℕ → Option Command → List ℕ
+command_line words name count None = word_line unknown_reason name
+command_line words name count (Some command) =
+    if count == length (operands_of command) then of_argument words count (λ operand. output_reason)
+    else count_line name
+
+-- the line of a word after help that names no page: help and version are no unknown commands, but have none
+abbrev pub topic_line : List ℕ → List ℕ
+topic_line topic =
+    if is_help topic || is_version topic then word_line no_page_reason topic
+    else word_line unknown_reason topic
+
+-- the line of help with these arguments
+abbrev pub help_line : List ℕ → List (List ℕ) → List ℕ
+help_line name [] = word_line miscounted_reason name
+help_line name (topic ∷ []) = topic_line topic
+help_line name (topic ∷ word ∷ words) = word_line miscounted_reason name
+
+-- the line of words that begin with this name
+abbrev pub named_line : List (List ℕ) → List ℕ → List (List ℕ) → List ℕ
+named_line words name texts =
+    if is_help name then help_line name texts
+    else if is_version name then word_line miscounted_reason name
+    else command_line words name (length texts) (command_named name)
+
+-- the line of words that are refused
 unfoldable pub usage_line : List (List ℕ) → List ℕ
 usage_line [] = codes "sdca: no command is given; see sdca help\n"
-usage_line (name ∷ texts) = command_line name (length texts) (command_named name)
+usage_line (name ∷ texts) = named_line (name ∷ texts) name texts
 
 -- The line that explains a status to a user, or no text if the status is about no argument. The site and the card are
 -- the first arguments of their commands.

@@ -14,6 +14,22 @@ unfoldable pub missing_reason : Operand → List ℕ
 missing_reason Out = codes "no such folder"
 missing_reason operand = codes "no such file"
 
+-- why a word is refused that is to name a command
+unfoldable pub unknown_reason : List ℕ
+unknown_reason = codes "unknown command"
+
+-- why `help` or `version` is refused after `help`
+unfoldable pub no_page_reason : List ℕ
+no_page_reason = codes "it has no page of its own"
+
+-- why `help` or `version` is refused with arguments
+unfoldable pub miscounted_reason : List ℕ
+miscounted_reason = codes "wrong number of arguments"
+
+-- why OUT is refused
+unfoldable pub output_reason : List ℕ
+output_reason = codes "it is one of the inputs"
+
 -- why a site is refused
 unfoldable pub site_reason : SiteFault → List ℕ
 site_reason (site.Line k) = codes "line " ++ (decimal k ++ codes " is malformed")
@@ -46,4 +62,4 @@ line_reason operand line = line_of line ++ (codes "; " ++ rule_of operand)
 
 -- why a number is refused, and what it is to be
 unfoldable pub range_reason : Operand → List ℕ
-range_reason operand = codes "out of range; " ++ rule_of operand
+range_reason operand = codes "not a decimal number in its range; " ++ rule_of operand

@@ -1,14 +1,16 @@
 ghost use Rattle.std.specs.Prelude.{◌≡◌, map, string_bytes, IfOk, length};
-ghost use Rattle.sd_command_refusals.specs.Explained.{argument_line, argument_of, command_line, explained};
-ghost use Rattle.sd_command_refusals.specs.Explained.{has_two_sites as two_sites, of_argument, of_sites, shown};
-ghost use Rattle.sd_command_refusals.specs.Explained.{site_line, sites_line, usage_line};
+ghost use Rattle.sd_command_refusals.specs.Explained.{argument_line, argument_of, command_line, count_line, explained};
+ghost use Rattle.sd_command_refusals.specs.Explained.{has_two_sites as two_sites, help_line, of_argument, of_sites};
+ghost use Rattle.sd_command_refusals.specs.Explained.{shown, site_line, sites_line, topic_line, usage_line, word_line};
 ghost use Rattle.sd_command_table.specs.Commands.{command_named};
-ghost use Rattle.sd_command_refusals.specs.Reasons.{card_reason, missing_reason, range_reason, line_reason};
+ghost use Rattle.sd_command_refusals.specs.Reasons.{card_reason, missing_reason, output_reason, range_reason};
+ghost use Rattle.sd_command_refusals.specs.Reasons.{line_reason};
 ghost use Rattle.sd_command_refusals.specs.Reasons.{site_reason};
 
 use crate::found::{Argument, find_argument};
 use crate::reason;
 use sd_card::CardFault;
+use sd_command_line::{is_help, is_version};
 use sd_command_status::Status;
 use sd_command_table::Command;
 use sd_site::SiteFault;
@@ -46,30 +48,81 @@ fn line(alloc: Global, argument: Argument<'_>, reason: &str) -> Result<String, A
     format!(in alloc; "sdca: {name} {text}: {reason}\n")
 }
 
-/// The line of words that are no command.
+/// The line of words that are refused.
 #[tactic(auto, unfolding(crate::specs::Explained::usage_line))]
 fn usage(alloc: Global, words: &[String]) -> Result<String, AllocError>
     ensures { IfOk result (λ text. string_bytes text ≡ usage_line (map string_bytes words.now)) }
 {
-    let Some(word) = words.first() else {
+    let [name, texts @ ..] = words else {
         return String::from_str(alloc, "sdca: no command is given; see sdca help\n");
     };
-    command(alloc, word.as_str(), words.len() - 1)
+    if is_help(name.as_str()) {
+        help(alloc, name.as_str(), texts)
+    } else if is_version(name.as_str()) {
+        word(alloc, reason::miscounted(), name.as_str())
+    } else {
+        command(alloc, words, name.as_str(), texts.len())
+    }
 }
 
-/// The line of a first word with this number of arguments, which are refused.
-fn command(alloc: Global, name: &str, count: usize) -> Result<String, AllocError>
-    ensures { IfOk result (λ text. string_bytes text ≡ command_line name.now count (command_named name.now)) }
+/// The line of help with these arguments, which are refused.
+fn help(alloc: Global, name: &str, texts: &[String]) -> Result<String, AllocError>
+    ensures { IfOk result (λ text. string_bytes text ≡ help_line name.now (map string_bytes texts.now)) }
+{
+    match texts {
+        [topic] => no_page(alloc, topic.as_str()),
+        _ => word(alloc, reason::miscounted(), name),
+    }
+}
+
+/// The line of a word after help that names no page.
+fn no_page(alloc: Global, topic: &str) -> Result<String, AllocError>
+    ensures { IfOk result (λ text. string_bytes text ≡ topic_line topic.now) }
+{
+    if is_help(topic) || is_version(topic) {
+        word(alloc, reason::no_page(), topic)
+    } else {
+        word(alloc, reason::unknown(), topic)
+    }
+}
+
+/// The line of words that begin with a name and this number of arguments, which are refused.
+fn command(alloc: Global, words: &[String], name: &str, count: usize) -> Result<String, AllocError>
+    ensures { IfOk result (λ text. string_bytes text
+        ≡ command_line (map string_bytes words.now) name.now count (command_named name.now)) }
 {
     match Command::of(name) {
-        Some(command) if count == command.operands().len() => {
-            String::from_str(alloc, "sdca: OUT is a file that is read\n")
-        }
-        Some(_) => format!(in alloc;
-            "sdca: {name}: another number of arguments; see sdca help {name}\n"
-        ),
-        None => format!(in alloc; "sdca: {name}: no command with these arguments; see sdca help\n"),
+        Some(command) if count == command.operands().len() => output(alloc, words, count as u8),
+        Some(_) => wrong_number(alloc, name),
+        None => word(alloc, reason::unknown(), name),
     }
+}
+
+/// The line of OUT, the argument of this number, that is one of the inputs.
+fn output(alloc: Global, words: &[String], number: u8) -> Result<String, AllocError>
+    ensures { IfOk result (λ text. string_bytes text ≡
+        of_argument (map string_bytes words.now) number (λ operand. output_reason)) }
+{
+    match find_argument(words, number) {
+        Some(argument) => line(alloc, argument, reason::output()),
+        None => Ok(String::new(alloc)),
+    }
+}
+
+/// The line of a command with a wrong number of arguments.
+#[tactic(auto, unfolding(crate::specs::Explained::count_line))]
+fn wrong_number(alloc: Global, name: &str) -> Result<String, AllocError>
+    ensures { IfOk result (λ text. string_bytes text ≡ count_line name.now) }
+{
+    format!(in alloc; "sdca: {name}: wrong number of arguments; see sdca help {name}\n")
+}
+
+/// The line of a word that is refused for this reason.
+#[tactic(auto, unfolding(crate::specs::Explained::word_line))]
+fn word(alloc: Global, reason: &str, word: &str) -> Result<String, AllocError>
+    ensures { IfOk result (λ text. string_bytes text ≡ word_line reason.now word.now) }
+{
+    format!(in alloc; "sdca: {word}: {reason}; see sdca help\n")
 }
 
 /// The line of a file that isn't there.

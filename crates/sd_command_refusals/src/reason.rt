@@ -1,6 +1,7 @@
 ghost use Rattle.std.specs.Prelude.{◌≡◌, IfOk, string_bytes};
 ghost use Rattle.sd_command_refusals.specs.Reasons.{card_reason, line_of, line_reason, missing_reason};
-ghost use Rattle.sd_command_refusals.specs.Reasons.{range_reason, rule_of, site_reason};
+ghost use Rattle.sd_command_refusals.specs.Reasons.{miscounted_reason, no_page_reason, output_reason, range_reason};
+ghost use Rattle.sd_command_refusals.specs.Reasons.{rule_of, site_reason, unknown_reason};
 
 use sd_card::CardFault;
 use sd_command_table::Operand;
@@ -16,6 +17,38 @@ pub(crate) fn missing(operand: Operand) -> &'static str
         Operand::Out => "no such folder",
         _ => "no such file",
     }
+}
+
+/// Why a word is refused that should name a command.
+#[tactic(auto, unfolding(crate::specs::Reasons::unknown_reason))]
+pub(crate) fn unknown() -> &'static str
+    ensures { result.now ≡ unknown_reason }
+{
+    "unknown command"
+}
+
+/// Why `help` or `version` is refused after `help`.
+#[tactic(auto, unfolding(crate::specs::Reasons::no_page_reason))]
+pub(crate) fn no_page() -> &'static str
+    ensures { result.now ≡ no_page_reason }
+{
+    "it has no page of its own"
+}
+
+/// Why `help` or `version` is refused with arguments.
+#[tactic(auto, unfolding(crate::specs::Reasons::miscounted_reason))]
+pub(crate) fn miscounted() -> &'static str
+    ensures { result.now ≡ miscounted_reason }
+{
+    "wrong number of arguments"
+}
+
+/// Why OUT is refused.
+#[tactic(auto, unfolding(crate::specs::Reasons::output_reason))]
+pub(crate) fn output() -> &'static str
+    ensures { result.now ≡ output_reason }
+{
+    "it is one of the inputs"
 }
 
 /// Why a site is refused.
@@ -82,5 +115,5 @@ pub(crate) fn range(alloc: Global, operand: Operand) -> Result<String, AllocErro
     ensures { IfOk result (λ text. string_bytes text ≡ range_reason operand) }
 {
     let rule = rule(alloc, operand)?;
-    format!(in alloc; "out of range; {rule}")
+    format!(in alloc; "not a decimal number in its range; {rule}")
 }

@@ -41,22 +41,42 @@ fn refusals_are_explained(rt: HostRuntime) -> Result<(), AllocError> {
         (
             "card S 9 K",
             Status::BadWord(2),
-            "sdca: LEAF 9: out of range; LEAF is the receiver's number, from 0 to 2^height - 1\n",
+            "sdca: LEAF 9: not a decimal number in its range; LEAF is the receiver's number, from 0 to 2^height - 1\n",
         ),
         (
             "cover S",
             Status::Usage,
-            "sdca: cover: another number of arguments; see sdca help cover\n",
+            "sdca: cover: wrong number of arguments; see sdca help cover\n",
         ),
         (
             "card S 5 S",
             Status::Usage,
-            "sdca: OUT is a file that is read\n",
+            "sdca: OUT S: it is one of the inputs\n",
         ),
         (
             "frob",
             Status::Usage,
-            "sdca: frob: no command with these arguments; see sdca help\n",
+            "sdca: frob: unknown command; see sdca help\n",
+        ),
+        (
+            "help frob",
+            Status::Usage,
+            "sdca: frob: unknown command; see sdca help\n",
+        ),
+        (
+            "help version",
+            Status::Usage,
+            "sdca: version: it has no page of its own; see sdca help\n",
+        ),
+        (
+            "--help cover card",
+            Status::Usage,
+            "sdca: --help: wrong number of arguments; see sdca help\n",
+        ),
+        (
+            "version S",
+            Status::Usage,
+            "sdca: version: wrong number of arguments; see sdca help\n",
         ),
         ("cover S B", Status::DepotFault, ""),
     ] {
