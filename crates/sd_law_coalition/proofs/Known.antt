@@ -1,15 +1,15 @@
 -- What is known is what the pooled names reach, and the periods in which a leaf of the coalition isn't revoked.
-use Rattle.std.proofs.Common.{ℕ, ◌/◌, inl, inr, ◌^◌, ◌<◌, ◌≤◌, ◌≡◌, Bool, true, false, not, nat_eq, List, [], ◌∷◌}
-use Rattle.std.proofs.Common.{slice_index_or, eq-eqb, refl, sym, subst, arith}
+use Rattle.std.proofs.Common.{ℕ, ◌/◌, ◌^◌, ◌<◌, ◌≤◌, ◌≡◌, Bool, true, false, not, nat_eq, List, [], ◌∷◌}
+use Rattle.std.proofs.Common.{eq-eqb, refl, sym, subst, arith}
 use Rattle.std.specs.Prelude.{◌↔◌, Contains, All, Any}
 use Rattle.std.specs.List.{flat_map, list_any}
 use Rattle.std.proofs.Math.Nat.{min-le_right}
 use Rattle.std.proofs.lemmas.Bool.{false≢true, false_from_ne_true}
 use Rattle.std.proofs.lemmas.List.Elements.{All-cons, All-contains, All-filter, All-from_get_or, All-nil, All-weaker}
-use Rattle.std.proofs.lemmas.List.Elements.{Contains-get_or}
 use Rattle.std.proofs.lemmas.List.Elements.{filter_passes}
 use Rattle.std.proofs.lemmas.List.Folds.{list_any_at}
 use Rattle.std.proofs.lemmas.List.FromFn.{length-range_with_len, get_or-range_with_len}
+use Rattle.sd_base.proofs.Lists.{all_by}
 use Rattle.sd_tree.specs.Leaves.{is_member, leaves}
 use Rattle.sd_tree.specs.SetNames.{IsOfHeight}
 use Rattle.sd_tree.specs.declared.set.SetName.{SetName}
@@ -18,8 +18,8 @@ use Rattle.sd_book.specs.Commands.{entitled, last_period}
 use Rattle.sd_book.proofs.Revocations.{below}
 use Rattle.sd_steiner.specs.Chains.{IsChainCover}
 use Rattle.sd_steiner.proofs.Heights.{of_height}
-use Rattle.sd_steiner.proofs.Lists.{member_cases, no_member}
 use Rattle.sd_steiner.proofs.There.{the_cover}
+use Rattle.sd_steiner.proofs.Paths.{the_only_leaf}
 use Rattle.sd_reach.specs.Reach.{Secret, Named, Key, IsGeneratorStep, IsHeld, IsReached}
 use Rattle.sd_reach.proofs.Derivation.{Reach, at_first, by_rule, from_derived, to_derived, passes}
 use Rattle.sd_reach.proofs.Reached.{held_is_reached, next_is_reached, reached_by_one}
@@ -92,10 +92,6 @@ pub reached_at : (service : Service) (q u : ℕ) → service.height ≤ 20 → u
 reached_at service q u low leaf =
     cover_reached service.height (revoked_at service q) (service_sets service q) u low
     (below service.height service.commands q) (cover_at service q low) leaf
-
--- what holds of each member holds of all
-All-from_contains : {X : Type 0} (P : X → Type 0) (xs : List X) → ((x : X) → Contains xs x → P x) → All P xs
-All-from_contains P xs each k d within = each (slice_index_or xs k d) (Contains-get_or xs k d within)
 
 -- what is known comes to: a secret is reached, and a period has an unrevoked leaf
 abbrev Comes : Service → List ℕ → Knowable → Type 0
@@ -198,16 +194,9 @@ alone : (d : ℕ) (coalition : List ℕ) (u : ℕ) → All (λ w. w < 2 ^ d) coa
 alone d coalition u leaves m =
     All-cons (λ w. w < 2 ^ d) u [] (All-contains (λ w. w < 2 ^ d) coalition u leaves m) (All-nil (λ w. w < 2 ^ d))
 
--- a leaf is the one member of the coalition of it alone
-the_one : (u w : ℕ) → Contains (u ∷ []) w → w ≡ u
-the_one u w m = elim (member_cases u [] w m) [
-  | inl same ↦ sym same
-  | inr none ↦ absurd (no_member w none)
-]
-
 -- what holds of some member of the coalition of one leaf holds of the leaf
 of_only : (P : ℕ → Type 0) (u : ℕ) → Any P (u ∷ []) → P u
-of_only P u (k, w, within, is, p) = subst P (the_one u w (k, within, is)) p
+of_only P u (k, w, within, is, p) = subst P (the_only_leaf u w (k, within, is)) p
 
 -- what is known by all of a coalition together is known by one of its leaves
 to_one : (service : Service) (coalition : List ℕ) (item : Knowable) → service.height ≤ 20
@@ -306,7 +295,7 @@ entitled_below service q u m =
     All-contains (λ w. w < 2 ^ service.height) (entitled service.height service.commands q) u
     (All-filter (λ w. not (list_any (nat_eq w) (revoked_at service q))) (λ w. w < 2 ^ service.height)
     (leaves service.height)
-    (All-from_contains (λ w. w < 2 ^ service.height) (leaves service.height) (leaf_below service.height)))
+    (all_by (λ w. w < 2 ^ service.height) (leaves service.height) (leaf_below service.height)))
     m
 
 -- and it isn't revoked
@@ -386,7 +375,7 @@ pub sets_shut : (service : Service) (coalition : List ℕ) (q : ℕ) → service
     → All (Contains (revoked_at service q)) coalition
     → All (λ name. list_any (is_member service.height name) coalition ≡ false) (service_sets service q)
 sets_shut service coalition q low members =
-    All-from_contains (λ name. list_any (is_member service.height name) coalition ≡ false) (service_sets service q)
+    all_by (λ name. list_any (is_member service.height name) coalition ≡ false) (service_sets service q)
     (λ name there. false_from_ne_true _ (λ found.
     none_unrevoked service coalition q members
     (opened_unrevoked service coalition q name low (revoked_leaves service coalition q members) there found)))

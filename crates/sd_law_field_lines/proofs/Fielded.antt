@@ -1,11 +1,12 @@
 -- The lines of a field by what is confirmed to its receivers.
-use Rattle.std.proofs.Common.{arith, ◌≡◌, ℕ, zero, suc, ◌*◌, ◌/◌, ◌<◌, ◌≤◌, ◌^◌, false, List, [], ◌++◌, refl, sym, ap}
+use Rattle.std.proofs.Common.{arith, ◌≡◌, ℕ, zero, suc, ◌/◌, ◌<◌, ◌≤◌, ◌^◌, false, List, [], ◌++◌, refl, sym, ap}
 use Rattle.std.proofs.Common.{◌∙◌, length, take, reverse, take_all, Ok}
 use Rattle.std.specs.Prelude.{All, Option, None, Some, slice_get}
 use Rattle.std.specs.List.{concat}
 use Rattle.std.specs.List.Sorted.{IsStrictlyIncreasing}
 use Rattle.std.proofs.lemmas.List.{length-map, length-reverse}
 use Rattle.std.proofs.lemmas.List.Elements.{All-get_or, All-map, All-weaker}
+use Rattle.sd_base.proofs.Numbers.{packets_in}
 use Rattle.sd_site.specs.Fields.{SiteFields}
 use Rattle.sd_card.specs.Fields.{card_of}
 use Rattle.sd_book.specs.Commands.{last_period}
@@ -63,10 +64,6 @@ past_is : (site : SiteFields) (clear : List (List ℕ)) (events : List Event) �
     field.past_of (done_field site clear events) ≡ reverse events
 past_is site clear events = ap reverse (take_all (length events) events (omega arith))
 
--- a number of packets by their bytes
-counted : (bytes packets : ℕ) → bytes ≡ 188 * packets → bytes / 188 ≡ packets
-counted bytes packets is = omega (arith, is)
-
 -- the first line
 first_same : (site : SiteFields) (clear : List (List ℕ)) (events : List Event) → IsGoodField site clear events →
     lines_to (done_field site clear events) 0 ≡ confirmed_lines site clear events 0
@@ -79,7 +76,7 @@ first_same site clear events good =
     (length (concat (body plan (take (sends (length clear) past) clear))) / 188) (last_period plan.commands))
     (past_is site clear events)
     ∙ ap (λ (n : ℕ). first_line (sends (length clear) (reverse events)) n (last_period plan.commands))
-    (counted (length (concat (body plan sent))) (length (body plan sent)) (joined_long (body plan sent) synced))
+    (packets_in (length (concat (body plan sent))) (length (body plan sent)) (joined_long (body plan sent) synced))
 
 -- what leaf u's receivers wrote
 wrote_same : (site : SiteFields) (clear : List (List ℕ)) (events : List Event) (u : ℕ) →
@@ -109,7 +106,8 @@ line_same site clear events u good leaf =
     (confirmed_sent site clear events u good leaf)) in
     ap (wrote_line u) (wrote_same site clear events u good leaf)
     ∙ ap (λ (n : ℕ). receiver_line u n (digest_of (concat packets)))
-    (counted (length (concat packets)) (length packets) (joined_long packets each) ∙ length-map places (packet_at sent))
+    (packets_in (length (concat packets)) (length packets) (joined_long packets each)
+    ∙ length-map places (packet_at sent))
 
 -- the lines of the first n leaves
 lines_same : (site : SiteFields) (clear : List (List ℕ)) (events : List Event) (n : ℕ) →

@@ -1,5 +1,5 @@
 -- What the lines of a trial tell.
-use Rattle.std.proofs.Common.{◌≡◌, ℕ, zero, suc, ◌*◌, ◌/◌, ◌^◌, ◌<◌, ◌≤◌, Bool, true, false, not, List, [], ◌∷◌}
+use Rattle.std.proofs.Common.{◌≡◌, ℕ, zero, suc, ◌/◌, ◌^◌, ◌<◌, ◌≤◌, Bool, true, false, not, List, [], ◌∷◌}
 use Rattle.std.proofs.Common.{length, reverse, Option, Some, None, Result, Ok, Err, refl, sym, ap, ◌∙◌}
 use Rattle.std.proofs.Common.{arith}
 use Rattle.std.specs.Prelude.{get_or, filter}
@@ -7,6 +7,7 @@ use Rattle.std.specs.List.{All, concat, range_with_len}
 use Rattle.std.proofs.lemmas.List.FromFn.{length-range_with_len, get_or-range_with_len}
 use Rattle.std.proofs.lemmas.List.Elements.{All-nil, All-cons, All-head, All-tail, All-get_or, All-from_get_or}
 use Rattle.std.proofs.lemmas.List.Elements.{All-filter}
+use Rattle.sd_base.proofs.Numbers.{packets_in}
 use Rattle.sd_card.specs.Fields.{CardFields, card_of}
 use Rattle.sd_engine.specs.Taken.{StreamEnd, Whole, Breaks, RunsOn, taken_of, end_of}
 use Rattle.sd_spec_broadcast.specs.Plan.{Plan, IsPlan, period_of}
@@ -39,10 +40,6 @@ use Rattle.sd_run_trial.specs.Prefixes.{prefix_of_file}
 use Rattle.sd_run_trial.specs.Trial.{most_clear_bytes}
 use Rattle.sd_run_trial.proofs.Prefixes.{whole_prefix}
 use Rattle.sd_law_lines.specs.Trials.{line_by, opened_line, opened_lines}
-
--- so many bytes are so many packets
-packets_in : (bytes packets : ℕ) → bytes ≡ 188 * packets → bytes / 188 ≡ packets
-packets_in bytes packets is = omega (arith, is)
 
 long_packets : (packets : List (List ℕ)) → AreSynced packets → length (concat packets) / 188 ≡ length packets
 long_packets packets are = packets_in (length (concat packets)) (length packets) (joined_long packets are)
