@@ -1,16 +1,16 @@
 -- The revoked leaves of an index that takes commands.
 use Rattle.std.proofs.Common.{arith, ◌≡◌, ℕ, zero, suc, ◌+◌, ◌==◌, ◌<◌, ◌≤◌, ◌^◌, List, [], ◌∷◌, ◌++◌, true, false}
-use Rattle.std.proofs.Common.{refl, ap, sym, subst, eqb-true, ◌∙◌, append_assoc, append-nil, inl, inr, Contains}
+use Rattle.std.proofs.Common.{refl, ap, sym, subst, eqb-true, ◌∙◌, inl, inr, Contains}
 use Rattle.std.specs.Prelude.{◌||◌, not, nat_eq, Result, Ok, Err, OnOk}
 use Rattle.std.specs.List.{filter, list_any}
 use Rattle.std.proofs.lemmas.Bool.{cases_Bool}
 use Rattle.std.proofs.lemmas.Grind.{common_steps}
 use Rattle.sd_tree.specs.Leaves.{leaves, with_leaf, without_leaf}
 use Rattle.sd_book.specs.declared.command.Command.{Command}
-use Rattle.sd_book.specs.declared.command.Command.TheVariants.{Subscribe, Revoke, Period}
+use Rattle.sd_book.specs.declared.command.Command.TheVariants.{Subscribe, Revoke}
 use Rattle.sd_book.specs.Commands.{is_revoked, revoked, revoked_after, after_commands, commands_in, commands_until}
 use Rattle.sd_book.specs.Commands.{last_period}
-use Rattle.sd_book.proofs.Followed.{one_follows, first_follows, next_follows}
+use Rattle.sd_book.proofs.Followed.{one_follows, first_follows, next_follows, all_follow}
 use Rattle.sd_book.proofs.Replays.{none_revoked}
 use Rattle.sd_head_periods.specs.Kept.{revoked_before}
 use Rattle.sd_cover.proofs.Ranges.{filter_same, passes, found}
@@ -74,19 +74,6 @@ there_already d u before old is there = is ∙ (sym again ∙ one_follows d befo
     again : filter (λ w. w == u || list_any (nat_eq w) (revoked_after d before)) (leaves d) ≡ revoked_after d before
     again = filter_same (λ w. w == u || list_any (nat_eq w) (revoked_after d before)) (is_revoked before) 0 (2 ^ d)
         (λ w h. passed w (omega (arith, h)))
-
--- a Period
-pub period_passed : (d : ℕ) (before : List Command) (old : List ℕ) → old ≡ revoked_after d before →
-    old ≡ revoked_after d (before ++ Period ∷ [])
-period_passed d before old is = is ∙ one_follows d before Period
-
--- one command after others
-all_follow : (d : ℕ) (before more : List Command) →
-    after_commands d (revoked_after d before) more ≡ revoked_after d (before ++ more)
-all_follow d before [] = ap (revoked_after d) (sym (append-nil before))
-all_follow d before (command ∷ more) =
-    ap (λ (xs : List ℕ). after_commands d xs more) (one_follows d before command)
-    ∙ all_follow d (before ++ command ∷ []) more ∙ ap (revoked_after d) (append_assoc before (command ∷ []) more)
 
 -- the commands of a period lead to its revoked leaves
 pub period_taken : (d q : ℕ) (commands : List Command) (old now : List ℕ) → q ≤ last_period commands →

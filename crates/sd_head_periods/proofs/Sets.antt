@@ -1,6 +1,6 @@
 -- The sets of a period's cover, and their entries.
 use Rattle.std.proofs.Common.{◌≡◌, ℕ, ◌^◌, ◌<◌, ◌≤◌, List, [], ◌∷◌, length, Contains, get_or}
-use Rattle.std.proofs.Common.{refl, ap, sym, subst, inl, inr, arith}
+use Rattle.std.proofs.Common.{refl, sym, subst, inl, inr, arith}
 use Rattle.std.proofs.lemmas.List.{length-map}
 use Rattle.std.specs.Prelude.{All, map}
 use Rattle.std.proofs.lemmas.List.Elements.{All-contains, All-from_get_or, Contains-get_or}
@@ -10,21 +10,17 @@ use Rattle.sd_tree.specs.declared.set.SetName.{SetName}
 use Rattle.sd_tree.specs.declared.set.SetName.TheVariants.{Whole, Diff}
 use Rattle.sd_tree.specs.Limits.{most_revoked, highest}
 use Rattle.sd_emm.specs.declared.emm.Entry.{Entry}
-use Rattle.sd_tree.proofs.Ancestors.{above_self, above_trans}
 use Rattle.sd_site.specs.Fields.{SiteFields}
-use Rattle.sd_steiner.specs.Chains.{IsChainCover, AreLinked, last_of}
+use Rattle.sd_steiner.specs.Chains.{IsChainCover}
 use Rattle.sd_steiner.proofs.Ends.{linked_start}
 use Rattle.sd_steiner.proofs.Covers.{cover_small}
 use Rattle.sd_steiner.proofs.Lists.{member_cases, no_member}
+use Rattle.sd_steiner.proofs.Heights.{linked_above}
 use Rattle.sd_emm.specs.Spelled.{names_in}
 use Rattle.sd_emm.specs.declared.format.TheConstants.{MOST_SETS}
 use Rattle.sd_spec_broadcast.specs.Messages.{entry_of}
+use Rattle.sd_spec_broadcast.proofs.Periods.{names_are}
 use Rattle.sd_head_periods.specs.Crypto.{IsKeyed}
-
--- the first node of a chain is above the last
-linked_above : (d : ℕ) (leaves nodes : List ℕ) (v : ℕ) → AreLinked d leaves (v ∷ nodes) → IsAbove v (last_of v nodes)
-linked_above d leaves [] v l = above_self v
-linked_above d leaves (w ∷ nodes) v l = above_trans v w (last_of w nodes) (1, l.2) (linked_above d leaves nodes w l.3)
 
 -- each set of a chain cover has a key
 set_keyed : (d : ℕ) (leaves : List ℕ) (sets : List SetName) → IsChainCover d leaves sets → (name : SetName) →
@@ -55,12 +51,6 @@ sets_few d (u ∷ us) sets small all few cover =
     (λ w m. All-contains (λ v. v < 2 ^ d) (u ∷ us) w all m) cover).count (omega arith) in
     omega (arith, few, count)
 
--- the sets of their entries are they
-pub named_again : (site : SiteFields) (q : ℕ) (sets : List SetName) → names_in (map (entry_of site q) sets) ≡ sets
-unfolding entry_of
-named_again site q [] = refl
-named_again site q (name ∷ sets) = ap (λ (names : List SetName). name ∷ names) (named_again site q sets)
-
 pub entries_few : (site : SiteFields) (q : ℕ) (sets : List SetName) (entries : List Entry) →
     entries ≡ map (entry_of site q) sets →
     length sets ≤ MOST_SETS → length entries ≤ MOST_SETS
@@ -70,4 +60,4 @@ pub entries_ascend : (site : SiteFields) (q : ℕ) (sets : List SetName) (entrie
     entries ≡ map (entry_of site q) sets →
     AreAscending sets → AreAscending (names_in entries)
 entries_ascend site q sets entries is up =
-    rw is (subst AreAscending (sym (named_again site q sets)) up)
+    rw is (subst AreAscending (sym (names_are site q sets)) up)

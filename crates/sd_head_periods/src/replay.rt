@@ -29,7 +29,7 @@ pub fn replay<L: Ledger>(
 }
 
 // Takes one command into the index.
-#[tactic(auto, using(crate::proofs::Replayed::subscribed, crate::proofs::Replayed::period_passed))]
+#[tactic(auto, using(crate::proofs::Replayed::subscribed, sd_book::proofs::Kept::kept_period))]
 fn take<L: Ledger>(
     index: &mut CoverIndex,
     command: Command,
