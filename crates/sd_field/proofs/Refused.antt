@@ -2,11 +2,11 @@
 use Rattle.std.proofs.Common.{arith, ◌≡◌, ◌∙◌, ℕ, zero, suc, ◌+◌, ◌-◌, ◌<◌, List, [], ◌∷◌, ◌++◌, refl, ap, sym, subst}
 use Rattle.std.proofs.Common.{append-nil, append_assoc, inl, inr, length, take}
 use Rattle.std.specs.Prelude.{◌↔◌, Option, None, Some, drop, get_or, option_and_then, reverse}
-use Rattle.std.specs.Option.{option_map_or}
 use Rattle.std.proofs.Math.Seq.{take-add}
 use Rattle.std.proofs.lemmas.Bool.{cases_lt}
 use Rattle.std.proofs.lemmas.List.{reverse-append}
 use Rattle.std.proofs.lemmas.Option.{slice_get-get_or}
+use Rattle.sd_base.proofs.Lists.{both_none}
 use Rattle.sd_site.specs.Fields.{SiteFields}
 use Rattle.sd_spec_broadcast.specs.Refused.{IsClear, refusal_from, refusal_of}
 use Rattle.sd_spec_broadcast.specs.declared.fault.ClearFault.{ClearFault}
@@ -17,12 +17,6 @@ use Rattle.sd_spec_field.proofs.Sends.{sends_rise}
 use Rattle.sd_field.specs.Fields.{FieldValue, after_next, done_to, next_event, next_refusal, past_of, refusal_at}
 use Rattle.sd_field.specs.Fields.{sends_of, taken}
 use Rattle.sd_field.proofs.Fields.{none_refused, none_to_send, one_refused, one_to_send, quiet_taken}
-
--- neither is there if the first of both is none
-both_none : {F : Type 0} (first rest : Option F) → option_map_or Some first rest ≡ None →
-    (first ≡ None) × (rest ≡ None)
-both_none None rest none = (refl, none)
-both_none (Some x) rest none = absurd (let no = none in cc)
 
 -- each packet of a front of which none is refused isn't
 pub each_unrefused : (site : SiteFields) (start xs : List (List ℕ)) (k j : ℕ) →

@@ -1,8 +1,7 @@
 -- The first space of a text.
-use Rattle.std.proofs.Common.{arith, ◌≡◌, ◌≢◌, ℕ, ◌+◌, ◌-◌, ◌<◌, List, [], ◌∷◌, length, get_or, take, drop, zero, suc}
+use Rattle.std.proofs.Common.{arith, ◌≡◌, ◌≢◌, ℕ, ◌+◌, ◌<◌, List, [], ◌∷◌, length, get_or, take, drop, zero, suc}
 use Rattle.std.proofs.Common.{Some, None, refl, ap, ◌∙◌}
 use Rattle.std.proofs.lemmas.Grind.{common_steps}
-use Rattle.std.proofs.lemmas.List.{take_rest}
 use Rattle.std.specs.Prelude.{option_map}
 use Rattle.sd_field.specs.Script.{cut_at_space, onto_first}
 
@@ -27,7 +26,3 @@ no_cut [] before = refl
 no_cut (byte ∷ bytes) before =
     off_space byte bytes (before 0 (omega arith)) ∙
     ap (option_map (onto_first byte)) (no_cut bytes (λ k m. before (suc k) (omega arith)))
-
--- a range up to the end is all that is left
-pub to_the_end : (n : ℕ) (text : List ℕ) → take (length text - n) (drop n text) ≡ drop n text
-to_the_end n text = take_rest text n

@@ -6,37 +6,20 @@ use Rattle.std.specs.List.{concat}
 use Rattle.std.proofs.lemmas.List.Folds.{concat-append}
 use Rattle.sd_ports.specs.Memory.{Store, room_in}
 use Rattle.sd_ports.specs.Rooms.{HasTaken}
-use Rattle.sd_engine.specs.Stage.{Chain, IsTooShort, all_from}
-use Rattle.sd_engine.proofs.Chains.{chain_on, chain_writes}
+use Rattle.sd_engine.specs.Stage.{Chain, IsTooShort}
+use Rattle.sd_engine.proofs.Chains.{chain_on}
 use Rattle.sd_spec_broadcast.specs.Plan.{Plan}
 use Rattle.sd_spec_broadcast.specs.Refused.{refusal_of}
-use Rattle.sd_spec_broadcast.specs.Sent.{Item, added, body, bytes_added, bytes_from, packets_from, sent, sent_from}
-use Rattle.sd_spec_broadcast.proofs.Bodies.{body_bytes}
+use Rattle.sd_spec_broadcast.specs.Sent.{Item, added, body, bytes_added, packets_from, sent, sent_from}
 use Rattle.sd_spec_broadcast.proofs.Sending.{packets_in_turn, sent_more}
 use Rattle.sd_head.specs.Schedule.{IsDue}
 use Rattle.sd_head.specs.Staged.{IsAfter, IsReady, RefusesPacket, head_does}
 use Rattle.sd_head.specs.declared.fault.HeadFault.{HeadFault}
 use Rattle.sd_head.specs.declared.head.Head.{Head}
+use Rattle.sd_head.proofs.Chained.{chained}
 use Rattle.sd_field.specs.Heard.{HasRoom}
 use Rattle.sd_field.specs.Stations.{IsHeadAfter, IsStation}
 use Rattle.sd_field.specs.declared.station.Station.{Station}
-
--- the bytes of packets, each after those before it
-all_bytes : (plan : Plan) (before packets : List (List ℕ)) →
-    all_from (bytes_added plan) before packets ≡ bytes_from plan before packets
-unfolding bytes_from
-all_bytes plan before [] = refl
-all_bytes plan before (packet ∷ packets) =
-    ap (λ (rest : List ℕ). bytes_added plan before packet ++ rest) (all_bytes plan (before ++ packet ∷ []) packets)
-
--- what a chain from the beginning writes, and where it leads
-chained : (plan : Plan) (packets : List (List ℕ)) (s t : Head) (bytes : List ℕ) (steps : ℕ) → IsAfter plan [] s →
-    Chain head_does s packets t bytes steps → (bytes ≡ concat (body plan packets)) × IsAfter plan packets t
-chained plan packets s t bytes steps after chain =
-    let there = chain_writes head_does (IsAfter plan) (bytes_added plan)
-    (λ before u packet v wrote n stands does. ((does plan before stands).1, (does plan before stands).2))
-    [] s packets t bytes steps after chain in
-    (there.0 ∙ (all_bytes plan [] packets ∙ sym (body_bytes plan packets)), there.1)
 
 -- the head end has sent what is sent for its packets
 pub head_after : (plan : Plan) (packets : List (List ℕ)) (head : Head) → IsHeadAfter plan packets head →

@@ -104,7 +104,7 @@ fn leaf_times(text: &[u8], h: Height) -> Result<(Leaf, u32), LineFault>
 }
 
 /// The text before the first space, and after it.
-#[tactic(auto, using(crate::proofs::Spaces::cut_there, crate::proofs::Spaces::no_cut, crate::proofs::Spaces::to_the_end))]
+#[tactic(auto, using(crate::proofs::Spaces::cut_there, crate::proofs::Spaces::no_cut, sd_base_text::proofs::Cuts::to_the_end))]
 fn cut_at_space(text: &[u8]) -> Option<(&[u8], &[u8])>
     ensures { option_map (λ cut. (cut.0.now, cut.1.now)) result ≡ cut_at_space text.now }
 {

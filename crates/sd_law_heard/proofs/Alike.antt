@@ -1,30 +1,23 @@
 -- Sections of one period say the same.
-use Rattle.std.proofs.Common.{◌≡◌, ℕ, ◌==◌, true, false, not, List, get_or, refl, sym, ◌∙◌, eq-eqb}
-use Rattle.std.specs.Prelude.{All, Contains, bytes_eq}
+use Rattle.std.proofs.Common.{◌≡◌, true, false, not, List, get_or, refl, sym, ◌∙◌, eq-eqb}
+use Rattle.std.specs.Prelude.{All, Contains}
 use Rattle.std.proofs.lemmas.List.Elements.{All-contains}
 use Rattle.std.proofs.lemmas.List.Folds.{list_any_none}
-use Rattle.std.proofs.lemmas.Slice.Eq.{bytes_eq-Decides}
+use Rattle.sd_base.proofs.Lists.{equal_bytes}
 use Rattle.sd_emm.specs.Period.{Period, emms_of, IsOfPeriod}
 use Rattle.sd_emm.specs.declared.emm.Emm.{Emm}
 use Rattle.sd_emm.proofs.Sharing.{all_are_of}
 use Rattle.sd_spec_receiver.specs.Offered.{says_same, is_mixed}
 
--- equal numbers, and equal bytes, are found equal
-pub same_number : (a b : ℕ) → a ≡ b → (a == b) ≡ true
-same_number a b same = eq-eqb a b same
-
-pub same_bytes : (xs ys : List ℕ) → xs ≡ ys → bytes_eq xs ys ≡ true
-same_bytes xs ys same = (bytes_eq-Decides xs ys).1 same
-
 -- two sections of a period
 two_say_same : (period : Period) (a b : Emm) → IsOfPeriod period a → IsOfPeriod period b → says_same a b ≡ true
 two_say_same period a b p q =
     rw (
-      same_number a.sets b.sets (p.sets ∙ sym q.sets),
-      same_number a.sections b.sections
+      eq-eqb a.sets b.sets (p.sets ∙ sym q.sets),
+      eq-eqb a.sections b.sections
           (p.sections ∙ sym q.sections),
     )
-    (same_bytes a.check b.check (p.check ∙ sym q.check))
+    (equal_bytes a.check b.check (p.check ∙ sym q.check))
 
 -- so none is mixed among others
 pub none_mixed : (period : Period) (emm : Emm) (sections : List Emm) → Contains (emms_of period) emm →

@@ -8,7 +8,7 @@ use Rattle.std.proofs.lemmas.List.Elements.{All-contains, All-weaker}
 use Rattle.sd_bits.specs.Bits.{field}
 use Rattle.sd_packet.specs.Header.{pid_of, has_payload}
 use Rattle.sd_packet.specs.Packing.{packed}
-use Rattle.sd_packet.proofs.Packets.{packet_reads}
+use Rattle.sd_packet.proofs.Packets.{packet_reads, packed_pid}
 use Rattle.sd_psi.specs.Tables.{tag_of}
 use Rattle.sd_psi.specs.Access.{cat_descriptor, cat_section}
 use Rattle.sd_psi.proofs.OurCat.{our_cat_is_good, our_cat_has_one, our_descriptor_is_read}
@@ -33,10 +33,6 @@ use Rattle.sd_law_broadcast.proofs.Sections.{IsSaid, said, section_reads, carrie
 use Rattle.sd_spec_receiver.specs.Tuned.{Tuning, tuning_in, is_tuning, is_for, cat_tuning}
 use Rattle.sd_spec_receiver.specs.Heard.{Dropped, Entitles, Controls, Other, hears}
 use Rattle.sd_law_heard.specs.Told.{tuning_to, heard_of}
-
--- the PID of a packed section
-packed_pid : (section : List ℕ) (pid counter : ℕ) → pid < 8192 → pid_of (packed section pid (counter % 16)) ≡ pid
-packed_pid section pid counter low = (packet_reads section pid (counter % 16) low (omega arith)).pid_is
 
 -- its payload isn't empty
 packed_some : (section : List ℕ) (pid counter : ℕ) → pid < 8192 → has_payload (packed section pid (counter % 16)) ≡ true

@@ -1,9 +1,10 @@
 -- What is known of joined and of reversed lists.
-use Rattle.std.proofs.Common.{◌≡◌, suc, List, [], ◌∷◌, ◌++◌, length, refl, subst, inl, inr, arith}
+use Rattle.std.proofs.Common.{◌≡◌, List, [], ◌∷◌, ◌++◌, length, refl, subst, inl, inr}
 use Rattle.std.specs.Prelude.{All, AllPairs, Contains, reverse}
 use Rattle.std.proofs.lemmas.List.{take_at, drop_at, reverse-append}
 use Rattle.std.proofs.lemmas.List.Elements.{All-nil, All-cons, All-head, All-take, All-drop, All-contains}
 use Rattle.std.proofs.lemmas.List.Elements.{Contains-append_left, Contains-append_right}
+use Rattle.sd_base.proofs.Lists.{pair_parts}
 use Rattle.sd_steiner.proofs.Lists.{member_cases, no_member}
 
 -- what is true of all of a joined list is true of both of its lists
@@ -23,14 +24,6 @@ all_reversed P [] all = All-nil P
 all_reversed P (x ∷ xs) all =
     let parts = split_all P (reverse xs) (x ∷ []) (subst (All P) (reverse_cons x xs) all) in
     All-cons P x xs (All-head P x [] parts.1) (all_reversed P xs parts.0)
-
--- the first stands so to all after it, and those to one another
-pair_parts : {A : Type 0} (R : A → A → Type 0) (x : A) (xs : List A) → AllPairs R (x ∷ xs) → All
-    (R x) xs × AllPairs R xs
-pair_parts R x xs up = (
-  λ k d below. up 0 (suc k) d (omega arith) (omega (arith, below)),
-  λ i j d before within. up (suc i) (suc j) d (omega (arith, before)) (omega (arith, within)),
-)
 
 -- of two lists one after the other, each of the first stands so to each of the second
 pub pairs_across : {A : Type 0} (R : A → A → Type 0) (xs ys zs ws : List A) (y z : A)

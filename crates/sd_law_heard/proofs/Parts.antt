@@ -1,5 +1,5 @@
 -- The parts of a message tell it.
-use Rattle.std.proofs.Common.{◌≡◌, ℕ, ◌<◌, ◌≤◌, Bool, true, false, not, nat_le, nat_lt}
+use Rattle.std.proofs.Common.{◌≡◌, ℕ, ◌<◌, ◌≤◌, Bool, true, false, not, nat_le, nat_lt, eq-eqb}
 use Rattle.std.proofs.Common.{List, [], ◌∷◌, ◌++◌, length, take, drop, get_or, Some, None, if◌then◌else◌}
 use Rattle.std.proofs.Common.{refl, sym, ap, subst, ◌∙◌, arith, append_assoc, append-nil, length-append}
 use Rattle.std.specs.Prelude.{slice_get, All, Contains, flat_map, reverse}
@@ -11,6 +11,7 @@ use Rattle.std.proofs.lemmas.Option.{slice_get-get_or}
 use Rattle.std.proofs.lemmas.List.Concat.{flat_map-append}
 use Rattle.std.proofs.lemmas.List.Elements.{All-head, Contains-get_or}
 use Rattle.std.proofs.lemmas.List.Folds.{list_any_none}
+use Rattle.sd_base.proofs.Lists.{equal_bytes}
 use Rattle.sd_message.specs.Pieces.{pieces_for}
 use Rattle.sd_ecm.specs.Spelled.{listed_places}
 use Rattle.sd_ecm.specs.Form.{AreAscending}
@@ -21,7 +22,6 @@ use Rattle.sd_ecm.proofs.Sharing.{all_are_of, as_many, joined_are_all, number_is
 use Rattle.sd_spec_receiver.specs.Stretches.{message_told}
 use Rattle.sd_spec_receiver.specs.Offered.{same_header, is_after, part_fault}
 use Rattle.sd_law_heard.specs.Parts.{IsPartBetween}
-use Rattle.sd_law_heard.proofs.Alike.{same_number, same_bytes}
 use Rattle.sd_law_heard.proofs.Lists.{split_all, reverse_cons, all_reversed, pairs_across}
 
 -- two parts of a message have the same header
@@ -35,15 +35,15 @@ headers_same : (message : Message) (a b : EcmPart) → IsOfMessage message a →
     same_header a b ≡ true
 headers_same message a b p q =
     rw (
-      same_number a.version b.version (p.version ∙ sym q.version),
-      same_number a.since b.since (p.since ∙ sym q.since),
-      same_number a.period b.period (p.period ∙ sym q.period),
-      same_number a.word b.word (p.word ∙ sym q.word),
-      same_number a.clear b.clear (p.clear ∙ sym q.clear),
+      eq-eqb a.version b.version (p.version ∙ sym q.version),
+      eq-eqb a.since b.since (p.since ∙ sym q.since),
+      eq-eqb a.period b.period (p.period ∙ sym q.period),
+      eq-eqb a.word b.word (p.word ∙ sym q.word),
+      eq-eqb a.clear b.clear (p.clear ∙ sym q.clear),
       same_flags a.closing b.closing (p.closing ∙ sym q.closing),
-      same_number a.last_part b.last_part (p.last_part ∙ sym q.last_part),
-      same_bytes a.wrapped b.wrapped (p.wrapped ∙ sym q.wrapped),
-      same_bytes a.check b.check (p.check ∙ sym q.check),
+      eq-eqb a.last_part b.last_part (p.last_part ∙ sym q.last_part),
+      equal_bytes a.wrapped b.wrapped (p.wrapped ∙ sym q.wrapped),
+      equal_bytes a.check b.check (p.check ∙ sym q.check),
     ) refl
 
 -- a part stands after those before it

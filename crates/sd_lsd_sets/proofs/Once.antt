@@ -13,9 +13,8 @@ use Rattle.sd_tree.specs.declared.set.SetName.{SetName}
 use Rattle.sd_tree.specs.declared.set.SetName.TheVariants.{Whole, Diff}
 use Rattle.sd_tree.proofs.Levels.{doubled}
 use Rattle.sd_tree.proofs.Ancestors.{depth_within, properly_above_by_levels}
-use Rattle.sd_tree.proofs.Members.{count_below, count_pair, count_whole, lower_is_node, upper_is_node}
+use Rattle.sd_tree.proofs.Members.{count_below, count_pair, count_whole, lower_is_node, upper_is_node, member_within}
 use Rattle.sd_steiner.proofs.Lists.{counted_some}
-use Rattle.std.proofs.lemmas.Bool.{and_parts, ltb-true}
 
 -- a set of the tree has a leaf
 some_member : (d : ℕ) (name : SetName) → d ≤ 20 → IsOfHeight d name → 1 ≤ length (members d name)
@@ -36,11 +35,6 @@ some_member d (Diff i j) low pair =
       pow_mono {i = d - depth j + 1} {j = d - depth i} (omega arith),
       pow_mono {i = 0} {j = d - depth j} (omega arith),
     )
-
--- a leaf of a set is a leaf of the tree
-member_within : (d : ℕ) (name : SetName) (u : ℕ) → is_member d name u ≡ true → u < 2 ^ d
-member_within d Whole u is = ltb-true u (2 ^ d) is
-member_within d (Diff i j) u is = ltb-true u (2 ^ d) (and_parts _ _ is).0
 
 -- the first leaf of a set
 has_member : (d : ℕ) (name : SetName) → d ≤ 20 → IsOfHeight d name
