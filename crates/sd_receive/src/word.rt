@@ -4,9 +4,8 @@ ghost use Rattle.sd_spec_receiver.specs.Offered.{word_fault};
 ghost use Rattle.sd_receive.specs.Held.{word_under};
 
 use sd_ecm::EcmHead;
-use sd_label::check_value;
 use sd_spec_receiver::StreamFault;
-use sd_wrap::wrap;
+use sd_wrap::unwrap_checked;
 
 /// The control word of a complete message, under the key of its period if that is known. `WrongWord` if its check value
 /// isn't the one in the message; `number` is the packet that completes it.
@@ -23,16 +22,13 @@ pub fn word_of(
     let Some(key) = key else {
         return Ok(None);
     };
-    let word = wrap(&key, u64::from(head.word), &head.wrapped);
-    let found = check_value(&word);
-    if found == head.check {
-        Ok(Some(word))
-    } else {
-        Err(StreamFault::WrongWord {
+    match unwrap_checked(&key, u64::from(head.word), &head.wrapped, &head.check) {
+        Ok(word) => Ok(Some(word)),
+        Err(found) => Err(StreamFault::WrongWord {
             packet: number,
             word: head.word,
             found,
             due: head.check,
-        })
+        }),
     }
 }

@@ -40,14 +40,14 @@ pub no_key_found : (card : CardFields) (emm : Emm) → find (has_leaf card.heigh
 unfolding key_from
 no_key_found card emm found = ap (option_map (λ (e : Entry). wrapped (card_key card e.name) emm.period e.wrapped)) found
 
--- an entry that is the first with the leaf gives the key
-pub found_gives : (card : CardFields) (emm : Emm) (items : List Entry) (i n : ℕ) (d : Entry) (key result : List ℕ) →
+-- an entry that is the first with the leaf gives the key, once it is unwrapped
+pub found_gives : (card : CardFields) (emm : Emm) (items : List Entry) (i : ℕ) (d : Entry) (key : List ℕ) →
     items ≡ listed_entries emm →
-    n ≡ emm.period → i < length items → find (has_leaf card.height card.leaf) (drop i (listed_entries emm))
+    i < length items → find (has_leaf card.height card.leaf) (drop i (listed_entries emm))
     ≡ find (has_leaf card.height card.leaf) (listed_entries emm) →
     (has_leaf card.height card.leaf (get_or items i d) ≡ false → ⊥) → key ≡ card_key card (get_or items i d).name →
-    result ≡ wrapped key n (get_or items i d).wrapped → Some result ≡ key_from card emm
-found_gives card emm items i n d key result same number small rest has key_is result_is =
+    Some (wrapped key emm.period (get_or items i d).wrapped) ≡ key_from card emm
+found_gives card emm items i d key same small rest has key_is =
     let entry : Entry = get_or items i d in
     let there : has_leaf card.height card.leaf entry ≡ true = true_from_ne_false
     (has_leaf card.height card.leaf entry) has in
@@ -55,8 +55,7 @@ found_gives card emm items i n d key result same number small rest has key_is re
     found_here card.height card.leaf i items d small there in
     let first : find (has_leaf card.height card.leaf) (listed_entries emm) ≡ Some entry =
     sym rest ∙ (ap (λ (l : List Entry). find (has_leaf card.height card.leaf) (drop i l)) (sym same) ∙ found) in
-    ap Some (result_is ∙ (ap (λ (k : List ℕ). wrapped k n entry.wrapped) key_is
-    ∙ ap (λ (m : ℕ). wrapped (card_key card entry.name) m entry.wrapped) number)) ∙ sym (key_found card emm entry first)
+    ap (λ (k : List ℕ). Some (wrapped k emm.period entry.wrapped)) key_is ∙ sym (key_found card emm entry first)
 
 pub none_gives : (card : CardFields) (emm : Emm) (items : List Entry) (i : ℕ) → items ≡ listed_entries emm →
     length items ≤ i →

@@ -2,7 +2,7 @@ use Rattle.std.proofs.Common.{◌≡◌, drop}
 use Rattle.std.specs.Prelude.{find}
 use Rattle.sd_emm.specs.Spelled.{listed_entries}
 use Rattle.sd_receive_emm.proofs.Finding.{has_leaf}
-use Rattle.sd_receive_emm.proofs.key.key_in.Given as goal
+use Rattle.sd_receive_emm.proofs.key.wrapped_key_in.Given as goal
 
 abbrev pub invariant-loop-entry : goal.invariant-loop-entry
 invariant-loop-entry g l = record {
