@@ -1,10 +1,9 @@
 -- Public meaning: the card of a receiver, and the file that it is kept in.
-use Rattle.std.specs.Prelude.{◌≡◌, ℕ, ◌+◌, ◌*◌, ◌/◌, ◌^◌, ◌<◌, ◌≤◌, List, ◌∷◌, ◌++◌, length, map, codes}
-use Rattle.byteorder.specs.Endian.{big_bytes}
+use Rattle.std.specs.Prelude.{◌≡◌, ℕ, ◌+◌, ◌*◌, ◌/◌, ◌^◌, ◌<◌, ◌≤◌, List, [], ◌∷◌, length, map, codes}
 use Rattle.sd_tree.specs.Limits.{highest}
 use Rattle.sd_tree.specs.declared.set.SetName.{SetName}
 use Rattle.sd_label.specs.Names.{given}
-use Rattle.sd_card_secrets.specs.Files.{AreSecrets, file_bytes}
+use Rattle.sd_card_secrets.specs.Files.{AreSecrets, head_of, file_bytes}
 use Rattle.sd_card_secrets.specs.Secrets.{secret_of, DerivesKey, key_held}
 use Rattle.sd_card.specs.declared.card.Card.{Card}
 
@@ -46,7 +45,7 @@ card_of master ca d u = saying d u ca (map (secret_of master) (given d u))
 
 -- a card's file before its secrets [this project, docs/FORMATS.md, Card]
 unfoldable pub card_head : ℕ → ℕ → ℕ → List ℕ
-card_head d u ca = card_magic ++ (card_version ∷ d ∷ (big_bytes 4 u ++ big_bytes 2 ca))
+card_head d u ca = head_of card_magic (card_version ∷ d ∷ []) u ca
 
 -- a card's file: its head, its secrets, and the check at its end [this project, docs/FORMATS.md, Card]
 unfoldable pub card_bytes : CardFields → List ℕ

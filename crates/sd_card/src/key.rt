@@ -8,8 +8,7 @@ ghost use Rattle.sd_card.specs.Fields.{fields_of, card_of, card_key, CardDerives
 use crate::card::Card;
 use crate::place::place;
 use sd_base::Steps;
-use sd_card_secrets::hanging_above;
-use sd_label::{Label, descend, middle};
+use sd_card_secrets::{hanging_above, key_below};
 use sd_tree::{SetName, contains, depth};
 use std::sync::ledger::Ledger;
 
@@ -46,7 +45,11 @@ impl Card {
         ensures steps { (steps.old ≤ steps.new) × (steps.new ≤ steps.old + self.now.height) }
     {
         let held = hanging_above(self.height, self.leaf, j);
-        let label = Label(self.secrets[place(self.height, depth(i), depth(held))]);
-        middle(&descend(&label, held, j, steps), steps)
+        key_below(
+            &self.secrets[place(self.height, depth(i), depth(held))],
+            held,
+            j,
+            steps,
+        )
     }
 }

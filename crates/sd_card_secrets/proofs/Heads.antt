@@ -10,7 +10,7 @@ use Rattle.std.proofs.lemmas.Option.{none-some}
 use Rattle.byteorder.specs.Endian.{big_bytes, big_number}
 use Rattle.sd_bits.proofs.Endian.{two_again, four_again, number_again}
 use Rattle.sd_card_secrets.specs.Files.{AreSecrets, AreKept, byte_at, bytes_from, number_in, check_of, check_in}
-use Rattle.sd_card_secrets.specs.Files.{check_due, file_body, file_bytes}
+use Rattle.sd_card_secrets.specs.Files.{check_due, head_of, file_body, file_bytes}
 use Rattle.sd_card_secrets.proofs.Written.{AreBytes, bytes_at, cut_bytes, kept_count, file_said, file_length}
 use Rattle.sd_card_secrets.proofs.Written.{check_written}
 
@@ -39,9 +39,10 @@ two_within : (bytes : List ℕ) (k : ℕ) → AreBytes bytes → number_in bytes
 unfolding number_in
 two_within bytes k fits = omega (arith, fits k, fits (suc k))
 
--- the head of a file with this start and these fields
-abbrev pub head_of : List ℕ → List ℕ → ℕ → ℕ → List ℕ
-head_of magic fields leaf ca = magic ++ (fields ++ (big_bytes 4 leaf ++ big_bytes 2 ca))
+-- the parts of a head, one after the other
+pub head_joined : (magic fields four two : List ℕ)
+    → ((magic ++ fields) ++ four) ++ two ≡ magic ++ (fields ++ (four ++ two))
+head_joined magic fields four two = append_assoc (magic ++ fields) four two ∙ append_assoc magic fields (four ++ two)
 
 -- bytes with this start and these n fields have the head that says so, and the numbers after the fields
 head_said : (bytes magic fields : List ℕ) (n : ℕ) → AreBytes bytes → magic ≡ take 4 bytes

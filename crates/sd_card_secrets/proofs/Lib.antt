@@ -5,3 +5,4 @@ pub mod Written
 pub mod Heads
 pub mod Once
 pub mod Held
+pub mod Keys

@@ -1,8 +1,10 @@
 -- The secrets of a leaf, as they are made.
 use Rattle.std.proofs.Common.{ℕ, zero, suc, ◌+◌, ◌-◌, ◌/◌, ◌^◌, ◌<◌, ◌≤◌, ◌≡◌, List, [], ◌∷◌, ◌++◌, take, map, sym, length}
-use Rattle.std.proofs.Common.{refl, ap, ◌∙◌, append_assoc, arith}
-use Rattle.std.specs.List.{range_with_len}
+use Rattle.std.proofs.Common.{refl, ap, ◌∙◌, append_assoc, add-one, arith}
+use Rattle.std.specs.List.{range_with_len, flat_map}
 use Rattle.std.proofs.Math.Pow.{shr-shr}
+use Rattle.std.proofs.lemmas.List.{append-nil, map-append}
+use Rattle.std.proofs.lemmas.List.Concat.{flat_map-cons}
 use Rattle.std.proofs.lemmas.List.FromFn.{map-range_with_len_more}
 use Rattle.sha2.proofs.Facts256.{length-sha256}
 use Rattle.sd_tree.specs.Node.{depth, IsAbove}
@@ -84,6 +86,39 @@ labels_given master d u a n le =
     ∙ ap (map (secret_of master))
     (sym (first_values (λ b. Pair (path_node d u a) (sibling_of (path_node d u b))) (a + 1) n (d - a)
     (omega arith)))
+
+-- ---- the secrets of all ancestors
+
+-- the lists of one number more
+lists_more : {X : Type 0} (f : ℕ → List X) (a k : ℕ)
+    → flat_map f (range_with_len a (suc k)) ≡ flat_map f (range_with_len a k) ++ f (a + k)
+lists_more f a zero = let e : a + 0 ≡ a = omega arith in rw (flat_map-cons f a [], e) (append-nil (f a))
+lists_more f a (suc k) =
+    let e : a + 1 + k ≡ a + suc k = omega arith in
+    let rest = rw e at (lists_more f (a + 1) k) in
+    rw (
+      flat_map-cons f a (range_with_len (a + 1) (suc k)),
+      flat_map-cons f a (range_with_len (a + 1) k),
+      rest,
+    ) (sym (append_assoc (f a) (flat_map f (range_with_len (a + 1) k)) (f (a + suc k))))
+
+-- the whole set, and of the pairs of each of the first k ancestors as many as n says
+abbrev pub names_first : (ℕ → ℕ) → ℕ → ℕ → ℕ → List Name
+names_first n d u k = Whole ∷ flat_map (λ a. take (n a) (given_under d u a)) (range_with_len 0 k)
+
+-- the first secret alone
+pub secrets_first : (master : List ℕ) (n : ℕ → ℕ) (d u : ℕ)
+    → whole_key_of master ∷ [] ≡ map (secret_of master) (names_first n d u 0)
+unfolding secret_of
+secrets_first master n d u = refl
+
+-- the secrets of one ancestor more
+pub secrets_more : (master : List ℕ) (n : ℕ → ℕ) (d u k : ℕ) → map (secret_of master) (names_first n d u k)
+    ++ map (secret_of master) (take (n k) (given_under d u k)) ≡ map (secret_of master) (names_first n d u (k + 1))
+secrets_more master n d u k =
+    let e : 0 + k ≡ k = omega arith in
+    let more = rw e at (lists_more (λ a. take (n a) (given_under d u a)) 0 k) in
+    rw add-one (rw more (sym (map-append (secret_of master) (names_first n d u k) (take (n k) (given_under d u k)))))
 
 -- a child's label has the length of a hash
 length_third : (side : Side) (label : List ℕ) → length (third_of side label) ≡ 32

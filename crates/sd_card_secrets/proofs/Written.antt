@@ -7,7 +7,7 @@ use Rattle.std.proofs.lemmas.List.{take-take}
 use Rattle.std.proofs.Math.Seq.{take-add, drop-cons}
 use Rattle.sha2.specs.Sha256.{sha256}
 use Rattle.sha2.proofs.Facts256.{length-sha256}
-use Rattle.sd_card_secrets.specs.Files.{AreSecrets, AreKept, bytes_from, number_in, check_of, check_in, check_due}
+use Rattle.sd_card_secrets.specs.Files.{AreSecrets, AreKept, bytes_from, check_of, check_in, check_due}
 use Rattle.sd_card_secrets.specs.Files.{file_body, file_bytes, unless}
 use Rattle.sd_card_secrets.proofs.Joined.{concat_more, length_joined, joined_once}
 

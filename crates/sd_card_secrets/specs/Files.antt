@@ -2,7 +2,7 @@
 use Rattle.std.specs.Prelude.{◌≡◌, ◌-◌, ◌*◌, ◌/◌, ℕ, zero, suc, Bool, true, false, List, [], ◌∷◌, ◌++◌, length, take}
 use Rattle.std.specs.Prelude.{drop, get_or, Option, Some}
 use Rattle.std.specs.List.{AllByRecursion, concat}
-use Rattle.byteorder.specs.Endian.{big_number}
+use Rattle.byteorder.specs.Endian.{big_number, big_bytes}
 use Rattle.sha2.specs.Sha256.{sha256}
 use Rattle.sd_card_secrets.specs.declared.file.TheConstants.{SECRET_BYTES, CHECK_BYTES}
 
@@ -26,6 +26,11 @@ number_in bytes k n = big_number n (bytes_from bytes k n)
 -- the check of bytes: the first 16 bytes of their hash [FIPS 180-4; this project, docs/FORMATS.md, Card]
 unfoldable pub check_of : List ℕ → List ℕ
 check_of body = take CHECK_BYTES (sha256 body)
+
+-- the head of a card's file: the bytes that say what it is, fields of a byte each, the leaf and the conditional access
+-- system [this project, docs/FORMATS.md, Card]
+abbrev pub head_of : List ℕ → List ℕ → ℕ → ℕ → List ℕ
+head_of magic fields leaf ca = magic ++ (fields ++ (big_bytes 4 leaf ++ big_bytes 2 ca))
 
 -- a file before its check: a head, and the secrets one after the other [this project, docs/FORMATS.md, Card]
 unfoldable pub file_body : List ℕ → List (List ℕ) → List ℕ

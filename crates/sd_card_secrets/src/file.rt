@@ -1,9 +1,11 @@
 ghost use Rattle.std.specs.Prelude.{◌≡◌, ◌+◌, ◌^◌, ◌<◌, ◌≤◌, ◌++◌, IfOk, OnOk, length};
 ghost use Rattle.byteorder.specs.Endian.{big_bytes};
 ghost use Rattle.sd_card_secrets.specs.Files.{AreSecrets, AreKept, byte_at as byte_of, number_in};
-ghost use Rattle.sd_card_secrets.specs.Files.{check_of as check_of_bytes, check_in, check_due, file_body, file_bytes};
+ghost use Rattle.sd_card_secrets.specs.Files.{check_of as check_of_bytes, check_in, check_due, head_of, file_body};
+ghost use Rattle.sd_card_secrets.specs.Files.{file_bytes};
 
 use byteorder::{BigEndian, ByteOrder};
+use sd_tree::Leaf;
 use sha2::{Digest, Sha256};
 use std::alloc::{AllocError, Global};
 
@@ -43,8 +45,8 @@ pub fn four_at(bytes: &[u8], k: usize) -> u32
     ])
 }
 
-/// The four bytes of a number, the high one first.
-pub fn four_bytes(n: u32) -> [u8; 4]
+// The four bytes of a number, the high one first.
+fn four_bytes(n: u32) -> [u8; 4]
     ensures { result ≡ big_bytes 4 n }
 {
     let mut bytes = [0; 4];
@@ -52,8 +54,8 @@ pub fn four_bytes(n: u32) -> [u8; 4]
     bytes
 }
 
-/// The two bytes of a number, the high one first.
-pub fn two_bytes(n: u16) -> [u8; 2]
+// The two bytes of a number, the high one first.
+fn two_bytes(n: u16) -> [u8; 2]
     ensures value { result ≡ big_bytes 2 n }
     ensures fits { n < 2 ^ 16 }
 {
@@ -100,6 +102,27 @@ pub fn secrets_in(alloc: Global, bytes: &[u8], k: usize) -> Result<Vec<[u8; 32]>
         secrets.push(secret)?;
     }
     Ok(secrets)
+}
+
+/// The head of a card's file: the bytes that say what it is, fields of a byte each, the leaf and the conditional access
+/// system.
+#[tactic(auto, using(crate::proofs::Heads::head_joined))]
+pub fn write_head(
+    alloc: Global,
+    magic: &[u8; 4],
+    fields: &[u8],
+    leaf: Leaf,
+    ca: u16,
+) -> Result<Vec<u8>, AllocError>
+    ensures value { IfOk result (λ bytes. bytes.items ≡ head_of magic.now fields.now leaf ca) }
+    ensures fits { IfOk result (λ _. ca < 2 ^ 16) }
+{
+    let mut bytes = Vec::new(alloc);
+    bytes.extend_from_slice(magic)?;
+    bytes.extend_from_slice(fields)?;
+    bytes.extend_from_slice(&four_bytes(leaf.get()))?;
+    bytes.extend_from_slice(&two_bytes(ca))?;
+    Ok(bytes)
 }
 
 /// The file with this head and these secrets: its check stands at its end.

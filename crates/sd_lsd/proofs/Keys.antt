@@ -1,24 +1,21 @@
 -- The keys that a layer card gives.
 use Rattle.std.proofs.Common.{ℕ, ◌+◌, ◌-◌, ◌^◌, ◌<◌, ◌≤◌, ◌≡◌, ◌≢◌, true, List, refl, sym, subst, ◌∙◌, arith}
-use Rattle.std.specs.Prelude.{slice_get, [], Some}
-use Rattle.std.proofs.lemmas.Option.{get_or_from_slice_get}
+use Rattle.std.specs.Prelude.{slice_get, Some}
 use Rattle.std.proofs.lemmas.List.Kept.{AllPairs-filter}
 use Rattle.sd_tree.specs.Node.{depth}
 use Rattle.sd_tree.specs.SetNames.{IsPair, IsOfHeight}
 use Rattle.sd_tree.specs.declared.set.SetName.{SetName}
 use Rattle.sd_tree.specs.declared.set.SetName.TheVariants.{Whole as WholeSet, Diff}
 use Rattle.sd_tree.specs.Leaves.{is_member}
-use Rattle.sd_tree.proofs.Ancestors.{above_le}
-use Rattle.sd_tree.proofs.Members.{member_of_pair}
 use Rattle.sd_label.specs.Keys.{key_of}
 use Rattle.sd_label.specs.Names.{given}
 use Rattle.sd_label.specs.declared.name.Name.TheVariants.{Pair}
 use Rattle.sd_label.proofs.Pairs.{given_is_hanging}
 use Rattle.sd_card_secrets.specs.Hanging.{IsHanging}
-use Rattle.sd_card_secrets.specs.Secrets.{secret_of, HoldsSecret, DerivesPair, key_held}
-use Rattle.sd_card_secrets.proofs.Held.{AreOfLeaf, derived_is_among, own_among}
+use Rattle.sd_card_secrets.specs.Secrets.{secret_of, HoldsSecret, key_held}
+use Rattle.sd_card_secrets.proofs.Held.{AreOfLeaf, own_among}
+use Rattle.sd_card_secrets.proofs.Keys.{pair_node, hangs_below, held_at}
 use Rattle.sd_card_secrets.proofs.Once.{given_once}
-use Rattle.sd_card_secrets.proofs.Paths.{node_within, ancestor_on_path}
 use Rattle.sd_lsd_sets.specs.Layers.{is_useful}
 use Rattle.sd_lsd_sets.proofs.Layers.{useful_upwards}
 use Rattle.sd_lsd.specs.LayerNames.{layer_given, is_useful_name, pairs_under, pairs_above}
@@ -33,9 +30,8 @@ pub hangs_within : (d w u i j x : ℕ) → d ≤ 20 → u < 2 ^ d → IsPair d i
     → is_member d (Diff i j) u ≡ true → IsHanging d u j x
     → (depth i < depth x) × (depth x - depth i ≤ pairs_under d w (depth i))
 hangs_within d w u i j x low leaf pair useful member hanging =
-    let beside = (member_of_pair d i j u low pair leaf).0 member in
     let up = useful_upwards w i j x hanging.levels.1 useful in (
-      hanging.below i pair.inner.0 pair.above.0 beside.0,
+      hangs_below d u i j x low leaf pair member hanging,
       useful_within d w i x up (omega (arith, hanging.levels.1, hanging.levels.2)),
     )
 
@@ -43,24 +39,16 @@ hangs_within d w u i j x low leaf pair useful member hanging =
 abbrev pub place_of : ℕ → ℕ → ℕ → ℕ → ℕ
 place_of d w a b = pairs_above d w a + (b - a)
 
--- the secret at the place of a pair is held for it
-pub held_at : (d w u i j x k : ℕ) (secrets : List (List ℕ)) (label : List ℕ) → d ≤ 20 → u < 2 ^ d → IsPair d i j
+-- the secret at that place is held for the pair
+pub pair_held : (d w u i j x k : ℕ) (secrets : List (List ℕ)) (label : List ℕ) → d ≤ 20 → u < 2 ^ d → IsPair d i j
     → is_useful w (Diff i j) ≡ true → is_member d (Diff i j) u ≡ true → IsHanging d u j x
     → k ≡ place_of d w (depth i) (depth x) → slice_get secrets k ≡ Some label
     → HoldsSecret (layer_given d w u) secrets (Pair i x) label
-held_at d w u i j x k secrets label low leaf pair useful member hanging place held =
-    let beside = (member_of_pair d i j u low pair leaf).0 member in
+pair_held d w u i j x k secrets label low leaf pair useful member hanging place held =
     let within = hangs_within d w u i j x low leaf pair useful member hanging in
-    let upper = ancestor_on_path d u i low leaf pair.inner.0 beside.0 in
     let there = pair_at d w u (depth i) (depth x) low leaf within.0
     (omega (arith, hanging.levels.1, hanging.levels.2)) within.1 in
-    (k, rw place (rw (← hanging.sibling) at (rw upper at there)), held)
-
--- the lower node of a pair is a node of 32 bits
-pair_node : (d i j : ℕ) → d ≤ 20 → IsPair d i j → (1 ≤ j) × (j < 2 ^ 32)
-pair_node d i j low pair =
-    let le = above_le i j pair.above.0 in
-    (omega (arith, pair.inner.0), node_within d j low pair.node)
+    held_at d u i j x k (layer_given d w u) secrets label low leaf pair member hanging (rw place there) held
 
 -- the names that a leaf is given in layers are of it, each once
 pub given_of_leaf : (d w u : ℕ) → d ≤ 20 → u < 2 ^ d → AreOfLeaf d u (layer_given d w u)
@@ -71,23 +59,6 @@ given_of_leaf d w u low leaf = record {
   differ = AllPairs-filter (λ a b. a ≢ b) (is_useful_name w) (given d u) (given_once d u leaf);
   given = λ i x held. given_is_hanging d u i x leaf (from_filter (is_useful_name w) (given d u) (Pair i x) held).0;
 }
-
--- what a layer card derives for a pair is the key that it gives
-pub derived_is_key : (card : LayerFields) (i j : ℕ) (key : List ℕ) (taken : ℕ) → card.height ≤ 20
-    → card.leaf < 2 ^ card.height → IsPair card.height i j
-    → DerivesPair (layer_given card.height card.width card.leaf) card.secrets i j key taken
-    → key ≡ layer_key card (Diff i j)
-unfolding key_held
-derived_is_key card i j key taken low leaf pair derives =
-    let node = pair_node card.height i j low pair in
-    derived_is_among card.height card.leaf i j (layer_given card.height card.width card.leaf) card.secrets key taken
-    (given_of_leaf card.height card.width card.leaf low leaf) node.0 node.1 derives
-
--- a layer card's first secret is the key that it gives for the whole set
-pub first_is_key : (card : LayerFields) (key : List ℕ) → slice_get card.secrets 0 ≡ Some key
-    → key ≡ layer_key card WholeSet
-unfolding key_held
-first_is_key card key is = sym (get_or_from_slice_get card.secrets 0 key [] is)
 
 -- the layer card of a leaf gives the key of each useful set that the leaf is in
 pub made_gives_key : (master : List ℕ) (ca d w u : ℕ) (name : SetName) → d ≤ 20 → u < 2 ^ d → IsOfHeight d name

@@ -1,9 +1,8 @@
 -- Public meaning: the layer card of a receiver, and the file that it is kept in.
-use Rattle.std.specs.Prelude.{◌≡◌, ℕ, ◌+◌, ◌^◌, ◌<◌, ◌≤◌, List, ◌∷◌, ◌++◌, length, map, codes}
-use Rattle.byteorder.specs.Endian.{big_bytes}
+use Rattle.std.specs.Prelude.{◌≡◌, ℕ, ◌+◌, ◌^◌, ◌<◌, ◌≤◌, List, [], ◌∷◌, length, map, codes}
 use Rattle.sd_tree.specs.Limits.{highest}
 use Rattle.sd_tree.specs.declared.set.SetName.{SetName}
-use Rattle.sd_card_secrets.specs.Files.{AreSecrets, file_bytes}
+use Rattle.sd_card_secrets.specs.Files.{AreSecrets, head_of, file_bytes}
 use Rattle.sd_card_secrets.specs.Secrets.{secret_of, DerivesKey, key_held}
 use Rattle.sd_lsd.specs.LayerNames.{layer_given, layer_count}
 use Rattle.sd_lsd.specs.declared.card.LayerCard.{LayerCard}
@@ -49,7 +48,7 @@ layer_card_of master ca d w u = saying d w u ca (map (secret_of master) (layer_g
 
 -- a layer card's file before its secrets [this project, docs/FORMATS.md, Layer card]
 unfoldable pub layer_head : ℕ → ℕ → ℕ → ℕ → List ℕ
-layer_head d w u ca = layer_magic ++ (layer_version ∷ d ∷ w ∷ (big_bytes 4 u ++ big_bytes 2 ca))
+layer_head d w u ca = head_of layer_magic (layer_version ∷ d ∷ w ∷ []) u ca
 
 -- a layer card's file: its head, its secrets, and the check at its end [this project, docs/FORMATS.md, Layer card]
 unfoldable pub layer_bytes : LayerFields → List ℕ

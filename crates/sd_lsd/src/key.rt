@@ -9,8 +9,7 @@ ghost use Rattle.sd_lsd.specs.Fields.{fields_of, layer_card_of, layer_key, Layer
 use crate::card::LayerCard;
 use crate::counts;
 use sd_base::Steps;
-use sd_card_secrets::hanging_above;
-use sd_label::{Label, descend, middle};
+use sd_card_secrets::{hanging_above, key_below};
 use sd_tree::{SetName, contains, depth};
 use std::sync::ledger::Ledger;
 
@@ -50,8 +49,12 @@ impl LayerCard {
         ensures steps { (steps.old ≤ steps.new) × (steps.new ≤ steps.old + self.now.height) }
     {
         let held = hanging_above(self.height, self.leaf, j);
-        let label = Label(self.secrets[self.place(depth(i), depth(held))]);
-        middle(&descend(&label, held, j, steps), steps)
+        key_below(
+            &self.secrets[self.place(depth(i), depth(held))],
+            held,
+            j,
+            steps,
+        )
     }
 
     // The place of the pair of an ancestor and a hanging node, at these depths, among the names that the leaf is given.

@@ -1,9 +1,10 @@
 use Rattle.std.proofs.Common.{rules, ◌≡◌, ◌≤◌, ◌++◌, ◌∙◌, ◌∷◌, [], List, ℕ, map, length, ap, arith}
 use Rattle.std.proofs.lemmas.List.{length-map}
 use Rattle.sd_card_secrets.specs.Secrets.{secret_of}
-use Rattle.sd_lsd.specs.LayerNames.{layer_given}
+use Rattle.sd_card_secrets.proofs.Made.{secrets_first, secrets_more}
+use Rattle.sd_lsd.specs.LayerNames.{layer_given, pairs_under}
 use Rattle.sd_lsd.proofs.Given.{useful_under, length_layer_given}
-use Rattle.sd_lsd.proofs.Made.{secrets_first, secrets_more, secrets_all}
+use Rattle.sd_lsd.proofs.Made.{secrets_all}
 use Rattle.sd_lsd.proofs.make.secrets.Goals as goal
 
 pub returns : goal.returns
@@ -30,7 +31,8 @@ loop-depth-init g c =
     c.in_ok-push.ensures.items
     ∙ (ap (λ (xs : List (List ℕ)). xs ++ c.whole_key.result ∷ []) c.in_ok-secrets.ensures.items
     ∙ (ap (λ (x : List ℕ). x ∷ []) c.whole_key.ensures
-    ∙ secrets_first c.args.site.now.master c.args.site.now.height c.args.w c.args.u))
+    ∙ secrets_first c.args.site.now.master (pairs_under c.args.site.now.height c.args.w) c.args.site.now.height
+    c.args.u))
 
 pub loop-depth-preserved : goal.loop-depth-preserved
 loop-depth-preserved g c =
@@ -40,4 +42,4 @@ loop-depth-preserved g c =
     added
     ∙ (ap (λ (xs : List (List ℕ)). xs ++ map (secret_of site.master) (useful_under site.height c.args.w c.args.u k))
     c.loop-depth.invariant
-    ∙ secrets_more site.master site.height c.args.w c.args.u k)
+    ∙ secrets_more site.master (pairs_under site.height c.args.w) site.height c.args.u k)

@@ -3,8 +3,10 @@ use Rattle.std.specs.Prelude.{slice_get, Some, true}
 use Rattle.std.proofs.lemmas.Option.{slice_get_read}
 use Rattle.sd_tree.specs.Leaves.{is_member}
 use Rattle.sd_tree.specs.SetNames.{IsPair}
+use Rattle.sd_label.specs.Names.{given}
+use Rattle.sd_card_secrets.proofs.Keys.{derived_is_held, first_is_held}
 use Rattle.sd_card.specs.Fields.{fields_of}
-use Rattle.sd_card.proofs.Keys.{derived_is_key, first_is_key, own_gives_key}
+use Rattle.sd_card.proofs.Keys.{given_of_leaf, own_gives_key}
 use Rattle.sd_card.proofs.card.Card.key_for.Goals as goal
 
 -- the key of a pair
@@ -12,17 +14,18 @@ pub returns-in-Diff-clause-value : goal.returns-in-Diff-clause-value
 returns-in-Diff-clause-value g c =
     let card = c.args.self.now in
     let pair : IsPair card.height c.in-Diff.i c.in-Diff.j = rw c.in-Diff.is at c.requires in
-    rw c.in-Diff.is (derived_is_key (fields_of card) c.in-Diff.i c.in-Diff.j c.pair_key.result _ card.height_in.1
-    card.leaf_in pair c.pair_key.ensures.sound)
+    rw c.in-Diff.is (derived_is_held card.height card.leaf c.in-Diff.i c.in-Diff.j
+    (given card.height card.leaf) card.secrets.items c.pair_key.result _
+    (given_of_leaf card.height card.leaf card.height_in.1 card.leaf_in) pair c.pair_key.ensures.sound)
 
 -- the key of the whole set
 pub returns-in-Whole-clause-value : goal.returns-in-Whole-clause-value
 returns-in-Whole-clause-value g c =
-    let secrets = c.args.self.now.secrets.items in
-    let some : 0 < length secrets = omega (arith, c.args.self.now.count) in
-    let first : slice_get secrets 0 ≡ Some c.index.result.now =
-    slice_get_read secrets _ 0 c.index.result.now refl some c.index.ensures in
-    rw c.in-Whole.is (first_is_key (fields_of c.args.self.now) c.index.result.now first)
+    let card = c.args.self.now in
+    let some : 0 < length card.secrets.items = omega (arith, card.count) in
+    let first : slice_get card.secrets.items 0 ≡ Some c.index.result.now =
+    slice_get_read card.secrets.items _ 0 c.index.result.now refl some c.index.ensures in
+    rw c.in-Whole.is (first_is_held (given card.height card.leaf) card.secrets.items c.index.result.now first)
 
 pub returns-in-Diff-clause-made : goal.returns-in-Diff-clause-made
 returns-in-Diff-clause-made g c master ca own =

@@ -1,10 +1,11 @@
-use Rattle.std.proofs.Common.{◌≡◌, sym, ap, ◌∙◌, arith}
+use Rattle.std.proofs.Common.{◌≡◌, sym, arith}
 use Rattle.std.specs.Prelude.{slice_get, Some}
 use Rattle.std.proofs.lemmas.Option.{slice_get_read}
 use Rattle.sd_tree.specs.Node.{depth}
 use Rattle.sd_tree.proofs.Members.{member_of_pair}
-use Rattle.sd_label.specs.Labels.{middle_of}
-use Rattle.sd_card.proofs.Keys.{place_of, hangs_below, held_at}
+use Rattle.sd_label.specs.Names.{given}
+use Rattle.sd_card_secrets.proofs.Keys.{hangs_below}
+use Rattle.sd_card.proofs.Keys.{place_of, pair_held}
 use Rattle.sd_card.proofs.card.Card.pair_key.Goals as goal
 
 pub hanging_above-held-requires-clause-beside : goal.hanging_above-held-requires-clause-beside
@@ -29,12 +30,6 @@ returns-clause-sound g c =
     let held : slice_get card.secrets.items c.place.result ≡ Some c.index.result.now =
     slice_get_read card.secrets.items _ c.place.result c.index.result.now (sym card.count) c.place.ensures.fits
     c.index.ensures in
-    record {
-      node = w;
-      label = c.index.result.now;
-      held = held_at card.height card.leaf c.args.i c.args.j w c.place.result card.secrets.items c.index.result.now
-          card.height_in.1 card.leaf_in c.requires.pair c.requires.member c.hanging_above-held.ensures place held;
-      above = c.hanging_above-held.ensures.above;
-      value = c.middle.ensures.value ∙ ap middle_of c.descend.ensures.value;
-      steps = omega arith;
-    }
+    c.key_below.ensures.sound (given card.height card.leaf) card.secrets.items c.args.i
+    (pair_held card.height card.leaf c.args.i c.args.j w c.place.result card.secrets.items c.index.result.now
+    card.height_in.1 card.leaf_in c.requires.pair c.requires.member c.hanging_above-held.ensures place held)
