@@ -1,6 +1,9 @@
-ghost use Rattle.std.specs.Prelude.{◌≡◌, [], Some, None, Err, IfOk, OnOk, IsErrOf};
+ghost use Rattle.std.specs.Prelude.{◌≡◌, ℕ, [], Some, None, Err, IfOk, OnOk, IsErrOf, true};
 ghost use Rattle.sd_base.specs.Count.{IsCaused};
 ghost use Rattle.sd_engine.specs.Stage.{vessel, HasGrown, IsCutShort, IsAllowed};
+ghost use Rattle.sd_spec_receiver.specs.Heard.{hears};
+ghost use Rattle.sd_receive_filter.specs.Ears.{tuned as tuned_by, heard_as, IsFormed};
+ghost use Rattle.sd_receive_filter.specs.declared.ears.Heard.TheVariants.{Other};
 ghost use Rattle.sd_receive.specs.Receiving.{IsAfter, IsFit, IsLive, Refusing, receiver_does, receiver_ends};
 ghost use Rattle.sd_receive.specs.Receiving.{receiver_refuses};
 
@@ -12,10 +15,13 @@ use sd_card::Card;
 use sd_engine::{Stage, StageFault};
 use sd_packet::Packet;
 use sd_ports::Sink;
-use sd_receive_filter::{cat_tuning, hear};
+use sd_receive_filter::{Heard, Tuning, cat_tuning, hear};
 use sd_spec_receiver::{Ending, StreamFault};
 use std::alloc::Global;
 use std::sync::ledger::Ledger;
+
+// The PID of the CAT [ISO/IEC 13818-1, 2.4.3.3].
+const CAT_PID: u16 = 1;
 
 impl Receiver {
     /// A receiver with this card, before the first packet. All memory that it needs is allocated here: by its layout
@@ -58,22 +64,67 @@ impl Receiver {
             steps.old steps.new) }
         ensures cause { IsCaused (K.faults out.old) (K.faults out.new) (IsErrOf result StageFault.Write) }
     {
-        let number = self.count;
-        self.count = number.saturating_add(1);
         let Some(tuning) = self.tuning else {
+            self.count = self.count.saturating_add(1);
             self.tuning = cat_tuning(self.card.ca(), packet);
             return Ok(());
         };
+        // What is heard takes some 300 bytes, which aren't copied for a packet that is no message, as most are.
+        if is_other(tuning, packet) {
+            return self.take_heard(tuning, packet, &Heard::Other, out, steps);
+        }
         let heard = hear(self.card.height(), tuning, packet);
-        let name = name_of(&heard);
+        self.take_heard(tuning, packet, &heard, out, steps)
+    }
+
+    // Takes the next packet, which was read as `heard`, if none was refused before.
+    fn take_heard<K: Sink, L: Ledger>(
+        &mut self,
+        tuning: Tuning,
+        packet: &Packet,
+        heard: &Heard,
+        out: &mut K,
+        steps: &mut Steps<L>,
+    ) -> Result<(), StageFault<StreamFault>>
+        requires fit { IsFit self.old }
+        requires unrefused { self.old.refusal ≡ None }
+        requires tuned { self.old.tuning ≡ Some tuning }
+        requires heard { (number : ℕ) → heard_as number packet.now heard.now
+            ≡ hears self.old.card.height (tuned_by tuning) number packet.now }
+        requires form { IsFormed self.old.card.height heard.now }
+        ensures value { OnOk result (HasGrown (vessel K.Sink out.old) (vessel K.Sink out.new) steps.old steps.new
+            (receiver_does self.old packet.now self.new)) }
+        ensures ok { OnOk result (IsFit self.new) }
+        ensures unrefused { self.new.refusal ≡ None }
+        ensures fault { (fault : StreamFault) → result ≡ Err (StageFault.Refused fault) →
+            HasGrown (vessel K.Sink out.old) (vessel K.Sink out.new) steps.old steps.new
+            (Refusing self.old packet.now fault) }
+        ensures prefix { IsErrOf result StageFault.Write → IsCutShort (vessel K.Sink out.old) (vessel K.Sink out.new)
+            (IsAllowed (receiver_does self.old packet.now) (receiver_refuses self.old (Some packet.now))
+            steps.old steps.new) }
+        ensures cause { IsCaused (K.faults out.old) (K.faults out.new) (IsErrOf result StageFault.Write) }
+    {
+        let number = self.count;
+        self.count = number.saturating_add(1);
+        let name = name_of(heard);
         self.turn(name);
         if self.listener.closed {
             return Ok(());
         }
         self.name = name.or(self.name);
         self.listener
-            .take(&self.card, number, tuning, packet, &heard, out, steps)
+            .take(&self.card, number, tuning, packet, heard, out, steps)
     }
+}
+
+// Whether a packet is on another PID than those of the CAT and of messages.
+#[tactic(auto, unfolding(sd_spec_receiver::specs::Heard::hears))]
+fn is_other(tuning: Tuning, packet: &Packet) -> bool
+    ensures { result ≡ true → (h number : ℕ) → heard_as number packet.now Other
+        ≡ hears h (tuned_by tuning) number packet.now }
+{
+    let pid = packet.pid();
+    pid != CAT_PID && pid != tuning.emm && pid != tuning.ecm
 }
 
 impl<K: Sink, L: Ledger> Stage<K, L> for Receiver {
