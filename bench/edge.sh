@@ -213,6 +213,17 @@ for pair in "cover S no:sdca: BOOK no: no such file" "card S 5 no/x:sdca: OUT no
     row "${pair%%:*}: explained" is "$(cat err)" "${pair#*:}"
 done
 
+# --- the examples of help, in an order in which each finds the files that it reads
+mkdir shown
+ln -s "$top/examples" shown/examples
+for command in sample accounts apart book card cover field head layered lcard messages opens plan receive show tables \
+    trace trial; do
+    example=$("$program" help "$command" | sed -n 's/^  sdca //p')
+    # shellcheck disable=SC2086 # the arguments of a command
+    (cd shown && "$program" $example) >lines 2>err
+    row "the example of help $command is done" is "$? $(cat err)" "0 "
+done
+
 # --- limits of the machine
 (
     ulimit -f 8

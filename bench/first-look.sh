@@ -77,6 +77,7 @@ receive site.txt broadcast.ts made
 tables broadcast.ts
 tables book.txt
 opens site.txt book.txt pooled.txt
+apart site-1.txt book.txt site-2.txt book.txt
 trace site.txt book.txt pair.txt
 trial site.txt book.txt clear.ts
 E

@@ -117,7 +117,7 @@ exits_of Trial = exits_of_clear_streams
 -- an example of its arguments
 unfoldable pub example_of : Command → List ℕ
 example_of Accounts = codes "accounts examples/site.txt examples/accounts.txt book.txt"
-example_of Apart = codes "apart examples/site.txt examples/book.txt site-2.txt examples/book.txt"
+example_of Apart = codes "apart examples/site-1.txt examples/book.txt examples/site-2.txt examples/book.txt"
 example_of Book = codes "book examples/site.txt examples/book.txt examples/today.txt longer.txt"
 example_of Card = codes "card examples/site.txt 2 card-2"
 example_of Cover = codes "cover examples/site.txt examples/book.txt"

@@ -221,7 +221,7 @@ impl Command {
         match self {
             Command::Accounts => "accounts examples/site.txt examples/accounts.txt book.txt",
             Command::Apart =>
-                "apart examples/site.txt examples/book.txt site-2.txt examples/book.txt",
+                "apart examples/site-1.txt examples/book.txt examples/site-2.txt examples/book.txt",
             Command::Book =>
                 "book examples/site.txt examples/book.txt examples/today.txt longer.txt",
             Command::Card => "card examples/site.txt 2 card-2",
