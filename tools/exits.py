@@ -2,12 +2,13 @@
 """exits.py: the texts of the exits, and the arguments of the commands, are the same in all places that have them.
 
 The meaning of each exit has three places: help (sd_command_table, specs/Exits), the last column of the table in
-docs/FORMATS.md, and the manual page docs/sdca.1. A cell of the table begins with the text that help prints; details may
-follow after a full stop. The manual page has that text as a sentence. The printed lines have two places: `line_of` and
-what it cites (sd_command_status, specs/Texts), and the second column of the table. Each printed text is in the table,
-and the table has no other text. The arguments of a command have two places: the table of commands
-(sd_command_table, specs/Commands), and the comments of `Command` in src/command.rt, which the launcher reads. It prints
-what differs, and exits with 1 if something does."""
+docs/FORMATS.md, and the manual page docs/sdca.1. A cell of the table begins with the text that help prints of a command
+with inputs and OUT; details may follow after a full stop. The manual page has that text as a sentence. What help prints
+of other commands instead is quoted in docs/FORMATS.md. The printed lines have two places: `line_of` and what it cites
+(sd_command_status, specs/Texts), and the second column of the table. Each printed text is in the table, and the table
+has no other text. The arguments of a command have two places: the table of commands (sd_command_table, specs/Commands),
+and the comments of `Command` in src/command.rt, which the launcher reads. It prints what differs, and exits with 1 if
+something does."""
 
 import os
 import re
@@ -30,10 +31,19 @@ def read(path):
         return file.read()
 
 
-def of_help():
-    """The text of each exit in help, by its number."""
-    lines = re.findall(r'^exit_line \w+ =\s+codes " *(\d+)  (.*)\\n"$', read(HELP), re.M)
+def of_help(files):
+    """The text of each exit in help, by its number, for a command with these files."""
+    lines = re.findall(rf'^exit_line (?:files|{files}) \w+ =\s+codes " *(\d+)  (.*)\\n"$', read(HELP), re.M)
     return {int(number): text for number, text in lines}
+
+
+def of_other_commands():
+    """What help prints of commands without OUT, or without an input, and docs/FORMATS.md doesn't quote."""
+    page = " ".join(read(TABLE).split())
+    whole = of_help("Both")
+    for number, text in [*of_help("Inputs").items(), *of_help("Output").items()]:
+        if text != whole.get(number) and f"`{text}`" not in page:
+            yield f"{TABLE}: exit {number} of some commands is not quoted: {text}"
 
 
 def rows():
@@ -73,7 +83,7 @@ def as_sentence(text):
 
 def meanings(table):
     """What differs between help, the table and the manual page."""
-    help_texts, manual = of_help(), of_manual()
+    help_texts, manual = of_help("Both"), of_manual()
     if len({*help_texts} | {*manual} | {n for n, _, _ in table}) != len(help_texts) or len(manual) != len(help_texts):
         yield "help, the table and the manual page have different exits"
     for number, _, when in table:
@@ -102,8 +112,9 @@ def printed(table):
 
 def main():
     table = rows()
-    differing = [*meanings(table), *printed(table), *arguments()]
-    print("\n".join(differing) or f"exits.py: the texts of {len(of_help())} exits and the arguments of commands agree")
+    differing = [*meanings(table), *of_other_commands(), *printed(table), *arguments()]
+    exits = len(of_help("Both"))
+    print("\n".join(differing) or f"exits.py: the texts of {exits} exits and the arguments of commands agree")
     return 1 if differing else 0
 
 

@@ -10,6 +10,8 @@ use Rattle.sd_command_table.specs.declared.command.Command.TheVariants.{Tables}
 use Rattle.sd_command_table.specs.declared.command.Command.TheVariants.{Trace, Trial}
 use Rattle.sd_command_table.specs.declared.operand.Operand.{Operand}
 use Rattle.sd_command_table.specs.declared.operand.Operand.TheVariants as word
+use Rattle.sd_command_table.specs.declared.operand.Files.{Files}
+use Rattle.sd_command_table.specs.Operands.{files_among}
 use Rattle.sd_command_table.specs.declared.exit.Exit.{Exit}
 use Rattle.sd_command_table.specs.Exits.{exits_of_books, exits_of_cards, exits_of_clear_streams, exits_of_layers}
 use Rattle.sd_command_table.specs.Exits.{exits_of_monitors, exits_of_pairs, exits_of_receivers, exits_of_samples}
@@ -71,6 +73,10 @@ operands_of Show = word.Card ∷ []
 operands_of Tables = word.Stream ∷ []
 operands_of Trace = word.Site ∷ word.Book ∷ word.Leaves ∷ []
 operands_of Trial = word.Site ∷ word.Book ∷ word.Clear ∷ []
+
+-- the files that they name
+abbrev pub files_of : Command → Files
+files_of command = files_among (operands_of command)
 
 -- what the command does
 unfoldable pub work_of : Command → List ℕ

@@ -5,29 +5,36 @@ use Rattle.sd_command_table.specs.declared.exit.Exit.TheVariants.{Done, Usage, M
 use Rattle.sd_command_table.specs.declared.exit.Exit.TheVariants.{BadSite, BadBook, BadCard, BadClear, BadStream, Limit}
 use Rattle.sd_command_table.specs.declared.exit.Exit.TheVariants.{NoMemory, Unheard, Unclosed, Gaps, NoCat, BadWord}
 use Rattle.sd_command_table.specs.declared.exit.Exit.TheVariants.{Clash}
+use Rattle.sd_command_table.specs.declared.operand.Files.{Files}
+use Rattle.sd_command_table.specs.declared.operand.Files.TheVariants.{Inputs, Output, Both}
 
--- its number, and when it comes
-unfoldable pub exit_line : Exit → List ℕ
-exit_line Done = codes "   0  the work is done\n"
-exit_line Usage =
+-- its number, and when it comes, for a command with these files
+unfoldable pub exit_line : Files → Exit → List ℕ
+exit_line files Done = codes "   0  the work is done\n"
+exit_line Inputs Usage = codes "   1  usage: unknown command, wrong number of arguments, or text not in UTF-8\n"
+exit_line Output Usage = codes "   1  usage: unknown command, wrong number of arguments, or text not in UTF-8\n"
+exit_line Both Usage =
     codes "   1  usage: unknown command, wrong number of arguments, text not in UTF-8, or OUT is an input\n"
-exit_line Missing = codes "   2  the file that argument N names does not exist; for OUT, its folder does not exist\n"
-exit_line Revoked = codes "   3  the receiver is revoked in period Q, the first such period of which it heard\n"
-exit_line DepotFault = codes "   4  an I/O error at a file\n"
-exit_line PrintFault = codes "   5  an I/O error while printing\n"
-exit_line BadSite = codes "   6  the site file is refused\n"
-exit_line BadBook = codes "   7  line N of the file that argument W names is refused\n"
-exit_line BadCard = codes "   8  the card is refused\n"
-exit_line BadClear = codes "   9  a packet of the clear stream is refused\n"
-exit_line BadStream = codes "  10  a packet of the stream is refused\n"
-exit_line Limit = codes "  11  a limit is exceeded\n"
-exit_line NoMemory = codes "  12  out of memory\n"
-exit_line Unheard = codes "  13  the receiver did not hear its entitlement for period Q\n"
-exit_line Unclosed = codes "  14  the stream ends before its closing ECM is complete\n"
-exit_line Gaps = codes "  15  clear packets are missing from OUT\n"
-exit_line NoCat = codes "  16  the stream has no CAT for this card\n"
-exit_line BadWord = codes "  17  argument N is not a decimal number, or is out of range\n"
-exit_line Clash = codes "  18  two broadcasts must not share one set of cards\n"
+exit_line Inputs Missing = codes "   2  the file that argument N names does not exist\n"
+exit_line Output Missing = codes "   2  the folder of OUT does not exist\n"
+exit_line Both Missing =
+    codes "   2  the file that argument N names does not exist; for OUT, its folder does not exist\n"
+exit_line files Revoked = codes "   3  the receiver is revoked in period Q, the first such period of which it heard\n"
+exit_line files DepotFault = codes "   4  an I/O error at a file\n"
+exit_line files PrintFault = codes "   5  an I/O error while printing\n"
+exit_line files BadSite = codes "   6  the site file is refused\n"
+exit_line files BadBook = codes "   7  line N of the file that argument W names is refused\n"
+exit_line files BadCard = codes "   8  the card is refused\n"
+exit_line files BadClear = codes "   9  a packet of the clear stream is refused\n"
+exit_line files BadStream = codes "  10  a packet of the stream is refused\n"
+exit_line files Limit = codes "  11  a limit is exceeded\n"
+exit_line files NoMemory = codes "  12  out of memory\n"
+exit_line files Unheard = codes "  13  the receiver did not hear its entitlement for period Q\n"
+exit_line files Unclosed = codes "  14  the stream ends before its closing ECM is complete\n"
+exit_line files Gaps = codes "  15  clear packets are missing from OUT\n"
+exit_line files NoCat = codes "  16  the stream has no CAT for this card\n"
+exit_line files BadWord = codes "  17  argument N is not a decimal number, or is out of range\n"
+exit_line files Clash = codes "  18  two broadcasts must not share one set of cards\n"
 
 -- the exits of a command that reads a site, a book and maybe more text
 abbrev pub exits_of_books : List Exit

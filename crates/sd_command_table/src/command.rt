@@ -1,9 +1,9 @@
 ghost use Rattle.std.specs.Prelude.{◌≡◌, ◌↔◌, ◌⊎◌, ◌≤◌, length, true};
 ghost use Rattle.sd_command_table.specs.Commands.{example_of, exits_of, command_name, operands_of, command_named};
-ghost use Rattle.sd_command_table.specs.Commands.{work_of};
+ghost use Rattle.sd_command_table.specs.Commands.{files_of, work_of};
 
 use crate::exit::{self, Exit};
-use crate::operand::Operand;
+use crate::operand::{Files, Operand};
 
 /// A command of the program that takes files, numbers or both.
 #[derive(Clone, Copy, Debug, PartialEq, Eq)]
@@ -154,6 +154,33 @@ impl Command {
             Command::Tables => &[Operand::Stream],
             Command::Trace => &[Operand::Site, Operand::Book, Operand::Leaves],
             Command::Trial => &[Operand::Site, Operand::Book, Operand::Clear],
+        }
+    }
+
+    /// The files that the arguments name.
+    #[tactic(auto, unfolding(crate::specs::Commands::operands_of))]
+    pub fn files(self) -> Files
+        ensures { result ≡ files_of self }
+    {
+        match self {
+            Command::Accounts
+            | Command::Book
+            | Command::Card
+            | Command::Head
+            | Command::Lcard
+            | Command::Receive => Files::Both,
+            Command::Sample => Files::Output,
+            Command::Apart
+            | Command::Cover
+            | Command::Field
+            | Command::Layered
+            | Command::Messages
+            | Command::Opens
+            | Command::Plan
+            | Command::Show
+            | Command::Tables
+            | Command::Trace
+            | Command::Trial => Files::Inputs,
         }
     }
 

@@ -3,6 +3,8 @@ ghost use Rattle.sd_command_table.specs.Exits.{exits_of_books, exits_of_cards, e
 ghost use Rattle.sd_command_table.specs.Exits.{exits_of_monitors, exits_of_pairs, exits_of_receivers, exits_of_samples};
 ghost use Rattle.sd_command_table.specs.Exits.{exits_of_shown_cards, exits_of_tables, exit_line};
 
+use crate::operand::Files;
+
 /// An exit of the program, by its number.
 #[derive(Clone, Copy)]
 pub enum Exit {
@@ -47,17 +49,16 @@ pub enum Exit {
 }
 
 impl Exit {
-    /// The exit's line in a page of help: its number in four columns, and when the program ends so.
+    /// The exit's line in the page of a command with these files: its number in four columns, and when the program ends
+    /// so.
     #[tactic(auto, unfolding(crate::specs::Exits::exit_line))]
-    pub fn line(self) -> &'static str
-        ensures { result.now ≡ exit_line self }
+    pub fn line(self, files: Files) -> &'static str
+        ensures { result.now ≡ exit_line files self }
     {
         match self {
             Exit::Done => "   0  the work is done\n",
-            Exit::Usage =>
-                "   1  usage: unknown command, wrong number of arguments, text not in UTF-8, or OUT is an input\n",
-            Exit::Missing =>
-                "   2  the file that argument N names does not exist; for OUT, its folder does not exist\n",
+            Exit::Usage => usage_line(files),
+            Exit::Missing => missing_line(files),
             Exit::Revoked =>
                 "   3  the receiver is revoked in period Q, the first such period of which it heard\n",
             Exit::DepotFault => "   4  an I/O error at a file\n",
@@ -76,6 +77,32 @@ impl Exit {
             Exit::BadWord => "  17  argument N is not a decimal number, or is out of range\n",
             Exit::Clash => "  18  two broadcasts must not share one set of cards\n",
         }
+    }
+}
+
+/// The line of `Exit::Usage` for a command with these files.
+#[tactic(auto, unfolding(crate::specs::Exits::exit_line))]
+fn usage_line(files: Files) -> &'static str
+    ensures { result.now ≡ exit_line files Exit.Usage }
+{
+    match files {
+        Files::Inputs | Files::Output =>
+            "   1  usage: unknown command, wrong number of arguments, or text not in UTF-8\n",
+        Files::Both =>
+            "   1  usage: unknown command, wrong number of arguments, text not in UTF-8, or OUT is an input\n",
+    }
+}
+
+/// The line of `Exit::Missing` for a command with these files.
+#[tactic(auto, unfolding(crate::specs::Exits::exit_line))]
+fn missing_line(files: Files) -> &'static str
+    ensures { result.now ≡ exit_line files Exit.Missing }
+{
+    match files {
+        Files::Inputs => "   2  the file that argument N names does not exist\n",
+        Files::Output => "   2  the folder of OUT does not exist\n",
+        Files::Both =>
+            "   2  the file that argument N names does not exist; for OUT, its folder does not exist\n",
     }
 }
 

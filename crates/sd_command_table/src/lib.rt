@@ -7,4 +7,4 @@ mod operand;
 
 pub use command::{COMMANDS, Command};
 pub use exit::Exit;
-pub use operand::{Kind, Operand};
+pub use operand::{Files, Kind, Operand};

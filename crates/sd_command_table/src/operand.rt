@@ -14,6 +14,17 @@ pub enum Kind {
     Count(u32),
 }
 
+/// The files that the arguments of a command name.
+#[derive(Clone, Copy, Debug, PartialEq, Eq)]
+pub enum Files {
+    /// Files that are read.
+    Inputs,
+    /// The file that is made.
+    Output,
+    /// Files that are read, and the file that is made.
+    Both,
+}
+
 /// An argument that a command takes.
 #[derive(Clone, Copy)]
 pub enum Operand {
@@ -43,7 +54,7 @@ pub enum Operand {
     Number,
     /// PACKETS of `sample`, at most 1,000,000.
     Packets,
-    /// PACKETS of `plan`, from 1 to 2^32 - 1.
+    /// PACKETS of `plan`, from 1 to 2^32 - 1, for which the control words of SITE suffice.
     Clears,
     /// PIDS, the number of PIDs that have positions, at most 256.
     Pids,
@@ -114,7 +125,7 @@ impl Operand {
             Operand::Commands => "the commands to append to BOOK, in the form of a book",
             Operand::Clear => "a clear transport stream; /dev/stdin for a pipe",
             Operand::Script => {
-                "the events: a line for each run of them, as send PACKETS, offer LEAF PACKETS or off LEAF"
+                "the events: lines send N, offer LEAF N, lose LEAF N, off LEAF, on LEAF, subscribe LEAF or revoke LEAF"
             }
             Operand::Stream => "a transport stream; /dev/stdin for a pipe",
             Operand::Card => "the card of a receiver, made by the command card",
@@ -123,10 +134,12 @@ impl Operand {
             Operand::Width => "the width of the layers, from 1 to the height",
             Operand::Number => "the seed of the stream, a number below 2^32",
             Operand::Packets => "the number of packets, at most 1000000",
-            Operand::Clears => "the number of clear packets, from 1 to 4294967295",
-            Operand::Pids => "the number of PIDs that have positions, at most 256",
+            Operand::Clears => {
+                "how many clear packets: 1 to 4294967295, at most ecm-every * crypto-ecms for each control word of SITE"
+            }
+            Operand::Pids => "the number of PIDs from 32 to 8175 that carry payload, at most 256",
             Operand::Out =>
-                "the output file; /dev/stdout for a pipe, and messages then go to standard error",
+                "the output file; /dev/stdout for a pipe, and all lines then go to standard error",
         }
     }
 }

@@ -2,6 +2,8 @@
 use Rattle.std.proofs.Common.{◌≡◌, refl, take}
 use Rattle.std.specs.Fmt.{digits}
 use Rattle.sd_command_table.specs.declared.command.Command.{Command}
+use Rattle.sd_command_table.specs.declared.operand.Files.{Files}
+use Rattle.sd_command_table.specs.declared.operand.Files.TheVariants.{Inputs, Output, Both}
 use Rattle.sd_command_table.specs.Commands.{example_of}
 use Rattle.sd_command_table.specs.Exits.{exit_line}
 use Rattle.sd_command_status.specs.Exits.{code_of}
@@ -17,27 +19,32 @@ use Rattle.sd_run.proofs.Examples.{words_in, arguments_in, example_order}
 use Rattle.sd_run.proofs.Rows.{example}
 
 -- the first four characters of an exit's line are its number
-pub exit_numbers : (status : Status) → take 4 (exit_line (help_exit status)) ≡ in_column (code_of status)
+pub exit_numbers : (files : Files) (status : Status) →
+    take 4 (exit_line files (help_exit status)) ≡ in_column (code_of status)
 unfolding exit_line digits
-exit_numbers Done = refl
-exit_numbers Usage = refl
-exit_numbers (Missing word) = refl
-exit_numbers (Revoked leaf period) = refl
-exit_numbers DepotFault = refl
-exit_numbers PrintFault = refl
-exit_numbers (BadSite fault) = refl
-exit_numbers (BadBook word line) = refl
-exit_numbers (BadCard fault) = refl
-exit_numbers (BadClear packet cause) = refl
-exit_numbers (BadStream packet cause) = refl
-exit_numbers (Limit kind) = refl
-exit_numbers NoMemory = refl
-exit_numbers (Unheard leaf period) = refl
-exit_numbers (Unclosed number) = refl
-exit_numbers (Gaps packets) = refl
-exit_numbers NoCat = refl
-exit_numbers (BadWord word) = refl
-exit_numbers (Clash clash) = refl
+exit_numbers files Done = refl
+exit_numbers Inputs Usage = refl
+exit_numbers Output Usage = refl
+exit_numbers Both Usage = refl
+exit_numbers Inputs (Missing word) = refl
+exit_numbers Output (Missing word) = refl
+exit_numbers Both (Missing word) = refl
+exit_numbers files (Revoked leaf period) = refl
+exit_numbers files DepotFault = refl
+exit_numbers files PrintFault = refl
+exit_numbers files (BadSite fault) = refl
+exit_numbers files (BadBook word line) = refl
+exit_numbers files (BadCard fault) = refl
+exit_numbers files (BadClear packet cause) = refl
+exit_numbers files (BadStream packet cause) = refl
+exit_numbers files (Limit kind) = refl
+exit_numbers files NoMemory = refl
+exit_numbers files (Unheard leaf period) = refl
+exit_numbers files (Unclosed number) = refl
+exit_numbers files (Gaps packets) = refl
+exit_numbers files NoCat = refl
+exit_numbers files (BadWord word) = refl
+exit_numbers files (Clash clash) = refl
 
 -- the example of each command
 pub examples_are_ordered : (command : Command) → IsOrdered command

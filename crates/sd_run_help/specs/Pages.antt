@@ -6,7 +6,8 @@ use Rattle.sd_command_table.specs.declared.command.Command.{Command}
 use Rattle.sd_command_table.specs.declared.operand.Operand.{Operand}
 use Rattle.sd_command_table.specs.Operands.{meaning_of, operand_name as word_of}
 use Rattle.sd_command_table.specs.Exits.{exit_line}
-use Rattle.sd_command_table.specs.Commands.{commands, example_of, exits_of, command_name, operands_of, work_of}
+use Rattle.sd_command_table.specs.Commands.{commands, example_of, exits_of, files_of, command_name, operands_of}
+use Rattle.sd_command_table.specs.Commands.{work_of}
 
 -- a text at the left of a column of that width in characters, filled up with spaces
 abbrev pub at_left : ℕ → List ℕ → List ℕ
@@ -49,7 +50,7 @@ tail_text topic = codes "\nexample\n  sdca " ++ (example_of topic ++ codes "\n")
 unfoldable pub page_text : Command → List ℕ
 page_text topic =
     head_text topic ++ flat_map operand_line (operands_of topic) ++ codes "\nexits\n"
-    ++ flat_map exit_line (exits_of topic) ++ tail_text topic
+    ++ flat_map (exit_line (files_of topic)) (exits_of topic) ++ tail_text topic
 
 -- what help prints of a command, or of all
 unfoldable pub help_text : Option Command → List ℕ

@@ -4,7 +4,7 @@ ghost use Rattle.sd_command_table.specs.Exits.{exit_line};
 ghost use Rattle.sd_run_help.specs.Pages.{head_text, operand_line, overview as overview_text, page_text, spaced};
 ghost use Rattle.sd_run_help.specs.Pages.{tail_text, topic_line, usage_of};
 
-use sd_command_table::{COMMANDS, Command, Exit, Operand};
+use sd_command_table::{COMMANDS, Command, Exit, Files, Operand};
 use std::alloc::{AllocError, Global};
 use std::fmt::Write;
 
@@ -35,7 +35,7 @@ pub fn page(alloc: Global, topic: Command) -> Result<String, AllocError>
     let mut text = head(alloc, topic)?;
     push_operands(&mut text, topic.operands())?;
     text.push_str("\nexits\n")?;
-    push_exits(&mut text, topic.exits())?;
+    push_exits(&mut text, topic.exits(), topic.files())?;
     push_tail(&mut text, topic)?;
     Ok(text)
 }
@@ -98,12 +98,12 @@ fn push_operand(text: &mut String, operand: Operand) -> Result<(), AllocError>
     write!(text, "  {name:<8}  {meaning}\n")
 }
 
-/// The lines of exits.
-fn push_exits(text: &mut String, exits: &[Exit]) -> Result<(), AllocError>
-    ensures { OnOk result (string_bytes text.new ≡ string_bytes text.old ++ flat_map exit_line exits.now) }
+/// The lines of the exits of a command with these files.
+fn push_exits(text: &mut String, exits: &[Exit], files: Files) -> Result<(), AllocError>
+    ensures { OnOk result (string_bytes text.new ≡ string_bytes text.old ++ flat_map (exit_line files) exits.now) }
 {
     for exit in exits {
-        text.push_str(exit.line())?;
+        text.push_str(exit.line(files))?;
     }
     Ok(())
 }

@@ -2,7 +2,7 @@ ghost use Rattle.std.specs.Prelude.{◌≤◌};
 
 use sd_command_status::{ClearCause, Status, StreamCause};
 use sd_engine::BreakCause;
-use sd_test_memory::{Fault, Files, Leaving, left};
+use sd_test_memory::{Fault, Files, Leaving, SITE, left};
 use std::alloc::{AllocError, Global};
 
 /// The page of `tables`.
@@ -14,8 +14,8 @@ arguments
 
 exits
    0  the work is done
-   1  usage: unknown command, wrong number of arguments, text not in UTF-8, or OUT is an input
-   2  the file that argument N names does not exist; for OUT, its folder does not exist
+   1  usage: unknown command, wrong number of arguments, or text not in UTF-8
+   2  the file that argument N names does not exist
    4  an I/O error at a file
    5  an I/O error while printing
   10  a packet of the stream is refused
@@ -24,6 +24,26 @@ exits
 example
   sdca tables broadcast.ts
 ";
+
+/// A command, and the lines of exits 1 and 2 in its page: with inputs and OUT, and with OUT alone. They are lines 10
+/// and 11 of the page of a command with three arguments.
+const EXITS: [(&str, &str, &str); 2] = [
+    (
+        "receive",
+        "   1  usage: unknown command, wrong number of arguments, text not in UTF-8, or OUT is an input",
+        "   2  the file that argument N names does not exist; for OUT, its folder does not exist",
+    ),
+    (
+        "sample",
+        "   1  usage: unknown command, wrong number of arguments, or text not in UTF-8",
+        "   2  the folder of OUT does not exist",
+    ),
+];
+
+/// The lines of examples/site-1.txt and examples/site-2.txt after those of examples/site.txt.
+const FIRST_WORDS: &str = "messages 3\nfirst-word 0\nlast-word 999\n";
+
+const SECOND_WORDS: &str = "messages 3\nfirst-word 1000\nlast-word 1999\n";
 
 /// What `version` prints.
 const VERSION: &str = "sdca 1.0.0
@@ -225,7 +245,43 @@ fn help_and_version_are_printed(rt: HostRuntime) -> Result<(), AllocError> {
     for (place, line) in LISTED {
         assert!(rt; has_line(&list.printed, place, line.as_bytes()));
     }
+    for (command, usage, missing) in EXITS {
+        let page = after(alloc, &["help", command], &[], 4096)?;
+        assert!(rt; has_line(&page.printed, 10, usage.as_bytes()), "{command}");
+        assert!(rt;
+            has_line(&page.printed, 11, missing.as_bytes()),
+            "{command}"
+        );
+    }
     Ok(())
+}
+
+#[test]
+fn the_example_of_apart_is_done(rt: HostRuntime) -> Result<(), AllocError> {
+    let alloc = rt.alloc();
+    let first = site_with(alloc, FIRST_WORDS)?;
+    let second = site_with(alloc, SECOND_WORDS)?;
+    let left = after(
+        alloc,
+        &["apart", "1", "B", "2", "B"],
+        &[
+            ("1", first.as_bytes()),
+            ("2", second.as_bytes()),
+            ("B", b"revoke 5\nrevoke 2\nsubscribe 2\n"),
+        ],
+        100,
+    )?;
+    let lines = "site 1 words 0 to 999 periods 0 to 0\nsite 2 words 1000 to 1999 periods 0 to 0\n";
+    assert!(rt; printed(lines).is_left(&left));
+    Ok(())
+}
+
+/// The site of the tests with more lines.
+fn site_with(alloc: Global, lines: &str) -> Result<String, AllocError> {
+    let mut site = String::new(alloc);
+    site.push_str(str::from_utf8(SITE).map_err(|_| AllocError)?)?;
+    site.push_str(lines)?;
+    Ok(site)
 }
 
 /// Whether this line stands at this place.

@@ -5,4 +5,5 @@ use Rattle.sd_run_help.proofs.page.push_exits.Given as goal
 
 -- the text so far has the lines of the first of them
 abbrev pub invariant-loop-exit : goal.invariant-loop-exit
-invariant-loop-exit l = string_bytes l.text ≡ string_bytes l.fn.text ++ flat_map exit_line (take l.exit-index l.exits)
+invariant-loop-exit l =
+    string_bytes l.text ≡ string_bytes l.fn.text ++ flat_map (exit_line l.files) (take l.exit-index l.exits)
