@@ -8,7 +8,7 @@ use Rattle.std.proofs.lemmas.List.{length-map}
 use Rattle.std.proofs.lemmas.List.Folds.{concat-append}
 use Rattle.sd_packet.specs.Packing.{packed}
 use Rattle.sd_packet.proofs.Packets.{packet_counted}
-use Rattle.sd_psi.specs.Access.{cat_section}
+use Rattle.sd_psi.specs.OurCat.{cat_section}
 use Rattle.sd_site.specs.Fields.{SiteFields}
 use Rattle.sd_emm.specs.Spelled.{emm_section}
 use Rattle.sd_emm.specs.declared.emm.Emm.{Emm}

@@ -3,7 +3,7 @@ use Rattle.std.specs.Prelude.{◌≡◌, ℕ, ◌+◌, ◌%◌, ◌≤◌, Bool,
 use Rattle.std.specs.Prelude.{Option, Some, None}
 use Rattle.std.specs.List.{concat}
 use Rattle.sd_packet.specs.Packing.{packed}
-use Rattle.sd_psi.specs.Access.{cat_section}
+use Rattle.sd_psi.specs.OurCat.{cat_section}
 use Rattle.sd_site.specs.Fields.{SiteFields}
 use Rattle.sd_ecm.specs.Versions.{IsVersion, IsNamed, IsSince, most_places}
 use Rattle.sd_ecm.specs.Form.{ArePositioned, AreAscending, AreShort}

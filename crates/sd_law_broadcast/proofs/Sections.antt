@@ -9,7 +9,7 @@ use Rattle.std.proofs.lemmas.List.Elements.{All-nil, All-cons, All-head, All-tai
 use Rattle.sd_packet.specs.Header.{pid_of}
 use Rattle.sd_packet.specs.Packing.{packed}
 use Rattle.sd_packet.proofs.Packets.{packet_reads}
-use Rattle.sd_psi.specs.Access.{cat_section}
+use Rattle.sd_psi.specs.OurCat.{cat_section}
 use Rattle.sd_emm.specs.Spelled.{listed_entries, emm_section}
 use Rattle.sd_emm.specs.Form.{AreSets, IsEmm, FitsFields}
 use Rattle.sd_emm.specs.Judged.{emm_read}

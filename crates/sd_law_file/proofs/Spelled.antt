@@ -14,7 +14,7 @@ use Rattle.sd_section.proofs.Spelling.{section_long}
 use Rattle.sd_label.specs.Keys.{control_word_of}
 use Rattle.sd_site.specs.Fields.{SiteFields}
 use Rattle.sd_psi.specs.Forms.{section_in, after_section}
-use Rattle.sd_psi.specs.Access.{cat_header, cat_descriptor, cat_section}
+use Rattle.sd_psi.specs.OurCat.{cat_header, cat_descriptor, cat_section}
 use Rattle.sd_psi.specs.Tables.{info_length_of}
 use Rattle.sd_psi.specs.Rewriting.{ca_descriptor, with_lengths, inserted, before_section, rewritten, rewrite_fault}
 use Rattle.sd_psi.specs.declared.fault.FormFault.{FormFault}

@@ -3,7 +3,7 @@ use Rattle.std.proofs.Common.{ℕ, ◌%◌, List, [], ◌∷◌, ◌++◌, take,
 use Rattle.std.specs.Prelude.{All, count_by}
 use Rattle.std.proofs.lemmas.List.Elements.{All-nil, All-cons, All-head, All-tail, All-contains, All-get_or}
 use Rattle.sd_base.proofs.Lists.{all_first}
-use Rattle.sd_psi.specs.Access.{cat_section}
+use Rattle.sd_psi.specs.OurCat.{cat_section}
 use Rattle.sd_emm.specs.Spelled.{listed_entries, emm_section}
 use Rattle.sd_emm.specs.Form.{AreSets, IsEmm, FitsFields}
 use Rattle.sd_emm.specs.Period.{emms_of}

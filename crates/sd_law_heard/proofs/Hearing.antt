@@ -1,17 +1,15 @@
 -- How the things that are sent are heard.
 use Rattle.std.proofs.Common.{◌≡◌, ℕ, ◌%◌, ◌^◌, ◌<◌, ◌==◌, true, false, length}
-use Rattle.std.proofs.Common.{List, drop, Some, None}
-use Rattle.std.proofs.Common.{refl, ap, arith}
+use Rattle.std.proofs.Common.{List, Some, None}
+use Rattle.std.proofs.Common.{refl, eq-eqb, ◌∙◌, arith}
 use Rattle.std.specs.Prelude.{count_by, Ok}
 use Rattle.std.proofs.lemmas.Bool.Decides.{nat_tests}
 use Rattle.std.proofs.lemmas.List.Elements.{All-contains, All-weaker}
-use Rattle.sd_bits.specs.Bits.{field}
-use Rattle.sd_packet.specs.Header.{pid_of, has_payload}
+use Rattle.sd_packet.specs.Header.{pid_of}
 use Rattle.sd_packet.specs.Packing.{packed}
-use Rattle.sd_packet.proofs.Packets.{packet_reads, packed_pid}
-use Rattle.sd_psi.specs.Tables.{tag_of}
-use Rattle.sd_psi.specs.Access.{cat_descriptor, cat_section}
-use Rattle.sd_psi.proofs.OurCat.{our_cat_is_good, our_cat_has_one, our_descriptor_is_read}
+use Rattle.sd_packet.proofs.Packets.{packed_pid}
+use Rattle.sd_psi.specs.OurCat.{cat_section, is_tuning, cat_tuning}
+use Rattle.sd_psi.proofs.OurCat.{our_cat_is_read}
 use Rattle.sd_site.specs.Fields.{SiteFields, AreInRange}
 use Rattle.sd_emm.specs.Spelled.{emm_section}
 use Rattle.sd_emm.specs.Judged.{emm_read}
@@ -30,35 +28,10 @@ use Rattle.sd_spec_broadcast.specs.Sent.{packet_of}
 use Rattle.sd_spec_broadcast.specs.Items.{IsOfBroadcast}
 use Rattle.sd_law_broadcast.specs.Packets.{IsWholePacket, AreWholePackets, AreLong}
 use Rattle.sd_law_broadcast.proofs.Sections.{IsSaid, said, section_reads, carried_pid}
-use Rattle.sd_spec_receiver.specs.Tuned.{Tuning, tuning_in, is_tuning, is_for, cat_tuning}
 use Rattle.sd_spec_receiver.specs.Heard.{Dropped, Entitles, Controls, Other, hears}
 use Rattle.sd_law_heard.specs.Told.{tuning_to, heard_of}
 
--- its payload isn't empty
-packed_some : (section : List ℕ) (pid counter : ℕ) → pid < 8192 → has_payload (packed section pid (counter % 16)) ≡ true
-packed_some section pid counter low =
-    let start = (packet_reads section pid (counter % 16) low (omega arith)).start in
-    grind (arith, nat_tests, start)
-
--- what the project's descriptor says
-field_of_rest : (ca emm ecm : ℕ) → field (cat_descriptor ca emm ecm) 51 13 ≡ field (drop 6
-    (cat_descriptor ca emm ecm)) 3 13
-unfolding field
-field_of_rest ca emm ecm = refl
-
-descriptor_tunes : (site : SiteFields) → AreInRange site → site.ca < 2 ^ 16 →
-    tuning_in (cat_descriptor site.ca site.emm site.ecm) ≡ tuning_to site
-unfolding tuning_in
-descriptor_tunes site r system =
-    let one = r.emm.1 in
-    let two = r.ecm.1 in
-    let reads = our_descriptor_is_read site.ca site.emm site.ecm system (omega (arith, one)) (omega (arith, two)) in
-    rw (reads.ca_pid, field_of_rest site.ca site.emm site.ecm, reads.private) refl
-
-tag_is : (ca emm ecm : ℕ) → tag_of (cat_descriptor ca emm ecm) ≡ 9
-unfolding field
-tag_is ca emm ecm = refl
-
+-- a site's PIDs are good
 site_tunes : (site : SiteFields) → AreInRange site → is_tuning (tuning_to site) ≡ true
 site_tunes site r =
     let one = r.emm.0 in
@@ -68,29 +41,16 @@ site_tunes site r =
     let apart = r.apart in
     grind (arith, nat_tests, one, two, three, four, apart)
 
-descriptor_is_for : (site : SiteFields) → AreInRange site → site.ca < 2 ^ 16 →
-    is_for site.ca (cat_descriptor site.ca site.emm site.ecm) ≡ true
-unfolding is_for
-descriptor_is_for site r system =
-    let one = r.emm.1 in
-    let two = r.ecm.1 in
-    let reads = our_descriptor_is_read site.ca site.emm site.ecm system (omega (arith, one)) (omega (arith, two)) in
-    rw (tag_is site.ca site.emm site.ecm, reads.system, descriptor_tunes site r system, site_tunes site r)
-    (grind (arith, nat_tests))
-
 -- the CAT is taken
 tuned_by_cat : (site : SiteFields) (counter : ℕ) → AreInRange site → site.ca < 2 ^ 16 →
     cat_tuning site.ca (packed (cat_section site.ca site.emm site.ecm) 1 (counter % 16)) ≡ Some (tuning_to site)
-unfolding cat_tuning
 tuned_by_cat site counter r system =
-    let few : counter % 16 < 16 = omega arith in
-    let section : List ℕ = cat_section site.ca site.emm site.ecm in
-    let pid = packed_pid section 1 counter (omega arith) in
-    let some = packed_some section 1 counter (omega arith) in
-    let good = our_cat_is_good site.ca site.emm site.ecm (counter % 16) few in
-    let has = our_cat_has_one site.ca site.emm site.ecm (counter % 16) few in
-    rw (pid, some, good, has, descriptor_is_for site r system)
-    (ap (λ (t : Tuning). Some t) (descriptor_tunes site r system))
+    let emm = r.emm.1 in
+    let ecm = r.ecm.1 in
+    let read = our_cat_is_read site.ca site.ca (counter % 16) (tuning_to site) system (omega (arith, emm))
+    (omega (arith, ecm)) (omega arith) in
+    let own : (site.ca == site.ca) ≡ true = eq-eqb site.ca site.ca refl in
+    read ∙ rw (own, site_tunes site r) refl
 
 pub cat_taken : (plan : Plan) (earlier : List Item) → IsPlan plan →
     cat_tuning plan.site.ca (packet_of plan.site earlier Cat) ≡ Some (tuning_to plan.site)

@@ -2,7 +2,7 @@
 use Rattle.sd_spec_types.specs.Types.{PacketNumber}
 use Rattle.sd_site.specs.Fields.{SiteFields}
 use Rattle.sd_spec_broadcast.specs.Sent.{Item, Cat, Entitles as SendsEmm, Controls as SendsEcm, Carries}
-use Rattle.sd_spec_receiver.specs.Tuned.{Tuning}
+use Rattle.sd_psi.specs.declared.our_cat.Tuning.{Tuning}
 use Rattle.sd_spec_receiver.specs.Heard.{Heard, Dropped, Entitles, Controls, Other}
 
 -- the PIDs of a site's messages

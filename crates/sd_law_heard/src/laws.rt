@@ -25,7 +25,7 @@ ghost use Rattle.sd_spec_broadcast.specs.Items.{IsOfBroadcast};
 ghost use Rattle.sd_spec_broadcast.specs.declared.kind.Kind.TheVariants.{Scrambled};
 ghost use Rattle.sd_law_broadcast.specs.Packets.{IsWholePacket, AreLong};
 ghost use Rattle.sd_law_broadcast.specs.Numbered.{numbered};
-ghost use Rattle.sd_spec_receiver.specs.Tuned.{cat_tuning};
+ghost use Rattle.sd_psi.specs.OurCat.{cat_tuning};
 ghost use Rattle.sd_spec_receiver.specs.Heard.{hears};
 ghost use Rattle.sd_spec_receiver.specs.Stretches.{message_told};
 ghost use Rattle.sd_spec_receiver.specs.Keys.{key_from};

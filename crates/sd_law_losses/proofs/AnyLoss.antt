@@ -20,7 +20,9 @@ use Rattle.sd_spec_broadcast.specs.Sent.{Item, Cat, Controls, tables_at, sent, c
 use Rattle.sd_spec_broadcast.specs.Sent.{broadcast}
 use Rattle.sd_spec_broadcast.specs.Items.{IsOfBroadcast}
 use Rattle.sd_spec_broadcast.proofs.Items.{all_are_of_broadcast}
-use Rattle.sd_spec_receiver.specs.Tuned.{Tuning, tuning_of, tuned_by, cat_tuning}
+use Rattle.sd_spec_receiver.specs.Tuned.{tuning_of, tuned_by}
+use Rattle.sd_psi.specs.OurCat.{cat_tuning}
+use Rattle.sd_psi.specs.declared.our_cat.Tuning.{Tuning}
 use Rattle.sd_spec_receiver.specs.Heard.{Heard}
 use Rattle.sd_spec_receiver.specs.Offered.{Offering, heard, heard_with, offered, out_from, break_from, no_offering}
 use Rattle.sd_spec_receiver.proofs.Runs.{never_turns}

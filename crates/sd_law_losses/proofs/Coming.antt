@@ -8,7 +8,7 @@ use Rattle.sd_base.proofs.Bools.{chosen_itself}
 use Rattle.sd_card.specs.Fields.{CardFields}
 use Rattle.sd_ecm.specs.Parts.{Message}
 use Rattle.sd_ecm.specs.declared.part.EcmPart.{EcmPart}
-use Rattle.sd_spec_receiver.specs.Tuned.{Tuning}
+use Rattle.sd_psi.specs.declared.our_cat.Tuning.{Tuning}
 use Rattle.sd_spec_receiver.specs.Heard.{Heard, Controls}
 use Rattle.sd_spec_receiver.specs.Stretches.{Stretch, newest, counted, exceeds, run_of, run_with, run_to, message_told}
 use Rattle.sd_spec_receiver.specs.Stretches.{completed}

@@ -22,7 +22,8 @@ use Rattle.sd_spec_broadcast.specs.Messages.{period_at, message_at}
 use Rattle.sd_spec_broadcast.specs.Sent.{Item, sent, closing_of, broadcast}
 use Rattle.sd_spec_broadcast.proofs.Schedule.{closing_needed, closing_covers}
 use Rattle.sd_law_broadcast.proofs.Fitting.{period_count}
-use Rattle.sd_spec_receiver.specs.Tuned.{Tuning, tuning_of}
+use Rattle.sd_spec_receiver.specs.Tuned.{tuning_of}
+use Rattle.sd_psi.specs.declared.our_cat.Tuning.{Tuning}
 use Rattle.sd_spec_receiver.specs.Heard.{Heard}
 use Rattle.sd_spec_receiver.specs.Stretches.{newest, seen}
 use Rattle.sd_spec_receiver.specs.Offered.{heard}

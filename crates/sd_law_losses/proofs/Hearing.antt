@@ -10,7 +10,9 @@ use Rattle.sd_emm.specs.declared.emm.Emm.{Emm}
 use Rattle.sd_ecm.specs.declared.part.EcmPart.{EcmPart}
 use Rattle.sd_spec_broadcast.specs.Sent.{Item, Cat, Entitles, Controls, Carries, packet_of, packets_from}
 use Rattle.sd_spec_broadcast.specs.Items.{IsOfBroadcast}
-use Rattle.sd_spec_receiver.specs.Tuned.{Tuning, tuning_of, cat_tuning}
+use Rattle.sd_spec_receiver.specs.Tuned.{tuning_of, tuned_by}
+use Rattle.sd_psi.specs.OurCat.{cat_tuning}
+use Rattle.sd_psi.specs.declared.our_cat.Tuning.{Tuning}
 use Rattle.sd_spec_receiver.specs.Heard.{Heard, Dropped, Entitles as HeardEntitles, Controls as HeardControls, Other}
 use Rattle.sd_spec_receiver.specs.Heard.{hears}
 use Rattle.sd_spec_receiver.specs.Stretches.{is_closed}

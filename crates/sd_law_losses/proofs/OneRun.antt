@@ -8,7 +8,8 @@ use Rattle.std.proofs.lemmas.Bool.Decides.{nat_tests}
 use Rattle.sd_card.specs.Fields.{CardFields}
 use Rattle.sd_spec_receiver.specs.declared.ending.Ending.TheVariants.{Opened}
 use Rattle.sd_spec_receiver.specs.declared.fault.StreamFault.{StreamFault}
-use Rattle.sd_spec_receiver.specs.Tuned.{Tuning, tuning_of}
+use Rattle.sd_spec_receiver.specs.Tuned.{tuning_of}
+use Rattle.sd_psi.specs.declared.our_cat.Tuning.{Tuning}
 use Rattle.sd_spec_receiver.specs.Heard.{Heard, hears}
 use Rattle.sd_spec_receiver.specs.Stretches.{is_closed}
 use Rattle.sd_spec_receiver.specs.Runs.{run_name_heard, name_or, name_in, is_same, are_two, is_turn}

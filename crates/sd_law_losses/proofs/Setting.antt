@@ -19,7 +19,7 @@ use Rattle.sd_spec_broadcast.specs.Plan.{Plan, word_of, closing_number}
 use Rattle.sd_spec_broadcast.specs.Kinds.{kind_of}
 use Rattle.sd_spec_broadcast.specs.Carried.{carried, place_after}
 use Rattle.sd_spec_broadcast.specs.Messages.{period_at, message_at}
-use Rattle.sd_spec_receiver.specs.Tuned.{Tuning}
+use Rattle.sd_psi.specs.declared.our_cat.Tuning.{Tuning}
 use Rattle.sd_spec_receiver.specs.Keys.{key_from}
 use Rattle.sd_spec_receiver.specs.Confirmed.{Segment, unmarked}
 use Rattle.sd_spec_receiver.specs.Offered.{is_before, says_same}

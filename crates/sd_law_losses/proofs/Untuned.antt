@@ -19,7 +19,9 @@ use Rattle.sd_spec_broadcast.specs.Plan.{crypto_length, period_of}
 use Rattle.sd_spec_broadcast.specs.Messages.{period_at}
 use Rattle.sd_spec_broadcast.specs.Sent.{Item, Cat, Entitles, Controls, Carries, tables_at, packet_of, packets_from}
 use Rattle.sd_spec_broadcast.specs.Items.{IsOfBroadcast}
-use Rattle.sd_spec_receiver.specs.Tuned.{Tuning, tuning_of, tuned_by, cat_tuning}
+use Rattle.sd_spec_receiver.specs.Tuned.{tuning_of, tuned_by}
+use Rattle.sd_psi.specs.OurCat.{cat_tuning}
+use Rattle.sd_psi.specs.declared.our_cat.Tuning.{Tuning}
 use Rattle.sd_spec_receiver.specs.Stretches.{messages, newest, counted, current, seen, is_closed, others}
 use Rattle.sd_spec_receiver.specs.Keys.{key_in}
 use Rattle.sd_spec_receiver.specs.Offered.{Offering, heard, heard_with, offered, tuned_offering, out_from, break_from}

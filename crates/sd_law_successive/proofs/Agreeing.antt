@@ -7,7 +7,9 @@ use Rattle.std.proofs.lemmas.Bool.{false≢true}
 use Rattle.std.proofs.lemmas.Bool.Decides.{nat_tests}
 use Rattle.sd_card.specs.Fields.{CardFields}
 use Rattle.sd_ecm.specs.Parts.{Message}
-use Rattle.sd_spec_receiver.specs.Tuned.{Tuning, tuning_of, cat_tuning, tuned_by}
+use Rattle.sd_spec_receiver.specs.Tuned.{tuning_of, tuned_by}
+use Rattle.sd_psi.specs.OurCat.{cat_tuning}
+use Rattle.sd_psi.specs.declared.our_cat.Tuning.{Tuning}
 use Rattle.sd_spec_receiver.specs.Heard.{Heard, Dropped, Entitles, Controls, BadEmm, BadEcm, Other, hears}
 use Rattle.sd_spec_receiver.specs.Stretches.{is_closed, completes}
 use Rattle.sd_spec_receiver.specs.Runs.{run_name_heard, name_or, name_in, is_same, are_two, is_turn, of_run}

@@ -4,7 +4,8 @@ use Rattle.std.proofs.Common.{sym, ap, ◌∙◌, arith, subst, inl, inr}
 use Rattle.sd_card.specs.Fields.{CardFields}
 use Rattle.sd_spec_receiver.specs.declared.ending.Ending.{Ending}
 use Rattle.sd_spec_receiver.specs.declared.ending.Ending.TheVariants.{Opened}
-use Rattle.sd_spec_receiver.specs.Tuned.{Tuning, tuning_of}
+use Rattle.sd_spec_receiver.specs.Tuned.{tuning_of}
+use Rattle.sd_psi.specs.declared.our_cat.Tuning.{Tuning}
 use Rattle.sd_spec_receiver.specs.Heard.{Heard, hears}
 use Rattle.sd_spec_receiver.specs.Runs.{name_in, are_two, is_turn}
 use Rattle.sd_spec_receiver.specs.Offered.{heard, Offering, offered}

@@ -7,7 +7,9 @@ use Rattle.std.proofs.lemmas.List.{reverse-append}
 use Rattle.sd_card.specs.Fields.{CardFields}
 use Rattle.sd_spec_receiver.specs.declared.ending.Ending.{Ending}
 use Rattle.sd_spec_receiver.specs.declared.ending.Ending.TheVariants.{Opened, Revoked, Unheard, NoCat, Unclosed, Gaps}
-use Rattle.sd_spec_receiver.specs.Tuned.{Tuning, cat_tuning, tuning_of}
+use Rattle.sd_spec_receiver.specs.Tuned.{tuning_of}
+use Rattle.sd_psi.specs.OurCat.{cat_tuning}
+use Rattle.sd_psi.specs.declared.our_cat.Tuning.{Tuning}
 use Rattle.sd_spec_receiver.specs.Heard.{Heard, hears}
 use Rattle.sd_spec_receiver.specs.Runs.{name_in, are_two, is_turn}
 use Rattle.sd_spec_receiver.specs.Offered.{heard, Offering, offered}

@@ -10,7 +10,7 @@ use Rattle.sd_card.specs.Fields.{CardFields, card_of}
 use Rattle.sd_spec_broadcast.specs.Sent.{broadcast}
 use Rattle.sd_spec_receiver.specs.declared.ending.Ending.{Ending}
 use Rattle.sd_spec_receiver.specs.declared.ending.Ending.TheVariants.{NoCat}
-use Rattle.sd_spec_receiver.specs.Tuned.{Tuning}
+use Rattle.sd_psi.specs.declared.our_cat.Tuning.{Tuning}
 use Rattle.sd_spec_receiver.specs.Offered.{heard, out_from, break_from}
 use Rattle.sd_spec_receiver.specs.Ending.{joined, run_ending, run_wrote, ending_of}
 use Rattle.sd_spec_receiver.specs.Taken.{taken_keys}

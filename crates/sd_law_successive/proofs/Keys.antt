@@ -4,7 +4,9 @@ use Rattle.std.proofs.Common.{sym, ap, ◌∙◌, arith}
 use Rattle.std.specs.Prelude.{if◌then◌else◌}
 use Rattle.std.specs.Option.{option_map_or}
 use Rattle.sd_card.specs.Fields.{CardFields}
-use Rattle.sd_spec_receiver.specs.Tuned.{Tuning, cat_tuning, tuning_of}
+use Rattle.sd_spec_receiver.specs.Tuned.{tuning_of}
+use Rattle.sd_psi.specs.OurCat.{cat_tuning}
+use Rattle.sd_psi.specs.declared.our_cat.Tuning.{Tuning}
 use Rattle.sd_spec_receiver.specs.Runs.{name_in, are_two}
 use Rattle.sd_spec_receiver.specs.Offered.{heard}
 use Rattle.sd_spec_receiver.specs.Taken.{takes_key_at, taken_keys}

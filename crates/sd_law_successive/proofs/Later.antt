@@ -13,7 +13,7 @@ use Rattle.sd_ecm.specs.Judged.{ecm_read}
 use Rattle.sd_ecm.specs.Parts.{Message}
 use Rattle.sd_ecm.specs.declared.part.EcmPart.{EcmPart}
 use Rattle.sd_ecm.specs.declared.fault.EcmFault.{EcmFault}
-use Rattle.sd_spec_receiver.specs.Tuned.{Tuning}
+use Rattle.sd_psi.specs.declared.our_cat.Tuning.{Tuning}
 use Rattle.sd_spec_receiver.specs.Heard.{Heard, Dropped, Entitles, Controls, BadEmm, BadEcm, Other, heard_emm}
 use Rattle.sd_spec_receiver.specs.Heard.{heard_ecm}
 use Rattle.sd_spec_receiver.specs.Heard.{hears}

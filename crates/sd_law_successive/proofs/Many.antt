@@ -8,7 +8,7 @@ use Rattle.sd_site.specs.Fields.{run_name_of as site_name}
 use Rattle.sd_card.specs.Fields.{CardFields, card_of}
 use Rattle.sd_spec_broadcast.specs.Sent.{Item, Cat, sent, closing_of, broadcast}
 use Rattle.sd_spec_receiver.specs.declared.ending.Ending.{Ending}
-use Rattle.sd_spec_receiver.specs.Tuned.{Tuning}
+use Rattle.sd_psi.specs.declared.our_cat.Tuning.{Tuning}
 use Rattle.sd_spec_receiver.specs.Heard.{hears}
 use Rattle.sd_spec_receiver.specs.Offered.{Offering, out_from, break_from}
 use Rattle.sd_spec_receiver.specs.Ending.{ending_of}

@@ -19,7 +19,7 @@ use Rattle.sd_spec_receiver.specs.declared.ending.Ending.{Ending}
 use Rattle.sd_spec_receiver.specs.declared.ending.Ending.TheVariants.{Unclosed}
 use Rattle.sd_spec_receiver.specs.declared.fault.StreamFault.{StreamFault}
 use Rattle.sd_spec_receiver.specs.declared.fault.StreamFault.TheVariants as Fault
-use Rattle.sd_spec_receiver.specs.Tuned.{Tuning}
+use Rattle.sd_psi.specs.declared.our_cat.Tuning.{Tuning}
 use Rattle.sd_spec_receiver.specs.Heard.{Heard, Dropped, Entitles, Controls, BadEmm, BadEcm, Other}
 use Rattle.sd_spec_receiver.specs.Stretches.{Stretch, newest, run_to, completes, is_closed, current, seen, held_in}
 use Rattle.sd_spec_receiver.specs.Runs.{of_run}

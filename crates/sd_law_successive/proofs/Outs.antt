@@ -5,7 +5,8 @@ use Rattle.std.specs.Prelude.{if◌then◌else◌, option_map}
 use Rattle.std.specs.Option.{option_map_or}
 use Rattle.sd_card.specs.Fields.{CardFields}
 use Rattle.sd_spec_receiver.specs.declared.fault.StreamFault.{StreamFault}
-use Rattle.sd_spec_receiver.specs.Tuned.{Tuning, cat_tuning}
+use Rattle.sd_psi.specs.OurCat.{cat_tuning}
+use Rattle.sd_psi.specs.declared.our_cat.Tuning.{Tuning}
 use Rattle.sd_spec_receiver.specs.Runs.{name_in, are_two}
 use Rattle.sd_spec_receiver.specs.Offered.{heard, Offering, offered, out_from, break_from}
 use Rattle.sd_law_successive.specs.Pieces.{name_at, with_packet, pieces_after}

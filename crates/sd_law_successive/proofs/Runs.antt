@@ -15,7 +15,8 @@ use Rattle.sd_spec_broadcast.specs.Refused.{IsClear}
 use Rattle.sd_spec_broadcast.proofs.Items.{all_are_of_broadcast}
 use Rattle.sd_law_broadcast.specs.Packets.{AreWholePackets}
 use Rattle.sd_law_broadcast.proofs.Runs.{section_names, part_names}
-use Rattle.sd_spec_receiver.specs.Tuned.{Tuning, cat_tuning}
+use Rattle.sd_psi.specs.OurCat.{cat_tuning}
+use Rattle.sd_psi.specs.declared.our_cat.Tuning.{Tuning}
 use Rattle.sd_spec_receiver.specs.Heard.{hears}
 use Rattle.sd_spec_receiver.specs.Runs.{run_name_heard}
 use Rattle.sd_spec_receiver.specs.Offered.{out_from, break_from}

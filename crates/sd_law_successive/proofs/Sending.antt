@@ -5,7 +5,8 @@ use Rattle.std.specs.List.{list_any}
 use Rattle.std.proofs.lemmas.Bool.{false≢true}
 use Rattle.sd_card.specs.Fields.{CardFields}
 use Rattle.sd_spec_broadcast.specs.Sent.{Item, Cat, Entitles, Controls, Carries}
-use Rattle.sd_spec_receiver.specs.Tuned.{Tuning, cat_tuning}
+use Rattle.sd_psi.specs.OurCat.{cat_tuning}
+use Rattle.sd_psi.specs.declared.our_cat.Tuning.{Tuning}
 use Rattle.sd_spec_receiver.specs.Heard.{hears}
 use Rattle.sd_law_losses.specs.Chosen.{chosen}
 use Rattle.sd_law_losses.specs.Kept.{is_cat_item, after_cat}

@@ -6,7 +6,9 @@ use Rattle.std.specs.Option.{option_map_or}
 use Rattle.sd_card.specs.Fields.{CardFields}
 use Rattle.sd_spec_receiver.specs.declared.ending.Ending.{Ending}
 use Rattle.sd_spec_receiver.specs.declared.ending.Ending.TheVariants.{Opened, NoCat}
-use Rattle.sd_spec_receiver.specs.Tuned.{Tuning, cat_tuning, tuned_by, tuning_of}
+use Rattle.sd_spec_receiver.specs.Tuned.{tuned_by, tuning_of}
+use Rattle.sd_psi.specs.OurCat.{cat_tuning}
+use Rattle.sd_psi.specs.declared.our_cat.Tuning.{Tuning}
 use Rattle.sd_spec_receiver.specs.Runs.{name_in}
 use Rattle.sd_spec_receiver.specs.Offered.{heard, heard_with, Offering, no_offering, offered, tuned_offering, out_from}
 use Rattle.sd_spec_receiver.specs.Offered.{break_from}

@@ -2,7 +2,8 @@
 use Rattle.std.proofs.Common.{◌≡◌, ◌≢◌, ℕ, ◌+◌, ◌++◌, true, false, List, [], length, Option, Some, sym, ap}
 use Rattle.std.proofs.Common.{◌∙◌}
 use Rattle.sd_card.specs.Fields.{CardFields}
-use Rattle.sd_spec_receiver.specs.Tuned.{Tuning, tuning_of}
+use Rattle.sd_spec_receiver.specs.Tuned.{tuning_of}
+use Rattle.sd_psi.specs.declared.our_cat.Tuning.{Tuning}
 use Rattle.sd_spec_receiver.specs.Heard.{Heard, hears}
 use Rattle.sd_spec_receiver.specs.Runs.{are_two, is_turn, of_run}
 use Rattle.sd_spec_receiver.specs.Offered.{heard}

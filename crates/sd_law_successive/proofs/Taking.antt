@@ -6,7 +6,9 @@ use Rattle.std.specs.Option.{option_map_or}
 use Rattle.std.proofs.lemmas.Bool.{false≢true}
 use Rattle.sd_card.specs.Fields.{CardFields}
 use Rattle.sd_emm.specs.declared.emm.Emm.{Emm}
-use Rattle.sd_spec_receiver.specs.Tuned.{Tuning, cat_tuning, tuning_of}
+use Rattle.sd_spec_receiver.specs.Tuned.{tuning_of}
+use Rattle.sd_psi.specs.OurCat.{cat_tuning}
+use Rattle.sd_psi.specs.declared.our_cat.Tuning.{Tuning}
 use Rattle.sd_spec_receiver.specs.Heard.{Heard, Dropped, Entitles, Controls, BadEmm, BadEcm, Other, hears}
 use Rattle.sd_spec_receiver.specs.Stretches.{current, is_closed}
 use Rattle.sd_spec_receiver.specs.Runs.{is_turn, of_run}

@@ -1,7 +1,8 @@
 -- Public meaning: the pieces into which a stream is cut, each of one run.
 use Rattle.std.specs.Prelude.{suc, List, [], ◌∷◌, if◌then◌else◌, Option, Some, None}
 use Rattle.sd_spec_types.specs.Types.{Packet, Packets, SystemId, Height, RunName, PacketNumber}
-use Rattle.sd_spec_receiver.specs.Tuned.{Tuning, cat_tuning}
+use Rattle.sd_psi.specs.OurCat.{cat_tuning}
+use Rattle.sd_psi.specs.declared.our_cat.Tuning.{Tuning}
 use Rattle.sd_spec_receiver.specs.Heard.{hears}
 use Rattle.sd_spec_receiver.specs.Runs.{run_name_heard, name_or, are_two}
 

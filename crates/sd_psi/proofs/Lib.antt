@@ -11,3 +11,4 @@ pub mod Shapes
 pub mod Inverse
 pub mod Keeping
 pub mod OurCat
+pub mod Tunings

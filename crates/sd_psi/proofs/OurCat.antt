@@ -1,12 +1,14 @@
--- The project's CAT is a CAT, and has one descriptor.
+-- The project's CAT is a CAT, has one descriptor, and is read again.
 use Rattle.std.proofs.Common.{ℕ, zero, suc, ◌+◌, ◌-◌, ◌^◌, ◌<◌, ◌≤◌, ◌≡◌, true, ◌==◌, List, [], ◌∷◌, ◌++◌, length, drop}
-use Rattle.std.proofs.Common.{length-append, length-drop, eq-eqb, refl, ap, ◌∙◌, arith}
-use Rattle.std.specs.Prelude.{None, nat_le, replicate}
+use Rattle.std.proofs.Common.{length-append, length-drop, eq-eqb, refl, sym, ap, ◌∙◌, arith}
+use Rattle.std.specs.Prelude.{◌&&◌, Bool, false, Some, None, nat_le, replicate, option_map, if◌then◌else◌}
 use Rattle.std.proofs.lemmas.Bool.{le-leb, leb-true, and_parts}
+use Rattle.std.proofs.lemmas.Bool.Decides.{nat_tests}
 use Rattle.std.proofs.lemmas.List.{drop_at}
 use Rattle.sd_bits.specs.Bits.{field}
 use Rattle.sd_bits.proofs.Fields.{field_split, field_below}
 use Rattle.sd_bits.proofs.Words.{byte_field}
+use Rattle.sd_packet.specs.Header.{has_payload}
 use Rattle.sd_packet.specs.Packing.{packed}
 use Rattle.sd_packet.proofs.Packets.{packet_reads}
 use Rattle.sd_section.specs.Header.{whole_of, body_of, crc_in, crc_due}
@@ -18,11 +20,15 @@ use Rattle.sd_psi.specs.declared.form.Table.TheVariants.{Cat}
 use Rattle.sd_psi.specs.declared.items.Kind.TheVariants.{Descriptor}
 use Rattle.sd_psi.specs.Items.{size_of, is_whole_item, are_whole}
 use Rattle.sd_psi.specs.Tables.{descriptors_of, tag_of, content_of, is_cat}
-use Rattle.sd_psi.specs.Access.{is_ca, cat_descriptor, cat_header, cat_section, IsCatDescriptor}
+use Rattle.sd_psi.specs.Access.{is_ca}
+use Rattle.sd_psi.specs.OurCat.{cat_descriptor, cat_header, cat_section, IsCatDescriptor}
+use Rattle.sd_psi.specs.OurCat.{tuning_in, is_tuning, is_for, cat_tuning}
+use Rattle.sd_psi.specs.declared.our_cat.Tuning.{Tuning}
 use Rattle.sd_psi.specs.Forms.{after_pointer, section_in, has_body, is_stuffing, bytes_fault, outer_fault, cat_fault}
 use Rattle.sd_psi.specs.Forms.{form_fault}
 use Rattle.sd_psi.proofs.Grammar.{spelled_items, spelled_whole}
 use Rattle.sd_psi.proofs.Shapes.{sealed_right}
+use Rattle.sd_psi.proofs.Tunings.{private_field}
 
 -- stuffing is stuffing alone
 only_stuffing : (n : ℕ) → is_stuffing (replicate n 255) ≡ true
@@ -172,3 +178,44 @@ our_descriptor_is_read ca emm ecm system first second =
         field_below p 3 13,
       );
     }
+
+tag_is : (ca emm ecm : ℕ) → tag_of (cat_descriptor ca emm ecm) ≡ 9
+unfolding field
+tag_is ca emm ecm = refl
+
+-- the descriptor of a system and two PIDs
+module _ (ca : ℕ) (tuning : Tuning) (system : ca < 2 ^ 16) (emm : tuning.emm < 8192) (ecm : tuning.ecm < 8192) where
+  descriptor_tunes : tuning_in (cat_descriptor ca tuning.emm tuning.ecm) ≡ tuning
+  unfolding tuning_in
+  descriptor_tunes =
+      let reads = our_descriptor_is_read ca tuning.emm tuning.ecm system emm ecm in
+      rw (reads.ca_pid, sym (private_field (cat_descriptor ca tuning.emm tuning.ecm)), reads.private) refl
+
+  descriptor_is_for : (reader : ℕ) →
+      is_for reader (cat_descriptor ca tuning.emm tuning.ecm) ≡ ((ca == reader) && is_tuning tuning)
+  unfolding is_for
+  descriptor_is_for reader =
+      let reads = our_descriptor_is_read ca tuning.emm tuning.ecm system emm ecm in
+      rw (tag_is ca tuning.emm tuning.ecm, reads.system, descriptor_tunes) refl
+
+read_if : (chosen : Bool) (descriptor : List ℕ) (tuning : Tuning) → tuning_in descriptor ≡ tuning →
+    option_map tuning_in (if chosen then Some descriptor else None) ≡ (if chosen then Some tuning else None)
+read_if true descriptor tuning is = ap (λ (t : Tuning). Some t) is
+read_if false descriptor tuning is = refl
+
+-- a reader takes the two PIDs that were written, if they are good and the system is its own
+pub our_cat_is_read : (ca reader counter : ℕ) (tuning : Tuning) → ca < 2 ^ 16 → tuning.emm < 8192 →
+    tuning.ecm < 8192 → counter < 16 →
+    cat_tuning reader (packed (cat_section ca tuning.emm tuning.ecm) 1 counter)
+    ≡ (if (ca == reader) && is_tuning tuning then Some tuning else None)
+unfolding cat_tuning
+our_cat_is_read ca reader counter tuning system emm ecm few =
+    let packet = packet_reads (cat_section ca tuning.emm tuning.ecm) 1 counter (omega arith) few in
+    let start = packet.start in
+    let some : has_payload (packed (cat_section ca tuning.emm tuning.ecm) 1 counter) ≡ true =
+    grind (arith, nat_tests, start) in
+    let good = our_cat_is_good ca tuning.emm tuning.ecm counter few in
+    let has = our_cat_has_one ca tuning.emm tuning.ecm counter few in
+    let own = descriptor_is_for ca tuning system emm ecm reader in
+    rw (packet.pid_is, some, good, has, own) (read_if ((ca == reader) && is_tuning tuning)
+    (cat_descriptor ca tuning.emm tuning.ecm) tuning (descriptor_tunes ca tuning system emm ecm))

@@ -4,3 +4,4 @@ pub mod Forms
 pub mod Rewriting
 pub mod Undone
 pub mod Access
+pub mod OurCat

@@ -1,6 +1,8 @@
-//! The items of tables spell bytes in one way, and rewriting and restoring a PMT undo each other.
+//! The items of tables spell bytes in one way, rewriting and restoring a PMT undo each other, and the project's CAT is
+//! read as it was written.
 
-ghost use Rattle.std.specs.Prelude.{◌≡◌, ◌≢◌, ◌%◌, ◌^◌, ◌<◌, ◌↔◌, [], ◌∷◌, true, Some, None, List, ℕ, length};
+ghost use Rattle.std.specs.Prelude.{◌≡◌, ◌≢◌, ◌%◌, ◌^◌, ◌<◌, ◌↔◌, ◌==◌, ◌&&◌, [], ◌∷◌, true, Some, None};
+ghost use Rattle.std.specs.Prelude.{if◌then◌else◌, List, ℕ, length};
 ghost use Rattle.std.specs.List.{list_all};
 ghost use Rattle.sd_psi.specs.declared.items.Kind.{Kind};
 ghost use Rattle.sd_psi.specs.declared.items.Kind.TheVariants.{Program};
@@ -9,7 +11,8 @@ ghost use Rattle.sd_psi.specs.Items.{items_of, is_whole_item, are_whole, joined}
 ghost use Rattle.sd_packet.specs.Packing.{packed};
 ghost use Rattle.sd_section.specs.Header.{body_of};
 ghost use Rattle.sd_psi.specs.Tables.{descriptors_of};
-ghost use Rattle.sd_psi.specs.Access.{cat_descriptor, cat_section, IsCatDescriptor};
+ghost use Rattle.sd_psi.specs.OurCat.{cat_descriptor, cat_section, IsCatDescriptor, is_tuning, cat_tuning};
+ghost use Rattle.sd_psi.specs.declared.our_cat.Tuning.{Tuning};
 ghost use Rattle.sd_psi.specs.Forms.{section_in, cat_fault};
 ghost use Rattle.sd_psi.specs.Rewriting.{rewritten, restored, rewrite_fault, restore_fault};
 ghost use Rattle.sd_psi.specs.Undone.{IsPacket, KeepsHeader};
@@ -73,4 +76,13 @@ pub fn our_cat_is_one()
         ≡ cat_descriptor ca emm ecm ∷ [] }
     ensures fields { (ca emm ecm : ℕ) → ca < 2 ^ 16 → emm < 8192 → ecm < 8192 →
         IsCatDescriptor ca emm ecm (cat_descriptor ca emm ecm) }
+{}
+
+/// A receiver of a system takes from the project's CAT the two PIDs with which it was written, if it was written for
+/// this system and the PIDs have positions and differ. Else it takes nothing from it.
+#[tactic(auto, using(crate::proofs::OurCat::our_cat_is_read))]
+pub fn our_cat_is_read()
+    ensures { (ca reader counter : ℕ) (tuning : Tuning) → ca < 2 ^ 16 → tuning.emm < 8192 → tuning.ecm < 8192 →
+        counter < 16 → cat_tuning reader (packed (cat_section ca tuning.emm tuning.ecm) 1 counter)
+        ≡ (if (ca == reader) && is_tuning tuning then Some tuning else None) }
 {}

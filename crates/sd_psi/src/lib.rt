@@ -1,4 +1,4 @@
-//! PAT, CAT and PMT as views of sections and packets, and the PMT with the project's CA_descriptor.
+//! PAT, CAT and PMT as views of sections and packets, the project's CAT, and the PMT with the project's CA_descriptor.
 #![tactic(auto)]
 
 mod cat;
@@ -7,6 +7,7 @@ mod fault;
 mod form;
 mod items;
 pub mod laws;
+mod our_cat;
 mod pat;
 mod pmt;
 mod program;
@@ -16,6 +17,7 @@ mod stream;
 pub use cat::{Cat, cat_in, cat_of};
 pub use descriptor::{CA_TAG, CaDescriptor, Descriptor, Descriptors};
 pub use fault::FormFault;
+pub use our_cat::{CAT_HEADER, CAT_PID, Tuning, cat_descriptor, cat_tuning};
 pub use pat::{Pat, pat_in, pat_of};
 pub use pmt::{Pmt, pmt_in, pmt_of};
 pub use program::{PmtPids, Programs};

@@ -1,6 +1,6 @@
 -- How a stream ends, by what is kept.
 use Rattle.std.proofs.Common.{◌≡◌, ℕ, ◌+◌, ◌-◌, List, [], length, refl, sym, ap, ◌∙◌, true, false, arith}
-use Rattle.std.specs.Prelude.{Option, Some, None, option_map, reverse, is_none, nat_lt, find}
+use Rattle.std.specs.Prelude.{Option, Some, None, reverse, is_none, nat_lt, find}
 use Rattle.std.specs.Option.{option_map_or}
 use Rattle.std.proofs.lemmas.Bool.{lt-ltb}
 use Rattle.sd_ecm.specs.Parts.{Message}
@@ -15,8 +15,6 @@ use Rattle.sd_spec_receiver.specs.Heard.{Heard}
 use Rattle.sd_spec_receiver.specs.Offered.{heard}
 use Rattle.sd_spec_receiver.specs.Ending.{periods_told, is_unkeyed, ending_with, run_ending, joined, run_wrote}
 use Rattle.sd_spec_receiver.specs.Ending.{ended_before, ending_of}
-use Rattle.sd_receive_filter.specs.Ears.{tuned}
-use Rattle.sd_receive_filter.specs.declared.tune.Tuning.{Tuning as Kept}
 use Rattle.sd_receive_ecm.specs.Collected.{IsMessageKept}
 use Rattle.sd_receive_emm.specs.Entitled.{is_told_revoked}
 use Rattle.sd_receive.specs.Listening.{IsListenerAfter}
@@ -24,13 +22,9 @@ use Rattle.sd_receive.specs.Receiving.{card_in, IsAfter}
 use Rattle.sd_receive.specs.declared.listener.Listener.{Listener}
 use Rattle.sd_receive.specs.declared.receiver.Receiver.{Receiver}
 
-same_none : (tuning : Option Kept) → is_none (option_map tuned tuning) ≡ is_none tuning
-same_none None = refl
-same_none (Some kept) = refl
-
 tuned_or_not : (r : Receiver) (past : List (List ℕ)) → IsAfter past r →
     is_none (tuning_of r.card.ca past) ≡ is_none r.tuning
-tuned_or_not r past after = ap is_none (sym after.tuning) ∙ same_none r.tuning
+tuned_or_not r past after = ap is_none (sym after.tuning)
 
 pub no_cat : (r : Receiver) (past : List (List ℕ)) → IsAfter past r → is_none r.tuning ≡ true →
     NoCat ≡ ending_of (card_in r) past

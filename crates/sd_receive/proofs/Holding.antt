@@ -9,7 +9,7 @@ use Rattle.sd_ecm.specs.Parts.{Message, message_of}
 use Rattle.sd_ecm.specs.declared.part.EcmPart.{EcmPart}
 use Rattle.sd_ecm.specs.declared.part.Place.{Place}
 use Rattle.sd_ecm.specs.declared.message.EcmHead.{EcmHead}
-use Rattle.sd_spec_receiver.specs.Tuned.{Tuning}
+use Rattle.sd_psi.specs.declared.our_cat.Tuning.{Tuning}
 use Rattle.sd_spec_receiver.specs.Heard.{Heard, Controls, Other}
 use Rattle.sd_spec_receiver.specs.Stretches.{Stretch, newest, completes, others, other_with, held_in}
 use Rattle.sd_spec_receiver.specs.Keys.{key_in, key_at}

@@ -16,7 +16,7 @@ use Rattle.sd_engine.specs.declared.stage.StageFault.{StageFault}
 use Rattle.sd_engine.specs.declared.stage.StageFault.TheVariants.{Write, Refused}
 use Rattle.sd_spec_receiver.specs.declared.fault.StreamFault.{StreamFault}
 use Rattle.sd_spec_receiver.specs.declared.fault.StreamFault.TheVariants as Fault
-use Rattle.sd_spec_receiver.specs.Tuned.{Tuning}
+use Rattle.sd_psi.specs.declared.our_cat.Tuning.{Tuning}
 use Rattle.sd_spec_receiver.specs.Heard.{Heard, Dropped, Entitles, Controls, BadEmm, BadEcm, Other}
 use Rattle.sd_spec_receiver.specs.Stretches.{completes, current, seen, is_closed}
 use Rattle.sd_spec_receiver.specs.Keys.{key_from, key_at}

@@ -13,7 +13,7 @@ use Rattle.sd_ecm.specs.declared.message.EcmHead.{EcmHead}
 use Rattle.sd_engine.specs.Stage.{SinkState, IsCutShort}
 use Rattle.sd_spec_receiver.specs.declared.fault.StreamFault.{StreamFault}
 use Rattle.sd_spec_receiver.specs.declared.fault.StreamFault.TheVariants as Fault
-use Rattle.sd_spec_receiver.specs.Tuned.{Tuning}
+use Rattle.sd_psi.specs.declared.our_cat.Tuning.{Tuning}
 use Rattle.sd_spec_receiver.specs.Heard.{Heard, Controls}
 use Rattle.sd_spec_receiver.specs.Stretches.{newest, completes, current}
 use Rattle.sd_spec_receiver.specs.Keys.{key_at}

@@ -9,7 +9,7 @@ use Rattle.sd_ecm.specs.declared.part.EcmPart.{EcmPart}
 use Rattle.sd_ecm.specs.declared.fault.EcmFault.{EcmFault}
 use Rattle.sd_ecm.specs.declared.fault.EcmFault.TheVariants.{Back}
 use Rattle.sd_spec_receiver.specs.declared.fault.StreamFault.TheVariants as Fault
-use Rattle.sd_spec_receiver.specs.Tuned.{Tuning}
+use Rattle.sd_psi.specs.declared.our_cat.Tuning.{Tuning}
 use Rattle.sd_spec_receiver.specs.Heard.{Heard, Controls}
 use Rattle.sd_spec_receiver.specs.Stretches.{newest, run_to, completes, current}
 use Rattle.sd_spec_receiver.specs.Keys.{key_at}

@@ -20,7 +20,9 @@ use Rattle.sd_section.specs.Header.{body_of}
 use Rattle.sd_psi.specs.Tables.{descriptors_of}
 use Rattle.sd_psi.specs.Forms.{cat_fault, section_in}
 use Rattle.sd_receive_hold.proofs.Sinks.{took_none}
-use Rattle.sd_spec_receiver.specs.Tuned.{Tuning, tuning_in, is_for, cat_tuning, tuned_by, tuning_of}
+use Rattle.sd_spec_receiver.specs.Tuned.{tuned_by, tuning_of}
+use Rattle.sd_psi.specs.OurCat.{tuning_in, is_for, cat_tuning}
+use Rattle.sd_psi.specs.declared.our_cat.Tuning.{Tuning}
 use Rattle.sd_spec_receiver.specs.Heard.{Heard, hears}
 use Rattle.sd_spec_receiver.specs.declared.ending.Ending.{Ending}
 use Rattle.sd_spec_receiver.specs.declared.ending.Ending.TheVariants.{Opened}
@@ -29,8 +31,6 @@ use Rattle.sd_spec_receiver.specs.Runs.{run_name_heard, name_in, are_two, is_tur
 use Rattle.sd_spec_receiver.specs.Offered.{Offering, no_offering, heard, offered, heard_offering, break_from}
 use Rattle.sd_spec_receiver.specs.Ending.{run_ending, joined, turns_at, run_wrote, ended_before}
 use Rattle.sd_spec_receiver.proofs.Runs.{same_run, new_run, never_turns, ended_on, ended_now}
-use Rattle.sd_receive_filter.specs.Ears.{tuned}
-use Rattle.sd_receive_filter.specs.declared.tune.Tuning.{Tuning as Kept}
 use Rattle.sd_receive.specs.Listening.{IsListenerAfter, capped, CountsMore, TakesHeard, RefusesHeard, PacketOutcome}
 use Rattle.sd_receive.specs.Receiving.{card_in, with_run, IsAfter, TurnsBy, takes_key_of, takes_key_at, steps_at}
 use Rattle.sd_receive.specs.Receiving.{TakesPacket, receiver_does, Refusing, IsFit}
@@ -40,7 +40,7 @@ use Rattle.sd_receive.proofs.Turns.{break_more, not_tuned, was_closed, was_heard
 use Rattle.sd_receive.proofs.Turns.{name_now, wrote_before, wrote_now}
 
 -- the receiver with another count and another tuning
-abbrev pub counted : Receiver → ℕ → Option Kept → Receiver
+abbrev pub counted : Receiver → ℕ → Option Tuning → Receiver
 counted s count tuning = record {
   card = s.card;
   count = count;
@@ -82,12 +82,12 @@ unbroken_more card past packet none good =
     ∙ (ap (λ (b : List (List ℕ)). (offered card b packet).fault) (twice_reversed past) ∙ good))
 
 -- a packet that offers nothing, of which nothing is heard, and which ends no run
-pub idle : (past : List (List ℕ)) (s : Receiver) (packet : List ℕ) (tuning : Option Kept) (count : ℕ) →
+pub idle : (past : List (List ℕ)) (s : Receiver) (packet : List ℕ) (tuning : Option Tuning) (count : ℕ) →
     IsAfter past s →
     offered (card_in s) past packet ≡ no_offering → heard (card_in s) (packet ∷ past) ≡ heard (card_in s) past →
     turns_at (card_in s) past packet ≡ false →
     count ≡ length past + 1 →
-    option_map tuned tuning ≡ tuning_of s.card.ca (packet ∷ past) →
+    tuning ≡ tuning_of s.card.ca (packet ∷ past) →
     TakesPacket past s packet (counted s count tuning) [] 0
 idle past s packet tuning count after offers same stays is tuned_is =
     let card = card_in s in
@@ -115,29 +115,29 @@ idle past s packet tuning count after offers same stays is tuned_is =
     }
 
 -- a packet before the CAT is taken
-pub idle_untuned : (s : Receiver) (packet : List ℕ) (tuning : Option Kept) (count : ℕ) → s.tuning ≡ None →
-    option_map tuned tuning ≡ cat_tuning s.card.ca packet → count ≡ capped (s.count + 1) →
+pub idle_untuned : (s : Receiver) (packet : List ℕ) (tuning : Option Tuning) (count : ℕ) → s.tuning ≡ None →
+    tuning ≡ cat_tuning s.card.ca packet → count ≡ capped (s.count + 1) →
     receiver_does s packet (counted s count tuning) [] 0
 unfolding tuning_of
 idle_untuned s packet tuning count none is added = λ past after countable.
-    let untuned : tuning_of s.card.ca past ≡ None = sym after.tuning ∙ ap (option_map tuned) none in
+    let untuned : tuning_of s.card.ca past ≡ None = sym after.tuning ∙ none in
     let rests = not_tuned (card_in s) past packet untuned in
     idle past s packet tuning count after rests.0 rests.1 (never_turns (card_in s) past packet untuned)
     (omega (arith, added, after.count, countable))
     (is ∙ sym (ap (λ (t : Option Tuning). tuned_by t (cat_tuning s.card.ca packet)) untuned))
 
 -- a packet after the CAT
-kept_tuning : (ca : ℕ) (past : List (List ℕ)) (packet : List ℕ) (tuning : Option Kept) (kept : Kept) →
+kept_tuning : (ca : ℕ) (past : List (List ℕ)) (packet : List ℕ) (tuning : Option Tuning) (kept : Tuning) →
     tuning ≡ Some kept →
-    option_map tuned tuning ≡ tuning_of ca past → option_map tuned tuning ≡ tuning_of ca (packet ∷ past)
+    tuning ≡ tuning_of ca past → tuning ≡ tuning_of ca (packet ∷ past)
 unfolding tuning_of
 kept_tuning ca past packet tuning kept some is =
-    let told : tuning_of ca past ≡ Some (tuned kept) = sym is ∙ ap (option_map tuned) some in
-    ap (option_map tuned) some ∙ sym (ap (λ (t : Option Tuning). tuned_by t (cat_tuning ca packet)) told)
+    let told : tuning_of ca past ≡ Some kept = sym is ∙ some in
+    some ∙ sym (ap (λ (t : Option Tuning). tuned_by t (cat_tuning ca packet)) told)
 
 -- what a packet is heard as that comes now
-abbrev pub thing_of : Receiver → Kept → List ℕ → Heard
-thing_of s kept packet = hears s.card.height (tuned kept) s.count packet
+abbrev pub thing_of : Receiver → Tuning → List ℕ → Heard
+thing_of s kept packet = hears s.card.height kept s.count packet
 
 -- what is kept of the run that is at hand with a packet, before it
 record Stands (past : List (List ℕ)) (s : Receiver) (packet : List ℕ) (thing : Heard) (count : ℕ) (u : Receiver) :
@@ -148,14 +148,14 @@ record Stands (past : List (List ℕ)) (s : Receiver) (packet : List ℕ) (thing
   so_far : u.so_far ≡ ended_before (card_in s) (packet ∷ past)
 
 -- whether the packet ends the run at hand
-ends_run : (past : List (List ℕ)) (s : Receiver) (packet : List ℕ) (kept : Kept) → IsAfter past s →
+ends_run : (past : List (List ℕ)) (s : Receiver) (packet : List ℕ) (kept : Tuning) → IsAfter past s →
     s.tuning ≡ Some kept →
     turns_at (card_in s) past packet ≡ are_two s.name (run_name_heard (thing_of s kept packet))
 unfolding is_turn
 ends_run past s packet kept after some =
-    let told : tuning_of s.card.ca past ≡ Some (tuned kept) = sym after.tuning ∙ ap (option_map tuned) some in
-    turns_is (card_in s) past packet (tuned kept) told
-    ∙ (ap (λ (n : ℕ). is_turn (heard (card_in s) past) (hears s.card.height (tuned kept) n packet)) (sym after.count)
+    let told : tuning_of s.card.ca past ≡ Some kept = sym after.tuning ∙ some in
+    turns_is (card_in s) past packet kept told
+    ∙ (ap (λ (n : ℕ). is_turn (heard (card_in s) past) (hears s.card.height kept n packet)) (sym after.count)
     ∙ ap (λ (name : Option (Option ℕ)). are_two name (run_name_heard (thing_of s kept packet))) (sym after.name))
 
 is_ended : (past : List (List ℕ)) (s : Receiver) (thing : Heard) → IsAfter past s →
@@ -163,7 +163,7 @@ is_ended : (past : List (List ℕ)) (s : Receiver) (thing : Heard) → IsAfter p
 unfolding is_turn
 is_ended past s thing after = ap (λ (name : Option (Option ℕ)). are_two name (run_name_heard thing)) (sym after.name)
 
-stands : (past : List (List ℕ)) (s : Receiver) (packet : List ℕ) (kept : Kept) (count : ℕ) (u : Receiver) →
+stands : (past : List (List ℕ)) (s : Receiver) (packet : List ℕ) (kept : Tuning) (count : ℕ) (u : Receiver) →
     IsAfter past s →
     s.tuning ≡ Some kept → TurnsBy (run_name_heard (thing_of s kept packet)) (counted s count s.tuning) u →
     Stands past s packet (thing_of s kept packet) count u
@@ -206,18 +206,18 @@ unfolding is_closed
 none_closed = refl
 
 -- a packet after the closing message of its run
-pub idle_closed : (s : Receiver) (packet : List ℕ) (kept : Kept) (count : ℕ) (u : Receiver) → s.tuning ≡ Some kept →
+pub idle_closed : (s : Receiver) (packet : List ℕ) (kept : Tuning) (count : ℕ) (u : Receiver) → s.tuning ≡ Some kept →
     TurnsBy (run_name_heard (thing_of s kept packet)) (counted s count s.tuning) u → u.listener.closed ≡ true →
     count ≡ capped (s.count + 1) → receiver_does s packet u [] 0
 idle_closed s packet kept count u some turned closed added = λ past after countable.
     let card = card_in s in
     let thing = thing_of s kept packet in
     let stood = stands past s packet kept count u after some turned in
-    let told : tuning_of s.card.ca past ≡ Some (tuned kept) = sym after.tuning ∙ ap (option_map tuned) some in
+    let told : tuning_of s.card.ca past ≡ Some kept = sym after.tuning ∙ some in
     let shut : is_closed (of_run (heard card past) thing) ≡ true = sym stood.follows.closed ∙ closed in
     let shut_too = subst (λ (n : ℕ).
-    is_closed (of_run (heard card past) (hears s.card.height (tuned kept) n packet)) ≡ true) after.count shut in
-    let rests = was_closed card past packet (tuned kept) told shut_too in
+    is_closed (of_run (heard card past) (hears s.card.height kept n packet)) ≡ true) after.count shut in
+    let rests = was_closed card past packet kept told shut_too in
     tested (are_two s.name (run_name_heard thing))
     (λ two. absurd (true≢false (sym shut ∙ (ap is_closed (new_run (heard card past) thing
     (is_ended past s thing after ∙ two)) ∙ none_closed))))
@@ -242,40 +242,40 @@ TakesFew card listener thing from to = (past : List Heard) → IsListenerAfter c
     to ≤ from + (if takes_key_of card past thing then card.height else 0)
 
 -- what is known of a packet that is heard before the closing message of its run
-record Hears (past : List (List ℕ)) (s : Receiver) (packet : List ℕ) (kept : Kept) : Type 0 where
-  offers : offered (card_in s) past packet ≡ heard_offering (card_in s) (tuned kept) s.count
+record Hears (past : List (List ℕ)) (s : Receiver) (packet : List ℕ) (kept : Tuning) : Type 0 where
+  offers : offered (card_in s) past packet ≡ heard_offering (card_in s) kept s.count
       (of_run (heard (card_in s) past) (thing_of s kept packet)) (thing_of s kept packet)
   hearing : heard (card_in s) (packet ∷ past)
       ≡ thing_of s kept packet ∷ of_run (heard (card_in s) past) (thing_of s kept packet)
   few : steps_at (card_in s) past packet ≡ (if takes_key_of (card_in s)
       (of_run (heard (card_in s) past) (thing_of s kept packet)) (thing_of s kept packet) then s.card.height else 0)
 
-was_known : (past : List (List ℕ)) (s : Receiver) (packet : List ℕ) (kept : Kept) → IsAfter past s →
+was_known : (past : List (List ℕ)) (s : Receiver) (packet : List ℕ) (kept : Tuning) → IsAfter past s →
     s.tuning ≡ Some kept →
     is_closed (of_run (heard (card_in s) past) (thing_of s kept packet)) ≡ false → Hears past s packet kept
 was_known past s packet kept after some unclosed =
     let card = card_in s in
-    let told : tuning_of s.card.ca past ≡ Some (tuned kept) = sym after.tuning ∙ ap (option_map tuned) some in
-    let thing_at : ℕ → Heard = λ n. hears s.card.height (tuned kept) n packet in
+    let told : tuning_of s.card.ca past ≡ Some kept = sym after.tuning ∙ some in
+    let thing_at : ℕ → Heard = λ n. hears s.card.height kept n packet in
     let open_yet = subst (λ (n : ℕ). is_closed (of_run (heard card past) (thing_at n)) ≡ false) after.count unclosed in
-    let here = was_heard card past packet (tuned kept) told open_yet in
+    let here = was_heard card past packet kept told open_yet in
     let back = sym after.count in
     record {
-      offers = here.0 ∙ ap (λ (n : ℕ). heard_offering card (tuned kept) n (of_run (heard card past) (thing_at n))
+      offers = here.0 ∙ ap (λ (n : ℕ). heard_offering card kept n (of_run (heard card past) (thing_at n))
           (thing_at n)) back;
       hearing = here.1 ∙ ap (λ (n : ℕ). thing_at n ∷ of_run (heard card past) (thing_at n)) back;
-      few = heard_steps card past packet (tuned kept) told open_yet ∙ ap (λ (n : ℕ). if takes_key_of card
+      few = heard_steps card past packet kept told open_yet ∙ ap (λ (n : ℕ). if takes_key_of card
           (of_run (heard card past) (thing_at n)) (thing_at n) then s.card.height else 0) back;
     }
 
 -- a packet that is heard and taken
-pub heard_does : (s : Receiver) (packet : List ℕ) (kept : Kept) (count : ℕ) (u : Receiver)
+pub heard_does : (s : Receiver) (packet : List ℕ) (kept : Tuning) (count : ℕ) (u : Receiver)
     (name : Option (Option ℕ)) (t : Listener) (bytes : List ℕ) (from to : ℕ) →
     s.tuning ≡ Some kept → TurnsBy (run_name_heard (thing_of s kept packet)) (counted s count s.tuning) u →
     u.listener.closed ≡ false → count ≡ capped (s.count + 1) →
     name ≡ option_or (run_name_heard (thing_of s kept packet)) s.name →
     TakesFew (card_in s) u.listener (thing_of s kept packet) from to →
-    TakesHeard (card_in s) (tuned kept) s.count (thing_of s kept packet) u.listener t bytes →
+    TakesHeard (card_in s) kept s.count (thing_of s kept packet) u.listener t bytes →
     receiver_does s packet (listening u name t) bytes (to - from)
 heard_does s packet kept count u name t bytes from to some turned unclosed added named few takes =
     λ past after countable.
@@ -312,12 +312,12 @@ heard_does s packet kept count u name t bytes from to some turned unclosed added
     })
 
 -- and one that is refused
-pub heard_refuses : (s : Receiver) (packet : List ℕ) (kept : Kept) (count : ℕ) (u : Receiver) (why : StreamFault)
+pub heard_refuses : (s : Receiver) (packet : List ℕ) (kept : Tuning) (count : ℕ) (u : Receiver) (why : StreamFault)
     (bytes : List ℕ) (from to : ℕ) →
     s.tuning ≡ Some kept → TurnsBy (run_name_heard (thing_of s kept packet)) (counted s count s.tuning) u →
     u.listener.closed ≡ false →
     TakesFew (card_in s) u.listener (thing_of s kept packet) from to →
-    RefusesHeard (card_in s) (tuned kept) s.count (thing_of s kept packet) u.listener why bytes →
+    RefusesHeard (card_in s) kept s.count (thing_of s kept packet) u.listener why bytes →
     Refusing s packet why bytes (to - from)
 heard_refuses s packet kept count u why bytes from to some turned unclosed few refuses = λ past after countable.
     let card = card_in s in
@@ -441,7 +441,7 @@ few_same c d a b l from to card thing few =
     subst (λ (x : CardFields). TakesFew x l b from to) card (subst (λ (x : Heard). TakesFew c l x from to) thing few)
 
 -- what is known of the receiver once the run at hand was ended, or not
-pub record Ready (s : Receiver) (packet : List ℕ) (kept : Kept) (count : ℕ) (thing : Heard) (u : Receiver) : Type 0
+pub record Ready (s : Receiver) (packet : List ℕ) (kept : Tuning) (count : ℕ) (thing : Heard) (u : Receiver) : Type 0
   where
     pub turned : TurnsBy (run_name_heard (thing_of s kept packet)) (counted s count s.tuning) u
     pub thing_is : thing ≡ thing_of s kept packet
@@ -450,7 +450,7 @@ pub record Ready (s : Receiver) (packet : List ℕ) (kept : Kept) (count : ℕ) 
     pub tuning_is : u.tuning ≡ s.tuning
     pub live : (past : List Heard) × IsListenerAfter (card_in u) past u.listener
 
-pub ready : (s : Receiver) (packet : List ℕ) (kept : Kept) (count : ℕ) (thing : Heard) (u : Receiver)
+pub ready : (s : Receiver) (packet : List ℕ) (kept : Tuning) (count : ℕ) (thing : Heard) (u : Receiver)
     (name : Option (Option ℕ)) → thing ≡ thing_of s kept packet → name ≡ run_name_heard thing →
     TurnsBy name (counted s count s.tuning) u → (past : List Heard) × IsListenerAfter (card_in s) past s.listener →
     Ready s packet kept count thing u
@@ -489,13 +489,13 @@ ecm_within true (Some d) t is = let e : t ≡ tuning_in d = cc in
 ecm_within true None t is = absurd cc
 ecm_within false found t is = absurd cc
 
-pub ecm_fits : (ca : ℕ) (packet : List ℕ) (tuning : Option Kept) → option_map tuned tuning ≡ cat_tuning ca packet →
+pub ecm_fits : (ca : ℕ) (packet : List ℕ) (tuning : Option Tuning) → tuning ≡ cat_tuning ca packet →
     IfSome tuning (λ t. t.ecm < 8192)
 unfolding cat_tuning
 ecm_fits ca packet None is = tt
 ecm_fits ca packet (Some kept) is =
     ecm_within ((pid_of packet == 1) && (has_payload packet && is_none (cat_fault packet)))
-    (find (is_for ca) (descriptors_of (body_of (section_in packet)))) (tuned kept) is
+    (find (is_for ca) (descriptors_of (body_of (section_in packet)))) kept is
 
 -- before the first packet
 pub first_after : (card : Card) (listener : Listener) → listener.written ≡ 0 →

@@ -8,7 +8,7 @@ use Rattle.sd_engine.specs.Stage.{SinkState, IsCutShort}
 use Rattle.sd_engine.specs.declared.stage.StageFault.{StageFault}
 use Rattle.sd_engine.specs.declared.stage.StageFault.TheVariants.{Write, Refused}
 use Rattle.sd_spec_receiver.specs.declared.fault.StreamFault.{StreamFault}
-use Rattle.sd_spec_receiver.specs.Tuned.{Tuning}
+use Rattle.sd_psi.specs.declared.our_cat.Tuning.{Tuning}
 use Rattle.sd_spec_receiver.specs.Heard.{Heard, Controls}
 use Rattle.sd_spec_receiver.specs.Stretches.{is_closed}
 use Rattle.sd_spec_receiver.specs.Offered.{Offering, heard_offering}

@@ -1,6 +1,6 @@
 -- Public meaning: the receiver as a stage of packets.
 use Rattle.std.specs.Prelude.{◌≡◌, ℕ, ◌-◌, ◌*◌, ◌^◌, ◌<◌, ◌≤◌, true, false, List, [], ◌∷◌, ◌++◌, length, reverse}
-use Rattle.std.specs.Prelude.{if◌then◌else◌, Option, Some, None, option_map, IfSome}
+use Rattle.std.specs.Prelude.{if◌then◌else◌, Option, Some, None, IfSome}
 use Rattle.std.specs.List.{concat}
 use Rattle.sd_card.specs.Fields.{CardFields, fields_of}
 use Rattle.sd_spec_receiver.specs.declared.fault.StreamFault.{StreamFault}
@@ -12,7 +12,6 @@ use Rattle.sd_spec_receiver.specs.Ending.{joined, run_ending, run_wrote, ended_b
 use Rattle.sd_spec_receiver.specs.Offered.{heard, offered, out_from, break_from}
 pub use Rattle.sd_spec_receiver.specs.Taken.{takes_key_of}
 unfoldable pub use Rattle.sd_spec_receiver.specs.Taken.{takes_key_at, taken_keys}
-use Rattle.sd_receive_filter.specs.Ears.{tuned}
 use Rattle.sd_receive.specs.Listening.{IsListenerAfter, capped}
 use Rattle.sd_receive.specs.declared.listener.Listener.{Listener}
 use Rattle.sd_receive.specs.declared.receiver.Receiver.{Receiver}
@@ -37,7 +36,7 @@ with_run s so_far listener = record {
 -- docs/FORMATS.md, Receiver]
 pub record IsAfter (past : List (List ℕ)) (receiver : Receiver) : Type 0 where
   pub count : receiver.count ≡ length past
-  pub tuning : option_map tuned receiver.tuning ≡ tuning_of receiver.card.ca past
+  pub tuning : receiver.tuning ≡ tuning_of receiver.card.ca past
   pub name : receiver.name ≡ name_in (heard (card_in receiver) past)
   pub so_far : receiver.so_far ≡ ended_before (card_in receiver) past
   pub follows : IsListenerAfter (card_in receiver) (heard (card_in receiver) past) receiver.listener

@@ -8,7 +8,6 @@ ghost use Rattle.sd_engine.specs.Stage.{vessel};
 ghost use Rattle.sd_spec_receiver.specs.Heard.{Heard, Controls};
 ghost use Rattle.sd_spec_receiver.specs.Keys.{key_at};
 ghost use Rattle.sd_spec_receiver.specs.Offered.{word_fault};
-ghost use Rattle.sd_receive_filter.specs.Ears.{tuned};
 ghost use Rattle.sd_receive_ecm.specs.Collected.{IsCollected, IsComplete};
 ghost use Rattle.sd_receive_hold.specs.Holding.{after_message};
 ghost use Rattle.sd_receive_hold.specs.Writing.{WriteOutcome};
@@ -22,7 +21,7 @@ use sd_card::Card;
 use sd_ecm::EcmHead;
 use sd_engine::StageFault;
 use sd_ports::Sink;
-use sd_receive_filter::Tuning;
+use sd_psi::Tuning;
 use sd_receive_hold::SegmentFault;
 use sd_spec_receiver::StreamFault;
 
@@ -39,8 +38,8 @@ impl Listener {
         requires ecm { tuning.ecm < 8192 }
         requires live { (past : List Heard) × (part : EcmPart) ×
             IsListenerAtMessage (fields_of card.now) past part head.now self.old }
-        ensures value { PacketOutcome (TakesMessage (fields_of card.now) (tuned tuning) number head.now self.old)
-            (RefusesMessage (fields_of card.now) (tuned tuning) number head.now self.old)
+        ensures value { PacketOutcome (TakesMessage (fields_of card.now) tuning number head.now self.old)
+            (RefusesMessage (fields_of card.now) tuning number head.now self.old)
             (vessel K.Sink out.old) (vessel K.Sink out.new) self.new result }
         ensures cause { IsCaused (K.faults out.old) (K.faults out.new) (IsErrOf result StageFault.Write) }
     {

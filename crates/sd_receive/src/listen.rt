@@ -8,7 +8,7 @@ ghost use Rattle.sd_emm.specs.Spelled.{listed_entries};
 ghost use Rattle.sd_engine.specs.Stage.{vessel};
 ghost use Rattle.sd_spec_receiver.specs.Heard.{Heard as Thing, Controls};
 ghost use Rattle.sd_spec_receiver.specs.Stretches.{is_closed};
-ghost use Rattle.sd_receive_filter.specs.Ears.{tuned, heard_as, IsFormed};
+ghost use Rattle.sd_receive_filter.specs.Ears.{heard_as, IsFormed};
 ghost use Rattle.sd_receive.specs.Listening.{IsListenerAfter, TakesHeard, RefusesHeard, PacketOutcome};
 ghost use Rattle.sd_receive.specs.Receiving.{takes_key_of};
 
@@ -19,9 +19,10 @@ use sd_ecm::EcmPart;
 use sd_engine::StageFault;
 use sd_packet::Packet;
 use sd_ports::Sink;
+use sd_psi::Tuning;
 use sd_receive_ecm::{Collect, Taken};
 use sd_receive_emm::Entitled;
-use sd_receive_filter::{Heard, Tuning};
+use sd_receive_filter::Heard;
 use sd_receive_hold::Segment;
 use sd_spec_receiver::StreamFault;
 use std::alloc::Global;
@@ -74,8 +75,8 @@ impl Listener {
         requires open { self.old.closed ≡ false }
         requires form { IsFormed card.now.height heard.now }
         ensures value { PacketOutcome
-            (TakesHeard (fields_of card.now) (tuned tuning) number (heard_as number packet.now heard.now) self.old)
-            (RefusesHeard (fields_of card.now) (tuned tuning) number (heard_as number packet.now heard.now) self.old)
+            (TakesHeard (fields_of card.now) tuning number (heard_as number packet.now heard.now) self.old)
+            (RefusesHeard (fields_of card.now) tuning number (heard_as number packet.now heard.now) self.old)
             (vessel K.Sink out.old) (vessel K.Sink out.new) self.new result }
         ensures steps { (past : List Thing) → IsListenerAfter (fields_of card.now) past self.old → steps.new ≤ steps.old
             + (if takes_key_of (fields_of card.now) past (heard_as number packet.now heard.now)
@@ -111,8 +112,8 @@ impl Listener {
         requires live { (past : List Thing) × IsListenerAfter (fields_of card.now) past self.old }
         requires open { self.old.closed ≡ false }
         requires form { IsEcm part.now }
-        ensures value { PacketOutcome (TakesHeard (fields_of card.now) (tuned tuning) number (Controls part.now)
-            self.old) (RefusesHeard (fields_of card.now) (tuned tuning) number (Controls part.now) self.old)
+        ensures value { PacketOutcome (TakesHeard (fields_of card.now) tuning number (Controls part.now)
+            self.old) (RefusesHeard (fields_of card.now) tuning number (Controls part.now) self.old)
             (vessel K.Sink out.old) (vessel K.Sink out.new) self.new result }
         ensures cause { IsCaused (K.faults out.old) (K.faults out.new) (IsErrOf result StageFault.Write) }
     {

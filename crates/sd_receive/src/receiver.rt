@@ -1,6 +1,6 @@
 use crate::listener::Listener;
 use sd_card::Card;
-use sd_receive_filter::Tuning;
+use sd_psi::Tuning;
 use sd_spec_receiver::{Ending, StreamFault};
 
 /// A receiver: its card, and what it keeps of the packets that were offered [this project, docs/FORMATS.md, Receiver].

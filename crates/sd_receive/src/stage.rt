@@ -2,7 +2,7 @@ ghost use Rattle.std.specs.Prelude.{◌≡◌, ℕ, [], Some, None, Err, IfOk, O
 ghost use Rattle.sd_base.specs.Count.{IsCaused};
 ghost use Rattle.sd_engine.specs.Stage.{vessel, HasGrown, IsCutShort, IsAllowed};
 ghost use Rattle.sd_spec_receiver.specs.Heard.{hears};
-ghost use Rattle.sd_receive_filter.specs.Ears.{tuned as tuned_by, heard_as, IsFormed};
+ghost use Rattle.sd_receive_filter.specs.Ears.{heard_as, IsFormed};
 ghost use Rattle.sd_receive_filter.specs.declared.ears.Heard.TheVariants.{Other};
 ghost use Rattle.sd_receive.specs.Receiving.{IsAfter, IsFit, IsLive, Refusing, receiver_does, receiver_ends};
 ghost use Rattle.sd_receive.specs.Receiving.{receiver_refuses};
@@ -15,13 +15,11 @@ use sd_card::Card;
 use sd_engine::{Stage, StageFault};
 use sd_packet::Packet;
 use sd_ports::Sink;
-use sd_receive_filter::{Heard, Tuning, cat_tuning, hear};
+use sd_psi::{CAT_PID, Tuning, cat_tuning};
+use sd_receive_filter::{Heard, hear};
 use sd_spec_receiver::{Ending, StreamFault};
 use std::alloc::Global;
 use std::sync::ledger::Ledger;
-
-// The PID of the CAT [ISO/IEC 13818-1, 2.4.3.3].
-const CAT_PID: u16 = 1;
 
 impl Receiver {
     /// A receiver with this card, before the first packet. All memory that it needs is allocated here: by its layout
@@ -90,7 +88,7 @@ impl Receiver {
         requires unrefused { self.old.refusal ≡ None }
         requires tuned { self.old.tuning ≡ Some tuning }
         requires heard { (number : ℕ) → heard_as number packet.now heard.now
-            ≡ hears self.old.card.height (tuned_by tuning) number packet.now }
+            ≡ hears self.old.card.height tuning number packet.now }
         requires form { IsFormed self.old.card.height heard.now }
         ensures value { OnOk result (HasGrown (vessel K.Sink out.old) (vessel K.Sink out.new) steps.old steps.new
             (receiver_does self.old packet.now self.new)) }
@@ -121,7 +119,7 @@ impl Receiver {
 #[tactic(auto, unfolding(sd_spec_receiver::specs::Heard::hears))]
 fn is_other(tuning: Tuning, packet: &Packet) -> bool
     ensures { result ≡ true → (h number : ℕ) → heard_as number packet.now Other
-        ≡ hears h (tuned_by tuning) number packet.now }
+        ≡ hears h tuning number packet.now }
 {
     let pid = packet.pid();
     pid != CAT_PID && pid != tuning.emm && pid != tuning.ecm

@@ -3,15 +3,9 @@ use Rattle.std.specs.Prelude.{ℕ, List}
 use Rattle.sd_emm.specs.Spelled.{listed_entries}
 use Rattle.sd_emm.specs.Form.{IsEmm, AreSets}
 use Rattle.sd_ecm.specs.Form.{IsEcm}
-use Rattle.sd_spec_receiver.specs.Tuned.{Tuning}
 use Rattle.sd_spec_receiver.specs.Heard as Reception
-use Rattle.sd_receive_filter.specs.declared.tune.Tuning.{Tuning as Kept}
 use Rattle.sd_receive_filter.specs.declared.ears.Heard.{Heard}
 use Rattle.sd_receive_filter.specs.declared.ears.Heard.TheVariants.{Dropped, Entitles, Controls, BadEmm, BadEcm, Other}
-
--- the two PIDs [this project, docs/FORMATS.md, Receiver]
-abbrev pub tuned : Kept → Tuning
-tuned tuning = record { emm = tuning.emm; ecm = tuning.ecm }
 
 -- what was heard of the packet of this number
 abbrev pub heard_as : ℕ → List ℕ → Heard → Reception.Heard

@@ -2,12 +2,12 @@ ghost use Rattle.std.specs.Prelude.{◌≡◌, ℕ};
 ghost use Rattle.sd_emm.specs.Judged.{emm_read};
 ghost use Rattle.sd_ecm.specs.Judged.{ecm_read};
 ghost use Rattle.sd_spec_receiver.specs.Heard.{hears, heard_emm, heard_ecm};
-ghost use Rattle.sd_receive_filter.specs.Ears.{tuned, heard_as, IsFormed};
+ghost use Rattle.sd_receive_filter.specs.Ears.{heard_as, IsFormed};
 
-use crate::tune::{CAT_PID, Tuning};
 use sd_ecm::{EcmFault, EcmPart, read_ecm};
 use sd_emm::{Emm, EmmFault, read_emm};
 use sd_packet::Packet;
+use sd_psi::{CAT_PID, Tuning};
 use sd_tree::Height;
 
 /// What a packet is to a receiver that took a CAT [this project, docs/FORMATS.md, Receiver].
@@ -31,7 +31,7 @@ pub enum Heard {
 /// docs/FORMATS.md, Receiver].
 #[tactic(auto, unfolding(sd_spec_receiver::specs::Heard::hears))]
 pub fn hear(h: Height, tuning: Tuning, packet: &Packet) -> Heard
-    ensures value { (number : ℕ) → heard_as number packet.now result ≡ hears h (tuned tuning) number packet.now }
+    ensures value { (number : ℕ) → heard_as number packet.now result ≡ hears h tuning number packet.now }
     ensures form { IsFormed h result }
 {
     match packet.pid() {

@@ -1,8 +1,6 @@
-//! What a receiver hears: the CAT that it takes, and one thing for each packet after it.
+//! What a receiver that took a CAT hears: one thing for each packet.
 #![tactic(auto)]
 
 mod ears;
-mod tune;
 
 pub use ears::{Heard, hear};
-pub use tune::{Tuning, cat_tuning};

@@ -17,7 +17,8 @@ use Rattle.sd_ecm.specs.declared.fault.EcmFault.{EcmFault}
 use Rattle.sd_ecm.specs.declared.fault.EcmFault.TheVariants.{Count, Order, Mixed, Back}
 use Rattle.sd_spec_receiver.specs.declared.fault.StreamFault.{StreamFault}
 use Rattle.sd_spec_receiver.specs.declared.fault.StreamFault.TheVariants as Fault
-use Rattle.sd_spec_receiver.specs.Tuned.{Tuning, tuning_of}
+use Rattle.sd_spec_receiver.specs.Tuned.{tuning_of}
+use Rattle.sd_psi.specs.declared.our_cat.Tuning.{Tuning}
 use Rattle.sd_spec_receiver.specs.Heard.{Heard, Dropped, Entitles, Controls, BadEmm, BadEcm, Other, hears}
 use Rattle.sd_spec_receiver.specs.Stretches.{Stretch, newest, run_to, completes, is_closed, current, seen, held_in}
 use Rattle.sd_spec_receiver.specs.Runs.{of_run}

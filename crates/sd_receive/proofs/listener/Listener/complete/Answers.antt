@@ -3,7 +3,6 @@ use Rattle.std.specs.Prelude.{Err}
 use Rattle.sd_base.specs.Count.{with_added}
 use Rattle.sd_card.specs.Fields.{fields_of}
 use Rattle.sd_engine.specs.Stage.{vessel}
-use Rattle.sd_receive_filter.specs.Ears.{tuned}
 use Rattle.sd_receive_hold.specs.Writing.{WriteOutcome}
 use Rattle.sd_receive_hold.specs.declared.fault.SegmentFault.{SegmentFault}
 use Rattle.sd_receive.specs.Held.{pair_wrote}
@@ -17,7 +16,7 @@ returns-in-Ok-begin-clause-value g c =
     let head = c.args.head.now in
     let added : c.saturating_add-self.result ≡ with_added s.written c.in-Ok.count =
     omega (arith, c.begin.ensures.written) in
-    taken_message (fields_of c.args.card.now) (tuned c.args.tuning) c.args.number head s c.begin.new.self _
+    taken_message (fields_of c.args.card.now) c.args.tuning c.args.number head s c.begin.new.self _
     (pair_wrote s.collect.last s.segment head.since c.args.card.now.ca c.args.tuning.ecm s.collect.run.places.items)
     c.in-Ok.count
     (vessel g.K.Sink c.args.out.now) (vessel g.K.Sink c.write.new.out) refl c.in-Ok.ensures.value
@@ -28,7 +27,7 @@ pub returns-in-Err-clause-value : goal.returns-in-Err-clause-value
 returns-in-Err-clause-value g c =
     let s = c.args.self.now in
     let head = c.args.head.now in
-    word_message (fields_of c.args.card.now) (tuned c.args.tuning) c.args.number head s c.begin.new.self
+    word_message (fields_of c.args.card.now) c.args.tuning c.args.number head s c.begin.new.self
     (pair_wrote s.collect.last s.segment head.since c.args.card.now.ca c.args.tuning.ecm s.collect.run.places.items)
     c.in-Err.fault
     c.in-Ok.count (vessel g.K.Sink c.args.out.now) (vessel g.K.Sink c.write.new.out) refl c.in-Ok.ensures.value
@@ -38,7 +37,7 @@ pub returns-in-Err-Parity-clause-value : goal.returns-in-Err-Parity-clause-value
 returns-in-Err-Parity-clause-value g c =
     let s = c.args.self.now in
     let head = c.args.head.now in
-    parity_message (fields_of c.args.card.now) (tuned c.args.tuning) c.args.number head s
+    parity_message (fields_of c.args.card.now) c.args.tuning c.args.number head s
     (pair_wrote s.collect.last s.segment head.since c.args.card.now.ca c.args.tuning.ecm s.collect.run.places.items)
     c.in-Err-Parity.held
     (vessel g.K.Sink c.args.out.now) (vessel g.K.Sink c.write.new.out) refl
@@ -51,7 +50,7 @@ pub returns-in-Err-Write-clause-value : goal.returns-in-Err-Write-clause-value
 returns-in-Err-Write-clause-value g c =
     let s = c.args.self.now in
     let head = c.args.head.now in
-    cut_message (fields_of c.args.card.now) (tuned c.args.tuning) c.args.number head s c.begin-in-Err-Write.new.self
+    cut_message (fields_of c.args.card.now) c.args.tuning c.args.number head s c.begin-in-Err-Write.new.self
     (pair_wrote s.collect.last s.segment head.since c.args.card.now.ca c.args.tuning.ecm s.collect.run.places.items)
     c.begin-in-Err-Write.result (vessel g.K.Sink c.args.out.now) (vessel g.K.Sink c.write.new.out) refl
     (λ past part done. c.begin-in-Err-Write.ensures.value (fields_of c.args.card.now) past part done)

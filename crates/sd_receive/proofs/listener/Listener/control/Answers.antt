@@ -5,7 +5,6 @@ use Rattle.sd_engine.specs.Stage.{vessel}
 use Rattle.sd_spec_receiver.specs.declared.fault.StreamFault.TheVariants.{BadEcm}
 use Rattle.sd_spec_receiver.specs.Heard.{Heard, Controls}
 use Rattle.sd_spec_receiver.specs.Stretches.{current}
-use Rattle.sd_receive_filter.specs.Ears.{tuned}
 use Rattle.sd_receive_ecm.specs.Collected.{IsCollected, IsComplete, PartOutcome}
 use Rattle.sd_receive_ecm.specs.declared.collect.Taken.{Taken}
 use Rattle.sd_receive.specs.Listening.{TakesHeard, RefusesHeard, TakesMessage, RefusesMessage}
@@ -25,8 +24,8 @@ returns-in-Ok-Waits-clause-value g c =
       written = s.written;
     } in
     took_nothing (vessel g.K.Sink c.args.out.now)
-    (TakesHeard (fields_of c.args.card.now) (tuned c.args.tuning) c.args.number (Controls c.args.part.now) s t)
-    (part_waiting (fields_of c.args.card.now) (tuned c.args.tuning) c.args.number c.args.part.now s t refl refl refl
+    (TakesHeard (fields_of c.args.card.now) c.args.tuning c.args.number (Controls c.args.part.now) s t)
+    (part_waiting (fields_of c.args.card.now) c.args.tuning c.args.number c.args.part.now s t refl refl refl
     refl
     (λ past collects now. subst (λ (taken : Taken). PartOutcome past c.args.part.now c.take.new.self (Ok taken))
     c.in-Ok-Waits.field-0-is
@@ -46,7 +45,7 @@ complete-requires-clause-live g c =
     let l = c.requires.live in (
       l.0,
       c.args.part.now,
-      message_heard (fields_of c.args.card.now) (tuned c.args.tuning) c.args.number c.args.part.now
+      message_heard (fields_of c.args.card.now) c.args.tuning c.args.number c.args.part.now
           c.in-Ok-Complete.head s t refl refl refl
           (λ past collects now. subst (λ (taken : Taken). PartOutcome past c.args.part.now c.take.new.self (Ok taken))
           c.in-Ok-Complete.field-0-is
@@ -72,25 +71,25 @@ returns-in-Ok-Complete-clause-value g c =
     λ past collects now. subst (λ (taken : Taken). PartOutcome past c.args.part.now c.take.new.self (Ok taken))
     c.in-Ok-Complete.field-0-is
     (c.in-Ok-Complete.ensures.value past collects (now ∙ sym c.period.ensures)) in
-    comes_weaker (TakesMessage card (tuned c.args.tuning) c.args.number head t)
-    (TakesHeard card (tuned c.args.tuning) c.args.number (Controls c.args.part.now) s)
-    (RefusesMessage card (tuned c.args.tuning) c.args.number head t)
-    (RefusesHeard card (tuned c.args.tuning) c.args.number (Controls c.args.part.now) s)
+    comes_weaker (TakesMessage card c.args.tuning c.args.number head t)
+    (TakesHeard card c.args.tuning c.args.number (Controls c.args.part.now) s)
+    (RefusesMessage card c.args.tuning c.args.number head t)
+    (RefusesHeard card c.args.tuning c.args.number (Controls c.args.part.now) s)
     (vessel g.K.Sink c.args.out.now) (vessel g.K.Sink c.complete.new.out) c.complete.new.self c.complete.result
     (λ x bytes takes past follows unclosed. takes past c.args.part.now
-    (message_heard card (tuned c.args.tuning) c.args.number c.args.part.now head s t refl refl refl done past follows
+    (message_heard card c.args.tuning c.args.number c.args.part.now head s t refl refl refl done past follows
     unclosed))
     (λ fault bytes refuses past follows unclosed. refuses past c.args.part.now
-    (message_heard card (tuned c.args.tuning) c.args.number c.args.part.now head s t refl refl refl done past follows
+    (message_heard card c.args.tuning c.args.number c.args.part.now head s t refl refl refl done past follows
     unclosed))
     c.complete.ensures.value
 
 pub returns-in-Err-clause-value : goal.returns-in-Err-clause-value
 returns-in-Err-clause-value g c =
     took_nothing (vessel g.K.Sink c.args.out.now)
-    (RefusesHeard (fields_of c.args.card.now) (tuned c.args.tuning) c.args.number (Controls c.args.part.now)
+    (RefusesHeard (fields_of c.args.card.now) c.args.tuning c.args.number (Controls c.args.part.now)
     c.args.self.now
     (BadEcm c.args.number c.in-Err.fault))
-    (part_bad (fields_of c.args.card.now) (tuned c.args.tuning) c.args.number c.args.part.now c.args.self.now
+    (part_bad (fields_of c.args.card.now) c.args.tuning c.args.number c.args.part.now c.args.self.now
     c.in-Err.fault
     (λ past collects now. c.in-Err.ensures.value past collects (now ∙ sym c.period.ensures)))

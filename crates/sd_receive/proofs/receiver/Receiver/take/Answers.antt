@@ -1,6 +1,6 @@
 use Rattle.std.proofs.Common.{◌≡◌, ◌+◌, ◌∙◌, ap, arith, ℕ}
 use Rattle.sd_engine.specs.Stage.{vessel}
-use Rattle.sd_spec_receiver.specs.Tuned.{cat_tuning}
+use Rattle.sd_psi.specs.OurCat.{cat_tuning}
 use Rattle.sd_receive.specs.Listening.{capped}
 use Rattle.sd_receive.specs.Receiving.{receiver_does}
 use Rattle.sd_receive.proofs.Receiving.{counted, idle_untuned, grew_none, ecm_fits}

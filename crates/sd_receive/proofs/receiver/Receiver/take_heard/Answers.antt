@@ -3,8 +3,8 @@ use Rattle.std.specs.Prelude.{Option, Some, IfSome}
 use Rattle.std.specs.Option.{option_or}
 use Rattle.sd_engine.specs.Stage.{vessel}
 use Rattle.sd_spec_receiver.specs.Runs.{run_name_heard}
-use Rattle.sd_receive_filter.specs.Ears.{tuned, heard_as}
-use Rattle.sd_receive_filter.specs.declared.tune.Tuning.{Tuning as Kept}
+use Rattle.sd_receive_filter.specs.Ears.{heard_as}
+use Rattle.sd_psi.specs.declared.our_cat.Tuning.{Tuning}
 use Rattle.sd_receive.specs.Listening.{capped, TakesHeard, RefusesHeard}
 use Rattle.sd_receive.specs.Receiving.{card_in, receiver_does, receiver_refuses, Refusing}
 use Rattle.sd_receive.proofs.Receiving.{listening, thing_of, idle_closed, heard_does}
@@ -42,14 +42,14 @@ returns-clause-value g c =
     let named : c.or-self.result ≡ option_or (run_name_heard (thing_of s kept packet)) s.name = c.or-self.ensures
     ∙ (ap (option_or c.name_of-name.result) known.name_is
     ∙ ap (λ (n : Option (Option ℕ)). option_or n s.name) (c.name_of-name.ensures s.count packet ∙ ap run_name_heard is))
-    in grew_of (TakesHeard (card_in u) (tuned kept) s.count thing u.listener)
-    (RefusesHeard (card_in u) (tuned kept) s.count thing u.listener)
+    in grew_of (TakesHeard (card_in u) kept s.count thing u.listener)
+    (RefusesHeard (card_in u) kept s.count thing u.listener)
     (vessel g.K.Sink c.args.out.now) (vessel g.K.Sink c.take.new.out) c.take.new.self c.take.result
     c.args.steps.now c.take.new.steps (receiver_does s packet (listening u c.or-self.result c.take.new.self))
     c.take.ensures.value
     (λ bytes takes. heard_does s packet kept c.saturating_add-self.result u c.or-self.result c.take.new.self bytes
     c.args.steps.now c.take.new.steps c.requires.tuned known.turned c.if-self.false added named few
-    (takes_same (card_in u) (card_in s) (tuned kept) s.count thing (thing_of s kept packet) u.listener
+    (takes_same (card_in u) (card_in s) kept s.count thing (thing_of s kept packet) u.listener
     c.take.new.self bytes known.card_is is takes))
 
 pub returns-clause-ok : goal.returns-clause-ok
@@ -62,10 +62,10 @@ returns-clause-ok g c =
     let is : thing ≡ thing_of s kept packet = c.requires.heard s.count in
     let known = ready s packet kept c.saturating_add-self.result thing u c.name_of-name.result is
     (c.name_of-name.ensures s.count packet) c.turn.ensures c.requires.fit.follows in
-    fit_after u c.or-self.result c.take.new.self (tuned kept) s.count thing
-    (RefusesHeard (card_in u) (tuned kept) s.count thing u.listener)
+    fit_after u c.or-self.result c.take.new.self kept s.count thing
+    (RefusesHeard (card_in u) kept s.count thing u.listener)
     (vessel g.K.Sink c.args.out.now) (vessel g.K.Sink c.take.new.out) c.take.result known.live c.if-self.false
-    (subst (λ (t : Option Kept). IfSome t (λ k. k.ecm < 8192)) (sym known.tuning_is) c.requires.fit.ecm)
+    (subst (λ (t : Option Tuning). IfSome t (λ k. k.ecm < 8192)) (sym known.tuning_is) c.requires.fit.ecm)
     c.take.ensures.value
 
 pub returns-clause-fault : goal.returns-clause-fault
@@ -80,13 +80,13 @@ returns-clause-fault g c = λ fault why.
     (c.name_of-name.ensures s.count packet) c.turn.ensures c.requires.fit.follows in
     let few = few_same (card_in u) (card_in s) thing (thing_of s kept packet) u.listener c.args.steps.now
     c.take.new.steps known.card_is is c.take.ensures.steps in
-    refused_of (TakesHeard (card_in u) (tuned kept) s.count thing u.listener)
-    (RefusesHeard (card_in u) (tuned kept) s.count thing u.listener)
+    refused_of (TakesHeard (card_in u) kept s.count thing u.listener)
+    (RefusesHeard (card_in u) kept s.count thing u.listener)
     (vessel g.K.Sink c.args.out.now) (vessel g.K.Sink c.take.new.out) c.take.new.self c.take.result
     c.args.steps.now c.take.new.steps fault (Refusing s packet fault) why c.take.ensures.value
     (λ bytes refuses. heard_refuses s packet kept c.saturating_add-self.result u fault bytes
     c.args.steps.now c.take.new.steps c.requires.tuned known.turned c.if-self.false few
-    (refuses_same (card_in u) (card_in s) (tuned kept) s.count thing (thing_of s kept packet) u.listener fault bytes
+    (refuses_same (card_in u) (card_in s) kept s.count thing (thing_of s kept packet) u.listener fault bytes
     known.card_is is refuses))
 
 pub returns-clause-prefix : goal.returns-clause-prefix
@@ -105,8 +105,8 @@ returns-clause-prefix g c = λ failed.
     let named : c.or-self.result ≡ option_or (run_name_heard (thing_of s kept packet)) s.name = c.or-self.ensures
     ∙ (ap (option_or c.name_of-name.result) known.name_is
     ∙ ap (λ (n : Option (Option ℕ)). option_or n s.name) (c.name_of-name.ensures s.count packet ∙ ap run_name_heard is))
-    in cut_of (TakesHeard (card_in u) (tuned kept) s.count thing u.listener)
-    (RefusesHeard (card_in u) (tuned kept) s.count thing u.listener)
+    in cut_of (TakesHeard (card_in u) kept s.count thing u.listener)
+    (RefusesHeard (card_in u) kept s.count thing u.listener)
     (vessel g.K.Sink c.args.out.now) (vessel g.K.Sink c.take.new.out) c.take.new.self c.take.result
     c.args.steps.now c.take.new.steps (receiver_does s packet) (receiver_refuses s (Some packet)) s failed
     c.take.ensures.value
@@ -114,10 +114,10 @@ returns-clause-prefix g c = λ failed.
       listening u c.or-self.result x,
       heard_does s packet kept c.saturating_add-self.result u c.or-self.result x bytes
           c.args.steps.now c.take.new.steps c.requires.tuned known.turned c.if-self.false added named few
-          (takes_same (card_in u) (card_in s) (tuned kept) s.count thing (thing_of s kept packet) u.listener
+          (takes_same (card_in u) (card_in s) kept s.count thing (thing_of s kept packet) u.listener
           x bytes known.card_is is takes),
     ))
     (λ fault bytes refuses. heard_refuses s packet kept c.saturating_add-self.result u fault bytes
     c.args.steps.now c.take.new.steps c.requires.tuned known.turned c.if-self.false few
-    (refuses_same (card_in u) (card_in s) (tuned kept) s.count thing (thing_of s kept packet) u.listener fault bytes
+    (refuses_same (card_in u) (card_in s) kept s.count thing (thing_of s kept packet) u.listener fault bytes
     known.card_is is refuses))

@@ -13,7 +13,7 @@ use Rattle.sd_section.specs.Header.{body_of}
 use Rattle.sd_psi.specs.Tables.{descriptors_of}
 use Rattle.sd_psi.specs.Forms.{cat_fault, section_in}
 use Rattle.sd_psi.specs.declared.fault.FormFault.{FormFault}
-use Rattle.sd_spec_receiver.specs.Tuned.{cat_tuning, is_for, is_tuning, tuning_in}
+use Rattle.sd_psi.specs.OurCat.{cat_tuning, is_for, is_tuning, tuning_in}
 
 off : (a b c rest : Bool) → (a && c) ≡ false → (b ≡ true → c ≡ true) → (a && (b && rest)) ≡ false
 off false b c rest h g = refl

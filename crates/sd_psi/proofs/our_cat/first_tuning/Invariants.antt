@@ -1,7 +1,7 @@
 use Rattle.std.proofs.Common.{◌≡◌, length, find}
 use Rattle.sd_psi.specs.Tables.{descriptors_of}
-use Rattle.sd_spec_receiver.specs.Tuned.{is_for}
-use Rattle.sd_receive_filter.proofs.tune.first_tuning.Given as goal
+use Rattle.sd_psi.specs.OurCat.{is_for}
+use Rattle.sd_psi.proofs.our_cat.first_tuning.Given as goal
 
 abbrev pub invariant-loop-descriptor : goal.invariant-loop-descriptor
 invariant-loop-descriptor l =
