@@ -7,7 +7,7 @@ use Rattle.std.proofs.lemmas.List.Elements.{All-contains, All-head, All-tail}
 use Rattle.sd_packet.specs.Header.{pid_of}
 use Rattle.sd_packet.specs.Packing.{packed}
 use Rattle.sd_packet.proofs.Packets.{packet_reads}
-use Rattle.sd_psi.specs.Access.{cat_section}
+use Rattle.sd_psi.specs.OurCat.{cat_section}
 use Rattle.sd_site.specs.Fields.{SiteFields}
 use Rattle.sd_emm.specs.Judged.{emm_read}
 use Rattle.sd_emm.specs.Spelled.{emm_section}

@@ -2,7 +2,7 @@
 use Rattle.std.proofs.Common.{◌≡◌, ℕ, zero, suc, ◌+◌, ◌-◌, ◌*◌, ◌^◌, ◌<◌, ◌≤◌, List, [], ◌∷◌, ◌++◌, length}
 use Rattle.std.proofs.Common.{take, drop, reverse, append-nil, append_assoc, Option, Some, None, Ok, Err}
 use Rattle.std.proofs.Common.{refl, sym, ap, subst, ◌∙◌, arith, inl, inr}
-use Rattle.std.specs.Prelude.{slice_get, option_map, IfSome, is_none, if◌then◌else◌}
+use Rattle.std.specs.Prelude.{slice_get, IfSome, is_none, if◌then◌else◌}
 use Rattle.std.specs.List.{concat}
 use Rattle.std.proofs.lemmas.List.{take-append-drop, length-take, reverse-reverse, length-reverse}
 use Rattle.std.proofs.lemmas.List.Folds.{concat-append}
@@ -24,7 +24,6 @@ use Rattle.sd_spec_receiver.specs.declared.fault.StreamFault.TheVariants as faul
 use Rattle.sd_spec_receiver.specs.declared.ending.Ending.{Ending}
 use Rattle.sd_spec_receiver.specs.declared.ending.Ending.TheVariants as end
 use Rattle.sd_spec_receiver.specs.Tuned.{tuning_of}
-use Rattle.sd_receive_filter.specs.Ears.{tuned}
 use Rattle.sd_spec_receiver.specs.Offered.{heard, offered, out_from, break_from}
 use Rattle.sd_spec_receiver.specs.Ending.{ending_of}
 use Rattle.sd_receive.specs.declared.receiver.Receiver.{Receiver}
@@ -478,13 +477,9 @@ left_ended a b count status after drives told =
     record { bytes = over.bytes; is_left = over.left; wrote = came.wrote; steps = came.steps }
 
 -- before the first packet the receiver may be offered one
-none_tuned : {A B : Type 0} (view : A → B) (tuning : Option A) → option_map view tuning ≡ None → tuning ≡ None
-none_tuned view None is = refl
-none_tuned view (Some x) is = absurd cc
-
 pub new_lives : (s : Receiver) → IsAfter [] s → IsLive s
 unfolding tuning_of
 new_lives s after unrefused = record {
-  ecm = subst (λ t. IfSome t (λ tuning. tuning.ecm < 8192)) (sym (none_tuned tuned s.tuning after.tuning)) tt;
+  ecm = subst (λ t. IfSome t (λ tuning. tuning.ecm < 8192)) (sym after.tuning) tt;
   follows = (heard (card_in s) [], after.follows);
 }

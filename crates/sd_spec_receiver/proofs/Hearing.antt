@@ -2,7 +2,9 @@
 use Rattle.std.proofs.Common.{◌≡◌, ℕ, List, [], ◌∷◌, Option, Some, None, refl, ap}
 use Rattle.sd_card.specs.Fields.{CardFields}
 use Rattle.sd_ecm.specs.Parts.{Message}
-use Rattle.sd_spec_receiver.specs.Tuned.{Tuning, tuning_of, cat_tuning, tuned_by}
+use Rattle.sd_psi.specs.OurCat.{cat_tuning}
+use Rattle.sd_psi.specs.declared.our_cat.Tuning.{Tuning}
+use Rattle.sd_spec_receiver.specs.Tuned.{tuning_of, tuned_by}
 use Rattle.sd_spec_receiver.specs.Heard.{Heard}
 use Rattle.sd_spec_receiver.specs.Stretches.{newest, stretched, completes}
 use Rattle.sd_spec_receiver.specs.Offered.{part_fault}

@@ -1,7 +1,8 @@
 use crate::packets::packet;
 use sd_emm::EmmFault;
 use sd_packet::{Packet, pack_section};
-use sd_receive_filter::{Heard, Tuning, cat_tuning, hear};
+use sd_psi::{Tuning, cat_tuning};
+use sd_receive_filter::{Heard, hear};
 use sd_section::seal;
 use sd_tree::Height;
 use std::test::Fail;
