@@ -13,7 +13,7 @@ use Rattle.sd_ecm.specs.Form.{IsCounted, IsPositioned, ArePositioned, AreAscendi
 use Rattle.sd_ecm.specs.Form.{no_place}
 use Rattle.sd_ecm.specs.Fields.{padded_places}
 use Rattle.sd_ecm.specs.Parts.{Message, parts_for, part_count_of, places_at, part_at, parts_of, IsMessage, IsOfMessage}
-use Rattle.sd_ecm.specs.Parts.{ecm_header_of}
+use Rattle.sd_ecm.specs.Parts.{SaySame}
 use Rattle.sd_ecm.specs.declared.part.Place.{Place}
 use Rattle.sd_ecm.specs.declared.part.EcmPart.{EcmPart}
 use Rattle.sd_ecm.proofs.Versions.{few_positions, some_positions}
@@ -94,14 +94,15 @@ unfolding part_at
 number_is message x part there = ap (λ (p : EcmPart). p.part) (made_at message x part there)
 
 -- two parts of the message say the same of it
-same_at : (message : Message) (x y : ℕ) → ecm_header_of (part_at message x) ≡ ecm_header_of (part_at message y)
+same_at : (message : Message) (x y : ℕ) → SaySame (part_at message x) (part_at message y)
 unfolding part_at
-same_at message x y = refl
+same_at message x y = (refl, refl)
 
 pub two_say_the_same : (message : Message) (x y : ℕ) (a b : EcmPart) → slice_get (parts_of message) x ≡ Some a →
-    slice_get (parts_of message) y ≡ Some b → ecm_header_of a ≡ ecm_header_of b
+    slice_get (parts_of message) y ≡ Some b → SaySame a b
 two_say_the_same message x y a b p q =
-    ap ecm_header_of (made_at message x a p) ∙ (same_at message x y ∙ sym (ap ecm_header_of (made_at message y b q)))
+    subst (λ (part : EcmPart). SaySame part b) (sym (made_at message x a p))
+    (subst (λ (part : EcmPart). SaySame (part_at message x) part) (sym (made_at message y b q)) (same_at message x y))
 
 -- position k stands in the part of its quotient by the number of positions in a part, at the remainder
 pub place_stands : (message : Message) (q r k : ℕ) → positions_for message.version * q + r ≡ k →

@@ -6,7 +6,6 @@ use Rattle.sd_ecm.specs.Form.{ArePositioned, AreAscending, AreShort}
 use Rattle.sd_ecm.specs.Fields.{padded_places}
 use Rattle.sd_ecm.specs.declared.part.Place.{Place}
 use Rattle.sd_ecm.specs.declared.part.EcmPart.{EcmPart}
-use Rattle.sd_ecm.specs.declared.part.EcmHeader.{EcmHeader}
 use Rattle.sd_ecm.specs.declared.message.EcmHead.{EcmHead}
 
 -- what a control message says: the fields that each of its parts has, and all positions
@@ -94,19 +93,24 @@ pub record IsMessage (message : Message) : Type 0 where
   pub ascending : AreAscending message.places
   pub positions : AreShort message.places
 
--- what each part of a message says of it beside its number, its own number and positions
-abbrev pub ecm_header_of : EcmPart → EcmHeader
-ecm_header_of part = record {
+-- what a part says of its message, beside the number of parts
+abbrev pub ecm_head_of : EcmPart → EcmHead
+ecm_head_of part = record {
   version = part.version;
+  number = part.number;
   period = part.period;
   word = part.word;
   clear = part.clear;
   since = part.since;
+  run = part.run;
   closing = part.closing;
-  last_part = part.last_part;
   wrapped = part.wrapped;
   check = part.check;
 }
+
+-- two parts say the same of their message
+abbrev pub SaySame : EcmPart → EcmPart → Type 0
+SaySame a b = (ecm_head_of a ≡ ecm_head_of b) × (a.last_part ≡ b.last_part)
 
 -- the part says of the message what each of its parts does
 pub record IsOfMessage (message : Message) (part : EcmPart) : Type 0 where

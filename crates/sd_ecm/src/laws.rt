@@ -8,7 +8,7 @@ ghost use Rattle.sd_packet.specs.Packing.{packed};
 ghost use Rattle.sd_ecm.specs.Spelled.{listed_places, ecm_section, SpellsPart};
 ghost use Rattle.sd_ecm.specs.Form.{AreAscending, IsEcm, FitsFields};
 ghost use Rattle.sd_ecm.specs.Judged.{ecm_read};
-ghost use Rattle.sd_ecm.specs.Parts.{Message, part_count_of, part_at, parts_of, IsMessage, IsOfMessage, ecm_header_of};
+ghost use Rattle.sd_ecm.specs.Parts.{Message, part_count_of, part_at, parts_of, IsMessage, IsOfMessage, SaySame};
 ghost use Rattle.sd_ecm.specs.declared.part.EcmPart.{EcmPart};
 
 use crate::fault::EcmFault;
@@ -51,7 +51,7 @@ pub fn messages_are_shared_out()
         AreAscending (flat_map listed_places (parts_of message)) }
     ensures says { (message : Message) → All (IsOfMessage message) (parts_of message) }
     ensures same { (message : Message) (x y : ℕ) (a b : EcmPart) → slice_get (parts_of message) x ≡ Some a →
-        slice_get (parts_of message) y ≡ Some b → ecm_header_of a ≡ ecm_header_of b }
+        slice_get (parts_of message) y ≡ Some b → SaySame a b }
     ensures form { (message : Message) → IsMessage message →
         All (λ part. IsEcm part × FitsFields part) (parts_of message) }
 {}

@@ -13,6 +13,6 @@ mod write;
 pub use fault::EcmFault;
 pub use format::{MOST_PLACES, POSITIONS, positions_a_part};
 pub use message::{EcmHead, part_count};
-pub use part::{EcmHeader, EcmPart, Place};
+pub use part::{EcmPart, Place};
 pub use read::read_ecm;
 pub use write::write_ecm;

@@ -9,8 +9,9 @@ ghost use Rattle.sd_ecm.specs.declared.format.TheConstants.{POSITIONS, MOST_PLAC
 use crate::format::{MOST_PLACES, POSITIONS, POSITIONS_2, positions_a_part};
 use crate::part::{EcmPart, NOTHING, Place};
 
-/// What each part of a control message says beside its positions (docs/FORMATS.md, Messages).
-#[derive(Clone, Copy)]
+/// What each part of a control message says of it: all but the positions, and the number of parts
+/// (docs/FORMATS.md, Messages).
+#[derive(Clone, Copy, PartialEq, Eq)]
 pub struct EcmHead {
     /// The version, 1, 2 or 3.
     pub version: u8,

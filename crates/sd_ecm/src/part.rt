@@ -1,9 +1,10 @@
 ghost use Rattle.std.specs.Prelude.{◌≡◌, ◌≤◌, ◌↔◌, IsTrue};
 ghost use Rattle.sd_ecm.specs.Spelled.{listed_places};
-ghost use Rattle.sd_ecm.specs.Parts.{ecm_header_of};
+ghost use Rattle.sd_ecm.specs.Parts.{ecm_head_of, SaySame};
 ghost use Rattle.sd_ecm.specs.declared.format.TheConstants.{POSITIONS};
 
 use crate::format::POSITIONS;
+use crate::message::EcmHead;
 
 /// A PID and its position, its extended continuity counter (docs/FORMATS.md, Positions).
 #[derive(Clone, Copy, Debug, PartialEq, Eq)]
@@ -54,29 +55,6 @@ pub struct EcmPart {
     pub positions: [Place; POSITIONS],
 }
 
-/// What all parts of one message say alike beside its number.
-#[derive(Clone, Copy, PartialEq, Eq)]
-pub struct EcmHeader {
-    /// The version.
-    pub version: u8,
-    /// The period.
-    pub period: u32,
-    /// The number of the control word.
-    pub word: u32,
-    /// How many clear packets stand before the message.
-    pub clear: u32,
-    /// A message before this one, whose control word each packet from there up to this message has, or 0.
-    pub since: u32,
-    /// Whether the message closes the stream.
-    pub closing: bool,
-    /// Which part is the last.
-    pub last_part: u8,
-    /// The wrapped control word.
-    pub wrapped: [u8; 32],
-    /// The check value of the control word.
-    pub check: [u8; 16],
-}
-
 impl EcmPart {
     /// The positions that the part has.
     pub fn listed(&self) -> &[Place]
@@ -86,27 +64,28 @@ impl EcmPart {
         &self.positions[..usize::from(self.count)]
     }
 
-    /// What all parts of its message say.
-    pub fn header(&self) -> EcmHeader
-        ensures { result ≡ ecm_header_of self.now }
+    /// What the part says of its message, beside the number of parts.
+    pub fn head(&self) -> EcmHead
+        ensures { result ≡ ecm_head_of self.now }
     {
-        EcmHeader {
+        EcmHead {
             version: self.version,
+            number: self.number,
             period: self.period,
             word: self.word,
             clear: self.clear,
             since: self.since,
+            run: self.run,
             closing: self.closing,
-            last_part: self.last_part,
             wrapped: self.wrapped,
             check: self.check,
         }
     }
 
-    /// Whether two parts say alike what all parts of a message do.
+    /// Whether two parts say the same of their message.
     pub fn same_header(&self, other: &EcmPart) -> bool
-        ensures { IsTrue result ↔ (ecm_header_of self.now ≡ ecm_header_of other.now) }
+        ensures { IsTrue result ↔ SaySame self.now other.now }
     {
-        self.header() == other.header()
+        self.head() == other.head() && self.last_part == other.last_part
     }
 }

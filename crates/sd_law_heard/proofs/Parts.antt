@@ -2,7 +2,7 @@
 use Rattle.std.proofs.Common.{◌≡◌, ℕ, ◌<◌, ◌≤◌, Bool, true, false, not, nat_le, nat_lt, eq-eqb}
 use Rattle.std.proofs.Common.{List, [], ◌∷◌, ◌++◌, length, take, drop, get_or, Some, None, if◌then◌else◌}
 use Rattle.std.proofs.Common.{refl, sym, ap, subst, ◌∙◌, arith, append_assoc, append-nil, length-append}
-use Rattle.std.specs.Prelude.{slice_get, All, Contains, flat_map, reverse}
+use Rattle.std.specs.Prelude.{slice_get, All, Contains, Option, flat_map, reverse}
 use Rattle.std.specs.List.{list_any}
 use Rattle.std.proofs.lemmas.Bool.Decides.{nat_tests}
 use Rattle.std.proofs.lemmas.List.{reverse-reverse, length-reverse, take-append-drop}
@@ -15,35 +15,45 @@ use Rattle.sd_base.proofs.Lists.{equal_bytes}
 use Rattle.sd_message.specs.Pieces.{pieces_for}
 use Rattle.sd_ecm.specs.Spelled.{listed_places}
 use Rattle.sd_ecm.specs.Form.{AreAscending}
-use Rattle.sd_ecm.specs.Parts.{Message, IsMessage, IsOfMessage, parts_of}
+use Rattle.sd_ecm.specs.Parts.{Message, message_of, IsMessage, IsOfMessage, ecm_head_of, parts_of}
 use Rattle.sd_ecm.specs.declared.part.Place.{Place}
 use Rattle.sd_ecm.specs.declared.part.EcmPart.{EcmPart}
 use Rattle.sd_ecm.proofs.Sharing.{all_are_of, as_many, joined_are_all, number_is}
 use Rattle.sd_spec_receiver.specs.Stretches.{message_told}
+use Rattle.sd_spec_receiver.specs.Runs.{is_same}
 use Rattle.sd_spec_receiver.specs.Offered.{same_header, is_after, part_fault}
 use Rattle.sd_law_heard.specs.Parts.{IsPartBetween}
 use Rattle.sd_law_heard.proofs.Lists.{split_all, reverse_cons, all_reversed, pairs_across}
 
--- two parts of a message have the same header
+-- equal flags and equal names pass their tests
 same_flags : (a b : Bool) → a ≡ b → (if a then b else not b) ≡ true
 same_flags true true e = refl
 same_flags true false e = absurd (cc)
 same_flags false true e = absurd (cc)
 same_flags false false e = refl
 
+same_names : (a b : Option ℕ) → a ≡ b → is_same a b ≡ true
+same_names None None e = refl
+same_names None (Some n) e = absurd (cc)
+same_names (Some m) None e = absurd (cc)
+same_names (Some m) (Some n) e = let same : m ≡ n = cc in eq-eqb m n same
+
+-- two parts of a message say the same of it
 headers_same : (message : Message) (a b : EcmPart) → IsOfMessage message a → IsOfMessage message b →
     same_header a b ≡ true
 headers_same message a b p q =
     rw (
       eq-eqb a.version b.version (p.version ∙ sym q.version),
-      eq-eqb a.since b.since (p.since ∙ sym q.since),
+      eq-eqb a.number b.number (p.number ∙ sym q.number),
       eq-eqb a.period b.period (p.period ∙ sym q.period),
       eq-eqb a.word b.word (p.word ∙ sym q.word),
       eq-eqb a.clear b.clear (p.clear ∙ sym q.clear),
+      eq-eqb a.since b.since (p.since ∙ sym q.since),
+      same_names a.run b.run (p.run ∙ sym q.run),
       same_flags a.closing b.closing (p.closing ∙ sym q.closing),
-      eq-eqb a.last_part b.last_part (p.last_part ∙ sym q.last_part),
       equal_bytes a.wrapped b.wrapped (p.wrapped ∙ sym q.wrapped),
       equal_bytes a.check b.check (p.check ∙ sym q.check),
+      eq-eqb a.last_part b.last_part (p.last_part ∙ sym q.last_part),
     ) refl
 
 -- a part stands after those before it
@@ -157,19 +167,7 @@ parts_right message x is = by_run (reverse (take x (parts_of message))) refl
 
 -- a message by its fields
 made : (message : Message) (part : EcmPart) (places : List Place) → IsOfMessage message part → places ≡ message.places →
-    record {
-      version = part.version;
-      number = part.number;
-      period = part.period;
-      word = part.word;
-      clear = part.clear;
-      since = part.since;
-      run = part.run;
-      closing = part.closing;
-      wrapped = part.wrapped;
-      check = part.check;
-      places = places;
-    } ≡ message
+    message_of (ecm_head_of part) places ≡ message
 made message part places is same =
     rw (
       is.version,

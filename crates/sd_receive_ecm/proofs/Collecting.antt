@@ -2,7 +2,7 @@
 use Rattle.std.proofs.Common.{◌≡◌, ◌⊎◌, inl, inr, ℕ, ◌+◌, List, [], ◌∷◌, refl, sym, ap, subst, ◌∙◌, true, false, Bool}
 use Rattle.std.specs.Prelude.{Option, Some, None, ◌==◌, ◌&&◌, if◌then◌else◌}
 use Rattle.std.proofs.lemmas.Bool.{cases_Bool, eq-eqb}
-use Rattle.sd_ecm.specs.Parts.{Message, message_of}
+use Rattle.sd_ecm.specs.Parts.{Message, message_of, ecm_head_of}
 use Rattle.sd_ecm.specs.declared.part.Place.{Place}
 use Rattle.sd_ecm.specs.declared.part.EcmPart.{EcmPart}
 use Rattle.sd_ecm.specs.declared.message.EcmHead.{EcmHead}
@@ -14,7 +14,7 @@ use Rattle.sd_spec_receiver.specs.Stretches.{Stretch, exceeds, counted, run_with
 use Rattle.sd_spec_receiver.specs.Stretches.{completes}
 use Rattle.sd_spec_receiver.specs.Offered.{part_fault, is_back}
 use Rattle.sd_spec_receiver.proofs.Hearing.{no_fault_in_none, newest_waits, newest_completes}
-use Rattle.sd_receive_ecm.specs.Gathered.{places_of, newest_of, said_by, ArePlaces, next_run, IsGathered}
+use Rattle.sd_receive_ecm.specs.Gathered.{places_of, newest_of, next_run, IsGathered, ArePlaces}
 use Rattle.sd_receive_ecm.specs.Collected.{parts_collected, IsMessageKept, IsCollected, fault_of, IsWaiting, IsComplete}
 use Rattle.sd_receive_ecm.specs.declared.collect.Collect.{Collect}
 use Rattle.sd_receive_ecm.proofs.Gathering.{no_places, none_newest}
@@ -159,17 +159,17 @@ begins_with run part =
 
 -- the message of parts of which the newest is kept
 told_of : (part : EcmPart) (rest : List EcmPart) → message_told (part ∷ rest) ≡ Some
-    (message_of (said_by part) (places_of (part ∷ rest)))
+    (message_of (ecm_head_of part) (places_of (part ∷ rest)))
 unfolding places_of
 told_of part rest = refl
 
 told_run : (run : List EcmPart) (part : EcmPart) (kept : EcmPart) (all : List Place) → (run ≡ []) ⊎
     ((rest : List EcmPart) × (run ≡ part ∷ rest)) →
-    IsGathered run (Some kept) all → (kept ≡ part) × (message_told run ≡ Some (message_of (said_by part) all))
+    IsGathered run (Some kept) all → (kept ≡ part) × (message_told run ≡ Some (message_of (ecm_head_of part) all))
 told_run run part kept all (inl none) gathered = absurd (none_is_none run kept none (sym gathered.part))
 told_run run part kept all (inr (rest, is)) gathered = (
   some_is kept part (gathered.part ∙ ap newest_of is),
-  ap message_told is ∙ (told_of part rest ∙ ap (λ (l : List Place). Some (message_of (said_by part) l))
+  ap message_told is ∙ (told_of part rest ∙ ap (λ (l : List Place). Some (message_of (ecm_head_of part) l))
       (sym (gathered.places ∙ ap places_of is))),
 )
 
@@ -177,7 +177,7 @@ told_run run part kept all (inr (rest, is)) gathered = (
 pub ends_message : (past : List Heard) (part kept : EcmPart) (all : List Place) →
     exceeds (newest past).message part ≡ true →
     (part.part == part.last_part) ≡ true → IsGathered (next_run (parts_collected past) part) (Some kept) all →
-    (kept ≡ part) × (completes past (Controls part) ≡ Some (message_of (said_by part) all))
+    (kept ≡ part) × (completes past (Controls part) ≡ Some (message_of (ecm_head_of part) all))
 ends_message past part kept all counts last gathered =
     let is = told_run (next_run (parts_collected past) part) part kept all (begins_with (parts_collected past) part)
     gathered in
@@ -201,7 +201,7 @@ complete_part past part message counts good done forth =
 -- what is kept once the message is settled
 pub settled : (past : List Heard) (part : EcmPart) (head : EcmHead) (old new : Collect) →
     IsComplete past part head old →
-    IsGathered [] new.run.part new.run.places.items → new.last ≡ Some (said_by part) →
+    IsGathered [] new.run.part new.run.places.items → new.last ≡ Some (ecm_head_of part) →
     new.places.items ≡ old.run.places.items →
     IsCollected (Controls part ∷ past) new
 unfolding parts_collected run_of counted
@@ -250,7 +250,7 @@ other past n packet state collects = passed past (Other n packet) state refl ref
 -- what is kept of a message that a part completes
 pub record Ends (past : List Heard) (part : EcmPart) (kept : Option EcmPart) (all : List Place) : Type 0 where
   pub part_is : kept ≡ Some part
-  pub complete : completes past (Controls part) ≡ Some (message_of (said_by part) all)
+  pub complete : completes past (Controls part) ≡ Some (message_of (ecm_head_of part) all)
 
 -- the last part completes a message where some are kept
 pub ends_here : (past : List Heard) (part : EcmPart) (kept : Option EcmPart) (all : List Place) →

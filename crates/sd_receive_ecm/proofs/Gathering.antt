@@ -11,18 +11,17 @@ use Rattle.std.proofs.lemmas.Bool.{cases_lt, false≢true, lt-leb, le-leb, le-lt
 use Rattle.std.proofs.lemmas.Bool.{false_from_ne_true, eq-eqb, ne_eqb}
 use Rattle.sd_ecm.specs.Spelled.{listed_places}
 use Rattle.sd_ecm.specs.Form.{IsPositioned, AreAscending, IsEcm}
-use Rattle.sd_ecm.specs.Parts.{ecm_header_of}
+use Rattle.sd_ecm.specs.Parts.{SaySame}
 use Rattle.sd_ecm.specs.declared.part.Place.{Place}
 use Rattle.sd_ecm.specs.declared.part.EcmPart.{EcmPart}
-use Rattle.sd_ecm.specs.declared.part.EcmHeader.{EcmHeader}
 use Rattle.sd_ecm.specs.declared.fault.EcmFault.TheVariants.{Count, Order, Mixed}
 use Rattle.sd_ecm.proofs.Versions.{few_positions, some_positions}
 use Rattle.sd_spec_receiver.specs.Stretches.{run_with}
 use Rattle.sd_spec_receiver.specs.Offered.{same_header, is_after, part_fault}
-use Rattle.sd_receive_ecm.specs.Gathered.{places_of, newest_of, next_run, ArePlaces, IsPart, IsNext, AreAlike, IsRun}
-use Rattle.sd_receive_ecm.specs.Gathered.{IsGathered}
+use Rattle.sd_receive_ecm.specs.Gathered.{places_of, newest_of, next_run, IsPart, IsNext, AreAlike, IsRun}
+use Rattle.sd_receive_ecm.specs.Gathered.{IsGathered, ArePlaces}
 use Rattle.sd_receive_ecm.proofs.Pairs.{pairs_append, after_all}
-use Rattle.sd_receive_ecm.proofs.Alike.{headers_told}
+use Rattle.sd_receive_ecm.proofs.Alike.{headers_told, all_same}
 
 -- no position is a list that a message may have
 pub no_places : ArePlaces []
@@ -75,10 +74,10 @@ long_as_counted part is =
     length-take-le part.count part.positions (omega (arith, is.long, is.form.counted.few, few_positions part.version))
 
 -- a part before another of its message lists some
-pub lists_some : (before part : EcmPart) → IsPart before → IsEcm part → ecm_header_of before ≡ ecm_header_of part →
+pub lists_some : (before part : EcmPart) → IsPart before → IsEcm part → SaySame before part →
     before.part + 1 ≡ part.part → 0 < length (listed_places before)
 lists_some before part is form same next =
-    let last : before.last_part ≡ part.last_part = ap (λ (h : EcmHeader). h.last_part) same in
+    let last = same.1 in
     let long = long_as_counted before is in
     let most = some_positions before.version in
     elim is.form.counted.full [
@@ -161,7 +160,7 @@ mixed part before (newest ∷ run) is other =
     let e : newest ≡ before = cc in
     rw (e, other) refl
 
-alike_not_mixed : (part : EcmPart) (run : List EcmPart) → All (λ other. ecm_header_of other ≡ ecm_header_of part) run →
+alike_not_mixed : (part : EcmPart) (run : List EcmPart) → All (λ other. SaySame other part) run →
     is_mixed_with part run ≡ false
 alike_not_mixed part run same =
     list_any_none (λ (other : EcmPart). not (same_header other part)) run
@@ -169,16 +168,16 @@ alike_not_mixed part run same =
 
 -- none before says otherwise where the newest doesn't
 pub not_mixed : (part before : EcmPart) (run : List EcmPart) → newest_of run ≡ Some before → AreAlike run →
-    ecm_header_of before ≡ ecm_header_of part → is_mixed_with part run ≡ false
+    SaySame before part → is_mixed_with part run ≡ false
 not_mixed part before [] is alike same = refl
 not_mixed part before (newest ∷ run) is alike same =
     let e : newest ≡ before = cc in
-    let first : ecm_header_of newest ≡ ecm_header_of part = ap ecm_header_of e ∙ same in
+    let first : SaySame newest part = subst (λ (other : EcmPart). SaySame other part) (sym e) same in
     alike_not_mixed part (newest ∷ run) (All-cons (λ (other : EcmPart).
-    ecm_header_of other ≡ ecm_header_of part) newest run first
-    (All-weaker (λ (other : EcmPart). ecm_header_of other ≡ ecm_header_of newest)
-    (λ (other : EcmPart). ecm_header_of other ≡ ecm_header_of part)
-    (λ other h. h ∙ first) run alike))
+    SaySame other part) newest run first
+    (All-weaker (λ (other : EcmPart). SaySame other newest)
+    (λ (other : EcmPart). SaySame other part)
+    (λ other h. all_same other newest part h first) run alike))
 
 pub after_newest : (part before : EcmPart) (run : List EcmPart) → newest_of run ≡ Some before →
     is_after part run ≡ is_after part (before ∷ [])
@@ -296,18 +295,18 @@ pub grows : (part : EcmPart) (run : List EcmPart) → IsRun run → IsPart part 
     length (places_of run) + length (listed_places part) ≤ 256 → part_fault (part ∷ run) ≡ None → IsRun (part ∷ run)
 grows part [] good is next few none = record {
   form = All-cons IsPart part [] is (All-nil IsPart);
-  alike = All-nil (λ (other : EcmPart). ecm_header_of other ≡ ecm_header_of part);
+  alike = All-nil (λ (other : EcmPart). SaySame other part);
   places = placed_more part [] good is few (none_below part);
 }
 grows part (before ∷ run) good is next few none =
     let told = told_good part before run none in
-    let same : ecm_header_of before ≡ ecm_header_of part = (headers_told before part).0 told.0 in
+    let same : SaySame before part = (headers_told before part).0 told.0 in
     let some = lists_some before part (All-head IsPart before run good.form) is.form same next in
     record {
       form = All-cons IsPart part (before ∷ run) is good.form;
-      alike = All-cons (λ (other : EcmPart). ecm_header_of other ≡ ecm_header_of part) before run same
-          (All-weaker (λ (other : EcmPart). ecm_header_of other ≡ ecm_header_of before)
-          (λ (other : EcmPart). ecm_header_of other ≡ ecm_header_of part) (λ other e. e ∙ same) run good.alike);
+      alike = All-cons (λ (other : EcmPart). SaySame other part) before run same
+          (All-weaker (λ (other : EcmPart). SaySame other before)
+          (λ (other : EcmPart). SaySame other part) (λ other h. all_same other before part h same) run good.alike);
       places = placed_more part (before ∷ run) good is few (
           λ i j d within below. subst (λ (all : List Place).
           (get_or all i d).pid < (get_or (listed_places part) j d).pid) (sym (one_more before run))
@@ -329,7 +328,7 @@ none_newest (newest ∷ run) none = absurd cc
 
 -- a part goes with the newest one, which is kept: nothing before says otherwise, and it stands after all
 pub record GoesWith (before part : EcmPart) : Type 0 where
-  pub same : ecm_header_of before ≡ ecm_header_of part
+  pub same : SaySame before part
   pub after : IsEcm before → is_after part (before ∷ []) ≡ true
 
 pub goes_with_newest : (part before : EcmPart) (run : List EcmPart) (all : List Place) →
@@ -349,14 +348,14 @@ goes_with_none part run all gathered =
 
 -- a part that says otherwise than the newest, or doesn't stand after it
 pub is_mixed_part : (part before : EcmPart) (run : List EcmPart) (all : List Place) → IsGathered run (Some before) all →
-    (ecm_header_of before ≡ ecm_header_of part → ⊥) → Some Mixed ≡ part_fault (part ∷ run)
+    (SaySame before part → ⊥) → Some Mixed ≡ part_fault (part ∷ run)
 is_mixed_part part before run all gathered other =
     sym (mixed part before run (sym gathered.part)
     (false_from_ne_true (same_header before part) (λ e. other ((headers_told before part).0 e))))
 
 pub is_unordered_part : (part before : EcmPart) (run : List EcmPart) (all : List Place) →
     IsGathered run (Some before) all →
-    ecm_header_of before ≡ ecm_header_of part → (IsEcm before → is_after part (before ∷ []) ≡ false) →
+    SaySame before part → (IsEcm before → is_after part (before ∷ []) ≡ false) →
     Some Order ≡ part_fault (part ∷ run)
 is_unordered_part part before run all gathered same out =
     sym (out_of_order part run (not_mixed part before run (sym gathered.part) gathered.good.alike same)

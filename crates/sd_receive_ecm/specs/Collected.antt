@@ -1,7 +1,7 @@
 -- Public meaning: what is kept of control messages after what was heard.
 use Rattle.std.specs.Prelude.{◌≡◌, List, ◌∷◌, Option, Some, None, option_map, if◌then◌else◌, Result, Ok, Err}
 use Rattle.std.specs.Option.{option_map_or}
-use Rattle.sd_ecm.specs.Parts.{Message, message_of}
+use Rattle.sd_ecm.specs.Parts.{Message, message_of, ecm_head_of}
 use Rattle.sd_ecm.specs.declared.part.Place.{Place}
 use Rattle.sd_ecm.specs.declared.part.EcmPart.{EcmPart}
 use Rattle.sd_ecm.specs.declared.message.EcmHead.{EcmHead}
@@ -10,7 +10,7 @@ use Rattle.sd_ecm.specs.declared.fault.EcmFault.TheVariants.{Back}
 use Rattle.sd_spec_receiver.specs.Heard.{Heard, Controls}
 use Rattle.sd_spec_receiver.specs.Stretches.{counted, run_of, run_to, newest, completes}
 use Rattle.sd_spec_receiver.specs.Offered.{part_fault, is_back}
-use Rattle.sd_receive_ecm.specs.Gathered.{ArePlaces, IsGathered, said_by}
+use Rattle.sd_receive_ecm.specs.Gathered.{IsGathered, ArePlaces}
 use Rattle.sd_receive_ecm.specs.declared.collect.Collect.{Collect}
 use Rattle.sd_receive_ecm.specs.declared.collect.Taken.{Taken}
 use Rattle.sd_receive_ecm.specs.declared.collect.Taken.TheVariants.{Waits, Complete}
@@ -51,7 +51,7 @@ pub record IsComplete (past : List Heard) (part : EcmPart) (head : EcmHead) (sta
   pub fault : fault_of past part ≡ None
   pub complete : completes past (Controls part) ≡ Some (message_of head state.run.places.items)
   pub ends : state.run.part ≡ Some part
-  pub says : head ≡ said_by part
+  pub says : head ≡ ecm_head_of part
   pub good : ArePlaces state.run.places.items
   pub last : IsMessageKept (newest past).message state.last state.places.items
 

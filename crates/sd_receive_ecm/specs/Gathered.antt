@@ -4,11 +4,10 @@ use Rattle.std.specs.Prelude.{Option, Some, None}
 use Rattle.std.specs.Prelude.{Result, Ok, Err}
 use Rattle.sd_ecm.specs.Spelled.{listed_places}
 use Rattle.sd_ecm.specs.Form.{ArePositioned, AreAscending, AreShort, IsEcm}
-use Rattle.sd_ecm.specs.Parts.{ecm_header_of}
+use Rattle.sd_ecm.specs.Parts.{SaySame}
 use Rattle.sd_ecm.specs.Versions.{most_places, most_positions}
 use Rattle.sd_ecm.specs.declared.part.Place.{Place}
 use Rattle.sd_ecm.specs.declared.part.EcmPart.{EcmPart}
-use Rattle.sd_ecm.specs.declared.message.EcmHead.{EcmHead}
 use Rattle.sd_ecm.specs.declared.fault.EcmFault.{EcmFault}
 use Rattle.sd_spec_receiver.specs.Stretches.{run_with}
 use Rattle.sd_spec_receiver.specs.Offered.{part_fault}
@@ -16,21 +15,6 @@ use Rattle.sd_spec_receiver.specs.Offered.{part_fault}
 -- all positions of parts, the newest part first, in the order of the message [this project, docs/FORMATS.md, Messages]
 unfoldable pub places_of : List EcmPart → List Place
 places_of run = flat_map listed_places (reverse run)
-
--- what a part says of its message, but for the positions
-abbrev pub said_by : EcmPart → EcmHead
-said_by part = record {
-  version = part.version;
-  number = part.number;
-  period = part.period;
-  word = part.word;
-  clear = part.clear;
-  since = part.since;
-  run = part.run;
-  closing = part.closing;
-  wrapped = part.wrapped;
-  check = part.check;
-}
 
 -- the newest of some parts
 abbrev pub newest_of : List EcmPart → Option EcmPart
@@ -57,7 +41,7 @@ IsNext (before ∷ run) part = before.part + 1 ≡ part.part
 -- each other part says of the message what the newest says
 abbrev pub AreAlike : List EcmPart → Type 0
 AreAlike [] = Unit {0}
-AreAlike (part ∷ run) = All (λ other. ecm_header_of other ≡ ecm_header_of part) run
+AreAlike (part ∷ run) = All (λ other. SaySame other part) run
 
 -- parts of one message in which nothing is wrong, the newest first
 pub record IsRun (run : List EcmPart) : Type 0 where

@@ -2,11 +2,12 @@ ghost use Rattle.std.specs.Prelude.{◌≡◌, ◌↔◌, ◌+◌, ◌≤◌, �
 ghost use Rattle.std.specs.Prelude.{IfSome, IsTrue};
 ghost use Rattle.sd_ecm.specs.Spelled.{listed_places};
 ghost use Rattle.sd_ecm.specs.Form.{IsEcm};
+ghost use Rattle.sd_ecm.specs.Parts.{ecm_head_of};
 ghost use Rattle.sd_ecm.specs.declared.format.TheConstants.{POSITIONS, MOST_PLACES};
 ghost use Rattle.sd_ecm.specs.declared.part.EcmPart.{EcmPart};
 ghost use Rattle.sd_spec_receiver.specs.Stretches.{run_with};
 ghost use Rattle.sd_spec_receiver.specs.Offered.{part_fault, is_after as stands_after};
-ghost use Rattle.sd_receive_ecm.specs.Gathered.{said_by, next_run, IsNext, IsPart, IsGathered, GatherOutcome};
+ghost use Rattle.sd_receive_ecm.specs.Gathered.{next_run, IsNext, IsPart, IsGathered, GatherOutcome};
 
 use crate::run::Run;
 use sd_base::NoMemory;
@@ -43,9 +44,9 @@ impl Run {
 
     /// What the newest part says of its message, but for the positions.
     pub fn head(&self) -> Option<EcmHead>
-        ensures { result ≡ option_map said_by self.now.part }
+        ensures { result ≡ option_map ecm_head_of self.now.part }
     {
-        self.part.as_ref().map(head_of)
+        self.part.as_ref().map(EcmPart::head)
     }
 
     /// Takes a part of a later message than the newest complete one, or says what is wrong with it. Part 0 begins a
@@ -95,6 +96,7 @@ impl Run {
     }
 
     // What is wrong with the part as the next one.
+    #[tactic(auto, using(crate::proofs::Gathering::few))]
     fn fault(&self, part: &EcmPart) -> Option<EcmFault>
         requires { IsEcm part.now }
         ensures value { (run : List EcmPart) → IsGathered run self.now.part self.now.places.items →
@@ -109,7 +111,7 @@ impl Run {
                 return Some(EcmFault::Order);
             }
         }
-        if self.places.len() + positions_of(part).len() > MOST_PLACES {
+        if self.places.len() + part.listed().len() > MOST_PLACES {
             return Some(EcmFault::Count);
         }
         None
@@ -129,12 +131,13 @@ impl Run {
 }
 
 // Whether every PID of the part is above every one of the part before it.
+#[tactic(auto, using(crate::proofs::Gathering::few))]
 fn is_after(before: &EcmPart, part: &EcmPart) -> bool
     requires few { before.now.count ≤ POSITIONS }
     requires form { IsEcm part.now }
     ensures { IsEcm before.now → (run : List EcmPart) → result ≡ stands_after part.now (before.now ∷ run) }
 {
-    match (before.listed().last(), positions_of(part).first()) {
+    match (before.listed().last(), part.listed().first()) {
         (Some(last), Some(first)) => last.pid < first.pid,
         _ => true,
     }
@@ -149,22 +152,4 @@ fn positions_of(part: &EcmPart) -> &[Place]
 {
     let positions: &[Place] = &part.positions;
     &positions[..usize::from(part.count)]
-}
-
-/// What a part says of its message, but for the positions.
-pub fn head_of(part: &EcmPart) -> EcmHead
-    ensures { result ≡ said_by part.now }
-{
-    EcmHead {
-        version: part.version,
-        number: part.number,
-        period: part.period,
-        word: part.word,
-        clear: part.clear,
-        since: part.since,
-        run: part.run,
-        closing: part.closing,
-        wrapped: part.wrapped,
-        check: part.check,
-    }
 }

@@ -9,7 +9,6 @@ ghost use Rattle.sd_ecm.specs.declared.message.EcmHead.{EcmHead};
 ghost use Rattle.sd_receive_ecm.specs.Collected.{IsMessageKept, IsCollected, IsComplete, PartOutcome};
 
 use crate::collect::{Collect, Taken};
-use crate::gather::head_of;
 use crate::order::goes_back;
 use crate::run::Run;
 use sd_base::NoMemory;
@@ -49,7 +48,7 @@ impl Collect {
         if self.run.is_empty() || part.part != part.last_part {
             return Ok(Taken::Waits);
         }
-        let head = head_of(part);
+        let head = part.head();
         if self.is_back(current, &head) {
             return Err(EcmFault::Back);
         }

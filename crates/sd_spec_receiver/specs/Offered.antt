@@ -21,7 +21,7 @@ use Rattle.sd_spec_receiver.specs.Tuned.{tuning_of}
 use Rattle.sd_psi.specs.declared.our_cat.Tuning.{Tuning}
 use Rattle.sd_spec_receiver.specs.Heard.{Heard, Dropped, Entitles, Controls, BadEmm, BadEcm, Other, hears}
 use Rattle.sd_spec_receiver.specs.Stretches.{Stretch, newest, run_to, completes, is_closed, current, seen, held_in}
-use Rattle.sd_spec_receiver.specs.Runs.{of_run}
+use Rattle.sd_spec_receiver.specs.Runs.{is_same, of_run}
 use Rattle.sd_spec_receiver.specs.Keys.{key_from, key_at}
 use Rattle.sd_spec_receiver.specs.Confirmed.{Wrote, position_in, written_from}
 
@@ -85,14 +85,18 @@ emm_offering card n past emm =
     else if is_mixed (seen emm.period past) emm then refuses (Fault.BadEmm n Emms.Mixed)
     else key_if_none n emm (key_at card past emm.period) (key_from card emm)
 
--- the parts' headers are the same
+-- two parts say the same of their message
 abbrev pub same_header : EcmPart → EcmPart → Bool
 same_header a b =
     (a.version == b.version)
-    && ((a.since == b.since)
+    && ((a.number == b.number)
     && ((a.period == b.period)
-    && ((a.word == b.word) && ((a.clear == b.clear) && ((if a.closing then b.closing else not b.closing)
-    && ((a.last_part == b.last_part) && (bytes_eq a.wrapped b.wrapped && bytes_eq a.check b.check)))))))
+    && ((a.word == b.word)
+    && ((a.clear == b.clear)
+    && ((a.since == b.since)
+    && (is_same a.run b.run
+    && ((if a.closing then b.closing else not b.closing)
+    && (bytes_eq a.wrapped b.wrapped && (bytes_eq a.check b.check && (a.last_part == b.last_part))))))))))
 
 -- every PID of the parts before is below every one of this part
 abbrev pub is_after : EcmPart → List EcmPart → Bool

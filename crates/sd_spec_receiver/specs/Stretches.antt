@@ -5,7 +5,7 @@ use Rattle.std.specs.Prelude.{reverse, if◌then◌else◌, Option, Some, None}
 use Rattle.std.specs.Option.{option_map_or}
 use Rattle.sd_emm.specs.declared.emm.Emm.{Emm}
 use Rattle.sd_ecm.specs.Spelled.{listed_places}
-use Rattle.sd_ecm.specs.Parts.{Message}
+use Rattle.sd_ecm.specs.Parts.{Message, message_of, ecm_head_of}
 use Rattle.sd_ecm.specs.declared.part.EcmPart.{EcmPart}
 use Rattle.sd_spec_receiver.specs.Heard.{Heard, Dropped, Entitles, Controls, BadEmm, BadEcm, Other}
 
@@ -52,19 +52,7 @@ run_of (part ∷ earlier) = if part.part == 0 then part ∷ [] else run_with par
 -- the message whose newest part is the first of these
 abbrev pub message_told : List EcmPart → Option Message
 message_told [] = None
-message_told (part ∷ run) = Some (record {
-  version = part.version;
-  number = part.number;
-  period = part.period;
-  word = part.word;
-  clear = part.clear;
-  since = part.since;
-  run = part.run;
-  closing = part.closing;
-  wrapped = part.wrapped;
-  check = part.check;
-  places = flat_map listed_places (reverse (part ∷ run));
-})
+message_told (part ∷ run) = Some (message_of (ecm_head_of part) (flat_map listed_places (reverse (part ∷ run))))
 
 -- the parts of the message that a part of it ends
 unfoldable pub run_to : Stretch → EcmPart → List EcmPart

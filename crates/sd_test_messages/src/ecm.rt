@@ -1,6 +1,6 @@
 use crate::packets::{Change, changed, flipped, packet_of};
 use hex::FromHex;
-use sd_ecm::{EcmFault, EcmHead, EcmPart, MOST_PLACES, Place, part_count, read_ecm, write_ecm};
+use sd_ecm::{EcmFault, EcmPart, MOST_PLACES, Place, part_count, read_ecm, write_ecm};
 use sd_packet::Packet;
 use std::alloc::Global;
 use std::ops::Range;
@@ -528,22 +528,6 @@ fn messages_both_ways(rt: HostRuntime) {
     }
 }
 
-// What a message says beside its positions, by one of its parts.
-fn head_of(part: &EcmPart) -> EcmHead {
-    EcmHead {
-        version: part.version,
-        number: part.number,
-        period: part.period,
-        word: part.word,
-        clear: part.clear,
-        since: part.since,
-        run: part.run,
-        closing: part.closing,
-        wrapped: part.wrapped,
-        check: part.check,
-    }
-}
-
 // The positions of these rows, one after the other.
 fn places_of(alloc: Global, rows: &[Row]) -> Option<Vec<Place>> {
     let mut places = Vec::new(alloc);
@@ -558,7 +542,7 @@ fn places_of(alloc: Global, rows: &[Row]) -> Option<Vec<Place>> {
 // The part of this row's number of the message that has these positions and says what the row does.
 fn part_again(row: &Row, places: &[Place]) -> Option<EcmPart> {
     let due = part_of(row)?;
-    let head = head_of(&due);
+    let head = due.head();
     if places.len() <= MOST_PLACES && due.part < part_count(head.version, places.len()) {
         Some(EcmPart::of_message(&head, places, due.part))
     } else {

@@ -1,11 +1,11 @@
 use Rattle.std.proofs.Common.{sym, ◌≡◌, ◌∙◌, subst, ap}
 use Rattle.std.specs.Prelude.{Some, None}
 use Rattle.std.proofs.lemmas.Bool.{ne_eqb, both_ways}
-use Rattle.sd_ecm.specs.Parts.{message_of}
+use Rattle.sd_ecm.specs.Parts.{message_of, ecm_head_of}
 use Rattle.sd_ecm.specs.declared.message.EcmHead.{EcmHead}
 use Rattle.sd_spec_receiver.specs.Stretches.{newest}
 use Rattle.sd_spec_receiver.specs.Offered.{is_back}
-use Rattle.sd_receive_ecm.specs.Gathered.{IsGathered, next_run, said_by}
+use Rattle.sd_receive_ecm.specs.Gathered.{IsGathered, next_run}
 use Rattle.sd_receive_ecm.specs.Collected.{parts_collected}
 use Rattle.sd_receive_ecm.proofs.Collecting.{uncounted_part, waiting_part, bad_part, not_last, no_run, ends_here}
 use Rattle.sd_receive_ecm.proofs.Collecting.{back_part, complete_part, good_places}
@@ -54,8 +54,8 @@ returns-then-is_back c = record {
       let ends = ends_here past part c.take.new.self.part all counts c.if-part.false some good.1 in
       let told = c.is_back.ensures past collects.last
       (good_places (next_run (parts_collected past) part) c.take.new.self.part all good.1).ascending now in
-      let same = ap (λ (head : EcmHead). is_back past (message_of head all)) c.head_of-head.ensures in
-      back_part past part (message_of (said_by part) all) counts good.0 ends.complete
+      let same = ap (λ (head : EcmHead). is_back past (message_of head all)) c.head-head.ensures in
+      back_part past part (message_of (ecm_head_of part) all) counts good.0 ends.complete
       (sym same ∙ (sym told ∙ c.if-is_back.true));
 }
 
@@ -71,13 +71,13 @@ returns c = record {
       let ends = ends_here past part c.take.new.self.part all counts c.if-part.false some good.1 in
       let right = good_places (next_run (parts_collected past) part) c.take.new.self.part all good.1 in
       let told = c.is_back.ensures past collects.last right.ascending now in
-      let same = ap (λ (head : EcmHead). is_back past (message_of head all)) c.head_of-head.ensures in
+      let same = ap (λ (head : EcmHead). is_back past (message_of head all)) c.head-head.ensures in
       record {
-        fault = complete_part past part (message_of (said_by part) all) counts good.0 ends.complete
+        fault = complete_part past part (message_of (ecm_head_of part) all) counts good.0 ends.complete
             (sym same ∙ (sym told ∙ c.if-is_back.false));
-        complete = ends.complete ∙ ap (λ (head : EcmHead). Some (message_of head all)) (sym c.head_of-head.ensures);
+        complete = ends.complete ∙ ap (λ (head : EcmHead). Some (message_of head all)) (sym c.head-head.ensures);
         ends = ends.part_is;
-        says = c.head_of-head.ensures;
+        says = c.head-head.ensures;
         good = right;
         last = collects.last;
       };

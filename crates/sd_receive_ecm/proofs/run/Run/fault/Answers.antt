@@ -23,9 +23,9 @@ returns-then-not-is_after-clause-value c = λ run gathered.
     (c.same_header.ensures.0 c.if-not-same_header.false)
     (λ old. sym (c.is_after.ensures old []) ∙ c.if-not-is_after.true)
 
-pub returns-then-len-positions_of-gt-MOST_PLACES-clause-value :
-    goal.returns-then-len-positions_of-gt-MOST_PLACES-clause-value
-returns-then-len-positions_of-gt-MOST_PLACES-clause-value c = λ run gathered.
+pub returns-then-len-listed-gt-MOST_PLACES-clause-value :
+    goal.returns-then-len-listed-gt-MOST_PLACES-clause-value
+returns-then-len-listed-gt-MOST_PLACES-clause-value c = λ run gathered.
     let good : (is_mixed_with c.args.part.now run ≡ false) × (is_after c.args.part.now run ≡ true) =
     elim c.match-self.branch [
       | in-Some+else-not-same_header+else-not-is_after w ↦
@@ -38,7 +38,7 @@ returns-then-len-positions_of-gt-MOST_PLACES-clause-value c = λ run gathered.
       | in_default w ↦ goes_with_none c.args.part.now run c.args.self.now.places.items
           (subst (λ (kept : Option EcmPart). IsGathered run kept c.args.self.now.places.items) w.in_default.is gathered)
     ] in
-    let long = ap (λ (l : List Place). length l) c.positions_of.ensures.value in
+    let long = ap (λ (l : List Place). length l) c.listed.ensures in
     too_many_part c.args.part.now run c.args.self.now.part c.args.self.now.places.items gathered good
     (omega (arith, long))
 
@@ -56,6 +56,6 @@ returns-clause-value c = λ run gathered.
       | in_default w ↦ goes_with_none c.args.part.now run c.args.self.now.places.items
           (subst (λ (kept : Option EcmPart). IsGathered run kept c.args.self.now.places.items) w.in_default.is gathered)
     ] in
-    let long = ap (λ (l : List Place). length l) c.positions_of.ensures.value in
+    let long = ap (λ (l : List Place). length l) c.listed.ensures in
     none_wrong_part c.args.part.now run c.args.self.now.part c.args.self.now.places.items gathered good
     (omega (arith, long))
