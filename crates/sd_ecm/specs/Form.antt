@@ -2,7 +2,7 @@
 use Rattle.std.specs.Prelude.{◌≡◌, ℕ, ◌-◌, ◌^◌, ◌<◌, ◌≤◌, ◌⊎◌, true, List, length, drop, replicate, All, AllPairs}
 use Rattle.std.specs.Prelude.{IfSome}
 use Rattle.sd_packet.specs.Positions.{is_positional}
-use Rattle.sd_ecm.specs.Versions.{IsVersion, IsNamed, IsSince, positions_for, most_positions}
+use Rattle.sd_ecm.specs.Versions.{IsVersion, IsNamed, IsSince, positions_for, most_positions, most_places}
 use Rattle.sd_ecm.specs.Spelled.{listed_places}
 use Rattle.sd_ecm.specs.declared.part.Place.{Place}
 use Rattle.sd_ecm.specs.declared.part.EcmPart.{EcmPart}
@@ -29,6 +29,14 @@ AreAscending places = AllPairs (λ a b. a.pid < b.pid) places
 -- each position has 48 bits
 abbrev pub AreShort : List Place → Type 0
 AreShort places = All (λ place. place.position < 2 ^ 48) places
+
+-- positions that a message may have: few enough, of PIDs that have positions, ascending, each of 48 bits
+-- [this project, docs/FORMATS.md, Messages]
+pub record ArePlaces (places : List Place) : Type 0 where
+  pub few : length places ≤ most_places
+  pub positioned : ArePositioned places
+  pub ascending : AreAscending places
+  pub short : AreShort places
 
 -- what stands past the positions
 abbrev pub no_place : Place

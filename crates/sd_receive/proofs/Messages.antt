@@ -21,11 +21,8 @@ use Rattle.sd_spec_receiver.specs.Confirmed.{Wrote}
 use Rattle.sd_spec_receiver.specs.Offered.{Offering, word_fault, wrote_or, heard_offering}
 use Rattle.sd_receive_emm.specs.Entitled.{IsEntitled}
 use Rattle.sd_receive_emm.specs.declared.entitled.Entitled.{Entitled}
-use Rattle.sd_receive_ecm.specs.Gathered.{ArePlaces}
 use Rattle.sd_receive_ecm.specs.Collected.{IsCollected}
-use Rattle.sd_receive_ecm.specs.declared.collect.Collect.{Collect}
 use Rattle.sd_receive_hold.specs.Writing.{TookBytes}
-use Rattle.sd_receive_hold.specs.Holding as Segments
 use Rattle.sd_receive_hold.specs.Holding.{Holding, after_message}
 use Rattle.sd_receive.specs.Held.{word_under, holding_in, pair_wrote}
 use Rattle.sd_receive.specs.Listening.{IsListenerAfter, IsListenerAtMessage, capped, CountsMore, PassesOffering}
@@ -35,19 +32,6 @@ use Rattle.sd_receive.specs.declared.listener.Listener.{Listener}
 use Rattle.sd_receive.proofs.Stretching.{closes}
 use Rattle.sd_receive.proofs.Holding.{held_begun, same_key, wrote_is}
 use Rattle.sd_receive.proofs.Offering.{part_completes, not_past}
-
--- the positions of a message are ones after which packets may be held
-pub same_places : (all : List Place) → ArePlaces all → Segments.ArePlaces all
-same_places all are = record {
-  few = are.few;
-  positioned = are.positioned;
-  ascending = are.ascending;
-  short =
-      are.short;
-}
-
-pub kept_places : (past : List Heard) (state : Collect) → IsCollected past state → Segments.ArePlaces state.places.items
-kept_places past state collects = same_places state.places.items collects.last.good
 
 -- the message is of no past period
 pub in_turn : (card : CardFields) (past : List Heard) (part : EcmPart) (head : EcmHead) (state : Listener) →

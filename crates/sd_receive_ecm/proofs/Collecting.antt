@@ -13,8 +13,9 @@ use Rattle.sd_spec_receiver.specs.Heard.{Heard, Controls, Dropped, Entitles, Oth
 use Rattle.sd_spec_receiver.specs.Stretches.{Stretch, exceeds, counted, run_with, run_of, run_to, message_told, newest}
 use Rattle.sd_spec_receiver.specs.Stretches.{completes}
 use Rattle.sd_spec_receiver.specs.Offered.{part_fault, is_back}
+use Rattle.sd_ecm.specs.Form.{ArePlaces}
 use Rattle.sd_spec_receiver.proofs.Hearing.{no_fault_in_none, newest_waits, newest_completes}
-use Rattle.sd_receive_ecm.specs.Gathered.{places_of, newest_of, next_run, IsGathered, ArePlaces}
+use Rattle.sd_receive_ecm.specs.Gathered.{places_of, newest_of, next_run, IsGathered}
 use Rattle.sd_receive_ecm.specs.Collected.{parts_collected, IsMessageKept, IsCollected, fault_of, IsWaiting, IsComplete}
 use Rattle.sd_receive_ecm.specs.declared.collect.Collect.{Collect}
 use Rattle.sd_receive_ecm.proofs.Gathering.{no_places, none_newest}

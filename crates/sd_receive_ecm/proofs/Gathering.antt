@@ -10,7 +10,7 @@ use Rattle.std.proofs.lemmas.List.Folds.{list_any_none, list_any_at}
 use Rattle.std.proofs.lemmas.Bool.{cases_lt, false≢true, lt-leb, le-leb, le-ltb, lt-ltb, or_parts, not-false}
 use Rattle.std.proofs.lemmas.Bool.{false_from_ne_true, eq-eqb, ne_eqb}
 use Rattle.sd_ecm.specs.Spelled.{listed_places}
-use Rattle.sd_ecm.specs.Form.{IsPositioned, AreAscending, IsEcm}
+use Rattle.sd_ecm.specs.Form.{IsPositioned, AreAscending, IsEcm, ArePlaces}
 use Rattle.sd_ecm.specs.Parts.{SaySame}
 use Rattle.sd_ecm.specs.declared.part.Place.{Place}
 use Rattle.sd_ecm.specs.declared.part.EcmPart.{EcmPart}
@@ -19,7 +19,7 @@ use Rattle.sd_ecm.proofs.Versions.{few_positions, some_positions}
 use Rattle.sd_spec_receiver.specs.Stretches.{run_with}
 use Rattle.sd_spec_receiver.specs.Offered.{same_header, is_after, part_fault}
 use Rattle.sd_receive_ecm.specs.Gathered.{places_of, newest_of, next_run, IsPart, IsNext, AreAlike, IsRun}
-use Rattle.sd_receive_ecm.specs.Gathered.{IsGathered, ArePlaces}
+use Rattle.sd_receive_ecm.specs.Gathered.{IsGathered}
 use Rattle.sd_receive_ecm.proofs.Pairs.{pairs_append, after_all}
 use Rattle.sd_receive_ecm.proofs.Alike.{headers_told, all_same}
 

@@ -10,7 +10,8 @@ use Rattle.sd_ecm.specs.declared.fault.EcmFault.TheVariants.{Back}
 use Rattle.sd_spec_receiver.specs.Heard.{Heard, Controls}
 use Rattle.sd_spec_receiver.specs.Stretches.{counted, run_of, run_to, newest, completes}
 use Rattle.sd_spec_receiver.specs.Offered.{part_fault, is_back}
-use Rattle.sd_receive_ecm.specs.Gathered.{IsGathered, ArePlaces}
+use Rattle.sd_ecm.specs.Form.{ArePlaces}
+use Rattle.sd_receive_ecm.specs.Gathered.{IsGathered}
 use Rattle.sd_receive_ecm.specs.declared.collect.Collect.{Collect}
 use Rattle.sd_receive_ecm.specs.declared.collect.Taken.{Taken}
 use Rattle.sd_receive_ecm.specs.declared.collect.Taken.TheVariants.{Waits, Complete}

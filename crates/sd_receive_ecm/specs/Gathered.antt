@@ -1,11 +1,11 @@
 -- Public meaning: the parts of one control message that are collected.
-use Rattle.std.specs.Prelude.{◌≡◌, ◌+◌, ◌≤◌, ◌==◌, if◌then◌else◌, List, [], ◌∷◌, length, reverse, flat_map, All}
+use Rattle.std.specs.Prelude.{◌≡◌, ◌+◌, ◌==◌, if◌then◌else◌, List, [], ◌∷◌, length, reverse, flat_map, All}
 use Rattle.std.specs.Prelude.{Option, Some, None}
 use Rattle.std.specs.Prelude.{Result, Ok, Err}
 use Rattle.sd_ecm.specs.Spelled.{listed_places}
-use Rattle.sd_ecm.specs.Form.{ArePositioned, AreAscending, AreShort, IsEcm}
+use Rattle.sd_ecm.specs.Form.{ArePlaces, IsEcm}
 use Rattle.sd_ecm.specs.Parts.{SaySame}
-use Rattle.sd_ecm.specs.Versions.{most_places, most_positions}
+use Rattle.sd_ecm.specs.Versions.{most_positions}
 use Rattle.sd_ecm.specs.declared.part.Place.{Place}
 use Rattle.sd_ecm.specs.declared.part.EcmPart.{EcmPart}
 use Rattle.sd_ecm.specs.declared.fault.EcmFault.{EcmFault}
@@ -20,13 +20,6 @@ places_of run = flat_map listed_places (reverse run)
 abbrev pub newest_of : List EcmPart → Option EcmPart
 newest_of [] = None
 newest_of (part ∷ run) = Some part
-
--- positions that a message may have [this project, docs/FORMATS.md, Messages]
-pub record ArePlaces (all : List Place) : Type 0 where
-  pub few : length all ≤ most_places
-  pub positioned : ArePositioned all
-  pub ascending : AreAscending all
-  pub short : AreShort all
 
 -- a part in its form, with room for as many positions as a part may have
 pub record IsPart (part : EcmPart) : Type 0 where

@@ -10,12 +10,11 @@ use Rattle.sd_bits.proofs.Fields.{field_below}
 use Rattle.sd_packet.specs.Header.{pid_of}
 use Rattle.sd_packet.specs.Positions.{moved, moved_by, is_positional, first_position}
 use Rattle.sd_packet.proofs.Positions.{one_more, positional_small}
-use Rattle.sd_ecm.specs.Form.{ArePositioned}
+use Rattle.sd_ecm.specs.Form.{ArePositioned, ArePlaces}
 use Rattle.sd_spec_receiver.specs.Confirmed.{position_in}
 use Rattle.sd_spec_receiver.specs.Offered.{most_held}
 use Rattle.sd_ecm.specs.declared.part.Place.{Place}
 use Rattle.sd_ecm.specs.Versions.{most_places}
-use Rattle.sd_receive_hold.specs.Holding.{ArePlaces}
 use Rattle.sd_receive_hold.specs.Tracking.{packets_in, led_to, start_of, HasFirstPositions, IsTracked, AreKnown, IsKept}
 use Rattle.sd_receive_hold.specs.declared.tracks.Tracks.{Tracks}
 use Rattle.sd_receive_hold.specs.declared.held.Held.{Held}

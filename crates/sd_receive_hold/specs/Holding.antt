@@ -1,9 +1,7 @@
 -- Public meaning: the packets that are buffered (held) after a control message, as contracts see them.
-use Rattle.std.specs.Prelude.{ℕ, ◌≤◌, List, [], ◌∷◌, ◌++◌, length, map, nat_lt, if◌then◌else◌, Option, Some, None}
-use Rattle.sd_ecm.specs.Form.{ArePositioned, AreAscending, AreShort}
+use Rattle.std.specs.Prelude.{ℕ, List, [], ◌∷◌, ◌++◌, length, map, nat_lt, if◌then◌else◌, Option, Some, None}
 use Rattle.sd_ecm.specs.Parts.{Message}
 use Rattle.sd_ecm.specs.declared.part.Place.{Place}
-use Rattle.sd_ecm.specs.Versions.{most_places}
 use Rattle.sd_spec_receiver.specs.Offered.{most_held}
 use Rattle.sd_receive_hold.specs.declared.held.Held.{Held}
 use Rattle.sd_receive_hold.specs.declared.held.Word.{Word}
@@ -48,11 +46,3 @@ held_more (Some h) number packet =
 -- these packets are buffered after this message, under its control word
 abbrev pub after_message : Message → List ℕ → List (ℕ × List ℕ) → Holding
 after_message a word held = record { number = a.word; word = word; places = a.places; held = held }
-
--- the places of a message: few enough, of PIDs that have positions, ascending, each position one of 48 bits
--- [this project, docs/FORMATS.md, Messages]
-pub record ArePlaces (places : List Place) : Type 0 where
-  pub few : length places ≤ most_places
-  pub positioned : ArePositioned places
-  pub ascending : AreAscending places
-  pub short : AreShort places

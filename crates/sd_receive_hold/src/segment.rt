@@ -1,8 +1,8 @@
 ghost use Rattle.std.specs.Prelude.{◌≡◌, ◌<◌, ◌≤◌, ℕ, [], Some, None, IfOk, IsErrOf, length};
 ghost use Rattle.sd_base.specs.Count.{IsCaused};
 ghost use Rattle.sd_engine.specs.Stage.{vessel};
-ghost use Rattle.sd_ecm.specs.Form.{AreShort};
-ghost use Rattle.sd_receive_hold.specs.Holding.{ArePlaces, held_more};
+ghost use Rattle.sd_ecm.specs.Form.{AreShort, ArePlaces};
+ghost use Rattle.sd_receive_hold.specs.Holding.{held_more};
 ghost use Rattle.sd_receive_hold.specs.Writing.{WriteOutcome, wrote_of};
 
 use crate::confirm::Confirming;

@@ -1,8 +1,8 @@
 ghost use Rattle.std.specs.Prelude.{◌≡◌, ◌+◌, ◌<◌, ◌^◌, ◌++◌, ◌∷◌, [], IfOk, get_or, length, map, slice_set};
 ghost use Rattle.sd_packet.specs.Header.{pid_of};
 ghost use Rattle.sd_packet.specs.Positions.{moved};
-ghost use Rattle.sd_ecm.specs.Form.{AreAscending};
-ghost use Rattle.sd_receive_hold.specs.Holding.{ArePlaces, held_pair};
+ghost use Rattle.sd_ecm.specs.Form.{AreAscending, ArePlaces};
+ghost use Rattle.sd_receive_hold.specs.Holding.{held_pair};
 ghost use Rattle.sd_receive_hold.specs.Tracking.{HasFirstPositions, IsTracked, IsKept, AreKnown, packets_in};
 ghost use Rattle.sd_receive_hold.specs.declared.tracks.TheConstants.{PIDS};
 
