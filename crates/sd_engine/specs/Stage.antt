@@ -13,6 +13,11 @@ pub record SinkState : Type 0 where
 abbrev pub vessel : {K : Type 0} → SinkMeanings K → K → SinkState
 vessel meanings sink = record { held = meanings.held sink; room = meanings.room sink }
 
+-- the sink took these bytes
+pub record TookBytes (old new : SinkState) (bytes : List ℕ) : Type 0 where
+  pub taken : Appends old.held new.held bytes
+  pub room : HasTaken old.room new.room (length bytes)
+
 -- The sink grew by some bytes and its room is less by them, and a number of steps was counted at most: `Says` holds of
 -- these bytes and steps.
 pub record HasGrown (old new : SinkState) (from to : ℕ) (Says : List ℕ → ℕ → Type 0) : Type 0 where

@@ -11,12 +11,12 @@ use Rattle.std.proofs.KnownBytes.{Appends-trans, Appends-nil}
 use Rattle.std.proofs.lemmas.List.{take-append-drop, take_all}
 use Rattle.sd_base.proofs.Lists.{concat_one}
 use Rattle.sd_ports.specs.Rooms.{HasTaken}
-use Rattle.sd_engine.specs.Stage.{SinkState, IsTooShort}
+use Rattle.sd_engine.specs.Stage.{SinkState, IsTooShort, TookBytes}
 use Rattle.sd_engine.proofs.Chains.{taken_on}
-use Rattle.sd_head.specs.Sending.{TakesBytes, FailsWithin, SendsBytes, counter_after, numbered}
+use Rattle.sd_head.specs.Sending.{FailsWithin, SendsBytes, counter_after, numbered}
 
 -- nothing is taken
-pub takes_none : (u : SinkState) → TakesBytes u u []
+pub takes_none : (u : SinkState) → TookBytes u u []
 takes_none u = record { taken = Appends-nil u.held; room = none_taken u.room }
   where
     none_taken : (a : Option ℕ) → HasTaken a a 0
@@ -24,7 +24,7 @@ takes_none u = record { taken = Appends-nil u.held; room = none_taken u.room }
     none_taken (Some room) = (omega arith, ap (λ (n : ℕ). Some n) (let e : room ≡ room - 0 = omega arith in e))
 
 -- some bytes, and then others
-pub takes_on : (u v w : SinkState) (a b : List ℕ) → TakesBytes u v a → TakesBytes v w b → TakesBytes u w (a ++ b)
+pub takes_on : (u v w : SinkState) (a b : List ℕ) → TookBytes u v a → TookBytes v w b → TookBytes u w (a ++ b)
 takes_on u v w a b first then = record {
   taken = Appends-trans u.held v.held w.held a b first.taken then.taken;
   room = subst (HasTaken u.room w.room) (sym (length-append a b))
@@ -45,7 +45,7 @@ cuts_sooner u v a b cut = record {
     more (Some room) h = omega (arith, h, length-append a b)
 
 -- and so does one after some bytes
-pub cuts_later : (u v w : SinkState) (a b : List ℕ) → TakesBytes u v a → FailsWithin v w b → FailsWithin u w (a ++ b)
+pub cuts_later : (u v w : SinkState) (a b : List ℕ) → TookBytes u v a → FailsWithin v w b → FailsWithin u w (a ++ b)
 cuts_later u v w a b first cut = record {
   prefix = a ++ cut.prefix;
   short = (cut.short.0, append_assoc a cut.prefix cut.short.0 ∙ ap (λ (xs : List ℕ). a ++ xs) cut.short.1);
@@ -61,7 +61,7 @@ cuts_later u v w a b first cut = record {
         omega (arith, h.0, left, length-append a b)
 
 -- so what is sent after some bytes is sent with them
-pub sends_on : {T E : Type 0} (result : Result T E) (u v w : SinkState) (a b : List ℕ) → TakesBytes u v a →
+pub sends_on : {T E : Type 0} (result : Result T E) (u v w : SinkState) (a b : List ℕ) → TookBytes u v a →
     SendsBytes v w b result →
     SendsBytes u w (a ++ b) result
 sends_on (Ok x) u v w a b first then = takes_on u v w a b first then
@@ -95,18 +95,18 @@ numbered_more {A} make counter n xs x within more =
 pub one_more : {A : Type 0} → (make : A → ℕ → List ℕ) (counter now n : ℕ) (xs : List A) (x : A) (u v w : SinkState) →
     n < length xs →
     take (n + 1) xs ≡ take n xs ++ x ∷ [] → now ≡ counter_after counter n →
-    TakesBytes u v (concat (numbered make counter (take n xs))) → TakesBytes v w (make x now) →
-    TakesBytes u w (concat (numbered make counter (take (n + 1) xs)))
+    TookBytes u v (concat (numbered make counter (take n xs))) → TookBytes v w (make x now) →
+    TookBytes u w (concat (numbered make counter (take (n + 1) xs)))
 one_more make counter now n xs x u v w within more is before one =
-    subst (TakesBytes u w) (sym (numbered_more make counter n xs x (omega (arith, within)) more))
+    subst (TookBytes u w) (sym (numbered_more make counter n xs x (omega (arith, within)) more))
     (takes_on u v w (concat (numbered make counter (take n xs))) (make x (counter_after counter n)) before
-    (subst (λ (c : ℕ). TakesBytes v w (make x c)) is one))
+    (subst (λ (c : ℕ). TookBytes v w (make x c)) is one))
 
 -- a write fails within one more
 pub one_cut : {A : Type 0} → (make : A → ℕ → List ℕ) (counter now n : ℕ) (xs : List A) (x : A) (u v w : SinkState) →
     n < length xs →
     take (n + 1) xs ≡ take n xs ++ x ∷ [] → now ≡ counter_after counter n →
-    TakesBytes u v (concat (numbered make counter (take n xs))) → FailsWithin v w (make x now) →
+    TookBytes u v (concat (numbered make counter (take n xs))) → FailsWithin v w (make x now) →
     FailsWithin u w (concat (numbered make counter xs))
 one_cut {A} make counter now n xs x u v w within more is before cut =
     subst (FailsWithin u w)
@@ -122,9 +122,9 @@ one_cut {A} make counter now n xs x u v w within more is before cut =
 
 -- all are sent
 pub all_sent : {A : Type 0} → (make : A → ℕ → List ℕ) (counter n : ℕ) (xs : List A) (u v : SinkState) → length xs ≤ n →
-    TakesBytes u v (concat (numbered make counter (take n xs))) → TakesBytes u v (concat (numbered make counter xs))
+    TookBytes u v (concat (numbered make counter (take n xs))) → TookBytes u v (concat (numbered make counter xs))
 all_sent {A} make counter n xs u v all taken =
-    subst (λ (ys : List A). TakesBytes u v (concat (numbered make counter ys))) (take_all n xs all) taken
+    subst (λ (ys : List A). TookBytes u v (concat (numbered make counter ys))) (take_all n xs all) taken
 
 -- what was cut off was sent, up to the fault
 pub sends_err : {T E : Type 0} (result : Result T E) (u v : SinkState) (bytes : List ℕ) → IsErr result →

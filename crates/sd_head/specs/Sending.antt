@@ -5,13 +5,7 @@ use Rattle.sd_packet.specs.Packing.{packed}
 use Rattle.sd_ecm.specs.Spelled.{ecm_section}
 use Rattle.sd_ecm.specs.declared.part.EcmPart.{EcmPart}
 use Rattle.sd_ports.specs.Bytes.{IsPrefix}
-use Rattle.sd_ports.specs.Rooms.{HasTaken}
-use Rattle.sd_engine.specs.Stage.{SinkState, IsTooShort}
-
--- the sink took these bytes
-pub record TakesBytes (old new : SinkState) (bytes : List ℕ) : Type 0 where
-  pub taken : Appends old.held new.held bytes
-  pub room : HasTaken old.room new.room (length bytes)
+use Rattle.sd_engine.specs.Stage.{SinkState, TookBytes, IsTooShort}
 
 -- a write failed within these bytes: a prefix of them was taken, and there was no room for all of them
 pub record FailsWithin (old new : SinkState) (bytes : List ℕ) : Type 0 where
@@ -22,7 +16,7 @@ pub record FailsWithin (old new : SinkState) (bytes : List ℕ) : Type 0 where
 
 -- the bytes were sent, unless a write failed within them
 abbrev pub SendsBytes : {T E : Type 0} → SinkState → SinkState → List ℕ → Result T E → Type 0
-SendsBytes old new bytes (Ok done) = TakesBytes old new bytes
+SendsBytes old new bytes (Ok done) = TookBytes old new bytes
 SendsBytes old new bytes (Err fault) = FailsWithin old new bytes
 
 -- the counter after so many packets [ISO/IEC 13818-1, 2.4.3.3]

@@ -10,7 +10,7 @@ use Rattle.sd_ecm.specs.Parts.{Message, message_of}
 use Rattle.sd_ecm.specs.declared.part.Place.{Place}
 use Rattle.sd_ecm.specs.declared.part.EcmPart.{EcmPart}
 use Rattle.sd_ecm.specs.declared.message.EcmHead.{EcmHead}
-use Rattle.sd_engine.specs.Stage.{SinkState, IsCutShort}
+use Rattle.sd_engine.specs.Stage.{SinkState, IsCutShort, TookBytes}
 use Rattle.sd_spec_receiver.specs.declared.fault.StreamFault.{StreamFault}
 use Rattle.sd_spec_receiver.specs.declared.fault.StreamFault.TheVariants as Fault
 use Rattle.sd_psi.specs.declared.our_cat.Tuning.{Tuning}
@@ -22,7 +22,6 @@ use Rattle.sd_spec_receiver.specs.Offered.{Offering, word_fault, wrote_or, heard
 use Rattle.sd_receive_emm.specs.Entitled.{IsEntitled}
 use Rattle.sd_receive_emm.specs.declared.entitled.Entitled.{Entitled}
 use Rattle.sd_receive_ecm.specs.Collected.{IsCollected}
-use Rattle.sd_receive_hold.specs.Writing.{TookBytes}
 use Rattle.sd_receive_hold.specs.Holding.{Holding, after_message}
 use Rattle.sd_receive.specs.Held.{word_under, holding_in, pair_wrote}
 use Rattle.sd_receive.specs.Listening.{IsListenerAfter, IsListenerAtMessage, capped, CountsMore, PassesOffering}

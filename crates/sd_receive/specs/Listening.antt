@@ -4,7 +4,7 @@ use Rattle.std.specs.List.{concat}
 use Rattle.sd_card.specs.Fields.{CardFields}
 use Rattle.sd_ecm.specs.declared.part.EcmPart.{EcmPart}
 use Rattle.sd_ecm.specs.declared.message.EcmHead.{EcmHead}
-use Rattle.sd_engine.specs.Stage.{SinkState, IsCutShort}
+use Rattle.sd_engine.specs.Stage.{SinkState, IsCutShort, TookBytes}
 use Rattle.sd_engine.specs.declared.stage.StageFault.{StageFault}
 use Rattle.sd_engine.specs.declared.stage.StageFault.TheVariants.{Write, Refused}
 use Rattle.sd_spec_receiver.specs.declared.fault.StreamFault.{StreamFault}
@@ -14,7 +14,6 @@ use Rattle.sd_spec_receiver.specs.Stretches.{is_closed}
 use Rattle.sd_spec_receiver.specs.Offered.{Offering, heard_offering}
 use Rattle.sd_receive_emm.specs.Entitled.{IsEntitled}
 use Rattle.sd_receive_ecm.specs.Collected.{IsCollected, IsComplete}
-use Rattle.sd_receive_hold.specs.Writing.{TookBytes}
 use Rattle.sd_receive.specs.Held.{holding_in}
 use Rattle.sd_receive.specs.declared.listener.Listener.{Listener}
 

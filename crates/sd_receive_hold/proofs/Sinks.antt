@@ -5,9 +5,9 @@ use Rattle.std.specs.Prelude.{Option, Some, None}
 use Rattle.std.proofs.KnownBytes.{Appends-trans, Appends-nil}
 use Rattle.sd_ports.specs.Rooms.{HasTaken}
 use Rattle.sd_ports.proofs.Rooms.{none_taken}
-use Rattle.sd_engine.specs.Stage.{SinkState, IsCutShort, IsTooShort}
+use Rattle.sd_engine.specs.Stage.{SinkState, IsCutShort, IsTooShort, TookBytes}
 use Rattle.sd_engine.proofs.Chains.{taken_on}
-use Rattle.sd_receive_hold.specs.Writing.{TookBytes, HasStopped}
+use Rattle.sd_receive_hold.specs.Writing.{HasStopped}
 
 -- nothing was taken
 pub took_none : (u : SinkState) → TookBytes u u []

@@ -7,7 +7,7 @@ use Rattle.std.proofs.lemmas.List.{take_more, take_all, take-append-drop, drop_m
 use Rattle.std.proofs.lemmas.List.Folds.{concat-append}
 use Rattle.sd_base.proofs.Lists.{concat_one}
 use Rattle.sd_packet.specs.Header.{pid_of}
-use Rattle.sd_engine.specs.Stage.{SinkState}
+use Rattle.sd_engine.specs.Stage.{SinkState, TookBytes}
 use Rattle.sd_ecm.specs.Parts.{Message}
 use Rattle.sd_spec_receiver.specs.Confirmed.{Segment, Wrote, then_wrote, judged, written_from, tracked, is_confirmed}
 use Rattle.sd_spec_receiver.specs.Confirmed.{unmarked}
@@ -16,7 +16,7 @@ use Rattle.sd_receive_hold.specs.declared.confirm.Confirming.{Confirming}
 use Rattle.sd_receive_hold.specs.declared.held.Held.{Held}
 use Rattle.sd_receive_hold.specs.Holding.{held_pair, after_message}
 use Rattle.sd_receive_hold.specs.Tracking.{packets_in, HaveOwn, IsKept}
-use Rattle.sd_receive_hold.specs.Writing.{TookBytes, HasStopped, WriteOutcome, holding_in, segment_in, segment_of, bare}
+use Rattle.sd_receive_hold.specs.Writing.{HasStopped, WriteOutcome, holding_in, segment_in, segment_of, bare}
 use Rattle.sd_receive_hold.specs.Writing.{first_wrote}
 use Rattle.sd_receive_hold.specs.Writing.{IsWritten, IsOwn}
 use Rattle.sd_receive_hold.proofs.Sinks.{took_none, took_more, cut_after}

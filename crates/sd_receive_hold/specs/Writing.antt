@@ -2,11 +2,9 @@
 use Rattle.std.specs.Prelude.{◌≡◌, ℕ, ◌<◌, ◌++◌, ◌∷◌, false, List, [], length, map, take, Option, Some, None, Result}
 use Rattle.std.specs.Prelude.{Ok, Err}
 use Rattle.std.specs.List.{concat}
-use Rattle.std.specs.Io.KnownBytes.{Appends}
 use Rattle.sd_packet.specs.Header.{pid_of}
 use Rattle.sd_ports.specs.Bytes.{AppendsPrefix}
-use Rattle.sd_ports.specs.Rooms.{HasTaken}
-use Rattle.sd_engine.specs.Stage.{SinkState, IsCutShort, IsTooShort}
+use Rattle.sd_engine.specs.Stage.{SinkState, TookBytes, IsCutShort, IsTooShort}
 use Rattle.sd_ecm.specs.Form.{AreShort}
 use Rattle.sd_ecm.specs.Parts.{Message}
 use Rattle.sd_ecm.specs.declared.part.Place.{Place}
@@ -49,11 +47,6 @@ segment_of h ca ecm places = record {
 abbrev pub wrote_of : Option Holding → ℕ → ℕ → List Place → Wrote
 wrote_of None ca ecm places = record { packets = []; refused = None }
 wrote_of (Some h) ca ecm places = written_from (segment_of h ca ecm places) [] h.held
-
--- a sink took these bytes
-pub record TookBytes (old new : SinkState) (bytes : List ℕ) : Type 0 where
-  pub taken : Appends old.held new.held bytes
-  pub room : HasTaken old.room new.room (length bytes)
 
 -- a write of these bytes failed: the sink took a prefix of them, and if its room is known it is less than all of them
 pub record HasStopped (old new : SinkState) (bytes : List ℕ) : Type 0 where

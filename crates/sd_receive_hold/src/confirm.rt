@@ -2,12 +2,12 @@ ghost use Rattle.std.specs.Prelude.{◌≡◌, ◌<◌, ◌≤◌, ◌∷◌, �
 ghost use Rattle.std.specs.Prelude.{if◌then◌else◌};
 ghost use Rattle.std.specs.Result.{OnOk, OnErr, IfErr};
 ghost use Rattle.sd_base.specs.Count.{IsCaused};
-ghost use Rattle.sd_engine.specs.Stage.{vessel};
+ghost use Rattle.sd_engine.specs.Stage.{vessel, TookBytes};
 ghost use Rattle.sd_packet.specs.Header.{pid_of};
 ghost use Rattle.sd_spec_receiver.specs.Confirmed.{position_in, is_confirmed as is_confirmed_pid};
 ghost use Rattle.sd_spec_receiver.specs.Confirmed.{is_odd as is_odd_packet, judged};
 ghost use Rattle.sd_spec_receiver.specs.Confirmed.{unmarked, written_from};
-ghost use Rattle.sd_receive_hold.specs.Writing.{WriteOutcome, TookBytes, HasStopped, IsReady, IsOwn, holding_in};
+ghost use Rattle.sd_receive_hold.specs.Writing.{WriteOutcome, HasStopped, IsReady, IsOwn, holding_in};
 ghost use Rattle.sd_receive_hold.specs.Writing.{segment_in};
 
 use crate::fault::SegmentFault;

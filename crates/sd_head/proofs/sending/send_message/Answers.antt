@@ -1,9 +1,9 @@
 use Rattle.std.proofs.Common.{◌∙◌, ap, subst, arith}
-use Rattle.sd_engine.specs.Stage.{vessel}
+use Rattle.sd_engine.specs.Stage.{vessel, TookBytes}
 use Rattle.sd_ecm.specs.Parts.{message_of, parts_of}
 use Rattle.sd_ecm.proofs.Sharing.{as_many}
 use Rattle.sd_head_periods.proofs.Packing.{taken_at}
-use Rattle.sd_head.specs.Sending.{TakesBytes, FailsWithin, packed_part, counter_after}
+use Rattle.sd_head.specs.Sending.{FailsWithin, packed_part, counter_after}
 use Rattle.sd_head.proofs.Sends.{one_more, one_cut, all_sent, sends_err, counter_next}
 use Rattle.sd_head.proofs.sending.send_message.Goals as goal
 
@@ -35,7 +35,7 @@ loop-number-preserved g c =
           (taken_at (parts_of message) n c.of_message-part.result c.of_message-part.ensures.value)
           c.loop-number.invariant.next
           c.loop-number.invariant.value
-          (subst (TakesBytes (vessel g.K.Sink c.loop-number.out) (vessel g.K.Sink c.send.new.out))
+          (subst (TookBytes (vessel g.K.Sink c.loop-number.out) (vessel g.K.Sink c.send.new.out))
           (c.write_ecm.ensures.value ∙ ap (packed_part c.args.pid c.of_message-part.result) c.take.ensures.value)
           c.in_ok-send.ensures.value);
       next = counter_next c.args.counter.now c.loop-number.counter c.take.new.self n c.loop-number.invariant.next

@@ -1,14 +1,14 @@
 use Rattle.std.proofs.Common.{◌≡◌, take}
 use Rattle.std.specs.List.{concat}
-use Rattle.sd_engine.specs.Stage.{vessel}
+use Rattle.sd_engine.specs.Stage.{vessel, TookBytes}
 use Rattle.sd_ecm.specs.Parts.{message_of, parts_of}
-use Rattle.sd_head.specs.Sending.{TakesBytes, counter_after, numbered, packed_part}
+use Rattle.sd_head.specs.Sending.{counter_after, numbered, packed_part}
 use Rattle.sd_head.proofs.sending.send_message.Given as goal
 
 -- the parts so far are sent
 abbrev pub invariant-loop-number : goal.invariant-loop-number
 invariant-loop-number g l = record {
-  value : TakesBytes (vessel g.K.Sink l.fn.out) (vessel g.K.Sink l.out)
+  value : TookBytes (vessel g.K.Sink l.fn.out) (vessel g.K.Sink l.out)
       (concat (numbered (packed_part l.fn.pid) l.fn.counter
       (take l.number (parts_of (message_of l.fn.head l.fn.places)))));
   next : l.counter ≡ counter_after l.fn.counter l.number;
