@@ -15,13 +15,14 @@ use Rattle.sd_emm.specs.declared.emm.Emm.{Emm}
 use Rattle.sd_ecm.specs.Spelled.{ecm_section}
 use Rattle.sd_ecm.specs.declared.part.EcmPart.{EcmPart}
 use Rattle.sd_spec_broadcast.specs.Sent.{Item, Cat, Entitles, Controls, Carries, is_alike, packet_of, packets_from}
+use Rattle.sd_spec_broadcast.specs.Sent.{is_cat_item}
 use Rattle.sd_ecm.specs.Parts.{message_of, parts_of}
 use Rattle.sd_ecm.specs.declared.message.EcmHead.{EcmHead}
 use Rattle.sd_ecm.specs.declared.part.Place.{Place}
 use Rattle.sd_spec_broadcast.proofs.Sending.{packets_in_turn}
 use Rattle.sd_head_periods.specs.Kept.{uncounted}
 use Rattle.sd_head.specs.Sending.{counter_after, numbered, recounted, packed_part}
-use Rattle.sd_head.specs.Items.{is_cat_item, is_entitlement, is_control, tables_bytes, message_bytes, parts_in, HasSent}
+use Rattle.sd_head.specs.Items.{is_entitlement, is_control, tables_bytes, message_bytes, parts_in, HasSent}
 use Rattle.sd_head.specs.Items.{HasCountersAfter}
 use Rattle.sd_head.specs.declared.sender.Sender.{Sender}
 use Rattle.sd_head.proofs.Sends.{counter_is}

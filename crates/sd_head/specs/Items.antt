@@ -10,18 +10,11 @@ use Rattle.sd_ecm.specs.Form.{ArePositioned, AreAscending, AreShort}
 use Rattle.sd_ecm.specs.Parts.{message_of, parts_of}
 use Rattle.sd_ecm.specs.declared.message.EcmHead.{EcmHead}
 use Rattle.sd_ecm.specs.declared.part.Place.{Place}
-use Rattle.sd_spec_broadcast.specs.Sent.{Item, Cat, Entitles, Controls, Carries}
+use Rattle.sd_spec_broadcast.specs.Sent.{Item, Cat, Entitles, Controls, Carries, is_cat_item}
 use Rattle.sd_head.specs.Sending.{counter_after, numbered, recounted, packed_part}
 use Rattle.sd_head.specs.declared.sender.Sender.{Sender}
 
--- the thing is the CAT
-abbrev pub is_cat_item : Item → Bool
-is_cat_item Cat = true
-is_cat_item (Entitles emm) = false
-is_cat_item (Controls part) = false
-is_cat_item (Carries k packet) = false
-
--- it is a section of entitlements
+-- the thing is a section of entitlements
 abbrev pub is_entitlement : Item → Bool
 is_entitlement Cat = false
 is_entitlement (Entitles emm) = true

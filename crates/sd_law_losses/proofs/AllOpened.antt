@@ -21,7 +21,7 @@ use Rattle.sd_emm.specs.Period.{emms_of}
 use Rattle.sd_emm.specs.declared.emm.Emm.{Emm}
 use Rattle.sd_ecm.specs.Parts.{parts_of}
 use Rattle.sd_spec_broadcast.specs.Plan.{Plan, IsPlan, crypto_length, period_of, since_of, closing_number}
-use Rattle.sd_spec_broadcast.specs.Kinds.{kind_of}
+use Rattle.sd_spec_broadcast.specs.Kinds.{kind_of, is_scrambled}
 use Rattle.sd_spec_broadcast.specs.Messages.{period_at}
 use Rattle.sd_spec_broadcast.specs.Refused.{IsClear}
 use Rattle.sd_spec_broadcast.specs.Sent.{Item, Cat, Entitles, Controls, tables_at, tables_before, sent, closing_of}
@@ -33,7 +33,7 @@ use Rattle.sd_law_broadcast.specs.Packets.{AreWholePackets}
 use Rattle.sd_law_losses.specs.Chosen.{chosen}
 use Rattle.sd_law_losses.specs.Kept.{is_kept, kept_in, has_arrived, entitles, is_last_part, is_entitled_before}
 use Rattle.sd_law_losses.specs.Kept.{after_cat}
-use Rattle.sd_law_losses.specs.Confirmed.{packet_at, packets_at, is_open, tracked_position, is_traced, is_scrambled}
+use Rattle.sd_law_losses.specs.Confirmed.{packet_at, packets_at, is_open, tracked_position, is_traced}
 use Rattle.sd_law_losses.specs.Confirmed.{confirmed}
 use Rattle.sd_law_losses.specs.Confirmed.{is_revoked_in, opened_by}
 use Rattle.sd_law_losses.proofs.Arriving.{is_of, entitled_before, last_there}

@@ -19,7 +19,7 @@ use Rattle.sd_emm.proofs.Sharing.{all_are_of}
 use Rattle.sd_ecm.specs.Parts.{Message}
 use Rattle.sd_spec_broadcast.specs.Plan.{sets_at, period_of}
 use Rattle.sd_spec_broadcast.specs.Messages.{period_at, message_at}
-use Rattle.sd_spec_broadcast.specs.Sent.{Item, sent, closing_of, broadcast}
+use Rattle.sd_spec_broadcast.specs.Sent.{Item, sent, closing_of, broadcast, is_cat_item}
 use Rattle.sd_spec_broadcast.proofs.Schedule.{closing_needed, closing_covers}
 use Rattle.sd_law_broadcast.proofs.Fitting.{period_count}
 use Rattle.sd_spec_receiver.specs.Tuned.{tuning_of}
@@ -33,7 +33,7 @@ use Rattle.sd_spec_receiver.specs.declared.ending.Ending.{Ending}
 use Rattle.sd_spec_receiver.specs.declared.ending.Ending.TheVariants.{NoCat, Unclosed}
 use Rattle.sd_spec_receiver.proofs.Runs.{opened_joins}
 use Rattle.sd_law_losses.specs.Chosen.{chosen}
-use Rattle.sd_law_losses.specs.Kept.{is_cat_item, after_cat, has_arrived, arrived, is_section_item}
+use Rattle.sd_law_losses.specs.Kept.{after_cat, has_arrived, arrived, is_section_item}
 use Rattle.sd_law_losses.specs.Confirmed.{confirmed}
 use Rattle.sd_law_losses.specs.Endings.{period_told, periods_arrived, is_untold, has_all, closed_told, next_number}
 use Rattle.sd_law_losses.specs.Endings.{ending_told}

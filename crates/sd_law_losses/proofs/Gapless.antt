@@ -12,12 +12,11 @@ use Rattle.sd_packet.proofs.Positions.{next_position}
 use Rattle.sd_site.specs.Fields.{AreInRange}
 use Rattle.sd_card.specs.Fields.{card_of}
 use Rattle.sd_spec_broadcast.specs.Plan.{Plan, closing_number}
-use Rattle.sd_spec_broadcast.specs.Kinds.{kind_of}
+use Rattle.sd_spec_broadcast.specs.Kinds.{kind_of, is_scrambled}
 use Rattle.sd_spec_broadcast.specs.Sent.{Item}
 use Rattle.sd_law_losses.specs.Chosen.{chosen}
 use Rattle.sd_law_losses.specs.Kept.{is_kept, kept_in, has_arrived}
 use Rattle.sd_law_losses.specs.Confirmed.{packet_at, packets_at, upto, tracked_position, is_traced, is_open}
-use Rattle.sd_law_losses.specs.Confirmed.{is_scrambled}
 use Rattle.sd_law_losses.specs.Confirmed.{is_confirmed_at}
 use Rattle.sd_law_losses.specs.Gaps.{kept_positions, are_near, positions_between, has_no_gap}
 use Rattle.sd_law_losses.proofs.Gaps.{near_by_gaps}

@@ -22,7 +22,7 @@ use Rattle.sd_spec_receiver.specs.Offered.{offered}
 use Rattle.sd_spec_receiver.specs.Offered.{tuned_offering, out_from, break_from}
 use Rattle.sd_spec_receiver.proofs.Hearing.{tuned_more as still_tuned}
 use Rattle.sd_law_losses.specs.Chosen.{chosen}
-pub use Rattle.sd_law_losses.specs.Kept.{is_cat_item}
+pub use Rattle.sd_spec_broadcast.specs.Sent.{is_cat_item}
 use Rattle.sd_law_losses.proofs.Writing.{onto, Writes, IsOpenUpto}
 use Rattle.sd_law_losses.proofs.OneRun.{IsOfRun, AreOneRun, no_turn, no_turn_at, one_heard, one_offered}
 use Rattle.sd_law_losses.proofs.Setting.{Setting, tuning_at}

@@ -15,13 +15,13 @@ use Rattle.sd_label.specs.Keys.{control_word_of}
 use Rattle.sd_scramble.specs.Scrambling.{descrambled}
 use Rattle.sd_ecm.specs.declared.part.Place.{Place}
 use Rattle.sd_spec_broadcast.specs.Plan.{word_of, since_of}
-use Rattle.sd_spec_broadcast.specs.Kinds.{kind_of, has_moved}
+use Rattle.sd_spec_broadcast.specs.Kinds.{kind_of, has_moved, is_scrambled}
 use Rattle.sd_spec_broadcast.specs.Carried.{place_after}
 use Rattle.sd_spec_broadcast.specs.Sent.{Item}
 use Rattle.sd_spec_broadcast.proofs.Schedule.{same_word}
 use Rattle.sd_spec_receiver.specs.Confirmed.{Segment, tracked, is_confirmed, judged, is_odd, position_in}
 use Rattle.sd_law_losses.specs.Kept.{is_kept, kept_in}
-use Rattle.sd_law_losses.specs.Confirmed.{packet_at, tracked_position, is_traced, is_scrambled}
+use Rattle.sd_law_losses.specs.Confirmed.{packet_at, tracked_position, is_traced}
 use Rattle.sd_law_losses.proofs.Places.{told_position}
 use Rattle.sd_law_losses.proofs.Tracking.{true_at, near_at, kept_more, near_exact}
 use Rattle.sd_law_losses.proofs.Setting.{Setting, AreLaws, IsOpen, IsVeiled, told_by, carried_at}

@@ -18,7 +18,7 @@ use Rattle.sd_emm.specs.declared.emm.Emm.{Emm}
 use Rattle.sd_ecm.specs.Parts.{Message, IsMessage, parts_of}
 use Rattle.sd_ecm.specs.declared.part.EcmPart.{EcmPart}
 use Rattle.sd_spec_broadcast.specs.Plan.{Plan, IsPlan, word_of}
-use Rattle.sd_spec_broadcast.specs.Kinds.{kind_of}
+use Rattle.sd_spec_broadcast.specs.Kinds.{kind_of, is_scrambled}
 use Rattle.sd_spec_broadcast.specs.Messages.{period_at}
 use Rattle.sd_spec_broadcast.specs.Refused.{IsClear}
 use Rattle.sd_spec_broadcast.specs.Sent.{Item, Cat, Entitles, Controls, Carries, is_alike}
@@ -40,7 +40,7 @@ use Rattle.sd_law_heard.proofs.Parts.{some_part, part_stands, parts_tell}
 use Rattle.sd_law_heard.proofs.Later.{never_back}
 use Rattle.sd_spec_receiver.specs.Stretches.{message_told}
 use Rattle.sd_spec_receiver.specs.Keys.{key_from}
-use Rattle.sd_law_losses.specs.Confirmed.{packet_at, is_scrambled}
+use Rattle.sd_law_losses.specs.Confirmed.{packet_at}
 use Rattle.sd_law_losses.proofs.Coming.{AreParts, is_nil}
 use Rattle.sd_law_losses.proofs.Setting.{Setting, IsDue, IsOpen, IsVeiled, AreLaws, told_by, carried_at, key_where}
 use Rattle.sd_spec_broadcast.specs.Items.{IsOfBroadcast}

@@ -16,14 +16,14 @@ use Rattle.sd_emm.specs.Period.{emms_of}
 use Rattle.sd_emm.specs.declared.emm.Emm.{Emm}
 use Rattle.sd_ecm.specs.Parts.{Message, parts_of}
 use Rattle.sd_spec_broadcast.specs.Plan.{Plan, word_of, closing_number}
-use Rattle.sd_spec_broadcast.specs.Kinds.{kind_of}
+use Rattle.sd_spec_broadcast.specs.Kinds.{kind_of, is_scrambled}
 use Rattle.sd_spec_broadcast.specs.Carried.{carried, place_after}
 use Rattle.sd_spec_broadcast.specs.Messages.{period_at, message_at}
 use Rattle.sd_psi.specs.declared.our_cat.Tuning.{Tuning}
 use Rattle.sd_spec_receiver.specs.Keys.{key_from}
 use Rattle.sd_spec_receiver.specs.Confirmed.{Segment, unmarked}
 use Rattle.sd_spec_receiver.specs.Offered.{is_before, says_same}
-use Rattle.sd_law_losses.specs.Confirmed.{packet_at, is_scrambled}
+use Rattle.sd_law_losses.specs.Confirmed.{packet_at}
 use Rattle.sd_law_losses.proofs.Coming.{AreParts, is_nil}
 
 -- a broadcast and a card

@@ -25,6 +25,7 @@ use Rattle.sd_spec_broadcast.specs.Plan.{Plan, IsPlan, sets_at, crypto_length, p
 use Rattle.sd_spec_broadcast.specs.Messages.{period_at}
 use Rattle.sd_spec_broadcast.specs.Refused.{IsClear}
 use Rattle.sd_spec_broadcast.specs.Sent.{Item, Cat, Entitles, Controls, tables_at, tables_before, sent, closing_of}
+use Rattle.sd_spec_broadcast.specs.Sent.{is_cat_item}
 use Rattle.sd_spec_broadcast.proofs.Items.{all_are_of_broadcast}
 use Rattle.sd_spec_broadcast.proofs.Schedule.{period_begins, periods_rise}
 use Rattle.sd_spec_broadcast.proofs.Periods.{section_number}
@@ -32,7 +33,7 @@ use Rattle.sd_law_broadcast.specs.Packets.{AreWholePackets}
 use Rattle.sd_law_broadcast.proofs.Fitting.{period_count}
 use Rattle.sd_spec_receiver.specs.Ending.{ending_with}
 use Rattle.sd_spec_receiver.specs.declared.ending.Ending.TheVariants.{NoCat, Unclosed}
-use Rattle.sd_law_losses.specs.Kept.{is_cat_item, after_cat, has_arrived, arrived, entitles, is_section_item}
+use Rattle.sd_law_losses.specs.Kept.{after_cat, has_arrived, arrived, entitles, is_section_item}
 use Rattle.sd_law_losses.specs.Confirmed.{packet_at, is_revoked_in, opened_by}
 use Rattle.sd_law_losses.specs.Endings.{period_told, periods_arrived, is_untold, has_all, closed_told, next_number}
 use Rattle.sd_law_losses.specs.Endings.{ending_told, first_revoked, is_on_air, whole_ending}

@@ -8,9 +8,7 @@ use Rattle.sd_packet.specs.Header.{pid_of}
 use Rattle.sd_packet.specs.Positions.{position_of, moved_by}
 use Rattle.sd_book.specs.Commands.{revoked}
 use Rattle.sd_spec_broadcast.specs.Plan.{Plan, period_of, since_of, closing_number}
-use Rattle.sd_spec_broadcast.specs.Kinds.{kind_of}
-use Rattle.sd_spec_broadcast.specs.declared.kind.Kind.{Kind}
-use Rattle.sd_spec_broadcast.specs.declared.kind.Kind.TheVariants.{Passed, Pmt, Scrambled}
+use Rattle.sd_spec_broadcast.specs.Kinds.{kind_of, is_scrambled}
 use Rattle.sd_spec_broadcast.specs.Sent.{Item}
 use Rattle.sd_spec_receiver.specs.Offered.{most_held}
 use Rattle.sd_law_losses.specs.Kept.{is_kept, kept_in, arrived, greatest_at_most, least_above, is_entitled_before}
@@ -52,12 +50,6 @@ unfoldable pub is_traced : Plan → Packets → List Item → MessageNumber → 
 is_traced plan clear kept a b pid =
     nat_le (tracked_position plan clear kept a b pid) (position_of pid (take (upto plan clear b) clear))
     && nat_le (position_of pid (take (upto plan clear b) clear)) (tracked_position plan clear kept a b pid + 15)
-
--- a packet of this kind is scrambled
-abbrev pub is_scrambled : Kind → Bool
-is_scrambled Passed = false
-is_scrambled Pmt = false
-is_scrambled Scrambled = true
 
 -- clear packet j is written between messages a and b
 abbrev pub is_written_between : Plan → LeafNumber → Packets → List Item → PacketNumber → MessageNumber → MessageNumber →

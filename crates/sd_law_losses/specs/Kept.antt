@@ -7,13 +7,6 @@ use Rattle.sd_tree.specs.Leaves.{is_member}
 use Rattle.sd_emm.specs.Spelled.{listed_entries}
 use Rattle.sd_spec_broadcast.specs.Sent.{Item, Cat, Entitles, Controls, Carries}
 
--- the thing is the CAT
-abbrev pub is_cat_item : Item → Bool
-is_cat_item Cat = true
-is_cat_item (Entitles emm) = false
-is_cat_item (Controls part) = false
-is_cat_item (Carries j packet) = false
-
 -- the things after the first CAT [this project, docs/FORMATS.md, Receiver]
 unfoldable pub after_cat : List Item → List Item
 after_cat [] = []

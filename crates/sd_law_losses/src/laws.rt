@@ -8,7 +8,7 @@ ghost use Rattle.sd_packet.specs.Header.{pid_of};
 ghost use Rattle.sd_site.specs.Fields.{AreInRange};
 ghost use Rattle.sd_card.specs.Fields.{card_of};
 ghost use Rattle.sd_spec_broadcast.specs.Plan.{Plan, IsPlan, closing_number, period_of};
-ghost use Rattle.sd_spec_broadcast.specs.Kinds.{kind_of};
+ghost use Rattle.sd_spec_broadcast.specs.Kinds.{kind_of, is_scrambled};
 ghost use Rattle.sd_spec_broadcast.specs.Refused.{IsClear};
 ghost use Rattle.sd_spec_broadcast.specs.Sent.{Item, sent, closing_of, broadcast};
 ghost use Rattle.sd_law_broadcast.specs.Packets.{AreWholePackets};
@@ -22,7 +22,7 @@ ghost use Rattle.sd_spec_types.specs.Types.{Packet, Packets, Arrived, Pid, Posit
 ghost use Rattle.sd_spec_types.specs.Types.{PacketNumber, MessageNumber};
 ghost use Rattle.sd_law_losses.specs.Taken.{taken_keys, how_many};
 ghost use Rattle.sd_law_losses.specs.Kept.{is_kept, has_arrived, entitles, after_cat};
-ghost use Rattle.sd_law_losses.specs.Confirmed.{packet_at, upto, is_open, is_scrambled, is_confirmed_at, confirmed};
+ghost use Rattle.sd_law_losses.specs.Confirmed.{packet_at, upto, is_open, is_confirmed_at, confirmed};
 ghost use Rattle.sd_law_losses.specs.Confirmed.{opened_by, is_revoked_in};
 ghost use Rattle.sd_law_losses.specs.Endings.{ending_told, first_revoked, is_on_air, whole_ending};
 ghost use Rattle.sd_law_losses.specs.Gaps.{kept_positions, are_near, has_no_gap};

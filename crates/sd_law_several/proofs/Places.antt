@@ -11,7 +11,8 @@ use Rattle.sd_spec_broadcast.specs.Carried.{place_after}
 use Rattle.sd_spec_broadcast.specs.Refused.{IsClear}
 use Rattle.sd_law_broadcast.proofs.Clear.{clear_short}
 use Rattle.sd_law_broadcast.proofs.Carrying.{kind_placed}
-use Rattle.sd_law_several.specs.Runs.{Run, run_packet, is_scrambled, is_veiled}
+use Rattle.sd_spec_broadcast.specs.Kinds.{is_scrambled}
+use Rattle.sd_law_several.specs.Runs.{Run, run_packet, is_veiled}
 use Rattle.sd_law_several.specs.Pads.{number_at}
 
 -- the position of clear packet k

@@ -23,7 +23,7 @@ use Rattle.sd_ecm.specs.declared.part.EcmPart.{EcmPart}
 use Rattle.sd_ecm.proofs.Sharing as Parts
 use Rattle.sd_reach.proofs.Reached.{from_one, to_all}
 use Rattle.sd_spec_broadcast.specs.Plan.{Plan, sets_at, word_of, period_of, closing_number}
-use Rattle.sd_spec_broadcast.specs.Kinds.{kind_of}
+use Rattle.sd_spec_broadcast.specs.Kinds.{kind_of, is_scrambled}
 use Rattle.sd_spec_broadcast.specs.Carried.{parity_of, place_after, pmt_carried, veiled, carried_as, carried}
 use Rattle.sd_spec_broadcast.specs.Messages.{entry_of, period_at, message_at}
 use Rattle.sd_spec_broadcast.specs.Sent.{Item, Cat, Entitles, Controls, Carries}
@@ -31,7 +31,7 @@ use Rattle.sd_spec_broadcast.specs.Items.{IsOfBroadcast, cat, entitlement, part,
 use Rattle.sd_spec_broadcast.specs.declared.kind.Kind.{Kind}
 use Rattle.sd_spec_broadcast.specs.declared.kind.Kind.TheVariants.{Passed, Pmt, Scrambled}
 use Rattle.sd_law_broadcast.specs.Packets.{IsWholePacket, AreWholePackets}
-use Rattle.sd_law_several.specs.Runs.{Run, sent_by, run_packet, is_scrambled, is_veiled}
+use Rattle.sd_law_several.specs.Runs.{Run, sent_by, run_packet, is_veiled}
 use Rattle.sd_law_several.specs.Pads.{Pad, under_keystream, number_at, entry_pad, part_pad, payload_pad, pads_in}
 use Rattle.sd_law_several.specs.Pads.{pads_of}
 

@@ -1,14 +1,12 @@
 -- Public meaning: broadcasts under one master, and what each of them uses.
 use Rattle.std.specs.Prelude.{◌≡◌, ◌⊎◌, ℕ, ◌-◌, ◌<◌, ◌≤◌, List, ◌++◌, length, get_or, take, slice_get, Some, All, Bool}
-use Rattle.std.specs.Prelude.{[], true, false}
+use Rattle.std.specs.Prelude.{[]}
 use Rattle.sd_spec_types.specs.Types.{Packet, Packets, Key, Leaves, PeriodNumber, CryptoNumber, WordNumber}
 use Rattle.sd_spec_types.specs.Types.{PacketNumber}
 use Rattle.sd_site.specs.Fields.{SiteFields}
 use Rattle.sd_book.specs.Commands.{revoked}
 use Rattle.sd_spec_broadcast.specs.Plan.{Plan, IsPlan, crypto_of, word_in, period_in}
-use Rattle.sd_spec_broadcast.specs.Kinds.{kind_of}
-use Rattle.sd_spec_broadcast.specs.declared.kind.Kind.{Kind}
-use Rattle.sd_spec_broadcast.specs.declared.kind.Kind.TheVariants.{Passed, Pmt, Scrambled}
+use Rattle.sd_spec_broadcast.specs.Kinds.{kind_of, is_scrambled}
 use Rattle.sd_spec_broadcast.specs.Refused.{IsClear}
 use Rattle.sd_spec_broadcast.specs.Sent.{Item, sent, closing_of}
 
@@ -31,11 +29,6 @@ sent_by run = sent run.plan run.clear ++ closing_of run.plan run.clear
 -- clear packet k of the run
 abbrev pub run_packet : Run → PacketNumber → Packet
 run_packet run k = get_or run.clear k []
-
-abbrev pub is_scrambled : Kind → Bool
-is_scrambled Passed = false
-is_scrambled Pmt = false
-is_scrambled Scrambled = true
 
 -- the run scrambles its clear packet k [this project, docs/FORMATS.md, Broadcast]
 unfoldable pub is_veiled : Run → PacketNumber → Bool

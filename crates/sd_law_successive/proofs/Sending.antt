@@ -4,12 +4,12 @@ use Rattle.std.specs.Prelude.{if◌then◌else◌}
 use Rattle.std.specs.List.{list_any}
 use Rattle.std.proofs.lemmas.Bool.{false≢true}
 use Rattle.sd_card.specs.Fields.{CardFields}
-use Rattle.sd_spec_broadcast.specs.Sent.{Item, Cat, Entitles, Controls, Carries}
+use Rattle.sd_spec_broadcast.specs.Sent.{Item, Cat, Entitles, Controls, Carries, is_cat_item}
 use Rattle.sd_psi.specs.OurCat.{cat_tuning}
 use Rattle.sd_psi.specs.declared.our_cat.Tuning.{Tuning}
 use Rattle.sd_spec_receiver.specs.Heard.{hears}
 use Rattle.sd_law_losses.specs.Chosen.{chosen}
-use Rattle.sd_law_losses.specs.Kept.{is_cat_item, after_cat}
+use Rattle.sd_law_losses.specs.Kept.{after_cat}
 use Rattle.sd_law_successive.specs.Pieces.{name_at}
 use Rattle.sd_law_successive.specs.Ends.{is_message}
 use Rattle.sd_law_successive.proofs.Leading.{is_quiet}

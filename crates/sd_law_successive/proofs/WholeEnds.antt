@@ -6,11 +6,11 @@ use Rattle.std.specs.List.{list_any}
 use Rattle.std.proofs.lemmas.Bool.{false≢true}
 use Rattle.sd_card.specs.Fields.{card_of}
 use Rattle.sd_spec_broadcast.specs.Plan.{Plan, closing_number}
-use Rattle.sd_spec_broadcast.specs.Sent.{Item, Cat, Entitles, Controls, Carries}
+use Rattle.sd_spec_broadcast.specs.Sent.{Item, Cat, Entitles, Controls, Carries, is_cat_item}
 use Rattle.sd_spec_receiver.specs.declared.ending.Ending.{Ending}
 use Rattle.sd_spec_receiver.specs.declared.ending.Ending.TheVariants.{Opened, Revoked, Unheard, NoCat, Unclosed, Gaps}
 use Rattle.sd_spec_receiver.specs.Ending.{ending_of}
-use Rattle.sd_law_losses.specs.Kept.{is_cat_item, after_cat, has_parts, has_arrived}
+use Rattle.sd_law_losses.specs.Kept.{after_cat, has_parts, has_arrived}
 use Rattle.sd_law_losses.specs.Confirmed.{confirmed}
 use Rattle.sd_law_losses.specs.Endings.{closed_told, next_number, ending_told, first_revoked, whole_ending}
 use Rattle.sd_law_losses.proofs.Tests.{none_weaker}

@@ -2,9 +2,8 @@
 use Rattle.std.specs.Prelude.{◌||◌, Bool, true, false, List, [], ◌∷◌, ◌++◌, drop}
 use Rattle.std.specs.List.{list_any}
 use Rattle.sd_spec_types.specs.Types.{Packets, Arrived, LeafNumber}
-use Rattle.sd_spec_broadcast.specs.Sent.{Item, sent, closing_of}
+use Rattle.sd_spec_broadcast.specs.Sent.{Item, sent, closing_of, is_cat_item}
 use Rattle.sd_law_losses.specs.Chosen.{chosen}
-use Rattle.sd_law_losses.specs.Kept.{is_cat_item}
 use Rattle.sd_law_losses.specs.Confirmed.{confirmed, opened_by}
 use Rattle.sd_law_successive.specs.Channel.{Arrival}
 

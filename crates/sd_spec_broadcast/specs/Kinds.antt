@@ -1,5 +1,5 @@
 -- Public meaning: what a clear packet is, by the packets before it.
-use Rattle.std.specs.Prelude.{ℕ, ◌==◌, ◌&&◌, Bool, nat_eq, nat_lt, List, [], ◌∷◌, filter, find}
+use Rattle.std.specs.Prelude.{ℕ, ◌==◌, ◌&&◌, Bool, true, false, nat_eq, nat_lt, List, [], ◌∷◌, filter, find}
 use Rattle.std.specs.Prelude.{reverse, is_none, if◌then◌else◌, Option}
 use Rattle.std.specs.List.{list_any, range_with_len}
 use Rattle.std.specs.Option.{option_map_or}
@@ -29,6 +29,12 @@ pmts_in before = option_map_or (λ packet. pmt_pids_of (section_in packet)) (pat
 unfoldable pub kind_of : List (List ℕ) → List ℕ → Kind
 kind_of before packet =
     if is_placed packet then (if list_any (nat_eq (pid_of packet)) (pmts_in before) then Pmt else Scrambled) else Passed
+
+-- a packet of this kind is scrambled
+abbrev pub is_scrambled : Kind → Bool
+is_scrambled Passed = false
+is_scrambled Pmt = false
+is_scrambled Scrambled = true
 
 -- the PID has moved from its first position [this project, docs/FORMATS.md, Positions]
 abbrev pub has_moved : List (List ℕ) → ℕ → Bool

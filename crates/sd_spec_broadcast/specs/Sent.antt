@@ -23,6 +23,13 @@ pub data Item : Type 0 where
   Controls : EcmPart → Item
   Carries : ℕ → List ℕ → Item
 
+-- the thing is the CAT
+abbrev pub is_cat_item : Item → Bool
+is_cat_item Cat = true
+is_cat_item (Entitles emm) = false
+is_cat_item (Controls part) = false
+is_cat_item (Carries k packet) = false
+
 -- the CAT and all entitlements of the period of packet k
 unfoldable pub tables_at : Plan → ℕ → List Item
 tables_at plan k = Cat ∷ map Entitles (emms_of (period_at plan (period_of plan k)))
