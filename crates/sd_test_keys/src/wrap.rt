@@ -1,5 +1,6 @@
+use sd_label::check_value;
 use sd_wrap::laws::wrapped_twice;
-use sd_wrap::wrap;
+use sd_wrap::{unwrap_checked, wrap};
 
 // Keys, numbers, texts, and what they are wrapped.
 static WRAPPED: [([u8; 32], u64, [u8; 32], [u8; 32]); 2] = [
@@ -47,5 +48,22 @@ fn keys_are_wrapped_and_unwrapped(rt: HostRuntime) {
         assert_eq!(rt; wrap(key, *number, text), *due, "number {number}");
         assert_eq!(rt; wrap(key, *number, due), *text, "number {number}");
         assert_eq!(rt; wrapped_twice(key, *number, text), *text);
+    }
+}
+
+#[test]
+fn unwrapped_keys_have_their_check_values(rt: HostRuntime) {
+    for (key, number, text, wrapped) in &WRAPPED {
+        let check = check_value(text);
+        assert_eq!(rt;
+            unwrap_checked(key, *number, wrapped, &check),
+            Ok(*text),
+            "number {number}"
+        );
+        assert_eq!(rt;
+            unwrap_checked(key, *number, wrapped, &[0; 16]),
+            Err(check),
+            "number {number}"
+        );
     }
 }
