@@ -166,10 +166,6 @@ pub by_kept : (A : Type 0) (refusal : Option StreamFault) → (refusal ≡ None 
 by_kept A None calm kept = calm refl
 by_kept A (Some why) calm kept = kept why refl
 
--- the bytes that a sink held on
-pub same_held : (a b : List ℕ) → Some a ≡ Some b → a ≡ b
-same_held a b is = cc
-
 -- what is written of a packet passes the room, if a write fails
 pub full_more : (card : CardFields) (earlier : List ℕ) (xs : List (List ℕ)) (s : Receiver) (packet : List ℕ)
     (total : ℕ) (store : Store) (bytes : List ℕ) → IsCountable xs → IsHeard card earlier xs s store.held →
