@@ -93,15 +93,6 @@ past_more events i event within is =
     ap reverse (take_more events i event within ∙ ap (λ (e : Event). take i events ++ e ∷ []) is)
     ∙ reverse-append (take i events) (event ∷ [])
 
--- a book within the limits may be the front of one
-pub whole_fits : (d : ℕ) (book : List Command) → IsWithinLimits d book → IsDraft d book
-whole_fits d book fits = record {
-  leaves = fits.leaves;
-  lines = fits.lines;
-  periods = fits.periods;
-  revoked = λ q within. fits.revoked q (omega (arith, within));
-}
-
 -- in a low tree such a front is a book within the limits
 pub front_within : (d : ℕ) (front rest : List Command) → d ≤ 6 → IsWithinLimits d (front ++ rest) →
     IsWithinLimits d front

@@ -23,6 +23,7 @@ use Rattle.sd_emm.specs.declared.emm.Entry.{Entry}
 use Rattle.sd_emm.proofs.Sharing.{all_are_of, joined_are_all}
 use Rattle.sd_spec_broadcast.specs.Plan.{Plan, IsPlan, sets_at, word_of, period_of, closing_number}
 use Rattle.sd_spec_broadcast.specs.Messages.{entry_of, period_at, message_at}
+use Rattle.sd_spec_broadcast.proofs.Periods.{number_is}
 use Rattle.sd_law_broadcast.specs.Numbered.{numbered}
 use Rattle.sd_law_broadcast.proofs.Fitting.{sets_stand, period_key_length, control_word_length}
 use Rattle.sd_spec_receiver.specs.Keys.{key_from}
@@ -97,10 +98,6 @@ section_of_period : (plan : Plan) (q : ℕ) (emm : Emm) → Contains (emms_of (p
 section_of_period plan q emm m =
     All-contains (IsOfPeriod (period_at plan q)) (emms_of (period_at plan q)) emm (all_are_of (period_at plan q)) m
 
-number_is : (plan : Plan) (q : ℕ) → (period_at plan q).number ≡ q
-unfolding period_at
-number_is plan q = refl
-
 check_is : (plan : Plan) (q : ℕ) → (period_at plan q).check ≡ check_value_of (period_key_of plan.site.master q)
 unfolding period_at
 check_is plan q = refl
@@ -130,10 +127,6 @@ unfolding card_of
 key_due plan q u emm is within m =
     key_of_card plan q emm (card_of plan.site.master plan.site.ca plan.site.height u) is
     (made_for plan.site u is.site.height.1 within) m
-
--- a section's number is its period's
-pub period_due : (plan : Plan) (q : ℕ) (emm : Emm) → Contains (emms_of (period_at plan q)) emm → emm.period ≡ q
-period_due plan q emm m = (section_of_period plan q emm m).number ∙ number_is plan q
 
 -- a message has its control word under its period's key, and the word's check value
 word_at : (plan : Plan) (before : List (List ℕ)) (a k : ℕ) (closing : Bool) →

@@ -5,7 +5,7 @@ use Rattle.std.specs.Prelude.{find, Contains, ◌⊎◌}
 use Rattle.std.specs.List.{range_with_len}
 use Rattle.std.proofs.lemmas.Bool.{cases_lt}
 use Rattle.std.proofs.lemmas.List.Elements.{All-contains, filter_passes, Contains-append_right}
-use Rattle.std.proofs.lemmas.List.FromFn.{get_or-range_with_len, length-range_with_len}
+use Rattle.sd_base.proofs.Ranges.{none_found}
 use Rattle.sd_run_books.specs.Apart.{differ, first_differing}
 
 -- the least number from a on, below a + n, that passes the test
@@ -44,22 +44,6 @@ find_least test a (suc n) u h = by_test (test a) refl (find_least test (a + 1) n
           yes = ap test (sym same) ∙ e;
           least = λ v low below. absurd (omega (arith, same, low, below));
         }
-
-pub find_none : (test : ℕ → Bool) (a n v : ℕ) → find test (range_with_len a n) ≡ None → a ≤ v → v < a + n →
-    test v ≡ false
-find_none test a zero v h low high = absurd (omega (arith, low, high))
-find_none test a (suc n) v h low high = by_test (test a) refl (find_none test (a + 1) n v) h
-  where
-    by_test : (t : Bool) → test a ≡ t →
-        (find test (range_with_len (a + 1) n) ≡ None → a + 1 ≤ v → v < a + 1 + n → test v ≡ false) →
-        cond t (Some a) (find test (range_with_len (a + 1) n)) ≡ None → test v ≡ false
-    by_test true e rest h = absurd cc
-    by_test false e rest h = elim (cases_lt a v) [
-      | inl lt ↦ rest h (omega (arith, lt)) (omega (arith, high))
-      | inr le ↦
-          let same : v ≡ a = omega (arith, low, le) in
-          ap test same ∙ e
-    ]
 
 pub all_fail : (test : ℕ → Bool) (a n : ℕ) → ((v : ℕ) → a ≤ v → v < a + n → test v ≡ false) →
     find test (range_with_len a n) ≡ None
@@ -134,21 +118,4 @@ pub swapped_none : (one other : ℕ → Bool) (n : ℕ) → first_differing one 
     first_differing other one n ≡ None
 swapped_none one other n h =
     all_fail (λ u. differ (other u) (one u)) 0 n (λ v low high. same_no (other v) (one v)
-    (sym (both_same (one v) (other v) (find_none (λ u. differ (one u) (other u)) 0 n v h low high))))
-
--- what a range of numbers has
-pub range_has : (a n v : ℕ) → a ≤ v → v < a + n → Contains (range_with_len a n) v
-range_has a zero v low high = absurd (omega (arith, low, high))
-range_has a (suc n) v low high = elim (cases_lt a v) [
-  | inl lt ↦ Contains-append_right (a ∷ []) (range_with_len (a + 1) n) v
-      (range_has (a + 1) n v (omega (arith, lt)) (omega (arith, high)))
-  | inr le ↦
-      let same : a ≡ v = omega (arith, low, le) in
-      (0, omega arith, same)
-]
-
-pub in_range : (a n v : ℕ) → Contains (range_with_len a n) v → (a ≤ v) × (v < a + n)
-in_range a n v (k, within, is) =
-    let low : k < n = omega (arith, within, length-range_with_len a n) in
-    let at = get_or-range_with_len a n k v low in
-    (omega (arith, at, is), omega (arith, at, is, low))
+    (sym (both_same (one v) (other v) (none_found (λ u. differ (one u) (other u)) 0 n v h low high))))

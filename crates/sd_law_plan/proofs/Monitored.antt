@@ -1,12 +1,12 @@
 -- The lines of a broadcast are those of what was sent.
-use Rattle.std.proofs.Common.{arith, ◌≡◌, ℕ, suc, ◌%◌, ◌<◌, ◌==◌, true, false, List, [], ◌∷◌, ◌++◌, Some}
+use Rattle.std.proofs.Common.{arith, ◌≡◌, ℕ, suc, ◌%◌, ◌==◌, true, false, List, [], ◌∷◌, ◌++◌, Some}
 use Rattle.std.proofs.Common.{refl, ap, ◌∙◌}
 use Rattle.std.specs.Prelude.{All, count_by, Ok}
 use Rattle.std.proofs.lemmas.Bool.Decides.{nat_tests}
 use Rattle.std.proofs.lemmas.List.Elements.{All-contains, All-head, All-tail}
 use Rattle.sd_packet.specs.Header.{pid_of}
 use Rattle.sd_packet.specs.Packing.{packed}
-use Rattle.sd_packet.proofs.Packets.{packet_reads}
+use Rattle.sd_packet.proofs.Packets.{packed_pid}
 use Rattle.sd_psi.specs.OurCat.{cat_section}
 use Rattle.sd_site.specs.Fields.{SiteFields}
 use Rattle.sd_emm.specs.Judged.{emm_read}
@@ -53,9 +53,6 @@ unfolding message_line message_data
 ecm_line site k packet part pid apart reads =
     let same : (site.ecm == site.ecm) ≡ true = grind (arith, nat_tests) in
     rw (pid, apart, same, reads) refl
-
-packed_pid : (section : List ℕ) (pid counter : ℕ) → pid < 8192 → pid_of (packed section pid (counter % 16)) ≡ pid
-packed_pid section pid counter low = (packet_reads section pid (counter % 16) low (omega arith)).pid_is
 
 module _ (plan : Plan) (clear : List (List ℕ)) (is : IsPlan plan) (all : IsClear plan.site clear)
     (long : AreLong clear) where

@@ -10,6 +10,7 @@ use Rattle.std.proofs.lemmas.Bool.{cases_lt}
 use Rattle.std.proofs.lemmas.Bool.Decides.{nat_tests}
 use Rattle.std.proofs.lemmas.List.Elements.{All-contains, Contains-append_right}
 use Rattle.std.proofs.lemmas.List.Sums.{sum_by-append, sum_by-cons}
+use Rattle.sd_base.proofs.Ranges.{range_has, in_range}
 use Rattle.sd_site.specs.Fields.{SiteFields, AreInRange}
 use Rattle.sd_book.specs.Commands.{last_period}
 use Rattle.sd_emm.specs.Period.{emms_of}
@@ -28,17 +29,16 @@ use Rattle.sd_spec_broadcast.specs.Sent.{sent}
 use Rattle.sd_spec_broadcast.specs.Sent.{sent_from, tables_at, tables_before}
 use Rattle.sd_spec_broadcast.proofs.Items.{all_are_of_broadcast}
 use Rattle.sd_spec_broadcast.proofs.Schedule.{crypto_length_some, period_of_first, periods_rise}
+use Rattle.sd_spec_broadcast.proofs.Periods.{section_number}
 use Rattle.sd_law_broadcast.proofs.Clear.{clear_words}
 use Rattle.sd_law_broadcast.proofs.Fitting.{period_count as sets_many}
 use Rattle.sd_law_broadcast.proofs.Reached.{period_reached}
 use Rattle.sd_law_several.specs.Runs.{last_crypto}
-use Rattle.sd_law_several.proofs.Texts.{section_number}
 use Rattle.sd_law_several.proofs.Using.{parts_are_used}
 use Rattle.sd_run_books.specs.Air.{cryptos_for, cryptos_in, entitlements_at, last_word_for, period_count}
 use Rattle.sd_law_plan.specs.Within.{is_entitlement_of, told_periods}
 use Rattle.sd_law_plan.proofs.Airs.{last_period_is, last_word_is}
 use Rattle.sd_law_plan.proofs.Counts.{quotient_is, shared, sum_grows, sum_none}
-use Rattle.sd_law_plan.proofs.Found.{in_range, range_has}
 use Rattle.sd_law_plan.proofs.Sizes.{tables_are, tables_by}
 use Rattle.sd_law_plan.proofs.Within.{cryptos_are}
 

@@ -1,11 +1,13 @@
 -- Two sites that don't clash.
-use Rattle.std.proofs.Common.{arith, ◌≡◌, ℕ, ◌==◌, ◌&&◌, ◌<◌, ◌≤◌, max, not, nat_le, nat_lt, le-ltb, Bool, true}
+use Rattle.std.proofs.Common.{arith, ◌≡◌, ℕ, ◌==◌, ◌&&◌, ◌<◌, ◌≤◌, max, not, nat_le, nat_lt, le-ltb, Bool, true, eq-eqb}
 use Rattle.std.proofs.Common.{false, List}
 use Rattle.std.proofs.Common.{Option, None, refl, sym, ap, ◌∙◌, inl, inr}
 use Rattle.std.specs.Str.{bytes_eq}
 use Rattle.std.proofs.lemmas.Bool.{cases_lt, le-leb}
 use Rattle.std.proofs.lemmas.Bool.Decides.{nat_tests}
 use Rattle.std.proofs.lemmas.Slice.Eq.{bytes_eq-Decides}
+use Rattle.sd_base.proofs.Bools.{true_from_not}
+use Rattle.sd_base.proofs.Lists.{equal_bytes}
 use Rattle.sd_site.specs.Fields.{SiteFields}
 use Rattle.sd_law_several.specs.Runs.{HasWords, ShareNoWord}
 use Rattle.sd_command_status.specs.declared.status.Clash.{Clash as ClashKind}
@@ -24,20 +26,8 @@ pub record ArePairs (a b : SiteFields) : Type 0 where
 not_below : (m n : ℕ) → nat_lt m n ≡ false → n ≤ m
 not_below m n h = grind (arith, nat_tests, h)
 
--- what no clash says, and a clash, where the test is turned
-is_yes : (t : Bool) → not t ≡ false → t ≡ true
-is_yes true h = refl
-is_yes false h = absurd cc
-
-is_no : (t : Bool) → not t ≡ true → t ≡ false
-is_no true h = absurd cc
-is_no false h = refl
-
 pub same_number : (m n : ℕ) → (m == n) ≡ true → m ≡ n
 same_number m n h = grind (arith, nat_tests, h)
-
-pub equal_number : (m n : ℕ) → m ≡ n → (m == n) ≡ true
-equal_number m n h = grind (arith, nat_tests, h)
 
 -- ranges without a common control word
 pub ranges_apart : (a b : SiteFields) → HasWords a → HasWords b → shares_word a b ≡ false → ShareNoWord a b
@@ -66,9 +56,6 @@ shares_swapped a b none = grind (arith, nat_tests, none)
 same_bytes : (xs ys : List ℕ) → bytes_eq xs ys ≡ true → xs ≡ ys
 same_bytes xs ys h = (bytes_eq-Decides xs ys).0 h
 
-pub equal_bytes : (xs ys : List ℕ) → xs ≡ ys → bytes_eq xs ys ≡ true
-equal_bytes xs ys h = (bytes_eq-Decides xs ys).1 h
-
 pub sites_apart : (a b : SiteFields) → sites_clash a b ≡ None → ArePairs a b
 unfolding sites_clash
 sites_apart a b h =
@@ -78,8 +65,8 @@ sites_apart a b h =
     let four = where_none (nat_lt b.last_word b.first_word) (NoWords 2) _ three.1 in
     let five = where_none (shares_word a b) (SharedWord (max a.first_word b.first_word)) None four.1 in
     record {
-      heights = same_number a.height b.height (is_yes (a.height == b.height) one.0);
-      masters = same_bytes a.master b.master (is_yes (bytes_eq a.master b.master) two.0);
+      heights = same_number a.height b.height (true_from_not (a.height == b.height) one.0);
+      masters = same_bytes a.master b.master (true_from_not (bytes_eq a.master b.master) two.0);
       words = not_below a.last_word a.first_word three.0;
       words_more = not_below b.last_word b.first_word four.0;
       apart = five.0;
@@ -93,7 +80,7 @@ where_no false clash next h = refl
 pub pairs_have_none : (a b : SiteFields) → ArePairs a b → sites_clash a b ≡ None
 unfolding sites_clash
 pairs_have_none a b is =
-    where_no (not (a.height == b.height)) Heights _ (ap not (equal_number a.height b.height is.heights))
+    where_no (not (a.height == b.height)) Heights _ (ap not (eq-eqb a.height b.height is.heights))
     ∙ where_no (not (bytes_eq a.master b.master)) Masters _ (ap not (equal_bytes a.master b.master is.masters))
     ∙ where_no (nat_lt a.last_word a.first_word) (NoWords 1) _ (le-ltb a.last_word a.first_word is.words)
     ∙ where_no (nat_lt b.last_word b.first_word) (NoWords 2) _ (le-ltb b.last_word b.first_word is.words_more)

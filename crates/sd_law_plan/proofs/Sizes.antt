@@ -11,7 +11,7 @@ use Rattle.std.proofs.lemmas.List.{length-map}
 use Rattle.std.proofs.lemmas.List.Folds.{list_any-append}
 use Rattle.std.proofs.lemmas.List.Sums.{sum_by-cons}
 use Rattle.sd_message.specs.Pieces.{pieces_for}
-use Rattle.sd_site.specs.Fields.{SiteFields, AreInRange}
+use Rattle.sd_site.specs.Fields.{AreInRange}
 use Rattle.sd_emm.specs.Period.{emms_of}
 use Rattle.sd_emm.specs.Form.{sections_for}
 use Rattle.sd_emm.proofs.Sharing.{as_many as sections_many}
@@ -23,20 +23,13 @@ use Rattle.sd_spec_broadcast.specs.Carried.{carried}
 use Rattle.sd_spec_broadcast.specs.Kinds.{has_moved, moved_pids, positional_pids}
 use Rattle.sd_spec_broadcast.specs.Messages.{message_at, period_at, places_after}
 use Rattle.sd_spec_broadcast.specs.Sent.{Item, Entitles, Controls, Carries, added, message_before}
-use Rattle.sd_spec_broadcast.specs.Sent.{packets_from, sent_from, tables_at, tables_before}
+use Rattle.sd_spec_broadcast.specs.Sent.{sent_from, tables_at, tables_before}
 use Rattle.sd_spec_broadcast.proofs.Schedule.{crypto_length_some}
 use Rattle.sd_packet.specs.Positions.{is_moving}
 use Rattle.sd_law_broadcast.proofs.Fitting.{period_count as sets_many}
 use Rattle.sd_run_books.specs.Air.{entitlements_at}
 use Rattle.sd_law_plan.proofs.Counts.{begun, none_begins, one_begins, quotient_is, shared, shared_more}
 use Rattle.sd_law_plan.proofs.Counts.{shared_none, sum_more, times_next}
-
--- as many packets as things
-pub packets_many : (site : SiteFields) (earlier items : List Item) →
-    length (packets_from site earlier items) ≡ length items
-unfolding packets_from
-packets_many site earlier [] = refl
-packets_many site earlier (item ∷ items) = ap suc (packets_many site (earlier ++ item ∷ []) items)
 
 -- the tables of a packet are the CAT and its period's entitlements
 tables_many : (plan : Plan) (k : ℕ) → length (tables_at plan k) ≡ 1 + entitlements_at plan (period_of plan k)

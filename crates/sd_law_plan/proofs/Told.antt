@@ -1,12 +1,13 @@
 -- What is told of two sites with their books is so.
 use Rattle.std.proofs.Common.{arith, ◌≡◌, ℕ, ◌^◌, ◌==◌, ◌&&◌, ◌<◌, ◌≤◌, max, not, nat_le, nat_lt, Bool, true, false}
-use Rattle.std.proofs.Common.{List}
+use Rattle.std.proofs.Common.{List, eq-eqb}
 use Rattle.std.proofs.Common.{Option, Some, None, refl, sym, ap, subst, ◌∙◌, inl, inr, filter}
 use Rattle.std.specs.Prelude.{◌↔◌, ◌⊎◌, Contains}
 use Rattle.std.specs.List.{range_with_len}
 use Rattle.std.specs.Option.{option_or}
 use Rattle.std.specs.Str.{bytes_eq}
 use Rattle.std.proofs.lemmas.Bool.Decides.{nat_tests}
+use Rattle.sd_base.proofs.Lists.{equal_bytes}
 use Rattle.sd_book.specs.Commands.{commands_until, is_revoked, revoked}
 use Rattle.sd_spec_broadcast.specs.Plan.{Plan}
 use Rattle.sd_command_status.specs.declared.status.Clash.{Clash as ClashKind}
@@ -16,7 +17,7 @@ use Rattle.sd_run_books.specs.Apart.{shared_count, shares_word, sites_clash}
 use Rattle.sd_law_plan.specs.Told.{IsDueIn, IsFirstApart, IsLeastShared, IsOfOne, IsSo, revoked_by}
 use Rattle.sd_law_plan.proofs.Found.{both_same, find_least, kept, one_alone, passes, same_filters}
 use Rattle.sd_law_plan.proofs.Ranges.{first_with, leaf_of, no_leaf}
-use Rattle.sd_law_plan.proofs.Sites.{equal_bytes, equal_number, sites_apart}
+use Rattle.sd_law_plan.proofs.Sites.{sites_apart}
 
 both_true : (p q : Bool) → (p && q) ≡ true → (p ≡ true) × (q ≡ true)
 both_true true q h = (refl, h)
@@ -119,7 +120,7 @@ site_so a b clash h = by_height (a.site.height == b.site.height) refl h
     by_height true e h = by_master (bytes_eq a.site.master b.site.master) refl h
     by_height false e h =
         let is : clash ≡ Heights = cc in
-        subst (IsSo a b) (sym is) (λ same. let yes = equal_number a.site.height b.site.height same in cc)
+        subst (IsSo a b) (sym is) (λ same. let yes = eq-eqb a.site.height b.site.height same in cc)
 
 -- the period is one of both, and in it the books say another thing of the receiver first
 first_apart : (a b : Plan) (u q : ℕ) → a.site.height ≡ b.site.height → IsDueIn a q → IsDueIn b q →

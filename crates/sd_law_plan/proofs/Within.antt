@@ -11,9 +11,10 @@ use Rattle.sd_spec_broadcast.specs.Plan.{Plan, closing_number, crypto_length, cr
 use Rattle.sd_spec_broadcast.specs.Kinds.{moved_pids}
 use Rattle.sd_spec_broadcast.specs.Sent.{broadcast, closing_of, sent}
 use Rattle.sd_spec_broadcast.proofs.Schedule.{crypto_length_some}
+use Rattle.sd_spec_broadcast.proofs.Bodies.{packets_many}
 use Rattle.sd_run_books.specs.Air.{added_most, cryptos_for, messages_for, periods_for, tables_in}
 use Rattle.sd_law_plan.proofs.Counts.{begun, quotient_is, shared, shared_is, times_next}
-use Rattle.sd_law_plan.proofs.Sizes.{AreWithin, one_part, own, packets_many, parts_after, parts_are, parts_by}
+use Rattle.sd_law_plan.proofs.Sizes.{AreWithin, one_part, own, parts_after, parts_are, parts_by}
 use Rattle.sd_law_plan.proofs.Sizes.{parts_some}
 use Rattle.sd_law_plan.proofs.Sizes.{sent_within, tables_are, tables_by}
 

@@ -1,6 +1,6 @@
 -- What `receive` makes of a stream, and of a broadcast.
 use Rattle.std.proofs.Common.{◌≡◌, ℕ, ◌+◌, ◌*◌, ◌^◌, ◌<◌, ◌≤◌, cond, List, [], length, reverse, Option}
-use Rattle.std.proofs.Common.{Some, None, Result, Ok, Err, refl, ap, ◌∙◌, le-ltb, arith}
+use Rattle.std.proofs.Common.{Some, None, Ok, Err, refl, ap, ◌∙◌, le-ltb, arith}
 use Rattle.std.specs.List.{concat}
 use Rattle.sd_card.specs.Fields.{CardFields, IsCard, card_of, card_bytes}
 use Rattle.sd_card.specs.Faults.{height_in, length_at}
@@ -17,26 +17,23 @@ use Rattle.sd_receive.specs.Receiving.{taken_keys}
 use Rattle.sd_law_losses.specs.Confirmed.{opened_by}
 use Rattle.sd_law_losses.specs.Endings.{first_revoked, whole_ending}
 use Rattle.sd_law_losses.proofs.Theorem.{whole_refused, whole_opened, whole_ended}
-use Rattle.sd_command_status.specs.declared.status.Status.{Status}
 use Rattle.sd_command_status.specs.declared.status.Status.TheVariants.{Limit}
 use Rattle.sd_command_status.specs.declared.status.LimitKind.TheVariants.{CardBytes}
-use Rattle.sd_command_status.specs.Spec.{Spec, FileArgument, Readings, and_then, all_of, judged, value, within, ◌>>=◌}
+use Rattle.sd_command_status.specs.Spec.{FileArgument, Readings, all_of, judged, value, within, ◌>>=◌}
 use Rattle.sd_command_status.specs.Work.{Work}
+use Rattle.sd_command_status.proofs.Follow.{then_is}
 use Rattle.sd_command_files.specs.Files.{most_card_bytes}
-use Rattle.sd_command_line.specs.Words.{Order, order_of, ReceiveOf}
+use Rattle.sd_command_line.specs.Words.{ReceiveOf}
 use Rattle.sd_run_receive.specs.Receive.{told_card, card_of_file, ending_status, ended_status}
 use Rattle.sd_run_receive.specs.Receive.{received_of, received_status, received_steps, receiving, stream_meaning}
 use Rattle.sd_run_receive.specs.Receive.{receive_meaning}
 use Rattle.sd_law_run.specs.Good.{IsGoodReceive}
 use Rattle.sd_law_run.specs.Opened.{entitled_periods, revoked_status, IsBroadcastTo, IsOpened}
-use Rattle.sd_run.specs.Meaning.{order_meaning, meaning}
+use Rattle.sd_run.specs.Meaning.{meaning}
 use Rattle.sd_run_receive.proofs.Cards.{card_read}
 use Rattle.sd_run_receive.proofs.Received.{none_refused, bytes_are, unrefused_steps, scaled}
 use Rattle.sd_law_run.proofs.Keyed.{keys_taken}
-
-then_is : {A B : Type 0} (first : Spec A) (x : A) (next : A → Spec B) → first.result ≡ Ok x →
-    (first >>= next).result ≡ (next x).result
-then_is {A} first x next e = ap (λ (r : Result A Status). (and_then first.calls r next).result) e
+use Rattle.sd_law_run.proofs.Goodness.{ordered}
 
 -- a card's file is within the limit
 pub card_length : (card : CardFields) → IsCard card → length (card_bytes card) ≤ most_card_bytes
@@ -70,11 +67,6 @@ received given card stream out fields bytes is there stream_there =
     (card_good card.number fields is)
     ∙ ap (λ (got : Option (List ℕ)). (all_of stream.number got >>= λ b. value (receiving fields out b)).result)
     stream_there
-
-ordered : (words : List (List ℕ)) (given : Readings) (order : Order) → order_of words ≡ Ok order →
-    (meaning words given).result ≡ (order_meaning order given).result
-ordered words given order e =
-    ap (λ (r : Result Order Status). (judged r >>= λ o. order_meaning o given).result) e
 
 -- `receive` over a card and any stream
 pub receive_good : (words : List (List ℕ)) (given : Readings) (good : IsGoodReceive words given) →

@@ -26,6 +26,7 @@ use Rattle.sd_command_status.specs.declared.status.Status.{Status}
 use Rattle.sd_command_status.specs.declared.status.Status.TheVariants.{Limit}
 use Rattle.sd_command_status.specs.declared.status.LimitKind.TheVariants.{BookBytes, FieldHeight, FieldPackets}
 use Rattle.sd_command_status.specs.Spec.{FileArgument, Readings, judged, value, within, ◌>>=◌}
+use Rattle.sd_command_status.proofs.Follow.{then_is}
 use Rattle.sd_command_files.specs.Files.{low_site_of_file, most_book_bytes, site_in, told_low}
 use Rattle.sd_command_files.specs.Printed.{printing}
 use Rattle.sd_run_field.specs.Field.{Inputs, clear_of_file, field_meaning, field_text, inputs_by, inputs_meaning}
@@ -37,7 +38,7 @@ use Rattle.sd_command_line.specs.Words.{FieldOf}
 use Rattle.sd_run.specs.Meaning.{meaning}
 use Rattle.sd_law_run.specs.Good.{IsGoodSite}
 use Rattle.sd_law_run.specs.Fielded.{IsGoodField}
-use Rattle.sd_law_run.proofs.Goodness.{file_read, ordered, site_good, then_is}
+use Rattle.sd_law_run.proofs.Goodness.{file_read, ordered, site_good}
 use Rattle.sd_law_run.proofs.Plans.{ca_fits}
 
 -- the events of a script are few, and their leaves are of the tree

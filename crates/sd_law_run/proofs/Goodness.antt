@@ -14,8 +14,9 @@ use Rattle.sd_command_status.specs.declared.status.Status.{Status}
 use Rattle.sd_command_status.specs.declared.status.Status.TheVariants.{Done, Limit, BadWord}
 use Rattle.sd_command_status.specs.declared.status.LimitKind.{LimitKind}
 use Rattle.sd_command_status.specs.declared.status.LimitKind.TheVariants.{SiteBytes, BookBytes}
-use Rattle.sd_command_status.specs.Spec.{Spec, FileArgument, Readings, and_then, all_of, judged, value, within, ◌>>=◌}
+use Rattle.sd_command_status.specs.Spec.{FileArgument, Readings, all_of, judged, value, within, ◌>>=◌}
 use Rattle.sd_command_status.specs.Work.{Uncounted, NoSteps}
+use Rattle.sd_command_status.proofs.Follow.{then_is}
 use Rattle.sd_command_line.specs.Words.{Order, order_of, CoverOf, CardOf, SampleOf, TablesOf, HeadOf}
 use Rattle.sd_command_files.specs.Files.{most_site_bytes, most_book_bytes, told_site, told_book, site_of_file}
 use Rattle.sd_command_files.specs.Files.{book_of_file}
@@ -42,10 +43,6 @@ use Rattle.sd_run_head.specs.Head.{plan_by, plan_meaning, sending, sending_of, s
 use Rattle.sd_law_run.specs.Good.{plan_told, IsGoodHead}
 use Rattle.sd_run_head.proofs.Sending.{sent_unrefused}
 use Rattle.sd_run.specs.Meaning.{order_meaning, meaning}
-
-pub then_is : {A B : Type 0} (first : Spec A) (x : A) (next : A → Spec B) → first.result ≡ Ok x →
-    (first >>= next).result ≡ (next x).result
-then_is {A} first x next e = ap (λ (r : Result A Status). (and_then first.calls r next).result) e
 
 pub file_read : (word most : ℕ) (kind : LimitKind) (bytes : List ℕ) → length bytes ≤ most →
     (within word most kind (Some bytes)).result ≡ Ok bytes

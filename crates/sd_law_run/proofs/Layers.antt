@@ -5,6 +5,7 @@ use Rattle.sd_lsd.specs.Fields.{layer_card_of, layer_bytes}
 use Rattle.sd_command_status.specs.declared.status.Status.TheVariants.{BadWord}
 use Rattle.sd_command_status.specs.Spec.{Readings, judged, value, ◌>>=◌}
 use Rattle.sd_command_status.specs.Work.{Uncounted}
+use Rattle.sd_command_status.proofs.Follow.{then_is}
 use Rattle.sd_command_files.specs.Files.{site_in, book_in}
 use Rattle.sd_command_files.specs.Made.{making}
 use Rattle.sd_command_line.specs.Words.{LayeredOf, LcardOf}
@@ -12,7 +13,7 @@ use Rattle.sd_run_covers.specs.Layered.{layers, layers_of_file, told_layers, lay
 use Rattle.sd_run_cards.specs.Lcard.{told_leaf, told_width, carding}
 use Rattle.sd_law_run.specs.Good.{IsGoodLayered, IsGoodLcard}
 use Rattle.sd_run.specs.Meaning.{meaning}
-use Rattle.sd_law_run.proofs.Goodness.{then_is, site_good, site_low, book_good, ordered}
+use Rattle.sd_law_run.proofs.Goodness.{site_good, site_low, book_good, ordered}
 
 -- a width from 1 to the height passes
 width_good : (d n : ℕ) → 1 ≤ n → n ≤ d → (nat_le 1 n && nat_le n d) ≡ true

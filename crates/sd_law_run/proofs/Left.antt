@@ -11,9 +11,9 @@ use Rattle.sd_command_status.specs.Work.{Out, Work, files_with, made_with}
 use Rattle.sd_command_status.specs.Outcome.{IsUnmade, IsMade, IsMadeShort, Progress, untouched, writing, printing}
 use Rattle.sd_command_status.specs.Outcome.{Outcome, refused, ended, unclosed, exhausted, failed, nowhere, cut_off}
 use Rattle.sd_command_status.specs.Results.{RunResult, with_page}
+use Rattle.sd_command_status.proofs.Told.{told_given}
 use Rattle.sd_law_run.specs.Left.{IsAsBefore, HasOut}
 use Rattle.sd_run.specs.Meaning.{meaning}
-use Rattle.sd_law_run.proofs.Runs.{told_given}
 
 -- OUT of the work that is meant was made, with a prefix of what it must hold
 pub record MadeOut (meant : Result Work Status) (a b : DepotState) : Type 0 where

@@ -1,9 +1,8 @@
 -- What `receive` makes of any choice of a broadcast's packets.
 use Rattle.std.proofs.Common.{◌≡◌, ℕ, ◌*◌, ◌^◌, ◌<◌, ◌≤◌, ◌++◌, Bool, true, false, List, [], ◌∷◌, length, reverse}
 use Rattle.std.proofs.Common.{refl, sym, ap, ◌∙◌, arith}
-use Rattle.std.specs.Prelude.{Some, Ok, All}
+use Rattle.std.specs.Prelude.{Some, Ok}
 use Rattle.std.specs.List.{concat}
-use Rattle.std.proofs.lemmas.List.Elements.{All-nil, All-cons, All-head, All-tail}
 use Rattle.sd_card.specs.Fields.{CardFields, card_of}
 use Rattle.sd_card.proofs.Made.{made_is_card}
 use Rattle.sd_engine.specs.Driving.{most_packets}
@@ -27,6 +26,7 @@ use Rattle.sd_law_losses.specs.Endings.{ending_told}
 use Rattle.sd_law_losses.proofs.Theorem as lost
 use Rattle.sd_law_losses.proofs.Revoking.{revoked_truly}
 use Rattle.sd_law_losses.proofs.Opened.{confirmed_are_opened}
+use Rattle.sd_law_losses.proofs.Later.{chosen_all_of}
 use Rattle.sd_command_status.specs.declared.status.Status.TheVariants.{Revoked}
 use Rattle.sd_command_status.specs.Spec.{Readings}
 use Rattle.sd_command_status.specs.Work.{Work}
@@ -46,14 +46,6 @@ chosen_few [] xs = omega arith
 chosen_few (f ∷ flags) [] = omega arith
 chosen_few (true ∷ flags) (x ∷ xs) = omega (arith, chosen_few flags xs)
 chosen_few (false ∷ flags) (x ∷ xs) = omega (arith, chosen_few flags xs)
-
-each_chosen : {A : Type 0} (P : A → Type 0) (flags : List Bool) (xs : List A) → All P xs → All P (chosen flags xs)
-unfolding chosen
-each_chosen P [] xs each = All-nil P
-each_chosen P (f ∷ flags) [] each = All-nil P
-each_chosen P (true ∷ flags) (x ∷ xs) each =
-    All-cons P x (chosen flags xs) (All-head P x xs each) (each_chosen P flags xs (All-tail P x xs each))
-each_chosen P (false ∷ flags) (x ∷ xs) each = each_chosen P flags xs (All-tail P x xs each)
 
 -- how a stream ends is never a refusal
 never_broken : (u : ℕ) (ending : Ending) → is_break (ending_status u ending) ≡ false
@@ -95,7 +87,7 @@ module _ (plan : Plan) (u : ℕ) (clear : List (List ℕ)) (flags : List Bool) (
 
   -- the packets of the stream are those that are kept
   rest_synced : AreSynced packets
-  rest_synced = each_chosen IsSynced flags (broadcast plan clear) (broadcast_synced plan clear is all whole synced)
+  rest_synced = chosen_all_of IsSynced flags (broadcast plan clear) (broadcast_synced plan clear is all whole synced)
 
   rest_short : length packets ≤ most_packets
   rest_short = omega (arith, chosen_few flags (broadcast plan clear), broadcast_short plan is clear all)

@@ -9,6 +9,7 @@ use Rattle.sd_command_status.specs.declared.status.LimitKind.TheVariants.{CardBy
 use Rattle.sd_command_status.specs.Spec.{Readings, all_of, judged, value, within, ◌>>=◌}
 use Rattle.sd_command_line.specs.Words.{MessagesOf, ShowOf}
 use Rattle.sd_command_status.specs.Work.{work_of_text}
+use Rattle.sd_command_status.proofs.Follow.{then_is}
 use Rattle.sd_command_files.specs.Files.{most_card_bytes, site_in}
 use Rattle.sd_command_files.specs.Streams.{stream_status}
 use Rattle.sd_run_streams.specs.Messages.{messages_meaning, monitoring, stream_meaning}
@@ -16,7 +17,7 @@ use Rattle.sd_run_cards.specs.Show.{line_of_file, shown_line, told_show}
 use Rattle.sd_run_cards.proofs.ShownCards.{line_read}
 use Rattle.sd_run.specs.Meaning.{meaning}
 use Rattle.sd_law_run.specs.Good.{IsGoodMessages, IsGoodShow}
-use Rattle.sd_law_run.proofs.Goodness.{file_read, ordered, site_good, then_is}
+use Rattle.sd_law_run.proofs.Goodness.{file_read, ordered, site_good}
 use Rattle.sd_law_run.proofs.Broadcasts.{card_length}
 
 pub messages_good : (words : List (List ℕ)) (given : Readings) (good : IsGoodMessages words given) →

@@ -6,6 +6,7 @@ use Rattle.sd_command_status.specs.declared.status.Status.TheVariants.{BadWord, 
 use Rattle.sd_command_status.specs.declared.status.Clash.{Clash as ClashKind}
 use Rattle.sd_command_status.specs.Spec.{Readings, judged, value, ◌>>=◌}
 use Rattle.sd_command_status.specs.Work.{work_of_text}
+use Rattle.sd_command_status.proofs.Follow.{then_is}
 use Rattle.sd_command_files.specs.Both.{SiteBook, both_meaning}
 use Rattle.sd_command_files.specs.Files.{site_in, book_in}
 use Rattle.sd_command_line.specs.Words.{ApartOf, PlanOf}
@@ -13,7 +14,7 @@ use Rattle.sd_run_books.specs.Apart.{apart_text, clash_of, plan_of_both, told_ap
 use Rattle.sd_run_books.specs.Air.{last_word_for, planning, roomy_site_of_file, told_room}
 use Rattle.sd_law_run.specs.Good.{IsGoodApart, IsGoodPlan}
 use Rattle.sd_run.specs.Meaning.{meaning}
-use Rattle.sd_law_run.proofs.Goodness.{then_is, site_good, site_low, book_good, both_good, ordered}
+use Rattle.sd_law_run.proofs.Goodness.{site_good, site_low, book_good, both_good, ordered}
 
 -- what a broadcast takes is printed
 pub air_good : (words : List (List ℕ)) (given : Readings) (good : IsGoodPlan words given) →

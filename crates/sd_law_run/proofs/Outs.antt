@@ -17,13 +17,12 @@ use Rattle.sd_command_status.specs.Work.{Out, Work, files_with, made_with}
 use Rattle.sd_command_status.specs.Outcome.{Outcome, IsRefusal, IsMade, IsUnmade}
 use Rattle.sd_command_status.specs.Outcome.{refused, ended, unclosed, exhausted, failed, nowhere, cut_off}
 use Rattle.sd_command_status.specs.Results.{RunResult, PrintsStatusLine, with_page}
-use Rattle.sd_command_status.proofs.Told.{own_line, done_line}
+use Rattle.sd_command_status.proofs.Told.{own_line, done_line, told_given}
 use Rattle.sd_run.specs.Meaning.{meaning}
 use Rattle.sd_law_run.specs.Headline.{file_in}
 use Rattle.sd_law_run.specs.Outcome.{IsDone, out_name}
 use Rattle.sd_run.specs.Refusals.{RefusesFirst}
 use Rattle.sd_law_run.proofs.Shelf.{others_stay}
-use Rattle.sd_law_run.proofs.Runs.{told_given}
 use Rattle.sd_law_run.proofs.Parts.{of_told}
 use Rattle.sd_law_run.proofs.Left.{answers_leave, run_leaves}
 use Rattle.sd_run.proofs.Works.{IsOrderly, AreOrderly}

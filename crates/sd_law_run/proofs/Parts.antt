@@ -26,6 +26,7 @@ use Rattle.sd_command_status.specs.Spec.{contents_of, judged, value, ◌>>=◌}
 use Rattle.sd_command_status.specs.Outside.{Outside}
 use Rattle.sd_command_status.specs.Work.{Uncounted}
 use Rattle.sd_command_status.specs.Results.{RunResult}
+use Rattle.sd_command_status.proofs.Follow.{then_is}
 use Rattle.sd_command_files.specs.Shown.{NumberArgument, word_at}
 use Rattle.sd_command_files.specs.Files.{site_in}
 use Rattle.sd_command_files.specs.Made.{making}
@@ -37,7 +38,7 @@ use Rattle.sd_run_receive.specs.Receive.{receiving, received_steps, receive_mean
 use Rattle.sd_law_run.specs.Good.{IsGoodSite, IsGoodBook}
 use Rattle.sd_law_run.specs.Headline.{Names, file_in, AreGiven, IsUndisturbed, card_for}
 use Rattle.sd_law_run.specs.Headline.{HeadResult, CardResult, ReceiveResult}
-use Rattle.sd_law_run.proofs.Goodness.{then_is, site_good, plan_good}
+use Rattle.sd_law_run.proofs.Goodness.{site_good, plan_good}
 use Rattle.sd_law_run.proofs.Broadcasts.{received, opened_bytes, opened_status, opened_steps}
 use Rattle.sd_law_run.proofs.Shelf.{made_there, others_stay}
 use Rattle.sd_law_run.proofs.Plans.{good_plan}

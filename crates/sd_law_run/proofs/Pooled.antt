@@ -7,6 +7,7 @@ use Rattle.sd_command_status.specs.declared.status.Status.TheVariants.{Limit}
 use Rattle.sd_command_status.specs.declared.status.LimitKind.TheVariants.{BookBytes, Traced}
 use Rattle.sd_command_status.specs.Spec.{FileArgument, Readings, judged, value, within, ◌>>=◌}
 use Rattle.sd_command_status.specs.Work.{work_of_text}
+use Rattle.sd_command_status.proofs.Follow.{then_is}
 use Rattle.sd_command_files.specs.Files.{most_book_bytes}
 use Rattle.sd_command_files.specs.Both.{SiteBook, both_meaning}
 use Rattle.sd_command_files.specs.Leaves.{told_leaves, leaves_of_file, leaves_in}
@@ -15,7 +16,7 @@ use Rattle.sd_run_covers.specs.Opens.{opening, opens_meaning}
 use Rattle.sd_run_covers.specs.Trace.{revoked_last, trace_text, traced, trace_meaning}
 use Rattle.sd_law_run.specs.Good.{IsGoodLeaves, IsGoodOpens, IsGoodTrace}
 use Rattle.sd_run.specs.Meaning.{meaning}
-use Rattle.sd_law_run.proofs.Goodness.{then_is, file_read, both_good, ordered}
+use Rattle.sd_law_run.proofs.Goodness.{file_read, both_good, ordered}
 
 leaves_good : (given : Readings) (d : ℕ) (word : FileArgument) (leaves : List ℕ) → IsGoodLeaves given d word leaves →
     (leaves_in given d word).result ≡ Ok leaves

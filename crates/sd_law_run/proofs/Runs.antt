@@ -1,15 +1,16 @@
 -- What a run leaves where no device failed and memory was not out.
-use Rattle.std.proofs.Common.{◌≡◌, ◌≢◌, ℕ, Option, Some, Result, Ok, sym, ap, subst, ◌∙◌, arith}
-use Rattle.sd_base.specs.Count.{HasRisen, HasNotRisen}
+use Rattle.std.proofs.Common.{◌≡◌, ◌≢◌, ℕ, Some, Result, Ok, sym, ap, subst, ◌∙◌}
+use Rattle.sd_base.specs.Count.{HasNotRisen}
+use Rattle.sd_base.proofs.Numbers.{still_or_rose}
 use Rattle.sd_ports.specs.Files.{Files}
 use Rattle.sd_command_status.specs.declared.status.Status.{Status}
 use Rattle.sd_command_status.specs.declared.status.Status.TheVariants.{PrintFault, NoMemory}
 use Rattle.sd_command_status.specs.Outside.{Outside}
-use Rattle.sd_command_status.specs.Spec.{Spec, Readings, contents_of, IsGiven}
+use Rattle.sd_command_status.specs.Spec.{Spec, Readings, contents_of}
 use Rattle.sd_command_status.specs.Work.{Work, files_with, IsWithinSteps, TakesSteps}
 use Rattle.sd_command_status.specs.Outcome.{Outcome, refused, ended, unclosed, exhausted, failed, nowhere, cut_off}
 use Rattle.sd_command_status.specs.Results.{RunResult, with_page}
-use Rattle.sd_command_status.proofs.Told.{own_line, causes}
+use Rattle.sd_command_status.proofs.Told.{own_line, causes, told_given}
 use Rattle.sd_law_run.specs.Headline.{IsUndisturbed}
 
 -- work that was done
@@ -20,9 +21,6 @@ pub record IsWorked (work : Work) (files : Files) (a b : Outside) (answer : Stat
 
 same_work : (meant : Result Work Status) (work other : Work) → meant ≡ Ok work → meant ≡ Ok other → other ≡ work
 same_work meant work other e f = let both = sym f ∙ e in cc
-
-still_or_rose : (before now : ℕ) → HasNotRisen before now → HasRisen before now → ⊥
-still_or_rose before now still rose = absurd (omega (arith, still, rose))
 
 -- it came to its end
 ended_with : (meant : Result Work Status) (work : Work) (files : Files) (a b : Outside) (status : Status) →
@@ -44,10 +42,6 @@ ended_with meant work files a b status is told depot print memory (failed s h r 
 ended_with meant work files a b status is told depot print memory (nowhere other e out f s n h k c m) =
     absurd (let both = sym told ∙ n in cc)
 ended_with meant work files a b status is told depot print memory (cut_off other e s h k r c m) = absurd (print s)
-
-pub told_given : (files : Option Files) (told : Files) (given : Readings) → files ≡ Some told → IsGiven files given →
-    given ≡ contents_of told
-told_given files told given e h = subst (λ (o : Option Files). IsGiven o given) e h
 
 steps_of : (meant : Result Work Status) (work : Work) (before now : ℕ) → meant ≡ Ok work →
     TakesSteps meant before now → IsWithinSteps work.steps before now

@@ -6,6 +6,7 @@ use Rattle.sd_spec_broadcast.specs.Plan.{Plan}
 use Rattle.sd_command_status.specs.declared.status.Status.TheVariants.{Limit}
 use Rattle.sd_command_status.specs.declared.status.LimitKind.TheVariants.{TrialHeight}
 use Rattle.sd_command_status.specs.Spec.{FileArgument, Readings, judged, value, ◌>>=◌}
+use Rattle.sd_command_status.proofs.Follow.{then_is}
 use Rattle.sd_command_files.specs.Files.{site_in, book_in, low_site_of_file, told_low}
 use Rattle.sd_command_line.specs.Words.{TrialOf}
 use Rattle.sd_run_trial.specs.Trial.{most_height}
@@ -16,7 +17,7 @@ use Rattle.sd_law_lines.proofs.Tried as opened
 use Rattle.sd_law_run.specs.Good.{IsGoodSite, IsGoodBook}
 use Rattle.sd_law_run.specs.Tried.{IsGoodTrial, plan_tried}
 use Rattle.sd_run.specs.Meaning.{meaning}
-use Rattle.sd_law_run.proofs.Goodness.{then_is, site_good, site_low, book_good, ordered}
+use Rattle.sd_law_run.proofs.Goodness.{site_good, site_low, book_good, ordered}
 use Rattle.sd_law_run.proofs.Plans.{good_plan}
 
 -- a site whose tree is low enough is taken

@@ -1,11 +1,11 @@
 -- No two scrambled packets of a broadcast have one PID and one position.
-use Rattle.std.proofs.Common.{◌≡◌, ℕ, ◌+◌, ◌^◌, ◌<◌, ◌≤◌, ◌==◌, ◌&&◌, Bool, true, false, List, ◌++◌, length}
-use Rattle.std.proofs.Common.{take, drop, refl, sym, ap, subst, ◌∙◌, inl, inr, arith}
-use Rattle.std.proofs.lemmas.Bool.{cases_lt, eq-eqb, false≢true}
+use Rattle.std.proofs.Common.{◌≡◌, ℕ, ◌+◌, ◌^◌, ◌<◌, ◌≤◌, true, List, ◌++◌, length}
+use Rattle.std.proofs.Common.{take, drop, sym, ap, subst, ◌∙◌, inl, inr, arith}
+use Rattle.std.proofs.lemmas.Bool.{cases_lt, false≢true}
 use Rattle.std.proofs.lemmas.List.{take-append-drop, take-take, length-take-le}
-use Rattle.sd_packet.specs.Header.{pid_of, has_payload}
-use Rattle.sd_packet.specs.Positions.{is_positional, is_placed, is_moving, position_of}
-use Rattle.sd_packet.proofs.Positions.{next_position, moving_rises, moved_by_near, more_packets}
+use Rattle.sd_packet.specs.Header.{pid_of}
+use Rattle.sd_packet.specs.Positions.{is_placed, position_of}
+use Rattle.sd_packet.proofs.Positions.{next_position, moving_rises, moved_by_near, more_packets, own_moves}
 use Rattle.sd_scramble.specs.Scrambling.{stream_number}
 use Rattle.sd_spec_broadcast.specs.Carried.{place_after}
 use Rattle.sd_spec_broadcast.specs.Refused.{IsClear}
@@ -24,16 +24,6 @@ veiled_placed : (run : Run) (k : ℕ) → is_veiled run k ≡ true → is_placed
 unfolding is_veiled
 veiled_placed run k veiled =
     kind_placed (take k run.clear) (run_packet run k) (λ passed. false≢true (sym (ap is_scrambled passed) ∙ veiled))
-
--- a packet with a position moves that of its PID
-own_moves : (packet : List ℕ) → is_placed packet ≡ true → is_moving (pid_of packet) packet ≡ true
-own_moves packet placed =
-    let same : (pid_of packet == pid_of packet) ≡ true = eq-eqb (pid_of packet) (pid_of packet) refl in
-    rw same (right (is_positional (pid_of packet)) (has_payload packet) placed)
-  where
-    right : (a b : Bool) → (a && b) ≡ true → b ≡ true
-    right true b h = h
-    right false b h = absurd (cc)
 
 -- the position of a packet is that of its PID after it
 place_is : (run : Run) (k : ℕ) → k < length run.clear

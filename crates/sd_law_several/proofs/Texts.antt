@@ -14,7 +14,7 @@ use Rattle.sd_site.specs.Fields.{SiteFields}
 use Rattle.sd_scramble.specs.Scrambling.{control_of, payload_under}
 use Rattle.sd_scramble.proofs.Scramblings.{laid_reads, control_fits}
 use Rattle.sd_emm.specs.Spelled.{listed_entries}
-use Rattle.sd_emm.specs.Period.{emms_of, IsOfPeriod}
+use Rattle.sd_emm.specs.Period.{emms_of}
 use Rattle.sd_emm.specs.declared.emm.Emm.{Emm}
 use Rattle.sd_emm.specs.declared.emm.Entry.{Entry}
 use Rattle.sd_emm.proofs.Sharing.{joined_are_all, all_are_of}
@@ -30,6 +30,7 @@ use Rattle.sd_spec_broadcast.specs.Sent.{Item, Cat, Entitles, Controls, Carries}
 use Rattle.sd_spec_broadcast.specs.Items.{IsOfBroadcast, cat, entitlement, part, closing, carried_on}
 use Rattle.sd_spec_broadcast.specs.declared.kind.Kind.{Kind}
 use Rattle.sd_spec_broadcast.specs.declared.kind.Kind.TheVariants.{Passed, Pmt, Scrambled}
+use Rattle.sd_spec_broadcast.proofs.Periods.{section_number}
 use Rattle.sd_law_broadcast.specs.Packets.{IsWholePacket, AreWholePackets}
 use Rattle.sd_law_several.specs.Runs.{Run, sent_by, run_packet, is_veiled}
 use Rattle.sd_law_several.specs.Pads.{Pad, under_keystream, number_at, entry_pad, part_pad, payload_pad, pads_in}
@@ -49,17 +50,6 @@ unfolding period_at
 entries_are plan q =
     All-map (IsEntry plan.site q) (entry_of plan.site q) (sets_at plan q)
     (λ k d within. entry_is plan.site q (get_or (sets_at plan q) k d))
-
-number_is : (plan : Plan) (q : ℕ) → (period_at plan q).number ≡ q
-unfolding period_at
-number_is plan q = refl
-
--- a section of period q has its number
-pub section_number : (plan : Plan) (q : ℕ) (emm : Emm) → Contains (emms_of (period_at plan q)) emm → emm.period ≡ q
-section_number plan q emm m =
-    (All-contains (IsOfPeriod (period_at plan q)) (emms_of (period_at plan q)) emm
-    (all_are_of (period_at plan q)) m).number
-    ∙ number_is plan q
 
 -- each entry of a section is one of its period's
 pub entry_of_period : (plan : Plan) (q : ℕ) (emm : Emm) (entry : Entry) → Contains (emms_of (period_at plan q)) emm

@@ -22,8 +22,9 @@ use Rattle.sd_spec_broadcast.specs.Refused.{is_too_long}
 use Rattle.sd_spec_broadcast.specs.Sent.{Item, Cat, Entitles, Controls, Carries}
 use Rattle.sd_spec_broadcast.specs.Items.{IsOfBroadcast, cat, entitlement, part, closing, carried_on}
 use Rattle.sd_spec_broadcast.proofs.Schedule.{quotients_rise, crypto_length_some}
+use Rattle.sd_spec_broadcast.proofs.Periods.{section_number}
 use Rattle.sd_law_several.specs.Runs.{Run, HasWords, last_crypto, UsesWord, UsesPeriod, AgreeOnPeriods}
-use Rattle.sd_law_several.proofs.Texts.{section_number, entry_of_period, part_of_message}
+use Rattle.sd_law_several.proofs.Texts.{entry_of_period, part_of_message}
 
 -- a packet is not too long where its number and its control word are left
 left_for : (site : SiteFields) (k : ℕ) → (is_too_long site k ≡ false)

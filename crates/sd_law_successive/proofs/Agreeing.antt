@@ -1,27 +1,25 @@
 -- A receiver within a stream, and one that is at the same place of the piece by itself.
 use Rattle.std.proofs.Common.{◌≡◌, refl, ℕ, ◌+◌, Bool, true, false, List, [], ◌∷◌, length, Option, Some, None, sym, ap}
 use Rattle.std.proofs.Common.{◌∙◌, arith}
-use Rattle.std.specs.Prelude.{if◌then◌else◌, not}
+use Rattle.std.specs.Prelude.{if◌then◌else◌}
 use Rattle.std.specs.Option.{option_map_or}
 use Rattle.std.proofs.lemmas.Bool.{false≢true}
 use Rattle.std.proofs.lemmas.Bool.Decides.{nat_tests}
+use Rattle.sd_base.proofs.Bools.{true_from_not, tested}
 use Rattle.sd_card.specs.Fields.{CardFields}
 use Rattle.sd_ecm.specs.Parts.{Message}
-use Rattle.sd_spec_receiver.specs.Tuned.{tuning_of, tuned_by}
 use Rattle.sd_psi.specs.OurCat.{cat_tuning}
 use Rattle.sd_psi.specs.declared.our_cat.Tuning.{Tuning}
+use Rattle.sd_spec_receiver.specs.Tuned.{tuning_of}
 use Rattle.sd_spec_receiver.specs.Heard.{Heard, Dropped, Entitles, Controls, BadEmm, BadEcm, Other, hears}
 use Rattle.sd_spec_receiver.specs.Stretches.{is_closed, completes}
 use Rattle.sd_spec_receiver.specs.Runs.{run_name_heard, name_or, name_in, is_same, are_two, is_turn, of_run}
 use Rattle.sd_spec_receiver.specs.Offered.{heard, heard_with, heard_more, offered, tuned_offering}
+use Rattle.sd_spec_receiver.proofs.Runs.{same_run, new_run}
+use Rattle.sd_spec_receiver.proofs.Hearing.{tuned_more}
 use Rattle.sd_law_successive.specs.Pieces.{name_at}
 use Rattle.sd_law_successive.proofs.Later.{thing_later, things_later, hears_later, name_later, names_later, run_later}
 use Rattle.sd_law_successive.proofs.Offerings.{offering_later, open_offering, open_later, more_later}
-
--- a test holds or doesn't
-pub tested : {X : Type 0} (test : Bool) → (test ≡ true → X) → (test ≡ false → X) → X
-tested true holds fails = holds refl
-tested false holds fails = fails refl
 
 -- Both took the same CAT, and heard the same of the run, the one k packets later.
 pub record Agrees (card : CardFields) (tuning : Tuning) (k : ℕ) (past alone : List (List ℕ)) : Type 0 where
@@ -29,11 +27,6 @@ pub record Agrees (card : CardFields) (tuning : Tuning) (k : ℕ) (past alone : 
   pub alone_tuned : tuning_of card.ca alone ≡ Some tuning
   pub count : length past ≡ k + length alone
   pub heard_is : heard card past ≡ things_later k (heard card alone)
-
-pub tuned_more : (card : CardFields) (tuning : Tuning) (past : List (List ℕ)) (packet : List ℕ) →
-    tuning_of card.ca past ≡ Some tuning → tuning_of card.ca (packet ∷ past) ≡ Some tuning
-unfolding tuning_of
-tuned_more card tuning past packet tuned = ap (λ (t : Option Tuning). tuned_by t (cat_tuning card.ca packet)) tuned
 
 pub offered_by : (card : CardFields) (tuning : Tuning) (past : List (List ℕ)) (packet : List ℕ) →
     tuning_of card.ca past ≡ Some tuning →
@@ -101,10 +94,6 @@ pub first_run : (thing : Heard) → of_run [] thing ≡ []
 unfolding of_run is_turn name_in
 first_run thing = refl
 
-pub new_run : (past : List Heard) (thing : Heard) → is_turn past thing ≡ true → of_run past thing ≡ []
-unfolding of_run
-new_run past thing turns = ap (λ (t : Bool). if t then [] else past) turns
-
 first_more : (past : List Heard) (thing : Heard) → of_run past thing ≡ [] → heard_more past thing ≡ thing ∷ []
 unfolding is_closed
 first_more past thing none = ap (λ (run : List Heard). if is_closed run then past else thing ∷ run) none
@@ -162,14 +151,10 @@ same_is None (Some b) is = absurd (false≢true is)
 same_is (Some a) None is = absurd (false≢true is)
 same_is (Some a) (Some b) is = let same : a ≡ b = grind (arith, nat_tests, is) in ap Some same
 
-not_two : (test : Bool) → not test ≡ false → test ≡ true
-not_two true is = refl
-not_two false is = sym is
-
 pub some_kept : (a : Option ℕ) (name : Option (Option ℕ)) → are_two (Some a) name ≡ false →
     Some a ≡ name_or name (Some a)
 some_kept a None one = refl
-some_kept a (Some b) one = ap Some (same_is a b (not_two (is_same a b) one))
+some_kept a (Some b) one = ap Some (same_is a b (true_from_not (is_same a b) one))
 
 name_kept : (a : Option ℕ) (last name : Option (Option ℕ)) → last ≡ Some a → are_two last name ≡ false →
     last ≡ name_or name last
@@ -205,10 +190,6 @@ closed_named (thing ∷ past) closed =
     let named = closing_named past thing (ap {B = Bool} (λ (t : Bool). if t then true
     else option_map_or (λ (m : Message). m.closing) (completes past thing) false) (sym yet) ∙ closed) in
     (named.0, named_first (run_name_heard thing) (name_in past) named.0 named.1))
-
-pub same_run : (past : List Heard) (thing : Heard) → is_turn past thing ≡ false → of_run past thing ≡ past
-unfolding of_run
-same_run past thing stays = ap (λ (t : Bool). if t then [] else past) stays
 
 pub name_next : (past : List Heard) (thing : Heard) → are_two (name_in past) (run_name_heard thing) ≡ false →
     name_in (heard_more past thing) ≡ name_or (run_name_heard thing) (name_in past)

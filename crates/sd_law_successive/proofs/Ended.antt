@@ -10,14 +10,14 @@ use Rattle.sd_spec_receiver.specs.Heard.{Heard, hears}
 use Rattle.sd_spec_receiver.specs.Runs.{name_in, are_two, is_turn}
 use Rattle.sd_spec_receiver.specs.Offered.{heard, Offering, offered}
 use Rattle.sd_spec_receiver.specs.Ending.{run_ending, joined, turns_at, run_wrote, ended_before, ending_of}
+use Rattle.sd_spec_receiver.proofs.Runs.{ended_on, ended_now, opened_joins}
 use Rattle.sd_law_successive.specs.Pieces.{name_at}
 use Rattle.sd_law_successive.proofs.Later.{things_later, names_later}
 use Rattle.sd_law_successive.proofs.Offerings.{offering_later, ending_later}
 use Rattle.sd_law_successive.proofs.Leading.{is_quiet, AreQuiet, ending_led}
 use Rattle.sd_law_successive.proofs.Trailing.{ending_more}
 use Rattle.sd_law_successive.proofs.Agreeing.{heard_by}
-use Rattle.sd_law_successive.proofs.Endings.{opened_joins, ending_by, turns_by, wrote_on, ended_on, wrote_anew}
-use Rattle.sd_law_successive.proofs.Endings.{ended_now}
+use Rattle.sd_law_successive.proofs.Endings.{ending_by, turns_by, wrote_on, wrote_anew}
 use Rattle.sd_law_successive.proofs.Following.{IsLast, quiet_any, quiet_stays, quiet_more, quiet_offered, name_goes_on}
 use Rattle.sd_law_successive.proofs.Following.{unnamed_stays, turn_there, led_stays, one_name, Follows, follows_offered}
 

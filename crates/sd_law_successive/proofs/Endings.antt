@@ -4,21 +4,23 @@ use Rattle.std.proofs.Common.{Option, Some, is_none, sym, ap, ◌∙◌, arith, 
 use Rattle.std.specs.Prelude.{if◌then◌else◌}
 use Rattle.std.specs.Option.{option_map_or}
 use Rattle.std.proofs.lemmas.List.{reverse-append}
+use Rattle.sd_base.proofs.Bools.{tested}
 use Rattle.sd_card.specs.Fields.{CardFields}
 use Rattle.sd_spec_receiver.specs.declared.ending.Ending.{Ending}
-use Rattle.sd_spec_receiver.specs.declared.ending.Ending.TheVariants.{Opened, Revoked, Unheard, NoCat, Unclosed, Gaps}
-use Rattle.sd_spec_receiver.specs.Tuned.{tuning_of}
+use Rattle.sd_spec_receiver.specs.declared.ending.Ending.TheVariants.{Opened, NoCat}
 use Rattle.sd_psi.specs.OurCat.{cat_tuning}
 use Rattle.sd_psi.specs.declared.our_cat.Tuning.{Tuning}
+use Rattle.sd_spec_receiver.specs.Tuned.{tuning_of}
 use Rattle.sd_spec_receiver.specs.Heard.{Heard, hears}
 use Rattle.sd_spec_receiver.specs.Runs.{name_in, are_two, is_turn}
 use Rattle.sd_spec_receiver.specs.Offered.{heard, Offering, offered}
 use Rattle.sd_spec_receiver.specs.Ending.{run_ending, joined, turns_at, run_wrote, ended_before, ending_of}
+use Rattle.sd_spec_receiver.proofs.Runs.{ended_on, ended_now, opened_joins}
 use Rattle.sd_law_successive.specs.Pieces.{name_at, with_packet, pieces_after}
 use Rattle.sd_law_successive.specs.Together.{joined_to, piece_ending}
 use Rattle.sd_law_successive.proofs.Later.{things_later}
 use Rattle.sd_law_successive.proofs.Offerings.{offering_later, ending_later}
-use Rattle.sd_law_successive.proofs.Agreeing.{tested, Agrees, offered_later, agrees_more, cat_tuned, cat_unheard}
+use Rattle.sd_law_successive.proofs.Agreeing.{Agrees, offered_later, agrees_more, cat_tuned, cat_unheard}
 use Rattle.sd_law_successive.proofs.Agreeing.{turn_offered}
 use Rattle.sd_law_successive.proofs.Agreeing.{turn_agrees, name_stays, name_turns, turn_is, turn_alone}
 use Rattle.sd_law_successive.proofs.Pieces.{pieces_stay, pieces_turn, IsSome, some_piece, cat_nothing, HasCat}
@@ -39,15 +41,6 @@ reversed (packet ∷ packets) past =
 pub record EndsAlike (card : CardFields) (past alone : List (List ℕ)) : Type 0 where
   pub none : ended_before card alone ≡ Opened
   pub wrote : run_wrote card past ≡ run_wrote card alone
-
-pub opened_joins : (ending : Ending) → joined Opened ending ≡ ending
-unfolding joined
-opened_joins Opened = refl
-opened_joins (Revoked q) = refl
-opened_joins (Unheard q) = refl
-opened_joins NoCat = refl
-opened_joins (Unclosed n) = refl
-opened_joins (Gaps n) = refl
 
 pub ending_by : (card : CardFields) (tuning : Tuning) (past : List (List ℕ)) → tuning_of card.ca past ≡ Some tuning →
     ending_of card past ≡ joined (ended_before card past) (run_ending card (heard card past) (run_wrote card past))
@@ -83,13 +76,6 @@ unfolding run_wrote
 wrote_on card past packet stays =
     ap (λ (t : Bool). (if t then 0 else run_wrote card past) + length (offered card past packet).wrote) stays
 
-pub ended_on : (card : CardFields) (past : List (List ℕ)) (packet : List ℕ) → turns_at card past packet ≡ false →
-    ended_before card (packet ∷ past) ≡ ended_before card past
-unfolding ended_before
-ended_on card past packet stays =
-    ap (λ (t : Bool). if t then joined (ended_before card past)
-    (run_ending card (heard card past) (run_wrote card past)) else ended_before card past) stays
-
 alike_more : (card : CardFields) (tuning : Tuning) (k : ℕ) (past alone : List (List ℕ)) (packet : List ℕ) →
     Agrees card tuning k past alone → EndsAlike card past alone → turns_at card past packet ≡ false →
     turns_at card alone packet ≡ false → EndsAlike card (packet ∷ past) (packet ∷ alone)
@@ -108,14 +94,6 @@ pub wrote_anew : (card : CardFields) (past : List (List ℕ)) (packet : List ℕ
 unfolding run_wrote
 wrote_anew card past packet turns =
     ap (λ (t : Bool). (if t then 0 else run_wrote card past) + length (offered card past packet).wrote) turns
-
-pub ended_now : (card : CardFields) (past : List (List ℕ)) (packet : List ℕ) → turns_at card past packet ≡ true →
-    ended_before card (packet ∷ past)
-    ≡ joined (ended_before card past) (run_ending card (heard card past) (run_wrote card past))
-unfolding ended_before
-ended_now card past packet turns =
-    ap (λ (t : Bool). if t then joined (ended_before card past)
-    (run_ending card (heard card past) (run_wrote card past)) else ended_before card past) turns
 
 -- the CAT alone
 pub cat_alike : (card : CardFields) (cat : List ℕ) →

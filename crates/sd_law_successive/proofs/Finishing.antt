@@ -14,6 +14,7 @@ use Rattle.sd_psi.specs.declared.our_cat.Tuning.{Tuning}
 use Rattle.sd_spec_receiver.specs.Offered.{heard, out_from, break_from}
 use Rattle.sd_spec_receiver.specs.Ending.{joined, run_ending, run_wrote, ending_of}
 use Rattle.sd_spec_receiver.specs.Taken.{taken_keys}
+use Rattle.sd_spec_receiver.proofs.Runs.{opened_joins}
 use Rattle.sd_law_losses.specs.Chosen.{chosen}
 use Rattle.sd_law_losses.specs.Confirmed.{confirmed}
 use Rattle.sd_law_losses.specs.Endings.{ending_told}
@@ -23,7 +24,7 @@ use Rattle.sd_law_successive.specs.Many.{kept_of_arrival, has_cat, confirmed_fro
 use Rattle.sd_law_successive.specs.Ends.{is_told, endings_from, all_joined, ending_of_all}
 use Rattle.sd_law_successive.specs.Keys.{kept_periods, keys_from}
 use Rattle.sd_law_successive.specs.Switched.{names_from, IsOtherThanFirst, AreAlternating, ArePiecesOf}
-use Rattle.sd_law_successive.proofs.Endings.{onto, reversed, opened_joins, ending_by}
+use Rattle.sd_law_successive.proofs.Endings.{onto, reversed, ending_by}
 use Rattle.sd_law_successive.proofs.Trailing.{ending_quiet}
 use Rattle.sd_law_successive.proofs.Streams.{nothing_came, ending_none}
 use Rattle.sd_law_successive.proofs.Sending.{untold}

@@ -3,6 +3,7 @@ use Rattle.std.proofs.Common.{◌≡◌, ◌≢◌, refl, ℕ, ◌+◌, ◌++◌
 use Rattle.std.proofs.Common.{None, sym, ap, ◌∙◌, arith, subst, ◌⊎◌, inl, inr}
 use Rattle.std.specs.Prelude.{if◌then◌else◌, not}
 use Rattle.std.proofs.lemmas.Bool.{false≢true}
+use Rattle.sd_base.proofs.Bools.{tested}
 use Rattle.sd_card.specs.Fields.{CardFields}
 use Rattle.sd_spec_receiver.specs.Tuned.{tuning_of}
 use Rattle.sd_psi.specs.declared.our_cat.Tuning.{Tuning}
@@ -10,14 +11,16 @@ use Rattle.sd_spec_receiver.specs.Heard.{Heard, Dropped, Entitles, Controls, Bad
 use Rattle.sd_spec_receiver.specs.Stretches.{is_closed}
 use Rattle.sd_spec_receiver.specs.Runs.{run_name_heard, name_or, name_in, is_same, are_two, is_turn, of_run}
 use Rattle.sd_spec_receiver.specs.Offered.{heard, heard_more, Offering, no_offering, offered, heard_offering}
+use Rattle.sd_spec_receiver.proofs.Runs.{same_run, new_run}
+use Rattle.sd_spec_receiver.proofs.Hearing.{tuned_more}
 use Rattle.sd_law_successive.specs.Pieces.{name_at}
 use Rattle.sd_law_successive.proofs.Later.{thing_later, things_later, hears_later, names_later, closed_later}
 use Rattle.sd_law_successive.proofs.Offerings.{offering_later, open_offering, open_later}
 use Rattle.sd_law_successive.proofs.Leading.{is_quiet, AreQuiet, name_quiet, closed_quiet, names_led, closed_led}
 use Rattle.sd_law_successive.proofs.Leading.{offering_led}
-use Rattle.sd_law_successive.proofs.Agreeing.{tested, tuned_more, offered_by, heard_by, new_run, name_any, same_is}
+use Rattle.sd_law_successive.proofs.Agreeing.{offered_by, heard_by, name_any, same_is}
 use Rattle.sd_law_successive.proofs.Agreeing.{some_kept}
-use Rattle.sd_law_successive.proofs.Agreeing.{same_run, name_next}
+use Rattle.sd_law_successive.proofs.Agreeing.{name_next}
 
 -- a packet of the run with this name: no message, or one of it
 abbrev pub IsPacketOf : CardFields → Tuning → Option ℕ → List ℕ → Type 0

@@ -50,14 +50,6 @@ pub record AreAlike (card : CardFields) (past alone packets next : List (List �
   pub taken : taken_keys card past (packets ++ next)
       ≡ taken_keys card alone packets + taken_keys card (onto packets past) next
 
-pub first_none : (fault rest : Option StreamFault) → option_map_or Some fault rest ≡ None → fault ≡ None
-first_none None rest is = refl
-first_none (Some f) rest is = absurd cc
-
-pub rest_none : (fault rest : Option StreamFault) → option_map_or Some fault rest ≡ None → rest ≡ None
-rest_none None rest is = is
-rest_none (Some f) rest is = absurd cc
-
 -- the keys of a packet more, of those behind it and of what follows
 taken_then : (one all own later : ℕ) → all ≡ own + later → one + all ≡ (one + own) + later
 taken_then one all own later is = omega (arith, is)

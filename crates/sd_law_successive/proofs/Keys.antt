@@ -3,6 +3,7 @@ use Rattle.std.proofs.Common.{◌≡◌, refl, ℕ, suc, ◌+◌, ◌-◌, Bool,
 use Rattle.std.proofs.Common.{sym, ap, ◌∙◌, arith}
 use Rattle.std.specs.Prelude.{if◌then◌else◌}
 use Rattle.std.specs.Option.{option_map_or}
+use Rattle.sd_base.proofs.Bools.{tested}
 use Rattle.sd_card.specs.Fields.{CardFields}
 use Rattle.sd_spec_receiver.specs.Tuned.{tuning_of}
 use Rattle.sd_psi.specs.OurCat.{cat_tuning}
@@ -12,7 +13,7 @@ use Rattle.sd_spec_receiver.specs.Offered.{heard}
 use Rattle.sd_spec_receiver.specs.Taken.{takes_key_at, taken_keys}
 use Rattle.sd_law_successive.specs.Pieces.{Tuned, name_at, with_packet, tuned_or, first_cat, pieces_after, pieces_of}
 use Rattle.sd_law_successive.specs.Keys.{taken_with, taken_of}
-use Rattle.sd_law_successive.proofs.Agreeing.{tested, Agrees, agrees_more, turn_agrees, name_stays, name_turns, turn_is}
+use Rattle.sd_law_successive.proofs.Agreeing.{Agrees, agrees_more, turn_agrees, name_stays, name_turns, turn_is}
 use Rattle.sd_law_successive.proofs.Pieces.{pieces_stay, pieces_turn, IsSome, some_piece, HasCat, turn_count}
 use Rattle.sd_law_successive.proofs.Streams.{IsUntuned, untuned_more, cat_agrees, no_name, nothing_came}
 use Rattle.sd_law_successive.proofs.Taking.{untuned_takes, agrees_taken, turn_taken}

@@ -4,6 +4,7 @@ use Rattle.std.proofs.Common.{Option, Some, None, is_none, ap, ◌∙◌, arith}
 use Rattle.std.specs.Prelude.{if◌then◌else◌, nat_le, nat_lt, max, find}
 use Rattle.std.specs.Option.{option_map_or}
 use Rattle.std.proofs.lemmas.Bool.{false≢true}
+use Rattle.sd_base.proofs.Bools.{chosen_itself}
 use Rattle.sd_card.specs.Fields.{CardFields}
 use Rattle.sd_emm.specs.declared.emm.Emm.{Emm}
 use Rattle.sd_ecm.specs.Parts.{Message}
@@ -81,15 +82,11 @@ messages_quiet : (past : List Heard) → AreQuiet past → messages past ≡ []
 unfolding messages
 messages_quiet past quiet = quiet_induct messages [] refl (λ past. refl) (λ n packet past. refl) past quiet
 
-pub still : (closed : Bool) → (if closed then true else false) ≡ closed
-still true = refl
-still false = refl
-
 pub closed_quiet : (past : List Heard) → AreQuiet past → is_closed past ≡ false
 unfolding is_closed
 closed_quiet past quiet =
-    quiet_induct is_closed false refl (λ past. still (is_closed past)) (λ n packet past. still (is_closed past)) past
-    quiet
+    quiet_induct is_closed false refl (λ past. chosen_itself (is_closed past))
+    (λ n packet past. chosen_itself (is_closed past)) past quiet
 
 pub newest_quiet : (past : List Heard) → AreQuiet past →
     newest past ≡ record { message = None; before = []; after = past }

@@ -13,6 +13,7 @@ use Rattle.sd_spec_receiver.specs.Heard.{hears}
 use Rattle.sd_spec_receiver.specs.Offered.{Offering, out_from, break_from}
 use Rattle.sd_spec_receiver.specs.Ending.{ending_of}
 use Rattle.sd_spec_receiver.specs.Taken.{taken_keys}
+use Rattle.sd_spec_receiver.proofs.Hearing.{tuned_more}
 use Rattle.sd_law_losses.specs.Chosen.{chosen}
 use Rattle.sd_law_losses.specs.Kept.{after_cat}
 use Rattle.sd_law_losses.specs.Confirmed.{confirmed}
@@ -23,7 +24,6 @@ use Rattle.sd_law_successive.specs.Channel.{Arrival, Channel, IsRunOf}
 use Rattle.sd_law_successive.specs.Many.{kept_of_arrival, has_cat}
 use Rattle.sd_law_successive.specs.Ends.{is_message, is_told}
 use Rattle.sd_law_successive.specs.Keys.{kept_periods}
-use Rattle.sd_law_successive.proofs.Agreeing.{tuned_more}
 use Rattle.sd_law_successive.proofs.Leading.{is_quiet}
 use Rattle.sd_law_successive.proofs.Pieces.{cat_out, cat_break}
 use Rattle.sd_law_successive.proofs.Endings.{onto, reversed}

@@ -3,6 +3,7 @@ use Rattle.std.proofs.Common.{◌≡◌, refl, ℕ, ◌+◌, ◌-◌, ◌++◌, 
 use Rattle.std.proofs.Common.{None, is_none, sym, ap, ◌∙◌, arith, append-nil, append_assoc}
 use Rattle.std.specs.Prelude.{if◌then◌else◌, option_map}
 use Rattle.std.specs.Option.{option_map_or}
+use Rattle.sd_base.proofs.Bools.{tested}
 use Rattle.sd_card.specs.Fields.{CardFields}
 use Rattle.sd_spec_receiver.specs.declared.fault.StreamFault.{StreamFault}
 use Rattle.sd_psi.specs.OurCat.{cat_tuning}
@@ -12,7 +13,7 @@ use Rattle.sd_spec_receiver.specs.Offered.{heard, Offering, offered, out_from, b
 use Rattle.sd_law_successive.specs.Pieces.{name_at, with_packet, pieces_after}
 use Rattle.sd_law_successive.specs.Together.{fault_later, out_with}
 use Rattle.sd_law_successive.proofs.Offerings.{offering_later}
-use Rattle.sd_law_successive.proofs.Agreeing.{tested, Agrees, offered_later, agrees_more, turn_offered, turn_agrees}
+use Rattle.sd_law_successive.proofs.Agreeing.{Agrees, offered_later, agrees_more, turn_offered, turn_agrees}
 use Rattle.sd_law_successive.proofs.Agreeing.{name_stays}
 use Rattle.sd_law_successive.proofs.Agreeing.{name_turns, turn_is}
 use Rattle.sd_law_successive.proofs.Pieces.{pieces_stay, pieces_turn, IsSome, some_piece, cat_out, cat_break, HasCat}

@@ -3,6 +3,7 @@ use Rattle.std.proofs.Common.{◌≡◌, ◌≢◌, refl, ℕ, ◌-◌, Bool, tr
 use Rattle.std.proofs.Common.{None, sym, ap, ◌∙◌, arith, subst, inl}
 use Rattle.std.specs.Prelude.{if◌then◌else◌}
 use Rattle.std.proofs.lemmas.Bool.{false≢true}
+use Rattle.sd_base.proofs.Lists.{first_none, rest_none}
 use Rattle.sd_card.specs.Fields.{CardFields}
 use Rattle.sd_spec_broadcast.specs.Sent.{Item, Cat, Entitles, Controls, Carries}
 use Rattle.sd_spec_receiver.specs.declared.ending.Ending.{Ending}
@@ -24,7 +25,7 @@ use Rattle.sd_law_successive.proofs.Following.{follows_offered}
 use Rattle.sd_law_successive.proofs.Following.{follows_more}
 use Rattle.sd_law_successive.proofs.Taking.{untuned_takes}
 use Rattle.sd_law_successive.proofs.Taken.{quiet_taken, follows_taken, begun_taken}
-use Rattle.sd_law_successive.proofs.Going.{AreUntuned, HasBegun, no_heard, one_run, AreAlike, first_none, rest_none}
+use Rattle.sd_law_successive.proofs.Going.{AreUntuned, HasBegun, no_heard, one_run, AreAlike}
 use Rattle.sd_law_successive.proofs.Going.{alike_more}
 use Rattle.sd_law_successive.proofs.Going.{follows_named, some_past}
 use Rattle.sd_law_successive.proofs.Ended.{HaveEnded, last_of, ended_still, ended_more, earlier, RunsOn, run_begins}

@@ -8,10 +8,10 @@ use Rattle.sd_spec_receiver.specs.Heard.{Heard, hears}
 use Rattle.sd_spec_receiver.specs.Runs.{are_two, is_turn, of_run}
 use Rattle.sd_spec_receiver.specs.Offered.{heard}
 use Rattle.sd_spec_receiver.specs.Taken.{takes_key_at}
+use Rattle.sd_spec_receiver.proofs.Runs.{same_run}
 use Rattle.sd_law_successive.specs.Pieces.{name_at}
 use Rattle.sd_law_successive.proofs.Later.{things_later, names_later}
 use Rattle.sd_law_successive.proofs.Leading.{is_quiet, AreQuiet}
-use Rattle.sd_law_successive.proofs.Agreeing.{same_run}
 use Rattle.sd_law_successive.proofs.Taking.{takes_open, taken_later, taken_led, none_taken, taken_by}
 use Rattle.sd_law_successive.proofs.Following.{quiet_any, Waits, Follows, led_stays, there_is, one_name, Begins, begun}
 use Rattle.sd_law_successive.proofs.Following.{alone_begins}

@@ -15,11 +15,12 @@ use Rattle.sd_spec_receiver.specs.Runs.{is_turn, of_run}
 use Rattle.sd_spec_receiver.specs.Keys.{key_from, key_at}
 use Rattle.sd_spec_receiver.specs.Offered.{heard}
 use Rattle.sd_spec_receiver.specs.Taken.{takes_key, takes_key_of, takes_key_in, takes_key_at}
+use Rattle.sd_spec_receiver.proofs.Runs.{new_run}
 use Rattle.sd_law_successive.proofs.Later.{thing_later, things_later, hears_later, run_later, closed_later}
 use Rattle.sd_law_successive.proofs.Later.{current_later}
 use Rattle.sd_law_successive.proofs.Later.{key_later}
 use Rattle.sd_law_successive.proofs.Leading.{is_quiet, AreQuiet, closed_led, current_led, key_led}
-use Rattle.sd_law_successive.proofs.Agreeing.{Agrees, cat_tuned, cat_unheard, first_run, new_run}
+use Rattle.sd_law_successive.proofs.Agreeing.{Agrees, cat_tuned, cat_unheard, first_run}
 
 -- a thing takes a key of this run, which isn't closed
 abbrev pub takes_open : CardFields → List Heard → Heard → Bool

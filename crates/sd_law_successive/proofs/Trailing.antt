@@ -3,6 +3,7 @@ use Rattle.std.proofs.Common.{◌≡◌, refl, ℕ, ◌+◌, Bool, true, false, 
 use Rattle.std.specs.Prelude.{if◌then◌else◌}
 use Rattle.std.specs.Option.{option_map_or}
 use Rattle.std.proofs.lemmas.Bool.{false≢true}
+use Rattle.sd_base.proofs.Bools.{chosen_itself}
 use Rattle.sd_card.specs.Fields.{CardFields}
 use Rattle.sd_ecm.specs.Parts.{Message}
 use Rattle.sd_spec_receiver.specs.declared.ending.Ending.{Ending}
@@ -11,7 +12,7 @@ use Rattle.sd_spec_receiver.specs.Heard.{Heard, Dropped, Entitles, Controls, Bad
 use Rattle.sd_spec_receiver.specs.Stretches.{Stretch, newest, is_closed, messages, seen}
 use Rattle.sd_spec_receiver.specs.Offered.{heard_more}
 use Rattle.sd_spec_receiver.specs.Ending.{periods_told, closed_ending, run_ending}
-use Rattle.sd_law_successive.proofs.Leading.{is_quiet, AreQuiet, closed_quiet, newest_quiet, still}
+use Rattle.sd_law_successive.proofs.Leading.{is_quiet, AreQuiet, closed_quiet, newest_quiet}
 use Rattle.sd_law_successive.proofs.Following.{more_is, quiet_stays}
 
 -- how a run ends, by whether it is closed
@@ -24,12 +25,12 @@ ending_if card past wrote closed =
 ending_trails : (card : CardFields) (past : List Heard) (thing : Heard) (wrote : ℕ) → is_quiet thing ≡ true →
     run_ending card (thing ∷ past) wrote ≡ run_ending card past wrote
 unfolding run_ending is_closed periods_told messages newest seen
-ending_trails card past Dropped wrote quiet = ap (ending_if card past wrote) (still (is_closed past))
+ending_trails card past Dropped wrote quiet = ap (ending_if card past wrote) (chosen_itself (is_closed past))
 ending_trails card past (Entitles emm) wrote quiet = absurd (false≢true quiet)
 ending_trails card past (Controls part) wrote quiet = absurd (false≢true quiet)
 ending_trails card past (BadEmm fault) wrote quiet = absurd (false≢true quiet)
 ending_trails card past (BadEcm fault) wrote quiet = absurd (false≢true quiet)
-ending_trails card past (Other n packet) wrote quiet = ap (ending_if card past wrote) (still (is_closed past))
+ending_trails card past (Other n packet) wrote quiet = ap (ending_if card past wrote) (chosen_itself (is_closed past))
 
 -- whether or not the run was closed before it
 pub ending_more : (card : CardFields) (past : List Heard) (thing : Heard) (wrote : ℕ) → is_quiet thing ≡ true →

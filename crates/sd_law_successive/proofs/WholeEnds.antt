@@ -4,12 +4,14 @@ use Rattle.std.proofs.Common.{Option, Some, None, sym, ap, ◌∙◌, subst}
 use Rattle.std.specs.Prelude.{if◌then◌else◌}
 use Rattle.std.specs.List.{list_any}
 use Rattle.std.proofs.lemmas.Bool.{false≢true}
+use Rattle.sd_base.proofs.Bools.{tested}
 use Rattle.sd_card.specs.Fields.{card_of}
 use Rattle.sd_spec_broadcast.specs.Plan.{Plan, closing_number}
 use Rattle.sd_spec_broadcast.specs.Sent.{Item, Cat, Entitles, Controls, Carries, is_cat_item}
 use Rattle.sd_spec_receiver.specs.declared.ending.Ending.{Ending}
 use Rattle.sd_spec_receiver.specs.declared.ending.Ending.TheVariants.{Opened, Revoked, Unheard, NoCat, Unclosed, Gaps}
 use Rattle.sd_spec_receiver.specs.Ending.{ending_of}
+use Rattle.sd_spec_receiver.proofs.Runs.{opened_joins}
 use Rattle.sd_law_losses.specs.Kept.{after_cat, has_parts, has_arrived}
 use Rattle.sd_law_losses.specs.Confirmed.{confirmed}
 use Rattle.sd_law_losses.specs.Endings.{closed_told, next_number, ending_told, first_revoked, whole_ending}
@@ -19,8 +21,6 @@ use Rattle.sd_law_successive.specs.Together.{joined_to}
 use Rattle.sd_law_successive.specs.Channel.{Arrival, Channel, AreRunsOf, IsRunOf, all_sent}
 use Rattle.sd_law_successive.specs.Many.{kept_of_arrival, has_cat}
 use Rattle.sd_law_successive.specs.Ends.{is_message, is_told, endings_from, all_joined, whole_ending_of}
-use Rattle.sd_law_successive.proofs.Agreeing.{tested}
-use Rattle.sd_law_successive.proofs.Endings.{opened_joins}
 use Rattle.sd_law_successive.proofs.Runs.{begins_by}
 use Rattle.sd_law_successive.proofs.Whole.{whole, wholes, whole_stream, whole_kept, are_whole}
 use Rattle.sd_law_successive.proofs.Finishing.{runs_end}

@@ -190,13 +190,6 @@ cover_listed d w revoked sets low some leaves =
       λ e. subst (IsLayerCover d w revoked) (sym e) listed,
     )
 
--- the sets of a chain cover are of the tree's height
-pub chains_of_height : (d : ℕ) (revoked : List ℕ) (cover : List SetName) → All (λ u. u < 2 ^ d) revoked
-    → IsChainCover d revoked cover → All (IsOfHeight d) cover
-chains_of_height d revoked cover leaves chains = λ k x within.
-    of_height d revoked cover (λ u m. All-contains (λ v. v < 2 ^ d) revoked u leaves m) chains (get_or cover k x)
-    (Contains-get_or cover k x within)
-
 -- what is made of a chain cover is the list of the definition
 pub made_is_cover : (d w : ℕ) (revoked : List ℕ) (cover sets : List SetName) → d ≤ 20 → 1 ≤ w
     → All (λ u. u < 2 ^ d) revoked → IsChainCover d revoked cover → IsPermutation (flat_map (split_of w) cover) sets

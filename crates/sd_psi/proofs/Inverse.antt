@@ -13,7 +13,7 @@ use Rattle.sd_section.proofs.Judging.{field_take}
 use Rattle.sd_section.specs.Header.{table_id_of, syntax_of, section_length_of, section_number_of, last_number_of}
 use Rattle.sd_section.specs.Header.{whole_of}
 use Rattle.sd_section.specs.Header.{body_of, crc_in, crc_due}
-use Rattle.sd_section.proofs.Cutting.{field_append}
+use Rattle.sd_section.proofs.Cutting.{field_append, body_long}
 use Rattle.sd_psi.specs.declared.fault.FormFault.{FormFault}
 use Rattle.sd_psi.specs.declared.fault.FormFault.TheVariants as Fault
 use Rattle.sd_psi.specs.declared.form.Table.TheVariants.{Pmt}
@@ -23,7 +23,6 @@ use Rattle.sd_psi.specs.Forms.{has_body, has_length, table_crc_fault, is_stuffin
 use Rattle.sd_psi.specs.Rewriting.{ca_descriptor, inserted, removed, before_section, rewritten, restored, loops_fault}
 use Rattle.sd_psi.specs.Rewriting.{has_room, is_first, rewrite_fault, removal_fault}
 use Rattle.sd_psi.specs.Undone.{IsPacket}
-use Rattle.sd_psi.proofs.Judging.{body_long}
 use Rattle.sd_psi.proofs.Listing.{pmt_has, pmt_info}
 use Rattle.sd_psi.proofs.Heads.{bytes_after, bytes_before}
 use Rattle.sd_psi.proofs.Shapes.{IsShaped, shaped_has, IsInserted, inserted_shape, IsSix, first_six, removed_shape}

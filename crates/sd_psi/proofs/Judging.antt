@@ -1,6 +1,6 @@
 -- What is wrong first.
 use Rattle.std.proofs.Common.{ℕ, zero, suc, ◌+◌, ◌-◌, ◌*◌, ◌/◌, ◌≤◌, ◌≡◌, Bool, true, false, ◌==◌, ◌&&◌, List, length}
-use Rattle.std.proofs.Common.{drop, get_or, length-drop, length-take, refl, sym, ap, ◌∙◌, arith}
+use Rattle.std.proofs.Common.{get_or, refl, sym, ap, ◌∙◌, arith}
 use Rattle.std.specs.Prelude.{Option, Some, None, nat_le}
 use Rattle.std.proofs.lemmas.List.{get_or_past}
 use Rattle.std.proofs.lemmas.Bool.{and_parts, eqb-true, leb-true, le-leb}
@@ -10,7 +10,6 @@ use Rattle.sd_packet.proofs.Packets.{start_within}
 use Rattle.sd_section.specs.declared.fault.SectionFault.TheVariants as SectionFault
 use Rattle.sd_section.specs.Header.{table_id_of, syntax_of, section_length_of, section_number_of, last_number_of}
 use Rattle.sd_section.specs.Header.{whole_of}
-use Rattle.sd_section.specs.Header.{body_of}
 use Rattle.sd_section.specs.Judged.{section_fault, unless}
 use Rattle.sd_section.specs.Judged.{crc_fault as section_crc_fault}
 use Rattle.sd_psi.specs.declared.fault.FormFault.{FormFault}
@@ -32,10 +31,6 @@ past_is_zero bytes at (suc n) h =
     let none : get_or bytes ((at + n) / 8) 0 ≡ 0 = get_or_past bytes ((at + n) / 8) 0 (omega arith) in
     let last : bit bytes (at + n) ≡ 0 = rw none (omega arith) in
     omega (arith, past_is_zero bytes at n h, last)
-
--- a body is what a section has but its header and its CRC
-pub body_long : (section : List ℕ) → length (body_of section) ≡ length section - 12
-body_long section = omega (arith, length-take (length section - 4 - 8) (drop 8 section), length-drop 8 section)
 
 -- what a section of the table and length has
 record IsFitting (table : Table) (bytes : List ℕ) : Type 0 where

@@ -11,6 +11,7 @@ use Rattle.sd_base.proofs.Numbers.{above_fails}
 use Rattle.sd_packet.specs.Header.{payload_start_of, payload_of}
 use Rattle.sd_section.proofs.Judging.{field_take}
 use Rattle.sd_section.specs.Header.{section_length_of, whole_of, body_of}
+use Rattle.sd_section.proofs.Cutting.{body_long}
 use Rattle.sd_psi.specs.declared.fault.FormFault.{FormFault}
 use Rattle.sd_psi.specs.declared.fault.FormFault.TheVariants as Fault
 use Rattle.sd_psi.specs.declared.form.Table.TheVariants.{Pmt}
@@ -20,7 +21,6 @@ use Rattle.sd_psi.specs.Tables.{descriptors_of, info_length_of, info_of, has_inf
 use Rattle.sd_psi.specs.Forms.{fault_unless, after_pointer, section_in, after_section, outer_fault}
 use Rattle.sd_psi.specs.Rewriting.{ca_descriptor, inserted, removed, rewritten, restored, has_room, is_first}
 use Rattle.sd_psi.specs.Rewriting.{rewrite_fault, removal_fault}
-use Rattle.sd_psi.proofs.Judging.{body_long}
 use Rattle.sd_psi.proofs.Listing.{pmt_has}
 use Rattle.sd_psi.proofs.Cutting.{none_cut, first_cut}
 

@@ -14,12 +14,12 @@ use Rattle.sd_section.specs.Header.{crc_in, crc_due}
 use Rattle.sd_section.specs.Written.{sealed}
 use Rattle.sd_section.proofs.Judging.{field_take}
 use Rattle.sd_section.proofs.Spelling.{crc_is_read, crc_is_due}
+use Rattle.sd_section.proofs.Cutting.{body_long}
 use Rattle.sd_psi.specs.declared.items.Kind.TheVariants.{Descriptor}
 use Rattle.sd_psi.specs.Items.{size_of, items_of}
 use Rattle.sd_psi.specs.Tables.{are_descriptors, info_length_of, info_of, loop_of, has_info, are_streams, is_pmt}
 use Rattle.sd_psi.specs.Rewriting.{ca_descriptor, with_lengths, inserted, removed, is_first}
 use Rattle.sd_psi.proofs.Cutting.{first_cut, first_whole, first_off}
-use Rattle.sd_psi.proofs.Judging.{body_long}
 use Rattle.sd_psi.proofs.Listing.{pmt_by_parts, pmt_parts, IsPmt}
 use Rattle.sd_psi.proofs.Packets.{info_begins}
 use Rattle.sd_psi.proofs.Moving.{take_after}

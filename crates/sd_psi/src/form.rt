@@ -153,7 +153,7 @@ fn has_length(table: Table, bytes: &[u8]) -> bool
 }
 
 // Whether the section's body has the length that its table asks for.
-#[tactic(auto, using(crate::proofs::Judging::body_long), unfolding(crate::specs::Forms::has_body, crate::specs::Tables::has_info))]
+#[tactic(auto, using(sd_section::proofs::Cutting::body_long), unfolding(crate::specs::Forms::has_body, crate::specs::Tables::has_info))]
 fn has_body(table: Table, section: &[u8]) -> bool
     requires { 12 ≤ length section.now }
     ensures { result ≡ has_body_of table section.now }

@@ -1,9 +1,8 @@
 -- What comes of a clear stream that a head end sends into OUT.
-use Rattle.std.proofs.Common.{◌≡◌, ◌≢◌, ℕ, Bool, cond, List, [], Option, Some, None, Result, Ok, Err, refl}
-use Rattle.std.proofs.Common.{sym, ap, subst, ◌∙◌, inl, inr, arith}
-use Rattle.std.specs.Prelude.{nat_eq, IsErrOf}
+use Rattle.std.proofs.Common.{◌≡◌, ◌≢◌, ℕ, List, [], Option, Some, None, Result, Ok, Err, refl}
+use Rattle.std.proofs.Common.{sym, ap, subst, ◌∙◌, inl, inr}
+use Rattle.std.specs.Prelude.{IsErrOf}
 use Rattle.sd_base.specs.Count.{IsCaused}
-use Rattle.sd_base.proofs.Numbers.{same_number, other_number}
 use Rattle.sd_ports.specs.Files.{Files}
 use Rattle.sd_engine.specs.Driving.{DriveState, DriveOutcome}
 use Rattle.sd_engine.proofs.Taken.{is_over}
@@ -19,13 +18,13 @@ use Rattle.sd_head.specs.Staged.{IsAfter, head_does, head_ends, head_refuses, Re
 use Rattle.sd_command_status.specs.declared.status.Status.{Status}
 use Rattle.sd_command_status.specs.declared.status.Status.TheVariants.{DepotFault, NoMemory}
 use Rattle.sd_command_status.specs.Outside.{DepotState, PageState, Outside, outside}
-use Rattle.sd_command_status.specs.Spec.{Spec, FileArgument, Readings, IsGiven, IsGot, ◌>>=◌}
-use Rattle.sd_command_status.specs.Work.{Work}
-use Rattle.sd_command_status.specs.Outcome.{untouched, exhausted, OutcomeWithin, Implements}
+use Rattle.sd_command_status.specs.Spec.{Spec, FileArgument, IsGot, ◌>>=◌}
+use Rattle.sd_command_status.specs.Outcome.{OutcomeWithin, Implements}
 use Rattle.sd_command_status.specs.Reads.{FilesOutcome}
-use Rattle.sd_command_status.proofs.Firsts.{takes_none, first_obeys}
+use Rattle.sd_command_status.proofs.Firsts.{first_obeys}
 use Rattle.sd_command_status.proofs.Moves.{then_obeys}
 use Rattle.sd_command_files.specs.Turned.{HasPortCause, Wrote}
+use Rattle.sd_command_files.proofs.Thirds.{more_given}
 use Rattle.sd_run_head.specs.Head.{plan_by, plan_meaning, sending_of, head_meaning, refusal_in, stop_status, sent_told}
 use Rattle.sd_run_head.specs.Head.{SendsLeft, sent_of, sent_status}
 use Rattle.sd_run_head.proofs.Sending.{IsHeadEnd, IsDueAt, wrote_sent}
@@ -112,35 +111,6 @@ port_caused f g i j (Err (drive.Refused fault)) status is read written = record 
   failed = λ e. absurd (refused_apart (refusal_in fault) (sym is ∙ e));
 }
 
--- What three files gave.
-
--- what two files gave, and then a third
-record MoreGiven (files : Option Files) (given : Readings) (a b c : FileArgument) (got : Option (List ℕ)) : Type 0 where
-  more : Readings
-  is_more : IsGiven files more
-  first : more a ≡ given a
-  second : more b ≡ given b
-  gave : more c ≡ got
-
-more_given : (files : Option Files) (given : Readings) (a b c : FileArgument) (got : Option (List ℕ)) →
-    IsGiven files given →
-    IsGot files c.text got →
-    a.number ≢ c.number → b.number ≢ c.number → MoreGiven files given a b c got
-more_given None given a b c got is is_got ac bc = record {
-  more = λ w. cond (nat_eq w.number c.number) got (given w);
-  is_more = tt;
-  first = ap (λ (t : Bool). cond t got (given a)) (other_number a.number c.number ac);
-  second = ap (λ (t : Bool). cond t got (given b)) (other_number b.number c.number bc);
-  gave = ap (λ (t : Bool). cond t got (given c)) (same_number c.number);
-}
-more_given (Some files) given a b c got is is_got ac bc = record {
-  more = given;
-  is_more = is;
-  first = refl;
-  second = refl;
-  gave = ap (λ (g : Readings). g c) is ∙ sym is_got;
-}
-
 -- a plan that was read, and then what is meant by it and the third file
 pub plan_follows : {X : Type 0} (view : X →
     Plan) (site book clear out : FileArgument) (got : Option (List ℕ)) (p q : DepotState) (page : PageState) (steps : ℕ)
@@ -180,15 +150,4 @@ no_plan view site book clear out p q page steps status read = record {
   is_given = read.is_given;
   obeyed = first_obeys (plan_meaning site book read.given) (sending_of clear out (read.given clear)) p q page steps
       status read.gives;
-}
-
--- memory was out before anything more was done
-pub wanting_obeys : (meant : Spec Work) (q : DepotState) (page : PageState) (steps : ℕ) (status : Status) →
-    status ≡ NoMemory →
-    OutcomeWithin meant (outside q page steps) (outside q page steps) status
-wanting_obeys meant q page steps status is = record {
-  comes = exhausted is (untouched (record { files = refl; made = refl }) refl) refl refl refl;
-  ports = refl;
-  calls = omega arith;
-  steps = takes_none meant.result steps;
 }

@@ -1,4 +1,4 @@
-use Rattle.sd_command_periods.proofs.Heights.{cover_of_height}
+use Rattle.sd_steiner.proofs.Heights.{cover_of_height}
 use Rattle.sd_command_periods.proofs.sets.cover_sets.Goals as goal
 
 pub returns-in-Ok-clause-names : goal.returns-in-Ok-clause-names

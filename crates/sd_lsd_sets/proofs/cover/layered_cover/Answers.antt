@@ -2,17 +2,18 @@ use Rattle.std.proofs.Common.{rules, ◌≡◌, ◌≤◌, List, subst}
 use Rattle.std.specs.Prelude.{All}
 use Rattle.std.specs.List.{flat_map}
 use Rattle.std.specs.List.Sorted.{IsPermutation}
+use Rattle.sd_steiner.proofs.Heights.{cover_of_height}
 use Rattle.sd_tree.specs.SetNames.{IsOfHeight}
 use Rattle.sd_tree.specs.declared.set.SetName.{SetName}
 use Rattle.sd_lsd_sets.specs.Layers.{split_of}
-use Rattle.sd_lsd_sets.proofs.Covers.{chains_of_height, made_is_cover}
+use Rattle.sd_lsd_sets.proofs.Covers.{made_is_cover}
 use Rattle.sd_lsd_sets.proofs.cover.layered_cover.Goals as goal
 
 pub split-requires-clause-names : goal.split-requires-clause-names
 split-requires-clause-names c =
     let same : c.in_ok-chains.chains.items ≡ c.deref.result.now = search rules in
     subst (λ (names : List SetName). All (IsOfHeight c.args.h) names) same
-    (chains_of_height c.args.h c.args.revoked.now c.in_ok-chains.chains.items c.requires.leaves
+    (cover_of_height c.args.h c.args.revoked.now c.in_ok-chains.chains.items c.requires.leaves
     c.in_ok-chains.ensures.value.1)
 
 pub returns-clause-value : goal.returns-clause-value

@@ -12,10 +12,11 @@ use Rattle.sd_run_head.specs.Head.{sending_of, sent_of, sent_status}
 use Rattle.sd_command_files.specs.Shown.{shown_word}
 use Rattle.sd_command_files.proofs.Looked.{opened_got}
 use Rattle.sd_command_files.proofs.Turning.{turned_obeys, not_turned}
-use Rattle.sd_run_head.proofs.Heading.{by_plan, plan_follows, no_plan, wanting_obeys}
+use Rattle.sd_run_head.proofs.Heading.{by_plan, plan_follows, no_plan}
 use Rattle.sd_run_head.proofs.Planned.{reads_plan}
 use Rattle.sd_run_head.proofs.command.head.Goals as goal
 use Rattle.sd_command_files.specs.Both.{SiteBook}
+use Rattle.sd_command_files.proofs.Thirds.{wanting_obeys}
 use Rattle.sd_site.specs.declared.site.Site.{Site}
 use Rattle.sd_book.specs.declared.book.Book.{Book}
 

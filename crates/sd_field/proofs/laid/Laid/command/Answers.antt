@@ -2,8 +2,9 @@ use Rattle.std.proofs.Common.{arith, ◌≡◌, ◌∙◌, ◌<◌, ◌≤◌, �
 use Rattle.sd_site.specs.Fields.{fields_of}
 use Rattle.sd_book.specs.Limits.{IsDraft, IsWithinLimits}
 use Rattle.sd_book.specs.declared.command.Command.{Command}
+use Rattle.sd_book.proofs.Judged.{within_is_draft}
 use Rattle.sd_spec_field.specs.Book.{with_periods_to, period_after}
-use Rattle.sd_field.proofs.Laying.{command_beyond, command_within, front_within, whole_fits}
+use Rattle.sd_field.proofs.Laying.{command_beyond, command_within, front_within}
 use Rattle.sd_field.proofs.laid.Laid.command.Goals as goal
 
 pub returns-then-period-from-clause-value : goal.returns-then-period-from-clause-value
@@ -53,5 +54,5 @@ push-requires-clause-fits c =
     c.in_ok-fill.ensures.value ∙ ap (λ (p : ℕ). with_periods_to p old.commands) same in
     subst (λ (d : ℕ). IsDraft d (c.fill.new.self.draft.commands ++ c.args.command ∷ [])) (sym c.fill.ensures.height)
     (subst (λ (xs : List Command). IsDraft old.height (xs ++ c.args.command ∷ [])) (sym full)
-    (whole_fits old.height (with_periods_to q old.commands ++ c.args.command ∷ [])
+    (within_is_draft old.height (with_periods_to q old.commands ++ c.args.command ∷ [])
     (subst (IsWithinLimits old.height) (sym (command_within q c.args.command old.commands low)) c.requires.fits)))
