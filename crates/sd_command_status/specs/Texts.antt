@@ -13,10 +13,8 @@ use Rattle.sd_book.specs.declared.fault.BookLimit.{BookLimit}
 use Rattle.sd_book.specs.declared.fault.BookLimit.TheVariants as limit
 use Rattle.sd_card.specs.declared.fault.CardFault.{CardFault}
 use Rattle.sd_card.specs.declared.fault.CardFault.TheVariants as card
-use Rattle.sd_emm.specs.declared.fault.EmmFault.{EmmFault}
-use Rattle.sd_emm.specs.declared.fault.EmmFault.TheVariants as emm
-use Rattle.sd_ecm.specs.declared.fault.EcmFault.{EcmFault}
-use Rattle.sd_ecm.specs.declared.fault.EcmFault.TheVariants as ecm
+use Rattle.sd_emm.specs.Faults.{emm_fault_name}
+use Rattle.sd_ecm.specs.Faults.{ecm_fault_name}
 use Rattle.sd_command_status.specs.declared.status.Status.{Status}
 use Rattle.sd_command_status.specs.declared.status.Status.TheVariants.{Done, Usage, Missing, Revoked, DepotFault}
 use Rattle.sd_command_status.specs.declared.status.Status.TheVariants.{PrintFault}
@@ -93,21 +91,6 @@ card_line card.Length = codes "card: length\n"
 card_line (card.Check found due) = codes "card: check " ++ (checks_text found due ++ codes "\n")
 card_line card.NoMemory = codes "no memory\n"
 
--- what is wrong with a section of entitlements
-unfoldable pub emm_text : EmmFault → List ℕ
-emm_text emm.Count = codes "count"
-emm_text emm.Order = codes "order"
-emm_text emm.Node = codes "node"
-emm_text emm.Mixed = codes "mixed"
-
--- what is wrong with a part of a control message
-unfoldable pub ecm_text : EcmFault → List ℕ
-ecm_text ecm.Count = codes "count"
-ecm_text ecm.Order = codes "order"
-ecm_text ecm.Pid = codes "pid"
-ecm_text ecm.Mixed = codes "mixed"
-ecm_text ecm.Back = codes "back"
-
 -- why a packet of a stream is refused
 unfoldable pub stream_text : StreamCause → List ℕ
 stream_text (Broken cause) = break_text cause
@@ -116,8 +99,8 @@ stream_text (WrongKey period found due) =
     codes "wrong key of period " ++ (decimal period ++ (codes " " ++ checks_text found due))
 stream_text (WrongWord word found due) =
     codes "wrong word " ++ (decimal word ++ (codes " " ++ checks_text found due))
-stream_text (BadEmm fault) = codes "bad emm " ++ emm_text fault
-stream_text (BadEcm fault) = codes "bad ecm " ++ ecm_text fault
+stream_text (BadEmm fault) = codes "bad emm " ++ emm_fault_name fault
+stream_text (BadEcm fault) = codes "bad ecm " ++ ecm_fault_name fault
 stream_text Parity = codes "parity"
 
 -- the line of a packet that breaks a rule

@@ -5,7 +5,6 @@ ghost use Rattle.sd_command_status.specs.Texts.{clear_line as clear_line_of, cle
 ghost use Rattle.sd_command_status.specs.Texts.{break_text as break_text_of, form_text as form_text_of, hex_of};
 ghost use Rattle.sd_command_status.specs.Texts.{card_line as card_line_of, checks_text as checks_text_of};
 ghost use Rattle.sd_command_status.specs.Texts.{stream_text as stream_text_of};
-ghost use Rattle.sd_command_status.specs.Texts.{emm_text as emm_text_of, ecm_text as ecm_text_of};
 ghost use Rattle.sd_command_status.specs.Texts.{revoked_line as revoked_line_of, unheard_line as unheard_line_of};
 ghost use Rattle.sd_command_status.specs.Texts.{unclosed_line as unclosed_line_of, gaps_line as gaps_line_of};
 ghost use Rattle.sd_command_status.specs.Texts.{missing_line as missing_line_of, book_line as book_line_of};
@@ -17,8 +16,6 @@ ghost use Rattle.sd_command_status.specs.Results.{PrintsLine, PrintsStatusLine, 
 use crate::status::{Clash, ClearCause, LimitKind, Status, StreamCause};
 use sd_book::BookLimit;
 use sd_card::CardFault;
-use sd_ecm::EcmFault;
-use sd_emm::EmmFault;
 use sd_engine::BreakCause;
 use sd_ports::{Sink, write_all};
 use sd_psi::FormFault;
@@ -271,11 +268,11 @@ fn stream_text(alloc: Global, cause: StreamCause) -> Result<String, AllocError>
             format!(in alloc; "wrong word {word} {checks}")
         }
         StreamCause::BadEmm(fault) => {
-            let fault = emm_text(fault);
+            let fault = fault.name();
             format!(in alloc; "bad emm {fault}")
         }
         StreamCause::BadEcm(fault) => {
-            let fault = ecm_text(fault);
+            let fault = fault.name();
             format!(in alloc; "bad ecm {fault}")
         }
         StreamCause::Parity => String::from_str(alloc, "parity"),
@@ -300,33 +297,6 @@ fn break_text(cause: BreakCause) -> &'static str
     match cause {
         BreakCause::Torn => "torn",
         BreakCause::NoSync => "no sync",
-    }
-}
-
-/// What is wrong with a section of entitlements.
-#[tactic(auto, unfolding(crate::specs::Texts::emm_text))]
-fn emm_text(fault: EmmFault) -> &'static str
-    ensures { result.now ≡ emm_text_of fault }
-{
-    match fault {
-        EmmFault::Count => "count",
-        EmmFault::Order => "order",
-        EmmFault::Node => "node",
-        EmmFault::Mixed => "mixed",
-    }
-}
-
-/// What is wrong with a part of a control message.
-#[tactic(auto, unfolding(crate::specs::Texts::ecm_text))]
-fn ecm_text(fault: EcmFault) -> &'static str
-    ensures { result.now ≡ ecm_text_of fault }
-{
-    match fault {
-        EcmFault::Count => "count",
-        EcmFault::Order => "order",
-        EcmFault::Pid => "pid",
-        EcmFault::Mixed => "mixed",
-        EcmFault::Back => "back",
     }
 }
 

@@ -4,3 +4,4 @@ pub mod Form
 pub mod Fields
 pub mod Judged
 pub mod Parts
+pub mod Faults

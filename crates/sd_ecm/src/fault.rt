@@ -1,3 +1,6 @@
+ghost use Rattle.std.specs.Prelude.{◌≡◌};
+ghost use Rattle.sd_ecm.specs.Faults.{ecm_fault_name};
+
 /// Why a section isn't a part of a control message that this project writes.
 #[derive(Clone, Copy, Debug, PartialEq, Eq)]
 pub enum EcmFault {
@@ -12,4 +15,20 @@ pub enum EcmFault {
     Mixed,
     /// Messages go back. It isn't a fault of one section, so reading one never gives it.
     Back,
+}
+
+impl EcmFault {
+    /// The name of the fault, as it is printed.
+    #[tactic(auto, unfolding(crate::specs::Faults::ecm_fault_name))]
+    pub fn name(self) -> &'static str
+        ensures { result.now ≡ ecm_fault_name self }
+    {
+        match self {
+            EcmFault::Count => "count",
+            EcmFault::Order => "order",
+            EcmFault::Pid => "pid",
+            EcmFault::Mixed => "mixed",
+            EcmFault::Back => "back",
+        }
+    }
 }

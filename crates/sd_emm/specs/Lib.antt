@@ -3,3 +3,4 @@ pub mod Form
 pub mod Fields
 pub mod Judged
 pub mod Period
+pub mod Faults

@@ -1,3 +1,6 @@
+ghost use Rattle.std.specs.Prelude.{◌≡◌};
+ghost use Rattle.sd_emm.specs.Faults.{emm_fault_name};
+
 /// Why a section of entitlements isn't one that this project writes.
 #[derive(Clone, Copy, Debug, PartialEq, Eq)]
 pub enum EmmFault {
@@ -10,4 +13,19 @@ pub enum EmmFault {
     /// Sections of one period say different things of it. It isn't a fault of one section, so reading one never gives
     /// it.
     Mixed,
+}
+
+impl EmmFault {
+    /// The name of the fault, as it is printed.
+    #[tactic(auto, unfolding(crate::specs::Faults::emm_fault_name))]
+    pub fn name(self) -> &'static str
+        ensures { result.now ≡ emm_fault_name self }
+    {
+        match self {
+            EmmFault::Count => "count",
+            EmmFault::Order => "order",
+            EmmFault::Node => "node",
+            EmmFault::Mixed => "mixed",
+        }
+    }
 }

@@ -18,7 +18,7 @@ use Rattle.sd_ecm.specs.declared.part.EcmPart.{EcmPart}
 use Rattle.sd_ecm.specs.declared.fault.EcmFault.{EcmFault}
 use Rattle.sd_monitor.specs.Lines.{run_member, name_data, emm_data, place_data, ecm_data, fault_data, emm_told}
 use Rattle.sd_monitor.specs.Lines.{ecm_told}
-use Rattle.sd_monitor.specs.Lines.{emm_fault_word, ecm_fault_word, message_data}
+use Rattle.sd_monitor.specs.Lines.{message_data}
 
 plain_names : (names : List SetName) → items_have_float (items_of (map name_data names)) ≡ false
 unfolding name_data
@@ -54,12 +54,12 @@ IsPlain found = IfSome found (λ shown. has_float shown ≡ false)
 plain_read_emm : (packet pid : ℕ) (read : Result (Option Emm) EmmFault) → IsPlain (emm_told packet pid read)
 plain_read_emm packet pid (Ok None) = tt
 plain_read_emm packet pid (Ok (Some emm)) = plain_emm packet pid emm
-plain_read_emm packet pid (Err fault) = plain_fault (emm_fault_word fault) (codes "emm") packet pid
+plain_read_emm packet pid (Err fault) = plain_fault (emm_fault_name fault) (codes "emm") packet pid
 
 plain_read_ecm : (packet pid : ℕ) (read : Result (Option EcmPart) EcmFault) → IsPlain (ecm_told packet pid read)
 plain_read_ecm packet pid (Ok None) = tt
 plain_read_ecm packet pid (Ok (Some part)) = plain_ecm packet pid part
-plain_read_ecm packet pid (Err fault) = plain_fault (ecm_fault_word fault) (codes "ecm") packet pid
+plain_read_ecm packet pid (Err fault) = plain_fault (ecm_fault_name fault) (codes "ecm") packet pid
 
 by_pid : (emm ecm : Bool) (a b : Option Data) → IsPlain a → IsPlain b → IsPlain (cond emm a (cond ecm b None))
 by_pid true ecm a b p q = p

@@ -13,13 +13,13 @@ use Rattle.sd_emm.specs.Spelled.{listed_entries as entries_of, names_in}
 use Rattle.sd_emm.specs.Judged.{emm_read}
 use Rattle.sd_emm.specs.declared.emm.Emm.{Emm}
 use Rattle.sd_emm.specs.declared.fault.EmmFault.{EmmFault}
-use Rattle.sd_emm.specs.declared.fault.EmmFault.TheVariants as emm
+use Rattle.sd_emm.specs.Faults.{emm_fault_name}
 use Rattle.sd_ecm.specs.Spelled.{listed_places as places_of}
 use Rattle.sd_ecm.specs.Judged.{ecm_read}
 use Rattle.sd_ecm.specs.declared.part.Place.{Place}
 use Rattle.sd_ecm.specs.declared.part.EcmPart.{EcmPart}
 use Rattle.sd_ecm.specs.declared.fault.EcmFault.{EcmFault}
-use Rattle.sd_ecm.specs.declared.fault.EcmFault.TheVariants as ecm
+use Rattle.sd_ecm.specs.Faults.{ecm_fault_name}
 use Rattle.sd_tables_line.specs.Lines.{num, list_data}
 
 -- the name of a set, as `cover` prints it [this project, docs/FORMATS.md, Cover]
@@ -79,20 +79,6 @@ ecm_data packet pid part = object
     (member (codes "word") (num part.word)
     no_members)))))))))))))))
 
--- the words for what is wrong with a section [this project, docs/FORMATS.md, Receiver]
-abbrev pub emm_fault_word : EmmFault → List ℕ
-emm_fault_word emm.Count = codes "count"
-emm_fault_word emm.Order = codes "order"
-emm_fault_word emm.Node = codes "node"
-emm_fault_word emm.Mixed = codes "mixed"
-
-abbrev pub ecm_fault_word : EcmFault → List ℕ
-ecm_fault_word ecm.Count = codes "count"
-ecm_fault_word ecm.Order = codes "order"
-ecm_fault_word ecm.Pid = codes "pid"
-ecm_fault_word ecm.Mixed = codes "mixed"
-ecm_fault_word ecm.Back = codes "back"
-
 -- what is shown of a faulty section of this table [this project, docs/FORMATS.md, Messages printed]
 unfoldable pub fault_data : List ℕ → List ℕ → ℕ → ℕ → Data
 fault_data fault table packet pid = object
@@ -106,12 +92,12 @@ fault_data fault table packet pid = object
 abbrev pub emm_told : ℕ → ℕ → Result (Option Emm) EmmFault → Option Data
 emm_told packet pid (Ok None) = None
 emm_told packet pid (Ok (Some emm)) = Some (emm_data packet pid emm)
-emm_told packet pid (Err fault) = Some (fault_data (emm_fault_word fault) (codes "emm") packet pid)
+emm_told packet pid (Err fault) = Some (fault_data (emm_fault_name fault) (codes "emm") packet pid)
 
 abbrev pub ecm_told : ℕ → ℕ → Result (Option EcmPart) EcmFault → Option Data
 ecm_told packet pid (Ok None) = None
 ecm_told packet pid (Ok (Some part)) = Some (ecm_data packet pid part)
-ecm_told packet pid (Err fault) = Some (fault_data (ecm_fault_word fault) (codes "ecm") packet pid)
+ecm_told packet pid (Err fault) = Some (fault_data (ecm_fault_name fault) (codes "ecm") packet pid)
 
 -- what is shown of packet k, if it is on one of the site's two PIDs and has a message, good or faulty
 -- [this project, docs/FORMATS.md, Messages printed]

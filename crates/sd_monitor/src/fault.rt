@@ -1,9 +1,7 @@
 ghost use Rattle.std.specs.Prelude.{◌≡◌, IfOk};
 ghost use Rattle.serde_json.specs.View.{view};
-ghost use Rattle.sd_monitor.specs.Lines.{fault_data, emm_fault_word, ecm_fault_word};
+ghost use Rattle.sd_monitor.specs.Lines.{fault_data};
 
-use sd_ecm::EcmFault;
-use sd_emm::EmmFault;
 use sd_tables_line::object_of;
 use serde_json::Value;
 use std::alloc::{AllocError, Global};
@@ -28,29 +26,4 @@ pub(crate) fn fault_value(
         ("table", table),
     ]?;
     object_of(alloc, members)
-}
-
-// The word for a fault of a section of entitlements.
-pub(crate) fn emm_word(fault: EmmFault) -> &'static str
-    ensures { result.now ≡ emm_fault_word fault }
-{
-    match fault {
-        EmmFault::Count => "count",
-        EmmFault::Order => "order",
-        EmmFault::Node => "node",
-        EmmFault::Mixed => "mixed",
-    }
-}
-
-// The word for a fault of a part of a control message.
-pub(crate) fn ecm_word(fault: EcmFault) -> &'static str
-    ensures { result.now ≡ ecm_fault_word fault }
-{
-    match fault {
-        EcmFault::Count => "count",
-        EcmFault::Order => "order",
-        EcmFault::Pid => "pid",
-        EcmFault::Mixed => "mixed",
-        EcmFault::Back => "back",
-    }
 }

@@ -8,7 +8,7 @@ ghost use Rattle.sd_monitor.specs.Lines.{ecm_told, emm_told, line_with, message_
 
 use crate::ecm::ecm_value;
 use crate::emm::emm_value;
-use crate::fault::{ecm_word, emm_word, fault_value};
+use crate::fault::fault_value;
 use sd_ecm::read_ecm;
 use sd_emm::read_emm;
 use sd_packet::Packet;
@@ -78,7 +78,7 @@ fn told_emm(
     match read_emm(h, packet) {
         Ok(None) => Ok(None),
         Ok(Some(emm)) => Ok(Some(emm_value(alloc, number, pid, &emm)?)),
-        Err(fault) => Ok(Some(fault_value(alloc, emm_word(fault), "emm", number, pid)?)),
+        Err(fault) => Ok(Some(fault_value(alloc, fault.name(), "emm", number, pid)?)),
     }
 }
 
@@ -94,6 +94,6 @@ fn told_ecm(
     match read_ecm(packet) {
         Ok(None) => Ok(None),
         Ok(Some(part)) => Ok(Some(ecm_value(alloc, number, pid, &part)?)),
-        Err(fault) => Ok(Some(fault_value(alloc, ecm_word(fault), "ecm", number, pid)?)),
+        Err(fault) => Ok(Some(fault_value(alloc, fault.name(), "ecm", number, pid)?)),
     }
 }
