@@ -1,6 +1,7 @@
 use crate::due::{CLEAR, COUNTERS, Layout, Thing, ending, is_confirmed};
 use crate::ends::{broadcast, received};
 use sd_packet::pack_section;
+use sd_test_texts::site_start;
 use std::alloc::{AllocError, Global};
 use std::test::Fail;
 
@@ -26,9 +27,9 @@ fn site(alloc: Global, layout: Layout, span: u32) -> Result<String, AllocError> 
         ..
     } = layout;
     let last_word = first_word.wrapping_add(1);
+    let start = site_start!("ecm-every 2\ncrypto-ecms 2\n");
     format!(in alloc;
-        "height 3\nmaster 000102030405060708090a0b0c0d0e0f101112131415161718191a1b1c1d1e1f\n\
-        ca 1234\nemm 496\necm 497\necm-every 2\ncrypto-ecms 2\nperiod-cryptos {span}\nmessages {version}\n\
+        "{start}period-cryptos {span}\nmessages {version}\n\
         first-word {first_word}\nlast-word {last_word}\nfirst-period {first}\n"
     )
 }
