@@ -1,5 +1,6 @@
 -- Public meaning: what a clear packet becomes.
-use Rattle.std.specs.Prelude.{ℕ, ◌%◌, ◌==◌, List, length, is_none, if◌then◌else◌}
+use Rattle.std.specs.Prelude.{◌%◌, ◌==◌, length, is_none, if◌then◌else◌}
+use Rattle.sd_spec_types.specs.Types.{Packet, Packets, Position, WordNumber}
 use Rattle.sd_packet.specs.Header.{pid_of}
 use Rattle.sd_packet.specs.Positions.{moved, position_of}
 use Rattle.sd_label.specs.Keys.{control_word_of}
@@ -14,28 +15,28 @@ use Rattle.sd_spec_broadcast.specs.declared.kind.Kind.{Kind}
 use Rattle.sd_spec_broadcast.specs.declared.kind.Kind.TheVariants.{Passed, Pmt, Scrambled}
 
 -- the parity of a control word's number
-abbrev pub parity_of : ℕ → Parity
+abbrev pub parity_of : WordNumber → Parity
 parity_of t = if t % 2 == 0 then Even else Odd
 
 -- the packet's own position after these packets [this project, docs/FORMATS.md, Positions]
-abbrev pub place_after : List (List ℕ) → List ℕ → ℕ
+abbrev pub place_after : Packets → Packet → Position
 place_after before packet = moved (pid_of packet) (position_of (pid_of packet) before) packet
 
 -- a PMT with the project's CA_descriptor, where it can be rewritten
-unfoldable pub pmt_carried : SiteFields → List ℕ → List ℕ
+unfoldable pub pmt_carried : SiteFields → Packet → Packet
 pmt_carried site packet = if is_none (rewrite_fault packet) then rewritten site.ca site.ecm packet else packet
 
 -- the packet under the control word of number t, at this position
-unfoldable pub veiled : SiteFields → ℕ → ℕ → List ℕ → List ℕ
+unfoldable pub veiled : SiteFields → WordNumber → Position → Packet → Packet
 veiled site t position packet = scrambled packet (control_word_of site.master t) position (parity_of t)
 
 -- what a packet of this kind becomes after these packets
-abbrev pub carried_as : Kind → SiteFields → List (List ℕ) → List ℕ → List ℕ
+abbrev pub carried_as : Kind → SiteFields → Packets → Packet → Packet
 carried_as Passed site before packet = packet
 carried_as Pmt site before packet = pmt_carried site packet
 carried_as Scrambled site before packet =
     veiled site (word_of site (length before)) (place_after before packet) packet
 
 -- what a packet becomes after these packets [this project, docs/FORMATS.md, Broadcast]
-unfoldable pub carried : SiteFields → List (List ℕ) → List ℕ → List ℕ
+unfoldable pub carried : SiteFields → Packets → Packet → Packet
 carried site before packet = carried_as (kind_of before packet) site before packet

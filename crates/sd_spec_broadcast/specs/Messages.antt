@@ -1,5 +1,6 @@
 -- Public meaning: what the messages of a broadcast say.
-use Rattle.std.specs.Prelude.{ℕ, Bool, List, length, map}
+use Rattle.std.specs.Prelude.{Bool, List, length, map}
+use Rattle.sd_spec_types.specs.Types.{Packets, PeriodNumber, PacketNumber, MessageNumber}
 use Rattle.sd_tree.specs.declared.set.SetName.{SetName}
 use Rattle.sd_label.specs.Keys.{key_of, period_key_of, control_word_of, check_value_of}
 use Rattle.sd_packet.specs.Positions.{position_of}
@@ -13,11 +14,11 @@ use Rattle.sd_spec_broadcast.specs.Plan.{Plan, sets_at, word_of, period_of, sinc
 use Rattle.sd_spec_broadcast.specs.Kinds.{moved_pids}
 
 -- a set of period q, and the period key under the set's key [this project, docs/FORMATS.md, Keys and labels]
-unfoldable pub entry_of : SiteFields → ℕ → SetName → Entry
+unfoldable pub entry_of : SiteFields → PeriodNumber → SetName → Entry
 entry_of site q name = record { name = name; wrapped = under (key_of site.master name) q (period_key_of site.master q) }
 
 -- the entitlements of period q [this project, docs/FORMATS.md, Messages]
-unfoldable pub period_at : Plan → ℕ → Period
+unfoldable pub period_at : Plan → PeriodNumber → Period
 period_at plan q = record {
   run = run_name_of plan.site;
   number = q;
@@ -26,12 +27,12 @@ period_at plan q = record {
 }
 
 -- the positions after these packets, of all PIDs that have moved [this project, docs/FORMATS.md, Messages]
-unfoldable pub places_after : List (List ℕ) → List Place
+unfoldable pub places_after : Packets → List Place
 places_after before = map (λ pid. record { pid = pid; position = position_of pid before }) (moved_pids before)
 
 -- control message number a after these packets, with the control word and the period of packet k [this project,
 -- docs/FORMATS.md, Broadcast]
-unfoldable pub message_at : Plan → List (List ℕ) → ℕ → ℕ → Bool → Message
+unfoldable pub message_at : Plan → Packets → MessageNumber → PacketNumber → Bool → Message
 message_at plan before a k closing = record {
   version = plan.site.messages;
   number = a;

@@ -1,10 +1,11 @@
 -- Public meaning: what the events of a field are about.
 use Rattle.std.specs.Prelude.{ℕ, suc, ◌^◌, Bool, true, false, nat_lt, if◌then◌else◌}
+use Rattle.sd_spec_types.specs.Types.{Height}
 use Rattle.sd_spec_field.specs.declared.event.Event.{Event}
 use Rattle.sd_spec_field.specs.declared.event.Event.TheVariants.{Subscribe, Revoke, Send, Offer, Lose, Off, On}
 
 -- the event's leaf, if it has one, is a leaf of a tree of height d
-abbrev pub is_of : ℕ → Event → Bool
+abbrev pub is_of : Height → Event → Bool
 is_of d (Subscribe u) = nat_lt u (2 ^ d)
 is_of d (Revoke u) = nat_lt u (2 ^ d)
 is_of d Send = true

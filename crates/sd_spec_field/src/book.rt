@@ -1,6 +1,7 @@
 //! The book that the events of a field make, and what is sent by it. Events are listed with the newest first.
 
 ghost use Rattle.std.specs.Prelude.{◌≡◌, ◌⊎◌, ◌+◌, ◌^◌, ◌<◌, ◌≤◌, ◌++◌, ℕ, true, List, All, count_by, length, max, min};
+ghost use Rattle.sd_spec_types.specs.Types.{Packets, Height, PeriodNumber, PacketNumber};
 ghost use Rattle.sd_site.specs.Fields.{SiteFields, AreInRange};
 ghost use Rattle.sd_book.specs.declared.command.Command.{Command};
 ghost use Rattle.sd_book.specs.Limits.{most_periods};
@@ -28,7 +29,7 @@ pub fn commands_are_of_later_periods()
     ensures above { (site : SiteFields) (k : ℕ) → 0 < k → reached site k < period_after site k }
     ensures next { (site : SiteFields) (k : ℕ) → 0 < k → period_after site k ≤ most_periods →
         period_after site k ≡ reached site k + 1 }
-    ensures rise { (site : SiteFields) (j k : ℕ) → AreInRange site → j ≤ k →
+    ensures rise { (site : SiteFields) (j : PacketNumber) (k : ℕ) → AreInRange site → j ≤ k →
         (reached site j ≤ reached site k) × (period_after site j ≤ period_after site k) }
     ensures step { (site : SiteFields) (k : ℕ) → AreInRange site → 0 < k →
         (reached site (k + 1) ≤ reached site k + 1) × (period_after site (k + 1) ≤ period_after site k + 1) }
@@ -37,10 +38,11 @@ pub fn commands_are_of_later_periods()
 /// A filled book ends with the period that it is filled to, or with a later one that it had. To fill it twice is to
 /// fill it once. The commands that decide its periods stay.
 pub fn periods_fill_books()
-    ensures last { (q : ℕ) (book : List Command) → last_period (with_periods_to q book) ≡ max q (last_period book) }
-    ensures again { (p q : ℕ) (book : List Command) → p ≤ q →
+    ensures last { (q : PeriodNumber) (book : List Command) →
+        last_period (with_periods_to q book) ≡ max q (last_period book) }
+    ensures again { (p q : PeriodNumber) (book : List Command) → p ≤ q →
         with_periods_to q (with_periods_to p book) ≡ with_periods_to q book }
-    ensures keeps { (p q : ℕ) (book : List Command) → q ≤ last_period book →
+    ensures keeps { (p q : PeriodNumber) (book : List Command) → q ≤ last_period book →
         commands_until q (with_periods_to p book) ≡ commands_until q book }
 {}
 
@@ -58,9 +60,9 @@ pub fn event_books_go_on()
 /// At most 524,288 events of a tree of height at most 6 make a book within the limits. Each front of it may be the
 /// front of a book, and the site with it is a plan.
 pub fn event_books_fit()
-    ensures fits { (site : SiteFields) (m d : ℕ) (past : List Event) → d ≤ 6 → length past ≤ 524288 →
+    ensures fits { (site : SiteFields) (m : ℕ) (d : Height) (past : List Event) → d ≤ 6 → length past ≤ 524288 →
         All (λ event. is_of d event ≡ true) past → IsWithinLimits d (event_book site m past) }
-    ensures fronts { (site : SiteFields) (m d : ℕ) (past : List Event) (front rest : List Command) → d ≤ 6 →
+    ensures fronts { (site : SiteFields) (m : ℕ) (d : Height) (past : List Event) (front rest : List Command) → d ≤ 6 →
         length past ≤ 524288 → All (λ event. is_of d event ≡ true) past →
         event_book site m past ≡ front ++ rest → IsDraft d front }
     ensures plan { (site : SiteFields) (m : ℕ) (past : List Event) → AreInRange site → site.ca < 2 ^ 16 →
@@ -71,7 +73,7 @@ pub fn event_books_fit()
 /// The commands of each period of the book are the accepted ones of that period, in the order of their events. The last
 /// period is the greatest of the accepted commands' periods and of the one that the book has to have.
 pub fn commands_are_in_their_periods()
-    ensures turn { (site : SiteFields) (m : ℕ) (past : List Event) (q : ℕ) → AreInRange site →
+    ensures turn { (site : SiteFields) (m : ℕ) (past : List Event) (q : PeriodNumber) → AreInRange site →
         commands_in (event_book site m past) q ≡ commands_of q (accepted site m past) }
     ensures last { (site : SiteFields) (m : ℕ) (past : List Event) → AreInRange site →
         last_period (event_book site m past)
@@ -81,9 +83,11 @@ pub fn commands_are_in_their_periods()
 /// The number of a sent packet's period depends on no command. It is a period that the book has to have, or the site's
 /// first period, above all that a book can have, whose leaves are those of the book's last.
 pub fn periods_of_packets_stay()
-    ensures period { (site : SiteFields) (m : ℕ) (past : List Event) (j : ℕ) → AreInRange site → j < sends m past →
+    ensures period { (site : SiteFields) (m : ℕ) (past : List Event) (j : PacketNumber) → AreInRange site →
+        j < sends m past →
         period_of (plan_after site m past) j ≡ max site.first_period (min (open_period site j) most_periods) }
-    ensures kept { (site : SiteFields) (m : ℕ) (past : List Event) (j : ℕ) → AreInRange site → j < sends m past →
+    ensures kept { (site : SiteFields) (m : ℕ) (past : List Event) (j : PacketNumber) → AreInRange site →
+        j < sends m past →
         (period_of (plan_after site m past) j ≤ reached site (sends m past))
         ⊎ ((most_periods < period_of (plan_after site m past) j) × (reached site (sends m past) ≡ most_periods)
         × (last_period (event_book site m past) ≡ most_periods)) }
@@ -92,7 +96,8 @@ pub fn periods_of_packets_stay()
 /// Later events change nothing of what decides the periods that the book has to have.
 #[tactic(auto, using(crate::proofs::Books::later_events))]
 pub fn reached_periods_stay()
-    ensures { (site : SiteFields) (m : ℕ) (later past : List Event) (q : ℕ) → AreInRange site → 0 < sends m past →
+    ensures { (site : SiteFields) (m : ℕ) (later past : List Event) (q : PeriodNumber) → AreInRange site →
+        0 < sends m past →
         q ≤ reached site (sends m past) →
         commands_until q (event_book site m (later ++ past)) ≡ commands_until q (event_book site m past) }
 {}
@@ -100,7 +105,7 @@ pub fn reached_periods_stay()
 /// Of one site, plans that have the same period for each clear packet, and the same sets in it, send the same packets.
 #[tactic(auto, using(crate::proofs::Agreeing::plans_agree))]
 pub fn packets_depend_on_their_periods()
-    ensures { (a b : Plan) (clear : List (List ℕ)) → a.site ≡ b.site →
+    ensures { (a b : Plan) (clear : Packets) → a.site ≡ b.site →
         ((k : ℕ) → k < length clear → period_of a k ≡ period_of b k) →
         ((k : ℕ) → k < length clear → sets_at a (period_of a k) ≡ sets_at b (period_of b k)) →
         body a clear ≡ body b clear }
@@ -110,7 +115,7 @@ pub fn packets_depend_on_their_periods()
 /// book of the events so far makes.
 #[tactic(auto, using(crate::proofs::Agreeing::what_was_sent_stays))]
 pub fn what_was_sent_stays()
-    ensures { (site : SiteFields) (m : ℕ) (later past : List Event) (clear : List (List ℕ)) → AreInRange site →
+    ensures { (site : SiteFields) (m : ℕ) (later past : List Event) (clear : Packets) → AreInRange site →
         length clear ≤ sends m past →
         body (plan_after site m (later ++ past)) clear ≡ body (plan_after site m past) clear }
 {}

@@ -1,7 +1,8 @@
 -- Public meaning: what is written of the packets between two control messages.
-use Rattle.std.specs.Prelude.{ℕ, ◌+◌, ◌%◌, ◌==◌, ◌&&◌, ◌||◌, Bool, false, not, nat_le, List, [], ◌∷◌, ◌++◌}
+use Rattle.std.specs.Prelude.{◌+◌, ◌%◌, ◌==◌, ◌&&◌, ◌||◌, Bool, false, not, nat_le, List, [], ◌∷◌, ◌++◌}
 use Rattle.std.specs.Prelude.{find, is_none, if◌then◌else◌, Option, Some, None, option_map, Result, Ok, Err}
 use Rattle.std.specs.Option.{option_map_or}
+use Rattle.sd_spec_types.specs.Types.{Packet, Packets, Pid, Position, SystemId, Key, PacketNumber}
 use Rattle.sd_packet.specs.Header.{pid_of, scrambling_of}
 use Rattle.sd_packet.specs.Positions.{is_placed, first_position, moved_by}
 use Rattle.sd_psi.specs.Rewriting.{restored, restore_fault}
@@ -14,39 +15,39 @@ use Rattle.sd_ecm.specs.declared.part.Place.{Place}
 pub record Segment : Type 0 where
   pub first : Message
   pub last : Message
-  pub word : List ℕ
-  pub ca : ℕ
-  pub ecm : ℕ
-  pub packets : List (List ℕ)
+  pub word : Key
+  pub ca : SystemId
+  pub ecm : Pid
+  pub packets : Packets
 
 -- the position of a PID, if it is among these places
-unfoldable pub position_in : List Place → ℕ → Option ℕ
+unfoldable pub position_in : List Place → Pid → Option Position
 position_in places pid = option_map (λ place. place.position) (find (λ place. place.pid == pid) places)
 
 -- the tracked position of a PID after these packets, from that in the first message on [this project, docs/FORMATS.md,
 -- Receiver]
-unfoldable pub tracked : Message → ℕ → List (List ℕ) → ℕ
+unfoldable pub tracked : Message → Pid → Packets → Position
 tracked first pid packets = moved_by pid (option_map_or (λ p. p) (position_in first.places pid) first_position) packets
 
 -- the PID is confirmed: the second message's position is 0 to 15 above the tracked one [this project, docs/FORMATS.md,
 -- Receiver]
-unfoldable pub is_confirmed : Segment → ℕ → Bool
+unfoldable pub is_confirmed : Segment → Pid → Bool
 is_confirmed segment pid =
     option_map_or (λ position. nat_le (tracked segment.first pid segment.packets) position
     && nat_le position (tracked segment.first pid segment.packets + 15)) (position_in segment.last.places pid) false
 
 -- a packet in the clear as it is written: without the project's CA_descriptor if it is a PMT that has it
-unfoldable pub unmarked : Segment → List ℕ → List ℕ
+unfoldable pub unmarked : Segment → Packet → Packet
 unmarked segment packet =
     if is_placed packet && is_none (restore_fault segment.ca segment.ecm packet) then restored packet else packet
 
 -- the packet can't be one under the control word
-abbrev pub is_odd : Segment → List ℕ → Bool
+abbrev pub is_odd : Segment → Packet → Bool
 is_odd segment packet = not (is_placed packet) || not (scrambling_of packet == 2 + segment.first.word % 2)
 
 -- what is written of a buffered packet after those before it, one packet or none; or its number, if it is refused [this
 -- project, docs/FORMATS.md, Receiver]
-unfoldable pub judged : Segment → List (List ℕ) → ℕ × List ℕ → Result (List (List ℕ)) ℕ
+unfoldable pub judged : Segment → Packets → PacketNumber × Packet → Result Packets PacketNumber
 judged segment before held =
     if scrambling_of held.1 == 0 then Ok (unmarked segment held.1 ∷ [])
     else if is_odd segment held.1 then Err held.0
@@ -56,17 +57,17 @@ judged segment before held =
 
 -- what is written, and the number of the packet that is refused, if one is
 pub record Wrote : Type 0 where
-  pub packets : List (List ℕ)
-  pub refused : Option ℕ
+  pub packets : Packets
+  pub refused : Option PacketNumber
 
 -- what is written of a packet, and then of those after it, unless it is refused
-abbrev pub then_wrote : Result (List (List ℕ)) ℕ → Wrote → Wrote
+abbrev pub then_wrote : Result Packets PacketNumber → Wrote → Wrote
 then_wrote (Err n) rest = record { packets = []; refused = Some n }
 then_wrote (Ok packets) rest = record { packets = packets ++ rest.packets; refused = rest.refused }
 
 -- what is written of buffered packets after others, up to the first that is refused [this project, docs/FORMATS.md,
 -- Receiver]
-unfoldable pub written_from : Segment → List (List ℕ) → List (ℕ × List ℕ) → Wrote
+unfoldable pub written_from : Segment → Packets → List (PacketNumber × Packet) → Wrote
 written_from segment before [] = record { packets = []; refused = None }
 written_from segment before (held ∷ more) =
     then_wrote (judged segment before held) (written_from segment (before ++ held.1 ∷ []) more)

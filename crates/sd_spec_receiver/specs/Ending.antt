@@ -3,6 +3,7 @@ use Rattle.std.specs.Prelude.{ℕ, ◌+◌, ◌-◌, ◌^◌, ◌==◌, ◌&&◌
 use Rattle.std.specs.Prelude.{reverse, find, is_none, if◌then◌else◌, Option, Some, None}
 use Rattle.std.specs.List.{list_any, list_all, range_with_len}
 use Rattle.std.specs.Option.{option_map_or}
+use Rattle.sd_spec_types.specs.Types.{Packet, Packets, PeriodNumber}
 use Rattle.sd_card.specs.Fields.{CardFields}
 use Rattle.sd_emm.specs.declared.emm.Emm.{Emm}
 use Rattle.sd_spec_receiver.specs.declared.ending.Ending.{Ending}
@@ -15,11 +16,11 @@ use Rattle.sd_spec_receiver.specs.Runs.{is_turn}
 use Rattle.sd_spec_receiver.specs.Offered.{heard, offered}
 
 -- the periods of the complete messages, the oldest first
-unfoldable pub periods_told : List Heard → List ℕ
+unfoldable pub periods_told : List Heard → List PeriodNumber
 periods_told past = reverse (map (λ message. message.period) (messages past))
 
 -- no key of the period is known
-abbrev pub is_unkeyed : CardFields → List Heard → ℕ → Bool
+abbrev pub is_unkeyed : CardFields → List Heard → PeriodNumber → Bool
 is_unkeyed card past q = is_none (key_at card past q)
 
 -- there is a section, and one of each index that it says there is
@@ -29,11 +30,11 @@ are_all (emm ∷ sections) =
     list_all (λ x. list_any (λ other. other.index == x) (emm ∷ sections)) (range_with_len 0 emm.sections)
 
 -- all sections of the period were seen, and at least one
-abbrev pub is_all_seen : List Heard → ℕ → Bool
+abbrev pub is_all_seen : List Heard → PeriodNumber → Bool
 is_all_seen past q = are_all (seen q past)
 
 -- the ending by the first revoked period, the first period without a key, and the number of packets that are missing
-abbrev pub ending_with : Option ℕ → Option ℕ → ℕ → Ending
+abbrev pub ending_with : Option PeriodNumber → Option PeriodNumber → ℕ → Ending
 ending_with (Some q) other gaps = Revoked q
 ending_with None (Some q) gaps = Unheard q
 ending_with None None gaps = if nat_lt 0 gaps then Gaps gaps else Opened
@@ -83,19 +84,19 @@ joined earlier later =
     gaps_or (gaps_in earlier) (gaps_in later) (if nat_lt (rank_of later) (rank_of earlier) then later else earlier)
 
 -- a packet is the first message of another run
-unfoldable pub turns_at : CardFields → List (List ℕ) → List ℕ → Bool
+unfoldable pub turns_at : CardFields → Packets → Packet → Bool
 turns_at card past packet =
     option_map_or (λ tuning. is_turn (heard card past) (hears card.height tuning (length past) packet))
     (tuning_of card.ca past) false
 
 -- the number of packets that are written of the current run, after these packets
-unfoldable pub run_wrote : CardFields → List (List ℕ) → ℕ
+unfoldable pub run_wrote : CardFields → Packets → ℕ
 run_wrote card [] = 0
 run_wrote card (packet ∷ past) =
     (if turns_at card past packet then 0 else run_wrote card past) + length (offered card past packet).wrote
 
 -- the ending of the runs before the current one, together; Opened if there is none
-unfoldable pub ended_before : CardFields → List (List ℕ) → Ending
+unfoldable pub ended_before : CardFields → Packets → Ending
 ended_before card [] = Opened
 ended_before card (packet ∷ past) =
     if turns_at card past packet
@@ -104,7 +105,7 @@ ended_before card (packet ∷ past) =
 
 -- how a stream of these packets ends: NoCat if no CAT was taken, or else the ending of its runs, together [this
 -- project, docs/FORMATS.md, Receiver]
-unfoldable pub ending_of : CardFields → List (List ℕ) → Ending
+unfoldable pub ending_of : CardFields → Packets → Ending
 ending_of card past =
     if is_none (tuning_of card.ca past) then NoCat
     else joined (ended_before card past) (run_ending card (heard card past) (run_wrote card past))

@@ -1,5 +1,6 @@
 -- Public meaning: what a receiver hears: one thing for each packet after the CAT that it took.
-use Rattle.std.specs.Prelude.{ℕ, ◌==◌, List, if◌then◌else◌, Option, Some, None, Result, Ok, Err}
+use Rattle.std.specs.Prelude.{◌==◌, if◌then◌else◌, Option, Some, None, Result, Ok, Err}
+use Rattle.sd_spec_types.specs.Types.{Packet, Height, PacketNumber}
 use Rattle.sd_packet.specs.Header.{pid_of}
 use Rattle.sd_emm.specs.declared.emm.Emm.{Emm}
 use Rattle.sd_emm.specs.declared.fault.EmmFault.{EmmFault}
@@ -17,7 +18,7 @@ pub data Heard : Type 0 where
   Controls : EcmPart → Heard
   BadEmm : EmmFault → Heard
   BadEcm : EcmFault → Heard
-  Other : ℕ → List ℕ → Heard
+  Other : PacketNumber → Packet → Heard
 
 -- what a packet on the PID of entitlements is, by what is read of it
 abbrev pub heard_emm : Result (Option Emm) EmmFault → Heard
@@ -32,7 +33,7 @@ heard_ecm (Ok (Some part)) = Controls part
 heard_ecm (Err fault) = BadEcm fault
 
 -- what packet number n is to a receiver in a tree of height h [this project, docs/FORMATS.md, Receiver]
-unfoldable pub hears : ℕ → Tuning → ℕ → List ℕ → Heard
+unfoldable pub hears : Height → Tuning → PacketNumber → Packet → Heard
 hears h tuning n packet =
     if pid_of packet == 1 then Dropped
     else if pid_of packet == tuning.emm then heard_emm (emm_read h packet)

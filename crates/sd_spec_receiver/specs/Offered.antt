@@ -4,6 +4,7 @@ use Rattle.std.specs.Prelude.{◌++◌, length, map, bytes_eq, flat_map, if◌th
 use Rattle.std.specs.Prelude.{None}
 use Rattle.std.specs.List.{list_any}
 use Rattle.std.specs.Option.{option_map_or}
+use Rattle.sd_spec_types.specs.Types.{Packet, Packets, Key, PacketNumber}
 use Rattle.sd_label.specs.Keys.{check_value_of}
 use Rattle.sd_card.specs.Fields.{CardFields}
 use Rattle.sd_wrap.specs.Wrapping.{wrapped as under}
@@ -35,19 +36,19 @@ abbrev pub heard_more : List Heard → Heard → List Heard
 heard_more past thing = if is_closed (of_run past thing) then past else thing ∷ of_run past thing
 
 -- what is heard of the current run with packet n: nothing more if no CAT was taken
-abbrev pub heard_with : CardFields → Option Tuning → ℕ → List ℕ → List Heard → List Heard
+abbrev pub heard_with : CardFields → Option Tuning → PacketNumber → Packet → List Heard → List Heard
 heard_with card None n packet past = past
 heard_with card (Some tuning) n packet past = heard_more past (hears card.height tuning n packet)
 
 -- what is heard of the current run in these packets: nothing before the CAT is taken, and nothing of the run after its
 -- closing message. Both lists have the newest first
-unfoldable pub heard : CardFields → List (List ℕ) → List Heard
+unfoldable pub heard : CardFields → Packets → List Heard
 heard card [] = []
 heard card (packet ∷ past) = heard_with card (tuning_of card.ca past) (length past) packet (heard card past)
 
 -- the result of a packet that is offered: what is written, and why it is refused, if it is
 pub record Offering : Type 0 where
-  pub wrote : List (List ℕ)
+  pub wrote : Packets
   pub fault : Option StreamFault
 
 -- nothing is written, and the packet isn't refused
@@ -67,19 +68,19 @@ abbrev pub is_mixed : List Emm → Emm → Bool
 is_mixed sections emm = list_any (λ other. not (says_same other emm)) sections
 
 -- the result of a section in packet n that gives this key, or none
-abbrev pub key_offering : ℕ → Emm → Option (List ℕ) → Offering
+abbrev pub key_offering : PacketNumber → Emm → Option Key → Offering
 key_offering n emm None = no_offering
 key_offering n emm (Some key) =
     if bytes_eq (check_value_of key) emm.check then no_offering
     else refuses (Fault.WrongKey n emm.period (check_value_of key) emm.check)
 
 -- the result of a section in packet n, if its period's key is known, and if not
-abbrev pub key_if_none : ℕ → Emm → Option (List ℕ) → Option (List ℕ) → Offering
+abbrev pub key_if_none : PacketNumber → Emm → Option Key → Option Key → Offering
 key_if_none n emm (Some key) found = no_offering
 key_if_none n emm None found = key_offering n emm found
 
 -- the result of a section of entitlements in packet n, after what was heard before
-unfoldable pub emm_offering : CardFields → ℕ → List Heard → Emm → Offering
+unfoldable pub emm_offering : CardFields → PacketNumber → List Heard → Emm → Offering
 emm_offering card n past emm =
     if nat_lt emm.period (current past) then no_offering
     else if is_mixed (seen emm.period past) emm then refuses (Fault.BadEmm n Emms.Mixed)
@@ -127,7 +128,7 @@ is_back past b = nat_lt b.period (current past) || option_map_or (is_before b) (
 
 -- what is written between messages a and b, if this is the key of a's period: nothing without a key, and nothing if too
 -- many packets are buffered
-abbrev pub segment_wrote : CardFields → Tuning → Stretch → Message → Message → Option (List ℕ) → Wrote
+abbrev pub segment_wrote : CardFields → Tuning → Stretch → Message → Message → Option Key → Wrote
 segment_wrote card tuning stretch a b None = record { packets = []; refused = None }
 segment_wrote card tuning stretch a b (Some key) =
     if nat_lt most_held (length (held_in stretch)) then record { packets = []; refused = None }
@@ -149,7 +150,7 @@ stretch_wrote card tuning stretch (Some a) b =
 
 -- why packet n, which completes message b, is refused: the control word under the period's key has another check value
 -- than the message says
-abbrev pub word_fault : ℕ → Message → Option (List ℕ) → Option StreamFault
+abbrev pub word_fault : PacketNumber → Message → Option Key → Option StreamFault
 word_fault n b None = None
 word_fault n b (Some key) =
     if bytes_eq (check_value_of (under key b.word b.wrapped)) b.check then None
@@ -161,7 +162,7 @@ wrote_or wrote fault =
     record { wrote = wrote.packets; fault = option_map_or (λ n. Some (Fault.Parity n)) wrote.refused fault }
 
 -- the result of packet n, which completes a message, or none
-abbrev pub message_offering : CardFields → Tuning → ℕ → List Heard → Option Message → Offering
+abbrev pub message_offering : CardFields → Tuning → PacketNumber → List Heard → Option Message → Offering
 message_offering card tuning n past None = no_offering
 message_offering card tuning n past (Some b) =
     if is_back past b then refuses (Fault.BadEcm n Back)
@@ -169,13 +170,13 @@ message_offering card tuning n past (Some b) =
     (word_fault n b (key_at card past b.period))
 
 -- the result of packet n, if this is the fault of its part, and if there is none
-abbrev pub part_offering : ℕ → Option EcmFault → Offering → Offering
+abbrev pub part_offering : PacketNumber → Option EcmFault → Offering → Offering
 part_offering n None next = next
 part_offering n (Some fault) next = refuses (Fault.BadEcm n fault)
 
 -- the result of packet n, which is heard as this, after what was heard of its run [this project, docs/FORMATS.md,
 -- Receiver]
-abbrev pub heard_offering : CardFields → Tuning → ℕ → List Heard → Heard → Offering
+abbrev pub heard_offering : CardFields → Tuning → PacketNumber → List Heard → Heard → Offering
 heard_offering card tuning n past Dropped = no_offering
 heard_offering card tuning n past (Entitles emm) = emm_offering card n past emm
 heard_offering card tuning n past (Controls part) =
@@ -186,29 +187,29 @@ heard_offering card tuning n past (BadEcm fault) = refuses (Fault.BadEcm n fault
 heard_offering card tuning n past (Other k packet) = no_offering
 
 -- the result of packet n, which is heard as this and may begin another run, after what was heard of the current one
-abbrev pub run_offering : CardFields → Tuning → ℕ → List Heard → Heard → Offering
+abbrev pub run_offering : CardFields → Tuning → PacketNumber → List Heard → Heard → Offering
 run_offering card tuning n past thing =
     if is_closed (of_run past thing) then no_offering else heard_offering card tuning n (of_run past thing) thing
 
 -- the result of packet n: nothing if no CAT was taken
-abbrev pub tuned_offering : CardFields → Option Tuning → ℕ → List Heard → List ℕ → Offering
+abbrev pub tuned_offering : CardFields → Option Tuning → PacketNumber → List Heard → Packet → Offering
 tuned_offering card None n past packet = no_offering
 tuned_offering card (Some tuning) n past packet =
     run_offering card tuning n past (hears card.height tuning n packet)
 
 -- the result of a packet after these packets, of which the newest comes first
-unfoldable pub offered : CardFields → List (List ℕ) → List ℕ → Offering
+unfoldable pub offered : CardFields → Packets → Packet → Offering
 offered card past packet = tuned_offering card (tuning_of card.ca past) (length past) (heard card past) packet
 
 -- what is written of packets after others, up to the first that is refused
-unfoldable pub out_from : CardFields → List (List ℕ) → List (List ℕ) → List (List ℕ)
+unfoldable pub out_from : CardFields → Packets → Packets → Packets
 out_from card past [] = []
 out_from card past (packet ∷ packets) =
     (offered card past packet).wrote
     ++ (if is_none (offered card past packet).fault then out_from card (packet ∷ past) packets else [])
 
 -- why the first of these packets that is refused is refused, after others
-unfoldable pub break_from : CardFields → List (List ℕ) → List (List ℕ) → Option StreamFault
+unfoldable pub break_from : CardFields → Packets → Packets → Option StreamFault
 break_from card past [] = None
 break_from card past (packet ∷ packets) =
     option_map_or Some (offered card past packet).fault (break_from card (packet ∷ past) packets)

@@ -1,8 +1,9 @@
 -- Public meaning: control messages among what was heard, and what is between them. All lists of what was heard have the
 -- newest first.
-use Rattle.std.specs.Prelude.{ℕ, ◌+◌, ◌==◌, ◌&&◌, Bool, true, false, nat_le, nat_lt, max, List, [], ◌∷◌, flat_map}
+use Rattle.std.specs.Prelude.{◌+◌, ◌==◌, ◌&&◌, Bool, true, false, nat_le, nat_lt, max, List, [], ◌∷◌, flat_map}
 use Rattle.std.specs.Prelude.{reverse, if◌then◌else◌, Option, Some, None}
 use Rattle.std.specs.Option.{option_map_or}
+use Rattle.sd_spec_types.specs.Types.{Packet, PeriodNumber, PacketNumber}
 use Rattle.sd_emm.specs.declared.emm.Emm.{Emm}
 use Rattle.sd_ecm.specs.Spelled.{listed_places}
 use Rattle.sd_ecm.specs.Parts.{Message, message_of, ecm_head_of}
@@ -100,7 +101,7 @@ is_closed (heard ∷ past) = if is_closed past then true
     else option_map_or (λ message. message.closing) (completes past heard) false
 
 -- the period of what is heard: of a section, or of the message that it completes; else 0
-abbrev pub period_heard : List Heard → Heard → ℕ
+abbrev pub period_heard : List Heard → Heard → PeriodNumber
 period_heard past (Entitles emm) = emm.period
 period_heard past (Controls part) = option_map_or (λ message. message.period) (completes past (Controls part)) 0
 period_heard past Dropped = 0
@@ -110,12 +111,12 @@ period_heard past (Other n packet) = 0
 
 -- the current period: the greatest of a section of entitlements or a complete message [this project, docs/FORMATS.md,
 -- Receiver]
-unfoldable pub current : List Heard → ℕ
+unfoldable pub current : List Heard → PeriodNumber
 current [] = 0
 current (heard ∷ past) = max (period_heard past heard) (current past)
 
 -- the sections of period q with what comes: a section of q is seen if q isn't before the current period
-abbrev pub seen_with : ℕ → List Heard → Heard → List Emm → List Emm
+abbrev pub seen_with : PeriodNumber → List Heard → Heard → List Emm → List Emm
 seen_with q past (Entitles emm) sections = if (emm.period == q) && nat_le (current past) q then emm ∷ sections
     else sections
 seen_with q past Dropped sections = sections
@@ -125,12 +126,12 @@ seen_with q past (BadEcm fault) sections = sections
 seen_with q past (Other n packet) sections = sections
 
 -- the sections of period q that were seen, the newest first [this project, docs/FORMATS.md, Receiver]
-unfoldable pub seen : ℕ → List Heard → List Emm
+unfoldable pub seen : PeriodNumber → List Heard → List Emm
 seen q [] = []
 seen q (heard ∷ past) = seen_with q past heard (seen q past)
 
 -- the other packets with what comes, if that is one
-abbrev pub other_with : Heard → List (ℕ × List ℕ) → List (ℕ × List ℕ)
+abbrev pub other_with : Heard → List (PacketNumber × Packet) → List (PacketNumber × Packet)
 other_with (Other n packet) others = (n, packet) ∷ others
 other_with Dropped others = others
 other_with (Entitles emm) others = others
@@ -139,10 +140,10 @@ other_with (BadEmm fault) others = others
 other_with (BadEcm fault) others = others
 
 -- the other packets with their numbers, the newest first
-unfoldable pub others : List Heard → List (ℕ × List ℕ)
+unfoldable pub others : List Heard → List (PacketNumber × Packet)
 others [] = []
 others (heard ∷ past) = other_with heard (others past)
 
 -- the packets that are buffered after the newest message, in order
-abbrev pub held_in : Stretch → List (ℕ × List ℕ)
+abbrev pub held_in : Stretch → List (PacketNumber × Packet)
 held_in stretch = reverse (others stretch.after)

@@ -1,6 +1,7 @@
 -- Public meaning: how many packets take a period's key.
 use Rattle.std.specs.Prelude.{ℕ, ◌+◌, ◌&&◌, Bool, false, not, nat_le, List, [], ◌∷◌, length, is_none, if◌then◌else◌}
 use Rattle.std.specs.Option.{option_map_or}
+use Rattle.sd_spec_types.specs.Types.{Packet, Packets}
 use Rattle.sd_card.specs.Fields.{CardFields}
 use Rattle.sd_emm.specs.declared.emm.Emm.{Emm}
 use Rattle.sd_spec_receiver.specs.Tuned.{tuning_of}
@@ -31,14 +32,14 @@ takes_key_in card past thing =
     if is_closed (of_run past thing) then false else takes_key_of card (of_run past thing) thing
 
 -- a packet takes a key: it is heard as a section that does
-unfoldable pub takes_key_at : CardFields → List (List ℕ) → List ℕ → Bool
+unfoldable pub takes_key_at : CardFields → Packets → Packet → Bool
 takes_key_at card past packet =
     option_map_or
     (λ tuning. takes_key_in card (heard card past) (hears card.height tuning (length past) packet))
     (tuning_of card.ca past) false
 
 -- how many of these packets take a key, after others [this project, docs/FORMATS.md, Receiver]
-unfoldable pub taken_keys : CardFields → List (List ℕ) → List (List ℕ) → ℕ
+unfoldable pub taken_keys : CardFields → Packets → Packets → ℕ
 taken_keys card past [] = 0
 taken_keys card past (packet ∷ packets) =
     (if takes_key_at card past packet then 1 else 0) + taken_keys card (packet ∷ past) packets

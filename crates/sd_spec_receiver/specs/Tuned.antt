@@ -1,5 +1,6 @@
 -- Public meaning: the CAT that a receiver takes.
-use Rattle.std.specs.Prelude.{ℕ, List, [], ◌∷◌, Option, Some, None}
+use Rattle.std.specs.Prelude.{[], ◌∷◌, Option, Some, None}
+use Rattle.sd_spec_types.specs.Types.{Packets, SystemId}
 use Rattle.sd_psi.specs.OurCat.{cat_tuning}
 use Rattle.sd_psi.specs.declared.our_cat.Tuning.{Tuning}
 
@@ -9,6 +10,6 @@ tuned_by (Some tuning) other = Some tuning
 tuned_by None other = other
 
 -- what the first CAT among these packets says, the newest packet first [this project, docs/FORMATS.md, Receiver]
-unfoldable pub tuning_of : ℕ → List (List ℕ) → Option Tuning
+unfoldable pub tuning_of : SystemId → Packets → Option Tuning
 tuning_of ca [] = None
 tuning_of ca (packet ∷ past) = tuned_by (tuning_of ca past) (cat_tuning ca packet)
