@@ -9,10 +9,12 @@ use Rattle.sd_packet.specs.Header.{pid_of}
 use Rattle.sd_site.specs.Fields.{SiteFields}
 use Rattle.sd_emm.specs.Spelled.{listed_entries as entries_of, names_in}
 use Rattle.sd_emm.specs.Judged.{emm_read}
+use Rattle.sd_emm.specs.Faults.{emm_fault_name}
 use Rattle.sd_emm.specs.declared.emm.Emm.{Emm}
 use Rattle.sd_emm.specs.declared.fault.EmmFault.{EmmFault}
 use Rattle.sd_ecm.specs.Spelled.{listed_places as places_of}
 use Rattle.sd_ecm.specs.Judged.{ecm_read}
+use Rattle.sd_ecm.specs.Faults.{ecm_fault_name}
 use Rattle.sd_ecm.specs.declared.part.Place.{Place}
 use Rattle.sd_ecm.specs.declared.part.EcmPart.{EcmPart}
 use Rattle.sd_ecm.specs.declared.fault.EcmFault.{EcmFault}
