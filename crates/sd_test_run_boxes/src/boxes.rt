@@ -1,20 +1,22 @@
-use crate::broadcasts::{LONG, P1, P2, Q2, R1, R2, R3, file, has_digest, shelf};
+use crate::broadcasts::{
+    FIRST, LONG, OLDER_FIRST, OLDER_SECOND, SECOND, SECOND_REVOKING, THIRD, file, has_digest, shelf,
+};
 use crate::receptions::{Row, is_due};
 use std::alloc::AllocError;
 
 // Whole broadcasts of version 3 one behind the other.
 static WHOLE: [Row; 4] = [
     Row {
-        stream: &[("R1", &[]), ("R2", &[])],
+        stream: &[("first", &[]), ("second", &[])],
         card: "card-0",
         exit: 0,
         line: "",
         packets: 1200,
-        clear: &[("C7", &[]), ("C8", &[])],
+        clear: &[("clear-7", &[]), ("clear-8", &[])],
         digest: "5990ffa2d2757bdea54bfc9384c19eab",
     },
     Row {
-        stream: &[("R1", &[]), ("R2", &[]), ("R3", &[])],
+        stream: &[("first", &[]), ("second", &[]), ("third", &[])],
         card: "card-0",
         exit: 0,
         line: "",
@@ -23,21 +25,21 @@ static WHOLE: [Row; 4] = [
         digest: "e8b2fbf995ac6ee0dc10bd0c4a34d9ad",
     },
     Row {
-        stream: &[("R3", &[]), ("R1", &[]), ("R2", &[])],
+        stream: &[("third", &[]), ("first", &[]), ("second", &[])],
         card: "card-0",
         exit: 0,
         line: "",
         packets: 1800,
-        clear: &[("C9", &[]), ("C7", &[]), ("C8", &[])],
+        clear: &[("clear-9", &[]), ("clear-7", &[]), ("clear-8", &[])],
         digest: "71c7533cf3e2ccdaa1460cf4c5310ba3",
     },
     Row {
-        stream: &[("R1", &[]), ("R3", &[])],
+        stream: &[("first", &[]), ("third", &[])],
         card: "card-0",
         exit: 0,
         line: "",
         packets: 1200,
-        clear: &[("C7", &[]), ("C9", &[])],
+        clear: &[("clear-7", &[]), ("clear-9", &[])],
         digest: "",
     },
 ];
@@ -45,21 +47,21 @@ static WHOLE: [Row; 4] = [
 // Broadcasts of version 2 one behind the other, and one of version 3 behind one of version 2.
 static OLDER: [Row; 2] = [
     Row {
-        stream: &[("P1", &[]), ("P2", &[])],
+        stream: &[("older-first", &[]), ("older-second", &[])],
         card: "card-0",
         exit: 0,
         line: "",
         packets: 600,
-        clear: &[("C7", &[])],
+        clear: &[("clear-7", &[])],
         digest: "",
     },
     Row {
-        stream: &[("P1", &[]), ("R2", &[])],
+        stream: &[("older-first", &[]), ("second", &[])],
         card: "card-0",
         exit: 0,
         line: "",
         packets: 1200,
-        clear: &[("C7", &[]), ("C8", &[])],
+        clear: &[("clear-7", &[]), ("clear-8", &[])],
         digest: "",
     },
 ];
@@ -68,25 +70,25 @@ static OLDER: [Row; 2] = [
 // first packets of the next one are lost too.
 static BROKEN: [Row; 4] = [
     Row {
-        stream: &[("R1", &[(607, 607)]), ("R2", &[])],
+        stream: &[("first", &[(607, 607)]), ("second", &[])],
         card: "card-0",
         exit: 14,
         line: "stream ends before message 3\n",
         packets: 1000,
-        clear: &[("C7", &[(400, 599)]), ("C8", &[])],
+        clear: &[("clear-7", &[(400, 599)]), ("clear-8", &[])],
         digest: "7434050c25bc53ab07f2a1259a1d6af1",
     },
     Row {
-        stream: &[("R1", &[(300, 607)]), ("R2", &[])],
+        stream: &[("first", &[(300, 607)]), ("second", &[])],
         card: "card-0",
         exit: 14,
         line: "stream ends before message 2\n",
         packets: 800,
-        clear: &[("C7", &[(200, 599)]), ("C8", &[])],
+        clear: &[("clear-7", &[(200, 599)]), ("clear-8", &[])],
         digest: "7c118e9fdc6989774a6dfa34320ed540",
     },
     Row {
-        stream: &[("P1", &[(300, 607)]), ("P2", &[])],
+        stream: &[("older-first", &[(300, 607)]), ("older-second", &[])],
         card: "card-0",
         exit: 15,
         line: "185 clear packets are missing\n",
@@ -95,7 +97,7 @@ static BROKEN: [Row; 4] = [
         digest: "",
     },
     Row {
-        stream: &[("R1", &[(300, 607)]), ("R2", &[(0, 100)])],
+        stream: &[("first", &[(300, 607)]), ("second", &[(0, 100)])],
         card: "card-0",
         exit: 14,
         line: "stream ends before message 2\n",
@@ -108,30 +110,30 @@ static BROKEN: [Row; 4] = [
 // A receiver that is revoked in the second broadcast or in the first, and one that is revoked in none.
 static REVOKED: [Row; 3] = [
     Row {
-        stream: &[("R1", &[]), ("Q2", &[])],
+        stream: &[("first", &[]), ("second-revoking", &[])],
         card: "card-5",
         exit: 3,
         line: "receiver 5 is revoked in period 1\n",
         packets: 600,
-        clear: &[("C7", &[])],
+        clear: &[("clear-7", &[])],
         digest: "",
     },
     Row {
-        stream: &[("R1", &[]), ("Q2", &[])],
+        stream: &[("first", &[]), ("second-revoking", &[])],
         card: "card-0",
         exit: 0,
         line: "",
         packets: 1200,
-        clear: &[("C7", &[]), ("C8", &[])],
+        clear: &[("clear-7", &[]), ("clear-8", &[])],
         digest: "",
     },
     Row {
-        stream: &[("Q2", &[]), ("R3", &[])],
+        stream: &[("second-revoking", &[]), ("third", &[])],
         card: "card-5",
         exit: 3,
         line: "receiver 5 is revoked in period 1\n",
         packets: 600,
-        clear: &[("C9", &[])],
+        clear: &[("clear-9", &[])],
         digest: "",
     },
 ];
@@ -140,25 +142,33 @@ static REVOKED: [Row; 3] = [
 // messages and packets of two broadcasts, whose gaps add up.
 static LOSSES: [Row; 3] = [
     Row {
-        stream: &[("R1", &[]), ("R2", &[(1, 1)])],
+        stream: &[("first", &[]), ("second", &[(1, 1)])],
         card: "card-0",
         exit: 15,
         line: "400 clear packets are missing\n",
         packets: 800,
-        clear: &[("C7", &[]), ("C8", &[(0, 399)])],
+        clear: &[("clear-7", &[]), ("clear-8", &[(0, 399)])],
         digest: "1561255740d23714ca38b4e5cc20c549",
     },
     Row {
-        stream: &[("R1", &[]), ("R2", &[(1, 1), (405, 405)]), ("R3", &[])],
+        stream: &[
+            ("first", &[]),
+            ("second", &[(1, 1), (405, 405)]),
+            ("third", &[]),
+        ],
         card: "card-0",
         exit: 13,
         line: "receiver 0 did not hear its entitlement for period 1\n",
         packets: 1200,
-        clear: &[("C7", &[]), ("C9", &[])],
+        clear: &[("clear-7", &[]), ("clear-9", &[])],
         digest: "",
     },
     Row {
-        stream: &[("R1", &[(203, 223)]), ("R2", &[(3, 23)]), ("R3", &[])],
+        stream: &[
+            ("first", &[(203, 223)]),
+            ("second", &[(3, 23)]),
+            ("third", &[]),
+        ],
         card: "card-0",
         exit: 15,
         line: "41 clear packets are missing\n",
@@ -170,24 +180,24 @@ static LOSSES: [Row; 3] = [
 
 // How the SHA-256 of the two long broadcasts begins.
 static SENT: [(&str, &str); 2] = [
-    ("T1", "f27b3d1c8e0af6427d2ede23d8095ac9"),
-    ("T2", "2b88b0270570a8a136dd3095b97feb40"),
+    ("long-first", "f27b3d1c8e0af6427d2ede23d8095ac9"),
+    ("long-second", "2b88b0270570a8a136dd3095b97feb40"),
 ];
 
 // A broadcast that broke off shortly before its second control message, with another one behind it: whole, and without
 // its CAT, its entitlements and its first control message, so that more packets are held than a receiver keeps.
 static HELD: [Row; 2] = [
     Row {
-        stream: &[("T1", &[(4090, 9999)]), ("T2", &[])],
+        stream: &[("long-first", &[(4090, 9999)]), ("long-second", &[])],
         card: "card-0",
         exit: 14,
         line: "stream ends before message 1\n",
         packets: 4200,
-        clear: &[("D8", &[])],
+        clear: &[("long-clear-8", &[])],
         digest: "",
     },
     Row {
-        stream: &[("T1", &[(4090, 9999)]), ("T2", &[(0, 2)])],
+        stream: &[("long-first", &[(4090, 9999)]), ("long-second", &[(0, 2)])],
         card: "card-0",
         exit: 14,
         line: "stream ends before message 1\n",
@@ -199,7 +209,7 @@ static HELD: [Row; 2] = [
 
 #[test]
 fn whole_broadcasts_are_written_in_any_order(rt: HostRuntime) -> Result<(), AllocError> {
-    let mut depot = shelf(rt.alloc(), &[R1, R2, R3])?;
+    let mut depot = shelf(rt.alloc(), &[FIRST, SECOND, THIRD])?;
     for row in &WHOLE {
         assert!(rt; is_due(rt.alloc(), &mut depot, row)?, "{row:?}");
     }
@@ -208,7 +218,7 @@ fn whole_broadcasts_are_written_in_any_order(rt: HostRuntime) -> Result<(), Allo
 
 #[test]
 fn only_version_3_names_its_broadcast(rt: HostRuntime) -> Result<(), AllocError> {
-    let mut depot = shelf(rt.alloc(), &[P1, P2, R2])?;
+    let mut depot = shelf(rt.alloc(), &[OLDER_FIRST, OLDER_SECOND, SECOND])?;
     for row in &OLDER {
         assert!(rt; is_due(rt.alloc(), &mut depot, row)?, "{row:?}");
     }
@@ -217,7 +227,7 @@ fn only_version_3_names_its_broadcast(rt: HostRuntime) -> Result<(), AllocError>
 
 #[test]
 fn broadcasts_that_broke_off_end_at_the_next(rt: HostRuntime) -> Result<(), AllocError> {
-    let mut depot = shelf(rt.alloc(), &[R1, R2, P1, P2])?;
+    let mut depot = shelf(rt.alloc(), &[FIRST, SECOND, OLDER_FIRST, OLDER_SECOND])?;
     for row in &BROKEN {
         assert!(rt; is_due(rt.alloc(), &mut depot, row)?, "{row:?}");
     }
@@ -226,7 +236,7 @@ fn broadcasts_that_broke_off_end_at_the_next(rt: HostRuntime) -> Result<(), Allo
 
 #[test]
 fn revocations_are_those_of_each_broadcast(rt: HostRuntime) -> Result<(), AllocError> {
-    let mut depot = shelf(rt.alloc(), &[R1, Q2, R3])?;
+    let mut depot = shelf(rt.alloc(), &[FIRST, SECOND_REVOKING, THIRD])?;
     for row in &REVOKED {
         assert!(rt; is_due(rt.alloc(), &mut depot, row)?, "{row:?}");
     }
@@ -235,7 +245,7 @@ fn revocations_are_those_of_each_broadcast(rt: HostRuntime) -> Result<(), AllocE
 
 #[test]
 fn losses_cost_their_own_broadcast_alone(rt: HostRuntime) -> Result<(), AllocError> {
-    let mut depot = shelf(rt.alloc(), &[R1, R2, R3])?;
+    let mut depot = shelf(rt.alloc(), &[FIRST, SECOND, THIRD])?;
     for row in &LOSSES {
         assert!(rt; is_due(rt.alloc(), &mut depot, row)?, "{row:?}");
     }

@@ -1,7 +1,8 @@
 use hex::FromHex;
 use sd_command_status::Status;
 use sd_ports::{MemDepot, MemSink};
-use sd_test_memory::{SITE, uncounted};
+use sd_test_memory::uncounted;
+use sd_test_texts::{BOOK, SITE, site, site_start};
 use sha2::{Digest, Sha256};
 use std::alloc::{AllocError, Global};
 
@@ -9,88 +10,79 @@ use std::alloc::{AllocError, Global};
 pub(crate) const PACKET: usize = 188;
 
 /// The commands of three broadcasts of version 3, of 600 clear packets each, with control words of their own.
-pub(crate) const R1: &str = "head 3.0-1.0 EMPTY C7 R1";
+pub(crate) const FIRST: &str = "head site-first empty clear-7 first";
 
-pub(crate) const R2: &str = "head 3.2-3.1 EMPTY C8 R2";
+pub(crate) const SECOND: &str = "head site-second empty clear-8 second";
 
-pub(crate) const R3: &str = "head 3.4-5.1 EMPTY C9 R3";
+pub(crate) const THIRD: &str = "head site-third empty clear-9 third";
 
-/// The command of the broadcast of R2 under a book that revokes leaf 5.
-pub(crate) const Q2: &str = "head 3.2-3.1 BOOK17 C8 Q2";
+/// The command of the second broadcast under a book that revokes leaf 5.
+pub(crate) const SECOND_REVOKING: &str = "head site-second book clear-8 second-revoking";
 
-/// The commands of two broadcasts of version 2, with the clear streams and the control words of R1 and R2.
-pub(crate) const P1: &str = "head 2.0-1.0 EMPTY C7 P1";
+/// The commands of two broadcasts of version 2, with the clear streams and the control words of the first two.
+pub(crate) const OLDER_FIRST: &str = "head site-older-first empty clear-7 older-first";
 
-pub(crate) const P2: &str = "head 2.2-3.1 EMPTY C8 P2";
+pub(crate) const OLDER_SECOND: &str = "head site-older-second empty clear-8 older-second";
 
 /// The commands of two broadcasts of 4,200 clear packets, whose second ECM is behind 4,096 of them.
 pub(crate) const LONG: [&str; 4] = [
-    "sample 7 4200 D7",
-    "sample 8 4200 D8",
-    "head 3.0-9.0 EMPTY D7 T1",
-    "head 3.10-19.0 EMPTY D8 T2",
+    "sample 7 4200 long-clear-7",
+    "sample 8 4200 long-clear-8",
+    "head site-long-first empty long-clear-7 long-first",
+    "head site-long-second empty long-clear-8 long-second",
 ];
 
-/// A site with a message before each 4,096th packet.
-const LONG_SITE: &[u8] = b"height 3
-master 000102030405060708090a0b0c0d0e0f101112131415161718191a1b1c1d1e1f
-ca 1234
-emm 496
-ecm 497
-ecm-every 4096
-crypto-ecms 1
-period-cryptos 1
-";
-
-// The sites, each with its name, its first lines and its further lines. The name 3.2-3.1 says `messages 3`,
-// `first-word 2`, `last-word 3` and `first-period 1`.
-static SITES: [(&str, &[u8], &str); 9] = [
-    ("A", SITE, ""),
-    ("4", SITE, "messages 4\n"),
+// The sites by their names: that of the cards, one that is refused, those of the broadcasts, and two with a message
+// before each 4,096th packet.
+static SITES: [(&str, &str); 9] = [
+    ("site", SITE),
+    ("site-version-4", site!("messages 4\n")),
     (
-        "3.0-1.0",
-        SITE,
-        "messages 3\nfirst-word 0\nlast-word 1\nfirst-period 0\n",
+        "site-first",
+        site!("messages 3\nfirst-word 0\nlast-word 1\nfirst-period 0\n"),
     ),
     (
-        "3.2-3.1",
-        SITE,
-        "messages 3\nfirst-word 2\nlast-word 3\nfirst-period 1\n",
+        "site-second",
+        site!("messages 3\nfirst-word 2\nlast-word 3\nfirst-period 1\n"),
     ),
     (
-        "3.4-5.1",
-        SITE,
-        "messages 3\nfirst-word 4\nlast-word 5\nfirst-period 1\n",
+        "site-third",
+        site!("messages 3\nfirst-word 4\nlast-word 5\nfirst-period 1\n"),
     ),
     (
-        "2.0-1.0",
-        SITE,
-        "messages 2\nfirst-word 0\nlast-word 1\nfirst-period 0\n",
+        "site-older-first",
+        site!("messages 2\nfirst-word 0\nlast-word 1\nfirst-period 0\n"),
     ),
     (
-        "2.2-3.1",
-        SITE,
-        "messages 2\nfirst-word 2\nlast-word 3\nfirst-period 1\n",
+        "site-older-second",
+        site!("messages 2\nfirst-word 2\nlast-word 3\nfirst-period 1\n"),
     ),
     (
-        "3.0-9.0",
-        LONG_SITE,
-        "messages 3\nfirst-word 0\nlast-word 9\nfirst-period 0\n",
+        "site-long-first",
+        site_start!(
+            "ecm-every 4096\ncrypto-ecms 1\nperiod-cryptos 1\n",
+            "messages 3\nfirst-word 0\nlast-word 9\nfirst-period 0\n"
+        ),
     ),
     (
-        "3.10-19.0",
-        LONG_SITE,
-        "messages 3\nfirst-word 10\nlast-word 19\nfirst-period 0\n",
+        "site-long-second",
+        site_start!(
+            "ecm-every 4096\ncrypto-ecms 1\nperiod-cryptos 1\n",
+            "messages 3\nfirst-word 10\nlast-word 19\nfirst-period 0\n"
+        ),
     ),
 ];
+
+// The books by their names.
+static BOOKS: [(&str, &str); 2] = [("empty", ""), ("book", BOOK)];
 
 // The clear streams and the cards of the leaves 0 and 5.
 static MADE: [&str; 5] = [
-    "sample 7 600 C7",
-    "sample 8 600 C8",
-    "sample 9 600 C9",
-    "card A 0 card-0",
-    "card A 5 card-5",
+    "sample 7 600 clear-7",
+    "sample 8 600 clear-8",
+    "sample 9 600 clear-9",
+    "card site 0 card-0",
+    "card site 5 card-5",
 ];
 
 /// The room for a file, and how many bytes are read and written at a time.
@@ -101,17 +93,9 @@ const PIECE: usize = 65_536;
 /// A file system with the sites, the books, the clear streams, the cards and what these commands make.
 pub(crate) fn shelf(alloc: Global, heads: &[&str]) -> Result<MemDepot, AllocError> {
     let mut depot = MemDepot::new(alloc, ROOM, PIECE).map_err(|_| AllocError)?;
-    for (name, first, lines) in &SITES {
-        let mut site = Vec::from_slice(alloc, first)?;
-        site.extend_from_slice(lines.as_bytes())?;
-        put(&mut depot, name, site)?;
+    for (name, text) in SITES.iter().chain(&BOOKS) {
+        put(&mut depot, name, Vec::from_slice(alloc, text.as_bytes())?)?;
     }
-    put(&mut depot, "EMPTY", Vec::new(alloc))?;
-    put(
-        &mut depot,
-        "BOOK17",
-        Vec::from_slice(alloc, b"period\nrevoke 5\n")?,
-    )?;
     for words in MADE.iter().chain(heads) {
         answered(alloc, &mut depot, words)?;
     }

@@ -1,21 +1,24 @@
-use crate::broadcasts::{PACKET, Q2, R1, R2, R3, answered, file, has_digest, shelf};
+use crate::broadcasts::{
+    FIRST, PACKET, SECOND, SECOND_REVOKING, THIRD, answered, file, has_digest, shelf,
+};
 use hex::FromHex;
 use std::alloc::AllocError;
 
 // How the SHA-256 of each broadcast begins.
 static DIGESTS: [(&str, &str); 4] = [
-    ("R1", "679a59b08113a95cefa8269607bcb6d1"),
-    ("R2", "45c1ff9a1cae889da935b1f2369f1c08"),
-    ("R3", "77605856f0824c8273c8d0971e0cdfe2"),
-    ("Q2", "24035fff67e7acb2da4153a006630422"),
+    ("first", "679a59b08113a95cefa8269607bcb6d1"),
+    ("second", "45c1ff9a1cae889da935b1f2369f1c08"),
+    ("third", "77605856f0824c8273c8d0971e0cdfe2"),
+    ("second-revoking", "24035fff67e7acb2da4153a006630422"),
 ];
 
-/// How the EMM section in packet 1 of R2 begins: its header, part, count of parts, period and number of sets, then the
-/// key check value, the run's name and the count of entries.
+/// How the EMM section in packet 1 of the second broadcast begins: its header, part, count of parts, period and number
+/// of sets, then the key check value, the run's name and the count of entries.
 const EMM: &str = "8ab0500000c1000000000001000000010001\
 1dcd30913b9a37b4772694d78c1d7f2f0000000201";
 
-// The packets of R2 with its ECMs: how each section begins, then t, and `since` with the run's name behind it.
+// The packets of the second broadcast with its ECMs: how each section begins, then t, and `since` with the run's name
+// behind it.
 static ECMS: [(usize, [u8; 3], [u8; 4], [u8; 8]); 4] = [
     (
         2,
@@ -51,7 +54,7 @@ const T: usize = 16;
 
 const SINCE: usize = 24;
 
-/// The line of the EMM section in packet 1 of R2.
+/// The line of the EMM section in packet 1 of the second broadcast.
 const EMM_LINE: &str =
     "{\"check\":\"1dcd30913b9a37b4772694d78c1d7f2f\",\"index\":0,\"names\":[\"all\"],\"packet\":1,\
 \"period\":1,\"pid\":496,\"run\":2,\"sections\":1,\"sets\":1,\"table\":\"emm\"}";
@@ -71,13 +74,13 @@ fn has(stream: &[u8], packet: usize, at: usize, due: &[u8]) -> bool {
 #[test]
 fn messages_name_their_run(rt: HostRuntime) -> Result<(), AllocError> {
     let alloc = rt.alloc();
-    let depot = shelf(alloc, &[R1, R2, R3, Q2])?;
+    let depot = shelf(alloc, &[FIRST, SECOND, THIRD, SECOND_REVOKING])?;
     for (name, digest) in &DIGESTS {
         let broadcast = file(alloc, &depot, name)?;
         assert_eq!(rt; broadcast.len(), 608 * PACKET, "{name}");
         assert!(rt; has_digest(&broadcast, digest), "{name}");
     }
-    let stream = file(alloc, &depot, "R2")?;
+    let stream = file(alloc, &depot, "second")?;
     let emm = <[u8; 39]>::from_hex(EMM).unwrap_or([0; 39]);
     assert!(rt; has(&stream, 1, 0, &emm));
     for (packet, first, t, since) in &ECMS {
@@ -91,12 +94,12 @@ fn messages_name_their_run(rt: HostRuntime) -> Result<(), AllocError> {
 #[test]
 fn lines_of_messages_have_the_run(rt: HostRuntime) -> Result<(), AllocError> {
     let alloc = rt.alloc();
-    let mut depot = shelf(alloc, &[R2])?;
-    let (status, printed) = answered(alloc, &mut depot, "messages 3.2-3.1 R2")?;
+    let mut depot = shelf(alloc, &[SECOND])?;
+    let (status, printed) = answered(alloc, &mut depot, "messages site-second second")?;
     assert_eq!(rt; status.code(), 0);
     let mut lines = printed.split(|byte| *byte == b'\n');
     assert!(rt; lines.next() == Some(EMM_LINE.as_bytes()));
-    let (status, printed) = answered(alloc, &mut depot, "head 4 EMPTY C7 O")?;
+    let (status, printed) = answered(alloc, &mut depot, "head site-version-4 empty clear-7 O")?;
     assert_eq!(rt; status.code(), 6);
     assert!(rt; printed.as_slice() == b"site line 9 is out of range\n".as_slice());
     Ok(())

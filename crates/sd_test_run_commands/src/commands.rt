@@ -2,7 +2,8 @@ ghost use Rattle.std.specs.Prelude.{◌≤◌};
 
 use sd_command_status::{ClearCause, Status, StreamCause};
 use sd_engine::BreakCause;
-use sd_test_memory::{Fault, Files, Leaving, SITE, left};
+use sd_test_memory::{Fault, Files, Leaving, left};
+use sd_test_texts::site;
 use std::alloc::{AllocError, Global};
 
 /// The page of `tables`.
@@ -25,9 +26,9 @@ example
   sdca tables broadcast.ts
 ";
 
-/// A command, and the lines of exits 1 and 2 in its page: with inputs and OUT, and with OUT alone. They are lines 10
-/// and 11 of the page of a command with three arguments.
-const EXITS: [(&str, &str, &str); 2] = [
+// A command, and the lines of exits 1 and 2 in its page: with inputs and OUT, and with OUT alone. They are lines 10
+// and 11 of the page of a command with three arguments.
+static EXITS: [(&str, &str, &str); 2] = [
     (
         "receive",
         "   1  usage: unknown command, wrong number of arguments, text not in UTF-8, or OUT is an input",
@@ -40,18 +41,18 @@ const EXITS: [(&str, &str, &str); 2] = [
     ),
 ];
 
-/// The lines of examples/site-1.txt and examples/site-2.txt after those of examples/site.txt.
-const FIRST_WORDS: &str = "messages 3\nfirst-word 0\nlast-word 999\n";
+/// The sites of examples/site-1.txt and examples/site-2.txt.
+const FIRST_SITE: &str = site!("messages 3\nfirst-word 0\nlast-word 999\n");
 
-const SECOND_WORDS: &str = "messages 3\nfirst-word 1000\nlast-word 1999\n";
+const SECOND_SITE: &str = site!("messages 3\nfirst-word 1000\nlast-word 1999\n");
 
 /// What `version` prints.
 const VERSION: &str = "sdca 1.0.0
 proved in logic dac8208d650f15bf (rattle-kit-13f)
 ";
 
-/// The lines of `help` that stand at its ends and beside the longest words.
-const LISTED: [(usize, &str); 4] = [
+// The lines of `help` that stand at its ends and beside the longest words.
+static LISTED: [(usize, &str); 4] = [
     (
         0,
         "sdca: conditional access for transport streams, by Subset Difference",
@@ -100,11 +101,11 @@ struct Due<'a> {
     out: Option<&'a [u8]>,
 }
 
-/// A refusal by this line, which leaves this OUT.
-fn refused<'a>(status: Status, line: &'a str, out: Option<&'a [u8]>) -> Due<'a> {
+/// A run that ends with this status, prints this text and leaves this OUT.
+fn ending<'a>(status: Status, printed: &'a str, out: Option<&'a [u8]>) -> Due<'a> {
     Due {
         status,
-        printed: line,
+        printed,
         out,
     }
 }
@@ -142,72 +143,100 @@ fn accounts_are_refused_by_their_line(rt: HostRuntime) -> Result<(), AllocError>
         10,
     )?;
     let status = Status::BadBook { word: 2, line: 2 };
-    assert!(rt; refused(status, "word 2 line 2 is refused\n", None).is_left(&left));
+    assert!(rt; ending(status, "word 2 line 2 is refused\n", None).is_left(&left));
     Ok(())
+}
+
+const HEAD: [&str; 5] = ["head", "S", "B", "C", "O"];
+
+const TORN: Status = Status::BadClear {
+    packet: 0,
+    cause: ClearCause::Broken(BreakCause::Torn),
+};
+
+/// Whether `head` makes a broadcast of no packet, and refuses a torn packet.
+fn is_broadcast(alloc: Global, most: usize) -> Result<bool, AllocError>
+    requires { 1 ≤ most }
+{
+    let left = after(alloc, &HEAD, &[("B", b""), ("C", b"")], most)?;
+    let start = [0x47, 0x40, 0x01, 0x10, 0x00];
+    let is_whole = match &left.out {
+        Some(out) => out.len() == 564 && out.as_slice().starts_with(&start),
+        None => false,
+    };
+    let torn = after(alloc, &HEAD, &[("B", b""), ("C", b"period\n")], most)?;
+    let is_torn = ending(TORN, "clear packet 0: torn\n", Some(b"")).is_left(&torn);
+    Ok(left.status == Status::Done && is_whole && is_torn)
 }
 
 #[test]
 fn broadcasts_are_made(rt: HostRuntime) -> Result<(), AllocError> {
     let alloc = rt.alloc();
-    let words = ["head", "S", "B", "C", "O"];
-    let cause = ClearCause::Broken(BreakCause::Torn);
-    let torn = Status::BadClear { packet: 0, cause };
-    for most in [1, 1000] {
-        let left = after(alloc, &words, &[("B", b""), ("C", b"")], most)?;
-        assert_eq!(rt; left.status, Status::Done);
-        let out = left.out.expect(&rt, "a broadcast");
-        assert_eq!(rt; out.len(), 564);
-        assert!(rt; out.as_slice().starts_with(&[0x47, 0x40, 0x01, 0x10, 0x00]));
-        let left = after(alloc, &words, &[("B", b""), ("C", b"period\n")], most)?;
-        assert!(rt; refused(torn, "clear packet 0: torn\n", Some(b"")).is_left(&left));
-    }
+    assert!(rt; is_broadcast(alloc, 1)?);
+    assert!(rt; is_broadcast(alloc, 1000)?);
     let mut files = Files::new(alloc)?;
     files.add(alloc, "B", b"")?;
     files.add(alloc, "C", b"")?;
     files.room = 200;
-    let cut = left(alloc, &files, &words, 100, Fault::Nowhere)?;
-    assert_eq!(rt; cut.status, Status::DepotFault);
+    let cut = left(alloc, &files, &HEAD, 100, Fault::Nowhere)?;
+    assert!(rt; cut.status == Status::DepotFault);
     assert!(rt; cut.out.is_some_and(|out| out.len() < 564));
     Ok(())
 }
 
-#[test]
-fn messages_are_printed(rt: HostRuntime) -> Result<(), AllocError> {
-    let alloc = rt.alloc();
-    for (packets, lines) in [
-        (
-            [
-                "474001100001b011ffffc1000009061234e1f0e1f192f94eeb",
-                "4741f0100082b04c0000c10000000000000000000100018e7c98755d4f1259303e2c26f84665c7010000000000000000a96fc38d45af14016d8f9f0d1688616d0d70f5ba661218fb326af486ddaa0354cdb2897d",
-                "4741f1100080b04b0000c1000000000000000000000000000000000000008229606edb4eb380c6745a1a0ef112fb4f37fd1a5ac322f2eb828187831d8c4016f21bec8b49a29a6bf944da8fbb98bb002a26ffa7",
-            ]
-            .as_slice(),
-            "{\"check\":\"8e7c98755d4f1259303e2c26f84665c7\",\"index\":0,\"names\":[\"all\"],\"packet\":1,\"period\":0,\"pid\":496,\"sections\":1,\"sets\":1,\"table\":\"emm\"}
+/// The packets of a broadcast up to their bytes 0xFF: a CAT, the entitlements of all leaves, the first control message,
+/// a PAT and a PMT.
+const CAT: &str = "474001100001b011ffffc1000009061234e1f0e1f192f94eeb";
+
+const EMM: &str =
+    "4741f0100082b04c0000c10000000000000000000100018e7c98755d4f1259303e2c26f84665c7010000000000000000a96fc38d45af14016d8f9f0d1688616d0d70f5ba661218fb326af486ddaa0354cdb2897d";
+
+const ECM: &str =
+    "4741f1100080b04b0000c1000000000000000000000000000000000000008229606edb4eb380c6745a1a0ef112fb4f37fd1a5ac322f2eb828187831d8c4016f21bec8b49a29a6bf944da8fbb98bb002a26ffa7";
+
+const PAT: &str = "474000100000b00d0001c100000001f0002ab104b2";
+
+const PMT: &str = "475000100002b0170001c10000e100f0001ce100f0000fe101f0002f44b99b";
+
+// Packets, and the lines that `messages` prints of them.
+static MESSAGES: [(&[&str], &str); 4] = [
+    (
+        &[CAT, EMM, ECM],
+        "{\"check\":\"8e7c98755d4f1259303e2c26f84665c7\",\"index\":0,\"names\":[\"all\"],\"packet\":1,\"period\":0,\"pid\":496,\"sections\":1,\"sets\":1,\"table\":\"emm\"}
 {\"check\":\"16f21bec8b49a29a6bf944da8fbb98bb\",\"clear\":0,\"closing\":false,\"last\":0,\"number\":0,\"packet\":2,\"part\":0,\"period\":0,\"pid\":497,\"positions\":[],\"since\":0,\"table\":\"ecm\",\"version\":1,\"word\":0}
 ",
-        ),
-        (
-            &[
-                "4741f0100082b04c0000c10000000000000000000100028e7c98755d4f1259303e2c26f84665c7010000000000000000a96fc38d45af14016d8f9f0d1688616d0d70f5ba661218fb326af486ddaa03541809772d",
-            ],
-            "{\"fault\":\"count\",\"packet\":0,\"pid\":496,\"table\":\"emm\"}\n",
-        ),
-        (
-            &[
-                "4741f0100082b04c0000c10000000000000000000100018e7c98755d4f1259303e2c26f84665c7010000000000000001a96fc38d45af14016d8f9f0d1688616d0d70f5ba661218fb326af486ddaa035466f23e63",
-            ],
-            "{\"fault\":\"node\",\"packet\":0,\"pid\":496,\"table\":\"emm\"}\n",
-        ),
-        (
-            &[
-                "4741f1110080b0530000c1000000000001000000000000000000000003018229606edb4eb380c6745a1a0ef112fb4f37fd1a5ac322f2eb828187831d8c4016f21bec8b49a29a6bf944da8fbb98bb01001f000000000010927c7887",
-            ],
-            "{\"fault\":\"pid\",\"packet\":0,\"pid\":497,\"table\":\"ecm\"}\n",
-        ),
-    ] {
-        let stream = stream_of(alloc, packets)?;
-        let left = after(alloc, &["messages", "S", "X"], &[("X", &stream)], 100)?;
-        assert!(rt; printed(lines).is_left(&left), "{lines}");
+    ),
+    (
+        &[
+            "4741f0100082b04c0000c10000000000000000000100028e7c98755d4f1259303e2c26f84665c7010000000000000000a96fc38d45af14016d8f9f0d1688616d0d70f5ba661218fb326af486ddaa03541809772d",
+        ],
+        "{\"fault\":\"count\",\"packet\":0,\"pid\":496,\"table\":\"emm\"}\n",
+    ),
+    (
+        &[
+            "4741f0100082b04c0000c10000000000000000000100018e7c98755d4f1259303e2c26f84665c7010000000000000001a96fc38d45af14016d8f9f0d1688616d0d70f5ba661218fb326af486ddaa035466f23e63",
+        ],
+        "{\"fault\":\"node\",\"packet\":0,\"pid\":496,\"table\":\"emm\"}\n",
+    ),
+    (
+        &[
+            "4741f1110080b0530000c1000000000001000000000000000000000003018229606edb4eb380c6745a1a0ef112fb4f37fd1a5ac322f2eb828187831d8c4016f21bec8b49a29a6bf944da8fbb98bb01001f000000000010927c7887",
+        ],
+        "{\"fault\":\"pid\",\"packet\":0,\"pid\":497,\"table\":\"ecm\"}\n",
+    ),
+];
+
+/// Whether `messages` prints these lines of these packets.
+fn are_listed(alloc: Global, packets: &[&str], lines: &str) -> Result<bool, AllocError> {
+    let stream = stream_of(alloc, packets)?;
+    let left = after(alloc, &["messages", "S", "X"], &[("X", &stream)], 100)?;
+    Ok(printed(lines).is_left(&left))
+}
+
+#[test]
+fn messages_are_printed(rt: HostRuntime) -> Result<(), AllocError> {
+    for (packets, lines) in &MESSAGES {
+        assert!(rt; are_listed(rt.alloc(), packets, lines)?, "{lines}");
     }
     Ok(())
 }
@@ -226,27 +255,30 @@ fn cards_are_shown(rt: HostRuntime) -> Result<(), AllocError> {
     assert!(rt; printed(line).is_left(&left));
     card.truncate(91);
     let left = after(alloc, &["show", "K"], &[("K", &card)], 100)?;
-    assert_eq!(rt; left.status.code(), 8);
+    assert!(rt; left.status.code() == 8);
     assert!(rt; left.printed.as_slice() == b"card: length\n".as_slice());
     Ok(())
 }
 
+// The arguments, the status, and what is printed.
+static HELPS: [(&[&str], Status, &str); 3] = [
+    (&["help", "tables"], Status::Done, PAGE),
+    (&["version"], Status::Done, VERSION),
+    (&["help", "Tables"], Status::Usage, "usage\n"),
+];
+
 #[test]
 fn help_and_version_are_printed(rt: HostRuntime) -> Result<(), AllocError> {
-    let alloc = rt.alloc();
-    for (words, due) in [
-        (["help", "tables"].as_slice(), printed(PAGE)),
-        (&["version"], printed(VERSION)),
-        (&["help", "Tables"], refused(Status::Usage, "usage\n", None)),
-    ] {
-        assert!(rt; due.is_left(&after(alloc, words, &[], 4096)?), "{words:?}");
+    for (words, status, text) in &HELPS {
+        let left = after(rt.alloc(), words, &[], 4096)?;
+        assert!(rt; ending(*status, text, None).is_left(&left), "{words:?}");
     }
-    let list = after(alloc, &["help"], &[], 4096)?;
-    for (place, line) in LISTED {
-        assert!(rt; has_line(&list.printed, place, line.as_bytes()));
+    let list = after(rt.alloc(), &["help"], &[], 4096)?;
+    for (place, line) in &LISTED {
+        assert!(rt; has_line(&list.printed, *place, line.as_bytes()), "{line}");
     }
-    for (command, usage, missing) in EXITS {
-        let page = after(alloc, &["help", command], &[], 4096)?;
+    for (command, usage, missing) in &EXITS {
+        let page = after(rt.alloc(), &["help", command], &[], 4096)?;
         assert!(rt; has_line(&page.printed, 10, usage.as_bytes()), "{command}");
         assert!(rt;
             has_line(&page.printed, 11, missing.as_bytes()),
@@ -258,15 +290,12 @@ fn help_and_version_are_printed(rt: HostRuntime) -> Result<(), AllocError> {
 
 #[test]
 fn the_example_of_apart_is_done(rt: HostRuntime) -> Result<(), AllocError> {
-    let alloc = rt.alloc();
-    let first = site_with(alloc, FIRST_WORDS)?;
-    let second = site_with(alloc, SECOND_WORDS)?;
     let left = after(
-        alloc,
+        rt.alloc(),
         &["apart", "1", "B", "2", "B"],
         &[
-            ("1", first.as_bytes()),
-            ("2", second.as_bytes()),
+            ("1", FIRST_SITE.as_bytes()),
+            ("2", SECOND_SITE.as_bytes()),
             ("B", b"revoke 5\nrevoke 2\nsubscribe 2\n"),
         ],
         100,
@@ -274,14 +303,6 @@ fn the_example_of_apart_is_done(rt: HostRuntime) -> Result<(), AllocError> {
     let lines = "site 1 words 0 to 999 periods 0 to 0\nsite 2 words 1000 to 1999 periods 0 to 0\n";
     assert!(rt; printed(lines).is_left(&left));
     Ok(())
-}
-
-/// The site of the tests with more lines.
-fn site_with(alloc: Global, lines: &str) -> Result<String, AllocError> {
-    let mut site = String::new(alloc);
-    site.push_str(str::from_utf8(SITE).map_err(|_| AllocError)?)?;
-    site.push_str(lines)?;
-    Ok(site)
 }
 
 /// Whether this line stands at this place.
@@ -292,81 +313,102 @@ fn has_line(text: &[u8], place: usize, line: &[u8]) -> bool {
     }
 }
 
+/// A book, leaves, the status of a command over them, and what it prints.
+type Row = (&'static [u8], &'static [u8], Status, &'static str);
+
+/// Whether the command has the status of the row and prints its text.
+fn is_answered(alloc: Global, command: &str, row: Row) -> Result<bool, AllocError> {
+    let (book, leaves, status, printed) = row;
+    let words = [command, "S", "B", "L"];
+    let left = after(alloc, &words, &[("B", book), ("L", leaves)], 64)?;
+    Ok(ending(status, printed, None).is_left(&left))
+}
+
+static OPENED: [Row; 7] = [
+    (
+        REVOKED,
+        b"0\n1\n",
+        Status::Done,
+        "period 0 revoked 2 sets 3\n1 2 shut\n4 8 open\n5 10 shut\n",
+    ),
+    (
+        REVOKED,
+        b"0\n2\n",
+        Status::Done,
+        "period 0 revoked 2 sets 3\n1 2 shut\n4 8 shut\n5 10 shut\n",
+    ),
+    (
+        b"period\nrevoke 5\n",
+        b"5\n",
+        Status::Done,
+        "period 0 revoked 0 sets 1\nall open\nperiod 1 revoked 1 sets 1\n1 13 shut\n",
+    ),
+    (
+        b"",
+        b"",
+        Status::Done,
+        "period 0 revoked 0 sets 1\nall shut\n",
+    ),
+    (
+        b"",
+        b"1\n0\n",
+        Status::BadBook { word: 3, line: 2 },
+        "word 3 line 2 is refused\n",
+    ),
+    (
+        b"",
+        b"8\n",
+        Status::BadBook { word: 3, line: 1 },
+        "word 3 line 1 is refused\n",
+    ),
+    (
+        b"revoke 8\n",
+        b"8\n",
+        Status::BadBook { word: 2, line: 1 },
+        "word 2 line 1 is refused\n",
+    ),
+];
+
 #[test]
 fn sets_are_open_or_shut(rt: HostRuntime) -> Result<(), AllocError> {
-    let bad = |word, line| Status::BadBook { word, line };
-    let two_periods = "period 0 revoked 0 sets 1\nall open\nperiod 1 revoked 1 sets 1\n1 13 shut\n";
-    let cases: [(&[u8], &[u8], Due<'_>); 7] = [
-        (
-            REVOKED,
-            b"0\n1\n",
-            printed("period 0 revoked 2 sets 3\n1 2 shut\n4 8 open\n5 10 shut\n"),
-        ),
-        (
-            REVOKED,
-            b"0\n2\n",
-            printed("period 0 revoked 2 sets 3\n1 2 shut\n4 8 shut\n5 10 shut\n"),
-        ),
-        (b"period\nrevoke 5\n", b"5\n", printed(two_periods)),
-        (b"", b"", printed("period 0 revoked 0 sets 1\nall shut\n")),
-        (
-            b"",
-            b"1\n0\n",
-            refused(bad(3, 2), "word 3 line 2 is refused\n", None),
-        ),
-        (
-            b"",
-            b"8\n",
-            refused(bad(3, 1), "word 3 line 1 is refused\n", None),
-        ),
-        (
-            b"revoke 8\n",
-            b"8\n",
-            refused(bad(2, 1), "word 2 line 1 is refused\n", None),
-        ),
-    ];
-    for (book, leaves, due) in cases {
-        let left = after(
-            rt.alloc(),
-            &["opens", "S", "B", "L"],
-            &[("B", book), ("L", leaves)],
-            64,
-        )?;
-        assert!(rt; due.is_left(&left), "{book:?} {leaves:?}");
+    for row in &OPENED {
+        assert!(rt; is_answered(rt.alloc(), "opens", *row)?, "{row:?}");
     }
     Ok(())
 }
 
+static TRACED: [Row; 5] = [
+    (
+        REVOKED,
+        b"1\n6\n",
+        Status::Done,
+        "leaf 1 trials 3 splits 0\nleaf 6 trials 4 splits 2\nsilent trials 1\n",
+    ),
+    (
+        b"",
+        b"6\n",
+        Status::Done,
+        "leaf 6 trials 4 splits 3\nsilent trials 1\n",
+    ),
+    (REVOKED, b"0\n", Status::Done, "silent trials 1\n"),
+    (
+        b"period\nrevoke 6\n",
+        b"6\n",
+        Status::Done,
+        "silent trials 1\n",
+    ),
+    (
+        b"",
+        b"6\n6\n",
+        Status::BadBook { word: 3, line: 2 },
+        "word 3 line 2 is refused\n",
+    ),
+];
+
 #[test]
 fn coalitions_are_traced(rt: HostRuntime) -> Result<(), AllocError> {
-    let twice = Status::BadBook { word: 3, line: 2 };
-    let cases: [(&[u8], &[u8], Due<'_>); 5] = [
-        (
-            REVOKED,
-            b"1\n6\n",
-            printed("leaf 1 trials 3 splits 0\nleaf 6 trials 4 splits 2\nsilent trials 1\n"),
-        ),
-        (
-            b"",
-            b"6\n",
-            printed("leaf 6 trials 4 splits 3\nsilent trials 1\n"),
-        ),
-        (REVOKED, b"0\n", printed("silent trials 1\n")),
-        (b"period\nrevoke 6\n", b"6\n", printed("silent trials 1\n")),
-        (
-            b"",
-            b"6\n6\n",
-            refused(twice, "word 3 line 2 is refused\n", None),
-        ),
-    ];
-    for (book, leaves, due) in cases {
-        let left = after(
-            rt.alloc(),
-            &["trace", "S", "B", "L"],
-            &[("B", book), ("L", leaves)],
-            64,
-        )?;
-        assert!(rt; due.is_left(&left), "{book:?} {leaves:?}");
+    for row in &TRACED {
+        assert!(rt; is_answered(rt.alloc(), "trace", *row)?, "{row:?}");
     }
     Ok(())
 }
@@ -395,48 +437,77 @@ fn stream_of(alloc: Global, packets: &[&str]) -> Result<Vec<u8>, AllocError> {
     Ok(bytes)
 }
 
-/// A broadcast of a PAT and a PMT to all leaves: its packets without the bytes 0xFF at their ends.
-fn opened(alloc: Global) -> Result<Vec<u8>, AllocError> {
-    stream_of(
-        alloc,
-        &[
-            "474001100001b011ffffc1000009061234e1f0e1f192f94eeb",
-            "4741f0100082b04c0000c10000000000000000000100018e7c98755d4f1259303e2c26f84665c7010000000000000000a96fc38d45af14016d8f9f0d1688616d0d70f5ba661218fb326af486ddaa0354cdb2897d",
-            "4741f1100080b04b0000c1000000000000000000000000000000000000008229606edb4eb380c6745a1a0ef112fb4f37fd1a5ac322f2eb828187831d8c4016f21bec8b49a29a6bf944da8fbb98bb002a26ffa7",
-            "474000100000b00d0001c100000001f0002ab104b2",
-            "475000100002b0170001c10000e100f0001ce100f0000fe101f0002f44b99b",
-            "4741f1110080b0530000c1000000000001000000000000000000000002018229606edb4eb380c6745a1a0ef112fb4f37fd1a5ac322f2eb828187831d8c4016f21bec8b49a29a6bf944da8fbb98bb011000000000000010d5aa8db5",
-        ],
-    )
-}
+/// A broadcast of a PAT and a PMT to all leaves.
+const BROADCAST: &[&str] = &[
+    CAT,
+    EMM,
+    ECM,
+    PAT,
+    PMT,
+    "4741f1110080b0530000c1000000000001000000000000000000000002018229606edb4eb380c6745a1a0ef112fb4f37fd1a5ac322f2eb828187831d8c4016f21bec8b49a29a6bf944da8fbb98bb011000000000000010d5aa8db5",
+];
 
 /// One of three packets, of which the first control message has another last byte and is dropped.
-fn missing(alloc: Global) -> Result<Vec<u8>, AllocError> {
-    stream_of(
-        alloc,
-        &[
-            "474001100001b011ffffc1000009061234e1f0e1f192f94eeb",
-            "4741f0100082b04c0000c10000000000000000000100018e7c98755d4f1259303e2c26f84665c7010000000000000000a96fc38d45af14016d8f9f0d1688616d0d70f5ba661218fb326af486ddaa0354cdb2897d",
-            "4741f1100080b04b0000c1000000000000000000000000000000000000008229606edb4eb380c6745a1a0ef112fb4f37fd1a5ac322f2eb828187831d8c4016f21bec8b49a29a6bf944da8fbb98bb002a26ffa6",
-            "474000100000b00d0001c100000001f0002ab104b2",
-            "475000100002b01d0001c10000e100f00609041234e1f11be100f0000fe101f000b06cc7bd",
-            "471fff10",
-            "4741f1110080b0530000c1000000000001000000000000000000000003018229606edb4eb380c6745a1a0ef112fb4f37fd1a5ac322f2eb828187831d8c4016f21bec8b49a29a6bf944da8fbb98bb011000000000000010428a56a6",
-        ],
-    )
-}
+const MISSING: &[&str] = &[
+    CAT,
+    EMM,
+    "4741f1100080b04b0000c1000000000000000000000000000000000000008229606edb4eb380c6745a1a0ef112fb4f37fd1a5ac322f2eb828187831d8c4016f21bec8b49a29a6bf944da8fbb98bb002a26ffa6",
+    PAT,
+    "475000100002b01d0001c10000e100f00609041234e1f11be100f0000fe101f000b06cc7bd",
+    "471fff10",
+    "4741f1110080b0530000c1000000000001000000000000000000000003018229606edb4eb380c6745a1a0ef112fb4f37fd1a5ac322f2eb828187831d8c4016f21bec8b49a29a6bf944da8fbb98bb011000000000000010428a56a6",
+];
 
-/// Whether a stream is received so, if a byte, a packet or more is read and written at a time.
-fn is_received<'a>(
-    alloc: Global,
-    card: &'a [u8],
-    stream: &'a [u8],
-    due: Due<'_>,
-) -> Result<bool, AllocError> {
+/// The packets of a stream, how many bytes of it are left, the status of `receive`, what it prints, and the packets
+/// that it writes.
+type Reception = (
+    &'static [&'static str],
+    usize,
+    Status,
+    &'static str,
+    &'static [&'static str],
+);
+
+static RECEIVED: [Reception; 5] = [
+    (BROADCAST, 1128, Status::Done, "", &[PAT, PMT]),
+    (
+        BROADCAST,
+        940,
+        Status::Unclosed(1),
+        "stream ends before message 1\n",
+        &[],
+    ),
+    (
+        MISSING,
+        1316,
+        Status::Gaps(3),
+        "3 clear packets are missing\n",
+        &[],
+    ),
+    (&[], 0, Status::NoCat, "no CAT for this card\n", &[]),
+    (
+        BROADCAST,
+        200,
+        Status::BadStream {
+            packet: 1,
+            cause: StreamCause::Broken(BreakCause::Torn),
+        },
+        "stream packet 1: torn\n",
+        &[],
+    ),
+];
+
+/// Whether a stream is received as the row says, if a byte, a packet or more is read and written at a time.
+fn is_received(alloc: Global, card: &[u8], row: &Reception) -> Result<bool, AllocError> {
+    let (packets, length, status, line, clear) = *row;
+    let mut stream = stream_of(alloc, packets)?;
+    stream.truncate(length);
+    let clear = stream_of(alloc, clear)?;
+    let whole = ending(status, line, Some(&clear));
+    let words = ["receive", "K", "X", "O"];
     for most in [1, 188, 1000] {
-        let files: [File<'a>; 2] = [("K", card), ("X", stream)];
-        let left = after(alloc, &["receive", "K", "X", "O"], &files, most)?;
-        if !due.is_left(&left) {
+        let left = after(alloc, &words, &[("K", card), ("X", &stream)], most)?;
+        if !whole.is_left(&left) {
             return Ok(false);
         }
     }
@@ -445,38 +516,10 @@ fn is_received<'a>(
 
 #[test]
 fn broadcasts_are_received(rt: HostRuntime) -> Result<(), AllocError> {
-    let alloc = rt.alloc();
-    let card = card_0(alloc)?;
-    let opened = opened(alloc)?;
-    let clear = stream_of(
-        alloc,
-        &[
-            "474000100000b00d0001c100000001f0002ab104b2",
-            "475000100002b0170001c10000e100f0001ce100f0000fe101f0002f44b99b",
-        ],
-    )?;
-    let missing = missing(alloc)?;
-    let cause = StreamCause::Broken(BreakCause::Torn);
-    let torn = Status::BadStream { packet: 1, cause };
-    let nothing: Option<&[u8]> = Some(b"");
-    let done = Due {
-        out: Some(&clear),
-        ..printed("")
-    };
-    assert!(rt; is_received(alloc, &card, &opened, done)?);
-    let unclosed = refused(
-        Status::Unclosed(1),
-        "stream ends before message 1\n",
-        nothing,
-    );
-    let early = opened.get(..940).unwrap_or(&[]);
-    assert!(rt; is_received(alloc, &card, early, unclosed)?);
-    let gaps = refused(Status::Gaps(3), "3 clear packets are missing\n", nothing);
-    assert!(rt; is_received(alloc, &card, &missing, gaps)?);
-    let no_cat = refused(Status::NoCat, "no CAT for this card\n", nothing);
-    assert!(rt; is_received(alloc, &card, b"", no_cat)?);
-    let broken = refused(torn, "stream packet 1: torn\n", nothing);
-    let cut = opened.get(..200).unwrap_or(&[]);
-    assert!(rt; is_received(alloc, &card, cut, broken)?);
+    let card = card_0(rt.alloc())?;
+    for row in &RECEIVED {
+        let line = row.3;
+        assert!(rt; is_received(rt.alloc(), &card, row)?, "{line}");
+    }
     Ok(())
 }
