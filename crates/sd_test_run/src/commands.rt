@@ -31,21 +31,33 @@ struct Whole<'a> {
     left: Leaving,
 }
 
+// The books, the accounts and the leaves that the commands read.
+static TEXTS: [(&str, &str); 6] = [
+    ("B", "revoke 0\nrevoke 7\n"),
+    ("R", "revoke 5\n"),
+    ("M", "period\nsubscribe 5\n"),
+    ("A", "assign ann 5\nperiod\ndrop ann\n"),
+    ("P", "revoke 0\nrevoke 2\n"),
+    ("L", "1\n6\n"),
+];
+
+// The clear stream, the card and the broadcast that they read, and the commands that make them.
+static MADE: [(&str, &[&str]); 3] = [
+    ("C", &["sample", "0", "3", "O"]),
+    ("K", &["card", "S", "0", "O"]),
+    ("X", &["head", "S", "M", "C", "O"]),
+];
+
 /// The files that the commands read.
 fn files(alloc: Global) -> Result<Files, AllocError> {
     let mut files = Files::new(alloc)?;
-    files.add(alloc, "B", b"revoke 0\nrevoke 7\n")?;
-    files.add(alloc, "R", b"revoke 5\n")?;
-    files.add(alloc, "M", b"period\nsubscribe 5\n")?;
-    files.add(alloc, "A", b"assign ann 5\nperiod\ndrop ann\n")?;
-    files.add(alloc, "P", b"revoke 0\nrevoke 2\n")?;
-    files.add(alloc, "L", b"1\n6\n")?;
-    let clear = made(alloc, &files, &["sample", "0", "3", "O"])?;
-    files.add(alloc, "C", &clear)?;
-    let card = made(alloc, &files, &["card", "S", "0", "O"])?;
-    files.add(alloc, "K", &card)?;
-    let stream = made(alloc, &files, &["head", "S", "M", "C", "O"])?;
-    files.add(alloc, "X", &stream)?;
+    for (name, text) in &TEXTS {
+        files.add(alloc, name, text.as_bytes())?;
+    }
+    for (name, words) in &MADE {
+        let bytes = made(alloc, &files, words)?;
+        files.add(alloc, name, &bytes)?;
+    }
     Ok(files)
 }
 
@@ -158,137 +170,144 @@ impl<'a> Whole<'a> {
     }
 }
 
-/// A command that makes and prints this, by its words, the files that it reads, and whether the last of them is read
-/// while OUT is written.
-fn row<'a>(
-    words: &'a [&'a str],
-    reads: &'a [&'a str],
-    streams: bool,
-    makes: Sum<'a>,
-    prints: Sum<'a>,
-) -> Command<'a> {
-    Command {
+/// A command's words, the files that it reads, whether the last of them is read while OUT is written, OUT, and what is
+/// printed.
+type Row = (
+    &'static [&'static str],
+    &'static [&'static str],
+    bool,
+    Sum<'static>,
+    Sum<'static>,
+);
+
+static COMMANDS: [Row; 16] = [
+    (
+        &["cover", "S", "B"],
+        &["S", "B"],
+        false,
+        "",
+        "8f49d544add51b1c",
+    ),
+    (
+        &["layered", "S", "B", "2"],
+        &["S", "B"],
+        false,
+        "",
+        "49da13b5f9be295e",
+    ),
+    (
+        &["plan", "S", "B", "600", "3"],
+        &["S", "B"],
+        false,
+        "",
+        "8a5646abe1cff276",
+    ),
+    (
+        &["accounts", "S", "A", "O"],
+        &["S", "A"],
+        false,
+        "6004a0e63339f065",
+        "20a39407d36daa17",
+    ),
+    (
+        &["book", "S", "R", "M", "O"],
+        &["S", "R", "M"],
+        false,
+        "1be60745ace5d12f",
+        "",
+    ),
+    (
+        &["card", "S", "0", "O"],
+        &["S"],
+        false,
+        "a4b19001906beb19",
+        "",
+    ),
+    (
+        &["lcard", "S", "5", "2", "O"],
+        &["S"],
+        false,
+        "c2961eac63670ce1",
+        "",
+    ),
+    (
+        &["sample", "0", "4", "O"],
+        &[],
+        false,
+        "fcc946789d7bffb6",
+        "",
+    ),
+    (
+        &["head", "S", "M", "C", "O"],
+        &["S", "M", "C"],
+        true,
+        "9c6d622db9f9fa35",
+        "",
+    ),
+    (
+        &["receive", "K", "X", "O"],
+        &["K", "X"],
+        true,
+        "3e68d36a18df2132",
+        "",
+    ),
+    (&["tables", "X"], &["X"], false, "", "d29b54c31bc48ee2"),
+    (
+        &["messages", "S", "X"],
+        &["S", "X"],
+        false,
+        "",
+        "0fb3c1549838f547",
+    ),
+    (&["show", "K"], &["K"], false, "", "733f52ad790b39c9"),
+    (
+        &["opens", "S", "P", "L"],
+        &["S", "P", "L"],
+        false,
+        "",
+        "de5663d6a325561e",
+    ),
+    (
+        &["trace", "S", "R", "L"],
+        &["S", "R", "L"],
+        false,
+        "",
+        "93d74fcfdebfd23e",
+    ),
+    (
+        &["trial", "S", "R", "C"],
+        &["S", "R", "C"],
+        false,
+        "",
+        "668c63a3ea9d5a9b",
+    ),
+];
+
+/// What the command of a row does if nothing fails.
+fn whole_run(alloc: Global, files: &Files, row: Row) -> Result<Whole<'_>, AllocError> {
+    let (words, reads, streams, makes, prints) = row;
+    let command = Command {
         words,
         reads,
         streams,
         makes,
         prints,
-    }
+    };
+    let left = left(alloc, files, words, PIECE, Fault::Nowhere)?;
+    Ok(Whole {
+        command,
+        files,
+        left,
+    })
 }
 
 #[test]
 fn failing_calls_are_told_by_each_command(rt: HostRuntime) -> Result<(), Fail> {
     let alloc = rt.alloc();
     let files = files(alloc)?;
-    for command in [
-        row(
-            &["cover", "S", "B"],
-            &["S", "B"],
-            false,
-            "",
-            "8f49d544add51b1c",
-        ),
-        row(
-            &["layered", "S", "B", "2"],
-            &["S", "B"],
-            false,
-            "",
-            "49da13b5f9be295e",
-        ),
-        row(
-            &["plan", "S", "B", "600", "3"],
-            &["S", "B"],
-            false,
-            "",
-            "8a5646abe1cff276",
-        ),
-        row(
-            &["accounts", "S", "A", "O"],
-            &["S", "A"],
-            false,
-            "6004a0e63339f065",
-            "20a39407d36daa17",
-        ),
-        row(
-            &["book", "S", "R", "M", "O"],
-            &["S", "R", "M"],
-            false,
-            "1be60745ace5d12f",
-            "",
-        ),
-        row(
-            &["card", "S", "0", "O"],
-            &["S"],
-            false,
-            "a4b19001906beb19",
-            "",
-        ),
-        row(
-            &["lcard", "S", "5", "2", "O"],
-            &["S"],
-            false,
-            "c2961eac63670ce1",
-            "",
-        ),
-        row(
-            &["sample", "0", "4", "O"],
-            &[],
-            false,
-            "fcc946789d7bffb6",
-            "",
-        ),
-        row(
-            &["head", "S", "M", "C", "O"],
-            &["S", "M", "C"],
-            true,
-            "9c6d622db9f9fa35",
-            "",
-        ),
-        row(
-            &["receive", "K", "X", "O"],
-            &["K", "X"],
-            true,
-            "3e68d36a18df2132",
-            "",
-        ),
-        row(&["tables", "X"], &["X"], false, "", "d29b54c31bc48ee2"),
-        row(
-            &["messages", "S", "X"],
-            &["S", "X"],
-            false,
-            "",
-            "0fb3c1549838f547",
-        ),
-        row(&["show", "K"], &["K"], false, "", "733f52ad790b39c9"),
-        row(
-            &["opens", "S", "P", "L"],
-            &["S", "P", "L"],
-            false,
-            "",
-            "de5663d6a325561e",
-        ),
-        row(
-            &["trace", "S", "R", "L"],
-            &["S", "R", "L"],
-            false,
-            "",
-            "93d74fcfdebfd23e",
-        ),
-        row(
-            &["trial", "S", "R", "C"],
-            &["S", "R", "C"],
-            false,
-            "",
-            "668c63a3ea9d5a9b",
-        ),
-    ] {
-        let words = command.words;
-        let left = left(alloc, &files, words, PIECE, Fault::Nowhere)?;
-        let whole = Whole {
-            command,
-            files: &files,
-            left,
-        };
+    for row in &COMMANDS {
+        let words = row.0;
+        let whole = whole_run(alloc, &files, *row)?;
         assert!(rt; whole.is_done(), "{words:?}");
         assert_eq!(rt; whole.wrong_call(alloc)?, None, "{words:?}");
         assert_eq!(rt; whole.wrong_port(alloc)?, None, "{words:?}");

@@ -1,18 +1,16 @@
 use crate::changes::PACKET;
 use sd_command_status::Status;
 use sd_ports::{MemDepot, MemSink};
-use sd_test_memory::{SITE, uncounted};
+use sd_test_memory::uncounted;
+use sd_test_texts::SITE;
 use std::alloc::{AllocError, Global};
 
-/// The files of examples/: site.txt, accounts.txt, pooled.txt and pair.txt.
-const FILES: [(&str, &[u8]); 4] = [
+// The files of examples/: site.txt, accounts.txt, pooled.txt and pair.txt.
+static FILES: [(&str, &str); 4] = [
     ("site", SITE),
-    (
-        "accounts",
-        b"assign ann 5\nassign bob 2\nperiod\ndrop ann\n",
-    ),
-    ("pooled", b"5\n"),
-    ("pair", b"1\n6\n"),
+    ("accounts", "assign ann 5\nassign bob 2\nperiod\ndrop ann\n"),
+    ("pooled", "5\n"),
+    ("pair", "1\n6\n"),
 ];
 
 const REPORT: &str =
@@ -51,58 +49,74 @@ const CLEAR: usize = 600;
 const FIRST: usize = 400;
 
 /// The room for a file, and how many bytes are read and written at a time.
-const ROOM: usize = 131_072;
+pub(crate) const ROOM: usize = 131_072;
 
-const PIECE: usize = 65_536;
+pub(crate) const PIECE: usize = 65_536;
 
 /// The packet of the broadcast that is lost: the one of clear packet 7, after a CAT, a section and a message.
 const LOST: usize = 10;
 
+const ANN: Status = Status::Revoked { leaf: 5, period: 1 };
+
+// The commands of the day, the status of each, and what it prints.
+static STEPS: [(&str, Status, &str); 8] = [
+    ("accounts site accounts book", Status::Done, REPORT),
+    (
+        "cover site book",
+        Status::Done,
+        "period 0 revoked 0 sets 1\nall\nperiod 1 revoked 1 sets 1\n1 13\n",
+    ),
+    ("card site 5 card-ann", Status::Done, ""),
+    ("card site 2 card-bob", Status::Done, ""),
+    ("sample 7 600 clear", Status::Done, ""),
+    ("head site book clear broadcast", Status::Done, ""),
+    ("receive card-bob broadcast bob", Status::Done, ""),
+    (
+        "receive card-ann broadcast ann",
+        ANN,
+        "receiver 5 is revoked in period 1\n",
+    ),
+];
+
 #[test]
 fn a_day_goes_as_told(rt: HostRuntime) -> Result<(), AllocError> {
     let alloc = rt.alloc();
-    let ann = Status::Revoked { leaf: 5, period: 1 };
-    let steps: [(&str, Status, &str); 8] = [
-        ("accounts site accounts book", Status::Done, REPORT),
-        (
-            "cover site book",
-            Status::Done,
-            "period 0 revoked 0 sets 1\nall\nperiod 1 revoked 1 sets 1\n1 13\n",
-        ),
-        ("card site 5 card-ann", Status::Done, ""),
-        ("card site 2 card-bob", Status::Done, ""),
-        ("sample 7 600 clear", Status::Done, ""),
-        ("head site book clear broadcast", Status::Done, ""),
-        ("receive card-bob broadcast bob", Status::Done, ""),
-        (
-            "receive card-ann broadcast ann",
-            ann,
-            "receiver 5 is revoked in period 1\n",
-        ),
-    ];
     let mut depot = shelf(alloc)?;
-    for (words, status, printed) in steps {
-        assert!(rt; comes(alloc, &mut depot, words, status, printed)?);
+    for (words, status, printed) in &STEPS {
+        assert!(rt;
+            comes(alloc, &mut depot, words, *status, printed)?,
+            "{words}"
+        );
     }
-    let clear = file(alloc, &depot, "clear")?;
-    assert_eq!(rt; clear.len(), CLEAR * PACKET);
-    let bob = file(alloc, &depot, "bob")?;
-    assert!(rt; bob.as_slice() == clear.as_slice());
-    let ann = file(alloc, &depot, "ann")?;
-    assert!(rt; clear.get(..FIRST * PACKET) == Some(ann.as_slice()));
+    assert!(rt; are_written(&depot));
     Ok(())
 }
+
+/// Whether bob wrote all clear packets, and ann those of period 0.
+fn are_written(depot: &MemDepot) -> bool {
+    let (Some(clear), Some(bob), Some(ann)) = (
+        depot.get("clear"),
+        depot.get("bob"),
+        depot.get("ann"),
+    ) else {
+        return false;
+    };
+    clear.len() == CLEAR * PACKET && bob == clear && clear.get(..FIRST * PACKET) == Some(ann)
+}
+
+// The commands up to the broadcast.
+static MADE: [&str; 4] = [
+    "accounts site accounts book",
+    "card site 2 card-bob",
+    "sample 7 600 clear",
+    "head site book clear broadcast",
+];
 
 #[test]
 fn a_lost_packet_is_counted(rt: HostRuntime) -> Result<(), AllocError> {
     let alloc = rt.alloc();
     let mut depot = shelf(alloc)?;
-    for words in [
-        "accounts site accounts book",
-        "card site 2 card-bob",
-        "sample 7 600 clear",
-        "head site book clear broadcast",
-    ] {
+    for words in &MADE {
         answered(alloc, &mut depot, words)?;
     }
     let broadcast = file(alloc, &depot, "broadcast")?;
@@ -120,19 +134,22 @@ fn a_lost_packet_is_counted(rt: HostRuntime) -> Result<(), AllocError> {
     Ok(())
 }
 
+// The commands against pirates, and what each prints.
+static HUNTS: [(&str, &str); 3] = [
+    ("opens site book pooled", OPENED),
+    ("trace site book pair", TRACED),
+    ("trial site book clear", TRIED),
+];
+
 #[test]
 fn pirates_are_found(rt: HostRuntime) -> Result<(), AllocError> {
     let alloc = rt.alloc();
     let mut depot = shelf(alloc)?;
     answered(alloc, &mut depot, "accounts site accounts book")?;
     answered(alloc, &mut depot, "sample 7 600 clear")?;
-    let steps: [(&str, &str); 3] = [
-        ("opens site book pooled", OPENED),
-        ("trace site book pair", TRACED),
-        ("trial site book clear", TRIED),
-    ];
-    for (words, printed) in steps {
-        assert!(rt; comes(alloc, &mut depot, words, Status::Done, printed)?);
+    for (words, printed) in &HUNTS {
+        let is_done = comes(alloc, &mut depot, words, Status::Done, printed)?;
+        assert!(rt; is_done, "{words}");
     }
     Ok(())
 }
@@ -140,12 +157,21 @@ fn pirates_are_found(rt: HostRuntime) -> Result<(), AllocError> {
 /// A depot that has the day's files.
 fn shelf(alloc: Global) -> Result<MemDepot, AllocError> {
     let mut depot = MemDepot::new(alloc, ROOM, PIECE).map_err(|_| AllocError)?;
-    for (name, bytes) in FILES {
-        depot
-            .put(name, Vec::from_slice(alloc, bytes)?)
-            .map_err(|_| AllocError)?;
+    for (name, text) in &FILES {
+        put(alloc, &mut depot, name, text.as_bytes())?;
     }
     Ok(depot)
+}
+
+/// Adds a file.
+pub(crate) fn put(
+    alloc: Global,
+    depot: &mut MemDepot,
+    name: &str,
+    bytes: &[u8],
+) -> Result<(), AllocError> {
+    let bytes = Vec::from_slice(alloc, bytes)?;
+    depot.put(name, bytes).map_err(|_| AllocError)
 }
 
 /// The bytes of a file, or none where it isn't there.

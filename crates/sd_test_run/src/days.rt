@@ -1,29 +1,28 @@
 use crate::changes::PACKET;
-use crate::day::{answered, comes, file};
-use crate::runs::put;
+use crate::day::{PIECE, ROOM, answered, comes, put};
 use crate::several::{Run, run_of, two_time_pads};
 use sd_command_status::Status;
 use sd_ports::MemDepot;
-use sd_test_memory::SITE;
+use sd_test_texts::{BOOK, site};
 use std::alloc::{AllocError, Global};
 
-// The last lines of the sites of two multiplexes, on the first day and on the second.
+// The sites of two multiplexes, on the first day and on the second, as examples/reserve.sh makes them.
 static SITES: [(&str, &str); 4] = [
     (
         "site-1",
-        "messages 1\nfirst-word 0\nlast-word 999\nfirst-period 0\n",
+        site!("messages 3\nfirst-word 0\nlast-word 999\nfirst-period 0\n"),
     ),
     (
         "site-2",
-        "messages 1\nfirst-word 1000\nlast-word 1999\nfirst-period 0\n",
+        site!("messages 3\nfirst-word 1000\nlast-word 1999\nfirst-period 0\n"),
     ),
     (
         "site-3",
-        "messages 1\nfirst-word 2000\nlast-word 2999\nfirst-period 2\n",
+        site!("messages 3\nfirst-word 2000\nlast-word 2999\nfirst-period 2\n"),
     ),
     (
         "site-4",
-        "messages 1\nfirst-word 3000\nlast-word 3999\nfirst-period 2\n",
+        site!("messages 3\nfirst-word 3000\nlast-word 3999\nfirst-period 2\n"),
     ),
 ];
 
@@ -43,8 +42,10 @@ static STEPS: [&str; 12] = [
     "head site-4 longer clear-4 sent-4",
 ];
 
-// What a receiver is told, and the first packets of which clear stream it writes.
-static RECEIVED: [(&str, Status, &str, &str, usize); 12] = [
+/// A command, its status, what it prints, and the first packets of which clear stream it writes.
+type Row = (&'static str, Status, &'static str, &'static str, usize);
+
+static RECEIVED: [Row; 12] = [
     (
         "receive card-ann sent-1 out",
         LATE,
@@ -119,20 +120,13 @@ const BOB: Status = Status::Revoked { leaf: 2, period: 2 };
 
 const BOB_LINE: &str = "receiver 2 is revoked in period 2\n";
 
-/// The room for a file, and how many bytes are read and written at a time.
-const ROOM: usize = 131_072;
-
-const PIECE: usize = 65_536;
-
 /// The broadcasts of both days, with all that they are made from.
 fn two_days(alloc: Global) -> Result<MemDepot, AllocError> {
     let mut depot = MemDepot::new(alloc, ROOM, PIECE).map_err(|_| AllocError)?;
-    for (name, lines) in &SITES {
-        let mut site = Vec::from_slice(alloc, SITE)?;
-        site.extend_from_slice(lines.as_bytes())?;
-        put(alloc, &mut depot, name, &site)?;
+    for (name, site) in &SITES {
+        put(alloc, &mut depot, name, site.as_bytes())?;
     }
-    put(alloc, &mut depot, "book", b"period\nrevoke 5\n")?;
+    put(alloc, &mut depot, "book", BOOK.as_bytes())?;
     put(alloc, &mut depot, "today", b"revoke 2\n")?;
     for words in &STEPS {
         answered(alloc, &mut depot, words)?;
@@ -140,15 +134,18 @@ fn two_days(alloc: Global) -> Result<MemDepot, AllocError> {
     Ok(depot)
 }
 
+// The clear streams and their broadcasts.
+static SENT: [(&str, &str); 4] = [
+    ("clear-1", "sent-1"),
+    ("clear-2", "sent-2"),
+    ("clear-3", "sent-3"),
+    ("clear-4", "sent-4"),
+];
+
 /// How many packets of two of these broadcasts lie under one keystream.
 fn shared(alloc: Global, depot: &MemDepot) -> Result<Option<usize>, AllocError> {
     let mut runs: Vec<Run> = Vec::new(alloc);
-    for (clear, sent) in [
-        ("clear-1", "sent-1"),
-        ("clear-2", "sent-2"),
-        ("clear-3", "sent-3"),
-        ("clear-4", "sent-4"),
-    ] {
+    for (clear, sent) in &SENT {
         runs.push(run_of(alloc, depot, clear, sent)?)?;
     }
     let mut count = Some(0usize);
@@ -162,19 +159,23 @@ fn shared(alloc: Global, depot: &MemDepot) -> Result<Option<usize>, AllocError> 
     Ok(count)
 }
 
+/// Whether a card writes what its row says.
+fn is_received(alloc: Global, depot: &mut MemDepot, row: Row) -> Result<bool, AllocError> {
+    let (words, status, printed, clear, packets) = row;
+    let is_told = comes(alloc, depot, words, status, printed)?;
+    let (Some(clear), Some(out)) = (depot.get(clear), depot.get("out")) else {
+        return Ok(false);
+    };
+    Ok(is_told && out.len() == packets.wrapping_mul(PACKET) && clear.starts_with(out))
+}
+
 #[test]
 fn two_multiplexes_are_on_air_on_two_days(rt: HostRuntime) -> Result<(), AllocError> {
     let alloc = rt.alloc();
     let mut depot = two_days(alloc)?;
-    for (words, status, printed, clear, packets) in &RECEIVED {
-        assert!(rt;
-            comes(alloc, &mut depot, words, *status, printed)?,
-            "{words}"
-        );
-        let clear = file(alloc, &depot, clear)?;
-        let out = file(alloc, &depot, "out")?;
-        assert!(rt; out.len() == packets.wrapping_mul(PACKET), "{words}");
-        assert!(rt; clear.as_slice().starts_with(&out), "{words}");
+    for row in &RECEIVED {
+        let words = row.0;
+        assert!(rt; is_received(alloc, &mut depot, *row)?, "{words}");
     }
     assert_eq!(rt; shared(alloc, &depot)?, Some(0));
     Ok(())

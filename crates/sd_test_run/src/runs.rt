@@ -1,19 +1,9 @@
 use crate::changes::{Change, changed};
-use crate::day::{answered, file, without};
+use crate::day::{PIECE, ROOM, answered, file, put, without};
 use crate::sums::has_sum;
 use sd_ports::MemDepot;
+use sd_test_texts::{BOOK, site, site_start};
 use std::alloc::{AllocError, Global};
-
-/// The lines of a site of height 3 up to its PIDs.
-const FIRST_LINES: &str = "height 3
-master 000102030405060708090a0b0c0d0e0f101112131415161718191a1b1c1d1e1f
-ca 1234
-emm 496
-ecm 497
-";
-
-/// A book that revokes leaf 5 in its second and last period.
-const BOOK: &[u8] = b"period\nrevoke 5\n";
 
 /// A command, its exit, what it prints, and how the SHA-256 of its last argument's file begins after it: nothing if it
 /// makes no file.
@@ -42,14 +32,13 @@ receiver 7 wrote 400 done
 ";
 
 /// The site of the broadcast of which packets are lost.
-const LATER: &str =
-    "ecm-every 200\ncrypto-ecms 2\nperiod-cryptos 1\nmessages 2\nfirst-word 7\nlast-word 8\nfirst-period 1\n";
+const LATER: &str = site!("messages 2\nfirst-word 7\nlast-word 8\nfirst-period 1\n");
 
-// The last lines of a site, and what commands do with it.
+// A site, and what commands do with it.
 static RUNS: [(&str, &[Row]); 9] = [
     // Odd words first.
     (
-        "ecm-every 200\ncrypto-ecms 2\nperiod-cryptos 1\nmessages 1\nfirst-word 7\n",
+        site!("messages 1\nfirst-word 7\n"),
         &[
             ("head site book clear sent", 0, "", "8f0ccbfdd29b13ed"),
             (
@@ -79,7 +68,7 @@ static RUNS: [(&str, &[Row]); 9] = [
     ),
     // The first period is above the book's last; the greatest one; and with no packet.
     (
-        "ecm-every 200\ncrypto-ecms 2\nperiod-cryptos 1\nmessages 2\nfirst-word 2\nlast-word 4294967295\nfirst-period 3\n",
+        site!("messages 2\nfirst-word 2\nlast-word 4294967295\nfirst-period 3\n"),
         &[
             ("head site book clear sent", 0, "", "1db0585efa1ebcb9"),
             (
@@ -91,7 +80,7 @@ static RUNS: [(&str, &[Row]); 9] = [
         ],
     ),
     (
-        "ecm-every 200\ncrypto-ecms 2\nperiod-cryptos 1\nmessages 2\nfirst-word 1\nlast-word 2\nfirst-period 4294967295\n",
+        site!("messages 2\nfirst-word 1\nlast-word 2\nfirst-period 4294967295\n"),
         &[
             ("head site book clear sent", 0, "", "256dd0e36c3d162b"),
             (
@@ -104,7 +93,7 @@ static RUNS: [(&str, &[Row]); 9] = [
         ],
     ),
     (
-        "ecm-every 200\ncrypto-ecms 2\nperiod-cryptos 1\nmessages 1\nfirst-word 9\nlast-word 9\nfirst-period 2\n",
+        site!("messages 1\nfirst-word 9\nlast-word 9\nfirst-period 2\n"),
         &[
             ("head site book empty sent", 0, "", "45933b4a36edf7eb"),
             (
@@ -118,7 +107,9 @@ static RUNS: [(&str, &[Row]); 9] = [
     ),
     // The last two of all words.
     (
-        "ecm-every 1\ncrypto-ecms 1\nperiod-cryptos 1\nmessages 1\nfirst-word 4294967294\n",
+        site_start!(
+            "ecm-every 1\ncrypto-ecms 1\nperiod-cryptos 1\nmessages 1\nfirst-word 4294967294\n"
+        ),
         &[
             ("sample 7 2 short", 0, "", "7503303d8ed4d577"),
             ("head site empty short sent", 0, "", "49d112fb4587ce28"),
@@ -134,7 +125,7 @@ static RUNS: [(&str, &[Row]); 9] = [
     ),
     // A range of one word; of two; of none.
     (
-        "ecm-every 200\ncrypto-ecms 2\nperiod-cryptos 1\nmessages 1\nfirst-word 7\nlast-word 7\n",
+        site!("messages 1\nfirst-word 7\nlast-word 7\n"),
         &[
             ("head site book clear-400 sent", 0, "", "0871c5f8655010b1"),
             ("trial site book clear-400", 0, ALL_OF_THE_FIRST, ""),
@@ -165,11 +156,11 @@ static RUNS: [(&str, &[Row]); 9] = [
         ],
     ),
     (
-        "ecm-every 200\ncrypto-ecms 2\nperiod-cryptos 1\nmessages 1\nfirst-word 7\nlast-word 8\n",
+        site!("messages 1\nfirst-word 7\nlast-word 8\n"),
         &[("head site book clear-401 sent", 0, "", "02035c3571081f05")],
     ),
     (
-        "ecm-every 200\ncrypto-ecms 2\nperiod-cryptos 1\nmessages 1\nfirst-word 7\nlast-word 6\n",
+        site!("messages 1\nfirst-word 7\nlast-word 6\n"),
         &[
             (
                 "head site book clear-401 sent",
@@ -249,22 +240,6 @@ static LOSSES: [(&[usize], Row); 6] = [
     ),
 ];
 
-/// The room for a file, and how many bytes are read and written at a time.
-const ROOM: usize = 131_072;
-
-const PIECE: usize = 65_536;
-
-/// Adds a file.
-pub(crate) fn put(
-    alloc: Global,
-    depot: &mut MemDepot,
-    name: &str,
-    bytes: &[u8],
-) -> Result<(), AllocError> {
-    let bytes = Vec::from_slice(alloc, bytes)?;
-    depot.put(name, bytes).map_err(|_| AllocError)
-}
-
 // The clear streams and the cards.
 static MADE: [&str; 5] = [
     "sample 7 600 clear",
@@ -274,13 +249,11 @@ static MADE: [&str; 5] = [
     "card site 5 card-5",
 ];
 
-/// A site with these last lines, a book, clear streams and cards.
-fn shelf(alloc: Global, lines: &str) -> Result<MemDepot, AllocError> {
+/// A file system with the site, a book, clear streams and cards.
+fn shelf(alloc: Global, site: &str) -> Result<MemDepot, AllocError> {
     let mut depot = MemDepot::new(alloc, ROOM, PIECE).map_err(|_| AllocError)?;
-    let mut site = String::from_str(alloc, FIRST_LINES)?;
-    site.push_str(lines)?;
     put(alloc, &mut depot, "site", site.as_bytes())?;
-    put(alloc, &mut depot, "book", BOOK)?;
+    put(alloc, &mut depot, "book", BOOK.as_bytes())?;
     put(alloc, &mut depot, "empty", b"")?;
     for words in &MADE {
         answered(alloc, &mut depot, words)?;
@@ -315,10 +288,10 @@ fn goes(alloc: Global, depot: &mut MemDepot, row: Row) -> Result<bool, AllocErro
 
 #[test]
 fn words_and_periods_are_those_of_the_site(rt: HostRuntime) -> Result<(), AllocError> {
-    for (lines, rows) in &RUNS {
-        let mut depot = shelf(rt.alloc(), lines)?;
+    for (site, rows) in &RUNS {
+        let mut depot = shelf(rt.alloc(), site)?;
         for row in *rows {
-            assert!(rt; goes(rt.alloc(), &mut depot, *row)?, "{lines} {row:?}");
+            assert!(rt; goes(rt.alloc(), &mut depot, *row)?, "{site} {row:?}");
         }
     }
     Ok(())

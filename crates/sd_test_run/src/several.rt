@@ -1,23 +1,11 @@
 use crate::changes::PACKET;
-use crate::day::{answered, file};
+use crate::day::{PIECE, ROOM, answered, file};
 use sd_ports::MemDepot;
+use sd_test_texts::site_start;
 use std::alloc::{AllocError, Global};
 
 /// A site with a message before each 20th packet.
-const TWENTY: &str = "height 3
-master 000102030405060708090a0b0c0d0e0f101112131415161718191a1b1c1d1e1f
-ca 1234
-emm 496
-ecm 497
-ecm-every 20
-crypto-ecms 2
-period-cryptos 1
-";
-
-/// The room for a file, and how many bytes are read and written at a time.
-const ROOM: usize = 131_072;
-
-const PIECE: usize = 65_536;
+const TWENTY: &str = site_start!("ecm-every 20\ncrypto-ecms 2\nperiod-cryptos 1\n");
 
 /// A depot with a site, a book and the packets of a sample stream.
 fn shelf(alloc: Global, site: Vec<u8>, book: &[u8], sample: &str) -> Result<MemDepot, AllocError> {

@@ -1,7 +1,8 @@
 use sd_command_status::{ClearCause, Status};
 use sd_ports::MemSink;
 use sd_sample::sample;
-use sd_test_memory::{Fault, Files, SITE, left};
+use sd_test_memory::{Fault, Files, Leaving, left};
+use sd_test_texts::SITE;
 use std::alloc::{AllocError, Global};
 use std::fmt::Write;
 
@@ -66,7 +67,7 @@ static ROWS: [Row; 9] = [
         [400, 0, 0, 0, 0, 0, 0, 0],
     ),
     (
-        "messages 1\nfirst-word 7\nlast-word 7\nfirst-period 0\n",
+        ONE_WORD,
         "send 400\n",
         "sends 400 packets 404 period 0\n",
         [0; 8],
@@ -81,7 +82,7 @@ static ROWS: [Row; 9] = [
 
 /// The files of a field: the site with lines after it, the clear stream of 600 packets, and the script.
 fn field_files(alloc: Global, more: &str, script: &str) -> Result<Files, AllocError> {
-    let mut site = Vec::from_slice(alloc, SITE)?;
+    let mut site = Vec::from_slice(alloc, SITE.as_bytes())?;
     site.extend_from_slice(more.as_bytes())?;
     let mut sink = MemSink::new(alloc, 112_800, 112_800, Vec::new(alloc)).map_err(|_| AllocError)?;
     sample(7, 600, &mut sink).map_err(|_| AllocError)?;
@@ -105,39 +106,38 @@ fn lines(alloc: Global, first: &str, wrote: &[u32]) -> Result<String, AllocError
     Ok(text)
 }
 
+/// What `field` leaves over a site with more lines.
+fn after(alloc: Global, more: &str, script: &str) -> Result<Leaving, AllocError> {
+    let files = field_files(alloc, more, script)?;
+    let words = ["field", "S", "C", "E"];
+    left(alloc, &files, &words, 4096, Fault::Nowhere)
+}
+
+/// Whether `field` prints the lines of the row.
+fn is_printed(alloc: Global, row: &Row) -> Result<bool, AllocError> {
+    let (more, script, first, wrote) = row;
+    let left = after(alloc, more, script)?;
+    let due = lines(alloc, first, wrote)?;
+    Ok(left.status == Status::Done && left.printed.as_slice() == due.as_bytes())
+}
+
 #[test]
 fn fields_are_printed(rt: HostRuntime) -> Result<(), AllocError> {
-    let alloc = rt.alloc();
-    for (more, script, first, wrote) in ROWS {
-        let files = field_files(alloc, more, script)?;
-        let left = left(
-            alloc,
-            &files,
-            &["field", "S", "C", "E"],
-            4096,
-            Fault::Nowhere,
-        )?;
-        assert_eq!(rt; left.status, Status::Done);
-        let due = lines(alloc, first, &wrote)?;
-        assert!(rt; left.printed.as_slice() == due.as_bytes(), "{script}");
+    for row in &ROWS {
+        let script = row.1;
+        assert!(rt; is_printed(rt.alloc(), row)?, "{script}");
     }
     Ok(())
 }
 
+/// Lines of a site that has one control word.
+const ONE_WORD: &str = "messages 1\nfirst-word 7\nlast-word 7\nfirst-period 0\n";
+
 #[test]
 fn refused_sends_are_told_alone(rt: HostRuntime) -> Result<(), AllocError> {
-    let alloc = rt.alloc();
-    let more = "messages 1\nfirst-word 7\nlast-word 7\nfirst-period 0\n";
-    let files = field_files(alloc, more, "send 401\noffer 0 405\n")?;
-    let left = left(
-        alloc,
-        &files,
-        &["field", "S", "C", "E"],
-        4096,
-        Fault::Nowhere,
-    )?;
+    let left = after(rt.alloc(), ONE_WORD, "send 401\noffer 0 405\n")?;
     let cause = ClearCause::TooLong;
-    assert_eq!(rt; left.status, Status::BadClear { packet: 400, cause });
+    assert!(rt; left.status == Status::BadClear { packet: 400, cause });
     assert!(rt; left.printed.as_slice() == b"clear packet 400: too long\n".as_slice());
     Ok(())
 }

@@ -6,7 +6,8 @@ use sd_engine::BreakCause;
 use sd_ports::MemSink;
 use sd_sample::sample;
 use sd_site::SiteFault;
-use sd_test_memory::{Fault, Files, Leaving, SITE, left};
+use sd_test_memory::{Fault, Files, Leaving, left};
+use sd_test_texts::{SITE, site_start};
 use std::alloc::{AllocError, Global};
 
 /// The lines of the tables in a sample stream of three packets, and how long the first is.
@@ -51,298 +52,391 @@ pub(crate) fn covered(
     Ok((left.status, left.printed))
 }
 
+// Books, what `cover` answers, and what it prints.
+static BOOKS: [(&[u8], Status, &str); 19] = [
+    (b"", Status::Done, ALL),
+    (b"revoke 5\n", Status::Done, ALL_BUT_FIVE),
+    (b"revoke 5", Status::Done, ALL_BUT_FIVE),
+    (b"revoke 5\nrevoke 5\nsubscribe 5\n", Status::Done, ALL),
+    (
+        b"subscribe 5\nrevoke 5\nrevoke 5\n",
+        Status::Done,
+        ALL_BUT_FIVE,
+    ),
+    (
+        b"revoke 0\nrevoke 1\n",
+        Status::Done,
+        "period 0 revoked 2 sets 1\n1 4\n",
+    ),
+    (
+        b"revoke 0\nrevoke 2\n",
+        Status::Done,
+        "period 0 revoked 2 sets 3\n1 2\n4 8\n5 10\n",
+    ),
+    (
+        b"revoke 7\nrevoke 0\n",
+        Status::Done,
+        "period 0 revoked 2 sets 2\n2 8\n3 15\n",
+    ),
+    (
+        b"revoke 5\nperiod\nperiod\nsubscribe 5\n",
+        Status::Done,
+        "period 0 revoked 1 sets 1\n1 13\nperiod 1 revoked 1 sets 1\n1 13\nperiod 2 revoked 0 sets 1\nall\n",
+    ),
+    (
+        b"revoke 5\nperiod\nnonsense\n",
+        Status::BadBook { word: 2, line: 3 },
+        "word 2 line 3 is refused\n",
+    ),
+    (
+        b"nonsense\nperiod\n",
+        Status::BadBook { word: 2, line: 1 },
+        "word 2 line 1 is refused\n",
+    ),
+    (
+        b"revoke 8\n",
+        Status::BadBook { word: 2, line: 1 },
+        "word 2 line 1 is refused\n",
+    ),
+    (
+        b"revoke 1\r\n",
+        Status::BadBook { word: 2, line: 1 },
+        "word 2 line 1 is refused\n",
+    ),
+    (
+        b"revoke 1\n\nrevoke 2\n",
+        Status::BadBook { word: 2, line: 2 },
+        "word 2 line 2 is refused\n",
+    ),
+    (
+        b"revoke 1\nrevoke 99999999999999999999\n",
+        Status::BadBook { word: 2, line: 2 },
+        "word 2 line 2 is refused\n",
+    ),
+    (
+        b"revoke 01\n",
+        Status::BadBook { word: 2, line: 1 },
+        "word 2 line 1 is refused\n",
+    ),
+    (
+        b"revoke \xff\n",
+        Status::BadBook { word: 2, line: 1 },
+        "word 2 line 1 is refused\n",
+    ),
+    (
+        b"subscribe 0\nperiod 1\n",
+        Status::BadBook { word: 2, line: 2 },
+        "word 2 line 2 is refused\n",
+    ),
+    (
+        b"period\nrevoke 6\n",
+        Status::Done,
+        "period 0 revoked 0 sets 1\nall\nperiod 1 revoked 1 sets 1\n1 14\n",
+    ),
+];
+
+/// Whether `cover` has this status and prints this text of a book, if one byte, three or all go through a call of a
+/// port.
+fn is_answered(alloc: Global, book: &[u8], status: Status, text: &str) -> Result<bool, AllocError> {
+    for most in [1, 3, 1000] {
+        let (told, printed) = covered(alloc, SITE.as_bytes(), book, most, Fault::Nowhere)?;
+        if told != status || printed.as_slice() != text.as_bytes() {
+            return Ok(false);
+        }
+    }
+    Ok(true)
+}
+
 #[test]
 fn books_are_covered_or_refused(rt: HostRuntime) -> Result<(), AllocError> {
-    let bad = |line| Status::BadBook { word: 2, line };
-    let cases: [(&[u8], Status, &str); 19] = [
-        (b"", Status::Done, ALL),
-        (b"revoke 5\n", Status::Done, ALL_BUT_FIVE),
-        (b"revoke 5", Status::Done, ALL_BUT_FIVE),
-        (b"revoke 5\nrevoke 5\nsubscribe 5\n", Status::Done, ALL),
-        (
-            b"subscribe 5\nrevoke 5\nrevoke 5\n",
-            Status::Done,
-            ALL_BUT_FIVE,
-        ),
-        (
-            b"revoke 0\nrevoke 1\n",
-            Status::Done,
-            "period 0 revoked 2 sets 1\n1 4\n",
-        ),
-        (
-            b"revoke 0\nrevoke 2\n",
-            Status::Done,
-            "period 0 revoked 2 sets 3\n1 2\n4 8\n5 10\n",
-        ),
-        (
-            b"revoke 7\nrevoke 0\n",
-            Status::Done,
-            "period 0 revoked 2 sets 2\n2 8\n3 15\n",
-        ),
-        (
-            b"revoke 5\nperiod\nperiod\nsubscribe 5\n",
-            Status::Done,
-            "period 0 revoked 1 sets 1\n1 13\nperiod 1 revoked 1 sets 1\n1 13\nperiod 2 revoked 0 sets 1\nall\n",
-        ),
-        (
-            b"revoke 5\nperiod\nnonsense\n",
-            bad(3),
-            "word 2 line 3 is refused\n",
-        ),
-        (b"nonsense\nperiod\n", bad(1), "word 2 line 1 is refused\n"),
-        (b"revoke 8\n", bad(1), "word 2 line 1 is refused\n"),
-        (b"revoke 1\r\n", bad(1), "word 2 line 1 is refused\n"),
-        (
-            b"revoke 1\n\nrevoke 2\n",
-            bad(2),
-            "word 2 line 2 is refused\n",
-        ),
-        (
-            b"revoke 1\nrevoke 99999999999999999999\n",
-            bad(2),
-            "word 2 line 2 is refused\n",
-        ),
-        (b"revoke 01\n", bad(1), "word 2 line 1 is refused\n"),
-        (b"revoke \xff\n", bad(1), "word 2 line 1 is refused\n"),
-        (
-            b"subscribe 0\nperiod 1\n",
-            bad(2),
-            "word 2 line 2 is refused\n",
-        ),
-        (
-            b"period\nrevoke 6\n",
-            Status::Done,
-            "period 0 revoked 0 sets 1\nall\nperiod 1 revoked 1 sets 1\n1 14\n",
-        ),
-    ];
-    for (book, status, text) in cases {
-        for most in [1, 3, 1000] {
-            let (told, printed) = covered(rt.alloc(), SITE, book, most, Fault::Nowhere)?;
-            assert_eq!(rt; told, status, "{book:?}");
-            assert_eq!(rt; printed.as_slice(), text.as_bytes(), "{book:?}");
-        }
+    for (book, status, text) in &BOOKS {
+        assert!(rt; is_answered(rt.alloc(), book, *status, text)?, "{book:?}");
     }
     Ok(())
 }
 
+/// The arguments, the site, the status, and what is printed.
+type Judgement = (&'static [&'static str], &'static str, Status, &'static str);
+
+static JUDGED: [Judgement; 20] = [
+    (&[], SITE, Status::Usage, "usage\n"),
+    (&["cover", "S"], SITE, Status::Usage, "usage\n"),
+    (
+        &["head", "S", "B", "C", "C"],
+        SITE,
+        Status::Usage,
+        "usage\n",
+    ),
+    (&["covers", "S", "B"], SITE, Status::Usage, "usage\n"),
+    (&["card", "S", "x", "S"], SITE, Status::Usage, "usage\n"),
+    (
+        &["cover", "S", "C"],
+        SITE,
+        Status::Missing(2),
+        "missing file word 2\n",
+    ),
+    (&["tables", "S", "B"], SITE, Status::Usage, "usage\n"),
+    (
+        &["tables", "C"],
+        SITE,
+        Status::Missing(1),
+        "missing file word 1\n",
+    ),
+    (
+        &["cover", "C", "C"],
+        SITE,
+        Status::Missing(1),
+        "missing file word 1\n",
+    ),
+    (
+        &["cover", "S", "B"],
+        "",
+        Status::BadSite(SiteFault::Short),
+        "site is short\n",
+    ),
+    (
+        &["cover", "S", "B"],
+        "height 21\n",
+        Status::BadSite(SiteFault::Range(1)),
+        "site line 1 is out of range\n",
+    ),
+    // The site without its last line.
+    (
+        &["cover", "S", "B"],
+        site_start!("ecm-every 200\ncrypto-ecms 2\n"),
+        Status::BadSite(SiteFault::Short),
+        "site is short\n",
+    ),
+    (
+        &["card", "S", "8", "O"],
+        SITE,
+        Status::BadWord(2),
+        "word 2 is out of range\n",
+    ),
+    (
+        &["card", "C", "05", "O"],
+        SITE,
+        Status::BadWord(2),
+        "word 2 is out of range\n",
+    ),
+    (
+        &["card", "C", "4294967296", "O"],
+        SITE,
+        Status::BadWord(2),
+        "word 2 is out of range\n",
+    ),
+    (
+        &["card", "C", "4294967295", "O"],
+        SITE,
+        Status::Missing(1),
+        "missing file word 1\n",
+    ),
+    (
+        &["card", "S", "5", "O"],
+        "height 3",
+        Status::BadSite(SiteFault::Short),
+        "site is short\n",
+    ),
+    (
+        &["sample", "7", "1000001", "O"],
+        SITE,
+        Status::BadWord(2),
+        "word 2 is out of range\n",
+    ),
+    (
+        &["sample", "4294967296", "-1", "O"],
+        SITE,
+        Status::BadWord(1),
+        "word 1 is out of range\n",
+    ),
+    (&["sample", "7", "1"], SITE, Status::Usage, "usage\n"),
+];
+
+/// Whether the arguments over this site have this status, print this text and make nothing.
+fn is_judged(
+    alloc: Global,
+    words: &[&str],
+    site: &[u8],
+    status: Status,
+    text: &str,
+) -> Result<bool, AllocError> {
+    let left = over(alloc, words, site, b"revoke 5\n", 7, Fault::Nowhere)?;
+    Ok(left.status == status && left.printed.as_slice() == text.as_bytes() && left.out.is_none())
+}
+
+/// A site with a byte more than a site has at most.
+static TOO_LONG: [u8; 4097] = [b' '; 4097];
+
 #[test]
 fn words_and_sites_are_judged(rt: HostRuntime) -> Result<(), AllocError> {
-    let long = [0x20; 4097];
-    let cases: [(&[&str], &[u8], Status, &str); 21] = [
-        (&[], SITE, Status::Usage, "usage\n"),
-        (&["cover", "S"], SITE, Status::Usage, "usage\n"),
-        (
-            &["head", "S", "B", "C", "C"],
-            SITE,
-            Status::Usage,
-            "usage\n",
-        ),
-        (&["covers", "S", "B"], SITE, Status::Usage, "usage\n"),
-        (&["card", "S", "x", "S"], SITE, Status::Usage, "usage\n"),
-        (
-            &["cover", "S", "C"],
-            SITE,
-            Status::Missing(2),
-            "missing file word 2\n",
-        ),
-        (&["tables", "S", "B"], SITE, Status::Usage, "usage\n"),
-        (
-            &["tables", "C"],
-            SITE,
-            Status::Missing(1),
-            "missing file word 1\n",
-        ),
-        (
-            &["cover", "C", "C"],
-            SITE,
-            Status::Missing(1),
-            "missing file word 1\n",
-        ),
-        (
-            &["cover", "S", "B"],
-            b"",
-            Status::BadSite(SiteFault::Short),
-            "site is short\n",
-        ),
-        (
-            &["cover", "S", "B"],
-            b"height 21\n",
-            Status::BadSite(SiteFault::Range(1)),
-            "site line 1 is out of range\n",
-        ),
-        (
-            &["cover", "S", "B"],
-            &SITE[..SITE.len() - 17],
-            Status::BadSite(SiteFault::Short),
-            "site is short\n",
-        ),
-        (
-            &["cover", "S", "B"],
-            &long,
-            Status::Limit(LimitKind::SiteBytes),
-            "limit: site bytes\n",
-        ),
-        (
-            &["card", "S", "8", "O"],
-            SITE,
-            Status::BadWord(2),
-            "word 2 is out of range\n",
-        ),
-        (
-            &["card", "C", "05", "O"],
-            SITE,
-            Status::BadWord(2),
-            "word 2 is out of range\n",
-        ),
-        (
-            &["card", "C", "4294967296", "O"],
-            SITE,
-            Status::BadWord(2),
-            "word 2 is out of range\n",
-        ),
-        (
-            &["card", "C", "4294967295", "O"],
-            SITE,
-            Status::Missing(1),
-            "missing file word 1\n",
-        ),
-        (
-            &["card", "S", "5", "O"],
-            b"height 3",
-            Status::BadSite(SiteFault::Short),
-            "site is short\n",
-        ),
-        (
-            &["sample", "7", "1000001", "O"],
-            SITE,
-            Status::BadWord(2),
-            "word 2 is out of range\n",
-        ),
-        (
-            &["sample", "4294967296", "-1", "O"],
-            SITE,
-            Status::BadWord(1),
-            "word 1 is out of range\n",
-        ),
-        (&["sample", "7", "1"], SITE, Status::Usage, "usage\n"),
-    ];
-    for (words, site, status, text) in cases {
-        let left = over(rt.alloc(), words, site, b"revoke 5\n", 7, Fault::Nowhere)?;
-        assert_eq!(rt; left.status, status, "{words:?}");
-        assert_eq!(rt; left.printed.as_slice(), text.as_bytes(), "{words:?}");
-        assert!(rt; left.out.is_none(), "{words:?}");
+    for (words, site, status, text) in &JUDGED {
+        let is_due = is_judged(rt.alloc(), words, site.as_bytes(), *status, text)?;
+        assert!(rt; is_due, "{words:?} {text}");
     }
+    let status = Status::Limit(LimitKind::SiteBytes);
+    let words = ["cover", "S", "B"];
+    assert!(rt; is_judged(rt.alloc(), &words, &TOO_LONG, status, "limit: site bytes\n")?);
     Ok(())
+}
+
+/// What the arguments leave if a file that is made has room for so many bytes.
+fn left_in(
+    alloc: Global,
+    room: usize,
+    words: &[&str],
+    most: usize,
+    fault: Fault<'_>,
+) -> Result<Leaving, AllocError>
+    requires { 1 ≤ most }
+{
+    let mut files = Files::new(alloc)?;
+    files.room = room;
+    left(alloc, &files, words, most, fault)
+}
+
+/// Whether `card` makes the card of leaf 5 without a print, and leaves a prefix of it if the device has less room.
+fn is_card_made(alloc: Global) -> Result<bool, AllocError> {
+    let card = card_5(alloc)?;
+    let words = ["card", "S", "5", "O"];
+    let made = left_in(alloc, 252, &words, 100, Fault::Print(0))?;
+    let cut = left_in(alloc, 251, &words, 100, Fault::Nowhere)?;
+    Ok(
+        made.status == Status::Done
+            && made.printed.is_empty()
+            && made
+                .out
+                .is_some_and(|out| out.as_slice() == card.as_slice())
+            && cut.status == Status::DepotFault
+            && cut.printed.as_slice() == b"device fault\n".as_slice()
+            && cut
+                .out
+                .is_some_and(|out| out.len() < 252 && card.as_slice().starts_with(&out)),
+    )
+}
+
+/// Whether a sample stream of so many packets has this length, and its fourth packet, if there is one, begins with
+/// these bytes.
+fn is_sampled(
+    alloc: Global,
+    packets: &str,
+    length: usize,
+    start: &[u8],
+) -> Result<bool, AllocError> {
+    let words = ["sample", "0", packets, "O"];
+    let made = left_in(alloc, 1000, &words, 1000, Fault::Nowhere)?;
+    let Some(out) = made.out else {
+        return Ok(false);
+    };
+    let last = out.as_slice().get(564..);
+    Ok(
+        made.status == Status::Done
+            && out.len() == length
+            && last.is_none_or(|last| last.starts_with(start)),
+    )
 }
 
 #[test]
 fn files_are_made(rt: HostRuntime) -> Result<(), AllocError> {
     let alloc = rt.alloc();
-    let card = card_5(alloc)?;
-    let mut files = Files::new(alloc)?;
-    let words = ["card", "S", "5", "O"];
-    files.room = 252;
-    let made = left(alloc, &files, &words, 100, Fault::Print(0))?;
-    assert_eq!(rt; made.status, Status::Done);
-    assert!(rt; made.printed.is_empty());
-    assert!(rt;
-        made.out
-            .is_some_and(|out| out.as_slice() == card.as_slice())
-    );
-    // A device that takes no more leaves a prefix.
-    files.room = 251;
-    let cut = left(alloc, &files, &words, 100, Fault::Nowhere)?;
-    assert_eq!(rt; cut.status, Status::DepotFault);
-    assert_eq!(rt; cut.printed.as_slice(), b"device fault\n".as_slice());
-    assert!(rt;
-        cut.out
-            .is_some_and(|out| out.len() < 252 && card.as_slice().starts_with(&out))
-    );
-    files.room = 1000;
-    for (packets, length, start) in [
-        ("0", 0, b"".as_slice()),
-        ("4", 752, &[0x47, 1, 1, 0x10, 0x14]),
-    ] {
-        let words = ["sample", "0", packets, "O"];
-        let made = left(alloc, &files, &words, 1000, Fault::Nowhere)?;
-        assert_eq!(rt; made.status, Status::Done);
-        let out = made.out.expect(&rt, "a stream");
-        assert_eq!(rt; out.len(), length);
-        assert!(rt;
-            out.as_slice()
-                .get(564..)
-                .is_none_or(|last| last.starts_with(start))
-        );
-    }
-    files.room = 564;
-    let cut = left(
-        alloc,
-        &files,
-        &["sample", "0", "4", "O"],
-        100,
-        Fault::Nowhere,
-    )?;
-    assert_eq!(rt; cut.status, Status::DepotFault);
+    assert!(rt; is_card_made(alloc)?);
+    assert!(rt; is_sampled(alloc, "0", 0, b"")?);
+    assert!(rt; is_sampled(alloc, "4", 752, &[0x47, 1, 1, 0x10, 0x14])?);
+    let cut = left_in(alloc, 564, &["sample", "0", "4", "O"], 100, Fault::Nowhere)?;
+    assert!(rt; cut.status == Status::DepotFault);
     assert!(rt; cut.out.is_some_and(|out| out.len() < 752));
     Ok(())
 }
 
+/// The sample stream of three packets.
+fn sampled(alloc: Global) -> Result<Vec<u8>, AllocError> {
+    let mut sink = MemSink::new(alloc, 564, 564, Vec::new(alloc)).map_err(|_| AllocError)?;
+    sample(0, 3, &mut sink).map_err(|_| AllocError)?;
+    Ok(sink.into_bytes())
+}
+
+/// The bytes with one more inserted.
+fn with_byte(alloc: Global, bytes: &[u8], at: usize, byte: u8) -> Result<Vec<u8>, AllocError> {
+    let mut longer = Vec::from_slice(alloc, bytes.get(..at).unwrap_or(bytes))?;
+    longer.push(byte)?;
+    longer.extend_from_slice(bytes.get(at..).unwrap_or(&[]))?;
+    Ok(longer)
+}
+
+/// Whether `tables` has this status for a stream, and prints these lines and this last one.
+fn is_tabled(
+    alloc: Global,
+    stream: &[u8],
+    status: Status,
+    lines: &str,
+    last: &str,
+) -> Result<bool, AllocError> {
+    let left = over(alloc, &["tables", "S"], stream, b"", 100, Fault::Nowhere)?;
+    let mut due = Vec::from_slice(alloc, lines.as_bytes())?;
+    due.extend_from_slice(last.as_bytes())?;
+    Ok(left.status == status && left.printed.as_slice() == due.as_slice())
+}
+
+const TORN: Status = Status::BadStream {
+    packet: 3,
+    cause: StreamCause::Broken(BreakCause::Torn),
+};
+
+const NO_SYNC: Status = Status::BadStream {
+    packet: 1,
+    cause: StreamCause::Broken(BreakCause::NoSync),
+};
+
 #[test]
 fn tables_are_printed(rt: HostRuntime) -> Result<(), AllocError> {
     let alloc = rt.alloc();
-    let broken = |packet, cause| Status::BadStream { packet, cause };
-    let mut sink = MemSink::new(alloc, 564, 564, Vec::new(alloc)).map_err(|_| AllocError)?;
-    sample(0, 3, &mut sink).map_err(|_| AllocError)?;
-    let whole = Vec::from_slice(alloc, sink.bytes())?;
-    let mut torn = Vec::from_slice(alloc, sink.bytes())?;
-    torn.push(0x47)?;
-    let mut shifted = Vec::from_slice(alloc, sink.bytes())?;
-    assert_eq!(rt; shifted.len(), 564);
-    shifted.insert(188, 0xFF)?;
-    let cases: [(&[u8], Status, &str, &str); 4] = [
-        (b"", Status::Done, "", ""),
-        (&whole, Status::Done, TABLES, ""),
-        (
-            &torn,
-            broken(3, StreamCause::Broken(BreakCause::Torn)),
-            TABLES,
-            "stream packet 3: torn\n",
-        ),
-        (
+    let whole = sampled(alloc)?;
+    let first = &TABLES[..PAT_LINE];
+    assert!(rt; is_tabled(alloc, b"", Status::Done, "", "")?);
+    assert!(rt; is_tabled(alloc, &whole, Status::Done, TABLES, "")?);
+    let torn = with_byte(alloc, &whole, 564, 0x47)?;
+    assert!(rt; is_tabled(alloc, &torn, TORN, TABLES, "stream packet 3: torn\n")?);
+    let shifted = with_byte(alloc, &whole, 188, 0xFF)?;
+    assert!(rt;
+        is_tabled(
+            alloc,
             &shifted,
-            broken(1, StreamCause::Broken(BreakCause::NoSync)),
-            &TABLES[..PAT_LINE],
-            "stream packet 1: no sync\n",
-        ),
-    ];
-    for (stream, status, lines, last) in cases {
-        let left = over(alloc, &["tables", "S"], stream, b"", 100, Fault::Nowhere)?;
-        assert_eq!(rt; left.status, status);
-        assert!(rt; left.printed.as_slice().starts_with(lines.as_bytes()));
-        assert_eq!(rt;
-            lines.len().checked_add(last.len()),
-            Some(left.printed.len())
-        );
-        assert!(rt; left.printed.as_slice().ends_with(last.as_bytes()));
-    }
+            NO_SYNC,
+            first,
+            "stream packet 1: no sync\n"
+        )?
+    );
     let left = over(alloc, &["tables", "S"], &whole, b"", 100, Fault::Print(1))?;
-    assert_eq!(rt; left.status, Status::PrintFault);
-    assert_eq!(rt; left.printed.as_slice(), &TABLES.as_bytes()[..PAT_LINE]);
+    assert!(rt; left.status == Status::PrintFault);
+    assert!(rt; left.printed.as_slice() == first.as_bytes());
     Ok(())
 }
 
+// Books, the number of the print that fails, and how the text that was printed before it begins.
+static FAILED_PRINTS: [(&[u8], u32, &str); 4] = [
+    (b"revoke 5\n", 0, ""),
+    (b"revoke 5\n", 1, "peri"),
+    (b"revoke 5\n", 6, "period 0 revoked 1 sets"),
+    (b"revoke 9\n", 1, "word"),
+];
+
 #[test]
 fn a_failed_print_is_told(rt: HostRuntime) -> Result<(), AllocError> {
-    for (book, failing, prefix) in [
-        (b"revoke 5\n".as_slice(), 0, ""),
-        (b"revoke 5\n", 1, "peri"),
-        (b"revoke 5\n", 6, "period 0 revoked 1 sets"),
-        (b"revoke 9\n", 1, "word"),
-    ] {
-        let (status, printed) = covered(rt.alloc(), SITE, book, 4, Fault::Print(failing))?;
-        assert_eq!(rt; status, Status::PrintFault);
-        assert_eq!(rt; status.code(), 5);
-        assert!(rt; printed.as_slice().starts_with(prefix.as_bytes()));
+    for (book, failing, prefix) in &FAILED_PRINTS {
+        let (status, printed) = covered(
+            rt.alloc(),
+            SITE.as_bytes(),
+            book,
+            4,
+            Fault::Print(*failing),
+        )?;
+        assert!(rt;
+            status == Status::PrintFault && status.code() == 5,
+            "{prefix}"
+        );
+        assert!(rt;
+            printed.as_slice().starts_with(prefix.as_bytes()),
+            "{prefix}"
+        );
     }
     Ok(())
 }
@@ -354,10 +448,10 @@ fn lines_are_counted(rt: HostRuntime) -> Result<(), AllocError> {
     for _line in 0..1_048_577 {
         book.extend_from_slice(b"revoke 5\n")?;
     }
-    let (status, _) = covered(alloc, SITE, &book, 65_536, Fault::Nowhere)?;
+    let (status, _) = covered(alloc, SITE.as_bytes(), &book, 65_536, Fault::Nowhere)?;
     assert_eq!(rt; status, Status::Limit(LimitKind::Book(BookLimit::Lines)));
     book.truncate(9 * 1_048_576);
-    let (status, printed) = covered(alloc, SITE, &book, 65_536, Fault::Nowhere)?;
+    let (status, printed) = covered(alloc, SITE.as_bytes(), &book, 65_536, Fault::Nowhere)?;
     assert_eq!(rt; status, Status::Done);
     assert_eq!(rt; printed.as_slice(), ALL_BUT_FIVE.as_bytes());
     Ok(())
