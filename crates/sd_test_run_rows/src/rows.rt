@@ -324,15 +324,12 @@ fn is_sampled(
 ) -> Result<bool, AllocError> {
     let words = ["sample", "0", packets, "O"];
     let made = left_in(alloc, 1000, &words, 1000, Fault::Nowhere)?;
+    let is_done = made.status == Status::Done;
     let Some(out) = made.out else {
         return Ok(false);
     };
     let last = out.as_slice().get(564..);
-    Ok(
-        made.status == Status::Done
-            && out.len() == length
-            && last.is_none_or(|last| last.starts_with(start)),
-    )
+    Ok(is_done && out.len() == length && last.is_none_or(|last| last.starts_with(start)))
 }
 
 #[test]
