@@ -497,21 +497,30 @@ static RECEIVED: [Reception; 5] = [
     ),
 ];
 
-/// Whether a stream is received as the row says, if a byte, a packet or more is read and written at a time.
+/// Whether a stream is received so, if a byte, a packet or more is read and written at a time.
+fn is_opened<'a>(
+    alloc: Global,
+    card: &'a [u8],
+    stream: &'a [u8],
+    due: Due<'_>,
+) -> Result<bool, AllocError> {
+    for most in [1, 188, 1000] {
+        let files: [File<'a>; 2] = [("K", card), ("X", stream)];
+        let left = after(alloc, &["receive", "K", "X", "O"], &files, most)?;
+        if !due.is_left(&left) {
+            return Ok(false);
+        }
+    }
+    Ok(true)
+}
+
+/// Whether a stream is received as the row says.
 fn is_received(alloc: Global, card: &[u8], row: &Reception) -> Result<bool, AllocError> {
     let (packets, length, status, line, clear) = *row;
     let mut stream = stream_of(alloc, packets)?;
     stream.truncate(length);
     let clear = stream_of(alloc, clear)?;
-    let whole = ending(status, line, Some(&clear));
-    let words = ["receive", "K", "X", "O"];
-    for most in [1, 188, 1000] {
-        let left = after(alloc, &words, &[("K", card), ("X", &stream)], most)?;
-        if !whole.is_left(&left) {
-            return Ok(false);
-        }
-    }
-    Ok(true)
+    is_opened(alloc, card, &stream, ending(status, line, Some(&clear)))
 }
 
 #[test]

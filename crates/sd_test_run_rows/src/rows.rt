@@ -324,12 +324,17 @@ fn is_sampled(
 ) -> Result<bool, AllocError> {
     let words = ["sample", "0", packets, "O"];
     let made = left_in(alloc, 1000, &words, 1000, Fault::Nowhere)?;
-    let is_done = made.status == Status::Done;
-    let Some(out) = made.out else {
-        return Ok(false);
-    };
-    let last = out.as_slice().get(564..);
-    Ok(is_done && out.len() == length && last.is_none_or(|last| last.starts_with(start)))
+    Ok(
+        made.status == Status::Done
+            && made
+                .out
+                .is_some_and(|out| has_fourth(out.as_slice(), length, start)),
+    )
+}
+
+/// Whether a stream has this length, and its fourth packet, if there is one, begins with these bytes.
+fn has_fourth(stream: &[u8], length: usize, start: &[u8]) -> bool {
+    stream.len() == length && stream.get(564..).is_none_or(|last| last.starts_with(start))
 }
 
 #[test]
