@@ -92,6 +92,7 @@ fn is_named(section: &Section<'_>) -> bool
 }
 
 // What the section of this index and body says, which names its broadcast or doesn't.
+#[inline(always)]
 #[tactic(auto, using(crate::proofs::Judging::count_breaks))]
 fn read_body(h: Height, named: bool, index: u16, body: &[u8]) -> Result<Emm, EmmFault>
     requires { length_of_head named ≤ length body.now }

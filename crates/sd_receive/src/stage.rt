@@ -76,6 +76,7 @@ impl Receiver {
     }
 
     // Takes the next packet, which was read as `heard`, if none was refused before.
+    #[inline(always)]
     fn take_heard<K: Sink, L: Ledger>(
         &mut self,
         tuning: Tuning,
