@@ -106,13 +106,13 @@ fn read_body(h: Height, named: bool, index: u16, body: &[u8]) -> Result<Emm, Emm
         return Err(EmmFault::Count);
     }
     let count = usize::from(emm.count);
-    let Some(entries) = read_entries(h, emm.sets, count, &body[head_length(named)..]) else {
+    let bytes = &body[head_length(named)..];
+    if !read_entries(h, emm.sets, count, bytes, &mut emm.entries) {
         return Err(EmmFault::Node);
-    };
-    if !are_ascending(&entries[..count]) {
+    }
+    if !are_ascending(&emm.entries[..count]) {
         return Err(EmmFault::Order);
     }
-    emm.entries = entries;
     Ok(emm)
 }
 
@@ -171,22 +171,28 @@ fn is_counted(emm: &Emm, length: usize) -> bool
         && u32::from(emm.count) == count
 }
 
-// The entries, where each is a set that may stand there.
-fn read_entries(h: Height, sets: u32, count: usize, bytes: &[u8]) -> Option<[Entry; MOST_ENTRIES]>
+// Puts the entries in place of the first of `entries`, as long as each is a set that may stand there. Whether all are.
+fn read_entries(
+    h: Height,
+    sets: u32,
+    count: usize,
+    bytes: &[u8],
+    entries: &mut [Entry; MOST_ENTRIES],
+) -> bool
     requires few { count ≤ MOST_ENTRIES }
     requires room { length bytes.now ≡ ENTRY_BYTES * count }
-    ensures value { IfSome result (λ entries. entries ≡ padded_entries (entries_in count bytes.now)) }
-    ensures sets { IsSome result ↔ AreSets h sets (entries_in count bytes.now) }
+    requires none { entries.old ≡ replicate MOST_ENTRIES no_entry }
+    ensures value { IsTrue result → entries.new ≡ padded_entries (entries_in count bytes.now) }
+    ensures sets { IsTrue result ↔ AreSets h sets (entries_in count bytes.now) }
 {
-    let mut entries = [NOTHING; MOST_ENTRIES];
     for k in 0..count {
-        entries[k] = read_entry(
-            h,
-            sets,
-            &bytes[ENTRY_BYTES * k..ENTRY_BYTES * k + ENTRY_BYTES],
-        )?;
+        let item = &bytes[ENTRY_BYTES * k..ENTRY_BYTES * k + ENTRY_BYTES];
+        match read_entry(h, sets, item) {
+            Some(entry) => entries[k] = entry,
+            None => return false,
+        }
     }
-    Some(entries)
+    true
 }
 
 // An entry, where it is a set that may stand there.

@@ -1,7 +1,7 @@
 -- What a packet comes to for the receiver.
 use Rattle.std.proofs.Common.{◌≡◌, inl, inr, ℕ, suc, ◌+◌, ◌-◌, ◌<◌, ◌≤◌, ◌++◌, List, [], ◌∷◌, length, length-append}
 use Rattle.std.proofs.Common.{append-nil, refl, sym, ap, ◌∙◌, subst, true, false, Bool, arith}
-use Rattle.std.specs.Prelude.{◌==◌, ◌&&◌, is_none, find, Option, Some, None, option_map, IfSome, OnOk, IsErrOf}
+use Rattle.std.specs.Prelude.{◌==◌, ◌&&◌, is_none, find, Option, Some, None, option_map, IfSome, IfOk, OnOk, IsErrOf}
 use Rattle.std.specs.Prelude.{reverse, Result, Ok, Err, if◌then◌else◌}
 use Rattle.std.specs.List.{concat}
 use Rattle.std.specs.Option.{option_or}
@@ -520,3 +520,10 @@ first_after card listener none follows = record {
   unbroken = refl;
   unrefused = refl;
 }
+
+-- what holds of all that may be read holds of what was read
+pub if_read : {A E : Type 0} {P Q : A → Type 0} (read : Result (Option A) E) → ((a : A) → P a → Q a) →
+    IfOk read (λ said. IfSome said P) → IfOk read (λ said. IfSome said Q)
+if_read (Ok (Some a)) each has = each a has
+if_read (Ok None) each has = has
+if_read (Err fault) each has = has

@@ -66,20 +66,20 @@ impl Listener {
         number: u64,
         tuning: Tuning,
         packet: &Packet,
-        heard: &Heard,
+        heard: Heard<'_>,
         out: &mut K,
         steps: &mut Steps<L>,
     ) -> Result<(), StageFault<StreamFault>>
         requires ecm { tuning.ecm < 8192 }
         requires live { (past : List Thing) × IsListenerAfter (fields_of card.now) past self.old }
         requires open { self.old.closed ≡ false }
-        requires form { IsFormed card.now.height heard.now }
+        requires form { IsFormed card.now.height heard }
         ensures value { PacketOutcome
-            (TakesHeard (fields_of card.now) tuning number (heard_as number packet.now heard.now) self.old)
-            (RefusesHeard (fields_of card.now) tuning number (heard_as number packet.now heard.now) self.old)
+            (TakesHeard (fields_of card.now) tuning number (heard_as number packet.now heard.entry) self.old)
+            (RefusesHeard (fields_of card.now) tuning number (heard_as number packet.now heard.entry) self.old)
             (vessel K.Sink out.old) (vessel K.Sink out.new) self.new result }
         ensures steps { (past : List Thing) → IsListenerAfter (fields_of card.now) past self.old → steps.new ≤ steps.old
-            + (if takes_key_of (fields_of card.now) past (heard_as number packet.now heard.now)
+            + (if takes_key_of (fields_of card.now) past (heard_as number packet.now heard.entry)
             then card.now.height else 0) }
         ensures cause { IsCaused (K.faults out.old) (K.faults out.new) (IsErrOf result StageFault.Write) }
     {
@@ -94,8 +94,8 @@ impl Listener {
                 Err(fault) => Err(StageFault::Refused(fault)),
             },
             Heard::Controls(part) => self.control(card, number, tuning, part, out),
-            Heard::BadEmm(fault) => Err(StageFault::Refused(StreamFault::BadEmm(number, *fault))),
-            Heard::BadEcm(fault) => Err(StageFault::Refused(StreamFault::BadEcm(number, *fault))),
+            Heard::BadEmm(fault) => Err(StageFault::Refused(StreamFault::BadEmm(number, fault))),
+            Heard::BadEcm(fault) => Err(StageFault::Refused(StreamFault::BadEcm(number, fault))),
         }
     }
 

@@ -3,7 +3,6 @@ ghost use Rattle.sd_base.specs.Count.{IsCaused};
 ghost use Rattle.sd_engine.specs.Stage.{vessel, HasGrown, IsCutShort, IsAllowed};
 ghost use Rattle.sd_spec_receiver.specs.Heard.{hears};
 ghost use Rattle.sd_receive_filter.specs.Ears.{heard_as, IsFormed};
-ghost use Rattle.sd_receive_filter.specs.declared.ears.Heard.TheVariants.{Other};
 ghost use Rattle.sd_receive.specs.Receiving.{IsAfter, IsFit, IsLive, Refusing, receiver_does, receiver_ends};
 ghost use Rattle.sd_receive.specs.Receiving.{receiver_refuses};
 
@@ -12,11 +11,13 @@ use crate::receiver::Receiver;
 use crate::turn::name_of;
 use sd_base::{NoMemory, Steps};
 use sd_card::Card;
+use sd_ecm::read_ecm;
+use sd_emm::read_emm;
 use sd_engine::{Stage, StageFault};
 use sd_packet::Packet;
 use sd_ports::Sink;
-use sd_psi::{CAT_PID, Tuning, cat_tuning};
-use sd_receive_filter::{Heard, hear};
+use sd_psi::{Tuning, cat_tuning};
+use sd_receive_filter::{Channel, Heard, channel_of, hear_ecm, hear_emm};
 use sd_spec_receiver::{Ending, StreamFault};
 use std::alloc::Global;
 use std::sync::ledger::Ledger;
@@ -67,12 +68,18 @@ impl Receiver {
             self.tuning = cat_tuning(self.card.ca(), packet);
             return Ok(());
         };
-        // What is heard takes some 300 bytes, which aren't copied for a packet that is no message, as most are.
-        if is_other(tuning, packet) {
-            return self.take_heard(tuning, packet, &Heard::Other, out, steps);
+        match channel_of(tuning, packet) {
+            Channel::Cat => self.take_heard(tuning, packet, Heard::Dropped, out, steps),
+            Channel::Emm => {
+                let read = read_emm(self.card.height(), packet);
+                self.take_heard(tuning, packet, hear_emm(&read), out, steps)
+            }
+            Channel::Ecm => {
+                let read = read_ecm(packet);
+                self.take_heard(tuning, packet, hear_ecm(&read), out, steps)
+            }
+            Channel::Other => self.take_heard(tuning, packet, Heard::Other, out, steps),
         }
-        let heard = hear(self.card.height(), tuning, packet);
-        self.take_heard(tuning, packet, &heard, out, steps)
     }
 
     // Takes the next packet, which was read as `heard`, if none was refused before.
@@ -81,16 +88,16 @@ impl Receiver {
         &mut self,
         tuning: Tuning,
         packet: &Packet,
-        heard: &Heard,
+        heard: Heard<'_>,
         out: &mut K,
         steps: &mut Steps<L>,
     ) -> Result<(), StageFault<StreamFault>>
         requires fit { IsFit self.old }
         requires unrefused { self.old.refusal ≡ None }
         requires tuned { self.old.tuning ≡ Some tuning }
-        requires heard { (number : ℕ) → heard_as number packet.now heard.now
+        requires heard { (number : ℕ) → heard_as number packet.now heard
             ≡ hears self.old.card.height tuning number packet.now }
-        requires form { IsFormed self.old.card.height heard.now }
+        requires form { IsFormed self.old.card.height heard }
         ensures value { OnOk result (HasGrown (vessel K.Sink out.old) (vessel K.Sink out.new) steps.old steps.new
             (receiver_does self.old packet.now self.new)) }
         ensures ok { OnOk result (IsFit self.new) }
@@ -114,16 +121,6 @@ impl Receiver {
         self.listener
             .take(&self.card, number, tuning, packet, heard, out, steps)
     }
-}
-
-// Whether a packet is on another PID than those of the CAT and of messages.
-#[tactic(auto, unfolding(sd_spec_receiver::specs::Heard::hears))]
-fn is_other(tuning: Tuning, packet: &Packet) -> bool
-    ensures { result ≡ true → (h number : ℕ) → heard_as number packet.now Other
-        ≡ hears h tuning number packet.now }
-{
-    let pid = packet.pid();
-    pid != CAT_PID && pid != tuning.emm && pid != tuning.ecm
 }
 
 impl<K: Sink, L: Ledger> Stage<K, L> for Receiver {

@@ -32,8 +32,8 @@ fn differ(before: Option<Option<u32>>, name: Option<Option<u32>>) -> bool
 }
 
 // The name of the run to which a message belongs, if the packet is a message without a fault.
-pub fn name_of(heard: &Heard) -> Option<Option<u32>>
-    ensures { (number : ℕ) (packet : List ℕ) → result ≡ name_heard (heard_as number packet heard.now) }
+pub fn name_of(heard: Heard<'_>) -> Option<Option<u32>>
+    ensures { (number : ℕ) (packet : List ℕ) → result ≡ name_heard (heard_as number packet heard.entry) }
 {
     match heard {
         Heard::Entitles(emm) => Some(emm.run),

@@ -3,6 +3,7 @@ use Rattle.std.specs.Prelude.{ℕ, List}
 use Rattle.sd_emm.specs.Spelled.{listed_entries}
 use Rattle.sd_emm.specs.Form.{IsEmm, AreSets}
 use Rattle.sd_ecm.specs.Form.{IsEcm}
+use Rattle.sd_emm.specs.declared.emm.Emm.{Emm}
 use Rattle.sd_spec_receiver.specs.Heard as Reception
 use Rattle.sd_receive_filter.specs.declared.ears.Heard.{Heard}
 use Rattle.sd_receive_filter.specs.declared.ears.Heard.TheVariants.{Dropped, Entitles, Controls, BadEmm, BadEcm, Other}
@@ -10,16 +11,20 @@ use Rattle.sd_receive_filter.specs.declared.ears.Heard.TheVariants.{Dropped, Ent
 -- what was heard of the packet of this number
 abbrev pub heard_as : ℕ → List ℕ → Heard → Reception.Heard
 heard_as number packet Dropped = Reception.Dropped
-heard_as number packet (Entitles emm) = Reception.Entitles emm
-heard_as number packet (Controls part) = Reception.Controls part
+heard_as number packet (Entitles emm) = Reception.Entitles emm.now
+heard_as number packet (Controls part) = Reception.Controls part.now
 heard_as number packet (BadEmm fault) = Reception.BadEmm fault
 heard_as number packet (BadEcm fault) = Reception.BadEcm fault
 heard_as number packet Other = Reception.Other number packet
 
+-- a section is in its form, in a tree of height h
+abbrev pub IsFormedEmm : ℕ → Emm → Type 0
+IsFormedEmm h emm = IsEmm emm × AreSets h emm.sets (listed_entries emm)
+
 -- a section and a part are in their forms, in a tree of height h
 abbrev pub IsFormed : ℕ → Heard → Type 0
-IsFormed h (Entitles emm) = IsEmm emm × AreSets h emm.sets (listed_entries emm)
-IsFormed h (Controls part) = IsEcm part
+IsFormed h (Entitles emm) = IsFormedEmm h emm.now
+IsFormed h (Controls part) = IsEcm part.now
 IsFormed h Dropped = Unit {0}
 IsFormed h (BadEmm fault) = Unit {0}
 IsFormed h (BadEcm fault) = Unit {0}

@@ -1,24 +1,58 @@
-ghost use Rattle.std.specs.Prelude.{◌≡◌, ℕ};
+ghost use Rattle.std.specs.Prelude.{◌≡◌, ℕ, List, IfOk, IfSome};
 ghost use Rattle.sd_emm.specs.Judged.{emm_read};
+ghost use Rattle.sd_ecm.specs.Form.{IsEcm};
 ghost use Rattle.sd_ecm.specs.Judged.{ecm_read};
-ghost use Rattle.sd_spec_receiver.specs.Heard.{hears, heard_emm, heard_ecm};
-ghost use Rattle.sd_receive_filter.specs.Ears.{heard_as, IsFormed};
+ghost use Rattle.sd_spec_receiver.specs.Heard.{hears, heard_emm, heard_ecm, Dropped, Other};
+ghost use Rattle.sd_receive_filter.specs.Ears.{heard_as, IsFormed, IsFormedEmm};
+ghost use Rattle.sd_receive_filter.specs.declared.ears.Channel.TheVariants as Channels;
 
-use sd_ecm::{EcmFault, EcmPart, read_ecm};
-use sd_emm::{Emm, EmmFault, read_emm};
+use sd_ecm::{EcmFault, EcmPart};
+use sd_emm::{Emm, EmmFault};
 use sd_packet::Packet;
 use sd_psi::{CAT_PID, Tuning};
-use sd_tree::Height;
+
+/// Which of the PIDs of a receiver that took a CAT a packet is on [this project, docs/FORMATS.md, Receiver].
+#[derive(Clone, Copy, Debug, PartialEq, Eq)]
+pub enum Channel {
+    /// PID 1, that of the CAT.
+    Cat,
+    /// That of entitlements.
+    Emm,
+    /// That of control messages.
+    Ecm,
+    /// Another one.
+    Other,
+}
+
+/// The channel of a packet, where the CAT has these PIDs.
+#[inline(always)]
+#[tactic(auto, unfolding(sd_spec_receiver::specs::Heard::hears))]
+pub fn channel_of(tuning: Tuning, packet: &Packet) -> Channel
+    ensures cat { result ≡ Channels.Cat → (h number : ℕ) → hears h tuning number packet.now ≡ Dropped }
+    ensures emm { result ≡ Channels.Emm → (h number : ℕ) →
+        hears h tuning number packet.now ≡ heard_emm (emm_read h packet.now) }
+    ensures ecm { result ≡ Channels.Ecm → (h number : ℕ) →
+        hears h tuning number packet.now ≡ heard_ecm (ecm_read packet.now) }
+    ensures other { result ≡ Channels.Other → (h number : ℕ) →
+        hears h tuning number packet.now ≡ Other number packet.now }
+{
+    match packet.pid() {
+        CAT_PID => Channel::Cat,
+        pid if pid == tuning.emm => Channel::Emm,
+        pid if pid == tuning.ecm => Channel::Ecm,
+        _ => Channel::Other,
+    }
+}
 
 /// What a packet is to a receiver that took a CAT [this project, docs/FORMATS.md, Receiver].
 #[derive(Clone, Copy, Debug, PartialEq, Eq)]
-pub enum Heard {
+pub enum Heard<'a> {
     /// A packet that is dropped: one on PID 1, or one on a PID of messages that isn't one of them.
     Dropped,
     /// A section of entitlements.
-    Entitles(Emm),
+    Entitles(&'a Emm),
     /// A part of a control message.
-    Controls(EcmPart),
+    Controls(&'a EcmPart),
     /// A faulty section of entitlements, and its fault.
     BadEmm(EmmFault),
     /// A faulty part of a control message, and its fault.
@@ -27,41 +61,28 @@ pub enum Heard {
     Other,
 }
 
-/// What a packet is to a receiver in a tree of this height that took a CAT with these PIDs [this project,
-/// docs/FORMATS.md, Receiver].
-#[tactic(auto, unfolding(sd_spec_receiver::specs::Heard::hears))]
-pub fn hear(h: Height, tuning: Tuning, packet: &Packet) -> Heard
-    ensures value { (number : ℕ) → heard_as number packet.now result ≡ hears h tuning number packet.now }
-    ensures form { IsFormed h result }
+/// What a packet on the PID of entitlements is, by what was read of it.
+#[inline(always)]
+pub fn hear_emm(read: &Result<Option<Emm>, EmmFault>) -> Heard<'_>
+    ensures value { (number : ℕ) (packet : List ℕ) → heard_as number packet result ≡ heard_emm read.now }
+    ensures form { (h : ℕ) → IfOk read.now (λ said. IfSome said (IsFormedEmm h)) → IsFormed h result }
 {
-    match packet.pid() {
-        CAT_PID => Heard::Dropped,
-        pid if pid == tuning.emm => hear_emm(h, packet),
-        pid if pid == tuning.ecm => hear_ecm(packet),
-        _ => Heard::Other,
-    }
-}
-
-// What a packet on the PID of entitlements is.
-fn hear_emm(h: Height, packet: &Packet) -> Heard
-    ensures value { (number : ℕ) → heard_as number packet.now result ≡ heard_emm (emm_read h packet.now) }
-    ensures form { IsFormed h result }
-{
-    match read_emm(h, packet) {
+    match read {
         Ok(None) => Heard::Dropped,
         Ok(Some(emm)) => Heard::Entitles(emm),
-        Err(fault) => Heard::BadEmm(fault),
+        Err(fault) => Heard::BadEmm(*fault),
     }
 }
 
-// What a packet on the PID of control messages is.
-fn hear_ecm(packet: &Packet) -> Heard
-    ensures value { (number : ℕ) → heard_as number packet.now result ≡ heard_ecm (ecm_read packet.now) }
-    ensures form { (h : ℕ) → IsFormed h result }
+/// What a packet on the PID of control messages is, by what was read of it.
+#[inline(always)]
+pub fn hear_ecm(read: &Result<Option<EcmPart>, EcmFault>) -> Heard<'_>
+    ensures value { (number : ℕ) (packet : List ℕ) → heard_as number packet result ≡ heard_ecm read.now }
+    ensures form { (h : ℕ) → IfOk read.now (λ said. IfSome said IsEcm) → IsFormed h result }
 {
-    match read_ecm(packet) {
+    match read {
         Ok(None) => Heard::Dropped,
         Ok(Some(part)) => Heard::Controls(part),
-        Err(fault) => Heard::BadEcm(fault),
+        Err(fault) => Heard::BadEcm(*fault),
     }
 }

@@ -1,8 +1,9 @@
 use crate::packets::packet;
-use sd_emm::EmmFault;
+use sd_ecm::read_ecm;
+use sd_emm::{EmmFault, read_emm};
 use sd_packet::{Packet, pack_section};
 use sd_psi::{Tuning, cat_tuning};
-use sd_receive_filter::{Heard, hear};
+use sd_receive_filter::{Channel, Heard, channel_of, hear_ecm, hear_emm};
 use sd_section::seal;
 use sd_tree::Height;
 use std::test::Fail;
@@ -55,24 +56,23 @@ fn packets_are_heard_by_their_pids(rt: HostRuntime) -> Result<(), Fail> {
         emm: 0x1F0,
         ecm: 0x1F1,
     };
-    assert!(rt; matches!(hear(h, tuned, &emm), Heard::Entitles(emm) if emm.period == 1));
-    assert!(rt; matches!(hear(h, tuned, &ecm), Heard::Controls(part) if part.number == 1));
-    assert_eq!(rt; hear(h, tuned, &cat), Heard::Dropped);
-    let swapped = Tuning {
-        emm: 0x1F1,
-        ecm: 0x1F0,
-    };
-    assert_eq!(rt; hear(h, swapped, &emm), Heard::Dropped);
+    assert_eq!(rt; channel_of(tuned, &emm), Channel::Emm);
+    assert_eq!(rt; channel_of(tuned, &ecm), Channel::Ecm);
+    assert_eq!(rt; channel_of(tuned, &cat), Channel::Cat);
     let other = Tuning {
         emm: 0x100,
         ecm: 0x101,
     };
-    assert_eq!(rt; hear(h, other, &emm), Heard::Other);
+    assert_eq!(rt; channel_of(other, &emm), Channel::Other);
+    assert!(rt; matches!(hear_emm(&read_emm(h, &emm)), Heard::Entitles(emm) if emm.period == 1));
+    assert!(rt; matches!(hear_ecm(&read_ecm(&ecm)), Heard::Controls(part) if part.number == 1));
+    assert_eq!(rt; hear_emm(&read_emm(h, &ecm)), Heard::Dropped);
+    assert_eq!(rt; hear_ecm(&read_ecm(&emm)), Heard::Dropped);
     // A number of sections that the number of sets doesn't come to.
     let mut section = *emm.bytes();
     section[22] = 2;
     seal(&mut section[5..84]);
     let bad = Packet::new(section).ok_or("no packet")?;
-    assert_eq!(rt; hear(h, tuned, &bad), Heard::BadEmm(EmmFault::Count));
+    assert_eq!(rt; hear_emm(&read_emm(h, &bad)), Heard::BadEmm(EmmFault::Count));
     Ok(())
 }

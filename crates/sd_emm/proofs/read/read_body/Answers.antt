@@ -22,13 +22,13 @@ read_entries-requires-clause-room c =
       c.from-count.ensures,
     )
 
-pub returns-in_default-clause-fault : goal.returns-in_default-clause-fault
-returns-in_default-clause-fault c =
+pub returns-then-not-read_entries-clause-fault : goal.returns-then-not-read_entries-clause-fault
+returns-then-not-read_entries-clause-fault c =
     let after = take_rest c.args.body.now c.head_length.result
     ∙ ap (λ (n : ℕ). drop n c.args.body.now) c.head_length.ensures.value in
     node_breaks c.args.h c.args.named c.args.index c.args.body.now c.read_head-emm.result c.from-count.result
     c.read_head-emm.ensures (c.is_counted.ensures.0 c.if-not-is_counted.false) c.from-count.ensures
-    (λ all. false≢true (c.in_default.ensures.sets.1
+    (λ all. false≢true (c.if-not-read_entries.ensures.sets.1
     (subst (λ (l : List ℕ). AreSets c.args.h c.read_head-emm.result.sets (entries_in c.from-count.result l)) (sym after)
     all)))
 
@@ -37,19 +37,19 @@ returns-then-not-are_ascending-clause-fault c =
     let after = take_rest c.args.body.now c.head_length.result
     ∙ ap (λ (n : ℕ). drop n c.args.body.now) c.head_length.ensures.value in
     order_breaks c.args.h c.args.named c.args.index c.args.body.now c.read_head-emm.result c.from-count.result
-    c.in-Some.entries c.read_head-emm.ensures
+    c.read_entries.new.entries c.read_head-emm.ensures
     (c.is_counted.ensures.0 c.if-not-is_counted.false) c.from-count.ensures
     (subst (λ (l : List ℕ). AreSets c.args.h c.read_head-emm.result.sets (entries_in c.from-count.result l)) after
-    (c.in-Some.ensures.sets.0 refl))
-    (c.in-Some.ensures.value ∙ ap (λ (l : List ℕ). padded_entries (entries_in c.from-count.result l)) after)
+    (c.read_entries.ensures.sets.0 c.if-not-read_entries.false))
+    (c.read_entries.ensures.value c.if-not-read_entries.false ∙ ap (λ (l : List ℕ). padded_entries (entries_in c.from-count.result l)) after)
     (λ up. false≢true (c.if-not-are_ascending.ensures.1 up))
 
 pub returns-clause-value : goal.returns-clause-value
 returns-clause-value c =
-    is_whole c.args.named c.args.index c.args.body.now c.read_head-emm.result c.from-count.result c.in-Some.entries
+    is_whole c.args.named c.args.index c.args.body.now c.read_head-emm.result c.from-count.result c.read_entries.new.entries
     c.read_head-emm.ensures
     c.from-count.ensures
-    (c.in-Some.ensures.value ∙ ap (λ (l : List ℕ). padded_entries (entries_in c.from-count.result l))
+    (c.read_entries.ensures.value c.if-not-read_entries.false ∙ ap (λ (l : List ℕ). padded_entries (entries_in c.from-count.result l))
     (take_rest c.args.body.now c.head_length.result
     ∙ ap (λ (n : ℕ). drop n c.args.body.now) c.head_length.ensures.value))
 
@@ -58,9 +58,9 @@ returns-clause-good c =
     let after = take_rest c.args.body.now c.head_length.result
     ∙ ap (λ (n : ℕ). drop n c.args.body.now) c.head_length.ensures.value in
     is_good c.args.h c.args.named c.args.index c.args.body.now c.read_head-emm.result c.from-count.result
-    c.in-Some.entries c.read_head-emm.ensures
+    c.read_entries.new.entries c.read_head-emm.ensures
     (c.is_counted.ensures.0 c.if-not-is_counted.false) c.from-count.ensures
     (subst (λ (l : List ℕ). AreSets c.args.h c.read_head-emm.result.sets (entries_in c.from-count.result l)) after
-    (c.in-Some.ensures.sets.0 refl))
-    (c.in-Some.ensures.value ∙ ap (λ (l : List ℕ). padded_entries (entries_in c.from-count.result l)) after)
+    (c.read_entries.ensures.sets.0 c.if-not-read_entries.false))
+    (c.read_entries.ensures.value c.if-not-read_entries.false ∙ ap (λ (l : List ℕ). padded_entries (entries_in c.from-count.result l)) after)
     (c.are_ascending.ensures.0 c.if-not-are_ascending.false)

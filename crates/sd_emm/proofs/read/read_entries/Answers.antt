@@ -9,29 +9,29 @@ use Rattle.sd_emm.proofs.read.read_entries.Goals as goal
 
 pub loop-k-init : goal.loop-k-init
 loop-k-init c = record {
-  value = none_read entry_in 40 3 no_entry c.args.bytes.now;
+  value = c.requires.none ∙ none_read entry_in 40 3 no_entry c.args.bytes.now;
   sets = none_good (λ (e : Entry). IsSetBeside c.args.h c.args.sets e.name) entry_in 40 c.args.bytes.now;
 }
 
-pub returns-in_err-entries-clause-sets : goal.returns-in_err-entries-clause-sets
-returns-in_err-entries-clause-sets c =
+pub returns-in-None-clause-sets : goal.returns-in-None-clause-sets
+returns-in-None-clause-sets c =
     let no =
     not_good (λ (e : Entry). IsSetBeside c.args.h c.args.sets e.name) entry_in 40 c.loop-k.k c.args.count
     c.args.bytes.now c.loop-k-test.true
-    (λ set. false≢true (c.in_err-entries.ensures.set.1 set)) in
-    rw c.from_residual.ensures (λ some. absurd (false≢true some), λ all. absurd (no all))
+    (λ set. false≢true (c.in-None.ensures.set.1 set)) in
+    (λ some. absurd (false≢true some), λ all. absurd (no all))
 
 pub loop-k-preserved : goal.loop-k-preserved
 loop-k-preserved c = record {
-  value = one_read entry_in 40 3 no_entry c.args.bytes.now c.loop-k.entries c.loop-k.k c.in_ok-entries.field-0
-      (omega arith) c.loop-k.invariant.value c.in_ok-entries.ensures.value;
+  value = one_read entry_in 40 3 no_entry c.args.bytes.now c.loop-k.entries c.loop-k.k c.in-Some.entry
+      (omega arith) c.loop-k.invariant.value c.in-Some.ensures.value;
   sets = one_good (λ (e : Entry). IsSetBeside c.args.h c.args.sets e.name) entry_in 40 c.loop-k.k c.args.bytes.now
       c.loop-k.invariant.sets
-      (c.in_ok-entries.ensures.set.0 refl);
+      (c.in-Some.ensures.set.0 refl);
 }
 
 pub returns-clause-value : goal.returns-clause-value
-returns-clause-value c =
+returns-clause-value c _ =
     let end : c.loop-k.k ≡ c.args.count = omega arith in
     c.loop-k.invariant.value
     ∙ (ap (λ (n : ℕ). entries_in n c.args.bytes.now ++ replicate (3 - n) no_entry) end ∙ all_read entry_in 40 3 no_entry

@@ -13,7 +13,7 @@ returns-in-Dropped-clause-value g c =
     let s = c.args.self.now in
     let card = fields_of c.args.card.now in
     took_nothing (vessel g.K.Sink c.args.out.now)
-    (TakesHeard card c.args.tuning c.args.number (heard_as c.args.number c.args.packet.now c.args.heard.now) s
+    (TakesHeard card c.args.tuning c.args.number (heard_as c.args.number c.args.packet.now c.args.heard) s
     s) (subst (λ (h : Heard). TakesHeard card c.args.tuning c.args.number h s s [])
     (ap (heard_as c.args.number c.args.packet.now) (sym c.in-Dropped.is))
     (dropped_heard card c.args.tuning c.args.number s))
@@ -31,7 +31,7 @@ returns-in-Other-clause-value g c =
       written = s.written;
     } in
     took_nothing (vessel g.K.Sink c.args.out.now)
-    (TakesHeard card c.args.tuning c.args.number (heard_as c.args.number c.args.packet.now c.args.heard.now) s
+    (TakesHeard card c.args.tuning c.args.number (heard_as c.args.number c.args.packet.now c.args.heard) s
     t) (subst (λ (h : Heard). TakesHeard card c.args.tuning c.args.number h s t [])
     (ap (heard_as c.args.number c.args.packet.now) (sym c.in-Other.is))
     (other_heard card c.args.tuning c.args.number c.args.packet.now s t refl refl refl refl c.hold.ensures))
@@ -49,10 +49,10 @@ returns-in-Ok-clause-value g c =
       written = s.written;
     } in
     took_nothing (vessel g.K.Sink c.args.out.now)
-    (TakesHeard card c.args.tuning c.args.number (heard_as c.args.number c.args.packet.now c.args.heard.now) s
+    (TakesHeard card c.args.tuning c.args.number (heard_as c.args.number c.args.packet.now c.args.heard) s
     t) (subst (λ (h : Heard). TakesHeard card c.args.tuning c.args.number h s t [])
     (ap (heard_as c.args.number c.args.packet.now) (sym c.in-Entitles.is))
-    (section_taken card c.args.tuning c.args.number c.in-Entitles.emm s t refl refl refl refl
+    (section_taken card c.args.tuning c.args.number c.in-Entitles.emm.now s t refl refl refl refl
     (λ past entitled. c.in-Ok.ensures.ok past entitled) (λ past entitled. c.in-Ok.ensures.fault past entitled)))
 
 pub returns-in-Err-clause-value : goal.returns-in-Err-clause-value
@@ -60,8 +60,8 @@ returns-in-Err-clause-value g c =
     let s = c.args.self.now in
     let card = fields_of c.args.card.now in
     took_nothing (vessel g.K.Sink c.args.out.now)
-    (RefusesHeard card c.args.tuning c.args.number (heard_as c.args.number c.args.packet.now c.args.heard.now) s
+    (RefusesHeard card c.args.tuning c.args.number (heard_as c.args.number c.args.packet.now c.args.heard) s
     c.in-Err.fault) (subst (λ (h : Heard). RefusesHeard card c.args.tuning c.args.number h s c.in-Err.fault [])
     (ap (heard_as c.args.number c.args.packet.now) (sym c.in-Entitles.is))
-    (section_refused card c.args.tuning c.args.number c.in-Entitles.emm s c.in-Err.fault
+    (section_refused card c.args.tuning c.args.number c.in-Entitles.emm.now s c.in-Err.fault
     (λ past entitled. c.in-Err.ensures.fault past entitled)))

@@ -18,7 +18,7 @@ returns-then-self-clause-value g c =
     let packet = c.args.packet.now in
     let u = c.turn.new.self in
     let kept = c.args.tuning in
-    let thing = heard_as s.count packet c.args.heard.now in
+    let thing = heard_as s.count packet c.args.heard in
     let is : thing ≡ thing_of s kept packet = c.requires.heard s.count in
     let known = ready s packet kept c.saturating_add-self.result thing u c.name_of-name.result is
     (c.name_of-name.ensures s.count packet) c.turn.ensures c.requires.fit.follows in
@@ -32,7 +32,7 @@ returns-clause-value g c =
     let packet = c.args.packet.now in
     let u = c.turn.new.self in
     let kept = c.args.tuning in
-    let thing = heard_as s.count packet c.args.heard.now in
+    let thing = heard_as s.count packet c.args.heard in
     let is : thing ≡ thing_of s kept packet = c.requires.heard s.count in
     let known = ready s packet kept c.saturating_add-self.result thing u c.name_of-name.result is
     (c.name_of-name.ensures s.count packet) c.turn.ensures c.requires.fit.follows in
@@ -58,7 +58,7 @@ returns-clause-ok g c =
     let packet = c.args.packet.now in
     let u = c.turn.new.self in
     let kept = c.args.tuning in
-    let thing = heard_as s.count packet c.args.heard.now in
+    let thing = heard_as s.count packet c.args.heard in
     let is : thing ≡ thing_of s kept packet = c.requires.heard s.count in
     let known = ready s packet kept c.saturating_add-self.result thing u c.name_of-name.result is
     (c.name_of-name.ensures s.count packet) c.turn.ensures c.requires.fit.follows in
@@ -74,7 +74,7 @@ returns-clause-fault g c = λ fault why.
     let packet = c.args.packet.now in
     let u = c.turn.new.self in
     let kept = c.args.tuning in
-    let thing = heard_as s.count packet c.args.heard.now in
+    let thing = heard_as s.count packet c.args.heard in
     let is : thing ≡ thing_of s kept packet = c.requires.heard s.count in
     let known = ready s packet kept c.saturating_add-self.result thing u c.name_of-name.result is
     (c.name_of-name.ensures s.count packet) c.turn.ensures c.requires.fit.follows in
@@ -95,7 +95,7 @@ returns-clause-prefix g c = λ failed.
     let packet = c.args.packet.now in
     let u = c.turn.new.self in
     let kept = c.args.tuning in
-    let thing = heard_as s.count packet c.args.heard.now in
+    let thing = heard_as s.count packet c.args.heard in
     let is : thing ≡ thing_of s kept packet = c.requires.heard s.count in
     let known = ready s packet kept c.saturating_add-self.result thing u c.name_of-name.result is
     (c.name_of-name.ensures s.count packet) c.turn.ensures c.requires.fit.follows in
