@@ -5,7 +5,7 @@ use Rattle.std.specs.Prelude.{All, Some, slice_get, flat_map, replicate}
 use Rattle.std.proofs.lemmas.Bool.{cases_eq, ne_eqb}
 use Rattle.sd_message.specs.Pieces.{pieces_for}
 use Rattle.sd_message.proofs.Pieces as Pieces
-use Rattle.sd_message.proofs.Pieces.{room, full_or_last, some_or_first, long_piece, each_of_piece, pairs_of_piece}
+use Rattle.sd_message.proofs.Pieces.{full_or_last, some_or_first, long_piece, each_of_piece, pairs_of_piece}
 use Rattle.sd_message.proofs.Pieces.{filled_items, filled_rest, filled_length}
 use Rattle.sd_ecm.specs.Versions.{IsVersion, IsNamed, IsSince, positions_for}
 use Rattle.sd_ecm.specs.Spelled.{listed_places}

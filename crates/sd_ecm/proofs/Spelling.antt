@@ -1,6 +1,6 @@
 -- What is read from a section's body spells it.
 use Rattle.std.proofs.Common.{◌≡◌, inl, inr, ℕ, ◌+◌, ◌-◌, ◌*◌, ◌<◌, ◌≤◌, List, [], ◌∷◌, ◌++◌, length, take, drop}
-use Rattle.std.proofs.Common.{get_or, take-add, drop-drop, length-drop, append_assoc, eq-eqb, arith, refl, sym, ap, ◌∙◌}
+use Rattle.std.proofs.Common.{get_or, take-add, drop-drop, length-drop, append_assoc, arith, refl, sym, ap, ◌∙◌}
 use Rattle.std.specs.Prelude.{◌==◌, slice_index, slice_range, flat_map}
 use Rattle.std.specs.Int.{w16, w32, w64, to_be_bytes}
 use Rattle.std.proofs.lemmas.Bool.{cases_eq, ne_eqb}

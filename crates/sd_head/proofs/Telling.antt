@@ -16,7 +16,7 @@ use Rattle.sd_ecm.specs.Parts.{message_of, parts_of}
 use Rattle.sd_head.specs.Sending.{numbered, packed_part}
 use Rattle.sd_head.specs.Items.{MayBeSent, message_bytes}
 use Rattle.sd_head.specs.declared.sender.Sender.{Sender}
-use Rattle.sd_ecm.specs.Versions.{IsVersion, IsSince, IsBefore, most_places}
+use Rattle.sd_ecm.specs.Versions.{IsSince, IsBefore, most_places}
 use Rattle.sd_spec_broadcast.specs.Plan.{since_of}
 use Rattle.sd_spec_broadcast.proofs.Schedule.{since_is_below}
 use Rattle.sd_spec_broadcast.proofs.Naming.{version_is, named_is}

@@ -4,7 +4,7 @@ use Rattle.std.proofs.Common.{◌++◌, length}
 use Rattle.std.proofs.Common.{get_or, drop, refl, sym, ap, ◌∙◌, subst, inl, inr, pow_mono, arith}
 use Rattle.std.proofs.lemmas.Bool.{cases_lt, lt-ltb, le-ltb, ltb-true, ltb-false}
 use Rattle.std.specs.Prelude.{◌⊎◌, All, find, is_some, map, slice_get, slice_index, nat_lt, if◌then◌else◌, Option, Some}
-use Rattle.std.specs.Prelude.{None, Result, Ok, Err}
+use Rattle.std.specs.Prelude.{None, Ok, Err}
 use Rattle.std.specs.List.{range_with_len}
 use Rattle.std.specs.List.Sorted.{IsStrictlyIncreasing}
 use Rattle.std.proofs.lemmas.List.{append_assoc, append-nil, map-append, length-append, length_push, get_or_append_left}
@@ -13,7 +13,7 @@ use Rattle.sd_base_text.specs.Lines.{lines_of}
 use Rattle.sd_base_text.specs.Number.{decimal_value, rest_after, decimal_after, fitting}
 use Rattle.sd_base_text.specs.declared.number.NumberFault.{NumberFault}
 use Rattle.sd_base_text.specs.declared.number.NumberFault.TheVariants.{TooLarge}
-use Rattle.sd_leaves.specs.Text.{is_leaf_line, first_fault, leaves_of_text, leaf_after, leaf_number_on, stands_above}
+use Rattle.sd_leaves.specs.Text.{is_leaf_line, first_fault, leaves_of_text, leaf_after, stands_above}
 
 -- the first number of a range that passes a test
 found_at : (p : ℕ → Bool) (lo n k : ℕ) → k < n → ((i : ℕ) → i < k → p (lo + i) ≡ false) → p (lo + k) ≡ true →

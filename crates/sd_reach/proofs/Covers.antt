@@ -1,29 +1,24 @@
 -- A chain cover and what the names of revoked leaves reach.
-use Rattle.std.proofs.Common.{ℕ, ◌*◌, ◌/◌, ◌^◌, ◌<◌, ◌≤◌, ◌≡◌, true, false, nat_eq, List}
-use Rattle.std.proofs.Common.{subst, inl, inr, arith}
+use Rattle.std.proofs.Common.{ℕ, ◌^◌, ◌<◌, ◌≤◌, ◌≡◌, true, false, nat_eq, List}
+use Rattle.std.proofs.Common.{arith}
 use Rattle.std.specs.Prelude.{◌↔◌, Contains, All, Any}
 use Rattle.std.specs.List.{flat_map, list_any}
 use Rattle.std.proofs.lemmas.Bool.{false_from_ne_true}
 use Rattle.std.proofs.lemmas.List.Elements.{All-contains}
 use Rattle.std.proofs.lemmas.List.Folds.{Any-from_list_any}
 use Rattle.sd_base.proofs.Lists.{is_found, counted_any}
-use Rattle.sd_tree.specs.Node.{IsAbove}
 use Rattle.sd_tree.specs.Leaves.{is_member}
-use Rattle.sd_tree.specs.SetNames.{IsPair, IsOfHeight}
 use Rattle.sd_tree.specs.declared.set.SetName.{SetName}
-use Rattle.sd_tree.specs.declared.set.SetName.TheVariants.{Whole as WholeSet, Diff}
-use Rattle.sd_tree.proofs.Levels.{doubled}
-use Rattle.sd_tree.proofs.Ancestors.{above_le, above_self, above_trans, above_parent}
 use Rattle.sd_book.specs.declared.command.Command.{Command}
 use Rattle.sd_book.specs.Commands.{revoked}
 use Rattle.sd_book.proofs.Revocations.{below}
 use Rattle.sd_label.specs.Names.{given}
-use Rattle.sd_steiner.specs.Chains.{IsChainCover, AreLinked, EndsChain, last_of}
+use Rattle.sd_steiner.specs.Chains.{IsChainCover}
 use Rattle.sd_steiner.proofs.Covers.{cover_partition}
 use Rattle.sd_steiner.proofs.Heights.{of_height}
 use Rattle.sd_steiner.proofs.Partitions.{among_unrevoked}
-use Rattle.sd_steiner.proofs.Ends.{AreLeaves, within_tree, linked_start, linked_end, chain_leads}
-use Rattle.sd_steiner.proofs.Lists.{counted_some, found_member, member_cases, no_member}
+use Rattle.sd_steiner.proofs.Ends.{AreLeaves}
+use Rattle.sd_steiner.proofs.Lists.{counted_some, found_member}
 use Rattle.sd_reach.specs.Reach.{IsReached, Named, Key, ReachesNoneOf, source_of}
 use Rattle.sd_reach.proofs.Reached.{reached_by_one}
 use Rattle.sd_reach.proofs.Own.{reaches_its_sets}

@@ -1,6 +1,6 @@
 -- How a stream ends, by what is kept.
-use Rattle.std.proofs.Common.{◌≡◌, ℕ, ◌+◌, ◌-◌, List, [], length, refl, sym, ap, ◌∙◌, true, false, arith}
-use Rattle.std.specs.Prelude.{Option, Some, None, reverse, is_none, nat_lt, find}
+use Rattle.std.proofs.Common.{◌≡◌, ℕ, ◌+◌, ◌-◌, List, refl, sym, ap, ◌∙◌, true, false, arith}
+use Rattle.std.specs.Prelude.{Option, Some, None, is_none, nat_lt, find}
 use Rattle.std.specs.Option.{option_map_or}
 use Rattle.std.proofs.lemmas.Bool.{lt-ltb}
 use Rattle.sd_ecm.specs.Parts.{Message}

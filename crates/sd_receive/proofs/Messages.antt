@@ -7,7 +7,6 @@ use Rattle.std.specs.Result.{MatchResult}
 use Rattle.sd_base.specs.Count.{with_added}
 use Rattle.sd_card.specs.Fields.{CardFields}
 use Rattle.sd_ecm.specs.Parts.{Message, message_of}
-use Rattle.sd_ecm.specs.declared.part.Place.{Place}
 use Rattle.sd_ecm.specs.declared.part.EcmPart.{EcmPart}
 use Rattle.sd_ecm.specs.declared.message.EcmHead.{EcmHead}
 use Rattle.sd_engine.specs.Stage.{SinkState, IsCutShort, TookBytes}

@@ -1,5 +1,5 @@
 -- What a packet comes to for the receiver.
-use Rattle.std.proofs.Common.{◌≡◌, inl, inr, ℕ, suc, ◌+◌, ◌-◌, ◌<◌, ◌≤◌, ◌++◌, List, [], ◌∷◌, length, length-append}
+use Rattle.std.proofs.Common.{◌≡◌, inl, inr, ℕ, suc, ◌+◌, ◌-◌, ◌<◌, ◌≤◌, ◌++◌, List, [], ◌∷◌, length}
 use Rattle.std.proofs.Common.{append-nil, refl, sym, ap, ◌∙◌, subst, true, false, Bool, arith}
 use Rattle.std.specs.Prelude.{◌==◌, ◌&&◌, is_none, find, Option, Some, None, option_map, IfSome, IfOk, OnOk, IsErrOf}
 use Rattle.std.specs.Prelude.{reverse, Result, Ok, Err, if◌then◌else◌}
@@ -31,7 +31,7 @@ use Rattle.sd_spec_receiver.specs.Runs.{run_name_heard, name_in, are_two, is_tur
 use Rattle.sd_spec_receiver.specs.Offered.{Offering, no_offering, heard, offered, heard_offering, break_from}
 use Rattle.sd_spec_receiver.specs.Ending.{run_ending, joined, turns_at, run_wrote, ended_before}
 use Rattle.sd_spec_receiver.proofs.Runs.{same_run, new_run, never_turns, ended_on, ended_now}
-use Rattle.sd_receive.specs.Listening.{IsListenerAfter, capped, CountsMore, TakesHeard, RefusesHeard, PacketOutcome}
+use Rattle.sd_receive.specs.Listening.{IsListenerAfter, capped, TakesHeard, RefusesHeard, PacketOutcome}
 use Rattle.sd_receive.specs.Receiving.{card_in, with_run, IsAfter, TurnsBy, takes_key_of, takes_key_at, steps_at}
 use Rattle.sd_receive.specs.Receiving.{TakesPacket, receiver_does, Refusing, IsFit}
 use Rattle.sd_receive.specs.declared.listener.Listener.{Listener}

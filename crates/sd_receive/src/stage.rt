@@ -69,6 +69,37 @@ impl Receiver {
             return Ok(());
         };
         match channel_of(tuning, packet) {
+            Channel::Other => self.take_heard(tuning, packet, Heard::Other, out, steps),
+            _ => self.take_tuned(tuning, packet, out, steps),
+        }
+    }
+
+    // Takes the next packet, if a CAT was taken and none was refused before. What it reads of a message takes some 300
+    // bytes, which a call of its own keeps from all other packets.
+    #[inline(never)]
+    fn take_tuned<K: Sink, L: Ledger>(
+        &mut self,
+        tuning: Tuning,
+        packet: &Packet,
+        out: &mut K,
+        steps: &mut Steps<L>,
+    ) -> Result<(), StageFault<StreamFault>>
+        requires fit { IsFit self.old }
+        requires unrefused { self.old.refusal ≡ None }
+        requires tuned { self.old.tuning ≡ Some tuning }
+        ensures value { OnOk result (HasGrown (vessel K.Sink out.old) (vessel K.Sink out.new) steps.old steps.new
+            (receiver_does self.old packet.now self.new)) }
+        ensures ok { OnOk result (IsFit self.new) }
+        ensures unrefused { self.new.refusal ≡ None }
+        ensures fault { (fault : StreamFault) → result ≡ Err (StageFault.Refused fault) →
+            HasGrown (vessel K.Sink out.old) (vessel K.Sink out.new) steps.old steps.new
+            (Refusing self.old packet.now fault) }
+        ensures prefix { IsErrOf result StageFault.Write → IsCutShort (vessel K.Sink out.old) (vessel K.Sink out.new)
+            (IsAllowed (receiver_does self.old packet.now) (receiver_refuses self.old (Some packet.now))
+            steps.old steps.new) }
+        ensures cause { IsCaused (K.faults out.old) (K.faults out.new) (IsErrOf result StageFault.Write) }
+    {
+        match channel_of(tuning, packet) {
             Channel::Cat => self.take_heard(tuning, packet, Heard::Dropped, out, steps),
             Channel::Emm => {
                 let read = read_emm(self.card.height(), packet);

@@ -11,7 +11,7 @@ use Rattle.sd_emm.specs.declared.emm.Emm.{Emm}
 use Rattle.sd_spec_receiver.specs.declared.fault.StreamFault.{StreamFault}
 use Rattle.sd_spec_receiver.specs.Heard.{Heard, Dropped, Entitles, Controls, BadEmm, BadEcm, Other}
 use Rattle.sd_spec_receiver.specs.Stretches.{completes, current, seen}
-use Rattle.sd_spec_receiver.specs.Keys.{key_from, key_at}
+use Rattle.sd_spec_receiver.specs.Keys.{key_at}
 use Rattle.sd_spec_receiver.specs.Ending.{periods_told, is_unkeyed, is_all_seen}
 use Rattle.sd_receive_emm.specs.declared.says.Says.{Says}
 use Rattle.sd_receive_emm.specs.declared.entitled.Entitled.{Entitled}

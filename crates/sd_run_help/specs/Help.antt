@@ -1,5 +1,5 @@
 -- Public meaning: `help`, `help COMMAND` and `version` [this project, docs/FORMATS.md, Help].
-use Rattle.std.specs.Prelude.{ℕ, List, Option}
+use Rattle.std.specs.Prelude.{Option}
 use Rattle.sd_command_status.specs.Spec.{Spec, Readings, value}
 use Rattle.sd_command_status.specs.Work.{Work, work_of_text}
 use Rattle.sd_command_table.specs.declared.command.Command.{Command}

@@ -4,7 +4,7 @@ use Rattle.std.proofs.Common.{take, drop, reverse, append-nil, append_assoc, Opt
 use Rattle.std.proofs.Common.{refl, sym, ap, subst, ◌∙◌, arith, inl, inr}
 use Rattle.std.specs.Prelude.{slice_get, IfSome, is_none, if◌then◌else◌}
 use Rattle.std.specs.List.{concat}
-use Rattle.std.proofs.lemmas.List.{take-append-drop, length-take, reverse-reverse, length-reverse}
+use Rattle.std.proofs.lemmas.List.{take-append-drop, length-take, length-reverse}
 use Rattle.std.proofs.lemmas.List.Folds.{concat-append}
 use Rattle.std.specs.Io.KnownBytes.{Appends}
 use Rattle.std.proofs.KnownBytes.{Appends-trans}

@@ -1,5 +1,5 @@
 -- Public meaning: `receive CARD STREAM OUT` [this project, docs/FORMATS.md, Receiver].
-use Rattle.std.specs.Prelude.{ℕ, zero, suc, ◌+◌, ◌*◌, ◌/◌, ◌≤◌, List, [], ◌∷◌, length, take, drop, reverse, Option}
+use Rattle.std.specs.Prelude.{ℕ, zero, suc, ◌+◌, ◌*◌, ◌/◌, ◌≤◌, List, [], ◌∷◌, take, drop, reverse, Option}
 use Rattle.std.specs.Prelude.{Some, None, is_none, if◌then◌else◌, Result, Ok, Err}
 use Rattle.std.specs.List.{concat}
 use Rattle.sd_engine.specs.Taken.{StreamEnd, Whole, Breaks, RunsOn, taken_of, end_of, IsLeft}

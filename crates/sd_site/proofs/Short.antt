@@ -1,6 +1,6 @@
 -- How long a site file is.
 use Rattle.std.proofs.Common.{arith, ◌≡◌, ℕ, ◌+◌, ◌*◌, ◌^◌, ◌<◌, ◌≤◌, Bool, true, false, cond, List, [], ◌∷◌, length}
-use Rattle.std.proofs.Common.{eqb, Option, Some, None, refl, ap, ◌∙◌}
+use Rattle.std.proofs.Common.{Option, Some, None, refl}
 use Rattle.std.specs.Prelude.{option_and_then, if◌then◌else◌, ◌==◌, slice_get}
 use Rattle.std.specs.Result.{result_ok}
 use Rattle.std.proofs.lemmas.Bool.{eqb-true}
@@ -9,7 +9,7 @@ use Rattle.sd_base_text.specs.Lines.{lines_of}
 use Rattle.sd_base_text.specs.Number.{rest_after, decimal_after}
 use Rattle.sd_base_text.proofs.Lengths.{long_lines, text_length, said_length, after_length}
 use Rattle.sd_site.specs.Fields.{SiteFields, AreInRange}
-use Rattle.sd_site.specs.Forms.{NumberLine, BytesLine, bytes_after, number_or, height_line, master_line, ca_line}
+use Rattle.sd_site.specs.Forms.{NumberLine, bytes_after, number_or, height_line, master_line, ca_line}
 use Rattle.sd_site.specs.Forms.{emm_line}
 use Rattle.sd_site.specs.Forms.{ecm_line, every_line, cryptos_line, span_line, messages_line}
 use Rattle.sd_site.specs.Forms.{first_word_line, last_word_line, first_period_line}

@@ -1,5 +1,5 @@
 -- The version of a site's messages, and the name that they tell.
-use Rattle.std.proofs.Common.{◌≡◌, ℕ, zero, suc, ◌^◌, ◌<◌, ◌≤◌, inl, inr, eq-eqb, arith, refl}
+use Rattle.std.proofs.Common.{ℕ, zero, suc, ◌^◌, ◌<◌, inl, inr, eq-eqb, arith, refl}
 use Rattle.std.specs.Prelude.{IfSome}
 use Rattle.std.proofs.lemmas.Bool.{cases_eq, ne_eqb, false≢true}
 use Rattle.sd_site.specs.Forms.{IsWithin, messages_line}

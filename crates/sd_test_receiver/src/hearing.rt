@@ -73,6 +73,9 @@ fn packets_are_heard_by_their_pids(rt: HostRuntime) -> Result<(), Fail> {
     section[22] = 2;
     seal(&mut section[5..84]);
     let bad = Packet::new(section).ok_or("no packet")?;
-    assert_eq!(rt; hear_emm(&read_emm(h, &bad)), Heard::BadEmm(EmmFault::Count));
+    assert_eq!(rt;
+        hear_emm(&read_emm(h, &bad)),
+        Heard::BadEmm(EmmFault::Count)
+    );
     Ok(())
 }

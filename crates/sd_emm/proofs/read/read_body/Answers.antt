@@ -1,4 +1,4 @@
-use Rattle.std.proofs.Common.{List, ℕ, length, drop, length-drop, arith, refl, sym, ap, ◌∙◌, subst}
+use Rattle.std.proofs.Common.{List, ℕ, length, drop, length-drop, arith, sym, ap, ◌∙◌, subst}
 use Rattle.std.proofs.lemmas.Bool.{false≢true}
 use Rattle.std.proofs.lemmas.List.{take_rest}
 use Rattle.sd_emm.specs.Form.{AreSets}

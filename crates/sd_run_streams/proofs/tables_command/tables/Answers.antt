@@ -1,4 +1,4 @@
-use Rattle.std.proofs.Common.{refl, ◌∙◌, ◌≡◌, inl, inr, arith}
+use Rattle.std.proofs.Common.{refl, ◌∙◌, ◌≡◌, arith}
 use Rattle.sd_ports.proofs.Calls.{twice_called, open_as_before}
 use Rattle.sd_engine.specs.Taken.{end_of}
 use Rattle.sd_command_status.specs.Outside.{depot_state, page_state}

@@ -1,10 +1,9 @@
-use Rattle.std.proofs.Common.{◌≡◌, ◌+◌, ◌∙◌, ap, arith, ℕ, subst}
-use Rattle.sd_receive_filter.specs.Ears.{IsFormedEmm}
+use Rattle.std.proofs.Common.{◌≡◌, ◌+◌, ◌∙◌, ap, arith, ℕ}
 use Rattle.sd_engine.specs.Stage.{vessel}
 use Rattle.sd_psi.specs.OurCat.{cat_tuning}
 use Rattle.sd_receive.specs.Listening.{capped}
 use Rattle.sd_receive.specs.Receiving.{receiver_does}
-use Rattle.sd_receive.proofs.Receiving.{counted, idle_untuned, grew_none, ecm_fits, if_read}
+use Rattle.sd_receive.proofs.Receiving.{counted, idle_untuned, grew_none, ecm_fits}
 use Rattle.sd_receive.proofs.receiver.Receiver.take.Goals as goal
 
 pub returns-in_default-clause-value : goal.returns-in_default-clause-value
@@ -23,15 +22,3 @@ returns-in_default-clause-ok g c = record {
       (c.cat_tuning-self.ensures ∙ ap (λ (ca : ℕ). cat_tuning ca c.args.packet.now) c.ca.ensures);
   follows = c.requires.fit.follows;
 }
-
-pub take_heard-requires-in-Emm-clause-form : goal.take_heard-requires-in-Emm-clause-form
-take_heard-requires-in-Emm-clause-form g c =
-    c.hear_emm.ensures.form c.args.self.now.card.height
-    (if_read c.read_emm-read.result
-    (λ emm said. subst (λ (h : ℕ). IsFormedEmm h emm) c.height.ensures said.1)
-    c.read_emm-read.ensures.sound)
-
-pub take_heard-requires-in-Ecm-clause-form : goal.take_heard-requires-in-Ecm-clause-form
-take_heard-requires-in-Ecm-clause-form g c =
-    c.hear_ecm.ensures.form c.args.self.now.card.height
-    (if_read c.read_ecm-read.result (λ part said. said.1) c.read_ecm-read.ensures.sound)
