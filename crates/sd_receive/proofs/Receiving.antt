@@ -520,10 +520,3 @@ first_after card listener none follows = record {
   unbroken = refl;
   unrefused = refl;
 }
-
--- what holds of all that may be read holds of what was read
-pub if_read : {A E : Type 0} {P Q : A → Type 0} (read : Result (Option A) E) → ((a : A) → P a → Q a) →
-    IfOk read (λ said. IfSome said P) → IfOk read (λ said. IfSome said Q)
-if_read (Ok (Some a)) each has = each a has
-if_read (Ok None) each has = has
-if_read (Err fault) each has = has

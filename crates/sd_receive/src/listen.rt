@@ -59,7 +59,9 @@ impl Listener {
         self.written = 0;
     }
 
-    // Takes packet `number` of the stream, which was read as `heard`. The run must not be closed.
+    // Takes packet `number` of the stream, which was read as `heard`. The run must not be closed. The caller knows what
+    // was heard, so nothing is left of the choice.
+    #[inline(always)]
     pub fn take<K: Sink, L: Ledger>(
         &mut self,
         card: &Card,

@@ -1,7 +1,9 @@
 ghost use Rattle.std.specs.Prelude.{◌≡◌, ℕ, [], Some, None, Err, IfOk, OnOk, IsErrOf, true};
 ghost use Rattle.sd_base.specs.Count.{IsCaused};
 ghost use Rattle.sd_engine.specs.Stage.{vessel, HasGrown, IsCutShort, IsAllowed};
-ghost use Rattle.sd_spec_receiver.specs.Heard.{hears};
+ghost use Rattle.sd_emm.specs.Judged.{emm_read};
+ghost use Rattle.sd_ecm.specs.Judged.{ecm_read};
+ghost use Rattle.sd_spec_receiver.specs.Heard.{hears, heard_emm, heard_ecm};
 ghost use Rattle.sd_receive_filter.specs.Ears.{heard_as, IsFormed};
 ghost use Rattle.sd_receive.specs.Receiving.{IsAfter, IsFit, IsLive, Refusing, receiver_does, receiver_ends};
 ghost use Rattle.sd_receive.specs.Receiving.{receiver_refuses};
@@ -17,7 +19,7 @@ use sd_engine::{Stage, StageFault};
 use sd_packet::Packet;
 use sd_ports::Sink;
 use sd_psi::{Tuning, cat_tuning};
-use sd_receive_filter::{Channel, Heard, channel_of, hear_ecm, hear_emm};
+use sd_receive_filter::{Channel, Heard, channel_of};
 use sd_spec_receiver::{Ending, StreamFault};
 use std::alloc::Global;
 use std::sync::ledger::Ledger;
@@ -69,15 +71,17 @@ impl Receiver {
             return Ok(());
         };
         match channel_of(tuning, packet) {
+            Channel::Cat => self.take_heard(tuning, packet, Heard::Dropped, out, steps),
+            Channel::Emm => self.take_emm(tuning, packet, out, steps),
+            Channel::Ecm => self.take_ecm(tuning, packet, out, steps),
             Channel::Other => self.take_heard(tuning, packet, Heard::Other, out, steps),
-            _ => self.take_tuned(tuning, packet, out, steps),
         }
     }
 
-    // Takes the next packet, if a CAT was taken and none was refused before. What it reads of a message takes some 300
-    // bytes, which a call of its own keeps from all other packets.
+    // Takes the next packet, on the PID of entitlements. What it reads of a message takes some 300 bytes, which a call
+    // of its own keeps from all other packets.
     #[inline(never)]
-    fn take_tuned<K: Sink, L: Ledger>(
+    fn take_emm<K: Sink, L: Ledger>(
         &mut self,
         tuning: Tuning,
         packet: &Packet,
@@ -87,6 +91,7 @@ impl Receiver {
         requires fit { IsFit self.old }
         requires unrefused { self.old.refusal ≡ None }
         requires tuned { self.old.tuning ≡ Some tuning }
+        requires on { (h number : ℕ) → hears h tuning number packet.now ≡ heard_emm (emm_read h packet.now) }
         ensures value { OnOk result (HasGrown (vessel K.Sink out.old) (vessel K.Sink out.new) steps.old steps.new
             (receiver_does self.old packet.now self.new)) }
         ensures ok { OnOk result (IsFit self.new) }
@@ -99,17 +104,42 @@ impl Receiver {
             steps.old steps.new) }
         ensures cause { IsCaused (K.faults out.old) (K.faults out.new) (IsErrOf result StageFault.Write) }
     {
-        match channel_of(tuning, packet) {
-            Channel::Cat => self.take_heard(tuning, packet, Heard::Dropped, out, steps),
-            Channel::Emm => {
-                let read = read_emm(self.card.height(), packet);
-                self.take_heard(tuning, packet, hear_emm(&read), out, steps)
-            }
-            Channel::Ecm => {
-                let read = read_ecm(packet);
-                self.take_heard(tuning, packet, hear_ecm(&read), out, steps)
-            }
-            Channel::Other => self.take_heard(tuning, packet, Heard::Other, out, steps),
+        match &read_emm(self.card.height(), packet) {
+            Ok(Some(emm)) => self.take_heard(tuning, packet, Heard::Entitles(emm), out, steps),
+            Ok(None) => self.take_heard(tuning, packet, Heard::Dropped, out, steps),
+            Err(fault) => self.take_heard(tuning, packet, Heard::BadEmm(*fault), out, steps),
+        }
+    }
+
+    // Takes the next packet, on the PID of control messages.
+    #[inline(never)]
+    fn take_ecm<K: Sink, L: Ledger>(
+        &mut self,
+        tuning: Tuning,
+        packet: &Packet,
+        out: &mut K,
+        steps: &mut Steps<L>,
+    ) -> Result<(), StageFault<StreamFault>>
+        requires fit { IsFit self.old }
+        requires unrefused { self.old.refusal ≡ None }
+        requires tuned { self.old.tuning ≡ Some tuning }
+        requires on { (h number : ℕ) → hears h tuning number packet.now ≡ heard_ecm (ecm_read packet.now) }
+        ensures value { OnOk result (HasGrown (vessel K.Sink out.old) (vessel K.Sink out.new) steps.old steps.new
+            (receiver_does self.old packet.now self.new)) }
+        ensures ok { OnOk result (IsFit self.new) }
+        ensures unrefused { self.new.refusal ≡ None }
+        ensures fault { (fault : StreamFault) → result ≡ Err (StageFault.Refused fault) →
+            HasGrown (vessel K.Sink out.old) (vessel K.Sink out.new) steps.old steps.new
+            (Refusing self.old packet.now fault) }
+        ensures prefix { IsErrOf result StageFault.Write → IsCutShort (vessel K.Sink out.old) (vessel K.Sink out.new)
+            (IsAllowed (receiver_does self.old packet.now) (receiver_refuses self.old (Some packet.now))
+            steps.old steps.new) }
+        ensures cause { IsCaused (K.faults out.old) (K.faults out.new) (IsErrOf result StageFault.Write) }
+    {
+        match &read_ecm(packet) {
+            Ok(Some(part)) => self.take_heard(tuning, packet, Heard::Controls(part), out, steps),
+            Ok(None) => self.take_heard(tuning, packet, Heard::Dropped, out, steps),
+            Err(fault) => self.take_heard(tuning, packet, Heard::BadEcm(*fault), out, steps),
         }
     }
 

@@ -8,6 +8,7 @@ use sd_receive_filter::Heard;
 
 impl Receiver {
     // Ends the current run if this is the name of another. All that was heard of it is forgotten but how it ended.
+    #[inline(always)]
     pub fn turn(&mut self, name: Option<Option<u32>>)
         ensures { TurnsBy name self.old self.new }
     {
@@ -20,6 +21,7 @@ impl Receiver {
 }
 
 // Whether both are names of runs, and the runs differ.
+#[inline(always)]
 fn differ(before: Option<Option<u32>>, name: Option<Option<u32>>) -> bool
     ensures { result ≡ are_two before name }
 {
@@ -32,6 +34,7 @@ fn differ(before: Option<Option<u32>>, name: Option<Option<u32>>) -> bool
 }
 
 // The name of the run to which a message belongs, if the packet is a message without a fault.
+#[inline(always)]
 pub fn name_of(heard: Heard<'_>) -> Option<Option<u32>>
     ensures { (number : ℕ) (packet : List ℕ) → result ≡ name_heard (heard_as number packet heard.entry) }
 {

@@ -2,7 +2,7 @@
 use Rattle.std.proofs.Common.{◌≡◌, ℕ, zero, suc, ◌+◌, ◌-◌, ◌<◌, ◌≤◌, ◌^◌, ◌==◌, ◌&&◌, ◌||◌, Bool, true, false, List}
 use Rattle.std.proofs.Common.{[], ◌∷◌, ◌++◌, length}
 use Rattle.std.proofs.Common.{refl, ap, ⊎_elim, subst, ◌∙◌, sym, arith, eq-eqb, get_or}
-use Rattle.std.specs.Prelude.{All, find, is_none, not, take, drop, replicate, bytes_eq, if◌then◌else◌}
+use Rattle.std.specs.Prelude.{All, find, is_none, is_some, not, take, drop, replicate, bytes_eq, if◌then◌else◌}
 use Rattle.std.specs.Prelude.{Option, Some, None}
 use Rattle.std.specs.List.{list_any, list_all, range_with_len}
 use Rattle.std.specs.Option.{option_or, option_map_or}
@@ -11,12 +11,12 @@ use Rattle.std.proofs.lemmas.List.{get_or-drop, get_or-replicate, length-replica
 use Rattle.std.proofs.Math.ListN.{get_or-append}
 use Rattle.std.proofs.Math.Seq.{get_or-append_right}
 use Rattle.std.proofs.lemmas.List.Folds.{list_any_none}
-use Rattle.std.proofs.lemmas.Bool.{cases_lt, ne_eqb, lt-ltb, le-ltb, le-leb}
+use Rattle.std.proofs.lemmas.Bool.{false≢true, true≢false, cases_lt, ne_eqb, lt-ltb, le-ltb, le-leb}
 use Rattle.sd_card.specs.Fields.{CardFields}
 use Rattle.sd_emm.specs.declared.emm.Emm.{Emm}
 use Rattle.sd_spec_receiver.specs.Heard.{Heard}
 use Rattle.sd_spec_receiver.specs.Stretches.{current, seen}
-use Rattle.sd_spec_receiver.specs.Keys.{key_in, key_at, key_from}
+use Rattle.sd_spec_receiver.specs.Keys.{first_key, key_in, key_at, key_from}
 use Rattle.sd_spec_receiver.specs.Offered.{says_same, is_mixed, Offering, key_if_none, emm_offering}
 use Rattle.sd_spec_receiver.specs.declared.fault.StreamFault.{StreamFault}
 use Rattle.sd_spec_receiver.specs.declared.fault.StreamFault.TheVariants as Fault
@@ -234,3 +234,42 @@ pub failed : {X : Type 0} (result : Result X StreamFault) (fault : StreamFault) 
     MatchResult result (λ _. due ≡ None) (λ other. due ≡ Some other)
 failed (Ok x) fault due is same bad = absurd (grind (arith, is))
 failed (Err other) fault due is same bad = bad ∙ ap Some (sym same)
+
+-- a key that is kept is the first
+pub known_first : (kept found : Option (List ℕ)) → is_some kept ≡ true → first_key kept found ≡ kept
+known_first (Some key) found is = refl
+known_first None found is = absurd (false≢true is)
+
+-- then a section's key isn't judged
+pub known_offers : (n : ℕ) (emm : Emm) (kept found : Option (List ℕ)) → is_some kept ≡ true →
+    (key_if_none n emm kept found).fault ≡ None
+known_offers n emm (Some key) found is = refl
+known_offers n emm None found is = absurd (false≢true is)
+
+-- the key that is kept of a period is known if the period is the current one
+pub known_period : (state : Entitled) (q : ℕ) → is_some (key_kept state q) ≡ true →
+    (state.period ≡ q) × (key_kept state q ≡ state.key)
+known_period state q known =
+    let other : (¬ state.period ≡ q) → ⊥ =
+    λ differ. false≢true (subst (λ (b : Bool). is_some (if b then state.key else None) ≡ true)
+    (ne_eqb state.period q differ) known) in
+    let same : state.period ≡ q = ⊎_elim
+    (λ (l : state.period < q). absurd (other (λ e. absurd (omega (arith, l, e)))))
+    (λ (g : q ≤ state.period). ⊎_elim
+    (λ (l : q < state.period). absurd (other (λ e. absurd (omega (arith, l, e)))))
+    (λ (h : state.period ≤ q). omega (arith, g, h))
+    (cases_lt q state.period))
+    (cases_lt state.period q) in
+    (same, rw (eq-eqb state.period q same) refl)
+
+-- a key that isn't known is none
+pub unknown_none : (kept : Option (List ℕ)) → is_some kept ≡ false → kept ≡ None
+unknown_none (Some key) not_known = absurd (true≢false not_known)
+unknown_none None not_known = refl
+
+-- the steps of a section's key, if none was known
+pub steps_counted : (kept found : Option (List ℕ)) (before after most : ℕ) → kept ≡ None → after ≤ before + most →
+    (found ≡ None → after ≡ before) →
+    after ≤ before + (if is_none kept && not (is_none found) then most else 0)
+steps_counted kept None before after most none within same = rw none (omega (arith, same refl))
+steps_counted kept (Some key) before after most none within same = rw none within

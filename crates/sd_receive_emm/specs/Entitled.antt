@@ -85,6 +85,19 @@ IsEntitled card tr state = IsStateAt card tr (current tr) state
 abbrev pub key_kept : Entitled → ℕ → Option (List ℕ)
 key_kept state q = if state.period == q then state.key else None
 
+-- the same with this key of the current period
+abbrev pub with_key : Entitled → Option (List ℕ) → Entitled
+with_key state key = record {
+  period = state.period;
+  says = state.says;
+  marks = state.marks;
+  told = state.told;
+  key = key;
+  revoked = state.revoked;
+  unkeyed = state.unkeyed;
+  long = state.long;
+}
+
 -- the result is this fault if there is one, and no fault else
 abbrev pub HasFault : {X : Type 0} → Result X StreamFault → Option StreamFault → Type 0
 HasFault result due = MatchResult result (λ _. due ≡ None) (λ fault. due ≡ Some fault)

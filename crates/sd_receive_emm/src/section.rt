@@ -1,5 +1,5 @@
 ghost use Rattle.std.specs.Prelude.{◌≡◌, ◌+◌, ◌≤◌, ◌<◌, ◌==◌, ◌∷◌, false, List, None, Some, OnOk, IfOk, IfErr};
-ghost use Rattle.std.specs.Prelude.{is_none, not, ◌&&◌, if◌then◌else◌};
+ghost use Rattle.std.specs.Prelude.{is_some, if◌then◌else◌, ℕ, Option};
 ghost use Rattle.sd_emm.specs.Form.{IsEmm, AreSets};
 ghost use Rattle.sd_emm.specs.Spelled.{listed_entries};
 ghost use Rattle.sd_emm.specs.declared.format.TheConstants.{MOST_ENTRIES};
@@ -7,8 +7,8 @@ ghost use Rattle.sd_card.specs.Fields.{CardFields, fields_of};
 ghost use Rattle.sd_spec_receiver.specs.Heard.{Heard, Entitles};
 ghost use Rattle.sd_spec_receiver.specs.Stretches.{current, seen};
 ghost use Rattle.sd_spec_receiver.specs.Keys.{first_key, key_from, key_at};
-ghost use Rattle.sd_spec_receiver.specs.Offered.{emm_offering, is_mixed, key_if_none};
-ghost use Rattle.sd_receive_emm.specs.Entitled.{IsEntitled, IsStateAt, HasFault, is_said_otherwise, key_kept};
+ghost use Rattle.sd_spec_receiver.specs.Offered.{emm_offering, is_mixed};
+ghost use Rattle.sd_receive_emm.specs.Entitled.{IsEntitled, IsStateAt, HasFault, is_said_otherwise, key_kept, with_key};
 ghost use Rattle.sd_spec_receiver.specs.Taken.{takes_key};
 
 use crate::entitled::Entitled;
@@ -50,9 +50,15 @@ impl Entitled {
         if self.differs(emm) {
             return Err(StreamFault::BadEmm(number, EmmFault::Mixed));
         }
-        let key = self.key_with(card, number, emm, steps)?;
+        // A key that is known isn't copied for each section of its period.
+        if self.knows_key(emm.period) {
+            self.mark(emm);
+            return Ok(());
+        }
+        let key = good_key_in(card, number, emm, steps)?;
         self.move_to(emm.period);
-        self.mark(emm, key);
+        self.key = key;
+        self.mark(emm);
         Ok(())
     }
 
@@ -67,43 +73,23 @@ impl Entitled {
         }
     }
 
-    // The key of a section's period: the known one, or else the one that the section gives.
-    fn key_with<L: Ledger>(
-        &self,
-        card: &Card,
-        number: u64,
-        emm: &Emm,
-        steps: &mut Steps<L>,
-    ) -> Result<Option<[u8; 32]>, StreamFault>
-        requires count { emm.now.count ≤ MOST_ENTRIES }
-        requires sets { AreSets card.now.height emm.now.sets (listed_entries emm.now) }
-        ensures value { IfOk result (λ key.
-            key ≡ first_key (key_kept self.now emm.now.period) (key_from (fields_of card.now) emm.now)) }
-        ensures fault { HasFault result
-            (key_if_none number emm.now (key_kept self.now emm.now.period)
-            (key_from (fields_of card.now) emm.now)).fault }
-        ensures rise { steps.old ≤ steps.new }
-        ensures steps { steps.new ≤ steps.old
-            + (if is_none (key_kept self.now emm.now.period) && not (is_none (key_from (fields_of card.now) emm.now))
-            then card.now.height else 0) }
+    // Whether this is the current period, and its key is known.
+    fn knows_key(&self, period: u32) -> bool
+        ensures { result ≡ is_some (key_kept self.now period) }
     {
-        if emm.period == self.period && self.key.is_some() {
-            Ok(self.key)
-        } else {
-            good_key_in(card, number, emm, steps)
-        }
+        period == self.period && self.key.is_some()
     }
 
-    // Keeps a section of the current period, and the period's key.
-    fn mark(&mut self, emm: &Emm, key: Option<[u8; 32]>)
-        ensures { (card : CardFields) (tr : List Heard) → IsStateAt card tr emm.now.period self.old →
+    // Keeps a section of the current period, whose key is kept.
+    fn mark(&mut self, emm: &Emm)
+        ensures { (card : CardFields) (tr : List Heard) (before : Option (List ℕ)) →
+            IsStateAt card tr emm.now.period (with_key self.old before) →
             current tr ≤ emm.now.period → is_mixed (seen emm.now.period tr) emm.now ≡ false →
             emm.now.index < emm.now.sections →
-            key ≡ first_key (key_at card tr emm.now.period) (key_from card emm.now) →
+            self.old.key ≡ first_key (key_at card tr emm.now.period) (key_from card emm.now) →
             IsEntitled card (Entitles emm.now ∷ tr) self.new }
     {
         self.says = Some(Says::of(emm));
         self.marks[usize::from(emm.index)] = true;
-        self.key = key;
     }
 }

@@ -3,7 +3,6 @@ use Rattle.std.specs.Prelude.{ℕ, List}
 use Rattle.sd_emm.specs.Spelled.{listed_entries}
 use Rattle.sd_emm.specs.Form.{IsEmm, AreSets}
 use Rattle.sd_ecm.specs.Form.{IsEcm}
-use Rattle.sd_emm.specs.declared.emm.Emm.{Emm}
 use Rattle.sd_spec_receiver.specs.Heard as Reception
 use Rattle.sd_receive_filter.specs.declared.ears.Heard.{Heard}
 use Rattle.sd_receive_filter.specs.declared.ears.Heard.TheVariants.{Dropped, Entitles, Controls, BadEmm, BadEcm, Other}
@@ -17,13 +16,9 @@ heard_as number packet (BadEmm fault) = Reception.BadEmm fault
 heard_as number packet (BadEcm fault) = Reception.BadEcm fault
 heard_as number packet Other = Reception.Other number packet
 
--- a section is in its form, in a tree of height h
-abbrev pub IsFormedEmm : ℕ → Emm → Type 0
-IsFormedEmm h emm = IsEmm emm × AreSets h emm.sets (listed_entries emm)
-
 -- a section and a part are in their forms, in a tree of height h
 abbrev pub IsFormed : ℕ → Heard → Type 0
-IsFormed h (Entitles emm) = IsFormedEmm h emm.now
+IsFormed h (Entitles emm) = IsEmm emm.now × AreSets h emm.now.sets (listed_entries emm.now)
 IsFormed h (Controls part) = IsEcm part.now
 IsFormed h Dropped = Unit {0}
 IsFormed h (BadEmm fault) = Unit {0}

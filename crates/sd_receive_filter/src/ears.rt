@@ -1,9 +1,7 @@
-ghost use Rattle.std.specs.Prelude.{◌≡◌, ℕ, List, IfOk, IfSome};
+ghost use Rattle.std.specs.Prelude.{◌≡◌, ℕ};
 ghost use Rattle.sd_emm.specs.Judged.{emm_read};
-ghost use Rattle.sd_ecm.specs.Form.{IsEcm};
 ghost use Rattle.sd_ecm.specs.Judged.{ecm_read};
 ghost use Rattle.sd_spec_receiver.specs.Heard.{hears, heard_emm, heard_ecm, Dropped, Other};
-ghost use Rattle.sd_receive_filter.specs.Ears.{heard_as, IsFormed, IsFormedEmm};
 ghost use Rattle.sd_receive_filter.specs.declared.ears.Channel.TheVariants as Channels;
 
 use sd_ecm::{EcmFault, EcmPart};
@@ -59,30 +57,4 @@ pub enum Heard<'a> {
     BadEcm(EcmFault),
     /// Any other packet: one on another PID.
     Other,
-}
-
-/// What a packet on the PID of entitlements is, by what was read of it.
-#[inline(always)]
-pub fn hear_emm(read: &Result<Option<Emm>, EmmFault>) -> Heard<'_>
-    ensures value { (number : ℕ) (packet : List ℕ) → heard_as number packet result ≡ heard_emm read.now }
-    ensures form { (h : ℕ) → IfOk read.now (λ said. IfSome said (IsFormedEmm h)) → IsFormed h result }
-{
-    match read {
-        Ok(None) => Heard::Dropped,
-        Ok(Some(emm)) => Heard::Entitles(emm),
-        Err(fault) => Heard::BadEmm(*fault),
-    }
-}
-
-/// What a packet on the PID of control messages is, by what was read of it.
-#[inline(always)]
-pub fn hear_ecm(read: &Result<Option<EcmPart>, EcmFault>) -> Heard<'_>
-    ensures value { (number : ℕ) (packet : List ℕ) → heard_as number packet result ≡ heard_ecm read.now }
-    ensures form { (h : ℕ) → IfOk read.now (λ said. IfSome said IsEcm) → IsFormed h result }
-{
-    match read {
-        Ok(None) => Heard::Dropped,
-        Ok(Some(part)) => Heard::Controls(part),
-        Err(fault) => Heard::BadEcm(*fault),
-    }
 }

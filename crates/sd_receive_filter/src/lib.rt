@@ -3,4 +3,4 @@
 
 mod ears;
 
-pub use ears::{Channel, Heard, channel_of, hear_ecm, hear_emm};
+pub use ears::{Channel, Heard, channel_of};

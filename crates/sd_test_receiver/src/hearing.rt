@@ -3,7 +3,7 @@ use sd_ecm::read_ecm;
 use sd_emm::{EmmFault, read_emm};
 use sd_packet::{Packet, pack_section};
 use sd_psi::{Tuning, cat_tuning};
-use sd_receive_filter::{Channel, Heard, channel_of, hear_ecm, hear_emm};
+use sd_receive_filter::{Channel, channel_of};
 use sd_section::seal;
 use sd_tree::Height;
 use std::test::Fail;
@@ -64,18 +64,25 @@ fn packets_are_heard_by_their_pids(rt: HostRuntime) -> Result<(), Fail> {
         ecm: 0x101,
     };
     assert_eq!(rt; channel_of(other, &emm), Channel::Other);
-    assert!(rt; matches!(hear_emm(&read_emm(h, &emm)), Heard::Entitles(emm) if emm.period == 1));
-    assert!(rt; matches!(hear_ecm(&read_ecm(&ecm)), Heard::Controls(part) if part.number == 1));
-    assert_eq!(rt; hear_emm(&read_emm(h, &ecm)), Heard::Dropped);
-    assert_eq!(rt; hear_ecm(&read_ecm(&emm)), Heard::Dropped);
+    assert!(rt;
+        read_emm(h, &emm)
+            .ok()
+            .flatten()
+            .is_some_and(|emm| emm.period == 1)
+    );
+    assert!(rt;
+        read_ecm(&ecm)
+            .ok()
+            .flatten()
+            .is_some_and(|part| part.number == 1)
+    );
+    assert_eq!(rt; read_emm(h, &ecm), Ok(None));
+    assert_eq!(rt; read_ecm(&emm), Ok(None));
     // A number of sections that the number of sets doesn't come to.
     let mut section = *emm.bytes();
     section[22] = 2;
     seal(&mut section[5..84]);
     let bad = Packet::new(section).ok_or("no packet")?;
-    assert_eq!(rt;
-        hear_emm(&read_emm(h, &bad)),
-        Heard::BadEmm(EmmFault::Count)
-    );
+    assert_eq!(rt; read_emm(h, &bad), Err(EmmFault::Count));
     Ok(())
 }
