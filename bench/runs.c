@@ -1,5 +1,6 @@
 /* Runs a program for each line `STATUS PROGRAM WORDS..` of standard input, and prints the microseconds that each run
-   took from its start to its end. What the program prints is thrown away, and it is to end with that exit status. */
+   took from its start to its end. What the program prints, on either output, is thrown away. It is to end with that
+   exit status. */
 #define _GNU_SOURCE
 #include <fcntl.h>
 #include <spawn.h>
@@ -50,7 +51,8 @@ int main(void) {
     char line[LINE_BYTES], *words[MOST_WORDS + 1];
     posix_spawn_file_actions_t actions;
     if (posix_spawn_file_actions_init(&actions) != 0 ||
-        posix_spawn_file_actions_addopen(&actions, STDOUT_FILENO, "/dev/null", O_WRONLY, 0) != 0)
+        posix_spawn_file_actions_addopen(&actions, STDOUT_FILENO, "/dev/null", O_WRONLY, 0) != 0 ||
+        posix_spawn_file_actions_addopen(&actions, STDERR_FILENO, "/dev/null", O_WRONLY, 0) != 0)
         fail("what is printed can't be thrown away");
     while (fgets(line, sizeof line, stdin) != NULL) {
         cut_words(line, words);
