@@ -8,8 +8,9 @@ last proof. A library is its statements alone, so a changed comment or proof sto
 --left prints how many crates are left to prove or build, and does nothing.
 
 Exit status: 0 all is proved and built, 1 a crate failed, 3 the toolchain's compiler lacks what this script calls.
-SDCA_JOBS is the number of crates to prove at once. The log goes to standard output: for each crate a line `== NAME`
-and what the compiler said, then `NAME: failed (STATUS)` if it failed."""
+SDCA_JOBS is the number of processors to use. Each proves a crate of its own; where fewer crates can be proved than that,
+they share the rest, and the compiler checks several of a crate's functions at once. The log goes to standard output: for
+each crate a line `== NAME` and what the compiler said, then `NAME: failed (STATUS)` if it failed."""
 
 import hashlib
 import os
@@ -97,7 +98,7 @@ class Crate:
             words += ["--extern", f"{low.name}={low.made()}"]
         words += ["-L", f"dependency={kit}/rlibs", "-L", f"dependency={KEPT}"]
         words += ["--antt-project", f"{kit}/rattle/logic/antt-project.json", "--logic-built", f"{kit}/logic_built"]
-        return [*words, "--jobs", "1", "--links", f"{self.name}="]
+        return [*words, "--links", f"{self.name}="]
 
     def made(self):
         return BUILT if self.name == PROGRAM else f"{KEPT}/{self.name}.rlib"
@@ -114,11 +115,14 @@ class Crate:
         self.sum = kept
         return self.name != PROGRAM or sum_of([BUILT]) == kept
 
-    def prove(self, cpu):
-        """Proves the crate and keeps what is made. Returns what the compiler said, and the status of a failure or 0."""
+    def prove(self, cpu, processors):
+        """Proves the crate on this number of processors and keeps what is made. Returns what the compiler said, and the
+        status of a failure or 0."""
         new = f"{KEPT}/{self.name}.new"
         remove(new)
-        steps = self.program_steps(cpu, new) if self.name == PROGRAM else [self.build("--statements", "-o", new)]
+        jobs = ["--jobs", str(processors)]
+        library = self.build(*jobs, "--statements", "-o", new)
+        steps = self.program_steps(cpu, jobs, new) if self.name == PROGRAM else [library]
         said = ""
         for words in steps:
             ran = subprocess.run(words, cwd=f"{self.folder}", close_fds=False, stdin=subprocess.DEVNULL,
@@ -140,14 +144,14 @@ class Crate:
     def build(self, *more):
         return [self.kit.rattle, "build", *self.words(), *more]
 
-    def program_steps(self, cpu, new):
+    def program_steps(self, cpu, jobs, new):
         """Proves and compiles, links, and runs the example, whose exit status is 0."""
         kit = self.kit.folder
         tools = ["--toolchain", f"{kit}/toolchain"]
         named = ["--cpu", cpu] if cpu else []
         link = [f"{kit}/bin/rattle-link", "--target", "x86_64-unknown-linux-gnu", *tools]
         return [
-            self.build(*tools, "--backend", "llvm", *named, "-o", f"{new}.o"),
+            self.build(*jobs, *tools, "--backend", "llvm", *named, "-o", f"{new}.o"),
             [*link, "-o", new, f"{new}.o", f"{kit}/c/libos_c.a", f"{kit}/c/liblibc_c.a"],
             [new, "cover", "data/site.txt", "data/book.txt"],
         ]
@@ -209,8 +213,8 @@ def chains(crates):
     return lengths
 
 
-def count_jobs():
-    """One crate for each processor, as far as memory holds them."""
+def count_processors():
+    """The processors, as far as memory holds a proof on each."""
     asked = os.environ.get("SDCA_JOBS", "")
     if asked.isdigit():
         return max(1, int(asked))
@@ -231,24 +235,27 @@ def count_left(crates, cpu):
     return len(left)
 
 
-def step(crate, cpu):
+def step(crate, cpu, processors):
     crate.look(cpu)
     if crate.is_proved():
         return "", 0
-    return crate.prove(cpu)
+    return crate.prove(cpu, processors)
 
 
 def prove_all(crates, cpu):
     """Proves each crate once those below it are proved, the longest chain first. Returns whether all went well."""
     lengths = chains(crates)
     waiting, running, done = sorted(crates, key=lambda it: -lengths[it.name]), {}, set()
-    jobs, failed = count_jobs(), False
-    with ThreadPoolExecutor(jobs) as pool:
+    processors, failed = count_processors(), False
+    with ThreadPoolExecutor(processors) as pool:
         while running or waiting and not failed:
             ready = [it for it in waiting if done.issuperset(it.below)] if not failed else []
-            for crate in ready[: jobs - len(running)]:
+            starting = ready[: processors - len(running)]
+            together = len(running) + len(starting)
+            for crate in starting:
                 waiting.remove(crate)
-                running[pool.submit(step, crate, cpu if crate.name == PROGRAM else "")] = crate
+                share = -(-processors // together)
+                running[pool.submit(step, crate, cpu if crate.name == PROGRAM else "", share)] = crate
             for ended in wait(running, return_when=FIRST_COMPLETED).done:
                 crate, (said, status) = running.pop(ended), ended.result()
                 print(f"== {crate.name}\n{said}", end="", flush=True)
