@@ -50,13 +50,6 @@ closed_whole (Some m) b c name bytes h k e f w p =
     told_whole m c name bytes k (subst (λ (h : Option (List ℕ)). Appends h k bytes) f w)
     (subst (λ (b : Option Files). ClosesFile b c name k) e p)
 
--- all is a prefix, too
-pub closes_prefix : (b c : Option Files) (name : List ℕ) (k : Option (List ℕ)) → ClosesFile b c name k
-    → LeavesPrefix b c name k
-closes_prefix None c name k p = p
-closes_prefix (Some m) c name None p = p
-closes_prefix (Some m) c name (Some y) p = (y, ([], append-nil y), p)
-
 -- a prefix of what a port of told files took is what its file has
 told_short : (m : Files) (c : Option Files) (name bytes : List ℕ) (k : Option (List ℕ))
     → AppendsPrefix (Some []) k bytes → LeavesPrefix (Some (insert m name [])) c name k → (prefix : List ℕ)
@@ -114,9 +107,3 @@ pub written_cut : (a b c : Option Files) (i j k : ℕ) (name bytes : List ℕ) (
     → i ≤ j → k ≡ j → WritesFile {T = Unit {0}} a c i k name bytes (Err Failed)
 written_cut a b c i j k name bytes h held e f w p m l n =
     written_prefix a b c i j k name bytes h held e f (bytes, ([], append-nil bytes), w) p m l n
-
--- the first of what a port of told files held are a prefix of it
-pub half_stays : (m n : Files) (name held : List ℕ) (k : ℕ) → n ≡ insert m name (take k held)
-    → LeavesPrefix (Some m) (Some n) name (Some held)
-half_stays m n name held k e =
-    (take k held, (drop k held, take-append-drop k held), ap (λ (r : Files). Some r) e)

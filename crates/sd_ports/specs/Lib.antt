@@ -1,7 +1,6 @@
 pub mod Bytes
 pub mod Files
 pub mod Causes
-pub mod Failing
 pub mod Memory
 pub mod Rooms
 pub mod Faults

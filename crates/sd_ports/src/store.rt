@@ -2,12 +2,11 @@ ghost use Rattle.std.specs.Prelude.{◌≡◌, ◌<◌, ◌≤◌, ◌↔◌, If
 ghost use Rattle.std.specs.Io.{WritesAtMost};
 ghost use Rattle.std.specs.Io.KnownBytes.{WriteAppends};
 ghost use Rattle.sd_base.specs.Count.{HasCause};
-ghost use Rattle.sd_ports.specs.Memory.{after_write, room_in, taken, write_fails};
+ghost use Rattle.sd_ports.specs.Memory.{after_write, is_listed, room_in, taken, write_fails};
 ghost use Rattle.sd_ports.specs.Rooms.{TakesRoom};
 
 use crate::fault::PortFault;
 use crate::sink::Sink;
-use crate::supply::is_listed;
 use sd_base::NoMemory;
 use std::alloc::Global;
 use std::marker::Model;
@@ -126,4 +125,11 @@ impl Sink for MemSink {
         self.bytes.extend_from_slice(&piece[..count]).unwrap();
         Ok(count)
     }
+}
+
+/// Whether a call's number stands in the list of those that fail.
+pub fn is_listed(fails: &[u32], number: u64) -> bool
+    ensures { result ≡ is_listed fails.now number }
+{
+    fails.iter().any(|n| u64::from(*n) == number)
 }

@@ -1,3 +1,4 @@
+pub mod Ears
 pub mod Held
 pub mod Listening
 pub mod Receiving

@@ -2,6 +2,7 @@
 #![tactic(auto)]
 
 mod complete;
+mod ears;
 mod ending;
 pub mod laws;
 mod leaf;
@@ -12,5 +13,6 @@ mod stage;
 mod turn;
 mod word;
 
+pub use ears::{Channel, channel_of};
 pub use receiver::Receiver;
 pub use sd_spec_receiver::{Ending, StreamFault};

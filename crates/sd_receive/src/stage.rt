@@ -4,10 +4,11 @@ ghost use Rattle.sd_engine.specs.Stage.{vessel, HasGrown, IsCutShort, IsAllowed}
 ghost use Rattle.sd_emm.specs.Judged.{emm_read};
 ghost use Rattle.sd_ecm.specs.Judged.{ecm_read};
 ghost use Rattle.sd_spec_receiver.specs.Heard.{hears, heard_emm, heard_ecm};
-ghost use Rattle.sd_receive_filter.specs.Ears.{heard_as, IsFormed};
+ghost use Rattle.sd_receive.specs.Ears.{heard_as, IsFormed};
 ghost use Rattle.sd_receive.specs.Receiving.{IsAfter, IsFit, IsLive, Refusing, receiver_does, receiver_ends};
 ghost use Rattle.sd_receive.specs.Receiving.{receiver_refuses};
 
+use crate::ears::{Channel, Heard, channel_of};
 use crate::listener::Listener;
 use crate::receiver::Receiver;
 use crate::turn::name_of;
@@ -19,7 +20,6 @@ use sd_engine::{Stage, StageFault};
 use sd_packet::Packet;
 use sd_ports::Sink;
 use sd_psi::{Tuning, cat_tuning};
-use sd_receive_filter::{Channel, Heard, channel_of};
 use sd_spec_receiver::{Ending, StreamFault};
 use std::alloc::Global;
 use std::sync::ledger::Ledger;

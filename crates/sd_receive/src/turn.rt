@@ -1,10 +1,10 @@
 ghost use Rattle.std.specs.Prelude.{◌≡◌, ℕ, List};
 ghost use Rattle.sd_spec_receiver.specs.Runs.{are_two, run_name_heard as name_heard};
-ghost use Rattle.sd_receive_filter.specs.Ears.{heard_as};
+ghost use Rattle.sd_receive.specs.Ears.{heard_as};
 ghost use Rattle.sd_receive.specs.Receiving.{TurnsBy};
 
+use crate::ears::Heard;
 use crate::receiver::Receiver;
-use sd_receive_filter::Heard;
 
 impl Receiver {
     // Ends the current run if this is the name of another. All that was heard of it is forgotten but how it ended.

@@ -1,6 +1,6 @@
 ghost use Rattle.std.specs.Prelude.{◌≤◌};
 
-use sd_ports::MemDepot;
+use sd_ports_memory::MemDepot;
 use std::alloc::{AllocError, Global};
 
 /// As many bytes as a file that is made has room for if nothing else is asked for, and as many as may be

@@ -1,7 +1,8 @@
 use sd_ports::{
-    Depot, FileFault, MemDepot, MemSink, MemSource, PortFault, ReadAllFault, ReadMostFault,
-    SliceSource, Source, read_all, read_file, read_most, write_all, write_file,
+    Depot, FileFault, MemSink, PortFault, ReadAllFault, ReadMostFault, SliceSource, Source,
+    read_all, read_file, read_most, write_all, write_file,
 };
+use sd_ports_memory::{MemDepot, MemSource};
 use std::alloc::{AllocError, Global};
 
 /// What is read and written.

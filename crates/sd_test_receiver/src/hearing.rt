@@ -3,7 +3,7 @@ use sd_ecm::read_ecm;
 use sd_emm::{EmmFault, read_emm};
 use sd_packet::{Packet, pack_section};
 use sd_psi::{Tuning, cat_tuning};
-use sd_receive_filter::{Channel, channel_of};
+use sd_receive::{Channel, channel_of};
 use sd_section::seal;
 use sd_tree::Height;
 use std::test::Fail;

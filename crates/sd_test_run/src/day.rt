@@ -1,6 +1,7 @@
 use crate::changes::PACKET;
 use sd_command_status::Status;
-use sd_ports::{MemDepot, MemSink};
+use sd_ports::MemSink;
+use sd_ports_memory::MemDepot;
 use sd_test_memory::uncounted;
 use sd_test_texts::SITE;
 use std::alloc::{AllocError, Global};

@@ -2,7 +2,7 @@ use crate::changes::PACKET;
 use crate::day::{PIECE, ROOM, answered, comes, put};
 use crate::several::{Run, run_of, two_time_pads};
 use sd_command_status::Status;
-use sd_ports::MemDepot;
+use sd_ports_memory::MemDepot;
 use sd_test_texts::{BOOK, site};
 use std::alloc::{AllocError, Global};
 

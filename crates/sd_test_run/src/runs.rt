@@ -1,7 +1,7 @@
 use crate::changes::{Change, changed};
 use crate::day::{PIECE, ROOM, answered, file, put, without};
 use crate::sums::has_sum;
-use sd_ports::MemDepot;
+use sd_ports_memory::MemDepot;
 use sd_test_texts::{BOOK, site, site_start};
 use std::alloc::{AllocError, Global};
 

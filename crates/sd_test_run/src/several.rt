@@ -1,6 +1,6 @@
 use crate::changes::PACKET;
 use crate::day::{PIECE, ROOM, answered, file};
-use sd_ports::MemDepot;
+use sd_ports_memory::MemDepot;
 use sd_test_texts::site_start;
 use std::alloc::{AllocError, Global};
 

@@ -1,6 +1,7 @@
 use hex::FromHex;
 use sd_command_status::Status;
-use sd_ports::{MemDepot, MemSink};
+use sd_ports::MemSink;
+use sd_ports_memory::MemDepot;
 use sd_test_memory::uncounted;
 use sd_test_texts::{BOOK, SITE, site, site_start};
 use sha2::{Digest, Sha256};

@@ -1,5 +1,5 @@
 use crate::broadcasts::{PACKET, answered, file, has_digest, put};
-use sd_ports::MemDepot;
+use sd_ports_memory::MemDepot;
 use std::alloc::{AllocError, Global};
 
 /// A file without some of its packets: from the first number to the last of each pair.

@@ -2,7 +2,7 @@ use Rattle.std.proofs.Common.{refl, ap, sym, subst, []}
 use Rattle.sd_card.specs.Fields.{fields_of}
 use Rattle.sd_engine.specs.Stage.{vessel}
 use Rattle.sd_spec_receiver.specs.Heard.{Heard}
-use Rattle.sd_receive_filter.specs.Ears.{heard_as}
+use Rattle.sd_receive.specs.Ears.{heard_as}
 use Rattle.sd_receive.specs.Listening.{TakesHeard, RefusesHeard}
 use Rattle.sd_receive.specs.declared.listener.Listener.{Listener}
 use Rattle.sd_receive.proofs.Listening.{took_nothing, dropped_heard, other_heard, section_taken, section_refused}

@@ -3,7 +3,7 @@ use Rattle.std.specs.Prelude.{Option, Some, IfSome}
 use Rattle.std.specs.Option.{option_or}
 use Rattle.sd_engine.specs.Stage.{vessel}
 use Rattle.sd_spec_receiver.specs.Runs.{run_name_heard}
-use Rattle.sd_receive_filter.specs.Ears.{heard_as}
+use Rattle.sd_receive.specs.Ears.{heard_as}
 use Rattle.sd_psi.specs.declared.our_cat.Tuning.{Tuning}
 use Rattle.sd_receive.specs.Listening.{capped, TakesHeard, RefusesHeard}
 use Rattle.sd_receive.specs.Receiving.{card_in, receiver_does, receiver_refuses, Refusing}

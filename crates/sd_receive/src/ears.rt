@@ -2,7 +2,7 @@ ghost use Rattle.std.specs.Prelude.{◌≡◌, ℕ};
 ghost use Rattle.sd_emm.specs.Judged.{emm_read};
 ghost use Rattle.sd_ecm.specs.Judged.{ecm_read};
 ghost use Rattle.sd_spec_receiver.specs.Heard.{hears, heard_emm, heard_ecm, Dropped, Other};
-ghost use Rattle.sd_receive_filter.specs.declared.ears.Channel.TheVariants as Channels;
+ghost use Rattle.sd_receive.specs.declared.ears.Channel.TheVariants as Channels;
 
 use sd_ecm::{EcmFault, EcmPart};
 use sd_emm::{Emm, EmmFault};
@@ -43,7 +43,7 @@ pub fn channel_of(tuning: Tuning, packet: &Packet) -> Channel
 }
 
 /// What a packet is to a receiver that took a CAT [this project, docs/FORMATS.md, Receiver].
-#[derive(Clone, Copy, Debug, PartialEq, Eq)]
+#[derive(Clone, Copy)]
 pub enum Heard<'a> {
     /// A packet that is dropped: one on PID 1, or one on a PID of messages that isn't one of them.
     Dropped,

@@ -2,11 +2,9 @@ ghost use Rattle.std.specs.Prelude.{◌≡◌, ◌<◌, ◌≤◌, ◌↔◌, If
 ghost use Rattle.std.specs.Io.{ReadsAtMost};
 ghost use Rattle.std.specs.Io.KnownBytes.{ReadConsumes};
 ghost use Rattle.sd_base.specs.Count.{HasCause};
-ghost use Rattle.sd_ports.specs.Failing.{is_listed};
-ghost use Rattle.sd_ports.specs.Memory.{after_read, given_bytes, read_fails};
+ghost use Rattle.sd_ports_memory.specs.Memory.{after_read, given_bytes, read_fails};
 
-use crate::fault::PortFault;
-use crate::source::Source;
+use sd_ports::{PortFault, Source, is_listed};
 use std::marker::Model;
 
 /// A source in memory. It gives at most `most` bytes a read, and its reads can be made to fail by their numbers.
@@ -22,7 +20,7 @@ pub struct MemSource {
 
 impl Model for MemSource {
     ghost use Rattle.std.specs.Prelude.{◌≤◌, ◌<◌, drop, vec_len};
-    ghost use Rattle.sd_ports.specs.Memory.{Supply};
+    ghost use Rattle.sd_ports_memory.specs.Memory.{Supply};
 
     ghost Value = { Supply };
 
@@ -96,11 +94,4 @@ fn give(bytes: &[u8], most: usize, buf: &mut [u8]) -> usize
     let count = most.min(buf.len()).min(bytes.len());
     buf[..count].copy_from_slice(&bytes[..count]);
     count
-}
-
-/// Whether a call's number stands in the list of those that fail.
-pub(crate) fn is_listed(fails: &[u32], number: u64) -> bool
-    ensures { result ≡ is_listed fails.now number }
-{
-    fails.iter().any(|n| u64::from(*n) == number)
 }

@@ -1,10 +1,10 @@
 ghost use Rattle.std.specs.Prelude.{◌≡◌, ◌++◌, string_bytes, IfOk, OnOk};
-ghost use Rattle.sd_ports.specs.Failing.{after_call, next_fails, no_failures, numbers_of, told_calls};
-ghost use Rattle.sd_ports.specs.Failing.{with_failing_call, with_failing_port};
+ghost use Rattle.sd_ports_memory.specs.Failing.{after_call, next_fails, no_failures, numbers_of, told_calls};
+ghost use Rattle.sd_ports_memory.specs.Failing.{with_failing_call, with_failing_port};
 
-use crate::supply::is_listed;
 use circular_buffer::HeapCircularBuffer;
 use sd_base::NoMemory;
+use sd_ports::is_listed;
 use std::alloc::Global;
 use std::marker::Model;
 
@@ -28,7 +28,7 @@ pub struct Failing {
 
 impl Model for Failing {
     ghost use Rattle.std.specs.Prelude.{◌≡◌};
-    ghost use Rattle.sd_ports.specs.Failing.{Failures, failures_code, told_calls};
+    ghost use Rattle.sd_ports_memory.specs.Failing.{Failures, failures_code, told_calls};
 
     ghost Value = { Failures };
 

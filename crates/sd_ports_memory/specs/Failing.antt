@@ -1,11 +1,11 @@
 -- Public meaning: which calls of a depot in memory are to fail.
-use Rattle.std.specs.Prelude.{refl, ℕ, Bool, nat_eq, List, [], ◌∷◌, ◌++◌, map, filter, string_bytes}
-use Rattle.std.specs.List.{list_any}
+use Rattle.std.specs.Prelude.{refl, ℕ, Bool, List, [], ◌∷◌, ◌++◌, map, filter, string_bytes}
 use Rattle.std.specs.Coded.{Coded, code_by, coded×, coded_ℕ, coded_list}
 use Rattle.std.specs.Str.{bytes_eq}
 use Rattle.circular_buffer.specs.Buffer.{keep_last}
 use Rattle.sd_base.specs.Count.{with_added}
-use Rattle.sd_ports.specs.declared.failing.PortCall.{PortCall}
+use Rattle.sd_ports.specs.Memory.{is_listed}
+use Rattle.sd_ports_memory.specs.declared.failing.PortCall.{PortCall}
 
 -- the numbers of the depot's own calls that are to fail, the names of ports with the numbers of their calls that are to
 -- fail, and how many calls of its own were numbered
@@ -38,10 +38,6 @@ with_failing_call f number = record f { calls = newest f.calls number }
 -- on ports of this name the call of this number is to fail, too
 abbrev pub with_failing_port : Failures → List ℕ → ℕ → Failures
 with_failing_port f name number = record f { ports = newest f.ports (name, number) }
-
--- whether a call's number stands in the list of those that fail
-abbrev pub is_listed : List ℕ → ℕ → Bool
-is_listed fails number = list_any (λ n. nat_eq n number) fails
 
 -- whether the depot's next call fails
 abbrev pub next_fails : Failures → Bool

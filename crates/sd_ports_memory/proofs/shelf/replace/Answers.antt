@@ -1,5 +1,5 @@
-use Rattle.sd_ports.proofs.Shelves.{told_there, lent_there}
-use Rattle.sd_ports.proofs.shelf.replace.Goals as goal
+use Rattle.sd_ports_memory.proofs.Shelves.{told_there, lent_there}
+use Rattle.sd_ports_memory.proofs.shelf.replace.Goals as goal
 
 pub unwrap-file-requires : goal.unwrap-file-requires
 unwrap-file-requires c =

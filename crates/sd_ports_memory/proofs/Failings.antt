@@ -7,8 +7,9 @@ use Rattle.std.proofs.lemmas.List.{map-append, length-map, drop-map, take_more}
 use Rattle.std.proofs.lemmas.List.Folds.{list_any-append}
 use Rattle.std.proofs.lemmas.List.Elements.{filter-append}
 use Rattle.circular_buffer.specs.Buffer.{keep_last}
-use Rattle.sd_ports.specs.Failing.{is_listed, numbers_of, told_calls}
-use Rattle.sd_ports.specs.declared.failing.PortCall.{PortCall}
+use Rattle.sd_ports_memory.specs.Failing.{numbers_of, told_calls}
+use Rattle.sd_ports.specs.Memory.{is_listed}
+use Rattle.sd_ports_memory.specs.declared.failing.PortCall.{PortCall}
 
 -- a number stands in a list where it stands in one of its halves
 pub listed_halves : (xs ys : List ℕ) (number : ℕ) → is_listed (xs ++ ys) number

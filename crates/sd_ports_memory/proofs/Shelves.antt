@@ -14,7 +14,7 @@ use Rattle.std.specs.BTreeMap.{BTreeMap, is_at, get_by_text, Updates, UpdatesBy,
 use Rattle.std.specs.declared.alloc.Global.{Global}
 use Rattle.std.proofs.lemmas.Cmp.{nat_list_cmp_total, eq_by_cmp_equiv}
 use Rattle.std.proofs.lemmas.Map.Text.{btree_map_updates_text, is_eq-slice_cmp}
-use Rattle.sd_ports.specs.Memory.{told_files}
+use Rattle.sd_ports_memory.specs.Memory.{told_files}
 
 -- what the told entries have at a name is what the texts have there
 find_told : (es : List (String Global × Vec ℕ Global)) (q : List ℕ)

@@ -1,7 +1,7 @@
 use Rattle.std.proofs.Common.{ap}
-use Rattle.sd_ports.specs.Memory.{Shelf}
+use Rattle.sd_ports_memory.specs.Memory.{Shelf}
 use Rattle.sd_ports.proofs.Calls.{failed_once}
-use Rattle.sd_ports.proofs.shelf.MemDepotDepot.create_out.Goals as goal
+use Rattle.sd_ports_memory.proofs.shelf.MemDepotDepot.open_in.Goals as goal
 
 pub returns-in-Err-clause-cause : goal.returns-in-Err-clause-cause
 returns-in-Err-clause-cause c =

@@ -4,8 +4,8 @@ use Rattle.sd_emm.specs.Spelled.{listed_entries}
 use Rattle.sd_emm.specs.Form.{IsEmm, AreSets}
 use Rattle.sd_ecm.specs.Form.{IsEcm}
 use Rattle.sd_spec_receiver.specs.Heard as Reception
-use Rattle.sd_receive_filter.specs.declared.ears.Heard.{Heard}
-use Rattle.sd_receive_filter.specs.declared.ears.Heard.TheVariants.{Dropped, Entitles, Controls, BadEmm, BadEcm, Other}
+use Rattle.sd_receive.specs.declared.ears.Heard.{Heard}
+use Rattle.sd_receive.specs.declared.ears.Heard.TheVariants.{Dropped, Entitles, Controls, BadEmm, BadEcm, Other}
 
 -- what was heard of the packet of this number
 abbrev pub heard_as : ℕ → List ℕ → Heard → Reception.Heard

@@ -1,9 +1,9 @@
 use Rattle.std.proofs.Common.{◌≡◌, ◌∙◌, ◌/◌, List, ℕ, take, ap}
 use Rattle.std.specs.FinMap.{insert}
 use Rattle.sd_ports.specs.Files.{Files}
-use Rattle.sd_ports.specs.Memory.{Shelf, told_files}
-use Rattle.sd_ports.proofs.Outlets.{half_stays}
-use Rattle.sd_ports.proofs.shelf.MemDepotDepot.close_out.Goals as goal
+use Rattle.sd_ports_memory.specs.Memory.{Shelf, told_files}
+use Rattle.sd_ports_memory.proofs.Closing.{half_stays}
+use Rattle.sd_ports_memory.proofs.shelf.MemDepotDepot.close_out.Goals as goal
 
 pub returns-in-Err-clause-prefix : goal.returns-in-Err-clause-prefix
 returns-in-Err-clause-prefix c =

@@ -6,15 +6,14 @@ ghost use Rattle.sd_base.specs.Count.{HasCause, IsCaused, with_added};
 ghost use Rattle.sd_ports.specs.Causes.{CountsClosed, CountsMade, CountsOpen, HasDepotCause};
 ghost use Rattle.sd_ports.specs.Files.{ClosesFile, HoldsBytes, IsFresh, IsNotThere, IsThere, LeavesPrefix, OpensFile};
 ghost use Rattle.sd_ports.specs.Files.{with_bytes};
-ghost use Rattle.sd_ports.specs.Memory.{call_fails, empty_shelf, fails_of, told_files, with_call, with_closed};
-ghost use Rattle.sd_ports.specs.Memory.{with_fault, with_file, with_inlet, with_outlet, with_port_fault, without_port};
+ghost use Rattle.sd_ports_memory.specs.Memory.{call_fails, empty_shelf, fails_of, told_files, with_call, with_closed};
+ghost use Rattle.sd_ports_memory.specs.Memory.{with_fault, with_file, with_inlet, with_outlet, with_port_fault};
+ghost use Rattle.sd_ports_memory.specs.Memory.{without_port};
 
-use crate::depot::Depot;
 use crate::failing::Failing;
-use crate::fault::DepotFault;
-use crate::store::MemSink;
 use crate::supply::MemSource;
 use sd_base::NoMemory;
+use sd_ports::{Depot, DepotFault, MemSink};
 use std::alloc::Global;
 use std::collections::BTreeMap;
 use std::marker::Model;
@@ -37,7 +36,7 @@ pub struct MemDepot {
 
 impl Model for MemDepot {
     ghost use Rattle.std.specs.Prelude.{◌<◌};
-    ghost use Rattle.sd_ports.specs.Memory.{Shelf, shelf_code, told_files};
+    ghost use Rattle.sd_ports_memory.specs.Memory.{Shelf, shelf_code, told_files};
 
     ghost Value = { Shelf };
 
@@ -304,10 +303,11 @@ impl Depot for MemDepot {
     }
 
     /// It takes no memory. Where it fails, the file has the first half of what the port held.
-    #[tactic(auto, using(crate::proofs::Outlets::closes_prefix, crate::proofs::Outlets::half_stays))]
+    #[tactic(auto, using(crate::proofs::Closing::closes_prefix, crate::proofs::Closing::half_stays))]
     fn close_out(&mut self, name: &str, port: MemSink) -> Result<(), DepotFault>
         requires { IsThere (Some self.old.files) name.now }
-        ensures closed { OnOk result (ClosesFile (Some self.old.files) (Some self.new.files) name.now (Some port.held)) }
+        ensures closed { OnOk result (ClosesFile (Some self.old.files) (Some self.new.files) name.now
+            (Some port.held)) }
         ensures prefix { LeavesPrefix (Some self.old.files) (Some self.new.files) name.now (Some port.held) }
         ensures failed { OnErr result (IsErrOf result DepotFault.Failed) }
         ensures cause { HasCause (with_added self.old.faults port.faults) self.new.faults result }

@@ -1,0 +1,3 @@
+pub mod Closing
+pub mod Failings
+pub mod Shelves
