@@ -8,9 +8,10 @@ last proof. A library is its statements alone, so a changed comment or proof sto
 --left prints how many crates are left to prove or build, and does nothing.
 
 Exit status: 0 all is proved and built, 1 a crate failed, 3 the toolchain's compiler lacks what this script calls.
-SDCA_JOBS is the number of processors to use. Each proves a crate of its own; where fewer crates can be proved than that,
-they share the rest, and the compiler checks several of a crate's functions at once. The log goes to standard output: for
-each crate a line `== NAME` and what the compiler said, then `NAME: failed (STATUS)` if it failed."""
+SDCA_JOBS is the number of processors to use. Each proves a crate of its own. Where fewer crates than that can be
+proved at once, each gets a share of the processors, on which the compiler checks several of its functions at once.
+The log goes to standard output: for each crate a line `== NAME` and what the compiler said, then `NAME: failed
+(STATUS)` if it failed."""
 
 import hashlib
 import os
